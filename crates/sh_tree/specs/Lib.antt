@@ -1,0 +1,6 @@
+pub mod formers
+pub mod Texts
+pub mod Tokens
+pub mod Tree
+pub mod Reading
+pub mod Answers

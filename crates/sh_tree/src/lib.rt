@@ -1,0 +1,12 @@
+//! The syntax tree of a script, the refusals and the places of findings; beside the tree, in `specs/`, which bytes read
+//! as which tree.
+#![tactic(auto)]
+
+mod items;
+pub mod limits;
+pub mod place;
+pub mod refusal;
+pub mod sign;
+pub mod tree;
+
+pub use items::Items;
