@@ -1,7 +1,7 @@
 -- What begins at each place of a text, each thing the longest.
 -- POSIX.1-2024, XCU 2.2 (quoting), 2.3 (token recognition), 2.4 (reserved words), 2.6.2 (names after a `$`).
 use Rattle.std.specs.Prelude.{ℕ, zero, suc, ◌+◌, Bool, true, false, not, ◌&&◌, ◌||◌, if◌then◌else◌, ◌==◌, List, [], ◌∷◌, length, drop, codes, nat_lt, nat_le, slice_index, slice_range, nat_eq}
-use Rattle.std.specs.List.{take_while, list_any, starts_with}
+use Rattle.std.specs.List.{take_while, list_all, list_any, starts_with}
 use Rattle.std.specs.Str.{bytes_eq}
 use Rattle.sh_tree.specs.declared.sign.Context.{Context}
 use Rattle.sh_tree.specs.declared.sign.Context.TheVariants.{Unquoted, Quoted}
@@ -32,6 +32,11 @@ is_name_start c = (nat_le 65 c && nat_le c 90) || (nat_le 97 c && nat_le c 122) 
 -- a name is a letter or an underscore, and letters, underscores and digits
 abbrev pub is_name_byte : ℕ → Bool
 is_name_byte c = is_name_start c || (nat_le 48 c && nat_le c 57)
+
+-- the whole text is a name
+abbrev pub is_name : List ℕ → Bool
+is_name [] = false
+is_name (c ∷ cs) = is_name_start c && list_all is_name_byte cs
 
 -- the bytes that mean more than themselves outside quotes
 abbrev pub special_bytes : List ℕ

@@ -4,6 +4,7 @@
 
 mod items;
 pub mod limits;
+pub mod name;
 pub mod place;
 pub mod refusal;
 pub mod sign;

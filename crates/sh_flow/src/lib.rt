@@ -1,0 +1,6 @@
+//! What is surely set before and after each command of a script, and the check of it; beside it, in `specs/`, what a shell
+//! does with a script.
+#![tactic(auto)]
+
+pub mod policy;
+pub mod rule;

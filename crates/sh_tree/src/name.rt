@@ -1,0 +1,34 @@
+//! Names (XBD 3.216).
+ghost use Rattle.std.specs.Prelude.{◌≡◌};
+ghost use Rattle.std.specs.List.{list_all};
+ghost use Rattle.sh_tree.specs.Tokens as tokens;
+
+/// Whether a name may begin with the byte: a letter or an underscore.
+pub fn is_name_start(byte: u8) -> bool
+    ensures { result ≡ tokens.is_name_start byte }
+{
+    (b'A' <= byte && byte <= b'Z') || (b'a' <= byte && byte <= b'z') || byte == b'_'
+}
+
+/// Whether a name may go on with the byte: a letter, an underscore or a digit.
+pub fn is_name_byte(byte: u8) -> bool
+    ensures { result ≡ tokens.is_name_byte byte }
+{
+    is_name_start(byte) || (b'0' <= byte && byte <= b'9')
+}
+
+fn are_name_bytes(text: &[u8]) -> bool
+    ensures { result ≡ list_all tokens.is_name_byte text.now }
+{
+    text.iter().all(|byte| is_name_byte(*byte))
+}
+
+/// Whether the whole text is a name.
+pub fn is_name(text: &[u8]) -> bool
+    ensures { result ≡ tokens.is_name text.now }
+{
+    match text {
+        [] => false,
+        [first, rest @ ..] => is_name_start(*first) && are_name_bytes(rest),
+    }
+}
