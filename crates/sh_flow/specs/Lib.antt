@@ -1,1 +1,12 @@
 pub mod Policy
+pub mod Names
+pub mod Profile
+pub mod Environment
+pub mod Pieces
+pub mod Machine
+pub mod Facts
+pub mod Certificates
+pub mod Rules
+pub mod Demands
+pub mod Answers
+pub mod Theorem

@@ -2,5 +2,8 @@
 //! does with a script.
 #![tactic(auto)]
 
+pub mod certificate;
+pub mod flow;
 pub mod policy;
+pub mod row;
 pub mod rule;

@@ -1,4 +1,8 @@
 //! The tree. Literal text is a span of the script.
+ghost use Rattle.std.specs.Prelude.{◌≡◌};
+ghost use Rattle.std.specs.Option.{option_copied};
+ghost use Rattle.sh_tree.specs.Tree.{text_of};
+ghost use Rattle.sh_tree.specs.Words.{lone_command, lone_pipe, subject_text};
 
 use crate::items::Items;
 
@@ -7,6 +11,17 @@ use crate::items::Items;
 pub struct Span {
     pub start: u32,
     pub end: u32,
+}
+
+impl Span {
+    /// The bytes of the span. Of a text that is shorter than the span, those that are there.
+    pub fn text(self, script: &[u8]) -> &[u8]
+        ensures { result.now ≡ text_of script.entry.now self }
+    {
+        let end = script.len().min(self.end as usize);
+        let start = end.min(self.start as usize);
+        &script[start..end]
+    }
 }
 
 /// The items of a list, in order (XCU 2.9.3).
@@ -22,6 +37,19 @@ pub struct Item {
     pub background: bool,
 }
 
+impl Item {
+    /// The command of an item that is one command alone, in the foreground.
+    #[tactic(auto, unfolding(crate::specs::Words::lone_command))]
+    pub fn lone_command(&self) -> Option<&Command>
+        ensures { option_copied result ≡ lone_command self.now }
+    {
+        if self.background {
+            return None;
+        }
+        self.list.lone_command()
+    }
+}
+
 /// What joins two pipelines: `&&` or `||`.
 #[derive(Clone, Copy, Debug, PartialEq, Eq)]
 pub enum Link {
@@ -34,6 +62,21 @@ pub enum Link {
 pub struct AndOr {
     pub first: Pipe,
     pub rest: Items<(Link, Pipe)>,
+}
+
+impl AndOr {
+    #[tactic(auto, unfolding(crate::specs::Words::lone_pipe, crate::specs::Words::lone_part))]
+    fn lone_command(&self) -> Option<&Command>
+        ensures { option_copied result ≡ lone_pipe self.now.first self.now.rest }
+    {
+        if !self.rest.is_empty() || self.first.negated {
+            return None;
+        }
+        match self.first.parts.as_slice() {
+            [command] => Some(command),
+            _ => None,
+        }
+    }
 }
 
 /// A pipeline, and whether `!` stands before it (XCU 2.9.2).
@@ -126,6 +169,17 @@ pub struct Param {
     pub span: Span,
     pub subject: Subject,
     pub operator: Operator,
+}
+
+impl Subject {
+    /// The name of the parameter.
+    pub fn text(self, script: &[u8]) -> &[u8]
+        ensures { result.now ≡ subject_text script.entry.now self }
+    {
+        match self {
+            Subject::Name(span) => span.text(script),
+        }
+    }
 }
 
 /// The parameter that an expansion names.

@@ -1,0 +1,55 @@
+-- Which commands are analysed.
+-- POSIX.1-2024, XCU 2.9.1.4 (command search and execution), 2.15 (special built-in utilities): a name that no table here has is a
+-- utility that changes no variable and no function.
+use Rattle.std.specs.Prelude.{◌≡◌, ℕ, Bool, true, false, not, ◌&&◌, ◌||◌, ◌==◌, List, [], ◌∷◌, ◌++◌, codes, Option, Some, None, Result, Ok, Err}
+use Rattle.std.specs.List.{list_any, list_all}
+use Rattle.sh_tree.specs.declared.tree.Script.{Script}
+use Rattle.sh_tree.specs.declared.tree.Item.{Item}
+use Rattle.sh_tree.specs.declared.tree.Command.{Command}
+use Rattle.sh_tree.specs.declared.tree.Word.{Word}
+use Rattle.sh_tree.specs.Words.{lone_command, elements_of, words_of, static_text}
+use Rattle.sh_flow.specs.Policy.{Text}
+use Rattle.sh_flow.specs.Names.{is_one_of}
+
+-- the special built-in utilities (XCU 2.15)
+abbrev pub special_names : List Text
+special_names =
+    codes "break" ∷ codes ":" ∷ codes "continue" ∷ codes "." ∷ codes "eval" ∷ codes "exec" ∷ codes "exit" ∷ codes "export" ∷ codes "readonly"
+    ∷ codes "return" ∷ codes "set" ∷ codes "shift" ∷ codes "times" ∷ codes "trap" ∷ codes "unset" ∷ []
+
+-- other built-ins that change what is set, run a command by its name, or have a known status
+abbrev pub changing_names : List Text
+changing_names = codes "true" ∷ codes "false" ∷ codes "read" ∷ codes "getopts" ∷ codes "cd" ∷ codes "command" ∷ codes "alias" ∷ codes "unalias" ∷ codes "fc" ∷ []
+
+-- names to which the standard gives no meaning (XCU 2.9.1.4), and words that other shells reserve
+abbrev pub unspecified_names : List Text
+unspecified_names =
+    codes "local" ∷ codes "typeset" ∷ codes "declare" ∷ codes "source" ∷ codes "let" ∷ codes "builtin" ∷ codes "nameref" ∷ codes "integer" ∷ codes "float"
+    ∷ codes "mapfile" ∷ codes "readarray" ∷ codes "shopt" ∷ codes "[[" ∷ codes "]]" ∷ codes "function" ∷ codes "select" ∷ codes "time" ∷ codes "namespace" ∷ []
+
+-- a utility that changes no variable and no function; a `=` may be an assignment of another shell
+unfoldable pub is_utility : Text → Bool
+is_utility t =
+    not (is_one_of special_names t) && not (is_one_of changing_names t) && not (is_one_of unspecified_names t)
+    && not (list_any (λ c. c == 61) t)
+
+unfoldable pub is_named_utility : Option Text → Bool
+is_named_utility None = false
+is_named_utility (Some t) = is_utility t
+
+-- there is no command name, or it is static text and a utility's
+unfoldable pub is_plain_name : List ℕ → List Word → Bool
+is_plain_name b [] = true
+is_plain_name b (w ∷ ws) = is_named_utility (static_text b w.parts)
+
+-- the command is analysed
+unfoldable pub is_admitted : List ℕ → Command → Bool
+is_admitted b c = is_plain_name b (words_of (elements_of c.kind))
+
+unfoldable pub is_item_admitted : List ℕ → Option Command → Bool
+is_item_admitted b None = false
+is_item_admitted b (Some c) = is_admitted b c
+
+-- every command of the script is
+abbrev pub Admitted : List ℕ → Script → Type 0
+Admitted b t = list_all (λ i. is_item_admitted b (lone_command i)) t.items ≡ true

@@ -1,0 +1,63 @@
+//! Rows: sets of numbers of names.
+ghost use Rattle.std.specs.Prelude.{◌≡◌, ◌||◌, ◌==◌, ℕ, [], IfOk, OnOk, OnErr};
+ghost use Rattle.sh_flow.specs.Facts.{has_number};
+
+use std::alloc::{AllocError, Global};
+use std::marker::Model;
+
+/// A set of numbers, which contracts see as the rising list of them.
+#[derive(Debug, Drop)]
+pub struct Row {
+    numbers: Vec<u32>,
+}
+
+impl Model for Row {
+    ghost use Rattle.std.specs.Prelude.{List, ℕ};
+    ghost use Rattle.std.specs.List.Sorted.{IsStrictlyIncreasing};
+
+    ghost Value = { List ℕ };
+
+    ghost view = { λ r. r.numbers.items };
+
+    ghost invariant = { λ r. IsStrictlyIncreasing r.numbers.items };
+}
+
+impl Row {
+    /// The empty set.
+    pub fn new(alloc: Global) -> Row
+        ensures { result ≡ [] }
+    {
+        Row {
+            numbers: Vec::new(alloc),
+        }
+    }
+
+    /// Whether the number is in the set.
+    pub fn has(&self, number: u32) -> bool
+        ensures { result ≡ has_number number self.now }
+    {
+        self.numbers.binary_search(&number).is_ok()
+    }
+
+    /// Adds a number.
+    pub fn add(&mut self, number: u32) -> Result<(), AllocError>
+        ensures ok { OnOk result ((k : ℕ) → has_number k self.new ≡ (k == number || has_number k self.old)) }
+        ensures err { OnErr result (self.new ≡ self.old) }
+    {
+        match self.numbers.binary_search(&number) {
+            Ok(_) => Ok(()),
+            Err(at) => {
+                self.numbers.insert(at, number)?;
+                Ok(())
+            }
+        }
+    }
+
+    /// A copy of the set.
+    pub fn copy(&self) -> Result<Row, AllocError>
+        ensures { IfOk result (λ r. r ≡ self.now) }
+    {
+        let numbers = self.numbers.clone()?;
+        Ok(Row { numbers })
+    }
+}
