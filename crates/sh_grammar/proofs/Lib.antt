@@ -1,0 +1,5 @@
+pub mod Runs
+pub mod Blanks
+pub mod Behind
+pub mod Parts
+pub mod Elements
