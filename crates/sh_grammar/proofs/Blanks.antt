@@ -1,7 +1,8 @@
 -- Where blanks end there are none.
-use Rattle.std.proofs.Common.{◌≡◌, ℕ, ◌+◌, ◌≤◌, Bool, true, false, ◌||◌, List, length, drop, take_while, refl, subst, arith}
+use Rattle.std.proofs.Common.{◌≡◌, ℕ, ◌+◌, ◌≤◌, Bool, true, false, ◌||◌, List, length, drop, take_while, nat_lt, cond, refl, subst, arith}
+use Rattle.std.proofs.lemmas.Bool.Decides.{nat_tests}
 use Rattle.std.proofs.lemmas.List.{drop-drop}
-use Rattle.sh_tree.specs.Tokens.{is_blank, is_space, blanks, linebreak}
+use Rattle.sh_tree.specs.Tokens.{is_blank, is_space, blanks, linebreak, next_item}
 use Rattle.sh_grammar.proofs.Runs.{none_behind, none_at_end}
 
 neither : (x y : Bool) → (x || y) ≡ false → x ≡ false
@@ -25,3 +26,11 @@ linebreak_settles b i = let none = behind is_space (λ c h. neither _ _ h) b i i
 pub end_settles : (b : List ℕ) (i : ℕ) → length b ≤ i → blanks b i ≡ i
 unfolding blanks
 end_settles b i ended = let none = none_at_end is_blank b i ended in omega arith
+
+pub next_settles : (b : List ℕ) (i : ℕ) → blanks b (next_item b i) ≡ next_item b i
+unfolding next_item
+next_settles b i = go (nat_lt i (length b)) refl
+  where
+    go : (t : Bool) → nat_lt i (length b) ≡ t → blanks b (cond t (linebreak b (i + 1)) i) ≡ cond t (linebreak b (i + 1)) i
+    go true is = linebreak_settles b (i + 1)
+    go false is = end_settles b i (grind (arith, nat_tests))

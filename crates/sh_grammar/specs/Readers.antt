@@ -11,10 +11,11 @@ use Rattle.sh_tree.specs.declared.tree.Part.{Part}
 use Rattle.sh_tree.specs.declared.tree.Word.{Word}
 use Rattle.sh_tree.specs.declared.tree.Element.{Element}
 use Rattle.sh_tree.specs.declared.tree.Command.{Command}
+use Rattle.sh_tree.specs.declared.tree.Item.{Item}
 use Rattle.sh_tree.specs.declared.refusal.Refusal.{Refusal}
 use Rattle.sh_tree.specs.declared.refusal.Refusal.TheVariants.{TooLong, NulByte, Syntax, LeftOut, TooDeep, TooMany, Memory, Profile, CertSyntax, CertShape}
-use Rattle.sh_tree.specs.Reading.{sign_at, ReadsParts, ReadsElements}
-use Rattle.sh_tree.specs.Tree.{word}
+use Rattle.sh_tree.specs.Reading.{Spot, spot, sign_at, ReadsParts, ReadsElements, ReadsCommand}
+use Rattle.sh_tree.specs.Tree.{word, pipeline, and_or, foreground}
 
 -- x is read, with the end j, and nothing else is
 pub record One {J A : Type 0} (R : J → A → Type 0) (j : J) (x : A) : Type 0 where
@@ -71,3 +72,20 @@ pub record ElementsTo (b : List ℕ) (i : ℕ) (es : List Element) (j : ℕ) : T
 abbrev pub Elements : List ℕ → ℕ → Result (List Element × ℕ) Refusal → Type 0
 Elements b i (Ok r) = ElementsTo b i r.0 r.1
 Elements b i (Err e) = Refused b (ElementsFrom b (First, i)) e
+
+-- the command at a spot, up to j, where there may be one more
+pub record CommandTo (b : List ℕ) (s : Spot) (c : Command) (j : ℕ) : Type 0 where
+  pub few : s.count < MAX_COMMANDS
+  pub one : One (ReadsCommand b s) (spot j (s.count + 1)) c
+  pub from : s.at ≤ j
+  pub within : j ≤ length b
+
+-- there are too many where as many began before as there may be
+abbrev pub Commands : List ℕ → Spot → Result (Command × ℕ) Refusal → Type 0
+Commands b s (Ok r) = CommandTo b s r.0 r.1
+Commands b s (Err TooMany) = s.count ≡ MAX_COMMANDS
+Commands b s (Err e) = Refused b (ReadsCommand b s) e
+
+-- the item that is the command alone
+abbrev pub item_of : Command → Item
+item_of c = foreground (and_or (pipeline (c ∷ [])))

@@ -1,16 +1,17 @@
 //! Simple commands (XCU 2.9.1).
 
 ghost use Rattle.std.specs.Prelude.{◌≡◌, ◌<◌, ◌≤◌, ◌+◌, length};
-ghost use Rattle.sh_grammar.specs.Readers.{Elements};
+ghost use Rattle.sh_grammar.specs.Readers.{Commands, Elements};
+ghost use Rattle.sh_tree.specs.Reading.{spot};
 ghost use Rattle.sh_tree.specs.Tokens as tokens;
 
 use crate::scan::{begin_at, blanks_at, name_end_at};
 use crate::words::word_at;
 use sh_tree::Items;
-use sh_tree::limits::MAX_SCRIPT;
-use sh_tree::refusal::{Form, Refusal};
+use sh_tree::limits::{MAX_COMMANDS, MAX_SCRIPT};
+use sh_tree::refusal::{Fault, Form, Refusal};
 use sh_tree::sign::{Begin, Stage};
-use sh_tree::tree::{Element, Span};
+use sh_tree::tree::{Command, Element, Kind, Span};
 use std::alloc::Global;
 
 /// The elements of the simple command at `start`, and where it ends. There are none where no command begins.
@@ -47,4 +48,31 @@ fn elements_at(alloc: Global, script: &[u8], start: u32) -> Result<(Items<Elemen
             }
         }
     }
+}
+
+/// The command at `at`, before which `count` others began, and where it ends.
+#[tactic(auto, using(crate::proofs::Simple::command_read, crate::proofs::Simple::command_refused, crate::proofs::Simple::no_command, crate::proofs::Simple::later_command))]
+pub fn command_at(alloc: Global, script: &[u8], at: u32, count: u32) -> Result<(Command, u32), Refusal>
+    requires small { length script.now ≤ MAX_SCRIPT }
+    requires inside { at < length script.now }
+    requires settled { tokens.blanks script.now at ≡ at }
+    requires few { count ≤ MAX_COMMANDS }
+    ensures { Commands script.now (spot at count) result }
+{
+    match begin_at(script, Stage::First, at) {
+        Begin::Stop => return Err(Refusal::Syntax(Fault::UnexpectedToken, at)),
+        Begin::Later => return Err(Refusal::LeftOut(Form::Later, at)),
+        Begin::Assignment | Begin::Word => {}
+    }
+    if count == MAX_COMMANDS {
+        return Err(Refusal::TooMany);
+    }
+    let (elements, end) = elements_at(alloc, script, at)?;
+    let command = Command {
+        number: count + 1,
+        at,
+        kind: Kind::Simple(elements),
+        redirects: Items::new(alloc),
+    };
+    Ok((command, end))
 }

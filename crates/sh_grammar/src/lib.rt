@@ -2,10 +2,10 @@
 #![tactic(auto)]
 
 mod commands;
-mod parse;
 mod scan;
+mod script;
 #[cfg(test)]
 mod tests;
 mod words;
 
-// pub use parse::parse;
+pub use script::parse;
