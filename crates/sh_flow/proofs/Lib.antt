@@ -1,1 +1,5 @@
 pub mod PolicyLemmas
+pub mod FactLemmas
+pub mod Worlds
+pub mod RunLemmas
+pub mod WorkLemmas
