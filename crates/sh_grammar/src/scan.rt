@@ -4,6 +4,7 @@ ghost use Rattle.std.specs.Prelude.{◌≡◌, ◌≢◌, ◌≤◌, ◌<◌, �
 ghost use Rattle.sh_tree.specs.Tokens as tokens;
 
 use sh_tree::limits::MAX_SCRIPT;
+use sh_tree::name::{is_name_byte, is_name_start};
 use sh_tree::sign::{Begin, Context, Sign, Stage, Token};
 
 fn is_blank(byte: u8) -> bool
@@ -16,18 +17,6 @@ fn is_space(byte: u8) -> bool
     ensures { result ≡ tokens.is_space byte }
 {
     is_blank(byte) || byte == b'\n'
-}
-
-fn is_name_start(byte: u8) -> bool
-    ensures { result ≡ tokens.is_name_start byte }
-{
-    (b'A' <= byte && byte <= b'Z') || (b'a' <= byte && byte <= b'z') || byte == b'_'
-}
-
-fn is_name_byte(byte: u8) -> bool
-    ensures { result ≡ tokens.is_name_byte byte }
-{
-    is_name_start(byte) || (b'0' <= byte && byte <= b'9')
 }
 
 fn is_special(byte: u8) -> bool
