@@ -1,22 +1,25 @@
 -- From clap's facts on a parse to what a line says.
-use Rattle.std.proofs.Common.{◌≡◌, ◌∙◌, ◌⊎◌, ℕ, true, refl, sym, ap, subst, arith, codes, List, [], Option, Some, None, Ok, inl, inr}
+use Rattle.std.proofs.Common.{◌≡◌, ◌∙◌, ◌⊎◌, ℕ, false, true, refl, sym, ap, subst, arith, codes, List, [], Option, Some, None, Ok, inl, inr}
 use Rattle.std.specs.Prelude.{IsSome, option_map, pos}
 use Rattle.std.specs.Str.Parse.{ParsesUnsigned}
 use Rattle.std.specs.declared.num.ParseIntError.{ParseIntError}
 use Rattle.clap.specs.Lexer.{without_minus}
 use Rattle.clap.specs.Values.{IsSignedIn}
 use Rattle.clap.specs.Words.{IsAmong, ReadsOne, Row, Text, fault_of, first_of, first_value, is_simple, is_simple_and_free, one_of, one_text, rows_of, subcommand_of}
+use Rattle.clap.specs.Faults.{level_fault}
+use Rattle.clap.specs.Walk.{nothing_held, rows_after}
 use Rattle.clap.specs.declared.error.kind.ErrorKind.{ErrorKind}
 use Rattle.clap.specs.declared.error.kind.ErrorKind.TheVariants.{OutOfMemory}
 use Rattle.clap.specs.declared.parser.matches.Found.{Found}
 use Rattle.clap.proofs.OnLiterals.{clap_on_literals}
 use Rattle.clap.proofs.WalkLemmas.{first_value-rows}
 use Rattle.shset.specs.App.{shset_app}
-use Rattle.shset.specs.Line.{IsWhole, StopsAs, StopsAt, StopsRead}
+use Rattle.shset.specs.Line.{IsWhole, StopsAs, StopsAt, StopsRead, action_name}
 use Rattle.shset.specs.declared.line.Stop.{Stop}
 use Rattle.shset.specs.declared.line.Stop.TheVariants.{Usage, Help, BadName, Memory}
+use Rattle.shset.specs.declared.task.Action.{Action}
 use Rattle.shset.specs.declared.task.Action.TheVariants.{Lint}
-use Rattle.shset.proofs.WholeLemmas.{file_found, number_found, passing_found}
+use Rattle.shset.proofs.WholeLemmas.{file_found, found_passes, number_found, reading}
 
 -- clap's clauses say what the program's command line takes
 pub is_simple-shset : is_simple shset_app ≡ true
@@ -42,15 +45,18 @@ no_file f id some none =
     let bad : IsSome {T = Text} None = subst (λ (o : Option Text). IsSome o) (sym e) some in
     cc
 
+-- a subcommand that reads a script is whole where its level has no fault
+reading_whole : (a : Action) (words : List Text) → level_fault (reading (action_name a)) [] nothing_held words false [] ≡ []
+    → IsWhole (action_name a) (rows_after (reading (action_name a)).rules [] words)
+reading_whole a words passes = record {
+  action = (a, refl);
+  file = file_found (action_name a) words passes;
+  args = number_found (action_name a) words passes;
+}
+
 -- what a parse with no fault finds is whole
 pub whole : (words : List Text) (q : Text × List Row) → fault_of shset_app words ≡ [] → subcommand_of shset_app words ≡ Some q → IsWhole q.0 q.1
-whole words q none is =
-    let found = passing_found words q none is in
-    subst (λ (p : Text × List Row). IsWhole p.0 p.1) found.2 (record {
-      action = (Lint, refl);
-      file = file_found (codes "lint") found.0 found.1;
-      args = number_found (codes "lint") found.0 found.1;
-    })
+whole words q none is = found_passes (λ p. IsWhole p.0 p.1) (reading_whole Lint, tt) words q none is
 
 -- an error of clap's is answered as its kind says
 pub error_stops : (words : List Text) (kind : ErrorKind) (s : Stop) → (kind ≡ OutOfMemory) ⊎ IsAmong kind (fault_of shset_app words)

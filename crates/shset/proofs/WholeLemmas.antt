@@ -1,6 +1,6 @@
 -- A parse of the program's words with no fault finds a subcommand, with all that a line is made of.
 use Rattle.std.proofs.Common.{◌≡◌, ◌∙◌, ◌&&◌, ◌||◌, Bool, cond, drop, true, false, not, refl, sym, ap, subst, arith, codes, List, [], ◌∷◌, Option, Some, None, is_some, inl, inr}
-use Rattle.std.specs.Prelude.{find, option_and_then, pos, slice_get}
+use Rattle.std.specs.Prelude.{⊤, find, option_and_then, pos, slice_get}
 use Rattle.std.specs.List.{list_any}
 use Rattle.std.specs.Option.{option_map, option_map_or}
 use Rattle.std.specs.Str.{bytes_eq}
@@ -35,7 +35,7 @@ abbrev above : Shape
 above = (on_top with_leaf_noted (on_top marked_built shset_app)).top
 
 -- a subcommand that reads a script, as it is built
-abbrev reading : Text → Shape
+abbrev pub reading : Text → Shape
 reading name = built_leaf (inherited above (reading_app name).top)
 
 -- a value of `--args` is a number in its range
@@ -100,42 +100,35 @@ module _ (name : Text) (words : List Text) (passes : level_fault (reading name) 
 
 -- ---- the program's own level
 
--- the subcommand at which the walk stopped, with its own level
-entered_at : (p : Shape → Bool) (subs : List Shape) (words : List Text) (q : Text × List Row) (o : Option Shape) → find p subs ≡ o
-    → option_map (λ s. rows_at s words) o ≡ Some q → option_map_or (λ s. level_fault s [] nothing_held words false []) o [] ≡ []
-    → (s : Shape) × (find p subs ≡ Some s) × (rows_at s words ≡ q) × (level_fault s [] nothing_held words false [] ≡ [])
-entered_at p subs words q None is e passes = cc
-entered_at p subs words q (Some s) is e passes =
-    let same : rows_at s words ≡ q = cc in
-    (s, is, same, passes)
+-- what holds of each subcommand whose level has no fault
+abbrev pub EachLevel : (Text × List Row → Type 0) → List Shape → Type 0
+EachLevel P [] = ⊤
+EachLevel P (s ∷ rest) = ((words : List Text) → level_fault s [] nothing_held words false [] ≡ [] → P (rows_at s words)) × EachLevel P rest
 
-one_found : (p : Shape → Bool) (x s : Shape) → find p (x ∷ []) ≡ Some s → x ≡ s
-one_found p x s e = go (p x) e
+level_entered : (P : Text × List Row → Type 0) (p : Shape → Bool) (subs : List Shape) (words : List Text) (q : Text × List Row) → EachLevel P subs
+    → option_map (λ s. rows_at s words) (find p subs) ≡ Some q → option_map_or (λ s. level_fault s [] nothing_held words false []) (find p subs) [] ≡ [] → P q
+level_entered P p [] words q each e passes = cc
+level_entered P p (s ∷ rest) words q each e passes = go (p s) (level_entered P p rest words q each.1) e passes
   where
-    go : (b : Bool) → cond b (Some x) None ≡ Some s → x ≡ s
-    go true e = cc
-    go false e = cc
+    go : (b : Bool)
+        → (option_map (λ s. rows_at s words) (find p rest) ≡ Some q → option_map_or (λ s. level_fault s [] nothing_held words false []) (find p rest) [] ≡ [] → P q)
+        → option_map (λ s. rows_at s words) (cond b (Some s) (find p rest)) ≡ Some q
+        → option_map_or (λ s. level_fault s [] nothing_held words false []) (cond b (Some s) (find p rest)) [] ≡ [] → P q
+    go true rec e passes =
+        let same : rows_at s words ≡ q = cc in
+        subst P same (each.0 words passes)
+    go false rec e passes = rec e passes
 
-subs_are : (built shset_app).subs ≡ reading (codes "lint") ∷ []
-subs_are = refl
-
--- where the words have no fault and name a subcommand, it is one of the program's, with a level that passes
-pub passing_found : (words : List Text) (q : Text × List Row) → fault_of shset_app words ≡ [] → subcommand_of shset_app words ≡ Some q
-    → (rest : List Text) × (level_fault (reading (codes "lint")) [] nothing_held rest false [] ≡ []) × (rows_at (reading (codes "lint")) rest ≡ q)
-passing_found words q none is =
-    let stop = stop_after (built shset_app).top.rules (names_of (built shset_app)) (argument_words shset_app words) in
-    go stop is (level_checks (built shset_app).top (names_of (built shset_app)) nothing_held (argument_words shset_app words) _ _ none).1
+-- and so of what is found, where the words have no fault and name a subcommand
+pub found_passes : (P : Text × List Row → Type 0) → EachLevel P (built shset_app).subs → (words : List Text) (q : Text × List Row)
+    → fault_of shset_app words ≡ [] → subcommand_of shset_app words ≡ Some q → P q
+found_passes P each words q none is =
+    go (stop_after (built shset_app).top.rules (names_of (built shset_app)) (argument_words shset_app words)) is
+    (level_checks (built shset_app).top (names_of (built shset_app)) nothing_held (argument_words shset_app words) _ _ none).1
   where
-    go : (stop : Option (Text × List Text)) → entered (built shset_app) stop ≡ Some q → entered_fault (built shset_app) stop ≡ []
-        → (rest : List Text) × (level_fault (reading (codes "lint")) [] nothing_held rest false [] ≡ []) × (rows_at (reading (codes "lint")) rest ≡ q)
+    go : (stop : Option (Text × List Text)) → entered (built shset_app) stop ≡ Some q → entered_fault (built shset_app) stop ≡ [] → P q
     go None e passes = cc
-    go (Some p) e passes =
-        let got = entered_at (λ s. answers_to p.0 (label_of s)) (built shset_app).subs p.1 q (find (λ s. answers_to p.0 (label_of s)) (built shset_app).subs) refl e passes in
-        let same = one_found (λ s. answers_to p.0 (label_of s)) (reading (codes "lint")) got.0 got.1 in (
-          p.1,
-          subst (λ (s : Shape). level_fault s [] nothing_held p.1 false [] ≡ []) (sym same) got.3,
-          ap (λ (s : Shape). rows_at s p.1) same ∙ got.2,
-        )
+    go (Some p) e passes = level_entered P (λ s. answers_to p.0 (label_of s)) (built shset_app).subs p.1 q each e passes
 
 pub subcommand_found : (words : List Text) → fault_of shset_app words ≡ [] → is_some (subcommand_of shset_app words) ≡ true
 subcommand_found words none =

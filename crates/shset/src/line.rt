@@ -1,5 +1,5 @@
 //! The words of a command line, read by clap.
-ghost use Rattle.std.specs.Prelude.{◌≡◌, IfOk, IfErr, Some, [], false, map, List};
+ghost use Rattle.std.specs.Prelude.{◌≡◌, IfOk, IfErr, Some, [], codes, false, map, List};
 ghost use Rattle.clap.specs.Words.{Row, Text, app_of, fault_of, found_of, kind_of, rows_of, rule_of, subcommand_of};
 ghost use Rattle.clap.specs.declared.builder.command.Command.TheViews.{out-Command};
 ghost use Rattle.shset.specs.App.{args_rule, file_rule, name_rule, reading_app, shset_app};
@@ -80,14 +80,16 @@ fn args_arg<'a>(alloc: Global) -> Arg<'a>
         .value_name("N")
         .value_parser(clap::value_parser!(u16))
         .default_value("0")
-        .help("How many positional parameters the script is started with at least")
+        .help("How many positional parameters are set at least when the script starts")
 }
 
-fn file_arg<'a>(alloc: Global, id: &'a str, help: &'a str) -> Arg<'a>
-    ensures rule { rule_of result ≡ file_rule id.entry.now }
+fn file_arg<'a>(alloc: Global) -> Arg<'a>
+    ensures rule { rule_of result ≡ file_rule (codes "FILE") }
     ensures local { result.global ≡ false }
 {
-    Arg::new(alloc, id).required(true).help(help)
+    Arg::new(alloc, "FILE")
+        .required(true)
+        .help("The script, or - for standard input")
 }
 
 fn name_arg<'a>(alloc: Global) -> Arg<'a>
@@ -96,7 +98,7 @@ fn name_arg<'a>(alloc: Global) -> Arg<'a>
 {
     Arg::new(alloc, "NAME")
         .action(ArgAction::Append)
-        .help("Names of variables that are set when the script starts")
+        .help("A variable that is set when the script starts")
 }
 
 fn reading_command<'a>(
@@ -110,18 +112,18 @@ fn reading_command<'a>(
     Command::new(alloc, name)
         .about(about)
         .arg(args_arg(alloc))?
-        .arg(file_arg(
-            alloc,
-            "FILE",
-            "The script, or - for standard input",
-        ))?
+        .arg(file_arg(alloc))?
         .arg(name_arg(alloc))
 }
 
 fn shset_command<'a>(alloc: Global) -> Result<Command<'a>, AllocError>
     ensures { IfOk result (λ c. app_of c ≡ shset_app) }
 {
-    let lint = reading_command(alloc, "lint", "Tell what may go wrong in a script, or that it is clean")?;
+    let lint = reading_command(
+        alloc,
+        "lint",
+        "Prints what is wrong with a script, or that it is clean",
+    )?;
     Command::new(alloc, "shset")
         .about("Looks in shell scripts for variables that may be unset and words that may be split")
         .subcommand_required(true)
@@ -147,7 +149,7 @@ fn stop_of(alloc: Global, error: Error) -> Stop
 }
 
 fn action_of(name: &str) -> Action
-    requires { (a : _) × (name.now ≡ action_name a) }
+    requires { (a : Action) × (name.now ≡ action_name a) }
     ensures { name.now ≡ action_name result }
 {
     match name {
@@ -208,7 +210,8 @@ fn read_line<'a>(alloc: Global, name: &str, sub: &ArgMatches<'a>) -> Result<Line
     })
 }
 
-/// Reads the words of a command line, the program's name first.
+/// Reads the words of a command line, the program's name first: `lint [--args N] FILE [NAME..]`. N is 0 to 65535, and 0 where
+/// it is not given; FILE `-` is standard input; each NAME is a variable that is set when the script starts.
 ///
 /// # Errors
 ///
