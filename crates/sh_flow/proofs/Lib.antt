@@ -4,3 +4,4 @@ pub mod Worlds
 pub mod RunLemmas
 pub mod WorkLemmas
 pub mod RowLemmas
+pub mod NameLemmas
