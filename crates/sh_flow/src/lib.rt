@@ -4,11 +4,8 @@
 
 pub mod certificate;
 pub mod flow;
-<<<<<<< HEAD
 pub mod laws;
-=======
 pub mod names;
->>>>>>> check
 pub mod policy;
 pub mod row;
 pub mod rule;
