@@ -20,9 +20,9 @@ module _ {S J A : Type 0} (R : S → J → List A → Type 0) where
   pub one_more : (s next after : S) (found : List A) (x : A) → Behind s found next → Steps next x after → Behind s (found ++ x ∷ []) after
   one_more s next after found x behind steps = record {
     forth = λ k xs l.
-      let t = behind.forth k xs l in
-      let u = steps.forth k t.0 t.2 in
-      (u.0, t.1 ∙ ap (λ v. found ++ v) u.1 ∙ sym (append_assoc found (x ∷ []) u.0), u.2);
+        let t = behind.forth k xs l in
+        let u = steps.forth k t.0 t.2 in
+        (u.0, t.1 ∙ ap (λ v. found ++ v) u.1 ∙ sym (append_assoc found (x ∷ []) u.0), u.2);
     back = λ k ys l. subst (λ v. R s k v) (sym (append_assoc found (x ∷ []) ys)) (behind.back k (x ∷ ys) (steps.back k ys l));
   }
 
@@ -30,9 +30,9 @@ module _ {S J A : Type 0} (R : S → J → List A → Type 0) where
   all_found s next found k behind rest = record {
     reads = subst (λ v. R s k v) (append-nil found) (behind.back k [] rest.reads);
     only = λ j xs l.
-      let t = behind.forth j xs l in
-      let u = rest.only j t.0 t.2 in
-      (u.0, t.1 ∙ ap (λ v. found ++ v) u.1 ∙ append-nil found);
+        let t = behind.forth j xs l in
+        let u = rest.only j t.0 t.2 in
+        (u.0, t.1 ∙ ap (λ v. found ++ v) u.1 ∙ append-nil found);
   }
 
   pub none_behind : (s next : S) (found : List A) → Behind s found next → Nothing (R next) → Nothing (R s)

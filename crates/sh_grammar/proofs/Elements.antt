@@ -132,10 +132,10 @@ module _ (b : List ℕ) (i next : ℕ) (s : Stage) (found : List Element) (behin
       let one = read.parts.one in
       let steps : Steps (ElementsFrom b) (s, next) x (Named, blanks b w.span.end) = record {
         forth = λ k es l.
-          let f = first_word b s next k es (sym is) l in
-          let o = one.only f.end f.parts f.word in
-          let same = same_operand next w.span.end f.end (operand next f.end f.parts) w.parts f.parts refl o.0 o.1 in
-          (f.others, f.whole ∙ ap (λ v. v ∷ f.others) same, subst (λ v. ReadsElements b Named (blanks b v) k f.others) o.0 f.rest);
+            let f = first_word b s next k es (sym is) l in
+            let o = one.only f.end f.parts f.word in
+            let same = same_operand next w.span.end f.end (operand next f.end f.parts) w.parts f.parts refl o.0 o.1 in
+            (f.others, f.whole ∙ ap (λ v. v ∷ f.others) same, subst (λ v. ReadsElements b Named (blanks b v) k f.others) o.0 f.rest);
         back = λ k es l. r.word (sym is) one.reads l;
       } in
       subst (λ v. Behind (ElementsFrom b) (First, i) (found ++ element.Word v ∷ []) (Named, after)) (sym read.is)
@@ -155,10 +155,10 @@ module _ (b : List ℕ) (i next : ℕ) (s : Stage) (found : List Element) (behin
       let one : One (ReadsParts b Unquoted (name_end b next + 1)) w.span.end w.parts = subst (λ v. One (ReadsParts b Unquoted (v + 1)) w.span.end w.parts) name read.parts.one in
       let steps : Steps (ElementsFrom b) (s, next) x (Prefixed, blanks b w.span.end) = record {
         forth = λ k es l.
-          let f = first_assignment b s next k es (sym is) l in
-          let o = one.only f.end f.parts f.value in
-          let same = same_assignment next e w.span.end f.end (assignment next (name_end b next) f.end f.parts) w.parts f.parts (ap (λ v. assignment next v f.end f.parts) (sym name)) o.0 o.1 in
-          (f.others, f.whole ∙ ap (λ v. v ∷ f.others) same, subst (λ v. ReadsElements b Prefixed (blanks b v) k f.others) o.0 f.rest);
+            let f = first_assignment b s next k es (sym is) l in
+            let o = one.only f.end f.parts f.value in
+            let same = same_assignment next e w.span.end f.end (assignment next (name_end b next) f.end f.parts) w.parts f.parts (ap (λ v. assignment next v f.end f.parts) (sym name)) o.0 o.1 in
+            (f.others, f.whole ∙ ap (λ v. v ∷ f.others) same, subst (λ v. ReadsElements b Prefixed (blanks b v) k f.others) o.0 f.rest);
         back = λ k es l. subst (λ v. ReadsElements b s next k (assignment next v w.span.end w.parts ∷ es)) (sym name) (r.assignment_word (sym is) one.reads l);
       } in
       subst (λ v. Behind (ElementsFrom b) (First, i) (found ++ element.Assignment (span next e) v ∷ []) (Prefixed, after)) (sym read.is)

@@ -85,9 +85,9 @@ module _ (b : List ℕ) (found : List Item) (at count : ℕ) (behind : Behind (R
   items_one_more c end next inside read ends =
       let steps : Steps (ReadsItems b) (spot at count) (item_of c) (spot (next_item b end) (count + 1)) = record {
         forth = λ v is l.
-          let f = first_of b (spot at count) v is (λ h. omega arith) l in
-          let o = read.one.only f.end f.command f.read in
-          (f.others, f.whole ∙ ap (λ x. item_of x ∷ f.others) o.1, subst (λ x. ReadsItems b (spot (next_item b x.at) x.count) v f.others) o.0 f.rest);
+            let f = first_of b (spot at count) v is (λ h. omega arith) l in
+            let o = read.one.only f.end f.command f.read in
+            (f.others, f.whole ∙ ap (λ x. item_of x ∷ f.others) o.1, subst (λ x. ReadsItems b (spot (next_item b x.at) x.count) v f.others) o.0 f.rest);
         back = λ v is l. r.item (r.ReadsAndOr.single (r.ReadsPipe.single read.one.reads)) l;
       } in
       subst (λ x. Behind (ReadsItems b) (spot (first_item b) 0) (found ++ item_of c ∷ []) (spot x (count + 1))) (sym ends)

@@ -89,9 +89,9 @@ module _ (b : List ℕ) (x : Context) (i next : ℕ) (found : List Part) (t : To
       let stands : sign_at b x next ≡ sign.Plain = sym (ap (λ v. v.sign) here) ∙ is in
       let steps : Steps (ReadsParts b x) next (Plain (span next (after b x next))) (after b x next) = record {
         forth = λ k ps l.
-          let f = first_part b x sign.Plain next k ps stands (λ h. cc) l in
-          let e = plain_part b x sign.Plain next f.end f.part refl f.first in
-          (f.others, f.whole ∙ ap (λ v. v ∷ f.others) e.1, subst (λ v. ReadsParts b x v k f.others) e.0 f.rest);
+            let f = first_part b x sign.Plain next k ps stands (λ h. cc) l in
+            let e = plain_part b x sign.Plain next f.end f.part refl f.first in
+            (f.others, f.whole ∙ ap (λ v. v ∷ f.others) e.1, subst (λ v. ReadsParts b x v k f.others) e.0 f.rest);
         back = λ k ps l. r.more stands r.plain l;
       } in
       subst (λ v. Behind (ReadsParts b x) i (found ++ Plain (span next v) ∷ []) v) (sym (ap (λ v. v.end) here))
@@ -102,9 +102,9 @@ module _ (b : List ℕ) (x : Context) (i next : ℕ) (found : List Part) (t : To
       let stands : sign_at b x next ≡ sign.Name = sym (ap (λ v. v.sign) here) ∙ is in
       let steps : Steps (ReadsParts b x) next (value_of next (after b x next)) (after b x next) = record {
         forth = λ k ps l.
-          let f = first_part b x sign.Name next k ps stands (λ h. cc) l in
-          let e = value_part b x sign.Name next f.end f.part refl f.first in
-          (f.others, f.whole ∙ ap (λ v. v ∷ f.others) e.1, subst (λ v. ReadsParts b x v k f.others) e.0 f.rest);
+            let f = first_part b x sign.Name next k ps stands (λ h. cc) l in
+            let e = value_part b x sign.Name next f.end f.part refl f.first in
+            (f.others, f.whole ∙ ap (λ v. v ∷ f.others) e.1, subst (λ v. ReadsParts b x v k f.others) e.0 f.rest);
         back = λ k ps l. r.more stands r.value l;
       } in
       subst (λ v. Behind (ReadsParts b x) i (found ++ value_of next v ∷ []) v) (sym (ap (λ v. v.end) here))
@@ -117,11 +117,11 @@ module _ (b : List ℕ) (x : Context) (i next : ℕ) (found : List Part) (t : To
       let inside : One (ReadsParts b Quoted (after b x next)) j ps = subst (λ v. One (ReadsParts b Quoted v) j ps) (sym opens ∙ ap (λ v. v.end) here) one in
       let steps : Steps (ReadsParts b x) next (Double (span next j) ps) j = record {
         forth = λ k qs l.
-          let f = first_part b x sign.Quote next k qs stands (λ h. cc) l in
-          let e = double_part b x sign.Quote next f.end f.part refl f.first in
-          let o = inside.only f.end e.0 e.2 in
-          let same : f.part ≡ Double (span next j) ps = same_double next j f.end f.part ps e.0 e.1 o.0 o.1 in
-          (f.others, f.whole ∙ ap (λ v. v ∷ f.others) same, subst (λ v. ReadsParts b x v k f.others) o.0 f.rest);
+            let f = first_part b x sign.Quote next k qs stands (λ h. cc) l in
+            let e = double_part b x sign.Quote next f.end f.part refl f.first in
+            let o = inside.only f.end e.0 e.2 in
+            let same : f.part ≡ Double (span next j) ps = same_double next j f.end f.part ps e.0 e.1 o.0 o.1 in
+            (f.others, f.whole ∙ ap (λ v. v ∷ f.others) same, subst (λ v. ReadsParts b x v k f.others) o.0 f.rest);
         back = λ k qs l. r.more stands (r.double inside.reads) l;
       } in
       one_more (ReadsParts b x) i next j found (Double (span next j) ps) behind steps
@@ -130,16 +130,16 @@ module _ (b : List ℕ) (x : Context) (i next : ℕ) (found : List Part) (t : To
   parts_open behind here is =
       let stands : sign_at b x next ≡ sign.Open = sym (ap (λ v. v.sign) here) ∙ is in
       let none : Nothing (ReadsParts b x next) = λ k ps l.
-        let f = first_part b x sign.Open next k ps stands (λ h. cc) l in
-        open_part b x sign.Open next f.end f.part refl f.first in
+      let f = first_part b x sign.Open next k ps stands (λ h. cc) l in
+      open_part b x sign.Open next f.end f.part refl f.first in
       none_behind (ReadsParts b x) i next found behind none
 
   pub parts_later : Behind (ReadsParts b x) i found next → t ≡ token b x next → t.sign ≡ sign.Later → Nothing (ReadsParts b x i)
   parts_later behind here is =
       let stands : sign_at b x next ≡ sign.Later = sym (ap (λ v. v.sign) here) ∙ is in
       let none : Nothing (ReadsParts b x next) = λ k ps l.
-        let f = first_part b x sign.Later next k ps stands (λ h. cc) l in
-        later_part b x sign.Later next f.end f.part refl f.first in
+      let f = first_part b x sign.Later next k ps stands (λ h. cc) l in
+      later_part b x sign.Later next f.end f.part refl f.first in
       none_behind (ReadsParts b x) i next found behind none
 
   -- what is refused inside double quotes
@@ -148,7 +148,7 @@ module _ (b : List ℕ) (x : Context) (i next : ℕ) (found : List Part) (t : To
   parts_double_none behind here is opens nothing =
       let stands : sign_at b x next ≡ sign.Quote = sym (ap (λ v. v.sign) here) ∙ is in
       let none : Nothing (ReadsParts b x next) = λ k qs l.
-        let f = first_part b x sign.Quote next k qs stands (λ h. cc) l in
-        let e = double_part b x sign.Quote next f.end f.part refl f.first in
-        nothing f.end e.0 (subst (λ v. ReadsParts b Quoted v f.end e.0) (sym (ap (λ v. v.end) here) ∙ opens) e.2) in
+      let f = first_part b x sign.Quote next k qs stands (λ h. cc) l in
+      let e = double_part b x sign.Quote next f.end f.part refl f.first in
+      nothing f.end e.0 (subst (λ v. ReadsParts b Quoted v f.end e.0) (sym (ap (λ v. v.end) here) ∙ opens) e.2) in
       none_behind (ReadsParts b x) i next found behind none

@@ -76,9 +76,9 @@ command_read b i count j es x is some h few = record {
   one = record {
     reads = simple_read b (spot i count) j es (λ stop. some (is ∙ stop)) h.one.reads;
     only = λ v c l.
-      let f = simple_of b (spot i count) v c l in
-      let o = h.one.only f.end f.elements f.read in
-      (f.behind ∙ ap (λ k. spot k (count + 1)) o.0, f.whole ∙ ap (λ fs. simple_command (count + 1) i fs) o.1);
+        let f = simple_of b (spot i count) v c l in
+        let o = h.one.only f.end f.elements f.read in
+        (f.behind ∙ ap (λ k. spot k (count + 1)) o.0, f.whole ∙ ap (λ fs. simple_command (count + 1) i fs) o.1);
   };
   from = h.from;
   within = h.within;

@@ -52,7 +52,12 @@ fn elements_at(alloc: Global, script: &[u8], start: u32) -> Result<(Items<Elemen
 
 /// The command at `at`, before which `count` others began, and where it ends.
 #[tactic(auto, using(crate::proofs::Simple::command_read, crate::proofs::Simple::command_refused, crate::proofs::Simple::no_command, crate::proofs::Simple::later_command))]
-pub fn command_at(alloc: Global, script: &[u8], at: u32, count: u32) -> Result<(Command, u32), Refusal>
+pub fn command_at(
+    alloc: Global,
+    script: &[u8],
+    at: u32,
+    count: u32,
+) -> Result<(Command, u32), Refusal>
     requires small { length script.now ≤ MAX_SCRIPT }
     requires inside { at < length script.now }
     requires settled { tokens.blanks script.now at ≡ at }

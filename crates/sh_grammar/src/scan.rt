@@ -22,7 +22,9 @@ fn is_space(byte: u8) -> bool
 fn is_special(byte: u8) -> bool
     ensures { result ≡ tokens.is_special byte }
 {
-    b"|&;<>()$`\\\"'*?[]#~!{}".iter().any(|special| *special == byte)
+    b"|&;<>()$`\\\"'*?[]#~!{}"
+        .iter()
+        .any(|special| *special == byte)
 }
 
 fn is_special_quoted(byte: u8) -> bool
@@ -35,6 +37,18 @@ fn ends_word(byte: u8) -> bool
     ensures { result ≡ tokens.ends_word byte }
 {
     is_space(byte) || byte == b';'
+}
+
+fn begins_operator(byte: u8) -> bool
+    ensures { result ≡ tokens.begins_operator byte }
+{
+    b"|&;<>()".iter().any(|operator| *operator == byte)
+}
+
+fn ends_token(byte: u8) -> bool
+    ensures { result ≡ tokens.ends_token byte }
+{
+    is_space(byte) || begins_operator(byte)
 }
 
 fn is_plain(context: Context, byte: u8) -> bool
@@ -185,7 +199,19 @@ fn is_reserved_word(word: &[u8]) -> bool
 {
     matches!(
         word,
-        b"case" | b"do" | b"done" | b"elif" | b"else" | b"esac" | b"fi" | b"for" | b"if" | b"in" | b"then" | b"until" | b"while"
+        b"case"
+            | b"do"
+            | b"done"
+            | b"elif"
+            | b"else"
+            | b"esac"
+            | b"fi"
+            | b"for"
+            | b"if"
+            | b"in"
+            | b"then"
+            | b"until"
+            | b"while"
     )
 }
 
@@ -206,14 +232,14 @@ fn is_left_out(stage: Stage, word: &[u8]) -> bool
     }
 }
 
-/// The word, if its bytes are all plain.
+/// The token, if its bytes are all plain.
 #[tactic(auto, using(crate::proofs::Runs::take_passing), unfolding(sh_tree::specs::Tokens::bare_word, sh_tree::specs::Tokens::plain_length))]
 fn bare_word(rest: &[u8]) -> &[u8]
     ensures { result.now ≡ tokens.bare_word rest.now }
 {
     let length = plain_length(Context::Unquoted, rest);
     let others = &rest[length..];
-    if others.is_empty() || ends_word(others[0]) {
+    if others.is_empty() || ends_token(others[0]) {
         &rest[..length]
     } else {
         &[]
@@ -271,7 +297,11 @@ fn begin_of(stage: Stage, rest: &[u8]) -> Begin
             if *first == b'\n' {
                 Begin::Stop
             } else if *first == b';' {
-                if is_double(others) { Begin::Later } else { Begin::Stop }
+                if is_double(others) {
+                    Begin::Later
+                } else {
+                    Begin::Stop
+                }
             } else {
                 begin_word(stage, rest)
             }

@@ -12,6 +12,12 @@ use sh_tree::sign::{Context, Sign};
 use sh_tree::tree::{Operator, Param, Part, Span, Subject, Word};
 use std::alloc::Global;
 
+fn plain(at: u32, end: u32) -> Part
+    ensures { result ≡ Part.Plain (tree.span at end) }
+{
+    Part::Plain(Span { start: at, end })
+}
+
 /// `$name`, from the `$` at `at` up to `end`.
 fn value(at: u32, end: u32) -> Part
     requires { at < end }
@@ -39,10 +45,7 @@ fn quoted_parts(alloc: Global, script: &[u8], quote: u32) -> Result<(Items<Part>
             Sign::Stop => return Ok((parts, token.end)),
             Sign::Open => return Err(Refusal::Syntax(Fault::OpenDouble, quote)),
             Sign::Quote | Sign::Later => return Err(Refusal::LeftOut(Form::Later, at)),
-            Sign::Plain => Part::Plain(Span {
-                start: at,
-                end: token.end,
-            }),
+            Sign::Plain => plain(at, token.end),
             Sign::Name => value(at, token.end),
         };
         parts.push(part)?;
@@ -61,16 +64,14 @@ fn parts_at(alloc: Global, script: &[u8], start: u32) -> Result<(Items<Part>, u3
     let mut at = start;
     loop {
         let token = token_at(script, Context::Unquoted, at);
-        let mut end = token.end;
-        let part = match token.sign {
-            Sign::Stop => return Ok((parts, end)),
+        let (part, end) = match token.sign {
+            Sign::Stop => return Ok((parts, token.end)),
             Sign::Open | Sign::Later => return Err(Refusal::LeftOut(Form::Later, at)),
-            Sign::Plain => Part::Plain(Span { start: at, end }),
-            Sign::Name => value(at, end),
+            Sign::Plain => (plain(at, token.end), token.end),
+            Sign::Name => (value(at, token.end), token.end),
             Sign::Quote => {
-                let (quoted, behind) = quoted_parts(alloc, script, at)?;
-                end = behind;
-                Part::Double(Span { start: at, end }, quoted)
+                let (quoted, end) = quoted_parts(alloc, script, at)?;
+                (Part::Double(Span { start: at, end }, quoted), end)
             }
         };
         parts.push(part)?;

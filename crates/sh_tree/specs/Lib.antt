@@ -5,3 +5,4 @@ pub mod Tree
 pub mod Words
 pub mod Reading
 pub mod Answers
+pub mod Examples

@@ -53,6 +53,13 @@ is_special_quoted c = c == 34 || c == 36 || c == 96 || c == 92
 abbrev pub ends_word : ℕ → Bool
 ends_word c = is_space c || c == 59
 
+abbrev pub begins_operator : ℕ → Bool
+begins_operator c = list_any (λ d. d == c) (codes "|&;<>()")
+
+-- a blank, a newline or an operator delimits the token before it
+abbrev pub ends_token : ℕ → Bool
+ends_token c = is_space c || begins_operator c
+
 -- the byte stands for itself
 abbrev pub is_plain : Context → ℕ → Bool
 is_plain Unquoted c = not (is_space c) && not (is_special c) && not (c == 0)
@@ -110,11 +117,11 @@ left_out_names = codes "function" ∷ codes "select" ∷ codes "time" ∷ codes 
 abbrev pub is_among : List (List ℕ) → List ℕ → Bool
 is_among names name = list_any (λ n. bytes_eq n name) names
 
--- a word of plain bytes alone, or nothing
+-- a token of plain bytes alone, or nothing
 unfoldable pub bare_word : List ℕ → List ℕ
 bare_word cs =
     let rest = drop (plain_length Unquoted cs) cs in
-    if length rest == 0 || ends_word (slice_index rest 0) then take_while (is_plain Unquoted) cs else []
+    if length rest == 0 || ends_token (slice_index rest 0) then take_while (is_plain Unquoted) cs else []
 
 unfoldable pub is_left_out : Stage → List ℕ → Bool
 is_left_out First w = is_among reserved_words w || is_among left_out_names w

@@ -10,7 +10,7 @@ invariant-loop-elements l = record {
   behind : Behind (ElementsFrom l.script) (First, l.start) l.elements (l.stage, l.at);
   from : l.start ≤ l.at;
   inside : l.at ≤ length l.script;
-  settled : blanks l.script l.at ≡ l.at
+  settled : blanks l.script l.at ≡ l.at;
 }
 
 abbrev pub decreases-loop-elements : goal.decreases-loop-elements

@@ -10,7 +10,7 @@ invariant-loop-at l = record {
   behind : Behind (ReadsItems l.script) (spot (first_item l.script) 0) l.items (spot l.at l.count);
   inside : l.at ≤ length l.script;
   settled : blanks l.script l.at ≡ l.at;
-  few : l.count ≤ MAX_COMMANDS
+  few : l.count ≤ MAX_COMMANDS;
 }
 
 abbrev pub decreases-loop-at : goal.decreases-loop-at

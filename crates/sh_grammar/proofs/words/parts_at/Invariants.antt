@@ -8,7 +8,7 @@ abbrev pub invariant-loop-parts : goal.invariant-loop-parts
 invariant-loop-parts l = record {
   behind : Behind (ReadsParts l.script Unquoted) l.start l.parts l.at;
   from : l.start ≤ l.at;
-  inside : l.at ≤ length l.script
+  inside : l.at ≤ length l.script;
 }
 
 abbrev pub decreases-loop-parts : goal.decreases-loop-parts
