@@ -2,19 +2,14 @@
 //! with its status.
 #![tactic(auto)]
 
-mod admit;
 mod counted;
 mod ends;
 mod engine;
-mod find;
 mod line;
 mod lines;
 mod lint;
 mod moves;
-mod quotes;
 mod task;
-#[cfg(test)]
-mod tests;
 mod texts;
 mod verdict;
 
