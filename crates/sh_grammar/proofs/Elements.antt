@@ -1,5 +1,5 @@
 -- The elements of a simple command, by what each begins with.
-use Rattle.std.proofs.Common.{◌≡◌, ℕ, ◌+◌, ◌<◌, ◌≤◌, Bool, true, false, ◌||◌, ◌==◌, List, [], ◌∷◌, ◌++◌, length, drop, take_while, cond, refl, sym, ap, subst, ◌∙◌, arith}
+use Rattle.std.proofs.Common.{◌≡◌, ℕ, ◌+◌, ◌≤◌, Bool, true, false, ◌||◌, ◌==◌, List, [], ◌∷◌, ◌++◌, length, drop, take_while, cond, refl, sym, ap, subst, ◌∙◌, arith}
 use Rattle.std.proofs.lemmas.Bool.{true≢false}
 use Rattle.std.proofs.lemmas.List.Sums.{take_while-cons}
 use Rattle.sh_tree.specs.declared.sign.Context.TheVariants.{Unquoted}
@@ -16,7 +16,7 @@ use Rattle.sh_tree.specs.declared.tree.Element.TheVariants as element
 use Rattle.sh_tree.specs.Reading.{ReadsParts, ReadsElements, sign_at}
 use Rattle.sh_tree.specs.Reading as r
 use Rattle.sh_tree.specs.Tokens.{begin_at, begin_of, begin_word, is_double, name_end, name_length, blanks, is_blank, is_newline, ends_word, is_plain, plain_length, token, dollar, sign_of, unquoted_sign}
-use Rattle.sh_tree.specs.Tree.{span, word, assignment, operand}
+use Rattle.sh_tree.specs.Tree.{span, assignment, operand}
 use Rattle.sh_grammar.specs.Readers.{One, Nothing, WordTo, ElementsFrom, ElementsTo}
 use Rattle.sh_grammar.proofs.Behind.{Behind, Steps, one_more, all_found, none_behind}
 

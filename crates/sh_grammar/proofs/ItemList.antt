@@ -1,7 +1,7 @@
 -- The items of a script.
-use Rattle.std.proofs.Common.{◌≡◌, ℕ, ◌+◌, ◌<◌, ◌≤◌, Bool, true, false, List, [], ◌∷◌, ◌++◌, length, drop, Ok, Err, None, refl, sym, ap, subst, ◌∙◌, arith}
+use Rattle.std.proofs.Common.{◌≡◌, ℕ, ◌+◌, ◌<◌, ◌≤◌, List, [], ◌∷◌, ◌++◌, length, Ok, Err, refl, sym, ap, subst, ◌∙◌, arith}
 use Rattle.std.proofs.lemmas.List.{append-nil, drop_all}
-use Rattle.sh_tree.specs.declared.limits.TheConstants.{MAX_SCRIPT, MAX_COMMANDS}
+use Rattle.sh_tree.specs.declared.limits.TheConstants.{MAX_COMMANDS}
 use Rattle.sh_tree.specs.declared.sign.Stage.TheVariants.{First}
 use Rattle.sh_tree.specs.declared.sign.Begin.TheVariants as begin
 use Rattle.sh_tree.specs.declared.tree.Command.{Command}
@@ -16,7 +16,7 @@ use Rattle.sh_tree.specs.Reading.{Spot, spot, ReadsCommand, ReadsPipe, ReadsAndO
 use Rattle.sh_tree.specs.Reading as r
 use Rattle.sh_tree.specs.Tokens.{begin_at, begin_of, next_item, first_item}
 use Rattle.sh_tree.specs.Tree.{pipeline, and_or, foreground, script}
-use Rattle.sh_grammar.specs.Readers.{One, Nothing, Refused, Commands, CommandTo, item_of}
+use Rattle.sh_grammar.specs.Readers.{Nothing, Commands, CommandTo, item_of}
 use Rattle.sh_grammar.proofs.Behind.{Behind, Steps, one_more}
 use Rattle.sh_grammar.proofs.Nul.{has_no_nul}
 use Rattle.sh_grammar.proofs.Simple.{no_command, counted_one}

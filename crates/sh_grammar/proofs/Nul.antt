@@ -1,10 +1,10 @@
 -- Where the first NUL stands, and that there is none.
-use Rattle.std.proofs.Common.{◌≡◌, ℕ, ◌+◌, ◌<◌, ◌≤◌, ◌==◌, Bool, true, false, not, ◌||◌, List, [], ◌∷◌, length, get_or, position, nat_lt, Option, Some, None, cond, refl, sym, ap, ◌∙◌, ⊎_elim, arith}
+use Rattle.std.proofs.Common.{◌≡◌, ℕ, ◌+◌, ◌<◌, ◌≤◌, ◌==◌, Bool, true, false, not, ◌||◌, List, [], ◌∷◌, length, nat_lt, Some, None, cond, refl, ap, ◌∙◌, ⊎_elim, arith}
 use Rattle.std.specs.List.{list_any, position_or_len}
 use Rattle.std.proofs.lemmas.Bool.{cases_lt, lt-ltb}
 use Rattle.std.proofs.lemmas.Bool.Decides.{nat_tests}
 use Rattle.std.proofs.lemmas.List.Sums.{position_or_len_is}
-use Rattle.memchr.specs.Find.{IsFirstByte, Passes, is_byte}
+use Rattle.memchr.specs.Find.{IsFirstByte, is_byte}
 use Rattle.sh_tree.specs.Answers.{first_nul}
 
 fails : (p : Bool) → (p ≡ true → ⊥) → p ≡ false

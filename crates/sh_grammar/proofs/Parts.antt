@@ -2,7 +2,7 @@
 use Rattle.std.proofs.Common.{◌≡◌, ℕ, ◌+◌, ◌<◌, ◌≤◌, List, [], ◌∷◌, ◌++◌, length, refl, sym, ap, subst, ◌∙◌, ⊎_elim, arith}
 use Rattle.std.proofs.Math.Nat.{eq-or-lt_of_le}
 use Rattle.sh_tree.specs.declared.sign.Context.{Context}
-use Rattle.sh_tree.specs.declared.sign.Context.TheVariants.{Unquoted, Quoted}
+use Rattle.sh_tree.specs.declared.sign.Context.TheVariants.{Quoted}
 use Rattle.sh_tree.specs.declared.sign.Sign.{Sign}
 use Rattle.sh_tree.specs.declared.sign.Sign.TheVariants as sign
 use Rattle.sh_tree.specs.declared.sign.Token.{Token}

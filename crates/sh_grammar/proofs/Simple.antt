@@ -1,5 +1,5 @@
 -- Simple commands, from their elements.
-use Rattle.std.proofs.Common.{◌≡◌, ℕ, ◌+◌, ◌<◌, ◌≤◌, List, [], ◌∷◌, length, Err, refl, sym, ap, subst, ◌∙◌, arith}
+use Rattle.std.proofs.Common.{◌≡◌, ℕ, ◌+◌, ◌<◌, List, [], ◌∷◌, Err, refl, sym, ap, ◌∙◌}
 use Rattle.sh_tree.specs.declared.limits.TheConstants.{MAX_COMMANDS}
 use Rattle.sh_tree.specs.declared.sign.Stage.TheVariants.{First}
 use Rattle.sh_tree.specs.declared.sign.Begin.{Begin}
@@ -12,7 +12,7 @@ use Rattle.sh_tree.specs.Reading.{Spot, spot, ReadsElements, ReadsCommand}
 use Rattle.sh_tree.specs.Reading as r
 use Rattle.sh_tree.specs.Tokens.{begin_at}
 use Rattle.sh_tree.specs.Tree.{simple_command}
-use Rattle.sh_grammar.specs.Readers.{One, Nothing, Refused, Elements, ElementsFrom, ElementsTo, Commands, CommandTo}
+use Rattle.sh_grammar.specs.Readers.{Nothing, Elements, ElementsFrom, ElementsTo, Commands, CommandTo}
 
 -- the elements of a command that is read
 record SimpleTo (b : List ℕ) (s v : Spot) (c : Command) : Type 0 where

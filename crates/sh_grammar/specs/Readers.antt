@@ -3,7 +3,7 @@
 use Rattle.std.specs.Prelude.{◌≡◌, ℕ, ◌+◌, ◌<◌, ◌≤◌, List, [], ◌∷◌, length, Result, Ok, Err}
 use Rattle.sh_tree.specs.declared.limits.TheConstants.{MAX_COMMANDS}
 use Rattle.sh_tree.specs.declared.sign.Context.{Context}
-use Rattle.sh_tree.specs.declared.sign.Context.TheVariants.{Unquoted, Quoted}
+use Rattle.sh_tree.specs.declared.sign.Context.TheVariants.{Unquoted}
 use Rattle.sh_tree.specs.declared.sign.Sign.TheVariants as sign
 use Rattle.sh_tree.specs.declared.sign.Stage.{Stage}
 use Rattle.sh_tree.specs.declared.sign.Stage.TheVariants.{First}
