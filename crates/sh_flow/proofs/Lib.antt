@@ -5,3 +5,6 @@ pub mod RunLemmas
 pub mod WorkLemmas
 pub mod RowLemmas
 pub mod NameLemmas
+pub mod ClaimLemmas
+pub mod DemandLemmas
+pub mod BreachLemmas
