@@ -3,3 +3,4 @@ pub mod FactLemmas
 pub mod Worlds
 pub mod RunLemmas
 pub mod WorkLemmas
+pub mod ExampleLemmas

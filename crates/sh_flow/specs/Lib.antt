@@ -10,3 +10,4 @@ pub mod Rules
 pub mod Demands
 pub mod Answers
 pub mod Theorem
+pub mod Examples
