@@ -1,5 +1,5 @@
 -- The examples' runs, computed.
-use Rattle.std.proofs.Common.{◌≡◌, ℕ, Bool, true, false, ◌||◌, List, [], ◌∷◌, replicate, map, codes, Option, Some, None, is_some, option_map, bytes_eq, refl, subst, ◌⊎◌, inl, inr, ap, zero-le, ◌∙◌, ◌++◌}
+use Rattle.std.proofs.Common.{◌≡◌, ℕ, true, false, List, [], ◌∷◌, replicate, codes, Some, None, is_some, option_map, bytes_eq, refl, subst, ◌⊎◌, inl, inr, ap, zero-le, ◌∙◌, ◌++◌}
 use Rattle.std.specs.List.{list_any}
 use Rattle.std.proofs.lemmas.Slice.Eq.{bytes_eq-Decides}
 use Rattle.sh_tree.specs.declared.tree.Span.{Span}
@@ -15,7 +15,7 @@ use Rattle.sh_flow.specs.Profile.{is_plain_name, is_named_utility, is_utility}
 use Rattle.sh_flow.specs.Environment.{Environment, assigned, put_text}
 use Rattle.sh_flow.specs.Pieces.{Quoted, value_text, names_unset, is_unset, expand, piece_of, part_value, row_value, splits, is_split, is_expanded, holds_pattern}
 use Rattle.sh_flow.specs.Machine.{put, simple_work, command_work, assign, pass, act, expands_unset, splits_value, is_part_of, any_below, waits, apply, step_of, step, run, has_event_of, has_unset_event, has_split_event, start_world, IsStart}
-use Rattle.sh_flow.specs.Examples.{bare_start, start_with, nothing_declared, x_declared, goes, fails, after, unset_events, split_events, steps, at_none, at_second_word}
+use Rattle.sh_flow.specs.Examples.{bare_start, start_with, nothing_declared, x_declared, goes, fails, after, unset_events, split_events, steps, at_none, at_second_word, ExamplesRun}
 
 -- what double quotes hold
 
@@ -32,54 +32,6 @@ double_names : (b : List ℕ) (e : Environment) (s : Span) (ps : List Part) → 
 unfolding names_unset expansions
 double_names b e s ps = ap (λ xs. list_any (is_unset b e) (xs ++ [])) (expansions_in-Double false s ps)
 
-pub quoted_unset : unset_events quoted_text quoted_script bare_start steps ≡ at_second_word
-unfolding bare_start start_with goes fails run step step_of act command_work is_plain_name is_named_utility is_utility static_text part_text row_text lone_command lone_pipe lone_part word_of assignment_of simple_work assign pass apply put waits any_below is_part_of start_world has_event_of has_unset_event has_split_event expands_unset splits_value names_unset is_unset expansions expansions_in row_expansions expand piece_of part_value row_value splits is_split is_expanded holds_pattern assigned put_text
-quoted_unset = ap (λ s. Some false ∷ Some false ∷ Some s ∷ Some false ∷ Some false ∷ []) (double_names quoted_text bare_start (span 5 9) (value_of 6 8 ∷ []))
-
-pub quoted_set : (v : Text) → unset_events quoted_text quoted_script (start_with v) steps ≡ at_none
-unfolding bare_start start_with goes fails run step step_of act command_work is_plain_name is_named_utility is_utility static_text part_text row_text lone_command lone_pipe lone_part word_of assignment_of simple_work assign pass apply put waits any_below is_part_of start_world has_event_of has_unset_event has_split_event expands_unset splits_value names_unset is_unset expansions expansions_in row_expansions expand piece_of part_value row_value splits is_split is_expanded holds_pattern assigned put_text
-quoted_set v = ap (λ s. Some false ∷ Some false ∷ Some s ∷ Some false ∷ Some false ∷ []) (double_names quoted_text (start_with v) (span 5 9) (value_of 6 8 ∷ []))
-
-pub quoted_whole : split_events quoted_text quoted_script (start_with (codes "a b")) steps ≡ at_none
-unfolding bare_start start_with goes fails run step step_of act command_work is_plain_name is_named_utility is_utility static_text part_text row_text lone_command lone_pipe lone_part word_of assignment_of simple_work assign pass apply put waits any_below is_part_of start_world has_event_of has_unset_event has_split_event expands_unset splits_value names_unset is_unset expansions expansions_in row_expansions expand piece_of part_value row_value splits is_split is_expanded holds_pattern assigned put_text
-quoted_whole = refl
-
-pub bare_split : split_events bare_text bare_script (start_with (codes "a b")) steps ≡ at_second_word
-unfolding bare_start start_with goes fails run step step_of act command_work is_plain_name is_named_utility is_utility static_text part_text row_text lone_command lone_pipe lone_part word_of assignment_of simple_work assign pass apply put waits any_below is_part_of start_world has_event_of has_unset_event has_split_event expands_unset splits_value names_unset is_unset expansions expansions_in row_expansions expand piece_of part_value row_value splits is_split is_expanded holds_pattern assigned put_text
-bare_split = refl
-
-pub bare_empty : split_events bare_text bare_script (start_with []) steps ≡ at_second_word
-unfolding bare_start start_with goes fails run step step_of act command_work is_plain_name is_named_utility is_utility static_text part_text row_text lone_command lone_pipe lone_part word_of assignment_of simple_work assign pass apply put waits any_below is_part_of start_world has_event_of has_unset_event has_split_event expands_unset splits_value names_unset is_unset expansions expansions_in row_expansions expand piece_of part_value row_value splits is_split is_expanded holds_pattern assigned put_text
-bare_empty = refl
-
-pub bare_pattern : split_events bare_text bare_script (start_with (codes "a*")) steps ≡ at_second_word
-unfolding bare_start start_with goes fails run step step_of act command_work is_plain_name is_named_utility is_utility static_text part_text row_text lone_command lone_pipe lone_part word_of assignment_of simple_work assign pass apply put waits any_below is_part_of start_world has_event_of has_unset_event has_split_event expands_unset splits_value names_unset is_unset expansions expansions_in row_expansions expand piece_of part_value row_value splits is_split is_expanded holds_pattern assigned put_text
-bare_pattern = refl
-
-pub bare_whole : split_events bare_text bare_script (start_with (codes "ab")) steps ≡ at_none
-unfolding bare_start start_with goes fails run step step_of act command_work is_plain_name is_named_utility is_utility static_text part_text row_text lone_command lone_pipe lone_part word_of assignment_of simple_work assign pass apply put waits any_below is_part_of start_world has_event_of has_unset_event has_split_event expands_unset splits_value names_unset is_unset expansions expansions_in row_expansions expand piece_of part_value row_value splits is_split is_expanded holds_pattern assigned put_text
-bare_whole = refl
-
-pub assigned_set : unset_events assigned_text assigned_script bare_start (0 ∷ 1 ∷ 2 ∷ 3 ∷ 4 ∷ 5 ∷ 6 ∷ 7 ∷ []) ≡ replicate 8 (Some false)
-unfolding bare_start start_with goes fails run step step_of act command_work is_plain_name is_named_utility is_utility static_text part_text row_text lone_command lone_pipe lone_part word_of assignment_of simple_work assign pass apply put waits any_below is_part_of start_world has_event_of has_unset_event has_split_event expands_unset splits_value names_unset is_unset expansions expansions_in row_expansions expand piece_of part_value row_value splits is_split is_expanded holds_pattern assigned put_text
-assigned_set = ap (λ s. Some false ∷ Some false ∷ Some false ∷ Some false ∷ Some false ∷ Some s ∷ Some false ∷ Some false ∷ []) (double_names assigned_text (start_with (codes "1")) (span 9 13) (value_of 10 12 ∷ []))
-
-pub assigned_value : option_map (λ w. expand assigned_text (w.environments 0) assigned_parts) (after assigned_text assigned_script bare_start 5) ≡ Some (Quoted (codes "1") ∷ [])
-unfolding bare_start start_with goes fails run step step_of act command_work is_plain_name is_named_utility is_utility static_text part_text row_text lone_command lone_pipe lone_part word_of assignment_of simple_work assign pass apply put waits any_below is_part_of start_world has_event_of has_unset_event has_split_event expands_unset splits_value names_unset is_unset expansions expansions_in row_expansions expand piece_of part_value row_value splits is_split is_expanded holds_pattern assigned put_text
-assigned_value = ap Some (double_expands assigned_text (start_with (codes "1")) (span 9 13) (value_of 10 12 ∷ []))
-
-pub assigned_fails : option_map (λ w. is_some (w.processes 0)) (run assigned_text (goes ∷ fails ∷ []) (start_world bare_start [] assigned_script)) ≡ Some false
-unfolding bare_start start_with goes fails run step step_of act command_work is_plain_name is_named_utility is_utility static_text part_text row_text lone_command lone_pipe lone_part word_of assignment_of simple_work assign pass apply put waits any_below is_part_of start_world has_event_of has_unset_event has_split_event expands_unset splits_value names_unset is_unset expansions expansions_in row_expansions expand piece_of part_value row_value splits is_split is_expanded holds_pattern assigned put_text
-assigned_fails = refl
-
-pub passed_unset : unset_events passed_text passed_script bare_start steps ≡ at_second_word
-unfolding bare_start start_with goes fails run step step_of act command_work is_plain_name is_named_utility is_utility static_text part_text row_text lone_command lone_pipe lone_part word_of assignment_of simple_work assign pass apply put waits any_below is_part_of start_world has_event_of has_unset_event has_split_event expands_unset splits_value names_unset is_unset expansions expansions_in row_expansions expand piece_of part_value row_value splits is_split is_expanded holds_pattern assigned put_text
-passed_unset = ap (λ s. Some false ∷ Some false ∷ Some s ∷ Some false ∷ Some false ∷ []) (double_names passed_text bare_start (span 9 13) (value_of 10 12 ∷ []))
-
-pub passed_kept : option_map (λ w. (w.environments 0).variables (codes "x")) (after passed_text passed_script bare_start 6) ≡ Some None
-unfolding bare_start start_with goes fails run step step_of act command_work is_plain_name is_named_utility is_utility static_text part_text row_text lone_command lone_pipe lone_part word_of assignment_of simple_work assign pass apply put waits any_below is_part_of start_world has_event_of has_unset_event has_split_event expands_unset splits_value names_unset is_unset expansions expansions_in row_expansions expand piece_of part_value row_value splits is_split is_expanded holds_pattern assigned put_text
-passed_kept = refl
-
 -- P holds of each of the texts
 unfoldable pub EachText : (Text → Type 0) → List Text → Type 0
 EachText P [] = Unit {0}
@@ -95,7 +47,7 @@ one_of P (n ∷ names) h t e = go (or_cases (bytes_eq n t) (is_one_of names t) e
     go (inl d) ih = subst P ((bytes_eq-Decides n t).0 d) h.0
     go (inr d) ih = ih d
 
-pub bare_allowed : IsStart nothing_declared bare_start []
+bare_allowed : IsStart nothing_declared bare_start []
 unfolding bare_start assigned put_text EachText
 bare_allowed = record {
   always = one_of (λ t. is_some (bare_start.variables t) ≡ true) start_names (refl, (refl, (refl, tt)));
@@ -105,7 +57,7 @@ bare_allowed = record {
   args = zero-le;
 }
 
-pub with_allowed : (v : Text) → IsStart x_declared (start_with v) []
+with_allowed : (v : Text) → IsStart x_declared (start_with v) []
 unfolding bare_start start_with assigned put_text EachText
 with_allowed v = record {
   always = one_of (λ t. is_some ((start_with v).variables t) ≡ true) start_names (refl, (refl, (refl, tt)));
@@ -113,4 +65,23 @@ with_allowed v = record {
   ifs = refl;
   functions = λ t. refl;
   args = zero-le;
+}
+
+pub examples_run : ExamplesRun
+unfolding bare_start start_with goes fails run step step_of act command_work is_plain_name is_named_utility is_utility static_text part_text row_text lone_command lone_pipe lone_part word_of assignment_of simple_work assign pass apply put waits any_below is_part_of start_world has_event_of has_unset_event has_split_event expands_unset splits_value names_unset is_unset expansions expansions_in row_expansions expand piece_of part_value row_value splits is_split is_expanded holds_pattern assigned put_text
+examples_run = record {
+  bare_allowed = bare_allowed;
+  with_allowed = with_allowed;
+  quoted_unset = ap (λ s. Some false ∷ Some false ∷ Some s ∷ Some false ∷ Some false ∷ []) (double_names quoted_text bare_start (span 5 9) (value_of 6 8 ∷ []));
+  quoted_set = λ v. ap (λ s. Some false ∷ Some false ∷ Some s ∷ Some false ∷ Some false ∷ []) (double_names quoted_text (start_with v) (span 5 9) (value_of 6 8 ∷ []));
+  quoted_whole = refl;
+  bare_split = refl;
+  bare_empty = refl;
+  bare_pattern = refl;
+  bare_whole = refl;
+  assigned_set = ap (λ s. Some false ∷ Some false ∷ Some false ∷ Some false ∷ Some false ∷ Some s ∷ Some false ∷ Some false ∷ []) (double_names assigned_text (start_with (codes "1")) (span 9 13) (value_of 10 12 ∷ []));
+  assigned_value = ap Some (double_expands assigned_text (start_with (codes "1")) (span 9 13) (value_of 10 12 ∷ []));
+  assigned_fails = refl;
+  passed_unset = ap (λ s. Some false ∷ Some false ∷ Some s ∷ Some false ∷ Some false ∷ []) (double_names passed_text bare_start (span 9 13) (value_of 10 12 ∷ []));
+  passed_kept = refl;
 }

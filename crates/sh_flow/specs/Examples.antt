@@ -1,12 +1,11 @@
 -- Runs of four scripts, against which the definitions are held.
 -- POSIX.1-2024, XCU 2.6.2 (parameter expansion), 2.6.5 (field splitting), 2.9.1 (simple commands).
 use Rattle.std.specs.Prelude.{◌≡◌, ℕ, Bool, true, false, List, [], ◌∷◌, replicate, map, codes, Option, Some, None, is_some, option_map}
-use Rattle.sh_tree.specs.declared.tree.Part.{Part}
 use Rattle.sh_tree.specs.declared.tree.Script.{Script}
-use Rattle.sh_tree.specs.Examples.{quoted_text, quoted_parts, quoted_script, bare_text, bare_script, assigned_text, assigned_parts, assigned_script, passed_text, passed_script}
+use Rattle.sh_tree.specs.Examples.{quoted_text, quoted_script, bare_text, bare_script, assigned_text, assigned_parts, assigned_script, passed_text, passed_script}
 use Rattle.sh_flow.specs.Policy.{Text, Declared}
 use Rattle.sh_flow.specs.Environment.{Environment, assigned}
-use Rattle.sh_flow.specs.Pieces.{Piece, Quoted, expand}
+use Rattle.sh_flow.specs.Pieces.{Quoted, expand}
 use Rattle.sh_flow.specs.Machine.{World, Move, run, has_unset_event, has_split_event, start_world, IsStart}
 
 -- nothing is set but what every start sets
