@@ -8,3 +8,4 @@ pub mod NameLemmas
 pub mod ClaimLemmas
 pub mod DemandLemmas
 pub mod BreachLemmas
+pub mod ExampleLemmas

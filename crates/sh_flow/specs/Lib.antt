@@ -13,3 +13,4 @@ pub mod Demands
 pub mod Walks
 pub mod Answers
 pub mod Theorem
+pub mod Examples
