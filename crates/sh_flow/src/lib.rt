@@ -4,6 +4,7 @@
 
 pub mod certificate;
 pub mod flow;
+pub mod names;
 pub mod policy;
 pub mod row;
 pub mod rule;
