@@ -1,1 +1,2 @@
 pub mod PolicyLemmas
+pub mod RowLemmas

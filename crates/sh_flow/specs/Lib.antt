@@ -1,5 +1,6 @@
 pub mod Policy
 pub mod Names
+pub mod Numbers
 pub mod Profile
 pub mod Environment
 pub mod Pieces
