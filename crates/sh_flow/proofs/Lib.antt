@@ -1,2 +1,3 @@
 pub mod PolicyLemmas
 pub mod RowLemmas
+pub mod NameLemmas
