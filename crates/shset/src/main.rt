@@ -1,4 +1,7 @@
 //! The program.
 #![tactic(auto)]
 
+mod admit;
+mod quotes;
+
 fn main() {}

@@ -1,0 +1,2 @@
+pub mod AdmitLemmas
+pub mod QuoteLemmas
