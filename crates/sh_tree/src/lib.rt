@@ -9,6 +9,7 @@ pub mod name;
 pub mod place;
 pub mod refusal;
 pub mod sign;
+pub mod text;
 pub mod tree;
 
 pub use items::Items;

@@ -4,3 +4,5 @@ pub mod TextLemmas
 pub mod LineLemmas
 pub mod RowLemmas
 pub mod WholeLemmas
+pub mod AdmitLemmas
+pub mod QuoteLemmas

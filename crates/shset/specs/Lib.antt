@@ -8,3 +8,5 @@ pub mod Lint
 pub mod Runs
 pub mod App
 pub mod Line
+pub mod Findings
+pub mod Walks

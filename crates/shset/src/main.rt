@@ -1,3 +1,4 @@
+<<<<<<< HEAD
 //! A linter for POSIX shell scripts whose `clean` is a proof: opens the ends, does what the command line asks for, and ends
 //! with its status.
 #![tactic(auto)]
@@ -92,3 +93,12 @@ fn main(rt: HostRuntime) -> ExitCode {
         Err(stop) => stopped(&rt, stop),
     }
 }
+=======
+//! The program.
+#![tactic(auto)]
+
+mod admit;
+mod quotes;
+
+fn main() {}
+>>>>>>> find

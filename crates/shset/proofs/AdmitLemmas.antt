@@ -1,0 +1,109 @@
+-- The first command that is not analysed, item by item.
+use Rattle.std.proofs.Common.{◌≡◌, ℕ, ◌+◌, ◌<◌, ◌≤◌, Bool, true, false, cond, Option, Some, None, List, [], ◌∷◌, ◌++◌, length, get_or, drop, refl, sym, ◌∙◌, ap, add-one, drop-cons, slice_get, option_to_list, suc}
+use Rattle.std.specs.Option.{option_or}
+use Rattle.std.proofs.lemmas.List.{drop_all}
+use Rattle.std.specs.List.{filter_map, list_all, cons_option}
+use Rattle.sh_tree.specs.declared.tree.Script.{Script}
+use Rattle.sh_tree.specs.declared.tree.Item.{Item}
+use Rattle.sh_tree.specs.declared.tree.Command.{Command}
+use Rattle.sh_tree.specs.declared.tree.Element.{Element}
+use Rattle.sh_tree.specs.declared.tree.Element.TheVariants as element
+use Rattle.sh_tree.specs.declared.tree.Span.{Span}
+use Rattle.sh_tree.specs.declared.tree.Word.{Word}
+use Rattle.sh_tree.specs.Words.{lone_command, lone_commands, words_of, word_of, static_text, elements_of}
+use Rattle.sh_flow.specs.Policy.{Text}
+use Rattle.sh_flow.specs.Profile.{is_utility, is_named_utility, is_plain_name, is_admitted, is_item_admitted, Admitted}
+use Rattle.shset.specs.Findings.{first_refused}
+
+-- the name of a command, element by element
+
+pub name_at_word : (es : List Element) (i : ℕ) (e : Element) (w : Word) → i < length es → e ≡ get_or es i e → e ≡ element.Word w
+    → slice_get (words_of (drop i es)) 0 ≡ Some w
+unfolding word_of
+name_at_word es i e w h is v = rw (drop-cons es i e, ← is, v) refl
+
+pub name_past_assignment : (es : List Element) (i : ℕ) (e : Element) (s : Span) (w : Word) → i < length es → e ≡ get_or es i e → e ≡ element.Assignment s w
+    → words_of (drop i es) ≡ words_of (drop (i + 1) es)
+unfolding word_of
+name_past_assignment es i e s w h is v = rw (drop-cons es i e, add-one, ← is, v) refl
+
+pub no_name : (es : List Element) (i : ℕ) → length es ≤ i → words_of (drop i es) ≡ []
+no_name es i h = rw (drop_all i es h) refl
+
+-- whether a command is analysed, by its name
+
+pub plain_without : (b : List ℕ) (ws : List Word) → None ≡ slice_get ws 0 → true ≡ is_plain_name b ws
+unfolding is_plain_name
+plain_without b [] e = refl
+plain_without b (w ∷ ws) e = cc
+
+pub plain_named : (b : List ℕ) (ws : List Word) (w : Word) (o : Option Text) → Some w ≡ slice_get ws 0 → o ≡ static_text b w.parts → is_named_utility o ≡ is_plain_name b ws
+unfolding is_plain_name
+plain_named b [] w o e s = cc
+plain_named b (v ∷ ws) w o e s = let same : w ≡ v = cc in ap is_named_utility s ∙ ap (λ (x : Word). is_named_utility (static_text b x.parts)) same
+
+pub utility_named : (u : Bool) (t s : Text) → u ≡ is_utility t → t ≡ s → u ≡ is_named_utility (Some s)
+unfolding is_named_utility
+utility_named u t s e k = e ∙ ap is_utility k
+
+pub none_named : false ≡ is_named_utility None
+unfolding is_named_utility
+none_named = refl
+
+-- the command of an item, where it is not analysed
+
+pub refused_none : (b : List ℕ) (o : Option Command) → None ≡ o → None ≡ first_refused b (option_to_list o)
+unfolding first_refused
+refused_none b o e = rw (← e) refl
+
+pub refused_not : (b : List ℕ) (o : Option Command) (c : Command) → Some c ≡ o → true ≡ is_admitted b c → None ≡ first_refused b (option_to_list o)
+unfolding first_refused
+refused_not b o c e t = rw (← e, ← t) refl
+
+pub refused_one : (b : List ℕ) (o : Option Command) (c : Command) → Some c ≡ o → false ≡ is_admitted b c → Some c ≡ first_refused b (option_to_list o)
+unfolding first_refused
+refused_one b o c e t = rw (← e, ← t) refl
+
+-- the first refused command from a place on
+
+pub refused_cons : (b : List ℕ) (o : Option Command) (rest : List Command) (f : Option Command) → f ≡ first_refused b (option_to_list o)
+    → first_refused b (cons_option o rest) ≡ option_or f (first_refused b rest)
+unfolding first_refused
+refused_cons b None rest f e = rw e refl
+refused_cons b (Some d) rest f e = rw e (go (is_admitted b d))
+  where
+    go : (t : Bool) → cond t (first_refused b rest) (Some d) ≡ option_or (cond t None (Some d)) (first_refused b rest)
+    go true = refl
+    go false = refl
+
+pub refused_step : (b : List ℕ) (is : List Item) (i : ℕ) (x : Item) (f : Option Command) → i < length is → x ≡ get_or is i x
+    → f ≡ first_refused b (option_to_list (lone_command x))
+    → first_refused b (filter_map lone_command (drop i is)) ≡ option_or f (first_refused b (filter_map lone_command (drop (i + 1) is)))
+refused_step b is i x f h e k = rw (drop-cons is i x, add-one, ← e) (refused_cons b (lone_command x) (filter_map lone_command (drop (suc i) is)) f k)
+
+pub refused_stop : (b : List ℕ) (is : List Item) (i : ℕ) → length is ≤ i → first_refused b (filter_map lone_command (drop i is)) ≡ None
+unfolding first_refused
+refused_stop b is i h = rw (drop_all i is h) refl
+
+-- each item is one command
+abbrev pub IsLone : Item → Type 0
+IsLone i = (c : Command) × (lone_command i ≡ Some c)
+
+abbrev pub AllLone : List Item → Type 0
+AllLone [] = Unit {0}
+AllLone (i ∷ is) = IsLone i × AllLone is
+
+-- where each item is one command and none is refused, all are analysed
+pub admitted_from_none : (b : List ℕ) (is : List Item) → AllLone is → first_refused b (filter_map lone_command is) ≡ None
+    → list_all (λ i. is_item_admitted b (lone_command i)) is ≡ true
+unfolding first_refused is_item_admitted
+admitted_from_none b [] l e = refl
+admitted_from_none b (i ∷ is) l e =
+    let none_left : first_refused b (cons_option (Some l.0.0) (filter_map lone_command is)) ≡ None = rw l.0.1 at e in
+    let here = bool_cases (is_admitted b l.0.0) none_left in
+    rw (l.0.1, here.0) (admitted_from_none b is l.1 here.1)
+  where
+    bool_cases : (t : Bool) → cond t (first_refused b (filter_map lone_command is)) (Some l.0.0) ≡ None
+        → (t ≡ true) × (first_refused b (filter_map lone_command is) ≡ None)
+    bool_cases true e = (refl, e)
+    bool_cases false e = cc

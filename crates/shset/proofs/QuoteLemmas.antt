@@ -1,0 +1,142 @@
+-- Places of unquoted expansions, a piece at a time.
+use Rattle.std.proofs.Common.{◌≡◌, ℕ, ◌+◌, ◌<◌, ◌≤◌, Bool, true, false, cond, ◌&&◌, Option, Some, None, Result, Ok, Err, OnErr, List, [], ◌∷◌, ◌++◌, length, get_or, take, refl, sym, ◌∙◌, ap, subst, arith, append_assoc}
+use Rattle.std.specs.List.{flat_map, filter_map, list_all, cons_option}
+use Rattle.std.proofs.lemmas.List.{take_more, append-nil}
+use Rattle.std.proofs.lemmas.List.Concat.{flat_map-append}
+use Rattle.std.proofs.lemmas.List.Folds.{length-flat_map-take}
+use Rattle.sh_tree.specs.declared.place.Place.{Place}
+use Rattle.sh_tree.specs.declared.place.Code.TheVariants.{Q1}
+use Rattle.sh_tree.specs.declared.tree.Span.{Span}
+use Rattle.sh_tree.specs.declared.tree.Script.{Script}
+use Rattle.sh_tree.specs.declared.tree.Item.{Item}
+use Rattle.sh_tree.specs.declared.tree.Command.{Command}
+use Rattle.sh_tree.specs.declared.tree.Element.{Element}
+use Rattle.sh_tree.specs.declared.tree.Element.TheVariants as element
+use Rattle.sh_tree.specs.declared.tree.Word.{Word}
+use Rattle.sh_tree.specs.declared.tree.Param.{Param}
+use Rattle.sh_tree.specs.declared.tree.Part.{Part, Plain, Double, Double', Row_of-Part, end_of-Part, more_of-Part}
+use Rattle.sh_tree.specs.declared.tree.Part.TheVariants as part
+use Rattle.sh_tree.specs.Words.{lone_command, lone_commands, elements_of, words_of, word_of, Expansion, expansions, expansions_in, row_expansions, expansions_in-Double}
+use Rattle.sh_flow.specs.Walks.{of_option, on_lone}
+use Rattle.sh_flow.specs.Theorem.{is_quoted_command}
+use Rattle.shset.specs.Findings.{quote_place, word_quote_places, quote_places}
+use Rattle.shset.specs.Walks.{part_quote_places, element_quote_places, command_quote_places}
+
+-- within quotes nothing is unquoted
+mutual
+  unfolding expansions_in row_expansions quote_place
+
+  quoted_in : (p : Part) → flat_map quote_place (expansions_in true p) ≡ []
+  quoted_in (Plain s) = refl
+  quoted_in (Double' s shape row) = quoted_row row
+  quoted_in (part.Param p) = refl
+
+  quoted_row : {m : _} (row : Row_of-Part m) → flat_map quote_place (row_expansions true row) ≡ []
+  quoted_row end_of-Part = refl
+  quoted_row (more_of-Part x rest) =
+      flat_map-append quote_place (expansions_in true x) (row_expansions true rest) ∙ ap (λ ps. ps ++ flat_map quote_place (row_expansions true rest)) (quoted_in x) ∙ quoted_row rest
+
+quoted : (ps : List Part) → flat_map quote_place (expansions true ps) ≡ []
+unfolding expansions
+quoted [] = refl
+quoted (p ∷ ps) =
+    flat_map-append quote_place (expansions_in true p) (expansions true ps) ∙ ap (λ qs. qs ++ flat_map quote_place (expansions true ps)) (quoted_in p) ∙ quoted ps
+
+-- in a part
+
+pub part_quote_places-Plain : (s : Span) → part_quote_places (Plain s) ≡ []
+unfolding expansions_in
+part_quote_places-Plain s = refl
+
+pub part_quote_places-Double : (s : Span) (ps : List Part) → part_quote_places (Double s ps) ≡ []
+part_quote_places-Double s ps = ap (flat_map quote_place) (expansions_in-Double false s ps) ∙ quoted ps
+
+pub part_quote_places-Param : (p : Param) → part_quote_places (part.Param p) ≡ record { at = p.span.start; code = Q1; subject = [] } ∷ []
+unfolding expansions_in quote_place
+part_quote_places-Param p = refl
+
+pub ruleset quotes_in_part = (part_quote_places-Plain, part_quote_places-Double, part_quote_places-Param)
+
+-- in an element
+
+parts_all : (ps : List Part) → flat_map quote_place (expansions false ps) ≡ flat_map part_quote_places ps
+unfolding expansions
+parts_all [] = refl
+parts_all (p ∷ ps) = flat_map-append quote_place (expansions_in false p) (expansions false ps) ∙ ap (λ qs. part_quote_places p ++ qs) (parts_all ps)
+
+pub element_quote_places-Assignment : (s : Span) (w : Word) → element_quote_places (element.Assignment s w) ≡ []
+unfolding element_quote_places
+element_quote_places-Assignment s w = refl
+
+pub element_quote_places-Word : (w : Word) → element_quote_places (element.Word w) ≡ flat_map part_quote_places w.parts
+unfolding element_quote_places
+element_quote_places-Word w = parts_all w.parts
+
+pub ruleset quotes_in_element = (element_quote_places-Assignment, element_quote_places-Word)
+
+-- in a script
+
+words_all : (es : List Element) → flat_map word_quote_places (words_of es) ≡ flat_map element_quote_places es
+unfolding word_of element_quote_places
+words_all [] = refl
+words_all (element.Assignment s w ∷ es) = words_all es
+words_all (element.Word w ∷ es) = ap (λ qs. word_quote_places w ++ qs) (words_all es)
+
+pub items_lone : (is : List Item) → flat_map (λ c. flat_map word_quote_places (words_of (elements_of c.kind))) (filter_map lone_command is) ≡ flat_map (on_lone command_quote_places) is
+unfolding of_option
+items_lone [] = refl
+items_lone (i ∷ is) = go (lone_command i) (items_lone is)
+  where
+    go : (o : Option Command) → flat_map (λ (c : Command). flat_map word_quote_places (words_of (elements_of c.kind))) (filter_map lone_command is) ≡ flat_map (on_lone command_quote_places) is
+        → flat_map (λ (c : Command). flat_map word_quote_places (words_of (elements_of c.kind))) (cons_option o (filter_map lone_command is)) ≡ of_option command_quote_places o ++ flat_map (on_lone command_quote_places) is
+    go None h = h
+    go (Some c) h = ap (λ qs. flat_map word_quote_places (words_of (elements_of c.kind)) ++ qs) h ∙ ap (λ qs. qs ++ flat_map (on_lone command_quote_places) is) (words_all (elements_of c.kind))
+
+-- one more piece
+pub places_more : {X : Type 0} (f : X → List Place) (first : List Place) (xs : List X) (i : ℕ) (x : X) (old new : List Place) → i < length xs → x ≡ get_or xs i x
+    → old ≡ first ++ flat_map f (take i xs) → new ≡ old ++ f x → new ≡ first ++ flat_map f (take (i + 1) xs)
+places_more f first xs i x old new lt at known step =
+    let one : flat_map f (take (i + 1) xs) ≡ flat_map f (take i xs) ++ f x =
+    rw (take_more xs i x lt, flat_map-append f (take i xs) (get_or xs i x ∷ []), ← at) (ap (λ ps. flat_map f (take i xs) ++ ps) (append-nil (f x))) in
+    step ∙ ap (λ ps. ps ++ f x) known ∙ append_assoc first (flat_map f (take i xs)) (f x) ∙ ap (λ ps. first ++ ps) (sym one)
+
+-- a piece without a place
+pub nothing_noted : (old ps : List Place) → ps ≡ [] → old ≡ old ++ ps
+nothing_noted old ps e = sym (ap (λ qs. old ++ qs) e ∙ append-nil old)
+
+pub whatever : {X Y P : Type 0} (r : Result X Y) → P → OnErr r P
+whatever (Ok x) p = tt
+whatever (Err e) p = p
+
+-- a place in a piece is one of all
+pub some_in_all : {X : Type 0} (f : X → List Place) (xs : List X) (i : ℕ) (x : X) → i < length xs → x ≡ get_or xs i x → 0 < length (f x) → 0 < length (flat_map f xs)
+some_in_all f xs i x lt at h =
+    let less = length-flat_map-take f xs i x lt in
+    let here : 0 < length (f (get_or xs i x)) = subst (λ y. 0 < length (f y)) at h in
+    omega (arith, less, here)
+
+-- Where there are none, every expansion is quoted
+
+both_empty : {A : Type 0} (xs ys : List A) → xs ++ ys ≡ [] → (xs ≡ []) × (ys ≡ [])
+both_empty [] ys e = (refl, e)
+both_empty (x ∷ xs) ys e = cc
+
+none_all : {X : Type 0} (f : X → List Place) (p : X → Bool) → ((x : X) → f x ≡ [] → p x ≡ true) → (xs : List X) → flat_map f xs ≡ [] → list_all p xs ≡ true
+none_all f p h [] e = refl
+none_all f p h (x ∷ xs) e = let parts = both_empty (f x) (flat_map f xs) e in rw (h x parts.0) (none_all f p h xs parts.1)
+
+quoted_one : (x : Expansion) → quote_place x ≡ [] → x.quoted ≡ true
+unfolding quote_place
+quoted_one x e = go x.quoted e
+  where
+    go : (q : Bool) → cond {A = List Place} q [] (record { at = x.param.span.start; code = Q1; subject = [] } ∷ []) ≡ [] → q ≡ true
+    go true e = refl
+    go false e = cc
+
+pub quoted_from_none : (t : Script) → quote_places t ≡ [] → list_all is_quoted_command (lone_commands t) ≡ true
+quoted_from_none t e =
+    none_all (λ (c : Command). flat_map word_quote_places (words_of (elements_of c.kind))) is_quoted_command
+    (λ c. none_all word_quote_places (λ (w : Word). list_all (λ (x : Expansion). x.quoted) (expansions false w.parts))
+    (λ w. none_all quote_place (λ (x : Expansion). x.quoted) quoted_one (expansions false w.parts))
+    (words_of (elements_of c.kind)))
+    (lone_commands t) e
