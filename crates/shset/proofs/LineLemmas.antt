@@ -1,11 +1,7 @@
 -- From clap's facts on a parse to what a line says.
-use Rattle.std.proofs.Common.{◌≡◌, ◌∙◌, ◌⊎◌, ℕ, false, true, refl, sym, ap, subst, arith, codes, List, [], Option, Some, None, Ok, inl, inr}
-use Rattle.std.specs.Prelude.{IsSome, option_map, pos}
-use Rattle.std.specs.Str.Parse.{ParsesUnsigned}
-use Rattle.std.specs.declared.num.ParseIntError.{ParseIntError}
-use Rattle.clap.specs.Lexer.{without_minus}
-use Rattle.clap.specs.Values.{IsSignedIn}
-use Rattle.clap.specs.Words.{IsAmong, ReadsOne, Row, Text, fault_of, first_of, first_value, is_simple, is_simple_and_free, one_of, one_text, rows_of, subcommand_of}
+use Rattle.std.proofs.Common.{◌≡◌, ◌∙◌, ◌⊎◌, false, true, refl, sym, subst, List, [], Option, Some, None, inl, inr}
+use Rattle.std.specs.Prelude.{IsSome, option_map}
+use Rattle.clap.specs.Words.{IsAmong, Row, Text, fault_of, first_of, first_value, is_simple, is_simple_and_free, rows_of, subcommand_of}
 use Rattle.clap.specs.Faults.{level_fault}
 use Rattle.clap.specs.Walk.{nothing_held, rows_after}
 use Rattle.clap.specs.declared.error.kind.ErrorKind.{ErrorKind}
@@ -19,7 +15,7 @@ use Rattle.shset.specs.declared.line.Stop.{Stop}
 use Rattle.shset.specs.declared.line.Stop.TheVariants.{Usage, Help, BadName, Memory}
 use Rattle.shset.specs.declared.task.Action.{Action}
 use Rattle.shset.specs.declared.task.Action.TheVariants.{Lint}
-use Rattle.shset.proofs.WholeLemmas.{file_found, found_passes, number_found, reading}
+use Rattle.shset.proofs.LineWholeLemmas.{file_found, found_passes, number_found, reading}
 
 -- clap's clauses say what the program's command line takes
 pub is_simple-shset : is_simple shset_app ≡ true

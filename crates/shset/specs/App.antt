@@ -1,6 +1,6 @@
 -- The command line that the program has, as clap reads it: `lint [--args N] FILE [NAME..]`.
 -- POSIX.1-2024, XBD 12.2 (utility syntax guidelines).
-use Rattle.std.specs.Prelude.{List, [], ◌∷◌, Some, codes, true, pos}
+use Rattle.std.specs.Prelude.{[], ◌∷◌, Some, codes, true, pos}
 use Rattle.clap.specs.Words.{App, Rule, Text, new_app, new_rule, with_rule, with_subcommand}
 use Rattle.clap.specs.Simple.{on_top}
 use Rattle.clap.specs.declared.builder.action.ArgAction.TheVariants.{Append}

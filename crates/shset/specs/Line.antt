@@ -1,6 +1,6 @@
 -- What a command line asks for, by what clap found in its words, and why there is none.
 -- POSIX.1-2024, XBD 12.2 (utility syntax guidelines: `-` is standard input); a name is as in XBD 3.216.
-use Rattle.std.specs.Prelude.{◌≡◌, ◌≢◌, ⊤, ℕ, List, [], Option, Some, None, IsSome, Ok, codes, pos, unwrap_or}
+use Rattle.std.specs.Prelude.{◌≡◌, ◌≢◌, ⊤, List, [], Some, None, IsSome, Ok, codes, pos, unwrap_or}
 use Rattle.std.specs.Str.Parse.{ParsesUnsigned}
 use Rattle.std.specs.declared.num.ParseIntError.{ParseIntError}
 use Rattle.clap.specs.Lexer.{without_minus}

@@ -3,7 +3,6 @@ use crate::task::Action;
 use std::alloc::Global;
 use std::test::Fail;
 
-
 /// The action, the script, the number and the names of a line, as one text.
 fn shown(alloc: Global, line: &Line<'_>) -> Result<String, Fail> {
     let action = match line.task.action {
@@ -30,8 +29,14 @@ fn lines(rt: HostRuntime) -> Result<(), Fail> {
     let alloc = rt.alloc();
     let cases: [(&[&str], &str); 12] = [
         (&["shset", "lint", "-"], "lint standard input args 0"),
-        (&["shset", "lint", "script.sh"], "lint file script.sh args 0"),
-        (&["shset", "lint", "-", "y"], "lint standard input args 0 name y"),
+        (
+            &["shset", "lint", "script.sh"],
+            "lint file script.sh args 0",
+        ),
+        (
+            &["shset", "lint", "-", "y"],
+            "lint standard input args 0 name y",
+        ),
         (
             &["shset", "lint", "--args", "5", "f", "a", "b"],
             "lint file f args 5 name a name b",
@@ -52,10 +57,22 @@ fn lines(rt: HostRuntime) -> Result<(), Fail> {
             &["shset", "lint", "f", "b", "a", "b"],
             "lint file f args 0 name b name a name b",
         ),
-        (&["shset", "lint", "f", "_a9"], "lint file f args 0 name _a9"),
-        (&["shset", "lint", "--", "-", "y"], "lint standard input args 0 name y"),
-        (&["shset", "lint", "--", "--args"], "lint file --args args 0"),
-        (&["shset", "lint", "lint", "lint"], "lint file lint args 0 name lint"),
+        (
+            &["shset", "lint", "f", "_a9"],
+            "lint file f args 0 name _a9",
+        ),
+        (
+            &["shset", "lint", "--", "-", "y"],
+            "lint standard input args 0 name y",
+        ),
+        (
+            &["shset", "lint", "--", "--args"],
+            "lint file --args args 0",
+        ),
+        (
+            &["shset", "lint", "lint", "lint"],
+            "lint file lint args 0 name lint",
+        ),
     ];
     for (words, want) in cases {
         match command_line(alloc, words) {
@@ -247,7 +264,8 @@ For more information, try '--help'.
 #[test]
 fn help(rt: HostRuntime) -> Result<(), Fail> {
     let alloc = rt.alloc();
-    let program = "Looks in shell scripts for variables that may be unset and words that may be split
+    let program =
+        "Looks in shell scripts for variables that may be unset and words that may be split
 
 Usage: shset <COMMAND>
 

@@ -1,7 +1,6 @@
-use Rattle.std.proofs.Common.{◌≡◌, sym, ap, subst, ◌∙◌, Some, map, []}
+use Rattle.std.proofs.Common.{sym, ap, subst, ◌∙◌, map}
 use Rattle.std.proofs.lemmas.Result.{IfErr-weaker, IfOk-weaker}
 use Rattle.clap.specs.Words.{App, HasKind, fault_of, found_of, is_simple, is_simple_and_free, kind_of, rows_of, subcommand_of}
-use Rattle.shset.specs.App.{shset_app}
 use Rattle.shset.proofs.LineLemmas.{error_stops, is_simple-shset, is_simple_and_free-shset, pair_from_parts, read_stops, whole}
 use Rattle.shset.proofs.line.command_line.Goals as goal
 

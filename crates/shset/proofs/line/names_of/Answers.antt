@@ -1,4 +1,4 @@
-use Rattle.std.proofs.Common.{◌≡◌, sym, ap, ◌∙◌, codes, Some, None, map, unwrap_or, List, ℕ, [], Bor, Option}
+use Rattle.std.proofs.Common.{ap, ◌∙◌, codes, map, unwrap_or, List, ℕ, [], Bor, Option}
 use Rattle.std.proofs.lemmas.Result.{IfOk-weaker}
 use Rattle.clap.specs.Words.{found_of, Text}
 use Rattle.clap.proofs.WalkLemmas.{raw_values-rows}

@@ -1,4 +1,4 @@
-use Rattle.std.proofs.Common.{◌≡◌, ◌^◌, ◌∙◌, ℕ, List, Bor, Ok, arith, ap, codes, map, refl, subst, sym}
+use Rattle.std.proofs.Common.{◌∙◌, ℕ, List, Bor, Ok, arith, ap, codes, map, refl, subst, sym}
 use Rattle.std.specs.Str.Parse.{ExplainsUnsignedError, HasUnsignedDigitsIfOk, ParsesUnsigned}
 use Rattle.std.specs.declared.num.ParseIntError.{ParseIntError}
 use Rattle.clap.specs.Lexer.{without_minus}
@@ -6,7 +6,6 @@ use Rattle.clap.specs.Words.{found_of}
 use Rattle.clap.proofs.CallerReads.{signed_reads}
 use Rattle.clap.proofs.WalkLemmas.{first_value-rows, one_text-rows}
 use Rattle.sh_flow.specs.Policy.{Declared, first_bad}
-use Rattle.shset.specs.Line.{declared_texts}
 use Rattle.shset.proofs.LineLemmas.{no_file}
 use Rattle.shset.proofs.line.read_line.Goals as goal
 

@@ -1,14 +1,13 @@
 -- A parse of the program's words with no fault finds a subcommand, with all that a line is made of.
-use Rattle.std.proofs.Common.{◌≡◌, ◌∙◌, ◌&&◌, ◌||◌, Bool, cond, drop, true, false, not, refl, sym, ap, subst, arith, codes, List, [], ◌∷◌, Option, Some, None, is_some, inl, inr}
+use Rattle.std.proofs.Common.{◌≡◌, ◌∙◌, ◌||◌, Bool, cond, drop, true, false, not, refl, ap, subst, arith, codes, List, [], ◌∷◌, Option, Some, None, is_some, inl, inr}
 use Rattle.std.specs.Prelude.{⊤, find, option_and_then, pos, slice_get}
-use Rattle.std.specs.List.{list_any}
 use Rattle.std.specs.Option.{option_map, option_map_or}
 use Rattle.std.specs.Str.{bytes_eq}
 use Rattle.clap.specs.Lexer.{without_minus}
 use Rattle.clap.specs.Values.{IsSignedIn, read_as, refused_kind}
 use Rattle.clap.specs.ValueTests.{accepts}
-use Rattle.clap.specs.Walk.{Held, Row, Rule, Text, finished, answers_to, first_of, has_row, nothing_held, one_of, row_text, rows_after, settled, stop_after, walk}
-use Rattle.clap.specs.Simple.{App, Shape, argument_words, built, built_leaf, entered, filled, inherited, label_of, marked_built, names_of, on_top, rows_at, subcommand_of, with_index, with_leaf_noted}
+use Rattle.clap.specs.Walk.{Row, Rule, Text, finished, answers_to, first_of, nothing_held, one_of, row_text, rows_after, settled, stop_after, walk}
+use Rattle.clap.specs.Simple.{Shape, argument_words, built, built_leaf, entered, filled, inherited, label_of, marked_built, names_of, on_top, rows_at, subcommand_of, with_index, with_leaf_noted}
 use Rattle.clap.specs.Takes.{is_given}
 use Rattle.clap.specs.Kinds.{value_kinds}
 use Rattle.clap.specs.Faults.{check_fault, entered_fault, fault_of, level_fault}
@@ -19,7 +18,7 @@ use Rattle.clap.specs.declared.builder.value_parser.ValueParser.TheVariants.{Sig
 use Rattle.clap.specs.declared.error.kind.ErrorKind.TheVariants as kind
 use Rattle.clap.proofs.ValueTestLemmas.{accepts-Accepts}
 use Rattle.shset.specs.App.{args_rule, reading_app, shset_app}
-use Rattle.shset.proofs.RowLemmas.{AllGood, AllSound, Good, default_row, given_row, level-good, level_checks, row_found}
+use Rattle.shset.proofs.LineRowLemmas.{AllGood, AllSound, default_row, given_row, level-good, level_checks, row_found}
 
 accepted : (i : Bool) (p : ValueParser) (v : Text) → value_kinds i p v ≡ [] → accepts i p v ≡ true
 accepted i p v e = go (accepts i p v) refl
