@@ -2,7 +2,8 @@ pub mod MoveLemmas
 pub mod PlaceLemmas
 pub mod TextLemmas
 pub mod LineLemmas
-pub mod RowLemmas
-pub mod WholeLemmas
+pub mod LineRowLemmas
+pub mod LineWholeLemmas
 pub mod AdmitLemmas
 pub mod QuoteLemmas
+pub mod LintLemmas

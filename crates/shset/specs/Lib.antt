@@ -4,9 +4,8 @@ pub mod Places
 pub mod Verdicts
 pub mod Texts
 pub mod Findings
+pub mod Walks
 pub mod Lint
 pub mod Runs
 pub mod App
 pub mod Line
-pub mod Findings
-pub mod Walks

@@ -1,7 +1,8 @@
 -- What is told of a script.
 -- POSIX.1-2024, XCU 2.10 (shell grammar), 2.6 (word expansions): a script that is clean has one reading, and no run of it expands a
 -- parameter that is not set or splits an expansion's value.
-use Rattle.std.specs.Prelude.{◌≡◌, ◌≤◌, ◌<◌, ◌⊎◌, ℕ, List, [], ◌++◌, length, map, Result, Ok, Err}
+use Rattle.std.specs.Prelude.{◌≡◌, ◌≤◌, ◌<◌, ◌⊎◌, ℕ, List, [], ◌++◌, length, map, Result, Ok, Err, Vec}
+use Rattle.std.specs.declared.alloc.Global.{Global}
 use Rattle.std.specs.List.Sorted.{IsPermutation, IsSortedByKey}
 use Rattle.sh_tree.specs.declared.limits.TheConstants.{MAX_NAMES}
 use Rattle.sh_tree.specs.declared.place.Place.{Place}
@@ -51,6 +52,20 @@ pub record AreFindings (b : List ℕ) (ps : List Place) (fs : List Finding) : Ty
 pub record IsSafe (b : List ℕ) (d : Declared) (t : Script) : Type 0 where
   pub no_unset : NoUnsetEvent b t d
   pub no_split : NoSplitEvent b t d
+
+-- What a script that was read is told: where its demands are unmet, and where none is that it is safe, or why it is not accepted.
+abbrev pub Accepts : List ℕ → Declared → Script → Result (Vec Place Global) Refusal → Type 0
+Accepts b d t (Ok v) = Admitted b t × (length (numbering b t d) ≤ MAX_NAMES) × (v.items ≡ places b d t) × (v.items ≡ [] → IsSafe b d t)
+Accepts b d t (Err (Profile r at)) = Admits b t (Err (Profile r at))
+Accepts b d t (Err TooMany) = Admitted b t × (MAX_NAMES < length (numbering b t d))
+Accepts b d t (Err Memory) = Unit {0}
+Accepts b d t (Err TooLong) = ⊥
+Accepts b d t (Err (NulByte at)) = ⊥
+Accepts b d t (Err (Syntax f at)) = ⊥
+Accepts b d t (Err (LeftOut f at)) = ⊥
+Accepts b d t (Err (TooDeep at)) = ⊥
+Accepts b d t (Err (CertSyntax n)) = ⊥
+Accepts b d t (Err CertShape) = ⊥
 
 -- A pass only where nothing is to be told, and then no run has an event; findings exactly where there are some; a refusal only of a
 -- text, a command or names that are not accepted; want of memory aside, one of these.

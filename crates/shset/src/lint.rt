@@ -3,11 +3,16 @@ ghost use Rattle.std.specs.Prelude.{◌≡◌, ◌<◌, ◌-◌, ◌^◌, [], le
 ghost use Rattle.sh_tree.specs.Reading.{Reads};
 ghost use Rattle.sh_flow.specs.Names.{numbering};
 ghost use Rattle.sh_flow.specs.Theorem.{NoUnsetEvent};
-ghost use Rattle.shset.specs.Findings.{Admits};
-ghost use Rattle.shset.specs.Lint.{AreFindings, IsSafe, Lints, places};
+ghost use Rattle.shset.specs.Findings.{unset_places};
+ghost use Rattle.shset.specs.Lint.{Accepts, AreFindings, IsSafe, Lints, places};
 
+use crate::admit::admit;
+use crate::find::find;
 use crate::lines::Lines;
+use crate::quotes::unquoted;
 use crate::verdict::{Finding, Report, Verdict, in_order};
+use sh_flow::flow::{Flow, check_flow};
+use sh_flow::laws::{no_split, no_unset};
 use sh_flow::names::Names;
 use sh_flow::policy::Policy;
 use sh_grammar::parse;
@@ -24,13 +29,12 @@ use std::alloc::{AllocError, Global};
 ///
 /// The refusal of the text, of its first command that is not analysed, or of its names, in that order; `Memory` where a
 /// growth was refused.
+#[tactic(auto, using(crate::proofs::LintLemmas::read_within, crate::proofs::LintLemmas::unread, crate::proofs::LintLemmas::unaccepted, crate::proofs::LintLemmas::passes, crate::proofs::LintLemmas::fails))]
 pub fn lint(alloc: Global, script: &[u8], policy: &Policy) -> Result<Verdict, Refusal>
     ensures { Lints script.now policy.now result }
 {
     let tree = parse(alloc, script)?;
-    admit(alloc, &tree, script)?;
-    let names = Names::new(alloc, &tree, script, policy)?;
-    let places = places_in(alloc, &tree, script, &names, policy)?;
+    let places = accepted_places(alloc, &tree, script, policy)?;
     if places.is_empty() {
         return Ok(Verdict::Pass);
     }
@@ -38,7 +42,25 @@ pub fn lint(alloc: Global, script: &[u8], policy: &Policy) -> Result<Verdict, Re
     Ok(Verdict::Fail(Report { findings }))
 }
 
+/// Where a demand is unmet, in a script that is accepted.
+#[tactic(auto, using(crate::proofs::LintLemmas::admitted_reading, crate::proofs::LintLemmas::unnumbered, crate::proofs::LintLemmas::unadmitted))]
+fn accepted_places(
+    alloc: Global,
+    tree: &Script,
+    script: &[u8],
+    policy: &Policy,
+) -> Result<Vec<Place>, Refusal>
+    requires { Reads script.now tree.now }
+    ensures { Accepts script.now policy.now tree.now result }
+{
+    admit(alloc, tree, script)?;
+    let names = Names::new(alloc, tree, script, policy)?;
+    let places = places_in(alloc, tree, script, &names, policy)?;
+    Ok(places)
+}
+
 /// Where a demand is unmet.
+#[tactic(auto, using(crate::proofs::LintLemmas::none_first, crate::proofs::LintLemmas::none_second, crate::proofs::QuoteLemmas::quoted_from_none))]
 fn places_in(
     alloc: Global,
     tree: &Script,
@@ -51,12 +73,33 @@ fn places_in(
     ensures places { IfOk result (λ v. v.items ≡ places script.now policy.now tree.now) }
     ensures safe { IfOk result (λ v. v.items ≡ [] → IsSafe script.now policy.now tree.now) }
 {
-    let _ = alloc;
-    let _ = tree;
-    let _ = script;
-    let _ = names;
-    let _ = policy;
-    Err(AllocError)
+    no_split();
+    let mut places = unquoted(alloc, tree)?;
+    let mut unset = unset_in(alloc, tree, script, names, policy)?;
+    places.append(&mut unset)?;
+    Ok(places)
+}
+
+/// Where a parameter may be unset.
+fn unset_in(
+    alloc: Global,
+    tree: &Script,
+    script: &[u8],
+    names: &Names,
+    policy: &Policy,
+) -> Result<Vec<Place>, AllocError>
+    requires reads { Reads script.now tree.now }
+    requires numbered { names.now ≡ numbering script.now tree.now policy.now }
+    ensures places { IfOk result (λ v. v.items ≡ unset_places script.now policy.now tree.now) }
+    ensures safe { IfOk result (λ v. v.items ≡ [] → NoUnsetEvent script.now tree.now policy.now) }
+{
+    no_unset();
+    let certificate = find(alloc, tree, script, names, policy)?;
+    match check_flow(alloc, tree, script, names, policy, &certificate)? {
+        Flow::Holds => Ok(Vec::new(alloc)),
+        Flow::Demand(places) => Ok(places),
+        Flow::Rule(..) => unreachable!(),
+    }
 }
 
 /// The findings of places, in order.
@@ -76,13 +119,4 @@ fn findings_at(alloc: Global, script: &[u8], places: &[Place]) -> Result<Vec<Fin
         })?;
     }
     in_order(findings)
-}
-
-fn admit(alloc: Global, tree: &Script, script: &[u8]) -> Result<(), Refusal>
-    ensures { Admits script.now tree.now result }
-{
-    let _ = alloc;
-    let _ = tree;
-    let _ = script;
-    Err(Refusal::Memory)
 }

@@ -1,16 +1,20 @@
-<<<<<<< HEAD
 //! A linter for POSIX shell scripts whose `clean` is a proof: opens the ends, does what the command line asks for, and ends
 //! with its status.
 #![tactic(auto)]
 
+mod admit;
 mod counted;
 mod ends;
 mod engine;
+mod find;
 mod line;
 mod lines;
 mod lint;
 mod moves;
+mod quotes;
 mod task;
+
+
 mod texts;
 mod verdict;
 
@@ -93,12 +97,3 @@ fn main(rt: HostRuntime) -> ExitCode {
         Err(stop) => stopped(&rt, stop),
     }
 }
-=======
-//! The program.
-#![tactic(auto)]
-
-mod admit;
-mod quotes;
-
-fn main() {}
->>>>>>> find
