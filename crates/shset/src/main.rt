@@ -13,8 +13,8 @@ mod lint;
 mod moves;
 mod quotes;
 mod task;
-
-
+#[cfg(test)]
+mod tests;
 mod texts;
 mod verdict;
 
