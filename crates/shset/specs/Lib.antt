@@ -1,2 +1,3 @@
 pub mod Findings
 pub mod Walks
+pub mod Certifies

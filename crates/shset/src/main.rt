@@ -2,6 +2,7 @@
 #![tactic(auto)]
 
 mod admit;
+mod find;
 mod quotes;
 
 fn main() {}
