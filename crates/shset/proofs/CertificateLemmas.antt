@@ -39,10 +39,10 @@ record ClaimOf (names : List Text) (args : ℕ) (c : Claim) (ts : List Text) : T
 claim_said : (names : List Text) (rows : List (List ℕ)) (args : ℕ) (f : shown.Facts) (ts : List Text) → Says names rows args f ts → ClaimOf names args (claim_of rows f) ts
 unfolding claim_of
 claim_said names rows args f ts s = record {
-    row = row_at rows s.vars;
-    is = ap (claim_of rows) s.known ∙ ap (λ fs. Claimed (row_at rows s.vars) fs args) s.empty.empty;
-    holds = s.holds.holds;
-  }
+  row = row_at rows s.vars;
+  is = ap (claim_of rows) s.known ∙ ap (λ fs. Claimed (row_at rows s.vars) fs args) s.empty.empty;
+  holds = s.holds.holds;
+}
 
 claim_at : (names : List Text) (t : Table) (args k number : ℕ) (pick : Entry → shown.Facts) (e : Entry) (ts : List Text) → slice_get t.entries k ≡ Some e → number ≡ k + 1
     → Says names t.rows args (pick e) ts → ClaimOf names args (claim_in t.rows pick (entry_of t number)) ts
@@ -61,10 +61,10 @@ record ClaimsAt (names : List Text) (c : Claims) (args number : ℕ) (sure after
 claims_at : (names : List Text) (t : Table) (args k number : ℕ) (sure after : List Text) → Round names t args k sure after → number ≡ k + 1 → ClaimsAt names (claims_of t) args number sure after
 unfolding claims_of
 claims_at names t args k number sure after r n = record {
-    before = claim_at names t args k number (λ e. e.before) r.entry sure r.stands n r.before;
-    zero_at = claim_at names t args k number (λ e. e.zero) r.entry after r.stands n r.zero_at;
-    nonzero_at = claim_at names t args k number (λ e. e.nonzero) r.entry after r.stands n r.nonzero_at;
-  }
+  before = claim_at names t args k number (λ e. e.before) r.entry sure r.stands n r.before;
+  zero_at = claim_at names t args k number (λ e. e.zero) r.entry after r.stands n r.zero_at;
+  nonzero_at = claim_at names t args k number (λ e. e.nonzero) r.entry after r.stands n r.nonzero_at;
+}
 
 -- The rules
 
@@ -100,10 +100,10 @@ unfolding facts meet
 enters_out names c args number sure after said = λ x claim.
     rw (said.zero_at.is, said.nonzero_at.is)
     (within_known names args x after _ _ _ claim
-      (λ n h. let z : has_number n said.zero_at.row ≡ true = said.zero_at.holds n ∙ h in
-        let y : has_number n said.nonzero_at.row ≡ true = said.nonzero_at.holds n ∙ h in
-        rw (z, y) refl)
-      (at_most_both args))
+    (λ n h. let z : has_number n said.zero_at.row ≡ true = said.zero_at.holds n ∙ h in
+    let y : has_number n said.nonzero_at.row ≡ true = said.nonzero_at.holds n ∙ h in
+    rw (z, y) refl)
+    (at_most_both args))
 
 gained_numbers : (b : List ℕ) (names : List Text) (xs : List (Text × Word)) → numbers_of names (map (λ (x : Text × Word). x.0) xs) ≡ filter_map (λ (x : Text × Word). number_of names x.0) xs
 gained_numbers b names [] = refl
@@ -115,17 +115,17 @@ unfolding facts leaves with_vars gains
 leaves_known b names args [] es before sure known = λ c claim.
     rw known.is
     (within_known names args c (sure ++ map (λ x. x.0) (assignments_of b es)) _ _ _ claim
-      (λ n h.
-        sym (or_swap (has_number n (numbers_of names sure)) (has_number n (assigned_numbers b names es)) ∙ ap (λ x. has_number n (assigned_numbers b names es) || x) (sym (known.holds n)))
-        ∙ ap (λ ns. has_number n (numbers_of names sure) || has_number n ns) (sym (gained_numbers b names (assignments_of b es)))
-        ∙ sym (has_append n (numbers_of names sure) (numbers_of names (map (λ x. x.0) (assignments_of b es))))
-        ∙ ap (λ ns. has_number n ns) (sym (numbers_append names sure (map (λ x. x.0) (assignments_of b es)))) ∙ h)
-      (at_most_same args))
+    (λ n h.
+    sym (or_swap (has_number n (numbers_of names sure)) (has_number n (assigned_numbers b names es)) ∙ ap (λ x. has_number n (assigned_numbers b names es) || x) (sym (known.holds n)))
+    ∙ ap (λ ns. has_number n (numbers_of names sure) || has_number n ns) (sym (gained_numbers b names (assignments_of b es)))
+    ∙ sym (has_append n (numbers_of names sure) (numbers_of names (map (λ x. x.0) (assignments_of b es))))
+    ∙ ap (λ ns. has_number n ns) (sym (numbers_append names sure (map (λ x. x.0) (assignments_of b es)))) ∙ h)
+    (at_most_same args))
 leaves_known b names args (w ∷ ws) es before sure known = λ c claim.
     rw known.is
     (within_known names args c (sure ++ []) _ _ _ claim
-      (λ n h. known.holds n ∙ ap (λ ts. has_number n (numbers_of names ts)) (sym (append-nil sure)) ∙ h)
-      (at_most_same args))
+    (λ n h. known.holds n ∙ ap (λ ts. has_number n (numbers_of names ts)) (sym (append-nil sure)) ∙ h)
+    (at_most_same args))
 
 command_clean : (b : List ℕ) (names : List Text) (c : Claims) (args : ℕ) (x : Command) (by : FlowRule) (f : Facts) (sure : List Text)
     → Enters names args f sure → ClaimsAt names c args x.number sure (sure ++ command_gains b x) → faults b names c x by f ≡ []
@@ -209,9 +209,10 @@ command_same b names t args k sure c cs number round h =
     let own : List Text = flat_map (names_in b) (elements_of c.kind) in
     let others : List Text = flat_map (λ (x : Command). flat_map (names_in b) (elements_of x.kind)) cs in
     let said = claims_at names t args k c.number sure (sure ++ command_gains b c) round number in
-    let parts : (list_all test own && list_all test others) ≡ true = sym (list_all-append test own others) ∙ h in
-    (elements_same b names args ((claims_of t).before c.number) sure (elements_of c.kind) said.before (and_left (list_all test own) (list_all test others) parts),
-    and_right (list_all test own) (list_all test others) parts)
+    let parts : (list_all test own && list_all test others) ≡ true = sym (list_all-append test own others) ∙ h in (
+      elements_same b names args ((claims_of t).before c.number) sure (elements_of c.kind) said.before (and_left (list_all test own) (list_all test others) parts),
+      and_right (list_all test own) (list_all test others) parts,
+    )
 
 commands_same : (b : List ℕ) (names : List Text) (t : Table) (args k : ℕ) (sure : List Text) (is : List Item) → NumberedFrom k is
     → Follows names b t args k sure (filter_map lone_command is) → AreNumbered b names (filter_map lone_command is)
@@ -222,7 +223,7 @@ commands_same b names t args k sure (i ∷ is) n f h =
     go (λ after follows numbered. commands_same b names t args (k + 1) after is n.1 follows numbered) (lone_command i) n.0.whole f h
   where
     go : ((after : List Text) → Follows names b t args (k + 1) after (filter_map lone_command is) → AreNumbered b names (filter_map lone_command is)
-          → flat_map (command_unmet b names (claims_of t)) (filter_map lone_command is) ≡ unset_from b after (filter_map lone_command is))
+        → flat_map (command_unmet b names (claims_of t)) (filter_map lone_command is) ≡ unset_from b after (filter_map lone_command is))
         → (c : Option Command) → c ≡ Some n.0.command → Follows names b t args k sure (cons_option c (filter_map lone_command is)) → AreNumbered b names (cons_option c (filter_map lone_command is))
         → flat_map (command_unmet b names (claims_of t)) (cons_option c (filter_map lone_command is)) ≡ unset_from b sure (cons_option c (filter_map lone_command is))
     go rest None same g e = cc

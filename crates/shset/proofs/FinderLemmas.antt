@@ -37,9 +37,9 @@ front_same xs = record { same = λ k h. refl; within = λ k h. h }
 
 front_push : {A : Type 0} (xs : List A) (x : A) → IsFront xs (xs ++ x ∷ [])
 front_push {A} xs x = record {
-    same = λ k h. get_front xs (x ∷ []) k h;
-    within = λ k h. let more : length (xs ++ x ∷ []) ≡ length xs + 1 = length-append xs (x ∷ []) in omega arith;
-  }
+  same = λ k h. get_front xs (x ∷ []) k h;
+  within = λ k h. let more : length (xs ++ x ∷ []) ≡ length xs + 1 = length-append xs (x ∷ []) in omega arith;
+}
 
 front_then : {A : Type 0} (xs ys zs : List A) → IsFront xs ys → ys ≡ zs → IsFront xs zs
 front_then xs ys zs f e = subst (λ us. IsFront xs us) e f
@@ -50,38 +50,39 @@ row_front old new id f h = ap (λ o. unwrap_or o []) (f.same id.index h)
 
 names_row_front : (names : List Text) (old new : List (List ℕ)) (id : RowId) (ts : List Text) → IsFront old new → NamesRow names old id ts → NamesRow names new id ts
 names_row_front names old new id ts f r = record {
-    within = f.within id.index r.within;
-    holds = λ n. ap (λ row. has_number n row) (row_front old new id f r.within) ∙ r.holds n;
-  }
+  within = f.within id.index r.within;
+  holds = λ n. ap (λ row. has_number n row) (row_front old new id f r.within) ∙ r.holds n;
+}
 
 empty_row_front : (old new : List (List ℕ)) (id : RowId) → IsFront old new → EmptyRow old id → EmptyRow new id
 empty_row_front old new id f r = record { within = f.within id.index r.within; empty = row_front old new id f r.within ∙ r.empty }
 
 says_front : (names : List Text) (old new : List (List ℕ)) (args : ℕ) (facts : Facts) (ts : List Text) → IsFront old new → Says names old args facts ts → Says names new args facts ts
 says_front names old new args facts ts f s = record {
-    vars = s.vars;
-    functions = s.functions;
-    known = s.known;
-    holds = names_row_front names old new s.vars ts f s.holds;
-    empty = empty_row_front old new s.functions f s.empty;
-  }
+  vars = s.vars;
+  functions = s.functions;
+  known = s.known;
+  holds = names_row_front names old new s.vars ts f s.holds;
+  empty = empty_row_front old new s.functions f s.empty;
+}
 
 round_front : (names : List Text) (old new : Table) (args k : ℕ) (sure after : List Text) → IsFront old.rows new.rows → IsFront old.entries new.entries → Round names old args k sure after → Round names new args k sure after
 round_front names old new args k sure after rows entries r = record {
-    entry = r.entry;
-    stands = entries.same k (slice_get_within old.entries k r.entry r.stands) ∙ r.stands;
-    before = says_front names old.rows new.rows args r.entry.before sure rows r.before;
-    zero_at = says_front names old.rows new.rows args r.entry.zero after rows r.zero_at;
-    nonzero_at = says_front names old.rows new.rows args r.entry.nonzero after rows r.nonzero_at;
-  }
+  entry = r.entry;
+  stands = entries.same k (slice_get_within old.entries k r.entry r.stands) ∙ r.stands;
+  before = says_front names old.rows new.rows args r.entry.before sure rows r.before;
+  zero_at = says_front names old.rows new.rows args r.entry.zero after rows r.zero_at;
+  nonzero_at = says_front names old.rows new.rows args r.entry.nonzero after rows r.nonzero_at;
+}
 
 follows_front : (names : List Text) (b : List ℕ) (old new : Table) (args k : ℕ) (sure : List Text) (cs : List Command) → IsFront old.rows new.rows → IsFront old.entries new.entries
     → Follows names b old args k sure cs → Follows names b new args k sure cs
 unfolding Follows
 follows_front names b old new args k sure [] rows entries h = tt
-follows_front names b old new args k sure (c ∷ cs) rows entries h =
-    (round_front names old new args k sure (sure ++ command_gains b c) rows entries h.0,
-    follows_front names b old new args (k + 1) (sure ++ command_gains b c) cs rows entries h.1)
+follows_front names b old new args k sure (c ∷ cs) rows entries h = (
+  round_front names old new args k sure (sure ++ command_gains b c) rows entries h.0,
+  follows_front names b old new args (k + 1) (sure ++ command_gains b c) cs rows entries h.1,
+)
 
 -- One more command
 
@@ -101,28 +102,28 @@ sure_after_push b sure (d ∷ cs) c = sure_after_push b (sure ++ command_gains b
 pub learned_nothing : (names ts : List Text) (old : Finder) (sure : List ℕ) → Gains (numbers_of names ts) old.sure sure → sure ≡ old.sure
     → Learns names ts old (record { certificate = old.certificate; sure = sure; vars = old.vars; functions = old.functions; args = old.args })
 learned_nothing names ts old sure g e = record {
-    gained = g;
-    entries_same = refl;
-    functions_same = refl;
-    args_same = refl;
-    rows = front_same old.certificate.rows;
-    kept = λ k. record { within = k.within; holds = λ n. k.holds n ∙ ap (λ row. has_number n row) (sym e) };
-  }
+  gained = g;
+  entries_same = refl;
+  functions_same = refl;
+  args_same = refl;
+  rows = front_same old.certificate.rows;
+  kept = λ k. record { within = k.within; holds = λ n. k.holds n ∙ ap (λ row. has_number n row) (sym e) };
+}
 
 learned : (names ts : List Text) (old : Finder) (sure row : List ℕ) (id : RowId) → Gains (numbers_of names ts) old.sure sure → row ≡ sure → id.index ≡ length old.certificate.rows
     → Learns names ts old (record { certificate = record { rows = old.certificate.rows ++ row ∷ []; entries = old.certificate.entries }; sure = sure; vars = id; functions = old.functions; args = old.args })
 unfolding row_at
 learned names ts old sure row id g e i = record {
-    gained = g;
-    entries_same = refl;
-    functions_same = refl;
-    args_same = refl;
-    rows = front_push old.certificate.rows row;
-    kept = λ k. record {
-      within = let more : length (old.certificate.rows ++ row ∷ []) ≡ length old.certificate.rows + 1 = length-append old.certificate.rows (row ∷ []) in omega (arith, i, more);
-      holds = λ n. ap (λ o. has_number n (unwrap_or o [])) (get_last old.certificate.rows row id.index i) ∙ ap (λ r. has_number n r) e;
-    };
-  }
+  gained = g;
+  entries_same = refl;
+  functions_same = refl;
+  args_same = refl;
+  rows = front_push old.certificate.rows row;
+  kept = λ k. record {
+    within = let more : length (old.certificate.rows ++ row ∷ []) ≡ length old.certificate.rows + 1 = length-append old.certificate.rows (row ∷ []) in omega (arith, i, more);
+    holds = λ n. ap (λ o. has_number n (unwrap_or o [])) (get_last old.certificate.rows row id.index i) ∙ ap (λ r. has_number n r) e;
+  };
+}
 
 pub learned_row : (names ts : List Text) (old : Finder) (sure row : List ℕ) (id : RowId) (table : Table) → Gains (numbers_of names ts) old.sure sure → row ≡ sure → id.index ≡ length old.certificate.rows
     → table ≡ record { rows = old.certificate.rows ++ row ∷ []; entries = old.certificate.entries }
@@ -149,38 +150,41 @@ visited : (names : List Text) (b : List ℕ) (old mid : Finder) (c : Command) (b
     → before ≡ Known old.vars old.functions old.args → after ≡ Known mid.vars mid.functions mid.args
     → (start : List Text) (args : ℕ) (cs : List Command) → Found names b old start args cs
     → Found names b (record {
-        certificate = record { rows = mid.certificate.rows; entries = mid.certificate.entries ++ record { before = before; zero = after; nonzero = after } ∷ [] };
-        sure = mid.sure; vars = mid.vars; functions = mid.functions; args = mid.args;
-      }) start args (cs ++ c ∷ [])
+      certificate = record { rows = mid.certificate.rows; entries = mid.certificate.entries ++ record { before = before; zero = after; nonzero = after } ∷ [] };
+      sure = mid.sure;
+      vars = mid.vars;
+      functions = mid.functions;
+      args = mid.args;
+    }) start args (cs ++ c ∷ [])
 visited names b old mid c before after l is_before is_after start args cs f =
     let sure : List Text = sure_after b start cs in
     let entry : Entry = record { before = before; zero = after; nonzero = after } in
     let new : Table = record { rows = mid.certificate.rows; entries = mid.certificate.entries ++ entry ∷ [] } in
     let entries : IsFront old.certificate.entries (mid.certificate.entries ++ entry ∷ []) =
-      front_then old.certificate.entries (old.certificate.entries ++ entry ∷ []) (mid.certificate.entries ++ entry ∷ []) (front_push old.certificate.entries entry) (ap (λ (es : List Entry). es ++ entry ∷ []) (sym l.entries_same)) in
+    front_then old.certificate.entries (old.certificate.entries ++ entry ∷ []) (mid.certificate.entries ++ entry ∷ []) (front_push old.certificate.entries entry) (ap (λ (es : List Entry). es ++ entry ∷ []) (sym l.entries_same)) in
     let count : length mid.certificate.entries ≡ length cs = ap length l.entries_same ∙ f.count in
     let knows : Knows names mid (sure ++ command_gains b c) = knows_learned names sure (command_gains b c) old mid f.knows l in
     let same_args : mid.args ≡ args = l.args_same ∙ f.args_same in
     let said : Says names mid.certificate.rows args after (sure ++ command_gains b c) =
-      record { vars = mid.vars; functions = mid.functions; known = is_after ∙ ap (λ (a : ℕ). Known mid.vars mid.functions a) same_args; holds = knows.vars; empty = knows.functions } in
+    record { vars = mid.vars; functions = mid.functions; known = is_after ∙ ap (λ (a : ℕ). Known mid.vars mid.functions a) same_args; holds = knows.vars; empty = knows.functions } in
     let round : Round names new args (length cs) sure (sure ++ command_gains b c) = record {
-        entry = entry;
-        stands = get_last mid.certificate.entries entry (length cs) (sym count);
-        before = record {
-          vars = old.vars;
-          functions = old.functions;
-          known = is_before ∙ ap (λ (a : ℕ). Known old.vars old.functions a) f.args_same;
-          holds = names_row_front names old.certificate.rows mid.certificate.rows old.vars sure l.rows f.knows.vars;
-          empty = empty_row_front old.certificate.rows mid.certificate.rows old.functions l.rows f.knows.functions;
-        };
-        zero_at = said;
-        nonzero_at = said;
-      } in
+      entry = entry;
+      stands = get_last mid.certificate.entries entry (length cs) (sym count);
+      before = record {
+        vars = old.vars;
+        functions = old.functions;
+        known = is_before ∙ ap (λ (a : ℕ). Known old.vars old.functions a) f.args_same;
+        holds = names_row_front names old.certificate.rows mid.certificate.rows old.vars sure l.rows f.knows.vars;
+        empty = empty_row_front old.certificate.rows mid.certificate.rows old.functions l.rows f.knows.functions;
+      };
+      zero_at = said;
+      nonzero_at = said;
+    } in
     record {
       follows = follows_push names b new args 0 (length cs) start cs c (omega arith) (follows_front names b old.certificate new args 0 start cs l.rows entries f.follows) round;
       count = length-append mid.certificate.entries (entry ∷ []) ∙ ap (λ (n : ℕ). n + 1) count ∙ sym (length-append cs (c ∷ []));
       knows = subst (λ (ts : List Text). Knows names (record { certificate = new; sure = mid.sure; vars = mid.vars; functions = mid.functions; args = mid.args }) ts) (sym (sure_after_push b start cs c))
-        (record { sure = knows.sure; vars = knows.vars; functions = knows.functions });
+          (record { sure = knows.sure; vars = knows.vars; functions = knows.functions });
       args_same = same_args;
     }
 
@@ -213,18 +217,18 @@ visited_more names b f start args is i x lt at h =
 pub began : (names : List Text) (b : List ℕ) (f : Finder) (sure : List ℕ) (given args : ℕ) (start : List Text) → HoldsNames names sure start → Begins sure given f → given ≡ args → Found names b f start args []
 unfolding Follows sure_after row_at
 began names b f sure given args start h g e = record {
-    follows = tt;
-    count = ap (λ (t : Table). length t.entries) g.table;
-    knows = record {
-      sure = λ n. ap (λ row. has_number n row) g.sure_same ∙ h n;
-      vars = record {
-        within = let two : length f.certificate.rows ≡ 2 = ap (λ (t : Table). length t.rows) g.table in omega (arith, g.vars, two);
-        holds = λ n. ap (λ (t : Table). has_number n (unwrap_or (slice_get t.rows f.vars.index) [])) g.table ∙ ap (λ k. has_number n (unwrap_or (slice_get ([] ∷ sure ∷ []) k) [])) g.vars ∙ h n;
-      };
-      functions = record {
-        within = let two : length f.certificate.rows ≡ 2 = ap (λ (t : Table). length t.rows) g.table in omega (arith, g.functions, two);
-        empty = ap (λ (t : Table). unwrap_or (slice_get t.rows f.functions.index) []) g.table ∙ ap (λ k. unwrap_or (slice_get ([] ∷ sure ∷ []) k) []) g.functions;
-      };
+  follows = tt;
+  count = ap (λ (t : Table). length t.entries) g.table;
+  knows = record {
+    sure = λ n. ap (λ row. has_number n row) g.sure_same ∙ h n;
+    vars = record {
+      within = let two : length f.certificate.rows ≡ 2 = ap (λ (t : Table). length t.rows) g.table in omega (arith, g.vars, two);
+      holds = λ n. ap (λ (t : Table). has_number n (unwrap_or (slice_get t.rows f.vars.index) [])) g.table ∙ ap (λ k. has_number n (unwrap_or (slice_get ([] ∷ sure ∷ []) k) [])) g.vars ∙ h n;
     };
-    args_same = g.args_same ∙ e;
-  }
+    functions = record {
+      within = let two : length f.certificate.rows ≡ 2 = ap (λ (t : Table). length t.rows) g.table in omega (arith, g.functions, two);
+      empty = ap (λ (t : Table). unwrap_or (slice_get t.rows f.functions.index) []) g.table ∙ ap (λ k. unwrap_or (slice_get ([] ∷ sure ∷ []) k) []) g.functions;
+    };
+  };
+  args_same = g.args_same ∙ e;
+}

@@ -136,6 +136,7 @@ name_of names (s ∷ sure) n e = go (name_of names sure n) (number_of names s) r
         → (b || has_number n (numbers_of names sure)) ≡ true → NameOf names (s ∷ sure) n
     test rest m f true q h = name_here names sure s n m f (same_number n m q)
     test rest m f false q h = name_further names sure s n (rest h)
+
     go : (has_number n (numbers_of names sure) ≡ true → NameOf names sure n) → (o : Option ℕ) → number_of names s ≡ o
         → has_number n (cons_option o (numbers_of names sure)) ≡ true → NameOf names (s ∷ sure) n
     go rest None f h = name_further names sure s n (rest h)
@@ -179,10 +180,10 @@ pub all_numbered : (b : List ℕ) (t : Script) (d : Declared) (names : List Text
 all_numbered b t d names e =
     let held = fold_holds [] (first_names ++ d.names ++ script_names b t) in
     let of_names : list_all (λ s. is_one_of names s) (first_names ++ d.names ++ script_names b t) ≡ true =
-      subst (λ ns. list_all (λ s. is_one_of ns s) (first_names ++ d.names ++ script_names b t) ≡ true) (sym e) held in
+    subst (λ ns. list_all (λ s. is_one_of ns s) (first_names ++ d.names ++ script_names b t) ≡ true) (sym e) held in
     all_weaker (λ s. is_one_of names s) (λ s. is_some (number_of names s)) (λ s h. numbered_one 0 names s h) (script_names b t)
     (and_right (list_all (λ s. is_one_of names s) (first_names ++ d.names)) (list_all (λ s. is_one_of names s) (script_names b t))
-      (sym (list_all-append (λ s. is_one_of names s) (first_names ++ d.names) (script_names b t)) ∙ of_names))
+    (sym (list_all-append (λ s. is_one_of names s) (first_names ++ d.names) (script_names b t)) ∙ of_names))
 
 -- The commands of a script that is read
 
@@ -222,13 +223,14 @@ alone_command c = refl
 numbered_from : (b : List ℕ) (s v : Spot) (k : ℕ) (is : List Item) → s.count ≡ k → ReadsItems b s v is → NumberedFrom k is
 numbered_from b s v k is e (r.finish h) = tt
 numbered_from b s v k is e (r.item {u = u} {l = l} {is = js} h rest) =
-    let a = list_alone b s u l h in
-    (record {
-      command = a.command;
-      whole = ap (λ x. lone_command (foreground x)) a.whole ∙ alone_command a.command;
-      number = a.one.number ∙ ap (λ n. n + 1) e;
-    },
-    numbered_from b (spot (next_item b u.at) u.count) v (k + 1) js (a.one.count ∙ ap (λ n. n + 1) e) rest)
+    let a = list_alone b s u l h in (
+      record {
+        command = a.command;
+        whole = ap (λ x. lone_command (foreground x)) a.whole ∙ alone_command a.command;
+        number = a.one.number ∙ ap (λ n. n + 1) e;
+      },
+      numbered_from b (spot (next_item b u.at) u.count) v (k + 1) js (a.one.count ∙ ap (λ n. n + 1) e) rest,
+    )
 
 pub reads_numbered : (b : List ℕ) (t : Script) → Reads b t → NumberedFrom 0 t.items
 reads_numbered b t h = numbered_from b (spot (first_item b) 0) (spot h.1.end h.0) 0 t.items refl h.1.items

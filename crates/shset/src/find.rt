@@ -124,7 +124,12 @@ fn add_name(name: &[u8], names: &Names, row: &mut Row) -> Result<bool, AllocErro
     Ok(true)
 }
 
-fn add_element(element: &Element, script: &[u8], names: &Names, row: &mut Row) -> Result<bool, AllocError>
+fn add_element(
+    element: &Element,
+    script: &[u8],
+    names: &Names,
+    row: &mut Row,
+) -> Result<bool, AllocError>
     ensures gained { IfOk result (λ is_new. Gains (numbers_of names.now (map (λ x. x.0) (option_to_list (assignment_of script.now element.now)))) row.old row.new) }
     ensures same { IfOk result (λ is_new. is_new ≡ false → row.new ≡ row.old) }
 {
@@ -135,7 +140,12 @@ fn add_element(element: &Element, script: &[u8], names: &Names, row: &mut Row) -
 }
 
 /// Adds the names that elements assign.
-fn add_assigned(elements: &[Element], script: &[u8], names: &Names, row: &mut Row) -> Result<bool, AllocError>
+fn add_assigned(
+    elements: &[Element],
+    script: &[u8],
+    names: &Names,
+    row: &mut Row,
+) -> Result<bool, AllocError>
     ensures gained { IfOk result (λ is_new. Gains (numbers_of names.now (map (λ x. x.0) (assignments_of script.now elements.now))) row.old row.new) }
     ensures same { IfOk result (λ is_new. is_new ≡ false → row.new ≡ row.old) }
 {
@@ -148,7 +158,12 @@ fn add_assigned(elements: &[Element], script: &[u8], names: &Names, row: &mut Ro
 }
 
 /// Adds the names that elements assign for the commands behind theirs: none where they have a command name (XCU 2.9.1).
-fn gain_elements(elements: &[Element], script: &[u8], names: &Names, row: &mut Row) -> Result<bool, AllocError>
+fn gain_elements(
+    elements: &[Element],
+    script: &[u8],
+    names: &Names,
+    row: &mut Row,
+) -> Result<bool, AllocError>
     ensures gained { IfOk result (λ is_new. Gains (numbers_of names.now (gains script.now (words_of elements.now) elements.now)) row.old row.new) }
     ensures same { IfOk result (λ is_new. is_new ≡ false → row.new ≡ row.old) }
 {
@@ -188,7 +203,13 @@ fn start_row(alloc: Global, names: &Names, policy: &Policy) -> Result<Row, Alloc
     Ok(row)
 }
 
-fn walk(alloc: Global, items: &[Item], script: &[u8], names: &Names, policy: &Policy) -> Result<Finder, AllocError>
+fn walk(
+    alloc: Global,
+    items: &[Item],
+    script: &[u8],
+    names: &Names,
+    policy: &Policy,
+) -> Result<Finder, AllocError>
     ensures { IfOk result (λ finder. Found names.now script.now finder (start_names ++ policy.now.names) policy.now.args (filter_map lone_command items.now)) }
 {
     let sure = start_row(alloc, names, policy)?;
@@ -206,7 +227,13 @@ fn walk(alloc: Global, items: &[Item], script: &[u8], names: &Names, policy: &Po
 /// # Errors
 ///
 /// Where a growth was refused.
-pub(crate) fn find(alloc: Global, tree: &Script, script: &[u8], names: &Names, policy: &Policy) -> Result<Certificate, AllocError>
+pub(crate) fn find(
+    alloc: Global,
+    tree: &Script,
+    script: &[u8],
+    names: &Names,
+    policy: &Policy,
+) -> Result<Certificate, AllocError>
     requires reads { Reads script.now tree.now }
     requires numbered { names.now ≡ numbering script.now tree.now policy.now }
     ensures rules { IfOk result (λ c. script_faults script.now names.now (claims_of c) policy.now tree.now ≡ []) }

@@ -19,7 +19,7 @@ returns-clause-rules c =
     let d = c.args.policy.now in
     let t = c.args.tree.now in
     let found : Found names b c.in_ok-finder.finder (start_names ++ d.names) d.args (lone_commands t) =
-      subst (λ (is : List Item). Found names b c.in_ok-finder.finder (start_names ++ d.names) d.args (filter_map lone_command is)) c.as_slice.ensures c.in_ok-finder.ensures in
+    subst (λ (is : List Item). Found names b c.in_ok-finder.finder (start_names ++ d.names) d.args (filter_map lone_command is)) c.as_slice.ensures c.in_ok-finder.ensures in
     subst (λ (x : Table). script_faults b names (claims_of x) d t ≡ []) (sym c.into_certificate.ensures)
     (certificate_clean b names d t c.in_ok-finder.finder (reads_numbered b t c.requires.reads) found)
 
@@ -30,6 +30,6 @@ returns-clause-demands c =
     let d = c.args.policy.now in
     let t = c.args.tree.now in
     let found : Found names b c.in_ok-finder.finder (start_names ++ d.names) d.args (lone_commands t) =
-      subst (λ (is : List Item). Found names b c.in_ok-finder.finder (start_names ++ d.names) d.args (filter_map lone_command is)) c.as_slice.ensures c.in_ok-finder.ensures in
+    subst (λ (is : List Item). Found names b c.in_ok-finder.finder (start_names ++ d.names) d.args (filter_map lone_command is)) c.as_slice.ensures c.in_ok-finder.ensures in
     subst (λ (x : Table). script_unmet b names (claims_of x) t ≡ unset_places b d t) (sym c.into_certificate.ensures)
     (certificate_exact b names d t c.in_ok-finder.finder (reads_numbered b t c.requires.reads) found (all_numbered b t d names c.requires.numbered))
