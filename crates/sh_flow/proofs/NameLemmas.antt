@@ -101,6 +101,7 @@ one_more f xs i x lt e = rw (take_more xs i x lt, flat_map-append f (take i xs) 
     nothing : {A : Type 0} (ys : List A) → ys ++ [] ≡ ys
     nothing [] = refl
     nothing (y ∷ ys) = ap (λ zs. y ∷ zs) (nothing ys)
+
     last : {A : Type 0} (ys zs : List A) → zs ++ (ys ++ []) ≡ zs ++ ys
     last ys zs = ap (λ us. zs ++ us) (nothing ys)
 

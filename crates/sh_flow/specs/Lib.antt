@@ -1,7 +1,6 @@
 pub mod Policy
 pub mod Names
 pub mod Numbers
-pub mod Walks
 pub mod Profile
 pub mod Environment
 pub mod Pieces
@@ -9,6 +8,8 @@ pub mod Machine
 pub mod Facts
 pub mod Certificates
 pub mod Rules
+pub mod Breaches
 pub mod Demands
+pub mod Walks
 pub mod Answers
 pub mod Theorem

@@ -90,6 +90,16 @@ rank F5 = 5
 unfoldable pub precedes : Fault → Fault → Bool
 precedes a b = ltb a.number b.number || ((a.number == b.number) && ltb (rank a.rule) (rank b.rule))
 
+-- the one found so far, unless this one precedes it
+unfoldable pub lesser : Option Fault → Fault → Fault
+lesser None b = b
+lesser (Some a) b = if precedes b a then b else a
+
+-- the least of the one found so far and these
+unfoldable pub least_from : Option Fault → List Fault → Option Fault
+least_from found [] = found
+least_from found (f ∷ fs) = least_from (Some (lesser found f)) fs
+
 -- the fault stands in the list, and none there precedes it
 pub record IsLeast (f : Fault) (fs : List Fault) : Type 0 where
   pub told : Contains fs f

@@ -11,6 +11,9 @@ use Rattle.sh_tree.specs.declared.tree.Part.{Part}
 use Rattle.sh_tree.specs.Words.{lone_command, elements_of, expansions_in}
 use Rattle.sh_flow.specs.Policy.{Text}
 use Rattle.sh_flow.specs.Names.{names_in, subjects}
+use Rattle.sh_flow.specs.Facts.{Facts}
+use Rattle.sh_flow.specs.Demands.{uncovered}
+use Rattle.sh_tree.specs.declared.place.Place.{Place}
 
 -- why these, all of them, are not numbered
 abbrev pub Refuses : List Text → Refusal → Type 0
@@ -32,3 +35,7 @@ command_names b c = flat_map (names_in b) (elements_of c.kind)
 -- the parameters in a part
 abbrev pub part_names : List ℕ → Part → List Text
 part_names b p = subjects b (expansions_in true p)
+
+-- the places in a part whose parameter is not surely set
+abbrev pub part_unmet : List ℕ → List Text → Facts → Part → List Place
+part_unmet b names f p = uncovered b names f (expansions_in true p)

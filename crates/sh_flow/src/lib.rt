@@ -8,3 +8,5 @@ pub mod names;
 pub mod policy;
 pub mod row;
 pub mod rule;
+#[cfg(test)]
+mod tests;

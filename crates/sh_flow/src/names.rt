@@ -36,7 +36,12 @@ impl Names {
     /// # Errors
     ///
     /// `TooMany` where there are more than `MAX_NAMES`; `Memory` where a growth was refused.
-    pub fn new(alloc: Global, tree: &Script, script: &[u8], policy: &Policy) -> Result<Names, Refusal>
+    pub fn new(
+        alloc: Global,
+        tree: &Script,
+        script: &[u8],
+        policy: &Policy,
+    ) -> Result<Names, Refusal>
         ensures { Numbers script.now tree.now policy.now result }
     {
         let mut names = Names {

@@ -31,6 +31,6 @@ returns c =
     let declared : c.add_declared.new.self ≡ fold with_text c.add_texts.new.self c.args.policy.now.names = c.in_ok-add_declared.ensures.names ∙ ap (fold with_text c.add_texts.new.self) c.names-2.ensures in
     let all = rw c.as_slice.ensures at c.in_ok-add_items.ensures.names in
     let few : length c.add_items.new.self ≤ 4096 =
-        subst (λ (names : List (List ℕ)). length names ≤ 4096) c.names-4.view_is
-        (subst (λ (n : ℕ). n ≤ 4096) (sym (length-map c.names-4.inside.set.keys (λ (v : Vec ℕ Global). v.items))) c.names-4.invariant) in
+    subst (λ (names : List (List ℕ)). length names ≤ 4096) c.names-4.view_is
+    (subst (λ (n : ℕ). n ≤ 4096) (sym (length-map c.names-4.inside.set.keys (λ (v : Vec ℕ Global). v.items))) c.names-4.invariant) in
     (numbered c.args.script.now c.args.tree.now c.args.policy.now none c.add_texts.new.self c.add_declared.new.self c.add_items.new.self is_none c.in_ok-add_texts.ensures.names declared all, few)

@@ -1,0 +1,152 @@
+-- Tests of claims.
+use Rattle.std.proofs.Common.{◌≡◌, ℕ, zero, suc, ◌+◌, ◌<◌, ◌≤◌, Bool, true, false, ◌&&◌, ◌||◌, not, nat_le, min, Option, Some, None, List, [], ◌∷◌, ◌++◌, length, get_or, take, drop, map, refl, sym, ◌∙◌, ap, subst, arith, eqb, eq-eqb, Vec, Global}
+use Rattle.std.specs.List.{list_all, list_any, filter_map, cons_option}
+use Rattle.std.specs.Str.{bytes_eq}
+use Rattle.std.proofs.lemmas.Grind.{common_steps}
+use Rattle.sh_tree.specs.declared.tree.Element.{Element}
+use Rattle.sh_tree.specs.declared.tree.Element.TheVariants as element
+use Rattle.sh_tree.specs.declared.tree.Word.{Word}
+use Rattle.sh_tree.specs.Tree.{text_of}
+use Rattle.sh_tree.specs.Words.{words_of, word_of, assignment_of, assignments_of}
+use Rattle.sh_flow.specs.Policy.{Text, Declared}
+use Rattle.sh_flow.specs.Names.{number_of, is_one_of}
+use Rattle.sh_flow.specs.Facts.{Facts, NotReached, Known, Claim, Unreached, Claimed, has_number, within, meet, enter, both, with_vars, facts}
+use Rattle.sh_flow.specs.Rules.{assigned_numbers, leaves, exit_rule}
+use Rattle.sh_flow.specs.declared.rule.FlowRule.TheVariants.{F4, F5}
+use Rattle.sh_flow.specs.Breaches.{is_word, number_is, assigns}
+
+and_true : (b : Bool) → (b && true) ≡ b
+and_true true = refl
+and_true false = refl
+
+or_true : (b : Bool) → (b || true) ≡ true
+or_true true = refl
+or_true false = refl
+
+or_swap : (a b : Bool) → (a || b) ≡ (b || a)
+or_swap true b = sym (or_true b)
+or_swap false true = refl
+or_swap false false = refl
+
+pub or_other : (a b : Bool) → b ≡ true → (a || b) ≡ true
+or_other a b e = ap (λ c. a || c) e ∙ or_true a
+
+-- Each number of a list is one of it
+
+all_among : (f : ℕ → Bool) (xs : List ℕ) → ((n : ℕ) → has_number n xs ≡ true → f n ≡ true) → list_all f xs ≡ true
+all_among f [] h = refl
+all_among f (x ∷ xs) h =
+    rw (h x (ap (λ b. b || has_number x xs) (eq-eqb x x refl)), all_among f xs (λ n e. h n (or_other (eqb n x) (has_number n xs) e))) refl
+
+pub all_in_own : (xs : List ℕ) → list_all (λ n. has_number n xs) xs ≡ true
+all_in_own xs = all_among (λ n. has_number n xs) xs (λ n e. e)
+
+pub all_in_more : (ns xs : List ℕ) → list_all (λ n. has_number n ns || has_number n xs) xs ≡ true
+all_in_more ns xs = all_among (λ n. has_number n ns || has_number n xs) xs (λ n e. or_other (has_number n ns) (has_number n xs) e)
+
+pub none_held : (xs : List ℕ) → length xs ≡ 0 → list_all (λ n. false) xs ≡ true
+none_held [] e = refl
+none_held (x ∷ xs) e = absurd (omega (arith, e))
+
+pub one_held : (xs : List ℕ) → 0 < length xs → list_all (λ n. false) xs ≡ false
+one_held [] e = absurd (omega (arith, e))
+one_held (x ∷ xs) e = refl
+
+-- What is within two is within what both claim
+
+and_false : (b : Bool) → (b && false) ≡ false
+and_false true = refl
+and_false false = refl
+
+and_pairs : (p q r s : Bool) → ((p && q) && (r && s)) ≡ ((p && r) && (q && s))
+and_pairs true true r s = refl
+and_pairs true false r s = sym (and_false r)
+and_pairs false q r s = refl
+
+all_both : (f g : ℕ → Bool) (xs : List ℕ) → list_all (λ x. f x && g x) xs ≡ (list_all f xs && list_all g xs)
+all_both f g [] = refl
+all_both f g (x ∷ xs) = rw (all_both f g xs) (and_pairs (f x) (g x) (list_all f xs) (list_all g xs))
+
+le_both : (n a b : ℕ) → nat_le n (min a b) ≡ (nat_le n a && nat_le n b)
+le_both n a b = grind (arith, common_steps)
+
+three : (p q r s t u : Bool) → (((p && q) && (r && s)) && (t && u)) ≡ (((p && r) && t) && ((q && s) && u))
+three p q r s t u = ap (λ v. v && (t && u)) (and_pairs p q r s) ∙ and_pairs (p && r) (q && s) t u
+
+pub within_meet : (c : Claim) (f g : Facts) → within c (meet f g) ≡ (within c f && within c g)
+unfolding within meet
+within_meet c NotReached g = refl
+within_meet c (Known v f a) NotReached = sym (and_true _)
+within_meet Unreached (Known v f a) (Known w g n) = refl
+within_meet (Claimed vs fs m) (Known v f a) (Known w g n) =
+    rw (all_both v w vs, all_both f g fs, le_both m a n)
+    (three (list_all v vs) (list_all w vs) (list_all f fs) (list_all g fs) (nat_le m a) (nat_le m n))
+
+and_same : (b : Bool) → (b && b) ≡ b
+and_same true = refl
+and_same false = refl
+
+-- where the facts are the same after both, they are those
+pub within_enter_both : (c : Claim) (f : Facts) → within c (enter (both f)) ≡ within c f
+within_enter_both c f = within_meet c f f ∙ and_same (within c f)
+
+-- Elements
+
+pub has_no_word : (es : List Element) → list_any is_word es ≡ false → words_of es ≡ []
+unfolding is_word word_of
+has_no_word [] h = refl
+has_no_word (element.Assignment s w ∷ es) h = has_no_word es h
+has_no_word (element.Word w ∷ es) h = cc
+
+some_word : (es : List Element) → list_any is_word es ≡ true → (w : Word) × (ws : List Word) × (words_of es ≡ w ∷ ws)
+unfolding is_word word_of
+some_word [] h = cc
+some_word (element.Assignment s w ∷ es) h = some_word es h
+some_word (element.Word w ∷ es) h = (w, words_of es, refl)
+
+pub leaves-word : (b : List ℕ) (names : List Text) (es : List Element) (f : Facts) → list_any is_word es ≡ true → leaves b names (words_of es) es f ≡ f
+unfolding leaves
+leaves-word b names es f h = let w = some_word es h in rw (w.2) refl
+
+pub exit_rule-word : (b : List ℕ) (names : List Text) (es : List Element) → list_any is_word es ≡ true → exit_rule b names (words_of es) ≡ F4
+unfolding exit_rule
+exit_rule-word b names es h = let w = some_word es h in rw (w.2) refl
+
+pub leaves-assignments : (b : List ℕ) (names : List Text) (es : List Element) (f : Facts) → list_any is_word es ≡ false → leaves b names (words_of es) es f ≡ with_vars (assigned_numbers b names es) f
+unfolding leaves
+leaves-assignments b names es f h = rw (has_no_word es h) refl
+
+pub exit_rule-assignments : (b : List ℕ) (names : List Text) (es : List Element) → list_any is_word es ≡ false → exit_rule b names (words_of es) ≡ F5
+unfolding exit_rule
+exit_rule-assignments b names es h = rw (has_no_word es h) refl
+
+-- a number is an assigned one where an element assigns its name
+pub is_assigned : (b : List ℕ) (names : List Text) (n : ℕ) (es : List Element) → has_number n (assigned_numbers b names es) ≡ list_any (assigns b names n) es
+unfolding assigns assignment_of number_is
+is_assigned b names n [] = refl
+is_assigned b names n (element.Word w ∷ es) = is_assigned b names n es
+is_assigned b names n (element.Assignment s w ∷ es) = go (number_of names (text_of b s)) (is_assigned b names n es)
+  where
+    go : (o : Option ℕ) → has_number n (assigned_numbers b names es) ≡ list_any (assigns b names n) es
+        → has_number n (cons_option o (assigned_numbers b names es)) ≡ (number_is n o || list_any (assigns b names n) es)
+    go None h = h
+    go (Some m) h = ap (λ c. eqb n m || c) h
+
+pub gained : (b : List ℕ) (names : List Text) (n : ℕ) (es : List Element) (known assigned : Bool) → assigned ≡ list_any (assigns b names n) es
+    → (known || assigned) ≡ (has_number n (assigned_numbers b names es) || known)
+gained b names n es known assigned e = or_swap known assigned ∙ ap (λ c. c || known) (e ∙ sym (is_assigned b names n es))
+
+-- what stands behind a command with a name, and behind one without
+pub ruleset behind = (leaves-word, exit_rule-word, leaves-assignments, exit_rule-assignments)
+
+-- the declared names, behind their vectors
+pub is_declared_of : (t : Text) (vs : List (Vec ℕ Global)) (names : List Text) → map (λ v. v.items) vs ≡ names → list_any (λ v. bytes_eq v.items t) vs ≡ is_one_of names t
+is_declared_of t vs names e = list_any_mapped vs ∙ ap (λ ns. is_one_of ns t) e
+  where
+    list_any_mapped : (vs : List (Vec ℕ Global)) → list_any (λ v. bytes_eq v.items t) vs ≡ is_one_of (map (λ v. v.items) vs) t
+    list_any_mapped [] = refl
+    list_any_mapped (v ∷ vs) = ap (λ c. bytes_eq v.items t || c) (list_any_mapped vs)
+
+pub gained_else : (b : List ℕ) (names : List Text) (n : ℕ) (es : List Element) (known assigned : Bool) → assigned ≡ list_any (assigns b names n) es → known ≡ false
+    → assigned ≡ (has_number n (assigned_numbers b names es) || known)
+gained_else b names n es known assigned e k = subst (λ v. (v || assigned) ≡ (has_number n (assigned_numbers b names es) || known)) k (gained b names n es known assigned e)

@@ -1,0 +1,95 @@
+-- Places of unmet demands, a piece at a time.
+use Rattle.std.proofs.Common.{◌≡◌, ℕ, zero, suc, ◌+◌, ◌<◌, ◌≤◌, Bool, true, false, Option, Some, None, Result, Ok, Err, OnErr, List, [], ◌∷◌, ◌++◌, length, get_or, take, drop, map, refl, sym, ◌∙◌, ap, subst, arith, append_assoc, length-append}
+use Rattle.std.specs.List.{flat_map, filter_map, cons_option}
+use Rattle.std.proofs.lemmas.List.{take-append-drop, take_more, append-nil}
+use Rattle.std.proofs.lemmas.List.Concat.{flat_map-append}
+use Rattle.std.proofs.lemmas.List.Folds.{length-flat_map-take}
+use Rattle.sh_tree.specs.declared.place.Place.{Place}
+use Rattle.sh_tree.specs.declared.tree.Span.{Span}
+use Rattle.sh_tree.specs.declared.tree.Item.{Item}
+use Rattle.sh_tree.specs.declared.tree.Command.{Command}
+use Rattle.sh_tree.specs.declared.tree.Element.TheVariants as element
+use Rattle.sh_tree.specs.declared.tree.Word.{Word}
+use Rattle.sh_tree.specs.declared.tree.Param.{Param}
+use Rattle.sh_tree.specs.declared.tree.Part.{Part, Plain, Double, Double'}
+use Rattle.sh_tree.specs.declared.tree.Part.TheVariants as part
+use Rattle.sh_tree.specs.Words.{lone_command, expansions, expansions_in, expansions_in-Double, subject_text}
+use Rattle.sh_flow.specs.Policy.{Text}
+use Rattle.sh_flow.specs.Facts.{Facts}
+use Rattle.sh_flow.specs.Demands.{wanted, covers, uncovered, element_unmet}
+use Rattle.sh_flow.specs.Walks.{of_option, on_lone, part_unmet}
+
+-- the places of parts are those of each part
+part_unmet-all : (b : List ℕ) (names : List Text) (f : Facts) (ps : List Part) → uncovered b names f (expansions true ps) ≡ flat_map (part_unmet b names f) ps
+unfolding expansions
+part_unmet-all b names f [] = refl
+part_unmet-all b names f (p ∷ ps) = flat_map-append _ (expansions_in true p) (expansions true ps) ∙ ap (λ ts. part_unmet b names f p ++ ts) (part_unmet-all b names f ps)
+
+unquoted : (b : List ℕ) (names : List Text) (f : Facts) (p : Part) → uncovered b names f (expansions_in false p) ≡ part_unmet b names f p
+unfolding expansions_in
+unquoted b names f (Plain s) = refl
+unquoted b names f (Double' s shape row) = refl
+unquoted b names f (part.Param p) = refl
+
+unquoted-all : (b : List ℕ) (names : List Text) (f : Facts) (ps : List Part) → uncovered b names f (expansions false ps) ≡ flat_map (part_unmet b names f) ps
+unfolding expansions
+unquoted-all b names f [] = refl
+unquoted-all b names f (p ∷ ps) =
+    flat_map-append _ (expansions_in false p) (expansions false ps) ∙ ap (λ ts. uncovered b names f (expansions_in false p) ++ ts) (unquoted-all b names f ps)
+    ∙ ap (λ ts. ts ++ flat_map (part_unmet b names f) ps) (unquoted b names f p)
+
+pub part_unmet-Plain : (b : List ℕ) (names : List Text) (f : Facts) (s : Span) → part_unmet b names f (Plain s) ≡ []
+unfolding expansions_in
+part_unmet-Plain b names f s = refl
+
+pub part_unmet-Double : (b : List ℕ) (names : List Text) (f : Facts) (s : Span) (ps : List Part) → part_unmet b names f (Double s ps) ≡ flat_map (part_unmet b names f) ps
+part_unmet-Double b names f s ps = ap (uncovered b names f) (expansions_in-Double true s ps) ∙ part_unmet-all b names f ps
+
+pub part_unmet-Param : (b : List ℕ) (names : List Text) (f : Facts) (p : Param) → part_unmet b names f (part.Param p) ≡ wanted (covers names f (subject_text b p.subject)) p.span.start (subject_text b p.subject)
+unfolding expansions_in
+part_unmet-Param b names f p = append-nil _
+
+pub element_unmet-Assignment : (b : List ℕ) (names : List Text) (f : Facts) (s : Span) (w : Word) → element_unmet b names f (element.Assignment s w) ≡ flat_map (part_unmet b names f) w.parts
+unfolding element_unmet
+element_unmet-Assignment b names f s w = unquoted-all b names f w.parts
+
+pub element_unmet-Word : (b : List ℕ) (names : List Text) (f : Facts) (w : Word) → element_unmet b names f (element.Word w) ≡ flat_map (part_unmet b names f) w.parts
+unfolding element_unmet
+element_unmet-Word b names f w = unquoted-all b names f w.parts
+
+pub ruleset unmet_in_part = (part_unmet-Plain, part_unmet-Double, part_unmet-Param)
+
+pub ruleset unmet_in_element = (element_unmet-Assignment, element_unmet-Word)
+
+-- one more piece
+pub places_more : {X : Type 0} (f : X → List Place) (first : List Place) (xs : List X) (i : ℕ) (x : X) (old new : List Place) → i < length xs → x ≡ get_or xs i x
+    → old ≡ first ++ flat_map f (take i xs) → new ≡ old ++ f x → new ≡ first ++ flat_map f (take (i + 1) xs)
+places_more f first xs i x old new lt at known step =
+    let one : flat_map f (take (i + 1) xs) ≡ flat_map f (take i xs) ++ f x =
+    rw (take_more xs i x lt, flat_map-append f (take i xs) (get_or xs i x ∷ []), ← at) (ap (λ ps. flat_map f (take i xs) ++ ps) (append-nil (f x))) in
+    step ∙ ap (λ ps. ps ++ f x) known ∙ append_assoc first (flat_map f (take i xs)) (f x) ∙ ap (λ ps. first ++ ps) (sym one)
+
+-- a place in a piece is one of all
+pub some_in_all : {X : Type 0} (f : X → List Place) (xs : List X) (i : ℕ) (x : X) → i < length xs → x ≡ get_or xs i x → 0 < length (f x) → 0 < length (flat_map f xs)
+some_in_all f xs i x lt at h =
+    let less = length-flat_map-take f xs i x lt in
+    let here : 0 < length (f (get_or xs i x)) = subst (λ y. 0 < length (f y)) at h in
+    omega (arith, less, here)
+
+-- the places of a script are those of its items
+pub items_lone : {A : Type 0} (f : Command → List A) (is : List Item) → flat_map f (filter_map lone_command is) ≡ flat_map (on_lone f) is
+unfolding of_option
+items_lone f [] = refl
+items_lone {A} f (i ∷ is) = go (lone_command i) (items_lone f is)
+  where
+    go : (o : Option Command) → flat_map f (filter_map lone_command is) ≡ flat_map (on_lone f) is → flat_map f (cons_option o (filter_map lone_command is)) ≡ of_option f o ++ flat_map (on_lone f) is
+    go None h = h
+    go (Some c) h = ap (λ ts. f c ++ ts) h
+
+pub whatever : {X Y P : Type 0} (r : Result X Y) → P → OnErr r P
+whatever (Ok x) p = tt
+whatever (Err e) p = p
+
+pub no_places : (found all : List Place) → length found ≡ 0 → found ≡ all → all ≡ []
+no_places [] all e s = sym s
+no_places (p ∷ found) all e s = absurd (omega (arith, e))

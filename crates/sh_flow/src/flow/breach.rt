@@ -1,0 +1,57 @@
+//! The least breach of a flow rule.
+ghost use Rattle.std.specs.Prelude.{◌≡◌};
+ghost use Rattle.sh_flow.specs.Rules.{rank, told, precedes, least_from};
+ghost use Rattle.sh_flow.specs.Breaches.{fault_of, fault_found};
+
+use crate::rule::FlowRule;
+
+/// A command, by its number, and a rule that it breaks.
+#[derive(Clone, Copy, Debug, PartialEq, Eq)]
+pub struct Breach {
+    pub number: u32,
+    pub rule: FlowRule,
+}
+
+// The place of a rule in their order.
+#[tactic(auto, unfolding(crate::specs::Rules::rank))]
+fn rank_of(rule: FlowRule) -> u8
+    ensures { result ≡ rank rule }
+{
+    match rule {
+        FlowRule::F1 => 1,
+        FlowRule::F2 => 2,
+        FlowRule::F4 => 4,
+        FlowRule::F5 => 5,
+    }
+}
+
+// Whether the first is of a lower command, or of the same and of a lower rule.
+#[tactic(auto, unfolding(crate::specs::Rules::precedes, crate::specs::Breaches::fault_of))]
+fn is_before(first: Breach, second: Breach) -> bool
+    ensures { result ≡ precedes (fault_of first) (fault_of second) }
+{
+    let own = rank_of(first.rule);
+    let other = rank_of(second.rule);
+    first.number < second.number || first.number == second.number && own < other
+}
+
+/// The least of what is found so far and of a breach here, where the rule does not hold.
+#[tactic(auto, unfolding(crate::specs::Rules::told, crate::specs::Rules::least_from, crate::specs::Rules::lesser, crate::specs::Breaches::fault_of, crate::specs::Breaches::fault_found))]
+pub fn noted(found: Option<Breach>, holds: bool, number: u32, rule: FlowRule) -> Option<Breach>
+    ensures { fault_found result ≡ least_from (fault_found found) (told holds number rule) }
+{
+    if holds {
+        return found;
+    }
+    let breach = Breach { number, rule };
+    match found {
+        None => Some(breach),
+        Some(known) => {
+            if is_before(breach, known) {
+                Some(breach)
+            } else {
+                Some(known)
+            }
+        }
+    }
+}

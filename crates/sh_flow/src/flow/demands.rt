@@ -1,0 +1,158 @@
+//! The unmet demands of a script.
+ghost use Rattle.std.specs.Prelude.{◌≡◌, ◌<◌, ◌++◌, length, flat_map, IfOk, OnOk, OnErr};
+ghost use Rattle.sh_tree.specs.Words.{lone_commands};
+ghost use Rattle.sh_flow.specs.Facts.{facts};
+ghost use Rattle.sh_flow.specs.Certificates.{claim_of, claims_of};
+ghost use Rattle.sh_flow.specs.Demands.{wanted, covers, element_unmet, command_unmet};
+ghost use Rattle.sh_flow.specs.Walks.{on_lone, part_unmet};
+
+use crate::certificate::Facts;
+use crate::flow::claims::{entry_at, has_in_row};
+use crate::flow::rules::Checker;
+use sh_tree::Items;
+use sh_tree::place::{Code, Place};
+use sh_tree::tree::{Command, Element, Item, Kind, Part};
+use std::alloc::{AllocError, Global};
+
+// Notes a place, where the parameter is not surely set there.
+#[tactic(auto, unfolding(crate::specs::Demands::wanted))]
+fn want(covered: bool, at: u32, name: &[u8], places: &mut Vec<Place>) -> Result<(), AllocError>
+    ensures noted { OnOk result (places.new.items ≡ places.old.items ++ wanted covered at name.now) }
+    ensures some { OnErr result (0 < length (wanted covered at name.now)) }
+{
+    if !covered {
+        let subject = Items::from_slice(*places.allocator(), name)?;
+        places.push(Place {
+            at,
+            code: Code::U1,
+            subject,
+        })?;
+    }
+    Ok(())
+}
+
+impl Checker<'_> {
+    // Whether the parameter is surely set where this is known.
+    #[tactic(auto, unfolding(crate::specs::Demands::covers, crate::specs::Demands::knows, crate::specs::Facts::facts, crate::specs::Certificates::claim_of))]
+    fn is_covered(&self, known: Facts, name: &[u8]) -> bool
+        ensures { result ≡ covers self.now.names.now (facts (claim_of self.now.certificate.now.rows known)) name.now }
+    {
+        match known {
+            Facts::NotReached => true,
+            Facts::Known { vars, .. } => match self.names.number(name) {
+                None => false,
+                Some(number) => has_in_row(self.certificate, vars, number),
+            },
+        }
+    }
+
+    #[cycle(parts)]
+    fn want_parts(
+        &self,
+        known: Facts,
+        parts: &[Part],
+        places: &mut Vec<Place>,
+    ) -> Result<(), AllocError>
+        ensures noted { OnOk result (places.new.items ≡ places.old.items ++ flat_map (part_unmet self.now.script.now self.now.names.now (facts (claim_of self.now.certificate.now.rows known))) parts.now) }
+        ensures some { OnErr result (0 < length (flat_map (part_unmet self.now.script.now self.now.names.now (facts (claim_of self.now.certificate.now.rows known))) parts.now)) }
+    {
+        for part in parts {
+            self.want_part(known, part, &mut *places)?;
+        }
+        Ok(())
+    }
+
+    #[cycle(parts)]
+    #[tactic(auto, using(crate::proofs::DemandLemmas::unmet_in_part))]
+    fn want_part(
+        &self,
+        known: Facts,
+        part: &Part,
+        places: &mut Vec<Place>,
+    ) -> Result<(), AllocError>
+        ensures noted { OnOk result (places.new.items ≡ places.old.items ++ part_unmet self.now.script.now self.now.names.now (facts (claim_of self.now.certificate.now.rows known)) part.now) }
+        ensures some { OnErr result (0 < length (part_unmet self.now.script.now self.now.names.now (facts (claim_of self.now.certificate.now.rows known)) part.now)) }
+    {
+        match part {
+            Part::Plain(_) => Ok(()),
+            Part::Double(_, parts) => self.want_parts(known, parts.as_slice(), &mut *places),
+            Part::Param(param) => {
+                let name = param.subject.text(self.script);
+                let covered = self.is_covered(known, name);
+                want(covered, param.span.start, name, &mut *places)
+            }
+        }
+    }
+
+    #[tactic(auto, using(crate::proofs::DemandLemmas::unmet_in_element))]
+    fn want_element(
+        &self,
+        known: Facts,
+        element: &Element,
+        places: &mut Vec<Place>,
+    ) -> Result<(), AllocError>
+        ensures noted { OnOk result (places.new.items ≡ places.old.items ++ element_unmet self.now.script.now self.now.names.now (facts (claim_of self.now.certificate.now.rows known)) element.now) }
+        ensures some { OnErr result (0 < length (element_unmet self.now.script.now self.now.names.now (facts (claim_of self.now.certificate.now.rows known)) element.now)) }
+    {
+        match element {
+            Element::Assignment { value, .. } => self.want_parts(
+                known,
+                value.parts.as_slice(),
+                &mut *places,
+            ),
+            Element::Word(word) => self.want_parts(known, word.parts.as_slice(), &mut *places),
+        }
+    }
+
+    fn want_elements(
+        &self,
+        known: Facts,
+        elements: &[Element],
+        places: &mut Vec<Place>,
+    ) -> Result<(), AllocError>
+        ensures noted { OnOk result (places.new.items ≡ places.old.items ++ flat_map (element_unmet self.now.script.now self.now.names.now (facts (claim_of self.now.certificate.now.rows known))) elements.now) }
+        ensures some { OnErr result (0 < length (flat_map (element_unmet self.now.script.now self.now.names.now (facts (claim_of self.now.certificate.now.rows known))) elements.now)) }
+    {
+        for element in elements {
+            self.want_element(known, element, &mut *places)?;
+        }
+        Ok(())
+    }
+
+    fn want_command(&self, command: &Command, places: &mut Vec<Place>) -> Result<(), AllocError>
+        ensures noted { OnOk result (places.new.items ≡ places.old.items ++ command_unmet self.now.script.now self.now.names.now (claims_of self.now.certificate.now) command.now) }
+        ensures some { OnErr result (0 < length (command_unmet self.now.script.now self.now.names.now (claims_of self.now.certificate.now) command.now)) }
+    {
+        let known = entry_at(self.certificate, command.number).before;
+        match &command.kind {
+            Kind::Simple(elements) => self.want_elements(known, elements.as_slice(), &mut *places),
+        }
+    }
+
+    #[tactic(auto, unfolding(crate::specs::Walks::of_option))]
+    fn want_item(&self, item: &Item, places: &mut Vec<Place>) -> Result<(), AllocError>
+        ensures noted { OnOk result (places.new.items ≡ places.old.items ++ on_lone (command_unmet self.now.script.now self.now.names.now (claims_of self.now.certificate.now)) item.now) }
+        ensures some { OnErr result (0 < length (on_lone (command_unmet self.now.script.now self.now.names.now (claims_of self.now.certificate.now)) item.now)) }
+    {
+        match item.lone_command() {
+            None => Ok(()),
+            Some(command) => self.want_command(command, &mut *places),
+        }
+    }
+
+    /// The places of the unmet demands, in the order of the text.
+    ///
+    /// # Errors
+    ///
+    /// Where there is one and no memory for it.
+    pub fn unmet_places(&self, alloc: Global, items: &[Item]) -> Result<Vec<Place>, AllocError>
+        ensures noted { IfOk result (λ places. places.items ≡ flat_map (on_lone (command_unmet self.now.script.now self.now.names.now (claims_of self.now.certificate.now))) items.now) }
+        ensures some { OnErr result (0 < length (flat_map (on_lone (command_unmet self.now.script.now self.now.names.now (claims_of self.now.certificate.now))) items.now)) }
+    {
+        let mut places = Vec::new(alloc);
+        for item in items {
+            self.want_item(item, &mut places)?;
+        }
+        Ok(places)
+    }
+}

@@ -1,0 +1,285 @@
+//! The flow rules of a script.
+ghost use Rattle.std.specs.Prelude.{◌≡◌, ◌||◌, map, None};
+ghost use Rattle.std.specs.List.{list_any, list_all};
+ghost use Rattle.std.specs.Str.{bytes_eq};
+ghost use Rattle.sh_tree.specs.Words.{lone_command, words_of};
+ghost use Rattle.sh_flow.specs.Facts.{has_number, facts, within, within_out, enter, both, with_vars};
+ghost use Rattle.sh_flow.specs.Names.{start_names, is_one_of};
+ghost use Rattle.sh_flow.specs.Certificates.{row_at, claim_of, claims_of};
+ghost use Rattle.sh_flow.specs.Rules.{is_set_at_start, start_facts, assigned_numbers, leaves, exit_rule, faults, item_faults, rule_behind, out_behind, list_faults, told, least_from};
+ghost use Rattle.sh_flow.specs.Breaches.{fault_found, is_word, assigns, rule_of, out_of};
+ghost use Rattle.sh_flow.specs.declared.rule.FlowRule.TheVariants.{F1};
+
+use crate::certificate::{Certificate, Facts, RowId};
+use crate::flow::breach::{Breach, noted};
+use crate::flow::claims::{entry_at, has_in_row, is_row_within, is_within, numbers_of};
+use crate::names::Names;
+use crate::policy::Policy;
+use crate::rule::FlowRule;
+use sh_tree::tree::{Command, Element, Item, Kind};
+
+/// What a check goes by.
+#[derive(Clone, Copy)]
+pub struct Checker<'a> {
+    pub script: &'a [u8],
+    pub names: &'a Names,
+    pub policy: &'a Policy,
+    pub certificate: &'a Certificate,
+}
+
+/// What stands before an item of the list.
+#[derive(Clone, Copy, Debug, PartialEq, Eq)]
+pub enum Predecessor {
+    /// Nothing: the script starts.
+    Start,
+    /// The command of this number.
+    Command(u32),
+}
+
+impl Predecessor {
+    /// The rule that enters the item.
+    #[tactic(auto, unfolding(crate::specs::Breaches::rule_of))]
+    fn rule(self) -> FlowRule
+        ensures { result ≡ rule_of self }
+    {
+        match self {
+            Predecessor::Start => FlowRule::F1,
+            Predecessor::Command(_) => FlowRule::F2,
+        }
+    }
+}
+
+/// How far the rules are checked.
+#[derive(Clone, Copy)]
+pub struct Progress {
+    pub found: Option<Breach>,
+    pub predecessor: Predecessor,
+}
+
+fn is_start_name(name: &[u8]) -> bool
+    ensures { result ≡ is_one_of start_names name.now }
+{
+    matches!(name, b"IFS" | b"OPTIND" | b"PPID")
+}
+
+fn is_declared(declared: &[Vec<u8>], name: &[u8]) -> bool
+    ensures { result ≡ list_any (λ v. bytes_eq v.items name.now) declared.now }
+{
+    declared.iter().any(|own| own.as_slice() == name)
+}
+
+#[tactic(auto, unfolding(crate::specs::Breaches::is_word))]
+fn has_word(elements: &[Element]) -> bool
+    ensures { result ≡ list_any is_word elements.now }
+{
+    elements
+        .iter()
+        .any(|element| matches!(element, Element::Word(_)))
+}
+
+impl Checker<'_> {
+    // Whether the name of the number is set at the start.
+    #[tactic(auto, using(crate::proofs::ClaimLemmas::is_declared_of), unfolding(crate::specs::Rules::is_set_at_start))]
+    fn is_set_at_start(&self, number: u32) -> bool
+        ensures { result ≡ is_set_at_start self.now.names.now self.now.policy.now number }
+    {
+        if number >= self.names.count() {
+            return false;
+        }
+        let name = self.names.name(number);
+        let always = is_start_name(name);
+        let declared = is_declared(self.policy.names(), name);
+        always || declared
+    }
+
+    fn are_set_at_start(&self, numbers: &[u32]) -> bool
+        ensures { result ≡ list_all (is_set_at_start self.now.names.now self.now.policy.now) numbers.now }
+    {
+        numbers.iter().all(|number| self.is_set_at_start(*number))
+    }
+
+    // Whether no more is claimed than what is known at the start.
+    #[tactic(auto, using(crate::proofs::ClaimLemmas::none_held, crate::proofs::ClaimLemmas::one_held), unfolding(crate::specs::Rules::start_facts, crate::specs::Facts::within, crate::specs::Certificates::claim_of))]
+    fn is_within_start(&self, claimed: Facts) -> bool
+        ensures { result ≡ within (claim_of self.now.certificate.now.rows claimed) (start_facts self.now.names.now self.now.policy.now) }
+    {
+        match claimed {
+            Facts::NotReached => false,
+            Facts::Known {
+                vars,
+                functions,
+                args,
+            } => {
+                let set = self.are_set_at_start(numbers_of(self.certificate, vars));
+                let defined = numbers_of(self.certificate, functions).is_empty();
+                set && defined && args <= self.policy.args()
+            }
+        }
+    }
+
+    // Whether no more is claimed than what is known behind the predecessor, whatever its status was.
+    #[tactic(auto, using(crate::proofs::ClaimLemmas::within_meet, crate::proofs::ClaimLemmas::within_enter_both), unfolding(crate::specs::Breaches::out_of))]
+    fn is_entered(&self, claimed: Facts, predecessor: Predecessor) -> bool
+        ensures { result ≡ within (claim_of self.now.certificate.now.rows claimed) (enter (out_of self.now.names.now self.now.policy.now (claims_of self.now.certificate.now) predecessor)) }
+    {
+        match predecessor {
+            Predecessor::Start => self.is_within_start(claimed),
+            Predecessor::Command(number) => {
+                let entry = entry_at(self.certificate, number);
+                let zero = is_within(self.certificate, claimed, entry.zero);
+                let nonzero = is_within(self.certificate, claimed, entry.nonzero);
+                zero && nonzero
+            }
+        }
+    }
+
+    // Whether the element assigns the name of the number.
+    #[tactic(auto, unfolding(crate::specs::Breaches::assigns, crate::specs::Breaches::number_is))]
+    fn assigns(&self, element: &Element, number: u32) -> bool
+        ensures { result ≡ assigns self.now.script.now self.now.names.now number element.now }
+    {
+        match element {
+            Element::Assignment { name, .. } => match self.names.number(name.text(self.script)) {
+                None => false,
+                Some(assigned) => number == assigned,
+            },
+            Element::Word(_) => false,
+        }
+    }
+
+    fn is_assigned(&self, elements: &[Element], number: u32) -> bool
+        ensures { result ≡ list_any (assigns self.now.script.now self.now.names.now number) elements.now }
+    {
+        elements.iter().any(|element| self.assigns(element, number))
+    }
+
+    // Whether the number is in the row, or the elements assign its name.
+    #[tactic(auto, using(crate::proofs::ClaimLemmas::gained))]
+    fn is_gained(&self, elements: &[Element], row: RowId, number: u32) -> bool
+        ensures { result ≡ (has_number number (assigned_numbers self.now.script.now self.now.names.now elements.now) || has_number number (row_at self.now.certificate.now.rows row)) }
+    {
+        let known = has_in_row(self.certificate, row, number);
+        known || self.is_assigned(elements, number)
+    }
+
+    // Whether each number of the first row is in the second, or the elements assign its name.
+    #[tactic(auto, using(crate::proofs::ClaimLemmas::all_in_more))]
+    fn is_row_gained(&self, elements: &[Element], first: RowId, second: RowId) -> bool
+        ensures { let assigned = assigned_numbers self.now.script.now self.now.names.now elements.now in
+            let rows = self.now.certificate.now.rows in
+            result ≡ list_all (λ n. has_number n assigned || has_number n (row_at rows second)) (row_at rows first) }
+    {
+        if first == second {
+            return true;
+        }
+        let numbers = numbers_of(self.certificate, first);
+        numbers
+            .iter()
+            .all(|number| self.is_gained(elements, second, *number))
+    }
+
+    // Whether the first facts claim no more than the second and the names that the elements assign.
+    #[tactic(auto, unfolding(crate::specs::Facts::within, crate::specs::Facts::facts, crate::specs::Facts::with_vars, crate::specs::Certificates::claim_of))]
+    fn is_within_gained(&self, elements: &[Element], claimed: Facts, known: Facts) -> bool
+        ensures { let assigned = assigned_numbers self.now.script.now self.now.names.now elements.now in
+            let rows = self.now.certificate.now.rows in
+            result ≡ within (claim_of rows claimed) (with_vars assigned (facts (claim_of rows known))) }
+    {
+        match known {
+            Facts::NotReached => true,
+            Facts::Known {
+                vars,
+                functions,
+                args,
+            } => match claimed {
+                Facts::NotReached => false,
+                Facts::Known {
+                    vars: own_vars,
+                    functions: own_functions,
+                    args: own_args,
+                } => {
+                    let has_vars = self.is_row_gained(elements, own_vars, vars);
+                    let has_functions = is_row_within(self.certificate, own_functions, functions);
+                    has_vars && has_functions && own_args <= args
+                }
+            },
+        }
+    }
+
+    // The least of what is found and of a breach behind the command.
+    #[tactic(auto, using(crate::proofs::ClaimLemmas::behind))]
+    fn noted_behind(
+        &self,
+        elements: &[Element],
+        number: u32,
+        found: Option<Breach>,
+    ) -> Option<Breach>
+        ensures { let claims = claims_of self.now.certificate.now in
+            let known = leaves self.now.script.now self.now.names.now (words_of elements.now) elements.now (facts (claims.before number)) in
+            let holds = within_out (claims.zero_at number) (claims.nonzero_at number) (both known) in
+            fault_found result ≡ least_from (fault_found found) (told holds number (exit_rule self.now.script.now self.now.names.now (words_of elements.now))) }
+    {
+        let entry = entry_at(self.certificate, number);
+        if has_word(elements) {
+            let zero = is_within(self.certificate, entry.zero, entry.before);
+            let nonzero = is_within(self.certificate, entry.nonzero, entry.before);
+            noted(found, zero && nonzero, number, FlowRule::F4)
+        } else {
+            let zero = self.is_within_gained(elements, entry.zero, entry.before);
+            let nonzero = self.is_within_gained(elements, entry.nonzero, entry.before);
+            noted(found, zero && nonzero, number, FlowRule::F5)
+        }
+    }
+
+    // The least of what is found and of the breaches of the command.
+    #[tactic(auto, using(crate::proofs::BreachLemmas::least_over), unfolding(crate::specs::Rules::faults))]
+    fn noted_at(&self, command: &Command, progress: Progress) -> Option<Breach>
+        ensures { let claims = claims_of self.now.certificate.now in
+            let known = enter (out_of self.now.names.now self.now.policy.now claims progress.predecessor) in
+            fault_found result ≡ least_from (fault_found progress.found) (faults self.now.script.now self.now.names.now claims command.now (rule_of progress.predecessor) known) }
+    {
+        let number = command.number;
+        let entry = entry_at(self.certificate, number);
+        let entered = self.is_entered(entry.before, progress.predecessor);
+        let found = noted(progress.found, entered, number, progress.predecessor.rule());
+        match &command.kind {
+            Kind::Simple(elements) => self.noted_behind(elements.as_slice(), number, found),
+        }
+    }
+
+    // One item further.
+    #[tactic(auto, unfolding(crate::specs::Rules::item_faults, crate::specs::Rules::rule_behind, crate::specs::Rules::out_behind, crate::specs::Rules::least_from, crate::specs::Breaches::rule_of, crate::specs::Breaches::out_of))]
+    fn step(&self, item: &Item, progress: Progress) -> Progress
+        ensures found { let claims = claims_of self.now.certificate.now in
+            let known = enter (out_of self.now.names.now self.now.policy.now claims progress.predecessor) in
+            fault_found result.found ≡ least_from (fault_found progress.found) (item_faults self.now.script.now self.now.names.now claims (lone_command item.now) (rule_of progress.predecessor) known) }
+        ensures rule { rule_of result.predecessor ≡ rule_behind self.now.script.now self.now.names.now (lone_command item.now) (rule_of progress.predecessor) }
+        ensures out { let claims = claims_of self.now.certificate.now in
+            out_of self.now.names.now self.now.policy.now claims result.predecessor ≡ out_behind self.now.script.now self.now.names.now claims (lone_command item.now) (out_of self.now.names.now self.now.policy.now claims progress.predecessor) }
+    {
+        match item.lone_command() {
+            None => progress,
+            Some(command) => Progress {
+                found: self.noted_at(command, progress),
+                predecessor: Predecessor::Command(command.number),
+            },
+        }
+    }
+
+    /// The least command that breaks a rule, with its least rule.
+    #[tactic(auto, using(crate::proofs::BreachLemmas::list_step, crate::proofs::BreachLemmas::list_stop), unfolding(crate::specs::Breaches::fault_found, crate::specs::Breaches::rule_of, crate::specs::Breaches::out_of))]
+    pub fn least_breach(&self, items: &[Item]) -> Option<Breach>
+        ensures { let claims = claims_of self.now.certificate.now in
+            let start = both (start_facts self.now.names.now self.now.policy.now) in
+            fault_found result ≡ least_from None (list_faults self.now.script.now self.now.names.now claims items.now F1 start) }
+    {
+        let mut progress = Progress {
+            found: None,
+            predecessor: Predecessor::Start,
+        };
+        for item in items {
+            progress = self.step(item, progress);
+        }
+        progress.found
+    }
+}
