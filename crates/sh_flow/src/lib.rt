@@ -9,3 +9,5 @@ pub mod names;
 pub mod policy;
 pub mod row;
 pub mod rule;
+#[cfg(test)]
+mod tests;

@@ -7,3 +7,7 @@ pub mod LineWholeLemmas
 pub mod AdmitLemmas
 pub mod QuoteLemmas
 pub mod LintLemmas
+pub mod RowLemmas
+pub mod FinderLemmas
+pub mod NumberingLemmas
+pub mod CertificateLemmas

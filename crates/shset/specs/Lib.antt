@@ -9,3 +9,4 @@ pub mod Lint
 pub mod Runs
 pub mod App
 pub mod Line
+pub mod Certifies
