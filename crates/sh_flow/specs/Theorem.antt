@@ -1,7 +1,7 @@
 -- What the rules and the demands are good for.
 -- POSIX.1-2024, XCU 2.5.3, 2.6.2, 2.6.5: no run expands a parameter that is not set, and none splits an expansion's value.
-use Rattle.std.specs.Prelude.{◌≡◌, ℕ, Bool, true, false, not, List, [], Option, Some, is_some}
-use Rattle.std.specs.List.{list_all, flat_map}
+use Rattle.std.specs.Prelude.{◌≡◌, ℕ, Bool, true, false, List, [], Some, is_some}
+use Rattle.std.specs.List.{list_all}
 use Rattle.sh_tree.specs.declared.tree.Script.{Script}
 use Rattle.sh_tree.specs.declared.tree.Command.{Command}
 use Rattle.sh_tree.specs.declared.tree.Word.{Word}
