@@ -1,5 +1,5 @@
 -- Texts behind references.
-use Rattle.std.proofs.Common.{◌≡◌, ℕ, ◌+◌, Bool, true, false, cond, not, List, [], ◌∷◌, map, Option, Some, None, Bor, refl, ap, sym, ◌∙◌}
+use Rattle.std.proofs.Common.{◌≡◌, ℕ, ◌+◌, Bool, cond, not, List, [], ◌∷◌, map, Some, Bor, refl, ap, sym, ◌∙◌}
 use Rattle.std.specs.List.{position, position_from}
 use Rattle.std.proofs.lemmas.Iterator.Adapters.{position_from-zero}
 use Rattle.sh_tree.specs.Tokens.{is_name}

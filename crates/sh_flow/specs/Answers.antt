@@ -1,6 +1,6 @@
 -- What a check of the flow answers.
 -- The standard has no such check: the answers are about the rules and demands of this crate.
-use Rattle.std.specs.Prelude.{◌≡◌, ℕ, ◌<◌, List, [], length, Result, Ok, Err}
+use Rattle.std.specs.Prelude.{◌≡◌, ◌<◌, List, [], length, Result, Ok, Err}
 use Rattle.std.specs.declared.alloc.AllocError.{AllocError}
 use Rattle.sh_tree.specs.declared.place.Place.{Place}
 use Rattle.sh_flow.specs.Rules.{Fault, IsLeast}

@@ -1,9 +1,8 @@
 -- The demands, as the list of the places where one is unmet.
 -- POSIX.1-2024, XCU 2.6.2 (parameter expansion).
-use Rattle.std.specs.Prelude.{ℕ, Bool, true, false, List, [], ◌∷◌, ◌++◌, Option, Some, None}
+use Rattle.std.specs.Prelude.{ℕ, Bool, true, false, List, [], ◌∷◌, Option, Some, None}
 use Rattle.std.specs.List.{flat_map}
 use Rattle.sh_tree.specs.declared.place.Place.{Place}
-use Rattle.sh_tree.specs.declared.place.Code.{Code}
 use Rattle.sh_tree.specs.declared.place.Code.TheVariants.{U1}
 use Rattle.sh_tree.specs.declared.tree.Script.{Script}
 use Rattle.sh_tree.specs.declared.tree.Command.{Command}

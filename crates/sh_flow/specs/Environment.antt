@@ -1,6 +1,6 @@
 -- What a shell keeps for the commands that it runs.
 -- POSIX.1-2024, XCU 2.5 (parameters and variables), 2.9.5 (functions), 2.13 (shell execution environment).
-use Rattle.std.specs.Prelude.{ℕ, Bool, List, Option, if◌then◌else◌}
+use Rattle.std.specs.Prelude.{Bool, List, Option, if◌then◌else◌}
 use Rattle.std.specs.Str.{bytes_eq}
 use Rattle.sh_tree.specs.declared.tree.Command.{Command}
 use Rattle.sh_flow.specs.Policy.{Text}

@@ -1,6 +1,6 @@
 -- What is surely set.
 -- POSIX.1-2024, XCU 2.5.3 (shell variables), 2.5.1 (positional parameters): which of them are set at a place, in every run.
-use Rattle.std.specs.Prelude.{◌≡◌, ℕ, ◌≤◌, nat_le, Bool, true, false, ◌&&◌, ◌||◌, ◌==◌, if◌then◌else◌, List, [], ◌∷◌, length, min, Option, Some, None, is_some, slice_get}
+use Rattle.std.specs.Prelude.{◌≡◌, ℕ, ◌≤◌, nat_le, Bool, true, false, ◌&&◌, ◌||◌, ◌==◌, List, length, min, Some, is_some, slice_get}
 use Rattle.std.specs.List.{list_all, list_any}
 use Rattle.sh_flow.specs.Policy.{Text}
 use Rattle.sh_flow.specs.Environment.{Environment, Frame}

@@ -11,6 +11,7 @@ pub mod Rules
 pub mod Breaches
 pub mod Demands
 pub mod Walks
+pub mod Checked
 pub mod Answers
 pub mod Theorem
 pub mod Examples

@@ -1,10 +1,9 @@
 -- Runs: what the processes of a script do, step by step.
 -- POSIX.1-2024, XCU 2.9.1 (simple commands), 2.9.3 (lists), 2.13 (shell execution environment).
-use Rattle.std.specs.Prelude.{◌≡◌, ℕ, zero, suc, ◌≤◌, Bool, true, false, ◌&&◌, ◌||◌, ◌==◌, if◌then◌else◌, List, [], ◌∷◌, ◌++◌, length, map, codes, Option, Some, None, is_some, unwrap_or, option_map, option_and_then}
+use Rattle.std.specs.Prelude.{◌≡◌, ℕ, zero, suc, ◌≤◌, Bool, true, false, ◌||◌, ◌==◌, if◌then◌else◌, List, [], ◌∷◌, ◌++◌, length, map, codes, Option, Some, None, is_some, unwrap_or, option_map, option_and_then}
 use Rattle.sh_tree.specs.declared.tree.Script.{Script}
 use Rattle.sh_tree.specs.declared.tree.Item.{Item}
 use Rattle.sh_tree.specs.declared.tree.Command.{Command}
-use Rattle.sh_tree.specs.declared.tree.Element.{Element}
 use Rattle.sh_tree.specs.declared.tree.Word.{Word}
 use Rattle.sh_tree.specs.declared.tree.Part.{Part}
 use Rattle.sh_tree.specs.Words.{lone_command, elements_of, words_of, assignments_of}

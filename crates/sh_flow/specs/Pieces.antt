@@ -1,6 +1,6 @@
 -- What a word expands to, and which expansions shset is about.
 -- POSIX.1-2024, XCU 2.6.2 (parameter expansion), 2.6.5 (field splitting), 2.6.6 (pathname expansion), 2.6.7 (quote removal).
-use Rattle.std.specs.Prelude.{ℕ, ◌==◌, Bool, true, false, not, ◌&&◌, ◌||◌, List, [], ◌∷◌, ◌++◌, length, codes, is_some, unwrap_or, Option, Some, None}
+use Rattle.std.specs.Prelude.{ℕ, ◌==◌, Bool, true, false, not, ◌&&◌, ◌||◌, List, [], ◌∷◌, ◌++◌, length, codes, is_some, unwrap_or}
 use Rattle.std.specs.List.{list_any, flat_map}
 use Rattle.sh_tree.specs.declared.tree.Part.{Part, Plain, Double', Row_of-Part, end_of-Part, more_of-Part}
 use Rattle.sh_tree.specs.declared.tree.Part.TheVariants as part
