@@ -1,5 +1,5 @@
 -- What whole reads and writes moved.
-use Rattle.std.proofs.Common.{◌≡◌, ℕ, ◌++◌, ◌≤◌, List, [], Option, Some, None, length, take, refl, sym, ap, ◌∙◌, append-nil, ◌⊎◌, inl, inr, arith, subst, length-append, add-zero, zero, suc}
+use Rattle.std.proofs.Common.{◌≡◌, ℕ, ◌++◌, ◌≤◌, List, Option, Some, None, length, take, sym, ap, ◌∙◌, append-nil, ◌⊎◌, inl, inr, arith}
 use Rattle.std.proofs.lemmas.List.{take_at, take_all}
 use Rattle.std.proofs.lemmas.Grind.{common_steps}
 use Rattle.std.specs.Io.KnownBytes.{Consumes, IsAtEnd}

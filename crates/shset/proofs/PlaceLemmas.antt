@@ -1,6 +1,5 @@
 -- The newlines before an offset, and the place behind them.
-use Rattle.std.proofs.Common.{◌≡◌, ℕ, zero, suc, ◌+◌, ◌-◌, ◌<◌, ◌≤◌, ◌^◌, min, Bool, true, false, cond, List, [], ◌∷◌, ◌++◌, length, take, fold, get_or, slice_index, All, refl, sym, ap, subst, ◌∙◌, arith, ◌⊎◌, inl, inr, ⊎_elim, append-nil, length-append, take_all}
-use Rattle.std.specs.List.{AllWithin}
+use Rattle.std.proofs.Common.{◌≡◌, ℕ, zero, suc, ◌+◌, ◌-◌, ◌<◌, ◌≤◌, min, true, false, List, [], ◌∷◌, ◌++◌, length, take, fold, get_or, slice_index, All, refl, sym, ap, subst, ◌∙◌, arith, ◌⊎◌, inl, inr, ⊎_elim, append-nil, length-append, take_all}
 use Rattle.std.specs.List.Sorted.{IsStrictlyIncreasing, IsPartitionPoint, IsNonDecreasingBy}
 use Rattle.std.proofs.Math.Nat.{eq-or-lt_of_le}
 use Rattle.std.proofs.lemmas.List.Kept.{AllPairs-from_increasing}
@@ -8,7 +7,7 @@ use Rattle.std.proofs.lemmas.Bool.{cases_Bool, cond_both, cond-true, cond-false,
 use Rattle.std.proofs.lemmas.List.{take_more, get_or_append_left, get_or-append-add}
 use Rattle.std.proofs.lemmas.List.Sums.{fold-append}
 use Rattle.std.proofs.lemmas.List.Elements.{All-nil, All-cons, All-weaker}
-use Rattle.memchr.specs.Find.{is_byte, places_from, places_between, places, Passes, NoneAfter}
+use Rattle.memchr.specs.Find.{is_byte, places_from, places_between, places, Passes}
 use Rattle.memchr.proofs.lemmas.PlaceLemmas.{places_from-append, places_between-none, places_between-last}
 use Rattle.shset.specs.Places.{next_place, place_of}
 

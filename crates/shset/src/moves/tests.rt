@@ -1,11 +1,11 @@
 //! Whole reads and writes at ends that fail, are interrupted or move little.
-ghost use Rattle.std.specs.Prelude.{◌≡◌, ◌≤◌, IfOk};
+ghost use Rattle.std.specs.Prelude.{◌≡◌, [], Some};
 ghost use Rattle.shset.specs.Ends.{no_counts};
 
 use super::{Fault, read_all, write_all};
 use crate::counted::{Counted, note};
 use crate::ends::{Broken, Counts, Feed, Outlet};
-use std::io::{Read, Write};
+use std::io::{self, ErrorKind, Read, Write};
 use std::test::Fail;
 
 #[derive(Clone, Copy, Debug, PartialEq, Eq)]
@@ -154,6 +154,38 @@ fn a_reader_that_fails_is_told(rt: HostRuntime) {
     let is_told = read_all(rt.alloc(), &mut reader, 100) == Err(Fault::Read);
     assert!(rt; is_told);
     assert_eq!(rt; reader.counts().interruptions, 1025);
+}
+
+// A reader of std that gives one error again and again.
+#[derive(Drop)]
+struct Failing {
+    kind: ErrorKind,
+}
+
+impl Read for Failing {
+    ghost remaining = { λ _. Some [] };
+
+    fn read(&mut self, _buffer: &mut [u8]) -> io::Result<usize> {
+        Err(self.kind.into())
+    }
+}
+
+#[test]
+fn errors_are_told_from_interruptions(rt: HostRuntime) {
+    for (kind, errors, interruptions) in [
+        (ErrorKind::Interrupted, 0, 1025),
+        (ErrorKind::Other, 1, 0),
+    ] {
+        let mut reader = Counted::new(Failing { kind });
+        let is_told = read_all(rt.alloc(), &mut reader, 100) == Err(Fault::Read);
+        assert!(rt; is_told);
+        let want = Counts {
+            errors,
+            interruptions,
+            empty: 0,
+        };
+        assert_eq!(rt; reader.counts(), want);
+    }
 }
 
 #[test]

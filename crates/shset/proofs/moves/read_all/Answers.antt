@@ -1,4 +1,4 @@
-use Rattle.std.proofs.Common.{◌≡◌, ℕ, ◌+◌, ◌-◌, ◌≤◌, ◌++◌, List, length, take, Result, Ok, Err, arith, rules, length-append}
+use Rattle.std.proofs.Common.{◌++◌, take, Result, Ok, Err, arith, length-append}
 use Rattle.std.proofs.lemmas.List.{length-take}
 use Rattle.std.specs.Result.{OnErr}
 use Rattle.std.proofs.KnownBytes.{Consumes-trans}

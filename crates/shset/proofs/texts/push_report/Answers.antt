@@ -1,4 +1,3 @@
-use Rattle.std.proofs.Common.{◌≡◌}
 use Rattle.std.proofs.lemmas.Result.{on_ok_weaker}
 use Rattle.shset.proofs.TextLemmas.{report_done}
 use Rattle.shset.proofs.texts.push_report.Goals as goal
