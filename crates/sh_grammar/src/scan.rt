@@ -21,13 +21,13 @@ fn is_space(byte: u8) -> bool
 fn is_name_start(byte: u8) -> bool
     ensures { result ≡ tokens.is_name_start byte }
 {
-    (b'A' <= byte && byte <= b'Z') || (b'a' <= byte && byte <= b'z') || byte == b'_'
+    matches!(byte, b'A'..=b'Z' | b'a'..=b'z' | b'_')
 }
 
 fn is_name_byte(byte: u8) -> bool
     ensures { result ≡ tokens.is_name_byte byte }
 {
-    is_name_start(byte) || (b'0' <= byte && byte <= b'9')
+    is_name_start(byte) || matches!(byte, b'0'..=b'9')
 }
 
 fn is_special(byte: u8) -> bool
@@ -41,7 +41,7 @@ fn is_special(byte: u8) -> bool
 fn is_special_quoted(byte: u8) -> bool
     ensures { result ≡ tokens.is_special_quoted byte }
 {
-    byte == b'"' || byte == b'$' || byte == b'`' || byte == b'\\'
+    matches!(byte, b'"' | b'$' | b'`' | b'\\')
 }
 
 fn ends_word(byte: u8) -> bool
@@ -272,7 +272,7 @@ fn is_double(rest: &[u8]) -> bool
 {
     match rest {
         [] => false,
-        [first, ..] => *first == b';' || *first == b'&',
+        [first, ..] => matches!(first, b';' | b'&'),
     }
 }
 
