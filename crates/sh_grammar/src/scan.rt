@@ -30,7 +30,7 @@ fn is_special(byte: u8) -> bool
 fn is_special_quoted(byte: u8) -> bool
     ensures { result ≡ tokens.is_special_quoted byte }
 {
-    byte == b'"' || byte == b'$' || byte == b'`' || byte == b'\\'
+    matches!(byte, b'"' | b'$' | b'`' | b'\\')
 }
 
 fn ends_word(byte: u8) -> bool
@@ -261,7 +261,7 @@ fn is_double(rest: &[u8]) -> bool
 {
     match rest {
         [] => false,
-        [first, ..] => *first == b';' || *first == b'&',
+        [first, ..] => matches!(first, b';' | b'&'),
     }
 }
 

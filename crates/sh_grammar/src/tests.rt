@@ -146,7 +146,7 @@ fn lists(rt: HostRuntime) -> Result<(), Fail> {
 }
 
 #[test]
-fn commands(rt: HostRuntime) -> Result<(), Fail> {
+fn assignments(rt: HostRuntime) -> Result<(), Fail> {
     for (text, want) in [
         ("x=1", "1@0[a0-1=2-3(p2-3)]"),
         ("x=", "1@0[a0-1=2-2()]"),
@@ -166,6 +166,16 @@ fn commands(rt: HostRuntime) -> Result<(), Fail> {
         ("a b=1", "1@0[w0-1(p0-1) w2-5(p2-5)]"),
         ("_a1=2", "1@0[a0-3=4-5(p4-5)]"),
         ("a-b=1", "1@0[w0-5(p0-5)]"),
+    ] {
+        let found = told(rt.alloc(), text.as_bytes())?;
+        assert_eq!(rt; found.as_str(), want, "at {text:?}");
+    }
+    Ok(())
+}
+
+#[test]
+fn reserved_words(rt: HostRuntime) -> Result<(), Fail> {
+    for (text, want) in [
         ("if", "LeftOut(Later, 0)"),
         ("in", "LeftOut(Later, 0)"),
         ("a\nwhile b", "LeftOut(Later, 2)"),
@@ -232,6 +242,16 @@ fn words(rt: HostRuntime) -> Result<(), Fail> {
         ("$a$b", "1@0[w0-4(v0-2/1-2 v2-4/3-4)]"),
         ("\"a\nb\"", "1@0[w0-5(d0-5(p1-4))]"),
         ("\"a;#'b\"", "1@0[w0-7(d0-7(p1-6))]"),
+    ] {
+        let found = told(rt.alloc(), text.as_bytes())?;
+        assert_eq!(rt; found.as_str(), want, "at {text:?}");
+    }
+    Ok(())
+}
+
+#[test]
+fn left_out_bytes(rt: HostRuntime) -> Result<(), Fail> {
+    for (text, want) in [
         ("echo a#b", "LeftOut(Later, 6)"),
         ("# a", "LeftOut(Later, 0)"),
         ("a&b", "LeftOut(Later, 1)"),
@@ -240,24 +260,26 @@ fn words(rt: HostRuntime) -> Result<(), Fail> {
         ("(a)", "LeftOut(Later, 0)"),
         ("!", "LeftOut(Later, 0)"),
         ("{ a", "LeftOut(Later, 0)"),
-        ("a\rb", "1@0[w0-3(p0-3)]"),
-        ("a\u{e9}", "1@0[w0-3(p0-3)]"),
     ] {
+        let found = told(rt.alloc(), text.as_bytes())?;
+        assert_eq!(rt; found.as_str(), want, "at {text:?}");
+    }
+    for byte in b"|&<>()$`\\'*?[]#~!{}" {
+        let found = told(rt.alloc(), &[b'a', *byte])?;
+        assert_eq!(rt; found.as_str(), "LeftOut(Later, 1)", "at {byte}");
+    }
+    Ok(())
+}
+
+#[test]
+fn ordinary_bytes(rt: HostRuntime) -> Result<(), Fail> {
+    for (text, want) in [("a\rb", "1@0[w0-3(p0-3)]"), ("a\u{e9}", "1@0[w0-3(p0-3)]")] {
         let found = told(rt.alloc(), text.as_bytes())?;
         assert_eq!(rt; found.as_str(), want, "at {text:?}");
     }
     for byte in 128..=255u8 {
         let found = told(rt.alloc(), &[b'a', byte])?;
         assert_eq!(rt; found.as_str(), "1@0[w0-2(p0-2)]", "at {byte}");
-    }
-    Ok(())
-}
-
-#[test]
-fn special_bytes(rt: HostRuntime) -> Result<(), Fail> {
-    for byte in b"|&<>()$`\\'*?[]#~!{}" {
-        let found = told(rt.alloc(), &[b'a', *byte])?;
-        assert_eq!(rt; found.as_str(), "LeftOut(Later, 1)", "at {byte}");
     }
     Ok(())
 }

@@ -7,14 +7,14 @@ ghost use Rattle.sh_tree.specs.Tokens as tokens;
 pub fn is_name_start(byte: u8) -> bool
     ensures { result ≡ tokens.is_name_start byte }
 {
-    (b'A' <= byte && byte <= b'Z') || (b'a' <= byte && byte <= b'z') || byte == b'_'
+    matches!(byte, b'A'..=b'Z' | b'a'..=b'z' | b'_')
 }
 
 /// Whether a name may go on with the byte: a letter, an underscore or a digit.
 pub fn is_name_byte(byte: u8) -> bool
     ensures { result ≡ tokens.is_name_byte byte }
 {
-    is_name_start(byte) || (b'0' <= byte && byte <= b'9')
+    is_name_start(byte) || matches!(byte, b'0'..=b'9')
 }
 
 fn are_name_bytes(text: &[u8]) -> bool
