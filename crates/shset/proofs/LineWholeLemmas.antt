@@ -6,7 +6,7 @@ use Rattle.std.specs.Str.{bytes_eq}
 use Rattle.clap.specs.Lexer.{without_minus}
 use Rattle.clap.specs.Values.{IsSignedIn, read_as, refused_kind}
 use Rattle.clap.specs.ValueTests.{accepts}
-use Rattle.clap.specs.Walk.{Row, Rule, Text, finished, answers_to, first_of, nothing_held, one_of, row_text, rows_after, settled, stop_after, walk}
+use Rattle.clap.specs.Walk.{Row, Rule, Text, answers_to, first_of, nothing_held, one_of, row_text, rows_after, settled, stop_after, walk}
 use Rattle.clap.specs.Simple.{Shape, argument_words, built, built_leaf, entered, filled, inherited, label_of, marked_built, names_of, on_top, rows_at, subcommand_of, with_index, with_leaf_noted}
 use Rattle.clap.specs.Takes.{is_given}
 use Rattle.clap.specs.Kinds.{value_kinds}
@@ -128,16 +128,3 @@ found_passes P each words q none is =
     go : (stop : Option (Text × List Text)) → entered (built shset_app) stop ≡ Some q → entered_fault (built shset_app) stop ≡ [] → P q
     go None e passes = cc
     go (Some p) e passes = level_entered P (λ s. answers_to p.0 (label_of s)) (built shset_app).subs p.1 q each e passes
-
-pub subcommand_found : (words : List Text) → fault_of shset_app words ≡ [] → is_some (subcommand_of shset_app words) ≡ true
-subcommand_found words none =
-    go (is_some (subcommand_of shset_app words))
-    (level_checks (built shset_app).top (names_of (built shset_app)) nothing_held (argument_words shset_app words) _ _ none).0
-  where
-    go : (b : Bool) → check_fault (built shset_app).top
-        (finished (built shset_app).top.rules (walk (built shset_app).top.rules (names_of (built shset_app)) nothing_held (argument_words shset_app words)).held) b ≡ []
-        → b ≡ true
-    go true e = refl
-    go false e =
-        let bad : kind.MissingSubcommand ∷ [] ≡ [] = e in
-        cc
