@@ -4,3 +4,5 @@ pub mod Worlds
 pub mod RunLemmas
 pub mod WorkLemmas
 pub mod ExampleLemmas
+pub mod RowLemmas
+pub mod NameLemmas

@@ -1,5 +1,7 @@
 pub mod Policy
 pub mod Names
+pub mod Numbers
+pub mod Walks
 pub mod Profile
 pub mod Environment
 pub mod Pieces

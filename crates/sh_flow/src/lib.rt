@@ -5,6 +5,7 @@
 pub mod certificate;
 pub mod flow;
 pub mod laws;
+pub mod names;
 pub mod policy;
 pub mod row;
 pub mod rule;

@@ -1,6 +1,8 @@
 //! Rows: sets of numbers of names.
 ghost use Rattle.std.specs.Prelude.{◌≡◌, ◌||◌, ◌==◌, ℕ, [], IfOk, OnOk, OnErr};
+ghost use Rattle.std.specs.List.Sorted.{IsStrictlyIncreasing};
 ghost use Rattle.sh_flow.specs.Facts.{has_number};
+ghost use Rattle.sh_flow.specs.Numbers.{IsPlace};
 
 use std::alloc::{AllocError, Global};
 use std::marker::Model;
@@ -36,7 +38,14 @@ impl Row {
     pub fn has(&self, number: u32) -> bool
         ensures { result ≡ has_number number self.now }
     {
-        self.numbers.binary_search(&number).is_ok()
+        has_in(&self.numbers, number)
+    }
+
+    /// The numbers, rising.
+    pub fn as_slice(&self) -> &[u32]
+        ensures { result.now ≡ self.now }
+    {
+        &self.numbers
     }
 
     /// Adds a number.
@@ -44,7 +53,7 @@ impl Row {
         ensures ok { OnOk result ((k : ℕ) → has_number k self.new ≡ (k == number || has_number k self.old)) }
         ensures err { OnErr result (self.new ≡ self.old) }
     {
-        match self.numbers.binary_search(&number) {
+        match place_in(&self.numbers, number) {
             Ok(_) => Ok(()),
             Err(at) => {
                 self.numbers.insert(at, number)?;
@@ -59,5 +68,23 @@ impl Row {
     {
         let numbers = self.numbers.clone()?;
         Ok(Row { numbers })
+    }
+}
+
+// Where a number stands, or would stand.
+fn place_in(numbers: &[u32], number: u32) -> Result<usize, usize>
+    requires { IsStrictlyIncreasing numbers.now }
+    ensures { IsPlace numbers.now number result }
+{
+    numbers.binary_search(&number)
+}
+
+fn has_in(numbers: &[u32], number: u32) -> bool
+    requires { IsStrictlyIncreasing numbers.now }
+    ensures { result ≡ has_number number numbers.now }
+{
+    match place_in(numbers, number) {
+        Ok(_) => true,
+        Err(_) => false,
     }
 }

@@ -1,0 +1,34 @@
+-- What is gathered from the pieces of a script, in the order of the text.
+-- POSIX.1-2024, XCU 2.6 (word expansions), 2.9.1 (simple commands): the names and the parameters in a piece.
+use Rattle.std.specs.Prelude.{◌<◌, ℕ, true, List, [], length, Option, Some, None}
+use Rattle.std.specs.List.{flat_map}
+use Rattle.sh_tree.specs.declared.limits.TheConstants.{MAX_NAMES}
+use Rattle.sh_tree.specs.declared.refusal.Refusal.{Refusal}
+use Rattle.sh_tree.specs.declared.refusal.Refusal.TheVariants.{TooMany, Memory}
+use Rattle.sh_tree.specs.declared.tree.Item.{Item}
+use Rattle.sh_tree.specs.declared.tree.Command.{Command}
+use Rattle.sh_tree.specs.declared.tree.Part.{Part}
+use Rattle.sh_tree.specs.Words.{lone_command, elements_of, expansions_in}
+use Rattle.sh_flow.specs.Policy.{Text}
+use Rattle.sh_flow.specs.Names.{names_in, subjects}
+
+-- why these, all of them, are not numbered
+abbrev pub Refuses : List Text → Refusal → Type 0
+Refuses names TooMany = MAX_NAMES < length names
+Refuses names Memory = Unit {0}
+Refuses names _ = ⊥
+
+unfoldable pub of_option : {A : Type 0} → (Command → List A) → Option Command → List A
+of_option f None = []
+of_option f (Some c) = f c
+
+-- what is gathered from an item: from its command, where it is one
+abbrev pub on_lone : {A : Type 0} → (Command → List A) → Item → List A
+on_lone f i = of_option f (lone_command i)
+
+abbrev pub command_names : List ℕ → Command → List Text
+command_names b c = flat_map (names_in b) (elements_of c.kind)
+
+-- the parameters in a part
+abbrev pub part_names : List ℕ → Part → List Text
+part_names b p = subjects b (expansions_in true p)

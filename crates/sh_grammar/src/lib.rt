@@ -1,0 +1,11 @@
+//! Reads the bytes of a script as its tree, or refuses them.
+#![tactic(auto)]
+
+mod commands;
+mod scan;
+mod script;
+#[cfg(test)]
+mod tests;
+mod words;
+
+pub use script::parse;

@@ -1,0 +1,18 @@
+use Rattle.std.proofs.Common.{◌≡◌, ℕ, ◌+◌, ◌-◌, ◌≤◌, ◌++◌, List, length, take, Result, Ok, Err, arith, rules, length-append}
+use Rattle.std.proofs.lemmas.List.{length-take}
+use Rattle.std.specs.Result.{OnErr}
+use Rattle.std.proofs.KnownBytes.{Consumes-trans}
+use Rattle.shset.proofs.moves.read_all.Goals as goal
+
+whatever : {T E P : Type 0} (r : Result T E) → P → OnErr r P
+whatever (Ok x) p = tt
+whatever (Err e) p = p
+
+pub returns-in_err-extend_from_slice-in-Ok-clause-lost :
+    goal.returns-in_err-extend_from_slice-in-Ok-clause-lost
+returns-in_err-extend_from_slice-in-Ok-clause-lost g c =
+    whatever c.from_residual.result (
+      c.loop-chunk.text.items ++ take c.in-Ok.n c.pull.new.buffer,
+      omega (arith, length-append c.loop-chunk.text.items (take c.in-Ok.n c.pull.new.buffer), length-take c.in-Ok.n c.pull.new.buffer, c.pull.auto.buffer, c.in-Ok.ensures.bound, length-take c.min-want.result c.loop-chunk.chunk, c.min-want.ensures, c.len-in-loop-chunk.ensures),
+      Consumes-trans _ _ _ _ _ c.loop-chunk.invariant.2 c.in-Ok.ensures.bytes.0,
+    )

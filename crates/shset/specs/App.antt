@@ -1,0 +1,31 @@
+-- The command line that the program has, as clap reads it: `lint [--args N] FILE [NAME..]`.
+-- POSIX.1-2024, XBD 12.2 (utility syntax guidelines).
+use Rattle.std.specs.Prelude.{List, [], ◌∷◌, Some, codes, true, pos}
+use Rattle.clap.specs.Words.{App, Rule, Text, new_app, new_rule, with_rule, with_subcommand}
+use Rattle.clap.specs.Simple.{on_top}
+use Rattle.clap.specs.declared.builder.action.ArgAction.TheVariants.{Append}
+use Rattle.clap.specs.declared.builder.value_parser.ValueParser.TheVariants.{Signed}
+
+abbrev pub args_rule : Rule
+args_rule = record (new_rule (codes "args")) {
+  long = Some (codes "args");
+  value_names = 1;
+  parser = Some (Signed (pos 0) (pos 65535));
+  defaults = codes "0" ∷ [];
+}
+
+abbrev pub file_rule : Text → Rule
+file_rule id = record (new_rule id) { required = true }
+
+abbrev pub name_rule : Rule
+name_rule = record (new_rule (codes "NAME")) { action = Some Append }
+
+-- a command that reads a script: [--args N] FILE [NAME..]
+abbrev pub reading_app : Text → App
+reading_app name =
+    with_rule (with_rule (with_rule (new_app name) args_rule) (file_rule (codes "FILE"))) name_rule
+
+abbrev pub shset_app : App
+shset_app = with_subcommand
+    (on_top (λ s. record s { subcommand_required = true; disable_help_subcommand = true }) (new_app (codes "shset")))
+    (reading_app (codes "lint")).top

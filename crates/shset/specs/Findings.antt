@@ -1,0 +1,74 @@
+-- The findings of a straight script, read off its text alone.
+-- POSIX.1-2024, XCU 2.5.3 (shell variables), 2.6.2 (parameter expansion), 2.6.5 (field splitting), 2.9.1 (simple commands).
+use Rattle.std.specs.Prelude.{◌≡◌, ℕ, Bool, true, false, List, [], ◌∷◌, ◌++◌, map, if◌then◌else◌, Option, Some, None, Result, Ok, Err}
+use Rattle.std.specs.List.{flat_map}
+use Rattle.sh_tree.specs.declared.place.Place.{Place}
+use Rattle.sh_tree.specs.declared.place.Code.TheVariants.{Q1}
+use Rattle.sh_tree.specs.declared.tree.Script.{Script}
+use Rattle.sh_tree.specs.declared.tree.Command.{Command}
+use Rattle.sh_tree.specs.declared.tree.Element.{Element}
+use Rattle.sh_tree.specs.declared.tree.Element.TheVariants as element
+use Rattle.sh_tree.specs.declared.tree.Word.{Word}
+use Rattle.sh_tree.specs.declared.refusal.Refusal.{Refusal}
+use Rattle.sh_tree.specs.declared.refusal.Refusal.TheVariants.{Memory, Profile}
+use Rattle.sh_tree.specs.declared.refusal.Rule.TheVariants.{Later}
+use Rattle.sh_tree.specs.Words.{lone_commands, elements_of, words_of, assignments_of, expansions, Expansion, subject_text}
+use Rattle.sh_flow.specs.Policy.{Text, Declared}
+use Rattle.sh_flow.specs.Names.{start_names, is_one_of}
+use Rattle.sh_flow.specs.Profile.{is_admitted, Admitted}
+use Rattle.sh_flow.specs.Demands.{wanted}
+
+-- Quoting: each unquoted expansion in a command's words
+
+unfoldable pub quote_place : Expansion → List Place
+quote_place x = if x.quoted then [] else record { at = x.param.span.start; code = Q1; subject = [] } ∷ []
+
+abbrev pub word_quote_places : Word → List Place
+word_quote_places w = flat_map quote_place (expansions false w.parts)
+
+abbrev pub quote_places : Script → List Place
+quote_places t = flat_map (λ c. flat_map word_quote_places (words_of (elements_of c.kind))) (lone_commands t)
+
+-- Parameters that may be unset: names that are not sure and that no earlier command without a name assigns
+
+module _ (b : List ℕ) where
+  -- the names that a command assigns for those after it: none where it has a command name
+  unfoldable pub gains : List Word → List Element → List Text
+  gains [] es = map (λ x. x.0) (assignments_of b es)
+  gains (w ∷ ws) es = []
+
+  abbrev pub command_gains : Command → List Text
+  command_gains c = gains (words_of (elements_of c.kind)) (elements_of c.kind)
+
+  -- the expansions of names that are not sure
+  abbrev pub unsure : List Text → List Expansion → List Place
+  unsure sure xs = flat_map (λ x. wanted (is_one_of sure (subject_text b x.param.subject)) x.param.span.start (subject_text b x.param.subject)) xs
+
+  unfoldable pub element_unset : List Text → Element → List Place
+  element_unset sure (element.Assignment s w) = unsure sure (expansions false w.parts)
+  element_unset sure (element.Word w) = unsure sure (expansions false w.parts)
+
+  abbrev pub command_unset : List Text → Command → List Place
+  command_unset sure c = flat_map (element_unset sure) (elements_of c.kind)
+
+  -- in commands one after another, before which these names are sure
+  unfoldable pub unset_from : List Text → List Command → List Place
+  unset_from sure [] = []
+  unset_from sure (c ∷ cs) = command_unset sure c ++ unset_from (sure ++ command_gains c) cs
+
+  abbrev pub unset_places : Declared → Script → List Place
+  unset_places d t = unset_from (start_names ++ d.names) (lone_commands t)
+
+-- The profile
+
+-- the first command that is not analysed
+unfoldable pub first_refused : List ℕ → List Command → Option Command
+first_refused b [] = None
+first_refused b (c ∷ cs) = if is_admitted b c then first_refused b cs else Some c
+
+-- A script is admitted, or its first command that is not analysed is told at its start.
+abbrev pub Admits : List ℕ → Script → Result (Unit {0}) Refusal → Type 0
+Admits b t (Ok u) = first_refused b (lone_commands t) ≡ None
+Admits b t (Err (Profile Later at)) = (c : Command) × (first_refused b (lone_commands t) ≡ Some c) × (at ≡ c.at)
+Admits b t (Err Memory) = Unit {0}
+Admits b t (Err _) = ⊥

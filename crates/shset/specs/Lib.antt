@@ -1,0 +1,10 @@
+pub mod Ends
+pub mod Moves
+pub mod Places
+pub mod Verdicts
+pub mod Texts
+pub mod Findings
+pub mod Lint
+pub mod Runs
+pub mod App
+pub mod Line

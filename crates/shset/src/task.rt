@@ -1,0 +1,18 @@
+//! What the program is asked to do.
+use sh_flow::policy::Policy;
+
+/// What is done with a script.
+#[derive(Clone, Copy, Debug, PartialEq, Eq)]
+pub enum Action {
+    /// Looks for findings in it.
+    Lint,
+}
+
+/// What is done, and under which policy.
+#[derive(Debug, Drop)]
+pub struct Task {
+    /// What is done with the script.
+    pub action: Action,
+    /// What is set when the script starts.
+    pub policy: Policy,
+}

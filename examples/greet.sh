@@ -1,0 +1,4 @@
+#!/bin/sh
+greeting=Hello
+name=World
+echo "$greeting, $nmae!"
