@@ -1,5 +1,5 @@
 -- Tests of claims.
-use Rattle.std.proofs.Common.{◌≡◌, ℕ, ◌<◌, Bool, true, false, ◌&&◌, ◌||◌, nat_le, min, Option, Some, None, List, [], ◌∷◌, length, map, refl, sym, ◌∙◌, ap, subst, arith, eqb, eq-eqb, Vec, Global}
+use Rattle.std.proofs.Common.{◌≡◌, ℕ, zero, suc, ◌<◌, Bool, true, false, ◌&&◌, ◌||◌, nat_le, min, Option, Some, None, List, [], ◌∷◌, length, take, drop, map, refl, sym, ◌∙◌, ap, subst, arith, eqb, eq-eqb, Vec, Global}
 use Rattle.std.specs.List.{list_all, list_any, cons_option}
 use Rattle.std.specs.Str.{bytes_eq}
 use Rattle.std.proofs.lemmas.Grind.{common_steps}
@@ -43,6 +43,22 @@ all_in_own xs = all_among (λ n. has_number n xs) xs (λ n e. e)
 
 pub all_in_more : (ns xs : List ℕ) → list_all (λ n. has_number n ns || has_number n xs) xs ≡ true
 all_in_more ns xs = all_among (λ n. has_number n ns || has_number n xs) xs (λ n e. or_other (has_number n ns) (has_number n xs) e)
+
+-- what passes at each number of a list need not be tried at the front that another list shares with it
+pub all_past_front : (p : ℕ → Bool) (k : ℕ) (xs ys : List ℕ) → ((n : ℕ) → has_number n ys ≡ true → p n ≡ true) → take k xs ≡ take k ys → list_all p (drop k xs) ≡ list_all p xs
+all_past_front p zero xs ys h e = refl
+all_past_front p (suc k) [] ys h e = refl
+all_past_front p (suc k) (x ∷ xs) [] h e = cc
+all_past_front p (suc k) (x ∷ xs) (y ∷ ys) h e =
+    let same : x ≡ y = cc in
+    let others : take k xs ≡ take k ys = cc in
+    let here : p x ≡ true = h x (ap (λ b. b || has_number x ys) (eq-eqb x y same)) in
+    rw here (all_past_front p k xs ys (λ n f. h n (or_other (eqb n y) (has_number n ys) f)) others)
+
+pub gained_past_front : (ns : List ℕ) (k : ℕ) (xs ys : List ℕ) → take k xs ≡ take k ys
+    → list_all (λ n. has_number n ns || has_number n ys) (drop k xs) ≡ list_all (λ n. has_number n ns || has_number n ys) xs
+gained_past_front ns k xs ys e =
+    all_past_front (λ n. has_number n ns || has_number n ys) k xs ys (λ n f. or_other (has_number n ns) (has_number n ys) f) e
 
 pub none_held : (xs : List ℕ) → length xs ≡ 0 → list_all (λ n. false) xs ≡ true
 none_held [] e = refl

@@ -1,4 +1,5 @@
 //! The check of the flow rules and of the demands.
+ghost use Rattle.sh_flow.specs.Answers.{Checks};
 ghost use Rattle.sh_flow.specs.Certificates.{claims_of};
 ghost use Rattle.sh_flow.specs.Rules.{script_faults};
 ghost use Rattle.sh_flow.specs.Demands.{script_unmet};
@@ -28,8 +29,6 @@ pub enum Flow {
     /// Every rule holds, and these demands are unmet.
     Demand(Vec<Place>),
 }
-
-ghost use Rattle.sh_flow.specs.Answers.{Checks};
 
 /// Checks the flow rules and the demands of a script against what the certificate claims round its commands. The script's
 /// text and its names are those of the tree.

@@ -1,5 +1,5 @@
 //! Tests of what a certificate claims.
-ghost use Rattle.std.specs.Prelude.{◌≡◌, ◌&&◌};
+ghost use Rattle.std.specs.Prelude.{◌≡◌, ◌≤◌, ◌&&◌, length, take};
 ghost use Rattle.std.specs.List.{list_all};
 ghost use Rattle.sh_flow.specs.Facts.{has_number, facts, within};
 ghost use Rattle.sh_flow.specs.Certificates.{row_at, claim_of, claims_of};
@@ -43,6 +43,18 @@ pub fn numbers_of(certificate: &Certificate, id: RowId) -> &[u32]
         None => &[],
         Some(row) => row.as_slice(),
     }
+}
+
+/// How many numbers the two lists share at their fronts.
+pub fn shared_front(first: &[u32], second: &[u32]) -> usize
+    ensures within { result ≤ length first.now }
+    ensures same { take result first.now ≡ take result second.now }
+{
+    let mut count = 0;
+    while count < first.len() && count < second.len() && first[count] == second[count] {
+        count += 1;
+    }
+    count
 }
 
 // Whether each number is in the row.

@@ -12,7 +12,7 @@ ghost use Rattle.sh_flow.specs.declared.rule.FlowRule.TheVariants.{F1};
 
 use crate::certificate::{Certificate, Facts, RowId};
 use crate::flow::breach::{Breach, noted};
-use crate::flow::claims::{entry_at, has_in_row, is_row_within, is_within, numbers_of};
+use crate::flow::claims::{entry_at, has_in_row, is_row_within, is_within, numbers_of, shared_front};
 use crate::names::Names;
 use crate::policy::Policy;
 use crate::rule::FlowRule;
@@ -162,7 +162,18 @@ impl Checker<'_> {
         known || self.is_assigned(elements, number)
     }
 
-    // Whether each number of the first row is in the second, or the elements assign its name.
+    fn are_gained(&self, elements: &[Element], row: RowId, numbers: &[u32]) -> bool
+        ensures { let assigned = assigned_by self.now elements.now in
+            let known = row_numbers self.now row in
+            result ≡ list_all (λ n. has_number n assigned || has_number n known) numbers.now }
+    {
+        numbers
+            .iter()
+            .all(|number| self.is_gained(elements, row, *number))
+    }
+
+    // Whether each number of the first row is in the second, or the elements assign its name. Most often the rows are one, or
+    // the first has a few numbers more at its end.
     #[tactic(auto, using(crate::proofs::ClaimLemmas::all_in_more))]
     fn is_row_gained(&self, elements: &[Element], first: RowId, second: RowId) -> bool
         ensures { let assigned = assigned_by self.now elements.now in
@@ -173,9 +184,9 @@ impl Checker<'_> {
             return true;
         }
         let numbers = numbers_of(self.certificate, first);
-        numbers
-            .iter()
-            .all(|number| self.is_gained(elements, second, *number))
+        let known = numbers_of(self.certificate, second);
+        let shared = shared_front(numbers, known);
+        self.are_gained(elements, second, &numbers[shared..])
     }
 
     // Whether the first facts claim no more than the second and the names that the elements assign.

@@ -1,17 +1,28 @@
-use Rattle.std.proofs.Common.{◌≡◌, ◌||◌, true, sym, subst, rules, arith}
-use Rattle.std.proofs.lemmas.Grind.{common_steps}
+use Rattle.std.proofs.Common.{◌≡◌, ℕ, ◌||◌, List, take, drop, length, ◌-◌, sym, ap, ◌∙◌, arith, rules, length-drop}
+use Rattle.std.proofs.lemmas.List.{take_all}
 use Rattle.std.specs.List.{list_all}
 use Rattle.sh_flow.specs.Facts.{has_number}
-use Rattle.sh_flow.specs.Certificates.{row_at}
-use Rattle.sh_flow.specs.Rules.{assigned_numbers}
-use Rattle.sh_flow.specs.declared.certificate.RowId.{RowId}
-use Rattle.sh_flow.proofs.ClaimLemmas.{all_in_more}
+use Rattle.sh_flow.specs.Checked.{assigned_by, row_numbers}
+use Rattle.sh_flow.proofs.ClaimLemmas.{all_in_more, gained_past_front}
 use Rattle.sh_flow.proofs.flow.rules.Checker.is_row_gained.Goals as goal
+
+pub returns : goal.returns
+returns c =
+    let gained : List ℕ = assigned_by c.args.self.now c.args.elements.now in
+    let first : List ℕ = row_numbers c.args.self.now c.args.first in
+    let second : List ℕ = row_numbers c.args.self.now c.args.second in
+    let numbers : List ℕ = c.numbers_of-numbers.result.now in
+    let shared : ℕ = c.shared_front-shared.result in
+    let same : take shared first ≡ take shared second =
+    sym (ap (take shared) c.numbers_of-numbers.ensures) ∙ c.shared_front-shared.ensures.same ∙ ap (take shared) c.numbers_of-known.ensures in
+    let tried : c.are_gained.result ≡ list_all (λ n. has_number n gained || has_number n second) (take (length numbers - shared) (drop shared numbers)) = c.are_gained.ensures in
+    let rest : take (length numbers - shared) (drop shared numbers) ≡ drop shared numbers = take_all (length numbers - shared) (drop shared numbers) (omega (arith, length-drop shared numbers)) in
+    tried ∙ ap (list_all (λ n. has_number n gained || has_number n second)) rest ∙ ap (λ (xs : List ℕ). list_all (λ n. has_number n gained || has_number n second) (drop shared xs)) c.numbers_of-numbers.ensures
+    ∙ gained_past_front gained shared first second same
 
 pub returns-then-eq : goal.returns-then-eq
 returns-then-eq c =
-    let same : c.args.first ≡ c.args.second = first_of (search rules, grind (arith, common_steps)) in
-    let rows = c.args.self.now.certificate.now.rows in
-    let assigned = assigned_numbers c.args.self.now.script.now c.args.self.now.names.now c.args.elements.now in
-    subst (λ (id : RowId). true ≡ list_all (λ n. has_number n assigned || has_number n (row_at rows c.args.second)) (row_at rows id)) (sym same)
-    (sym (all_in_more assigned (row_at rows c.args.second)))
+    let gained : List ℕ = assigned_by c.args.self.now c.args.elements.now in
+    let second : List ℕ = row_numbers c.args.self.now c.args.second in
+    let one : c.args.first ≡ c.args.second = search rules in
+    sym (ap (λ id. list_all (λ n. has_number n gained || has_number n second) (row_numbers c.args.self.now id)) one ∙ all_in_more gained second)
