@@ -1,5 +1,5 @@
 -- Names by first sight, a piece at a time.
-use Rattle.std.proofs.Common.{◌≡◌, ℕ, zero, suc, ◌+◌, ◌<◌, ◌≤◌, Bool, true, false, ◌&&◌, Option, Some, None, Result, Ok, Err, List, [], ◌∷◌, ◌++◌, length, get_or, take, drop, map, fold, refl, sym, ◌∙◌, ap, subst, arith, if◌then◌else◌, eqb, position, Vec, Global, length-append}
+use Rattle.std.proofs.Common.{◌≡◌, ℕ, ◌+◌, ◌<◌, ◌≤◌, Bool, true, false, Option, Some, None, Err, List, [], ◌∷◌, ◌++◌, length, get_or, take, drop, map, fold, refl, sym, ◌∙◌, ap, subst, arith, if◌then◌else◌, eqb, position, Vec, Global, length-append}
 use Rattle.std.specs.List.{flat_map, filter_map, cons_option, list_any, position_from}
 use Rattle.std.specs.Str.{bytes_eq}
 use Rattle.std.proofs.lemmas.Grind.{common_steps}
@@ -7,7 +7,6 @@ use Rattle.std.proofs.lemmas.List.{map-append, length-map, take-append-drop, tak
 use Rattle.std.proofs.lemmas.List.Concat.{flat_map-append}
 use Rattle.std.proofs.lemmas.List.Sums.{fold-append}
 use Rattle.std.proofs.lemmas.Iterator.Adapters.{position_from-zero}
-use Rattle.sh_tree.specs.declared.limits.TheConstants.{MAX_NAMES}
 use Rattle.sh_tree.specs.declared.refusal.Refusal.{Refusal}
 use Rattle.sh_tree.specs.declared.refusal.Refusal.TheVariants.{TooLong, NulByte, Syntax, LeftOut, TooDeep, TooMany, Memory, Profile, CertSyntax, CertShape}
 use Rattle.sh_tree.specs.declared.tree.Span.{Span}
@@ -20,7 +19,7 @@ use Rattle.sh_tree.specs.declared.tree.Param.{Param}
 use Rattle.sh_tree.specs.declared.tree.Part.{Part, Plain, Double, Double'}
 use Rattle.sh_tree.specs.declared.tree.Part.TheVariants as part
 use Rattle.sh_tree.specs.Tree.{text_of}
-use Rattle.sh_tree.specs.Words.{lone_command, lone_commands, expansions, expansions_in, expansions_in-Double, subject_text}
+use Rattle.sh_tree.specs.Words.{lone_command, expansions, expansions_in, expansions_in-Double, subject_text}
 use Rattle.sh_flow.specs.Policy.{Text, Declared}
 use Rattle.sh_flow.specs.Names.{with_text, is_one_of, number_of, subjects, names_in, script_names, first_names, numbering, Numbers}
 use Rattle.sh_flow.specs.Walks.{Refuses, of_option, on_lone, command_names, part_names}

@@ -11,5 +11,6 @@ pub mod Rules
 pub mod Breaches
 pub mod Demands
 pub mod Walks
+pub mod Checked
 pub mod Answers
 pub mod Theorem

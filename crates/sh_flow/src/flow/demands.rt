@@ -1,10 +1,7 @@
 //! The unmet demands of a script.
 ghost use Rattle.std.specs.Prelude.{◌≡◌, ◌<◌, ◌++◌, length, flat_map, IfOk, OnOk, OnErr};
-ghost use Rattle.sh_tree.specs.Words.{lone_commands};
-ghost use Rattle.sh_flow.specs.Facts.{facts};
-ghost use Rattle.sh_flow.specs.Certificates.{claim_of, claims_of};
-ghost use Rattle.sh_flow.specs.Demands.{wanted, covers, element_unmet, command_unmet};
-ghost use Rattle.sh_flow.specs.Walks.{on_lone, part_unmet};
+ghost use Rattle.sh_flow.specs.Demands.{wanted, covers};
+ghost use Rattle.sh_flow.specs.Checked.{facts_in, part_places, element_places, command_places, item_places};
 
 use crate::certificate::Facts;
 use crate::flow::claims::{entry_at, has_in_row};
@@ -35,7 +32,7 @@ impl Checker<'_> {
     // Whether the parameter is surely set where this is known.
     #[tactic(auto, unfolding(crate::specs::Demands::covers, crate::specs::Demands::knows, crate::specs::Facts::facts, crate::specs::Certificates::claim_of))]
     fn is_covered(&self, known: Facts, name: &[u8]) -> bool
-        ensures { result ≡ covers self.now.names.now (facts (claim_of self.now.certificate.now.rows known)) name.now }
+        ensures { result ≡ covers self.now.names.now (facts_in self.now known) name.now }
     {
         match known {
             Facts::NotReached => true,
@@ -53,8 +50,8 @@ impl Checker<'_> {
         parts: &[Part],
         places: &mut Vec<Place>,
     ) -> Result<(), AllocError>
-        ensures noted { OnOk result (places.new.items ≡ places.old.items ++ flat_map (part_unmet self.now.script.now self.now.names.now (facts (claim_of self.now.certificate.now.rows known))) parts.now) }
-        ensures some { OnErr result (0 < length (flat_map (part_unmet self.now.script.now self.now.names.now (facts (claim_of self.now.certificate.now.rows known))) parts.now)) }
+        ensures noted { OnOk result (places.new.items ≡ places.old.items ++ flat_map (part_places self.now known) parts.now) }
+        ensures some { OnErr result (0 < length (flat_map (part_places self.now known) parts.now)) }
     {
         for part in parts {
             self.want_part(known, part, &mut *places)?;
@@ -70,8 +67,8 @@ impl Checker<'_> {
         part: &Part,
         places: &mut Vec<Place>,
     ) -> Result<(), AllocError>
-        ensures noted { OnOk result (places.new.items ≡ places.old.items ++ part_unmet self.now.script.now self.now.names.now (facts (claim_of self.now.certificate.now.rows known)) part.now) }
-        ensures some { OnErr result (0 < length (part_unmet self.now.script.now self.now.names.now (facts (claim_of self.now.certificate.now.rows known)) part.now)) }
+        ensures noted { OnOk result (places.new.items ≡ places.old.items ++ part_places self.now known part.now) }
+        ensures some { OnErr result (0 < length (part_places self.now known part.now)) }
     {
         match part {
             Part::Plain(_) => Ok(()),
@@ -91,8 +88,8 @@ impl Checker<'_> {
         element: &Element,
         places: &mut Vec<Place>,
     ) -> Result<(), AllocError>
-        ensures noted { OnOk result (places.new.items ≡ places.old.items ++ element_unmet self.now.script.now self.now.names.now (facts (claim_of self.now.certificate.now.rows known)) element.now) }
-        ensures some { OnErr result (0 < length (element_unmet self.now.script.now self.now.names.now (facts (claim_of self.now.certificate.now.rows known)) element.now)) }
+        ensures noted { OnOk result (places.new.items ≡ places.old.items ++ element_places self.now known element.now) }
+        ensures some { OnErr result (0 < length (element_places self.now known element.now)) }
     {
         match element {
             Element::Assignment { value, .. } => self.want_parts(
@@ -110,8 +107,8 @@ impl Checker<'_> {
         elements: &[Element],
         places: &mut Vec<Place>,
     ) -> Result<(), AllocError>
-        ensures noted { OnOk result (places.new.items ≡ places.old.items ++ flat_map (element_unmet self.now.script.now self.now.names.now (facts (claim_of self.now.certificate.now.rows known))) elements.now) }
-        ensures some { OnErr result (0 < length (flat_map (element_unmet self.now.script.now self.now.names.now (facts (claim_of self.now.certificate.now.rows known))) elements.now)) }
+        ensures noted { OnOk result (places.new.items ≡ places.old.items ++ flat_map (element_places self.now known) elements.now) }
+        ensures some { OnErr result (0 < length (flat_map (element_places self.now known) elements.now)) }
     {
         for element in elements {
             self.want_element(known, element, &mut *places)?;
@@ -120,8 +117,8 @@ impl Checker<'_> {
     }
 
     fn want_command(&self, command: &Command, places: &mut Vec<Place>) -> Result<(), AllocError>
-        ensures noted { OnOk result (places.new.items ≡ places.old.items ++ command_unmet self.now.script.now self.now.names.now (claims_of self.now.certificate.now) command.now) }
-        ensures some { OnErr result (0 < length (command_unmet self.now.script.now self.now.names.now (claims_of self.now.certificate.now) command.now)) }
+        ensures noted { OnOk result (places.new.items ≡ places.old.items ++ command_places self.now command.now) }
+        ensures some { OnErr result (0 < length (command_places self.now command.now)) }
     {
         let known = entry_at(self.certificate, command.number).before;
         match &command.kind {
@@ -131,8 +128,8 @@ impl Checker<'_> {
 
     #[tactic(auto, unfolding(crate::specs::Walks::of_option))]
     fn want_item(&self, item: &Item, places: &mut Vec<Place>) -> Result<(), AllocError>
-        ensures noted { OnOk result (places.new.items ≡ places.old.items ++ on_lone (command_unmet self.now.script.now self.now.names.now (claims_of self.now.certificate.now)) item.now) }
-        ensures some { OnErr result (0 < length (on_lone (command_unmet self.now.script.now self.now.names.now (claims_of self.now.certificate.now)) item.now)) }
+        ensures noted { OnOk result (places.new.items ≡ places.old.items ++ item_places self.now item.now) }
+        ensures some { OnErr result (0 < length (item_places self.now item.now)) }
     {
         match item.lone_command() {
             None => Ok(()),
@@ -146,8 +143,8 @@ impl Checker<'_> {
     ///
     /// Where there is one and no memory for it.
     pub fn unmet_places(&self, alloc: Global, items: &[Item]) -> Result<Vec<Place>, AllocError>
-        ensures noted { IfOk result (λ places. places.items ≡ flat_map (on_lone (command_unmet self.now.script.now self.now.names.now (claims_of self.now.certificate.now))) items.now) }
-        ensures some { OnErr result (0 < length (flat_map (on_lone (command_unmet self.now.script.now self.now.names.now (claims_of self.now.certificate.now))) items.now)) }
+        ensures noted { IfOk result (λ places. places.items ≡ flat_map (item_places self.now) items.now) }
+        ensures some { OnErr result (0 < length (flat_map (item_places self.now) items.now)) }
     {
         let mut places = Vec::new(alloc);
         for item in items {

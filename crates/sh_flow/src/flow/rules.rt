@@ -1,13 +1,13 @@
 //! The flow rules of a script.
-ghost use Rattle.std.specs.Prelude.{◌≡◌, ◌||◌, map, None};
+ghost use Rattle.std.specs.Prelude.{◌≡◌, ◌||◌, None};
 ghost use Rattle.std.specs.List.{list_any, list_all};
 ghost use Rattle.std.specs.Str.{bytes_eq};
 ghost use Rattle.sh_tree.specs.Words.{lone_command, words_of};
 ghost use Rattle.sh_flow.specs.Facts.{has_number, facts, within, within_out, enter, both, with_vars};
 ghost use Rattle.sh_flow.specs.Names.{start_names, is_one_of};
-ghost use Rattle.sh_flow.specs.Certificates.{row_at, claim_of, claims_of};
-ghost use Rattle.sh_flow.specs.Rules.{is_set_at_start, start_facts, assigned_numbers, leaves, exit_rule, faults, item_faults, rule_behind, out_behind, list_faults, told, least_from};
-ghost use Rattle.sh_flow.specs.Breaches.{fault_found, is_word, assigns, rule_of, out_of};
+ghost use Rattle.sh_flow.specs.Rules.{is_set_at_start, leaves, exit_rule, faults, item_faults, rule_behind, out_behind, list_faults, told, least_from};
+ghost use Rattle.sh_flow.specs.Breaches.{fault_found, is_word, rule_of};
+ghost use Rattle.sh_flow.specs.Checked.{claims, row_numbers, claim, facts_in, at_start, out_behind_of, assigned_by, is_assigner};
 ghost use Rattle.sh_flow.specs.declared.rule.FlowRule.TheVariants.{F1};
 
 use crate::certificate::{Certificate, Facts, RowId};
@@ -101,7 +101,7 @@ impl Checker<'_> {
     // Whether no more is claimed than what is known at the start.
     #[tactic(auto, using(crate::proofs::ClaimLemmas::none_held, crate::proofs::ClaimLemmas::one_held), unfolding(crate::specs::Rules::start_facts, crate::specs::Facts::within, crate::specs::Certificates::claim_of))]
     fn is_within_start(&self, claimed: Facts) -> bool
-        ensures { result ≡ within (claim_of self.now.certificate.now.rows claimed) (start_facts self.now.names.now self.now.policy.now) }
+        ensures { result ≡ within (claim self.now claimed) (at_start self.now) }
     {
         match claimed {
             Facts::NotReached => false,
@@ -120,7 +120,7 @@ impl Checker<'_> {
     // Whether no more is claimed than what is known behind the predecessor, whatever its status was.
     #[tactic(auto, using(crate::proofs::ClaimLemmas::within_meet, crate::proofs::ClaimLemmas::within_enter_both), unfolding(crate::specs::Breaches::out_of))]
     fn is_entered(&self, claimed: Facts, predecessor: Predecessor) -> bool
-        ensures { result ≡ within (claim_of self.now.certificate.now.rows claimed) (enter (out_of self.now.names.now self.now.policy.now (claims_of self.now.certificate.now) predecessor)) }
+        ensures { result ≡ within (claim self.now claimed) (enter (out_behind_of self.now predecessor)) }
     {
         match predecessor {
             Predecessor::Start => self.is_within_start(claimed),
@@ -136,7 +136,7 @@ impl Checker<'_> {
     // Whether the element assigns the name of the number.
     #[tactic(auto, unfolding(crate::specs::Breaches::assigns, crate::specs::Breaches::number_is))]
     fn assigns(&self, element: &Element, number: u32) -> bool
-        ensures { result ≡ assigns self.now.script.now self.now.names.now number element.now }
+        ensures { result ≡ is_assigner self.now number element.now }
     {
         match element {
             Element::Assignment { name, .. } => match self.names.number(name.text(self.script)) {
@@ -148,7 +148,7 @@ impl Checker<'_> {
     }
 
     fn is_assigned(&self, elements: &[Element], number: u32) -> bool
-        ensures { result ≡ list_any (assigns self.now.script.now self.now.names.now number) elements.now }
+        ensures { result ≡ list_any (is_assigner self.now number) elements.now }
     {
         elements.iter().any(|element| self.assigns(element, number))
     }
@@ -156,7 +156,7 @@ impl Checker<'_> {
     // Whether the number is in the row, or the elements assign its name.
     #[tactic(auto, using(crate::proofs::ClaimLemmas::gained))]
     fn is_gained(&self, elements: &[Element], row: RowId, number: u32) -> bool
-        ensures { result ≡ (has_number number (assigned_numbers self.now.script.now self.now.names.now elements.now) || has_number number (row_at self.now.certificate.now.rows row)) }
+        ensures { result ≡ (has_number number (assigned_by self.now elements.now) || has_number number (row_numbers self.now row)) }
     {
         let known = has_in_row(self.certificate, row, number);
         known || self.is_assigned(elements, number)
@@ -165,9 +165,9 @@ impl Checker<'_> {
     // Whether each number of the first row is in the second, or the elements assign its name.
     #[tactic(auto, using(crate::proofs::ClaimLemmas::all_in_more))]
     fn is_row_gained(&self, elements: &[Element], first: RowId, second: RowId) -> bool
-        ensures { let assigned = assigned_numbers self.now.script.now self.now.names.now elements.now in
-            let rows = self.now.certificate.now.rows in
-            result ≡ list_all (λ n. has_number n assigned || has_number n (row_at rows second)) (row_at rows first) }
+        ensures { let assigned = assigned_by self.now elements.now in
+            let known = row_numbers self.now second in
+            result ≡ list_all (λ n. has_number n assigned || has_number n known) (row_numbers self.now first) }
     {
         if first == second {
             return true;
@@ -181,9 +181,8 @@ impl Checker<'_> {
     // Whether the first facts claim no more than the second and the names that the elements assign.
     #[tactic(auto, unfolding(crate::specs::Facts::within, crate::specs::Facts::facts, crate::specs::Facts::with_vars, crate::specs::Certificates::claim_of))]
     fn is_within_gained(&self, elements: &[Element], claimed: Facts, known: Facts) -> bool
-        ensures { let assigned = assigned_numbers self.now.script.now self.now.names.now elements.now in
-            let rows = self.now.certificate.now.rows in
-            result ≡ within (claim_of rows claimed) (with_vars assigned (facts (claim_of rows known))) }
+        ensures { let gained = with_vars (assigned_by self.now elements.now) (facts_in self.now known) in
+            result ≡ within (claim self.now claimed) gained }
     {
         match known {
             Facts::NotReached => true,
@@ -214,10 +213,12 @@ impl Checker<'_> {
         number: u32,
         found: Option<Breach>,
     ) -> Option<Breach>
-        ensures { let claims = claims_of self.now.certificate.now in
-            let known = leaves self.now.script.now self.now.names.now (words_of elements.now) elements.now (facts (claims.before number)) in
-            let holds = within_out (claims.zero_at number) (claims.nonzero_at number) (both known) in
-            fault_found result ≡ least_from (fault_found found) (told holds number (exit_rule self.now.script.now self.now.names.now (words_of elements.now))) }
+        ensures { let claimed = claims self.now in
+            let words = words_of elements.now in
+            let known = leaves self.now.script.now self.now.names.now words elements.now (facts (claimed.before number)) in
+            let holds = within_out (claimed.zero_at number) (claimed.nonzero_at number) (both known) in
+            let rule = exit_rule self.now.script.now self.now.names.now words in
+            fault_found result ≡ least_from (fault_found found) (told holds number rule) }
     {
         let entry = entry_at(self.certificate, number);
         if has_word(elements) {
@@ -234,9 +235,10 @@ impl Checker<'_> {
     // The least of what is found and of the breaches of the command.
     #[tactic(auto, using(crate::proofs::BreachLemmas::least_over), unfolding(crate::specs::Rules::faults))]
     fn noted_at(&self, command: &Command, progress: Progress) -> Option<Breach>
-        ensures { let claims = claims_of self.now.certificate.now in
-            let known = enter (out_of self.now.names.now self.now.policy.now claims progress.predecessor) in
-            fault_found result ≡ least_from (fault_found progress.found) (faults self.now.script.now self.now.names.now claims command.now (rule_of progress.predecessor) known) }
+        ensures { let known = enter (out_behind_of self.now progress.predecessor) in
+            let rule = rule_of progress.predecessor in
+            let told_here = faults self.now.script.now self.now.names.now (claims self.now) command.now rule known in
+            fault_found result ≡ least_from (fault_found progress.found) told_here }
     {
         let number = command.number;
         let entry = entry_at(self.certificate, number);
@@ -250,12 +252,15 @@ impl Checker<'_> {
     // One item further.
     #[tactic(auto, unfolding(crate::specs::Rules::item_faults, crate::specs::Rules::rule_behind, crate::specs::Rules::out_behind, crate::specs::Rules::least_from, crate::specs::Breaches::rule_of, crate::specs::Breaches::out_of))]
     fn step(&self, item: &Item, progress: Progress) -> Progress
-        ensures found { let claims = claims_of self.now.certificate.now in
-            let known = enter (out_of self.now.names.now self.now.policy.now claims progress.predecessor) in
-            fault_found result.found ≡ least_from (fault_found progress.found) (item_faults self.now.script.now self.now.names.now claims (lone_command item.now) (rule_of progress.predecessor) known) }
-        ensures rule { rule_of result.predecessor ≡ rule_behind self.now.script.now self.now.names.now (lone_command item.now) (rule_of progress.predecessor) }
-        ensures out { let claims = claims_of self.now.certificate.now in
-            out_of self.now.names.now self.now.policy.now claims result.predecessor ≡ out_behind self.now.script.now self.now.names.now claims (lone_command item.now) (out_of self.now.names.now self.now.policy.now claims progress.predecessor) }
+        ensures found { let known = enter (out_behind_of self.now progress.predecessor) in
+            let rule = rule_of progress.predecessor in
+            let told_here = item_faults self.now.script.now self.now.names.now (claims self.now) (lone_command item.now) rule known in
+            fault_found result.found ≡ least_from (fault_found progress.found) told_here }
+        ensures rule { let rule = rule_of progress.predecessor in
+            rule_of result.predecessor ≡ rule_behind self.now.script.now self.now.names.now (lone_command item.now) rule }
+        ensures out { let out = out_behind_of self.now progress.predecessor in
+            out_behind_of self.now result.predecessor
+            ≡ out_behind self.now.script.now self.now.names.now (claims self.now) (lone_command item.now) out }
     {
         match item.lone_command() {
             None => progress,
@@ -269,9 +274,9 @@ impl Checker<'_> {
     /// The least command that breaks a rule, with its least rule.
     #[tactic(auto, using(crate::proofs::BreachLemmas::list_step, crate::proofs::BreachLemmas::list_stop), unfolding(crate::specs::Breaches::fault_found, crate::specs::Breaches::rule_of, crate::specs::Breaches::out_of))]
     pub fn least_breach(&self, items: &[Item]) -> Option<Breach>
-        ensures { let claims = claims_of self.now.certificate.now in
-            let start = both (start_facts self.now.names.now self.now.policy.now) in
-            fault_found result ≡ least_from None (list_faults self.now.script.now self.now.names.now claims items.now F1 start) }
+        ensures { let start = both (at_start self.now) in
+            let all = list_faults self.now.script.now self.now.names.now (claims self.now) items.now F1 start in
+            fault_found result ≡ least_from None all }
     {
         let mut progress = Progress {
             found: None,

@@ -1,4 +1,4 @@
-use Rattle.std.proofs.Common.{sym, ◌∙◌, ap, arith}
+use Rattle.std.proofs.Common.{sym, ◌∙◌, arith}
 use Rattle.sh_flow.proofs.NameLemmas.{held, put, too_many}
 use Rattle.sh_flow.proofs.names.Names.add.Goals as goal
 

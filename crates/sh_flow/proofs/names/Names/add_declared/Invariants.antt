@@ -1,4 +1,4 @@
-use Rattle.std.proofs.Common.{◌≡◌, ℕ, List, Bor, Vec, Global, map, fold, take}
+use Rattle.std.proofs.Common.{◌≡◌, ℕ, Vec, Global, map, fold, take}
 use Rattle.sh_flow.specs.Names.{with_text}
 use Rattle.sh_flow.proofs.names.Names.add_declared.Given as goal
 

@@ -1,4 +1,4 @@
-use Rattle.std.proofs.Common.{◌≡◌, List, ℕ, Bor, [], get_or}
+use Rattle.std.proofs.Common.{List, ℕ, Bor, [], get_or}
 use Rattle.std.proofs.lemmas.List.{get_or_default}
 use Rattle.std.proofs.lemmas.Result.{err_from_is_err_and}
 use Rattle.sh_flow.proofs.NameLemmas.{texts_stop}

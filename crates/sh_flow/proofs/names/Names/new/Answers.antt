@@ -1,7 +1,7 @@
 use Rattle.std.proofs.Common.{◌≡◌, ◌≤◌, List, ℕ, Vec, Global, [], map, fold, length, sym, ◌∙◌, ap, subst}
 use Rattle.std.proofs.lemmas.List.{length-map}
 use Rattle.std.proofs.lemmas.Result.{err_from_is_err_and}
-use Rattle.sh_flow.specs.Names.{with_text, first_names}
+use Rattle.sh_flow.specs.Names.{with_text}
 use Rattle.sh_flow.proofs.NameLemmas.{numbered, refused_items, refused_declared}
 use Rattle.sh_flow.proofs.names.Names.new.Goals as goal
 

@@ -1,4 +1,4 @@
-use Rattle.std.proofs.Common.{sym, ◌∙◌}
+use Rattle.std.proofs.Common.{◌∙◌}
 use Rattle.sh_flow.proofs.NameLemmas.{number_is_place}
 use Rattle.sh_flow.proofs.names.Names.number.Goals as goal
 

@@ -1,4 +1,4 @@
-use Rattle.std.proofs.Common.{◌≡◌, sym, ◌∙◌}
+use Rattle.std.proofs.Common.{sym, ◌∙◌}
 use Rattle.sh_flow.proofs.ClaimLemmas.{gained_else}
 use Rattle.sh_flow.proofs.flow.rules.Checker.is_gained.Goals as goal
 

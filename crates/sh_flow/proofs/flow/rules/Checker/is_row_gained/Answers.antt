@@ -1,4 +1,4 @@
-use Rattle.std.proofs.Common.{◌≡◌, ℕ, ◌||◌, true, sym, subst, rules, arith}
+use Rattle.std.proofs.Common.{◌≡◌, ◌||◌, true, sym, subst, rules, arith}
 use Rattle.std.proofs.lemmas.Grind.{common_steps}
 use Rattle.std.specs.List.{list_all}
 use Rattle.sh_flow.specs.Facts.{has_number}
