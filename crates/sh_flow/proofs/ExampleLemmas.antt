@@ -1,5 +1,5 @@
 -- The examples' runs, computed.
-use Rattle.std.proofs.Common.{◌≡◌, ℕ, true, false, List, [], ◌∷◌, replicate, codes, Some, None, is_some, option_map, bytes_eq, refl, subst, ◌⊎◌, inl, inr, ap, zero-le, ◌∙◌, ◌++◌}
+use Rattle.std.proofs.Common.{◌≡◌, ℕ, true, false, List, [], ◌∷◌, codes, Some, is_some, bytes_eq, refl, subst, ◌⊎◌, inl, inr, ap, zero-le, ◌∙◌, ◌++◌}
 use Rattle.std.specs.List.{list_any}
 use Rattle.std.proofs.lemmas.Slice.Eq.{bytes_eq-Decides}
 use Rattle.sh_tree.specs.declared.tree.Span.{Span}
@@ -8,14 +8,14 @@ use Rattle.sh_tree.specs.declared.tree.Part.TheBlock.{hidden-the_row-Part-0, ite
 use Rattle.sh_tree.specs.Tree.{span, value_of}
 use Rattle.sh_flow.proofs.FactLemmas.{or_cases}
 use Rattle.sh_tree.specs.Words.{expansions_in-Double, static_text, part_text, row_text, lone_command, lone_pipe, lone_part, word_of, assignment_of, expansions, expansions_in, row_expansions}
-use Rattle.sh_tree.specs.Examples.{quoted_text, quoted_script, bare_text, bare_script, assigned_text, assigned_parts, assigned_script, passed_text, passed_script}
+use Rattle.sh_tree.specs.Examples.{quoted_text, assigned_text, passed_text}
 use Rattle.sh_flow.specs.Policy.{Text}
 use Rattle.sh_flow.specs.Names.{start_names, is_one_of}
 use Rattle.sh_flow.specs.Profile.{is_plain_name, is_named_utility, is_utility}
 use Rattle.sh_flow.specs.Environment.{Environment, assigned, put_text}
 use Rattle.sh_flow.specs.Pieces.{Quoted, value_text, names_unset, is_unset, expand, piece_of, part_value, row_value, splits, is_split, is_expanded, holds_pattern}
 use Rattle.sh_flow.specs.Machine.{put, simple_work, command_work, assign, pass, act, expands_unset, splits_value, is_part_of, any_below, waits, apply, step_of, step, run, has_event_of, has_unset_event, has_split_event, start_world, IsStart}
-use Rattle.sh_flow.specs.Examples.{bare_start, start_with, nothing_declared, x_declared, goes, fails, after, unset_events, split_events, steps, at_none, at_second_word, ExamplesRun}
+use Rattle.sh_flow.specs.Examples.{bare_start, start_with, nothing_declared, x_declared, goes, fails, ExamplesRun}
 
 -- what double quotes hold
 

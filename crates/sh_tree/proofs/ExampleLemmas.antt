@@ -2,12 +2,9 @@
 use Rattle.std.proofs.Common.{◌≡◌, ℕ, ◌+◌, List, [], ◌∷◌, length, refl, sym, subst}
 use Rattle.sh_tree.specs.declared.sign.Context.TheVariants.{Unquoted, Quoted}
 use Rattle.sh_tree.specs.declared.sign.Sign.TheVariants as sign
-use Rattle.sh_tree.specs.declared.sign.Stage.TheVariants.{First, Prefixed, Named}
-use Rattle.sh_tree.specs.declared.tree.Part.{Part}
-use Rattle.sh_tree.specs.declared.tree.Part.TheVariants.{Plain, Double}
+use Rattle.sh_tree.specs.declared.sign.Stage.TheVariants.{First, Prefixed}
+use Rattle.sh_tree.specs.declared.tree.Part.TheVariants.{Plain}
 use Rattle.sh_tree.specs.declared.tree.Element.{Element}
-use Rattle.sh_tree.specs.declared.tree.Command.{Command}
-use Rattle.sh_tree.specs.declared.tree.Item.{Item}
 use Rattle.sh_tree.specs.Tree.{span, value_of, assignment, operand, simple_command}
 use Rattle.sh_tree.specs.Tokens.{token, sign_of, quoted_sign, unquoted_sign, dollar, name_length, plain_length, begin_at, begin_of, begin_word, is_left_out, bare_word, is_assignment, is_double, name_end, blanks, linebreak, next_item, first_item, comment_length}
 use Rattle.sh_tree.specs.Reading.{Reads, ReadsItems, ReadsElements, ReadsParts, ReadsPart, spot}
