@@ -1,18 +1,17 @@
 -- The first command that is not analysed, item by item.
-use Rattle.std.proofs.Common.{◌≡◌, ℕ, ◌+◌, ◌<◌, ◌≤◌, Bool, true, false, cond, Option, Some, None, List, [], ◌∷◌, ◌++◌, length, get_or, drop, refl, sym, ◌∙◌, ap, add-one, drop-cons, slice_get, option_to_list, suc}
+use Rattle.std.proofs.Common.{◌≡◌, ℕ, ◌+◌, ◌<◌, ◌≤◌, Bool, true, false, cond, Option, Some, None, List, [], ◌∷◌, length, get_or, drop, refl, ◌∙◌, ap, add-one, drop-cons, slice_get, option_to_list, suc}
 use Rattle.std.specs.Option.{option_or}
 use Rattle.std.proofs.lemmas.List.{drop_all}
 use Rattle.std.specs.List.{filter_map, list_all, cons_option}
-use Rattle.sh_tree.specs.declared.tree.Script.{Script}
 use Rattle.sh_tree.specs.declared.tree.Item.{Item}
 use Rattle.sh_tree.specs.declared.tree.Command.{Command}
 use Rattle.sh_tree.specs.declared.tree.Element.{Element}
 use Rattle.sh_tree.specs.declared.tree.Element.TheVariants as element
 use Rattle.sh_tree.specs.declared.tree.Span.{Span}
 use Rattle.sh_tree.specs.declared.tree.Word.{Word}
-use Rattle.sh_tree.specs.Words.{lone_command, lone_commands, words_of, word_of, static_text, elements_of}
+use Rattle.sh_tree.specs.Words.{lone_command, words_of, word_of, static_text}
 use Rattle.sh_flow.specs.Policy.{Text}
-use Rattle.sh_flow.specs.Profile.{is_utility, is_named_utility, is_plain_name, is_admitted, is_item_admitted, Admitted}
+use Rattle.sh_flow.specs.Profile.{is_utility, is_named_utility, is_plain_name, is_admitted, is_item_admitted}
 use Rattle.shset.specs.Findings.{first_refused}
 
 -- the name of a command, element by element

@@ -1,6 +1,6 @@
 -- The certificate that the finder makes: each rule holds by it, and what is unmet is what the text alone tells.
-use Rattle.std.proofs.Common.{◌≡◌, ℕ, ◌+◌, ◌-◌, ◌<◌, ◌≤◌, Bool, true, false, ◌&&◌, ◌||◌, Option, Some, None, List, [], ◌∷◌, ◌++◌, length, map, min, refl, sym, ◌∙◌, ap, subst, arith, nat_le, leb, eqb, slice_get, is_some, unwrap_or, option_map}
-use Rattle.std.specs.List.{filter_map, cons_option, list_any, list_all, flat_map}
+use Rattle.std.proofs.Common.{◌≡◌, ℕ, ◌+◌, ◌-◌, Bool, true, false, ◌&&◌, ◌||◌, Option, Some, None, List, [], ◌∷◌, ◌++◌, map, min, refl, sym, ◌∙◌, ap, subst, arith, nat_le, slice_get, is_some, unwrap_or, option_map}
+use Rattle.std.specs.List.{filter_map, cons_option, list_all, flat_map}
 use Rattle.std.specs.Str.{bytes_eq}
 use Rattle.std.proofs.lemmas.Grind.{common_steps}
 use Rattle.std.proofs.lemmas.List.{append-nil}
@@ -15,9 +15,9 @@ use Rattle.sh_tree.specs.declared.tree.Word.{Word}
 use Rattle.sh_tree.specs.Words.{lone_command, lone_commands, elements_of, words_of, assignments_of, Expansion, expansions, subject_text}
 use Rattle.sh_flow.specs.Policy.{Text, Declared}
 use Rattle.sh_flow.specs.Names.{start_names, is_one_of, number_of, subjects, names_in, script_names}
-use Rattle.sh_flow.specs.Facts.{Facts, NotReached, Known, Claim, Unreached, Claimed, has_number, facts, within, within_out, meet, with_vars, Out, both, enter, out_at, Claims}
+use Rattle.sh_flow.specs.Facts.{Facts, Known, Claim, Claimed, has_number, facts, within, meet, with_vars, Out, both, enter, out_at, Claims}
 use Rattle.sh_flow.specs.Certificates.{Table, row_at, claim_of, claim_in, entry_of, claims_of}
-use Rattle.sh_flow.specs.Rules.{told, is_set_at_start, start_facts, assigned_numbers, leaves, exit_rule, faults, item_faults, rule_behind, out_behind, list_faults, script_faults}
+use Rattle.sh_flow.specs.Rules.{told, is_set_at_start, start_facts, assigned_numbers, leaves, faults, item_faults, rule_behind, out_behind, list_faults, script_faults}
 use Rattle.sh_flow.specs.Demands.{wanted, knows, covers, uncovered, element_unmet, command_unmet, script_unmet}
 use Rattle.sh_flow.specs.declared.certificate.Facts as shown
 use Rattle.sh_flow.specs.declared.certificate.Entry.{Entry}
@@ -27,7 +27,7 @@ use Rattle.shset.specs.Findings.{gains, command_gains, unsure, element_unset, co
 use Rattle.shset.specs.Certifies.{numbers_of, HoldsNames, Says, Round, Follows, Found}
 use Rattle.shset.specs.declared.find.Finder.{Finder}
 use Rattle.shset.proofs.RowLemmas.{or_swap, has_append, numbers_append}
-use Rattle.shset.proofs.NumberingLemmas.{and_left, and_right, all_of, NameOf, name_of, number_shared, LoneAt, NumberedFrom, all_numbered, reads_numbered}
+use Rattle.shset.proofs.NumberingLemmas.{and_left, and_right, all_of, NameOf, name_of, number_shared, NumberedFrom}
 
 -- What an entry claims
 

@@ -1,7 +1,6 @@
 -- Rows of numbers of names, a name at a time.
-use Rattle.std.proofs.Common.{◌≡◌, ℕ, suc, ◌+◌, ◌<◌, ◌≤◌, Bool, true, false, ◌||◌, Option, Some, None, Result, Ok, Err, IfOk, List, [], ◌∷◌, ◌++◌, length, get_or, drop, map, Vec, Global, refl, sym, ◌∙◌, ap, subst, eqb, add-one, drop-cons, option_to_list, slice_get}
-use Rattle.std.specs.List.{filter_map, cons_option}
-use Rattle.std.proofs.lemmas.List.{drop_all}
+use Rattle.std.proofs.Common.{◌≡◌, ℕ, Bool, true, false, ◌||◌, Option, Some, None, Result, Ok, Err, IfOk, List, [], ◌∷◌, ◌++◌, map, Vec, Global, refl, sym, ◌∙◌, ap, subst, eqb, option_to_list, slice_get}
+use Rattle.std.specs.List.{cons_option}
 use Rattle.std.proofs.lemmas.List.Elements.{filter_map-append}
 use Rattle.std.proofs.lemmas.List.Folds.{list_any-append}
 use Rattle.sh_tree.specs.declared.tree.Element.{Element}
@@ -9,9 +8,9 @@ use Rattle.sh_tree.specs.declared.tree.Element.TheVariants as element
 use Rattle.sh_tree.specs.declared.tree.Span.{Span}
 use Rattle.sh_tree.specs.declared.tree.Word.{Word}
 use Rattle.sh_tree.specs.Tree.{text_of}
-use Rattle.sh_tree.specs.Words.{assignment_of, assignments_of, words_of}
+use Rattle.sh_tree.specs.Words.{assignment_of, assignments_of}
 use Rattle.sh_flow.specs.Policy.{Text}
-use Rattle.sh_flow.specs.Names.{number_of, start_names}
+use Rattle.sh_flow.specs.Names.{number_of}
 use Rattle.sh_flow.specs.Facts.{has_number}
 use Rattle.shset.specs.Findings.{gains}
 use Rattle.shset.specs.Certifies.{numbers_of, HoldsNames, Gains}

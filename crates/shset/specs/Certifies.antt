@@ -1,7 +1,7 @@
 -- What the certificate of a straight script claims: before each command the names that are sure there, and after it those
 -- and the names that it gains.
 -- The standard has no such thing: what is surely set (XCU 2.5) before a command of a list (XCU 2.9.3), and after it.
-use Rattle.std.specs.Prelude.{◌≡◌, ℕ, ◌+◌, ◌<◌, ◌||◌, List, [], ◌∷◌, ◌++◌, length, Option, Some, None, slice_get}
+use Rattle.std.specs.Prelude.{◌≡◌, ℕ, ◌+◌, ◌<◌, ◌||◌, List, [], ◌∷◌, ◌++◌, length, Some, slice_get}
 use Rattle.std.specs.List.{filter_map}
 use Rattle.sh_tree.specs.declared.tree.Command.{Command}
 use Rattle.sh_flow.specs.Policy.{Text}

@@ -1,6 +1,6 @@
 -- The findings of a straight script, read off its text alone.
 -- POSIX.1-2024, XCU 2.5.3 (shell variables), 2.6.2 (parameter expansion), 2.6.5 (field splitting), 2.9.1 (simple commands).
-use Rattle.std.specs.Prelude.{◌≡◌, ℕ, Bool, true, false, List, [], ◌∷◌, ◌++◌, map, if◌then◌else◌, Option, Some, None, Result, Ok, Err}
+use Rattle.std.specs.Prelude.{◌≡◌, ℕ, false, List, [], ◌∷◌, ◌++◌, map, if◌then◌else◌, Option, Some, None, Result, Ok, Err}
 use Rattle.std.specs.List.{flat_map}
 use Rattle.sh_tree.specs.declared.place.Place.{Place}
 use Rattle.sh_tree.specs.declared.place.Code.TheVariants.{Q1}
@@ -15,7 +15,7 @@ use Rattle.sh_tree.specs.declared.refusal.Rule.TheVariants.{Later}
 use Rattle.sh_tree.specs.Words.{lone_commands, elements_of, words_of, assignments_of, expansions, Expansion, subject_text}
 use Rattle.sh_flow.specs.Policy.{Text, Declared}
 use Rattle.sh_flow.specs.Names.{start_names, is_one_of}
-use Rattle.sh_flow.specs.Profile.{is_admitted, Admitted}
+use Rattle.sh_flow.specs.Profile.{is_admitted}
 use Rattle.sh_flow.specs.Demands.{wanted}
 
 -- Quoting: each unquoted expansion in a command's words

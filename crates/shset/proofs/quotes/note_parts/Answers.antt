@@ -1,5 +1,4 @@
-use Rattle.sh_flow.specs.Walks.{on_lone}
-use Rattle.shset.specs.Walks.{part_quote_places, element_quote_places, command_quote_places}
+use Rattle.shset.specs.Walks.{part_quote_places}
 use Rattle.shset.proofs.QuoteLemmas.{some_in_all, whatever}
 use Rattle.shset.proofs.quotes.note_parts.Goals as goal
 

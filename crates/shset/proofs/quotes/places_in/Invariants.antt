@@ -1,6 +1,6 @@
 use Rattle.std.proofs.Common.{◌≡◌, ◌++◌, [], take, flat_map}
 use Rattle.sh_flow.specs.Walks.{on_lone}
-use Rattle.shset.specs.Walks.{part_quote_places, element_quote_places, command_quote_places}
+use Rattle.shset.specs.Walks.{command_quote_places}
 use Rattle.shset.proofs.quotes.places_in.Given as goal
 
 -- the places of the pieces so far are noted
