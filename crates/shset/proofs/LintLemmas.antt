@@ -1,10 +1,9 @@
 -- From the parts of a check to what is told of a script.
-use Rattle.std.proofs.Common.{◌≡◌, ℕ, ◌<◌, ◌≤◌, ◌⊎◌, inl, inr, List, [], ◌∷◌, ◌++◌, length, map, Result, Ok, Err, Vec, Option, Some, refl, sym, ◌∙◌, ap, subst, arith, IfOk}
+use Rattle.std.proofs.Common.{◌≡◌, ℕ, ◌<◌, inl, inr, List, [], ◌∷◌, ◌++◌, length, map, Result, Ok, Err, Vec, refl, sym, ◌∙◌, subst, arith, IfOk}
 use Rattle.std.specs.declared.alloc.Global.{Global}
 use Rattle.std.proofs.lemmas.List.Sorted.{IsPermutation-map, length_permutation}
 use Rattle.std.proofs.lemmas.List.{length-map}
 use Rattle.std.specs.List.Sorted.{IsPermutation, IsSortedByKey}
-use Rattle.sh_tree.specs.declared.limits.TheConstants.{MAX_NAMES}
 use Rattle.sh_tree.specs.declared.place.Place.{Place}
 use Rattle.sh_tree.specs.declared.tree.Script.{Script}
 use Rattle.sh_tree.specs.declared.tree.Item.{Item}
@@ -16,15 +15,14 @@ use Rattle.sh_tree.specs.Words.{lone_command, lone_pipe, lone_part}
 use Rattle.sh_tree.specs.Tree.{foreground, and_or}
 use Rattle.sh_tree.specs.declared.tree.AndOr.{AndOr}
 use Rattle.sh_tree.specs.declared.tree.Pipe.{Pipe}
-use Rattle.sh_tree.specs.Answers.{IsText, Parses}
+use Rattle.sh_tree.specs.Answers.{Parses}
 use Rattle.sh_flow.specs.Policy.{Declared}
-use Rattle.sh_flow.specs.Names.{numbering, Numbers}
+use Rattle.sh_flow.specs.Names.{Numbers}
 use Rattle.sh_flow.specs.Profile.{Admitted}
 use Rattle.shset.specs.declared.verdict.Finding.{Finding}
-use Rattle.shset.specs.declared.verdict.Report.{Report}
 use Rattle.shset.specs.declared.verdict.Verdict.TheVariants.{Pass, Fail}
 use Rattle.shset.specs.Findings.{Admits}
-use Rattle.shset.specs.Lint.{IsReading, IsAccepted, Accepts, AreFindings, IsSafe, Lints, places, shown_at}
+use Rattle.shset.specs.Lint.{IsReading, IsAccepted, Accepts, AreFindings, Lints, shown_at}
 use Rattle.shset.specs.Verdicts.{shown, shown_cmp}
 use Rattle.shset.proofs.AdmitLemmas.{IsLone, AllLone, admitted_from_none}
 

@@ -16,7 +16,6 @@ use Rattle.sh_flow.specs.Names.{numbering}
 use Rattle.sh_flow.specs.Profile.{Admitted}
 use Rattle.sh_flow.specs.Theorem.{NoUnsetEvent, NoSplitEvent}
 use Rattle.shset.specs.declared.verdict.Finding.{Finding}
-use Rattle.shset.specs.declared.verdict.Report.{Report}
 use Rattle.shset.specs.declared.verdict.Verdict.{Verdict}
 use Rattle.shset.specs.declared.verdict.Verdict.TheVariants.{Pass, Fail, Forged}
 use Rattle.shset.specs.Findings.{Admits, quote_places, unset_places}

@@ -68,7 +68,13 @@ fn run_over<R: Print + Eprint + AllocGlobal, S: Read + Drop>(
     let mut script = Counted::new(script);
     let mut certificate = Counted::new(b"".as_slice());
     let mut out = Counted::new(io::writer(rt));
-    match run(rt.alloc(), &line.task, &mut script, &mut certificate, &mut out) {
+    match run(
+        rt.alloc(),
+        &line.task,
+        &mut script,
+        &mut certificate,
+        &mut out,
+    ) {
         Ok(status) => ExitCode::from(status),
         Err(fault) => complain(rt, fault_text(fault)),
     }

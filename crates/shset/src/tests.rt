@@ -79,7 +79,10 @@ fn scripts_with_findings(rt: HostRuntime) -> Result<(), Fail> {
             b"x=1\necho \"$x$y\"\n",
             b"2:9: U1 parameter y may be unset\nfindings: 1\n",
         ),
-        (b"echo \"$x\"\n", b"1:7: U1 parameter x may be unset\nfindings: 1\n"),
+        (
+            b"echo \"$x\"\n",
+            b"1:7: U1 parameter x may be unset\nfindings: 1\n",
+        ),
         (
             b"echo $x\n",
             b"1:6: Q1 unquoted expansion\n1:6: U1 parameter x may be unset\nfindings: 2\n",
@@ -97,7 +100,10 @@ fn scripts_with_findings(rt: HostRuntime) -> Result<(), Fail> {
             b"x=1 y=\"$x\"",
             b"1:8: U1 parameter x may be unset\nfindings: 1\n",
         ),
-        (b"x=\"$x\"", b"1:4: U1 parameter x may be unset\nfindings: 1\n"),
+        (
+            b"x=\"$x\"",
+            b"1:4: U1 parameter x may be unset\nfindings: 1\n",
+        ),
         (
             b"x=1 echo a\necho \"$x\"",
             b"2:7: U1 parameter x may be unset\nfindings: 1\n",
@@ -149,19 +155,34 @@ fn declared_names(rt: HostRuntime) -> Result<(), Fail> {
     let told_clean = run_of(rt.alloc(), &x, b"echo \"$x\"\n")?;
     assert_eq!(rt; told_clean.text.as_slice(), b"clean\n".as_slice());
     let told_unquoted = run_of(rt.alloc(), &x, b"echo $x\n")?;
-    assert_eq!(rt; told_unquoted.text.as_slice(), b"1:6: Q1 unquoted expansion\nfindings: 1\n".as_slice());
+    assert_eq!(rt;
+        told_unquoted.text.as_slice(),
+        b"1:6: Q1 unquoted expansion\nfindings: 1\n".as_slice()
+    );
     let twice: [&[u8]; 3] = [b"x", b"y", b"x"];
     let told_twice = run_of(rt.alloc(), &twice, b"echo \"$x$y$z\"\n")?;
-    assert_eq!(rt; told_twice.text.as_slice(), b"1:11: U1 parameter z may be unset\nfindings: 1\n".as_slice());
+    assert_eq!(rt;
+        told_twice.text.as_slice(),
+        b"1:11: U1 parameter z may be unset\nfindings: 1\n".as_slice()
+    );
     Ok(())
 }
 
 #[test]
 fn refused_scripts(rt: HostRuntime) -> Result<(), Fail> {
     let rows: [(&[u8], &[u8]); 36] = [
-        (b"echo 'a'\n", b"refused 1:6: this form is outside the profile\n"),
-        (b"unset x\n", b"refused 1:1: this command is outside the profile\n"),
-        (b"echo \"$x\n", b"refused 1:6: a double quote is not closed\n"),
+        (
+            b"echo 'a'\n",
+            b"refused 1:6: this form is outside the profile\n",
+        ),
+        (
+            b"unset x\n",
+            b"refused 1:1: this command is outside the profile\n",
+        ),
+        (
+            b"echo \"$x\n",
+            b"refused 1:6: a double quote is not closed\n",
+        ),
         (b"a\0", b"refused 1:2: a NUL byte\n"),
         (b"a\n'\0", b"refused 2:2: a NUL byte\n"),
         (b";", b"refused 1:1: unexpected token\n"),
@@ -172,29 +193,89 @@ fn refused_scripts(rt: HostRuntime) -> Result<(), Fail> {
         (b"a;&b", b"refused 1:2: this form is outside the profile\n"),
         (b"a & b", b"refused 1:3: this form is outside the profile\n"),
         (b"a | b", b"refused 1:3: this form is outside the profile\n"),
-        (b"echo $", b"refused 1:6: this form is outside the profile\n"),
-        (b"echo \"$\"", b"refused 1:7: this form is outside the profile\n"),
-        (b"echo $1", b"refused 1:6: this form is outside the profile\n"),
-        (b"echo ${x}", b"refused 1:6: this form is outside the profile\n"),
-        (b"echo \"a\\b\"", b"refused 1:8: this form is outside the profile\n"),
-        (b"echo `a`", b"refused 1:6: this form is outside the profile\n"),
-        (b"echo a#b", b"refused 1:7: this form is outside the profile\n"),
+        (
+            b"echo $",
+            b"refused 1:6: this form is outside the profile\n",
+        ),
+        (
+            b"echo \"$\"",
+            b"refused 1:7: this form is outside the profile\n",
+        ),
+        (
+            b"echo $1",
+            b"refused 1:6: this form is outside the profile\n",
+        ),
+        (
+            b"echo ${x}",
+            b"refused 1:6: this form is outside the profile\n",
+        ),
+        (
+            b"echo \"a\\b\"",
+            b"refused 1:8: this form is outside the profile\n",
+        ),
+        (
+            b"echo `a`",
+            b"refused 1:6: this form is outside the profile\n",
+        ),
+        (
+            b"echo a#b",
+            b"refused 1:7: this form is outside the profile\n",
+        ),
         (b"# a", b"refused 1:1: this form is outside the profile\n"),
-        (b"\n#!/bin/sh\n", b"refused 2:1: this form is outside the profile\n"),
+        (
+            b"\n#!/bin/sh\n",
+            b"refused 2:1: this form is outside the profile\n",
+        ),
         (b"if a", b"refused 1:1: this form is outside the profile\n"),
-        (b"x=1\nin", b"refused 2:1: this form is outside the profile\n"),
-        (b"time a", b"refused 1:1: this form is outside the profile\n"),
-        (b"x=1 time a", b"refused 1:5: this form is outside the profile\n"),
-        (b"echo *", b"refused 1:6: this form is outside the profile\n"),
-        (b"echo ~", b"refused 1:6: this form is outside the profile\n"),
-        (b"$x a", b"refused 1:1: this command is outside the profile\n"),
-        (b"a\nb$x", b"refused 2:1: this command is outside the profile\n"),
-        (b"\"x\"=1", b"refused 1:1: this command is outside the profile\n"),
-        (b"1x=2", b"refused 1:1: this command is outside the profile\n"),
-        (b"x=1 cd /", b"refused 1:1: this command is outside the profile\n"),
-        (b"a\n  \"eval\" a", b"refused 2:3: this command is outside the profile\n"),
+        (
+            b"x=1\nin",
+            b"refused 2:1: this form is outside the profile\n",
+        ),
+        (
+            b"time a",
+            b"refused 1:1: this form is outside the profile\n",
+        ),
+        (
+            b"x=1 time a",
+            b"refused 1:5: this form is outside the profile\n",
+        ),
+        (
+            b"echo *",
+            b"refused 1:6: this form is outside the profile\n",
+        ),
+        (
+            b"echo ~",
+            b"refused 1:6: this form is outside the profile\n",
+        ),
+        (
+            b"$x a",
+            b"refused 1:1: this command is outside the profile\n",
+        ),
+        (
+            b"a\nb$x",
+            b"refused 2:1: this command is outside the profile\n",
+        ),
+        (
+            b"\"x\"=1",
+            b"refused 1:1: this command is outside the profile\n",
+        ),
+        (
+            b"1x=2",
+            b"refused 1:1: this command is outside the profile\n",
+        ),
+        (
+            b"x=1 cd /",
+            b"refused 1:1: this command is outside the profile\n",
+        ),
+        (
+            b"a\n  \"eval\" a",
+            b"refused 2:3: this command is outside the profile\n",
+        ),
         (b":", b"refused 1:1: this command is outside the profile\n"),
-        (b"\"time\" a", b"refused 1:1: this command is outside the profile\n"),
+        (
+            b"\"time\" a",
+            b"refused 1:1: this command is outside the profile\n",
+        ),
     ];
     for (script, text) in rows {
         let told = run_of(rt.alloc(), &[], script)?;
@@ -220,7 +301,10 @@ fn limits_of_the_text(rt: HostRuntime) -> Result<(), Fail> {
     assert_eq!(rt; told_longest.text.as_slice(), b"clean\n".as_slice());
     let longer = copies(rt.alloc(), b"'", 1_048_577)?;
     let told_longer = run_of(rt.alloc(), &[], &longer)?;
-    assert_eq!(rt; told_longer.text.as_slice(), b"refused: the script is longer than 1048576 bytes\n".as_slice());
+    assert_eq!(rt;
+        told_longer.text.as_slice(),
+        b"refused: the script is longer than 1048576 bytes\n".as_slice()
+    );
     assert_eq!(rt; told_longer.status, 2);
     Ok(())
 }
@@ -232,7 +316,10 @@ fn limits_of_commands(rt: HostRuntime) -> Result<(), Fail> {
     assert_eq!(rt; told_most.text.as_slice(), b"clean\n".as_slice());
     let more = copies(rt.alloc(), b"a\n", 65_536)?;
     let told_more = run_of(rt.alloc(), &[], &more)?;
-    assert_eq!(rt; told_more.text.as_slice(), b"refused: too many commands or names\n".as_slice());
+    assert_eq!(rt;
+        told_more.text.as_slice(),
+        b"refused: too many commands or names\n".as_slice()
+    );
     assert_eq!(rt; told_more.status, 2);
     Ok(())
 }
@@ -248,6 +335,9 @@ fn limits_of_names(rt: HostRuntime) -> Result<(), Fail> {
     assert_eq!(rt; told_most.text.as_slice(), b"clean\n".as_slice());
     text.extend_from_slice(b"v4092=\n")?;
     let told_more = run_of(rt.alloc(), &[], &text)?;
-    assert_eq!(rt; told_more.text.as_slice(), b"refused: too many commands or names\n".as_slice());
+    assert_eq!(rt;
+        told_more.text.as_slice(),
+        b"refused: too many commands or names\n".as_slice()
+    );
     Ok(())
 }

@@ -12,7 +12,9 @@ ghost use Rattle.sh_flow.specs.declared.rule.FlowRule.TheVariants.{F1};
 
 use crate::certificate::{Certificate, Facts, RowId};
 use crate::flow::breach::{Breach, noted};
-use crate::flow::claims::{entry_at, has_in_row, is_row_within, is_within, numbers_of, shared_front};
+use crate::flow::claims::{
+    entry_at, has_in_row, is_row_within, is_within, numbers_of, shared_front,
+};
 use crate::names::Names;
 use crate::policy::Policy;
 use crate::rule::FlowRule;

@@ -1,6 +1,5 @@
-use Rattle.std.proofs.Common.{◌≡◌, ◌≤◌, map, take, length, ap, ◌∙◌, arith}
+use Rattle.std.proofs.Common.{◌≡◌, map, take, ap, ◌∙◌, arith}
 use Rattle.std.proofs.lemmas.List.{take_all}
-use Rattle.std.proofs.lemmas.Result.{IfOk-weaker}
 use Rattle.shset.specs.Lint.{shown_at}
 use Rattle.shset.proofs.LintLemmas.{sorted_findings}
 use Rattle.shset.proofs.lint.findings_at.Goals as goal
