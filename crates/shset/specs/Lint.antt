@@ -72,7 +72,7 @@ abbrev pub Lints : List ℕ → Declared → Result Verdict Refusal → Type 0
 Lints b d (Ok Pass) = (t : Script) × IsAccepted b d t × (places b d t ≡ []) × IsSafe b d t
 Lints b d (Ok (Fail r)) = (t : Script) × IsAccepted b d t × (0 < length r.findings.items) × AreFindings b (places b d t) r.findings.items
 Lints b d (Ok (Forged k r)) = ⊥
-Lints b d (Err (Profile r at)) = (t : Script) × IsReading b t × Admits b t (Err (Profile r at))
+Lints b d (Err (Profile r at)) = (t : Script) × IsReading b t × Admits b t (Err (Profile r at)) × (at < length b)
 Lints b d (Err TooMany) = Parses b (Err TooMany) ⊎ ((t : Script) × IsReading b t × Admitted b t × (MAX_NAMES < length (numbering b t d)))
 Lints b d (Err TooLong) = Parses b (Err TooLong)
 Lints b d (Err (NulByte at)) = Parses b (Err (NulByte at))

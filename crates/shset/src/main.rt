@@ -12,6 +12,8 @@ mod lines;
 mod lint;
 mod moves;
 mod quotes;
+#[cfg(test)]
+mod rigged;
 mod task;
 #[cfg(test)]
 mod tests;

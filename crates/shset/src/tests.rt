@@ -2,6 +2,8 @@
 
 use crate::counted::Counted;
 use crate::engine::run;
+use crate::moves::Fault;
+use crate::rigged::{Rigged, Trick};
 use crate::task::{Action, Task};
 use sh_flow::policy::Policy;
 use std::alloc::Global;
@@ -339,5 +341,70 @@ fn limits_of_names(rt: HostRuntime) -> Result<(), Fail> {
         told_more.text.as_slice(),
         b"refused: too many commands or names\n".as_slice()
     );
+    Ok(())
+}
+
+const SCRIPT: &[u8] = b"x=1\necho \"$x$y\"\n";
+
+const ANSWER: &[u8] = b"2:9: U1 parameter y may be unset\nfindings: 1\n";
+
+fn lint_task(alloc: Global) -> Result<Task, Fail> {
+    Ok(Task {
+        action: Action::Lint,
+        policy: Policy::new(alloc, &[], 0)?,
+    })
+}
+
+#[test]
+fn a_reader_that_fails_leaves_nothing_written(rt: HostRuntime) -> Result<(), Fail> {
+    let task = lint_task(rt.alloc())?;
+    for call in 1..=17 {
+        let mut script = Rigged::new(SCRIPT, 1, 0, call, Trick::Fail);
+        let mut certificate = Counted::new(b"".as_slice());
+        let mut out = Counted::new(Vec::<u8>::new(rt.alloc()));
+        let answer = run(rt.alloc(), &task, &mut script, &mut certificate, &mut out);
+        assert!(rt; answer == Err(Fault::Read), "at {call}");
+        assert!(rt; out.inner.is_empty(), "at {call}");
+    }
+    Ok(())
+}
+
+#[test]
+fn a_writer_that_fails_has_a_front_of_the_text(rt: HostRuntime) -> Result<(), Fail> {
+    let task = lint_task(rt.alloc())?;
+    for trick in [Trick::Fail, Trick::Refuse] {
+        for call in 1..=45u32 {
+            let mut script = Counted::new(SCRIPT);
+            let mut certificate = Counted::new(b"".as_slice());
+            let mut out = Rigged::new(Vec::<u8>::new(rt.alloc()), 1, 0, call, trick);
+            let answer = run(rt.alloc(), &task, &mut script, &mut certificate, &mut out);
+            assert!(rt; answer == Err(Fault::Write), "at {call}");
+            assert!(rt; ANSWER.starts_with(out.inner.as_slice()), "at {call}");
+            assert_eq!(rt; out.inner.len() + 1, call as usize);
+        }
+    }
+    Ok(())
+}
+
+#[test]
+fn interruptions_are_borne(rt: HostRuntime) -> Result<(), Fail> {
+    let task = lint_task(rt.alloc())?;
+    let mut script = Rigged::new(SCRIPT, 1, 1024, 0, Trick::Fail);
+    let mut certificate = Counted::new(b"".as_slice());
+    let mut out = Rigged::new(Vec::<u8>::new(rt.alloc()), 1, 1024, 0, Trick::Fail);
+    let answer = run(rt.alloc(), &task, &mut script, &mut certificate, &mut out);
+    assert!(rt; answer == Ok(1));
+    assert_eq!(rt; out.inner.as_slice(), ANSWER);
+    let mut interrupted = Rigged::new(SCRIPT, 1, 1025, 0, Trick::Fail);
+    let mut none = Counted::new(Vec::<u8>::new(rt.alloc()));
+    let answer = run(
+        rt.alloc(),
+        &task,
+        &mut interrupted,
+        &mut certificate,
+        &mut none,
+    );
+    assert!(rt; answer == Err(Fault::Read));
+    assert!(rt; none.inner.is_empty());
     Ok(())
 }
