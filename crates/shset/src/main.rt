@@ -24,7 +24,7 @@ use counted::Counted;
 use engine::run;
 use line::{Line, Source, Stop, command_line};
 use moves::Fault;
-use std::io::{self, Read};
+use std::io::{self, ErrorKind, Read};
 use std::process::ExitCode;
 use std::rt::{Env, Files};
 use std::{env, fs};
@@ -96,9 +96,18 @@ fn words_of(rt: &(impl Env + AllocGlobal)) -> io::Result<Vec<String>> {
     env::args(rt)?.collect(rt.alloc()).map_err(io::Error::from)
 }
 
+/// What is told where the runtime has no words: it gives them as text or not at all.
+fn words_fault_text(kind: ErrorKind) -> &'static str {
+    match kind {
+        ErrorKind::OutOfMemory => fault_text(Fault::Memory),
+        _ => "shset: the words of the command line are not UTF-8",
+    }
+}
+
 fn main(rt: HostRuntime) -> ExitCode {
-    let Ok(words) = words_of(&rt) else {
-        return complain(&rt, "shset: the words of the command line are not UTF-8");
+    let words = match words_of(&rt) {
+        Ok(words) => words,
+        Err(error) => return complain(&rt, words_fault_text(error.kind())),
     };
     match command_line(rt.alloc(), words.as_slice()) {
         Ok(line) => run_line(&rt, &line),
