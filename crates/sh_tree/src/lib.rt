@@ -3,6 +3,7 @@
 #![tactic(auto)]
 
 mod items;
+pub mod known;
 pub mod laws;
 pub mod limits;
 pub mod name;

@@ -16,7 +16,6 @@ use Rattle.sh_tree.specs.declared.tree.Element.{Element}
 use Rattle.sh_tree.specs.declared.sign.Stage.{Stage}
 use Rattle.sh_tree.specs.declared.sign.Stage.TheVariants.{First}
 use Rattle.sh_tree.specs.declared.sign.Begin.TheVariants as begin
-use Rattle.sh_tree.specs.declared.refusal.Rule.TheVariants.{Later}
 use Rattle.sh_tree.specs.Tokens.{begin_at, begin_of}
 use Rattle.sh_flow.specs.Profile.{is_admitted}
 use Rattle.sh_tree.specs.Reading.{Spot, Reads, ReadsElements, ReadsItems, ReadsAndOr, ReadsPipe, ReadsCommand}
@@ -141,7 +140,7 @@ unread b d CertShape h = absurd h
 pub unaccepted : (b : List ℕ) (d : Declared) (t : Script) (e : Refusal) → Parses b (Ok t) → Accepts b d t (Err e) → Lints b d (Err e)
 unaccepted b d t TooMany p h = inr (t, reading b t p, h.0, h.1)
 unaccepted b d t Memory p h = p.0
-unaccepted b d t (Profile Later at) p h =
+unaccepted b d t (Profile r at) p h =
     let placed = placed_items b _ _ t.items (read_within b t p).1.items in
     (t, reading b t p, h, subst (λ n. n < length b) (sym h.2) (refused_within b (length b) t.items h.0 placed h.1))
 unaccepted b d t TooLong p h = absurd h

@@ -69,6 +69,6 @@ first_refused b (c ∷ cs) = if is_admitted b c then first_refused b cs else Som
 -- A script is admitted, or its first command that is not analysed is told at its start.
 abbrev pub Admits : List ℕ → Script → Result (Unit {0}) Refusal → Type 0
 Admits b t (Ok u) = first_refused b (lone_commands t) ≡ None
-Admits b t (Err (Profile Later at)) = (c : Command) × (first_refused b (lone_commands t) ≡ Some c) × (at ≡ c.at)
+Admits b t (Err (Profile r at)) = (c : Command) × (first_refused b (lone_commands t) ≡ Some c) × (at ≡ c.at) × (r ≡ Later)
 Admits b t (Err Memory) = Unit {0}
 Admits b t (Err _) = ⊥

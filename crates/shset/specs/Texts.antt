@@ -73,11 +73,14 @@ verdict_text Pass = report_text []
 verdict_text (Fail report) = report_text (map shown report.findings.items)
 verdict_text (Forged command rule) = forged_text command rule
 
--- a refusal at an offset of the script
-abbrev pub refused_text : List ℕ → ℕ → List ℕ → List ℕ
-refused_text script at reason =
+-- how a refusal at an offset of the script begins
+abbrev pub refused_place : List ℕ → ℕ → List ℕ
+refused_place script at =
     let p = place_of script at in
-    codes "refused " ++ place_text p.0 p.1 ++ reason ++ 10 ∷ []
+    codes "refused " ++ place_text p.0 p.1
+
+abbrev pub refused_text : List ℕ → ℕ → List ℕ → List ℕ
+refused_text script at reason = refused_place script at ++ reason ++ 10 ∷ []
 
 abbrev pub malformed_text : ℕ → List ℕ
 malformed_text line = codes "refused certificate line " ++ decimal line ++ codes ": malformed" ++ 10 ∷ []

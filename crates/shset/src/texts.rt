@@ -1,6 +1,7 @@
 //! The texts of answers.
 ghost use Rattle.std.specs.Prelude.{◌≡◌, ◌++◌, ◌<◌, ◌-◌, ◌^◌, length, map, List, ℕ, IfOk, OnOk, IsErr};
 ghost use Rattle.sh_tree.specs.declared.refusal.Refusal.TheVariants as refusal_kind;
+ghost use Rattle.sh_tree.specs.Texts.{rule_text};
 ghost use Rattle.shset.specs.Verdicts.{shown};
 ghost use Rattle.shset.specs.Texts as text;
 
@@ -8,7 +9,7 @@ use crate::lines::Lines;
 use crate::verdict::{Finding, Verdict};
 use sh_flow::rule::FlowRule;
 use sh_tree::place::Code;
-use sh_tree::refusal::Refusal;
+use sh_tree::refusal::{Refusal, Rule};
 use std::alloc::{AllocError, Global};
 use std::io::Write;
 
@@ -181,7 +182,7 @@ fn push_refusal(
         Refusal::Syntax(fault, at) => push_refused(alloc, out, script, at, fault.text()),
         Refusal::LeftOut(form, at) => push_refused(alloc, out, script, at, form.text()),
         Refusal::TooDeep(at) => push_refused(alloc, out, script, at, "nested too deep"),
-        Refusal::Profile(rule, at) => push_refused(alloc, out, script, at, rule.text()),
+        Refusal::Profile(rule, at) => push_outside(alloc, out, script, at, rule),
         Refusal::CertSyntax(line) => push_malformed(out, line),
         Refusal::CertShape => push_text(out, "refused certificate: does not fit the script\n"),
     }
@@ -197,11 +198,38 @@ fn push_refused(
     requires { length script.now < 2 ^ 32 - 1 }
     ensures { OnOk result (out.new.items ≡ out.old.items ++ text.refused_text script.now at reason.now) }
 {
-    let (line, column) = Lines::new(alloc, script)?.place(at);
-    push_text(out, "refused ")?;
-    push_place(out, line, column)?;
+    push_refused_place(alloc, out, script, at)?;
     push_text(out, reason)?;
     push_text(out, "\n")
+}
+
+fn push_outside(
+    alloc: Global,
+    out: &mut Vec<u8>,
+    script: &[u8],
+    at: u32,
+    rule: Rule,
+) -> Result<(), AllocError>
+    requires { length script.now < 2 ^ 32 - 1 }
+    ensures { OnOk result (out.new.items ≡ out.old.items ++ text.refused_text script.now at (rule_text rule)) }
+{
+    push_refused_place(alloc, out, script, at)?;
+    rule.push_text(out)?;
+    push_text(out, "\n")
+}
+
+fn push_refused_place(
+    alloc: Global,
+    out: &mut Vec<u8>,
+    script: &[u8],
+    at: u32,
+) -> Result<(), AllocError>
+    requires { length script.now < 2 ^ 32 - 1 }
+    ensures { OnOk result (out.new.items ≡ out.old.items ++ text.refused_place script.now at) }
+{
+    let (line, column) = Lines::new(alloc, script)?.place(at);
+    push_text(out, "refused ")?;
+    push_place(out, line, column)
 }
 
 fn push_malformed(out: &mut Vec<u8>, line: u32) -> Result<(), AllocError>

@@ -131,3 +131,5 @@ fn long_reports_are_shown(rt: HostRuntime) -> Result<(), Fail> {
     assert_eq!(rt; lines, 60_001);
     Ok(())
 }
+
+mod refusals;
