@@ -75,7 +75,7 @@ pub enum Form {
     Braced,
     /// A double quote in a default inside double quotes or a here-document (XCU 2.6.2).
     QuotedInDefault,
-    /// A backslash before `}` in such a default (XCU 2.6.2).
+    /// A backslash before `}` in a default inside double quotes or a here-document (XCU 2.6.2).
     BackslashInDefault,
     /// `$@` where fields are not split (XCU 2.5.2).
     AllParameters,
