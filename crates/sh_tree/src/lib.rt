@@ -2,6 +2,7 @@
 //! as which tree.
 #![tactic(auto)]
 
+mod boxed;
 mod items;
 pub mod laws;
 pub mod limits;
@@ -12,4 +13,5 @@ pub mod sign;
 pub mod text;
 pub mod tree;
 
+pub use boxed::Boxed;
 pub use items::Items;
