@@ -4,6 +4,7 @@
 
 mod boxed;
 mod items;
+pub mod known;
 pub mod laws;
 pub mod limits;
 pub mod name;
@@ -11,6 +12,7 @@ pub mod place;
 pub mod refusal;
 pub mod sign;
 pub mod text;
+pub mod token;
 pub mod tree;
 
 pub use boxed::Boxed;
