@@ -2,7 +2,7 @@
 ghost use Rattle.std.specs.Prelude.{◌≡◌};
 ghost use Rattle.std.specs.Option.{option_copied};
 ghost use Rattle.sh_tree.specs.Tree.{text_of};
-ghost use Rattle.sh_tree.specs.Words.{lone_command, lone_pipe, subject_text};
+ghost use Rattle.sh_tree.specs.Words.{lone_command, lone_list, subject_text};
 
 use crate::boxed::Boxed;
 use crate::items::Items;
@@ -69,9 +69,9 @@ pub struct AndOr {
 }
 
 impl AndOr {
-    #[tactic(auto, unfolding(crate::specs::Words::lone_pipe, crate::specs::Words::lone_part))]
+    #[tactic(auto, unfolding(crate::specs::Words::lone_list, crate::specs::Words::lone_pipe, crate::specs::Words::lone_part))]
     fn lone_command(&self) -> Option<&Command>
-        ensures { option_copied result ≡ lone_pipe self.now.first self.now.rest }
+        ensures { option_copied result ≡ lone_list self.now }
     {
         if !self.rest.is_empty() || self.first.negated {
             return None;
@@ -130,9 +130,15 @@ pub enum Kind {
         body: Script,
     },
     /// `case`.
-    Branches { word: Word, clauses: Items<Clause> },
+    Branches {
+        word: Word,
+        clauses: Items<Clause>,
+    },
     /// A function definition. Its body is a compound command (XCU 2.9.5).
-    Define { name: Span, body: Boxed<Command> },
+    Define {
+        name: Span,
+        body: Boxed<Command>,
+    },
 }
 
 /// When a loop takes a turn: while its condition holds, or until it does.
@@ -346,7 +352,10 @@ pub enum Operator {
         word: Word,
     },
     /// `%`, `%%`, `#` or `##`, and the pattern.
-    Remove { removal: Removal, pattern: Word },
+    Remove {
+        removal: Removal,
+        pattern: Word,
+    },
 }
 
 /// What an expansion does by whether its parameter is set.
