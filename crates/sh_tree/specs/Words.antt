@@ -52,9 +52,9 @@ unfoldable pub elements_of : Kind → List Element
 elements_of (Simple' shape row) = items-the_row-Element _ row
 elements_of _ = []
 
-pub elements_of-Simple : (es : List Element) → elements_of (Simple es) ≡ es
+pub elements_of_simple : (es : List Element) → elements_of (Simple es) ≡ es
 unfolding elements_of
-elements_of-Simple es = items_hidden-the_row-Element-3 es
+elements_of_simple es = items_hidden-the_row-Element-3 es
 
 -- what an element is
 pub data Form : Type 0 where

@@ -2,7 +2,8 @@
 ghost use Rattle.std.specs.Prelude.{◌≡◌};
 ghost use Rattle.std.specs.Option.{option_copied};
 ghost use Rattle.sh_tree.specs.Tree.{text_of};
-ghost use Rattle.sh_tree.specs.Words.{lone_command, lone_list, subject_text};
+ghost use Rattle.sh_tree.specs.Words.{elements_of, lone_command, lone_list, subject_text};
+ghost use Rattle.sh_tree.specs.declared.tree.Command.{out-Command};
 
 use crate::boxed::Boxed;
 use crate::items::Items;
@@ -100,6 +101,25 @@ pub struct Command {
     pub at: u32,
     pub kind: Kind,
     pub redirects: Items<Redirect>,
+}
+
+impl Command {
+    /// The elements of a simple command. Other commands have none.
+    #[tactic(auto, using(crate::specs::Words::elements_of_simple), unfolding(crate::specs::Words::elements_of))]
+    pub fn elements(&self) -> &[Element]
+        ensures { result.now ≡ elements_of (out-Command self.now).kind }
+    {
+        match &self.kind {
+            Kind::Simple(elements) => elements.as_slice(),
+            Kind::Group(_)
+            | Kind::Subshell(_)
+            | Kind::Cond { .. }
+            | Kind::Loop { .. }
+            | Kind::For { .. }
+            | Kind::Branches { .. }
+            | Kind::Define { .. } => &[],
+        }
+    }
 }
 
 /// What a command is (XCU 2.9).
