@@ -2,7 +2,8 @@
 ghost use Rattle.std.specs.Prelude.{◌≡◌};
 ghost use Rattle.std.specs.Option.{option_copied};
 ghost use Rattle.sh_tree.specs.Tree.{text_of};
-ghost use Rattle.sh_tree.specs.Words.{lone_command, lone_pipe, subject_text};
+ghost use Rattle.sh_tree.specs.Words.{elements_of, lone_command, lone_list, subject_text};
+ghost use Rattle.sh_tree.specs.declared.tree.Command.{out-Command};
 
 use crate::boxed::Boxed;
 use crate::items::Items;
@@ -69,9 +70,9 @@ pub struct AndOr {
 }
 
 impl AndOr {
-    #[tactic(auto, unfolding(crate::specs::Words::lone_pipe, crate::specs::Words::lone_part))]
+    #[tactic(auto, unfolding(crate::specs::Words::lone_list, crate::specs::Words::lone_pipe, crate::specs::Words::lone_part))]
     fn lone_command(&self) -> Option<&Command>
-        ensures { option_copied result ≡ lone_pipe self.now.first self.now.rest }
+        ensures { option_copied result ≡ lone_list self.now }
     {
         if !self.rest.is_empty() || self.first.negated {
             return None;
@@ -102,6 +103,25 @@ pub struct Command {
     pub redirects: Items<Redirect>,
 }
 
+impl Command {
+    /// The elements of a simple command. Other commands have none.
+    #[tactic(auto, using(crate::specs::Words::elements_of_simple), unfolding(crate::specs::Words::elements_of))]
+    pub fn elements(&self) -> &[Element]
+        ensures { result.now ≡ elements_of (out-Command self.now).kind }
+    {
+        match &self.kind {
+            Kind::Simple(elements) => elements.as_slice(),
+            Kind::Group(_)
+            | Kind::Subshell(_)
+            | Kind::Cond { .. }
+            | Kind::Loop { .. }
+            | Kind::For { .. }
+            | Kind::Branches { .. }
+            | Kind::Define { .. } => &[],
+        }
+    }
+}
+
 /// What a command is (XCU 2.9).
 #[cycle(tree)]
 #[derive(Debug, Drop)]
@@ -130,9 +150,15 @@ pub enum Kind {
         body: Script,
     },
     /// `case`.
-    Branches { word: Word, clauses: Items<Clause> },
+    Branches {
+        word: Word,
+        clauses: Items<Clause>,
+    },
     /// A function definition. Its body is a compound command (XCU 2.9.5).
-    Define { name: Span, body: Boxed<Command> },
+    Define {
+        name: Span,
+        body: Boxed<Command>,
+    },
 }
 
 /// When a loop takes a turn: while its condition holds, or until it does.
@@ -346,7 +372,10 @@ pub enum Operator {
         word: Word,
     },
     /// `%`, `%%`, `#` or `##`, and the pattern.
-    Remove { removal: Removal, pattern: Word },
+    Remove {
+        removal: Removal,
+        pattern: Word,
+    },
 }
 
 /// What an expansion does by whether its parameter is set.
