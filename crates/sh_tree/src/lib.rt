@@ -2,6 +2,7 @@
 //! as which tree.
 #![tactic(auto)]
 
+mod boxed;
 mod items;
 pub mod known;
 pub mod laws;
@@ -11,6 +12,8 @@ pub mod place;
 pub mod refusal;
 pub mod sign;
 pub mod text;
+pub mod token;
 pub mod tree;
 
+pub use boxed::Boxed;
 pub use items::Items;
