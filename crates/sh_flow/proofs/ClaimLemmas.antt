@@ -3,17 +3,20 @@ use Rattle.std.proofs.Common.{◌≡◌, ℕ, zero, suc, ◌<◌, Bool, true, fa
 use Rattle.std.specs.List.{list_all, list_any, cons_option}
 use Rattle.std.specs.Str.{bytes_eq}
 use Rattle.std.proofs.lemmas.Grind.{common_steps}
-use Rattle.sh_tree.specs.declared.tree.Element.{Element}
+use Rattle.sh_tree.specs.declared.tree.Redirect.{Redirect}
+use Rattle.sh_tree.specs.declared.tree.Span.{Span}
+use Rattle.sh_tree.specs.declared.tree.Part.{items-the_row-Part}
+use Rattle.sh_tree.specs.declared.tree.Element.{Element, Assignment', Word', Redirection'}
 use Rattle.sh_tree.specs.declared.tree.Element.TheVariants as element
 use Rattle.sh_tree.specs.declared.tree.Word.{Word}
 use Rattle.sh_tree.specs.Tree.{text_of}
-use Rattle.sh_tree.specs.Words.{words_of, word_of, assignment_of}
+use Rattle.sh_tree.specs.Words.{words_of, form_of, form_of_assignment, form_of_word, form_of_redirection, word_in, assignment_in}
 use Rattle.sh_flow.specs.Policy.{Text}
 use Rattle.sh_flow.specs.Names.{number_of, is_one_of}
 use Rattle.sh_flow.specs.Facts.{Facts, NotReached, Known, Claim, Unreached, Claimed, has_number, within, meet, enter, both, with_vars}
 use Rattle.sh_flow.specs.Rules.{assigned_numbers, leaves, exit_rule}
 use Rattle.sh_flow.specs.declared.rule.FlowRule.TheVariants.{F4, F5}
-use Rattle.sh_flow.specs.Breaches.{is_word, number_is, assigns}
+use Rattle.sh_flow.specs.Breaches.{is_operand, is_word, number_is, form_assigns, assigns}
 
 and_true : (b : Bool) → (b && true) ≡ b
 and_true true = refl
@@ -109,16 +112,18 @@ within_enter_both c f = within_meet c f f ∙ and_same (within c f)
 -- Elements
 
 pub has_no_word : (es : List Element) → list_any is_word es ≡ false → words_of es ≡ []
-unfolding is_word word_of
+unfolding is_operand form_of word_in
 has_no_word [] h = refl
-has_no_word (element.Assignment s w ∷ es) h = has_no_word es h
-has_no_word (element.Word w ∷ es) h = cc
+has_no_word (Assignment' s t shape row ∷ es) h = has_no_word es h
+has_no_word (Word' t shape row ∷ es) h = cc
+has_no_word (Redirection' at n t ∷ es) h = has_no_word es h
 
 some_word : (es : List Element) → list_any is_word es ≡ true → (w : Word) × (ws : List Word) × (words_of es ≡ w ∷ ws)
-unfolding is_word word_of
+unfolding is_operand form_of word_in
 some_word [] h = cc
-some_word (element.Assignment s w ∷ es) h = some_word es h
-some_word (element.Word w ∷ es) h = (w, words_of es, refl)
+some_word (Assignment' s t shape row ∷ es) h = some_word es h
+some_word (Word' t shape row ∷ es) h = (record { span = t; parts = items-the_row-Part _ row }, words_of es, refl)
+some_word (Redirection' at n t ∷ es) h = some_word es h
 
 pub leaves-word : (b : List ℕ) (names : List Text) (es : List Element) (f : Facts) → list_any is_word es ≡ true → leaves b names (words_of es) es f ≡ f
 unfolding leaves
@@ -136,12 +141,43 @@ pub exit_rule-assignments : (b : List ℕ) (names : List Text) (es : List Elemen
 unfolding exit_rule
 exit_rule-assignments b names es h = rw (has_no_word es h) refl
 
+-- the word of an element, and the name that it assigns
+
+pub is_word-Assignment : (s : Span) (w : Word) → is_word (element.Assignment s w) ≡ false
+unfolding is_operand
+is_word-Assignment s w = ap is_operand (form_of_assignment s w)
+
+pub is_word-Word : (w : Word) → is_word (element.Word w) ≡ true
+unfolding is_operand
+is_word-Word w = ap is_operand (form_of_word w)
+
+pub is_word-Redirection : (r : Redirect) → is_word (element.Redirection r) ≡ false
+unfolding is_operand
+is_word-Redirection r = ap is_operand (form_of_redirection r)
+
+pub ruleset word_in_element = (is_word-Assignment, is_word-Word, is_word-Redirection)
+
+pub assigns-Assignment : (b : List ℕ) (names : List Text) (n : ℕ) (s : Span) (w : Word) → assigns b names n (element.Assignment s w) ≡ number_is n (number_of names (text_of b s))
+unfolding form_assigns
+assigns-Assignment b names n s w = ap (form_assigns b names n) (form_of_assignment s w)
+
+pub assigns-Word : (b : List ℕ) (names : List Text) (n : ℕ) (w : Word) → assigns b names n (element.Word w) ≡ false
+unfolding form_assigns
+assigns-Word b names n w = ap (form_assigns b names n) (form_of_word w)
+
+pub assigns-Redirection : (b : List ℕ) (names : List Text) (n : ℕ) (r : Redirect) → assigns b names n (element.Redirection r) ≡ false
+unfolding form_assigns
+assigns-Redirection b names n r = ap (form_assigns b names n) (form_of_redirection r)
+
+pub ruleset assigns_in_element = (assigns-Assignment, assigns-Word, assigns-Redirection)
+
 -- a number is an assigned one where an element assigns its name
 pub is_assigned : (b : List ℕ) (names : List Text) (n : ℕ) (es : List Element) → has_number n (assigned_numbers b names es) ≡ list_any (assigns b names n) es
-unfolding assigns assignment_of number_is
+unfolding form_assigns form_of assignment_in number_is
 is_assigned b names n [] = refl
-is_assigned b names n (element.Word w ∷ es) = is_assigned b names n es
-is_assigned b names n (element.Assignment s w ∷ es) = go (number_of names (text_of b s)) (is_assigned b names n es)
+is_assigned b names n (Word' t shape row ∷ es) = is_assigned b names n es
+is_assigned b names n (Redirection' at m t ∷ es) = is_assigned b names n es
+is_assigned b names n (Assignment' s t shape row ∷ es) = go (number_of names (text_of b s)) (is_assigned b names n es)
   where
     go : (o : Option ℕ) → has_number n (assigned_numbers b names es) ≡ list_any (assigns b names n) es
         → has_number n (cons_option o (assigned_numbers b names es)) ≡ (number_is n o || list_any (assigns b names n) es)

@@ -11,12 +11,13 @@ use Rattle.sh_tree.specs.declared.tree.Command.{Command}
 use Rattle.sh_tree.specs.declared.tree.Element.TheVariants as element
 use Rattle.sh_tree.specs.declared.tree.Word.{Word}
 use Rattle.sh_tree.specs.declared.tree.Param.{Param}
-use Rattle.sh_tree.specs.declared.tree.Part.{Part, Plain, Double, Double'}
+use Rattle.sh_tree.specs.declared.tree.Redirect.{Redirect}
+use Rattle.sh_tree.specs.declared.tree.Part.{Part, Plain, Escaped, Single, Double, Double', Param', Arith', Tilde, Joined}
 use Rattle.sh_tree.specs.declared.tree.Part.TheVariants as part
-use Rattle.sh_tree.specs.Words.{lone_command, expansions, expansions_in, expansions_in-Double, subject_text}
+use Rattle.sh_tree.specs.Words.{lone_command, form_of_assignment, form_of_word, form_of_redirection, expansions, expansions_in, expansions_in-Double, subject_text}
 use Rattle.sh_flow.specs.Policy.{Text}
 use Rattle.sh_flow.specs.Facts.{Facts}
-use Rattle.sh_flow.specs.Demands.{wanted, covers, uncovered, element_unmet}
+use Rattle.sh_flow.specs.Demands.{wanted, covers, uncovered, form_unmet, element_unmet}
 use Rattle.sh_flow.specs.Walks.{of_option, on_lone, part_unmet}
 
 -- the places of parts are those of each part
@@ -29,7 +30,13 @@ unquoted : (b : List ℕ) (names : List Text) (f : Facts) (p : Part) → uncover
 unfolding expansions_in
 unquoted b names f (Plain s) = refl
 unquoted b names f (Double' s shape row) = refl
-unquoted b names f (part.Param p) = refl
+unquoted b names f (Param' s subject operator) = refl
+unquoted b names f (Escaped s) = refl
+unquoted b names f (Single style s) = refl
+unquoted b names f (Arith' s shape row) = refl
+unquoted b names f (part.Command style s t) = refl
+unquoted b names f (Tilde s) = refl
+unquoted b names f (Joined s) = refl
 
 unquoted-all : (b : List ℕ) (names : List Text) (f : Facts) (ps : List Part) → uncovered b names f (expansions false ps) ≡ flat_map (part_unmet b names f) ps
 unfolding expansions
@@ -50,16 +57,20 @@ unfolding expansions_in
 part_unmet-Param b names f p = append-nil _
 
 pub element_unmet-Assignment : (b : List ℕ) (names : List Text) (f : Facts) (s : Span) (w : Word) → element_unmet b names f (element.Assignment s w) ≡ flat_map (part_unmet b names f) w.parts
-unfolding element_unmet
-element_unmet-Assignment b names f s w = unquoted-all b names f w.parts
+unfolding form_unmet
+element_unmet-Assignment b names f s w = ap (form_unmet b names f) (form_of_assignment s w) ∙ unquoted-all b names f w.parts
 
 pub element_unmet-Word : (b : List ℕ) (names : List Text) (f : Facts) (w : Word) → element_unmet b names f (element.Word w) ≡ flat_map (part_unmet b names f) w.parts
-unfolding element_unmet
-element_unmet-Word b names f w = unquoted-all b names f w.parts
+unfolding form_unmet
+element_unmet-Word b names f w = ap (form_unmet b names f) (form_of_word w) ∙ unquoted-all b names f w.parts
+
+pub element_unmet-Redirection : (b : List ℕ) (names : List Text) (f : Facts) (r : Redirect) → element_unmet b names f (element.Redirection r) ≡ []
+unfolding form_unmet
+element_unmet-Redirection b names f r = ap (form_unmet b names f) (form_of_redirection r)
 
 pub ruleset unmet_in_part = (part_unmet-Plain, part_unmet-Double, part_unmet-Param)
 
-pub ruleset unmet_in_element = (element_unmet-Assignment, element_unmet-Word)
+pub ruleset unmet_in_element = (element_unmet-Assignment, element_unmet-Word, element_unmet-Redirection)
 
 -- one more piece
 pub places_more : {X : Type 0} (f : X → List Place) (first : List Place) (xs : List X) (i : ℕ) (x : X) (old new : List Place) → i < length xs → x ≡ get_or xs i x

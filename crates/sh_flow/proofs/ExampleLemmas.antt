@@ -4,14 +4,19 @@ use Rattle.std.specs.List.{list_any}
 use Rattle.std.proofs.lemmas.Slice.Eq.{bytes_eq-Decides}
 use Rattle.sh_tree.specs.declared.tree.Span.{Span}
 use Rattle.sh_tree.specs.declared.tree.Part.{Part, Double, Row_of-Part, end_of-Part, more_of-Part, items-the_row-Part}
-use Rattle.sh_tree.specs.declared.tree.Part.TheBlock.{hidden-the_row-Part-0, items_hidden-the_row-Part-0}
+use Rattle.sh_tree.specs.declared.tree.Element.TheBlock.{items_hidden-the_row-Part-0, shape-the_row-Part-0, hidden-the_row-Part-0, shown-the_row-Part-0, shape-the_row-Element-3, hidden-the_row-Element-3, shown-the_row-Element-3, shape-the_row-AndOr-rest-2-8, hidden-the_row-AndOr-rest-2-8, shown-the_row-AndOr-rest-2-8, shape-the_row-Redirect-9, hidden-the_row-Redirect-9, shown-the_row-Redirect-9, shape-the_row-Command-10, hidden-the_row-Command-10, shown-the_row-Command-10, shape-the_row-Item-11, hidden-the_row-Item-11, shown-the_row-Item-11}
+use Rattle.sh_tree.specs.declared.tree.Script.{out-Script, roll-Script}
+use Rattle.sh_tree.specs.declared.tree.Item.{out-Item, roll-Item}
+use Rattle.sh_tree.specs.declared.tree.AndOr.{out-AndOr, roll-AndOr}
+use Rattle.sh_tree.specs.declared.tree.Pipe.{out-Pipe, roll-Pipe}
+use Rattle.sh_tree.specs.declared.tree.Command.{out-Command, roll-Command}
 use Rattle.sh_tree.specs.Tree.{span, value_of}
 use Rattle.sh_flow.proofs.FactLemmas.{or_cases}
-use Rattle.sh_tree.specs.Words.{expansions_in-Double, static_text, part_text, row_text, lone_command, lone_pipe, lone_part, word_of, assignment_of, expansions, expansions_in, row_expansions}
+use Rattle.sh_tree.specs.Words.{expansions_in-Double, static_text, is_pattern, is_bracket, has_wildcard, has_bracket, parts_text, part_text, row_text, lone_command, lone_list, lone_pipe, lone_part, elements_of, form_of, word_in, assignment_in, expansions, expansions_in, row_expansions}
 use Rattle.sh_tree.specs.Examples.{quoted_text, assigned_text, passed_text}
 use Rattle.sh_flow.specs.Policy.{Text}
 use Rattle.sh_flow.specs.Names.{start_names, is_one_of}
-use Rattle.sh_flow.specs.Profile.{is_plain_name, is_named_utility, is_utility}
+use Rattle.sh_flow.specs.Profile.{is_admitted, is_straight, is_straight_form, is_straight_part, is_flat, is_variable, is_value, is_simple, has_none, is_plain_name, is_named_utility, is_utility}
 use Rattle.sh_flow.specs.Environment.{Environment, assigned, put_text}
 use Rattle.sh_flow.specs.Pieces.{Quoted, value_text, names_unset, is_unset, expand, piece_of, part_value, row_value, splits, is_split, is_expanded, holds_pattern}
 use Rattle.sh_flow.specs.Machine.{put, simple_work, command_work, assign, pass, act, expands_unset, splits_value, is_part_of, any_below, waits, apply, step_of, step, run, has_event_of, has_unset_event, has_split_event, start_world, IsStart}
@@ -68,7 +73,7 @@ with_allowed v = record {
 }
 
 pub examples_run : ExamplesRun
-unfolding bare_start start_with goes fails run step step_of act command_work is_plain_name is_named_utility is_utility static_text part_text row_text lone_command lone_pipe lone_part word_of assignment_of simple_work assign pass apply put waits any_below is_part_of start_world has_event_of has_unset_event has_split_event expands_unset splits_value names_unset is_unset expansions expansions_in row_expansions expand piece_of part_value row_value splits is_split is_expanded holds_pattern assigned put_text
+unfolding bare_start start_with goes fails run step step_of act command_work is_admitted is_straight is_straight_form is_straight_part is_flat is_variable is_value is_simple has_none is_plain_name is_named_utility is_utility static_text is_pattern is_bracket has_wildcard has_bracket parts_text part_text row_text lone_command lone_list lone_pipe lone_part elements_of form_of word_in assignment_in out-Script out-Item out-AndOr out-Pipe out-Command roll-Script roll-Item roll-AndOr roll-Pipe roll-Command denote.Hole.Carrier.out denote.Hole.Carrier.roll denote.Hole.Carrier.hidden denote.Hole.Carrier.shown shape-the_row-Part-0 hidden-the_row-Part-0 shown-the_row-Part-0 shape-the_row-Element-3 hidden-the_row-Element-3 shown-the_row-Element-3 shape-the_row-AndOr-rest-2-8 hidden-the_row-AndOr-rest-2-8 shown-the_row-AndOr-rest-2-8 shape-the_row-Redirect-9 hidden-the_row-Redirect-9 shown-the_row-Redirect-9 shape-the_row-Command-10 hidden-the_row-Command-10 shown-the_row-Command-10 shape-the_row-Item-11 hidden-the_row-Item-11 shown-the_row-Item-11 simple_work assign pass apply put waits any_below is_part_of start_world has_event_of has_unset_event has_split_event expands_unset splits_value names_unset is_unset expansions expansions_in row_expansions expand piece_of part_value row_value splits is_split is_expanded holds_pattern assigned put_text
 examples_run = record {
   bare_allowed = bare_allowed;
   with_allowed = with_allowed;

@@ -10,18 +10,19 @@ use Rattle.std.proofs.lemmas.Iterator.Adapters.{position_from-zero}
 use Rattle.sh_tree.specs.declared.refusal.Refusal.{Refusal}
 use Rattle.sh_tree.specs.declared.refusal.Refusal.TheVariants.{TooLong, NulByte, Syntax, LeftOut, TooDeep, TooMany, Memory, Profile, CertSyntax, CertShape}
 use Rattle.sh_tree.specs.declared.tree.Span.{Span}
-use Rattle.sh_tree.specs.declared.tree.Script.{Script}
+use Rattle.sh_tree.specs.declared.tree.Script.{Script, out-Script}
 use Rattle.sh_tree.specs.declared.tree.Item.{Item}
 use Rattle.sh_tree.specs.declared.tree.Command.{Command}
 use Rattle.sh_tree.specs.declared.tree.Element.TheVariants as element
 use Rattle.sh_tree.specs.declared.tree.Word.{Word}
 use Rattle.sh_tree.specs.declared.tree.Param.{Param}
-use Rattle.sh_tree.specs.declared.tree.Part.{Part, Plain, Double, Double'}
+use Rattle.sh_tree.specs.declared.tree.Redirect.{Redirect}
+use Rattle.sh_tree.specs.declared.tree.Part.{Part, Plain, Escaped, Single, Double, Double', Param', Arith', Tilde, Joined}
 use Rattle.sh_tree.specs.declared.tree.Part.TheVariants as part
 use Rattle.sh_tree.specs.Tree.{text_of}
-use Rattle.sh_tree.specs.Words.{lone_command, expansions, expansions_in, expansions_in-Double, subject_text}
+use Rattle.sh_tree.specs.Words.{lone_command, form_of_assignment, form_of_word, form_of_redirection, expansions, expansions_in, expansions_in-Double, subject_text}
 use Rattle.sh_flow.specs.Policy.{Text, Declared}
-use Rattle.sh_flow.specs.Names.{with_text, is_one_of, number_of, subjects, names_in, script_names, first_names, numbering, Numbers}
+use Rattle.sh_flow.specs.Names.{with_text, is_one_of, number_of, subjects, form_names, names_in, script_names, first_names, numbering, Numbers}
 use Rattle.sh_flow.specs.Walks.{Refuses, of_option, on_lone, command_names, part_names}
 
 -- the names of parts are those of each part
@@ -35,7 +36,13 @@ unquoted : (b : List ℕ) (p : Part) → subjects b (expansions_in false p) ≡ 
 unfolding expansions_in
 unquoted b (Plain s) = refl
 unquoted b (Double' s shape row) = refl
-unquoted b (part.Param p) = refl
+unquoted b (Param' s subject operator) = refl
+unquoted b (Escaped s) = refl
+unquoted b (Single style s) = refl
+unquoted b (Arith' s shape row) = refl
+unquoted b (part.Command style s t) = refl
+unquoted b (Tilde s) = refl
+unquoted b (Joined s) = refl
 
 pub unquoted-all : (b : List ℕ) (ps : List Part) → subjects b (expansions false ps) ≡ flat_map (part_names b) ps
 unfolding expansions
@@ -56,12 +63,16 @@ unfolding expansions_in
 part_names-Param b p = refl
 
 pub names_in-Assignment : (b : List ℕ) (s : Span) (w : Word) → names_in b (element.Assignment s w) ≡ text_of b s ∷ flat_map (part_names b) w.parts
-unfolding names_in
-names_in-Assignment b s w = ap (λ ts. text_of b s ∷ ts) (unquoted-all b w.parts)
+unfolding form_names
+names_in-Assignment b s w = ap (form_names b) (form_of_assignment s w) ∙ ap (λ ts. text_of b s ∷ ts) (unquoted-all b w.parts)
 
 pub names_in-Word : (b : List ℕ) (w : Word) → names_in b (element.Word w) ≡ flat_map (part_names b) w.parts
-unfolding names_in
-names_in-Word b w = unquoted-all b w.parts
+unfolding form_names
+names_in-Word b w = ap (form_names b) (form_of_word w) ∙ unquoted-all b w.parts
+
+pub names_in-Redirection : (b : List ℕ) (r : Redirect) → names_in b (element.Redirection r) ≡ []
+unfolding form_names
+names_in-Redirection b r = ap (form_names b) (form_of_redirection r)
 
 -- a fold of names never gets shorter
 
@@ -155,7 +166,7 @@ bytes_eq-swap (c ∷ s) (d ∷ t) = rw (eqb-swap c d, bytes_eq-swap s t) refl
 -- the names in each part and in each element
 pub ruleset names_in_part = (part_names-Plain, part_names-Double, part_names-Param)
 
-pub ruleset names_in_element = (names_in-Assignment, names_in-Word)
+pub ruleset names_in_element = (names_in-Assignment, names_in-Word, names_in-Redirection)
 
 -- Texts behind the keys of a set
 
@@ -204,21 +215,21 @@ refused b t d (CertSyntax a) h = absurd h
 refused b t d CertShape h = absurd h
 
 pub numbered : (b : List ℕ) (t : Script) (d : Declared) (none first declared all : List Text) → none ≡ [] → first ≡ fold with_text none first_names → declared ≡ fold with_text first d.names
-    → all ≡ fold with_text declared (flat_map (on_lone (command_names b)) t.items) → all ≡ numbering b t d
+    → all ≡ fold with_text declared (flat_map (on_lone (command_names b)) (out-Script t).items) → all ≡ numbering b t d
 numbered b t d none first declared all n f m a =
     let is_first : first ≡ fold with_text [] first_names = f ∙ ap (λ names. fold with_text names first_names) n in
     let is_declared : declared ≡ fold with_text [] (first_names ++ d.names) = m ∙ ap (λ names. fold with_text names d.names) is_first ∙ sym (fold-append with_text [] first_names d.names) in
-    a ∙ ap (λ names. fold with_text names (flat_map (on_lone (command_names b)) t.items)) is_declared
-    ∙ ap (fold with_text (fold with_text [] (first_names ++ d.names))) (sym (script_names-items b t.items))
+    a ∙ ap (λ names. fold with_text names (flat_map (on_lone (command_names b)) (out-Script t).items)) is_declared
+    ∙ ap (fold with_text (fold with_text [] (first_names ++ d.names))) (sym (script_names-items b (out-Script t).items))
     ∙ sym (fold-append with_text [] (first_names ++ d.names) (script_names b t))
 
 pub refused_items : (b : List ℕ) (t : Script) (d : Declared) (none first declared : List Text) (e : Refusal) → none ≡ [] → first ≡ fold with_text none first_names → declared ≡ fold with_text first d.names
-    → Refuses (fold with_text declared (flat_map (on_lone (command_names b)) t.items)) e → Numbers b t d (Err e)
+    → Refuses (fold with_text declared (flat_map (on_lone (command_names b)) (out-Script t).items)) e → Numbers b t d (Err e)
 refused_items b t d none first declared e n f m h =
-    let all = numbered b t d none first declared (fold with_text declared (flat_map (on_lone (command_names b)) t.items)) n f m refl in
+    let all = numbered b t d none first declared (fold with_text declared (flat_map (on_lone (command_names b)) (out-Script t).items)) n f m refl in
     refused b t d e (subst (λ names. Refuses names e) all h)
 
 pub refused_declared : (b : List ℕ) (t : Script) (d : Declared) (none first : List Text) (e : Refusal) → none ≡ [] → first ≡ fold with_text none first_names
     → Refuses (fold with_text first d.names) e → Numbers b t d (Err e)
 refused_declared b t d none first e n f h =
-    refused_items b t d none first (fold with_text first d.names) e n f refl (refuses-on (fold with_text first d.names) (flat_map (on_lone (command_names b)) t.items) e h)
+    refused_items b t d none first (fold with_text first d.names) e n f refl (refuses-on (fold with_text first d.names) (flat_map (on_lone (command_names b)) (out-Script t).items) e h)

@@ -2,22 +2,21 @@
 use Rattle.std.proofs.Common.{◌≡◌, ℕ, Bool, true, false, not, ◌||◌, Option, Some, None, is_some, if◌then◌else◌, List, [], ◌∷◌, ◌++◌, map, option_map, filter_map, flat_map, bytes_eq, ◌⊎◌, inl, inr, refl, sym, ◌∙◌, subst, append_assoc}
 use Rattle.std.specs.List.{list_any, cons_option}
 use Rattle.std.proofs.lemmas.Slice.Eq.{bytes_eq-Decides}
-use Rattle.sh_tree.specs.declared.tree.Script.{Script}
+use Rattle.sh_tree.specs.declared.tree.Script.{Script, out-Script}
 use Rattle.sh_tree.specs.declared.tree.Item.{Item}
-use Rattle.sh_tree.specs.declared.tree.Command.{Command}
-use Rattle.sh_tree.specs.declared.tree.Element.{Element}
-use Rattle.sh_tree.specs.declared.tree.Element.TheVariants as element
+use Rattle.sh_tree.specs.declared.tree.Command.{Command, out-Command}
+use Rattle.sh_tree.specs.declared.tree.Element.{Element, Assignment', Word', Redirection'}
 use Rattle.sh_tree.specs.declared.tree.Word.{Word}
-use Rattle.sh_tree.specs.declared.tree.Part.{Part}
-use Rattle.sh_tree.specs.Words.{lone_command, word_of, assignment_of, elements_of, words_of, assignments_of, expansions, Expansion, subject_text}
+use Rattle.sh_tree.specs.declared.tree.Part.{Part, items-the_row-Part}
+use Rattle.sh_tree.specs.Words.{lone_command, form_of, word_in, assignment_in, elements_of, words_of, assignments_of, expansions, Expansion, subject_text}
 use Rattle.sh_flow.specs.Policy.{Text, Declared}
 use Rattle.sh_flow.specs.Names.{number_of}
 use Rattle.sh_flow.specs.Environment.{Environment, Frame, put_text, assigned}
 use Rattle.sh_flow.specs.Pieces.{value_text, is_unset, names_unset}
-use Rattle.sh_flow.specs.Profile.{is_plain_name}
+use Rattle.sh_flow.specs.Profile.{is_admitted}
 use Rattle.sh_flow.specs.Facts.{Facts, NotReached, Known, Claim, Claims, Satisfies, Out, both, enter, facts, out_at, within, within_out}
 use Rattle.sh_flow.specs.Rules.{told, leaves, faults, item_faults, rule_behind, out_behind, list_faults, script_faults, start_facts}
-use Rattle.sh_flow.specs.Demands.{wanted, knows, covers, uncovered, element_unmet, command_unmet, script_unmet}
+use Rattle.sh_flow.specs.Demands.{wanted, knows, covers, uncovered, form_unmet, element_unmet, command_unmet, script_unmet}
 use Rattle.sh_flow.specs.declared.rule.FlowRule.{FlowRule}
 use Rattle.sh_flow.specs.declared.rule.FlowRule.TheVariants.{F1, F2}
 use Rattle.sh_flow.specs.Machine.{Work, Items, Field, Passed, Assign, Nameless, Utility, Answer, Goes, simple_work, command_work, assign, pass, act, expands_unset, IsStart}
@@ -114,22 +113,24 @@ module _ (b : List ℕ) (names : List Text) where
 
   -- where no demand of the elements is unmet, their words and values name nothing unset
   words_quiet : (g : Facts) (e : Environment) (f : Frame) (es : List Element) → flat_map (element_unmet b names g) es ≡ [] → Satisfies names g e f → WordsQuiet b (words_of es) e
-  unfolding element_unmet word_of WordsQuiet names_unset
+  unfolding form_unmet form_of word_in WordsQuiet names_unset
   words_quiet g e f [] h s = tt
-  words_quiet g e f (element.Assignment n w ∷ es) h s = words_quiet g e f es (append_nil_right (uncovered b names g (expansions false w.parts)) _ h) s
-  words_quiet g e f (element.Word w ∷ es) h s = (
-    covered_quiet g e f (expansions false w.parts) (append_nil_left _ _ h) s,
-    words_quiet g e f es (append_nil_right (uncovered b names g (expansions false w.parts)) _ h) s,
+  words_quiet g e f (Assignment' n t shape row ∷ es) h s = words_quiet g e f es (append_nil_right (uncovered b names g (expansions false (items-the_row-Part _ row))) _ h) s
+  words_quiet g e f (Redirection' at n t ∷ es) h s = words_quiet g e f es h s
+  words_quiet g e f (Word' t shape row ∷ es) h s = (
+    covered_quiet g e f (expansions false (items-the_row-Part _ row)) (append_nil_left _ _ h) s,
+    words_quiet g e f es (append_nil_right (uncovered b names g (expansions false (items-the_row-Part _ row))) _ h) s,
   )
 
   values_quiet : (g : Facts) (e : Environment) (f : Frame) (es : List Element) → flat_map (element_unmet b names g) es ≡ [] → Satisfies names g e f → ValuesQuiet b (assignments_of b es) e
-  unfolding element_unmet assignment_of ValuesQuiet names_unset
+  unfolding form_unmet form_of assignment_in ValuesQuiet names_unset
   values_quiet g e f [] h s = tt
-  values_quiet g e f (element.Assignment n w ∷ es) h s = (
-    covered_quiet g e f (expansions false w.parts) (append_nil_left _ _ h) s,
-    values_quiet g e f es (append_nil_right (uncovered b names g (expansions false w.parts)) _ h) s,
+  values_quiet g e f (Assignment' n t shape row ∷ es) h s = (
+    covered_quiet g e f (expansions false (items-the_row-Part _ row)) (append_nil_left _ _ h) s,
+    values_quiet g e f es (append_nil_right (uncovered b names g (expansions false (items-the_row-Part _ row))) _ h) s,
   )
-  values_quiet g e f (element.Word w ∷ es) h s = values_quiet g e f es (append_nil_right (uncovered b names g (expansions false w.parts)) _ h) s
+  values_quiet g e f (Word' t shape row ∷ es) h s = values_quiet g e f es (append_nil_right (uncovered b names g (expansions false (items-the_row-Part _ row))) _ h) s
+  values_quiet g e f (Redirection' at n t ∷ es) h s = values_quiet g e f es h s
 
   -- Work that goes well
 
@@ -201,16 +202,16 @@ module _ (b : List ℕ) (names : List Text) where
   -- the work of a command goes well where its rules and demands hold
   command_go : (c : Claims) (f : Frame) (x : Command) (rule : FlowRule) (g : Facts) (tail : List Work) (status : ℕ) (e : Environment)
       → faults b names c x rule g ≡ [] → command_unmet b names c x ≡ [] → Satisfies names g e f
-      → ((status' : ℕ) (e' : Environment) → HoldsAfter names status' (out_at c x.number) e' f → GoesWell c f tail status' e')
-      → GoesWell c f (simple_work b (words_of (elements_of x.kind)) (assignments_of b (elements_of x.kind)) ++ tail) status e
+      → ((status' : ℕ) (e' : Environment) → HoldsAfter names status' (out_at c (out-Command x).number) e' f → GoesWell c f tail status' e')
+      → GoesWell c f (simple_work b (words_of (elements_of (out-Command x).kind)) (assignments_of b (elements_of (out-Command x).kind)) ++ tail) status e
   unfolding faults
   command_go c f x rule g tail status e r d s k =
-      let before : Facts = facts (c.before x.number) in
-      let es : List Element = elements_of x.kind in
-      let true_before : Satisfies names before e f = claimed_holds names (c.before x.number) g e f (untold _ _ _ (append_nil_left _ _ r)) s in
-      let after : within_out (c.zero_at x.number) (c.nonzero_at x.number) (both (leaves b names (words_of es) es before)) ≡ true =
-      untold _ _ _ (append_nil_right (told (within (c.before x.number) g) x.number rule) _ r) in
-      simple_go c f (words_of es) es (c.zero_at x.number) (c.nonzero_at x.number) before tail status e (words_quiet before e f es d true_before)
+      let before : Facts = facts (c.before (out-Command x).number) in
+      let es : List Element = elements_of (out-Command x).kind in
+      let true_before : Satisfies names before e f = claimed_holds names (c.before (out-Command x).number) g e f (untold _ _ _ (append_nil_left _ _ r)) s in
+      let after : within_out (c.zero_at (out-Command x).number) (c.nonzero_at (out-Command x).number) (both (leaves b names (words_of es) es before)) ≡ true =
+      untold _ _ _ (append_nil_right (told (within (c.before (out-Command x).number) g) (out-Command x).number rule) _ r) in
+      simple_go c f (words_of es) es (c.zero_at (out-Command x).number) (c.nonzero_at (out-Command x).number) before tail status e (words_quiet before e f es d true_before)
       (values_quiet before e f es d true_before) after true_before k
 
   if_ok : (c : Claims) (f : Frame) (e : Environment) (status : ℕ) (work tail : List Work) (s : Bool)
@@ -227,9 +228,9 @@ module _ (b : List ℕ) (names : List Text) where
   unfolding Keeps EffectOk command_work item_faults rule_behind out_behind GoesWell
   item_ok c f None is ws status e o rule r rs d s k = tt
   item_ok c f (Some x) is ws status e o rule r rs d s k =
-      if_ok c f e status (simple_work b (words_of (elements_of x.kind)) (assignments_of b (elements_of x.kind))) (Items is ∷ ws) (is_plain_name b (words_of (elements_of x.kind)))
+      if_ok c f e status (simple_work b (words_of (elements_of (out-Command x).kind)) (assignments_of b (elements_of (out-Command x).kind))) (Items is ∷ ws) (is_admitted b x)
       (command_go c f x rule (enter o) (Items is ∷ ws) status e r (append_nil_left _ _ d) (holds_enter names status o e f s)
-      (λ status' e' a. (out_at c x.number, record { rule = F2; rules = rs; demands = append_nil_right (command_unmet b names c x) _ d; holds = a }, k)))
+      (λ status' e' a. (out_at c (out-Command x).number, record { rule = F2; rules = rs; demands = append_nil_right (command_unmet b names c x) _ d; holds = a }, k)))
 
   list_end : (c : Claims) (f : Frame) (ws : List Work) (status : ℕ) (e : Environment) → GoesWell c f (Items [] ∷ ws) status e → GoesWell c f ws status e
   unfolding GoesWell list_out
@@ -282,7 +283,7 @@ module _ (b : List ℕ) (names : List Text) where
 
   -- at the start the whole script does
   pub goes_from_start : (c : Claims) (d : Declared) (t : Script) (e : Environment) (f : Frame)
-      → script_faults b names c d t ≡ [] → script_unmet b names c t ≡ [] → IsStart d e f → GoesWell c f (Items t.items ∷ []) 0 e
+      → script_faults b names c d t ≡ [] → script_unmet b names c t ≡ [] → IsStart d e f → GoesWell c f (Items (out-Script t).items ∷ []) 0 e
   unfolding GoesWell
   goes_from_start c d t e f rules demands s =
       let o : Out = both (start_facts names d) in

@@ -2,13 +2,13 @@
 use Rattle.std.proofs.Common.{◌≡◌, ℕ, Bool, true, false, Option, Some, None, is_some, if◌then◌else◌, List, [], ◌∷◌, ◌++◌, map, option_map, filter_map, refl, append_assoc, sym, subst}
 use Rattle.std.specs.List.{list_any, list_all, cons_option}
 use Rattle.sh_tree.specs.declared.tree.Item.{Item}
-use Rattle.sh_tree.specs.declared.tree.Command.{Command}
+use Rattle.sh_tree.specs.declared.tree.Command.{Command, out-Command}
 use Rattle.sh_tree.specs.declared.tree.Word.{Word}
-use Rattle.sh_tree.specs.declared.tree.Part.{Part, Plain, Double'}
+use Rattle.sh_tree.specs.declared.tree.Part.{Part, Plain, Escaped, Single, Double', Param', Arith', Tilde, Joined}
 use Rattle.sh_tree.specs.declared.tree.Part.TheVariants as part
 use Rattle.sh_tree.specs.Words.{lone_command, elements_of, words_of, assignments_of, expansions, expansions_in, Expansion}
 use Rattle.sh_flow.specs.Policy.{Text}
-use Rattle.sh_flow.specs.Profile.{is_plain_name, is_admitted, is_item_admitted}
+use Rattle.sh_flow.specs.Profile.{is_admitted, is_item_admitted}
 use Rattle.sh_flow.specs.Environment.{Environment}
 use Rattle.sh_flow.specs.Pieces.{Piece, Literal, Quoted, Expanded, piece_of, expand, separators, is_expanded, is_split, splits}
 use Rattle.sh_flow.specs.Machine.{Work, Items, Field, Passed, Assign, Nameless, Utility, Answer, Goes, simple_work, command_work, assign, pass, act, splits_value}
@@ -33,7 +33,7 @@ EachWord Q (w ∷ ws) = Q w.parts × EachWord Q ws
 
 unfoldable pub EachWordOf : (List Part → Type 0) → Option Command → Type 0
 EachWordOf Q None = Unit {0}
-EachWordOf Q (Some c) = EachWord Q (words_of (elements_of c.kind))
+EachWordOf Q (Some c) = EachWord Q (words_of (elements_of (out-Command c).kind))
 
 module _ (b : List ℕ) (P : List Item → Type 0) (Q : List Part → Type 0) where
   fields_each : (vs : List Word) (tail : List Work) → EachWord Q vs → EachWork P Q tail → EachWork P Q (map (λ v. Field v.parts) vs ++ tail)
@@ -71,8 +71,8 @@ module _ (b : List ℕ) (P : List Item → Type 0) (Q : List Part → Type 0) wh
   unfolding Keeps command_work EachWordOf
   item_each None e status tail q h = tt
   item_each (Some c) e status tail q h =
-      if_each e status (simple_work b (words_of (elements_of c.kind)) (assignments_of b (elements_of c.kind))) tail (is_plain_name b (words_of (elements_of c.kind)))
-      (simple_each (words_of (elements_of c.kind)) (assignments_of b (elements_of c.kind)) tail q h)
+      if_each e status (simple_work b (words_of (elements_of (out-Command c).kind)) (assignments_of b (elements_of (out-Command c).kind))) tail (is_admitted b c)
+      (simple_each (words_of (elements_of (out-Command c).kind)) (assignments_of b (elements_of (out-Command c).kind)) tail q h)
 
   passes_each : (e : Environment) (status : ℕ) (ws : List Work) (fails : Bool) → EachWork P Q ws → Keeps (λ e status ws. EachWork P Q ws) (Some (pass b e status ws fails))
   unfolding Keeps EffectOk pass
@@ -123,7 +123,7 @@ quoted_words (w ∷ ws) h = (and_left (are_quoted w.parts) _ h, quoted_words ws 
 quoted_lone : (x : Option Command) (cs : List Command) → list_all is_quoted_command (cons_option x cs) ≡ true → EachWordOf QuotedWord x × (list_all is_quoted_command cs ≡ true)
 unfolding EachWordOf
 quoted_lone None cs h = (tt, h)
-quoted_lone (Some c) cs h = (quoted_words (words_of (elements_of c.kind)) (and_left (is_quoted_command c) _ h), and_right (is_quoted_command c) _ h)
+quoted_lone (Some c) cs h = (quoted_words (words_of (elements_of (out-Command c).kind)) (and_left (is_quoted_command c) _ h), and_right (is_quoted_command c) _ h)
 
 pub quoted_items : (i : Item) (is : List Item) → QuotedItems (i ∷ is) → EachWordOf QuotedWord (lone_command i) × QuotedItems is
 quoted_items i is h = quoted_lone (lone_command i) (filter_map lone_command is) h
@@ -135,7 +135,13 @@ module _ (b : List ℕ) where
   none_expanded e [] h = refl
   none_expanded e (Plain s ∷ ps) h = none_expanded e ps h
   none_expanded e (Double' s shape row ∷ ps) h = none_expanded e ps (all_right _ (expansions_in false (Double' s shape row)) (expansions false ps) h)
-  none_expanded e (part.Param p ∷ ps) h = cc
+  none_expanded e (Param' s subject operator ∷ ps) h = cc
+  none_expanded e (Escaped s ∷ ps) h = none_expanded e ps h
+  none_expanded e (Single style s ∷ ps) h = none_expanded e ps h
+  none_expanded e (Arith' s shape row ∷ ps) h = none_expanded e ps h
+  none_expanded e (part.Command style s t ∷ ps) h = none_expanded e ps h
+  none_expanded e (Tilde s ∷ ps) h = none_expanded e ps h
+  none_expanded e (Joined s ∷ ps) h = none_expanded e ps h
 
   none_split : (ifs : Text) (ps : List Piece) → list_any is_expanded ps ≡ false → list_any (is_split ifs) ps ≡ false
   unfolding is_expanded is_split
@@ -175,14 +181,14 @@ module _ (b : List ℕ) where
   any_words_of : (x : Option Command) → EachWordOf AnyWord x
   unfolding EachWordOf
   any_words_of None = tt
-  any_words_of (Some c) = any_words (words_of (elements_of c.kind))
+  any_words_of (Some c) = any_words (words_of (elements_of (out-Command c).kind))
 
   pub admitted_items : (i : Item) (is : List Item) → AdmittedItems (i ∷ is) → EachWordOf AnyWord (lone_command i) × AdmittedItems is
   admitted_items i is h = (any_words_of (lone_command i), and_right (is_item_admitted b (lone_command i)) _ h)
 
   has_work : (x : Option Command) (e : Environment) (status : ℕ) (tail : List Work) → is_item_admitted b x ≡ true
       → is_some (option_map (λ work. Goes e status (work ++ tail)) (command_work b x)) ≡ true
-  unfolding is_item_admitted is_admitted command_work
+  unfolding is_item_admitted command_work
   has_work None e status tail h = cc
   has_work (Some c) e status tail h = rw h refl
 

@@ -1,7 +1,7 @@
 -- What holds of all live processes at once.
 use Rattle.std.proofs.Common.{◌≡◌, ◌≢◌, ℕ, ◌==◌, Bool, true, false, Option, Some, None, is_some, if◌then◌else◌, List, [], ◌∷◌, ◌⊎◌, inl, inr, refl, sym, ◌∙◌, ap, subst, eqb-true, eq-eqb, option_map, option_and_then}
 use Rattle.std.proofs.lemmas.Option.{same_Some, none-some}
-use Rattle.sh_tree.specs.declared.tree.Script.{Script}
+use Rattle.sh_tree.specs.declared.tree.Script.{Script, out-Script}
 use Rattle.sh_flow.specs.Environment.{Environment, Frame}
 use Rattle.sh_flow.specs.Machine.{put, Work, Items, Answer, Effect, Ends, Goes, act, Process, World, waits, apply, Move, step_of, step, run, has_event_of, start_world}
 
@@ -120,12 +120,12 @@ module _ (b : List ℕ) (P : Frame → Environment → ℕ → List Work → Typ
       go None d g ih = absurd (none-some w' g)
       go (Some v) d g ih = ih v (step_ok kept w v m ok d) g
 
-  pub start_ok : (e : Environment) (f : Frame) (t : Script) → P f e 0 (Items t.items ∷ []) → WorldOk (start_world e f t)
+  pub start_ok : (e : Environment) (f : Frame) (t : Script) → P f e 0 (Items (out-Script t).items ∷ []) → WorldOk (start_world e f t)
   unfolding start_world innermost
   start_ok e f t h = record { first = λ p r g. (only p r g).0; well = λ p r g. subst (λ (s : Process). P (innermost (λ n. f) s.frames) e s.status s.work) (only p r g).1 h }
     where
       new : Process
-      new = record { environment = 0; frames = 0 ∷ []; parent = None; status = 0; work = Items t.items ∷ [] }
+      new = record { environment = 0; frames = 0 ∷ []; parent = None; status = 0; work = Items (out-Script t).items ∷ [] }
 
       only : (p : ℕ) (r : Process) → put (λ n. None) 0 (Some new) p ≡ Some r → (p ≡ 0) × (new ≡ r)
       only p r g = at_cases (put_cases (λ n. None) 0 (Some new) p (Some r) g)

@@ -2,8 +2,8 @@
 -- POSIX.1-2024, XCU 2.9.1 (simple commands), 2.9.3 (lists).
 use Rattle.std.specs.Prelude.{ℕ, ◌==◌, Bool, true, false, List, Option, Some, None}
 use Rattle.sh_tree.specs.declared.tree.Element.{Element}
-use Rattle.sh_tree.specs.declared.tree.Element.TheVariants as element
 use Rattle.sh_tree.specs.Tree.{text_of}
+use Rattle.sh_tree.specs.Words.{Form, Assigns, Operand, form_of}
 use Rattle.sh_flow.specs.Policy.{Text, Declared}
 use Rattle.sh_flow.specs.Names.{number_of}
 use Rattle.sh_flow.specs.Facts.{Out, Claims, both, out_at}
@@ -32,15 +32,21 @@ out_of names d c Start = both (start_facts names d)
 out_of names d c (Command k) = out_at c k
 
 -- the element is the command name or an operand
-unfoldable pub is_word : Element → Bool
-is_word (element.Assignment s w) = false
-is_word (element.Word w) = true
+unfoldable pub is_operand : Form → Bool
+is_operand (Operand w) = true
+is_operand _ = false
+
+abbrev pub is_word : Element → Bool
+is_word e = is_operand (form_of e)
 
 unfoldable pub number_is : ℕ → Option ℕ → Bool
 number_is n None = false
 number_is n (Some m) = n == m
 
+unfoldable pub form_assigns : List ℕ → List Text → ℕ → Form → Bool
+form_assigns b names n (Assigns s w) = number_is n (number_of names (text_of b s))
+form_assigns b names n _ = false
+
 -- the element assigns the name of the number
-unfoldable pub assigns : List ℕ → List Text → ℕ → Element → Bool
-assigns b names n (element.Assignment s w) = number_is n (number_of names (text_of b s))
-assigns b names n (element.Word w) = false
+abbrev pub assigns : List ℕ → List Text → ℕ → Element → Bool
+assigns b names n e = form_assigns b names n (form_of e)

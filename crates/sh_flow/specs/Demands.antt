@@ -5,10 +5,9 @@ use Rattle.std.specs.List.{flat_map}
 use Rattle.sh_tree.specs.declared.place.Place.{Place}
 use Rattle.sh_tree.specs.declared.place.Code.TheVariants.{U1}
 use Rattle.sh_tree.specs.declared.tree.Script.{Script}
-use Rattle.sh_tree.specs.declared.tree.Command.{Command}
+use Rattle.sh_tree.specs.declared.tree.Command.{Command, out-Command}
 use Rattle.sh_tree.specs.declared.tree.Element.{Element}
-use Rattle.sh_tree.specs.declared.tree.Element.TheVariants as element
-use Rattle.sh_tree.specs.Words.{lone_commands, elements_of, expansions, Expansion, subject_text}
+use Rattle.sh_tree.specs.Words.{lone_commands, elements_of, Form, Assigns, Operand, Redirects, form_of, expansions, Expansion, subject_text}
 use Rattle.sh_flow.specs.Policy.{Text}
 use Rattle.sh_flow.specs.Names.{number_of}
 use Rattle.sh_flow.specs.Facts.{Facts, NotReached, Known, Claims, facts}
@@ -32,14 +31,18 @@ module _ (b : List ℕ) (names : List Text) where
   abbrev pub uncovered : Facts → List Expansion → List Place
   uncovered f xs = flat_map (λ x. wanted (covers names f (subject_text b x.param.subject)) x.param.span.start (subject_text b x.param.subject)) xs
 
+  unfoldable pub form_unmet : Facts → Form → List Place
+  form_unmet f (Assigns s w) = uncovered f (expansions false w.parts)
+  form_unmet f (Operand w) = uncovered f (expansions false w.parts)
+  form_unmet f Redirects = []
+
   -- in an element
-  unfoldable pub element_unmet : Facts → Element → List Place
-  element_unmet f (element.Assignment s w) = uncovered f (expansions false w.parts)
-  element_unmet f (element.Word w) = uncovered f (expansions false w.parts)
+  abbrev pub element_unmet : Facts → Element → List Place
+  element_unmet f e = form_unmet f (form_of e)
 
   -- in a command: each element is judged by what is known before the command
   abbrev pub command_unmet : Claims → Command → List Place
-  command_unmet c x = flat_map (element_unmet (facts (c.before x.number))) (elements_of x.kind)
+  command_unmet c x = flat_map (element_unmet (facts (c.before (out-Command x).number))) (elements_of (out-Command x).kind)
 
   -- in a script, in the order of the text
   abbrev pub script_unmet : Claims → Script → List Place

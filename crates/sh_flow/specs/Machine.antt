@@ -1,15 +1,15 @@
 -- Runs: what the processes of a script do, step by step.
 -- POSIX.1-2024, XCU 2.9.1 (simple commands), 2.9.3 (lists), 2.13 (shell execution environment).
 use Rattle.std.specs.Prelude.{◌≡◌, ℕ, zero, suc, ◌≤◌, Bool, true, false, ◌||◌, ◌==◌, if◌then◌else◌, List, [], ◌∷◌, ◌++◌, length, map, codes, Option, Some, None, is_some, unwrap_or, option_map, option_and_then}
-use Rattle.sh_tree.specs.declared.tree.Script.{Script}
+use Rattle.sh_tree.specs.declared.tree.Script.{Script, out-Script}
 use Rattle.sh_tree.specs.declared.tree.Item.{Item}
-use Rattle.sh_tree.specs.declared.tree.Command.{Command}
+use Rattle.sh_tree.specs.declared.tree.Command.{Command, out-Command}
 use Rattle.sh_tree.specs.declared.tree.Word.{Word}
 use Rattle.sh_tree.specs.declared.tree.Part.{Part}
 use Rattle.sh_tree.specs.Words.{lone_command, elements_of, words_of, assignments_of}
 use Rattle.sh_flow.specs.Policy.{Text, Declared}
 use Rattle.sh_flow.specs.Names.{start_names, is_one_of}
-use Rattle.sh_flow.specs.Profile.{is_plain_name}
+use Rattle.sh_flow.specs.Profile.{is_admitted}
 use Rattle.sh_flow.specs.Environment.{Environment, Frame, assigned}
 use Rattle.sh_flow.specs.Pieces.{expand, value_text, separators, names_unset, splits}
 
@@ -53,8 +53,8 @@ module _ (b : List ℕ) where
   unfoldable pub command_work : Option Command → Option (List Work)
   command_work None = None
   command_work (Some c) =
-      if is_plain_name b (words_of (elements_of c.kind))
-      then Some (simple_work (words_of (elements_of c.kind)) (assignments_of b (elements_of c.kind)))
+      if is_admitted b c
+      then Some (simple_work (words_of (elements_of (out-Command c).kind)) (assignments_of b (elements_of (out-Command c).kind)))
       else None
 
   -- an assignment gives the variable the value, or ends the process
@@ -172,7 +172,7 @@ start_world e f t =
     record {
       environments = λ n. e;
       frames = λ n. f;
-      processes = put (λ n. None) 0 (Some (record { environment = 0; frames = 0 ∷ []; parent = None; status = 0; work = Items t.items ∷ [] }));
+      processes = put (λ n. None) 0 (Some (record { environment = 0; frames = 0 ∷ []; parent = None; status = 0; work = Items (out-Script t).items ∷ [] }));
       next_process = 1;
     }
 

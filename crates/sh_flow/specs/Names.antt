@@ -5,12 +5,12 @@ use Rattle.std.specs.List.{list_any, flat_map, position_from}
 use Rattle.std.specs.Str.{bytes_eq}
 use Rattle.sh_tree.specs.declared.limits.TheConstants.{MAX_NAMES}
 use Rattle.sh_tree.specs.declared.tree.Script.{Script}
+use Rattle.sh_tree.specs.declared.tree.Command.{out-Command}
 use Rattle.sh_tree.specs.declared.tree.Element.{Element}
-use Rattle.sh_tree.specs.declared.tree.Element.TheVariants as element
 use Rattle.sh_tree.specs.declared.refusal.Refusal.{Refusal}
 use Rattle.sh_tree.specs.declared.refusal.Refusal.TheVariants.{TooMany, Memory}
 use Rattle.sh_tree.specs.Tree.{text_of}
-use Rattle.sh_tree.specs.Words.{lone_commands, elements_of, expansions, Expansion, subject_text}
+use Rattle.sh_tree.specs.Words.{lone_commands, elements_of, Form, Assigns, Operand, Redirects, form_of, expansions, Expansion, subject_text}
 use Rattle.sh_flow.specs.Policy.{Text, Declared}
 
 -- set at the start of every run
@@ -33,14 +33,18 @@ with_text names t = if is_one_of names t then names else names ++ t ∷ []
 abbrev pub subjects : List ℕ → List Expansion → List Text
 subjects b es = map (λ e. subject_text b e.param.subject) es
 
+unfoldable pub form_names : List ℕ → Form → List Text
+form_names b (Assigns s w) = text_of b s ∷ subjects b (expansions false w.parts)
+form_names b (Operand w) = subjects b (expansions false w.parts)
+form_names b Redirects = []
+
 -- the names in an element: the one that it assigns, and its parameters
-unfoldable pub names_in : List ℕ → Element → List Text
-names_in b (element.Assignment s w) = text_of b s ∷ subjects b (expansions false w.parts)
-names_in b (element.Word w) = subjects b (expansions false w.parts)
+abbrev pub names_in : List ℕ → Element → List Text
+names_in b e = form_names b (form_of e)
 
 -- the names in a script, in the order of the text
 abbrev pub script_names : List ℕ → Script → List Text
-script_names b t = flat_map (λ c. flat_map (names_in b) (elements_of c.kind)) (lone_commands t)
+script_names b t = flat_map (λ c. flat_map (names_in b) (elements_of (out-Command c).kind)) (lone_commands t)
 
 -- each name once, by first sight: the first names, the declared ones, those in the text
 abbrev pub numbering : List ℕ → Script → Declared → List Text

@@ -2,8 +2,7 @@
 -- POSIX.1-2024, XCU 2.6.2 (parameter expansion), 2.6.5 (field splitting), 2.6.6 (pathname expansion), 2.6.7 (quote removal).
 use Rattle.std.specs.Prelude.{ℕ, ◌==◌, Bool, true, false, not, ◌&&◌, ◌||◌, List, [], ◌∷◌, ◌++◌, length, codes, is_some, unwrap_or}
 use Rattle.std.specs.List.{list_any, flat_map}
-use Rattle.sh_tree.specs.declared.tree.Part.{Part, Plain, Double', Row_of-Part, end_of-Part, more_of-Part}
-use Rattle.sh_tree.specs.declared.tree.Part.TheVariants as part
+use Rattle.sh_tree.specs.declared.tree.Part.{Part, Plain, Double', Param', Row_of-Part, end_of-Part, more_of-Part}
 use Rattle.sh_tree.specs.declared.tree.Param.{Param}
 use Rattle.sh_tree.specs.Tree.{text_of}
 use Rattle.sh_tree.specs.Words.{Expansion, expansions, subject_text}
@@ -20,22 +19,24 @@ pub data Piece : Type 0 where
 abbrev pub value_of : List ℕ → Environment → Param → Text
 value_of b e p = unwrap_or (e.variables (subject_text b p.subject)) []
 
--- the bytes of a part
+-- the bytes of a straight part; none are stated yet for others
 unfoldable mutual
   pub part_value : List ℕ → Environment → Part → Text
   part_value b e (Plain s) = text_of b s
   part_value b e (Double' s shape row) = row_value b e row
-  part_value b e (part.Param p) = value_of b e p
+  part_value b e (Param' s subject operator) = value_of b e (record { span = s; subject = subject; operator = operator })
+  part_value b e _ = []
 
   pub row_value : {m : _} → List ℕ → Environment → Row_of-Part m → Text
   row_value b e end_of-Part = []
   row_value b e (more_of-Part x rest) = part_value b e x ++ row_value b e rest
 
--- the piece of a part outside quotes
+-- the piece of a straight part outside quotes
 unfoldable pub piece_of : List ℕ → Environment → Part → Piece
 piece_of b e (Plain s) = Literal (text_of b s)
 piece_of b e (Double' s shape row) = Quoted (row_value b e row)
-piece_of b e (part.Param p) = Expanded (value_of b e p)
+piece_of b e (Param' s subject operator) = Expanded (value_of b e (record { span = s; subject = subject; operator = operator }))
+piece_of b e _ = Literal []
 
 -- the pieces of a word
 unfoldable pub expand : List ℕ → Environment → List Part → List Piece

@@ -3,10 +3,17 @@
 -- utility that changes no variable and no function.
 use Rattle.std.specs.Prelude.{◌≡◌, ℕ, Bool, true, false, not, ◌&&◌, ◌==◌, List, [], ◌∷◌, codes, Option, Some, None}
 use Rattle.std.specs.List.{list_any, list_all}
-use Rattle.sh_tree.specs.declared.tree.Script.{Script}
-use Rattle.sh_tree.specs.declared.tree.Command.{Command}
+use Rattle.sh_tree.specs.declared.tree.Script.{Script, out-Script}
+use Rattle.sh_tree.specs.declared.tree.Command.{Command, out-Command}
+use Rattle.sh_tree.specs.declared.tree.Redirect.{Redirect}
+use Rattle.sh_tree.specs.declared.tree.Kind.{Kind, Simple'}
+use Rattle.sh_tree.specs.declared.tree.Element.{Element}
+use Rattle.sh_tree.specs.declared.tree.Part.{Part, Plain, Double', Param', items-the_row-Part}
+use Rattle.sh_tree.specs.declared.tree.Subject.{Subject}
+use Rattle.sh_tree.specs.declared.tree.Subject.TheVariants.{Name}
+use Rattle.sh_tree.specs.declared.tree.Operator.{Operator, Value}
 use Rattle.sh_tree.specs.declared.tree.Word.{Word}
-use Rattle.sh_tree.specs.Words.{lone_command, elements_of, words_of, static_text}
+use Rattle.sh_tree.specs.Words.{lone_command, elements_of, words_of, Form, Assigns, Operand, Redirects, form_of, static_text}
 use Rattle.sh_flow.specs.Policy.{Text}
 use Rattle.sh_flow.specs.Names.{is_one_of}
 
@@ -41,9 +48,51 @@ unfoldable pub is_plain_name : List ℕ → List Word → Bool
 is_plain_name b [] = true
 is_plain_name b (w ∷ ws) = is_named_utility (static_text b w.parts)
 
+-- Straight commands: those whose words are plain bytes, `$name`, and double quotes with these in them
+
+unfoldable pub is_variable : Subject → Bool
+is_variable (Name s) = true
+is_variable _ = false
+
+unfoldable pub is_value : Operator → Bool
+is_value Value = true
+is_value _ = false
+
+-- plain bytes, or `$name`
+unfoldable pub is_flat : Part → Bool
+is_flat (Plain s) = true
+is_flat (Param' s subject operator) = is_variable subject && is_value operator
+is_flat _ = false
+
+-- or double quotes with these in them
+unfoldable pub is_straight_part : Part → Bool
+is_straight_part (Double' s shape row) = list_all is_flat (items-the_row-Part _ row)
+is_straight_part p = is_flat p
+
+unfoldable pub is_straight_form : Form → Bool
+is_straight_form (Assigns s w) = list_all is_straight_part w.parts
+is_straight_form (Operand w) = list_all is_straight_part w.parts
+is_straight_form Redirects = false
+
+abbrev pub is_straight_element : Element → Bool
+is_straight_element e = is_straight_form (form_of e)
+
+unfoldable pub is_simple : Kind → Bool
+is_simple (Simple' shape row) = true
+is_simple _ = false
+
+unfoldable pub has_none : List Redirect → Bool
+has_none [] = true
+has_none (r ∷ rs) = false
+
+-- a simple command without redirections, all of whose words are straight
+unfoldable pub is_straight : Command → Bool
+is_straight c =
+    is_simple (out-Command c).kind && list_all is_straight_element (elements_of (out-Command c).kind) && has_none (out-Command c).redirects
+
 -- the command is analysed
 unfoldable pub is_admitted : List ℕ → Command → Bool
-is_admitted b c = is_plain_name b (words_of (elements_of c.kind))
+is_admitted b c = is_straight c && is_plain_name b (words_of (elements_of (out-Command c).kind))
 
 unfoldable pub is_item_admitted : List ℕ → Option Command → Bool
 is_item_admitted b None = false
@@ -51,4 +100,4 @@ is_item_admitted b (Some c) = is_admitted b c
 
 -- every command of the script is
 abbrev pub Admitted : List ℕ → Script → Type 0
-Admitted b t = list_all (λ i. is_item_admitted b (lone_command i)) t.items ≡ true
+Admitted b t = list_all (λ i. is_item_admitted b (lone_command i)) (out-Script t).items ≡ true

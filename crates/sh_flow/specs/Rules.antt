@@ -2,9 +2,9 @@
 -- POSIX.1-2024, XCU 2.9.1 (simple commands), 2.9.3 (lists).
 use Rattle.std.specs.Prelude.{◌≡◌, ℕ, ltb, Bool, true, false, ◌&&◌, ◌||◌, ◌==◌, if◌then◌else◌, List, [], ◌∷◌, ◌++◌, Contains, Option, Some, None, slice_get, unwrap_or, option_map}
 use Rattle.std.specs.List.{filter_map}
-use Rattle.sh_tree.specs.declared.tree.Script.{Script}
+use Rattle.sh_tree.specs.declared.tree.Script.{Script, out-Script}
 use Rattle.sh_tree.specs.declared.tree.Item.{Item}
-use Rattle.sh_tree.specs.declared.tree.Command.{Command}
+use Rattle.sh_tree.specs.declared.tree.Command.{Command, out-Command}
 use Rattle.sh_tree.specs.declared.tree.Element.{Element}
 use Rattle.sh_tree.specs.declared.tree.Word.{Word}
 use Rattle.sh_tree.specs.Words.{lone_command, elements_of, words_of, assignments_of}
@@ -50,11 +50,11 @@ module _ (b : List ℕ) (names : List Text) where
   -- the faults of a command that the rule enters with these facts
   unfoldable pub faults : Claims → Command → FlowRule → Facts → List Fault
   faults c x by f =
-      told (within (c.before x.number) f) x.number by
+      told (within (c.before (out-Command x).number) f) (out-Command x).number by
       ++ told
-      (within_out (c.zero_at x.number) (c.nonzero_at x.number) (both (leaves (words_of (elements_of x.kind)) (elements_of x.kind) (facts (c.before x.number)))))
-      x.number
-      (exit_rule (words_of (elements_of x.kind)))
+      (within_out (c.zero_at (out-Command x).number) (c.nonzero_at (out-Command x).number) (both (leaves (words_of (elements_of (out-Command x).kind)) (elements_of (out-Command x).kind) (facts (c.before (out-Command x).number)))))
+      (out-Command x).number
+      (exit_rule (words_of (elements_of (out-Command x).kind)))
 
   unfoldable pub item_faults : Claims → Option Command → FlowRule → Facts → List Fault
   item_faults c None by f = []
@@ -67,7 +67,7 @@ module _ (b : List ℕ) (names : List Text) where
 
   unfoldable pub out_behind : Claims → Option Command → Out → Out
   out_behind c None o = o
-  out_behind c (Some x) o = out_at c x.number
+  out_behind c (Some x) o = out_at c (out-Command x).number
 
   -- the faults of a list, whose first item the rule enters with what is known before it
   unfoldable pub list_faults : Claims → List Item → FlowRule → Out → List Fault
@@ -77,7 +77,7 @@ module _ (b : List ℕ) (names : List Text) where
 
   -- the faults of a script that starts under the policy
   abbrev pub script_faults : Claims → Declared → Script → List Fault
-  script_faults c d t = list_faults c t.items F1 (both (start_facts names d))
+  script_faults c d t = list_faults c (out-Script t).items F1 (both (start_facts names d))
 
 -- the place of a rule in their order
 unfoldable pub rank : FlowRule → ℕ

@@ -3,7 +3,7 @@
 use Rattle.std.specs.Prelude.{◌≡◌, ℕ, Bool, true, false, List, [], Some, is_some}
 use Rattle.std.specs.List.{list_all}
 use Rattle.sh_tree.specs.declared.tree.Script.{Script}
-use Rattle.sh_tree.specs.declared.tree.Command.{Command}
+use Rattle.sh_tree.specs.declared.tree.Command.{Command, out-Command}
 use Rattle.sh_tree.specs.declared.tree.Word.{Word}
 use Rattle.sh_tree.specs.Words.{lone_commands, elements_of, words_of, expansions, Expansion}
 use Rattle.sh_flow.specs.Policy.{Text, Declared}
@@ -34,7 +34,7 @@ RulesAndDemandsSuffice =
 
 -- every expansion in the words of the command stands in double quotes
 abbrev pub is_quoted_command : Command → Bool
-is_quoted_command c = list_all (λ (w : Word). list_all (λ (x : Expansion). x.quoted) (expansions false w.parts)) (words_of (elements_of c.kind))
+is_quoted_command c = list_all (λ (w : Word). list_all (λ (x : Expansion). x.quoted) (expansions false w.parts)) (words_of (elements_of (out-Command c).kind))
 
 -- Where every expansion in a command's words is quoted, no run has a Split event.
 abbrev pub QuotingSuffices : Type 0

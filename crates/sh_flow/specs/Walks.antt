@@ -6,7 +6,7 @@ use Rattle.sh_tree.specs.declared.limits.TheConstants.{MAX_NAMES}
 use Rattle.sh_tree.specs.declared.refusal.Refusal.{Refusal}
 use Rattle.sh_tree.specs.declared.refusal.Refusal.TheVariants.{TooMany, Memory}
 use Rattle.sh_tree.specs.declared.tree.Item.{Item}
-use Rattle.sh_tree.specs.declared.tree.Command.{Command}
+use Rattle.sh_tree.specs.declared.tree.Command.{Command, out-Command}
 use Rattle.sh_tree.specs.declared.tree.Part.{Part}
 use Rattle.sh_tree.specs.Words.{lone_command, elements_of, expansions_in}
 use Rattle.sh_flow.specs.Policy.{Text}
@@ -30,7 +30,7 @@ abbrev pub on_lone : {A : Type 0} → (Command → List A) → Item → List A
 on_lone f i = of_option f (lone_command i)
 
 abbrev pub command_names : List ℕ → Command → List Text
-command_names b c = flat_map (names_in b) (elements_of c.kind)
+command_names b c = flat_map (names_in b) (elements_of (out-Command c).kind)
 
 -- the parameters in a part
 abbrev pub part_names : List ℕ → Part → List Text

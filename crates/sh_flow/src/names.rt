@@ -1,6 +1,5 @@
 //! The names of a script, each with a number.
 ghost use Rattle.std.specs.Prelude.{◌≡◌, ◌<◌, [], ◌∷◌, length, map, fold, flat_map, Some, slice_get, OnOk, IfErr, MatchResult};
-ghost use Rattle.sh_tree.specs.Words.{elements_of};
 ghost use Rattle.sh_flow.specs.Names.{Numbers, with_text, number_of, names_in};
 ghost use Rattle.sh_flow.specs.Walks.{Refuses, part_names, command_names, on_lone};
 
@@ -8,7 +7,7 @@ use crate::policy::Policy;
 use indexmap::IndexSet;
 use sh_tree::limits::MAX_NAMES;
 use sh_tree::refusal::Refusal;
-use sh_tree::tree::{Command, Element, Item, Kind, Part, Script};
+use sh_tree::tree::{Command, Element, Item, Part, Script};
 use std::alloc::Global;
 use std::marker::Model;
 
@@ -136,9 +135,7 @@ impl Names {
         ensures names { OnOk result (self.new ≡ fold with_text self.old (command_names script.now command.now)) }
         ensures refusal { IfErr result (Refuses (fold with_text self.old (command_names script.now command.now))) }
     {
-        match &command.kind {
-            Kind::Simple(elements) => self.add_elements(script, elements.as_slice()),
-        }
+        self.add_elements(script, command.elements())
     }
 
     fn add_elements(&mut self, script: &[u8], elements: &[Element]) -> Result<(), Refusal>
@@ -162,6 +159,7 @@ impl Names {
                 self.add_parts(script, value.parts.as_slice())
             }
             Element::Word(word) => self.add_parts(script, word.parts.as_slice()),
+            Element::Redirection(_) => Ok(()),
         }
     }
 
@@ -177,13 +175,19 @@ impl Names {
     }
 
     #[cycle(parts)]
-    #[tactic(auto, using(crate::proofs::NameLemmas::names_in_part))]
+    #[tactic(auto, using(crate::proofs::NameLemmas::names_in_part), unfolding(sh_tree::specs::Words::expansions_in))]
     fn add_part(&mut self, script: &[u8], part: &Part) -> Result<(), Refusal>
         ensures names { OnOk result (self.new ≡ fold with_text self.old (part_names script.now part.now)) }
         ensures refusal { IfErr result (Refuses (fold with_text self.old (part_names script.now part.now))) }
     {
         match part {
-            Part::Plain(_) => Ok(()),
+            Part::Plain(_)
+            | Part::Escaped(_)
+            | Part::Single(_, _)
+            | Part::Arith(_, _)
+            | Part::Command(_, _, _)
+            | Part::Tilde(_)
+            | Part::Joined(_) => Ok(()),
             Part::Double(_, parts) => self.add_parts(script, parts.as_slice()),
             Part::Param(param) => self.add(param.subject.text(script)),
         }

@@ -11,6 +11,8 @@ pub mod name;
 pub mod place;
 pub mod refusal;
 pub mod sign;
+#[cfg(test)]
+mod tests;
 pub mod text;
 pub mod token;
 pub mod tree;

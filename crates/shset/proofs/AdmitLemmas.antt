@@ -9,22 +9,37 @@ use Rattle.sh_tree.specs.declared.tree.Element.{Element}
 use Rattle.sh_tree.specs.declared.tree.Element.TheVariants as element
 use Rattle.sh_tree.specs.declared.tree.Span.{Span}
 use Rattle.sh_tree.specs.declared.tree.Word.{Word}
-use Rattle.sh_tree.specs.Words.{lone_command, words_of, word_of, static_text}
+use Rattle.sh_tree.specs.declared.tree.Redirect.{Redirect}
+use Rattle.sh_tree.specs.declared.tree.Part.{Part, Double}
+use Rattle.sh_tree.specs.declared.tree.Element.TheBlock.{items_hidden-the_row-Part-0}
+use Rattle.sh_tree.specs.Words.{lone_command, words_of, form_of_assignment, form_of_word, form_of_redirection, word_in, word_of, static_text}
 use Rattle.sh_flow.specs.Policy.{Text}
-use Rattle.sh_flow.specs.Profile.{is_utility, is_named_utility, is_plain_name, is_admitted, is_item_admitted}
+use Rattle.sh_flow.specs.Profile.{is_utility, is_named_utility, is_flat, is_straight_part, is_straight_form, is_straight_element, is_plain_name, is_admitted, is_item_admitted}
 use Rattle.shset.specs.Findings.{first_refused}
 
 -- the name of a command, element by element
 
-pub name_at_word : (es : List Element) (i : ℕ) (e : Element) (w : Word) → i < length es → e ≡ get_or es i e → e ≡ element.Word w
-    → slice_get (words_of (drop i es)) 0 ≡ Some w
-unfolding word_of
-name_at_word es i e w h is v = rw (drop-cons es i e, ← is, v) refl
+pub word_of-Assignment : (s : Span) (w : Word) → word_of (element.Assignment s w) ≡ None
+unfolding word_in
+word_of-Assignment s w = ap word_in (form_of_assignment s w)
 
-pub name_past_assignment : (es : List Element) (i : ℕ) (e : Element) (s : Span) (w : Word) → i < length es → e ≡ get_or es i e → e ≡ element.Assignment s w
+pub word_of-Word : (w : Word) → word_of (element.Word w) ≡ Some w
+unfolding word_in
+word_of-Word w = ap word_in (form_of_word w)
+
+pub word_of-Redirection : (r : Redirect) → word_of (element.Redirection r) ≡ None
+unfolding word_in
+word_of-Redirection r = ap word_in (form_of_redirection r)
+
+pub ruleset word_in_element = (word_of-Assignment, word_of-Word, word_of-Redirection)
+
+pub name_at_word : (es : List Element) (i : ℕ) (e : Element) (w : Word) → i < length es → e ≡ get_or es i e → Some w ≡ word_of e
+    → slice_get (words_of (drop i es)) 0 ≡ Some w
+name_at_word es i e w h is v = rw (drop-cons es i e, ← is, ← v) refl
+
+pub name_past : (es : List Element) (i : ℕ) (e : Element) → i < length es → e ≡ get_or es i e → None ≡ word_of e
     → words_of (drop i es) ≡ words_of (drop (i + 1) es)
-unfolding word_of
-name_past_assignment es i e s w h is v = rw (drop-cons es i e, add-one, ← is, v) refl
+name_past es i e h is v = rw (drop-cons es i e, add-one, ← is, ← v) refl
 
 pub no_name : (es : List Element) (i : ℕ) → length es ≤ i → words_of (drop i es) ≡ []
 no_name es i h = rw (drop_all i es h) refl
@@ -106,3 +121,25 @@ admitted_from_none b (i ∷ is) l e =
         → (t ≡ true) × (first_refused b (filter_map lone_command is) ≡ None)
     bool_cases true e = (refl, e)
     bool_cases false e = cc
+
+-- straight parts and elements
+
+pub is_straight_part-Double : (s : Span) (ps : List Part) → is_straight_part (Double s ps) ≡ list_all is_flat ps
+unfolding is_straight_part
+is_straight_part-Double s ps = ap (list_all is_flat) (items_hidden-the_row-Part-0 ps)
+
+pub straight_Assignment : (s : Span) (w : Word) → is_straight_element (element.Assignment s w) ≡ list_all is_straight_part w.parts
+unfolding is_straight_form
+straight_Assignment s w = ap is_straight_form (form_of_assignment s w)
+
+pub straight_Word : (w : Word) → is_straight_element (element.Word w) ≡ list_all is_straight_part w.parts
+unfolding is_straight_form
+straight_Word w = ap is_straight_form (form_of_word w)
+
+pub straight_Redirection : (r : Redirect) → is_straight_element (element.Redirection r) ≡ false
+unfolding is_straight_form
+straight_Redirection r = ap is_straight_form (form_of_redirection r)
+
+pub ruleset straight_in_part = (is_straight_part-Double)
+
+pub ruleset straight_in_element = (straight_Assignment, straight_Word, straight_Redirection)

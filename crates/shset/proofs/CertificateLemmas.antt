@@ -6,24 +6,24 @@ use Rattle.std.proofs.lemmas.Grind.{common_steps}
 use Rattle.std.proofs.lemmas.List.{append-nil}
 use Rattle.std.proofs.lemmas.List.Folds.{list_any-append, list_all-append}
 use Rattle.sh_tree.specs.declared.place.Place.{Place}
-use Rattle.sh_tree.specs.declared.tree.Script.{Script}
+use Rattle.sh_tree.specs.declared.tree.Script.{Script, out-Script}
 use Rattle.sh_tree.specs.declared.tree.Item.{Item}
-use Rattle.sh_tree.specs.declared.tree.Command.{Command}
-use Rattle.sh_tree.specs.declared.tree.Element.{Element}
-use Rattle.sh_tree.specs.declared.tree.Element.TheVariants as element
+use Rattle.sh_tree.specs.declared.tree.Command.{Command, out-Command}
+use Rattle.sh_tree.specs.declared.tree.Element.{Element, Assignment', Word', Redirection'}
+use Rattle.sh_tree.specs.declared.tree.Part.{items-the_row-Part}
 use Rattle.sh_tree.specs.declared.tree.Word.{Word}
-use Rattle.sh_tree.specs.Words.{lone_command, lone_commands, elements_of, words_of, assignments_of, Expansion, expansions, subject_text}
+use Rattle.sh_tree.specs.Words.{lone_command, lone_commands, elements_of, form_of, words_of, assignments_of, Expansion, expansions, subject_text}
 use Rattle.sh_flow.specs.Policy.{Text, Declared}
-use Rattle.sh_flow.specs.Names.{start_names, is_one_of, number_of, subjects, names_in, script_names}
+use Rattle.sh_flow.specs.Names.{start_names, is_one_of, number_of, subjects, form_names, names_in, script_names}
 use Rattle.sh_flow.specs.Facts.{Facts, Known, Claim, Claimed, has_number, facts, within, meet, with_vars, Out, both, enter, out_at, Claims}
 use Rattle.sh_flow.specs.Certificates.{Table, row_at, claim_of, claim_in, entry_of, claims_of}
 use Rattle.sh_flow.specs.Rules.{told, is_set_at_start, start_facts, assigned_numbers, leaves, faults, item_faults, rule_behind, out_behind, list_faults, script_faults}
-use Rattle.sh_flow.specs.Demands.{wanted, knows, covers, uncovered, element_unmet, command_unmet, script_unmet}
+use Rattle.sh_flow.specs.Demands.{wanted, knows, covers, uncovered, form_unmet, element_unmet, command_unmet, script_unmet}
 use Rattle.sh_flow.specs.declared.certificate.Facts as shown
 use Rattle.sh_flow.specs.declared.certificate.Entry.{Entry}
 use Rattle.sh_flow.specs.declared.rule.FlowRule.{FlowRule}
 use Rattle.sh_flow.specs.declared.rule.FlowRule.TheVariants.{F1, F2}
-use Rattle.shset.specs.Findings.{gains, command_gains, unsure, element_unset, command_unset, unset_from, unset_places}
+use Rattle.shset.specs.Findings.{gains, command_gains, unsure, form_unset, element_unset, command_unset, unset_from, unset_places}
 use Rattle.shset.specs.Certifies.{numbers_of, HoldsNames, Says, Round, Follows, Found}
 use Rattle.shset.specs.declared.find.Finder.{Finder}
 use Rattle.shset.proofs.RowLemmas.{or_swap, has_append, numbers_append}
@@ -128,13 +128,13 @@ leaves_known b names args (w ∷ ws) es before sure known = λ c claim.
     (at_most_same args))
 
 command_clean : (b : List ℕ) (names : List Text) (c : Claims) (args : ℕ) (x : Command) (by : FlowRule) (f : Facts) (sure : List Text)
-    → Enters names args f sure → ClaimsAt names c args x.number sure (sure ++ command_gains b x) → faults b names c x by f ≡ []
+    → Enters names args f sure → ClaimsAt names c args (out-Command x).number sure (sure ++ command_gains b x) → faults b names c x by f ≡ []
 unfolding faults told
 command_clean b names c args x by f sure enters said =
-    let entered : within (c.before x.number) f ≡ true = enters (c.before x.number) said.before in
-    let left = leaves_known b names args (words_of (elements_of x.kind)) (elements_of x.kind) (c.before x.number) sure said.before in
-    let zero : within (c.zero_at x.number) (leaves b names (words_of (elements_of x.kind)) (elements_of x.kind) (facts (c.before x.number))) ≡ true = left (c.zero_at x.number) said.zero_at in
-    let nonzero : within (c.nonzero_at x.number) (leaves b names (words_of (elements_of x.kind)) (elements_of x.kind) (facts (c.before x.number))) ≡ true = left (c.nonzero_at x.number) said.nonzero_at in
+    let entered : within (c.before (out-Command x).number) f ≡ true = enters (c.before (out-Command x).number) said.before in
+    let left = leaves_known b names args (words_of (elements_of (out-Command x).kind)) (elements_of (out-Command x).kind) (c.before (out-Command x).number) sure said.before in
+    let zero : within (c.zero_at (out-Command x).number) (leaves b names (words_of (elements_of (out-Command x).kind)) (elements_of (out-Command x).kind) (facts (c.before (out-Command x).number))) ≡ true = left (c.zero_at (out-Command x).number) said.zero_at in
+    let nonzero : within (c.nonzero_at (out-Command x).number) (leaves b names (words_of (elements_of (out-Command x).kind)) (elements_of (out-Command x).kind) (facts (c.before (out-Command x).number))) ≡ true = left (c.nonzero_at (out-Command x).number) said.nonzero_at in
     rw (entered, zero, nonzero) refl
 
 list_clean : (b : List ℕ) (names : List Text) (t : Table) (args k : ℕ) (sure : List Text) (is : List Item) (by : FlowRule) (o : Out) → NumberedFrom k is
@@ -149,15 +149,15 @@ list_clean b names t args k sure (i ∷ is) by o n f e =
         → item_faults b names (claims_of t) c by (enter o) ++ list_faults b names (claims_of t) is (rule_behind b names c by) (out_behind b names (claims_of t) c o) ≡ []
     go rest None same g = cc
     go rest (Some c) same g =
-        let number : c.number ≡ k + 1 = ap (λ (d : Option Command). unwrap_or (option_map (λ (x : Command). x.number) d) 0) same ∙ n.0.number in
-        let said = claims_at names t args k c.number sure (sure ++ command_gains b c) g.0 number in
+        let number : (out-Command c).number ≡ k + 1 = ap (λ (d : Option Command). unwrap_or (option_map (λ (x : Command). (out-Command x).number) d) 0) same ∙ n.0.number in
+        let said = claims_at names t args k (out-Command c).number sure (sure ++ command_gains b c) g.0 number in
         rw (command_clean b names (claims_of t) args c by (enter o) sure e said)
-        (rest (sure ++ command_gains b c) (out_at (claims_of t) c.number) g.1 (enters_out names (claims_of t) args c.number sure (sure ++ command_gains b c) said))
+        (rest (sure ++ command_gains b c) (out_at (claims_of t) (out-Command c).number) g.1 (enters_out names (claims_of t) args (out-Command c).number sure (sure ++ command_gains b c) said))
 
-pub certificate_clean : (b : List ℕ) (names : List Text) (d : Declared) (t : Script) (f : Finder) → NumberedFrom 0 t.items
+pub certificate_clean : (b : List ℕ) (names : List Text) (d : Declared) (t : Script) (f : Finder) → NumberedFrom 0 (out-Script t).items
     → Found names b f (start_names ++ d.names) d.args (lone_commands t) → script_faults b names (claims_of f.certificate) d t ≡ []
 certificate_clean b names d t f n h =
-    list_clean b names f.certificate d.args 0 (start_names ++ d.names) t.items F1 (both (start_facts names d)) n h.follows (enters_start names d)
+    list_clean b names f.certificate d.args 0 (start_names ++ d.names) (out-Script t).items F1 (both (start_facts names d)) n h.follows (enters_start names d)
 
 -- The demands
 
@@ -181,11 +181,12 @@ uncovered_unsure b names args c sure (x ∷ xs) claim e =
 
 element_same : (b : List ℕ) (names : List Text) (args : ℕ) (c : Claim) (sure : List Text) (e : Element) → ClaimOf names args c sure
     → list_all (λ s. is_some (number_of names s)) (names_in b e) ≡ true → element_unmet b names (facts c) e ≡ element_unset b sure e
-unfolding names_in element_unmet element_unset
-element_same b names args c sure (element.Assignment s w) claim h =
-    uncovered_unsure b names args c sure (expansions false w.parts) claim
-    (and_right (is_some (number_of names _)) (list_all (λ s. is_some (number_of names s)) (subjects b (expansions false w.parts))) h)
-element_same b names args c sure (element.Word w) claim h = uncovered_unsure b names args c sure (expansions false w.parts) claim h
+unfolding form_names form_unmet form_unset form_of
+element_same b names args c sure (Assignment' s t shape row) claim h =
+    uncovered_unsure b names args c sure (expansions false (items-the_row-Part _ row)) claim
+    (and_right (is_some (number_of names _)) (list_all (λ s. is_some (number_of names s)) (subjects b (expansions false (items-the_row-Part _ row)))) h)
+element_same b names args c sure (Word' t shape row) claim h = uncovered_unsure b names args c sure (expansions false (items-the_row-Part _ row)) claim h
+element_same b names args c sure (Redirection' at n t) claim h = refl
 
 elements_same : (b : List ℕ) (names : List Text) (args : ℕ) (c : Claim) (sure : List Text) (es : List Element) → ClaimOf names args c sure
     → list_all (λ s. is_some (number_of names s)) (flat_map (names_in b) es) ≡ true → flat_map (element_unmet b names (facts c)) es ≡ flat_map (element_unset b sure) es
@@ -199,18 +200,18 @@ elements_same b names args c sure (e ∷ es) claim h =
 
 -- each name in the elements of these commands has a number
 abbrev AreNumbered : List ℕ → List Text → List Command → Type 0
-AreNumbered b names cs = list_all (λ s. is_some (number_of names s)) (flat_map (λ (c : Command). flat_map (names_in b) (elements_of c.kind)) cs) ≡ true
+AreNumbered b names cs = list_all (λ s. is_some (number_of names s)) (flat_map (λ (c : Command). flat_map (names_in b) (elements_of (out-Command c).kind)) cs) ≡ true
 
-command_same : (b : List ℕ) (names : List Text) (t : Table) (args k : ℕ) (sure : List Text) (c : Command) (cs : List Command) → c.number ≡ k + 1
+command_same : (b : List ℕ) (names : List Text) (t : Table) (args k : ℕ) (sure : List Text) (c : Command) (cs : List Command) → (out-Command c).number ≡ k + 1
     → Round names t args k sure (sure ++ command_gains b c) → AreNumbered b names (c ∷ cs)
     → (command_unmet b names (claims_of t) c ≡ command_unset b sure c) × AreNumbered b names cs
 command_same b names t args k sure c cs number round h =
     let test = λ (s : Text). is_some (number_of names s) in
-    let own : List Text = flat_map (names_in b) (elements_of c.kind) in
-    let others : List Text = flat_map (λ (x : Command). flat_map (names_in b) (elements_of x.kind)) cs in
-    let said = claims_at names t args k c.number sure (sure ++ command_gains b c) round number in
+    let own : List Text = flat_map (names_in b) (elements_of (out-Command c).kind) in
+    let others : List Text = flat_map (λ (x : Command). flat_map (names_in b) (elements_of (out-Command x).kind)) cs in
+    let said = claims_at names t args k (out-Command c).number sure (sure ++ command_gains b c) round number in
     let parts : (list_all test own && list_all test others) ≡ true = sym (list_all-append test own others) ∙ h in (
-      elements_same b names args ((claims_of t).before c.number) sure (elements_of c.kind) said.before (and_left (list_all test own) (list_all test others) parts),
+      elements_same b names args ((claims_of t).before (out-Command c).number) sure (elements_of (out-Command c).kind) said.before (and_left (list_all test own) (list_all test others) parts),
       and_right (list_all test own) (list_all test others) parts,
     )
 
@@ -228,12 +229,12 @@ commands_same b names t args k sure (i ∷ is) n f h =
         → flat_map (command_unmet b names (claims_of t)) (cons_option c (filter_map lone_command is)) ≡ unset_from b sure (cons_option c (filter_map lone_command is))
     go rest None same g e = cc
     go rest (Some c) same g e =
-        let number : c.number ≡ k + 1 = ap (λ (d : Option Command). unwrap_or (option_map (λ (x : Command). x.number) d) 0) same ∙ n.0.number in
+        let number : (out-Command c).number ≡ k + 1 = ap (λ (d : Option Command). unwrap_or (option_map (λ (x : Command). (out-Command x).number) d) 0) same ∙ n.0.number in
         let one = command_same b names t args k sure c (filter_map lone_command is) number g.0 e in
         ap (λ (ps : List Place). ps ++ flat_map (command_unmet b names (claims_of t)) (filter_map lone_command is)) one.0
         ∙ ap (λ (ps : List Place). command_unset b sure c ++ ps) (rest (sure ++ command_gains b c) g.1 one.1)
 
-pub certificate_exact : (b : List ℕ) (names : List Text) (d : Declared) (t : Script) (f : Finder) → NumberedFrom 0 t.items
+pub certificate_exact : (b : List ℕ) (names : List Text) (d : Declared) (t : Script) (f : Finder) → NumberedFrom 0 (out-Script t).items
     → Found names b f (start_names ++ d.names) d.args (lone_commands t) → list_all (λ s. is_some (number_of names s)) (script_names b t) ≡ true
     → script_unmet b names (claims_of f.certificate) t ≡ unset_places b d t
-certificate_exact b names d t f n h e = commands_same b names f.certificate d.args 0 (start_names ++ d.names) t.items n h.follows e
+certificate_exact b names d t f n h e = commands_same b names f.certificate d.args 0 (start_names ++ d.names) (out-Script t).items n h.follows e

@@ -9,18 +9,19 @@ use Rattle.sh_tree.specs.declared.place.Code.TheVariants.{Q1}
 use Rattle.sh_tree.specs.declared.tree.Span.{Span}
 use Rattle.sh_tree.specs.declared.tree.Script.{Script}
 use Rattle.sh_tree.specs.declared.tree.Item.{Item}
-use Rattle.sh_tree.specs.declared.tree.Command.{Command}
-use Rattle.sh_tree.specs.declared.tree.Element.{Element}
+use Rattle.sh_tree.specs.declared.tree.Command.{Command, out-Command}
+use Rattle.sh_tree.specs.declared.tree.Element.{Element, Assignment', Word', Redirection'}
+use Rattle.sh_tree.specs.declared.tree.Redirect.{Redirect}
 use Rattle.sh_tree.specs.declared.tree.Element.TheVariants as element
 use Rattle.sh_tree.specs.declared.tree.Word.{Word}
 use Rattle.sh_tree.specs.declared.tree.Param.{Param}
-use Rattle.sh_tree.specs.declared.tree.Part.{Part, Plain, Double, Double', Row_of-Part, end_of-Part, more_of-Part}
+use Rattle.sh_tree.specs.declared.tree.Part.{Part, Plain, Escaped, Single, Double, Double', Param', Arith', Tilde, Joined, Row_of-Part, end_of-Part, more_of-Part, items-the_row-Part}
 use Rattle.sh_tree.specs.declared.tree.Part.TheVariants as part
-use Rattle.sh_tree.specs.Words.{lone_command, lone_commands, elements_of, words_of, word_of, Expansion, expansions, expansions_in, row_expansions, expansions_in-Double}
+use Rattle.sh_tree.specs.Words.{lone_command, lone_commands, elements_of, words_of, form_of, form_of_assignment, form_of_word, form_of_redirection, word_in, Expansion, expansions, expansions_in, row_expansions, expansions_in-Double}
 use Rattle.sh_flow.specs.Walks.{of_option, on_lone}
 use Rattle.sh_flow.specs.Theorem.{is_quoted_command}
 use Rattle.shset.specs.Findings.{quote_place, word_quote_places, quote_places}
-use Rattle.shset.specs.Walks.{part_quote_places, element_quote_places, command_quote_places}
+use Rattle.shset.specs.Walks.{part_quote_places, form_quote_places, element_quote_places, command_quote_places}
 
 -- within quotes nothing is unquoted
 mutual
@@ -29,7 +30,13 @@ mutual
   quoted_in : (p : Part) → flat_map quote_place (expansions_in true p) ≡ []
   quoted_in (Plain s) = refl
   quoted_in (Double' s shape row) = quoted_row row
-  quoted_in (part.Param p) = refl
+  quoted_in (Param' s subject operator) = refl
+  quoted_in (Escaped s) = refl
+  quoted_in (Single style s) = refl
+  quoted_in (Arith' s shape row) = refl
+  quoted_in (part.Command style s t) = refl
+  quoted_in (Tilde s) = refl
+  quoted_in (Joined s) = refl
 
   quoted_row : {m : _} (row : Row_of-Part m) → flat_map quote_place (row_expansions true row) ≡ []
   quoted_row end_of-Part = refl
@@ -65,32 +72,37 @@ parts_all [] = refl
 parts_all (p ∷ ps) = flat_map-append quote_place (expansions_in false p) (expansions false ps) ∙ ap (λ qs. part_quote_places p ++ qs) (parts_all ps)
 
 pub element_quote_places-Assignment : (s : Span) (w : Word) → element_quote_places (element.Assignment s w) ≡ []
-unfolding element_quote_places
-element_quote_places-Assignment s w = refl
+unfolding form_quote_places
+element_quote_places-Assignment s w = ap form_quote_places (form_of_assignment s w)
 
 pub element_quote_places-Word : (w : Word) → element_quote_places (element.Word w) ≡ flat_map part_quote_places w.parts
-unfolding element_quote_places
-element_quote_places-Word w = parts_all w.parts
+unfolding form_quote_places
+element_quote_places-Word w = ap form_quote_places (form_of_word w) ∙ parts_all w.parts
 
-pub ruleset quotes_in_element = (element_quote_places-Assignment, element_quote_places-Word)
+pub element_quote_places-Redirection : (r : Redirect) → element_quote_places (element.Redirection r) ≡ []
+unfolding form_quote_places
+element_quote_places-Redirection r = ap form_quote_places (form_of_redirection r)
+
+pub ruleset quotes_in_element = (element_quote_places-Assignment, element_quote_places-Word, element_quote_places-Redirection)
 
 -- in a script
 
 words_all : (es : List Element) → flat_map word_quote_places (words_of es) ≡ flat_map element_quote_places es
-unfolding word_of element_quote_places
+unfolding form_of word_in form_quote_places
 words_all [] = refl
-words_all (element.Assignment s w ∷ es) = words_all es
-words_all (element.Word w ∷ es) = ap (λ qs. word_quote_places w ++ qs) (words_all es)
+words_all (Assignment' s t shape row ∷ es) = words_all es
+words_all (Word' t shape row ∷ es) = ap (λ qs. word_quote_places (record { span = t; parts = items-the_row-Part _ row }) ++ qs) (words_all es)
+words_all (Redirection' at n t ∷ es) = words_all es
 
-pub items_lone : (is : List Item) → flat_map (λ c. flat_map word_quote_places (words_of (elements_of c.kind))) (filter_map lone_command is) ≡ flat_map (on_lone command_quote_places) is
+pub items_lone : (is : List Item) → flat_map (λ c. flat_map word_quote_places (words_of (elements_of (out-Command c).kind))) (filter_map lone_command is) ≡ flat_map (on_lone command_quote_places) is
 unfolding of_option
 items_lone [] = refl
 items_lone (i ∷ is) = go (lone_command i) (items_lone is)
   where
-    go : (o : Option Command) → flat_map (λ (c : Command). flat_map word_quote_places (words_of (elements_of c.kind))) (filter_map lone_command is) ≡ flat_map (on_lone command_quote_places) is
-        → flat_map (λ (c : Command). flat_map word_quote_places (words_of (elements_of c.kind))) (cons_option o (filter_map lone_command is)) ≡ of_option command_quote_places o ++ flat_map (on_lone command_quote_places) is
+    go : (o : Option Command) → flat_map (λ (c : Command). flat_map word_quote_places (words_of (elements_of (out-Command c).kind))) (filter_map lone_command is) ≡ flat_map (on_lone command_quote_places) is
+        → flat_map (λ (c : Command). flat_map word_quote_places (words_of (elements_of (out-Command c).kind))) (cons_option o (filter_map lone_command is)) ≡ of_option command_quote_places o ++ flat_map (on_lone command_quote_places) is
     go None h = h
-    go (Some c) h = ap (λ qs. flat_map word_quote_places (words_of (elements_of c.kind)) ++ qs) h ∙ ap (λ qs. qs ++ flat_map (on_lone command_quote_places) is) (words_all (elements_of c.kind))
+    go (Some c) h = ap (λ qs. flat_map word_quote_places (words_of (elements_of (out-Command c).kind)) ++ qs) h ∙ ap (λ qs. qs ++ flat_map (on_lone command_quote_places) is) (words_all (elements_of (out-Command c).kind))
 
 -- one more piece
 pub places_more : {X : Type 0} (f : X → List Place) (first : List Place) (xs : List X) (i : ℕ) (x : X) (old new : List Place) → i < length xs → x ≡ get_or xs i x
@@ -135,8 +147,8 @@ quoted_one x e = go x.quoted e
 
 pub quoted_from_none : (t : Script) → quote_places t ≡ [] → list_all is_quoted_command (lone_commands t) ≡ true
 quoted_from_none t e =
-    none_all (λ (c : Command). flat_map word_quote_places (words_of (elements_of c.kind))) is_quoted_command
+    none_all (λ (c : Command). flat_map word_quote_places (words_of (elements_of (out-Command c).kind))) is_quoted_command
     (λ c. none_all word_quote_places (λ (w : Word). list_all (λ (x : Expansion). x.quoted) (expansions false w.parts))
     (λ w. none_all quote_place (λ (x : Expansion). x.quoted) quoted_one (expansions false w.parts))
-    (words_of (elements_of c.kind)))
+    (words_of (elements_of (out-Command c).kind)))
     (lone_commands t) e

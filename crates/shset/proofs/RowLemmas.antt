@@ -8,7 +8,8 @@ use Rattle.sh_tree.specs.declared.tree.Element.TheVariants as element
 use Rattle.sh_tree.specs.declared.tree.Span.{Span}
 use Rattle.sh_tree.specs.declared.tree.Word.{Word}
 use Rattle.sh_tree.specs.Tree.{text_of}
-use Rattle.sh_tree.specs.Words.{assignment_of, assignments_of}
+use Rattle.sh_tree.specs.declared.tree.Redirect.{Redirect}
+use Rattle.sh_tree.specs.Words.{form_of_assignment, form_of_word, form_of_redirection, assignment_in, assignment_of, assignments_of}
 use Rattle.sh_flow.specs.Policy.{Text}
 use Rattle.sh_flow.specs.Names.{number_of}
 use Rattle.sh_flow.specs.Facts.{has_number}
@@ -46,8 +47,8 @@ assigned b names es = numbers_of names (map (λ (x : Text × Word). x.0) (assign
 
 pub assigned_Assignment : (b : List ℕ) (names : List Text) (e : Element) (s : Span) (w : Word) (old new : List ℕ) → e ≡ element.Assignment s w
     → Gains (option_to_list (number_of names (text_of b s))) old new → Gains (numbers_of names (map (λ (x : Text × Word). x.0) (option_to_list (assignment_of b e)))) old new
-unfolding assignment_of
-assigned_Assignment b names e s w old new is g = λ n. rw (is, one_number (number_of names (text_of b s))) (g n)
+unfolding assignment_in
+assigned_Assignment b names e s w old new is g = λ n. rw (is, form_of_assignment s w, one_number (number_of names (text_of b s))) (g n)
 
 pub element_gained : {E : Type 0} (r : Result Bool E) (b : List ℕ) (names : List Text) (e : Element) (s : Span) (w : Word) (t : Text) (old new : List ℕ) → e ≡ element.Assignment s w
     → t ≡ text_of b s → IfOk r (λ _. Gains (option_to_list (number_of names t)) old new)
@@ -58,8 +59,13 @@ element_gained (Err x) b names e s w t old new is same g = tt
 
 pub assigned_Word : (b : List ℕ) (names : List Text) (e : Element) (w : Word) (row : List ℕ) → e ≡ element.Word w
     → Gains (numbers_of names (map (λ (x : Text × Word). x.0) (option_to_list (assignment_of b e)))) row row
-unfolding assignment_of
-assigned_Word b names e w row is = λ n. rw is refl
+unfolding assignment_in
+assigned_Word b names e w row is = λ n. rw (is, form_of_word w) refl
+
+pub assigned_Redirection : (b : List ℕ) (names : List Text) (e : Element) (r : Redirect) (row : List ℕ) → e ≡ element.Redirection r
+    → Gains (numbers_of names (map (λ (x : Text × Word). x.0) (option_to_list (assignment_of b e)))) row row
+unfolding assignment_in
+assigned_Redirection b names e r row is = λ n. rw (is, form_of_redirection r) refl
 
 -- the numbers of declared names
 abbrev pub declared : List Text → List (Vec ℕ Global) → List ℕ

@@ -5,14 +5,13 @@ use Rattle.std.specs.List.{flat_map}
 use Rattle.sh_tree.specs.declared.place.Place.{Place}
 use Rattle.sh_tree.specs.declared.place.Code.TheVariants.{Q1}
 use Rattle.sh_tree.specs.declared.tree.Script.{Script}
-use Rattle.sh_tree.specs.declared.tree.Command.{Command}
+use Rattle.sh_tree.specs.declared.tree.Command.{Command, out-Command}
 use Rattle.sh_tree.specs.declared.tree.Element.{Element}
-use Rattle.sh_tree.specs.declared.tree.Element.TheVariants as element
 use Rattle.sh_tree.specs.declared.tree.Word.{Word}
 use Rattle.sh_tree.specs.declared.refusal.Refusal.{Refusal}
 use Rattle.sh_tree.specs.declared.refusal.Refusal.TheVariants.{Memory, Profile}
 use Rattle.sh_tree.specs.declared.refusal.Rule.TheVariants.{Later}
-use Rattle.sh_tree.specs.Words.{lone_commands, elements_of, words_of, assignments_of, expansions, Expansion, subject_text}
+use Rattle.sh_tree.specs.Words.{lone_commands, elements_of, Form, Assigns, Operand, Redirects, form_of, words_of, assignments_of, expansions, Expansion, subject_text}
 use Rattle.sh_flow.specs.Policy.{Text, Declared}
 use Rattle.sh_flow.specs.Names.{start_names, is_one_of}
 use Rattle.sh_flow.specs.Profile.{is_admitted}
@@ -27,7 +26,7 @@ abbrev pub word_quote_places : Word → List Place
 word_quote_places w = flat_map quote_place (expansions false w.parts)
 
 abbrev pub quote_places : Script → List Place
-quote_places t = flat_map (λ c. flat_map word_quote_places (words_of (elements_of c.kind))) (lone_commands t)
+quote_places t = flat_map (λ c. flat_map word_quote_places (words_of (elements_of (out-Command c).kind))) (lone_commands t)
 
 -- Parameters that may be unset: names that are not sure and that no earlier command without a name assigns
 
@@ -38,18 +37,22 @@ module _ (b : List ℕ) where
   gains (w ∷ ws) es = []
 
   abbrev pub command_gains : Command → List Text
-  command_gains c = gains (words_of (elements_of c.kind)) (elements_of c.kind)
+  command_gains c = gains (words_of (elements_of (out-Command c).kind)) (elements_of (out-Command c).kind)
 
   -- the expansions of names that are not sure
   abbrev pub unsure : List Text → List Expansion → List Place
   unsure sure xs = flat_map (λ x. wanted (is_one_of sure (subject_text b x.param.subject)) x.param.span.start (subject_text b x.param.subject)) xs
 
-  unfoldable pub element_unset : List Text → Element → List Place
-  element_unset sure (element.Assignment s w) = unsure sure (expansions false w.parts)
-  element_unset sure (element.Word w) = unsure sure (expansions false w.parts)
+  unfoldable pub form_unset : List Text → Form → List Place
+  form_unset sure (Assigns s w) = unsure sure (expansions false w.parts)
+  form_unset sure (Operand w) = unsure sure (expansions false w.parts)
+  form_unset sure Redirects = []
+
+  abbrev pub element_unset : List Text → Element → List Place
+  element_unset sure e = form_unset sure (form_of e)
 
   abbrev pub command_unset : List Text → Command → List Place
-  command_unset sure c = flat_map (element_unset sure) (elements_of c.kind)
+  command_unset sure c = flat_map (element_unset sure) (elements_of (out-Command c).kind)
 
   -- in commands one after another, before which these names are sure
   unfoldable pub unset_from : List Text → List Command → List Place
@@ -69,6 +72,6 @@ first_refused b (c ∷ cs) = if is_admitted b c then first_refused b cs else Som
 -- A script is admitted, or its first command that is not analysed is told at its start.
 abbrev pub Admits : List ℕ → Script → Result (Unit {0}) Refusal → Type 0
 Admits b t (Ok u) = first_refused b (lone_commands t) ≡ None
-Admits b t (Err (Profile r at)) = (c : Command) × (first_refused b (lone_commands t) ≡ Some c) × (at ≡ c.at) × (r ≡ Later)
+Admits b t (Err (Profile r at)) = (c : Command) × (first_refused b (lone_commands t) ≡ Some c) × (at ≡ (out-Command c).at) × (r ≡ Later)
 Admits b t (Err Memory) = Unit {0}
 Admits b t (Err _) = ⊥

@@ -3,14 +3,15 @@ ghost use Rattle.std.specs.Prelude.{◌≡◌, IfOk, slice_get, option_to_list};
 ghost use Rattle.std.specs.List.{list_any, filter_map};
 ghost use Rattle.std.specs.Option.{option_copied};
 ghost use Rattle.std.specs.Str.{bytes_eq};
-ghost use Rattle.sh_tree.specs.Words.{words_of, lone_command};
+ghost use Rattle.sh_tree.specs.Words.{word_of, words_of, lone_command};
 ghost use Rattle.sh_flow.specs.Names as names;
 ghost use Rattle.sh_flow.specs.Profile as profile;
 ghost use Rattle.shset.specs.Findings.{Admits, first_refused};
 
+use crate::straight::is_straight;
 use sh_tree::refusal::{Refusal, Rule};
 use sh_tree::text::static_text;
-use sh_tree::tree::{Command, Element, Item, Kind, Script, Word};
+use sh_tree::tree::{Command, Element, Item, Script, Word};
 use std::alloc::{AllocError, Global};
 
 /// The special built-in utilities (XCU 2.15).
@@ -97,12 +98,23 @@ fn is_utility(name: &[u8]) -> bool
     !special && !changing && !unspecified && !equals
 }
 
+#[tactic(auto, using(crate::proofs::AdmitLemmas::word_in_element))]
+fn word_of(element: &Element) -> Option<&Word>
+    ensures { option_copied result ≡ word_of element.entry.now }
+{
+    match element {
+        Element::Assignment { .. } => None,
+        Element::Word(word) => Some(word),
+        Element::Redirection(_) => None,
+    }
+}
+
 /// The first word of a command, which is its name.
 pub(crate) fn command_name(elements: &[Element]) -> Option<&Word>
     ensures { option_copied result ≡ slice_get (words_of elements.entry.now) 0 }
 {
     for element in elements {
-        if let Element::Word(word) = element {
+        if let Some(word) = word_of(element) {
             return Some(word);
         }
     }
@@ -126,9 +138,9 @@ fn is_plain_name(alloc: Global, elements: &[Element], script: &[u8]) -> Result<b
 fn is_admitted(alloc: Global, command: &Command, script: &[u8]) -> Result<bool, AllocError>
     ensures { IfOk result (λ admitted. admitted ≡ profile.is_admitted script.now command.now) }
 {
-    match &command.kind {
-        Kind::Simple(elements) => is_plain_name(alloc, elements.as_slice(), script),
-    }
+    let straight = is_straight(command);
+    let named = is_plain_name(alloc, command.elements(), script)?;
+    Ok(straight && named)
 }
 
 /// The command of an item, where it is not analysed.
@@ -178,3 +190,6 @@ pub(crate) fn admit(alloc: Global, tree: &Script, script: &[u8]) -> Result<(), R
         None => Ok(()),
     }
 }
+
+#[cfg(test)]
+mod tests;

@@ -18,7 +18,7 @@ use sh_flow::certificate::{Certificate, Entry, Facts, RowId};
 use sh_flow::names::Names;
 use sh_flow::policy::Policy;
 use sh_flow::row::Row;
-use sh_tree::tree::{Command, Element, Item, Kind, Script};
+use sh_tree::tree::{Command, Element, Item, Script};
 use std::alloc::{AllocError, Global};
 
 /// A certificate in the making: what is sure before the next command, and the row of the certificate that says so.
@@ -136,6 +136,7 @@ fn add_element(
     match element {
         Element::Assignment { name, .. } => add_name(name.text(script), names, &mut *row),
         Element::Word(_) => Ok(false),
+        Element::Redirection(_) => Ok(false),
     }
 }
 
@@ -177,9 +178,7 @@ fn gain(command: &Command, script: &[u8], names: &Names, row: &mut Row) -> Resul
     ensures gained { IfOk result (λ is_new. Gains (numbers_of names.now (command_gains script.now command.now)) row.old row.new) }
     ensures same { IfOk result (λ is_new. is_new ≡ false → row.new ≡ row.old) }
 {
-    match &command.kind {
-        Kind::Simple(elements) => gain_elements(elements.as_slice(), script, names, &mut *row),
-    }
+    gain_elements(command.elements(), script, names, &mut *row)
 }
 
 fn add_declared(texts: &[Vec<u8>], names: &Names, row: &mut Row) -> Result<(), AllocError>

@@ -14,6 +14,7 @@ mod moves;
 mod quotes;
 #[cfg(test)]
 mod rigged;
+mod straight;
 mod task;
 #[cfg(test)]
 mod tests;

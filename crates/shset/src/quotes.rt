@@ -6,7 +6,7 @@ ghost use Rattle.shset.specs.Walks.{part_quote_places, element_quote_places, com
 
 use sh_tree::Items;
 use sh_tree::place::{Code, Place};
-use sh_tree::tree::{Command, Element, Item, Kind, Part, Script};
+use sh_tree::tree::{Command, Element, Item, Part, Script};
 use std::alloc::{AllocError, Global};
 
 /// The places of the unquoted expansions in the command names and operands, which the shell splits into fields (XCU 2.6.5), in
@@ -49,9 +49,7 @@ fn note_command(command: &Command, places: &mut Vec<Place>) -> Result<(), AllocE
     ensures noted { OnOk result (places.new.items ≡ places.old.items ++ command_quote_places command.now) }
     ensures some { OnErr result (0 < length (command_quote_places command.now)) }
 {
-    match &command.kind {
-        Kind::Simple(elements) => note_elements(elements.as_slice(), &mut *places),
-    }
+    note_elements(command.elements(), &mut *places)
 }
 
 fn note_elements(elements: &[Element], places: &mut Vec<Place>) -> Result<(), AllocError>
@@ -72,6 +70,7 @@ fn note_element(element: &Element, places: &mut Vec<Place>) -> Result<(), AllocE
     match element {
         Element::Assignment { .. } => Ok(()),
         Element::Word(word) => note_parts(word.parts.as_slice(), &mut *places),
+        Element::Redirection(_) => Ok(()),
     }
 }
 
@@ -93,6 +92,12 @@ fn note_part(part: &Part, places: &mut Vec<Place>) -> Result<(), AllocError>
     match part {
         Part::Plain(_) => Ok(()),
         Part::Double(_, _) => Ok(()),
+        Part::Escaped(_) => Ok(()),
+        Part::Single(_, _) => Ok(()),
+        Part::Arith(_, _) => Ok(()),
+        Part::Command(_, _, _) => Ok(()),
+        Part::Tilde(_) => Ok(()),
+        Part::Joined(_) => Ok(()),
         Part::Param(param) => {
             let subject = Items::new(*places.allocator());
             places.push(Place {

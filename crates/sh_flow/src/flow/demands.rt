@@ -8,7 +8,7 @@ use crate::flow::claims::{entry_at, has_in_row};
 use crate::flow::rules::Checker;
 use sh_tree::Items;
 use sh_tree::place::{Code, Place};
-use sh_tree::tree::{Command, Element, Item, Kind, Part};
+use sh_tree::tree::{Command, Element, Item, Part};
 use std::alloc::{AllocError, Global};
 
 // Notes a place, where the parameter is not surely set there.
@@ -60,7 +60,7 @@ impl Checker<'_> {
     }
 
     #[cycle(parts)]
-    #[tactic(auto, using(crate::proofs::DemandLemmas::unmet_in_part))]
+    #[tactic(auto, using(crate::proofs::DemandLemmas::unmet_in_part), unfolding(sh_tree::specs::Words::expansions_in))]
     fn want_part(
         &self,
         known: Facts,
@@ -71,7 +71,13 @@ impl Checker<'_> {
         ensures some { OnErr result (0 < length (part_places self.now known part.now)) }
     {
         match part {
-            Part::Plain(_) => Ok(()),
+            Part::Plain(_)
+            | Part::Escaped(_)
+            | Part::Single(_, _)
+            | Part::Arith(_, _)
+            | Part::Command(_, _, _)
+            | Part::Tilde(_)
+            | Part::Joined(_) => Ok(()),
             Part::Double(_, parts) => self.want_parts(known, parts.as_slice(), &mut *places),
             Part::Param(param) => {
                 let name = param.subject.text(self.script);
@@ -98,6 +104,7 @@ impl Checker<'_> {
                 &mut *places,
             ),
             Element::Word(word) => self.want_parts(known, word.parts.as_slice(), &mut *places),
+            Element::Redirection(_) => Ok(()),
         }
     }
 
@@ -121,9 +128,7 @@ impl Checker<'_> {
         ensures some { OnErr result (0 < length (command_places self.now command.now)) }
     {
         let known = entry_at(self.certificate, command.number).before;
-        match &command.kind {
-            Kind::Simple(elements) => self.want_elements(known, elements.as_slice(), &mut *places),
-        }
+        self.want_elements(known, command.elements(), &mut *places)
     }
 
     #[tactic(auto, unfolding(crate::specs::Walks::of_option))]

@@ -6,7 +6,8 @@ ghost use Rattle.sh_tree.specs.Words.{lone_command, words_of};
 ghost use Rattle.sh_flow.specs.Facts.{has_number, facts, within, within_out, enter, both, with_vars};
 ghost use Rattle.sh_flow.specs.Names.{start_names, is_one_of};
 ghost use Rattle.sh_flow.specs.Rules.{is_set_at_start, leaves, exit_rule, faults, item_faults, rule_behind, out_behind, list_faults, told, least_from};
-ghost use Rattle.sh_flow.specs.Breaches.{fault_found, is_word, rule_of};
+ghost use Rattle.sh_flow.specs.Breaches as breaches;
+ghost use Rattle.sh_flow.specs.Breaches.{fault_found, rule_of};
 ghost use Rattle.sh_flow.specs.Checked.{claims, row_numbers, claim, facts_in, at_start, out_behind_of, assigned_by, is_assigner};
 ghost use Rattle.sh_flow.specs.declared.rule.FlowRule.TheVariants.{F1};
 
@@ -18,7 +19,7 @@ use crate::flow::claims::{
 use crate::names::Names;
 use crate::policy::Policy;
 use crate::rule::FlowRule;
-use sh_tree::tree::{Command, Element, Item, Kind};
+use sh_tree::tree::{Command, Element, Item};
 
 /// What a check goes by.
 #[derive(Clone, Copy)]
@@ -70,13 +71,20 @@ fn is_declared(declared: &[Vec<u8>], name: &[u8]) -> bool
     declared.iter().any(|own| own.as_slice() == name)
 }
 
-#[tactic(auto, unfolding(crate::specs::Breaches::is_word))]
-fn has_word(elements: &[Element]) -> bool
-    ensures { result ≡ list_any is_word elements.now }
+#[tactic(auto, using(crate::proofs::ClaimLemmas::word_in_element))]
+fn is_word(element: &Element) -> bool
+    ensures { result ≡ breaches.is_word element.now }
 {
-    elements
-        .iter()
-        .any(|element| matches!(element, Element::Word(_)))
+    match element {
+        Element::Word(_) => true,
+        Element::Assignment { .. } | Element::Redirection(_) => false,
+    }
+}
+
+fn has_word(elements: &[Element]) -> bool
+    ensures { result ≡ list_any breaches.is_word elements.now }
+{
+    elements.iter().any(is_word)
 }
 
 impl Checker<'_> {
@@ -136,7 +144,7 @@ impl Checker<'_> {
     }
 
     // Whether the element assigns the name of the number.
-    #[tactic(auto, unfolding(crate::specs::Breaches::assigns, crate::specs::Breaches::number_is))]
+    #[tactic(auto, using(crate::proofs::ClaimLemmas::assigns_in_element), unfolding(crate::specs::Breaches::number_is))]
     fn assigns(&self, element: &Element, number: u32) -> bool
         ensures { result ≡ is_assigner self.now number element.now }
     {
@@ -145,7 +153,7 @@ impl Checker<'_> {
                 None => false,
                 Some(assigned) => number == assigned,
             },
-            Element::Word(_) => false,
+            Element::Word(_) | Element::Redirection(_) => false,
         }
     }
 
@@ -257,9 +265,7 @@ impl Checker<'_> {
         let entry = entry_at(self.certificate, number);
         let entered = self.is_entered(entry.before, progress.predecessor);
         let found = noted(progress.found, entered, number, progress.predecessor.rule());
-        match &command.kind {
-            Kind::Simple(elements) => self.noted_behind(elements.as_slice(), number, found),
-        }
+        self.noted_behind(command.elements(), number, found)
     }
 
     // One item further.

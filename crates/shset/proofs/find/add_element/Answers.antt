@@ -1,4 +1,4 @@
-use Rattle.shset.proofs.RowLemmas.{element_gained, assigned_Word}
+use Rattle.shset.proofs.RowLemmas.{element_gained, assigned_Word, assigned_Redirection}
 use Rattle.shset.proofs.find.add_element.Goals as goal
 
 pub returns-in-Assignment-clause-gained : goal.returns-in-Assignment-clause-gained
@@ -8,3 +8,6 @@ returns-in-Assignment-clause-gained c =
 
 pub returns-in-Word-clause-gained : goal.returns-in-Word-clause-gained
 returns-in-Word-clause-gained c = assigned_Word c.args.script.now c.args.names.now c.args.element.now c.in-Word.field-0 c.args.row.now c.in-Word.is
+
+pub returns-in-Redirection-clause-gained : goal.returns-in-Redirection-clause-gained
+returns-in-Redirection-clause-gained c = assigned_Redirection c.args.script.now c.args.names.now c.args.element.now c.in-Redirection.field-0 c.args.row.now c.in-Redirection.is
