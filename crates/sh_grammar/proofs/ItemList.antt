@@ -8,14 +8,14 @@ use Rattle.sh_tree.specs.declared.tree.Command.{Command}
 use Rattle.sh_tree.specs.declared.tree.Pipe.{Pipe}
 use Rattle.sh_tree.specs.declared.tree.AndOr.{AndOr}
 use Rattle.sh_tree.specs.declared.tree.Item.{Item}
-use Rattle.sh_tree.specs.declared.tree.Script.{Script}
+use Rattle.sh_tree.specs.declared.tree.Script.{Script, out-Script, roll-out-Script}
 use Rattle.sh_tree.specs.declared.refusal.Refusal.{Refusal}
 use Rattle.sh_tree.specs.declared.refusal.Refusal.TheVariants.{TooLong, NulByte, Syntax, LeftOut, TooDeep, TooMany, Memory, Profile, CertSyntax, CertShape}
 use Rattle.sh_tree.specs.Answers.{IsText, Parses}
 use Rattle.sh_tree.specs.Reading.{Spot, spot, ReadsCommand, ReadsPipe, ReadsAndOr, ReadsItems, ReadsTo, Reads, ReadsWithin}
 use Rattle.sh_tree.specs.Reading as r
 use Rattle.sh_tree.specs.Tokens.{begin_at, begin_of, next_item, first_item}
-use Rattle.sh_tree.specs.Tree.{pipeline, and_or, foreground, script}
+use Rattle.sh_tree.specs.Tree.{pipeline, and_or, foreground, script, script_items}
 use Rattle.sh_grammar.specs.Readers.{Nothing, Commands, CommandTo, item_of}
 use Rattle.sh_grammar.proofs.Behind.{Behind, Steps, one_more}
 use Rattle.sh_grammar.proofs.Nul.{has_no_nul}
@@ -96,23 +96,23 @@ module _ (b : List ℕ) (found : List Item) (at count : ℕ) (behind : Behind (R
   pub items_end : IsText b → at ≡ length b → count ≤ MAX_COMMANDS → Parses b (Ok (script found))
   items_end text end few = (
     text,
-    (count, record { no_nul = has_no_nul b text.1; end = at; items = subst (λ x. ReadsItems b (spot (first_item b) 0) (spot at count) x) (append-nil found) (behind.back (spot at count) [] (r.finish end)) }, few),
+    (count, record { no_nul = has_no_nul b text.1; end = at; items = rw (script_items found) (subst (λ x. ReadsItems b (spot (first_item b) 0) (spot at count) x) (append-nil found) (behind.back (spot at count) [] (r.finish end))) }, few),
     λ u q.
-        let t = behind.forth (spot q.1.end q.0) u.items q.1.items in
+        let t = behind.forth (spot q.1.end q.0) (out-Script u).items q.1.items in
         let none = no_more b (spot at count) (spot q.1.end q.0) t.0 end t.2 in
-        let same : u.items ≡ found = t.1 ∙ ap (λ x. found ++ x) none.1 ∙ append-nil found in
-        ap (λ x. script x) same,
+        let same : (out-Script u).items ≡ found = t.1 ∙ ap (λ x. found ++ x) none.1 ∙ append-nil found in
+        sym (roll-out-Script u) ∙ ap (λ x. script x) same,
   )
 
   pub items_none : Nothing (ReadsCommand b (spot at count)) → at < length b → (u : Script) → Reads b u → ⊥
   items_none nothing inside u q =
-      let t = behind.forth (spot q.1.end q.0) u.items q.1.items in
+      let t = behind.forth (spot q.1.end q.0) (out-Script u).items q.1.items in
       let f = first_of b (spot at count) (spot q.1.end q.0) t.0 (λ h. omega arith) t.2 in
       nothing f.end f.command f.read
 
   pub items_full : count ≡ MAX_COMMANDS → at < length b → (u : Script) → ReadsWithin b u → ⊥
   items_full full inside u q =
-      let t = behind.forth (spot q.1.end q.0) u.items q.1.items in
+      let t = behind.forth (spot q.1.end q.0) (out-Script u).items q.1.items in
       let f = first_of b (spot at count) (spot q.1.end q.0) t.0 (λ h. omega arith) t.2 in
       let one : f.end.count ≡ count + 1 = counted_one b (spot at count) f.end f.command f.read in
       let more : f.end.count ≤ q.0 = counted b (spot (next_item b f.end.at) f.end.count) (spot q.1.end q.0) f.others f.rest in

@@ -17,8 +17,9 @@ fn flat_part(alloc: Global, part: &Part) -> Result<String, AllocError> {
                     param.span.start, param.span.end, name.start, name.end
                 )
             }
+            _ => format!(in alloc; "?"),
         },
-        Part::Double(..) => format!(in alloc; "?"),
+        _ => format!(in alloc; "?"),
     }
 }
 
@@ -70,11 +71,13 @@ fn command(alloc: Global, command: &Command) -> Result<String, AllocError> {
                         let operand = word(alloc, operand)?;
                         format!(in alloc; "w{operand}")?
                     }
+                    Element::Redirection(_) => format!(in alloc; "?")?,
                 };
                 text.push_str(&told)?;
                 between = " ";
             }
         }
+        _ => text.push_str("?")?,
     }
     text.push_str("]")?;
     if !command.redirects.is_empty() {

@@ -1,4 +1,5 @@
 pub mod formers
+pub mod language
 pub mod Texts
 pub mod Tokens
 pub mod Tree

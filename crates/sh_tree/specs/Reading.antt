@@ -1,6 +1,6 @@
 -- Which bytes are which tree: a case for each production.
 -- POSIX.1-2024, XCU 2.10 (shell grammar), with 2.2.3 (double quotes), 2.6.2 (parameters), 2.9.1 (simple commands), 2.9.3 (lists).
-use Rattle.std.specs.Prelude.{◌≡◌, ℕ, ◌+◌, ◌≤◌, Bool, true, false, List, [], ◌∷◌, length, ◌==◌}
+use Rattle.std.specs.Prelude.{◌≡◌, ℕ, ◌+◌, ◌≤◌, false, List, [], ◌∷◌, length, ◌==◌}
 use Rattle.std.specs.List.{list_any}
 use Rattle.sh_tree.specs.declared.limits.TheConstants.{MAX_COMMANDS}
 use Rattle.sh_tree.specs.declared.sign.Context.{Context}
@@ -9,7 +9,6 @@ use Rattle.sh_tree.specs.declared.sign.Sign.{Sign}
 use Rattle.sh_tree.specs.declared.sign.Sign.TheVariants as sign
 use Rattle.sh_tree.specs.declared.sign.Stage.{Stage}
 use Rattle.sh_tree.specs.declared.sign.Stage.TheVariants.{First, Prefixed, Named}
-use Rattle.sh_tree.specs.declared.sign.Begin.{Begin}
 use Rattle.sh_tree.specs.declared.sign.Begin.TheVariants as begin
 use Rattle.sh_tree.specs.declared.tree.Part.{Part}
 use Rattle.sh_tree.specs.declared.tree.Part.TheVariants.{Plain, Double}
@@ -18,8 +17,8 @@ use Rattle.sh_tree.specs.declared.tree.Command.{Command}
 use Rattle.sh_tree.specs.declared.tree.Pipe.{Pipe}
 use Rattle.sh_tree.specs.declared.tree.AndOr.{AndOr}
 use Rattle.sh_tree.specs.declared.tree.Item.{Item}
-use Rattle.sh_tree.specs.declared.tree.Script.{Script}
-use Rattle.sh_tree.specs.Tree.{span, value_of, assignment, operand, simple_command, pipeline, and_or, foreground, script}
+use Rattle.sh_tree.specs.declared.tree.Script.{Script, out-Script}
+use Rattle.sh_tree.specs.Tree.{span, value_of, assignment, operand, simple_command, pipeline, and_or, foreground}
 use Rattle.sh_tree.specs.Tokens.{token, begin_at, name_end, blanks, next_item, first_item}
 
 -- a place of the text, and how many commands began before it
@@ -87,7 +86,7 @@ module _ (b : List ℕ) where
   pub record ReadsTo (t : Script) (count : ℕ) : Type 0 where
     pub no_nul : HasNoNul
     pub end : ℕ
-    pub items : ReadsItems (spot (first_item b) 0) (spot end count) t.items
+    pub items : ReadsItems (spot (first_item b) 0) (spot end count) (out-Script t).items
 
 -- The text is the script, however many commands it has.
 abbrev pub Reads : List ℕ → Script → Type 0

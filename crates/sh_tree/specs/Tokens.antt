@@ -1,6 +1,6 @@
 -- What begins at each place of a text, each thing the longest.
 -- POSIX.1-2024, XCU 2.2 (quoting), 2.3 (token recognition), 2.4 (reserved words), 2.6.2 (names after a `$`).
-use Rattle.std.specs.Prelude.{ℕ, zero, suc, ◌+◌, Bool, true, false, not, ◌&&◌, ◌||◌, if◌then◌else◌, ◌==◌, List, [], ◌∷◌, length, drop, codes, nat_lt, nat_le, slice_index, slice_range, nat_eq}
+use Rattle.std.specs.Prelude.{ℕ, ◌+◌, Bool, false, not, ◌&&◌, ◌||◌, if◌then◌else◌, ◌==◌, List, [], ◌∷◌, length, drop, codes, nat_lt, nat_le, slice_index, slice_range, nat_eq}
 use Rattle.std.specs.List.{take_while, list_all, list_any, starts_with}
 use Rattle.std.specs.Str.{bytes_eq}
 use Rattle.sh_tree.specs.declared.sign.Context.{Context}

@@ -1,12 +1,12 @@
 -- The tree's words as definitions write them.
 -- POSIX.1-2024, XCU 2.10 (shell grammar).
-use Rattle.std.specs.Prelude.{ℕ, ◌+◌, Bool, true, false, List, [], ◌∷◌, slice_range}
+use Rattle.std.specs.Prelude.{◌≡◌, refl, ℕ, ◌+◌, false, List, [], slice_range}
 use Rattle.sh_tree.specs.declared.tree.Span.{Span}
-use Rattle.sh_tree.specs.declared.tree.Script.{Script}
-use Rattle.sh_tree.specs.declared.tree.Item.{Item}
-use Rattle.sh_tree.specs.declared.tree.AndOr.{AndOr}
-use Rattle.sh_tree.specs.declared.tree.Pipe.{Pipe}
-use Rattle.sh_tree.specs.declared.tree.Command.{Command}
+use Rattle.sh_tree.specs.declared.tree.Script.{Script, out-Script, roll-Script, out-roll-Script}
+use Rattle.sh_tree.specs.declared.tree.Item.{Item, roll-Item}
+use Rattle.sh_tree.specs.declared.tree.AndOr.{AndOr, roll-AndOr}
+use Rattle.sh_tree.specs.declared.tree.Pipe.{Pipe, roll-Pipe}
+use Rattle.sh_tree.specs.declared.tree.Command.{Command, roll-Command}
 use Rattle.sh_tree.specs.declared.tree.Kind.TheVariants.{Simple}
 use Rattle.sh_tree.specs.declared.tree.Element.{Element}
 use Rattle.sh_tree.specs.declared.tree.Element.TheVariants as element
@@ -38,16 +38,19 @@ abbrev pub operand : ℕ → ℕ → List Part → Element
 operand i j parts = element.Word (word i j parts)
 
 abbrev pub simple_command : ℕ → ℕ → List Element → Command
-simple_command number at elements = record { number = number; at = at; kind = Simple elements; redirects = [] }
+simple_command number at elements = roll-Command (record { number = number; at = at; kind = Simple elements; redirects = [] })
 
 abbrev pub pipeline : List Command → Pipe
-pipeline commands = record { negated = false; parts = commands }
+pipeline commands = roll-Pipe (record { negated = false; parts = commands })
 
 abbrev pub and_or : Pipe → AndOr
-and_or p = record { first = p; rest = [] }
+and_or p = roll-AndOr (record { first = p; rest = [] })
 
 abbrev pub foreground : AndOr → Item
-foreground l = record { list = l; background = false }
+foreground l = roll-Item (record { list = l; background = false })
 
 abbrev pub script : List Item → Script
-script items = record { items = items }
+script items = roll-Script (record { items = items })
+
+pub script_items : (items : List Item) → (out-Script (script items)).items ≡ items
+script_items items = rw (out-roll-Script (record { items = items })) refl

@@ -2,7 +2,9 @@
 //! as which tree.
 #![tactic(auto)]
 
+mod boxed;
 mod items;
+pub mod known;
 pub mod laws;
 pub mod limits;
 pub mod name;
@@ -10,6 +12,8 @@ pub mod place;
 pub mod refusal;
 pub mod sign;
 pub mod text;
+pub mod token;
 pub mod tree;
 
+pub use boxed::Boxed;
 pub use items::Items;

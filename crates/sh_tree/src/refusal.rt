@@ -1,17 +1,34 @@
 //! Why a script or a certificate is refused.
-ghost use Rattle.std.specs.Prelude.{◌≡◌};
-ghost use Rattle.sh_tree.specs.Texts.{fault_text, form_text, rule_text};
+ghost use Rattle.std.specs.Prelude.{◌≡◌, ◌++◌, OnOk};
+ghost use Rattle.sh_tree.specs.Texts.{fault_text, form_text, rule_name, rule_text};
 
+use crate::known::{Declaration, KnownName};
 use std::alloc::{AllocError, AllocFailed};
 use thiserror::Error;
 
 /// A fault of syntax.
 #[derive(Clone, Copy, Debug, PartialEq, Eq)]
 pub enum Fault {
-    /// Double quotes have no end.
+    /// Single quotes have no end (XCU 2.2.2).
+    OpenSingle,
+    /// Double quotes have no end (XCU 2.2.3).
     OpenDouble,
-    /// A token stands where the grammar has none such.
+    /// `${` has no end (XCU 2.6.2).
+    OpenBraced,
+    /// `$(` has no end (XCU 2.6.3).
+    OpenSubstitution,
+    /// `$((` has no end (XCU 2.6.4).
+    OpenArith,
+    /// A here-document has no end line (XCU 2.7.4).
+    OpenHereDoc,
+    /// A byte stands where an arithmetic expression has none such (XCU 2.6.4).
+    BadArith,
+    /// A token stands where the grammar has none such (XCU 2.10).
     UnexpectedToken,
+    /// The script ends where the grammar goes on (XCU 2.10).
+    UnexpectedEnd,
+    /// A backslash with nothing behind it ends the script (XCU 2.2.1).
+    FinalBackslash,
 }
 
 impl Fault {
@@ -20,15 +37,74 @@ impl Fault {
         ensures { result.now ≡ fault_text self }
     {
         match self {
+            Fault::OpenSingle => "a single quote is not closed",
             Fault::OpenDouble => "a double quote is not closed",
+            Fault::OpenBraced => "a braced expansion is not closed",
+            Fault::OpenSubstitution => "a command substitution is not closed",
+            Fault::OpenArith => "an arithmetic expansion is not closed",
+            Fault::OpenHereDoc => "a here-document is not ended",
+            Fault::BadArith => "bad arithmetic",
             Fault::UnexpectedToken => "unexpected token",
+            Fault::UnexpectedEnd => "unexpected end",
+            Fault::FinalBackslash => "a backslash ends the script",
         }
     }
+}
+
+// What is told of a thing that is left out.
+macro_rules! outside {
+    ($name:literal) => {
+        concat!($name, " is outside the profile")
+    };
 }
 
 /// A form of the language that is left out.
 #[derive(Clone, Copy, Debug, PartialEq, Eq)]
 pub enum Form {
+    /// A backslash and a newline inside a token (XCU 2.2.1).
+    Continuation,
+    /// `$'` (XCU 2.2.4).
+    DollarSingle,
+    /// `$"`, to which the standard gives no meaning.
+    DollarDouble,
+    /// `$[`, to which the standard gives no meaning.
+    DollarBracket,
+    /// A substitution in backquotes (XCU 2.6.3).
+    Backquoted,
+    /// A braced expansion of a form that is not read (XCU 2.6.2).
+    Braced,
+    /// A double quote in a default inside double quotes or a here-document (XCU 2.6.2).
+    QuotedInDefault,
+    /// A backslash before `}` in such a default (XCU 2.6.2).
+    BackslashInDefault,
+    /// `$@` where fields are not split (XCU 2.5.2).
+    AllParameters,
+    /// An arithmetic expression of a form that is not read (XCU 2.6.4).
+    Arithmetic,
+    /// `((`, which other shells read as arithmetic (XCU 2.9.4).
+    DoubleParenthesis,
+    /// `!(`, which other shells read as a pattern (XCU 2.9.2).
+    BangParenthesis,
+    /// `[[`, which other shells reserve (XCU 2.4).
+    LeftBrackets,
+    /// `]]`, which other shells reserve (XCU 2.4).
+    RightBrackets,
+    /// `function`, which other shells reserve (XCU 2.4).
+    Function,
+    /// `select`, which other shells reserve (XCU 2.4).
+    Select,
+    /// `time`, which other shells reserve (XCU 2.4).
+    Time,
+    /// `namespace`, which other shells reserve (XCU 2.4).
+    Namespace,
+    /// `{` name `}` before a redirection (XCU 2.7).
+    IoLocation,
+    /// A delimiter of a here-document with an expansion or a newline in it (XCU 2.7.4).
+    HereWord,
+    /// A here-document of which one end lies outside a command substitution and one inside (XCU 2.7.4).
+    HereAcross,
+    /// A tab behind a continuation where leading tabs are stripped (XCU 2.7.4).
+    HereTab,
     /// A form that is not read yet.
     Later,
 }
@@ -39,7 +115,29 @@ impl Form {
         ensures { result.now ≡ form_text self }
     {
         match self {
-            Form::Later => "this form is outside the profile",
+            Form::Continuation => outside!("a line continuation inside a token"),
+            Form::DollarSingle => outside!("$'"),
+            Form::DollarDouble => outside!("$\""),
+            Form::DollarBracket => outside!("$["),
+            Form::Backquoted => outside!("a backquoted substitution"),
+            Form::Braced => outside!("this braced form"),
+            Form::QuotedInDefault => outside!("a double quote in a quoted default"),
+            Form::BackslashInDefault => outside!("a backslash before } in a quoted default"),
+            Form::AllParameters => outside!("$@ where fields are not split"),
+            Form::Arithmetic => outside!("this arithmetic"),
+            Form::DoubleParenthesis => outside!("(("),
+            Form::BangParenthesis => outside!("!("),
+            Form::LeftBrackets => outside!("[["),
+            Form::RightBrackets => outside!("]]"),
+            Form::Function => outside!("function"),
+            Form::Select => outside!("select"),
+            Form::Time => outside!("time"),
+            Form::Namespace => outside!("namespace"),
+            Form::IoLocation => outside!("an IO location"),
+            Form::HereWord => outside!("this here-document word"),
+            Form::HereAcross => outside!("a here-document across a substitution"),
+            Form::HereTab => outside!("a tab after a continuation in a here-document"),
+            Form::Later => outside!("this form"),
         }
     }
 }
@@ -47,17 +145,75 @@ impl Form {
 /// A rule of the profile that a command breaks.
 #[derive(Clone, Copy, Debug, PartialEq, Eq)]
 pub enum Rule {
+    /// The command name is no static text.
+    ComputedName,
+    /// The command has this name.
+    Refused(KnownName),
+    /// The command name has `+=` in it, which other shells read as an assignment.
+    Append,
+    /// A function is defined that has this name.
+    FunctionNamed(KnownName),
+    /// The name of a declaration utility is quoted (XCU 2.9.1.1).
+    Quoted(Declaration),
+    /// `trap` sets an action (XCU 2.15, trap).
+    TrapAction,
+    /// `command` runs a utility, or has such an option (XCU 3, command).
+    CommandUse,
+    /// An operand of `unset` is no static text (XCU 2.15, unset).
+    UnsetOperand,
+    /// An operand of `set` may or may not be an option (XCU 2.15, set).
+    SetOperand,
+    /// The operand of `break` is no static number from 1 (XCU 2.15, break).
+    BreakOperand,
+    /// The operand of `continue` is no static number from 1 (XCU 2.15, continue).
+    ContinueOperand,
+    /// `break` stands outside a loop (XCU 2.15, break).
+    BreakOutside,
+    /// `continue` stands outside a loop (XCU 2.15, continue).
+    ContinueOutside,
+    /// `return` stands outside a function (XCU 2.15, return).
+    ReturnOutside,
     /// The command is not analysed yet.
     Later,
 }
 
 impl Rule {
-    /// What is told of the rule.
-    pub fn text(self) -> &'static str
-        ensures { result.now ≡ rule_text self }
+    /// Appends what is told of the rule.
+    ///
+    /// # Errors
+    ///
+    /// `AllocError` where a growth was refused.
+    pub fn push_text(self, out: &mut Vec<u8>) -> Result<(), AllocError>
+        ensures { OnOk result (out.new.items ≡ out.old.items ++ rule_text self) }
+    {
+        let (words, name) = self.pieces();
+        out.extend_from_slice(words.as_bytes())?;
+        out.extend_from_slice(name.as_bytes())?;
+        out.extend_from_slice(outside!("").as_bytes())?;
+        Ok(())
+    }
+
+    // The words of the text, and the name that they end in.
+    #[tactic(auto, unfolding(crate::specs::Texts::rule_name))]
+    fn pieces(self) -> (&'static str, &'static str)
+        ensures { rule_name self ≡ result.0.now ++ result.1.now }
     {
         match self {
-            Rule::Later => "this command is outside the profile",
+            Rule::ComputedName => ("a computed command name", ""),
+            Rule::Refused(name) => ("", name.text()),
+            Rule::Append => ("+=", ""),
+            Rule::FunctionNamed(name) => ("a function named ", name.text()),
+            Rule::Quoted(declaration) => ("a quoted ", declaration.text()),
+            Rule::TrapAction => ("trap with an action", ""),
+            Rule::CommandUse => ("this use of command", ""),
+            Rule::UnsetOperand => ("this operand of unset", ""),
+            Rule::SetOperand => ("this operand of set", ""),
+            Rule::BreakOperand => ("this operand of break", ""),
+            Rule::ContinueOperand => ("this operand of continue", ""),
+            Rule::BreakOutside => ("break outside a loop", ""),
+            Rule::ContinueOutside => ("continue outside a loop", ""),
+            Rule::ReturnOutside => ("return outside a function", ""),
+            Rule::Later => ("this command", ""),
         }
     }
 }

@@ -1,25 +1,32 @@
 //! The text of words that hold no expansion.
 ghost use Rattle.std.specs.Prelude.{◌≡◌, if◌then◌else◌, Some, None, IfOk, option_map};
+ghost use Rattle.std.specs.List.{list_any};
 ghost use Rattle.sh_tree.specs.Words as words;
 ghost use Rattle.sh_tree.specs.Words.{joined};
 
-use crate::tree::{Part, Word};
+use crate::tree::{Part, SingleStyle, Word};
 use std::alloc::{AllocError, Global};
 
-/// The text of a word without its quoting (XCU 2.2), or nothing where the word holds an expansion.
-#[tactic(auto, using(crate::proofs::TextLemmas::joined_none))]
+/// The text of a word without its quoting (XCU 2.2), or nothing where the word holds an expansion, a tilde-prefix or a byte
+/// of a pattern outside quotes: a `*`, a `?`, or a `[` that is not the whole word.
+#[tactic(auto, using(crate::proofs::TextLemmas::joined_none), unfolding(crate::specs::Words::static_text))]
 pub fn static_text(alloc: Global, word: &Word, script: &[u8]) -> Result<Option<Vec<u8>>, AllocError>
     ensures { IfOk result (λ found. option_map (λ v. v.items) found ≡ words.static_text script.now word.now.parts) }
 {
+    let parts = word.parts.as_slice();
     let mut text = Vec::new(alloc);
-    let is_static = push_parts(word.parts.as_slice(), script, &mut text)?;
-    Ok(if is_static { Some(text) } else { None })
+    let is_static = push_parts(parts, script, &mut text)?;
+    Ok(if is_static && !is_pattern(parts, script) {
+        Some(text)
+    } else {
+        None
+    })
 }
 
 /// Adds the text of the parts, as far as they are static, and tells whether they all are.
 #[cycle(text)]
 fn push_parts(parts: &[Part], script: &[u8], text: &mut Vec<u8>) -> Result<bool, AllocError>
-    ensures { IfOk result (λ all. (if all then Some text.new.items else None) ≡ joined (Some text.old.items) (words.static_text script.now parts.now)) }
+    ensures { IfOk result (λ all. (if all then Some text.new.items else None) ≡ joined (Some text.old.items) (words.parts_text script.now parts.now)) }
 {
     for part in parts {
         let is_static = push_part(part, script, &mut *text)?;
@@ -41,7 +48,109 @@ fn push_part(part: &Part, script: &[u8], text: &mut Vec<u8>) -> Result<bool, All
             text.extend_from_slice(span.text(script))?;
             Ok(true)
         }
+        Part::Escaped(span) => {
+            text.extend_from_slice(behind_first(span.text(script)))?;
+            Ok(true)
+        }
+        Part::Single(SingleStyle::Plain, span) => {
+            text.extend_from_slice(between_ends(span.text(script)))?;
+            Ok(true)
+        }
         Part::Double(_, parts) => push_parts(parts.as_slice(), script, text),
-        Part::Param(_) => Ok(false),
+        Part::Joined(_) => Ok(true),
+        Part::Single(SingleStyle::Dollar, _)
+        | Part::Param(_)
+        | Part::Arith(_, _)
+        | Part::Command(_, _, _)
+        | Part::Tilde(_) => Ok(false),
+    }
+}
+
+/// The text without its first byte.
+fn behind_first(text: &[u8]) -> &[u8]
+    ensures { result.now ≡ words.behind_first text.entry.now }
+{
+    match text {
+        [] => text,
+        [_, rest @ ..] => rest,
+    }
+}
+
+/// The text without its first and its last byte.
+fn between_ends(text: &[u8]) -> &[u8]
+    ensures { result.now ≡ words.between_ends text.entry.now }
+{
+    match text {
+        [_, inner @ .., _] => inner,
+        _ => &[],
+    }
+}
+
+/// Whether the parts hold a `*` or a `?` outside quotes, or a `[` that is not all of them.
+#[tactic(auto, unfolding(crate::specs::Words::is_pattern))]
+fn is_pattern(parts: &[Part], script: &[u8]) -> bool
+    ensures { result ≡ words.is_pattern script.now parts.now }
+{
+    let wildcard = has_wildcard(parts, script);
+    let bracket = has_bracket(parts, script);
+    let alone = is_bracket(parts, script);
+    wildcard || bracket && !alone
+}
+
+/// Whether the parts hold a `*` or a `?` outside quotes.
+fn has_wildcard(parts: &[Part], script: &[u8]) -> bool
+    ensures { result ≡ list_any (words.has_wildcard script.now) parts.now }
+{
+    parts.iter().any(|part| part_has_wildcard(part, script))
+}
+
+#[tactic(auto, unfolding(crate::specs::Words::has_wildcard))]
+fn part_has_wildcard(part: &Part, script: &[u8]) -> bool
+    ensures { result ≡ words.has_wildcard script.now part.now }
+{
+    match part {
+        Part::Plain(span) => text_has_wildcard(span.text(script)),
+        _ => false,
+    }
+}
+
+fn text_has_wildcard(text: &[u8]) -> bool
+    ensures { result ≡ list_any words.is_wildcard text.now }
+{
+    text.iter().any(|byte| is_wildcard(*byte))
+}
+
+/// Whether the byte stands for others in a pattern (XCU 2.14).
+fn is_wildcard(byte: u8) -> bool
+    ensures { result ≡ words.is_wildcard byte }
+{
+    matches!(byte, b'*' | b'?')
+}
+
+/// Whether the parts hold a `[` outside quotes.
+fn has_bracket(parts: &[Part], script: &[u8]) -> bool
+    ensures { result ≡ list_any (words.has_bracket script.now) parts.now }
+{
+    parts.iter().any(|part| part_has_bracket(part, script))
+}
+
+#[tactic(auto, unfolding(crate::specs::Words::has_bracket))]
+fn part_has_bracket(part: &Part, script: &[u8]) -> bool
+    ensures { result ≡ words.has_bracket script.now part.now }
+{
+    match part {
+        Part::Plain(span) => span.text(script).contains(&b'['),
+        _ => false,
+    }
+}
+
+/// Whether the parts are `[` alone.
+#[tactic(auto, unfolding(crate::specs::Words::is_bracket))]
+fn is_bracket(parts: &[Part], script: &[u8]) -> bool
+    ensures { result ≡ words.is_bracket script.now parts.now }
+{
+    match parts {
+        [Part::Plain(span)] => matches!(span.text(script), b"["),
+        _ => false,
     }
 }

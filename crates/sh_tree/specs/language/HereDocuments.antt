@@ -1,0 +1,66 @@
+-- The lines of here-documents.
+-- POSIX.1-2024, XCU 2.7.4 (here-document), 2.2.1 (line continuation).
+use Rattle.std.specs.Prelude.{ℕ, zero, suc, ◌+◌, Bool, true, false, not, ◌&&◌, ◌||◌, if◌then◌else◌, ◌==◌, List, [], ◌∷◌, length, drop, take, nat_lt, Option, Some, None, slice_range}
+use Rattle.std.specs.Str.{bytes_eq}
+use Rattle.sh_tree.specs.declared.tree.Span.{Span}
+use Rattle.sh_tree.specs.language.Bytes.{is_newline, is_tab, is_backslash, run, is_first}
+use Rattle.sh_tree.specs.Tree.{span}
+
+-- a here-document whose body has not come: whether it strips tabs, whether its delimiter is quoted, the delimiter, and how deep the operator stands
+pub record Mark : Type 0 where
+  pub strip : Bool
+  pub quoted : Bool
+  pub delimiter : List ℕ
+  pub depth : ℕ
+
+-- How long the line at the front is, without its newline. Where lines are joined, a backslash keeps the byte behind it from ending the line.
+unfoldable pub line_length : Bool → List ℕ → ℕ
+line_length joins [] = 0
+line_length joins (c ∷ []) = if is_newline c then 0 else 1
+line_length joins (c ∷ d ∷ cs) =
+    if is_newline c then 0
+    else (if joins && is_backslash c then 2 + line_length joins cs else 1 + line_length joins (d ∷ cs))
+
+-- where the line at i ends, before its newline
+unfoldable pub line_end : Bool → List ℕ → ℕ → ℕ
+line_end joins b i = i + line_length joins (drop i b)
+
+-- the text of a line without its line continuations
+unfoldable pub line_text : Bool → List ℕ → List ℕ
+line_text joins [] = []
+line_text joins (c ∷ []) = c ∷ []
+line_text joins (c ∷ d ∷ cs) =
+    if joins && is_backslash c then (if is_newline d then line_text joins cs else c ∷ d ∷ line_text joins cs)
+    else c ∷ line_text joins (d ∷ cs)
+
+-- what is compared with the delimiter: the line at i, joined where the delimiter is unquoted, without the tabs that `<<-` strips
+unfoldable pub compared : Mark → List ℕ → ℕ → List ℕ
+compared m b i =
+    let text = line_text (not m.quoted) (slice_range b i (line_end (not m.quoted) b i)) in
+    if m.strip then drop (run is_tab text) text else text
+
+-- the line behind the one that ends at e
+abbrev pub behind_line : List ℕ → ℕ → ℕ
+behind_line b e = if nat_lt e (length b) then e + 1 else e
+
+-- the line that ends the body, from its first byte to before its newline, looked for from i on in at most n lines
+unfoldable pub end_line_within : ℕ → Mark → List ℕ → ℕ → Option Span
+end_line_within zero m b i = None
+end_line_within (suc n) m b i =
+    if not (nat_lt i (length b)) then None
+    else (if bytes_eq (compared m b i) m.delimiter then Some (span i (line_end (not m.quoted) b i))
+    else end_line_within n m b (behind_line b (line_end (not m.quoted) b i)))
+
+-- the line that ends the body that begins at i
+unfoldable pub end_line : Mark → List ℕ → ℕ → Option Span
+end_line m b i = end_line_within (length b) m b i
+
+-- a tab stands behind a line continuation: whether `<<-` strips it is read in two ways
+unfoldable pub has_joined_tab : List ℕ → Bool
+has_joined_tab [] = false
+has_joined_tab (c ∷ []) = false
+has_joined_tab (c ∷ d ∷ cs) = if is_backslash c then (is_newline d && is_first is_tab cs) || has_joined_tab cs else has_joined_tab (d ∷ cs)
+
+-- such a tab stands in the body from i to e or in its end line, up to k
+abbrev pub is_ambiguous : Mark → List ℕ → ℕ → ℕ → Bool
+is_ambiguous m b i k = m.strip && not m.quoted && has_joined_tab (slice_range b i k)

@@ -1,0 +1,107 @@
+-- Where a reader of commands stands: the place, what came before it, and what is open around it.
+-- POSIX.1-2024, XCU 2.3 (token recognition), 2.7.4 (here-documents), 2.10 (shell grammar).
+use Rattle.std.specs.Prelude.{ℕ, zero, suc, ◌+◌, Bool, true, false, not, ◌||◌, List, [], ◌∷◌, ◌++◌, length}
+use Rattle.sh_tree.specs.declared.tree.Span.{Span}
+use Rattle.sh_tree.specs.declared.tree.Word.{Word}
+use Rattle.sh_tree.specs.language.HereDocuments.{Mark}
+use Rattle.sh_tree.specs.language.Commands.{blanks}
+use Rattle.sh_tree.specs.language.Trees.{word, span}
+
+-- Inside a word: the offset, how many commands began before it, how many levels are open, whether a here-document outside waits for its body, so that no
+-- newline token may come, and whether this is in the body of one.
+pub record Spot : Type 0 where
+  pub at : ℕ
+  pub count : ℕ
+  pub depth : ℕ
+  pub quiet : Bool
+  pub body : Bool
+
+-- the spot at i
+abbrev pub to : ℕ → Spot → Spot
+to i s = record s { at = i }
+
+-- the spot at i, one level deeper
+abbrev pub deeper : ℕ → Spot → Spot
+deeper i s = record s { at = i; depth = s.depth + 1 }
+
+-- at i, behind what was read inside, up to u
+abbrev pub behind : ℕ → Spot → Spot → Spot
+behind i u s = record s { at = i; count = u.count }
+
+-- a here-document's body, and the line that ends it
+pub record Document : Type 0 where
+  pub text : Word
+  pub end : Span
+
+-- Among commands: the spot, at a token's first byte; whether a compound command without redirections stands before it, behind which a closing word is
+-- recognized (XCU 2.4); and of this level the here-documents whose bodies have not come and those whose bodies have.
+pub record State : Type 0 where
+  pub spot : Spot
+  pub closed : Bool
+  pub pending : List Mark
+  pub bodies : List Document
+
+-- no document
+abbrev pub no_document : Document
+no_document = record { text = word 0 0 []; end = span 0 0 }
+
+unfoldable pub nth : List Document → ℕ → Document
+nth [] n = no_document
+nth (d ∷ ds) zero = d
+nth (d ∷ ds) (suc n) = nth ds n
+
+-- how many here-document operators have come in this level
+abbrev pub operators : State → ℕ
+operators s = length s.bodies + length s.pending
+
+unfoldable pub waits : List Mark → Bool
+waits [] = false
+waits (m ∷ ms) = true
+
+-- before a word
+abbrev pub facing : State → Spot
+facing s = record s.spot { quiet = s.spot.quiet || waits s.pending }
+
+-- in a substitution: its here-documents are its own
+abbrev pub within : Spot → State
+within s = record { spot = s; closed = false; pending = []; bodies = [] }
+
+module _ (b : List ℕ) where
+  -- at the token at or behind i
+  abbrev pub next : ℕ → State → State
+  next i s = record s { spot = to (blanks s.spot.body b i) s.spot }
+
+  -- at the token behind what was read inside, up to u
+  abbrev pub past : Spot → State → State
+  past u s = record s { spot = behind (blanks s.spot.body b u.at) u s.spot }
+
+-- behind the first byte of one more command
+abbrev pub counted : State → State
+counted s = record s { spot = record s.spot { count = s.spot.count + 1 } }
+
+-- one level deeper, and as deep as r
+abbrev pub lower : State → State
+lower s = record s { spot = record s.spot { depth = s.spot.depth + 1 } }
+
+abbrev pub as_deep : State → State → State
+as_deep r s = record s { spot = record s.spot { depth = r.spot.depth } }
+
+-- behind a command
+abbrev pub closing : Bool → State → State
+closing closed s = record s { closed = closed }
+
+-- behind a here-document's operator and delimiter
+abbrev pub pended : Mark → State → State
+pended m s = record s { pending = s.pending ++ m ∷ [] }
+
+-- behind a newline, at i
+abbrev pub on_line : ℕ → State → State
+on_line i s = record s { spot = to i s.spot; pending = [] }
+
+-- where the body of a here-document is read
+abbrev pub in_document : Mark → State → Spot
+in_document m s = record s.spot { depth = m.depth; quiet = false; body = not m.quoted }
+
+-- behind a body that was read up to u, and its end line, which ends before i
+abbrev pub with_document : ℕ → Document → Spot → State → State
+with_document i d u s = record s { spot = behind i u s.spot; bodies = s.bodies ++ d ∷ [] }
