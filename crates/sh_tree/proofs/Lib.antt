@@ -1,2 +1,3 @@
 pub mod ExampleLemmas
+pub mod RefusalLemmas
 pub mod TextLemmas

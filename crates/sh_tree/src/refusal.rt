@@ -65,9 +65,9 @@ pub enum Form {
     Continuation,
     /// `$'` (XCU 2.2.4).
     DollarSingle,
-    /// `$"`, to which the standard gives no meaning.
+    /// `$"`, to which the standard gives no meaning (XCU 2.6).
     DollarDouble,
-    /// `$[`, to which the standard gives no meaning.
+    /// `$[`, to which the standard gives no meaning (XCU 2.6).
     DollarBracket,
     /// A substitution in backquotes (XCU 2.6.3).
     Backquoted,
@@ -147,21 +147,21 @@ impl Form {
 pub enum Rule {
     /// The command name is no static text.
     ComputedName,
-    /// The command has this name.
+    /// The command has a name that is refused.
     Refused(KnownName),
-    /// The command name has `+=` in it, which other shells read as an assignment.
+    /// The command name holds `+=`, which other shells read as an assignment.
     Append,
-    /// A function is defined that has this name.
+    /// A function is defined that has such a name.
     FunctionNamed(KnownName),
     /// The name of a declaration utility is quoted (XCU 2.9.1.1).
     Quoted(Declaration),
-    /// `trap` sets an action (XCU 2.15, trap).
+    /// `trap` is given an action (XCU 2.15, trap).
     TrapAction,
-    /// `command` runs a utility, or has such an option (XCU 3, command).
+    /// `command` is to run a built-in that changes the shell, or what it runs is no static text (XCU 3, command).
     CommandUse,
     /// An operand of `unset` is no static text (XCU 2.15, unset).
     UnsetOperand,
-    /// An operand of `set` may or may not be an option (XCU 2.15, set).
+    /// Where `set` may have an option stands no static text, or `-` or `+` alone (XCU 2.15, set).
     SetOperand,
     /// The operand of `break` is no static number from 1 (XCU 2.15, break).
     BreakOperand,
@@ -193,7 +193,7 @@ impl Rule {
         Ok(())
     }
 
-    // The words of the text, and the name that they end in.
+    // The words of the text, and the name behind them.
     #[tactic(auto, unfolding(crate::specs::Texts::rule_name))]
     fn pieces(self) -> (&'static str, &'static str)
         ensures { rule_name self ≡ result.0.now ++ result.1.now }
