@@ -1,5 +1,5 @@
 //! What stands between tokens (XCU 2.3).
-ghost use Rattle.std.specs.Prelude.{◌≡◌, ◌≤◌, ◌==◌, not, length};
+ghost use Rattle.std.specs.Prelude.{◌≡◌, ◌≤◌, ◌-◌, if◌then◌else◌, length, drop};
 ghost use Rattle.sh_tree.specs.language.Bytes as bytes;
 ghost use Rattle.sh_tree.specs.language.Commands as commands;
 ghost use Rattle.sh_scan.specs.Steps.{gap_step};
@@ -48,11 +48,11 @@ fn comment_length(rest: &[u8]) -> usize
 }
 
 /// Whether a comment of so many bytes ends in a backslash.
-fn ends_in_backslash(rest: &[u8], length: usize) -> bool
-    requires { length ≤ length rest.now }
-    ensures { result ≡ bytes.is_first bytes.is_backslash (drop (length - 1) rest.now) }
+fn ends_in_backslash(rest: &[u8], count: usize) -> bool
+    requires { count ≤ length rest.now }
+    ensures { result ≡ bytes.is_first bytes.is_backslash (drop (count - 1) rest.now) }
 {
-    begins_with(&rest[length.saturating_sub(1)..], b'\\')
+    begins_with(&rest[count.saturating_sub(1)..], b'\\')
 }
 
 /// How many bytes the comment at the front has, if there is one.
