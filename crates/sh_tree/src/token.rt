@@ -5,5 +5,5 @@ mod command;
 mod word;
 
 pub use arithmetic::{Figure, Lexeme};
-pub use command::{Lead, Operator, Reserved, Stage};
+pub use command::{Lead, Operator, Redirection, Reserved, Stage};
 pub use word::{Context, Sign, Site, Token};

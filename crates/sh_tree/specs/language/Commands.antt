@@ -1,6 +1,6 @@
 -- The tokens of commands, each the longest, and what stands between them.
 -- POSIX.1-2024, XCU 2.3 (token recognition), 2.4 (reserved words), 2.7 (redirection), 2.9.1 (simple commands), 2.10 (shell grammar).
-use Rattle.std.specs.Prelude.{ℕ, ◌+◌, ◌-◌, Bool, true, false, not, ◌&&◌, ◌||◌, if◌then◌else◌, ◌==◌, List, [], ◌∷◌, length, drop, take, codes, nat_lt, nat_le, slice_index, Option, Some, None}
+use Rattle.std.specs.Prelude.{ℕ, ◌+◌, ◌-◌, Bool, true, false, not, ◌&&◌, ◌||◌, if◌then◌else◌, ◌==◌, List, [], ◌∷◌, ◌++◌, length, drop, take, codes, nat_lt, nat_le, slice_index, Option, Some, None}
 use Rattle.std.specs.List.{find}
 use Rattle.std.specs.Str.{bytes_eq}
 use Rattle.sh_tree.specs.declared.tree.Span.{Span}
@@ -18,6 +18,7 @@ use Rattle.sh_tree.specs.declared.token.word.Sign.{Sign}
 use Rattle.sh_tree.specs.declared.token.word.Sign.TheVariants as sign
 use Rattle.sh_tree.specs.declared.token.command.Operator.{Operator}
 use Rattle.sh_tree.specs.declared.token.command.Operator.TheVariants as op
+use Rattle.sh_tree.specs.declared.token.command.Redirection.{Redirection}
 use Rattle.sh_tree.specs.declared.token.command.Reserved.{Reserved}
 use Rattle.sh_tree.specs.declared.token.command.Reserved.TheVariants as word
 use Rattle.sh_tree.specs.declared.token.command.Stage.{Stage}
@@ -58,17 +59,22 @@ blanks body b i = i + blank_length body (drop i b)
 
 -- Operators
 
--- the operators, longer ones first (XCU 2.10.2)
-abbrev pub operators : List (List ℕ × Operator)
-operators =
+-- the operators of two bytes or more, longer ones first (XCU 2.10.2)
+abbrev pub long_operators : List (List ℕ × Operator)
+long_operators =
     (codes "<<-", op.HereDocTabs) ∷ (codes "&&", op.AndIf) ∷ (codes "||", op.OrIf) ∷ (codes ";;", op.DoubleSemicolon) ∷ (codes ";&", op.SemicolonAnd)
     ∷ (codes "<<", op.HereDoc) ∷ (codes ">>", op.Append) ∷ (codes "<&", op.CopyIn) ∷ (codes ">&", op.CopyOut) ∷ (codes "<>", op.ReadWrite)
-    ∷ (codes ">|", op.Clobber) ∷ (codes "&", op.And) ∷ (codes ";", op.Semicolon) ∷ (codes "|", op.Bar) ∷ (codes "(", op.LeftParenthesis)
-    ∷ (codes ")", op.RightParenthesis) ∷ (codes "<", op.Less) ∷ (codes ">", op.Greater) ∷ []
+    ∷ (codes ">|", op.Clobber) ∷ []
+
+-- the operators of one byte
+abbrev pub short_operators : List (List ℕ × Operator)
+short_operators =
+    (codes "&", op.And) ∷ (codes ";", op.Semicolon) ∷ (codes "|", op.Bar) ∷ (codes "(", op.LeftParenthesis) ∷ (codes ")", op.RightParenthesis)
+    ∷ (codes "<", op.Less) ∷ (codes ">", op.Greater) ∷ []
 
 -- the operator at the front and its length
 unfoldable pub operator_of : List ℕ → Option (Operator × ℕ)
-operator_of cs = longest operators cs
+operator_of cs = longest (long_operators ++ short_operators) cs
 
 -- what is found n bytes further on
 abbrev pub further : {A : Type 0} → ℕ → Option (A × ℕ) → Option (A × ℕ)
@@ -245,13 +251,6 @@ unfoldable pub lead_at : List ℕ → Stage → ℕ → Lead
 lead_at b s i = lead_of b s i (operator_of (drop i b))
 
 -- Redirections
-
--- a redirection's IO number, its operator, where that begins and where it ends
-pub record Redirection : Type 0 where
-  pub number : Option Span
-  pub operator : Operator
-  pub at : ℕ
-  pub end : ℕ
 
 -- the digits from i to j before the operator
 abbrev pub number_of : ℕ → ℕ → Option Span

@@ -40,6 +40,7 @@ use Rattle.sh_tree.specs.declared.token.word.Sign.{Sign}
 use Rattle.sh_tree.specs.declared.token.word.Sign.TheVariants as sign
 use Rattle.sh_tree.specs.declared.token.arithmetic.Figure.{Figure}
 use Rattle.sh_tree.specs.declared.token.arithmetic.Figure.TheVariants as figure
+use Rattle.sh_tree.specs.declared.token.command.Redirection.{Redirection}
 use Rattle.sh_tree.specs.declared.token.command.Operator.TheVariants as op
 use Rattle.sh_tree.specs.declared.token.command.Reserved.TheVariants as word
 use Rattle.sh_tree.specs.declared.token.command.Stage.{Stage}
@@ -48,7 +49,7 @@ use Rattle.sh_tree.specs.declared.token.command.Lead.{Lead}
 use Rattle.sh_tree.specs.declared.token.command.Lead.TheVariants as lead
 use Rattle.sh_tree.specs.language.Words.{token, in_double, in_use, in_removal, in_arithmetic}
 use Rattle.sh_tree.specs.language.Arithmetic.{lexeme, is_closed, binary_of, unary_of, assignment_of, unary_level}
-use Rattle.sh_tree.specs.language.Commands.{lead_at, blanks, name_end, declares, redirection, Redirection, direction_of, strip_of, is_location, is_word, is_redirection, is_reserved, begins_simple, begins_compound, begins_command, begins_pipeline, separator, link_of, clause_end_of, is_bar, is_newline_lead, is_esac, is_open, is_bare_name}
+use Rattle.sh_tree.specs.language.Commands.{lead_at, blanks, name_end, declares, redirection, direction_of, strip_of, is_location, is_word, is_redirection, is_reserved, begins_simple, begins_compound, begins_command, begins_pipeline, separator, link_of, clause_end_of, is_bar, is_newline_lead, is_esac, is_open, is_bare_name}
 use Rattle.sh_tree.specs.language.Contexts.{in_word, in_unsplit, in_value, in_stage, in_document_of}
 use Rattle.sh_tree.specs.language.Parts.{is_delimiter, delimiter_of, is_quoted_word, keeps_lines}
 use Rattle.sh_tree.specs.language.HereDocuments.{Mark, end_line, behind_line, is_ambiguous}

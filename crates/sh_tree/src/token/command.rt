@@ -1,6 +1,7 @@
 //! Tokens of commands (XCU 2.3, 2.4, 2.10).
 
 use crate::refusal::Form;
+use crate::tree::Span;
 
 /// An operator (XCU 2.10.2).
 #[derive(Clone, Copy, Debug, PartialEq, Eq)]
@@ -92,4 +93,13 @@ pub enum Lead {
     Word,
     /// A form that is left out.
     LeftOut(Form),
+}
+
+/// The front of a redirection: its IO number, its operator, where that begins and where it ends (XCU 2.7).
+#[derive(Clone, Copy, Debug, PartialEq, Eq)]
+pub struct Redirection {
+    pub number: Option<Span>,
+    pub operator: Operator,
+    pub at: u32,
+    pub end: u32,
 }

@@ -1,0 +1,4 @@
+pub mod PlaceLemmas
+pub mod StepLemmas
+pub mod OperatorLemmas
+pub mod QuoteLemmas

@@ -1,0 +1,61 @@
+-- Tables of texts, of which the first that stands at the front is found.
+use Rattle.std.proofs.Common.{◌≡◌, ℕ, ◌<◌, ◌≤◌, true, false, List, [], ◌∷◌, ◌++◌, length, drop, refl, sym, ap, ◌∙◌, arith, ⊎_elim, length-append, nat_eq, nat_lt}
+use Rattle.std.specs.Prelude.{Option, Some, None, IfSome}
+use Rattle.std.specs.List.{starts_with, list_all}
+use Rattle.std.proofs.lemmas.Bool.{cases_Bool, cond-true, cond-false, and_parts, ltb-true}
+use Rattle.std.proofs.lemmas.Bool.Decides.{Decides-eqb}
+use Rattle.std.proofs.lemmas.Slice.Eq.{starts_is}
+use Rattle.sh_tree.specs.language.Bytes.{longest}
+
+module _ {A : Type 0} where
+  -- what the first table finds is found
+  pub longest_found : (xs ys : List (List ℕ × A)) (cs : List ℕ) (found : A × ℕ) → Some found ≡ longest xs cs → Some found ≡ longest (xs ++ ys) cs
+  unfolding longest
+  longest_found [] ys cs found e = absurd_some e
+    where
+      absurd_some : Some found ≡ None → Some found ≡ longest ys cs
+      absurd_some e = cc
+  longest_found (x ∷ xs) ys cs found e = ⊎_elim
+      (λ yes. e ∙ cond-true _ _ _ yes ∙ sym (cond-true _ _ _ yes))
+      (λ other. longest_found xs ys cs found (e ∙ cond-false _ _ _ other) ∙ sym (cond-false _ _ _ other))
+      (cases_Bool (starts_with nat_eq cs x.0))
+
+  -- where the first table finds nothing, the second decides
+  pub longest_missed : (xs ys : List (List ℕ × A)) (cs : List ℕ) → None ≡ longest xs cs → longest ys cs ≡ longest (xs ++ ys) cs
+  unfolding longest
+  longest_missed [] ys cs e = refl
+  longest_missed (x ∷ xs) ys cs e = ⊎_elim
+      (λ yes. let both : None ≡ Some (x.1, length x.0) = e ∙ cond-true _ _ _ yes in cc)
+      (λ other. longest_missed xs ys cs (e ∙ cond-false _ _ _ other) ∙ sym (cond-false _ _ _ other))
+      (cases_Bool (starts_with nat_eq cs x.0))
+
+  -- no text of the table is empty
+  abbrev pub is_filled : List (List ℕ × A) → Type 0
+  is_filled xs = list_all (λ x. nat_lt 0 (length x.0)) xs ≡ true
+
+  pub record Fits (cs : List ℕ) (found : A × ℕ) : Type 0 where
+    pub within : found.1 ≤ length cs
+    pub moves : 0 < found.1
+
+  -- what is found is in the text, and no empty text is
+  pub longest_fits : (xs : List (List ℕ × A)) (cs : List ℕ) (found : A × ℕ) → is_filled xs → Some found ≡ longest xs cs → Fits cs found
+  unfolding longest
+  longest_fits [] cs found f e = cc
+  longest_fits (x ∷ xs) cs found f e = ⊎_elim
+      (λ yes.
+      let same : Some found ≡ Some (x.1, length x.0) = e ∙ cond-true _ _ _ yes in
+      let is : found ≡ (x.1, length x.0) = cc in
+      let front = (starts_is Decides-eqb cs x.0 (starts_with nat_eq cs x.0) refl).0 yes in
+      let count : found.1 ≡ length x.0 = ap (λ (p : A × ℕ). p.1) is in
+      let some = ltb-true 0 (length x.0) (and_parts _ _ f).0 in
+      record { within = omega (arith, ap length front, length-append x.0 (drop (length x.0) cs)); moves = omega arith })
+      (λ other. longest_fits xs cs found (and_parts _ _ f).1 (e ∙ cond-false _ _ _ other))
+      (cases_Bool (starts_with nat_eq cs x.0))
+
+  pub all_within : (xs : List (List ℕ × A)) (cs : List ℕ) (r : Option (A × ℕ)) → is_filled xs → r ≡ longest xs cs → IfSome r (λ found. found.1 ≤ length cs)
+  all_within xs cs None f e = tt
+  all_within xs cs (Some found) f e = (longest_fits xs cs found f e).within
+
+  pub all_move : (xs : List (List ℕ × A)) (cs : List ℕ) (r : Option (A × ℕ)) → is_filled xs → r ≡ longest xs cs → IfSome r (λ found. 0 < found.1)
+  all_move xs cs None f e = tt
+  all_move xs cs (Some found) f e = (longest_fits xs cs found f e).moves

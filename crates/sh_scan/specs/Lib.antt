@@ -1,0 +1,4 @@
+pub mod Places
+pub mod Classes
+pub mod Steps
+pub mod Quotes

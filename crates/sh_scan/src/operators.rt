@@ -1,0 +1,140 @@
+//! Operators (XCU 2.10.2).
+ghost use Rattle.std.specs.Prelude.{◌≡◌, ◌≤◌, ◌<◌, length, drop, IfSome};
+ghost use Rattle.sh_tree.specs.language.Bytes.{longest};
+ghost use Rattle.sh_tree.specs.language.Commands as commands;
+
+use sh_tree::limits::MAX_SCRIPT;
+use sh_tree::token::Operator;
+use sh_tree::tree::Direction;
+
+/// The operator of two bytes or more at the front.
+#[tactic(auto, unfolding(sh_tree::specs::language::Bytes::longest))]
+fn long_operator(rest: &[u8]) -> Option<(Operator, usize)>
+    ensures { result ≡ longest commands.long_operators rest.now }
+{
+    if rest.starts_with(b"<<-") {
+        Some((Operator::HereDocTabs, 3))
+    } else if rest.starts_with(b"&&") {
+        Some((Operator::AndIf, 2))
+    } else if rest.starts_with(b"||") {
+        Some((Operator::OrIf, 2))
+    } else if rest.starts_with(b";;") {
+        Some((Operator::DoubleSemicolon, 2))
+    } else if rest.starts_with(b";&") {
+        Some((Operator::SemicolonAnd, 2))
+    } else if rest.starts_with(b"<<") {
+        Some((Operator::HereDoc, 2))
+    } else if rest.starts_with(b">>") {
+        Some((Operator::Append, 2))
+    } else if rest.starts_with(b"<&") {
+        Some((Operator::CopyIn, 2))
+    } else if rest.starts_with(b">&") {
+        Some((Operator::CopyOut, 2))
+    } else if rest.starts_with(b"<>") {
+        Some((Operator::ReadWrite, 2))
+    } else if rest.starts_with(b">|") {
+        Some((Operator::Clobber, 2))
+    } else {
+        None
+    }
+}
+
+/// The operator of one byte at the front.
+#[tactic(auto, unfolding(sh_tree::specs::language::Bytes::longest))]
+fn short_operator(rest: &[u8]) -> Option<(Operator, usize)>
+    ensures { result ≡ longest commands.short_operators rest.now }
+{
+    if rest.starts_with(b"&") {
+        Some((Operator::And, 1))
+    } else if rest.starts_with(b";") {
+        Some((Operator::Semicolon, 1))
+    } else if rest.starts_with(b"|") {
+        Some((Operator::Bar, 1))
+    } else if rest.starts_with(b"(") {
+        Some((Operator::LeftParenthesis, 1))
+    } else if rest.starts_with(b")") {
+        Some((Operator::RightParenthesis, 1))
+    } else if rest.starts_with(b"<") {
+        Some((Operator::Less, 1))
+    } else if rest.starts_with(b">") {
+        Some((Operator::Greater, 1))
+    } else {
+        None
+    }
+}
+
+/// The operator at the front and its length.
+#[tactic(auto, unfolding(sh_tree::specs::language::Commands::operator_of))]
+pub fn operator_of(rest: &[u8]) -> Option<(Operator, usize)>
+    ensures value { result ≡ commands.operator_of rest.now }
+    ensures within { IfSome result (λ found. found.1 ≤ length rest.now) }
+    ensures moves { IfSome result (λ found. 0 < found.1) }
+{
+    match long_operator(rest) {
+        Some(found) => Some(found),
+        None => short_operator(rest),
+    }
+}
+
+/// The longest operator at `at`, and where it ends.
+#[tactic(auto, unfolding(sh_tree::specs::language::Commands::operator))]
+pub fn operator_at(script: &[u8], at: u32) -> Option<(Operator, u32)>
+    requires small { length script.now ≤ MAX_SCRIPT }
+    requires inside { at ≤ length script.now }
+    ensures value { result ≡ commands.operator script.now at }
+    ensures within { IfSome result (λ found. found.1 ≤ length script.now) }
+    ensures moves { IfSome result (λ found. at < found.1) }
+{
+    match operator_of(&script[at as usize..]) {
+        Some((operator, length)) => Some((operator, (at as usize + length) as u32)),
+        None => None,
+    }
+}
+
+/// What a redirection by the operator opens, where that is no here-document.
+#[tactic(auto, unfolding(sh_tree::specs::language::Commands::direction_of))]
+pub fn direction_of(operator: Operator) -> Option<Direction>
+    ensures { result ≡ commands.direction_of operator }
+{
+    match operator {
+        Operator::Less => Some(Direction::Read),
+        Operator::Greater => Some(Direction::Write),
+        Operator::Clobber => Some(Direction::Clobber),
+        Operator::Append => Some(Direction::Append),
+        Operator::ReadWrite => Some(Direction::Both),
+        Operator::CopyIn => Some(Direction::CopyIn),
+        Operator::CopyOut => Some(Direction::CopyOut),
+        _ => None,
+    }
+}
+
+/// Of the operator of a here-document, whether it is `<<-`.
+#[tactic(auto, unfolding(sh_tree::specs::language::Commands::strip_of))]
+pub fn strip_of(operator: Operator) -> Option<bool>
+    ensures { result ≡ commands.strip_of operator }
+{
+    match operator {
+        Operator::HereDoc => Some(false),
+        Operator::HereDocTabs => Some(true),
+        _ => None,
+    }
+}
+
+/// Whether the operator is that of a redirection.
+#[tactic(auto, unfolding(sh_tree::specs::language::Commands::redirects))]
+pub fn redirects(operator: Operator) -> bool
+    ensures { result ≡ commands.redirects operator }
+{
+    !matches!(
+        operator,
+        Operator::AndIf
+            | Operator::OrIf
+            | Operator::DoubleSemicolon
+            | Operator::SemicolonAnd
+            | Operator::And
+            | Operator::Semicolon
+            | Operator::Bar
+            | Operator::LeftParenthesis
+            | Operator::RightParenthesis
+    )
+}

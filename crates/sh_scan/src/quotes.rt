@@ -1,0 +1,22 @@
+//! Single quotes (XCU 2.2.2).
+ghost use Rattle.std.specs.Prelude.{◌≡◌, ◌≤◌, ◌<◌, length, IfSome};
+ghost use Rattle.sh_scan.specs.Quotes as quotes;
+
+use memchr::memchr;
+use sh_tree::limits::MAX_SCRIPT;
+
+/// Where the single quotes that open at `at` end, over the closing one; nothing where none closes them.
+#[tactic(auto, unfolding(crate::specs::Quotes::single_end, sh_tree::specs::language::Words::single))]
+pub fn single_end(script: &[u8], at: u32) -> Option<u32>
+    requires small { length script.now ≤ MAX_SCRIPT }
+    requires inside { at < length script.now }
+    ensures value { result ≡ quotes.single_end script.now at }
+    ensures within { IfSome result (λ end. end ≤ length script.now) }
+    ensures moves { IfSome result (λ end. at < end) }
+{
+    let from = at as usize + 1;
+    match memchr(b'\'', &script[from..]) {
+        Some(length) => Some((from + length + 1) as u32),
+        None => None,
+    }
+}
