@@ -1,3 +1,4 @@
 pub mod ExampleLemmas
 pub mod RefusalLemmas
 pub mod TextLemmas
+pub mod LanguageLemmas

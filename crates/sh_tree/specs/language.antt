@@ -8,3 +8,4 @@ pub mod Contexts
 pub mod Parts
 pub mod States
 pub mod Reading
+pub mod Examples

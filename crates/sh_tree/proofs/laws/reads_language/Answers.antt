@@ -1,0 +1,20 @@
+use Rattle.sh_tree.proofs.LanguageLemmas.{quoted_reads, home_reads, braced_reads, arithmetic_reads, substituted_reads, document_reads, branch_reads, loop_reads, case_reads, defined_reads, closed_reads, separated_reads, empty_reads, comment_reads}
+use Rattle.sh_tree.proofs.laws.reads_language.Goals as goal
+
+pub returns : goal.returns
+returns c = record {
+  quoted = quoted_reads;
+  home = home_reads;
+  braced = braced_reads;
+  arithmetic = arithmetic_reads;
+  substituted = substituted_reads;
+  document = document_reads;
+  branches = branch_reads;
+  loop = loop_reads;
+  cases = case_reads;
+  defined = defined_reads;
+  closed = closed_reads;
+  separated = separated_reads;
+  empty = empty_reads;
+  comment = comment_reads;
+}

@@ -1,0 +1,216 @@
+-- Texts and their trees, and texts that nothing reads, against which the definitions are held.
+-- POSIX.1-2024, XCU 2.2 (quoting), 2.6 (word expansions), 2.7 (redirection), 2.9 (commands), 2.10 (shell grammar).
+use Rattle.std.specs.Prelude.{ℕ, Bool, true, false, List, [], ◌∷◌, ◌+◌, codes, Option, Some, None}
+use Rattle.sh_tree.specs.declared.tree.Action.TheVariants as action
+use Rattle.sh_tree.specs.declared.tree.AndOr.{AndOr}
+use Rattle.sh_tree.specs.declared.tree.Binary.TheVariants as binary
+use Rattle.sh_tree.specs.declared.tree.Clause.{Clause}
+use Rattle.sh_tree.specs.declared.tree.ClauseEnd.TheVariants.{Break}
+use Rattle.sh_tree.specs.declared.tree.Command.{Command}
+use Rattle.sh_tree.specs.declared.tree.CommandStyle.TheVariants.{Paren}
+use Rattle.sh_tree.specs.declared.tree.Direction.TheVariants as direction
+use Rattle.sh_tree.specs.declared.tree.Element.{Element}
+use Rattle.sh_tree.specs.declared.tree.Element.TheVariants as element
+use Rattle.sh_tree.specs.declared.tree.Expr.{Expr}
+use Rattle.sh_tree.specs.declared.tree.Expr.TheVariants as expr
+use Rattle.sh_tree.specs.declared.tree.Item.{Item}
+use Rattle.sh_tree.specs.declared.tree.Kind.TheVariants as kind
+use Rattle.sh_tree.specs.declared.tree.Link.TheVariants as link
+use Rattle.sh_tree.specs.declared.tree.Operator.TheVariants as operator
+use Rattle.sh_tree.specs.declared.tree.Part.{Part}
+use Rattle.sh_tree.specs.declared.tree.Part.TheVariants as part
+use Rattle.sh_tree.specs.declared.tree.Removal.TheVariants as removal
+use Rattle.sh_tree.specs.declared.tree.Script.{Script}
+use Rattle.sh_tree.specs.declared.tree.SingleStyle.TheVariants as single
+use Rattle.sh_tree.specs.declared.tree.Subject.{Subject}
+use Rattle.sh_tree.specs.declared.tree.Subject.TheVariants.{Name}
+use Rattle.sh_tree.specs.declared.tree.Target.TheVariants.{File, Here}
+use Rattle.sh_tree.specs.declared.tree.Word.{Word}
+use Rattle.sh_tree.specs.language.Trees.{span, word, param, redirect, here_doc, command, pipe, and_or, item, script, branch, clause}
+use Rattle.sh_tree.specs.language.Reading.{Reads}
+
+-- Trees
+
+abbrev pub plain : ℕ → ℕ → Part
+plain i j = part.Plain (span i j)
+
+-- the name behind the `$` at i
+abbrev pub value : ℕ → ℕ → Part
+value i j = param i j (Name (span (i + 1) j)) operator.Value
+
+-- a word of plain bytes
+abbrev pub bare : ℕ → ℕ → Word
+bare i j = word i j (plain i j ∷ [])
+
+-- a simple command
+abbrev pub simple : ℕ → ℕ → List Element → Command
+simple number at elements = command number at (kind.Simple elements) []
+
+-- a simple command of one word of plain bytes
+abbrev pub utility : ℕ → ℕ → ℕ → Command
+utility number i j = simple number i (element.Word (bare i j) ∷ [])
+
+-- a command alone
+abbrev pub alone : Command → Item
+alone c = item (and_or (pipe false (c ∷ [])) []) false
+
+abbrev pub lone : Command → Script
+lone c = script (alone c ∷ [])
+
+-- Texts
+
+-- double quotes, single quotes and an escape
+abbrev pub quoted_text : List ℕ
+quoted_text = codes "echo \"$x\" 'a'\\b"
+
+abbrev pub quoted_words : List Element
+quoted_words =
+    element.Word (bare 0 4) ∷ element.Word (word 5 9 (part.Double (span 5 9) (value 6 8 ∷ []) ∷ []))
+    ∷ element.Word (word 10 15 (part.Single single.Plain (span 10 13) ∷ part.Escaped (span 13 15) ∷ [])) ∷ []
+
+abbrev pub quoted_script : Script
+quoted_script = lone (simple 1 0 quoted_words)
+
+-- tilde-prefixes in a value, and a command behind it
+abbrev pub home_text : List ℕ
+home_text = codes "a=~/b:~ c"
+
+abbrev pub home_value : Word
+home_value = word 2 7 (part.Tilde (span 2 3) ∷ plain 3 6 ∷ part.Tilde (span 6 7) ∷ [])
+
+abbrev pub home_script : Script
+home_script = lone (simple 1 0 (element.Assignment (span 0 1) home_value ∷ element.Word (bare 8 9) ∷ []))
+
+-- braced expansions; a pattern is read as outside quotes
+abbrev pub braced_text : List ℕ
+braced_text = codes "echo ${x:-\"y\"} ${#x} \"${x%?}\""
+
+abbrev pub default_part : Part
+default_part = param 5 14 (Name (span 7 8)) (operator.Use action.Default true (word 10 13 (part.Double (span 10 13) (plain 11 12 ∷ []) ∷ [])))
+
+abbrev pub length_part : Part
+length_part = param 15 20 (Name (span 18 19)) operator.Length
+
+abbrev pub removal_part : Part
+removal_part = param 22 28 (Name (span 24 25)) (operator.Remove removal.ShortSuffix (bare 26 27))
+
+abbrev pub braced_words : List Element
+braced_words =
+    element.Word (bare 0 4) ∷ element.Word (word 5 14 (default_part ∷ [])) ∷ element.Word (word 15 20 (length_part ∷ []))
+    ∷ element.Word (word 21 29 (part.Double (span 21 29) (removal_part ∷ []) ∷ [])) ∷ []
+
+abbrev pub braced_script : Script
+braced_script = lone (simple 1 0 braced_words)
+
+-- levels of arithmetic, and an assignment
+abbrev pub arithmetic_text : List ℕ
+arithmetic_text = codes "echo $((a=1+2*3))"
+
+abbrev pub product : Expr
+product = expr.Chain (expr.Constant (span 12 13)) ((binary.Multiply, expr.Constant (span 14 15)) ∷ [])
+
+abbrev pub sum : Expr
+sum = expr.Chain (expr.Constant (span 10 11)) ((binary.Add, product) ∷ [])
+
+abbrev pub arithmetic_part : Part
+arithmetic_part = part.Arith (span 5 17) (expr.Assign (span 8 9) None sum)
+
+abbrev pub arithmetic_script : Script
+arithmetic_script = lone (simple 1 0 (element.Word (bare 0 4) ∷ element.Word (word 5 17 (arithmetic_part ∷ [])) ∷ []))
+
+-- a substitution: its command is the second one
+abbrev pub substituted_text : List ℕ
+substituted_text = codes "echo \"$(echo a)\""
+
+abbrev pub inner_script : Script
+inner_script = lone (simple 2 8 (element.Word (bare 8 12) ∷ element.Word (bare 13 14) ∷ []))
+
+abbrev pub substituted_part : Part
+substituted_part = part.Double (span 5 16) (part.Command Paren (span 6 15) inner_script ∷ [])
+
+abbrev pub substituted_script : Script
+substituted_script = lone (simple 1 0 (element.Word (bare 0 4) ∷ element.Word (word 5 16 (substituted_part ∷ [])) ∷ []))
+
+-- a here-document, whose body stands at its operator
+abbrev pub document_text : List ℕ
+document_text = codes "cat <<E; b\nx$y\nE\n"
+
+abbrev pub document_body : Word
+document_body = word 11 15 (plain 11 12 ∷ value 12 14 ∷ plain 14 15 ∷ [])
+
+abbrev pub document_words : List Element
+document_words = element.Word (bare 0 3) ∷ element.Redirection (redirect 4 None (Here (here_doc false (bare 6 7) document_body (span 15 16)))) ∷ []
+
+abbrev pub document_script : Script
+document_script = script (alone (simple 1 0 document_words) ∷ alone (utility 2 9 10) ∷ [])
+
+abbrev pub branch_text : List ℕ
+branch_text = codes "if a; then b; else c; fi"
+
+abbrev pub branch_script : Script
+branch_script = lone (command 1 0 (kind.Cond (branch (lone (utility 2 3 4)) (lone (utility 3 11 12)) ∷ []) (Some (lone (utility 4 19 20)))) [])
+
+abbrev pub loop_text : List ℕ
+loop_text = codes "for x in a; do b; done"
+
+abbrev pub loop_script : Script
+loop_script = lone (command 1 0 (kind.For (span 4 5) (Some (bare 9 10 ∷ [])) (lone (utility 2 15 16))) [])
+
+-- the last clause has no list and no mark at its end
+abbrev pub case_text : List ℕ
+case_text = codes "case a in (b|c) d;; *) esac"
+
+abbrev pub case_clauses : List Clause
+case_clauses = clause (bare 11 12 ∷ bare 13 14 ∷ []) (lone (utility 2 16 17)) Break ∷ clause (bare 20 21 ∷ []) (script []) Break ∷ []
+
+abbrev pub case_script : Script
+case_script = lone (command 1 0 (kind.Branches (bare 5 6) case_clauses) [])
+
+-- a definition, whose body has the redirection; a pipeline behind `!`; an asynchronous list
+abbrev pub defined_text : List ℕ
+defined_text = codes "f() { a; } >b && ! c | d &"
+
+abbrev pub defined_command : Command
+defined_command = command 2 4 (kind.Group (lone (utility 3 6 7))) (redirect 11 None (File direction.Write (bare 12 13)) ∷ [])
+
+abbrev pub defined_list : AndOr
+defined_list =
+    and_or (pipe false (command 1 0 (kind.Define (span 0 1) defined_command) [] ∷ []))
+    ((link.AndThen, pipe true (utility 4 19 20 ∷ utility 5 23 24 ∷ [])) ∷ [])
+
+abbrev pub defined_script : Script
+defined_script = script (item defined_list true ∷ [])
+
+-- a closing word directly behind a compound command
+abbrev pub closed_text : List ℕ
+closed_text = codes "{ { a; } }"
+
+abbrev pub closed_script : Script
+closed_script = lone (command 1 0 (kind.Group (lone (command 2 2 (kind.Group (lone (utility 3 4 5))) []))) [])
+
+-- a separator behind a compound command
+abbrev pub separated_text : List ℕ
+separated_text = codes "{ a; };"
+
+abbrev pub separated_script : Script
+separated_script = lone (command 1 0 (kind.Group (lone (utility 2 2 3))) [])
+
+abbrev pub comment_text : List ℕ
+comment_text = codes "# a\n"
+
+-- each text is its tree
+pub record LanguageRead : Type 0 where
+  pub quoted : Reads quoted_text quoted_script
+  pub home : Reads home_text home_script
+  pub braced : Reads braced_text braced_script
+  pub arithmetic : Reads arithmetic_text arithmetic_script
+  pub substituted : Reads substituted_text substituted_script
+  pub document : Reads document_text document_script
+  pub branches : Reads branch_text branch_script
+  pub loop : Reads loop_text loop_script
+  pub cases : Reads case_text case_script
+  pub defined : Reads defined_text defined_script
+  pub closed : Reads closed_text closed_script
+  pub separated : Reads separated_text separated_script
+  pub empty : Reads [] (script [])
+  pub comment : Reads comment_text (script [])
