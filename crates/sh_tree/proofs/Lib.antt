@@ -1,2 +1,3 @@
 pub mod ExampleLemmas
 pub mod TextLemmas
+pub mod CommandLemmas
