@@ -2,3 +2,4 @@ pub mod ExampleLemmas
 pub mod RefusalLemmas
 pub mod TextLemmas
 pub mod LanguageLemmas
+pub mod CommandLemmas

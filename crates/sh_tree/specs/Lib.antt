@@ -7,3 +7,4 @@ pub mod Words
 pub mod Reading
 pub mod Answers
 pub mod Examples
+pub mod Commands

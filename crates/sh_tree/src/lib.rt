@@ -3,6 +3,7 @@
 #![tactic(auto)]
 
 mod boxed;
+pub mod commands;
 mod items;
 pub mod known;
 pub mod laws;

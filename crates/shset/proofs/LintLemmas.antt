@@ -34,7 +34,7 @@ use Rattle.shset.specs.Findings.{Admits, first_refused}
 use Rattle.shset.specs.Lint.{IsReading, IsAccepted, Accepts, AreFindings, Lints, shown_at}
 use Rattle.shset.specs.Verdicts.{shown, shown_cmp}
 use Rattle.shset.proofs.NumberingLemmas.{alone_command, opened_simple}
-use Rattle.shset.proofs.AdmitLemmas.{IsLone, AllLone, admitted_from_none}
+use Rattle.shset.proofs.AdmitLemmas.{AllLone, admitted_from_none}
 
 -- where something begins, the text goes on
 begins_within : (b : List ℕ) (s : Stage) (i : ℕ) → (begin_at b s i ≡ begin.Stop → ⊥) → i < length b
