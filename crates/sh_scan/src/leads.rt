@@ -1,5 +1,5 @@
 //! What the tokens of commands are (XCU 2.3, 2.4, 2.10).
-ghost use Rattle.std.specs.Prelude.{◌≡◌, ◌≤◌, ◌+◌, None, length, drop};
+ghost use Rattle.std.specs.Prelude.{◌≡◌, ◌≢◌, ◌≤◌, ◌<◌, ◌+◌, None, length, drop};
 ghost use Rattle.sh_tree.specs.language.Commands as commands;
 
 use crate::assignments::is_assignment;
@@ -172,7 +172,8 @@ fn other_lead(script: &[u8], stage: Stage, at: u32) -> Lead
 fn lead_without_operator(script: &[u8], stage: Stage, at: u32) -> Lead
     requires small { length script.now ≤ MAX_SCRIPT }
     requires inside { at ≤ length script.now }
-    ensures { result ≡ commands.lead_of script.now stage at None }
+    ensures value { result ≡ commands.lead_of script.now stage at None }
+    ensures within { result ≢ Lead.End → at < length script.now }
 {
     if script.len() <= at as usize {
         return Lead::End;
@@ -193,6 +194,7 @@ pub fn lead_at(script: &[u8], stage: Stage, at: u32) -> Lead
     requires small { length script.now ≤ MAX_SCRIPT }
     requires inside { at ≤ length script.now }
     ensures value { result ≡ commands.lead_at script.now stage at }
+    ensures within { result ≢ Lead.End → at < length script.now }
 {
     let rest = &script[at as usize..];
     match operator_of(rest) {

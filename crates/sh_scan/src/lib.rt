@@ -15,6 +15,8 @@ mod operators;
 mod pieces;
 mod quotes;
 mod redirection;
+#[cfg(test)]
+mod tests;
 
 pub use assignments::{is_assignment_at, is_location_at};
 pub use bare::{declares_at, is_bare_name_at};
