@@ -1,8 +1,9 @@
 -- Stretches of a text that are gone over piece by piece.
-use Rattle.std.proofs.Common.{◌≡◌, ℕ, zero, suc, ◌+◌, ◌-◌, ◌<◌, ◌≤◌, Bool, true, false, ◌&&◌, List, [], ◌∷◌, length, take, drop, refl, sym, ap, ◌∙◌, arith, ⊎_elim, length-drop, take_all}
-use Rattle.std.proofs.lemmas.Bool.{cases_Bool, cond-true, cond-false}
+use Rattle.std.proofs.Common.{◌≡◌, ℕ, zero, suc, ◌+◌, ◌-◌, ◌<◌, ◌≤◌, Bool, true, false, not, ◌&&◌, List, [], ◌∷◌, length, take, drop, refl, sym, ap, ◌∙◌, arith, ⊎_elim, length-drop, take_all}
+use Rattle.std.proofs.lemmas.Bool.{cases_Bool, cond-true, cond-false, ne_eqb}
 use Rattle.std.proofs.lemmas.List.{drop-drop}
-use Rattle.sh_tree.specs.language.Bytes.{is_blank, is_newline, is_backslash, joined_length}
+use Rattle.std.specs.Prelude.{◌==◌}
+use Rattle.sh_tree.specs.language.Bytes.{is_blank, is_newline, is_backslash, is_joined, joined_length}
 use Rattle.sh_tree.specs.language.Commands.{gap_length}
 use Rattle.sh_tree.specs.language.HereDocuments.{line_length}
 use Rattle.sh_scan.specs.Steps.{joined_step, gap_step, line_step}
@@ -37,9 +38,9 @@ gap_unrolls (c ∷ []) = ⊎_elim
 gap_unrolls (c ∷ d ∷ cs) = ⊎_elim
     (λ yes. goes_on _ _ _ 0 (cond-true _ _ _ yes) (cond-true _ _ _ yes))
     (λ other. ⊎_elim
-        (λ joins. goes_on _ _ _ 1 (cond-false _ _ _ other ∙ cond-true _ _ _ joins) (cond-false _ _ _ other ∙ cond-true _ _ _ joins))
-        (λ last. ends _ _ _ (cond-false _ _ _ other ∙ cond-false _ _ _ last) (cond-false _ _ _ other ∙ cond-false _ _ _ last))
-        (cases_Bool (is_backslash c && is_newline d)))
+    (λ joins. goes_on _ _ _ 1 (cond-false _ _ _ other ∙ cond-true _ _ _ joins) (cond-false _ _ _ other ∙ cond-true _ _ _ joins))
+    (λ last. ends _ _ _ (cond-false _ _ _ other ∙ cond-false _ _ _ last) (cond-false _ _ _ other ∙ cond-false _ _ _ last))
+    (cases_Bool (is_backslash c && is_newline d)))
     (cases_Bool (is_blank c))
 
 pub line_unrolls : (joins : Bool) (cs : List ℕ) → Unrolls (line_length joins) (line_step joins) cs
@@ -52,9 +53,9 @@ line_unrolls joins (c ∷ []) = ⊎_elim
 line_unrolls joins (c ∷ d ∷ cs) = ⊎_elim
     (λ stop. ends _ _ _ (cond-true _ _ _ stop) (cond-true _ _ _ stop))
     (λ other. ⊎_elim
-        (λ keeps. goes_on _ _ _ 1 (cond-false _ _ _ other ∙ cond-true _ _ _ keeps) (cond-false _ _ _ other ∙ cond-true _ _ _ keeps))
-        (λ one. goes_on _ _ _ 0 (cond-false _ _ _ other ∙ cond-false _ _ _ one) (cond-false _ _ _ other ∙ cond-false _ _ _ one))
-        (cases_Bool (joins && is_backslash c)))
+    (λ keeps. goes_on _ _ _ 1 (cond-false _ _ _ other ∙ cond-true _ _ _ keeps) (cond-false _ _ _ other ∙ cond-true _ _ _ keeps))
+    (λ one. goes_on _ _ _ 0 (cond-false _ _ _ other ∙ cond-false _ _ _ one) (cond-false _ _ _ other ∙ cond-false _ _ _ one))
+    (cases_Bool (joins && is_backslash c)))
     (cases_Bool (is_newline c))
 
 -- the whole is n bytes and the whole of what is behind them
@@ -86,3 +87,16 @@ pub no_more : (f step : List ℕ → ℕ) (cs : List ℕ) (n s : ℕ) → Behind
 no_more f step cs n s so e z unrolls =
     let last : f (behind cs n) ≡ 0 = unrolls.none (sym e ∙ z) in
     omega (arith, so.whole, ap f (behind_is cs n), last)
+
+-- a line continuation stands at the front where one is the first piece
+pub is_joined_is : (cs : List ℕ) → not (joined_step cs == 0) ≡ is_joined cs
+unfolding joined_length joined_step
+is_joined_is [] = refl
+is_joined_is (c ∷ []) = refl
+is_joined_is (c ∷ d ∷ cs) = ⊎_elim
+    (λ yes. ap (λ n. not (n == 0)) (cond-true _ _ _ yes) ∙ sym (ap (λ n. not (n == 0)) (cond-true _ _ _ yes) ∙ some (joined_length cs)))
+    (λ other. ap (λ n. not (n == 0)) (cond-false _ _ _ other) ∙ sym (ap (λ n. not (n == 0)) (cond-false _ _ _ other)))
+    (cases_Bool (is_backslash c && is_newline d))
+  where
+    some : (n : ℕ) → not (2 + n == 0) ≡ true
+    some n = ap not (ne_eqb (2 + n) 0 (λ e. absurd (omega arith)))

@@ -1,79 +1,111 @@
 //! Operators (XCU 2.10.2).
-ghost use Rattle.std.specs.Prelude.{◌≡◌, ◌≤◌, ◌<◌, length, drop, IfSome};
+ghost use Rattle.std.specs.Prelude.{◌≡◌, ◌≤◌, ◌<◌, ◌++◌, length, IfSome};
 ghost use Rattle.sh_tree.specs.language.Bytes.{longest};
 ghost use Rattle.sh_tree.specs.language.Commands as commands;
 
+use crate::front::{behind_joined, is_joined};
+use crate::pieces::begins_so;
 use sh_tree::limits::MAX_SCRIPT;
 use sh_tree::token::Operator;
 use sh_tree::tree::Direction;
 
-/// The operator of two bytes or more at the front.
+/// The operator of two bytes or more at the front of both pieces.
 #[tactic(auto, unfolding(sh_tree::specs::language::Bytes::longest))]
-fn long_operator(rest: &[u8]) -> Option<(Operator, usize)>
-    ensures { result ≡ longest commands.long_operators rest.now }
+fn long_operator(front: &[u8], rest: &[u8]) -> Option<(Operator, usize)>
+    ensures { result ≡ longest commands.long_operators (front.now ++ rest.now) }
 {
-    if rest.starts_with(b"<<-") {
+    if begins_so(front, rest, b"<<-") {
         Some((Operator::HereDocTabs, 3))
-    } else if rest.starts_with(b"&&") {
+    } else if begins_so(front, rest, b"&&") {
         Some((Operator::AndIf, 2))
-    } else if rest.starts_with(b"||") {
+    } else if begins_so(front, rest, b"||") {
         Some((Operator::OrIf, 2))
-    } else if rest.starts_with(b";;") {
+    } else if begins_so(front, rest, b";;") {
         Some((Operator::DoubleSemicolon, 2))
-    } else if rest.starts_with(b";&") {
+    } else if begins_so(front, rest, b";&") {
         Some((Operator::SemicolonAnd, 2))
-    } else if rest.starts_with(b"<<") {
+    } else if begins_so(front, rest, b"<<") {
         Some((Operator::HereDoc, 2))
-    } else if rest.starts_with(b">>") {
+    } else if begins_so(front, rest, b">>") {
         Some((Operator::Append, 2))
-    } else if rest.starts_with(b"<&") {
+    } else if begins_so(front, rest, b"<&") {
         Some((Operator::CopyIn, 2))
-    } else if rest.starts_with(b">&") {
+    } else if begins_so(front, rest, b">&") {
         Some((Operator::CopyOut, 2))
-    } else if rest.starts_with(b"<>") {
+    } else if begins_so(front, rest, b"<>") {
         Some((Operator::ReadWrite, 2))
-    } else if rest.starts_with(b">|") {
+    } else if begins_so(front, rest, b">|") {
         Some((Operator::Clobber, 2))
     } else {
         None
     }
 }
 
-/// The operator of one byte at the front.
+/// The operator of one byte at the front of both pieces.
 #[tactic(auto, unfolding(sh_tree::specs::language::Bytes::longest))]
-fn short_operator(rest: &[u8]) -> Option<(Operator, usize)>
-    ensures { result ≡ longest commands.short_operators rest.now }
+fn short_operator(front: &[u8], rest: &[u8]) -> Option<(Operator, usize)>
+    ensures { result ≡ longest commands.short_operators (front.now ++ rest.now) }
 {
-    if rest.starts_with(b"&") {
+    if begins_so(front, rest, b"&") {
         Some((Operator::And, 1))
-    } else if rest.starts_with(b";") {
+    } else if begins_so(front, rest, b";") {
         Some((Operator::Semicolon, 1))
-    } else if rest.starts_with(b"|") {
+    } else if begins_so(front, rest, b"|") {
         Some((Operator::Bar, 1))
-    } else if rest.starts_with(b"(") {
+    } else if begins_so(front, rest, b"(") {
         Some((Operator::LeftParenthesis, 1))
-    } else if rest.starts_with(b")") {
+    } else if begins_so(front, rest, b")") {
         Some((Operator::RightParenthesis, 1))
-    } else if rest.starts_with(b"<") {
+    } else if begins_so(front, rest, b"<") {
         Some((Operator::Less, 1))
-    } else if rest.starts_with(b">") {
+    } else if begins_so(front, rest, b">") {
         Some((Operator::Greater, 1))
     } else {
         None
     }
 }
 
+/// The operator at the front of both pieces and its length.
+fn operator_over(front: &[u8], rest: &[u8]) -> Option<(Operator, usize)>
+    ensures value { result ≡ commands.operator_of (front.now ++ rest.now) }
+    ensures within { IfSome result (λ found. found.1 ≤ length (front.now ++ rest.now)) }
+    ensures moves { IfSome result (λ found. 0 < found.1) }
+{
+    match long_operator(front, rest) {
+        Some(found) => Some(found),
+        None => short_operator(front, rest),
+    }
+}
+
 /// The operator at the front and its length.
-#[tactic(auto, unfolding(sh_tree::specs::language::Commands::operator_of))]
 pub fn operator_of(rest: &[u8]) -> Option<(Operator, usize)>
     ensures value { result ≡ commands.operator_of rest.now }
     ensures within { IfSome result (λ found. found.1 ≤ length rest.now) }
     ensures moves { IfSome result (λ found. 0 < found.1) }
 {
-    match long_operator(rest) {
-        Some(found) => Some(found),
-        None => short_operator(rest),
+    operator_over(rest, &[])
+}
+
+fn is_longer(count: usize, found: Option<(Operator, usize)>) -> bool
+    ensures { result ≡ commands.is_longer count found }
+{
+    match found {
+        Some((_, length)) => count < length,
+        None => false,
     }
+}
+
+/// Whether line continuations behind the operator of so many bytes at the front keep it from being a longer one.
+#[tactic(auto, unfolding(sh_tree::specs::language::Commands::is_split))]
+pub fn is_split(rest: &[u8], count: usize) -> bool
+    requires { count ≤ length rest.now }
+    ensures { result ≡ commands.is_split rest.now count }
+{
+    let behind = &rest[count..];
+    if !is_joined(behind) {
+        return false;
+    }
+    is_longer(count, operator_over(&rest[..count], behind_joined(behind)))
 }
 
 /// The longest operator at `at`, and where it ends.

@@ -12,10 +12,6 @@ use Rattle.sh_tree.specs.declared.tree.Link.{Link}
 use Rattle.sh_tree.specs.declared.tree.Link.TheVariants as link
 use Rattle.sh_tree.specs.declared.refusal.Form.{Form}
 use Rattle.sh_tree.specs.declared.refusal.Form.TheVariants as form
-use Rattle.sh_tree.specs.declared.token.word.Context.{Context}
-use Rattle.sh_tree.specs.declared.token.word.Site.TheVariants as site
-use Rattle.sh_tree.specs.declared.token.word.Sign.{Sign}
-use Rattle.sh_tree.specs.declared.token.word.Sign.TheVariants as sign
 use Rattle.sh_tree.specs.declared.token.command.Operator.{Operator}
 use Rattle.sh_tree.specs.declared.token.command.Operator.TheVariants as op
 use Rattle.sh_tree.specs.declared.token.command.Redirection.{Redirection}
@@ -25,8 +21,8 @@ use Rattle.sh_tree.specs.declared.token.command.Stage.{Stage}
 use Rattle.sh_tree.specs.declared.token.command.Stage.TheVariants.{First, Prefixed, Named}
 use Rattle.sh_tree.specs.declared.token.command.Lead.{Lead}
 use Rattle.sh_tree.specs.declared.token.command.Lead.TheVariants as lead
-use Rattle.sh_tree.specs.language.Bytes.{is_in, is_blank, is_newline, is_backslash, is_digit, is_name, is_operator_byte, run, is_first, name_length, longest, joined_length, behind_joined, is_joined, joined_at}
-use Rattle.sh_tree.specs.language.Words.{token, plain_length}
+use Rattle.sh_tree.specs.language.Bytes.{is_in, is_blank, is_newline, is_backslash, is_digit, is_name, is_operator_byte, ends_token, run, is_first, name_length, longest, joined_length, behind_joined, is_joined, joined_at}
+use Rattle.sh_tree.specs.language.Words.{ends_joined}
 use Rattle.sh_tree.specs.Tree.{span}
 
 -- Between tokens
@@ -124,18 +120,15 @@ redirects _ = true
 
 -- Words
 
-abbrev pub plainly : Context
-plainly = record { site = site.Word; origin = 0; colons = false; fields = true; strip = false; body = false }
+-- the byte is no delimiter and means nothing more than itself
+abbrev pub is_bare : ℕ → Bool
+is_bare c = not (ends_token c) && not (is_in (codes "$`\"'\\") c)
 
-abbrev pub is_stop : Sign → Bool
-is_stop sign.Stop = true
-is_stop _ = false
-
--- The token at i, if all of its bytes are plain, or no bytes. A tilde is plain here: no name that is looked for has one.
+-- The token at i, if all of its bytes are such, or no bytes. No name that is looked for has a `$` that stands for itself.
 unfoldable pub bare_word : List ℕ → ℕ → List ℕ
 bare_word b i =
-    let n = plain_length (record plainly { origin = length b + 1 }) 0 i (drop i b) in
-    if is_stop (token b plainly 0 (i + n)).sign then take n (drop i b) else []
+    let n = run is_bare (drop i b) in
+    if ends_joined (drop n (drop i b)) then take n (drop i b) else []
 
 -- the reserved words (XCU 2.4)
 abbrev pub reserved_words : List (List ℕ × Reserved)
@@ -165,7 +158,7 @@ name_end b i = i + name_length (drop i b)
 
 -- the command name at i is the unquoted word `export` or `readonly`
 unfoldable pub declares : List ℕ → ℕ → Bool
-declares b i = bytes_eq (bare_word b i) (codes "export") || bytes_eq (bare_word b i) (codes "readonly")
+declares b i = bytes_eq (codes "export") (bare_word b i) || bytes_eq (codes "readonly") (bare_word b i)
 
 -- A word of three bytes or more that begins with `{` and ends with `}`, from i to j, before `<` or `>`: a shell may take it as an IO location (XCU 2.7).
 unfoldable pub is_location : List ℕ → ℕ → ℕ → Bool
@@ -197,12 +190,16 @@ whole_operator s rest o = lead.Operator o
 unfoldable pub operator_lead : Stage → List ℕ → Operator → ℕ → Lead
 operator_lead s cs o n = if is_split cs n then lead.LeftOut form.Continuation else whole_operator s (drop n cs) o
 
--- a reserved word at i; `!(` begins no pipeline
-unfoldable pub reserved_lead : List ℕ → ℕ → Reserved → Lead
-reserved_lead b i word.Bang =
-    if is_first is_parenthesis (drop (i + 1) b) then lead.LeftOut form.BangParenthesis
-    else (if is_first is_parenthesis (behind_joined (drop (i + 1) b)) then lead.LeftOut form.Continuation else lead.Reserved word.Bang)
-reserved_lead b i r = lead.Reserved r
+-- `!` before rest: `!(` begins no pipeline
+unfoldable pub bang : List ℕ → Lead
+bang rest =
+    if is_first is_parenthesis rest then lead.LeftOut form.BangParenthesis
+    else (if is_first is_parenthesis (behind_joined rest) then lead.LeftOut form.Continuation else lead.Reserved word.Bang)
+
+-- the reserved word at the front
+unfoldable pub reserved_lead : List ℕ → Reserved → Lead
+reserved_lead cs word.Bang = bang (drop 1 cs)
+reserved_lead cs r = lead.Reserved r
 
 -- the word w at i is a name before `(`
 unfoldable pub is_definition : List ℕ → ℕ → List ℕ → Bool
@@ -215,7 +212,7 @@ name_lead None = lead.Word
 
 -- the word w at i at a command's first token
 unfoldable pub first_lead : List ℕ → ℕ → List ℕ → Option Reserved → Lead
-first_lead b i w (Some r) = reserved_lead b i r
+first_lead b i w (Some r) = reserved_lead (drop i b) r
 first_lead b i w None = if is_definition b i w then lead.Definition else name_lead (named left_out_names w)
 
 -- the word w at i, no assignment

@@ -1,0 +1,115 @@
+//! Words of bytes that mean nothing more than themselves, and the names that are looked for among them (XCU 2.4).
+ghost use Rattle.std.specs.Prelude.{◌≡◌, ◌≤◌, ◌+◌, length};
+ghost use Rattle.sh_tree.specs.language.Bytes as bytes;
+ghost use Rattle.sh_tree.specs.language.Commands as commands;
+ghost use Rattle.sh_tree.specs.language.Words as words;
+
+use crate::bytes::ends_token;
+use crate::class::{Class, classify};
+use crate::front::{behind_joined, is_name};
+use sh_tree::limits::MAX_SCRIPT;
+use sh_tree::refusal::Form;
+use sh_tree::token::Reserved;
+
+#[tactic(auto, unfolding(crate::specs::Classes::class_of))]
+fn is_bare(byte: u8) -> bool
+    ensures { result ≡ commands.is_bare byte }
+{
+    matches!(classify(byte), Class::Letter | Class::Digit | Class::Other)
+}
+
+fn bare_length(rest: &[u8]) -> usize
+    ensures value { result ≡ bytes.run commands.is_bare rest.now }
+    ensures within { result ≤ length rest.now }
+{
+    rest.iter().take_while(|byte| is_bare(**byte)).count()
+}
+
+/// Whether a word ends before `rest`, of which line continuations are no part.
+#[tactic(auto, unfolding(sh_tree::specs::language::Bytes::is_first))]
+fn ends_joined(rest: &[u8]) -> bool
+    ensures { result ≡ words.ends_joined rest.now }
+{
+    match behind_joined(rest) {
+        [] => true,
+        [first, ..] => ends_token(*first),
+    }
+}
+
+/// The token at `at`, if none of its bytes means more than itself, or no bytes.
+#[tactic(auto, unfolding(sh_tree::specs::language::Commands::bare_word))]
+pub fn bare_word(script: &[u8], at: u32) -> &[u8]
+    requires small { length script.now ≤ MAX_SCRIPT }
+    requires inside { at ≤ length script.now }
+    ensures value { result.now ≡ commands.bare_word script.now at }
+    ensures within { at + length result.now ≤ length script.now }
+{
+    let rest = &script[at as usize..];
+    let length = bare_length(rest);
+    if ends_joined(&rest[length..]) {
+        &rest[..length]
+    } else {
+        &[]
+    }
+}
+
+#[tactic(auto, unfolding(sh_tree::specs::language::Commands::named))]
+pub fn reserved_word(word: &[u8]) -> Option<Reserved>
+    ensures { result ≡ commands.named commands.reserved_words word.now }
+{
+    match word {
+        b"!" => Some(Reserved::Bang),
+        b"{" => Some(Reserved::LeftBrace),
+        b"}" => Some(Reserved::RightBrace),
+        b"case" => Some(Reserved::Case),
+        b"do" => Some(Reserved::Do),
+        b"done" => Some(Reserved::Done),
+        b"elif" => Some(Reserved::Elif),
+        b"else" => Some(Reserved::Else),
+        b"esac" => Some(Reserved::Esac),
+        b"fi" => Some(Reserved::Fi),
+        b"for" => Some(Reserved::For),
+        b"if" => Some(Reserved::If),
+        b"in" => Some(Reserved::In),
+        b"then" => Some(Reserved::Then),
+        b"until" => Some(Reserved::Until),
+        b"while" => Some(Reserved::While),
+        _ => None,
+    }
+}
+
+/// The form of other shells that the word begins where a command name stands.
+#[tactic(auto, unfolding(sh_tree::specs::language::Commands::named))]
+pub fn left_out_name(word: &[u8]) -> Option<Form>
+    ensures { result ≡ commands.named commands.left_out_names word.now }
+{
+    match word {
+        b"[[" => Some(Form::LeftBrackets),
+        b"]]" => Some(Form::RightBrackets),
+        b"function" => Some(Form::Function),
+        b"select" => Some(Form::Select),
+        b"time" => Some(Form::Time),
+        b"namespace" => Some(Form::Namespace),
+        _ => None,
+    }
+}
+
+/// Whether the command name at `at` is `export` or `readonly`, unquoted (XCU 2.9.1.1).
+#[tactic(auto, unfolding(sh_tree::specs::language::Commands::declares))]
+pub fn declares_at(script: &[u8], at: u32) -> bool
+    requires small { length script.now ≤ MAX_SCRIPT }
+    requires inside { at ≤ length script.now }
+    ensures { result ≡ commands.declares script.now at }
+{
+    matches!(bare_word(script, at), b"export" | b"readonly")
+}
+
+/// Whether the word at `at` is a name, unquoted (XCU 2.10.2, rule 5).
+#[tactic(auto, unfolding(sh_tree::specs::language::Commands::is_bare_name))]
+pub fn is_bare_name_at(script: &[u8], at: u32) -> bool
+    requires small { length script.now ≤ MAX_SCRIPT }
+    requires inside { at ≤ length script.now }
+    ensures { result ≡ commands.is_bare_name script.now at }
+{
+    is_name(bare_word(script, at))
+}
