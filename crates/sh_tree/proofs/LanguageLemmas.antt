@@ -40,7 +40,7 @@ use Rattle.sh_tree.specs.language.Trees.{span, word, redirect, here_doc, command
 use Rattle.sh_tree.specs.language.Examples.{plain, bare, value, quoted_text, quoted_words, quoted_script, home_text, home_value, home_script, braced_text, default_part, length_part, removal_part, braced_words, braced_script, arithmetic_text, product, sum, arithmetic_part, arithmetic_script, substituted_text, inner_script, substituted_part, substituted_script, utility, lone, document_text, document_body, document_words, document_script, branch_text, branch_script, loop_text, loop_script, case_text, case_clauses, case_script, defined_text, defined_command, defined_list, defined_script, closed_text, closed_script, separated_text, separated_script, comment_text}
 
 -- what a reading of a known text computes
-pub computes : Unit {0}
+unfoldable pub computes : Unit {0}
 unfolding bytes.is_first bytes.name_length bytes.decimal bytes.longest bytes.joined_length words.tilde_length words.is_tilde words.special_of words.named words.single_parameter words.parenthesis words.numbered words.parameter words.misfit words.action_of words.removed words.used words.operated words.counted words.unnamed words.braced words.opened words.dollar words.stands words.plain_length words.continued words.backslash words.single words.sign_by words.sign_of words.token arithmetic.space_length arithmetic.constant_length arithmetic.named arithmetic.unknown arithmetic.figure_of arithmetic.lexeme_start arithmetic.lexeme arithmetic.binary_of arithmetic.unary_of arithmetic.assignment_of arithmetic.is_closed commands.gap_length commands.blank_length commands.blanks commands.operator_of commands.operator commands.is_split commands.direction_of commands.strip_of commands.redirects commands.bare_word commands.named commands.is_assignment commands.name_end commands.declares commands.is_location commands.opening commands.whole_operator commands.operator_lead commands.reserved_lead commands.is_definition commands.name_lead commands.first_lead commands.word_lead commands.other_lead commands.lead_of commands.lead_at commands.redirection commands.is_redirection commands.begins_simple commands.begins_compound commands.begins_command commands.begins_pipeline commands.clause_end_of commands.is_bare_name commands.separator commands.link_of documents.line_length documents.line_end documents.line_text documents.compared documents.end_line_within documents.end_line documents.has_joined_tab contexts.in_operand contexts.in_document_of contexts.in_stage parts.is_static parts.is_delimiter parts.delimiter_of parts.is_quotation parts.is_quoted_word parts.singles_in parts.singles parts.has_joined parts.keeps_lines states.nth states.waits r.is_empty r.is_some parts_text part_text
 computes = tt
 
@@ -50,10 +50,10 @@ whole : (b : List ℕ) (limit : ℕ) (u : State) (t : Script) → HasNoNul b →
 whole b limit u t n h w e = (limit, u.spot.count, record { no_nul = n; end = u.spot; script = r.script h w; to_end = e; commands = refl })
 
 -- in words and among commands of so many commands and levels, with nothing waiting; behind a compound command too
-abbrev at_word : ℕ → ℕ → ℕ → Spot
+abbrev pub at_word : ℕ → ℕ → ℕ → Spot
 at_word i count depth = record { at = i; count = count; depth = depth; quiet = false; body = false }
 
-abbrev at_token : ℕ → ℕ → ℕ → State
+abbrev pub at_token : ℕ → ℕ → ℕ → State
 at_token i count depth = record { spot = at_word i count depth; closed = false; pending = []; bodies = [] }
 
 abbrev at_close : ℕ → ℕ → ℕ → State
@@ -256,7 +256,7 @@ case_reads =
       r.sequence (r.list (r.no_break refl) refl (r.last_item (alone_reads d refl refl refl) refl refl)) in
     let any : ReadsWord 1 case_text (in_unsplit 20) (at_word 20 2 1) (at_word 21 2 1) (bare 20 21) = r.whole_word (r.more refl r.plain (r.stop refl)) refl refl in
     let last : ReadsClauses 1 case_text no_bodies (at_token 20 2 1) (at_token 27 2 1) (clause (bare 20 21 ∷ []) (script []) Break ∷ []) =
-      r.last_clause refl (r.last_pattern refl any refl) (r.nothing (r.no_break refl) refl) refl in
+      r.last_clause refl (r.last_pattern {s = at_token 20 2 1} refl any refl) (r.nothing (r.no_break refl) refl) refl in
     let clauses : ReadsClauses 1 case_text no_bodies (at_token 10 1 1) (at_token 27 2 1) case_clauses = r.more_clauses refl patterns body refl (r.no_break refl) last in
     let compound : ReadsCompound 1 case_text no_bodies (lead.Reserved reserved.Case) (at_token 0 1 0) (at_token 27 2 0) _ =
       r.case_of (omega arith) refl subject (r.no_break refl) refl (r.no_break refl) clauses in

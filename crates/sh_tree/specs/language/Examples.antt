@@ -198,7 +198,45 @@ separated_script = lone (command 1 0 (kind.Group (lone (utility 2 2 3))) [])
 abbrev pub comment_text : List ℕ
 comment_text = codes "# a\n"
 
--- each text is its tree
+-- Texts that no script reads
+
+-- nothing reads the text
+abbrev pub IsUnread : List ℕ → Type 0
+IsUnread b = (t : Script) → Reads b t → ⊥
+
+-- a double quote that is not closed
+abbrev pub open_quote_text : List ℕ
+open_quote_text = codes "\"a"
+
+-- a braced expansion that is not closed
+abbrev pub open_braced_text : List ℕ
+open_braced_text = codes "${x-"
+
+-- a line continuation in a name, in double quotes
+abbrev pub split_name_text : List ℕ
+split_name_text = codes "\"$a\\\nb\""
+
+-- an arithmetic expansion without an expression
+abbrev pub no_expression_text : List ℕ
+no_expression_text = codes "$(())"
+
+-- an operator without a command before it
+abbrev pub lone_bar_text : List ℕ
+lone_bar_text = codes "| a"
+
+-- the end of a clause outside `case`
+abbrev pub clause_end_text : List ℕ
+clause_end_text = codes "a;;"
+
+-- a here-document that is not ended
+abbrev pub open_document_text : List ℕ
+open_document_text = codes "<<E\n"
+
+-- no closing word behind a compound command with a redirection
+abbrev pub unclosed_text : List ℕ
+unclosed_text = codes "{ { a; } >f }"
+
+-- each text is its tree, or none
 pub record LanguageRead : Type 0 where
   pub quoted : Reads quoted_text quoted_script
   pub home : Reads home_text home_script
@@ -214,3 +252,11 @@ pub record LanguageRead : Type 0 where
   pub separated : Reads separated_text separated_script
   pub empty : Reads [] (script [])
   pub comment : Reads comment_text (script [])
+  pub open_quote : IsUnread open_quote_text
+  pub open_braced : IsUnread open_braced_text
+  pub split_name : IsUnread split_name_text
+  pub no_expression : IsUnread no_expression_text
+  pub lone_bar : IsUnread lone_bar_text
+  pub clause_end : IsUnread clause_end_text
+  pub open_document : IsUnread open_document_text
+  pub unclosed : IsUnread unclosed_text
