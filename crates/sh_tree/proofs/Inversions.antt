@@ -1,5 +1,5 @@
 -- What a reading begins with, by the token or the sign at its first byte.
-use Rattle.std.proofs.Common.{◌≡◌, ℕ, ◌+◌, ◌-◌, ◌<◌, Bool, true, false, not, ◌||◌, ◌⊎◌, inl, inr, List, [], ◌∷◌, ◌++◌, Option, Some, None, refl, sym, ap, ◌∙◌, subst}
+use Rattle.std.proofs.Common.{◌≡◌, ℕ, ◌+◌, ◌-◌, ◌<◌, Bool, true, false, not, ◌||◌, ◌⊎◌, inl, inr, List, [], ◌∷◌, Option, Some, None, refl, sym, ap, ◌∙◌, subst}
 use Rattle.std.proofs.lemmas.Bool.{true≢false}
 use Rattle.sh_tree.specs.declared.tree.AndOr.{AndOr}
 use Rattle.sh_tree.specs.declared.tree.Command.{Command}
@@ -36,7 +36,7 @@ use Rattle.sh_tree.specs.language.Contexts.{in_word, in_unsplit, in_stage}
 use Rattle.sh_tree.specs.language.Parts.{is_quoted_word, delimiter_of}
 use Rattle.sh_tree.specs.language.HereDocuments.{Mark, end_line}
 use Rattle.sh_tree.specs.language.States.{Spot, State, Document, to, deeper, behind, facing, within, nth, waits, next, past, on_line, pended, counted, lower, as_deep, closing}
-use Rattle.sh_tree.specs.language.Trees.{span, word, param, script}
+use Rattle.sh_tree.specs.language.Trees.{span, word, param}
 use Rattle.sh_tree.specs.language.Reading as r
 use Rattle.sh_tree.specs.language.Reading.{is_some, sign_at, after, prior_of, figure_at, over, lead_of, lead_here, skip, parted, named, redirected, is_empty, ReadsParts, ReadsPart, ReadsExpression, ReadsConditional, ReadsLevel, ReadsUnary, ReadsWord, ReadsRedirect, ReadsRedirects, ReadsDocuments, ReadsBreaks, ReadsElements, ReadsCommand, ReadsCompound, ReadsPipeline, ReadsCommands, ReadsAndOr, ReadsLinks, ReadsItems, ReadsList, ReadsSequence, ReadsScript}
 
@@ -245,7 +245,7 @@ module _ (limit : ℕ) (b : List ℕ) (body : ℕ → Document) where
   Follows u v =
       (separator (lead_here b u) ≡ None) × (not (is_reserved (lead_here b u)) || u.closed ≡ true) × (v ≡ u)
       ⊎ (g : Bool) × (w : State) × (separator (lead_here b u) ≡ Some g) × ReadsBreaks limit b (parted b u) w
-        × ((begins_pipeline (lead_here b w) ≡ false) × (v ≡ w) ⊎ (is : List Item) × (begins_pipeline (lead_here b w) ≡ true) × ReadsItems limit b body w v is)
+      × ((begins_pipeline (lead_here b w) ≡ false) × (v ≡ w) ⊎ (is : List Item) × (begins_pipeline (lead_here b w) ≡ true) × ReadsItems limit b body w v is)
 
 pub items_are : {limit : ℕ} {b : List ℕ} {body : ℕ → Document} {s v : State} {is : List Item} → ReadsItems limit b body s v is
     → (u : State) × (l : AndOr) × ReadsAndOr limit b body s u l × Follows limit b body u v
@@ -272,8 +272,8 @@ items_ended limit b body u v g some on none (inl h) = let e : Some g ≡ None = 
 items_ended limit b body u v g some on none (inr h) =
     let same : h.1 ≡ parted b u = no_breaks on h.3 in
     elim h.4 [
-      inl e ↦ e.1 ∙ same
-    | inr i ↦ absurd (true≢false (sym i.1 ∙ ap (λ w. begins_pipeline (lead_here b w)) same ∙ none))
+      | inl e ↦ e.1 ∙ same
+      | inr i ↦ absurd (true≢false (sym i.1 ∙ ap (λ w. begins_pipeline (lead_here b w)) same ∙ none))
     ]
 
 unlinked : {limit : ℕ} {b : List ℕ} {body : ℕ → Document} {s v : State} {ps : List (Link × Pipe)} → link_of (lead_here b s) ≡ None → ReadsLinks limit b body s v ps → v ≡ s
@@ -361,7 +361,7 @@ elements_end {b = b} {g = g} {s = s} none (r.redirect_element h q e) = absurd (t
 pub elements_word : {limit : ℕ} {b : List ℕ} {body : ℕ → Document} {g : Stage} {s v : State} {es : List Element} → lead_of b g s ≡ lead.Word
     → ReadsElements limit b body g s v es
     → (u : Spot) × (w : Word) × (fs : List Element) × ReadsWord limit b (in_stage b g s.spot.at) (facing s) u w
-      × ReadsElements limit b body (named b g s.spot.at) (past b u s) v fs
+    × ReadsElements limit b body (named b g s.spot.at) (past b u s) v fs
 unfolding begins_simple is_redirection
 elements_word is (r.no_element h) = absurd (apart begins_simple (sym is) refl h)
 elements_word is (r.assigned_element h w e) = absurd (apart is_word (sym is ∙ h) refl refl)
@@ -414,8 +414,7 @@ redirect_document at is document (r.file {r = f} {d = d} h o l read) =
     let e : Some d ≡ None = sym o ∙ ap (λ p. direction_of p.operator) same ∙ document in
     cc
 redirect_document {limit = limit} {b = b} {s = s} at is document (r.here_document {u = u} {r = f} {strip = strip} {w = w} h d l read k) =
-    let same : f ≡ at = some_one (sym h ∙ is) in
-    (
+    let same : f ≡ at = some_one (sym h ∙ is) in (
       u,
       w,
       record { strip = strip; quoted = is_quoted_word w; delimiter = delimiter_of b w; depth = s.spot.depth },
@@ -437,7 +436,7 @@ bare_command_ends {limit = limit} {b = b} {body = body} {s = s} e is plain so st
     let c = simple_is (ap begins_simple is) h in
     let w = elements_word is c.3 in
     let stop : sign_at b x (prior_of b sign.Plain (after b x 0 at)) (to (after b x 0 at) at) ≡ sign.Stop =
-      ap (λ i. sign_at b x (prior_of b sign.Plain i) (to i at)) so ∙ stops in
+    ap (λ i. sign_at b x (prior_of b sign.Plain i) (to i at)) so ∙ stops in
     let end : w.0 ≡ to e at = bare_word_ends plain stop w.3 ∙ ap (λ i. to (after b x (prior_of b sign.Plain i) (to i at)) at) so ∙ ap (λ i. to i at) there in
     let rest = subst (λ u. ReadsElements limit b body (named b First s.spot.at) (past b u (counted s)) c.0 w.2) end w.4 in
     c.2 ∙ ap (closing false) (elements_end none rest)

@@ -1,5 +1,5 @@
 -- Texts that no script reads: each reading of them goes one way, and there it fails.
-use Rattle.std.proofs.Common.{◌≡◌, ℕ, ◌+◌, ◌<◌, Bool, true, false, not, ◌||◌, List, [], ◌∷◌, Option, Some, None, length, refl, sym, ap, ◌∙◌, subst, arith}
+use Rattle.std.proofs.Common.{◌≡◌, ℕ, ◌<◌, false, not, ◌||◌, List, [], ◌∷◌, None, length, refl, sym, ap, ◌∙◌, subst, arith}
 use Rattle.std.proofs.lemmas.Bool.{true≢false}
 use Rattle.sh_tree.specs.declared.refusal.Form.TheVariants as form
 use Rattle.sh_tree.specs.declared.tree.Action.TheVariants as action
@@ -8,7 +8,7 @@ use Rattle.sh_tree.specs.declared.tree.Subject.TheVariants.{Name}
 use Rattle.sh_tree.specs.declared.token.command.Lead.TheVariants as lead
 use Rattle.sh_tree.specs.declared.token.command.Operator.TheVariants as op
 use Rattle.sh_tree.specs.declared.token.command.Reserved.TheVariants as reserved
-use Rattle.sh_tree.specs.declared.token.command.Stage.TheVariants.{First, Prefixed, Named}
+use Rattle.sh_tree.specs.declared.token.command.Stage.TheVariants.{Prefixed}
 use Rattle.sh_tree.specs.declared.token.word.Sign.TheVariants as sign
 use Rattle.sh_tree.specs.language.Commands.{is_bar, is_newline_lead, is_reserved, begins_pipeline, link_of, separator}
 use Rattle.sh_tree.specs.language.States.{Spot, State, Document, nth, past, pended, as_deep, closing}
@@ -103,8 +103,8 @@ inner_group limit body v c h =
     let a : f.0 ≡ at_token 5 3 2 = bare_command_ends 5 refl refl refl refl refl refl f.2 in
     let follows = f.3 (ap (λ s. is_bar (lead_here unclosed_text s)) a) (ap (λ s. link_of (lead_here unclosed_text s)) a) in
     let ended : inside.0 ≡ at_token 7 3 2 =
-      items_ended _ _ _ _ _ false (ap (λ s. separator (lead_here unclosed_text s)) a) (ap (λ s. is_newline_lead (lead_here unclosed_text (parted unclosed_text s))) a)
-      (ap (λ s. begins_pipeline (lead_here unclosed_text (parted unclosed_text s))) a) follows ∙ ap (parted unclosed_text) a in
+    items_ended _ _ _ _ _ false (ap (λ s. separator (lead_here unclosed_text s)) a) (ap (λ s. is_newline_lead (lead_here unclosed_text (parted unclosed_text s))) a)
+    (ap (λ s. begins_pipeline (lead_here unclosed_text (parted unclosed_text s))) a) follows ∙ ap (parted unclosed_text) a in
     let braces : g.0 ≡ at_token 9 3 1 = inside.2 ∙ ap (λ u. as_deep (at_token 2 2 1) (skip unclosed_text 1 u)) ended in
     let redirects = redirects_first refl (subst (λ s. ReadsRedirects limit unclosed_text body s g.1 g.3) braces g.6) in
     let file = redirect_file (record { number = None; operator = op.Greater; at = 9; end = 10 }) refl refl redirects.4 in

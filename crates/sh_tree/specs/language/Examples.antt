@@ -1,6 +1,6 @@
 -- Texts and their trees, and texts that nothing reads, against which the definitions are held.
 -- POSIX.1-2024, XCU 2.2 (quoting), 2.6 (word expansions), 2.7 (redirection), 2.9 (commands), 2.10 (shell grammar).
-use Rattle.std.specs.Prelude.{ℕ, Bool, true, false, List, [], ◌∷◌, ◌+◌, codes, Option, Some, None}
+use Rattle.std.specs.Prelude.{ℕ, true, false, List, [], ◌∷◌, ◌+◌, codes, Some, None}
 use Rattle.sh_tree.specs.declared.tree.Action.TheVariants as action
 use Rattle.sh_tree.specs.declared.tree.AndOr.{AndOr}
 use Rattle.sh_tree.specs.declared.tree.Binary.TheVariants as binary
@@ -22,7 +22,6 @@ use Rattle.sh_tree.specs.declared.tree.Part.TheVariants as part
 use Rattle.sh_tree.specs.declared.tree.Removal.TheVariants as removal
 use Rattle.sh_tree.specs.declared.tree.Script.{Script}
 use Rattle.sh_tree.specs.declared.tree.SingleStyle.TheVariants as single
-use Rattle.sh_tree.specs.declared.tree.Subject.{Subject}
 use Rattle.sh_tree.specs.declared.tree.Subject.TheVariants.{Name}
 use Rattle.sh_tree.specs.declared.tree.Target.TheVariants.{File, Here}
 use Rattle.sh_tree.specs.declared.tree.Word.{Word}
