@@ -215,7 +215,7 @@ some_breaks on (r.more_breaks {u = v} h q d k) = (v, q, d, k)
 pub document_ends : {limit : ℕ} {b : List ℕ} {ms : List Mark} {s v : State} (m : Mark) (ns : List Mark) → ms ≡ m ∷ ns → ReadsDocuments limit b ms s v
     → (l : Span) × (end_line m b s.spot.at ≡ Some l)
 document_ends m ns is r.no_body = cc
-document_ends {b = b} {s = s} m ns is (r.more_bodies {m = n} {l = l} e a h k d) = (l, ap (λ v. end_line v b s.spot.at) (first_mark (sym is)) ∙ e)
+document_ends {b = b} {s = s} m ns is (r.more_bodies {m = n} {l = l} e a c h k d) = (l, ap (λ v. end_line v b s.spot.at) (first_mark (sym is)) ∙ e)
   where
     first_mark : {m n : Mark} {ms ns : List Mark} → m ∷ ms ≡ n ∷ ns → m ≡ n
     first_mark {m = m} e = ap (head_or m) e

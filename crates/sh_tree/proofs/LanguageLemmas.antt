@@ -37,11 +37,11 @@ use Rattle.sh_tree.specs.language.Commands.{begins_command, is_bar, link_of}
 use Rattle.sh_tree.specs.language.Contexts.{in_word, in_unsplit, in_value, in_document_of}
 use Rattle.sh_tree.specs.language.HereDocuments.{Mark}
 use Rattle.sh_tree.specs.language.Trees.{span, word, redirect, here_doc, command, pipe, and_or, script, branch, clause}
-use Rattle.sh_tree.specs.language.Examples.{plain, bare, value, quoted_text, quoted_words, quoted_script, home_text, home_value, home_script, braced_text, default_part, length_part, removal_part, braced_words, braced_script, arithmetic_text, product, sum, arithmetic_part, arithmetic_script, substituted_text, inner_script, substituted_part, substituted_script, utility, lone, document_text, document_body, document_words, document_script, branch_text, branch_script, loop_text, loop_script, case_text, case_clauses, case_script, defined_text, defined_command, defined_list, defined_script, closed_text, closed_script, separated_text, separated_script, comment_text}
+use Rattle.sh_tree.specs.language.Examples.{plain, bare, value, quoted_text, quoted_words, quoted_script, home_text, home_value, home_script, braces_text, braces_elements, braces_script, braced_text, default_part, length_part, removal_part, braced_words, braced_script, arithmetic_text, product, sum, arithmetic_part, arithmetic_script, substituted_text, inner_script, substituted_part, substituted_script, utility, lone, document_text, document_body, document_words, document_script, branch_text, branch_script, loop_text, loop_script, case_text, case_clauses, case_script, defined_text, defined_command, defined_list, defined_script, closed_text, closed_script, separated_text, separated_script, comment_text}
 
 -- what a reading of a known text computes
 unfoldable pub computes : Unit {0}
-unfolding bytes.is_first bytes.name_length bytes.decimal bytes.longest bytes.joined_length words.tilde_length words.is_tilde words.special_of words.named words.single_parameter words.parenthesis words.numbered words.parameter words.misfit words.action_of words.removed words.used words.operated words.counted words.unnamed words.braced words.opened words.dollar words.stands words.plain_length words.continued words.backslash words.single words.sign_by words.sign_of words.token arithmetic.space_length arithmetic.constant_length arithmetic.named arithmetic.unknown arithmetic.figure_of arithmetic.lexeme_start arithmetic.lexeme arithmetic.binary_of arithmetic.unary_of arithmetic.assignment_of arithmetic.is_closed commands.gap_length commands.blank_length commands.blanks commands.operator_of commands.operator commands.is_split commands.direction_of commands.strip_of commands.redirects commands.bare_word commands.named commands.is_assignment commands.name_end commands.declares commands.is_location commands.opening commands.whole_operator commands.operator_lead commands.reserved_lead commands.is_definition commands.name_lead commands.first_lead commands.word_lead commands.other_lead commands.lead_of commands.lead_at commands.redirection commands.is_redirection commands.begins_simple commands.begins_compound commands.begins_command commands.begins_pipeline commands.clause_end_of commands.is_bare_name commands.separator commands.link_of documents.line_length documents.line_end documents.line_text documents.compared documents.end_line_within documents.end_line documents.has_joined_tab contexts.in_operand contexts.in_document_of contexts.in_stage parts.is_static parts.is_delimiter parts.delimiter_of parts.is_quotation parts.is_quoted_word parts.singles_in parts.singles parts.has_joined parts.keeps_lines states.nth states.waits r.is_empty r.is_some parts_text part_text
+unfolding bytes.is_first bytes.name_length bytes.decimal bytes.longest bytes.joined_length words.tilde_length words.is_tilde words.special_of words.named words.single_parameter words.parenthesis words.numbered words.parameter words.misfit words.action_of words.removed words.used words.operated words.counted words.unnamed words.braced words.opened words.dollar words.stands words.plain_length words.continued words.backslash words.single words.sign_by words.sign_of words.token arithmetic.space_length arithmetic.constant_length arithmetic.named arithmetic.unknown arithmetic.figure_of arithmetic.lexeme_start arithmetic.lexeme arithmetic.binary_of arithmetic.unary_of arithmetic.assignment_of arithmetic.is_closed commands.gap_length commands.blank_length commands.blanks commands.operator_of commands.operator commands.is_split commands.direction_of commands.strip_of commands.redirects commands.bare_word commands.named commands.is_assignment commands.name_end commands.declares commands.is_location commands.opening commands.whole_operator commands.operator_lead commands.reserved_lead commands.is_definition commands.name_lead commands.first_lead commands.word_lead commands.number_lead commands.other_lead commands.lead_of commands.lead_at commands.redirection commands.is_redirection commands.begins_simple commands.begins_compound commands.begins_command commands.begins_pipeline commands.clause_end_of commands.is_bare_name commands.separator commands.link_of documents.line_length documents.line_end documents.line_text documents.compared documents.end_line_within documents.end_line documents.has_joined_tab contexts.in_operand contexts.in_document_of contexts.in_stage parts.is_static parts.is_delimiter parts.delimiter_of parts.is_quotation parts.is_quoted_word parts.singles_in parts.singles parts.has_joined parts.keeps_lines parts.keeps_document states.nth states.waits r.is_empty r.is_some parts_text part_text
 computes = tt
 
 -- a text with this sequence is its script
@@ -91,6 +91,17 @@ home_reads =
     r.assigned_element refl value (r.word_element refl name (r.no_element refl)) in
     let list : ReadsAndOr 0 home_text no_bodies (at_token 0 0 0) (at_token 9 1 0) _ = alone_reads (r.simple_command refl elements) refl refl refl in
     whole home_text 0 (at_token 9 1 0) home_script refl (r.sequence (r.list (r.no_break refl) refl (r.last_item list refl refl))) refl refl
+
+pub braces_reads : Reads braces_text braces_script
+unfolding computes
+braces_reads =
+    let value : ReadsWord 0 braces_text (in_value 2) (at_word 2 1 0) (at_word 5 1 0) (bare 2 5) = r.whole_word (r.more refl r.plain (r.stop refl)) refl refl in
+    let target : ReadsWord 0 braces_text (in_unsplit 6) (at_word 6 1 0) (at_word 7 1 0) (bare 6 7) = r.whole_word (r.more refl r.plain (r.stop refl)) refl refl in
+    let output : ReadsRedirect 0 braces_text no_bodies (at_token 5 1 0) (at_token 7 1 0) (redirect 5 None (File direction.Write (bare 6 7))) = r.file refl refl refl target in
+    let elements : ReadsElements 0 braces_text no_bodies First (at_token 0 1 0) (at_token 7 1 0) braces_elements =
+    r.assigned_element refl value (r.redirect_element refl output (r.no_element refl)) in
+    let list : ReadsAndOr 0 braces_text no_bodies (at_token 0 0 0) (at_token 7 1 0) _ = alone_reads (r.simple_command refl elements) refl refl refl in
+    whole braces_text 0 (at_token 7 1 0) braces_script refl (r.sequence (r.list (r.no_break refl) refl (r.last_item list refl refl))) refl refl
 
 pub braced_reads : Reads braced_text braced_script
 unfolding computes
@@ -198,7 +209,7 @@ document_reads =
     r.simple_command refl (r.word_element refl (r.whole_word (r.more refl r.plain (r.stop refl)) refl refl) (r.no_element refl)) in
     let body : ReadsParts 0 (take 15 document_text) (in_document_of the_mark) 10 (record (at_word 11 2 0) { body = true }) (record (at_word 15 2 0) { body = true }) document_body.parts =
     r.more refl r.plain (r.more refl r.value (r.more refl r.plain (r.stop refl))) in
-    let bodies : ReadsDocuments 0 document_text (the_mark ∷ []) (at_token 11 2 0) (behind_body 17 2) = r.more_bodies refl refl body refl r.no_body in
+    let bodies : ReadsDocuments 0 document_text (the_mark ∷ []) (at_token 11 2 0) (behind_body 17 2) = r.more_bodies refl refl refl body refl r.no_body in
     let line : ReadsBreaks 0 document_text (waiting 10 2) (behind_body 17 2) = r.more_breaks refl refl bodies (r.no_break refl) in
     whole document_text 0 (behind_body 17 2) document_script refl
     (r.sequence (r.list (r.no_break refl) refl

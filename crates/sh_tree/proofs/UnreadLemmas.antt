@@ -14,7 +14,7 @@ use Rattle.sh_tree.specs.language.Commands.{is_bar, is_newline_lead, is_reserved
 use Rattle.sh_tree.specs.language.States.{Spot, State, Document, nth, past, pended, as_deep, closing}
 use Rattle.sh_tree.specs.language.Trees.{span}
 use Rattle.sh_tree.specs.language.Reading.{ReadsElements, ReadsCommand, ReadsRedirects, ReadsBreaks, lead_here, parted, skip, is_empty, is_some}
-use Rattle.sh_tree.specs.language.Examples.{IsUnread, open_quote_text, open_braced_text, split_name_text, no_expression_text, lone_bar_text, clause_end_text, open_document_text, unclosed_text}
+use Rattle.sh_tree.specs.language.Examples.{IsUnread, open_quote_text, open_braced_text, split_name_text, no_expression_text, lone_bar_text, split_operator_text, clause_end_text, open_document_text, unclosed_text}
 use Rattle.sh_tree.proofs.Inversions.{apart, first_part, behind_plain, nothing_at, word_parts, expression_begins, begins_operand, script_is, opening_word, no_sequence, sequence_items, list_items, items_first, items_end, items_ended, items_parted, simple_is, compound_is, group_is, elements_end, redirects_end, redirects_first, redirect_file, redirect_document, elements_redirect, bare_word_ends, bare_command_ends, some_breaks, document_ends}
 use Rattle.sh_tree.proofs.LanguageLemmas.{computes, at_word, at_token}
 
@@ -58,6 +58,13 @@ lone_bar_unread t h =
     let q = script_is h.2.script in
     let below : 0 < 3 = omega arith in
     ends_before lone_bar_text h.2.end q.0 (at_token 0 0 0) q.1 (no_sequence refl refl q.3) h.2.to_end below
+
+pub split_operator_unread : IsUnread split_operator_text
+unfolding computes
+split_operator_unread t h =
+    let q = script_is h.2.script in
+    let below : 0 < 7 = omega arith in
+    ends_before split_operator_text h.2.end q.0 (at_token 0 0 0) q.1 (no_sequence refl refl q.3) h.2.to_end below
 
 pub clause_end_unread : IsUnread clause_end_text
 unfolding computes

@@ -80,6 +80,16 @@ home_value = word 2 7 (part.Tilde (span 2 3) ∷ plain 3 6 ∷ part.Tilde (span 
 abbrev pub home_script : Script
 home_script = lone (simple 1 0 (element.Assignment (span 0 1) home_value ∷ element.Word (bare 8 9) ∷ []))
 
+-- braces in a value before a redirection are no IO location
+abbrev pub braces_text : List ℕ
+braces_text = codes "a={b}>f"
+
+abbrev pub braces_elements : List Element
+braces_elements = element.Assignment (span 0 1) (bare 2 5) ∷ element.Redirection (redirect 5 None (File direction.Write (bare 6 7))) ∷ []
+
+abbrev pub braces_script : Script
+braces_script = lone (simple 1 0 braces_elements)
+
 -- braced expansions; a pattern is read as outside quotes
 abbrev pub braced_text : List ℕ
 braced_text = codes "echo ${x:-\"y\"} ${#x} \"${x%?}\""
@@ -219,6 +229,10 @@ split_name_text = codes "\"$a\\\nb\""
 abbrev pub no_expression_text : List ℕ
 no_expression_text = codes "$(())"
 
+-- a line continuation in an operator, behind an IO number
+abbrev pub split_operator_text : List ℕ
+split_operator_text = codes "2<<\\\n-E"
+
 -- an operator without a command before it
 abbrev pub lone_bar_text : List ℕ
 lone_bar_text = codes "| a"
@@ -239,6 +253,7 @@ unclosed_text = codes "{ { a; } >f }"
 pub record LanguageRead : Type 0 where
   pub quoted : Reads quoted_text quoted_script
   pub home : Reads home_text home_script
+  pub braces : Reads braces_text braces_script
   pub braced : Reads braced_text braced_script
   pub arithmetic : Reads arithmetic_text arithmetic_script
   pub substituted : Reads substituted_text substituted_script
@@ -255,6 +270,7 @@ pub record LanguageRead : Type 0 where
   pub open_braced : IsUnread open_braced_text
   pub split_name : IsUnread split_name_text
   pub no_expression : IsUnread no_expression_text
+  pub split_operator : IsUnread split_operator_text
   pub lone_bar : IsUnread lone_bar_text
   pub clause_end : IsUnread clause_end_text
   pub open_document : IsUnread open_document_text
