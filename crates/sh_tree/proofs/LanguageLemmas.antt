@@ -1,5 +1,5 @@
 -- The readings of texts, by the productions.
-use Rattle.std.proofs.Common.{◌≡◌, ℕ, ◌+◌, ◌<◌, Bool, true, false, List, [], ◌∷◌, Option, Some, None, length, take, codes, refl, arith}
+use Rattle.std.proofs.Common.{◌≡◌, ℕ, ◌+◌, ◌<◌, true, false, List, [], ◌∷◌, Some, None, length, take, codes, refl, arith}
 use Rattle.sh_tree.specs.declared.tree.Script.{Script}
 use Rattle.sh_tree.specs.language.Bytes as bytes
 use Rattle.sh_tree.specs.language.Words as words
@@ -14,7 +14,7 @@ use Rattle.sh_tree.specs.language.States.{Spot, State, Document, within, nth, wa
 use Rattle.sh_tree.specs.language.Reading as r
 use Rattle.sh_tree.specs.language.Reading.{ReadsParts, ReadsExpression, ReadsLevel, ReadsWord, ReadsRedirect, ReadsRedirects, ReadsDocuments, ReadsBreaks, ReadsElements, ReadsCommand, ReadsCompound, ReadsBranches, ReadsForWords, ReadsClauses, ReadsPatterns, ReadsCommands, ReadsAndOr, ReadsLinks, ReadsList, ReadsSequence, ReadsScript, Reads, HasNoNul, start, lead_here, figure_at}
 use Rattle.sh_tree.specs.declared.token.word.Context.{Context}
-use Rattle.sh_tree.specs.declared.token.command.Stage.TheVariants.{First, Prefixed, Named}
+use Rattle.sh_tree.specs.declared.token.command.Stage.TheVariants.{First}
 use Rattle.sh_tree.specs.declared.tree.Action.TheVariants as action
 use Rattle.sh_tree.specs.declared.tree.Binary.TheVariants as binary
 use Rattle.sh_tree.specs.declared.tree.Command.{Command}
@@ -37,11 +37,11 @@ use Rattle.sh_tree.specs.language.Commands.{begins_command, is_bar, link_of}
 use Rattle.sh_tree.specs.language.Contexts.{in_word, in_unsplit, in_value, in_document_of}
 use Rattle.sh_tree.specs.language.HereDocuments.{Mark}
 use Rattle.sh_tree.specs.language.Trees.{span, word, redirect, here_doc, command, pipe, and_or, script, branch, clause}
-use Rattle.sh_tree.specs.language.Examples.{plain, bare, value, quoted_text, quoted_words, quoted_script, home_text, home_value, home_script, braced_text, default_part, length_part, removal_part, braced_words, braced_script, arithmetic_text, product, sum, arithmetic_part, arithmetic_script, substituted_text, inner_script, substituted_part, substituted_script, utility, lone, document_text, document_body, document_words, document_script, branch_text, branch_script, loop_text, loop_script, case_text, case_clauses, case_script, defined_text, defined_command, defined_list, defined_script, closed_text, closed_script, separated_text, separated_script, comment_text}
+use Rattle.sh_tree.specs.language.Examples.{plain, bare, value, quoted_text, quoted_words, quoted_script, home_text, home_value, home_script, braces_text, braces_elements, braces_script, braced_text, default_part, length_part, removal_part, braced_words, braced_script, arithmetic_text, product, sum, arithmetic_part, arithmetic_script, substituted_text, inner_script, substituted_part, substituted_script, utility, lone, document_text, document_body, document_words, document_script, branch_text, branch_script, loop_text, loop_script, case_text, case_clauses, case_script, defined_text, defined_command, defined_list, defined_script, closed_text, closed_script, separated_text, separated_script, comment_text}
 
 -- what a reading of a known text computes
-pub computes : Unit {0}
-unfolding bytes.is_first bytes.name_length bytes.decimal bytes.longest bytes.joined_length words.tilde_length words.is_tilde words.special_of words.named words.single_parameter words.parenthesis words.numbered words.parameter words.misfit words.action_of words.removed words.used words.operated words.counted words.unnamed words.braced words.opened words.dollar words.stands words.plain_length words.continued words.backslash words.single words.sign_by words.sign_of words.token arithmetic.space_length arithmetic.constant_length arithmetic.named arithmetic.unknown arithmetic.figure_of arithmetic.lexeme_start arithmetic.lexeme arithmetic.binary_of arithmetic.unary_of arithmetic.assignment_of arithmetic.is_closed commands.gap_length commands.blank_length commands.blanks commands.operator_of commands.operator commands.is_split commands.direction_of commands.strip_of commands.redirects commands.bare_word commands.named commands.is_assignment commands.name_end commands.declares commands.is_location commands.opening commands.whole_operator commands.operator_lead commands.reserved_lead commands.is_definition commands.name_lead commands.first_lead commands.word_lead commands.other_lead commands.lead_of commands.lead_at commands.redirection commands.is_redirection commands.begins_simple commands.begins_compound commands.begins_command commands.begins_pipeline commands.clause_end_of commands.is_bare_name commands.separator commands.link_of documents.line_length documents.line_end documents.line_text documents.compared documents.end_line_within documents.end_line documents.has_joined_tab contexts.in_operand contexts.in_document_of contexts.in_stage parts.is_static parts.is_delimiter parts.delimiter_of parts.is_quotation parts.is_quoted_word parts.singles_in parts.singles parts.has_joined parts.keeps_lines states.nth states.waits r.is_empty r.is_some parts_text part_text
+unfoldable pub computes : Unit {0}
+unfolding bytes.is_first bytes.name_length bytes.decimal bytes.longest bytes.joined_length words.tilde_length words.is_tilde words.special_of words.named words.single_parameter words.parenthesis words.numbered words.parameter words.misfit words.action_of words.removed words.used words.operated words.counted words.unnamed words.braced words.opened words.dollar words.stands words.plain_length words.continued words.backslash words.single words.sign_by words.sign_of words.token arithmetic.space_length arithmetic.constant_length arithmetic.named arithmetic.unknown arithmetic.figure_of arithmetic.lexeme_start arithmetic.lexeme arithmetic.binary_of arithmetic.unary_of arithmetic.assignment_of arithmetic.is_closed commands.gap_length commands.blank_length commands.blanks commands.operator_of commands.operator commands.is_split commands.direction_of commands.strip_of commands.redirects commands.bare_word commands.named commands.is_assignment commands.name_end commands.declares commands.is_location commands.opening commands.whole_operator commands.operator_lead commands.reserved_lead commands.is_definition commands.name_lead commands.first_lead commands.word_lead commands.number_lead commands.other_lead commands.lead_of commands.lead_at commands.redirection commands.is_redirection commands.begins_simple commands.begins_compound commands.begins_command commands.begins_pipeline commands.clause_end_of commands.is_bare_name commands.separator commands.link_of documents.line_length documents.line_end documents.line_text documents.compared documents.end_line_within documents.end_line documents.has_joined_tab contexts.in_operand contexts.in_document_of contexts.in_stage parts.is_static parts.is_delimiter parts.delimiter_of parts.is_quotation parts.is_quoted_word parts.singles_in parts.singles parts.has_joined parts.keeps_lines parts.keeps_document states.nth states.waits r.is_empty r.is_some parts_text part_text
 computes = tt
 
 -- a text with this sequence is its script
@@ -50,10 +50,10 @@ whole : (b : List ℕ) (limit : ℕ) (u : State) (t : Script) → HasNoNul b →
 whole b limit u t n h w e = (limit, u.spot.count, record { no_nul = n; end = u.spot; script = r.script h w; to_end = e; commands = refl })
 
 -- in words and among commands of so many commands and levels, with nothing waiting; behind a compound command too
-abbrev at_word : ℕ → ℕ → ℕ → Spot
+abbrev pub at_word : ℕ → ℕ → ℕ → Spot
 at_word i count depth = record { at = i; count = count; depth = depth; quiet = false; body = false }
 
-abbrev at_token : ℕ → ℕ → ℕ → State
+abbrev pub at_token : ℕ → ℕ → ℕ → State
 at_token i count depth = record { spot = at_word i count depth; closed = false; pending = []; bodies = [] }
 
 abbrev at_close : ℕ → ℕ → ℕ → State
@@ -73,11 +73,11 @@ quoted_reads =
     let echo : ReadsWord 0 quoted_text (in_word 0) (at_word 0 1 0) (at_word 4 1 0) (bare 0 4) = r.whole_word (r.more refl r.plain (r.stop refl)) refl refl in
     let value_parts : ReadsParts 0 quoted_text (in_double (in_word 5)) 0 (at_word 6 1 0) (at_word 9 1 0) (value 6 8 ∷ []) = r.more refl r.value (r.stop refl) in
     let value : ReadsWord 0 quoted_text (in_word 5) (at_word 5 1 0) (at_word 9 1 0) (word 5 9 (part.Double (span 5 9) (value 6 8 ∷ []) ∷ [])) =
-      r.whole_word (r.more refl (r.double_quoted value_parts) (r.stop refl)) refl refl in
+    r.whole_word (r.more refl (r.double_quoted value_parts) (r.stop refl)) refl refl in
     let kept : ReadsWord 0 quoted_text (in_word 10) (at_word 10 1 0) (at_word 15 1 0) (word 10 15 (part.Single single.Plain (span 10 13) ∷ part.Escaped (span 13 15) ∷ [])) =
-      r.whole_word (r.more refl r.single_quoted (r.more refl r.escaped (r.stop refl))) refl refl in
+    r.whole_word (r.more refl r.single_quoted (r.more refl r.escaped (r.stop refl))) refl refl in
     let elements : ReadsElements 0 quoted_text no_bodies First (at_token 0 1 0) (at_token 15 1 0) quoted_words =
-      r.word_element refl echo (r.word_element refl value (r.word_element refl kept (r.no_element refl))) in
+    r.word_element refl echo (r.word_element refl value (r.word_element refl kept (r.no_element refl))) in
     let list : ReadsAndOr 0 quoted_text no_bodies (at_token 0 0 0) (at_token 15 1 0) _ = alone_reads (r.simple_command refl elements) refl refl refl in
     whole quoted_text 0 (at_token 15 1 0) quoted_script refl (r.sequence (r.list (r.no_break refl) refl (r.last_item list refl refl))) refl refl
 
@@ -85,12 +85,23 @@ pub home_reads : Reads home_text home_script
 unfolding computes
 home_reads =
     let value : ReadsWord 0 home_text (in_value 2) (at_word 2 1 0) (at_word 7 1 0) home_value =
-      r.whole_word (r.more refl r.tilde (r.more refl r.plain (r.more refl r.tilde (r.stop refl)))) refl refl in
+    r.whole_word (r.more refl r.tilde (r.more refl r.plain (r.more refl r.tilde (r.stop refl)))) refl refl in
     let name : ReadsWord 0 home_text (in_word 8) (at_word 8 1 0) (at_word 9 1 0) (bare 8 9) = r.whole_word (r.more refl r.plain (r.stop refl)) refl refl in
     let elements : ReadsElements 0 home_text no_bodies First (at_token 0 1 0) (at_token 9 1 0) (element.Assignment (span 0 1) home_value ∷ element.Word (bare 8 9) ∷ []) =
-      r.assigned_element refl value (r.word_element refl name (r.no_element refl)) in
+    r.assigned_element refl value (r.word_element refl name (r.no_element refl)) in
     let list : ReadsAndOr 0 home_text no_bodies (at_token 0 0 0) (at_token 9 1 0) _ = alone_reads (r.simple_command refl elements) refl refl refl in
     whole home_text 0 (at_token 9 1 0) home_script refl (r.sequence (r.list (r.no_break refl) refl (r.last_item list refl refl))) refl refl
+
+pub braces_reads : Reads braces_text braces_script
+unfolding computes
+braces_reads =
+    let value : ReadsWord 0 braces_text (in_value 2) (at_word 2 1 0) (at_word 5 1 0) (bare 2 5) = r.whole_word (r.more refl r.plain (r.stop refl)) refl refl in
+    let target : ReadsWord 0 braces_text (in_unsplit 6) (at_word 6 1 0) (at_word 7 1 0) (bare 6 7) = r.whole_word (r.more refl r.plain (r.stop refl)) refl refl in
+    let output : ReadsRedirect 0 braces_text no_bodies (at_token 5 1 0) (at_token 7 1 0) (redirect 5 None (File direction.Write (bare 6 7))) = r.file refl refl refl target in
+    let elements : ReadsElements 0 braces_text no_bodies First (at_token 0 1 0) (at_token 7 1 0) braces_elements =
+    r.assigned_element refl value (r.redirect_element refl output (r.no_element refl)) in
+    let list : ReadsAndOr 0 braces_text no_bodies (at_token 0 0 0) (at_token 7 1 0) _ = alone_reads (r.simple_command refl elements) refl refl refl in
+    whole braces_text 0 (at_token 7 1 0) braces_script refl (r.sequence (r.list (r.no_break refl) refl (r.last_item list refl refl))) refl refl
 
 pub braced_reads : Reads braced_text braced_script
 unfolding computes
@@ -99,17 +110,17 @@ braced_reads =
     let echo : ReadsWord 1 braced_text (in_word 0) (at_word 0 1 0) (at_word 4 1 0) (bare 0 4) = r.whole_word (r.more refl r.plain (r.stop refl)) refl refl in
     let quoted : ReadsParts 1 braced_text (in_double (in_use (in_word 5) action.Default 10)) 0 (at_word 11 1 1) (at_word 13 1 1) (plain 11 12 ∷ []) = r.more refl r.plain (r.stop refl) in
     let default : ReadsParts 1 braced_text (in_use (in_word 5) action.Default 10) 0 (at_word 10 1 1) (at_word 14 1 1) (part.Double (span 10 13) (plain 11 12 ∷ []) ∷ []) =
-      r.more refl (r.double_quoted quoted) (r.stop refl) in
+    r.more refl (r.double_quoted quoted) (r.stop refl) in
     let used : ReadsWord 1 braced_text (in_word 5) (at_word 5 1 0) (at_word 14 1 0) (word 5 14 (default_part ∷ [])) =
-      r.whole_word (r.more refl (r.use_word below default) (r.stop refl)) refl refl in
+    r.whole_word (r.more refl (r.use_word below default) (r.stop refl)) refl refl in
     let counted : ReadsWord 1 braced_text (in_word 15) (at_word 15 1 0) (at_word 20 1 0) (word 15 20 (length_part ∷ [])) =
-      r.whole_word (r.more refl r.length_value (r.stop refl)) refl refl in
+    r.whole_word (r.more refl r.length_value (r.stop refl)) refl refl in
     let pattern : ReadsParts 1 braced_text (in_removal (in_double (in_word 21)) 26) 0 (at_word 26 1 1) (at_word 28 1 1) (plain 26 27 ∷ []) = r.more refl r.plain (r.stop refl) in
     let removed : ReadsParts 1 braced_text (in_double (in_word 21)) 0 (at_word 22 1 0) (at_word 29 1 0) (removal_part ∷ []) = r.more refl (r.removal below pattern) (r.stop refl) in
     let last : ReadsWord 1 braced_text (in_word 21) (at_word 21 1 0) (at_word 29 1 0) (word 21 29 (part.Double (span 21 29) (removal_part ∷ []) ∷ [])) =
-      r.whole_word (r.more refl (r.double_quoted removed) (r.stop refl)) refl refl in
+    r.whole_word (r.more refl (r.double_quoted removed) (r.stop refl)) refl refl in
     let elements : ReadsElements 1 braced_text no_bodies First (at_token 0 1 0) (at_token 29 1 0) braced_words =
-      r.word_element refl echo (r.word_element refl used (r.word_element refl counted (r.word_element refl last (r.no_element refl)))) in
+    r.word_element refl echo (r.word_element refl used (r.word_element refl counted (r.word_element refl last (r.no_element refl)))) in
     let list : ReadsAndOr 1 braced_text no_bodies (at_token 0 0 0) (at_token 29 1 0) _ = alone_reads (r.simple_command refl elements) refl refl refl in
     whole braced_text 1 (at_token 29 1 0) braced_script refl (r.sequence (r.list (r.no_break refl) refl (r.last_item list refl refl))) refl refl
 
@@ -126,23 +137,23 @@ arithmetic_reads =
     let three : ReadsLevel 2 arithmetic_text (in_arithmetic (in_word 5)) 10 (at_word 14 1 2) (at_word 15 1 2) (expr.Constant (span 14 15)) = r.operand refl refl r.constant in
     let two : ReadsLevel 2 arithmetic_text (in_arithmetic (in_word 5)) 10 (at_word 12 1 2) (at_word 13 1 2) (expr.Constant (span 12 13)) = r.operand refl refl r.constant in
     let one : ReadsLevel 2 arithmetic_text (in_arithmetic (in_word 5)) 9 (at_word 10 1 2) (at_word 11 1 2) (expr.Constant (span 10 11)) =
-      level_through (omega arith) (r.operand refl refl r.constant) refl in
+    level_through (omega arith) (r.operand refl refl r.constant) refl in
     let times : ReadsLevel 2 arithmetic_text (in_arithmetic (in_word 5)) 9 (at_word 12 1 2) (at_word 15 1 2) product =
-      r.chain {e = expr.Constant (span 12 13)} {es = (binary.Multiply, expr.Constant (span 14 15)) ∷ []} (omega arith) two (r.more_operands refl three (r.no_operand refl)) in
+    r.chain {e = expr.Constant (span 12 13)} {es = (binary.Multiply, expr.Constant (span 14 15)) ∷ []} (omega arith) two (r.more_operands refl three (r.no_operand refl)) in
     let plus : ReadsLevel 2 arithmetic_text (in_arithmetic (in_word 5)) 8 (at_word 10 1 2) (at_word 15 1 2) sum =
-      r.chain {e = expr.Constant (span 10 11)} {es = (binary.Add, product) ∷ []} (omega arith) one (r.more_operands refl times (r.no_operand refl)) in
+    r.chain {e = expr.Constant (span 10 11)} {es = (binary.Add, product) ∷ []} (omega arith) one (r.more_operands refl times (r.no_operand refl)) in
     let fourth : ReadsLevel 2 arithmetic_text (in_arithmetic (in_word 5)) 4 (at_word 10 1 2) (at_word 15 1 2) sum =
-      level_through (omega arith) (level_through (omega arith) (level_through (omega arith) (level_through (omega arith) plus refl) refl) refl) refl in
+    level_through (omega arith) (level_through (omega arith) (level_through (omega arith) (level_through (omega arith) plus refl) refl) refl) refl in
     let loosest : ReadsLevel 2 arithmetic_text (in_arithmetic (in_word 5)) 0 (at_word 10 1 2) (at_word 15 1 2) sum =
-      level_through (omega arith) (level_through (omega arith) (level_through (omega arith) (level_through (omega arith) fourth refl) refl) refl) refl in
+    level_through (omega arith) (level_through (omega arith) (level_through (omega arith) (level_through (omega arith) fourth refl) refl) refl) refl in
     let right : ReadsExpression 2 arithmetic_text (in_arithmetic (in_word 5)) (at_word 10 1 2) (at_word 15 1 2) sum = r.no_assignment refl (r.one_level loosest refl) in
     let assigned : ReadsExpression 2 arithmetic_text (in_arithmetic (in_word 5)) (at_word 8 1 1) (at_word 15 1 1) (expr.Assign (span 8 9) None sum) =
-      r.assignment refl refl (omega arith) right in
+    r.assignment refl refl (omega arith) right in
     let echo : ReadsWord 2 arithmetic_text (in_word 0) (at_word 0 1 0) (at_word 4 1 0) (bare 0 4) = r.whole_word (r.more refl r.plain (r.stop refl)) refl refl in
     let whole_expansion : ReadsWord 2 arithmetic_text (in_word 5) (at_word 5 1 0) (at_word 17 1 0) (word 5 17 (arithmetic_part ∷ [])) =
-      r.whole_word (r.more refl (r.arithmetic (omega arith) assigned refl refl) (r.stop refl)) refl refl in
+    r.whole_word (r.more refl (r.arithmetic (omega arith) assigned refl refl) (r.stop refl)) refl refl in
     let elements : ReadsElements 2 arithmetic_text no_bodies First (at_token 0 1 0) (at_token 17 1 0) (element.Word (bare 0 4) ∷ element.Word (word 5 17 (arithmetic_part ∷ [])) ∷ []) =
-      r.word_element refl echo (r.word_element refl whole_expansion (r.no_element refl)) in
+    r.word_element refl echo (r.word_element refl whole_expansion (r.no_element refl)) in
     let list : ReadsAndOr 2 arithmetic_text no_bodies (at_token 0 0 0) (at_token 17 1 0) _ = alone_reads (r.simple_command refl elements) refl refl refl in
     whole arithmetic_text 2 (at_token 17 1 0) arithmetic_script refl (r.sequence (r.list (r.no_break refl) refl (r.last_item list refl refl))) refl refl
 
@@ -152,17 +163,17 @@ substituted_reads =
     let inner_echo : ReadsWord 1 substituted_text (in_word 8) (at_word 8 2 1) (at_word 12 2 1) (bare 8 12) = r.whole_word (r.more refl r.plain (r.stop refl)) refl refl in
     let operand : ReadsWord 1 substituted_text (in_word 13) (at_word 13 2 1) (at_word 14 2 1) (bare 13 14) = r.whole_word (r.more refl r.plain (r.stop refl)) refl refl in
     let inner_elements : ReadsElements 1 substituted_text no_bodies First (at_token 8 2 1) (at_token 14 2 1) (element.Word (bare 8 12) ∷ element.Word (bare 13 14) ∷ []) =
-      r.word_element refl inner_echo (r.word_element refl operand (r.no_element refl)) in
+    r.word_element refl inner_echo (r.word_element refl operand (r.no_element refl)) in
     let inner_list : ReadsAndOr 1 substituted_text no_bodies (at_token 8 1 1) (at_token 14 2 1) _ = alone_reads (r.simple_command refl inner_elements) refl refl refl in
     let inner : ReadsScript 1 substituted_text (at_word 8 1 1) (at_word 14 2 1) inner_script =
-      r.script {u = at_token 14 2 1} (r.sequence (r.list (r.no_break refl) refl (r.last_item inner_list refl refl))) refl in
+    r.script {u = at_token 14 2 1} (r.sequence (r.list (r.no_break refl) refl (r.last_item inner_list refl refl))) refl in
     let echo : ReadsWord 1 substituted_text (in_word 0) (at_word 0 1 0) (at_word 4 1 0) (bare 0 4) = r.whole_word (r.more refl r.plain (r.stop refl)) refl refl in
     let between : ReadsParts 1 substituted_text (in_double (in_word 5)) 0 (at_word 6 1 0) (at_word 16 2 0) (part.Command Paren (span 6 15) inner_script ∷ []) =
-      r.more refl (r.substitution (omega arith) inner refl) (r.stop refl) in
+    r.more refl (r.substitution (omega arith) inner refl) (r.stop refl) in
     let quotes : ReadsWord 1 substituted_text (in_word 5) (at_word 5 1 0) (at_word 16 2 0) (word 5 16 (substituted_part ∷ [])) =
-      r.whole_word (r.more refl (r.double_quoted between) (r.stop refl)) refl refl in
+    r.whole_word (r.more refl (r.double_quoted between) (r.stop refl)) refl refl in
     let elements : ReadsElements 1 substituted_text no_bodies First (at_token 0 1 0) (at_token 16 2 0) (element.Word (bare 0 4) ∷ element.Word (word 5 16 (substituted_part ∷ [])) ∷ []) =
-      r.word_element refl echo (r.word_element refl quotes (r.no_element refl)) in
+    r.word_element refl echo (r.word_element refl quotes (r.no_element refl)) in
     let list : ReadsAndOr 1 substituted_text no_bodies (at_token 0 0 0) (at_token 16 2 0) _ = alone_reads (r.simple_command refl elements) refl refl refl in
     whole substituted_text 1 (at_token 16 2 0) substituted_script refl (r.sequence (r.list (r.no_break refl) refl (r.last_item list refl refl))) refl refl
 
@@ -190,19 +201,19 @@ document_reads =
     let cat : ReadsWord 0 document_text (in_word 0) (at_word 0 1 0) (at_word 3 1 0) (bare 0 3) = r.whole_word (r.more refl r.plain (r.stop refl)) refl refl in
     let delimiter : ReadsWord 0 document_text (in_unsplit 6) (at_word 6 1 0) (at_word 7 1 0) (bare 6 7) = r.whole_word (r.more refl r.plain (r.stop refl)) refl refl in
     let operator : ReadsRedirect 0 document_text the_bodies (at_token 4 1 0) (waiting 7 1) (redirect 4 None (Here (here_doc false (bare 6 7) document_body (span 15 16)))) =
-      r.here_document refl refl refl delimiter refl in
+    r.here_document refl refl refl delimiter refl in
     let elements : ReadsElements 0 document_text the_bodies First (at_token 0 1 0) (waiting 7 1) document_words =
-      r.word_element refl cat (r.redirect_element refl operator (r.no_element refl)) in
+    r.word_element refl cat (r.redirect_element refl operator (r.no_element refl)) in
     let first : ReadsAndOr 0 document_text the_bodies (at_token 0 0 0) (waiting 7 1) _ = alone_reads (r.simple_command refl elements) refl refl refl in
     let second : ReadsCommand 0 document_text the_bodies (waiting 9 1) (waiting 10 2) (utility 2 9 10) =
-      r.simple_command refl (r.word_element refl (r.whole_word (r.more refl r.plain (r.stop refl)) refl refl) (r.no_element refl)) in
+    r.simple_command refl (r.word_element refl (r.whole_word (r.more refl r.plain (r.stop refl)) refl refl) (r.no_element refl)) in
     let body : ReadsParts 0 (take 15 document_text) (in_document_of the_mark) 10 (record (at_word 11 2 0) { body = true }) (record (at_word 15 2 0) { body = true }) document_body.parts =
-      r.more refl r.plain (r.more refl r.value (r.more refl r.plain (r.stop refl))) in
-    let bodies : ReadsDocuments 0 document_text (the_mark ∷ []) (at_token 11 2 0) (behind_body 17 2) = r.more_bodies refl refl body refl r.no_body in
+    r.more refl r.plain (r.more refl r.value (r.more refl r.plain (r.stop refl))) in
+    let bodies : ReadsDocuments 0 document_text (the_mark ∷ []) (at_token 11 2 0) (behind_body 17 2) = r.more_bodies refl refl refl body refl r.no_body in
     let line : ReadsBreaks 0 document_text (waiting 10 2) (behind_body 17 2) = r.more_breaks refl refl bodies (r.no_break refl) in
     whole document_text 0 (behind_body 17 2) document_script refl
     (r.sequence (r.list (r.no_break refl) refl
-      (r.more_items first refl (r.no_break refl) refl (r.ended_item (alone_reads second refl refl refl) refl line refl))))
+    (r.more_items first refl (r.no_break refl) refl (r.ended_item (alone_reads second refl refl refl) refl line refl))))
     refl refl
 
 -- Compound commands
@@ -211,19 +222,19 @@ pub branch_reads : Reads branch_text branch_script
 unfolding computes
 branch_reads =
     let a : ReadsCommand 1 branch_text no_bodies (at_token 3 1 1) (at_token 4 2 1) (utility 2 3 4) =
-      r.simple_command refl (r.word_element refl (r.whole_word (r.more refl r.plain (r.stop refl)) refl refl) (r.no_element refl)) in
+    r.simple_command refl (r.word_element refl (r.whole_word (r.more refl r.plain (r.stop refl)) refl refl) (r.no_element refl)) in
     let condition : ReadsList 1 branch_text no_bodies (at_token 3 1 1) (at_token 6 2 1) (lone (utility 2 3 4)) =
-      r.list (r.no_break refl) refl (r.ended_item (alone_reads a refl refl refl) refl (r.no_break refl) refl) in
+    r.list (r.no_break refl) refl (r.ended_item (alone_reads a refl refl refl) refl (r.no_break refl) refl) in
     let b : ReadsCommand 1 branch_text no_bodies (at_token 11 2 1) (at_token 12 3 1) (utility 3 11 12) =
-      r.simple_command refl (r.word_element refl (r.whole_word (r.more refl r.plain (r.stop refl)) refl refl) (r.no_element refl)) in
+    r.simple_command refl (r.word_element refl (r.whole_word (r.more refl r.plain (r.stop refl)) refl refl) (r.no_element refl)) in
     let body : ReadsList 1 branch_text no_bodies (at_token 11 2 1) (at_token 14 3 1) (lone (utility 3 11 12)) =
-      r.list (r.no_break refl) refl (r.ended_item (alone_reads b refl refl refl) refl (r.no_break refl) refl) in
+    r.list (r.no_break refl) refl (r.ended_item (alone_reads b refl refl refl) refl (r.no_break refl) refl) in
     let c : ReadsCommand 1 branch_text no_bodies (at_token 19 3 1) (at_token 20 4 1) (utility 4 19 20) =
-      r.simple_command refl (r.word_element refl (r.whole_word (r.more refl r.plain (r.stop refl)) refl refl) (r.no_element refl)) in
+    r.simple_command refl (r.word_element refl (r.whole_word (r.more refl r.plain (r.stop refl)) refl refl) (r.no_element refl)) in
     let otherwise : ReadsList 1 branch_text no_bodies (at_token 19 3 1) (at_token 22 4 1) (lone (utility 4 19 20)) =
-      r.list (r.no_break refl) refl (r.ended_item (alone_reads c refl refl refl) refl (r.no_break refl) refl) in
+    r.list (r.no_break refl) refl (r.ended_item (alone_reads c refl refl refl) refl (r.no_break refl) refl) in
     let branches : ReadsBranches 1 branch_text no_bodies (at_token 3 1 1) (at_token 24 4 1) (branch (lone (utility 2 3 4)) (lone (utility 3 11 12)) ∷ []) (Some (lone (utility 4 19 20))) =
-      r.branch condition refl body (r.otherwise refl otherwise refl) in
+    r.branch condition refl body (r.otherwise refl otherwise refl) in
     let compound : ReadsCompound 1 branch_text no_bodies (lead.Reserved reserved.If) (at_token 0 1 0) (at_token 24 4 0) _ = r.cond (omega arith) branches in
     let command : ReadsCommand 1 branch_text no_bodies (at_token 0 0 0) (at_close 24 4 0) _ = r.compound_command refl refl compound (r.no_redirect refl) in
     whole branch_text 1 (at_close 24 4 0) branch_script refl (r.sequence (r.list (r.no_break refl) refl (r.last_item (alone_reads command refl refl refl) refl refl))) refl refl
@@ -233,13 +244,13 @@ unfolding computes
 loop_reads =
     let a : ReadsWord 1 loop_text (in_word 9) (at_word 9 1 1) (at_word 10 1 1) (bare 9 10) = r.whole_word (r.more refl r.plain (r.stop refl)) refl refl in
     let words : ReadsForWords 1 loop_text (at_token 6 1 1) (at_token 12 1 1) (Some (bare 9 10 ∷ [])) =
-      r.listed (r.no_break refl) refl (r.more_words refl a (r.no_word refl)) refl (r.no_break refl) in
+    r.listed (r.no_break refl) refl (r.more_words refl a (r.no_word refl)) refl (r.no_break refl) in
     let b : ReadsCommand 1 loop_text no_bodies (at_token 15 1 1) (at_token 16 2 1) (utility 2 15 16) =
-      r.simple_command refl (r.word_element refl (r.whole_word (r.more refl r.plain (r.stop refl)) refl refl) (r.no_element refl)) in
+    r.simple_command refl (r.word_element refl (r.whole_word (r.more refl r.plain (r.stop refl)) refl refl) (r.no_element refl)) in
     let body : ReadsList 1 loop_text no_bodies (at_token 15 1 1) (at_token 18 2 1) (lone (utility 2 15 16)) =
-      r.list (r.no_break refl) refl (r.ended_item (alone_reads b refl refl refl) refl (r.no_break refl) refl) in
+    r.list (r.no_break refl) refl (r.ended_item (alone_reads b refl refl refl) refl (r.no_break refl) refl) in
     let compound : ReadsCompound 1 loop_text no_bodies (lead.Reserved reserved.For) (at_token 0 1 0) (at_token 22 2 0) _ =
-      r.for_loop (omega arith) refl words (r.do_group refl body refl) in
+    r.for_loop (omega arith) refl words (r.do_group refl body refl) in
     let command : ReadsCommand 1 loop_text no_bodies (at_token 0 0 0) (at_close 22 2 0) _ = r.compound_command refl refl compound (r.no_redirect refl) in
     whole loop_text 1 (at_close 22 2 0) loop_script refl (r.sequence (r.list (r.no_break refl) refl (r.last_item (alone_reads command refl refl refl) refl refl))) refl refl
 
@@ -251,15 +262,15 @@ case_reads =
     let c : ReadsWord 1 case_text (in_unsplit 13) (at_word 13 1 1) (at_word 14 1 1) (bare 13 14) = r.whole_word (r.more refl r.plain (r.stop refl)) refl refl in
     let patterns : ReadsPatterns 1 case_text (at_token 11 1 1) (at_token 14 1 1) (bare 11 12 ∷ bare 13 14 ∷ []) = r.more_patterns refl b refl (r.last_pattern refl c refl) in
     let d : ReadsCommand 1 case_text no_bodies (at_token 16 1 1) (at_token 17 2 1) (utility 2 16 17) =
-      r.simple_command refl (r.word_element refl (r.whole_word (r.more refl r.plain (r.stop refl)) refl refl) (r.no_element refl)) in
+    r.simple_command refl (r.word_element refl (r.whole_word (r.more refl r.plain (r.stop refl)) refl refl) (r.no_element refl)) in
     let body : ReadsSequence 1 case_text no_bodies (at_token 16 1 1) (at_token 17 2 1) (lone (utility 2 16 17)) =
-      r.sequence (r.list (r.no_break refl) refl (r.last_item (alone_reads d refl refl refl) refl refl)) in
+    r.sequence (r.list (r.no_break refl) refl (r.last_item (alone_reads d refl refl refl) refl refl)) in
     let any : ReadsWord 1 case_text (in_unsplit 20) (at_word 20 2 1) (at_word 21 2 1) (bare 20 21) = r.whole_word (r.more refl r.plain (r.stop refl)) refl refl in
     let last : ReadsClauses 1 case_text no_bodies (at_token 20 2 1) (at_token 27 2 1) (clause (bare 20 21 ∷ []) (script []) Break ∷ []) =
-      r.last_clause refl (r.last_pattern refl any refl) (r.nothing (r.no_break refl) refl) refl in
+    r.last_clause refl (r.last_pattern {s = at_token 20 2 1} refl any refl) (r.nothing (r.no_break refl) refl) refl in
     let clauses : ReadsClauses 1 case_text no_bodies (at_token 10 1 1) (at_token 27 2 1) case_clauses = r.more_clauses refl patterns body refl (r.no_break refl) last in
     let compound : ReadsCompound 1 case_text no_bodies (lead.Reserved reserved.Case) (at_token 0 1 0) (at_token 27 2 0) _ =
-      r.case_of (omega arith) refl subject (r.no_break refl) refl (r.no_break refl) clauses in
+    r.case_of (omega arith) refl subject (r.no_break refl) refl (r.no_break refl) clauses in
     let command : ReadsCommand 1 case_text no_bodies (at_token 0 0 0) (at_close 27 2 0) _ = r.compound_command refl refl compound (r.no_redirect refl) in
     whole case_text 1 (at_close 27 2 0) case_script refl (r.sequence (r.list (r.no_break refl) refl (r.last_item (alone_reads command refl refl refl) refl refl))) refl refl
 
@@ -267,24 +278,24 @@ pub defined_reads : Reads defined_text defined_script
 unfolding computes
 defined_reads =
     let a : ReadsCommand 1 defined_text no_bodies (at_token 6 2 1) (at_token 7 3 1) (utility 3 6 7) =
-      r.simple_command refl (r.word_element refl (r.whole_word (r.more refl r.plain (r.stop refl)) refl refl) (r.no_element refl)) in
+    r.simple_command refl (r.word_element refl (r.whole_word (r.more refl r.plain (r.stop refl)) refl refl) (r.no_element refl)) in
     let body : ReadsList 1 defined_text no_bodies (at_token 6 2 1) (at_token 9 3 1) (lone (utility 3 6 7)) =
-      r.list (r.no_break refl) refl (r.ended_item (alone_reads a refl refl refl) refl (r.no_break refl) refl) in
+    r.list (r.no_break refl) refl (r.ended_item (alone_reads a refl refl refl) refl (r.no_break refl) refl) in
     let group : ReadsCompound 1 defined_text no_bodies (lead.Reserved reserved.LeftBrace) (at_token 4 2 0) (at_token 11 3 0) (kind.Group (lone (utility 3 6 7))) = r.group (omega arith) body refl in
     let target : ReadsWord 1 defined_text (in_unsplit 12) (at_word 12 3 0) (at_word 13 3 0) (bare 12 13) = r.whole_word (r.more refl r.plain (r.stop refl)) refl refl in
     let redirects : ReadsRedirects 1 defined_text no_bodies (at_token 11 3 0) (at_token 14 3 0) (redirect 11 None (File direction.Write (bare 12 13)) ∷ []) =
-      r.more_redirects refl (r.file refl refl refl target) (r.no_redirect refl) in
+    r.more_redirects refl (r.file refl refl refl target) (r.no_redirect refl) in
     let function : ReadsCommand 1 defined_text no_bodies (at_token 4 1 0) (at_token 14 3 0) defined_command = r.compound_command refl refl group redirects in
     let definition : ReadsCommand 1 defined_text no_bodies (at_token 0 0 0) (at_token 14 3 0) (command 1 0 (kind.Define (span 0 1) defined_command) []) =
-      r.definition refl refl refl (r.no_break refl) refl function in
+    r.definition refl refl refl (r.no_break refl) refl function in
     let c : ReadsCommand 1 defined_text no_bodies (at_token 19 3 0) (at_token 21 4 0) (utility 4 19 20) =
-      r.simple_command refl (r.word_element refl (r.whole_word (r.more refl r.plain (r.stop refl)) refl refl) (r.no_element refl)) in
+    r.simple_command refl (r.word_element refl (r.whole_word (r.more refl r.plain (r.stop refl)) refl refl) (r.no_element refl)) in
     let d : ReadsCommand 1 defined_text no_bodies (at_token 23 4 0) (at_token 25 5 0) (utility 5 23 24) =
-      r.simple_command refl (r.word_element refl (r.whole_word (r.more refl r.plain (r.stop refl)) refl refl) (r.no_element refl)) in
+    r.simple_command refl (r.word_element refl (r.whole_word (r.more refl r.plain (r.stop refl)) refl refl) (r.no_element refl)) in
     let piped : ReadsCommands 1 defined_text no_bodies (at_token 19 3 0) (at_token 25 5 0) (utility 4 19 20 ∷ utility 5 23 24 ∷ []) =
-      r.more_commands c refl (r.no_break refl) (r.last_command d refl) in
+    r.more_commands c refl (r.no_break refl) (r.last_command d refl) in
     let links : ReadsLinks 1 defined_text no_bodies (at_token 14 3 0) (at_token 25 5 0) ((link.AndThen, pipe true (utility 4 19 20 ∷ utility 5 23 24 ∷ [])) ∷ []) =
-      r.more_links refl (r.no_break refl) (r.negated refl piped) (r.no_link refl) in
+    r.more_links refl (r.no_break refl) (r.negated refl piped) (r.no_link refl) in
     let list : ReadsAndOr 1 defined_text no_bodies (at_token 0 0 0) (at_token 25 5 0) defined_list = r.linked (r.straight refl (r.last_command definition refl)) links in
     whole defined_text 1 (at_token 26 5 0) defined_script refl (r.sequence (r.list (r.no_break refl) refl (r.ended_item list refl (r.no_break refl) refl))) refl refl
 
@@ -292,9 +303,9 @@ pub closed_reads : Reads closed_text closed_script
 unfolding computes
 closed_reads =
     let a : ReadsCommand 2 closed_text no_bodies (at_token 4 2 2) (at_token 5 3 2) (utility 3 4 5) =
-      r.simple_command refl (r.word_element refl (r.whole_word (r.more refl r.plain (r.stop refl)) refl refl) (r.no_element refl)) in
+    r.simple_command refl (r.word_element refl (r.whole_word (r.more refl r.plain (r.stop refl)) refl refl) (r.no_element refl)) in
     let innermost : ReadsList 2 closed_text no_bodies (at_token 4 2 2) (at_token 7 3 2) (lone (utility 3 4 5)) =
-      r.list (r.no_break refl) refl (r.ended_item (alone_reads a refl refl refl) refl (r.no_break refl) refl) in
+    r.list (r.no_break refl) refl (r.ended_item (alone_reads a refl refl refl) refl (r.no_break refl) refl) in
     let inner : ReadsCompound 2 closed_text no_bodies (lead.Reserved reserved.LeftBrace) (at_token 2 2 1) (at_token 9 3 1) (kind.Group (lone (utility 3 4 5))) = r.group (omega arith) innermost refl in
     let command : ReadsCommand 2 closed_text no_bodies (at_token 2 1 1) (at_close 9 3 1) _ = r.compound_command refl refl inner (r.no_redirect refl) in
     let list : ReadsList 2 closed_text no_bodies (at_token 2 1 1) (at_close 9 3 1) _ = r.list (r.no_break refl) refl (r.last_item (alone_reads command refl refl refl) refl refl) in
@@ -306,9 +317,9 @@ pub separated_reads : Reads separated_text separated_script
 unfolding computes
 separated_reads =
     let a : ReadsCommand 1 separated_text no_bodies (at_token 2 1 1) (at_token 3 2 1) (utility 2 2 3) =
-      r.simple_command refl (r.word_element refl (r.whole_word (r.more refl r.plain (r.stop refl)) refl refl) (r.no_element refl)) in
+    r.simple_command refl (r.word_element refl (r.whole_word (r.more refl r.plain (r.stop refl)) refl refl) (r.no_element refl)) in
     let body : ReadsList 1 separated_text no_bodies (at_token 2 1 1) (at_token 5 2 1) (lone (utility 2 2 3)) =
-      r.list (r.no_break refl) refl (r.ended_item (alone_reads a refl refl refl) refl (r.no_break refl) refl) in
+    r.list (r.no_break refl) refl (r.ended_item (alone_reads a refl refl refl) refl (r.no_break refl) refl) in
     let group : ReadsCompound 1 separated_text no_bodies (lead.Reserved reserved.LeftBrace) (at_token 0 1 0) (at_token 6 2 0) (kind.Group (lone (utility 2 2 3))) = r.group (omega arith) body refl in
     let command : ReadsCommand 1 separated_text no_bodies (at_token 0 0 0) (at_close 6 2 0) _ = r.compound_command refl refl group (r.no_redirect refl) in
     whole separated_text 1 (at_close 7 2 0) separated_script refl

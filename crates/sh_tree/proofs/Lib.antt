@@ -3,3 +3,5 @@ pub mod RefusalLemmas
 pub mod TextLemmas
 pub mod LanguageLemmas
 pub mod CommandLemmas
+pub mod Inversions
+pub mod UnreadLemmas

@@ -1,6 +1,6 @@
 -- Texts and their trees, and texts that nothing reads, against which the definitions are held.
 -- POSIX.1-2024, XCU 2.2 (quoting), 2.6 (word expansions), 2.7 (redirection), 2.9 (commands), 2.10 (shell grammar).
-use Rattle.std.specs.Prelude.{ℕ, Bool, true, false, List, [], ◌∷◌, ◌+◌, codes, Option, Some, None}
+use Rattle.std.specs.Prelude.{ℕ, true, false, List, [], ◌∷◌, ◌+◌, codes, Some, None}
 use Rattle.sh_tree.specs.declared.tree.Action.TheVariants as action
 use Rattle.sh_tree.specs.declared.tree.AndOr.{AndOr}
 use Rattle.sh_tree.specs.declared.tree.Binary.TheVariants as binary
@@ -22,7 +22,6 @@ use Rattle.sh_tree.specs.declared.tree.Part.TheVariants as part
 use Rattle.sh_tree.specs.declared.tree.Removal.TheVariants as removal
 use Rattle.sh_tree.specs.declared.tree.Script.{Script}
 use Rattle.sh_tree.specs.declared.tree.SingleStyle.TheVariants as single
-use Rattle.sh_tree.specs.declared.tree.Subject.{Subject}
 use Rattle.sh_tree.specs.declared.tree.Subject.TheVariants.{Name}
 use Rattle.sh_tree.specs.declared.tree.Target.TheVariants.{File, Here}
 use Rattle.sh_tree.specs.declared.tree.Word.{Word}
@@ -80,6 +79,16 @@ home_value = word 2 7 (part.Tilde (span 2 3) ∷ plain 3 6 ∷ part.Tilde (span 
 
 abbrev pub home_script : Script
 home_script = lone (simple 1 0 (element.Assignment (span 0 1) home_value ∷ element.Word (bare 8 9) ∷ []))
+
+-- braces in a value before a redirection are no IO location
+abbrev pub braces_text : List ℕ
+braces_text = codes "a={b}>f"
+
+abbrev pub braces_elements : List Element
+braces_elements = element.Assignment (span 0 1) (bare 2 5) ∷ element.Redirection (redirect 5 None (File direction.Write (bare 6 7))) ∷ []
+
+abbrev pub braces_script : Script
+braces_script = lone (simple 1 0 braces_elements)
 
 -- braced expansions; a pattern is read as outside quotes
 abbrev pub braced_text : List ℕ
@@ -198,10 +207,53 @@ separated_script = lone (command 1 0 (kind.Group (lone (utility 2 2 3))) [])
 abbrev pub comment_text : List ℕ
 comment_text = codes "# a\n"
 
--- each text is its tree
+-- Texts that no script reads
+
+-- nothing reads the text
+abbrev pub IsUnread : List ℕ → Type 0
+IsUnread b = (t : Script) → Reads b t → ⊥
+
+-- a double quote that is not closed
+abbrev pub open_quote_text : List ℕ
+open_quote_text = codes "\"a"
+
+-- a braced expansion that is not closed
+abbrev pub open_braced_text : List ℕ
+open_braced_text = codes "${x-"
+
+-- a line continuation in a name, in double quotes
+abbrev pub split_name_text : List ℕ
+split_name_text = codes "\"$a\\\nb\""
+
+-- an arithmetic expansion without an expression
+abbrev pub no_expression_text : List ℕ
+no_expression_text = codes "$(())"
+
+-- a line continuation in an operator, behind an IO number
+abbrev pub split_operator_text : List ℕ
+split_operator_text = codes "2<<\\\n-E"
+
+-- an operator without a command before it
+abbrev pub lone_bar_text : List ℕ
+lone_bar_text = codes "| a"
+
+-- the end of a clause outside `case`
+abbrev pub clause_end_text : List ℕ
+clause_end_text = codes "a;;"
+
+-- a here-document that is not ended
+abbrev pub open_document_text : List ℕ
+open_document_text = codes "<<E\n"
+
+-- no closing word behind a compound command with a redirection
+abbrev pub unclosed_text : List ℕ
+unclosed_text = codes "{ { a; } >f }"
+
+-- each text is its tree, or none
 pub record LanguageRead : Type 0 where
   pub quoted : Reads quoted_text quoted_script
   pub home : Reads home_text home_script
+  pub braces : Reads braces_text braces_script
   pub braced : Reads braced_text braced_script
   pub arithmetic : Reads arithmetic_text arithmetic_script
   pub substituted : Reads substituted_text substituted_script
@@ -214,3 +266,12 @@ pub record LanguageRead : Type 0 where
   pub separated : Reads separated_text separated_script
   pub empty : Reads [] (script [])
   pub comment : Reads comment_text (script [])
+  pub open_quote : IsUnread open_quote_text
+  pub open_braced : IsUnread open_braced_text
+  pub split_name : IsUnread split_name_text
+  pub no_expression : IsUnread no_expression_text
+  pub split_operator : IsUnread split_operator_text
+  pub lone_bar : IsUnread lone_bar_text
+  pub clause_end : IsUnread clause_end_text
+  pub open_document : IsUnread open_document_text
+  pub unclosed : IsUnread unclosed_text

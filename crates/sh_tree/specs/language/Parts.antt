@@ -8,6 +8,7 @@ use Rattle.sh_tree.specs.declared.tree.Operator.{Operator, Use', Remove'}
 use Rattle.sh_tree.specs.declared.tree.Expr.{Expr, Constant, Variable, Expansion, Parenthesis', Unary', Chain', Choice', Assign', Row_of-Expr, end_of-Expr, more_of-Expr, Row_of-Expr-Chain-1-2, end_of-Expr-Chain-1-2, more_of-Expr-Chain-1-2}
 use Rattle.sh_tree.specs.declared.tree.Part.{Part, Escaped, Single, Double', Param', Arith', Row_of-Part, end_of-Part, more_of-Part}
 use Rattle.sh_tree.specs.language.Bytes.{is_newline, is_backslash, is_first}
+use Rattle.sh_tree.specs.language.HereDocuments.{Mark}
 use Rattle.sh_tree.specs.Tree.{text_of}
 use Rattle.sh_tree.specs.Words.{parts_text}
 
@@ -90,3 +91,7 @@ has_joined (c ∷ cs) = (is_backslash c && is_first is_newline cs) || has_joined
 -- A here-document's lines are joined before its commands are read, but a reader of quotes keeps them: no single quotes in a body hold a continuation.
 unfoldable pub keeps_lines : List ℕ → Bool → List Part → Bool
 keeps_lines b body ps = not body || list_all (λ s. not (has_joined (text_of b s))) (singles ps)
+
+-- So are those of a here-document in such a body, but a quoted delimiter keeps its lines: its body holds no continuation there.
+unfoldable pub keeps_document : List ℕ → Bool → Mark → Span → Bool
+keeps_document b body m s = not (body && m.quoted) || not (has_joined (text_of b s))

@@ -51,7 +51,7 @@ use Rattle.sh_tree.specs.language.Words.{token, in_double, in_use, in_removal, i
 use Rattle.sh_tree.specs.language.Arithmetic.{lexeme, is_closed, binary_of, unary_of, assignment_of, unary_level}
 use Rattle.sh_tree.specs.language.Commands.{lead_at, blanks, name_end, declares, redirection, direction_of, strip_of, is_location, is_word, is_redirection, is_reserved, begins_simple, begins_compound, begins_command, begins_pipeline, separator, link_of, clause_end_of, is_bar, is_newline_lead, is_esac, is_open, is_bare_name}
 use Rattle.sh_tree.specs.language.Contexts.{in_word, in_unsplit, in_value, in_stage, in_document_of}
-use Rattle.sh_tree.specs.language.Parts.{is_delimiter, delimiter_of, is_quoted_word, keeps_lines}
+use Rattle.sh_tree.specs.language.Parts.{is_delimiter, delimiter_of, is_quoted_word, keeps_lines, keeps_document}
 use Rattle.sh_tree.specs.language.HereDocuments.{Mark, end_line, behind_line, is_ambiguous}
 use Rattle.sh_tree.specs.language.States.{Spot, to, deeper, behind, Document, State, nth, operators, waits, facing, within, next, past, counted, lower, as_deep, pended, on_line, in_document, with_document, closing}
 use Rattle.sh_tree.specs.language.Trees as tree
@@ -218,9 +218,9 @@ module _ (limit : ℕ) where
       expansion : {b : List ℕ} {x : Context} {s u : Spot} {g : Sign} {p : Part} → sign_at b x 0 (to (lexeme b s.at).start s) ≡ g → is_expansion g ≡ true
           → ReadsPart b x g (to (lexeme b s.at).start s) (after b x 0 (to (lexeme b s.at).start s)) u p → ReadsUnary b x figure.Dollar s u (expr.Expansion p)
 
-    -- a whole word
+    -- A whole word. The value of an assignment is the end of a token that begins with a name.
     pub data ReadsWord : List ℕ → Context → Spot → Spot → Word → Type 0 where
-      whole_word : {b : List ℕ} {x : Context} {s u : Spot} {ps : List Part} → ReadsParts b x 0 s u ps → is_location b s.at u.at ≡ false → keeps_lines b s.body ps ≡ true
+      whole_word : {b : List ℕ} {x : Context} {s u : Spot} {ps : List Part} → ReadsParts b x 0 s u ps → not x.colons && is_location b s.at u.at ≡ false → keeps_lines b s.body ps ≡ true
           → ReadsWord b x s u (tree.word s.at u.at ps)
 
     -- Redirections and here-documents (XCU 2.7); `body n` is the body of the n-th here-document of this level
@@ -234,7 +234,7 @@ module _ (limit : ℕ) where
           → strip_of r.operator ≡ Some strip → is_word (lead_of b (Named false) (next b r.end s)) ≡ true
           → ReadsWord b (in_unsplit (next b r.end s).spot.at) (facing (next b r.end s)) u w → is_delimiter b w ≡ true
           → ReadsRedirect b body s (pended (record { strip = strip; quoted = is_quoted_word w; delimiter = delimiter_of b w; depth = s.spot.depth }) (past b u s))
-              (tree.redirect r.at r.number (Here (tree.here_doc strip w (body (operators s)).text (body (operators s)).end)))
+          (tree.redirect r.at r.number (Here (tree.here_doc strip w (body (operators s)).text (body (operators s)).end)))
 
     pub data ReadsRedirects : List ℕ → (ℕ → Document) → State → State → List Redirect → Type 0 where
       no_redirect : {b : List ℕ} {body : ℕ → Document} {s : State} → is_redirection (lead_of b (Named false) s) ≡ false → ReadsRedirects b body s s []
@@ -245,7 +245,7 @@ module _ (limit : ℕ) where
     pub data ReadsDocuments : List ℕ → List Mark → State → State → Type 0 where
       no_body : {b : List ℕ} {s : State} → ReadsDocuments b [] s s
       more_bodies : {b : List ℕ} {s v : State} {u : Spot} {m : Mark} {ms : List Mark} {l : Span} {ps : List Part} → end_line m b s.spot.at ≡ Some l
-          → is_ambiguous m b s.spot.at l.end ≡ false → ReadsParts (take l.start b) (in_document_of m) 10 (in_document m s) u ps
+          → is_ambiguous m b s.spot.at l.end ≡ false → keeps_document b s.spot.body m (span s.spot.at l.start) ≡ true → ReadsParts (take l.start b) (in_document_of m) 10 (in_document m s) u ps
           → keeps_lines b (not m.quoted) ps ≡ true
           → ReadsDocuments b ms (with_document (behind_line b l.end) (record { text = tree.word s.spot.at l.start ps; end = l }) u s) v
           → ReadsDocuments b (m ∷ ms) s v
@@ -302,7 +302,7 @@ module _ (limit : ℕ) where
       for_loop : {b : List ℕ} {body : ℕ → Document} {s u v : State} {o : Option (List Word)} {t : Script} → s.spot.depth < limit
           → is_bare_name b (skip b 3 s).spot.at ≡ true → ReadsForWords b (behind_name b (lower (skip b 3 s))) u o → ReadsDo b body u v t
           → ReadsCompound b body (lead.Reserved word.For) s (as_deep s v)
-              (kind.For (span (skip b 3 s).spot.at (name_end b (skip b 3 s).spot.at)) o t)
+          (kind.For (span (skip b 3 s).spot.at (name_end b (skip b 3 s).spot.at)) o t)
       case_of : {b : List ℕ} {body : ℕ → Document} {s p q v : State} {u : Spot} {w : Word} {cs : List Clause} → s.spot.depth < limit
           → is_word (lead_of b (Named false) (skip b 4 s)) ≡ true → ReadsWord b (in_unsplit (skip b 4 s).spot.at) (facing (lower (skip b 4 s))) u w
           → ReadsBreaks b (past b u (lower (skip b 4 s))) p → lead_here b p ≡ lead.Reserved word.In → ReadsBreaks b (skip b 2 p) q → ReadsClauses b body q v cs
