@@ -26,12 +26,13 @@ use Rattle.sh_tree.specs.declared.token.arithmetic.Figure.TheVariants as figure
 use Rattle.sh_tree.specs.declared.token.command.Lead.{Lead}
 use Rattle.sh_tree.specs.declared.token.command.Lead.TheVariants as lead
 use Rattle.sh_tree.specs.declared.token.command.Operator.TheVariants as op
+use Rattle.sh_tree.specs.declared.token.command.Redirection.{Redirection}
 use Rattle.sh_tree.specs.declared.token.command.Reserved.TheVariants as reserved
 use Rattle.sh_tree.specs.declared.token.command.Stage.{Stage}
 use Rattle.sh_tree.specs.declared.token.command.Stage.TheVariants.{First, Named}
 use Rattle.sh_tree.specs.language.Words.{in_double, in_use, in_removal, in_arithmetic}
 use Rattle.sh_tree.specs.language.Arithmetic.{is_closed, unary_of}
-use Rattle.sh_tree.specs.language.Commands.{blanks, Redirection, redirection, redirects, direction_of, strip_of, is_word, is_redirection, is_reserved, is_bar, is_newline_lead, begins_simple, begins_compound, begins_command, begins_pipeline, separator, link_of}
+use Rattle.sh_tree.specs.language.Commands.{blanks, redirection, redirects, direction_of, strip_of, is_word, is_redirection, is_reserved, is_bar, is_newline_lead, begins_simple, begins_compound, begins_command, begins_pipeline, separator, link_of}
 use Rattle.sh_tree.specs.language.Contexts.{in_word, in_unsplit, in_stage}
 use Rattle.sh_tree.specs.language.Parts.{is_quoted_word, delimiter_of}
 use Rattle.sh_tree.specs.language.HereDocuments.{Mark, end_line}
