@@ -1,5 +1,4 @@
 pub mod MoveLemmas
-pub mod PlaceLemmas
 pub mod TextLemmas
 pub mod LineLemmas
 pub mod LineRowLemmas

@@ -11,6 +11,7 @@ use Rattle.sh_tree.specs.declared.refusal.Refusal.{Refusal}
 use Rattle.sh_tree.specs.declared.refusal.Refusal.TheVariants.{TooLong, NulByte, Syntax, LeftOut, TooDeep, TooMany, Memory, Profile, CertSyntax, CertShape}
 use Rattle.sh_tree.specs.Reading.{Reads, ReadsWithin}
 use Rattle.sh_tree.specs.Answers.{IsText, Parses}
+use Rattle.sh_scan.specs.Places.{place_of}
 use Rattle.sh_flow.specs.Policy.{Declared}
 use Rattle.sh_flow.specs.Names.{numbering}
 use Rattle.sh_flow.specs.Profile.{Admitted}
@@ -19,7 +20,6 @@ use Rattle.shset.specs.declared.verdict.Finding.{Finding}
 use Rattle.shset.specs.declared.verdict.Verdict.{Verdict}
 use Rattle.shset.specs.declared.verdict.Verdict.TheVariants.{Pass, Fail, Forged}
 use Rattle.shset.specs.Findings.{Admits, quote_places, unset_places}
-use Rattle.shset.specs.Places.{place_of}
 use Rattle.shset.specs.Verdicts.{Shown, shown, shown_cmp}
 
 -- the tree is the one reading of the text, within the limits

@@ -8,11 +8,11 @@ use Rattle.sh_tree.specs.declared.place.Code.TheVariants.{P1, P2, Q1, U1, U2, U3
 use Rattle.sh_tree.specs.declared.refusal.Refusal.{Refusal}
 use Rattle.sh_tree.specs.declared.refusal.Refusal.TheVariants.{TooLong, NulByte, Syntax, LeftOut, TooDeep, TooMany, Memory, Profile, CertSyntax, CertShape}
 use Rattle.sh_tree.specs.Texts as tree_text
+use Rattle.sh_scan.specs.Places.{place_of}
 use Rattle.sh_flow.specs.declared.rule.FlowRule.{FlowRule}
 use Rattle.sh_flow.specs.declared.rule.FlowRule.TheVariants.{F1, F2, F4, F5}
 use Rattle.shset.specs.declared.verdict.Verdict.{Verdict}
 use Rattle.shset.specs.declared.verdict.Verdict.TheVariants.{Pass, Fail, Forged}
-use Rattle.shset.specs.Places.{place_of}
 use Rattle.shset.specs.Verdicts.{Shown, shown}
 
 abbrev pub code_text : Code → List ℕ

@@ -8,7 +8,6 @@ ghost use Rattle.shset.specs.Lint.{Accepts, AreFindings, IsSafe, Lints, places};
 
 use crate::admit::admit;
 use crate::find::find;
-use crate::lines::Lines;
 use crate::quotes::unquoted;
 use crate::verdict::{Finding, Report, Verdict, in_order};
 use sh_flow::flow::{Flow, check_flow};
@@ -16,6 +15,7 @@ use sh_flow::laws::{no_split, no_unset};
 use sh_flow::names::Names;
 use sh_flow::policy::Policy;
 use sh_grammar::parse;
+use sh_scan::Lines;
 use sh_tree::place::Place;
 use sh_tree::refusal::Refusal;
 use sh_tree::tree::Script;

@@ -8,7 +8,6 @@ mod ends;
 mod engine;
 mod find;
 mod line;
-mod lines;
 mod lint;
 mod moves;
 mod quotes;

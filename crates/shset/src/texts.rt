@@ -4,9 +4,9 @@ ghost use Rattle.sh_tree.specs.declared.refusal.Refusal.TheVariants as refusal_k
 ghost use Rattle.shset.specs.Verdicts.{shown};
 ghost use Rattle.shset.specs.Texts as text;
 
-use crate::lines::Lines;
 use crate::verdict::{Finding, Verdict};
 use sh_flow::rule::FlowRule;
+use sh_scan::Lines;
 use sh_tree::place::Code;
 use sh_tree::refusal::Refusal;
 use std::alloc::{AllocError, Global};

@@ -9,7 +9,7 @@ use Rattle.std.proofs.lemmas.List.Sums.{fold-append}
 use Rattle.std.proofs.lemmas.List.Elements.{All-nil, All-cons, All-weaker}
 use Rattle.memchr.specs.Find.{is_byte, places_from, places_between, places, Passes}
 use Rattle.memchr.proofs.lemmas.PlaceLemmas.{places_from-append, places_between-none, places_between-last}
-use Rattle.shset.specs.Places.{next_place, place_of}
+use Rattle.sh_scan.specs.Places.{next_place, place_of}
 
 rising-cons : (x : ℕ) (xs : List ℕ) → All (λ k. x < k) xs → IsStrictlyIncreasing xs → IsStrictlyIncreasing (x ∷ xs)
 rising-cons x xs above up zero lt = above 0 0 (omega arith)

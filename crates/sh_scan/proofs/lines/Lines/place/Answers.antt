@@ -2,10 +2,10 @@ use Rattle.std.proofs.Common.{◌≡◌, ◌+◌, ◌-◌, ◌<◌, ◌≤◌, l
 use Rattle.std.specs.List.Sorted.{IsPartitionPoint}
 use Rattle.std.proofs.lemmas.Grind.{get_or_default_zero}
 use Rattle.memchr.specs.Find.{is_byte, places}
-use Rattle.shset.specs.Places.{lines_of, Breaks, place_of}
-use Rattle.shset.proofs.PlaceLemmas.{place_is}
-use Rattle.shset.proofs.lines.Lines.place.Goals as goal
-use Rattle.shset.proofs.lines.Lines.place.Goals.{in-0, in_default}
+use Rattle.sh_scan.specs.Places.{lines_of, Breaks, place_of}
+use Rattle.sh_scan.proofs.PlaceLemmas.{place_is}
+use Rattle.sh_scan.proofs.lines.Lines.place.Goals as goal
+use Rattle.sh_scan.proofs.lines.Lines.place.Goals.{in-0, in_default}
 
 pub returns : goal.returns
 unfolding lines_of

@@ -2,7 +2,7 @@
 ghost use Rattle.std.specs.Prelude.{◌≡◌, ℕ, ◌<◌, ◌≤◌, ◌^◌, ◌-◌, List, length, slice_index, IfOk};
 ghost use Rattle.memchr.specs.Find.{is_byte, places};
 ghost use Rattle.std.specs.List.Sorted.{IsPartitionPoint, IsStrictlyIncreasing};
-ghost use Rattle.shset.specs.Places.{lines_of, place_of};
+ghost use Rattle.sh_scan.specs.Places.{lines_of, place_of};
 
 use memchr::memchr_iter;
 use std::alloc::{AllocError, Global};
@@ -21,7 +21,7 @@ pub struct Lines {
 impl Model for Lines {
     ghost use Rattle.std.specs.Prelude.{◌<◌, ◌-◌, ◌^◌};
     ghost use Rattle.std.specs.List.Sorted.{IsStrictlyIncreasing};
-    ghost use Rattle.shset.specs.Places.{Breaks};
+    ghost use Rattle.sh_scan.specs.Places.{Breaks};
 
     ghost Value = { Breaks };
 

@@ -1,8 +1,8 @@
 use Rattle.std.proofs.Common.{◌≡◌, ℕ, List, refl, sym, subst, arith}
 use Rattle.std.specs.List.Sorted.{IsStrictlyIncreasing}
-use Rattle.shset.specs.Places.{lines_of, Breaks}
-use Rattle.shset.proofs.PlaceLemmas.{rising}
-use Rattle.shset.proofs.lines.Lines.new.Goals as goal
+use Rattle.sh_scan.specs.Places.{lines_of, Breaks}
+use Rattle.sh_scan.proofs.PlaceLemmas.{rising}
+use Rattle.sh_scan.proofs.lines.Lines.new.Goals as goal
 
 breaks : List ℕ → ℕ → Breaks
 breaks xs n = record { newlines = xs; end = n }

@@ -2,8 +2,8 @@ use Rattle.std.proofs.Common.{◌<◌, ◌≤◌, ltb, ltb-true, rules}
 use Rattle.std.specs.List.Sorted.{IsPartitionPoint}
 use Rattle.std.proofs.lemmas.Bool.{ltb-false}
 use Rattle.std.proofs.lemmas.List.Sorted.{IsPartitionPoint-from_clause, IsPartitionedBy-ltb}
-use Rattle.shset.proofs.PlaceLemmas.{few_below, not_falling}
-use Rattle.shset.proofs.lines.count_below.Goals as goal
+use Rattle.sh_scan.proofs.PlaceLemmas.{few_below, not_falling}
+use Rattle.sh_scan.proofs.lines.count_below.Goals as goal
 
 pub returns : goal.returns
 returns c =
