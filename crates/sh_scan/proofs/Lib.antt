@@ -1,1 +1,5 @@
 pub mod PlaceLemmas
+pub mod StepLemmas
+pub mod PieceLemmas
+pub mod ArithmeticLemmas
+pub mod WordLemmas

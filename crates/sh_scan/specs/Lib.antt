@@ -1,1 +1,7 @@
 pub mod Places
+pub mod Classes
+pub mod Steps
+pub mod Spaces
+pub mod Alphabets
+pub mod Tables
+pub mod Moves

@@ -1,0 +1,43 @@
+-- Tokens of arithmetic.
+use Rattle.std.proofs.Common.{◌≡◌, ℕ, ◌+◌, ◌<◌, ◌≤◌, Bool, true, false, not, ◌&&◌, ◌||◌, ◌==◌, List, [], ◌∷◌, ◌++◌, length, take, drop, codes, cond, refl, ap, sym, ◌∙◌, arith}
+use Rattle.std.proofs.lemmas.Bool.Decides.{nat_tests}
+use Rattle.sh_tree.specs.declared.token.arithmetic.Figure.{Figure}
+use Rattle.std.specs.Prelude.{IfSome, nat_eq}
+use Rattle.std.specs.List.{starts_with, list_all}
+use Rattle.sh_tree.specs.language.Bytes.{is_in, is_first, is_digit, is_octal, is_hexadecimal, is_name_start, is_name_byte, run, longest}
+use Rattle.sh_tree.specs.language.Arithmetic.{constant_length, operators}
+use Rattle.sh_scan.proofs.PieceLemmas.{run_yes, run_no, run_some}
+
+-- a run that is not empty begins
+pub run_begins : (p : ℕ → Bool) (cs : List ℕ) → is_first p cs ≡ not (run p cs == 0)
+unfolding is_first
+run_begins p [] = refl
+run_begins p (c ∷ cs) = go (p c) refl
+  where
+    some : (n : ℕ) → true ≡ not (n + 1 == 0)
+    some n = let h : (n + 1 == 0) ≡ false = grind (arith, nat_tests) in sym (ap (λ t. not t) h)
+    go : (t : Bool) → p c ≡ t → p c ≡ not (run p (c ∷ cs) == 0)
+    go true is = is ∙ some (run p cs) ∙ ap (λ n. not (n == 0)) (sym (run_yes p c cs is))
+    go false is = is ∙ ap (λ n. not (n == 0)) (sym (run_no p c cs is))
+
+pub name_some : (cs : List ℕ) → is_first is_name_start cs ≡ true → 0 < run is_name_byte cs
+name_some cs h = run_some is_name_start is_name_byte cs (λ c e. ap (λ t. t || is_digit c) e) h
+
+-- the constant that begins with the digit c
+pub constant_is : (c : ℕ) (cs : List ℕ) → is_digit c ≡ true → constant_length (c ∷ cs) ≡
+    cond (not (c == 48)) (run is_digit cs + 1) (cond (is_first (is_in (codes "xX")) cs && not (run is_hexadecimal (drop 1 cs) == 0)) (run is_hexadecimal (drop 1 cs) + 2) (run is_octal cs + 1))
+unfolding constant_length is_first
+constant_is c cs h =
+    ap (λ n. cond (not (c == 48)) n (cond (is_first (is_in (codes "xX")) cs && is_first is_hexadecimal (drop 1 cs)) (run is_hexadecimal (drop 1 cs) + 2) (run is_octal cs + 1))) (run_yes is_digit c cs h)
+    ∙ ap (λ t. cond (not (c == 48)) (run is_digit cs + 1) (cond (is_first (is_in (codes "xX")) cs && t) (run is_hexadecimal (drop 1 cs) + 2) (run is_octal cs + 1))) (run_begins is_hexadecimal (drop 1 cs))
+
+-- a text that is found is within what begins so, and is not empty in a table of such texts
+pub longest_within : (table : List (List ℕ × Figure)) (cs : List ℕ) → IfSome (longest table cs) (λ found. found.1 ≤ length cs)
+unfolding longest
+longest_within [] cs = ?
+longest_within (x ∷ xs) cs = ?
+
+pub longest_moves : (table : List (List ℕ × Figure)) (cs : List ℕ) → list_all (λ x. not (length x.0 == 0)) table ≡ true → IfSome (longest table cs) (λ found. 0 < found.1)
+unfolding longest
+longest_moves [] cs h = ?
+longest_moves (x ∷ xs) cs h = ?

@@ -1,0 +1,21 @@
+-- What a front of a text goes on by: the pieces of which a stretch of line continuations, of blanks, or of a line is made.
+-- POSIX.1-2024, XCU 2.2.1 (line continuation), 2.3 (token recognition), 2.7.4 (here-document).
+use Rattle.std.specs.Prelude.{ℕ, Bool, ◌&&◌, if◌then◌else◌, List, [], ◌∷◌}
+use Rattle.sh_tree.specs.language.Bytes.{is_blank, is_newline, is_backslash}
+
+-- the line continuation
+unfoldable pub joined_step : List ℕ → ℕ
+joined_step [] = 0
+joined_step (c ∷ []) = 0
+joined_step (c ∷ d ∷ cs) = if is_backslash c && is_newline d then 2 else 0
+
+-- the blank or the line continuation
+unfoldable pub gap_step : List ℕ → ℕ
+gap_step [] = 0
+gap_step (c ∷ cs) = if is_blank c then 1 else joined_step (c ∷ cs)
+
+-- the byte of a line, and where lines are joined the byte that a backslash keeps
+unfoldable pub line_step : Bool → List ℕ → ℕ
+line_step joins [] = 0
+line_step joins (c ∷ []) = if is_newline c then 0 else 1
+line_step joins (c ∷ d ∷ cs) = if is_newline c then 0 else (if joins && is_backslash c then 2 else 1)

@@ -1,0 +1,47 @@
+//! Tests of bytes.
+ghost use Rattle.std.specs.Prelude.{◌≡◌};
+ghost use Rattle.sh_tree.specs.language.Bytes as bytes;
+
+use crate::class::{Class, classify};
+
+/// A space or a tab.
+#[tactic(auto, unfolding(crate::specs::Classes::class_of))]
+pub fn is_blank(byte: u8) -> bool
+    ensures { result ≡ bytes.is_blank byte }
+{
+    matches!(classify(byte), Class::Blank)
+}
+
+/// A letter or an underscore.
+#[tactic(auto, unfolding(crate::specs::Classes::class_of))]
+pub fn is_name_start(byte: u8) -> bool
+    ensures { result ≡ bytes.is_name_start byte }
+{
+    matches!(classify(byte), Class::Letter)
+}
+
+/// A letter, an underscore or a digit.
+#[tactic(auto, unfolding(crate::specs::Classes::class_of))]
+pub fn is_name_byte(byte: u8) -> bool
+    ensures { result ≡ bytes.is_name_byte byte }
+{
+    matches!(classify(byte), Class::Letter | Class::Digit)
+}
+
+#[tactic(auto, unfolding(crate::specs::Classes::class_of))]
+pub fn is_digit(byte: u8) -> bool
+    ensures { result ≡ bytes.is_digit byte }
+{
+    matches!(classify(byte), Class::Digit)
+}
+
+/// Whether the byte delimits the token before it (XCU 2.3).
+#[tactic(auto, unfolding(crate::specs::Classes::class_of))]
+pub fn ends_token(byte: u8) -> bool
+    ensures { result ≡ bytes.ends_token byte }
+{
+    matches!(
+        classify(byte),
+        Class::Blank | Class::Newline | Class::Operator
+    )
+}

@@ -1,0 +1,100 @@
+//! The front of a text.
+ghost use Rattle.std.specs.Prelude.{◌≡◌, ◌≤◌, ◌<◌, ◌==◌, true, not, length, drop};
+ghost use Rattle.sh_tree.specs.language.Bytes as bytes;
+ghost use Rattle.sh_tree.specs.language.Commands as commands;
+ghost use Rattle.sh_scan.specs.Steps.{joined_step};
+
+use crate::bytes::{is_digit, is_name_byte, is_name_start};
+use sh_tree::limits::MAX_SCRIPT;
+
+/// Whether the text begins with the byte.
+#[tactic(auto, unfolding(sh_tree::specs::language::Bytes::is_first))]
+pub fn begins_with(rest: &[u8], byte: u8) -> bool
+    ensures value { result ≡ bytes.is_first (λ c. c == byte) rest.now }
+    ensures within { result ≡ true → 0 < length rest.now }
+{
+    match rest {
+        [] => false,
+        [first, ..] => *first == byte,
+    }
+}
+
+#[tactic(auto, unfolding(sh_tree::specs::language::Bytes::is_first))]
+fn begins_name(rest: &[u8]) -> bool
+    ensures { result ≡ bytes.is_first bytes.is_name_start rest.now }
+{
+    match rest {
+        [] => false,
+        [first, ..] => is_name_start(*first),
+    }
+}
+
+fn name_bytes(rest: &[u8]) -> usize
+    ensures value { result ≡ bytes.run bytes.is_name_byte rest.now }
+    ensures within { result ≤ length rest.now }
+{
+    rest.iter().take_while(|byte| is_name_byte(**byte)).count()
+}
+
+/// How long the name at the front is.
+#[tactic(auto, unfolding(sh_tree::specs::language::Bytes::name_length))]
+pub fn name_length(rest: &[u8]) -> usize
+    ensures value { result ≡ bytes.name_length rest.now }
+    ensures within { result ≤ length rest.now }
+{
+    if begins_name(rest) { name_bytes(rest) } else { 0 }
+}
+
+/// How many digits there are at the front.
+pub fn digit_length(rest: &[u8]) -> usize
+    ensures value { result ≡ bytes.run bytes.is_digit rest.now }
+    ensures within { result ≤ length rest.now }
+{
+    rest.iter().take_while(|byte| is_digit(**byte)).count()
+}
+
+/// How many bytes the line continuation at the front has.
+#[tactic(auto, unfolding(crate::specs::Steps::joined_step))]
+pub fn joined_step(rest: &[u8]) -> usize
+    ensures value { result ≡ joined_step rest.now }
+    ensures within { result ≤ length rest.now }
+{
+    match rest {
+        [b'\\', b'\n', ..] => 2,
+        _ => 0,
+    }
+}
+
+/// How many bytes of line continuations there are at the front.
+pub fn joined_length(rest: &[u8]) -> usize
+    ensures value { result ≡ bytes.joined_length rest.now }
+    ensures within { result ≤ length rest.now }
+{
+    let mut length = 0;
+    loop {
+        let step = joined_step(&rest[length..]);
+        if step == 0 {
+            return length;
+        }
+        length += step;
+    }
+}
+
+/// The text behind the line continuations at its front.
+pub fn behind_joined(rest: &[u8]) -> &[u8]
+    ensures { result.now ≡ bytes.behind_joined rest.now }
+{
+    &rest[joined_length(rest)..]
+}
+
+/// Where the name at `at` ends, or `at` where none begins there (XBD 3.216).
+#[tactic(auto, unfolding(sh_tree::specs::language::Commands::name_end))]
+pub fn name_at(script: &[u8], at: u32) -> u32
+    requires small { length script.now ≤ MAX_SCRIPT }
+    requires inside { at ≤ length script.now }
+    ensures value { result ≡ commands.name_end script.now at }
+    ensures within { result ≤ length script.now }
+    ensures after { at ≤ result }
+{
+    (at as usize + name_length(&script[at as usize..])) as u32
+}
