@@ -1,9 +1,10 @@
 -- Tokens of arithmetic.
-use Rattle.std.proofs.Common.{◌≡◌, ℕ, ◌+◌, ◌<◌, ◌≤◌, Bool, true, false, not, ◌&&◌, ◌||◌, ◌==◌, List, [], ◌∷◌, ◌++◌, length, take, drop, codes, cond, refl, ap, sym, ◌∙◌, arith}
+use Rattle.std.proofs.Common.{◌≡◌, ℕ, ◌+◌, ◌<◌, Bool, true, false, not, ◌&&◌, ◌||◌, ◌==◌, List, [], ◌∷◌, length, drop, codes, cond, refl, ap, sym, ◌∙◌, arith}
 use Rattle.std.proofs.lemmas.Bool.Decides.{nat_tests}
+use Rattle.std.proofs.lemmas.Bool.{false≢true}
 use Rattle.sh_tree.specs.declared.token.arithmetic.Figure.{Figure}
-use Rattle.std.specs.Prelude.{IfSome, nat_eq}
-use Rattle.std.specs.List.{starts_with, list_all}
+use Rattle.std.specs.Prelude.{IfSome, Some, nat_eq}
+use Rattle.std.specs.List.{starts_with}
 use Rattle.sh_tree.specs.language.Bytes.{is_in, is_first, is_digit, is_octal, is_hexadecimal, is_name_start, is_name_byte, run, longest}
 use Rattle.sh_tree.specs.language.Arithmetic.{constant_length, operators}
 use Rattle.sh_scan.proofs.PieceLemmas.{run_yes, run_no, run_some}
@@ -16,6 +17,7 @@ run_begins p (c ∷ cs) = go (p c) refl
   where
     some : (n : ℕ) → true ≡ not (n + 1 == 0)
     some n = let h : (n + 1 == 0) ≡ false = grind (arith, nat_tests) in sym (ap (λ t. not t) h)
+
     go : (t : Bool) → p c ≡ t → p c ≡ not (run p (c ∷ cs) == 0)
     go true is = is ∙ some (run p cs) ∙ ap (λ n. not (n == 0)) (sym (run_yes p c cs is))
     go false is = is ∙ ap (λ n. not (n == 0)) (sym (run_no p c cs is))
@@ -31,13 +33,27 @@ constant_is c cs h =
     ap (λ n. cond (not (c == 48)) n (cond (is_first (is_in (codes "xX")) cs && is_first is_hexadecimal (drop 1 cs)) (run is_hexadecimal (drop 1 cs) + 2) (run is_octal cs + 1))) (run_yes is_digit c cs h)
     ∙ ap (λ t. cond (not (c == 48)) (run is_digit cs + 1) (cond (is_first (is_in (codes "xX")) cs && t) (run is_hexadecimal (drop 1 cs) + 2) (run is_octal cs + 1))) (run_begins is_hexadecimal (drop 1 cs))
 
--- a text that is found is within what begins so, and is not empty in a table of such texts
-pub longest_within : (table : List (List ℕ × Figure)) (cs : List ℕ) → IfSome (longest table cs) (λ found. found.1 ≤ length cs)
-unfolding longest
-longest_within [] cs = ?
-longest_within (x ∷ xs) cs = ?
+-- no text of a table is empty
+abbrev some_texts : List (List ℕ × Figure) → Bool
+some_texts [] = true
+some_texts (x ∷ xs) = not (length x.0 == 0) && some_texts xs
 
-pub longest_moves : (table : List (List ℕ × Figure)) (cs : List ℕ) → list_all (λ x. not (length x.0 == 0)) table ≡ true → IfSome (longest table cs) (λ found. 0 < found.1)
+some : (n : ℕ) (b : Bool) → (not (n == 0) && b) ≡ true → (0 < n) × (b ≡ true)
+some n true h = (grind (arith, nat_tests), refl)
+some n false h = absurd (neither (not (n == 0)) h)
+  where
+    neither : (a : Bool) → (a && false) ≡ true → ⊥
+    neither true e = false≢true e
+    neither false e = false≢true e
+
+longest_moves : (table : List (List ℕ × Figure)) (cs : List ℕ) → some_texts table ≡ true → IfSome (longest table cs) (λ found. 0 < found.1)
 unfolding longest
-longest_moves [] cs h = ?
-longest_moves (x ∷ xs) cs h = ?
+longest_moves [] cs h = tt
+longest_moves (x ∷ xs) cs h = go (starts_with nat_eq cs x.0) (some (length x.0) (some_texts xs) h).0 (longest_moves xs cs (some (length x.0) (some_texts xs) h).1)
+  where
+    go : (t : Bool) → 0 < length x.0 → IfSome (longest xs cs) (λ found. 0 < found.1) → IfSome (cond t (Some (x.1, length x.0)) (longest xs cs)) (λ found. 0 < found.1)
+    go true first rest = first
+    go false first rest = rest
+
+pub operator_moves : (cs : List ℕ) → IfSome (longest operators cs) (λ found. 0 < found.1)
+operator_moves cs = longest_moves operators cs refl

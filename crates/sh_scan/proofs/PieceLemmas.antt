@@ -26,7 +26,7 @@ run_ends p (x ∷ xs) ys h = go (λ below. run_ends p xs ys below) (p x) refl
 
 -- a run over all of the first piece
 pub run_over : (p : ℕ → Bool) (xs ys : List ℕ) → length xs ≤ run p xs → run p (xs ++ ys) ≡ run p xs + run p ys
-run_over p [] ys h = refl
+run_over p [] ys h = let none : run p [] ≡ 0 = refl in let same : run p ([] ++ ys) ≡ run p ys = refl in omega arith
 run_over p (x ∷ xs) ys h = go (λ full. run_over p xs ys full) (p x) refl
   where
     go : (length xs ≤ run p xs → run p (xs ++ ys) ≡ run p xs + run p ys) → (t : Bool) → p x ≡ t → run p (x ∷ (xs ++ ys)) ≡ run p (x ∷ xs) + run p ys

@@ -50,6 +50,7 @@ module _ (F step : List ℕ → ℕ) (goes : (cs : List ℕ) → IsStep F (F cs)
       let more : F (drop n cs) ≡ step (drop n cs) + F (drop (step (drop n cs)) (drop n cs)) = (goes (drop n cs)).goes_on (λ e. h (next ∙ e)) in
       let rest : F (drop (step (drop n cs)) (drop n cs)) ≡ F (drop (n + k) cs) =
       ap (λ m. F (drop m (drop n cs))) (sym next) ∙ ap F (drop-drop k n cs) in
+      let here' : k ≡ step (drop n cs) = next in
       omega arith
 
 pub is_joined_is : (cs : List ℕ) → is_joined cs ≡ not (joined_step cs == 0)

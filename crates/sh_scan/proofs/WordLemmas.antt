@@ -1,9 +1,9 @@
 -- Tokens of words.
-use Rattle.std.proofs.Common.{◌≡◌, ℕ, ◌+◌, ◌-◌, ◌*◌, ◌<◌, ◌≤◌, ◌==◌, Bool, true, false, not, ◌&&◌, ◌||◌, List, [], ◌∷◌, length, drop, get_or, nat_lt, nat_le, Option, Some, None, cond, refl, sym, ap, ◌∙◌, arith}
+use Rattle.std.proofs.Common.{◌≡◌, ℕ, ◌+◌, ◌-◌, ◌*◌, ◌<◌, ◌≤◌, ◌==◌, Bool, true, false, not, ◌&&◌, ◌||◌, List, [], ◌∷◌, length, take, drop, get_or, nat_lt, nat_le, Some, None, cond, refl, sym, ap, ◌∙◌, arith}
 use Rattle.std.specs.List.{position_or_len}
 use Rattle.std.proofs.lemmas.Bool.Decides.{nat_tests}
 use Rattle.std.proofs.lemmas.Bool.{lt-ltb, false≢true}
-use Rattle.std.proofs.lemmas.List.{at_drop_more, at_drop_all}
+use Rattle.std.proofs.lemmas.List.{at_drop_more, at_drop_all, take_rest}
 use Rattle.std.proofs.lemmas.List.Sums.{position_or_len_is}
 use Rattle.std.proofs.lemmas.List.Folds.{length-prefix_len}
 use Rattle.memchr.specs.Find.{IsFirstByte, is_byte}
@@ -21,9 +21,6 @@ use Rattle.sh_tree.specs.language.Words.{single, stands, plain_length, stops, is
 fails : (p : Bool) → (p ≡ true → ⊥) → p ≡ false
 fails true h = absurd (h refl)
 fails false h = refl
-
-unquoted : List ℕ → ℕ
-unquoted cs = run (λ c. not (c == 39)) cs
 
 pub single_open : (cs : List ℕ) → IsFirstByte (is_byte 39) cs None → (sign.Fault fault.OpenSingle, 0) ≡ single cs
 unfolding single
@@ -45,25 +42,33 @@ single_closed cs k found =
     ap (λ v. (sign.Single, v + 2)) (sym r)
     ∙ sym (ap (λ t. cond {A = Sign × ℕ} t (sign.Single, run (λ c. not (c == 39)) cs + 2) (sign.Fault fault.OpenSingle, 0)) inside)
 
--- Plain bytes, at the n-th of the text behind i bytes
+-- Plain bytes: t says whether the n-th of the text behind i bytes stands for itself, behind the byte p
 
-module _ (x : Context) (p i : ℕ) (cs : List ℕ) (n : ℕ) where
-  pub plain_more : n < length cs → stands x p (i + n) (get_or cs n 0) (drop (n + 1) cs) ≡ true
-      → plain_length x p (i + n) (drop n cs) ≡ 1 + plain_length x (get_or cs n 0) (i + n + 1) (drop (n + 1) cs)
-  unfolding plain_length
-  plain_more inside h =
-      at_drop_more (λ ys. plain_length x p (i + n) ys) cs n 0 inside
-      ∙ ap (λ t. cond t (1 + plain_length x (get_or cs n 0) (i + n + 1) (drop (n + 1) cs)) 0) h
+module _ (x : Context) (p i : ℕ) (cs : List ℕ) (n whole : ℕ) (sofar : whole ≡ n + plain_length x p (i + n) (drop n cs)) where
+  module _ (inside : n < length cs) (t : Bool) (here : t ≡ stands x p (i + n) (get_or cs n 0) (take (length cs - (n + 1)) (drop (n + 1) cs))) where
+    stands_so : stands x p (i + n) (get_or cs n 0) (drop (n + 1) cs) ≡ t
+    stands_so = ap (λ ys. stands x p (i + n) (get_or cs n 0) ys) (sym (take_rest cs (n + 1))) ∙ sym here
 
-  pub plain_ends : n < length cs → stands x p (i + n) (get_or cs n 0) (drop (n + 1) cs) ≡ false → plain_length x p (i + n) (drop n cs) ≡ 0
-  unfolding plain_length
-  plain_ends inside h =
-      at_drop_more (λ ys. plain_length x p (i + n) ys) cs n 0 inside
-      ∙ ap (λ t. cond t (1 + plain_length x (get_or cs n 0) (i + n + 1) (drop (n + 1) cs)) 0) h
+    from_here : plain_length x p (i + n) (drop n cs) ≡ cond t (1 + plain_length x (get_or cs n 0) (i + n + 1) (drop (n + 1) cs)) 0
+    unfolding plain_length
+    from_here =
+        at_drop_more (λ ys. plain_length x p (i + n) ys) cs n 0 inside
+        ∙ ap (λ t. cond t (1 + plain_length x (get_or cs n 0) (i + n + 1) (drop (n + 1) cs)) 0) stands_so
 
-  pub plain_done : length cs ≤ n → plain_length x p (i + n) (drop n cs) ≡ 0
+    pub plain_ends : t ≡ false → n ≡ whole
+    plain_ends h = let none : plain_length x p (i + n) (drop n cs) ≡ 0 = from_here ∙ ap (λ t. cond t (1 + plain_length x (get_or cs n 0) (i + n + 1) (drop (n + 1) cs)) 0) h in omega arith
+
+    pub plain_goes : t ≡ true → whole ≡ n + 1 + plain_length x (get_or cs n 0) (i + (n + 1)) (drop (n + 1) cs)
+    plain_goes h =
+        let more : plain_length x p (i + n) (drop n cs) ≡ 1 + plain_length x (get_or cs n 0) (i + n + 1) (drop (n + 1) cs) =
+        from_here ∙ ap (λ t. cond t (1 + plain_length x (get_or cs n 0) (i + n + 1) (drop (n + 1) cs)) 0) h in
+        let place : plain_length x (get_or cs n 0) (i + n + 1) (drop (n + 1) cs) ≡ plain_length x (get_or cs n 0) (i + (n + 1)) (drop (n + 1) cs) =
+        ap (λ m. plain_length x (get_or cs n 0) m (drop (n + 1) cs)) (omega arith) in
+        omega arith
+
+  pub plain_done : length cs ≤ n → n ≡ whole
   unfolding plain_length
-  plain_done ended = at_drop_all (λ ys. plain_length x p (i + n) ys) cs n ended
+  plain_done ended = let none : plain_length x p (i + n) (drop n cs) ≡ 0 = at_drop_all (λ ys. plain_length x p (i + n) ys) cs n ended in omega arith
 
 pub plain_first : (x : Context) (p i c : ℕ) (cs : List ℕ) → stands x p i c cs ≡ true → plain_length x p i (c ∷ cs) ≡ plain_length x c (i + 1) cs + 1
 unfolding plain_length
@@ -104,13 +109,20 @@ unfolding decimal
 decimal_from n [] = omega arith
 decimal_from n (c ∷ cs) = let h : n * 10 + (c - 48) ≤ decimal (n * 10 + (c - 48)) cs = decimal_from (n * 10 + (c - 48)) cs in omega arith
 
-pub decimal_more : (n : ℕ) (cs : List ℕ) (k : ℕ) → k < length cs → decimal n (drop k cs) ≡ decimal (n * 10 + (get_or cs k 0 - 48)) (drop (k + 1) cs)
+pub decimal_goes : (ds : List ℕ) (n k m : ℕ) → k < length ds → decimal n (drop k ds) ≡ decimal 0 ds → m ≡ n * 10 + (get_or ds k 0 - 48) → decimal m (drop (k + 1) ds) ≡ decimal 0 ds
 unfolding decimal
-decimal_more n cs k inside = at_drop_more (λ ys. decimal n ys) cs k 0 inside
+decimal_goes ds n k m inside sofar e = ap (λ v. decimal v (drop (k + 1) ds)) e ∙ sym (at_drop_more (λ ys. decimal n ys) ds k 0 inside) ∙ sofar
 
-pub decimal_done : (n : ℕ) (cs : List ℕ) (k : ℕ) → length cs ≤ k → decimal n (drop k cs) ≡ n
+pub decimal_done : (ds : List ℕ) (n k : ℕ) → length ds ≤ k → decimal n (drop k ds) ≡ decimal 0 ds → n ≤ 65535
+    → Some n ≡ cond (nat_le (decimal 0 ds) 65535) (Some (decimal 0 ds)) None
 unfolding decimal
-decimal_done n cs k ended = at_drop_all (λ ys. decimal n ys) cs k ended
+decimal_done ds n k ended sofar small =
+    let whole : n ≡ decimal 0 ds = sym (at_drop_all (λ ys. decimal n ys) ds k ended) ∙ sofar in
+    let fits : nat_le (decimal 0 ds) 65535 ≡ true = grind (arith, nat_tests) in
+    ap (λ v. Some v) whole ∙ sym (ap (λ t. cond t (Some (decimal 0 ds)) None) fits)
 
-pub too_large : (n m : ℕ) (cs : List ℕ) → decimal m cs ≡ n → 65535 < m → nat_le n 65535 ≡ false
-too_large n m cs e h = let from : m ≤ decimal m cs = decimal_from m cs in grind (arith, nat_tests)
+pub decimal_large : (ds cs : List ℕ) (m : ℕ) → decimal m cs ≡ decimal 0 ds → 65535 < m → None ≡ cond (nat_le (decimal 0 ds) 65535) (Some (decimal 0 ds)) None
+decimal_large ds cs m sofar large =
+    let from : m ≤ decimal m cs = decimal_from m cs in
+    let fails : nat_le (decimal 0 ds) 65535 ≡ false = grind (arith, nat_tests) in
+    sym (ap (λ t. cond t (Some (decimal 0 ds)) None) fails)

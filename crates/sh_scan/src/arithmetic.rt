@@ -9,10 +9,10 @@ ghost use Rattle.std.specs.Prelude.{◌≡◌, ◌≢◌, ◌≤◌, ◌<◌, �
 ghost use Rattle.sh_tree.specs.language.Arithmetic as arithmetic;
 ghost use Rattle.sh_scan.specs.Moves.{reads_figure};
 
-pub use operators::{assignment_of, binary_of, unary_of};
-
-use crate::front::{begins_with, behind_joined, joined_step};
+use crate::front::{begins_with, behind_joined};
+use crate::joined::is_joined;
 use figures::figure_of;
+pub use operators::{assignment_of, binary_of, unary_of};
 use sh_tree::limits::MAX_SCRIPT;
 use sh_tree::refusal::Form;
 use sh_tree::token::{Figure, Lexeme};
@@ -27,7 +27,7 @@ fn is_split(rest: &[u8], count: usize) -> bool
     ensures within { result ≡ true → count < length rest.now }
 {
     let behind = &rest[count..];
-    if joined_step(behind) == 0 {
+    if !is_joined(behind) {
         return false;
     }
     let (_, longer) = figure_of(&rest[..count], behind_joined(behind));

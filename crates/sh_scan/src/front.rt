@@ -42,7 +42,11 @@ pub fn name_length(rest: &[u8]) -> usize
     ensures value { result ≡ bytes.name_length rest.now }
     ensures within { result ≤ length rest.now }
 {
-    if begins_name(rest) { name_bytes(rest) } else { 0 }
+    if begins_name(rest) {
+        name_bytes(rest)
+    } else {
+        0
+    }
 }
 
 /// How many digits there are at the front.

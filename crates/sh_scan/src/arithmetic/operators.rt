@@ -58,7 +58,8 @@ const OPERATORS: [(&[u8], Figure); 42] = [
 /// The first text of a table with which the text of both pieces begins.
 #[tactic(auto, unfolding(sh_tree::specs::language::Bytes::longest))]
 fn longest(mut table: &[(&[u8], Figure)], front: &[u8], rest: &[u8]) -> Option<(Figure, usize)>
-    ensures { result ≡ longest (texts_of table.entry.now) (front.now ++ rest.now) }
+    ensures value { result ≡ longest (texts_of table.entry.now) (front.now ++ rest.now) }
+    ensures within { IfSome result (λ found. found.1 ≤ length front.now + length rest.now) }
 {
     while let [row, others @ ..] = table {
         if begins_so(front, rest, row.0) {

@@ -1,5 +1,5 @@
 //! Texts in two pieces: a token, and what stands behind the line continuations that follow it.
-ghost use Rattle.std.specs.Prelude.{◌≡◌, ◌≤◌, ◌<◌, ◌+◌, ◌++◌, ◌==◌, length, drop, codes, nat_eq};
+ghost use Rattle.std.specs.Prelude.{◌≡◌, ◌≤◌, ◌<◌, ◌+◌, ◌++◌, ◌==◌, true, length, drop, codes, nat_eq};
 ghost use Rattle.std.specs.List.{starts_with};
 ghost use Rattle.sh_tree.specs.language.Bytes as bytes;
 ghost use Rattle.sh_scan.specs.Alphabets.{belongs};
@@ -68,7 +68,8 @@ pub fn run_behind_first(alphabet: Alphabet, front: &[u8], rest: &[u8]) -> usize
 
 /// Whether the text of both pieces begins so.
 pub fn begins_so(front: &[u8], rest: &[u8], text: &[u8]) -> bool
-    ensures { result ≡ starts_with nat_eq (front.now ++ rest.now) text.now }
+    ensures value { result ≡ starts_with nat_eq (front.now ++ rest.now) text.now }
+    ensures within { result ≡ true → length text.now ≤ length front.now + length rest.now }
 {
     let shared = text.len().min(front.len());
     let first = front.starts_with(&text[..shared]);

@@ -6,6 +6,7 @@ ghost use Rattle.sh_tree.specs.language.Words as words;
 ghost use Rattle.sh_scan.specs.Moves.{reads_bytes, refuses};
 
 use super::parameters::{parameter, span, special_of};
+use super::sites::begins_at;
 use crate::front::begins_with;
 use crate::joined::is_joined;
 use sh_tree::limits::MAX_SCRIPT;
@@ -58,15 +59,15 @@ fn removed(subject: Subject, behind: usize, rest: &[u8]) -> (Sign, usize)
 {
     match rest {
         [] => misfit(behind, rest),
-        [first, others @ ..] => {
+        [first, ..] => {
             if *first == b'%' {
-                if begins_with(others, b'%') {
+                if begins_at(rest, 1, b'%') {
                     (Sign::Remove(subject, Removal::LongSuffix), behind + 2)
                 } else {
                     (Sign::Remove(subject, Removal::ShortSuffix), behind + 1)
                 }
             } else if *first == b'#' {
-                if begins_with(others, b'#') {
+                if begins_at(rest, 1, b'#') {
                     (Sign::Remove(subject, Removal::LongPrefix), behind + 2)
                 } else {
                     (Sign::Remove(subject, Removal::ShortPrefix), behind + 1)
@@ -136,11 +137,10 @@ fn counted(at: usize, rest: &[u8]) -> (Sign, usize)
 {
     match parameter(at + 3, rest) {
         Some((subject, length)) => {
-            let others = &rest[length..];
-            if begins_with(others, b'}') {
+            if begins_at(rest, length, b'}') {
                 (Sign::Length(subject), length + 4)
             } else {
-                misfit(length + 3, others)
+                misfit(length + 3, &rest[length..])
             }
         }
         None => misfit(3, rest),
@@ -159,11 +159,10 @@ fn specially(at: usize, rest: &[u8], special: Option<Special>) -> (Sign, usize)
 {
     match special {
         Some(special) => {
-            let others = &rest[1..];
-            if begins_with(others, b'}') {
+            if begins_at(rest, 1, b'}') {
                 (Sign::Value(Subject::Special(special, span(at, at + 1))), 4)
             } else {
-                misfit(3, others)
+                misfit(3, &rest[1..])
             }
         }
         None => misfit(2, rest),
@@ -182,7 +181,7 @@ fn unnamed(at: usize, rest: &[u8]) -> (Sign, usize)
     match rest {
         [] => misfit(2, rest),
         [first, others @ ..] => {
-            let closed = begins_with(others, b'}');
+            let closed = begins_at(rest, 1, b'}');
             if *first == b'#' && !closed {
                 counted(at, others)
             } else {

@@ -1,9 +1,10 @@
 //! Where the parts of a word are read.
-ghost use Rattle.std.specs.Prelude.{◌≡◌, ◌≤◌};
+ghost use Rattle.std.specs.Prelude.{◌≡◌, ◌≤◌, ◌<◌, ◌==◌, true, length, drop};
 ghost use Rattle.sh_tree.specs.language.Bytes as bytes;
 ghost use Rattle.sh_tree.specs.language.Words as words;
 
 use crate::bytes::ends_token;
+use crate::front::begins_with;
 use sh_tree::token::Site;
 
 /// Whether the byte is one of these.
@@ -11,6 +12,15 @@ pub fn is_among(known: &[u8], byte: u8) -> bool
     ensures { result ≡ bytes.is_in known.now byte }
 {
     known.iter().any(|one| *one == byte)
+}
+
+/// Whether the byte stands behind the first `from` bytes.
+pub fn begins_at(rest: &[u8], from: usize, byte: u8) -> bool
+    requires { from ≤ length rest.now }
+    ensures value { result ≡ bytes.is_first (λ c. c == byte) (drop from rest.now) }
+    ensures within { result ≡ true → from < length rest.now }
+{
+    begins_with(&rest[from..], byte)
 }
 
 /// Whether the site is read as in double quotes.

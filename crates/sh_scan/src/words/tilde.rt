@@ -52,8 +52,7 @@ pub fn tilde_length(context: Context, rest: &[u8]) -> usize
 fn may_be_tilde(context: Context, prior: u8, at: usize) -> bool
     ensures { result ≡ words.may_be_tilde context prior at }
 {
-    !is_quoted(context.site)
-        && (at == context.origin as usize || (context.colons && prior == b':'))
+    !is_quoted(context.site) && (at == context.origin as usize || (context.colons && prior == b':'))
 }
 
 /// Whether the byte at `at` begins a tilde-prefix.
