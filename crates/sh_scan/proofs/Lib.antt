@@ -1,5 +1,7 @@
 pub mod PlaceLemmas
 pub mod StepLemmas
 pub mod PieceLemmas
+pub mod RunLemmas
+pub mod SpaceLemmas
 pub mod ArithmeticLemmas
 pub mod WordLemmas

@@ -1,64 +1,102 @@
--- Lengths of stretches, step by step.
-use Rattle.std.proofs.Common.{◌≡◌, ℕ, ◌+◌, ◌-◌, Bool, true, false, not, ◌&&◌, ◌||◌, ◌==◌, List, [], ◌∷◌, length, take, drop, cond, refl, sym, ap, ◌∙◌, arith}
-use Rattle.std.proofs.lemmas.List.{drop-drop, take_rest}
-use Rattle.std.proofs.lemmas.Bool.Decides.{nat_tests}
+-- Stretches of a text that are gone over piece by piece.
+use Rattle.std.proofs.Common.{◌≡◌, ℕ, zero, suc, ◌+◌, ◌-◌, ◌<◌, ◌≤◌, Bool, true, false, not, ◌&&◌, List, [], ◌∷◌, length, take, drop, refl, sym, ap, ◌∙◌, arith, ⊎_elim, length-drop, take_all}
+use Rattle.std.proofs.lemmas.Bool.{cases_Bool, cond-true, cond-false, ne_eqb}
+use Rattle.std.proofs.lemmas.List.{drop-drop}
+use Rattle.std.specs.Prelude.{◌==◌}
 use Rattle.sh_tree.specs.language.Bytes.{is_blank, is_newline, is_backslash, is_joined, joined_length}
-use Rattle.sh_tree.specs.language.Arithmetic.{space_length}
-use Rattle.sh_scan.specs.Steps.{joined_step}
-use Rattle.sh_scan.specs.Spaces.{space_step}
+use Rattle.sh_tree.specs.language.Commands.{gap_length}
+use Rattle.sh_tree.specs.language.HereDocuments.{line_length}
+use Rattle.sh_scan.specs.Steps.{joined_step, gap_step, line_step}
 
--- a stretch of which n bytes are the first step, where those behind a step are as F says
-pub record IsStep (F : List ℕ → ℕ) (whole : ℕ) (cs : List ℕ) (n : ℕ) : Type 0 where
-  pub ends : n ≡ 0 → whole ≡ 0
-  pub goes_on : (n ≡ 0 → ⊥) → whole ≡ n + F (drop n cs)
+-- the whole is a first piece and the whole of what is behind it, or there is no piece
+pub record Unrolls (f step : List ℕ → ℕ) (cs : List ℕ) : Type 0 where
+  pub more : 0 < step cs → f cs ≡ step cs + f (drop (step cs) cs)
+  pub none : step cs ≡ 0 → f cs ≡ 0
 
-no_step : (F : List ℕ → ℕ) (cs : List ℕ) → IsStep F 0 cs 0
-no_step F cs = record { ends = λ h. refl; goes_on = λ h. absurd (h refl) }
+pub goes_on : (f step : List ℕ → ℕ) (cs : List ℕ) (n : ℕ) → step cs ≡ suc n → f cs ≡ suc n + f (drop (suc n) cs) → Unrolls f step cs
+goes_on f step cs n e h = record { more = λ p. h ∙ ap (λ m. m + f (drop m cs)) (sym e); none = λ z. absurd (omega arith) }
 
-two_steps : (F : List ℕ → ℕ) (j : Bool) (c d : ℕ) (cs : List ℕ) → IsStep F (cond j (2 + F cs) 0) (c ∷ d ∷ cs) (cond j 2 0)
-two_steps F true c d cs = record { ends = λ h. absurd (omega arith); goes_on = λ h. refl }
-two_steps F false c d cs = no_step F (c ∷ d ∷ cs)
+pub ends : (f step : List ℕ → ℕ) (cs : List ℕ) → step cs ≡ 0 → f cs ≡ 0 → Unrolls f step cs
+ends f step cs e h = record { more = λ p. absurd (omega arith); none = λ z. h }
 
-one_step : (F : List ℕ → ℕ) (b : Bool) (c : ℕ) (cs : List ℕ) (f n : ℕ) → IsStep F f (c ∷ cs) n → IsStep F (cond b (1 + F cs) f) (c ∷ cs) (cond b 1 n)
-one_step F true c cs f n s = record { ends = λ h. absurd (omega arith); goes_on = λ h. refl }
-one_step F false c cs f n s = s
-
-pub joined_goes : (cs : List ℕ) → IsStep joined_length (joined_length cs) cs (joined_step cs)
+pub joined_unrolls : (cs : List ℕ) → Unrolls joined_length joined_step cs
 unfolding joined_length joined_step
-joined_goes [] = no_step joined_length []
-joined_goes (c ∷ []) = no_step joined_length (c ∷ [])
-joined_goes (c ∷ d ∷ cs) = two_steps joined_length (is_backslash c && is_newline d) c d cs
+joined_unrolls [] = ends _ _ _ refl refl
+joined_unrolls (c ∷ []) = ends _ _ _ refl refl
+joined_unrolls (c ∷ d ∷ cs) = ⊎_elim
+    (λ yes. goes_on _ _ _ 1 (cond-true _ _ _ yes) (cond-true _ _ _ yes))
+    (λ other. ends _ _ _ (cond-false _ _ _ other) (cond-false _ _ _ other))
+    (cases_Bool (is_backslash c && is_newline d))
 
-pub space_goes : (cs : List ℕ) → IsStep space_length (space_length cs) cs (space_step cs)
-unfolding space_length space_step joined_step
-space_goes [] = no_step space_length []
-space_goes (c ∷ []) = one_step space_length (is_blank c || is_newline c) c [] 0 0 (no_step space_length (c ∷ []))
-space_goes (c ∷ d ∷ cs) =
-    one_step space_length (is_blank c || is_newline c) c (d ∷ cs) _ _ (two_steps space_length (is_backslash c && is_newline d) c d cs)
+pub gap_unrolls : (cs : List ℕ) → Unrolls gap_length gap_step cs
+unfolding gap_length gap_step joined_step
+gap_unrolls [] = ends _ _ _ refl refl
+gap_unrolls (c ∷ []) = ⊎_elim
+    (λ yes. goes_on _ _ _ 0 (cond-true _ _ _ yes) (cond-true _ _ _ yes))
+    (λ other. ends _ _ _ (cond-false _ _ _ other) (cond-false _ _ _ other))
+    (cases_Bool (is_blank c))
+gap_unrolls (c ∷ d ∷ cs) = ⊎_elim
+    (λ yes. goes_on _ _ _ 0 (cond-true _ _ _ yes) (cond-true _ _ _ yes))
+    (λ other. ⊎_elim
+    (λ joins. goes_on _ _ _ 1 (cond-false _ _ _ other ∙ cond-true _ _ _ joins) (cond-false _ _ _ other ∙ cond-true _ _ _ joins))
+    (λ last. ends _ _ _ (cond-false _ _ _ other ∙ cond-false _ _ _ last) (cond-false _ _ _ other ∙ cond-false _ _ _ last))
+    (cases_Bool (is_backslash c && is_newline d)))
+    (cases_Bool (is_blank c))
 
--- a stretch of which n bytes are found, at its next step
-module _ (F step : List ℕ → ℕ) (goes : (cs : List ℕ) → IsStep F (F cs) cs (step cs)) (cs : List ℕ) (n k : ℕ) (here : k ≡ step (take (length cs - n) (drop n cs)))
-    (whole : F cs ≡ n + F (drop n cs)) where
-  next : k ≡ step (drop n cs)
-  next = here ∙ ap step (take_rest cs n)
+pub line_unrolls : (joins : Bool) (cs : List ℕ) → Unrolls (line_length joins) (line_step joins) cs
+unfolding line_length line_step
+line_unrolls joins [] = ends _ _ _ refl refl
+line_unrolls joins (c ∷ []) = ⊎_elim
+    (λ stop. ends _ _ _ (cond-true _ _ _ stop) (cond-true _ _ _ stop))
+    (λ other. goes_on _ _ _ 0 (cond-false _ _ _ other) (cond-false _ _ _ other))
+    (cases_Bool (is_newline c))
+line_unrolls joins (c ∷ d ∷ cs) = ⊎_elim
+    (λ stop. ends _ _ _ (cond-true _ _ _ stop) (cond-true _ _ _ stop))
+    (λ other. ⊎_elim
+    (λ keeps. goes_on _ _ _ 1 (cond-false _ _ _ other ∙ cond-true _ _ _ keeps) (cond-false _ _ _ other ∙ cond-true _ _ _ keeps))
+    (λ one. goes_on _ _ _ 0 (cond-false _ _ _ other ∙ cond-false _ _ _ one) (cond-false _ _ _ other ∙ cond-false _ _ _ one))
+    (cases_Bool (joins && is_backslash c)))
+    (cases_Bool (is_newline c))
 
-  pub stretch_ends : k ≡ 0 → n ≡ F cs
-  stretch_ends h = let none : F (drop n cs) ≡ 0 = (goes (drop n cs)).ends (sym next ∙ h) in omega arith
+-- the whole is n bytes and the whole of what is behind them
+pub record Behind (f : List ℕ → ℕ) (cs : List ℕ) (n : ℕ) : Type 0 where
+  pub within : n ≤ length cs
+  pub whole : f cs ≡ n + f (drop n cs)
 
-  pub stretch_goes : (k ≡ 0 → ⊥) → F cs ≡ n + k + F (drop (n + k) cs)
-  stretch_goes h =
-      let more : F (drop n cs) ≡ step (drop n cs) + F (drop (step (drop n cs)) (drop n cs)) = (goes (drop n cs)).goes_on (λ e. h (next ∙ e)) in
-      let rest : F (drop (step (drop n cs)) (drop n cs)) ≡ F (drop (n + k) cs) =
-      ap (λ m. F (drop m (drop n cs))) (sym next) ∙ ap F (drop-drop k n cs) in
-      let here' : k ≡ step (drop n cs) = next in
-      omega arith
+-- what the slice from n on holds
+abbrev pub behind : List ℕ → ℕ → List ℕ
+behind cs n = take (length cs - n) (drop n cs)
 
-pub is_joined_is : (cs : List ℕ) → is_joined cs ≡ not (joined_step cs == 0)
+pub behind_is : (cs : List ℕ) (n : ℕ) → behind cs n ≡ drop n cs
+behind_is cs n = take_all (length cs - n) (drop n cs) (omega (arith, length-drop n cs))
+
+-- one piece further
+pub one_more : (f step : List ℕ → ℕ) (cs : List ℕ) (n s : ℕ) → Behind f cs n → s ≡ step (behind cs n) → s ≤ length (behind cs n) → 0 < s
+    → Unrolls f step (behind cs n) → Behind f cs (n + s)
+one_more f step cs n s so e fits some unrolls =
+    let rest = behind cs n in
+    let same = behind_is cs n in
+    let long : length rest ≡ length cs - n = ap length same ∙ length-drop n cs in
+    let more : f rest ≡ s + f (drop s rest) = unrolls.more (omega arith) ∙ ap (λ m. m + f (drop m rest)) (sym e) in
+    let later : drop s rest ≡ drop (n + s) cs = ap (drop s) same ∙ drop-drop s n cs in
+    let bound = so.within in
+    record { within = omega arith; whole = omega (arith, so.whole, ap f same, more, ap f later) }
+
+-- no piece is left
+pub no_more : (f step : List ℕ → ℕ) (cs : List ℕ) (n s : ℕ) → Behind f cs n → s ≡ step (behind cs n) → s ≡ 0 → Unrolls f step (behind cs n) → n ≡ f cs
+no_more f step cs n s so e z unrolls =
+    let last : f (behind cs n) ≡ 0 = unrolls.none (sym e ∙ z) in
+    omega (arith, so.whole, ap f (behind_is cs n), last)
+
+-- a line continuation stands at the front where one is the first piece
+pub is_joined_is : (cs : List ℕ) → not (joined_step cs == 0) ≡ is_joined cs
 unfolding joined_length joined_step
 is_joined_is [] = refl
 is_joined_is (c ∷ []) = refl
-is_joined_is (c ∷ d ∷ cs) = go (is_backslash c && is_newline d) (joined_length cs)
+is_joined_is (c ∷ d ∷ cs) = ⊎_elim
+    (λ yes. ap (λ n. not (n == 0)) (cond-true _ _ _ yes) ∙ sym (ap (λ n. not (n == 0)) (cond-true _ _ _ yes) ∙ some (joined_length cs)))
+    (λ other. ap (λ n. not (n == 0)) (cond-false _ _ _ other) ∙ sym (ap (λ n. not (n == 0)) (cond-false _ _ _ other)))
+    (cases_Bool (is_backslash c && is_newline d))
   where
-    go : (t : Bool) (n : ℕ) → not (cond t (2 + n) 0 == 0) ≡ not (cond {A = ℕ} t 2 0 == 0)
-    go true n = let h : (2 + n == 0) ≡ false = grind (arith, nat_tests) in ap (λ t. not t) h
-    go false n = refl
+    some : (n : ℕ) → not (2 + n == 0) ≡ true
+    some n = ap not (ne_eqb (2 + n) 0 (λ e. absurd (omega arith)))

@@ -2,8 +2,8 @@
 -- POSIX.1-2024, XBD 3.216 (name), XCU 1.1.2.1 (constants).
 use Rattle.std.specs.Prelude.{ℕ, Bool}
 use Rattle.sh_tree.specs.language.Bytes.{is_digit, is_octal, is_hexadecimal, is_name_byte}
-use Rattle.sh_scan.specs.declared.arithmetic.pieces.Alphabet.{Alphabet}
-use Rattle.sh_scan.specs.declared.arithmetic.pieces.Alphabet.TheVariants.{Name, Decimal, Octal, Hexadecimal}
+use Rattle.sh_scan.specs.declared.arithmetic.alphabets.Alphabet.{Alphabet}
+use Rattle.sh_scan.specs.declared.arithmetic.alphabets.Alphabet.TheVariants.{Name, Decimal, Octal, Hexadecimal}
 
 abbrev pub belongs : Alphabet → (ℕ → Bool)
 belongs Name = is_name_byte

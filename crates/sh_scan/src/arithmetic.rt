@@ -1,16 +1,17 @@
 //! Tokens of arithmetic (XCU 2.6.4).
+mod alphabets;
 mod constants;
 mod figures;
 mod operators;
-mod pieces;
 mod spaces;
+#[cfg(test)]
+mod tests;
 
 ghost use Rattle.std.specs.Prelude.{◌≡◌, ◌≢◌, ◌≤◌, ◌<◌, ◌+◌, true, length, drop};
 ghost use Rattle.sh_tree.specs.language.Arithmetic as arithmetic;
 ghost use Rattle.sh_scan.specs.Moves.{reads_figure};
 
-use crate::front::{begins_with, behind_joined};
-use crate::joined::is_joined;
+use crate::front::{begins_with, behind_joined, is_joined};
 use figures::figure_of;
 pub use operators::{assignment_of, binary_of, unary_of};
 use sh_tree::limits::MAX_SCRIPT;

@@ -1,5 +1,6 @@
 //! The front of a text.
 ghost use Rattle.std.specs.Prelude.{◌≡◌, ◌≤◌, ◌<◌, ◌==◌, true, not, length, drop};
+ghost use Rattle.std.specs.List.{list_all};
 ghost use Rattle.sh_tree.specs.language.Bytes as bytes;
 ghost use Rattle.sh_tree.specs.language.Commands as commands;
 ghost use Rattle.sh_scan.specs.Steps.{joined_step};
@@ -49,6 +50,31 @@ pub fn name_length(rest: &[u8]) -> usize
     }
 }
 
+fn are_name_bytes(text: &[u8]) -> bool
+    ensures { result ≡ list_all bytes.is_name_byte text.now }
+{
+    text.iter().all(|byte| is_name_byte(*byte))
+}
+
+/// Whether the whole text is a name (XBD 3.216).
+pub fn is_name(text: &[u8]) -> bool
+    ensures { result ≡ bytes.is_name text.now }
+{
+    let begun = begins_name(text);
+    begun && are_name_bytes(text)
+}
+
+/// Whether the text begins with `<` or `>`.
+#[tactic(auto, unfolding(sh_tree::specs::language::Bytes::is_first))]
+pub fn begins_angle(rest: &[u8]) -> bool
+    ensures { result ≡ commands.is_angle rest.now }
+{
+    match rest {
+        [] => false,
+        [first, ..] => *first == b'<' || *first == b'>',
+    }
+}
+
 /// How many digits there are at the front.
 pub fn digit_length(rest: &[u8]) -> usize
     ensures value { result ≡ bytes.run bytes.is_digit rest.now }
@@ -82,6 +108,15 @@ pub fn joined_length(rest: &[u8]) -> usize
         }
         length += step;
     }
+}
+
+/// Whether a line continuation stands at the front.
+#[tactic(auto, using(crate::proofs::StepLemmas::is_joined_is), unfolding(crate::specs::Steps::joined_step))]
+pub fn is_joined(rest: &[u8]) -> bool
+    ensures value { result ≡ bytes.is_joined rest.now }
+    ensures within { result ≡ true → 1 < length rest.now }
+{
+    joined_step(rest) != 0
 }
 
 /// The text behind the line continuations at its front.

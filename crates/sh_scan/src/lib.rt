@@ -5,8 +5,8 @@ mod arithmetic;
 mod bytes;
 mod class;
 mod front;
-mod joined;
 mod lines;
+mod pieces;
 mod words;
 
 pub use arithmetic::{assignment_of, binary_of, is_closed, lexeme_at, unary_of};

@@ -6,6 +6,8 @@ mod parameters;
 mod plain;
 mod signs;
 mod sites;
+#[cfg(test)]
+mod tests;
 mod tilde;
 
 pub use contexts::{

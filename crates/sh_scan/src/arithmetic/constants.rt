@@ -3,7 +3,7 @@ ghost use Rattle.std.specs.Prelude.{◌≡◌, ◌≤◌, ◌<◌, ◌+◌, ◌+
 ghost use Rattle.sh_tree.specs.language.Bytes as bytes;
 ghost use Rattle.sh_tree.specs.language.Arithmetic as arithmetic;
 
-use super::pieces::{Alphabet, begins_x, run_behind_first, run_over};
+use super::alphabets::{Alphabet, begins_x, run_behind_first, run_over};
 use sh_tree::limits::MAX_SCRIPT;
 
 /// How long the constant is that begins with a digit, before the text of both pieces.

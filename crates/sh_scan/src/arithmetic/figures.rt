@@ -3,10 +3,11 @@ ghost use Rattle.std.specs.Prelude.{◌≡◌, ◌≢◌, ◌≤◌, ◌<◌, �
 ghost use Rattle.sh_tree.specs.language.Bytes as bytes;
 ghost use Rattle.sh_tree.specs.language.Arithmetic as arithmetic;
 
+use super::alphabets::{Alphabet, run_over};
 use super::constants::constant_length;
 use super::operators::operator;
-use super::pieces::{Alphabet, begins_so, run_over};
 use crate::bytes::{is_digit, is_name_start};
+use crate::pieces::begins_so;
 use sh_tree::limits::MAX_SCRIPT;
 use sh_tree::refusal::Form;
 use sh_tree::token::Figure;

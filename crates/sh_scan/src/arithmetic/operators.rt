@@ -4,7 +4,7 @@ ghost use Rattle.sh_tree.specs.language.Bytes.{longest};
 ghost use Rattle.sh_tree.specs.language.Arithmetic as arithmetic;
 ghost use Rattle.sh_scan.specs.Tables.{texts_of};
 
-use super::pieces::begins_so;
+use crate::pieces::begins_so;
 use sh_tree::refusal::Form;
 use sh_tree::token::Figure;
 use sh_tree::tree::{Binary, Unary};
@@ -56,7 +56,7 @@ const OPERATORS: [(&[u8], Figure); 42] = [
 ];
 
 /// The first text of a table with which the text of both pieces begins.
-#[tactic(auto, unfolding(sh_tree::specs::language::Bytes::longest))]
+#[tactic(auto, using(crate::proofs::ArithmeticLemmas::begun_within), unfolding(sh_tree::specs::language::Bytes::longest))]
 fn longest(mut table: &[(&[u8], Figure)], front: &[u8], rest: &[u8]) -> Option<(Figure, usize)>
     ensures value { result ≡ longest (texts_of table.entry.now) (front.now ++ rest.now) }
     ensures within { IfSome result (λ found. found.1 ≤ length front.now + length rest.now) }

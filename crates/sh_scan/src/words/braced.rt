@@ -7,8 +7,7 @@ ghost use Rattle.sh_scan.specs.Moves.{reads_bytes, refuses};
 
 use super::parameters::{parameter, span, special_of};
 use super::sites::begins_at;
-use crate::front::begins_with;
-use crate::joined::is_joined;
+use crate::front::{begins_with, is_joined};
 use sh_tree::limits::MAX_SCRIPT;
 use sh_tree::refusal::{Fault, Form};
 use sh_tree::token::Sign;

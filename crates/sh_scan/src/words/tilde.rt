@@ -5,7 +5,7 @@ ghost use Rattle.sh_tree.specs.language.Words as words;
 
 use super::sites::{is_among, is_quoted, stops};
 use crate::bytes::is_name_byte;
-use crate::joined::is_joined;
+use crate::front::is_joined;
 use sh_tree::token::Context;
 
 fn is_login_byte(byte: u8) -> bool

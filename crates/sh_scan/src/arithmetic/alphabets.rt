@@ -1,6 +1,5 @@
-//! Texts in two pieces: a token, and what stands behind the line continuations that follow it.
-ghost use Rattle.std.specs.Prelude.{◌≡◌, ◌≤◌, ◌<◌, ◌+◌, ◌++◌, ◌==◌, true, length, drop, codes, nat_eq};
-ghost use Rattle.std.specs.List.{starts_with};
+//! The bytes of names and constants, in two pieces: a token, and what stands behind the line continuations that follow it.
+ghost use Rattle.std.specs.Prelude.{◌≡◌, ◌≤◌, ◌<◌, ◌+◌, ◌++◌, length, drop, codes};
 ghost use Rattle.sh_tree.specs.language.Bytes as bytes;
 ghost use Rattle.sh_scan.specs.Alphabets.{belongs};
 
@@ -37,7 +36,7 @@ fn run(alphabet: Alphabet, rest: &[u8]) -> usize
 }
 
 /// How many bytes of an alphabet stand at the front of both pieces.
-#[tactic(auto, using(crate::proofs::PieceLemmas::run_ends, crate::proofs::PieceLemmas::run_over))]
+#[tactic(auto, using(crate::proofs::RunLemmas::run_ends, crate::proofs::RunLemmas::run_over))]
 pub fn run_over(alphabet: Alphabet, front: &[u8], rest: &[u8]) -> usize
     requires small { length front.now + length rest.now ≤ MAX_SCRIPT }
     ensures value { result ≡ bytes.run (belongs alphabet) (front.now ++ rest.now) }
@@ -64,16 +63,6 @@ pub fn run_behind_first(alphabet: Alphabet, front: &[u8], rest: &[u8]) -> usize
         },
         [_, others @ ..] => run_over(alphabet, others, rest),
     }
-}
-
-/// Whether the text of both pieces begins so.
-pub fn begins_so(front: &[u8], rest: &[u8], text: &[u8]) -> bool
-    ensures value { result ≡ starts_with nat_eq (front.now ++ rest.now) text.now }
-    ensures within { result ≡ true → length text.now ≤ length front.now + length rest.now }
-{
-    let shared = text.len().min(front.len());
-    let first = front.starts_with(&text[..shared]);
-    first && rest.starts_with(&text[shared..])
 }
 
 /// Whether the first byte is the letter of a hexadecimal constant.
