@@ -3,3 +3,7 @@ pub mod StepLemmas
 pub mod OperatorLemmas
 pub mod PieceLemmas
 pub mod QuoteLemmas
+pub mod RunLemmas
+pub mod SpaceLemmas
+pub mod ArithmeticLemmas
+pub mod WordLemmas

@@ -13,10 +13,10 @@ pub record Unrolls (f step : List ℕ → ℕ) (cs : List ℕ) : Type 0 where
   pub more : 0 < step cs → f cs ≡ step cs + f (drop (step cs) cs)
   pub none : step cs ≡ 0 → f cs ≡ 0
 
-goes_on : (f step : List ℕ → ℕ) (cs : List ℕ) (n : ℕ) → step cs ≡ suc n → f cs ≡ suc n + f (drop (suc n) cs) → Unrolls f step cs
+pub goes_on : (f step : List ℕ → ℕ) (cs : List ℕ) (n : ℕ) → step cs ≡ suc n → f cs ≡ suc n + f (drop (suc n) cs) → Unrolls f step cs
 goes_on f step cs n e h = record { more = λ p. h ∙ ap (λ m. m + f (drop m cs)) (sym e); none = λ z. absurd (omega arith) }
 
-ends : (f step : List ℕ → ℕ) (cs : List ℕ) → step cs ≡ 0 → f cs ≡ 0 → Unrolls f step cs
+pub ends : (f step : List ℕ → ℕ) (cs : List ℕ) → step cs ≡ 0 → f cs ≡ 0 → Unrolls f step cs
 ends f step cs e h = record { more = λ p. absurd (omega arith); none = λ z. h }
 
 pub joined_unrolls : (cs : List ℕ) → Unrolls joined_length joined_step cs

@@ -1,5 +1,5 @@
 //! The front of a text.
-ghost use Rattle.std.specs.Prelude.{◌≡◌, ◌≤◌, ◌==◌, true, not, length, drop};
+ghost use Rattle.std.specs.Prelude.{◌≡◌, ◌≤◌, ◌<◌, ◌==◌, true, not, length, drop};
 ghost use Rattle.std.specs.List.{list_all};
 ghost use Rattle.sh_tree.specs.language.Bytes as bytes;
 ghost use Rattle.sh_tree.specs.language.Commands as commands;
@@ -11,7 +11,8 @@ use sh_tree::limits::MAX_SCRIPT;
 /// Whether the text begins with the byte.
 #[tactic(auto, unfolding(sh_tree::specs::language::Bytes::is_first))]
 pub fn begins_with(rest: &[u8], byte: u8) -> bool
-    ensures { result ≡ bytes.is_first (λ c. c == byte) rest.now }
+    ensures value { result ≡ bytes.is_first (λ c. c == byte) rest.now }
+    ensures within { result ≡ true → 0 < length rest.now }
 {
     match rest {
         [] => false,
@@ -110,9 +111,10 @@ pub fn joined_length(rest: &[u8]) -> usize
 }
 
 /// Whether a line continuation stands at the front.
-#[tactic(auto, using(crate::proofs::StepLemmas::is_joined_is))]
+#[tactic(auto, using(crate::proofs::StepLemmas::is_joined_is), unfolding(crate::specs::Steps::joined_step))]
 pub fn is_joined(rest: &[u8]) -> bool
-    ensures { result ≡ bytes.is_joined rest.now }
+    ensures value { result ≡ bytes.is_joined rest.now }
+    ensures within { result ≡ true → 1 < length rest.now }
 {
     joined_step(rest) != 0
 }

@@ -1,6 +1,7 @@
 //! The tokens of a script, each the longest, and where its lines begin.
 #![tactic(auto)]
 
+mod arithmetic;
 mod assignments;
 mod bare;
 mod blanks;
@@ -17,7 +18,9 @@ mod quotes;
 mod redirection;
 #[cfg(test)]
 mod tests;
+mod words;
 
+pub use arithmetic::{assignment_of, binary_of, is_closed, lexeme_at, unary_of};
 pub use assignments::{is_assignment_at, is_location_at};
 pub use bare::{declares_at, is_bare_name_at};
 pub use blanks::blanks_at;
@@ -33,3 +36,7 @@ pub use lines::Lines;
 pub use operators::{direction_of, operator_at, strip_of};
 pub use quotes::single_end;
 pub use redirection::redirection_at;
+pub use words::{
+    in_arithmetic, in_body, in_double, in_operand, in_removal, in_unsplit, in_use, in_value,
+    in_word, token_at,
+};

@@ -1,7 +1,7 @@
 -- The tokens of arithmetic, each the longest.
 -- POSIX.1-2024, XCU 2.6.4 (arithmetic expansion), 1.1.2.1 (arithmetic precision and operations).
-use Rattle.std.specs.Prelude.{ℕ, ◌+◌, Bool, true, false, not, ◌&&◌, ◌||◌, if◌then◌else◌, ◌==◌, List, [], ◌∷◌, length, drop, take, codes, nat_lt, Option, Some, None, slice_range}
-use Rattle.std.specs.Str.{bytes_eq}
+use Rattle.std.specs.Prelude.{ℕ, ◌+◌, Bool, true, false, not, ◌&&◌, ◌||◌, if◌then◌else◌, ◌==◌, List, [], ◌∷◌, length, drop, take, codes, nat_eq, nat_lt, Option, Some, None, slice_range}
+use Rattle.std.specs.List.{starts_with}
 use Rattle.sh_tree.specs.declared.tree.Binary.{Binary}
 use Rattle.sh_tree.specs.declared.tree.Binary.TheVariants as op
 use Rattle.sh_tree.specs.declared.tree.Unary.{Unary}
@@ -54,7 +54,7 @@ constant_length cs =
 
 -- a name; `sizeof` is left out
 unfoldable pub named : List ℕ → Figure × ℕ
-named cs = if bytes_eq (take (name_length cs) cs) (codes "sizeof") then (figure.LeftOut form.Arithmetic, name_length cs) else (figure.Name, name_length cs)
+named cs = if name_length cs == 6 && starts_with nat_eq cs (codes "sizeof") then (figure.LeftOut form.Arithmetic, 6) else (figure.Name, name_length cs)
 
 -- no token of arithmetic begins so
 unfoldable pub unknown : List ℕ → Figure × ℕ

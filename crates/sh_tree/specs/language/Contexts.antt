@@ -24,10 +24,12 @@ in_value i = record { site = site.Word; origin = i; colons = true; fields = fals
 unfoldable pub in_operand : List ℕ → ℕ → Context
 in_operand b i = if is_assignment (drop i b) then in_value (name_end b i + 1) else in_word i
 
--- the body of a here-document; nothing in it is special where the delimiter is quoted
+-- the body of a here-document, whether its delimiter is quoted, when nothing in it is special, and whether it is stripped of tabs
+abbrev pub in_body : Bool → Bool → Context
+in_body quoted strip = record { site = if quoted then site.Verbatim else site.Body; origin = 0; colons = false; fields = false; strip = strip; body = true }
+
 unfoldable pub in_document_of : Mark → Context
-in_document_of m =
-    record { site = if m.quoted then site.Verbatim else site.Body; origin = 0; colons = false; fields = false; strip = m.strip; body = true }
+in_document_of m = in_body m.quoted m.strip
 
 -- a word of a simple command at i
 unfoldable pub in_stage : List ℕ → Stage → ℕ → Context

@@ -229,10 +229,14 @@ opened i (c ∷ rest) =
     else (if c == 34 then (sign.LeftOut form.DollarDouble, 0)
     else single_parameter i c)))))
 
+-- the value of `$@`
+abbrev pub is_all : Sign → Bool
+is_all (sign.Value (Special special.At s)) = true
+is_all _ = false
+
 -- `$@` only where fields are split
 abbrev pub accepted : Context → Sign × ℕ → Sign × ℕ
-accepted x (sign.Value (Special special.At s), n) = if x.fields then (sign.Value (Special special.At s), n) else (sign.LeftOut form.AllParameters, 0)
-accepted x found = found
+accepted x found = if is_all found.0 && not x.fields then (sign.LeftOut form.AllParameters, 0) else found
 
 unfoldable pub dollar : Context → ℕ → List ℕ → Sign × ℕ
 dollar x i cs = if is_joined cs then (sign.LeftOut form.Continuation, 1) else accepted x (opened i cs)
@@ -246,11 +250,15 @@ is_stripped x prior c = x.strip && prior == 10 && c == 9
 abbrev pub is_literal_backslash : Site → List ℕ → Bool
 is_literal_backslash s cs = not (length cs == 0) && not (is_first (is_escaped s) cs)
 
+-- the byte c, which may mean more, is a literal one before cs
+abbrev pub is_literal : Site → ℕ → List ℕ → Bool
+is_literal s c cs = if c == 36 then is_literal_dollar (is_quoted s) cs else c == 92 && is_literal_backslash s cs
+
 -- the byte c at i stands for itself, behind the byte `prior` and before cs
 unfoldable pub stands : Context → ℕ → ℕ → ℕ → List ℕ → Bool
 stands x prior i c cs =
     not (stops x.site c) && not (is_stripped x prior c) && not (is_tilde x prior i c cs)
-    && (not (is_special x.site c) || (c == 36 && is_literal_dollar (is_quoted x.site) cs) || (c == 92 && is_literal_backslash x.site cs))
+    && (not (is_special x.site c) || is_literal x.site c cs)
 
 -- how many bytes stand for themselves
 unfoldable pub plain_length : Context → ℕ → ℕ → List ℕ → ℕ
@@ -294,17 +302,22 @@ single cs = let n = run (λ c. not (c == 39)) cs in if nat_lt n (length cs) then
 abbrev pub double : Site → Sign × ℕ
 double s = if is_default_site s then (sign.LeftOut form.QuotedInDefault, 0) else (sign.Double, 1)
 
+-- what the byte c at i begins, which does not stand for itself
+unfoldable pub meant_by : Context → ℕ → ℕ → List ℕ → Sign × ℕ
+meant_by x i c cs =
+    if c == 92 then backslash x cs
+    else (if c == 39 then single cs
+    else (if c == 34 then double x.site
+    else (if c == 96 then (sign.LeftOut form.Backquoted, 0)
+    else dollar x i cs)))
+
 unfoldable pub sign_by : Context → ℕ → ℕ → ℕ → List ℕ → Sign × ℕ
 sign_by x prior i c cs =
     if stops x.site c then (sign.Stop, stop_length x.site)
     else (if is_stripped x prior c then (sign.Tabs, run is_tab cs + 1)
     else (if stands x prior i c cs then (sign.Plain, plain_length x prior i (c ∷ cs))
     else (if c == 126 then (sign.Tilde, tilde_length x cs)
-    else (if c == 92 then backslash x cs
-    else (if c == 39 then single cs
-    else (if c == 34 then double x.site
-    else (if c == 96 then (sign.LeftOut form.Backquoted, 0)
-    else dollar x i cs)))))))
+    else meant_by x i c cs)))
 
 -- the text ends where a word or a body may, and leaves other things open
 abbrev pub sign_at_end : Site → Sign

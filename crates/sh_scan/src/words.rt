@@ -1,0 +1,17 @@
+//! Tokens of words (XCU 2.2, 2.6).
+mod braced;
+mod contexts;
+mod dollar;
+mod parameters;
+mod plain;
+mod signs;
+mod sites;
+#[cfg(test)]
+mod tests;
+mod tilde;
+
+pub use contexts::{
+    in_arithmetic, in_body, in_double, in_operand, in_removal, in_unsplit, in_use, in_value,
+    in_word,
+};
+pub use signs::token_at;

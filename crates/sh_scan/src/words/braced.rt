@@ -1,0 +1,207 @@
+//! Braced expansions, behind `${` (XCU 2.6.2).
+//!
+//! Lengths count from the `$`: `behind` bytes of an expansion stand before `rest`.
+ghost use Rattle.std.specs.Prelude.{◌≡◌, ◌≢◌, ◌≤◌, ◌<◌, ◌+◌, true, length};
+ghost use Rattle.sh_tree.specs.language.Words as words;
+ghost use Rattle.sh_scan.specs.Moves.{reads_bytes, refuses};
+
+use super::parameters::{parameter, span, special_of};
+use super::sites::begins_at;
+use crate::front::{begins_with, is_joined};
+use sh_tree::limits::MAX_SCRIPT;
+use sh_tree::refusal::{Fault, Form};
+use sh_tree::token::Sign;
+use sh_tree::tree::{Action, Removal, Special, Subject};
+
+/// No braced expansion goes on with `rest`.
+#[tactic(auto, unfolding(sh_tree::specs::language::Words::misfit))]
+fn misfit(behind: usize, rest: &[u8]) -> (Sign, usize)
+    requires some { 0 < behind }
+    ensures value { result ≡ words.misfit behind rest.now }
+    ensures told { result.1 < behind + length rest.now }
+    ensures refused { refuses result.0 ≡ true }
+{
+    if rest.is_empty() {
+        (Sign::Fault(Fault::OpenBraced), 0)
+    } else if is_joined(rest) {
+        (Sign::LeftOut(Form::Continuation), behind)
+    } else if rest.len() == 1 && begins_with(rest, b'\\') {
+        (Sign::Fault(Fault::FinalBackslash), behind)
+    } else {
+        (Sign::LeftOut(Form::Braced), 0)
+    }
+}
+
+#[tactic(auto, unfolding(sh_tree::specs::language::Words::action_of))]
+fn action_of(byte: u8) -> Option<Action>
+    ensures { result ≡ words.action_of byte }
+{
+    match byte {
+        b'-' => Some(Action::Default),
+        b'=' => Some(Action::Assign),
+        b'?' => Some(Action::Fault),
+        b'+' => Some(Action::Alternative),
+        _ => None,
+    }
+}
+
+/// A pattern removal of the longest or of the shortest.
+#[tactic(auto, unfolding(sh_tree::specs::language::Words::removed))]
+fn removed(subject: Subject, behind: usize, rest: &[u8]) -> (Sign, usize)
+    requires some { 0 < behind }
+    requires small { behind + length rest.now ≤ MAX_SCRIPT }
+    ensures value { result ≡ words.removed subject behind rest.now }
+    ensures within { result.1 ≤ behind + length rest.now }
+    ensures moves { reads_bytes result.0 ≡ true → 0 < result.1 }
+    ensures told { refuses result.0 ≡ true → result.1 < behind + length rest.now }
+    ensures part { result.0 ≢ Sign.Stop }
+{
+    match rest {
+        [] => misfit(behind, rest),
+        [first, ..] => {
+            if *first == b'%' {
+                if begins_at(rest, 1, b'%') {
+                    (Sign::Remove(subject, Removal::LongSuffix), behind + 2)
+                } else {
+                    (Sign::Remove(subject, Removal::ShortSuffix), behind + 1)
+                }
+            } else if *first == b'#' {
+                if begins_at(rest, 1, b'#') {
+                    (Sign::Remove(subject, Removal::LongPrefix), behind + 2)
+                } else {
+                    (Sign::Remove(subject, Removal::ShortPrefix), behind + 1)
+                }
+            } else {
+                misfit(behind, rest)
+            }
+        }
+    }
+}
+
+/// `-`, `=`, `?` or `+`, behind a colon or not.
+#[tactic(auto, unfolding(sh_tree::specs::language::Words::used))]
+fn used(colon: bool, subject: Subject, behind: usize, rest: &[u8]) -> (Sign, usize)
+    requires some { 0 < behind }
+    requires small { behind + length rest.now ≤ MAX_SCRIPT }
+    ensures value { result ≡ words.used colon subject behind rest.now }
+    ensures within { result.1 ≤ behind + length rest.now }
+    ensures moves { reads_bytes result.0 ≡ true → 0 < result.1 }
+    ensures told { refuses result.0 ≡ true → result.1 < behind + length rest.now }
+    ensures part { result.0 ≢ Sign.Stop }
+{
+    match rest {
+        [] => misfit(behind, rest),
+        [first, ..] => match action_of(*first) {
+            Some(action) => (Sign::Use(subject, action, colon), behind + 1),
+            None => {
+                if colon {
+                    misfit(behind, rest)
+                } else {
+                    removed(subject, behind, rest)
+                }
+            }
+        },
+    }
+}
+
+/// What stands behind the parameter.
+#[tactic(auto, unfolding(sh_tree::specs::language::Words::operated))]
+fn operated(subject: Subject, behind: usize, rest: &[u8]) -> (Sign, usize)
+    requires some { 0 < behind }
+    requires small { behind + length rest.now ≤ MAX_SCRIPT }
+    ensures value { result ≡ words.operated subject behind rest.now }
+    ensures within { result.1 ≤ behind + length rest.now }
+    ensures moves { reads_bytes result.0 ≡ true → 0 < result.1 }
+    ensures told { refuses result.0 ≡ true → result.1 < behind + length rest.now }
+    ensures part { result.0 ≢ Sign.Stop }
+{
+    if begins_with(rest, b'}') {
+        (Sign::Value(subject), behind + 1)
+    } else if begins_with(rest, b':') {
+        used(true, subject, behind + 1, &rest[1..])
+    } else {
+        used(false, subject, behind, rest)
+    }
+}
+
+/// The length of a parameter, behind `${#` at `at`.
+#[tactic(auto, unfolding(sh_tree::specs::language::Words::counted))]
+fn counted(at: usize, rest: &[u8]) -> (Sign, usize)
+    requires small { at + 3 + length rest.now ≤ MAX_SCRIPT }
+    ensures value { result ≡ words.counted at rest.now }
+    ensures within { result.1 ≤ length rest.now + 3 }
+    ensures moves { reads_bytes result.0 ≡ true → 0 < result.1 }
+    ensures told { refuses result.0 ≡ true → result.1 < length rest.now + 3 }
+    ensures part { result.0 ≢ Sign.Stop }
+{
+    match parameter(at + 3, rest) {
+        Some((subject, length)) => {
+            if begins_at(rest, length, b'}') {
+                (Sign::Length(subject), length + 4)
+            } else {
+                misfit(length + 3, &rest[length..])
+            }
+        }
+        None => misfit(3, rest),
+    }
+}
+
+/// A special parameter in the byte at `at`, which has no operator; `rest` begins with it.
+fn specially(at: usize, rest: &[u8], special: Option<Special>) -> (Sign, usize)
+    requires some { 0 < length rest.now }
+    requires small { at + length rest.now ≤ MAX_SCRIPT }
+    ensures value { result ≡ words.specially at rest.now special }
+    ensures within { result.1 ≤ length rest.now + 2 }
+    ensures moves { reads_bytes result.0 ≡ true → 0 < result.1 }
+    ensures told { refuses result.0 ≡ true → result.1 < length rest.now + 2 }
+    ensures part { result.0 ≢ Sign.Stop }
+{
+    match special {
+        Some(special) => {
+            if begins_at(rest, 1, b'}') {
+                (Sign::Value(Subject::Special(special, span(at, at + 1))), 4)
+            } else {
+                misfit(3, &rest[1..])
+            }
+        }
+        None => misfit(2, rest),
+    }
+}
+
+#[tactic(auto, unfolding(sh_tree::specs::language::Words::unnamed))]
+fn unnamed(at: usize, rest: &[u8]) -> (Sign, usize)
+    requires small { at + 2 + length rest.now ≤ MAX_SCRIPT }
+    ensures value { result ≡ words.unnamed at rest.now }
+    ensures within { result.1 ≤ length rest.now + 2 }
+    ensures moves { reads_bytes result.0 ≡ true → 0 < result.1 }
+    ensures told { refuses result.0 ≡ true → result.1 < length rest.now + 2 }
+    ensures part { result.0 ≢ Sign.Stop }
+{
+    match rest {
+        [] => misfit(2, rest),
+        [first, others @ ..] => {
+            let closed = begins_at(rest, 1, b'}');
+            if *first == b'#' && !closed {
+                counted(at, others)
+            } else {
+                specially(at + 2, rest, special_of(*first))
+            }
+        }
+    }
+}
+
+/// The expansion that `${` at `at` begins.
+#[tactic(auto, unfolding(sh_tree::specs::language::Words::braced))]
+pub fn braced(at: usize, rest: &[u8]) -> (Sign, usize)
+    requires small { at + 2 + length rest.now ≤ MAX_SCRIPT }
+    ensures value { result ≡ words.braced at rest.now }
+    ensures within { result.1 ≤ length rest.now + 2 }
+    ensures moves { reads_bytes result.0 ≡ true → 0 < result.1 }
+    ensures told { refuses result.0 ≡ true → result.1 < length rest.now + 2 }
+    ensures part { result.0 ≢ Sign.Stop }
+{
+    match parameter(at + 2, rest) {
+        Some((subject, length)) => operated(subject, length + 2, &rest[length..]),
+        None => unnamed(at, rest),
+    }
+}

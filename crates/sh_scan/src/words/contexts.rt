@@ -1,0 +1,142 @@
+//! How the bytes of a word are read.
+ghost use Rattle.std.specs.Prelude.{◌≡◌, ◌≤◌, length};
+ghost use Rattle.sh_tree.specs.language.Commands as commands;
+ghost use Rattle.sh_tree.specs.language.Contexts as contexts;
+ghost use Rattle.sh_tree.specs.language.Words as words;
+
+use super::sites::is_quoted;
+use crate::front::{begins_with, name_at, name_length};
+use sh_tree::limits::MAX_SCRIPT;
+use sh_tree::token::{Context, Site};
+use sh_tree::tree::Action;
+
+/// Inside the double quotes that open here.
+pub fn in_double(context: Context) -> Context
+    ensures { result ≡ words.in_double context }
+{
+    Context {
+        site: Site::Double,
+        ..context
+    }
+}
+
+fn is_alternative(action: Action) -> bool
+    ensures { result ≡ words.is_alternative action }
+{
+    match action {
+        Action::Alternative => true,
+        Action::Default | Action::Assign | Action::Fault => false,
+    }
+}
+
+/// In the word behind `-`, `=`, `?` or `+`, from `at` on.
+pub fn in_use(context: Context, action: Action, at: u32) -> Context
+    ensures { result ≡ words.in_use context action at }
+{
+    let quoted = is_quoted(context.site);
+    let alternative = is_alternative(action);
+    Context {
+        site: if quoted {
+            Site::QuotedBraced
+        } else {
+            Site::Braced
+        },
+        origin: at,
+        fields: context.fields && !quoted && alternative,
+        ..context
+    }
+}
+
+/// In the pattern of a removal, from `at` on.
+pub fn in_removal(context: Context, at: u32) -> Context
+    ensures { result ≡ words.in_removal context at }
+{
+    Context {
+        site: Site::Braced,
+        origin: at,
+        fields: false,
+        ..context
+    }
+}
+
+/// Around an expansion that is an operand of arithmetic.
+pub fn in_arithmetic(context: Context) -> Context
+    ensures { result ≡ words.in_arithmetic context }
+{
+    Context {
+        site: Site::Double,
+        fields: false,
+        ..context
+    }
+}
+
+/// A word at `at` whose fields are split.
+pub fn in_word(at: u32) -> Context
+    ensures { result ≡ contexts.in_word at }
+{
+    Context {
+        site: Site::Word,
+        origin: at,
+        colons: false,
+        fields: true,
+        strip: false,
+        body: false,
+    }
+}
+
+/// A word at `at` whose fields are not split.
+pub fn in_unsplit(at: u32) -> Context
+    ensures { result ≡ contexts.in_unsplit at }
+{
+    Context {
+        fields: false,
+        ..in_word(at)
+    }
+}
+
+/// The value of an assignment, which begins at `at`.
+pub fn in_value(at: u32) -> Context
+    ensures { result ≡ contexts.in_value at }
+{
+    Context {
+        colons: true,
+        ..in_unsplit(at)
+    }
+}
+
+#[tactic(auto, unfolding(sh_tree::specs::language::Commands::is_assignment))]
+fn is_assignment(rest: &[u8]) -> bool
+    ensures { result ≡ commands.is_assignment rest.now }
+{
+    let length = name_length(rest);
+    let equals = begins_with(&rest[length..], b'=');
+    length != 0 && equals
+}
+
+/// An operand of `export` or `readonly` at `at`.
+#[tactic(auto, unfolding(sh_tree::specs::language::Contexts::in_operand))]
+pub fn in_operand(script: &[u8], at: u32) -> Context
+    requires small { length script.now ≤ MAX_SCRIPT }
+    requires inside { at ≤ length script.now }
+    ensures { result ≡ contexts.in_operand script.now at }
+{
+    if is_assignment(&script[at as usize..]) {
+        in_value(name_at(script, at) + 1)
+    } else {
+        in_word(at)
+    }
+}
+
+/// The body of a here-document, by whether its delimiter is quoted and whether tabs are stripped.
+pub fn in_body(quoted: bool, strip: bool) -> Context
+    ensures { result ≡ contexts.in_body quoted strip }
+{
+    Context {
+        site: if quoted { Site::Verbatim } else { Site::Body },
+        origin: 0,
+        colons: false,
+        fields: false,
+        strip,
+        body: true,
+    }
+}
