@@ -191,7 +191,7 @@ unfoldable pub operator_lead : Stage → List ℕ → Operator → ℕ → Lead
 operator_lead s cs o n = if is_split cs n then lead.LeftOut form.Continuation else whole_operator s (drop n cs) o
 
 -- `!` before rest: `!(` begins no pipeline
-unfoldable pub bang : List ℕ → Lead
+abbrev pub bang : List ℕ → Lead
 bang rest =
     if is_first is_parenthesis rest then lead.LeftOut form.BangParenthesis
     else (if is_first is_parenthesis (behind_joined rest) then lead.LeftOut form.Continuation else lead.Reserved word.Bang)
@@ -225,12 +225,17 @@ abbrev pub is_named : Stage → Bool
 is_named (Named d) = true
 is_named _ = false
 
+-- digits before an operator, which line continuations do not keep from being a longer one
+unfoldable pub number_lead : List ℕ → Option (Operator × ℕ) → Lead
+number_lead rest (Some found) = if is_split rest found.1 then lead.LeftOut form.Continuation else lead.Number
+number_lead rest None = lead.Number
+
 -- a token that is no operator
 unfoldable pub other_lead : List ℕ → Stage → ℕ → Lead
 other_lead b s i =
     let cs = drop i b in
     let digits = run is_digit cs in
-    if not (digits == 0) && is_angle (drop digits cs) then lead.Number
+    if not (digits == 0) && is_angle (drop digits cs) then number_lead (drop digits cs) (operator_of (drop digits cs))
     else (if not (digits == 0) && is_angle (behind_joined (drop digits cs)) then lead.LeftOut form.Continuation
     else (if not (is_named s) && is_assignment cs then lead.Assignment
     else word_lead b s i (bare_word b i)))
