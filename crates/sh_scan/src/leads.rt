@@ -26,7 +26,6 @@ fn opening(rest: &[u8]) -> Lead
 }
 
 /// `!` before `rest`.
-#[tactic(auto, unfolding(sh_tree::specs::language::Commands::bang))]
 fn bang(rest: &[u8]) -> Lead
     ensures { result ≡ commands.bang rest.now }
 {
@@ -146,6 +145,23 @@ fn is_named(stage: Stage) -> bool
     matches!(stage, Stage::Named(_))
 }
 
+/// Digits before `rest`, at whose front `<` or `>` stands.
+#[tactic(auto, unfolding(sh_tree::specs::language::Commands::number_lead))]
+fn number_lead(rest: &[u8]) -> Lead
+    ensures { result ≡ commands.number_lead rest.now (commands.operator_of rest.now) }
+{
+    match operator_of(rest) {
+        Some((_, count)) => {
+            if is_split(rest, count) {
+                Lead::LeftOut(Form::Continuation)
+            } else {
+                Lead::Number
+            }
+        }
+        None => Lead::Number,
+    }
+}
+
 /// The token at `at`, which is no operator.
 #[tactic(auto, unfolding(sh_tree::specs::language::Commands::other_lead))]
 fn other_lead(script: &[u8], stage: Stage, at: u32) -> Lead
@@ -157,7 +173,7 @@ fn other_lead(script: &[u8], stage: Stage, at: u32) -> Lead
     let digits = digit_length(rest);
     let behind = &rest[digits..];
     if digits != 0 && begins_angle(behind) {
-        Lead::Number
+        number_lead(behind)
     } else if digits != 0 && begins_angle(behind_joined(behind)) {
         Lead::LeftOut(Form::Continuation)
     } else if !is_named(stage) && is_assignment(rest) {

@@ -217,7 +217,7 @@ fn lead(text: &[u8], stage: Stage) -> Option<Lead> {
 
 #[test]
 fn leads_of_first_tokens(rt: HostRuntime) -> Result<(), Fail> {
-    let rows: [(&[u8], Lead); 38] = [
+    let rows: [(&[u8], Lead); 39] = [
         (b"", Lead::End),
         (b"\n", Lead::Newline),
         (b"#\\\n", Lead::LeftOut(Form::Continuation)),
@@ -232,6 +232,7 @@ fn leads_of_first_tokens(rt: HostRuntime) -> Result<(), Fail> {
         (b"<\\\n<-", Lead::LeftOut(Form::Continuation)),
         (b"1>", Lead::Number),
         (b"12<", Lead::Number),
+        (b"2<\\\n<", Lead::LeftOut(Form::Continuation)),
         (b"1 >", Lead::Word),
         (b"1\\\n>", Lead::LeftOut(Form::Continuation)),
         (b"1a>", Lead::Word),

@@ -191,7 +191,7 @@ unfoldable pub operator_lead : Stage → List ℕ → Operator → ℕ → Lead
 operator_lead s cs o n = if is_split cs n then lead.LeftOut form.Continuation else whole_operator s (drop n cs) o
 
 -- `!` before rest: `!(` begins no pipeline
-unfoldable pub bang : List ℕ → Lead
+abbrev pub bang : List ℕ → Lead
 bang rest =
     if is_first is_parenthesis rest then lead.LeftOut form.BangParenthesis
     else (if is_first is_parenthesis (behind_joined rest) then lead.LeftOut form.Continuation else lead.Reserved word.Bang)
