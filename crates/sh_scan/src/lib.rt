@@ -14,6 +14,6 @@ pub use class::{Class, classify};
 pub use front::name_at;
 pub use lines::Lines;
 pub use words::{
-    in_arithmetic, in_body, in_double, in_operand, in_removal, in_unsplit, in_use, in_value,
-    in_word, token_at,
+    in_arithmetic, in_body, in_double, in_operand, in_removal, in_stage, in_unsplit, in_use,
+    in_value, in_word, token_at,
 };
