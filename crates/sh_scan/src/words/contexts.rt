@@ -64,9 +64,8 @@ pub fn in_arithmetic(context: Context) -> Context
     ensures { result ≡ words.in_arithmetic context }
 {
     Context {
-        site: Site::Double,
         fields: false,
-        ..context
+        ..in_double(context)
     }
 }
 
