@@ -1,5 +1,5 @@
 -- Texts in two pieces.
-use Rattle.std.proofs.Common.{◌≡◌, ℕ, suc, zero, ◌+◌, ◌-◌, min, Bool, true, false, ◌&&◌, List, [], ◌∷◌, ◌++◌, length, take, drop, nat_eq, refl, ap, ◌∙◌, sym, arith}
+use Rattle.std.proofs.Common.{◌≡◌, ℕ, suc, zero, min, Bool, true, false, ◌&&◌, List, [], ◌∷◌, ◌++◌, length, take, drop, nat_eq, refl, ap, ◌∙◌, sym, arith}
 use Rattle.std.specs.List.{starts_with}
 use Rattle.sh_scan.proofs.StepLemmas.{behind, behind_is}
 

@@ -1,10 +1,10 @@
 use super::{
-    in_arithmetic, in_body, in_double, in_operand, in_removal, in_unsplit, in_use, in_value,
-    in_word, token_at,
+    in_arithmetic, in_body, in_double, in_operand, in_removal, in_stage, in_unsplit, in_use,
+    in_value, in_word, token_at,
 };
 use sh_tree::limits::MAX_SCRIPT;
 use sh_tree::refusal::{Fault, Form};
-use sh_tree::token::{Context, Sign, Site, Token};
+use sh_tree::token::{Context, Sign, Site, Stage, Token};
 use sh_tree::tree::{Action, Removal, Span, Special, Subject};
 use std::process::Abort;
 use std::test::Fail;
@@ -217,7 +217,7 @@ fn double_quotes(rt: HostRuntime) -> Result<(), Fail> {
 }
 
 #[test]
-fn words_of_braced_expansions(rt: HostRuntime) -> Result<(), Fail> {
+fn defaults_in_double_quotes(rt: HostRuntime) -> Result<(), Fail> {
     let quoted = in_use(in_double(in_word(0)), Action::Default, 0);
     check(
         &rt,
@@ -238,6 +238,11 @@ fn words_of_braced_expansions(rt: HostRuntime) -> Result<(), Fail> {
         0,
         &[(b"\\\"", 0, Sign::LeftOut(Form::QuotedInDefault), 0)],
     );
+    Ok(())
+}
+
+#[test]
+fn words_of_braced_expansions(rt: HostRuntime) -> Result<(), Fail> {
     check(
         &rt,
         in_use(in_word(0), Action::Alternative, 0),
@@ -295,6 +300,9 @@ fn operands_of_declarations(rt: HostRuntime) -> Result<(), Fail> {
     assert_eq!(rt; in_operand(b"a=~", 0), in_value(2));
     assert_eq!(rt; in_operand(b"'a'=~", 0), in_word(0));
     assert_eq!(rt; in_operand(b"a", 0), in_word(0));
+    assert_eq!(rt; in_stage(b"a=~", Stage::Named(true), 0), in_value(2));
+    assert_eq!(rt; in_stage(b"a=~", Stage::Named(false), 0), in_word(0));
+    assert_eq!(rt; in_stage(b"a=~", Stage::Prefixed, 0), in_word(0));
     assert_eq!(rt; in_body(true, false).site, Site::Verbatim);
     Ok(())
 }
