@@ -179,7 +179,7 @@ substituted_reads =
 
 -- Here-documents
 
-abbrev the_mark : Mark
+abbrev pub the_mark : Mark
 the_mark = record { strip = false; quoted = false; delimiter = codes "E"; depth = 0 }
 
 abbrev the_document : Document
