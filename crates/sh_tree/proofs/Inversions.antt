@@ -1,5 +1,5 @@
 -- What a reading begins with, by the token or the sign at its first byte.
-use Rattle.std.proofs.Common.{◌≡◌, ℕ, ◌+◌, ◌-◌, ◌<◌, Bool, true, false, not, ◌||◌, ◌⊎◌, inl, inr, List, [], ◌∷◌, Option, Some, None, refl, sym, ap, ◌∙◌, subst}
+use Rattle.std.proofs.Common.{◌≡◌, ℕ, ◌+◌, ◌-◌, ◌<◌, Bool, true, false, not, ◌||◌, ◌⊎◌, inl, inr, List, [], ◌∷◌, Option, Some, None, take, refl, sym, ap, ◌∙◌, subst}
 use Rattle.std.proofs.lemmas.Bool.{true≢false}
 use Rattle.sh_tree.specs.declared.tree.AndOr.{AndOr}
 use Rattle.sh_tree.specs.declared.tree.Command.{Command}
@@ -29,14 +29,15 @@ use Rattle.sh_tree.specs.declared.token.command.Operator.TheVariants as op
 use Rattle.sh_tree.specs.declared.token.command.Redirection.{Redirection}
 use Rattle.sh_tree.specs.declared.token.command.Reserved.TheVariants as reserved
 use Rattle.sh_tree.specs.declared.token.command.Stage.{Stage}
-use Rattle.sh_tree.specs.declared.token.command.Stage.TheVariants.{First, Named}
+use Rattle.sh_tree.specs.declared.token.command.Stage.TheVariants.{First, Prefixed, Named}
 use Rattle.sh_tree.specs.language.Words.{in_double, in_use, in_removal, in_arithmetic}
 use Rattle.sh_tree.specs.language.Arithmetic.{is_closed, unary_of}
-use Rattle.sh_tree.specs.language.Commands.{blanks, redirection, redirects, direction_of, strip_of, is_word, is_redirection, is_reserved, is_bar, is_newline_lead, begins_simple, begins_compound, begins_command, begins_pipeline, separator, link_of}
+use Rattle.sh_tree.specs.language.Commands.{blanks, lead_at, redirection, redirects, direction_of, strip_of, is_word, is_redirection, is_reserved, is_bar, is_newline_lead, begins_simple, begins_compound, begins_command, begins_pipeline, separator, link_of}
 use Rattle.sh_tree.specs.language.Contexts.{in_word, in_unsplit, in_stage}
-use Rattle.sh_tree.specs.language.Parts.{is_quoted_word, delimiter_of}
+use Rattle.sh_tree.specs.language.Parts.{is_quoted_word, delimiter_of, keeps_document}
 use Rattle.sh_tree.specs.language.HereDocuments.{Mark, end_line}
-use Rattle.sh_tree.specs.language.States.{Spot, State, Document, to, deeper, behind, facing, within, nth, waits, next, past, on_line, pended, counted, lower, as_deep, closing}
+use Rattle.sh_tree.specs.language.Contexts.{in_document_of}
+use Rattle.sh_tree.specs.language.States.{Spot, State, Document, to, deeper, behind, facing, within, nth, waits, next, past, on_line, in_document, pended, counted, lower, as_deep, closing}
 use Rattle.sh_tree.specs.language.Trees.{span, word, param}
 use Rattle.sh_tree.specs.language.Reading as r
 use Rattle.sh_tree.specs.language.Reading.{is_some, sign_at, after, prior_of, figure_at, over, lead_of, lead_here, skip, parted, named, redirected, is_empty, ReadsParts, ReadsPart, ReadsExpression, ReadsConditional, ReadsLevel, ReadsUnary, ReadsWord, ReadsRedirect, ReadsRedirects, ReadsDocuments, ReadsBreaks, ReadsElements, ReadsCommand, ReadsCompound, ReadsPipeline, ReadsCommands, ReadsAndOr, ReadsLinks, ReadsItems, ReadsList, ReadsSequence, ReadsScript}
@@ -145,14 +146,29 @@ pub nothing_at : {limit : ℕ} {b : List ℕ} {x : Context} {prior : ℕ} {s u :
 nothing_at {limit = limit} {b = b} {x = x} {prior = prior} {s = s} g is refused h =
     let f = first_part g is (refused_is_part g refused) h in no_part limit b x g s (after b x prior s) f.0 f.1 refused f.4
 
-pub word_parts : {limit : ℕ} {b : List ℕ} {x : Context} {s u : Spot} {w : Word} → ReadsWord limit b x s u w → (ps : List Part) × ReadsParts limit b x 0 s u ps
-word_parts (r.whole_word {ps = ps} h l k) = (ps, h)
+pub word_parts : {limit : ℕ} {b : List ℕ} {x : Context} {s u : Spot} {w : Word} → ReadsWord limit b x s u w
+    → (ps : List Part) × (w ≡ word s.at u.at ps) × ReadsParts limit b x 0 s u ps
+word_parts (r.whole_word {ps = ps} h l k) = (ps, refl, h)
+
+-- a word of one part, up to e
+pub one_part_word : {limit : ℕ} {b : List ℕ} {x : Context} {s u : Spot} {w : Word} (g : Sign) (p : Part) (e : ℕ) → sign_at b x 0 s ≡ g → is_part g ≡ true
+    → ((v : Spot) (q : Part) → PartIs limit b x g s (after b x 0 s) v q → (v ≡ to e s) × (q ≡ p)) → sign_at b x (prior_of b g e) (to e s) ≡ sign.Stop
+    → after b x (prior_of b g e) (to e s) ≡ e → ReadsWord limit b x s u w → (u ≡ to e s) × (w ≡ word s.at e (p ∷ []))
+one_part_word {limit = limit} {b = b} {x = x} {s = s} {u = u} g p e is some only stops there h =
+    let t = word_parts h in
+    let f = first_part g is some t.2 in
+    let o = only f.0 f.1 f.4 in
+    let rest = subst (λ v. ReadsParts limit b x (prior_of b g v.at) v u f.2) o.0 f.5 in
+    let q = stopped stops rest in
+    let end : u ≡ to e s = q.0 ∙ ap (λ i. to i s) there in
+    let parts : t.0 ≡ p ∷ [] = f.3 ∙ ap (λ v. v ∷ f.2) o.1 ∙ ap (λ v. p ∷ v) q.1 in
+    (end, t.1 ∙ ap (λ v. word s.at v.at t.0) end ∙ ap (λ v. word s.at e v) parts)
 
 -- a word of plain bytes ends behind them
 pub bare_word_ends : {limit : ℕ} {b : List ℕ} {x : Context} {s u : Spot} {w : Word} → sign_at b x 0 s ≡ sign.Plain
     → sign_at b x (prior_of b sign.Plain (after b x 0 s)) (to (after b x 0 s) s) ≡ sign.Stop → ReadsWord limit b x s u w
     → u ≡ to (after b x (prior_of b sign.Plain (after b x 0 s)) (to (after b x 0 s) s)) s
-bare_word_ends is stops h = let rest = behind_plain is (word_parts h).1 in (stopped stops rest.1).0
+bare_word_ends is stops h = let rest = behind_plain is (word_parts h).2 in (stopped stops rest.1).0
 
 -- Arithmetic
 
@@ -212,18 +228,25 @@ pub some_breaks : {limit : ℕ} {b : List ℕ} {s u : State} → is_newline_lead
 some_breaks on (r.no_break h) = absurd (true≢false (sym on ∙ h))
 some_breaks on (r.more_breaks {u = v} h q d k) = (v, q, d, k)
 
--- each here-document has a line that ends it
-pub document_ends : {limit : ℕ} {b : List ℕ} {ms : List Mark} {s v : State} (m : Mark) (ns : List Mark) → ms ≡ m ∷ ns → ReadsDocuments limit b ms s v
-    → (l : Span) × (end_line m b s.spot.at ≡ Some l)
-document_ends m ns is r.no_body = cc
-document_ends {b = b} {s = s} m ns is (r.more_bodies {m = n} {l = l} e a c h k d) = (l, ap (λ v. end_line v b s.spot.at) (first_mark (sym is)) ∙ e)
+module _ (limit : ℕ) (b : List ℕ) (s : State) where
+  -- the body at s and the line that ends it
+  abbrev pub DocumentIs : Mark → Type 0
+  DocumentIs m =
+      (l : Span) × (u : Spot) × (ps : List Part) × (end_line m b s.spot.at ≡ Some l) × (keeps_document b s.spot.body m (span s.spot.at l.start) ≡ true)
+      × ReadsParts limit (take l.start b) (in_document_of m) 10 (in_document m s) u ps
+
+first_mark : {m n : Mark} {ms ns : List Mark} → m ∷ ms ≡ n ∷ ns → m ≡ n
+first_mark {m = m} e = ap (head_or m) e
   where
-    first_mark : {m n : Mark} {ms ns : List Mark} → m ∷ ms ≡ n ∷ ns → m ≡ n
-    first_mark {m = m} e = ap (head_or m) e
-      where
-        head_or : Mark → List Mark → Mark
-        head_or d [] = d
-        head_or d (x ∷ xs) = x
+    head_or : Mark → List Mark → Mark
+    head_or d [] = d
+    head_or d (x ∷ xs) = x
+
+pub document_is : {limit : ℕ} {b : List ℕ} {ms : List Mark} {s v : State} (m : Mark) (ns : List Mark) → ms ≡ m ∷ ns → ReadsDocuments limit b ms s v → DocumentIs limit b s m
+document_is m ns is r.no_body = cc
+document_is {limit = limit} {b = b} {s = s} m ns is (r.more_bodies {u = u} {m = n} {l = l} {ps = ps} e a c h k d) =
+    let found : DocumentIs limit b s n = (l, u, ps, e, c, h) in
+    subst (λ v. DocumentIs limit b s v) (first_mark is) found
 
 -- at a token that begins no pipeline a sequence is empty
 pub no_sequence : {limit : ℕ} {b : List ℕ} {body : ℕ → Document} {s u : State} {t : Script} → is_newline_lead (lead_here b s) ≡ false → begins_pipeline (lead_here b s) ≡ false
@@ -389,7 +412,7 @@ pub redirects_first : {limit : ℕ} {b : List ℕ} {body : ℕ → Document} {s 
 redirects_first some (r.no_redirect h) = absurd (true≢false (sym some ∙ h))
 redirects_first some (r.more_redirects {u = u} {r = q} {rs = others} h read l) = (u, q, others, refl, read, l)
 
-some_one : {A : Type 0} {x y : A} → Some x ≡ Some y → x ≡ y
+pub some_one : {A : Type 0} {x y : A} → Some x ≡ Some y → x ≡ y
 some_one {x = x} e = ap (or_else x) e
   where
     or_else : {A : Type 0} → A → Option A → A
@@ -407,21 +430,23 @@ redirect_file at is file (r.here_document {r = f} {strip = strip} h d l read k) 
     let e : Some strip ≡ None = sym d ∙ ap (λ o. strip_of o.operator) same ∙ file in
     cc
 
-pub redirect_document : {limit : ℕ} {b : List ℕ} {body : ℕ → Document} {s v : State} {q : Redirect} (at : Redirection) → redirection b s.spot.at ≡ Some at
-    → direction_of at.operator ≡ None → ReadsRedirect limit b body s v q
-    → (u : Spot) × (w : Word) × (m : Mark) × (v ≡ pended m (past b u s)) × ReadsWord limit b (in_unsplit (next b at.end s).spot.at) (facing (next b at.end s)) u w
-redirect_document at is document (r.file {r = f} {d = d} h o l read) =
+-- what is remembered of a here-document with this delimiter
+abbrev pub mark_of : List ℕ → Bool → Word → ℕ → Mark
+mark_of b strip w depth = record { strip = strip; quoted = is_quoted_word w; delimiter = delimiter_of b w; depth = depth }
+
+pub redirect_document : {limit : ℕ} {b : List ℕ} {body : ℕ → Document} {s v : State} {q : Redirect} (at : Redirection) (strip : Bool) → redirection b s.spot.at ≡ Some at
+    → strip_of at.operator ≡ Some strip → direction_of at.operator ≡ None → ReadsRedirect limit b body s v q
+    → (u : Spot) × (w : Word) × (v ≡ pended (mark_of b strip w s.spot.depth) (past b u s))
+    × ReadsWord limit b (in_unsplit (next b at.end s).spot.at) (facing (next b at.end s)) u w
+redirect_document at strip is stripped document (r.file {r = f} {d = d} h o l read) =
     let same : f ≡ at = some_one (sym h ∙ is) in
     let e : Some d ≡ None = sym o ∙ ap (λ p. direction_of p.operator) same ∙ document in
     cc
-redirect_document {limit = limit} {b = b} {s = s} at is document (r.here_document {u = u} {r = f} {strip = strip} {w = w} h d l read k) =
-    let same : f ≡ at = some_one (sym h ∙ is) in (
-      u,
-      w,
-      record { strip = strip; quoted = is_quoted_word w; delimiter = delimiter_of b w; depth = s.spot.depth },
-      refl,
-      subst (λ o. ReadsWord limit b (in_unsplit (next b o.end s).spot.at) (facing (next b o.end s)) u w) same read,
-    )
+redirect_document {limit = limit} {b = b} {s = s} at strip is stripped document (r.here_document {u = u} {r = f} {strip = found} {w = w} h d l read k) =
+    let same : f ≡ at = some_one (sym h ∙ is) in
+    let strips : found ≡ strip = some_one (sym d ∙ ap (λ o. strip_of o.operator) same ∙ stripped) in
+    let word_read = subst (λ o. ReadsWord limit b (in_unsplit (next b o.end s).spot.at) (facing (next b o.end s)) u w) same read in
+    (u, w, ap (λ v. pended (mark_of b v w s.spot.depth) (past b u s)) strips, word_read)
 
 -- a command that is one word of plain bytes, up to e
 pub bare_command_ends : {limit : ℕ} {b : List ℕ} {body : ℕ → Document} {s v : State} {c : Command} (e : ℕ) → lead_here b s ≡ lead.Word
@@ -453,3 +478,39 @@ opening_word is h =
     let c = simple_is (ap begins_simple is) f.2 in
     let e = elements_word is c.3 in
     (e.0, e.1, e.3)
+
+redirection_begins : (l : Lead) → is_redirection l ≡ true → (is_newline_lead l ≡ false) × (begins_pipeline l ≡ true) × (begins_command l ≡ true) × (begins_simple l ≡ true)
+unfolding begins_pipeline begins_command begins_simple is_redirection
+redirection_begins lead.Number h = (refl, refl, refl, refl)
+redirection_begins (lead.Operator o) h = rw h (refl, refl, refl, refl)
+redirection_begins _ h = absurd (true≢false (sym h))
+
+-- a script that begins with the operator of a here-document, its delimiter and a newline
+pub opening_document : {limit : ℕ} {b : List ℕ} {s v : Spot} {t : Script} (at : Redirection) (strip : Bool) (i : ℕ) (w : Word) → is_redirection (lead_here b (within s)) ≡ true
+    → redirection b s.at ≡ Some at → strip_of at.operator ≡ Some strip → direction_of at.operator ≡ None
+    → ((u : Spot) (y : Word) → ReadsWord limit b (in_unsplit (next b at.end (counted (within s))).spot.at) (facing (next b at.end (counted (within s)))) u y
+    → (past b u (counted (within s)) ≡ record (counted (within s)) { spot = to i (counted (within s)).spot }) × (y ≡ w))
+    → lead_at b Prefixed i ≡ lead.Newline → lead_at b First i ≡ lead.Newline → ReadsScript limit b s v t
+    → (u : State) × ReadsDocuments limit b (mark_of b strip w s.depth ∷ []) (on_line (i + 1) (counted (within s))) u
+unfolding begins_simple is_redirection separator link_of
+opening_document {limit = limit} {b = b} {s = s} at strip i w is operator stripped document only line line' h =
+    let begins = redirection_begins (lead_here b (within s)) is in
+    let q = script_is h in
+    let items = sequence_items begins.0 begins.1 q.3 in
+    let f = items_first begins.2 items.1 in
+    let c = simple_is begins.3 f.2 in
+    let e = elements_redirect is c.3 in
+    let d = redirect_document at strip operator stripped document e.3 in
+    let o = only d.0 d.1 d.3 in
+    let waiting : State = pended (mark_of b strip w s.depth) (record (counted (within s)) { spot = to i (counted (within s)).spot }) in
+    let behind : e.0 ≡ waiting = d.2 ∙ ap (λ u. pended (mark_of b strip d.1 s.depth) u) o.0
+    ∙ ap (λ y. pended (mark_of b strip y s.depth) (record (counted (within s)) { spot = to i (counted (within s)).spot })) o.1 in
+    let rest = subst (λ u. ReadsElements limit b (nth q.0.bodies) Prefixed u c.0 e.2) behind e.4 in
+    let command : f.0 ≡ waiting = c.2 ∙ ap (closing false) (elements_end (ap begins_simple line) rest) in
+    let here : lead_here b f.0 ≡ lead.Newline = ap (λ u. lead_here b u) command ∙ line' in
+    let follows = f.3 (ap is_bar here) (ap link_of here) in
+    let parting = items_parted limit b (nth q.0.bodies) f.0 q.0 false (ap separator here) follows in
+    let same : parted b waiting ≡ waiting = rw line' refl in
+    let breaks = subst (λ u. ReadsBreaks limit b u parting.0) (ap (parted b) command ∙ same) parting.1 in
+    let documents = some_breaks {u = parting.0} (ap is_newline_lead line') breaks in
+    (documents.0, documents.2)

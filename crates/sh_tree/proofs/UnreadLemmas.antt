@@ -1,5 +1,5 @@
 -- Texts that no script reads: each reading of them goes one way, and there it fails.
-use Rattle.std.proofs.Common.{◌≡◌, ℕ, ◌<◌, false, not, ◌||◌, List, [], ◌∷◌, None, length, refl, sym, ap, ◌∙◌, subst, arith}
+use Rattle.std.proofs.Common.{◌≡◌, ℕ, true, ◌<◌, false, not, ◌||◌, List, [], ◌∷◌, None, length, take, codes, refl, sym, ap, ◌∙◌, subst, arith}
 use Rattle.std.proofs.lemmas.Bool.{true≢false}
 use Rattle.sh_tree.specs.declared.refusal.Form.TheVariants as form
 use Rattle.sh_tree.specs.declared.tree.Action.TheVariants as action
@@ -8,42 +8,49 @@ use Rattle.sh_tree.specs.declared.tree.Subject.TheVariants.{Name}
 use Rattle.sh_tree.specs.declared.token.command.Lead.TheVariants as lead
 use Rattle.sh_tree.specs.declared.token.command.Operator.TheVariants as op
 use Rattle.sh_tree.specs.declared.token.command.Reserved.TheVariants as reserved
-use Rattle.sh_tree.specs.declared.token.command.Stage.TheVariants.{Prefixed}
 use Rattle.sh_tree.specs.declared.token.word.Sign.TheVariants as sign
+use Rattle.sh_tree.specs.declared.token.command.Redirection.{Redirection}
 use Rattle.sh_tree.specs.language.Commands.{is_bar, is_newline_lead, is_reserved, begins_pipeline, link_of, separator}
-use Rattle.sh_tree.specs.language.States.{Spot, State, Document, nth, past, pended, as_deep, closing}
-use Rattle.sh_tree.specs.language.Trees.{span}
-use Rattle.sh_tree.specs.language.Reading.{ReadsElements, ReadsCommand, ReadsRedirects, ReadsBreaks, lead_here, parted, skip, is_empty, is_some}
-use Rattle.sh_tree.specs.language.Examples.{IsUnread, open_quote_text, open_braced_text, split_name_text, no_expression_text, lone_bar_text, split_operator_text, clause_end_text, open_document_text, unclosed_text}
-use Rattle.sh_tree.proofs.Inversions.{apart, first_part, behind_plain, nothing_at, word_parts, expression_begins, begins_operand, script_is, opening_word, no_sequence, sequence_items, list_items, items_first, items_end, items_ended, items_parted, simple_is, compound_is, group_is, elements_end, redirects_end, redirects_first, redirect_file, redirect_document, elements_redirect, bare_word_ends, bare_command_ends, some_breaks, document_ends}
-use Rattle.sh_tree.proofs.LanguageLemmas.{computes, at_word, at_token}
+use Rattle.sh_tree.specs.language.States.{Spot, State, Document, nth, within, counted, past, as_deep, closing}
+use Rattle.sh_tree.specs.declared.tree.Part.{Part}
+use Rattle.sh_tree.specs.declared.tree.Part.TheVariants as part
+use Rattle.sh_tree.specs.declared.tree.Script.{Script}
+use Rattle.sh_tree.specs.declared.tree.SingleStyle.TheVariants as single
+use Rattle.sh_tree.specs.language.Contexts.{in_document_of}
+use Rattle.sh_tree.specs.language.HereDocuments.{Mark}
+use Rattle.sh_tree.specs.language.Parts.{keeps_document}
+use Rattle.sh_tree.specs.language.Trees.{span, word}
+use Rattle.sh_tree.specs.language.Reading.{ReadsParts, ReadsScript, ReadsCommand, ReadsRedirects, lead_here, parted, skip, is_empty, is_some}
+use Rattle.sh_tree.specs.language.Examples.{IsUnread, open_quote_text, open_braced_text, split_name_text, no_expression_text, lone_bar_text, split_operator_text, clause_end_text, open_document_text, split_document_text, unclosed_text, plain, bare}
+use Rattle.sh_tree.proofs.Inversions.{apart, first_part, behind_plain, nothing_at, word_parts, expression_begins, begins_operand, script_is, opening_word, no_sequence, sequence_items, list_items, items_first, items_end, items_ended, compound_is, group_is, redirects_end, redirects_first, redirect_file, bare_word_ends, bare_command_ends, document_is, one_part_word, opening_document, some_one}
+use Rattle.sh_tree.proofs.LanguageLemmas.{computes, at_word, at_token, the_mark}
 
 pub open_quote_unread : IsUnread open_quote_text
 unfolding computes
 open_quote_unread t h =
     let w = opening_word refl h.2.script in
-    let f = first_part sign.Double refl refl (word_parts w.2).1 in
+    let f = first_part sign.Double refl refl (word_parts w.2).2 in
     nothing_at sign.Open refl refl (behind_plain refl f.4.4).1
 
 pub open_braced_unread : IsUnread open_braced_text
 unfolding computes
 open_braced_unread t h =
     let w = opening_word refl h.2.script in
-    let f = first_part (sign.Use (Name (span 2 3)) action.Default false) refl refl (word_parts w.2).1 in
+    let f = first_part (sign.Use (Name (span 2 3)) action.Default false) refl refl (word_parts w.2).2 in
     nothing_at sign.Open refl refl f.4.5
 
 pub split_name_unread : IsUnread split_name_text
 unfolding computes
 split_name_unread t h =
     let w = opening_word refl h.2.script in
-    let f = first_part sign.Double refl refl (word_parts w.2).1 in
+    let f = first_part sign.Double refl refl (word_parts w.2).2 in
     nothing_at (sign.LeftOut form.Continuation) refl refl f.4.4
 
 pub no_expression_unread : IsUnread no_expression_text
 unfolding computes begins_operand
 no_expression_unread t h =
     let w = opening_word refl h.2.script in
-    let f = first_part sign.Arith refl refl (word_parts w.2).1 in
+    let f = first_part sign.Arith refl refl (word_parts w.2).2 in
     true≢false (sym (expression_begins f.4.5))
 
 -- a reading ends where its text does
@@ -81,23 +88,45 @@ clause_end_unread t h =
 pub open_document_unread : IsUnread open_document_text
 unfolding computes
 open_document_unread t h =
-    let q = script_is h.2.script in
-    let i = sequence_items refl refl q.3 in
-    let f = items_first refl i.1 in
-    let c = simple_is refl f.2 in
-    let e = elements_redirect refl c.3 in
-    let d = redirect_document (record { number = None; operator = op.HereDoc; at = 0; end = 2 }) refl refl e.3 in
-    let word : d.0 ≡ at_word 3 1 0 = bare_word_ends refl refl d.4 in
-    let waiting : State = record (at_token 3 1 0) { pending = d.2 ∷ [] } in
-    let behind : e.0 ≡ waiting = d.3 ∙ ap (λ u. pended d.2 (past open_document_text u (at_token 0 1 0))) word in
-    let rest = subst (λ s. ReadsElements h.0 open_document_text (nth q.0.bodies) Prefixed s c.0 e.2) behind e.4 in
-    let command : f.0 ≡ waiting = c.2 ∙ ap (closing false) (elements_end refl rest) in
-    let follows = f.3 (ap (λ s. is_bar (lead_here open_document_text s)) command) (ap (λ s. link_of (lead_here open_document_text s)) command) in
-    let line = items_parted _ _ _ _ _ false (ap (λ s. separator (lead_here open_document_text s)) command) follows in
-    let breaks = subst (λ s. ReadsBreaks h.0 open_document_text (parted open_document_text s) line.0) command line.1 in
-    let documents = some_breaks refl breaks in
-    let end = document_ends d.2 [] refl documents.2 in
-    apart is_some (sym end.1) refl refl
+    let at : Redirection = record { number = None; operator = op.HereDoc; at = 0; end = 2 } in
+    let d = opening_document at false 3 (bare 2 3) refl refl refl refl
+    (λ u y w. let o = one_part_word sign.Plain (plain 2 3) 3 refl refl (λ v p q. q) refl refl w in (ap (λ v. past open_document_text v (at_token 0 1 0)) o.0, o.1))
+    refl refl h.2.script in
+    let end = document_is the_mark [] refl d.1 in
+    apart is_some (sym end.3) refl refl
+
+-- inside the substitution that stands in the body
+abbrev inner_spot : Spot
+inner_spot = record { at = 6; count = 1; depth = 1; quiet = false; body = true }
+
+abbrev inner_mark : Mark
+inner_mark = record { strip = false; quoted = true; delimiter = codes "F"; depth = 1 }
+
+inner_unread : (limit : ℕ) (u : Spot) (t : Script) → ReadsScript limit (take 18 split_document_text) inner_spot u t → ⊥
+unfolding computes
+inner_unread limit u t h =
+    let b = take 18 split_document_text in
+    let at : Redirection = record { number = None; operator = op.HereDoc; at = 6; end = 8 } in
+    let quoted : Part = part.Single single.Plain (span 8 11) in
+    let d = opening_document at false 11 (word 8 11 (quoted ∷ [])) refl refl refl refl
+    (λ v y w. let o = one_part_word sign.Single quoted 11 refl refl (λ z p q. q) refl refl w in (ap (λ z. past b z (counted (within inner_spot))) o.0, o.1))
+    refl refl h in
+    let body = document_is inner_mark [] refl d.1 in
+    let end : span 14 15 ≡ body.0 = some_one body.3 in
+    true≢false (sym body.4 ∙ ap (λ l. keeps_document b true inner_mark (span 12 l.start)) (sym end))
+
+pub split_document_unread : IsUnread split_document_text
+unfolding computes
+split_document_unread t h =
+    let at : Redirection = record { number = None; operator = op.HereDoc; at = 0; end = 2 } in
+    let d = opening_document at false 3 (bare 2 3) refl refl refl refl
+    (λ u y w. let o = one_part_word sign.Plain (plain 2 3) 3 refl refl (λ v p q. q) refl refl w in (ap (λ v. past split_document_text v (at_token 0 1 0)) o.0, o.1))
+    refl refl h.2.script in
+    let body = document_is the_mark [] refl d.1 in
+    let end : span 18 19 ≡ body.0 = some_one body.3 in
+    let parts = subst (λ l. ReadsParts h.0 (take l.start split_document_text) (in_document_of the_mark) 10 (record (at_word 4 1 0) { body = true }) body.1 body.2) (sym end) body.5 in
+    let f = first_part sign.Substitution refl refl parts in
+    inner_unread h.0 f.4.0 f.4.1 f.4.5
 
 -- what stands between the braces of the outer group, up to `}` behind the redirection of the inner one
 inner_group : (limit : ℕ) (body : ℕ → Document) (v : State) (c : Command) → ReadsCommand limit unclosed_text body (at_token 2 1 1) v c → v ≡ at_token 12 3 1

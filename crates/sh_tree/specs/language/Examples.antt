@@ -245,6 +245,10 @@ clause_end_text = codes "a;;"
 abbrev pub open_document_text : List ℕ
 open_document_text = codes "<<E\n"
 
+-- a line continuation in a body that is quoted, inside one that is not: its lines are joined, or are not
+abbrev pub split_document_text : List ℕ
+split_document_text = codes "<<E\n$(<<'F'\n\\\nF\n)\nE\n"
+
 -- no closing word behind a compound command with a redirection
 abbrev pub unclosed_text : List ℕ
 unclosed_text = codes "{ { a; } >f }"
@@ -274,4 +278,5 @@ pub record LanguageRead : Type 0 where
   pub lone_bar : IsUnread lone_bar_text
   pub clause_end : IsUnread clause_end_text
   pub open_document : IsUnread open_document_text
+  pub split_document : IsUnread split_document_text
   pub unclosed : IsUnread unclosed_text
