@@ -1,6 +1,6 @@
 -- The tokens of arithmetic, each the longest.
 -- POSIX.1-2024, XCU 2.6.4 (arithmetic expansion), 1.1.2.1 (arithmetic precision and operations).
-use Rattle.std.specs.Prelude.{ℕ, ◌+◌, Bool, true, false, not, ◌&&◌, ◌||◌, if◌then◌else◌, ◌==◌, List, [], ◌∷◌, length, drop, take, codes, nat_eq, nat_lt, Option, Some, None, slice_range}
+use Rattle.std.specs.Prelude.{ℕ, ◌+◌, Bool, not, ◌&&◌, ◌||◌, if◌then◌else◌, ◌==◌, List, [], ◌∷◌, length, drop, codes, nat_eq, nat_lt, Option, Some, None}
 use Rattle.std.specs.List.{starts_with}
 use Rattle.sh_tree.specs.declared.tree.Binary.{Binary}
 use Rattle.sh_tree.specs.declared.tree.Binary.TheVariants as op

@@ -1,6 +1,6 @@
 -- Classes of bytes, and the front of a text.
 -- POSIX.1-2024, XBD 3.216 (name), XCU 2.2 (quoting), 2.3 (token recognition).
-use Rattle.std.specs.Prelude.{ℕ, ◌+◌, ◌*◌, ◌-◌, Bool, true, false, not, ◌&&◌, ◌||◌, if◌then◌else◌, ◌==◌, List, [], ◌∷◌, ◌++◌, length, drop, take, codes, nat_le, nat_lt, nat_eq, Option, Some, None}
+use Rattle.std.specs.Prelude.{ℕ, ◌+◌, ◌*◌, ◌-◌, Bool, false, not, ◌&&◌, ◌||◌, if◌then◌else◌, ◌==◌, List, [], ◌∷◌, ◌++◌, length, drop, take, codes, nat_le, nat_eq, Option, Some, None}
 use Rattle.std.specs.List.{take_while, list_any, list_all, starts_with}
 
 -- whether the byte is one of these

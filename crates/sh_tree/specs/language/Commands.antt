@@ -1,7 +1,6 @@
 -- The tokens of commands, each the longest, and what stands between them.
 -- POSIX.1-2024, XCU 2.3 (token recognition), 2.4 (reserved words), 2.7 (redirection), 2.9.1 (simple commands), 2.10 (shell grammar).
-use Rattle.std.specs.Prelude.{ℕ, ◌+◌, ◌-◌, Bool, true, false, not, ◌&&◌, ◌||◌, if◌then◌else◌, ◌==◌, List, [], ◌∷◌, ◌++◌, length, drop, take, codes, nat_lt, nat_le, slice_index, Option, Some, None}
-use Rattle.std.specs.List.{find}
+use Rattle.std.specs.Prelude.{ℕ, ◌+◌, ◌-◌, Bool, true, false, not, ◌&&◌, ◌||◌, if◌then◌else◌, ◌==◌, List, [], ◌∷◌, ◌++◌, length, drop, take, codes, nat_lt, nat_le, Option, Some, None}
 use Rattle.std.specs.Str.{bytes_eq}
 use Rattle.sh_tree.specs.declared.tree.Span.{Span}
 use Rattle.sh_tree.specs.declared.tree.Direction.{Direction}
@@ -21,7 +20,7 @@ use Rattle.sh_tree.specs.declared.token.command.Stage.{Stage}
 use Rattle.sh_tree.specs.declared.token.command.Stage.TheVariants.{First, Prefixed, Named}
 use Rattle.sh_tree.specs.declared.token.command.Lead.{Lead}
 use Rattle.sh_tree.specs.declared.token.command.Lead.TheVariants as lead
-use Rattle.sh_tree.specs.language.Bytes.{is_in, is_blank, is_newline, is_backslash, is_digit, is_name, is_operator_byte, ends_token, run, is_first, name_length, longest, joined_length, behind_joined, is_joined, joined_at}
+use Rattle.sh_tree.specs.language.Bytes.{is_in, is_blank, is_newline, is_backslash, is_digit, is_name, ends_token, run, is_first, name_length, longest, behind_joined, is_joined, joined_at}
 use Rattle.sh_tree.specs.language.Words.{ends_joined}
 use Rattle.sh_tree.specs.Tree.{span}
 

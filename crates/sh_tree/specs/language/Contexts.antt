@@ -1,10 +1,10 @@
 -- The contexts in which whole words are read.
 -- POSIX.1-2024, XCU 2.6.1 (tilde expansion), 2.6.5 (field splitting), 2.7 (redirection), 2.9.1 (simple commands), 2.15 (export, readonly).
-use Rattle.std.specs.Prelude.{ℕ, ◌+◌, Bool, true, false, not, if◌then◌else◌, List, drop}
+use Rattle.std.specs.Prelude.{ℕ, ◌+◌, Bool, true, false, if◌then◌else◌, List, drop}
 use Rattle.sh_tree.specs.declared.token.word.Site.TheVariants as site
 use Rattle.sh_tree.specs.declared.token.word.Context.{Context}
 use Rattle.sh_tree.specs.declared.token.command.Stage.{Stage}
-use Rattle.sh_tree.specs.declared.token.command.Stage.TheVariants.{First, Prefixed, Named}
+use Rattle.sh_tree.specs.declared.token.command.Stage.TheVariants.{Named}
 use Rattle.sh_tree.specs.language.HereDocuments.{Mark}
 use Rattle.sh_tree.specs.language.Commands.{is_assignment, name_end}
 

@@ -1,6 +1,6 @@
 -- The lines of here-documents.
 -- POSIX.1-2024, XCU 2.7.4 (here-document), 2.2.1 (line continuation).
-use Rattle.std.specs.Prelude.{ℕ, zero, suc, ◌+◌, Bool, true, false, not, ◌&&◌, ◌||◌, if◌then◌else◌, ◌==◌, List, [], ◌∷◌, length, drop, take, nat_lt, Option, Some, None, slice_range}
+use Rattle.std.specs.Prelude.{ℕ, zero, suc, ◌+◌, Bool, false, not, ◌&&◌, ◌||◌, if◌then◌else◌, List, [], ◌∷◌, length, drop, nat_lt, Option, Some, None, slice_range}
 use Rattle.std.specs.Str.{bytes_eq}
 use Rattle.sh_tree.specs.declared.tree.Span.{Span}
 use Rattle.sh_tree.specs.language.Bytes.{is_newline, is_tab, is_backslash, run, is_first}

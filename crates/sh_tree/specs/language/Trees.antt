@@ -1,6 +1,6 @@
 -- The tree's words as the reading writes them.
 -- POSIX.1-2024, XCU 2.10 (shell grammar).
-use Rattle.std.specs.Prelude.{ℕ, ◌+◌, Bool, true, false, List, [], ◌∷◌, Option, Some, None}
+use Rattle.std.specs.Prelude.{ℕ, Bool, List, [], ◌∷◌, Option}
 use Rattle.sh_tree.specs.declared.tree.Span.{Span}
 use Rattle.sh_tree.specs.declared.tree.Script.{Script, roll-Script}
 use Rattle.sh_tree.specs.declared.tree.Item.{Item, roll-Item}

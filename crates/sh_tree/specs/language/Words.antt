@@ -1,7 +1,6 @@
 -- What begins at each place of a word, each thing the longest.
 -- POSIX.1-2024, XCU 2.2 (quoting), 2.6.1 (tilde expansion), 2.6.2 (parameters), 2.6.3, 2.6.4 (`$(` and `$((`), 2.7.4 (here-documents).
-use Rattle.std.specs.Prelude.{ℕ, ◌+◌, ◌-◌, Bool, true, false, not, ◌&&◌, ◌||◌, if◌then◌else◌, ◌==◌, List, [], ◌∷◌, length, drop, take, codes, nat_lt, nat_le, Option, Some, None, slice_index}
-use Rattle.sh_tree.specs.declared.tree.Span.{Span}
+use Rattle.std.specs.Prelude.{ℕ, ◌+◌, ◌-◌, Bool, true, false, not, ◌&&◌, ◌||◌, if◌then◌else◌, ◌==◌, List, [], ◌∷◌, length, drop, take, codes, nat_lt, nat_le, Option, Some, None}
 use Rattle.sh_tree.specs.declared.tree.Subject.{Subject}
 use Rattle.sh_tree.specs.declared.tree.Subject.TheVariants.{Name, Positional, Special}
 use Rattle.sh_tree.specs.declared.tree.Special.{Special as SpecialParameter}
@@ -17,7 +16,7 @@ use Rattle.sh_tree.specs.declared.token.word.Context.{Context}
 use Rattle.sh_tree.specs.declared.token.word.Sign.{Sign}
 use Rattle.sh_tree.specs.declared.token.word.Sign.TheVariants as sign
 use Rattle.sh_tree.specs.declared.token.word.Token.{Token}
-use Rattle.sh_tree.specs.language.Bytes.{is_in, is_newline, is_tab, is_digit, is_name_start, is_name_byte, ends_token, run, is_first, name_length, decimal, joined_length, behind_joined, is_joined}
+use Rattle.sh_tree.specs.language.Bytes.{is_in, is_newline, is_tab, is_digit, is_name_start, is_name_byte, ends_token, run, is_first, name_length, decimal, behind_joined, is_joined}
 use Rattle.sh_tree.specs.Tree.{span}
 
 -- Sites
