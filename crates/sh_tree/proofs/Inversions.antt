@@ -232,7 +232,7 @@ module _ (limit : ℕ) (b : List ℕ) (s : State) where
   -- the body at s and the line that ends it
   abbrev pub DocumentIs : Mark → Type 0
   DocumentIs m =
-      (l : Span) × (u : Spot) × (ps : List Part) × (end_line m b s.spot.at ≡ Some l) × (keeps_document b s.spot.body m (span s.spot.at l.start) ≡ true)
+      (l : Span) × (u : Spot) × (ps : List Part) × (end_line m b s.spot.at ≡ Some l) × (keeps_document b s.spot.body s.spot.tabs m (span s.spot.at l.end) ≡ true)
       × ReadsParts limit (take l.start b) (in_document_of m) 10 (in_document m s) u ps
 
 first_mark : {m n : Mark} {ms ns : List Mark} → m ∷ ms ≡ n ∷ ns → m ≡ n

@@ -97,7 +97,7 @@ open_document_unread t h =
 
 -- inside the substitution that stands in the body
 abbrev inner_spot : Spot
-inner_spot = record { at = 6; count = 1; depth = 1; quiet = false; body = true }
+inner_spot = record { at = 6; count = 1; depth = 1; quiet = false; body = true; tabs = false }
 
 abbrev inner_mark : Mark
 inner_mark = record { strip = false; quoted = true; delimiter = codes "F"; depth = 1 }
@@ -113,7 +113,7 @@ inner_unread limit u t h =
     refl refl h in
     let body = document_is inner_mark [] refl d.1 in
     let end : span 14 15 ≡ body.0 = some_one body.3 in
-    true≢false (sym body.4 ∙ ap (λ l. keeps_document b true inner_mark (span 12 l.start)) (sym end))
+    true≢false (sym body.4 ∙ ap (λ l. keeps_document b true false inner_mark (span 12 l.end)) (sym end))
 
 pub split_document_unread : IsUnread split_document_text
 unfolding computes

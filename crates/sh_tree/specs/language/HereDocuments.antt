@@ -55,6 +55,11 @@ end_line_within (suc n) m b i =
 unfoldable pub end_line : Mark → List ℕ → ℕ → Option Span
 end_line m b i = end_line_within (length b) m b i
 
+-- a line of the text begins with a tab; the first one does so only if the text begins a line
+unfoldable pub has_tabbed_line : Bool → List ℕ → Bool
+has_tabbed_line begins [] = false
+has_tabbed_line begins (c ∷ cs) = (begins && is_tab c) || has_tabbed_line (is_newline c) cs
+
 -- a tab stands behind a line continuation: whether `<<-` strips it is read in two ways
 unfoldable pub has_joined_tab : List ℕ → Bool
 has_joined_tab [] = false

@@ -8,13 +8,14 @@ use Rattle.sh_tree.specs.language.Commands.{blanks}
 use Rattle.sh_tree.specs.language.Trees.{word, span}
 
 -- Inside a word: the offset, how many commands began before it, how many levels are open, whether a here-document outside waits for its body, so that no
--- newline token may come, and whether this is in the body of one.
+-- newline token may come, whether this is in the body of one, and whether `<<-` strips the tabs at the beginning of lines around it.
 pub record Spot : Type 0 where
   pub at : ℕ
   pub count : ℕ
   pub depth : ℕ
   pub quiet : Bool
   pub body : Bool
+  pub tabs : Bool
 
 -- the spot at i
 abbrev pub to : ℕ → Spot → Spot
@@ -100,7 +101,7 @@ on_line i s = record s { spot = to i s.spot; pending = [] }
 
 -- where the body of a here-document is read
 abbrev pub in_document : Mark → State → Spot
-in_document m s = record s.spot { depth = m.depth; quiet = false; body = not m.quoted }
+in_document m s = record s.spot { depth = m.depth; quiet = false; body = not m.quoted; tabs = s.spot.tabs || m.strip }
 
 -- behind a body that was read up to u, and its end line, which ends before i
 abbrev pub with_document : ℕ → Document → Spot → State → State
