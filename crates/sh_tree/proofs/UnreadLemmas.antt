@@ -21,7 +21,7 @@ use Rattle.sh_tree.specs.language.HereDocuments.{Mark}
 use Rattle.sh_tree.specs.language.Parts.{keeps_document}
 use Rattle.sh_tree.specs.language.Trees.{span, word}
 use Rattle.sh_tree.specs.language.Reading.{ReadsParts, ReadsScript, ReadsCommand, ReadsRedirects, lead_here, parted, skip, is_empty, is_some}
-use Rattle.sh_tree.specs.language.Examples.{IsUnread, open_quote_text, open_braced_text, split_name_text, no_expression_text, lone_bar_text, split_operator_text, clause_end_text, open_document_text, split_document_text, unclosed_text, plain, bare}
+use Rattle.sh_tree.specs.language.Examples.{IsUnread, open_quote_text, open_braced_text, split_name_text, no_expression_text, lone_bar_text, split_operator_text, clause_end_text, open_document_text, split_document_text, tabbed_document_text, unclosed_text, plain, bare}
 use Rattle.sh_tree.proofs.Inversions.{apart, first_part, behind_plain, nothing_at, word_parts, expression_begins, begins_operand, script_is, opening_word, no_sequence, sequence_items, list_items, items_first, items_end, items_ended, compound_is, group_is, redirects_end, redirects_first, redirect_file, bare_word_ends, bare_command_ends, document_is, one_part_word, opening_document, some_one}
 use Rattle.sh_tree.proofs.LanguageLemmas.{computes, at_word, at_token, the_mark}
 
@@ -127,6 +127,41 @@ split_document_unread t h =
     let parts = subst (λ l. ReadsParts h.0 (take l.start split_document_text) (in_document_of the_mark) 10 (record (at_word 4 1 0) { body = true }) body.1 body.2) (sym end) body.5 in
     let f = first_part sign.Substitution refl refl parts in
     inner_unread h.0 f.4.0 f.4.1 f.4.5
+
+-- the same where the outer one is stripped of tabs
+abbrev tabs_mark : Mark
+tabs_mark = record { strip = true; quoted = false; delimiter = codes "E"; depth = 0 }
+
+abbrev tabbed_spot : Spot
+tabbed_spot = record { at = 7; count = 1; depth = 1; quiet = false; body = true; tabs = true }
+
+abbrev tabbed_mark : Mark
+tabbed_mark = record { strip = false; quoted = false; delimiter = codes "F"; depth = 1 }
+
+tabbed_unread : (limit : ℕ) (u : Spot) (t : Script) → ReadsScript limit (take 18 tabbed_document_text) tabbed_spot u t → ⊥
+unfolding computes
+tabbed_unread limit u t h =
+    let b = take 18 tabbed_document_text in
+    let at : Redirection = record { number = None; operator = op.HereDoc; at = 7; end = 9 } in
+    let d = opening_document at false 10 (bare 9 10) refl refl refl refl
+    (λ v y w. let o = one_part_word sign.Plain (plain 9 10) 10 refl refl (λ z p q. q) refl refl w in (ap (λ z. past b z (counted (within tabbed_spot))) o.0, o.1))
+    refl refl h in
+    let body = document_is tabbed_mark [] refl d.1 in
+    let end : span 14 15 ≡ body.0 = some_one body.3 in
+    true≢false (sym body.4 ∙ ap (λ l. keeps_document b true true tabbed_mark (span 11 l.end)) (sym end))
+
+pub tabbed_document_unread : IsUnread tabbed_document_text
+unfolding computes
+tabbed_document_unread t h =
+    let at : Redirection = record { number = None; operator = op.HereDocTabs; at = 0; end = 3 } in
+    let d = opening_document at true 4 (bare 3 4) refl refl refl refl
+    (λ u y w. let o = one_part_word sign.Plain (plain 3 4) 4 refl refl (λ v p q. q) refl refl w in (ap (λ v. past tabbed_document_text v (at_token 0 1 0)) o.0, o.1))
+    refl refl h.2.script in
+    let body = document_is tabs_mark [] refl d.1 in
+    let end : span 18 19 ≡ body.0 = some_one body.3 in
+    let parts = subst (λ l. ReadsParts h.0 (take l.start tabbed_document_text) (in_document_of tabs_mark) 10 (record (at_word 5 1 0) { body = true; tabs = true }) body.1 body.2) (sym end) body.5 in
+    let f = first_part sign.Substitution refl refl parts in
+    tabbed_unread h.0 f.4.0 f.4.1 f.4.5
 
 -- what stands between the braces of the outer group, up to `}` behind the redirection of the inner one
 inner_group : (limit : ℕ) (body : ℕ → Document) (v : State) (c : Command) → ReadsCommand limit unclosed_text body (at_token 2 1 1) v c → v ≡ at_token 12 3 1

@@ -249,6 +249,10 @@ open_document_text = codes "<<E\n"
 abbrev pub split_document_text : List ℕ
 split_document_text = codes "<<E\n$(<<'F'\n\\\nF\n)\nE\n"
 
+-- a line that begins with a tab in a body, inside one that is stripped of tabs: they are stripped from its lines too, or are not
+abbrev pub tabbed_document_text : List ℕ
+tabbed_document_text = codes "<<-E\n$(<<F\n\tx\nF\n)\nE\n"
+
 -- no closing word behind a compound command with a redirection
 abbrev pub unclosed_text : List ℕ
 unclosed_text = codes "{ { a; } >f }"
@@ -279,4 +283,5 @@ pub record LanguageRead : Type 0 where
   pub clause_end : IsUnread clause_end_text
   pub open_document : IsUnread open_document_text
   pub split_document : IsUnread split_document_text
+  pub tabbed_document : IsUnread tabbed_document_text
   pub unclosed : IsUnread unclosed_text
