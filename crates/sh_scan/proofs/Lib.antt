@@ -2,7 +2,6 @@ pub mod PlaceLemmas
 pub mod StepLemmas
 pub mod OperatorLemmas
 pub mod PieceLemmas
-pub mod QuoteLemmas
 pub mod RunLemmas
 pub mod SpaceLemmas
 pub mod ArithmeticLemmas

@@ -2,8 +2,9 @@
 ghost use Rattle.std.specs.Prelude.{◌≡◌, ◌≤◌, ◌<◌, length, IfSome};
 ghost use Rattle.sh_scan.specs.Quotes as quotes;
 
-use memchr::memchr;
+use crate::words::single;
 use sh_tree::limits::MAX_SCRIPT;
+use sh_tree::token::Sign;
 
 /// Where the single quotes that open at `at` end, over the closing one; nothing where none closes them.
 #[tactic(auto, unfolding(crate::specs::Quotes::single_end, sh_tree::specs::language::Words::single))]
@@ -14,9 +15,9 @@ pub fn single_end(script: &[u8], at: u32) -> Option<u32>
     ensures within { IfSome result (λ end. end ≤ length script.now) }
     ensures moves { IfSome result (λ end. at < end) }
 {
-    let from = at as usize + 1;
-    match memchr(b'\'', &script[from..]) {
-        Some(length) => Some((from + length + 1) as u32),
-        None => None,
+    let (sign, length) = single(&script[at as usize + 1..]);
+    match sign {
+        Sign::Single => Some((at as usize + length) as u32),
+        _ => None,
     }
 }

@@ -14,4 +14,4 @@ pub use contexts::{
     in_arithmetic, in_body, in_double, in_operand, in_removal, in_stage, in_unsplit, in_use,
     in_value, in_word,
 };
-pub use signs::token_at;
+pub use signs::{single, token_at};

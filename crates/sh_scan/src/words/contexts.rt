@@ -1,11 +1,11 @@
 //! How the bytes of a word are read.
 ghost use Rattle.std.specs.Prelude.{◌≡◌, ◌≤◌, length};
-ghost use Rattle.sh_tree.specs.language.Commands as commands;
 ghost use Rattle.sh_tree.specs.language.Contexts as contexts;
 ghost use Rattle.sh_tree.specs.language.Words as words;
 
 use super::sites::is_quoted;
-use crate::front::{begins_with, name_at, name_length};
+use crate::assignments::is_assignment_at;
+use crate::front::name_at;
 use sh_tree::limits::MAX_SCRIPT;
 use sh_tree::token::{Context, Site, Stage};
 use sh_tree::tree::Action;
@@ -103,15 +103,6 @@ pub fn in_value(at: u32) -> Context
     }
 }
 
-#[tactic(auto, unfolding(sh_tree::specs::language::Commands::is_assignment))]
-fn is_assignment(rest: &[u8]) -> bool
-    ensures { result ≡ commands.is_assignment rest.now }
-{
-    let length = name_length(rest);
-    let equals = begins_with(&rest[length..], b'=');
-    length != 0 && equals
-}
-
 /// An operand of `export` or `readonly` at `at`.
 #[tactic(auto, unfolding(sh_tree::specs::language::Contexts::in_operand))]
 pub fn in_operand(script: &[u8], at: u32) -> Context
@@ -119,7 +110,7 @@ pub fn in_operand(script: &[u8], at: u32) -> Context
     requires inside { at ≤ length script.now }
     ensures { result ≡ contexts.in_operand script.now at }
 {
-    if is_assignment(&script[at as usize..]) {
+    if is_assignment_at(script, at) {
         in_value(name_at(script, at) + 1)
     } else {
         in_word(at)

@@ -76,7 +76,7 @@ fn backslash(context: Context, rest: &[u8]) -> (Sign, usize)
 
 /// A single quote, before `rest` (XCU 2.2.2).
 #[tactic(auto, unfolding(sh_tree::specs::language::Words::single))]
-fn single(rest: &[u8]) -> (Sign, usize)
+pub fn single(rest: &[u8]) -> (Sign, usize)
     ensures value { result ≡ words.single rest.now }
     ensures within { result.1 ≤ length rest.now + 1 }
     ensures moves { reads_bytes result.0 ≡ true → 0 < result.1 }
