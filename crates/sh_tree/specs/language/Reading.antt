@@ -190,9 +190,9 @@ module _ (limit : ℕ) where
 
     pub data ReadsConditional : List ℕ → Context → Spot → Spot → Expr → Type 0 where
       one_level : {b : List ℕ} {x : Context} {s u : Spot} {e : Expr} → ReadsLevel b x 0 s u e → is_question (figure_at b u) ≡ false → ReadsConditional b x s u e
-      choice : {b : List ℕ} {x : Context} {s u v w : Spot} {c y n : Expr} → ReadsLevel b x 0 s u c → figure_at b u ≡ figure.Question → s.depth < limit
+      choice : {b : List ℕ} {x : Context} {s u v w : Spot} {c y n : Expr} → ReadsLevel b x 0 s u c → figure_at b u ≡ figure.Question → u.depth < limit
           → ReadsExpression b x (deeper (over b u).at u) v y → figure_at b v ≡ figure.Colon → ReadsConditional b x (over b v) w n
-          → ReadsConditional b x s (behind w.at w s) (expr.Choice c y n)
+          → ReadsConditional b x s (behind w.at w u) (expr.Choice c y n)
 
     -- an expression of binary operators of level l or tighter
     pub data ReadsLevel : List ℕ → Context → ℕ → Spot → Spot → Expr → Type 0 where
