@@ -1,0 +1,11 @@
+pub mod Modes
+pub mod States
+pub mod Rest
+pub mod Clauses
+pub mod Sound
+pub mod Faults
+pub mod Starts
+pub mod Steps
+pub mod Lexemes
+pub mod Signs
+pub mod Operations

@@ -1,0 +1,181 @@
+//! The builder of a word.
+mod arithmetic;
+mod faults;
+mod operations;
+mod parts;
+mod signs;
+mod state;
+mod tokens;
+
+ghost use Rattle.std.specs.Prelude.{◌≡◌, ◌≤◌, ℕ, List, None, Some, Ok, Err, length, IfErr, OnOk, MatchResult};
+ghost use Rattle.sh_tree.specs.declared.refusal.Refusal as refusal;
+ghost use Rattle.sh_words.specs.Clauses.{Runs, Steps};
+ghost use Rattle.sh_words.specs.Modes.{seen};
+ghost use Rattle.sh_words.specs.Rest.{Left};
+ghost use Rattle.sh_words.specs.Sound.{IsSound, RunMoves, StepMoves, StepSound, StepWorks};
+ghost use Rattle.sh_words.specs.Starts.{IsStart};
+ghost use Rattle.sh_words.specs.States.{fed};
+
+use crate::frames::{Focus, Frame, Holder};
+use crate::mode::Mode;
+use crate::stack::Stack;
+use sh_scan::in_word;
+use sh_tree::Items;
+use sh_tree::limits::MAX_SCRIPT;
+use sh_tree::refusal::{Fault, Refusal};
+use sh_tree::tree::{CommandStyle, Part, Script, Span, Word};
+use std::alloc::{AllocError, Global};
+use std::mem;
+
+/// What a builder answers.
+#[derive(Debug, Drop)]
+pub enum Next {
+    /// The word.
+    Done(Word),
+    /// A command substitution: its commands are read from `at` on, behind its `$(`, where so many levels are open, up to the
+    /// `)` behind them, and handed back by `resume`.
+    Inner { at: u32, depth: u8 },
+}
+
+/// A word that is being read (XCU 2.2, 2.6).
+#[derive(Debug, Drop)]
+pub struct WordBuilder {
+    alloc: Global,
+    mode: Mode,
+    /// Where the word begins.
+    begin: u32,
+    /// How many levels are open there.
+    base: u8,
+    at: u32,
+    depth: u8,
+    focus: Focus,
+    holder: Holder,
+    frames: Stack<Frame>,
+    failed: Option<Refusal>,
+}
+
+impl WordBuilder {
+    /// A word of the mode that begins at `at`, where so many levels are open.
+    ///
+    /// # Errors
+    ///
+    /// `AllocError` where a growth was refused.
+    pub fn start(alloc: Global, mode: Mode, depth: u8, at: u32) -> Result<WordBuilder, AllocError>
+        ensures { (w : WordBuilder) × (result ≡ Ok w) × IsStart w mode depth at }
+    {
+        Ok(WordBuilder {
+            alloc,
+            mode,
+            begin: at,
+            base: depth,
+            at,
+            depth,
+            focus: Focus::Start,
+            holder: Holder::Parts {
+                context: in_word(at),
+                prior: 0,
+                parts: Items::new(alloc),
+            },
+            frames: Stack::new(alloc),
+            failed: None,
+        })
+    }
+
+    /// Reads on in the script, up to the word's end or to commands in it.
+    ///
+    /// # Errors
+    ///
+    /// `Syntax` and `LeftOut` where no word of the mode stands there, whatever the commands in it are; `TooDeep` where none is
+    /// within the limit; `Memory` where a growth was refused. After a refusal it answers the same one again.
+    pub fn run(&mut self, script: &[u8]) -> Result<Next, Refusal>
+        requires small { length script.now ≤ MAX_SCRIPT }
+        requires inside { self.old.at ≤ length (seen script.now self.old.mode) }
+        requires sound { IsSound (seen script.now self.old.mode) self.old }
+        ensures runs { self.old.failed ≡ None → Runs (seen script.now self.old.mode) (Left (seen script.now self.old.mode) self.old) self.new result }
+        ensures moves { RunMoves (seen script.now self.old.mode) self.old self.new result }
+        ensures again { (e : refusal.Refusal) → self.old.failed ≡ Some e → (result ≡ Err e) × (self.new ≡ self.old) }
+        ensures fails { IfErr result (λ e. self.new.failed ≡ Some e) }
+    {
+        if let Some(refusal) = self.failed {
+            return Err(refusal);
+        }
+        let seen = self.mode.seen(script);
+        match self.advance(seen) {
+            Ok(next) => Ok(next),
+            Err(refusal) => {
+                self.failed = Some(refusal);
+                Err(refusal)
+            }
+        }
+    }
+
+    /// Takes the commands that were asked for, which end before the `)` that ends at `end`. A builder that asked for none is left
+    /// as it is.
+    ///
+    /// # Errors
+    ///
+    /// `Memory` where a growth was refused, and what was refused before.
+    pub fn resume(&mut self, inner: Script, end: u32) -> Result<(), Refusal>
+        ensures gives { (start : ℕ) → self.old.focus ≡ Focus.Commands start → self.old.failed ≡ None → MatchResult result (λ _. self.new ≡ fed self.old start inner end) (λ e. e ≡ Refusal.Memory) }
+        ensures again { (e : refusal.Refusal) → self.old.failed ≡ Some e → (result ≡ Err e) × (self.new ≡ self.old) }
+        ensures sound { (b : List ℕ) → end ≤ length b → IsSound b self.old → OnOk result (IsSound b self.new) }
+        ensures fails { IfErr result (λ e. self.new.failed ≡ Some e) }
+    {
+        if let Some(refusal) = self.failed {
+            return Err(refusal);
+        }
+        let Focus::Commands(start) = &self.focus else {
+            return Ok(());
+        };
+        let span = Span { start: *start, end };
+        let part = Part::Command(CommandStyle::Paren, span, inner);
+        match self.give(0, part, end) {
+            Ok(()) => Ok(()),
+            Err(refusal) => {
+                self.failed = Some(refusal);
+                Err(refusal)
+            }
+        }
+    }
+
+    fn advance(&mut self, script: &[u8]) -> Result<Next, Refusal>
+        requires small { length script.now ≤ MAX_SCRIPT }
+        requires inside { self.old.at ≤ length script.now }
+        requires sound { IsSound script.now self.old }
+        ensures runs { Runs script.now (Left script.now self.old) self.new result }
+        ensures moves { RunMoves script.now self.old self.new result }
+    {
+        loop {
+            if let Some(next) = self.step(script)? {
+                return Ok(next);
+            }
+        }
+    }
+
+    /// One turn.
+    fn step(&mut self, script: &[u8]) -> Result<Option<Next>, Refusal>
+        requires small { length script.now ≤ MAX_SCRIPT }
+        requires inside { self.old.at ≤ length script.now }
+        requires sound { IsSound script.now self.old }
+        ensures keeps { Steps script.now (Left script.now self.old) self.new result }
+        ensures moves { StepMoves script.now self.old self.new result }
+        ensures sound { StepSound script.now result self.new }
+        ensures works { StepWorks script.now self.old self.new result }
+    {
+        match mem::replace(&mut self.focus, Focus::Parts) {
+            Focus::Start => {
+                self.start_step(script);
+                Ok(None)
+            }
+            Focus::Parts => self.parts_step(script),
+            Focus::Expression => self.expression_step(script),
+            Focus::Conditional => {
+                self.conditional_step()?;
+                Ok(None)
+            }
+            Focus::Level(level) => self.level_step(script, level),
+            Focus::Have(expr) => self.have_step(script, expr),
+            Focus::Commands(start) => Err(Refusal::Syntax(Fault::OpenSubstitution, start)),
+        }
+    }
+}

@@ -1,0 +1,323 @@
+//! What stands behind an operand of arithmetic (XCU 2.6.4).
+ghost use Rattle.std.specs.Prelude.{◌≡◌, ◌<◌, ◌≤◌, length, MatchResult};
+ghost use Rattle.sh_words.specs.Clauses.{Steps};
+ghost use Rattle.sh_words.specs.Faults as faults;
+ghost use Rattle.sh_words.specs.Faults.{IsFault};
+ghost use Rattle.sh_words.specs.Lexemes.{IsLexeme};
+ghost use Rattle.sh_words.specs.Operations.{ClosesArithmetic, first_read, more_read};
+ghost use Rattle.sh_words.specs.Steps.{Enters};
+ghost use Rattle.sh_tree.specs.language.Arithmetic as arithmetic;
+ghost use Rattle.sh_tree.specs.language.Arithmetic.{unary_level};
+ghost use Rattle.sh_words.specs.Rest.{Left};
+ghost use Rattle.sh_words.specs.Sound.{Began, Deep, IsSound, StepMoves, StepSound, StepWorks};
+ghost use Rattle.sh_words.specs.States.{focused, framed, had};
+
+use super::signs::is_expansion;
+use super::tokens::{
+    begins_operand, follows, is_close, is_colon, is_dollar, is_question, lexeme,
+};
+use super::{Next, WordBuilder};
+use crate::frames::{Focus, Frame, Holder, Opening, Operation};
+use sh_scan::{binary_of, is_closed, token_at};
+use sh_tree::limits::MAX_SCRIPT;
+use sh_tree::refusal::{Fault, Form, Refusal};
+use sh_tree::token::Lexeme;
+use sh_tree::tree::{Binary, Expr, Part, Span, Unary};
+use sh_tree::{Boxed, Items};
+
+impl WordBuilder {
+    /// An expression was read.
+    pub fn have_step(&mut self, script: &[u8], expr: Expr) -> Result<Option<Next>, Refusal>
+        requires small { length script.now ≤ MAX_SCRIPT }
+        requires inside { self.old.at ≤ length script.now }
+        requires sound { IsSound script.now (focused self.old (Focus.Have expr)) }
+        ensures keeps { Steps script.now (Left script.now (focused self.old (Focus.Have expr))) self.new result }
+        ensures moves { StepMoves script.now self.old self.new result }
+        ensures sound { StepSound script.now result self.new }
+        ensures works { StepWorks script.now (focused self.old (Focus.Have expr)) self.new result }
+    {
+        let token = lexeme(script, self.at);
+        if !follows(token.figure) {
+            return Err(self.misplaced(script, &expr, token));
+        }
+        match self.frames.pop() {
+            None => Err(self.bad(token)),
+            Some(Frame::Opened {
+                holder,
+                depth,
+                start,
+                opening,
+                ..
+            }) => self.close_arithmetic(script, holder, depth, start, opening, expr, token),
+            Some(Frame::Operation(operation)) => self.operand_read(script, operation, expr, token),
+        }
+    }
+
+    /// A token that cannot stand behind the expression. An expansion that touches another operand is no whole one.
+    fn misplaced(&self, script: &[u8], expr: &Expr, token: Lexeme) -> Refusal
+        requires small { length script.now ≤ MAX_SCRIPT }
+        requires token { IsLexeme script.now self.now.at token }
+        requires began { Began script.now self.now.holder }
+        requires frames { Deep script.now self.now.base self.now.frames }
+        ensures { IsFault script.now result }
+    {
+        if token.start != self.at || !begins_operand(token.figure) {
+            return self.bad(token);
+        }
+        if let Some(start) = expansion_start(expr) {
+            return Refusal::LeftOut(Form::Arithmetic, start.min(token.start));
+        }
+        if is_dollar(token.figure) && is_number_or_name(expr) {
+            return self.touching(script, token.start);
+        }
+        self.bad(token)
+    }
+
+    /// What the `$` at `start` begins touches an operand.
+    fn touching(&self, script: &[u8], start: u32) -> Refusal
+        requires small { length script.now ≤ MAX_SCRIPT }
+        requires inside { start < length script.now }
+        requires frames { Deep script.now self.now.base self.now.frames }
+        ensures { IsFault script.now result }
+    {
+        let token = token_at(script, self.holder.context(), 0, start);
+        if is_expansion(token.sign) {
+            Refusal::LeftOut(Form::Arithmetic, start)
+        } else {
+            self.no_part(token, start)
+        }
+    }
+
+    /// An operand of the operation was read.
+    fn operand_read(
+        &mut self,
+        script: &[u8],
+        operation: Operation,
+        expr: Expr,
+        token: Lexeme,
+    ) -> Result<Option<Next>, Refusal>
+        requires small { length script.now ≤ MAX_SCRIPT }
+        requires inside { self.old.at ≤ length script.now }
+        requires token { IsLexeme script.now self.old.at token }
+        requires sound { IsSound script.now (framed self.old (Frame.Operation operation) (Focus.Have expr)) }
+        ensures keeps { Steps script.now (Left script.now (framed self.old (Frame.Operation operation) (Focus.Have expr))) self.new result }
+        ensures moves { StepMoves script.now self.old self.new result }
+        ensures sound { StepSound script.now result self.new }
+        ensures works { StepWorks script.now (framed self.old (Frame.Operation operation) (Focus.Have expr)) self.new result }
+    {
+        match operation {
+            Operation::Parenthesis { depth } => {
+                if !is_close(token.figure) {
+                    return Err(self.bad(token));
+                }
+                let whole = Expr::Parenthesis(Boxed::new(self.alloc, expr)?);
+                self.have(depth, whole, token.end);
+            }
+            Operation::Unary { depth, operator } => self.unary_read(depth, operator, expr)?,
+            Operation::First { level } => self.first_read(level, expr, token)?,
+            Operation::More {
+                level,
+                first,
+                rest,
+                operator,
+            } => self.more_read(level, first, rest, operator, expr, token)?,
+            Operation::Condition => {
+                if is_question(token.figure) {
+                    return self.enter_choice(script, expr, token);
+                }
+                self.have(self.depth, expr, self.at);
+            }
+            Operation::Yes { depth, condition } => {
+                if !is_colon(token.figure) {
+                    return Err(self.bad(token));
+                }
+                let operation = Operation::No {
+                    depth,
+                    condition,
+                    yes: expr,
+                };
+                self.operate(operation, self.depth, Focus::Conditional, token.end)?;
+            }
+            Operation::No {
+                depth,
+                condition,
+                yes,
+            } => self.choice_read(depth, condition, yes, expr)?,
+            Operation::Assign {
+                depth,
+                name,
+                operator,
+            } => self.value_read(depth, name, operator, expr)?,
+        }
+        Ok(None)
+    }
+
+    fn unary_read(&mut self, depth: u8, operator: Unary, operand: Expr) -> Result<(), Refusal>
+        ensures { MatchResult result (λ _. self.new ≡ had self.old depth (Expr.Unary operator operand) self.old.at) (λ e. e ≡ Refusal.Memory) }
+    {
+        let operand = Boxed::new(self.alloc, operand)?;
+        self.have(depth, Expr::Unary { operator, operand }, self.at);
+        Ok(())
+    }
+
+    /// The first operand of a level was read, before the token.
+    fn first_read(&mut self, level: u8, expr: Expr, token: Lexeme) -> Result<(), Refusal>
+        requires level { level < unary_level }
+        ensures { MatchResult result (λ _. self.new ≡ first_read self.old level expr token) (λ e. e ≡ Refusal.Memory) }
+    {
+        match binary_of(level, token.figure) {
+            None => self.have(self.depth, expr, self.at),
+            Some(operator) => {
+                let operation = Operation::More {
+                    level,
+                    first: expr,
+                    rest: Items::new(self.alloc),
+                    operator,
+                };
+                self.operate(operation, self.depth, Focus::Level(level + 1), token.end)?;
+            }
+        }
+        Ok(())
+    }
+
+    /// One more operand of a level was read, before the token.
+    fn more_read(
+        &mut self,
+        level: u8,
+        first: Expr,
+        mut rest: Items<(Binary, Expr)>,
+        operator: Binary,
+        expr: Expr,
+        token: Lexeme,
+    ) -> Result<(), Refusal>
+        requires level { level < unary_level }
+        ensures { MatchResult result (λ _. self.new ≡ more_read self.old level first rest operator expr token) (λ e. e ≡ Refusal.Memory) }
+    {
+        rest.push((operator, expr))?;
+        match binary_of(level, token.figure) {
+            None => {
+                let first = Boxed::new(self.alloc, first)?;
+                self.have(self.depth, Expr::Chain { first, rest }, self.at);
+            }
+            Some(operator) => {
+                let operation = Operation::More {
+                    level,
+                    first,
+                    rest,
+                    operator,
+                };
+                self.operate(operation, self.depth, Focus::Level(level + 1), token.end)?;
+            }
+        }
+        Ok(())
+    }
+
+    /// A choice by the condition follows the `?` of the token.
+    fn enter_choice(
+        &mut self,
+        script: &[u8],
+        condition: Expr,
+        token: Lexeme,
+    ) -> Result<Option<Next>, Refusal>
+        requires small { length script.now ≤ MAX_SCRIPT }
+        requires within { token.end ≤ length script.now }
+        ensures { Enters self.old (Operation.Yes self.old.depth condition) Focus.Expression token.end (arithmetic.lexeme script.now token.end).start self.new result }
+    {
+        let operation = Operation::Yes {
+            depth: self.depth,
+            condition,
+        };
+        let first = lexeme(script, token.end);
+        self.enter(operation, Focus::Expression, token.end, first.start)
+    }
+
+    fn choice_read(
+        &mut self,
+        depth: u8,
+        condition: Expr,
+        yes: Expr,
+        no: Expr,
+    ) -> Result<(), Refusal>
+        ensures { MatchResult result (λ _. self.new ≡ had self.old depth (Expr.Choice condition yes no) self.old.at) (λ e. e ≡ Refusal.Memory) }
+    {
+        let condition = Boxed::new(self.alloc, condition)?;
+        let yes = Boxed::new(self.alloc, yes)?;
+        let no = Boxed::new(self.alloc, no)?;
+        self.have(depth, Expr::Choice { condition, yes, no }, self.at);
+        Ok(())
+    }
+
+    fn value_read(
+        &mut self,
+        depth: u8,
+        name: Span,
+        operator: Option<Binary>,
+        value: Expr,
+    ) -> Result<(), Refusal>
+        ensures { MatchResult result (λ _. self.new ≡ had self.old depth (Expr.Assign name operator value) self.old.at) (λ e. e ≡ Refusal.Memory) }
+    {
+        let value = Boxed::new(self.alloc, value)?;
+        let whole = Expr::Assign {
+            name,
+            operator,
+            value,
+        };
+        self.have(depth, whole, self.at);
+        Ok(())
+    }
+
+    /// The expression of the arithmetic expansion at `start` was read, before the token.
+    fn close_arithmetic(
+        &mut self,
+        script: &[u8],
+        holder: Holder,
+        depth: u8,
+        start: u32,
+        opening: Opening,
+        expr: Expr,
+        token: Lexeme,
+    ) -> Result<Option<Next>, Refusal>
+        requires small { length script.now ≤ MAX_SCRIPT }
+        requires token { IsLexeme script.now self.old.at token }
+        requires begun { start ≤ length script.now }
+        requires began { Began script.now self.old.holder }
+        ensures { ClosesArithmetic script.now self.old holder depth start opening expr token self.new result }
+    {
+        if !opening.is_arithmetic() || !is_close(token.figure) {
+            return Err(self.bad(token));
+        }
+        if !is_closed(script, token.end) {
+            return Err(unclosed(script, start, token));
+        }
+        let end = token.end + 1;
+        let part = Part::Arith(Span { start, end }, Boxed::new(self.alloc, expr)?);
+        self.holder = holder;
+        self.depth = depth;
+        self.give(0, part, end)?;
+        Ok(None)
+    }
+}
+
+/// A closing parenthesis with no second one behind it, which the end of the text leaves open.
+fn unclosed(script: &[u8], start: u32, token: Lexeme) -> Refusal
+    ensures { result ≡ faults.unclosed (length script.now) start token }
+{
+    if token.end as usize == script.len() {
+        Refusal::Syntax(Fault::OpenArith, start)
+    } else {
+        Refusal::Syntax(Fault::BadArith, token.start)
+    }
+}
+
+/// Where the expansion begins that the expression is.
+fn expansion_start(expr: &Expr) -> Option<u32> {
+    match expr {
+        Expr::Expansion(Part::Param(param)) => Some(param.span.start),
+        Expr::Expansion(Part::Arith(span, _) | Part::Command(_, span, _)) => Some(span.start),
+        _ => None,
+    }
+}
+
+fn is_number_or_name(expr: &Expr) -> bool {
+    matches!(expr, Expr::Constant(_) | Expr::Variable(_))
+}

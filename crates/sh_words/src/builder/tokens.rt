@@ -1,0 +1,98 @@
+//! The tokens of arithmetic, as a builder goes by them.
+ghost use Rattle.std.specs.Prelude.{◌≡◌, ◌≤◌, length};
+ghost use Rattle.sh_words.specs.Lexemes.{IsLexeme};
+ghost use Rattle.sh_words.specs.Lexemes as lexemes;
+ghost use Rattle.sh_tree.specs.language.Reading as reading;
+
+use sh_scan::{assignment_of, lexeme_at};
+use sh_tree::limits::MAX_SCRIPT;
+use sh_tree::token::{Figure, Lexeme};
+use sh_tree::tree::{Binary, Expr, Span};
+
+/// The token at or behind `at`.
+pub fn lexeme(script: &[u8], at: u32) -> Lexeme
+    requires small { length script.now ≤ MAX_SCRIPT }
+    requires inside { at ≤ length script.now }
+    ensures { IsLexeme script.now at result }
+{
+    lexeme_at(script, at)
+}
+
+pub fn span_of(lexeme: Lexeme) -> Span
+    ensures { result ≡ lexemes.span_of lexeme }
+{
+    Span {
+        start: lexeme.start,
+        end: lexeme.end,
+    }
+}
+
+/// The operator of an assignment that begins with the two tokens.
+#[tactic(auto, unfolding(crate::specs::Lexemes::assigned))]
+pub fn assigned(first: Figure, second: Figure) -> Option<Option<Binary>>
+    ensures { result ≡ lexemes.assigned first second }
+{
+    match first {
+        Figure::Name => assignment_of(second),
+        _ => None,
+    }
+}
+
+/// The operand that a token is, where it is a whole one.
+#[tactic(auto, unfolding(crate::specs::Lexemes::operand_of))]
+pub fn operand_of(lexeme: Lexeme) -> Option<Expr>
+    ensures { result ≡ lexemes.operand_of lexeme.figure (lexemes.span_of lexeme) }
+{
+    match lexeme.figure {
+        Figure::Constant => Some(Expr::Constant(span_of(lexeme))),
+        Figure::Name => Some(Expr::Variable(span_of(lexeme))),
+        _ => None,
+    }
+}
+
+pub fn is_open(figure: Figure) -> bool
+    ensures { result ≡ lexemes.is_open figure }
+{
+    matches!(figure, Figure::Open)
+}
+
+pub fn is_dollar(figure: Figure) -> bool
+    ensures { result ≡ lexemes.is_dollar figure }
+{
+    matches!(figure, Figure::Dollar)
+}
+
+pub fn is_question(figure: Figure) -> bool
+    ensures { result ≡ reading.is_question figure }
+{
+    matches!(figure, Figure::Question)
+}
+
+pub fn is_colon(figure: Figure) -> bool
+    ensures { result ≡ lexemes.is_colon figure }
+{
+    matches!(figure, Figure::Colon)
+}
+
+pub fn is_close(figure: Figure) -> bool
+    ensures { result ≡ lexemes.is_close figure }
+{
+    matches!(figure, Figure::Close)
+}
+
+/// Whether such a token may stand behind an expression.
+pub fn follows(figure: Figure) -> bool
+    ensures { result ≡ lexemes.follows figure }
+{
+    matches!(
+        figure,
+        Figure::Binary(_) | Figure::Question | Figure::Colon | Figure::Close
+    )
+}
+
+/// Whether an operand may begin with such a token that touches another one.
+pub fn begins_operand(figure: Figure) -> bool
+    ensures { result ≡ lexemes.begins_operand figure }
+{
+    matches!(figure, Figure::Dollar | Figure::Name | Figure::Constant)
+}
