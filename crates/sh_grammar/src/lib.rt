@@ -2,6 +2,7 @@
 #![tactic(auto)]
 
 mod commands;
+pub mod language;
 mod scan;
 mod script;
 #[cfg(test)]
