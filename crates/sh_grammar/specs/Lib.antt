@@ -4,3 +4,4 @@ pub mod Parsing
 pub mod Faults
 pub mod Breaks
 pub mod Items
+pub mod Modes

@@ -2,12 +2,46 @@
 ghost use Rattle.std.specs.Prelude.{◌≡◌, ◌≤◌, length};
 ghost use Rattle.sh_grammar.specs.Language.{Words};
 ghost use Rattle.sh_tree.specs.language.Contexts as contexts;
+ghost use Rattle.sh_words.specs.Modes as modes;
+ghost use Rattle.sh_grammar.specs.Modes.{IsWhole};
 
+use sh_scan::is_location_at;
 use sh_tree::limits::MAX_SCRIPT;
-use sh_tree::refusal::Refusal;
+use sh_tree::refusal::{Form, Refusal};
 use sh_tree::token::Stage;
 use sh_tree::tree::Word;
+use sh_words::{Mode, Next, WordBuilder};
 use std::alloc::Global;
+
+/// The mode of a word at a stage of a simple command.
+fn mode_of(stage: Stage) -> Mode
+    ensures whole { IsWhole result }
+{
+    match stage {
+        Stage::Named(true) => Mode::Operand,
+        Stage::Named(false) | Stage::First | Stage::Prefixed => Mode::Word,
+    }
+}
+
+/// The word of a mode at `at`. Commands in it are not read yet.
+fn whole_word(alloc: Global, script: &[u8], mode: Mode, at: u32) -> Result<Word, Refusal>
+    requires small { length script.now ≤ MAX_SCRIPT }
+    requires inside { at ≤ length script.now }
+    requires whole { IsWhole mode }
+    ensures { Words script.now (modes.context_of script.now mode at) at result }
+{
+    let mut builder = WordBuilder::start(alloc, mode, 0, at)?;
+    match builder.run(script)? {
+        Next::Done(word) => {
+            let value = mode.context(script, at).colons;
+            if !value && is_location_at(script, at, word.span.end) {
+                return Err(Refusal::LeftOut(Form::IoLocation, at));
+            }
+            Ok(word)
+        }
+        Next::Inner { at, .. } => Err(Refusal::LeftOut(Form::Later, at.saturating_sub(2))),
+    }
+}
 
 /// The value of an assignment at `at`.
 pub fn value_at(alloc: Global, script: &[u8], at: u32) -> Result<Word, Refusal>
@@ -15,7 +49,7 @@ pub fn value_at(alloc: Global, script: &[u8], at: u32) -> Result<Word, Refusal>
     requires inside { at ≤ length script.now }
     ensures { Words script.now (contexts.in_value at) at result }
 {
-    Err(Refusal::Memory)
+    whole_word(alloc, script, Mode::Value, at)
 }
 
 /// The word of a simple command at `at`.
@@ -24,5 +58,5 @@ pub fn word_at(alloc: Global, script: &[u8], stage: Stage, at: u32) -> Result<Wo
     requires inside { at ≤ length script.now }
     ensures { Words script.now (contexts.in_stage script.now stage at) at result }
 {
-    Err(Refusal::Memory)
+    whole_word(alloc, script, mode_of(stage), at)
 }
