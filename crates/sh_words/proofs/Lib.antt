@@ -1,1 +1,3 @@
 pub mod Exchange
+pub mod FaultLemmas
+pub mod PartLemmas

@@ -1,0 +1,1 @@
+-- How parts are read, by the sign that they begin with.
