@@ -14,6 +14,7 @@ use Rattle.sh_tree.specs.declared.tree.Subject.{Subject}
 use Rattle.sh_tree.specs.declared.tree.Action.{Action}
 use Rattle.sh_tree.specs.declared.tree.Removal.{Removal}
 use Rattle.sh_tree.specs.declared.tree.Script.{Script}
+use Rattle.sh_tree.specs.declared.tree.Word.{Word}
 use Rattle.sh_tree.specs.declared.token.word.Context.{Context}
 use Rattle.sh_tree.specs.declared.token.word.Sign.{Sign}
 use Rattle.sh_tree.specs.declared.token.word.Sign.TheVariants as sign
@@ -38,13 +39,13 @@ use Rattle.sh_words.specs.declared.frames.Frame.TheVariants as frame
 use Rattle.sh_words.specs.declared.frames.Focus.TheVariants as focus
 use Rattle.sh_words.specs.declared.builder.WordBuilder.{WordBuilder}
 use Rattle.sh_words.specs.declared.builder.Next.{Next}
-use Rattle.sh_words.specs.declared.builder.Next.TheVariants.{Inner}
-use Rattle.sh_words.specs.Clauses.{Keeps, Ends, Asks, Never, TooDeepFor, Steps}
+use Rattle.sh_words.specs.declared.builder.Next.TheVariants.{Done, Inner}
+use Rattle.sh_words.specs.Clauses.{Keeps, Ends, Asks, Never, Answers, Steps}
 use Rattle.sh_words.specs.Modes.{context_of, first_prior}
 use Rattle.sh_words.specs.Rest.{Around, spot, placed, Read, parts, one, IsParts, Holds, After, Then, Rest, Left, LeftPart}
 use Rattle.sh_words.specs.Signs.{is_part, is_stop, is_substitution}
-use Rattle.sh_words.specs.Sound.{turns_left, work, StepWorks}
-use Rattle.sh_words.specs.States.{context_in, prior_in, found_in, held, holding, whole_part, opening_of, nests, level_start, made, given, focus_in, opened, asking, focused, past_tabs, skipped}
+use Rattle.sh_words.specs.Sound.{Deep, turns_left, work, StepWorks}
+use Rattle.sh_words.specs.States.{context_in, prior_in, found_in, held, holding, whole_part, opening_of, nests, level_start, made, given, focus_in, opened, asking, focused, past_tabs, skipped, ended}
 use Rattle.sh_words.specs.Steps.{Opens, Asked, Closes}
 use Rattle.sh_words.proofs.Exchange.{Alike}
 
@@ -324,3 +325,147 @@ pub no_part_left : (b : List ℕ) (w : WordBuilder) (s : Sign) (start end : ℕ)
     → is_substitution s ≡ false → Never (LeftPart b w s start end)
 unfolding LeftPart
 no_part_left b w s start end h k n limit g u ps l = not_read limit b (context_in w.holder) s (spot g w.depth start) l.0 end l.1 h k n (part_is l.2)
+
+-- The end of a context
+
+-- the parts of the holder end at `at`, and what ends them ends at `end`
+abbrev Stops : List ℕ → Holder → ℕ → ℕ → Type 0
+Stops b h at end = token b (context_in h) (prior_in h) at ≡ record { sign = sign.Stop; end = end }
+
+stop_forth : (b : List ℕ) (limit : ℕ) (g : Around) (w : WordBuilder) (fs : List Frame) (end : ℕ) (u : Spot) (ps : List Part) → w.frames ≡ fs → Stops b w.holder w.at end
+    → Left b (focused w focus.Parts) limit g u ps → Then b limit g (context_in w.holder) fs (parts (found_in w.holder)) (spot g w.depth end) u ps
+unfolding Left
+stop_forth b limit g w fs end u ps frames stops l =
+    let x = context_in w.holder in
+    let e = stopped (ap (λ t. t.sign) stops) l.3 in
+    let at : l.1 ≡ spot g w.depth end = e.0 ∙ ap (λ t. spot g w.depth t.end) stops in
+    let all : found_in w.holder ++ l.2 ≡ found_in w.holder = ap (λ qs. found_in w.holder ++ qs) e.1 ∙ append-nil (found_in w.holder) in
+    let here = subst (λ v. Then b limit g x w.frames (parts (found_in w.holder ++ l.2)) v u ps) at l.4 in
+    let whole = subst (λ qs. Then b limit g x w.frames (parts qs) (spot g w.depth end) u ps) all here in
+    subst (λ v. Then b limit g x v (parts (found_in w.holder)) (spot g w.depth end) u ps) frames whole
+
+stop_back : (b : List ℕ) (limit : ℕ) (g : Around) (w : WordBuilder) (fs : List Frame) (end : ℕ) (u : Spot) (ps : List Part) → w.frames ≡ fs → Stops b w.holder w.at end
+    → IsParts w.holder → Then b limit g (context_in w.holder) fs (parts (found_in w.holder)) (spot g w.depth end) u ps → Left b (focused w focus.Parts) limit g u ps
+unfolding Left
+stop_back b limit g w fs end u ps frames stops are l =
+    let x = context_in w.holder in
+    let read : ReadsParts limit b x (prior_in w.holder) (spot g w.depth w.at) (spot g w.depth end) [] =
+      subst (λ t. ReadsParts limit b x (prior_in w.holder) (spot g w.depth w.at) (spot g w.depth t.end) []) stops (r.stop (ap (λ t. t.sign) stops)) in
+    let whole = subst (λ v. Then b limit g x v (parts (found_in w.holder)) (spot g w.depth end) u ps) (sym frames) l in
+    (are, spot g w.depth end, [], read, subst (λ qs. Then b limit g x w.frames (parts qs) (spot g w.depth end) u ps) (sym (append-nil (found_in w.holder))) whole)
+
+pub stop_done : (b : List ℕ) (w new : WordBuilder) (fs : List Frame) (end : ℕ) (d : Word) → w.frames ≡ [] → IsParts w.holder → Stops b w.holder w.at end
+    → new ≡ ended (record w { frames = fs }) end → d ≡ word w.begin end (found_in w.holder) → Answers b (Left b (focused w focus.Parts)) new (Done d)
+stop_done b w new fs end d frames are stops e whole =
+    let ends : Ends (Left b (focused w focus.Parts)) w.depth end (found_in w.holder) = record {
+      forth = λ limit g u ps l. let t = stop_forth b limit g w [] end u ps frames stops l in (t.1, t.0);
+      back = λ g. stop_back b 64 g w [] end (spot g w.depth end) (found_in w.holder) frames stops are (refl, refl);
+    } in
+    subst (λ v. Answers b (Left b (focused w focus.Parts)) v (Done d)) (sym e) (found_in w.holder, whole, ends)
+
+pub close_steps : (b : List ℕ) (w new : WordBuilder) (fs : List Frame) (h : Holder) (depth start inside : ℕ) (o : Opening) (end : ℕ) (res : Result (Option Next) Refusal)
+    → w.frames ≡ frame.Opened h depth start inside o ∷ fs → Deep b w.base w.frames → IsParts w.holder → Stops b w.holder w.at end
+    → Closes (record w { frames = fs }) h depth start inside o end new res → Steps b (Left b (focused w focus.Parts)) new res
+unfolding Left
+close_steps b w new fs h depth start inside o end (Ok None) frames deep are stops a =
+    let p = a.0 in
+    let v : WordBuilder = given (record w { frames = fs; holder = h; depth = depth }) 0 p end in
+    let keeps : Keeps b (Left b (focused w focus.Parts)) v = record {
+      forth = λ limit g u ps l.
+        let t = stop_forth b limit g w (frame.Opened h depth start inside o ∷ fs) end u ps frames stops l in
+        let K = λ (y : Read) (j : Spot). Then b limit g (context_in h) fs y j u ps in
+        held_left b limit g g.count w.mode h 0 p fs (spot g depth end) u ps (moved b limit g h K refl (same (sym t.1 ∙ a.1)) refl t.2);
+      back = λ g u ps l. stop_back b 64 g w (frame.Opened h depth start inside o ∷ fs) end u ps frames stops are
+        (p, a.1, left_held b 64 g g.count w.mode h 0 p fs (spot g depth end) u ps l);
+    } in
+    subst (λ v. Keeps b (Left b (focused w focus.Parts)) v) (sym a.2) keeps
+close_steps b w new fs h depth start inside o end (Err (Syntax f at)) frames deep are stops a =
+    (subst (λ i. i ≤ length b) (sym a.2) (subst (λ v. Deep b w.base v) frames deep).2,
+    λ limit g u ps l.
+    let t = stop_forth b limit g w (frame.Opened h depth start inside o ∷ fs) end u ps frames stops l in
+    let some = t.1 in let none = a.0 in cc)
+close_steps b w new fs h depth start inside o end (Err Memory) frames deep are stops a = tt
+close_steps b w new fs h depth start inside o end _ frames deep are stops a = absurd a
+
+-- a context does not end in an operation
+pub operation_stops : (b : List ℕ) (w : WordBuilder) (fs : List Frame) (f : Operation) (end : ℕ) → w.frames ≡ frame.Operation f ∷ fs → Stops b w.holder w.at end
+    → Never (Left b (focused w focus.Parts))
+operation_stops b w fs f end frames stops limit g u ps l = stop_forth b limit g w (frame.Operation f ∷ fs) end u ps frames stops l
+
+-- The parts of a context
+
+-- no part is left for an operand
+pub no_parts_left : (b : List ℕ) (w : WordBuilder) (x : Context) (start : ℕ) → w.holder ≡ holder.Operand x start → Never (Left b (focused w focus.Parts))
+unfolding Left
+no_parts_left b w x start e limit g u ps l = subst IsParts e l.0
+
+behind_tabs : {limit : ℕ} {b : List ℕ} {x : Context} {prior : ℕ} {s u : Spot} {ps : List Part} → sign_at b x prior s ≡ sign.Tabs → ReadsParts limit b x prior s u ps
+    → ReadsParts limit b x 0 (to (after b x prior s) s) u ps
+behind_tabs is (r.stop h) = cc
+behind_tabs is (r.tabs h rest) = rest
+behind_tabs {limit = limit} {b = b} {x = x} {prior = prior} {s = s} is (r.more {v = v} {p = p} h q rest) =
+    absurd (subst (λ k. PartIs limit b x k s (after b x prior s) v p) (sym h ∙ is) (part_is q))
+
+tabs_of : (s : Sign) → is_part s ≡ false → is_stop s ≡ false → s ≡ sign.Tabs
+tabs_of sign.Tabs h k = refl
+tabs_of sign.Stop h k = absurd (true≢false k)
+tabs_of _ h k = absurd (true≢false h)
+
+pub tabs_keep : (b : List ℕ) (w new : WordBuilder) (x : Context) (prior : ℕ) (found : List Part) (t : Token) → w.holder ≡ holder.Parts x prior found → t ≡ token b x prior w.at
+    → is_part t.sign ≡ false → is_stop t.sign ≡ false → new ≡ skipped w t.end → Keeps b (Left b (focused w focus.Parts)) new
+unfolding Left
+tabs_keep b w new x prior found t holds e h k so =
+    let v : WordBuilder = record w { holder = holder.Parts x prior found } in
+    let is : (token b x prior w.at).sign ≡ sign.Tabs = sym (ap (λ i. i.sign) e) ∙ tabs_of t.sign h k in
+    let keeps : Keeps b (Left b (focused v focus.Parts)) (skipped v (token b x prior w.at).end) = record {
+      forth = λ limit g u ps l. (tt, l.1, l.2, behind_tabs is l.3, l.4);
+      back = λ g u ps l. (tt, l.1, l.2, r.tabs is l.3, l.4);
+    } in
+    let there = subst (λ i. Keeps b (Left b (focused v focus.Parts)) (skipped v i)) (sym (ap (λ i. i.end) e)) keeps in
+    let here = subst (λ i. Keeps b (Left b (focused (record w { holder = i }) focus.Parts)) (skipped (record w { holder = i }) t.end)) (sym holds) there in
+    subst (λ v. Keeps b (Left b (focused w focus.Parts)) v) (sym so) here
+
+-- the first part of a list, and the others
+abbrev FirstRead : ℕ → List ℕ → Context → ℕ → Sign → Spot → Spot → List Part → Type 0
+FirstRead limit b x prior f s u ps =
+    (v : Spot) × (p : Part) × (qs : List Part) × (ps ≡ p ∷ qs) × ReadsPart limit b x f s (after b x prior s) v p × ReadsParts limit b x (prior_of b f v.at) v u qs
+
+first_read : {limit : ℕ} {b : List ℕ} {x : Context} {prior : ℕ} {s u : Spot} {ps : List Part} → is_part (sign_at b x prior s) ≡ true → ReadsParts limit b x prior s u ps
+    → FirstRead limit b x prior (sign_at b x prior s) s u ps
+first_read is (r.stop h) = absurd (true≢false (sym is ∙ ap is_part h))
+first_read is (r.tabs h rest) = absurd (true≢false (sym is ∙ ap is_part h))
+first_read {limit = limit} {b = b} {x = x} {prior = prior} {s = s} {u = u} is (r.more {v = v} {p = p} {ps = qs} h q rest) =
+    (v, p, qs, refl, subst (λ k. ReadsPart limit b x k s (after b x prior s) v p) (sym h) q, subst (λ k. ReadsParts limit b x (prior_of b k v.at) v u qs) (sym h) rest)
+
+-- where a part may begin, that part is what is left
+pub part_alike : (b : List ℕ) (w : WordBuilder) (x : Context) (prior : ℕ) (found : List Part) (t : Token) → w.holder ≡ holder.Parts x prior found → t ≡ token b x prior w.at
+    → is_part t.sign ≡ true → Alike (Left b (focused w focus.Parts)) (LeftPart b w t.sign w.at t.end)
+unfolding Left LeftPart
+part_alike b w x prior found t holds e is =
+    let v : WordBuilder = record w { holder = holder.Parts x prior found } in
+    let k : Token = token b x prior w.at in
+    let alike : Alike (Left b (focused v focus.Parts)) (LeftPart b v k.sign w.at k.end) = record {
+      forth = λ limit g u ps l.
+        let f = first_read (sym (ap (λ i. is_part i.sign) e) ∙ is) l.3 in
+        let regrouped : found ++ l.2 ≡ (found ++ f.1 ∷ []) ++ f.2 = ap (λ qs. found ++ qs) f.3 ∙ sym (append_assoc found (f.1 ∷ []) f.2) in
+        (f.0, f.1, f.4, (l.1, f.2, f.5, subst (λ qs. Then b limit g x w.frames (parts qs) l.1 u ps) regrouped l.4));
+      back = λ g u ps l.
+        (tt, l.3.0, l.1 ∷ l.3.1, r.more refl l.2 l.3.2, subst (λ qs. Then b 64 g x w.frames (parts qs) l.3.0 u ps) (append_assoc found (l.1 ∷ []) l.3.1) l.3.3);
+    } in
+    let there = subst (λ i. Alike (Left b (focused v focus.Parts)) (LeftPart b v i.sign w.at i.end)) (sym e) alike in
+    subst (λ i. Alike (Left b (focused (record w { holder = i }) focus.Parts)) (LeftPart b (record w { holder = i }) t.sign w.at t.end)) (sym holds) there
+
+-- The beginning of a word
+
+pub start_keeps : (b : List ℕ) (w : WordBuilder) → w.frames ≡ []
+    → Keeps b (Left b (focused w focus.Start)) (record w { holder = holder.Parts (context_of b w.mode w.at) (first_prior w.mode) []; focus = focus.Parts })
+unfolding Left
+start_keeps b w frames =
+    let x = context_of b w.mode w.at in
+    record {
+      forth = λ limit g u ps l. (tt, u, ps, l, subst (λ fs. Then b limit g x fs (parts ps) u u ps) (sym frames) (refl, refl));
+      back = λ g u ps l.
+        let t = subst (λ fs. Then b 64 g x fs (parts l.2) l.1 u ps) frames l.4 in
+        let here = subst (λ v. ReadsParts 64 b x (first_prior w.mode) (spot g w.depth w.at) v l.2) (sym t.1) l.3 in
+        subst (λ qs. ReadsParts 64 b x (first_prior w.mode) (spot g w.depth w.at) u qs) (sym t.0) here;
+    }
