@@ -5,7 +5,6 @@ use Rattle.std.proofs.lemmas.Bool.{true≢false}
 use Rattle.std.proofs.lemmas.List.{append-nil, append_assoc}
 use Rattle.sh_tree.specs.declared.refusal.Refusal.TheVariants.{Syntax, TooDeep, Memory}
 use Rattle.sh_tree.specs.declared.tree.CommandStyle.TheVariants.{Paren}
-use Rattle.sh_tree.specs.declared.tree.Expr.{Expr}
 use Rattle.sh_tree.specs.declared.tree.Expr.TheVariants as expr
 use Rattle.sh_tree.specs.declared.tree.Operator.TheVariants as operator
 use Rattle.sh_tree.specs.declared.tree.Part.{Part}
@@ -13,7 +12,6 @@ use Rattle.sh_tree.specs.declared.tree.Part.TheVariants as part
 use Rattle.sh_tree.specs.declared.tree.Subject.{Subject}
 use Rattle.sh_tree.specs.declared.tree.Action.{Action}
 use Rattle.sh_tree.specs.declared.tree.Removal.{Removal}
-use Rattle.sh_tree.specs.declared.tree.Script.{Script}
 use Rattle.sh_tree.specs.declared.tree.Word.{Word}
 use Rattle.sh_tree.specs.declared.token.word.Context.{Context}
 use Rattle.sh_tree.specs.declared.token.word.Sign.{Sign}
@@ -45,7 +43,7 @@ use Rattle.sh_words.specs.Modes.{context_of, first_prior}
 use Rattle.sh_words.specs.Rest.{Around, spot, placed, Read, parts, one, IsParts, Holds, After, Then, Rest, Left, LeftPart}
 use Rattle.sh_words.specs.Signs.{is_part, is_stop, is_substitution}
 use Rattle.sh_words.specs.Sound.{Deep, turns_left, work, StepWorks}
-use Rattle.sh_words.specs.States.{context_in, prior_in, found_in, held, holding, whole_part, opening_of, nests, level_start, made, given, focus_in, opened, asking, focused, past_tabs, skipped, ended}
+use Rattle.sh_words.specs.States.{context_in, prior_in, found_in, held, holding, whole_part, opening_of, nests, level_start, made, given, focus_in, opened, asking, focused, skipped, ended}
 use Rattle.sh_words.specs.Steps.{Opens, Asked, Closes}
 use Rattle.sh_words.proofs.Exchange.{Alike}
 
@@ -122,13 +120,15 @@ whole_reads limit b x (sign.Value f) i e p h = subst (λ q. ReadsPart limit b x 
 whole_reads limit b x (sign.Length f) i e p h = subst (λ q. ReadsPart limit b x (sign.Length f) i e (to e i) q) (same h) r.length_value
 whole_reads limit b x _ i e p h = cc
 
-pub whole_keeps : (b : List ℕ) (w : WordBuilder) (s : Sign) (start end : ℕ) (p : Part) → whole_part s start end ≡ Some p → Keeps b (LeftPart b w s start end) (given w (prior_of b s end) p end)
+pub whole_keeps : (b : List ℕ) (w : WordBuilder) (s : Sign) (start end : ℕ) (p : Part) → whole_part s start end ≡ Some p
+    → Keeps b (LeftPart b w s start end) (given w (prior_of b s end) p end)
 unfolding Left LeftPart
 whole_keeps b w s start end p h = record {
   forth = λ limit g u ps l.
     let is = whole_is limit b (context_in w.holder) s (spot g w.depth start) l.0 end p l.1 h (part_is l.2) in
     let K = λ (y : Read) (j : Spot). Then b limit g (context_in w.holder) w.frames y j u ps in
-    held_left b limit g g.count w.mode w.holder (prior_of b s end) p w.frames (spot g w.depth end) u ps (moved b limit g w.holder K (ap (λ v. prior_of b s v.at) is.0) is.1 is.0 l.3);
+    held_left b limit g g.count w.mode w.holder (prior_of b s end) p w.frames (spot g w.depth end) u ps
+    (moved b limit g w.holder K (ap (λ v. prior_of b s v.at) is.0) is.1 is.0 l.3);
   back = λ g u ps l. (spot g w.depth end, p, whole_reads 64 b (context_in w.holder) s (spot g w.depth start) end p h,
     left_held b 64 g g.count w.mode w.holder (prior_of b s end) p w.frames (spot g w.depth end) u ps l);
 }
@@ -238,8 +238,8 @@ level_inside : (b : List ℕ) (o : Opening) (start inside : ℕ) → start ≤ l
 level_inside b opening.Arith start inside h k = h
 level_inside b _ start inside h k = k
 
-pub opening_steps : (b : List ℕ) (w new : WordBuilder) (s : Sign) (start end : ℕ) (o : Opening) (x : Context) (res : Result (Option Next) Refusal) → start ≤ length b → end ≤ length b
-    → opening_of (context_in w.holder) s end ≡ Some (o, x) → Opens w o x start end new res → Steps b (LeftPart b w s start end) new res
+pub opening_steps : (b : List ℕ) (w new : WordBuilder) (s : Sign) (start end : ℕ) (o : Opening) (x : Context) (res : Result (Option Next) Refusal) → start ≤ length b
+    → end ≤ length b → opening_of (context_in w.holder) s end ≡ Some (o, x) → Opens w o x start end new res → Steps b (LeftPart b w s start end) new res
 unfolding LeftPart
 opening_steps b w new s start end o x (Ok None) inside within h a = subst (λ v. Keeps b (LeftPart b w s start end) v) (sym a.1) (opening_keeps b w s start end o x h a.0)
 opening_steps b w new s start end o x (Err (TooDeep at)) inside within h a =

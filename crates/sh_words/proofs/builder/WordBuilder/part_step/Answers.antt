@@ -33,8 +33,8 @@ returns-in-Some-opening_of-clause-works c =
 
 pub returns-then-is_substitution-clause-keeps : goal.returns-then-is_substitution-clause-keeps
 returns-then-is_substitution-clause-keeps c =
-    substitution_steps c.args.script.now c.args.self.now c.ask.new.self c.args.token.sign c.args.start c.args.token.end c.ask.result (sym c.is_substitution.ensures ∙ c.if-is_substitution.true)
-    c.requires.inside c.ask.ensures
+    substitution_steps c.args.script.now c.args.self.now c.ask.new.self c.args.token.sign c.args.start c.args.token.end c.ask.result
+    (sym c.is_substitution.ensures ∙ c.if-is_substitution.true) c.requires.inside c.ask.ensures
 
 pub returns-clause-keeps : goal.returns-clause-keeps
 returns-clause-keeps c =
@@ -45,4 +45,5 @@ returns-clause-keeps c =
     (fault_refuses b (LeftPart b w t.sign c.args.start t.end) (no_part w.frames t.sign c.args.start t.end)
     (no_part_is_fault b w.base c.args.start t.end w.frames t.sign c.requires.inside c.requires.token.1 c.requires.token.3 c.requires.sound.4)
     (no_part_left b w t.sign c.args.start t.end (sym c.whole_part.ensures ∙ c.in_default.is)
-    (ap (λ x. opening_of x t.sign t.end) (sym c.context.ensures) ∙ sym c.opening_of.ensures ∙ c.in_default-opening_of.is) (sym c.is_substitution.ensures ∙ c.if-is_substitution.false)))
+    (ap (λ x. opening_of x t.sign t.end) (sym c.context.ensures) ∙ sym c.opening_of.ensures ∙ c.in_default-opening_of.is)
+    (sym c.is_substitution.ensures ∙ c.if-is_substitution.false)))

@@ -16,4 +16,5 @@ returns-in-Some-Opened-clause-keeps c =
 pub returns-clause-keeps : goal.returns-clause-keeps
 returns-clause-keeps c =
     let m = c.in-Some-Operation in
-    (c.requires.within, operation_stops c.args.script.now c.args.self.now c.pop.new.self m.field-0-0 c.args.end (m.ensures ∙ ap (λ f. f ∷ c.pop.new.self) m.field-0-is) c.requires.stops)
+    let frames = m.ensures ∙ ap (λ f. f ∷ c.pop.new.self) m.field-0-is in
+    (c.requires.within, operation_stops c.args.script.now c.args.self.now c.pop.new.self m.field-0-0 c.args.end frames c.requires.stops)
