@@ -1,3 +1,4 @@
 pub mod Exchange
 pub mod FaultLemmas
 pub mod PartLemmas
+pub mod RunLemmas

@@ -1,0 +1,11 @@
+-- A builder that waits for commands.
+use Rattle.std.proofs.Common.{◌≡◌, ℕ, ◌≤◌, List, length, subst}
+use Rattle.sh_words.specs.declared.builder.WordBuilder.{WordBuilder}
+use Rattle.sh_words.specs.Rest.{Rest, Left, here}
+use Rattle.sh_words.specs.Clauses.{Never, Waits}
+use Rattle.sh_words.specs.Sound.{Fits, IsSound}
+
+-- it reads nothing before they are handed back
+pub waiting_ends : (b : List ℕ) (w : WordBuilder) (start : ℕ) → Waits w start → IsSound b w → (start ≤ length b) × Never (Left b w)
+unfolding Left
+waiting_ends b w start e s = (subst (λ x. Fits b x w.frames) e s.2, λ limit g u ps l. subst (λ x. Rest b limit g w.mode x w.holder w.frames (here g w) u ps) e l)
