@@ -50,7 +50,7 @@ use Rattle.sh_words.proofs.Exchange.{Alike}
 same : {A : Type 0} {x y : A} → Some x ≡ Some y → x ≡ y
 same e = cc
 
--- What was read before commands does not matter behind them
+-- What is left around a part does not depend on how many commands began before it
 
 module _ (b : List ℕ) (limit : ℕ) (g : Around) (n : ℕ) where
   after_counted : (x : Context) (f : Frame) (y : Read) (j : Spot) (K : Read → Spot → Type 0) → After b limit (record g { count = n }) x f y j K ≡ After b limit g x f y j K
