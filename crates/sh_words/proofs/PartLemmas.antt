@@ -42,7 +42,7 @@ use Rattle.sh_words.specs.Clauses.{Keeps, Ends, Asks, Never, Answers, Steps}
 use Rattle.sh_words.specs.Modes.{context_of, first_prior}
 use Rattle.sh_words.specs.Rest.{Around, spot, placed, Read, parts, one, IsParts, Holds, After, Then, Rest, Left, LeftPart}
 use Rattle.sh_words.specs.Signs.{is_part, is_stop, is_substitution}
-use Rattle.sh_words.specs.Sound.{Deep, turns_left, work, StepWorks}
+use Rattle.sh_words.specs.Sound.{Deep, turns_left, work, StepWorks, Takes, TakesParts}
 use Rattle.sh_words.specs.States.{context_in, prior_in, found_in, held, holding, whole_part, opening_of, nests, level_start, made, given, focus_in, opened, asking, focused, skipped, ended}
 use Rattle.sh_words.specs.Steps.{Opens, Asked, Closes}
 use Rattle.sh_words.proofs.Exchange.{Alike}
@@ -154,6 +154,9 @@ whole_works b w s start end next p behind within moves h =
     let beyond : start < end = moves (whole_moves s start end p h) in
     let turns = holding_turns b w.holder p in
     omega arith
+
+pub whole_takes : (s : Sign) (start end : ℕ) (p : Part) → (reads_bytes s ≡ true → start < end) → whole_part s start end ≡ Some p → start < end
+whole_takes s start end p moves h = moves (whole_moves s start end p h)
 
 -- Openings
 
@@ -271,6 +274,14 @@ opening_works b w new s start end o x (Ok None) behind within moves h a =
     subst (λ v. work b v < work b (focused w focus.Parts)) (sym a.1) less
 opening_works b w new s start end o x (Ok (Some n)) behind within moves h a = tt
 opening_works b w new s start end o x (Err e) behind within moves h a = tt
+
+pub opening_takes : (b : List ℕ) (w new : WordBuilder) (s : Sign) (start end : ℕ) (o : Opening) (x : Context) (res : Result (Option Next) Refusal)
+    → (reads_bytes s ≡ true → start < end) → opening_of (context_in w.holder) s end ≡ Some (o, x) → Opens w o x start end new res → Takes b start new res
+opening_takes b w new s start end o x (Ok None) moves h a =
+    subst (λ v. start < v.at) (sym a.1) (moves (opening_moves (context_in w.holder) x s end o h))
+opening_takes b w new s start end o x (Ok (Some (Done t))) moves h a = a
+opening_takes b w new s start end o x (Ok (Some (Inner at depth))) moves h a = tt
+opening_takes b w new s start end o x (Err e) moves h a = tt
 
 -- Commands
 
@@ -469,3 +480,10 @@ start_keeps b w frames =
         let here = subst (λ v. ReadsParts 64 b x (first_prior w.mode) (spot g w.depth w.at) v l.2) (sym t.1) l.3 in
         subst (λ qs. ReadsParts 64 b x (first_prior w.mode) (spot g w.depth w.at) u qs) (sym t.0) here;
     }
+
+-- a part that is not the last is read from the parts' place on
+pub part_takes : (b : List ℕ) (w new : WordBuilder) (res : Result (Option Next) Refusal) → Takes b w.at new res → TakesParts b w new res
+part_takes b w new (Ok None) t = λ e. t
+part_takes b w new (Ok (Some (Done v))) t = absurd t
+part_takes b w new (Ok (Some (Inner at depth))) t = tt
+part_takes b w new (Err e) t = tt

@@ -4,7 +4,7 @@ use Rattle.sh_words.specs.Rest.{LeftPart}
 use Rattle.sh_words.specs.Faults.{no_part}
 use Rattle.sh_words.proofs.Exchange.{fault_refuses}
 use Rattle.sh_words.proofs.FaultLemmas.{no_part_is_fault}
-use Rattle.sh_words.proofs.PartLemmas.{whole_keeps, whole_works, opening_steps, opening_works, substitution_steps, no_part_left}
+use Rattle.sh_words.proofs.PartLemmas.{whole_keeps, whole_works, whole_takes, opening_steps, opening_works, opening_takes, substitution_steps, no_part_left}
 use Rattle.sh_words.proofs.builder.WordBuilder.part_step.Goals as goal
 
 pub returns-in-Some-clause-keeps : goal.returns-in-Some-clause-keeps
@@ -47,3 +47,14 @@ returns-clause-keeps c =
     (no_part_left b w t.sign c.args.start t.end (sym c.whole_part.ensures ∙ c.in_default.is)
     (ap (λ x. opening_of x t.sign t.end) (sym c.context.ensures) ∙ sym c.opening_of.ensures ∙ c.in_default-opening_of.is)
     (sym c.is_substitution.ensures ∙ c.if-is_substitution.false)))
+
+pub returns-in-Some-clause-takes : goal.returns-in-Some-clause-takes
+returns-in-Some-clause-takes c =
+    rw (c.in_ok-give.ensures)
+    (whole_takes c.args.token.sign c.args.start c.args.token.end c.in-Some.part c.requires.token.2 (sym c.whole_part.ensures ∙ c.in-Some.is))
+
+pub returns-in-Some-opening_of-clause-takes : goal.returns-in-Some-opening_of-clause-takes
+returns-in-Some-opening_of-clause-takes c =
+    let t = c.args.token in
+    opening_takes c.args.script.now c.args.self.now c.open_part.new.self t.sign c.args.start t.end c.in-Some-opening_of.opening c.in-Some-opening_of.context c.open_part.result
+    c.requires.token.2 (ap (λ x. opening_of x t.sign t.end) (sym c.context.ensures) ∙ sym c.opening_of.ensures ∙ c.in-Some-opening_of.is) c.open_part.ensures

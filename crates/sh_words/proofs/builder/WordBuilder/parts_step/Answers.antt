@@ -3,7 +3,7 @@ use Rattle.sh_words.specs.declared.frames.Focus.TheVariants as focus
 use Rattle.sh_words.specs.Rest.{Left, LeftPart}
 use Rattle.sh_words.specs.States.{focused}
 use Rattle.sh_words.proofs.Exchange.{steps_alike}
-use Rattle.sh_words.proofs.PartLemmas.{no_parts_left, part_alike, tabs_keep}
+use Rattle.sh_words.proofs.PartLemmas.{no_parts_left, part_alike, part_takes, tabs_keep}
 use Rattle.sh_words.proofs.builder.WordBuilder.parts_step.Goals as goal
 
 pub returns-in_default-clause-keeps : goal.returns-in_default-clause-keeps
@@ -23,3 +23,6 @@ returns-else-is_stop-clause-keeps c =
     let m = c.in-Parts in
     tabs_keep c.args.script.now c.args.self.now c.skip_tabs.new.self m.context m.prior m.parts c.token_at-token.result m.is c.token_at-token.ensures.value
     (sym c.is_part.ensures ∙ c.if-is_part.false) (sym c.is_stop.ensures ∙ c.if-is_stop.false) c.skip_tabs.ensures
+
+pub returns-then-is_part-clause-takes : goal.returns-then-is_part-clause-takes
+returns-then-is_part-clause-takes c = part_takes c.args.script.now c.args.self.now c.part_step.new.self c.part_step.result c.part_step.ensures.takes
