@@ -2,6 +2,7 @@ use Rattle.std.proofs.Common.{◌≤◌, length}
 use Rattle.sh_words.specs.Clauses.{Keeps}
 use Rattle.sh_words.specs.Rest.{Left}
 use Rattle.sh_words.specs.Sound.{IsSound, Same, work}
+use Rattle.sh_words.proofs.RunLemmas.{Progress}
 use Rattle.sh_words.proofs.builder.WordBuilder.advance.Given as goal
 
 abbrev pub invariant-loop-next : goal.invariant-loop-next
@@ -11,6 +12,7 @@ invariant-loop-next l = record {
   same : Same l.script l.initial.self l.self;
   from : l.initial.self.at ≤ l.self.at;
   inside : l.self.at ≤ length l.script;
+  progress : Progress l.script l.initial.self l.self;
 }
 
 abbrev pub decreases-loop-next : goal.decreases-loop-next
