@@ -1,2 +1,4 @@
 pub mod Exchange
 pub mod BadLemmas
+pub mod OperandLemmas
+pub mod FaultLemmas
