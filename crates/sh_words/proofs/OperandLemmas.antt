@@ -1,5 +1,6 @@
 -- What an expression begins with, and the steps of a builder there.
-use Rattle.std.proofs.Common.{◌≡◌, ℕ, suc, ◌+◌, ◌-◌, ◌*◌, ◌<◌, ◌≤◌, inl, inr, true, false, ◌&&◌, List, length, Option, Some, None, Result, Ok, Err, refl, sym, ap, ◌∙◌, subst, arith}
+use Rattle.std.proofs.Common.{◌≡◌, ℕ, suc, ◌+◌, ◌-◌, ◌*◌, ◌<◌, ◌≤◌, inl, inr, true, false, ◌&&◌, List, length, Option, Some, None, Result, Ok, Err, refl, sym, ap, ◌∙◌, subst}
+use Rattle.std.proofs.Common.{arith}
 use Rattle.std.proofs.lemmas.Bool.{true≢false}
 use Rattle.sh_tree.specs.declared.refusal.Refusal.{Refusal}
 use Rattle.sh_tree.specs.declared.refusal.Refusal.TheVariants.{TooLong, NulByte, Syntax, LeftOut, TooDeep, TooMany, Memory, Profile, CertSyntax, CertShape}
@@ -17,7 +18,8 @@ use Rattle.sh_tree.specs.declared.token.arithmetic.Figure.TheVariants as figure
 use Rattle.sh_tree.specs.declared.token.arithmetic.Lexeme.{Lexeme}
 use Rattle.sh_tree.specs.language.Arithmetic.{lexeme, unary_of, assignment_of, unary_level}
 use Rattle.sh_tree.specs.language.Reading as r
-use Rattle.sh_tree.specs.language.Reading.{ReadsPart, ReadsExpression, ReadsConditional, ReadsLevel, ReadsOperands, ReadsUnary, sign_at, after, prior_of, figure_at, figure_span, over, is_some, is_expansion, is_figure_name}
+use Rattle.sh_tree.specs.language.Reading.{ReadsPart, ReadsExpression, ReadsConditional, ReadsLevel, ReadsOperands, ReadsUnary}
+use Rattle.sh_tree.specs.language.Reading.{sign_at, after, prior_of, figure_at, figure_span, over, is_some, is_expansion, is_figure_name}
 use Rattle.sh_tree.specs.language.States.{Spot, to, deeper, behind}
 use Rattle.sh_tree.specs.language.Trees.{chained}
 use Rattle.sh_tree.specs.language.Words.{token}
@@ -38,6 +40,7 @@ use Rattle.sh_words.specs.Sound.{StepWorks, work}
 use Rattle.sh_words.specs.States.{context_in, focused, operating, had}
 use Rattle.sh_words.specs.Steps.{Enters}
 use Rattle.sh_words.proofs.Exchange.{Alike}
+use Rattle.sh_words.proofs.BadLemmas.{lexeme_start_inside}
 
 -- Expressions
 
@@ -52,8 +55,8 @@ unfolding assigned is_some
 assigned_by figure.Name g o is = (refl, is)
 assigned_by _ g o is = absurd (apart is_some (sym is) refl refl)
 
-no_assignment_is : {limit : ℕ} {b : List ℕ} {x : Context} {s u : Spot} {e : Expr} → assigned (figure_at b s) (figure_at b (over b s)) ≡ None → ReadsExpression limit b x s u e
-    → ReadsConditional limit b x s u e
+no_assignment_is : {limit : ℕ} {b : List ℕ} {x : Context} {s u : Spot} {e : Expr} → assigned (figure_at b s) (figure_at b (over b s)) ≡ None
+    → ReadsExpression limit b x s u e → ReadsConditional limit b x s u e
 unfolding assigned is_some
 no_assignment_is {b = b} {s = s} none (r.assignment name a l h) =
     absurd (apart is_some (sym a ∙ ap (λ f. assigned f (figure_at b (over b s))) (sym name) ∙ none) refl refl)
@@ -61,7 +64,8 @@ no_assignment_is none (r.no_assignment other h) = h
 
 assignment_is : {limit : ℕ} {b : List ℕ} {x : Context} {s u : Spot} {e : Expr} (o : Option Binary) → assigned (figure_at b s) (figure_at b (over b s)) ≡ Some o
     → ReadsExpression limit b x s u e
-    → (v : Spot) × (y : Expr) × (u ≡ behind v.at v s) × (e ≡ expr.Assign (figure_span b s) o y) × (s.depth < limit) × ReadsExpression limit b x (deeper (over b (over b s)).at s) v y
+    → (v : Spot) × (y : Expr) × (u ≡ behind v.at v s) × (e ≡ expr.Assign (figure_span b s) o y) × (s.depth < limit)
+    × ReadsExpression limit b x (deeper (over b (over b s)).at s) v y
 unfolding is_some
 assignment_is {b = b} {s = s} o is (r.assignment {u = v} {e = y} name a l h) =
     (v, y, refl, ap (λ k. expr.Assign (figure_span b s) k y) (some_one (sym a ∙ (assigned_by (figure_at b s) (figure_at b (over b s)) o is).1)), l, h)
@@ -121,8 +125,8 @@ signed_is o is (r.signed {u = v} {e = y} sign l h) = (v, y, refl, ap (λ k. expr
 signed_is o is (r.parenthesis l h c) = absurd (apart is_some (sym is) refl refl)
 signed_is o is (r.expansion i k h) = absurd (apart is_some (sym is) refl refl)
 
-whole_is : {limit : ℕ} {b : List ℕ} {x : Context} {g : Figure} {s u : Spot} {e y : Expr} → unary_of g ≡ None → operand_of g (figure_span b s) ≡ Some y → ReadsUnary limit b x g s u e
-    → (u ≡ over b s) × (e ≡ y)
+whole_is : {limit : ℕ} {b : List ℕ} {x : Context} {g : Figure} {s u : Spot} {e y : Expr} → unary_of g ≡ None → operand_of g (figure_span b s) ≡ Some y
+    → ReadsUnary limit b x g s u e → (u ≡ over b s) × (e ≡ y)
 unfolding operand_of is_some
 whole_is none is r.constant = (refl, some_one is)
 whole_is none is r.variable = (refl, some_one is)
@@ -161,14 +165,18 @@ expansion_is is (r.parenthesis l h c) = cc
 expansion_is {limit = limit} {b = b} {x = x} {s = s} {u = u} is (r.expansion {p = p} i k h) =
     (p, refl, ap is_expansion i ∙ k, subst (λ f. ReadsPart limit b x f (operand_start b s) (after b x 0 (operand_start b s)) u p) (sym i) h)
 
-no_unary : {limit : ℕ} {b : List ℕ} {x : Context} {g : Figure} {s u : Spot} {e : Expr} (k : Span) → unary_of g ≡ None → operand_of g k ≡ None → is_open g ≡ false → is_dollar g ≡ false
-    → ReadsUnary limit b x g s u e → ⊥
+no_unary : {limit : ℕ} {b : List ℕ} {x : Context} {g : Figure} {s u : Spot} {e : Expr} (k : Span) → unary_of g ≡ None → operand_of g k ≡ None → is_open g ≡ false
+    → is_dollar g ≡ false → ReadsUnary limit b x g s u e → ⊥
 unfolding operand_of is_some
 no_unary k none whole opens dollar r.constant = apart is_some whole refl refl
 no_unary k none whole opens dollar r.variable = apart is_some whole refl refl
 no_unary k none whole opens dollar (r.signed sign l h) = apart is_some (sym sign ∙ none) refl refl
 no_unary k none whole opens dollar (r.parenthesis l h c) = true≢false opens
 no_unary k none whole opens dollar (r.expansion i q h) = true≢false dollar
+
+open_figure : (g : Figure) → is_open g ≡ true → g ≡ figure.Open
+open_figure figure.Open is = refl
+open_figure _ is = absurd (true≢false (sym is))
 
 -- Choices
 
@@ -177,14 +185,14 @@ choice_place : (g : Around) (s u w : Spot) → s ≡ spot g s.depth s.at → u �
 choice_place g s u w is stays =
     ap (λ v. behind w.at w v) (stays ∙ ap (λ v. behind u.at u v) is) ∙ sym (ap (λ v. placed g v.depth w.at w) stays)
 
-condition_forth : {limit : ℕ} {b : List ℕ} {x : Context} {s u : Spot} {e : Expr} (g : Around) (K : Read → Spot → Type 0) → s ≡ spot g s.depth s.at → ReadsConditional limit b x s u e
-    → K (one e) u → (v : Spot) × (y : Expr) × ReadsLevel limit b x 0 s v y × Operates b limit g x operation.Condition y v K
+condition_forth : {limit : ℕ} {b : List ℕ} {x : Context} {s u : Spot} {e : Expr} (g : Around) (K : Read → Spot → Type 0) → s ≡ spot g s.depth s.at
+    → ReadsConditional limit b x s u e → K (one e) u → (v : Spot) × (y : Expr) × ReadsLevel limit b x 0 s v y × Operates b limit g x operation.Condition y v K
 condition_forth {u = u} {e = e} g K is (r.one_level h q) k = (u, e, h, inl (q, k))
 condition_forth {s = s} g K is (r.choice {u = u} {v = v} {w = w} {c = c} {y = y} {n = n} h q l first colon second) k =
     (u, c, h, inr (q, l, v, y, first, colon, w, n, second, subst (λ t. K (one (expr.Choice c y n)) t) (choice_place g s u w is (level_stays h)) k))
 
-condition_back : {limit : ℕ} {b : List ℕ} {x : Context} {s v : Spot} {y : Expr} (g : Around) (K : Read → Spot → Type 0) → s ≡ spot g s.depth s.at → ReadsLevel limit b x 0 s v y
-    → Operates b limit g x operation.Condition y v K → (u : Spot) × (e : Expr) × ReadsConditional limit b x s u e × K (one e) u
+condition_back : {limit : ℕ} {b : List ℕ} {x : Context} {s v : Spot} {y : Expr} (g : Around) (K : Read → Spot → Type 0) → s ≡ spot g s.depth s.at
+    → ReadsLevel limit b x 0 s v y → Operates b limit g x operation.Condition y v K → (u : Spot) × (e : Expr) × ReadsConditional limit b x s u e × K (one e) u
 condition_back {v = v} {y = y} g K is h (inl k) = (v, y, r.one_level h k.0, k.1)
 condition_back {s = s} {v = v} {y = y} g K is h (inr k) =
     let e : Expr = expr.Choice y k.3 k.7 in
@@ -216,8 +224,8 @@ entered_works b old w new f x end place (Err e) is less = tt
 
 -- A turn that enters has less left to do
 
-less_work : (n i j m k l : ℕ) → i < j → j ≤ n → k ≤ l → 32 * (n - j) + suc m + k < 32 * (n - i) + m + l
-less_work n i j m k l less inside turns = omega arith
+less_work : (n i j m k : ℕ) → i < j → j ≤ n → 32 * (n - j) + suc m + k < 32 * (n - i) + m + k
+less_work n i j m k less inside = omega arith
 
 signed_moves : (g : Figure) (o : Unary) → unary_of g ≡ Some o → reads_figure g ≡ true
 unfolding unary_of is_some
@@ -229,28 +237,27 @@ signed_moves _ o is = refl
 
 pub signed_works : (b : List ℕ) (w new : WordBuilder) (l : Lexeme) (o : Unary) (place : ℕ) (res : Result (Option Next) Refusal) → IsLexeme b w.at l → unary_of l.figure ≡ Some o
     → Enters w (operation.Unary w.depth o) (focus.Level unary_level) l.end place new res → StepWorks b (focused w (focus.Level unary_level)) new res
-signed_works b w new l o place res here is enters =
-    let behind_start : l.start < l.end = here.5 (signed_moves l.figure o is) in
-    let after_start : w.at ≤ l.start = here.1 in
+signed_works b w new l o place res found is enters =
+    let after : w.at ≤ l.start = found.1 in
+    let moves : l.start < l.end = found.5 (signed_moves l.figure o is) in
     let less : w.at < l.end = omega arith in
-    let turns : 4 ≤ 4 = omega arith in
     entered_works b (focused w (focus.Level unary_level)) w new (operation.Unary w.depth o) (focus.Level unary_level) l.end place res enters
-    (less_work (length b) w.at l.end (length w.frames) 4 4 less here.3 turns)
+    (less_work (length b) w.at l.end (length w.frames) 4 less found.3)
 
-pub assignment_works : (b : List ℕ) (w new : WordBuilder) (name : Span) (first second : Lexeme) (o : Option Binary) (place : ℕ) (res : Result (Option Next) Refusal) → IsLexeme b w.at first
-    → IsLexeme b first.end second → assigned first.figure second.figure ≡ Some o → Enters w (operation.Assign w.depth name o) focus.Expression second.end place new res
-    → StepWorks b (focused w focus.Expression) new res
-assignment_works b w new name first second o place res here next is enters =
+pub assignment_works : (b : List ℕ) (w new : WordBuilder) (name : Span) (first second : Lexeme) (o : Option Binary) (place : ℕ) (res : Result (Option Next) Refusal)
+    → IsLexeme b w.at first → IsLexeme b first.end second → assigned first.figure second.figure ≡ Some o
+    → Enters w (operation.Assign w.depth name o) focus.Expression second.end place new res → StepWorks b (focused w focus.Expression) new res
+assignment_works b w new name first second o place res found next is enters =
     let named : first.figure ≡ figure.Name = (assigned_by first.figure second.figure o is).0 in
-    let behind_name : first.start < first.end = here.5 (ap reads_figure named) in
-    let after_start : w.at ≤ first.start = here.1 in
+    let after : w.at ≤ first.start = found.1 in
+    let moves : first.start < first.end = found.5 (ap reads_figure named) in
     let after_name : first.end ≤ second.start = next.1 in
     let forward : second.start ≤ second.end = next.2 in
     let less : w.at < second.end = omega arith in
-    let turns : 28 ≤ 28 = omega arith in
     entered_works b (focused w focus.Expression) w new (operation.Assign w.depth name o) focus.Expression second.end place res enters
-    (less_work (length b) w.at second.end (length w.frames) 28 28 less next.3 turns)
+    (less_work (length b) w.at second.end (length w.frames) 28 less next.3)
 
+-- what is wanted of the expression that was read, said in another way
 moved : (K : Read → Spot → Type 0) {e y : Expr} {u v : Spot} → u ≡ v → e ≡ y → K (one e) u → K (one y) v
 moved K {e = e} {v = v} place same k = subst (λ y. K (one y) v) same (subst (λ t. K (one e) t) place k)
 
@@ -273,11 +280,12 @@ module _ (b : List ℕ) (w : WordBuilder) where
   abbrev assigned_here : Option (Option Binary)
   assigned_here = assigned (lexeme b w.at).figure (lexeme b (lexeme b w.at).end).figure
 
-  assigned_is : (first second : Lexeme) (o : Option (Option Binary)) → first ≡ lexeme b w.at → second ≡ lexeme b first.end → assigned first.figure second.figure ≡ o → assigned_here ≡ o
+  assigned_is : (first second : Lexeme) (o : Option (Option Binary)) → IsLexeme b w.at first → IsLexeme b first.end second → assigned first.figure second.figure ≡ o
+      → assigned_here ≡ o
   assigned_is first second o here next is =
-      subst (λ l. assigned l.figure (lexeme b l.end).figure ≡ o) here (subst (λ l. assigned first.figure l.figure ≡ o) next is)
+      subst (λ l. assigned l.figure (lexeme b l.end).figure ≡ o) here.0 (subst (λ l. assigned first.figure l.figure ≡ o) next.0 is)
 
-  pub unassigned_keeps : (first second : Lexeme) → first ≡ lexeme b w.at → second ≡ lexeme b first.end → assigned first.figure second.figure ≡ None
+  pub unassigned_keeps : (first second : Lexeme) → IsLexeme b w.at first → IsLexeme b first.end second → assigned first.figure second.figure ≡ None
       → Keeps b (Left b (focused w focus.Expression)) (focused w focus.Conditional)
   unfolding Left is_some
   unassigned_keeps first second here next is =
@@ -302,15 +310,15 @@ module _ (b : List ℕ) (w : WordBuilder) where
   unfolding Left
   assignment_deep o is above g u ps l = let q = assignment_is o is l.3 in let below : w.depth < 64 = q.4 in absurd (omega arith)
 
-  pub assignment_enters : (new : WordBuilder) (name : Span) (first second : Lexeme) (o : Option Binary) (place : ℕ) (res : Result (Option Next) Refusal) → first ≡ lexeme b w.at
-      → second ≡ lexeme b first.end → assigned first.figure second.figure ≡ Some o → name ≡ span_of first → place ≤ length b
-      → Enters w (operation.Assign w.depth name o) focus.Expression second.end place new res → Steps b (Left b (focused w focus.Expression)) new res
-  assignment_enters new name first second o place res here next is named inside enters =
+  pub assignment_enters : (new : WordBuilder) (name : Span) (first second value : Lexeme) (o : Option Binary) (res : Result (Option Next) Refusal) → IsLexeme b w.at first
+      → IsLexeme b first.end second → IsLexeme b second.end value → assigned first.figure second.figure ≡ Some o → name ≡ span_of first
+      → Enters w (operation.Assign w.depth name o) focus.Expression second.end value.start new res → Steps b (Left b (focused w focus.Expression)) new res
+  assignment_enters new name first second value o res here next behind_next is named enters =
       let some : assigned_here ≡ Some o = assigned_is first second (Some o) here next is in
-      let name_is : name ≡ span_of (lexeme b w.at) = named ∙ ap span_of here in
-      let end_is : second.end ≡ (lexeme b (lexeme b w.at).end).end = ap (λ l. l.end) next ∙ ap (λ l. (lexeme b l.end).end) here in
-      entered b (Left b (focused w focus.Expression)) w new (operation.Assign w.depth name o) focus.Expression second.end place res enters inside
-      (λ below. rw (name_is, end_is) (assignment_keeps o some below)) (assignment_deep o some)
+      let name_is : name ≡ span_of (lexeme b w.at) = named ∙ ap span_of here.0 in
+      let end_is : second.end ≡ (lexeme b (lexeme b w.at).end).end = ap (λ l. l.end) next.0 ∙ ap (λ l. (lexeme b l.end).end) here.0 in
+      entered b (Left b (focused w focus.Expression)) w new (operation.Assign w.depth name o) focus.Expression second.end value.start res enters
+      (lexeme_start_inside b second.end value behind_next) (λ below. rw (name_is, end_is) (assignment_keeps o some below)) (assignment_deep o some)
 
   pub conditional_keeps : Keeps b (Left b (focused w focus.Conditional)) (operating w operation.Condition w.depth (focus.Level 0) w.at)
   unfolding Left
@@ -342,18 +350,27 @@ module _ (b : List ℕ) (w : WordBuilder) where
   unfolding Left
   signed_deep o is above g u ps l = let q = signed_is o is (unary_at refl l.3) in let below : w.depth < 64 = q.4 in absurd (omega arith)
 
-  pub signed_enters : (new : WordBuilder) (o : Unary) (end place : ℕ) (res : Result (Option Next) Refusal) → unary_of (lexeme b w.at).figure ≡ Some o → end ≡ (lexeme b w.at).end
-      → place ≤ length b → Enters w (operation.Unary w.depth o) (focus.Level unary_level) end place new res → Steps b Operand new res
-  signed_enters new o end place res is ends inside enters =
-      entered b Operand w new (operation.Unary w.depth o) (focus.Level unary_level) end place res enters inside (λ below. rw ends (signed_keeps o is below)) (signed_deep o is)
+  pub signed_enters : (new : WordBuilder) (l : Lexeme) (o : Unary) (res : Result (Option Next) Refusal) → IsLexeme b w.at l → unary_of l.figure ≡ Some o
+      → Enters w (operation.Unary w.depth o) (focus.Level unary_level) l.end l.start new res → Steps b Operand new res
+  signed_enters new l o res found is enters =
+      let some : unary_of (lexeme b w.at).figure ≡ Some o = subst (λ t. unary_of t.figure ≡ Some o) found.0 is in
+      entered b Operand w new (operation.Unary w.depth o) (focus.Level unary_level) l.end l.start res enters (lexeme_start_inside b w.at l found)
+      (λ below. rw found.0 (signed_keeps o some below)) (signed_deep o some)
 
-  pub whole_keeps : (y : Expr) → unary_of (lexeme b w.at).figure ≡ None → operand_of (lexeme b w.at).figure (span_of (lexeme b w.at)) ≡ Some y
+  whole_kept : (y : Expr) → unary_of (lexeme b w.at).figure ≡ None → operand_of (lexeme b w.at).figure (span_of (lexeme b w.at)) ≡ Some y
       → Keeps b Operand (had w w.depth y (lexeme b w.at).end)
   unfolding Left
-  whole_keeps y none is = record {
+  whole_kept y none is = record {
     forth = λ limit g u ps l. let q = whole_is none is (unary_at refl l.3) in (l.0, moved (Wanted limit g u ps) q.0 q.1 l.4);
     back = λ g u ps l. (l.0, over b (here g w), y, r.operand refl refl (whole_reads (lexeme b w.at).figure is), l.1);
   }
+
+  pub whole_keeps : (new : WordBuilder) (l : Lexeme) (y : Expr) → IsLexeme b w.at l → unary_of l.figure ≡ None → operand_of l.figure (span_of l) ≡ Some y
+      → new ≡ had w w.depth y l.end → Keeps b Operand new
+  whole_keeps new l y found none is read =
+      let unsigned : unary_of (lexeme b w.at).figure ≡ None = subst (λ t. unary_of t.figure ≡ None) found.0 none in
+      let some : operand_of (lexeme b w.at).figure (span_of (lexeme b w.at)) ≡ Some y = subst (λ t. operand_of t.figure (span_of t) ≡ Some y) found.0 is in
+      rw (read, found.0) (whole_kept y unsigned some)
 
   parenthesis_keeps : (lexeme b w.at).figure ≡ figure.Open → w.depth < 64
       → Keeps b Operand (operating w (operation.Parenthesis w.depth) (w.depth + 1) focus.Expression (lexeme b w.at).end)
@@ -367,15 +384,19 @@ module _ (b : List ℕ) (w : WordBuilder) where
   unfolding Left
   parenthesis_deep is above g u ps l = let q = parenthesis_is is (unary_at refl l.3) in let below : w.depth < 64 = q.4 in absurd (omega arith)
 
-  pub parenthesis_enters : (new : WordBuilder) (end place : ℕ) (res : Result (Option Next) Refusal) → (lexeme b w.at).figure ≡ figure.Open → end ≡ (lexeme b w.at).end
-      → place ≤ length b → Enters w (operation.Parenthesis w.depth) focus.Expression end place new res → Steps b Operand new res
-  parenthesis_enters new end place res is ends inside enters =
-      entered b Operand w new (operation.Parenthesis w.depth) focus.Expression end place res enters inside (λ below. rw ends (parenthesis_keeps is below)) (parenthesis_deep is)
+  pub parenthesis_enters : (new : WordBuilder) (l : Lexeme) (res : Result (Option Next) Refusal) → IsLexeme b w.at l → is_open l.figure ≡ true
+      → Enters w (operation.Parenthesis w.depth) focus.Expression l.end l.start new res → Steps b Operand new res
+  parenthesis_enters new l res found is enters =
+      let opens : (lexeme b w.at).figure ≡ figure.Open = ap (λ t. t.figure) (sym found.0) ∙ open_figure l.figure is in
+      entered b Operand w new (operation.Parenthesis w.depth) focus.Expression l.end l.start res enters (lexeme_start_inside b w.at l found)
+      (λ below. rw found.0 (parenthesis_keeps opens below)) (parenthesis_deep opens)
 
-  pub no_operand : unary_of (lexeme b w.at).figure ≡ None → operand_of (lexeme b w.at).figure (span_of (lexeme b w.at)) ≡ None → is_open (lexeme b w.at).figure ≡ false
-      → is_dollar (lexeme b w.at).figure ≡ false → Never Operand
+  pub no_operand : (l : Lexeme) → IsLexeme b w.at l → unary_of l.figure ≡ None → operand_of l.figure (span_of l) ≡ None → is_open l.figure ≡ false → is_dollar l.figure ≡ false
+      → Never Operand
   unfolding Left
-  no_operand none whole opens dollar limit g u ps l = no_unary (span_of (lexeme b w.at)) none whole opens dollar (unary_at refl l.3)
+  no_operand l found none whole opens dollar limit g u ps left =
+      no_unary (span_of l) none whole opens dollar
+      (subst (λ t. ReadsUnary limit b (context_in w.holder) t.figure (here g w) left.1 left.2) (sym found.0) (unary_at refl left.3))
 
   -- Expansions
 
@@ -384,8 +405,8 @@ module _ (b : List ℕ) (w : WordBuilder) where
   unfolding Left
   no_operand_of_parts x prior found is limit g u ps l = subst IsOperand is l.0
 
-  pub expansion_alike : (t : Token) (start : ℕ) → IsOperand w.holder → (lexeme b w.at).figure ≡ figure.Dollar → start ≡ (lexeme b w.at).start → t ≡ token b (context_in w.holder) 0 start
-      → is_expansion t.sign ≡ true → Alike Operand (LeftPart b w t.sign start t.end)
+  pub expansion_alike : (t : Token) (start : ℕ) → IsOperand w.holder → (lexeme b w.at).figure ≡ figure.Dollar → start ≡ (lexeme b w.at).start
+      → t ≡ token b (context_in w.holder) 0 start → is_expansion t.sign ≡ true → Alike Operand (LeftPart b w t.sign start t.end)
   unfolding Left LeftPart
   expansion_alike t start operand dollar begins is expands =
       let x = context_in w.holder in
@@ -398,7 +419,8 @@ module _ (b : List ℕ) (w : WordBuilder) where
         back = λ g u ps l.
           let q = subst (λ k. ReadsPart 64 b x k.sign (operand_start b (here g w)) k.end l.0 l.1) same l.2 in
           let some : is_expansion (sign_at b x 0 (operand_start b (here g w))) ≡ true = ap (λ k. is_expansion k.sign) (sym same) ∙ expands in
-          (operand, l.0, expr.Expansion l.1, r.operand refl dollar (r.expansion refl some q), one_held b 64 g w.holder (prior_of b t.sign l.0.at) l.1 l.0 (Wanted 64 g u ps) operand l.3);
+          (operand, l.0, expr.Expansion l.1, r.operand refl dollar (r.expansion refl some q),
+          one_held b 64 g w.holder (prior_of b t.sign l.0.at) l.1 l.0 (Wanted 64 g u ps) operand l.3);
       })
 
   pub no_expansion : (t : Token) (start : ℕ) → (lexeme b w.at).figure ≡ figure.Dollar → start ≡ (lexeme b w.at).start → t ≡ token b (context_in w.holder) 0 start
