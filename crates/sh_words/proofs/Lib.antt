@@ -1,1 +1,4 @@
 pub mod Exchange
+pub mod BadLemmas
+pub mod FaultLemmas
+pub mod OperationLemmas
