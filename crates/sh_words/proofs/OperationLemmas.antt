@@ -350,15 +350,6 @@ module _ (b : List ℕ) (w : WordBuilder) (h : Holder) (depth start inside : ℕ
   expansion_steps new (Err (LeftOut f at)) operand q = (q.0, not_closed q.1)
   expansion_steps new _ operand q = absurd q
 
-  pub expansion_moves : (l : Lexeme) (new : WordBuilder) (res : Result (Option Next) Refusal) → IsLexeme b w.at l → ClosesArithmetic b w h depth start o e l new res → StepMoves b w new res
-  expansion_moves l new (Ok None) is q =
-      let after : w.at ≤ l.start = is.1 in
-      let forward : l.start ≤ l.end = is.2 in
-      let inside : l.end < length b = closed_inside b l.end q.0.2 in
-      subst (λ v. StepMoves b w v (Ok None)) (sym q.1) (omega arith, omega arith, (refl, refl, refl, refl))
-  expansion_moves l new (Ok (Some n)) is q = absurd q
-  expansion_moves l new (Err f) is q = tt
-
 -- the same of a token, and of the frames before the innermost one was taken out
 pub expansion_read : (b : List ℕ) (w : WordBuilder) (fs : List Frame) (h : Holder) (depth start inside : ℕ) (o : Opening) (e : Expr) (l : Lexeme) (new : WordBuilder)
     (res : Result (Option Next) Refusal) → w.frames ≡ frame.Opened h depth start inside o ∷ fs → IsOperand w.holder → IsLexeme b w.at l
@@ -368,6 +359,16 @@ expansion_read b w fs h depth start inside o e l new res frames operand is q =
     let here = subst (λ t. ClosesArithmetic b popped h depth start o e t new res) is.0 q in
     steps_equal b (focused w (focus.Have e)) (framed popped (frame.Opened h depth start inside o) (focus.Have e)) new res
     (reframed w (frame.Opened h depth start inside o) fs (focus.Have e) frames) (expansion_steps b popped h depth start inside o e new res operand here)
+
+pub expansion_moves : (b : List ℕ) (w : WordBuilder) (fs : List Frame) (h : Holder) (depth start : ℕ) (o : Opening) (e : Expr) (l : Lexeme) (new : WordBuilder)
+    (res : Result (Option Next) Refusal) → IsLexeme b w.at l → ClosesArithmetic b (record w { frames = fs }) h depth start o e l new res → StepMoves b w new res
+expansion_moves b w fs h depth start o e l new (Ok None) is q =
+    let after : w.at ≤ l.start = is.1 in
+    let forward : l.start ≤ l.end = is.2 in
+    let inside : l.end < length b = closed_inside b l.end q.0.2 in
+    subst (λ v. StepMoves b w v (Ok None)) (sym q.1) (omega arith, omega arith, (refl, refl, refl, refl))
+expansion_moves b w fs h depth start o e l new (Ok (Some n)) is q = absurd q
+expansion_moves b w fs h depth start o e l new (Err f) is q = tt
 
 -- a token that does not end the expansion is told
 pub not_closed_faults : (b : List ℕ) (old new : WordBuilder) (h : Holder) (depth start : ℕ) (o : Opening) (e : Expr) (l : Lexeme) (f : Refusal) → IsFault b f → (IsClose b o l → ⊥)
