@@ -1,7 +1,11 @@
-use Rattle.std.proofs.Common.{sym}
+use Rattle.std.proofs.Common.{sym, subst}
 use Rattle.sh_words.specs.declared.frames.Focus.TheVariants as focus
-use Rattle.sh_words.specs.States.{focused}
+use Rattle.sh_words.specs.declared.frames.Operation.TheVariants as operation
+use Rattle.sh_words.specs.Clauses.{Keeps}
+use Rattle.sh_words.specs.Rest.{Left}
+use Rattle.sh_words.specs.States.{focused, operating}
 use Rattle.sh_words.proofs.Exchange.{steps_equal, unfocused}
+use Rattle.sh_words.proofs.OperandLemmas.{conditional_keeps}
 use Rattle.sh_words.proofs.RunLemmas.{waiting_ends}
 use Rattle.sh_words.proofs.builder.WordBuilder.step.Goals as goal
 
@@ -17,7 +21,11 @@ returns-in-Expression-clause-keeps c =
 
 pub returns-in_ok-conditional_step-in-Conditional-clause-keeps :
     goal.returns-in_ok-conditional_step-in-Conditional-clause-keeps
-returns-in_ok-conditional_step-in-Conditional-clause-keeps c = ?
+returns-in_ok-conditional_step-in-Conditional-clause-keeps c =
+    let b = c.args.script.now in
+    let w = c.args.self.now in
+    rw (c.in_ok-conditional_step-in-Conditional.ensures)
+    (subst (λ v. Keeps b (Left b v) (operating w operation.Condition w.depth (focus.Level 0) w.at)) (unfocused w focus.Conditional (sym c.in-Conditional.ensures.value)) (conditional_keeps b w))
 
 pub returns-in-Level-clause-keeps : goal.returns-in-Level-clause-keeps
 returns-in-Level-clause-keeps c =
