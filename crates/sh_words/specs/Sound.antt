@@ -2,7 +2,9 @@
 -- POSIX.1-2024, XCU 2.6 (word expansions).
 use Rattle.std.specs.Prelude.{◌≡◌, ◌<◌, ◌≤◌, ℕ, ◌+◌, ◌-◌, ◌*◌, List, [], ◌∷◌, length, Option, Some, None, Result, Ok, Err}
 use Rattle.sh_tree.specs.declared.refusal.Refusal.{Refusal}
+use Rattle.sh_tree.specs.declared.token.word.Sign.TheVariants as sign
 use Rattle.sh_tree.specs.language.Arithmetic.{unary_level}
+use Rattle.sh_tree.specs.language.Words.{token}
 use Rattle.sh_words.specs.declared.frames.Holder.{Holder}
 use Rattle.sh_words.specs.declared.frames.Holder.TheVariants as holder
 use Rattle.sh_words.specs.declared.frames.Operation.{Operation}
@@ -14,6 +16,8 @@ use Rattle.sh_words.specs.declared.frames.Focus.TheVariants as focus
 use Rattle.sh_words.specs.declared.builder.WordBuilder.{WordBuilder}
 use Rattle.sh_words.specs.declared.builder.Next.{Next}
 use Rattle.sh_words.specs.declared.builder.Next.TheVariants.{Done, Inner}
+use Rattle.sh_words.specs.Modes.{context_of, first_prior}
+use Rattle.sh_words.specs.States.{context_in, prior_in}
 
 -- the level of the operation is one that there is, and the depth around it is at least n
 abbrev pub Operated : ℕ → Operation → Type 0
@@ -77,6 +81,27 @@ module _ (b : List ℕ) where
   abbrev pub StepWorks : WordBuilder → WordBuilder → Result (Option Next) Refusal → Type 0
   StepWorks old new (Ok None) = work new < work old
   StepWorks old new _ = Unit {0}
+
+  -- a part takes bytes, and the word does not end with it
+  abbrev pub Takes : ℕ → WordBuilder → Result (Option Next) Refusal → Type 0
+  Takes start new (Ok None) = start < new.at
+  Takes start new (Ok (Some (Done w))) = ⊥
+  Takes start new _ = Unit {0}
+
+  -- parts that nothing stands around take bytes, up to where their context ends
+  abbrev pub TakesParts : WordBuilder → WordBuilder → Result (Option Next) Refusal → Type 0
+  TakesParts old new (Ok None) = old.frames ≡ [] → old.at < new.at
+  TakesParts old new (Ok (Some (Done w))) = (token b (context_in old.holder) (prior_in old.holder) old.at).sign ≡ sign.Stop
+  TakesParts old new _ = Unit {0}
+
+  -- the context of the word does not end where the word begins
+  abbrev pub Begins : WordBuilder → Type 0
+  Begins w = ((token b (context_of b w.mode w.at) (first_prior w.mode) w.at).sign ≡ sign.Stop) → ⊥
+
+  -- a word that begins takes bytes where its context does not end at once
+  abbrev pub TakesWord : WordBuilder → WordBuilder → Result Next Refusal → Type 0
+  TakesWord old new (Ok (Done w)) = old.focus ≡ focus.Start → Begins old → old.at < new.at
+  TakesWord old new _ = Unit {0}
 
   -- the builder reads on, up to an answer
   abbrev pub RunMoves : WordBuilder → WordBuilder → Result Next Refusal → Type 0

@@ -33,6 +33,7 @@ use Rattle.sh_words.specs.declared.frames.Frame.TheVariants as frame
 use Rattle.sh_words.specs.declared.frames.Focus.{Focus}
 use Rattle.sh_words.specs.declared.frames.Focus.TheVariants as focus
 use Rattle.sh_words.specs.declared.builder.WordBuilder.{WordBuilder}
+use Rattle.sh_words.specs.Modes.{context_of, first_prior}
 
 -- What takes a part
 
@@ -147,6 +148,10 @@ focused w x = record w { focus = x }
 -- the frame stands around
 abbrev pub framed : WordBuilder → Frame → Focus → WordBuilder
 framed w f x = record w { frames = f ∷ w.frames; focus = x }
+
+-- the word's first part is read next
+abbrev pub started : List ℕ → WordBuilder → WordBuilder
+started b w = record w { holder = holder.Parts (context_of b w.mode w.at) (first_prior w.mode) []; focus = focus.Parts }
 
 -- behind tabs that are no part of the text
 abbrev pub past_tabs : Holder → Holder

@@ -12,9 +12,9 @@ ghost use Rattle.sh_tree.specs.declared.refusal.Refusal as refusal;
 ghost use Rattle.sh_words.specs.Clauses.{Runs, Steps};
 ghost use Rattle.sh_words.specs.Modes.{seen};
 ghost use Rattle.sh_words.specs.Rest.{Left};
-ghost use Rattle.sh_words.specs.Sound.{IsSound, RunMoves, StepMoves, StepSound, StepWorks};
+ghost use Rattle.sh_words.specs.Sound.{IsSound, RunMoves, StepMoves, StepSound, StepWorks, TakesParts, TakesWord};
 ghost use Rattle.sh_words.specs.Starts.{IsStart};
-ghost use Rattle.sh_words.specs.States.{fed};
+ghost use Rattle.sh_words.specs.States.{fed, started};
 
 use crate::frames::{Focus, Frame, Holder};
 use crate::mode::Mode;
@@ -93,6 +93,7 @@ impl WordBuilder {
         requires sound { IsSound (seen script.now self.old.mode) self.old }
         ensures runs { self.old.failed ≡ None → Runs (seen script.now self.old.mode) (Left (seen script.now self.old.mode) self.old) self.new result }
         ensures moves { RunMoves (seen script.now self.old.mode) self.old self.new result }
+        ensures takes { TakesWord (seen script.now self.old.mode) self.old self.new result }
         ensures again { (e : refusal.Refusal) → self.old.failed ≡ Some e → (result ≡ Err e) × (self.new ≡ self.old) }
         ensures fails { IfErr result (λ e. self.new.failed ≡ Some e) }
     {
@@ -144,6 +145,7 @@ impl WordBuilder {
         requires sound { IsSound script.now self.old }
         ensures runs { Runs script.now (Left script.now self.old) self.new result }
         ensures moves { RunMoves script.now self.old self.new result }
+        ensures takes { TakesWord script.now self.old self.new result }
     {
         loop {
             if let Some(next) = self.step(script)? {
@@ -161,6 +163,8 @@ impl WordBuilder {
         ensures moves { StepMoves script.now self.old self.new result }
         ensures sound { StepSound script.now result self.new }
         ensures works { StepWorks script.now self.old self.new result }
+        ensures starts { self.old.focus ≡ Focus.Start → (result ≡ Ok None) × (self.new ≡ started script.now self.old) }
+        ensures takes { self.old.focus ≡ Focus.Parts → TakesParts script.now self.old self.new result }
     {
         match mem::replace(&mut self.focus, Focus::Parts) {
             Focus::Start => {

@@ -36,6 +36,9 @@ impl WordBuilder {
         ensures sound { StepSound script.now result self.new }
         ensures works { StepWorks script.now (focused self.old (Focus.Have expr)) self.new result }
     {
+        let Holder::Operand { .. } = &self.holder else {
+            return Err(Refusal::Syntax(Fault::BadArith, self.at));
+        };
         let token = lexeme(script, self.at);
         if !follows(token.figure) {
             return Err(self.misplaced(script, &expr, token));
@@ -221,7 +224,8 @@ impl WordBuilder {
     ) -> Result<Option<Next>, Refusal>
         requires small { length script.now ≤ MAX_SCRIPT }
         requires within { token.end ≤ length script.now }
-        ensures { Enters self.old (Operation.Yes self.old.depth condition) Focus.Expression token.end (arithmetic.lexeme script.now token.end).start self.new result }
+        ensures enters { Enters self.old (Operation.Yes self.old.depth condition) Focus.Expression token.end (arithmetic.lexeme script.now token.end).start self.new result }
+        ensures inside { (arithmetic.lexeme script.now token.end).start ≤ length script.now }
     {
         let operation = Operation::Yes {
             depth: self.depth,

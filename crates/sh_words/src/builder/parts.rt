@@ -5,8 +5,8 @@ ghost use Rattle.sh_tree.specs.language.Words as words;
 ghost use Rattle.sh_words.specs.Clauses.{Keeps, Steps};
 ghost use Rattle.sh_words.specs.Rest.{IsParts, Left, LeftPart};
 ghost use Rattle.sh_words.specs.Signs.{IsTokenFrom};
-ghost use Rattle.sh_words.specs.Sound.{Fits, IsSound, StepMoves, StepSound, StepWorks, work};
-ghost use Rattle.sh_words.specs.States.{context_in, ended, focused, found_in, prior_in};
+ghost use Rattle.sh_words.specs.Sound.{Fits, IsSound, StepMoves, StepSound, StepWorks, Takes, TakesParts, work};
+ghost use Rattle.sh_words.specs.States.{context_in, ended, focused, found_in, prior_in, started};
 ghost use Rattle.sh_words.specs.Steps.{Closes};
 ghost use Rattle.sh_tree.specs.language.Trees.{word};
 
@@ -32,6 +32,7 @@ impl WordBuilder {
         ensures moves { StepMoves script.now self.old self.new (Ok None) }
         ensures sound { IsSound script.now self.new }
         ensures works { work script.now self.new < work script.now (focused self.old Focus.Start) }
+        ensures state { self.new ≡ started script.now self.old }
     {
         self.holder = Holder::Parts {
             context: self.mode.context(script, self.at),
@@ -50,6 +51,7 @@ impl WordBuilder {
         ensures moves { StepMoves script.now self.old self.new result }
         ensures sound { StepSound script.now result self.new }
         ensures works { StepWorks script.now (focused self.old Focus.Parts) self.new result }
+        ensures takes { TakesParts script.now self.old self.new result }
     {
         let Holder::Parts { context, prior, .. } = &self.holder else {
             return Err(Refusal::Syntax(Fault::BadArith, self.at));
@@ -81,6 +83,7 @@ impl WordBuilder {
         ensures moves { StepMoves script.now self.old self.new result }
         ensures sound { StepSound script.now result self.new }
         ensures works { StepWorks script.now (focused self.old Focus.Parts) self.new result }
+        ensures takes { Takes script.now start self.new result }
     {
         let span = Span {
             start,
@@ -113,6 +116,7 @@ impl WordBuilder {
         ensures moves { StepMoves script.now self.old self.new result }
         ensures sound { StepSound script.now result self.new }
         ensures works { StepWorks script.now (focused self.old Focus.Parts) self.new result }
+        ensures takes { TakesParts script.now self.old self.new result }
     {
         match self.frames.pop() {
             None => Ok(Some(Next::Done(self.whole_word(end)))),
