@@ -1,5 +1,5 @@
 //! Words (XCU 2.2, 2.6).
-ghost use Rattle.std.specs.Prelude.{◌≡◌, ◌≤◌, length};
+ghost use Rattle.std.specs.Prelude.{◌≡◌, ◌≤◌, ℕ, List, length};
 ghost use Rattle.sh_grammar.specs.Language.{Words};
 ghost use Rattle.sh_tree.specs.language.Contexts as contexts;
 ghost use Rattle.sh_words.specs.Modes as modes;
@@ -14,8 +14,10 @@ use sh_words::{Mode, Next, WordBuilder};
 use std::alloc::Global;
 
 /// The mode of a word at a stage of a simple command.
+#[tactic(auto, unfolding(sh_tree::specs::language::Contexts::in_stage))]
 fn mode_of(stage: Stage) -> Mode
     ensures whole { IsWhole result }
+    ensures value { (b : List ℕ) (i : ℕ) → modes.context_of b result i ≡ contexts.in_stage b stage i }
 {
     match stage {
         Stage::Named(true) => Mode::Operand,
