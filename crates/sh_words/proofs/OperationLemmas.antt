@@ -210,11 +210,6 @@ module _ (b : List ℕ) (w : WordBuilder) (e : Expr) where
     had_goes : (depth end : ℕ) (d : Expr) → w.base ≤ depth → depth ≤ 64 → w.at ≤ end → end ≤ length b → Goes f (had w depth d end)
     had_goes depth end d base limit after inside = ((after, inside, (refl, refl, refl, refl)), (base, limit, tt, sound.3, sound.4.1), omega arith)
 
-    operating_goes : (o : Operation) (x : Focus) (end : ℕ) → Operated w.base o → Fits b x (frame.Operation o ∷ w.frames) → turns_left b x < 32 → w.at < end → end ≤ length b
-        → Goes f (operating w o w.depth x end)
-    operating_goes o x end operated fits turns after inside =
-        ((omega arith, inside, (refl, refl, refl, refl)), (sound.0, sound.1, fits, sound.3, (operated, sound.4.1)), omega arith)
-
     module _ (l : Lexeme) (is : IsLexeme b w.at l) where
       same_goes : (depth : ℕ) (d : Expr) → w.base ≤ depth → depth ≤ 64 → Goes f (had w depth d w.at)
       same_goes depth d base limit =
@@ -228,7 +223,8 @@ module _ (b : List ℕ) (w : WordBuilder) (e : Expr) where
       behind_goes o x operated fits turns reads =
           let after : w.at ≤ l.start = is.1 in
           let moves : l.start < l.end = is.5 reads in
-          operating_goes o x l.end operated fits turns (omega arith) is.3
+          let inside : l.end ≤ length b = is.3 in
+          ((omega arith, inside, (refl, refl, refl, refl)), (sound.0, sound.1, fits, sound.3, (operated, sound.4.1)), omega arith)
 
       first_goes : (level : ℕ) (o : Option Binary) → level < unary_level → binary_of level l.figure ≡ o → Goes f (first_by w level e l o)
       first_goes level None lt which = same_goes w.depth e sound.0 sound.1
