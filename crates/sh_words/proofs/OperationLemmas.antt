@@ -21,7 +21,6 @@ use Rattle.sh_tree.specs.language.Reading.{ReadsLevel, ReadsOperands, figure_at,
 use Rattle.sh_tree.specs.language.States.{Spot}
 use Rattle.sh_tree.specs.language.Trees.{span, chained}
 use Rattle.sh_words.specs.declared.frames.Holder.{Holder}
-use Rattle.sh_words.specs.declared.frames.Holder.TheVariants as holder
 use Rattle.sh_words.specs.declared.frames.Opening.{Opening}
 use Rattle.sh_words.specs.declared.frames.Operation.{Operation}
 use Rattle.sh_words.specs.declared.frames.Operation.TheVariants as operation
@@ -35,9 +34,10 @@ use Rattle.sh_words.specs.Clauses.{Keeps, Never, TooDeepFor, Refuses, Steps}
 use Rattle.sh_words.specs.Lexemes.{IsLexeme, is_close, is_colon, follows}
 use Rattle.sh_words.specs.Faults.{IsFault, bad}
 use Rattle.sh_words.proofs.BadLemmas.{bad_is_fault}
+use Rattle.sh_words.proofs.PartLemmas.{held_left, left_held}
 use Rattle.sh_words.specs.Operations.{IsClose, ClosesArithmetic, first_by, first_read, more_by, more_read}
 use Rattle.sh_words.proofs.Exchange.{steps_equal, reframed, fault_refuses}
-use Rattle.sh_words.specs.Rest.{Around, spot, here, IsOperand, one, Holds, Then, Left}
+use Rattle.sh_words.specs.Rest.{Around, spot, here, IsOperand, one, Then, Left}
 use Rattle.sh_words.specs.Steps.{Enters}
 use Rattle.sh_words.specs.Sound.{Began, Operated, Fits, IsSound, turns_left, StepMoves, work}
 use Rattle.sh_scan.specs.Moves.{reads_figure}
@@ -313,22 +313,6 @@ closed_inside : (b : List ℕ) (i : ℕ) → is_closed b i ≡ true → i < leng
 unfolding is_closed
 closed_inside b i closed = let some = first_some (λ c. c == 41) (drop i b) closed in omega (arith, length-drop i b, some)
 
-module _ (b : List ℕ) (limit : ℕ) (g : Around) (w : WordBuilder) where
-  -- what a holder makes of a part is what is left where the part was given to it
-  holds_given : (h : Holder) (depth next end : ℕ) (p : Part) (u : Spot) (ps : List Part)
-      → Holds b limit g h next p (spot g depth end) (λ y j. Then b limit g (context_in h) w.frames y j u ps)
-      → Left b (given (record w { holder = h; depth = depth }) next p end) limit g u ps
-  unfolding Left
-  holds_given (holder.Parts x prior found) depth next end p u ps k = (tt, k.0, k.1, k.2, k.3)
-  holds_given (holder.Operand x start) depth next end p u ps k = (tt, k)
-
-  given_holds : (h : Holder) (depth next end : ℕ) (p : Part) (u : Spot) (ps : List Part)
-      → Left b (given (record w { holder = h; depth = depth }) next p end) limit g u ps
-      → Holds b limit g h next p (spot g depth end) (λ y j. Then b limit g (context_in h) w.frames y j u ps)
-  unfolding Left
-  given_holds (holder.Parts x prior found) depth next end p u ps l = (l.1, l.2, l.3, l.4)
-  given_holds (holder.Operand x start) depth next end p u ps l = l.1
-
 module _ (b : List ℕ) (w : WordBuilder) (h : Holder) (depth start inside : ℕ) (o : Opening) (e : Expr) where
   expansion_keeps : IsOperand w.holder → IsClose b o (lexeme b w.at)
       → Keeps b (Left b (framed w (frame.Opened h depth start inside o) (focus.Have e)))
@@ -338,8 +322,8 @@ module _ (b : List ℕ) (w : WordBuilder) (h : Holder) (depth start inside : ℕ
       let end = (lexeme b w.at).end + 1 in
       let p = part.Arith (span start end) e in
       record {
-        forth = λ limit g u ps l. holds_given b limit g w h depth 0 end p u ps l.1.3;
-        back = λ g u ps l. (operand, (close.0, close.1, close.2, given_holds b 64 g w h depth 0 end p u ps l));
+        forth = λ limit g u ps l. held_left b limit g g.count w.mode h 0 p w.frames (spot g depth end) u ps l.1.3;
+        back = λ g u ps l. (operand, (close.0, close.1, close.2, left_held b 64 g g.count w.mode h 0 p w.frames (spot g depth end) u ps l));
       }
 
   not_closed : (IsClose b o (lexeme b w.at) → ⊥) → Never (Left b (framed w (frame.Opened h depth start inside o) (focus.Have e)))
