@@ -1,5 +1,5 @@
 -- What is left of a word, said in another way.
-use Rattle.std.proofs.Common.{◌≡◌, ℕ, ◌<◌, ◌≤◌, List, ◌∷◌, length, Option, Some, None, Result, Ok, Err, sym, ap, subst}
+use Rattle.std.proofs.Common.{◌≡◌, ℕ, List, ◌∷◌, Option, Some, None, Result, Ok, Err, sym, ap, subst}
 use Rattle.sh_tree.specs.declared.tree.Part.{Part}
 use Rattle.sh_tree.specs.declared.refusal.Refusal.{Refusal}
 use Rattle.sh_tree.specs.declared.refusal.Refusal.TheVariants.{TooLong, NulByte, Syntax, LeftOut, TooDeep, TooMany, Memory, Profile, CertSyntax, CertShape}
@@ -10,7 +10,7 @@ use Rattle.sh_words.specs.declared.builder.WordBuilder.{WordBuilder}
 use Rattle.sh_words.specs.declared.builder.Next.{Next}
 use Rattle.sh_words.specs.declared.builder.Next.TheVariants.{Done, Inner}
 use Rattle.sh_words.specs.Rest.{Around, Leftover, Left}
-use Rattle.sh_words.specs.Clauses.{Never, TooDeepFor, Refuses, Steps}
+use Rattle.sh_words.specs.Clauses.{Never, Refuses, Steps}
 use Rattle.sh_words.specs.Faults.{IsFault}
 use Rattle.sh_words.specs.States.{focused, framed}
 

@@ -1,5 +1,5 @@
 -- What is left behind an operand of arithmetic.
-use Rattle.std.proofs.Common.{◌≡◌, ℕ, ◌+◌, ◌-◌, ◌<◌, ◌≤◌, ◌⊎◌, inl, inr, Bool, true, false, List, [], ◌∷◌, ◌++◌, length, drop, ◌==◌, Option, Some, None, Result, Ok, Err, refl, sym, ap, ◌∙◌, subst, arith, length-drop}
+use Rattle.std.proofs.Common.{◌≡◌, ℕ, ◌+◌, ◌<◌, ◌≤◌, ◌⊎◌, inl, inr, Bool, true, false, List, [], ◌∷◌, ◌++◌, length, drop, ◌==◌, Option, Some, None, Result, Ok, Err, refl, sym, ap, ◌∙◌, subst, arith, length-drop}
 use Rattle.std.proofs.lemmas.Bool.{true≢false}
 use Rattle.std.proofs.lemmas.List.{append_assoc}
 use Rattle.sh_tree.proofs.Inversions.{apart}
@@ -10,7 +10,6 @@ use Rattle.sh_tree.specs.declared.tree.Expr.{Expr}
 use Rattle.sh_tree.specs.declared.tree.Expr.TheVariants as expr
 use Rattle.sh_tree.specs.declared.tree.Part.{Part}
 use Rattle.sh_tree.specs.declared.tree.Part.TheVariants as part
-use Rattle.sh_tree.specs.declared.tree.Span.{Span}
 use Rattle.sh_tree.specs.declared.token.word.Context.{Context}
 use Rattle.sh_tree.specs.declared.token.arithmetic.Figure.{Figure}
 use Rattle.sh_tree.specs.declared.token.arithmetic.Figure.TheVariants as figure
@@ -22,7 +21,6 @@ use Rattle.sh_tree.specs.language.Reading.{ReadsLevel, ReadsOperands, figure_at,
 use Rattle.sh_tree.specs.language.States.{Spot}
 use Rattle.sh_tree.specs.language.Trees.{span, chained}
 use Rattle.sh_words.specs.declared.frames.Holder.{Holder}
-use Rattle.sh_words.specs.declared.frames.Holder.TheVariants as holder
 use Rattle.sh_words.specs.declared.frames.Opening.{Opening}
 use Rattle.sh_words.specs.declared.frames.Operation.{Operation}
 use Rattle.sh_words.specs.declared.frames.Operation.TheVariants as operation
@@ -34,25 +32,27 @@ use Rattle.sh_words.specs.declared.builder.WordBuilder.{WordBuilder}
 use Rattle.sh_words.specs.declared.builder.Next.{Next}
 use Rattle.sh_words.specs.Clauses.{Keeps, Never, TooDeepFor, Refuses, Steps}
 use Rattle.sh_words.specs.Lexemes.{IsLexeme, is_close, is_colon, follows}
-use Rattle.sh_words.specs.Faults.{IsFault}
+use Rattle.sh_words.specs.Faults.{IsFault, bad}
+use Rattle.sh_words.proofs.BadLemmas.{bad_is_fault}
+use Rattle.sh_words.proofs.PartLemmas.{held_left, left_held}
 use Rattle.sh_words.specs.Operations.{IsClose, ClosesArithmetic, first_by, first_read, more_by, more_read}
 use Rattle.sh_words.proofs.Exchange.{steps_equal, reframed, fault_refuses}
-use Rattle.sh_words.specs.Rest.{Around, spot, here, IsOperand, one, Holds, Then, Left}
+use Rattle.sh_words.specs.Rest.{Around, spot, here, IsOperand, one, Then, Left}
 use Rattle.sh_words.specs.Steps.{Enters}
-use Rattle.sh_words.specs.Sound.{Operated, Fits, IsSound, turns_left, StepMoves, work}
+use Rattle.sh_words.specs.Sound.{Began, Operated, Fits, IsSound, turns_left, StepMoves, work}
 use Rattle.sh_scan.specs.Moves.{reads_figure}
 use Rattle.sh_words.specs.States.{context_in, given, had, operating, framed, focused}
 
 -- Operands
 
 -- where no operator of the level stands, no operand is read
-pub operands_end : {limit : ℕ} {b : List ℕ} {x : Context} {l : ℕ} {s v : Spot} {es : List (Binary × Expr)} → binary_of l (figure_at b s) ≡ None → ReadsOperands limit b x l s v es
+operands_end : {limit : ℕ} {b : List ℕ} {x : Context} {l : ℕ} {s v : Spot} {es : List (Binary × Expr)} → binary_of l (figure_at b s) ≡ None → ReadsOperands limit b x l s v es
     → (v ≡ s) × (es ≡ [])
 operands_end none (r.no_operand h) = (refl, refl)
 operands_end none (r.more_operands h e os) = cc
 
 -- else one is read behind it
-pub operands_go_on : {limit : ℕ} {b : List ℕ} {x : Context} {l : ℕ} {s v : Spot} {es : List (Binary × Expr)} (o : Binary) → binary_of l (figure_at b s) ≡ Some o
+operands_go_on : {limit : ℕ} {b : List ℕ} {x : Context} {l : ℕ} {s v : Spot} {es : List (Binary × Expr)} (o : Binary) → binary_of l (figure_at b s) ≡ Some o
     → ReadsOperands limit b x l s v es
     → (u : Spot) × (e : Expr) × (others : List (Binary × Expr)) × (es ≡ (o, e) ∷ others) × ReadsLevel limit b x (l + 1) (over b s) u e × ReadsOperands limit b x l u v others
 operands_go_on o some (r.no_operand h) = cc
@@ -94,16 +94,16 @@ module _ (b : List ℕ) (w : WordBuilder) (e : Expr) where
   unfolding Left
   first_keeps level None is = record {
     forth = λ limit g u ps l.
-      let q = operands_end is l.1.2 in
-      let k = subst (λ es. Then b limit g (context_in w.holder) w.frames (one (chained e es)) l.1.0 u ps) q.1 l.1.3 in
-      (l.0, subst (λ v. Then b limit g (context_in w.holder) w.frames (one e) v u ps) q.0 k);
+        let q = operands_end is l.1.2 in
+        let k = subst (λ es. Then b limit g (context_in w.holder) w.frames (one (chained e es)) l.1.0 u ps) q.1 l.1.3 in
+        (l.0, subst (λ v. Then b limit g (context_in w.holder) w.frames (one e) v u ps) q.0 k);
     back = λ g u ps l. (l.0, (here g w, [], r.no_operand is, l.1));
   }
   first_keeps level (Some o) is = record {
     forth = λ limit g u ps l.
-      let q = operands_go_on o is l.1.2 in
-      let k = subst (λ es. Then b limit g (context_in w.holder) w.frames (one (chained e es)) l.1.0 u ps) q.3 l.1.3 in
-      (l.0, q.0, q.1, q.4, (l.1.0, q.2, q.5, k));
+        let q = operands_go_on o is l.1.2 in
+        let k = subst (λ es. Then b limit g (context_in w.holder) w.frames (one (chained e es)) l.1.0 u ps) q.3 l.1.3 in
+        (l.0, q.0, q.1, q.4, (l.1.0, q.2, q.5, k));
     back = λ g u ps l. (l.0, (l.4.0, (o, l.2) ∷ l.4.1, r.more_operands is l.3 l.4.2, l.4.3));
   }
 
@@ -112,22 +112,28 @@ module _ (b : List ℕ) (w : WordBuilder) (e : Expr) where
   unfolding Left
   more_keeps level first rest p None is = record {
     forth = λ limit g u ps l.
-      let q = operands_end is l.1.2 in
-      let k = subst (λ es. Then b limit g (context_in w.holder) w.frames (one (expr.Chain first (rest ++ (p, e) ∷ es))) l.1.0 u ps) q.1 l.1.3 in
-      (l.0, subst (λ v. Then b limit g (context_in w.holder) w.frames (one (expr.Chain first (rest ++ (p, e) ∷ []))) v u ps) q.0 k);
+        let q = operands_end is l.1.2 in
+        let k = subst (λ es. Then b limit g (context_in w.holder) w.frames (one (expr.Chain first (rest ++ (p, e) ∷ es))) l.1.0 u ps) q.1 l.1.3 in
+        (l.0, subst (λ v. Then b limit g (context_in w.holder) w.frames (one (expr.Chain first (rest ++ (p, e) ∷ []))) v u ps) q.0 k);
     back = λ g u ps l. (l.0, (here g w, [], r.no_operand is, l.1));
   }
   more_keeps level first rest p (Some o) is = record {
     forth = λ limit g u ps l.
-      let q = operands_go_on o is l.1.2 in
-      let all : rest ++ (p, e) ∷ l.1.1 ≡ (rest ++ (p, e) ∷ []) ++ (o, q.1) ∷ q.2 =
-          ap (λ es. rest ++ (p, e) ∷ es) q.3 ∙ sym (append_assoc rest ((p, e) ∷ []) ((o, q.1) ∷ q.2)) in
-      let k = subst (λ es. Then b limit g (context_in w.holder) w.frames (one (expr.Chain first es)) l.1.0 u ps) all l.1.3 in
-      (l.0, q.0, q.1, q.4, (l.1.0, q.2, q.5, k));
+        let q = operands_go_on o is l.1.2 in
+        let all : rest ++ (p, e) ∷ l.1.1 ≡ (rest ++ (p, e) ∷ []) ++ (o, q.1) ∷ q.2 =
+        ap (λ es. rest ++ (p, e) ∷ es) q.3 ∙ sym (append_assoc rest ((p, e) ∷ []) ((o, q.1) ∷ q.2)) in
+        let k = subst (λ es. Then b limit g (context_in w.holder) w.frames (one (expr.Chain first es)) l.1.0 u ps) all l.1.3 in
+        (l.0, q.0, q.1, q.4, (l.1.0, q.2, q.5, k));
     back = λ g u ps l.
-      let all : (rest ++ (p, e) ∷ []) ++ (o, l.2) ∷ l.4.1 ≡ rest ++ (p, e) ∷ (o, l.2) ∷ l.4.1 = append_assoc rest ((p, e) ∷ []) ((o, l.2) ∷ l.4.1) in
-      (l.0, (l.4.0, (o, l.2) ∷ l.4.1, r.more_operands is l.3 l.4.2,
-      subst (λ es. Then b 64 g (context_in w.holder) w.frames (one (expr.Chain first es)) l.4.0 u ps) all l.4.3));
+        let all : (rest ++ (p, e) ∷ []) ++ (o, l.2) ∷ l.4.1 ≡ rest ++ (p, e) ∷ (o, l.2) ∷ l.4.1 = append_assoc rest ((p, e) ∷ []) ((o, l.2) ∷ l.4.1) in (
+          l.0,
+          (
+            l.4.0,
+            (o, l.2) ∷ l.4.1,
+            r.more_operands is l.3 l.4.2,
+            subst (λ es. Then b 64 g (context_in w.holder) w.frames (one (expr.Chain first es)) l.4.0 u ps) all l.4.3,
+          ),
+        );
   }
 
   read_keeps : (f : Operation) (new : WordBuilder) → OperandRead w f e (lexeme b w.at) new → Read f new
@@ -170,7 +176,7 @@ module _ (b : List ℕ) (w : WordBuilder) (e : Expr) where
   unfolding Left
   choice_keeps question below = record {
     forth = λ limit g u ps l.
-      elim l.1 [ inl k ↦ absurd (true≢false (sym question ∙ k.0)) | inr k ↦ (l.0, k.2, k.3, k.4, (k.5, k.6, k.7, k.8, k.9)) ];
+        elim l.1 [ inl k ↦ absurd (true≢false (sym question ∙ k.0)) | inr k ↦ (l.0, k.2, k.3, k.4, (k.5, k.6, k.7, k.8, k.9)) ];
     back = λ g u ps l. (l.0, inr (is_the_question (lexeme b w.at).figure question, below, l.1, l.2, l.3, l.4.0, l.4.1, l.4.2, l.4.3, l.4.4));
   }
 
@@ -204,11 +210,6 @@ module _ (b : List ℕ) (w : WordBuilder) (e : Expr) where
     had_goes : (depth end : ℕ) (d : Expr) → w.base ≤ depth → depth ≤ 64 → w.at ≤ end → end ≤ length b → Goes f (had w depth d end)
     had_goes depth end d base limit after inside = ((after, inside, (refl, refl, refl, refl)), (base, limit, tt, sound.3, sound.4.1), omega arith)
 
-    operating_goes : (o : Operation) (x : Focus) (end : ℕ) → Operated w.base o → Fits b x (frame.Operation o ∷ w.frames) → turns_left b x < 32 → w.at < end → end ≤ length b
-        → Goes f (operating w o w.depth x end)
-    operating_goes o x end operated fits turns after inside =
-        ((omega arith, inside, (refl, refl, refl, refl)), (sound.0, sound.1, fits, sound.3, (operated, sound.4.1)), omega arith)
-
     module _ (l : Lexeme) (is : IsLexeme b w.at l) where
       same_goes : (depth : ℕ) (d : Expr) → w.base ≤ depth → depth ≤ 64 → Goes f (had w depth d w.at)
       same_goes depth d base limit =
@@ -222,19 +223,22 @@ module _ (b : List ℕ) (w : WordBuilder) (e : Expr) where
       behind_goes o x operated fits turns reads =
           let after : w.at ≤ l.start = is.1 in
           let moves : l.start < l.end = is.5 reads in
-          operating_goes o x l.end operated fits turns (omega arith) is.3
+          let inside : l.end ≤ length b = is.3 in
+          ((omega arith, inside, (refl, refl, refl, refl)), (sound.0, sound.1, fits, sound.3, (operated, sound.4.1)), omega arith)
 
       first_goes : (level : ℕ) (o : Option Binary) → level < unary_level → binary_of level l.figure ≡ o → Goes f (first_by w level e l o)
       first_goes level None lt which = same_goes w.depth e sound.0 sound.1
       first_goes level (Some o) lt which =
           behind_goes (operation.More level e [] o) (focus.Level (level + 1)) lt (omega arith) (omega arith) (operator_reads level l.figure o which)
 
-      more_goes : (level : ℕ) (first : Expr) (all : List (Binary × Expr)) (o : Option Binary) → level < unary_level → binary_of level l.figure ≡ o → Goes f (more_by w level first all l o)
+      more_goes : (level : ℕ) (first : Expr) (all : List (Binary × Expr)) (o : Option Binary) → level < unary_level → binary_of level l.figure ≡ o
+          → Goes f (more_by w level first all l o)
       more_goes level first all None lt which = same_goes w.depth (expr.Chain first all) sound.0 sound.1
       more_goes level first all (Some o) lt which =
           behind_goes (operation.More level first all o) (focus.Level (level + 1)) lt (omega arith) (omega arith) (operator_reads level l.figure o which)
 
-  pub operand_goes : (f : Operation) (l : Lexeme) (new : WordBuilder) → IsLexeme b w.at l → IsSound b (framed w (frame.Operation f) (focus.Have e)) → OperandRead w f e l new → Goes f new
+  pub operand_goes : (f : Operation) (l : Lexeme) (new : WordBuilder) → IsLexeme b w.at l → IsSound b (framed w (frame.Operation f) (focus.Have e))
+      → OperandRead w f e l new → Goes f new
   operand_goes (operation.Parenthesis depth) l new is sound q =
       let after : w.at ≤ l.start = is.1 in
       let forward : l.start ≤ l.end = is.2 in
@@ -309,20 +313,6 @@ closed_inside : (b : List ℕ) (i : ℕ) → is_closed b i ≡ true → i < leng
 unfolding is_closed
 closed_inside b i closed = let some = first_some (λ c. c == 41) (drop i b) closed in omega (arith, length-drop i b, some)
 
-module _ (b : List ℕ) (limit : ℕ) (g : Around) (w : WordBuilder) where
-  -- what a holder makes of a part is what is left where the part was given to it
-  holds_given : (h : Holder) (depth next end : ℕ) (p : Part) (u : Spot) (ps : List Part)
-      → Holds b limit g h next p (spot g depth end) (λ y j. Then b limit g (context_in h) w.frames y j u ps) → Left b (given (record w { holder = h; depth = depth }) next p end) limit g u ps
-  unfolding Left
-  holds_given (holder.Parts x prior found) depth next end p u ps k = (tt, k.0, k.1, k.2, k.3)
-  holds_given (holder.Operand x start) depth next end p u ps k = (tt, k)
-
-  given_holds : (h : Holder) (depth next end : ℕ) (p : Part) (u : Spot) (ps : List Part)
-      → Left b (given (record w { holder = h; depth = depth }) next p end) limit g u ps → Holds b limit g h next p (spot g depth end) (λ y j. Then b limit g (context_in h) w.frames y j u ps)
-  unfolding Left
-  given_holds (holder.Parts x prior found) depth next end p u ps l = (l.1, l.2, l.3, l.4)
-  given_holds (holder.Operand x start) depth next end p u ps l = l.1
-
 module _ (b : List ℕ) (w : WordBuilder) (h : Holder) (depth start inside : ℕ) (o : Opening) (e : Expr) where
   expansion_keeps : IsOperand w.holder → IsClose b o (lexeme b w.at)
       → Keeps b (Left b (framed w (frame.Opened h depth start inside o) (focus.Have e)))
@@ -332,8 +322,8 @@ module _ (b : List ℕ) (w : WordBuilder) (h : Holder) (depth start inside : ℕ
       let end = (lexeme b w.at).end + 1 in
       let p = part.Arith (span start end) e in
       record {
-        forth = λ limit g u ps l. holds_given b limit g w h depth 0 end p u ps l.1.3;
-        back = λ g u ps l. (operand, (close.0, close.1, close.2, given_holds b 64 g w h depth 0 end p u ps l));
+        forth = λ limit g u ps l. held_left b limit g g.count w.mode h 0 p w.frames (spot g depth end) u ps l.1.3;
+        back = λ g u ps l. (operand, (close.0, close.1, close.2, left_held b 64 g g.count w.mode h 0 p w.frames (spot g depth end) u ps l));
       }
 
   not_closed : (IsClose b o (lexeme b w.at) → ⊥) → Never (Left b (framed w (frame.Opened h depth start inside o) (focus.Have e)))
@@ -384,19 +374,27 @@ module _ (b : List ℕ) (w : WordBuilder) (e : Expr) where
       → Keeps b (Left b (framed w (frame.Operation f) (focus.Have e))) new
   operand_keeps f l new is q = read_keeps b w e f new (subst (λ t. OperandRead w f e t new) is.0 q)
 
-  pub misplaced_close : (f : Operation) (depth : ℕ) (l : Lexeme) (r : Refusal) → f ≡ operation.Parenthesis depth → IsLexeme b w.at l → is_close l.figure ≡ false → IsFault b r
+  -- what is told where a token does not fit refuses
+  told_refuses : (f : Operation) (fits : Bool) (l : Lexeme) (r : Refusal) → IsLexeme b w.at l → Began b w.holder
+      → (fits ≡ false → Never (Left b (framed w (frame.Operation f) (focus.Have e)))) → (r ≡ Memory) ⊎ ((fits ≡ false) × (r ≡ bad w.holder l.figure l.start))
       → Refuses b (Left b (framed w (frame.Operation f) (focus.Have e))) r
-  misplaced_close f depth l r which is other fault =
-      let none = subst (λ t. is_close t.figure ≡ false) is.0 other in
-      fault_refuses b (Left b (framed w (frame.Operation f) (focus.Have e))) r fault
-      (subst (λ o. Never (Left b (framed w (frame.Operation o) (focus.Have e)))) (sym which) (no_close b w e depth none))
+  told_refuses f fits l r is began none (inl memory) = subst (λ v. Refuses b (Left b (framed w (frame.Operation f) (focus.Have e))) v) (sym memory) tt
+  told_refuses f fits l r is began none (inr told) =
+      fault_refuses b (Left b (framed w (frame.Operation f) (focus.Have e))) r (subst (λ v. IsFault b v) (sym told.1) (bad_is_fault b w.at l w.holder is began)) (none told.0)
 
-  pub misplaced_colon : (f : Operation) (depth : ℕ) (c : Expr) (l : Lexeme) (r : Refusal) → f ≡ operation.Yes depth c → IsLexeme b w.at l → is_colon l.figure ≡ false → IsFault b r
-      → Refuses b (Left b (framed w (frame.Operation f) (focus.Have e))) r
-  misplaced_colon f depth c l r which is other fault =
-      let none = subst (λ t. is_colon t.figure ≡ false) is.0 other in
-      fault_refuses b (Left b (framed w (frame.Operation f) (focus.Have e))) r fault
-      (subst (λ o. Never (Left b (framed w (frame.Operation o) (focus.Have e)))) (sym which) (no_colon b w e depth c none))
+  pub misplaced_close : (f : Operation) (depth : ℕ) (l : Lexeme) (r : Refusal) → f ≡ operation.Parenthesis depth → IsLexeme b w.at l → Began b w.holder
+      → (r ≡ Memory) ⊎ ((is_close l.figure ≡ false) × (r ≡ bad w.holder l.figure l.start)) → Refuses b (Left b (framed w (frame.Operation f) (focus.Have e))) r
+  misplaced_close f depth l r which is began told =
+      told_refuses f (is_close l.figure) l r is began
+      (λ other. subst (λ o. Never (Left b (framed w (frame.Operation o) (focus.Have e)))) (sym which)
+      (no_close b w e depth (subst (λ t. is_close t.figure ≡ false) is.0 other))) told
+
+  pub misplaced_colon : (f : Operation) (depth : ℕ) (c : Expr) (l : Lexeme) (r : Refusal) → f ≡ operation.Yes depth c → IsLexeme b w.at l → Began b w.holder
+      → (r ≡ Memory) ⊎ ((is_colon l.figure ≡ false) × (r ≡ bad w.holder l.figure l.start)) → Refuses b (Left b (framed w (frame.Operation f) (focus.Have e))) r
+  misplaced_colon f depth c l r which is began told =
+      told_refuses f (is_colon l.figure) l r is began
+      (λ other. subst (λ o. Never (Left b (framed w (frame.Operation o) (focus.Have e)))) (sym which)
+      (no_colon b w e depth c (subst (λ t. is_colon t.figure ≡ false) is.0 other))) told
 
   pub choice_read_on : (f : Operation) (l : Lexeme) (place : ℕ) (new : WordBuilder) (res : Result (Option Next) Refusal) → f ≡ operation.Condition → IsLexeme b w.at l
       → is_question l.figure ≡ true → place ≤ length b → Enters w (operation.Yes w.depth e) focus.Expression l.end place new res

@@ -79,13 +79,13 @@ module _ (b : List ℕ) (limit : ℕ) (g : Around) (n : ℕ) where
       ∙ ap (λ K. After b limit g x (frame.Operation f) y j K) (fun_ext (λ z. fun_ext (λ v. then_counted x fs z v u ps)))
 
   -- a part that was given to the holder is what is left with it
-  held_left : (m : Mode) (h : Holder) (next : ℕ) (p : Part) (fs : List Frame) (s u : Spot) (ps : List Part)
+  pub held_left : (m : Mode) (h : Holder) (next : ℕ) (p : Part) (fs : List Frame) (s u : Spot) (ps : List Part)
       → Holds b limit g h next p s (λ y j. Then b limit g (context_in h) fs y j u ps) → Rest b limit (record g { count = n }) m (holding h p) (held h next p) fs s u ps
   held_left m (holder.Parts x prior found) next p fs s u ps l =
       (tt, l.0, l.1, l.2, subst (λ t. t) (sym (then_counted x fs (parts ((found ++ p ∷ []) ++ l.1)) l.0 u ps)) l.3)
   held_left m (holder.Operand x start) next p fs s u ps l = (tt, subst (λ t. t) (sym (then_counted x fs (one (expr.Expansion p)) s u ps)) l)
 
-  left_held : (m : Mode) (h : Holder) (next : ℕ) (p : Part) (fs : List Frame) (s u : Spot) (ps : List Part)
+  pub left_held : (m : Mode) (h : Holder) (next : ℕ) (p : Part) (fs : List Frame) (s u : Spot) (ps : List Part)
       → Rest b limit (record g { count = n }) m (holding h p) (held h next p) fs s u ps → Holds b limit g h next p s (λ y j. Then b limit g (context_in h) fs y j u ps)
   left_held m (holder.Parts x prior found) next p fs s u ps l =
       (l.1, l.2, l.3, subst (λ t. t) (then_counted x fs (parts ((found ++ p ∷ []) ++ l.2)) l.1 u ps) l.4)

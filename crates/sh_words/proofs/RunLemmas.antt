@@ -1,14 +1,14 @@
 -- A builder that waits for commands.
-use Rattle.std.proofs.Common.{◌≡◌, ℕ, ◌<◌, ◌≤◌, ◌⊎◌, inl, inr, List, [], length, Option, Some, None, Result, Ok, Err, refl, sym, ap, ◌∙◌, subst, arith}
+use Rattle.std.proofs.Common.{◌≡◌, ℕ, ◌<◌, ◌≤◌, ◌⊎◌, inl, inr, List, [], length, Option, Some, None, Result, Ok, sym, ap, ◌∙◌, subst, arith}
 use Rattle.sh_tree.specs.declared.refusal.Refusal.{Refusal}
 use Rattle.sh_tree.specs.declared.tree.Word.{Word}
 use Rattle.sh_words.specs.declared.builder.Next.{Next}
-use Rattle.sh_words.specs.declared.builder.Next.TheVariants.{Done, Inner}
+use Rattle.sh_words.specs.declared.builder.Next.TheVariants.{Done}
 use Rattle.sh_words.specs.declared.frames.Focus.TheVariants as focus
 use Rattle.sh_words.specs.declared.builder.WordBuilder.{WordBuilder}
 use Rattle.sh_words.specs.Rest.{Rest, Left, here}
 use Rattle.sh_words.specs.Clauses.{Never, Waits}
-use Rattle.sh_words.specs.Sound.{Begins, Fits, IsSound, TakesParts, TakesWord}
+use Rattle.sh_words.specs.Sound.{Fits, IsSound, TakesParts, TakesWord}
 use Rattle.sh_words.specs.States.{started}
 
 -- it reads nothing before they are handed back

@@ -1,6 +1,6 @@
 -- What a builder does behind an operand of arithmetic.
 -- POSIX.1-2024, XCU 2.6.4 (arithmetic expansion).
-use Rattle.std.specs.Prelude.{◌≡◌, ◌<◌, ◌≤◌, ℕ, ◌+◌, Bool, true, false, List, [], ◌∷◌, ◌++◌, length, Option, Some, None, Result, Ok, Err}
+use Rattle.std.specs.Prelude.{◌≡◌, ◌<◌, ◌≤◌, ◌⊎◌, ℕ, ◌+◌, Bool, true, false, List, [], ◌∷◌, ◌++◌, length, Option, Some, None, Result, Ok, Err}
 use Rattle.sh_tree.specs.declared.refusal.Refusal.{Refusal}
 use Rattle.sh_tree.specs.declared.refusal.Refusal.TheVariants.{Syntax, LeftOut, Memory}
 use Rattle.sh_tree.specs.declared.tree.Binary.{Binary}
@@ -35,6 +35,11 @@ more_by w level first all l (Some o) = operating w (operation.More level first a
 
 abbrev pub more_read : WordBuilder → ℕ → Expr → List (Binary × Expr) → Binary → Expr → Lexeme → WordBuilder
 more_read w level first rest o e l = more_by w level first (rest ++ (o, e) ∷ []) l (binary_of level l.figure)
+
+-- the token fits and the state is reached, or the token is told, or memory is short
+abbrev pub Reaches : Bool → Refusal → WordBuilder → WordBuilder → Result (Unit {0}) Refusal → Type 0
+Reaches fits told state new (Ok u) = (fits ≡ true) × (new ≡ state)
+Reaches fits told state new (Err e) = (e ≡ Memory) ⊎ ((fits ≡ false) × (e ≡ told))
 
 -- the token ends the arithmetic expansion
 abbrev pub IsClose : List ℕ → Opening → Lexeme → Type 0

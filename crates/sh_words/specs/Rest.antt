@@ -1,6 +1,6 @@
 -- What is left to read of a word of which some is read.
 -- POSIX.1-2024, XCU 2.2 (quoting), 2.6 (word expansions), 2.6.4 (arithmetic expansion).
-use Rattle.std.specs.Prelude.{◌≡◌, ◌<◌, ◌⊎◌, ℕ, ◌+◌, Bool, true, false, List, [], ◌∷◌, ◌++◌, Option, Some, None}
+use Rattle.std.specs.Prelude.{◌≡◌, ◌<◌, ◌⊎◌, ℕ, ◌+◌, Bool, true, false, List, [], ◌∷◌, ◌++◌, Some}
 use Rattle.sh_tree.specs.declared.tree.Binary.{Binary}
 use Rattle.sh_tree.specs.declared.tree.Expr.{Expr}
 use Rattle.sh_tree.specs.declared.tree.Expr.TheVariants as expr

@@ -1,26 +1,17 @@
 -- The states of a builder that follow one another.
 -- POSIX.1-2024, XCU 2.2 (quoting), 2.6 (word expansions).
 use Rattle.std.specs.Prelude.{ℕ, ◌+◌, ◌-◌, ◌∷◌, ◌++◌, Bool, true, false, if◌then◌else◌, List, [], Option, Some, None}
-use Rattle.sh_tree.specs.declared.refusal.Fault.{Fault}
-use Rattle.sh_tree.specs.declared.refusal.Fault.TheVariants as fault
-use Rattle.sh_tree.specs.declared.refusal.Form.TheVariants as form
-use Rattle.sh_tree.specs.declared.refusal.Refusal.{Refusal}
-use Rattle.sh_tree.specs.declared.refusal.Refusal.TheVariants.{Syntax, LeftOut}
-use Rattle.sh_tree.specs.declared.tree.Span.{Span}
 use Rattle.sh_tree.specs.declared.tree.Script.{Script}
 use Rattle.sh_tree.specs.declared.tree.Part.{Part}
 use Rattle.sh_tree.specs.declared.tree.Part.TheVariants as part
 use Rattle.sh_tree.specs.declared.tree.SingleStyle.TheVariants as single
 use Rattle.sh_tree.specs.declared.tree.CommandStyle.TheVariants.{Paren}
 use Rattle.sh_tree.specs.declared.tree.Operator.TheVariants as operator
-use Rattle.sh_tree.specs.declared.tree.Binary.{Binary}
 use Rattle.sh_tree.specs.declared.tree.Expr.{Expr}
 use Rattle.sh_tree.specs.declared.tree.Expr.TheVariants as expr
 use Rattle.sh_tree.specs.declared.token.word.Context.{Context}
 use Rattle.sh_tree.specs.declared.token.word.Sign.{Sign}
 use Rattle.sh_tree.specs.declared.token.word.Sign.TheVariants as sign
-use Rattle.sh_tree.specs.declared.token.arithmetic.Figure.{Figure}
-use Rattle.sh_tree.specs.declared.token.arithmetic.Figure.TheVariants as figure
 use Rattle.sh_tree.specs.language.Trees.{span, word, param}
 use Rattle.sh_tree.specs.language.Words.{in_double, in_use, in_removal, in_arithmetic}
 use Rattle.sh_words.specs.declared.frames.Holder.{Holder}

@@ -9,7 +9,7 @@ use Rattle.sh_words.specs.declared.frames.Operation.{Operation}
 use Rattle.sh_words.specs.declared.frames.Focus.{Focus}
 use Rattle.sh_words.specs.declared.builder.WordBuilder.{WordBuilder}
 use Rattle.sh_words.specs.declared.builder.Next.{Next}
-use Rattle.sh_words.specs.declared.builder.Next.TheVariants.{Done, Inner}
+use Rattle.sh_words.specs.declared.builder.Next.TheVariants.{Inner}
 use Rattle.sh_tree.specs.declared.refusal.Fault.TheVariants.{BadArith}
 use Rattle.sh_tree.specs.declared.tree.Part.{Part}
 use Rattle.sh_words.specs.declared.frames.Holder.{Holder}

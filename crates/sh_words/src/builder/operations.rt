@@ -3,19 +3,18 @@ ghost use Rattle.std.specs.Prelude.{◌≡◌, ◌<◌, ◌≤◌, length, Match
 ghost use Rattle.sh_words.specs.Clauses.{Steps};
 ghost use Rattle.sh_words.specs.Faults as faults;
 ghost use Rattle.sh_words.specs.Faults.{IsFault};
+ghost use Rattle.sh_words.specs.Lexemes as lexemes;
 ghost use Rattle.sh_words.specs.Lexemes.{IsLexeme};
-ghost use Rattle.sh_words.specs.Operations.{ClosesArithmetic, first_read, more_read};
+ghost use Rattle.sh_words.specs.Operations.{ClosesArithmetic, Reaches, first_read, more_read};
 ghost use Rattle.sh_words.specs.Steps.{Enters};
 ghost use Rattle.sh_tree.specs.language.Arithmetic as arithmetic;
 ghost use Rattle.sh_tree.specs.language.Arithmetic.{unary_level};
 ghost use Rattle.sh_words.specs.Rest.{Left};
 ghost use Rattle.sh_words.specs.Sound.{Began, Deep, IsSound, StepMoves, StepSound, StepWorks};
-ghost use Rattle.sh_words.specs.States.{focused, framed, had};
+ghost use Rattle.sh_words.specs.States.{focused, framed, had, operating};
 
 use super::signs::is_expansion;
-use super::tokens::{
-    begins_operand, follows, is_close, is_colon, is_dollar, is_question, lexeme,
-};
+use super::tokens::{begins_operand, follows, is_close, is_colon, is_dollar, is_question, lexeme};
 use super::{Next, WordBuilder};
 use crate::frames::{Focus, Frame, Holder, Opening, Operation};
 use sh_scan::{binary_of, is_closed, token_at};
@@ -45,13 +44,15 @@ impl WordBuilder {
         }
         match self.frames.pop() {
             None => Err(self.bad(token)),
-            Some(Frame::Opened {
-                holder,
-                depth,
-                start,
-                opening,
-                ..
-            }) => self.close_arithmetic(script, holder, depth, start, opening, expr, token),
+            Some(
+                Frame::Opened {
+                    holder,
+                    depth,
+                    start,
+                    opening,
+                    ..
+                },
+            ) => self.close_arithmetic(script, holder, depth, start, opening, expr, token),
             Some(Frame::Operation(operation)) => self.operand_read(script, operation, expr, token),
         }
     }
@@ -109,13 +110,7 @@ impl WordBuilder {
         ensures works { StepWorks script.now (framed self.old (Frame.Operation operation) (Focus.Have expr)) self.new result }
     {
         match operation {
-            Operation::Parenthesis { depth } => {
-                if !is_close(token.figure) {
-                    return Err(self.bad(token));
-                }
-                let whole = Expr::Parenthesis(Boxed::new(self.alloc, expr)?);
-                self.have(depth, whole, token.end);
-            }
+            Operation::Parenthesis { depth } => self.parenthesis_read(depth, expr, token)?,
             Operation::Unary { depth, operator } => self.unary_read(depth, operator, expr)?,
             Operation::First { level } => self.first_read(level, expr, token)?,
             Operation::More {
@@ -130,17 +125,7 @@ impl WordBuilder {
                 }
                 self.have(self.depth, expr, self.at);
             }
-            Operation::Yes { depth, condition } => {
-                if !is_colon(token.figure) {
-                    return Err(self.bad(token));
-                }
-                let operation = Operation::No {
-                    depth,
-                    condition,
-                    yes: expr,
-                };
-                self.operate(operation, self.depth, Focus::Conditional, token.end)?;
-            }
+            Operation::Yes { depth, condition } => self.yes_read(depth, condition, expr, token)?,
             Operation::No {
                 depth,
                 condition,
@@ -153,6 +138,18 @@ impl WordBuilder {
             } => self.value_read(depth, name, operator, expr)?,
         }
         Ok(None)
+    }
+
+    /// What stands in parentheses was read, before the token.
+    fn parenthesis_read(&mut self, depth: u8, inner: Expr, token: Lexeme) -> Result<(), Refusal>
+        ensures { Reaches (lexemes.is_close token.figure) (faults.bad self.old.holder token.figure token.start) (had self.old depth (Expr.Parenthesis inner) token.end) self.new result }
+    {
+        if !is_close(token.figure) {
+            return Err(self.bad(token));
+        }
+        let whole = Expr::Parenthesis(Boxed::new(self.alloc, inner)?);
+        self.have(depth, whole, token.end);
+        Ok(())
     }
 
     fn unary_read(&mut self, depth: u8, operator: Unary, operand: Expr) -> Result<(), Refusal>
@@ -233,6 +230,27 @@ impl WordBuilder {
         };
         let first = lexeme(script, token.end);
         self.enter(operation, Focus::Expression, token.end, first.start)
+    }
+
+    /// What stands between `?` and `:` was read, before the token.
+    fn yes_read(
+        &mut self,
+        depth: u8,
+        condition: Expr,
+        yes: Expr,
+        token: Lexeme,
+    ) -> Result<(), Refusal>
+        ensures { Reaches (lexemes.is_colon token.figure) (faults.bad self.old.holder token.figure token.start) (operating self.old (Operation.No depth condition yes) self.old.depth Focus.Conditional token.end) self.new result }
+    {
+        if !is_colon(token.figure) {
+            return Err(self.bad(token));
+        }
+        let operation = Operation::No {
+            depth,
+            condition,
+            yes,
+        };
+        self.operate(operation, self.depth, Focus::Conditional, token.end)
     }
 
     fn choice_read(

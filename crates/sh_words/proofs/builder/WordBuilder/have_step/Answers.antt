@@ -1,4 +1,4 @@
-use Rattle.std.proofs.Common.{◌≡◌, ◌∷◌, subst, sym, ap, ◌∙◌, refl}
+use Rattle.std.proofs.Common.{◌∷◌, subst, sym, ap, ◌∙◌}
 use Rattle.sh_words.specs.Rest.{Left, IsOperand}
 use Rattle.sh_words.specs.Lexemes.{follows}
 use Rattle.sh_words.specs.States.{focused}
