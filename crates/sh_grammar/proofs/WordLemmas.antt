@@ -1,5 +1,7 @@
 -- A whole word, by what a builder answers.
-use Rattle.std.proofs.Common.{◌≡◌, ℕ, ◌<◌, ◌≤◌, Bool, true, false, not, ◌&&◌, ◌||◌, List, [], ◌∷◌, length, Ok, Err, refl, sym, ap, ◌∙◌, subst}
+use Rattle.std.proofs.Common.{◌≡◌, ℕ, ◌+◌, ◌<◌, ◌≤◌, Bool, true, false, not, ◌&&◌, ◌||◌, List, length, nat_le, None, Result, Ok, Err, refl, sym, ap, ◌∙◌, subst, arith}
+use Rattle.std.proofs.lemmas.Bool.{true≢false}
+use Rattle.std.proofs.lemmas.Bool.Decides.{nat_tests}
 use Rattle.sh_tree.specs.declared.tree.Part.{Part}
 use Rattle.sh_tree.specs.declared.tree.Word.{Word}
 use Rattle.sh_tree.specs.declared.refusal.Refusal.{Refusal}
@@ -18,15 +20,16 @@ use Rattle.sh_tree.proofs.Inversions.{word_parts}
 use Rattle.sh_words.specs.declared.mode.Mode.{Mode}
 use Rattle.sh_words.specs.declared.mode.Mode.TheVariants as mode
 use Rattle.sh_words.specs.declared.builder.WordBuilder.{WordBuilder}
+use Rattle.sh_words.specs.declared.builder.Next.{Next}
 use Rattle.sh_words.specs.declared.builder.Next.TheVariants.{Done, Inner}
 use Rattle.sh_words.specs.declared.frames.Focus.TheVariants as focus
-use Rattle.sh_words.specs.Clauses.{Ends, Refuses}
+use Rattle.sh_words.specs.Clauses.{Ends, Refuses, Runs}
 use Rattle.sh_words.specs.Modes.{context_of, first_prior, seen}
 use Rattle.sh_words.specs.Rest.{Around, Rest, Left, here, spot}
-use Rattle.sh_words.specs.Sound.{Begins}
+use Rattle.sh_words.specs.Sound.{Begins, RunMoves, TakesWord}
 use Rattle.sh_words.specs.Starts.{IsStart}
 use Rattle.sh_grammar.specs.Language.{One, Nothing, NothingWithin, Refused, WordFrom, WordTo, plain_spot}
-use Rattle.sh_grammar.specs.Modes.{IsWhole}
+use Rattle.sh_grammar.specs.Modes.{Builds, IsWhole, PartsTo}
 
 -- Where a word is read, the depth is the one around it
 
@@ -84,26 +87,32 @@ module _ (b : List ℕ) (m : Mode) (whole : IsWhole m) (i : ℕ) (w : WordBuilde
       let first : Rest b limit (outside n) m focus.Start w.holder w.frames (spot (outside n) 0 i) u ps = rw (start.mode, start.focus, start.depth, start.at) at l in
       subst (λ v. ReadsParts limit b (context_of b m i) v (plain_spot n i) u ps) (whole_prior m whole) first
 
-  -- a word that is read is the only one, unless it is an IO location
-  pub word_done : (d end : ℕ) (ps : List Part) → Ends (Left b w) d end ps → not (context_of b m i).colons && is_location b i end ≡ false
-      → (n : ℕ) → One (WordFrom b (context_of b m i) n i) (plain_spot n end) (word i end ps)
-  unfolding keeps_lines
-  word_done d end ps ends free n =
-      let reads : ReadsParts 64 b (context_of b m i) 0 (plain_spot n i) (spot (outside n) d end) ps = left_parts 64 n (spot (outside n) d end) ps (ends.back (outside n)) in
+  -- the context does not end where the word begins
+  word_begins : (sign_at b (context_of b m i) 0 (plain_spot 0 i) ≡ sign.Stop → ⊥) → Begins b w
+  word_begins none stop =
+      let here : (token b (context_of b m i) (first_prior m) i).sign ≡ sign.Stop = rw (start.mode, start.at) at stop in
+      none (subst (λ v. (token b (context_of b m i) v i).sign ≡ sign.Stop) (whole_prior m whole) here)
+
+  -- what a builder has read is the word's parts, which are the only ones
+  parts_read : (d end : ℕ) (ps : List Part) → Ends (Left b w) d end ps → i ≤ end → end ≤ length b → (Begins b w → i < end) → PartsTo b (context_of b m i) i ps end
+  parts_read d end ps ends from within takes =
+      let reads : ReadsParts 64 b (context_of b m i) 0 (plain_spot 0 i) (spot (outside 0) d end) ps = left_parts 64 0 (spot (outside 0) d end) ps (ends.back (outside 0)) in
       let outermost : d ≡ 0 = parts_depth reads in
       record {
-        reads = λ body. r.whole_word (subst (λ v. ReadsParts 64 b (context_of b m i) 0 (plain_spot n i) (spot (outside n) v end) ps) outermost reads) free refl;
-        only = λ limit body k y h.
-          let is = word_parts h in
-          let end_is = ends.forth limit (outside n) k is.0 (parts_left limit n k is.0 is.2) in
-          let there : k ≡ plain_spot n end = end_is.0 ∙ ap (λ v. spot (outside n) v end) outermost in
-          (there, is.1 ∙ ap (λ v. word i v.at is.0) there ∙ ap (λ v. word i end v) end_is.1);
+        reads = λ n. subst (λ v. ReadsParts 64 b (context_of b m i) 0 (plain_spot n i) (spot (outside n) v end) ps) outermost
+          (left_parts 64 n (spot (outside n) d end) ps (ends.back (outside n)));
+        only = λ limit n u qs h.
+          let e = ends.forth limit (outside n) u qs (parts_left limit n u qs h) in
+          (e.0 ∙ ap (λ v. spot (outside n) v end) outermost, e.1);
+        from = from;
+        within = within;
+        moves = λ none. takes (word_begins none);
       }
 
   nothing_left : ((limit : ℕ) (g : Around) (u : Spot) (ps : List Part) → Left b w limit g u ps → ⊥) → (n : ℕ) → Nothing (WordFrom b (context_of b m i) n i)
   nothing_left none n = λ limit body k y h. let is = word_parts h in none limit (outside n) k is.0 (parts_left limit n k is.0 is.2)
 
-  pub word_refused : (e : Refusal) → Refuses b (Left b w) e → (n : ℕ) → Refused b (WordFrom b (context_of b m i) n i) e
+  word_refused : (e : Refusal) → Refuses b (Left b w) e → (n : ℕ) → Refused b (WordFrom b (context_of b m i) n i) e
   word_refused Memory h n = tt
   word_refused (Syntax f at) h n = (h.0, nothing_left h.1 n)
   word_refused (LeftOut f at) h n = (h.0, λ other. nothing_left h.1 n)
@@ -115,20 +124,65 @@ module _ (b : List ℕ) (m : Mode) (whole : IsWhole m) (i : ℕ) (w : WordBuilde
   word_refused (CertSyntax k) h n = absurd h
   word_refused CertShape h n = absurd h
 
-  -- the context does not end where the word begins
-  pub word_begins : (sign_at b (context_of b m i) 0 (plain_spot 0 i) ≡ sign.Stop → ⊥) → Begins b w
-  word_begins none stop =
-      let here : (token b (context_of b m i) (first_prior m) i).sign ≡ sign.Stop = rw (start.mode, start.at) at stop in
-      none (subst (λ v. (token b (context_of b m i) v i).sign ≡ sign.Stop) (whole_prior m whole) here)
+  -- what the builder answers
+  answers_build : (new : WordBuilder) (res : Result Next Refusal) → Runs b (Left b w) new res → RunMoves b w new res → TakesWord b w new res → Builds b m i res
+  answers_build new (Ok (Done t)) runs moves takes =
+      let begin : new.begin ≡ i = moves.2.1 ∙ start.begin in
+      let is : t ≡ word i new.at runs.0 = runs.1 ∙ ap (λ v. word v new.at runs.0) begin in
+      let from : i ≤ new.at = subst (λ v. v ≤ new.at) start.at moves.0 in
+      let further : Begins b w → i < new.at = λ begins. subst (λ v. v < new.at) start.at (takes start.focus begins) in
+      rw is (refl, parts_read new.depth new.at runs.0 runs.2 from moves.1 further)
+  answers_build new (Ok (Inner at depth)) runs moves takes = (subst (λ v. v < at) start.at (subst (λ v. w.at < v) moves.2 moves.0), subst (λ v. v ≤ length b) moves.2 moves.1)
+  answers_build new (Err e) runs moves takes = λ n. word_refused e runs n
 
-  -- no word is read that is an IO location
-  pub word_located : (d end : ℕ) (ps : List Part) → Ends (Left b w) d end ps → not (context_of b m i).colons && is_location b i end ≡ true
-      → (n : ℕ) → Nothing (WordFrom b (context_of b m i) n i)
-  word_located d end ps ends located n = λ limit body k y h. location_read limit n k y h
-    where
-      location_read : (limit n : ℕ) (k : Spot) (y : Word) → ReadsWord limit b (context_of b m i) (plain_spot n i) k y → ⊥
-      location_read limit n k y (r.whole_word {ps = qs} h free l) =
-          let end_is = ends.forth limit (outside n) k qs (parts_left limit n k qs h) in
-          let there : not (context_of b m i).colons && is_location b i end ≡ false = subst (λ v. not (context_of b m i).colons && is_location b i v.at ≡ false) end_is.0 free in
-          let no : true ≡ false = sym located ∙ there in
-          cc
+-- The builder sees the whole text
+pub word_built : (b : List ℕ) (m : Mode) (whole : IsWhole m) (i : ℕ) (w new : WordBuilder) (res : Result Next Refusal) → IsStart w m 0 i
+    → (w.failed ≡ None → Runs (seen b w.mode) (Left (seen b w.mode) w) new res) → RunMoves (seen b w.mode) w new res → TakesWord (seen b w.mode) w new res → Builds b m i res
+word_built b m whole i w new res start runs moves takes =
+    let all : seen b w.mode ≡ b = ap (λ v. seen b v) start.mode ∙ whole_seen b m whole in
+    answers_build b m whole i w start new res (subst (λ v. Runs v (Left v w) new res) all (runs start.failed)) (subst (λ v. RunMoves v w new res) all moves)
+    (subst (λ v. TakesWord v w new res) all takes)
+
+-- Whole words
+
+pub word_read : (b : List ℕ) (m : Mode) (i : ℕ) (w : Word) → Builds b m i (Ok (Done w)) → not (context_of b m i).colons && is_location b i w.span.end ≡ false
+    → WordTo b (context_of b m i) i w
+unfolding keeps_lines
+word_read b m i w h free =
+    let x = context_of b m i in
+    let ps = w.parts in
+    let end = w.span.end in
+    record {
+      one = λ n. record {
+        reads = λ body. subst (λ v. ReadsWord 64 b x (plain_spot n i) (plain_spot n end) v) (sym h.0) (r.whole_word (h.1.reads n) free refl);
+        only = λ limit body k y q.
+          let is = word_parts q in
+          let e = h.1.only limit n k is.0 is.2 in
+          (e.0, is.1 ∙ ap (λ v. word i v.at is.0) e.0 ∙ ap (λ v. word i end v) e.1 ∙ sym h.0);
+      };
+      from = h.1.from;
+      within = h.1.within;
+      moves = h.1.moves;
+    }
+
+-- an IO location is no word
+pub word_located : (b : List ℕ) (m : Mode) (i : ℕ) (w : Word) → Builds b m i (Ok (Done w)) → not (context_of b m i).colons && is_location b i w.span.end ≡ true
+    → (n : ℕ) → Nothing (WordFrom b (context_of b m i) n i)
+word_located b m i w h located n = λ limit body k y q. none limit k y q
+  where
+    none : (limit : ℕ) (k : Spot) (y : Word) → ReadsWord limit b (context_of b m i) (plain_spot n i) k y → ⊥
+    none limit k y (r.whole_word {ps = qs} q free l) =
+        let e = h.1.only limit n k qs q in
+        let there : not (context_of b m i).colons && is_location b i w.span.end ≡ false = subst (λ v. not (context_of b m i).colons && is_location b i v.at ≡ false) e.0 free in
+        true≢false (sym located ∙ there)
+
+both_left : (p q : Bool) → (p && q) ≡ true → p ≡ true
+both_left true q h = refl
+both_left false q h = h
+
+-- an IO location has bytes
+pub located_inside : (b : List ℕ) (i j : ℕ) → is_location b i j ≡ true → j ≤ length b → i < length b
+unfolding is_location
+located_inside b i j h inside =
+    let long : nat_le (i + 3) j ≡ true = both_left _ _ (both_left _ _ (both_left _ _ h)) in
+    grind (arith, nat_tests)

@@ -1,9 +1,10 @@
 //! Words (XCU 2.2, 2.6).
-ghost use Rattle.std.specs.Prelude.{◌≡◌, ◌≤◌, ℕ, List, length};
+ghost use Rattle.std.specs.Prelude.{◌≡◌, ◌≤◌, ◌<◌, ℕ, not, ◌&&◌, true, List, length};
 ghost use Rattle.sh_grammar.specs.Language.{Words};
 ghost use Rattle.sh_tree.specs.language.Contexts as contexts;
 ghost use Rattle.sh_words.specs.Modes as modes;
-ghost use Rattle.sh_grammar.specs.Modes.{IsWhole};
+ghost use Rattle.sh_grammar.specs.Modes.{Builds, IsWhole};
+ghost use Rattle.sh_tree.specs.language.Commands as commands;
 
 use sh_scan::is_location_at;
 use sh_tree::limits::MAX_SCRIPT;
@@ -25,24 +26,47 @@ fn mode_of(stage: Stage) -> Mode
     }
 }
 
+/// The word of a mode at `at`, or the commands that come first in it.
+#[tactic(auto, using(crate::proofs::WordLemmas::word_built))]
+fn built(alloc: Global, script: &[u8], mode: Mode, at: u32) -> Result<Next, Refusal>
+    requires small { length script.now ≤ MAX_SCRIPT }
+    requires inside { at ≤ length script.now }
+    requires whole { IsWhole mode }
+    ensures { Builds script.now mode at result }
+{
+    let mut builder = WordBuilder::start(alloc, mode, 0, at)?;
+    builder.run(script)
+}
+
 /// The word of a mode at `at`. Commands in it are not read yet.
+#[tactic(auto, using(crate::proofs::WordLemmas::word_read, crate::proofs::WordLemmas::word_located))]
 fn whole_word(alloc: Global, script: &[u8], mode: Mode, at: u32) -> Result<Word, Refusal>
     requires small { length script.now ≤ MAX_SCRIPT }
     requires inside { at ≤ length script.now }
     requires whole { IsWhole mode }
     ensures { Words script.now (modes.context_of script.now mode at) at result }
 {
-    let mut builder = WordBuilder::start(alloc, mode, 0, at)?;
-    match builder.run(script)? {
+    match built(alloc, script, mode, at)? {
         Next::Done(word) => {
-            let value = mode.context(script, at).colons;
-            if !value && is_location_at(script, at, word.span.end) {
+            if is_location(script, mode, at, word.span.end) {
                 return Err(Refusal::LeftOut(Form::IoLocation, at));
             }
             Ok(word)
         }
         Next::Inner { at, .. } => Err(Refusal::LeftOut(Form::Later, at.saturating_sub(2))),
     }
+}
+
+/// Whether the word from `start` to `end` may be an IO location. The value of an assignment is none.
+fn is_location(script: &[u8], mode: Mode, start: u32, end: u32) -> bool
+    requires small { length script.now ≤ MAX_SCRIPT }
+    requires ordered { start ≤ end }
+    requires inside { end ≤ length script.now }
+    ensures value { result ≡ (not (modes.context_of script.now mode start).colons && commands.is_location script.now start end) }
+    ensures within { result ≡ true → start < length script.now }
+{
+    let value = mode.context(script, start).colons;
+    !value && is_location_at(script, start, end)
 }
 
 /// The value of an assignment at `at`.
