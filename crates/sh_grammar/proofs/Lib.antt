@@ -7,3 +7,4 @@ pub mod Simple
 pub mod Nul
 pub mod ItemList
 pub mod BreakLemmas
+pub mod ItemLemmas

@@ -1,0 +1,59 @@
+-- The items of a script whose commands are simple.
+use Rattle.std.proofs.Common.{◌≡◌, ℕ, ◌+◌, ◌<◌, ◌≤◌, ◌⊎◌, inl, inr, Bool, true, false, not, ◌||◌, List, [], ◌∷◌, ◌++◌, length, nat_le, Some, None, Ok, Err, refl, sym, ap, subst, ◌∙◌, arith}
+use Rattle.std.proofs.lemmas.Bool.{cond_both, cond-true, true≢false}
+use Rattle.std.proofs.lemmas.Bool.Decides.{nat_tests}
+use Rattle.std.proofs.lemmas.List.{append-nil, append_assoc, drop_all}
+use Rattle.sh_tree.specs.declared.tree.AndOr.{AndOr}
+use Rattle.sh_tree.specs.declared.tree.Command.{Command}
+use Rattle.sh_tree.specs.declared.tree.Item.{Item}
+use Rattle.sh_tree.specs.declared.refusal.Refusal.{Refusal}
+use Rattle.sh_tree.specs.declared.refusal.Refusal.TheVariants.{Syntax, LeftOut}
+use Rattle.sh_tree.specs.declared.token.command.Stage.TheVariants.{First}
+use Rattle.sh_tree.specs.declared.token.command.Lead.TheVariants as lead
+use Rattle.sh_tree.specs.language.Commands.{operator_of, blanks, lead_at, lead_of, is_redirection, begins_simple, begins_compound, begins_command, begins_pipeline, separator, link_of, is_bar, is_newline_lead, is_reserved}
+use Rattle.sh_tree.specs.language.Bytes.{longest}
+use Rattle.sh_tree.specs.language.Reading.{ReadsBreaks, lead_here, parted}
+use Rattle.sh_tree.specs.language.Reading as r
+use Rattle.sh_tree.specs.language.States.{State, Document}
+use Rattle.sh_tree.specs.language.Trees.{item}
+use Rattle.sh_tree.proofs.Inversions.{some_one}
+use Rattle.sh_grammar.specs.Breaks.{BreaksTo}
+use Rattle.sh_grammar.specs.Faults.{IsUnexpected}
+use Rattle.sh_grammar.specs.Items.{IsAlone, GoesOn, EndsWrong, Goes, ReadsRest}
+use Rattle.sh_grammar.specs.Language.{plain}
+use Rattle.sh_grammar.proofs.BreakLemmas.{blanks_settle}
+
+-- Behind a command
+
+end_lead : (b : List ℕ) (i : ℕ) → length b ≤ i → lead_at b First i ≡ lead.End
+unfolding lead_at lead_of operator_of longest
+end_lead b i ended =
+    let over : nat_le (length b) i ≡ true = grind (arith, nat_tests) in
+    ap (λ cs. lead_of b First i (operator_of cs)) (drop_all i b ended) ∙ cond-true _ _ _ over
+
+pub parted_settles : (b : List ℕ) (i p : ℕ) → blanks false b i ≡ i → ((n : ℕ) → parted b (plain n i) ≡ plain n p) → blanks false b p ≡ p
+parted_settles b i p settled value =
+    let Settled = λ (s : State). blanks false b s.spot.at ≡ s.spot.at in
+    subst Settled (value 0) (cond_both (is_newline_lead (lead_at b First i)) _ _ Settled (λ line. settled) (λ other. blanks_settle b (i + 1)))
+
+module _ (b : List ℕ) (i : ℕ) where
+  -- the text ends
+  pub ends_here : i ≡ length b → blanks false b i ≡ i → GoesOn b i i
+  unfolding separator link_of begins_pipeline begins_command begins_simple begins_compound is_redirection
+  ends_here end settled =
+      let is : lead_at b First i ≡ lead.End = end_lead b i (omega arith) in
+      record {
+        alone = (ap is_bar is, ap link_of is);
+        forth = λ limit n body l v xs at h. elim h [
+          | inl e ↦ ([], e.3, inl (ap begins_pipeline is, e.2, refl))
+          | inr m ↦ let no : Some m.0 ≡ None = sym m.3 ∙ ap separator is in absurd cc
+        ];
+        back = λ limit n body l v js h. elim h [
+          | inl e ↦ inl (ap separator is, ap (λ x. not (is_reserved x) || false) is, e.1, ap (λ x. item l false ∷ x) e.2)
+          | inr m ↦ absurd (true≢false (sym m.0 ∙ ap begins_pipeline is))
+        ];
+        settled = settled;
+        from = omega arith;
+        within = omega arith;
+      }
+
