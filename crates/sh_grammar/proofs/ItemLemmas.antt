@@ -1,5 +1,5 @@
 -- The items of a script whose commands are simple.
-use Rattle.std.proofs.Common.{◌≡◌, ℕ, ◌+◌, ◌<◌, ◌≤◌, ◌⊎◌, inl, inr, Bool, true, false, not, ◌||◌, List, [], ◌∷◌, ◌++◌, length, nat_le, Some, None, Ok, Err, refl, sym, ap, subst, ◌∙◌, arith}
+use Rattle.std.proofs.Common.{◌≡◌, ◌≢◌, ℕ, ◌+◌, ◌<◌, ◌≤◌, ◌⊎◌, inl, inr, Bool, true, false, not, ◌||◌, List, [], ◌∷◌, ◌++◌, length, nat_le, Some, None, Result, Ok, Err, refl, sym, ap, subst, ◌∙◌, arith}
 use Rattle.std.proofs.lemmas.Bool.{cond_both, cond-true, true≢false}
 use Rattle.std.proofs.lemmas.Bool.Decides.{nat_tests}
 use Rattle.std.proofs.lemmas.List.{append-nil, append_assoc, drop_all}
@@ -7,20 +7,22 @@ use Rattle.sh_tree.specs.declared.tree.AndOr.{AndOr}
 use Rattle.sh_tree.specs.declared.tree.Command.{Command}
 use Rattle.sh_tree.specs.declared.tree.Item.{Item}
 use Rattle.sh_tree.specs.declared.refusal.Refusal.{Refusal}
-use Rattle.sh_tree.specs.declared.refusal.Refusal.TheVariants.{Syntax, LeftOut}
+use Rattle.sh_tree.specs.declared.tree.Pipe.{Pipe}
+use Rattle.sh_tree.specs.declared.refusal.Refusal.TheVariants.{Syntax, LeftOut, TooDeep}
 use Rattle.sh_tree.specs.declared.token.command.Stage.TheVariants.{First}
 use Rattle.sh_tree.specs.declared.token.command.Lead.TheVariants as lead
+use Rattle.sh_tree.specs.declared.token.command.Reserved.TheVariants as reserved
 use Rattle.sh_tree.specs.language.Commands.{operator_of, blanks, lead_at, lead_of, is_redirection, begins_simple, begins_compound, begins_command, begins_pipeline, separator, link_of, is_bar, is_newline_lead, is_reserved}
 use Rattle.sh_tree.specs.language.Bytes.{longest}
-use Rattle.sh_tree.specs.language.Reading.{ReadsBreaks, lead_here, parted}
+use Rattle.sh_tree.specs.language.Reading.{ReadsCommand, ReadsCommands, ReadsPipeline, ReadsBreaks, lead_here, parted}
 use Rattle.sh_tree.specs.language.Reading as r
 use Rattle.sh_tree.specs.language.States.{State, Document}
 use Rattle.sh_tree.specs.language.Trees.{item}
 use Rattle.sh_tree.proofs.Inversions.{some_one}
 use Rattle.sh_grammar.specs.Breaks.{BreaksTo}
 use Rattle.sh_grammar.specs.Faults.{IsUnexpected}
-use Rattle.sh_grammar.specs.Items.{IsAlone, GoesOn, EndsWrong, Goes, ReadsRest}
-use Rattle.sh_grammar.specs.Language.{plain}
+use Rattle.sh_grammar.specs.Items.{IsAlone, GoesOn, EndsWrong, Goes, Pipelines, ReadsRest}
+use Rattle.sh_grammar.specs.Language.{plain, Commands}
 use Rattle.sh_grammar.proofs.BreakLemmas.{blanks_settle}
 
 -- Behind a command
@@ -57,3 +59,23 @@ module _ (b : List ℕ) (i : ℕ) where
         within = omega arith;
       }
 
+
+-- The first of the items
+
+first_command : {limit : ℕ} {b : List ℕ} {body : ℕ → Document} {s v : State} {cs : List Command} → ReadsCommands limit b body s v cs
+    → (u : State) × (c : Command) × (ds : List Command) × (cs ≡ c ∷ ds) × ReadsCommand limit b body s u c × (is_bar (lead_here b u) ≡ false → (v ≡ u) × (ds ≡ []))
+first_command (r.last_command {u = u} {c = c} h bar) = (u, c, [], refl, h, λ alone. (refl, refl))
+first_command (r.more_commands {u = u} {c = c} {cs = cs} h bar k l) = (u, c, cs, refl, h, λ alone. absurd (true≢false (sym bar ∙ alone)))
+
+no_pipeline : {limit : ℕ} {b : List ℕ} {body : ℕ → Document} {s v : State} {p : Pipe} → lead_here b s ≢ lead.Reserved reserved.Bang
+    → ((u : State) (c : Command) → ReadsCommand limit b body s u c → ⊥) → ReadsPipeline limit b body s v p → ⊥
+no_pipeline straight none (r.negated h l) = straight h
+no_pipeline straight none (r.straight h l) = let f = first_command l in none f.0 f.1 f.4
+
+-- where no pipeline is negated, none is read where no command is
+pub pipeline_alone : (b : List ℕ) (n i : ℕ) (x : Result (Command × ℕ) Refusal) → lead_at b First i ≢ lead.Reserved reserved.Bang → Commands b n i x → Pipelines b n i x
+pipeline_alone b n i (Ok c) straight h = h
+pipeline_alone b n i (Err (Syntax f at)) straight h = (h.0, λ limit body v p l. no_pipeline straight (h.1 limit body) l)
+pipeline_alone b n i (Err (LeftOut f at)) straight h = (h.0, λ other limit body v p l. no_pipeline straight (h.1 other limit body) l)
+pipeline_alone b n i (Err (TooDeep at)) straight h = (h.0, λ body v p l. no_pipeline straight (h.1 body) l)
+pipeline_alone b n i (Err _) straight h = h
