@@ -122,9 +122,9 @@ fn read(alloc: Global, script: &[u8]) -> Result<Script, Refusal>
     let mut at = breaks_at(script, first);
     while (at as usize) < script.len() {
         let (command, end) = pipeline_at(alloc, script, at, count)?;
-        at = behind_command(script, end)?;
         items.push(item_from(alloc, command)?)?;
         count += 1;
+        at = behind_command(script, end)?;
     }
     Ok(Script { items })
 }
