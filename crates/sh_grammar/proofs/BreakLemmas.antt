@@ -1,5 +1,5 @@
 -- Newlines between commands, and what stands behind blanks.
-use Rattle.std.proofs.Common.{◌≡◌, ℕ, suc, ◌+◌, ◌≤◌, true, false, not, ◌&&◌, List, [], ◌∷◌, length, drop, cond, refl, sym, ap, subst, ◌∙◌, ⊎_elim, arith}
+use Rattle.std.proofs.Common.{◌≡◌, ℕ, suc, ◌+◌, ◌≤◌, true, false, not, ◌&&◌, List, [], ◌∷◌, length, drop, refl, sym, ap, subst, ◌∙◌, ⊎_elim, arith}
 use Rattle.std.proofs.lemmas.Bool.{cases_Bool, cond-true, cond-false, eqb-true}
 use Rattle.std.proofs.lemmas.List.{drop-drop}
 use Rattle.std.proofs.lemmas.List.Sums.{take_while-cons}
@@ -9,7 +9,7 @@ use Rattle.sh_tree.specs.language.Commands.{gap_length, comment_length, is_comme
 use Rattle.sh_tree.specs.language.HereDocuments.{Mark}
 use Rattle.sh_tree.specs.language.Reading.{ReadsBreaks, ReadsDocuments}
 use Rattle.sh_tree.specs.language.Reading as r
-use Rattle.sh_tree.specs.language.States.{State, next, on_line}
+use Rattle.sh_tree.specs.language.States.{State, next}
 use Rattle.sh_tree.proofs.Inversions.{no_breaks, some_breaks}
 use Rattle.sh_grammar.specs.Breaks.{BreaksTo}
 use Rattle.sh_grammar.specs.Language.{plain}
@@ -93,9 +93,6 @@ module _ (b : List ℕ) where
   pub record Skips (i j : ℕ) : Type 0 where
     pub forth : (limit n : ℕ) (v : State) → ReadsBreaks limit b (plain n i) v → ReadsBreaks limit b (plain n j) v
     pub back : (limit n : ℕ) (v : State) → ReadsBreaks limit b (plain n j) v → ReadsBreaks limit b (plain n i) v
-
-  pub skips_none : (i : ℕ) → Skips i i
-  skips_none i = record { forth = λ limit n v h. h; back = λ limit n v h. h }
 
   pub skips_one : (i j k : ℕ) → Skips i j → is_newline_lead (lead_at b First j) ≡ true → k ≡ blanks false b (j + 1) → Skips i k
   skips_one i j k skips line there = record {

@@ -1,5 +1,5 @@
 -- The items of a script whose commands are simple.
-use Rattle.std.proofs.Common.{◌≡◌, ◌≢◌, ℕ, ◌+◌, ◌<◌, ◌≤◌, ◌⊎◌, inl, inr, Bool, true, false, not, ◌||◌, List, [], ◌∷◌, ◌++◌, length, nat_le, Some, None, Result, Ok, Err, refl, sym, ap, subst, ◌∙◌, arith}
+use Rattle.std.proofs.Common.{◌≡◌, ◌≢◌, ℕ, ◌+◌, ◌<◌, ◌≤◌, inl, inr, true, false, not, ◌||◌, List, [], ◌∷◌, ◌++◌, length, nat_le, Some, None, Result, Ok, Err, refl, sym, ap, subst, ◌∙◌, arith}
 use Rattle.std.proofs.lemmas.Bool.{cond_both, cond-true, true≢false}
 use Rattle.std.proofs.lemmas.Bool.Decides.{nat_tests}
 use Rattle.std.proofs.lemmas.List.{append-nil, append_assoc, drop_all}
@@ -11,7 +11,7 @@ use Rattle.sh_tree.specs.declared.refusal.Refusal.{Refusal}
 use Rattle.sh_tree.specs.declared.tree.Pipe.{Pipe}
 use Rattle.sh_tree.specs.declared.tree.Link.{Link}
 use Rattle.sh_tree.specs.declared.tree.Script.{Script}
-use Rattle.sh_tree.specs.declared.refusal.Refusal.TheVariants.{TooLong, NulByte, Syntax, LeftOut, TooDeep, TooMany, Memory, Profile, CertSyntax, CertShape}
+use Rattle.sh_tree.specs.declared.refusal.Refusal.TheVariants.{Syntax, LeftOut, TooDeep, TooMany, Memory}
 use Rattle.sh_tree.specs.declared.token.command.Stage.TheVariants.{First}
 use Rattle.sh_tree.specs.declared.token.command.Lead.{Lead}
 use Rattle.sh_tree.specs.declared.token.command.Lead.TheVariants as lead
@@ -26,7 +26,6 @@ use Rattle.sh_tree.specs.language.Trees.{script, item, and_or, pipe}
 use Rattle.sh_tree.proofs.Inversions.{apart, script_is}
 use Rattle.sh_tree.proofs.Counts.{items_count_more}
 use Rattle.sh_grammar.specs.Breaks.{BreaksTo}
-use Rattle.sh_grammar.specs.Faults.{IsUnexpected}
 use Rattle.sh_grammar.specs.Items.{IsAlone, GoesOn, EndsWrong, Goes, Pipelines, ReadsRest, ReadsTail, item_of}
 use Rattle.sh_grammar.specs.Language.{plain_spot, plain, Commands, CommandTo}
 use Rattle.sh_grammar.specs.Parsing.{Parses}
@@ -112,7 +111,8 @@ list_first {b = b} some (r.linked {u = w} {p = p} {ps = ps} q k) =
     let n = unlinked none k in
     (n.0 ∙ e.0, ap (λ x. and_or x ps) (f.3 ∙ ap (λ ds. pipe false (f.1 ∷ ds)) e.1) ∙ ap (λ x. and_or (pipe false (f.1 ∷ [])) x) n.1))
 
-list_pipeline : {limit : ℕ} {b : List ℕ} {body : ℕ → Document} {s v : State} {l : AndOr} → ReadsAndOr limit b body s v l → (u : State) × (p : Pipe) × ReadsPipeline limit b body s u p
+list_pipeline : {limit : ℕ} {b : List ℕ} {body : ℕ → Document} {s v : State} {l : AndOr} → ReadsAndOr limit b body s v l
+    → (u : State) × (p : Pipe) × ReadsPipeline limit b body s u p
 list_pipeline (r.linked {u = u} {p = p} q k) = (u, p, q)
 
 simple_begins : (l : Lead) → begins_simple l ≡ true → (begins_command l ≡ true) × (begins_pipeline l ≡ true)
@@ -159,9 +159,6 @@ pub record Found (b : List ℕ) (first : ℕ) (found : List Item) (i n : ℕ) : 
   pub forth : (limit : ℕ) (body : ℕ → Document) (v : State) (xs : List Item) → v.spot.at ≡ length b → ReadsRest limit b body (plain 0 first) v xs
       → (js : List Item) × (xs ≡ found ++ js) × ReadsRest limit b body (plain n i) v js
   pub back : (body : ℕ → Document) (v : State) (js : List Item) → ReadsRest 64 b body (plain n i) v js → ReadsRest 64 b body (plain 0 first) v (found ++ js)
-
-pub found_none : (b : List ℕ) (first : ℕ) → Found b first [] first 0
-found_none b first = record { forth = λ limit body v xs at h. (xs, refl, h); back = λ body v js h. h }
 
 pub found_one : (b : List ℕ) (first : ℕ) (found : List Item) (i n : ℕ) (c : Command) (j next : ℕ) → Found b first found i n → CommandTo b n i c j → GoesOn b j next
     → Found b first (found ++ item_of c ∷ []) next (n + 1)

@@ -1,4 +1,4 @@
-use Rattle.std.proofs.Common.{sym, ap, subst, ◌∙◌, ◌≡◌, ◌≤◌, false, length, ◌+◌, arith}
+use Rattle.std.proofs.Common.{sym, ap, ◌∙◌, false, ◌+◌, arith}
 use Rattle.sh_tree.specs.language.Commands.{is_newline_lead, blanks}
 use Rattle.sh_grammar.proofs.BreakLemmas.{skips_one, skips_all, blanks_settle}
 use Rattle.sh_grammar.proofs.language.breaks.breaks_at.Goals as goal
