@@ -66,7 +66,6 @@ module _ (b : List ℕ) (i : ℕ) where
         within = omega arith;
       }
 
-
 -- The first of the items
 
 -- items are an and-or list and what is left behind it
@@ -104,12 +103,16 @@ unlinked none (r.more_links {l = l} h k p q) = let no : Some l ≡ None = sym h 
 list_first : {limit : ℕ} {b : List ℕ} {body : ℕ → Document} {s v : State} {l : AndOr} → begins_command (lead_here b s) ≡ true → ReadsAndOr limit b body s v l
     → (u : State) × (c : Command) × ReadsCommand limit b body s u c × (IsAlone (lead_here b u) → (v ≡ u) × (l ≡ and_or (pipe false (c ∷ [])) []))
 list_first {b = b} some (r.linked {u = w} {p = p} {ps = ps} q k) =
-    let f = straight_first some q in
-    (f.0, f.1, f.4, λ alone.
-    let e = f.5 alone.0 in
-    let none : link_of (lead_here b w) ≡ None = ap (λ x. link_of (lead_here b x)) e.0 ∙ alone.1 in
-    let n = unlinked none k in
-    (n.0 ∙ e.0, ap (λ x. and_or x ps) (f.3 ∙ ap (λ ds. pipe false (f.1 ∷ ds)) e.1) ∙ ap (λ x. and_or (pipe false (f.1 ∷ [])) x) n.1))
+    let f = straight_first some q in (
+      f.0,
+      f.1,
+      f.4,
+      λ alone.
+          let e = f.5 alone.0 in
+          let none : link_of (lead_here b w) ≡ None = ap (λ x. link_of (lead_here b x)) e.0 ∙ alone.1 in
+          let n = unlinked none k in
+          (n.0 ∙ e.0, ap (λ x. and_or x ps) (f.3 ∙ ap (λ ds. pipe false (f.1 ∷ ds)) e.1) ∙ ap (λ x. and_or (pipe false (f.1 ∷ [])) x) n.1),
+    )
 
 list_pipeline : {limit : ℕ} {b : List ℕ} {body : ℕ → Document} {s v : State} {l : AndOr} → ReadsAndOr limit b body s v l
     → (u : State) × (p : Pipe) × ReadsPipeline limit b body s u p
@@ -168,8 +171,8 @@ found_one b first found i n c j next behind read goes = record {
       elim t.2 [
         | inl e ↦ let here : i ≡ length b = sym (ap (λ s. s.spot.at) e.1) ∙ at in let moves = read.moves in let within = read.within in absurd (omega arith)
         | inr m ↦
-          let f = goes.forth limit (n + 1) body (and_or (pipe false (c ∷ [])) []) v t.0 at (item_tail b n i c j read goes.alone limit body v t.0 m.1) in
-          (f.0, t.1 ∙ ap (λ v. found ++ v) f.1 ∙ sym (append_assoc found (item_of c ∷ []) f.0), f.2)
+            let f = goes.forth limit (n + 1) body (and_or (pipe false (c ∷ [])) []) v t.0 at (item_tail b n i c j read goes.alone limit body v t.0 m.1) in
+            (f.0, t.1 ∙ ap (λ v. found ++ v) f.1 ∙ sym (append_assoc found (item_of c ∷ []) f.0), f.2)
       ];
   back = λ body v js h.
       subst (λ v'. ReadsRest 64 b body (plain 0 first) v v') (sym (append_assoc found (item_of c ∷ []) js))
@@ -217,13 +220,16 @@ module _ (b : List ℕ) (first : ℕ) (found : List Item) (i n : ℕ) (begun : B
         script = r.script (rest_sequence (begun.back 64 0) rest) refl;
         to_end = end;
         commands = refl;
-      } in
-      (text, (n, read, few), λ u q.
-      let e = ends q.0 q.1 u q.2 in
-      elim e.6 [
-        | inl h ↦ e.5 ∙ ap (λ js. script (found ++ js)) h.2 ∙ ap (λ xs. script xs) (append-nil found)
-        | inr h ↦ absurd (true≢false (sym h.0 ∙ none))
-      ])
+      } in (
+        text,
+        (n, read, few),
+        λ u q.
+            let e = ends q.0 q.1 u q.2 in
+            elim e.6 [
+              | inl h ↦ e.5 ∙ ap (λ js. script (found ++ js)) h.2 ∙ ap (λ xs. script xs) (append-nil found)
+              | inr h ↦ absurd (true≢false (sym h.0 ∙ none))
+            ],
+      )
 
   -- where nothing is left to read, the text is no script
   unread : (limit : ℕ) → ((body : ℕ → Document) (v : State) (js : List Item) → v.spot.at ≡ length b → ReadsRest limit b body (plain n i) v js → ⊥)

@@ -56,12 +56,7 @@ fn is_bang(lead: Lead) -> bool
 }
 
 /// The command at `at`, before which `count` others began, where it is a pipeline alone.
-fn pipeline_at(
-    alloc: Global,
-    script: &[u8],
-    at: u32,
-    count: u32,
-) -> Result<(Command, u32), Refusal>
+fn pipeline_at(alloc: Global, script: &[u8], at: u32, count: u32) -> Result<(Command, u32), Refusal>
     requires small { length script.now ≤ MAX_SCRIPT }
     requires inside { at < length script.now }
     requires settled { commands.blanks false script.now at ≡ at }
