@@ -6,3 +6,4 @@ pub mod Elements
 pub mod Simple
 pub mod Nul
 pub mod ItemList
+pub mod BreakLemmas
