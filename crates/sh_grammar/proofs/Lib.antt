@@ -7,3 +7,6 @@ pub mod Simple
 pub mod Nul
 pub mod ItemList
 pub mod BreakLemmas
+pub mod BeginningLemmas
+pub mod ElementLemmas
+pub mod CommandLemmas
