@@ -1,8 +1,8 @@
 -- What begins a word takes bytes, and what begins an assignment is a name and `=`.
-use Rattle.std.proofs.Common.{◌≡◌, ℕ, ◌+◌, ◌<◌, ◌≤◌, ◌==◌, ◌⊎◌, inl, inr, Bool, true, false, not, ◌&&◌, ◌||◌, List, [], ◌∷◌, length, drop, codes, nat_le, cond, Option, Some, None, refl, sym, ap, subst, ◌∙◌, arith, length-drop}
+use Rattle.std.proofs.Common.{◌≡◌, ℕ, ◌+◌, ◌<◌, ◌==◌, Bool, true, false, not, ◌&&◌, ◌||◌, List, [], ◌∷◌, length, drop, codes, nat_le, cond, Option, Some, None, refl, sym, ap, subst, ◌∙◌, arith, length-drop}
 use Rattle.std.specs.Prelude.{is_some}
 use Rattle.std.specs.List.{list_any}
-use Rattle.std.proofs.lemmas.Bool.{true≢false, false_from_ne_true, or_from, and_right, and_parts, eqb-true, cond-false}
+use Rattle.std.proofs.lemmas.Bool.{true≢false, false_from_ne_true, or_from, and_right, and_parts, eqb-true}
 use Rattle.std.proofs.lemmas.Bool.Decides.{nat_tests}
 use Rattle.sh_tree.specs.declared.tree.Subject.{Subject}
 use Rattle.sh_tree.specs.declared.tree.Special.{Special as SpecialParameter}
@@ -24,7 +24,7 @@ use Rattle.sh_tree.specs.declared.token.command.Lead.{Lead}
 use Rattle.sh_tree.specs.declared.token.command.Lead.TheVariants as lead
 use Rattle.sh_tree.specs.language.Bytes.{is_blank, is_newline, is_backslash, is_operator_byte, is_digit, ends_token, run, is_first, name_length, longest}
 use Rattle.sh_tree.specs.language.Words as words
-use Rattle.sh_tree.specs.language.Commands.{gap_length, comment_length, blank_length, blanks, operator_of, is_split, is_definition, operator_lead, whole_operator, opening, bang, reserved_lead, first_lead, name_lead, word_lead, number_lead, other_lead, lead_of, lead_at, is_assignment, name_end, bare_word, named, reserved_words, left_out_names}
+use Rattle.sh_tree.specs.language.Commands.{gap_length, blank_length, blanks, operator_of, is_split, is_definition, operator_lead, whole_operator, opening, bang, reserved_lead, first_lead, name_lead, word_lead, number_lead, other_lead, lead_of, lead_at, is_assignment, name_end, bare_word, named, reserved_words, left_out_names}
 use Rattle.sh_tree.specs.language.Contexts.{in_word, in_value, in_operand, in_stage}
 use Rattle.sh_tree.specs.language.Reading.{sign_at}
 use Rattle.sh_grammar.specs.Language.{plain_spot}

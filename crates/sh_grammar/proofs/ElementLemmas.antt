@@ -1,5 +1,5 @@
 -- Elements of simple commands, by what each begins with.
-use Rattle.std.proofs.Common.{◌≡◌, ℕ, ◌+◌, ◌≤◌, ◌<◌, ◌⊎◌, inl, inr, Bool, true, false, List, [], ◌∷◌, ◌++◌, length, Result, Err, refl, sym, ap, subst, ◌∙◌, arith}
+use Rattle.std.proofs.Common.{◌≡◌, ℕ, ◌+◌, ◌≤◌, ◌<◌, ◌⊎◌, inl, inr, true, false, List, [], ◌∷◌, ◌++◌, length, Err, refl, sym, ap, subst, ◌∙◌}
 use Rattle.std.proofs.lemmas.Bool.{true≢false}
 use Rattle.std.proofs.lemmas.List.{append-nil, append_assoc}
 use Rattle.sh_tree.specs.declared.token.command.Stage.{Stage}
@@ -18,7 +18,7 @@ use Rattle.sh_tree.specs.language.Reading.{ReadsWord, ReadsElements, lead_of, na
 use Rattle.sh_tree.specs.language.States.{Spot, State, Document, to, facing, past, waits}
 use Rattle.sh_tree.specs.language.Trees.{span}
 use Rattle.sh_tree.proofs.Inversions.{apart}
-use Rattle.sh_grammar.specs.Language.{plain, plain_spot, One, Nothing, NothingWithin, Refused, WordFrom, WordTo, Words, ElementsFrom, ElementsTo, Elements}
+use Rattle.sh_grammar.specs.Language.{plain, plain_spot, One, Refused, WordFrom, WordTo, Words, ElementsFrom, ElementsTo, Elements}
 use Rattle.sh_grammar.proofs.BeginningLemmas.{word_goes}
 
 -- Lists of which some elements were found: what is left to read decides what the whole is
@@ -153,14 +153,16 @@ module _ (b : List ℕ) (i next : ℕ) (s : Stage) (found : List Element) (behin
         → Found b i (found ++ element.Word w ∷ []) (g, after)
     unfolding waits
     elements_word w read g stage after ends = subst (λ t. Found b i (found ++ element.Word w ∷ []) (t, after)) (sym stage)
-        (subst (λ k. Found b i (found ++ element.Word w ∷ []) (named b s next, k)) (sym ends) (record { at = λ n.
-        one_more (ElementsFrom b n) (First, i) (s, next) (named b s next, blanks false b w.span.end) found (element.Word w) (behind.at n) (record {
-          forth = λ limit body k es l.
-              let f = first_word {s = plain n next} (sym is) l in
-              let o = (read.one n).only limit body f.0 f.1 f.4 in
-              (f.2, f.3 ∙ ap (λ v. element.Word v ∷ f.2) o.1, subst (λ u. ReadsElements limit b body (named b s next) (past b u (plain n next)) k f.2) o.0 f.5);
-          back = λ body k es l. r.word_element {u = plain_spot n w.span.end} (sym is) ((read.one n).reads body) l;
-        }) }))
+        (subst (λ k. Found b i (found ++ element.Word w ∷ []) (named b s next, k)) (sym ends) (record {
+          at = λ n.
+              one_more (ElementsFrom b n) (First, i) (s, next) (named b s next, blanks false b w.span.end) found (element.Word w) (behind.at n) (record {
+                forth = λ limit body k es l.
+                    let f = first_word {s = plain n next} (sym is) l in
+                    let o = (read.one n).only limit body f.0 f.1 f.4 in
+                    (f.2, f.3 ∙ ap (λ v. element.Word v ∷ f.2) o.1, subst (λ u. ReadsElements limit b body (named b s next) (past b u (plain n next)) k f.2) o.0 f.5);
+                back = λ body k es l. r.word_element {u = plain_spot n w.span.end} (sym is) ((read.one n).reads body) l;
+              });
+        }))
 
     pub elements_word_none : (e : Refusal) → Words b (in_stage b s next) next (Err e) → Elements b i (Err e)
     unfolding waits
@@ -175,17 +177,21 @@ module _ (b : List ℕ) (i next : ℕ) (s : Stage) (found : List Element) (behin
         → Found b i (found ++ element.Assignment (span next e) w ∷ []) (Prefixed, after)
     unfolding waits
     elements_assignment w read after ends = subst (λ k. Found b i (found ++ element.Assignment (span next e) w ∷ []) (Prefixed, k)) (sym ends)
-        (subst (λ v. Found b i (found ++ element.Assignment (span next v) w ∷ []) (Prefixed, blanks false b w.span.end)) (sym name) (record { at = λ n.
-        let value = subst (λ v. One (WordFrom b (in_value (v + 1)) n (v + 1)) (plain_spot n w.span.end) w) name (read.one n) in
-        let x = element.Assignment (span next (name_end b next)) w in
-        one_more (ElementsFrom b n) (First, i) (s, next) (Prefixed, blanks false b w.span.end) found x (behind.at n) (record {
-          forth = λ limit body k es l.
-              let f = first_assignment {s = plain n next} (sym is) l in
-              let o = value.only limit body f.0 f.1 f.4 in
-              (f.2, f.3 ∙ ap (λ v. element.Assignment (span next (name_end b next)) v ∷ f.2) o.1,
-              subst (λ u. ReadsElements limit b body Prefixed (past b u (plain n next)) k f.2) o.0 f.5);
-          back = λ body k es l. r.assigned_element {u = plain_spot n w.span.end} (sym is) (value.reads body) l;
-        }) }))
+        (subst (λ v. Found b i (found ++ element.Assignment (span next v) w ∷ []) (Prefixed, blanks false b w.span.end)) (sym name) (record {
+          at = λ n.
+              let value = subst (λ v. One (WordFrom b (in_value (v + 1)) n (v + 1)) (plain_spot n w.span.end) w) name (read.one n) in
+              let x = element.Assignment (span next (name_end b next)) w in
+              one_more (ElementsFrom b n) (First, i) (s, next) (Prefixed, blanks false b w.span.end) found x (behind.at n) (record {
+                forth = λ limit body k es l.
+                    let f = first_assignment {s = plain n next} (sym is) l in
+                    let o = value.only limit body f.0 f.1 f.4 in (
+                      f.2,
+                      f.3 ∙ ap (λ v. element.Assignment (span next (name_end b next)) v ∷ f.2) o.1,
+                      subst (λ u. ReadsElements limit b body Prefixed (past b u (plain n next)) k f.2) o.0 f.5,
+                    );
+                back = λ body k es l. r.assigned_element {u = plain_spot n w.span.end} (sym is) (value.reads body) l;
+              });
+        }))
 
     pub elements_assignment_none : (f : Refusal) → Words b (in_value (e + 1)) (e + 1) (Err f) → Elements b i (Err f)
     unfolding waits

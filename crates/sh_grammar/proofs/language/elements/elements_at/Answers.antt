@@ -1,4 +1,4 @@
-use Rattle.std.proofs.Common.{◌<◌, ◌≤◌, false, refl, sym, ap, ◌∙◌, arith}
+use Rattle.std.proofs.Common.{false, refl, sym, ap, ◌∙◌, arith}
 use Rattle.std.proofs.lemmas.Result.{err_from_is_err_and}
 use Rattle.sh_tree.specs.language.Commands.{blanks}
 use Rattle.sh_grammar.proofs.BreakLemmas.{blanks_settle}
