@@ -7,4 +7,7 @@ pub mod Simple
 pub mod Nul
 pub mod ItemList
 pub mod BreakLemmas
+pub mod BeginningLemmas
+pub mod ElementLemmas
+pub mod CommandLemmas
 pub mod ItemLemmas
