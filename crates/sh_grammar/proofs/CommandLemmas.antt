@@ -30,7 +30,7 @@ not_simple (lead.Operator op.LeftParenthesis) h = refl
 not_simple (lead.Reserved w) h = refl
 not_simple _ h = absurd (true≢false (sym h))
 
-simple_pipeline : (l : Lead) → begins_simple l ≡ true → begins_pipeline l ≡ true
+pub simple_pipeline : (l : Lead) → begins_simple l ≡ true → begins_pipeline l ≡ true
 unfolding begins_pipeline begins_command begins_simple is_redirection
 simple_pipeline lead.Definition h = refl
 simple_pipeline (lead.Reserved w) h = absurd (true≢false (sym h))

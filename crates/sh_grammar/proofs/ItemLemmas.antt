@@ -1,6 +1,6 @@
 -- The items of a script whose commands are simple.
 use Rattle.std.proofs.Common.{◌≡◌, ◌≢◌, ℕ, ◌+◌, ◌<◌, ◌≤◌, inl, inr, true, false, not, ◌||◌, List, [], ◌∷◌, ◌++◌, length, nat_le, Some, None, Result, Ok, Err, refl, sym, ap, subst, ◌∙◌, arith}
-use Rattle.std.proofs.lemmas.Bool.{cond_both, cond-true, true≢false}
+use Rattle.std.proofs.lemmas.Bool.{cond_both, cond-true, true≢false, or_left}
 use Rattle.std.proofs.lemmas.Bool.Decides.{nat_tests}
 use Rattle.std.proofs.lemmas.List.{append-nil, append_assoc, drop_all}
 use Rattle.sh_tree.specs.declared.limits.TheConstants.{MAX_COMMANDS, MAX_NESTING}
@@ -26,10 +26,12 @@ use Rattle.sh_tree.specs.language.Trees.{script, item, and_or, pipe}
 use Rattle.sh_tree.proofs.Inversions.{apart, script_is}
 use Rattle.sh_tree.proofs.Counts.{items_count_more}
 use Rattle.sh_grammar.specs.Breaks.{BreaksTo}
-use Rattle.sh_grammar.specs.Items.{IsAlone, GoesOn, EndsWrong, Goes, Pipelines, ReadsRest, ReadsTail, item_of}
-use Rattle.sh_grammar.specs.Language.{plain_spot, plain, Commands, CommandTo}
+use Rattle.sh_grammar.specs.Items.{IsAlone, GoesOn, EndsWrong, Goes, PipelineFrom, Pipelines, ReadsRest, ReadsTail, item_of}
+use Rattle.sh_grammar.specs.Language.{plain_spot, plain, Commands, CommandFrom, CommandTo}
 use Rattle.sh_grammar.specs.Parsing.{Parses}
 use Rattle.sh_grammar.proofs.BreakLemmas.{blanks_settle}
+use Rattle.sh_grammar.proofs.CommandLemmas.{simple_pipeline}
+use Rattle.sh_grammar.proofs.ElementLemmas.{refused_by}
 use Rattle.sh_grammar.proofs.Nul.{has_no_nul}
 
 -- Behind a command
@@ -118,24 +120,22 @@ list_pipeline : {limit : ℕ} {b : List ℕ} {body : ℕ → Document} {s v : St
     → (u : State) × (p : Pipe) × ReadsPipeline limit b body s u p
 list_pipeline (r.linked {u = u} {p = p} q k) = (u, p, q)
 
-simple_begins : (l : Lead) → begins_simple l ≡ true → (begins_command l ≡ true) × (begins_pipeline l ≡ true)
-unfolding begins_pipeline begins_command begins_simple is_redirection
-simple_begins lead.Definition h = absurd (true≢false (sym h))
-simple_begins (lead.Reserved w) h = absurd (true≢false (sym h))
-simple_begins l h = (ap (λ x. x || begins_compound l) h, ap (λ x. x || begins_compound l) h)
+simple_begins : (l : Lead) → begins_simple l ≡ true → begins_command l ≡ true
+unfolding begins_command
+simple_begins lead.Definition h = refl
+simple_begins l h = or_left (begins_simple l) (begins_compound l) h
 
-no_pipeline : {limit : ℕ} {b : List ℕ} {body : ℕ → Document} {s v : State} {p : Pipe} → lead_here b s ≢ lead.Reserved reserved.Bang
-    → ((u : State) (c : Command) → ReadsCommand limit b body s u c → ⊥) → ReadsPipeline limit b body s v p → ⊥
-no_pipeline straight none (r.negated h l) = straight h
-no_pipeline straight none (r.straight h l) = let f = first_command l in none f.0 f.1 f.4
+straight_command : {limit : ℕ} {b : List ℕ} {body : ℕ → Document} {s v : State} {p : Pipe} → lead_here b s ≢ lead.Reserved reserved.Bang → ReadsPipeline limit b body s v p
+    → (u : State) × (c : Command) × ReadsCommand limit b body s u c
+straight_command straight (r.negated h l) = absurd (straight h)
+straight_command straight (r.straight h l) = let f = first_command l in (f.0, f.1, f.4)
 
 -- where no pipeline is negated, none is read where no command is
 pub pipeline_alone : (b : List ℕ) (n i : ℕ) (x : Result (Command × ℕ) Refusal) → lead_at b First i ≢ lead.Reserved reserved.Bang → Commands b n i x → Pipelines b n i x
 pipeline_alone b n i (Ok c) straight h = h
-pipeline_alone b n i (Err (Syntax f at)) straight h = (h.0, λ limit body v p l. no_pipeline straight (h.1 limit body) l)
-pipeline_alone b n i (Err (LeftOut f at)) straight h = (h.0, λ other limit body v p l. no_pipeline straight (h.1 other limit body) l)
-pipeline_alone b n i (Err (TooDeep at)) straight h = (h.0, λ body v p l. no_pipeline straight (h.1 body) l)
-pipeline_alone b n i (Err _) straight h = h
+pipeline_alone b n i (Err TooMany) straight h = h
+pipeline_alone b n i (Err e) straight h =
+    refused_by b (CommandFrom b n i) (PipelineFrom b n i) e (λ limit body v p l. straight_command {s = plain n i} straight l) h
 
 -- The items that are left
 
@@ -145,7 +145,7 @@ module _ (b : List ℕ) (n i : ℕ) (c : Command) (j : ℕ) (read : CommandTo b 
       → ReadsTail limit b body (and_or (pipe false (c ∷ [])) []) (plain (n + 1) j) v xs
   item_tail limit body v xs h =
       let t = items_tail h in
-      let f = list_first (simple_begins (lead_at b First i) read.begins).0 t.2 in
+      let f = list_first (simple_begins (lead_at b First i) read.begins) t.2 in
       let o = read.one.only limit body f.0 f.1 f.2 in
       let e = f.3 (subst (λ u. IsAlone (lead_here b u)) (sym o.0) alone) in
       let same : t.1 ≡ and_or (pipe false (c ∷ [])) [] = e.1 ∙ ap (λ x. and_or (pipe false (x ∷ [])) []) o.1 in
@@ -155,7 +155,7 @@ module _ (b : List ℕ) (n i : ℕ) (c : Command) (j : ℕ) (read : CommandTo b 
       → ReadsRest 64 b body (plain n i) v xs
   tail_item body v xs h =
       let begins = simple_begins (lead_at b First i) read.begins in
-      inr (begins.1, tail_items (r.linked (r.straight begins.0 (r.last_command (read.one.reads body) alone.0)) (r.no_link alone.1)) h)
+      inr (simple_pipeline (lead_at b First i) read.begins, tail_items (r.linked (r.straight begins (r.last_command (read.one.reads body) alone.0)) (r.no_link alone.1)) h)
 
 -- of the items that begin at `first` some were found, and what is left begins at i behind n commands
 pub record Found (b : List ℕ) (first : ℕ) (found : List Item) (i n : ℕ) : Type 0 where
