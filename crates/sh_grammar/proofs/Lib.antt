@@ -7,3 +7,8 @@ pub mod Simple
 pub mod Nul
 pub mod ItemList
 pub mod WordLemmas
+pub mod BreakLemmas
+pub mod BeginningLemmas
+pub mod ElementLemmas
+pub mod CommandLemmas
+pub mod ItemLemmas

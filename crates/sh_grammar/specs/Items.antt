@@ -3,21 +3,32 @@
 use Rattle.std.specs.Prelude.{◌≡◌, ◌⊎◌, ◌<◌, ◌≤◌, ℕ, Bool, false, true, not, ◌||◌, List, [], ◌∷◌, length, Some, None, Result, Ok, Err}
 use Rattle.sh_tree.specs.declared.token.command.Stage.TheVariants.{First}
 use Rattle.sh_tree.specs.declared.tree.Command.{Command}
+use Rattle.sh_tree.specs.declared.limits.TheConstants.{MAX_COMMANDS}
+use Rattle.sh_tree.specs.declared.tree.Pipe.{Pipe}
 use Rattle.sh_tree.specs.declared.tree.AndOr.{AndOr}
 use Rattle.sh_tree.specs.declared.tree.Item.{Item}
 use Rattle.sh_tree.specs.declared.token.command.Lead.{Lead}
 use Rattle.sh_tree.specs.declared.refusal.Form.TheVariants as form
 use Rattle.sh_tree.specs.declared.refusal.Refusal.{Refusal}
-use Rattle.sh_tree.specs.declared.refusal.Refusal.TheVariants.{Syntax, LeftOut}
+use Rattle.sh_tree.specs.declared.refusal.Refusal.TheVariants.{Syntax, LeftOut, TooMany}
 use Rattle.sh_tree.specs.language.Commands.{blanks, lead_at, begins_pipeline, separator, link_of, is_bar, is_reserved}
-use Rattle.sh_tree.specs.language.Reading.{ReadsItems, ReadsBreaks, lead_here, parted}
+use Rattle.sh_tree.specs.language.Reading.{ReadsPipeline, ReadsItems, ReadsBreaks, lead_here, parted}
 use Rattle.sh_tree.specs.language.States.{State, Document}
 use Rattle.sh_tree.specs.language.Trees.{item, and_or, pipe}
-use Rattle.sh_grammar.specs.Language.{plain}
+use Rattle.sh_grammar.specs.Language.{plain, Refused, CommandTo}
 
 -- the item that is the command alone
 abbrev pub item_of : Command → Item
 item_of c = item (and_or (pipe false (c ∷ [])) []) false
+
+abbrev pub PipelineFrom : List ℕ → ℕ → ℕ → ℕ → (ℕ → Document) → State → Pipe → Type 0
+PipelineFrom b n i limit body u p = ReadsPipeline limit b body (plain n i) u p
+
+-- the pipeline at i is one command, or none is there
+abbrev pub Pipelines : List ℕ → ℕ → ℕ → Result (Command × ℕ) Refusal → Type 0
+Pipelines b n i (Ok r) = CommandTo b n i r.0 r.1
+Pipelines b n i (Err TooMany) = n ≡ MAX_COMMANDS
+Pipelines b n i (Err e) = Refused b (PipelineFrom b n i) e
 
 -- what is left of a sequence where no newline stands: items that begin here, or none
 abbrev pub ReadsRest : ℕ → List ℕ → (ℕ → Document) → State → State → List Item → Type 0

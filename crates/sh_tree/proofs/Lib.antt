@@ -5,3 +5,4 @@ pub mod LanguageLemmas
 pub mod CommandLemmas
 pub mod Inversions
 pub mod UnreadLemmas
+pub mod Counts

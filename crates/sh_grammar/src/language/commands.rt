@@ -14,6 +14,7 @@ use sh_tree::tree::{Command, Kind};
 use std::alloc::Global;
 
 /// The command at `at`, before which `count` others began, and where the token behind it begins.
+#[tactic(auto, using(crate::proofs::CommandLemmas::command_unexpected, crate::proofs::CommandLemmas::command_read))]
 pub fn command_at(
     alloc: Global,
     script: &[u8],

@@ -27,6 +27,7 @@ fn stage_behind(script: &[u8], stage: Stage, at: u32) -> Stage
 
 /// The elements of the simple command at `start`, and where the token behind them begins. There are none where no simple command
 /// begins.
+#[tactic(auto, using(crate::proofs::ElementLemmas::found_none, crate::proofs::ElementLemmas::not_moved, crate::proofs::ElementLemmas::moved_on, crate::proofs::ElementLemmas::elements_end, crate::proofs::ElementLemmas::elements_assignment, crate::proofs::BeginningLemmas::name_within, crate::proofs::BreakLemmas::blanks_settle))]
 pub fn elements_at(
     alloc: Global,
     script: &[u8],

@@ -1,7 +1,7 @@
 //! Scripts (XCU 2.10).
-ghost use Rattle.std.specs.Prelude.{◌≡◌, ◌<◌, ◌≤◌, ℕ, false, length, IfOk};
+ghost use Rattle.std.specs.Prelude.{◌≡◌, ◌≢◌, ◌<◌, ◌≤◌, ℕ, false, length, IfOk};
 ghost use Rattle.sh_grammar.specs.Parsing.{Parses};
-ghost use Rattle.sh_grammar.specs.Items.{Goes, IsAlone, item_of};
+ghost use Rattle.sh_grammar.specs.Items.{Goes, IsAlone, Pipelines, item_of};
 ghost use Rattle.sh_grammar.specs.Language.{plain};
 ghost use Rattle.sh_tree.specs.Answers.{IsText};
 ghost use Rattle.sh_tree.specs.declared.token.command.Stage.TheVariants.{First};
@@ -15,9 +15,9 @@ use super::faults::unexpected;
 use memchr::memchr;
 use sh_scan::{blanks_at, lead_at, link_of, separator};
 use sh_tree::Items;
-use sh_tree::limits::MAX_SCRIPT;
+use sh_tree::limits::{MAX_COMMANDS, MAX_SCRIPT};
 use sh_tree::refusal::{Form, Refusal};
-use sh_tree::token::{Lead, Operator, Stage};
+use sh_tree::token::{Lead, Operator, Reserved, Stage};
 use sh_tree::tree::{AndOr, Command, Item, Pipe, Script};
 use std::alloc::{AllocError, Global};
 
@@ -46,6 +46,27 @@ fn is_joining(lead: Lead) -> bool
     ensures no { result ≡ false → IsAlone lead }
 {
     matches!(lead, Lead::Operator(Operator::Bar)) || link_of(lead).is_some()
+}
+
+/// Whether the token negates a pipeline.
+fn is_bang(lead: Lead) -> bool
+    ensures no { result ≡ false → lead ≢ Lead.Reserved Reserved.Bang }
+{
+    matches!(lead, Lead::Reserved(Reserved::Bang))
+}
+
+/// The command at `at`, before which `count` others began, where it is a pipeline alone.
+fn pipeline_at(alloc: Global, script: &[u8], at: u32, count: u32) -> Result<(Command, u32), Refusal>
+    requires small { length script.now ≤ MAX_SCRIPT }
+    requires inside { at < length script.now }
+    requires settled { commands.blanks false script.now at ≡ at }
+    requires few { count ≤ MAX_COMMANDS }
+    ensures { Pipelines script.now count at result }
+{
+    if is_bang(lead_at(script, Stage::First, at)) {
+        return Err(Refusal::LeftOut(Form::Later, at));
+    }
+    command_at(alloc, script, at, count)
 }
 
 /// Where the newlines behind the separator at `at` begin: a newline is one of them.
@@ -95,10 +116,10 @@ fn read(alloc: Global, script: &[u8]) -> Result<Script, Refusal>
     let first = blanks_at(script, 0, false);
     let mut at = breaks_at(script, first);
     while (at as usize) < script.len() {
-        let (command, end) = command_at(alloc, script, at, count)?;
-        at = behind_command(script, end)?;
+        let (command, end) = pipeline_at(alloc, script, at, count)?;
         items.push(item_from(alloc, command)?)?;
         count += 1;
+        at = behind_command(script, end)?;
     }
     Ok(Script { items })
 }
