@@ -24,7 +24,7 @@ use Rattle.sh_tree.specs.declared.token.command.Lead.{Lead}
 use Rattle.sh_tree.specs.declared.token.command.Lead.TheVariants as lead
 use Rattle.sh_tree.specs.language.Bytes.{is_blank, is_newline, is_backslash, is_operator_byte, is_digit, ends_token, run, is_first, name_length, longest}
 use Rattle.sh_tree.specs.language.Words as words
-use Rattle.sh_tree.specs.language.Commands.{gap_length, blank_length, blanks, operator_of, is_split, is_definition, operator_lead, whole_operator, opening, bang, reserved_lead, first_lead, name_lead, word_lead, number_lead, other_lead, lead_of, lead_at, is_assignment, name_end, bare_word, named, reserved_words, left_out_names}
+use Rattle.sh_tree.specs.language.Commands.{gap_length, blank_length, blanks, operator_of, operator_lead, whole_operator, opening, reserved_lead, first_lead, name_lead, word_lead, number_lead, other_lead, lead_of, lead_at, is_assignment, name_end, bare_word, named, reserved_words, left_out_names}
 use Rattle.sh_tree.specs.language.Contexts.{in_word, in_value, in_operand, in_stage}
 use Rattle.sh_tree.specs.language.Reading.{sign_at}
 use Rattle.sh_grammar.specs.Language.{plain_spot}
@@ -53,25 +53,19 @@ is_stop _ = false
 abbrev ends : Sign × ℕ → Bool
 ends found = is_stop found.0
 
+-- what a `$` or a quote begins does not
 misfit_goes : (k : ℕ) (rest : List ℕ) → ends (words.misfit k rest) ≡ false
 unfolding words.misfit
 misfit_goes k rest = grind (arith, nat_tests)
 
-removal_goes : (p : Subject) (k c : ℕ) (rest : List ℕ) → ends (words.removed p k (c ∷ rest)) ≡ false
-unfolding words.removed
-removal_goes p k c rest = grind (arith, nat_tests, misfit_goes k (c ∷ rest))
-
 removed_goes : (p : Subject) (k : ℕ) (rest : List ℕ) → ends (words.removed p k rest) ≡ false
 unfolding words.removed
 removed_goes p k [] = misfit_goes k []
-removed_goes p k (c ∷ rest) = removal_goes p k c rest
-
-unused_goes : (colon : Bool) (p : Subject) (k : ℕ) (rest : List ℕ) → ends (words.used_by colon p k rest None) ≡ false
-unused_goes colon p k rest = grind (arith, nat_tests, misfit_goes k rest, removed_goes p k rest)
+removed_goes p k (c ∷ rest) = grind (arith, nat_tests, misfit_goes k (c ∷ rest))
 
 used_by_goes : (colon : Bool) (p : Subject) (k : ℕ) (rest : List ℕ) (a : Option Action) → ends (words.used_by colon p k rest a) ≡ false
 used_by_goes colon p k rest (Some a) = refl
-used_by_goes colon p k rest None = unused_goes colon p k rest
+used_by_goes colon p k rest None = grind (arith, nat_tests, misfit_goes k rest, removed_goes p k rest)
 
 used_goes : (colon : Bool) (p : Subject) (k : ℕ) (rest : List ℕ) → ends (words.used colon p k rest) ≡ false
 unfolding words.used
@@ -82,67 +76,41 @@ operated_goes : (p : Subject) (k : ℕ) (rest : List ℕ) → ends (words.operat
 unfolding words.operated
 operated_goes p k rest = grind (arith, nat_tests, used_goes true p (k + 1) (drop 1 rest), used_goes false p k rest)
 
-parameter_goes : (rest : List ℕ) (p : Subject × ℕ) → ends (words.counted_by rest (Some p)) ≡ false
-parameter_goes rest p = grind (arith, nat_tests, misfit_goes (p.1 + 3) (drop p.1 rest))
-
 counted_goes : (rest : List ℕ) (p : Option (Subject × ℕ)) → ends (words.counted_by rest p) ≡ false
-counted_goes rest (Some p) = parameter_goes rest p
+counted_goes rest (Some p) = grind (arith, nat_tests, misfit_goes (p.1 + 3) (drop p.1 rest))
 counted_goes rest None = misfit_goes 3 rest
 
-special_goes : (i : ℕ) (rest : List ℕ) (p : SpecialParameter) → ends (words.specially i rest (Some p)) ≡ false
-special_goes i rest p = grind (arith, nat_tests, misfit_goes 3 (drop 1 rest))
-
 specially_goes : (i : ℕ) (rest : List ℕ) (p : Option SpecialParameter) → ends (words.specially i rest p) ≡ false
-specially_goes i rest (Some p) = special_goes i rest p
+specially_goes i rest (Some p) = grind (arith, nat_tests, misfit_goes 3 (drop 1 rest))
 specially_goes i rest None = misfit_goes 2 rest
 
-some_unnamed_goes : (i c : ℕ) (rest : List ℕ) → ends (words.unnamed i (c ∷ rest)) ≡ false
-unfolding words.unnamed words.counted
-some_unnamed_goes i c rest = grind (arith, nat_tests, counted_goes rest (words.parameter (i + 3) rest), specially_goes (i + 2) (c ∷ rest) (words.special_of c))
-
 unnamed_goes : (i : ℕ) (rest : List ℕ) → ends (words.unnamed i rest) ≡ false
-unfolding words.unnamed
+unfolding words.unnamed words.counted
 unnamed_goes i [] = misfit_goes 2 []
-unnamed_goes i (c ∷ rest) = some_unnamed_goes i c rest
+unnamed_goes i (c ∷ rest) = grind (arith, nat_tests, counted_goes rest (words.parameter (i + 3) rest), specially_goes (i + 2) (c ∷ rest) (words.special_of c))
 
 braced_goes : (i : ℕ) (cs : List ℕ) (p : Option (Subject × ℕ)) → ends (words.braced_by i cs p) ≡ false
 braced_goes i cs (Some p) = operated_goes p.0 (p.1 + 2) (drop p.1 cs)
 braced_goes i cs None = unnamed_goes i cs
 
-parenthesis_goes : (rest : List ℕ) → ends (words.parenthesis rest) ≡ false
-unfolding words.parenthesis
-parenthesis_goes rest = grind (arith, nat_tests)
-
-named_goes : (i n : ℕ) (rest : List ℕ) → ends (words.named i n rest) ≡ false
-unfolding words.named
-named_goes i n rest = grind (arith, nat_tests)
-
-some_opened_goes : (i c : ℕ) (rest : List ℕ) → ends (words.opened i (c ∷ rest)) ≡ false
-unfolding words.opened words.braced words.single_parameter
-some_opened_goes i c rest = grind (arith, nat_tests, named_goes i (name_length (c ∷ rest)) (drop (name_length (c ∷ rest)) (c ∷ rest)), braced_goes i rest (words.parameter (i + 2) rest), parenthesis_goes rest)
-
 opened_goes : (i : ℕ) (cs : List ℕ) → ends (words.opened i cs) ≡ false
-unfolding words.opened
+unfolding words.opened words.named words.braced words.parenthesis words.single_parameter
 opened_goes i [] = refl
-opened_goes i (c ∷ rest) = some_opened_goes i c rest
+opened_goes i (c ∷ rest) = grind (arith, nat_tests, braced_goes i rest (words.parameter (i + 2) rest))
 
 dollar_goes : (x : Context) (i : ℕ) (cs : List ℕ) → ends (words.dollar x i cs) ≡ false
 unfolding words.dollar
 dollar_goes x i cs = grind (arith, nat_tests, opened_goes i cs)
 
-pub single_goes : (cs : List ℕ) → ends (words.single cs) ≡ false
+single_goes : (cs : List ℕ) → ends (words.single cs) ≡ false
 unfolding words.single
 single_goes cs = grind (arith, nat_tests)
 
 -- a backslash ends a word only before a newline
-joined_ends : (x : Context) (c : ℕ) (rest : List ℕ) → ends (words.backslash x (c ∷ rest)) ≡ true → is_newline c ≡ true
-unfolding words.backslash
-joined_ends x c rest h = grind (arith, nat_tests)
-
 backslash_ends : (x : Context) (cs : List ℕ) → ends (words.backslash x cs) ≡ true → is_first is_newline cs ≡ true
 unfolding words.backslash is_first
 backslash_ends x [] h = absurd (true≢false (sym h))
-backslash_ends x (c ∷ rest) h = joined_ends x c rest h
+backslash_ends x (c ∷ rest) h = grind (arith, nat_tests)
 
 -- what does not stand for itself ends a word only where it is such a backslash
 meant_ends : (x : Context) (i c : ℕ) (cs : List ℕ) → ends (words.meant_by x i c cs) ≡ true → (is_backslash c && is_first is_newline cs) ≡ true
@@ -163,16 +131,12 @@ zero_not true n m some h = absurd (omega arith)
 zero_not false n m some h = (refl, h)
 
 -- where no gap stands, neither a blank nor a line continuation begins it
-no_gap_more : (c d : ℕ) (cs : List ℕ) → gap_length (c ∷ d ∷ cs) ≡ 0 → (is_blank c ≡ false) × ((is_backslash c && is_newline d) ≡ false)
-unfolding gap_length
-no_gap_more c d cs h =
-    let blank = zero_not (is_blank c) (1 + gap_length (d ∷ cs)) (cond (is_backslash c && is_newline d) (2 + gap_length cs) 0) (omega arith) h in
-    (blank.0, (zero_not (is_backslash c && is_newline d) (2 + gap_length cs) 0 (omega arith) blank.1).0)
-
 no_gap : (c : ℕ) (cs : List ℕ) → gap_length (c ∷ cs) ≡ 0 → (is_blank c ≡ false) × ((is_backslash c && is_first is_newline cs) ≡ false)
 unfolding gap_length is_first
 no_gap c [] h = ((zero_not (is_blank c) 1 0 (omega arith) h).0, and_right (is_backslash c) false refl)
-no_gap c (d ∷ cs) h = no_gap_more c d cs h
+no_gap c (d ∷ cs) h =
+    let blank = zero_not (is_blank c) (1 + gap_length (d ∷ cs)) (cond (is_backslash c && is_newline d) (2 + gap_length cs) 0) (omega arith) h in
+    (blank.0, (zero_not (is_backslash c && is_newline d) (2 + gap_length cs) 0 (omega arith) blank.1).0)
 
 settled_gap : (b : List ℕ) (i : ℕ) → blanks false b i ≡ i → gap_length (drop i b) ≡ 0
 unfolding blanks blank_length
@@ -218,13 +182,9 @@ is_element lead.Word = true
 is_element lead.Assignment = true
 is_element _ = false
 
-opening_none : (rest : List ℕ) → is_element (opening rest) ≡ false
-unfolding opening
-opening_none rest = grind (arith, nat_tests)
-
 whole_none : (s : Stage) (rest : List ℕ) (o : Operator) → is_element (whole_operator s rest o) ≡ false
-unfolding whole_operator
-whole_none First rest op.LeftParenthesis = opening_none rest
+unfolding whole_operator opening
+whole_none First rest op.LeftParenthesis = grind (arith, nat_tests)
 whole_none s rest o = refl
 
 operator_none : (s : Stage) (cs : List ℕ) (o : Operator) (n : ℕ) → is_element (operator_lead s cs o n) ≡ false
@@ -280,12 +240,9 @@ abbrev is_assigned : Lead → Bool
 is_assigned lead.Assignment = true
 is_assigned _ = false
 
-bang_none : (rest : List ℕ) → is_assigned (bang rest) ≡ false
-bang_none rest = grind (arith, nat_tests)
-
 reserved_none : (cs : List ℕ) (r : Reserved) → is_assigned (reserved_lead cs r) ≡ false
 unfolding reserved_lead
-reserved_none cs word.Bang = bang_none (drop 1 cs)
+reserved_none cs word.Bang = grind (arith, nat_tests)
 reserved_none cs r = refl
 
 name_none : (f : Option Form) → is_assigned (name_lead f) ≡ false
@@ -296,7 +253,7 @@ name_none None = refl
 first_none : (b : List ℕ) (i : ℕ) (w : List ℕ) (r : Option Reserved) → is_assigned (first_lead b i w r) ≡ false
 unfolding first_lead
 first_none b i w (Some r) = reserved_none (drop i b) r
-first_none b i w None = either is_assigned false (is_definition b i w) lead.Definition (name_lead (named left_out_names w)) refl (name_none (named left_out_names w))
+first_none b i w None = grind (arith, nat_tests, name_none (named left_out_names w))
 
 word_none : (b : List ℕ) (s : Stage) (i : ℕ) (w : List ℕ) → is_assigned (word_lead b s i w) ≡ false
 unfolding word_lead
@@ -306,7 +263,7 @@ word_none b (Named d) i w = refl
 
 number_none : (rest : List ℕ) (o : Option (Operator × ℕ)) → is_assigned (number_lead rest o) ≡ false
 unfolding number_lead
-number_none rest (Some found) = either is_assigned false (is_split rest found.1) (lead.LeftOut form.Continuation) lead.Number refl refl
+number_none rest (Some found) = grind (arith, nat_tests)
 number_none rest None = refl
 
 assigned_is : (b : List ℕ) (s : Stage) (i : ℕ) → is_assigned (other_lead b s i) ≡ true → is_assignment (drop i b) ≡ true
