@@ -1,7 +1,10 @@
-use Rattle.std.proofs.Common.{sym}
+use Rattle.std.proofs.Common.{None, Ok, sym, subst}
 use Rattle.sh_words.specs.declared.frames.Focus.TheVariants as focus
+use Rattle.sh_words.specs.Clauses.{Keeps}
+use Rattle.sh_words.specs.Rest.{Left}
 use Rattle.sh_words.specs.States.{focused}
 use Rattle.sh_words.proofs.Exchange.{steps_equal, unfocused}
+use Rattle.sh_words.proofs.OperandLemmas.{conditional_keeps}
 use Rattle.sh_words.proofs.RunLemmas.{waiting_ends}
 use Rattle.sh_words.proofs.builder.WordBuilder.step.Goals as goal
 
@@ -17,7 +20,11 @@ returns-in-Expression-clause-keeps c =
 
 pub returns-in_ok-conditional_step-in-Conditional-clause-keeps :
     goal.returns-in_ok-conditional_step-in-Conditional-clause-keeps
-returns-in_ok-conditional_step-in-Conditional-clause-keeps c = ?
+returns-in_ok-conditional_step-in-Conditional-clause-keeps c =
+    steps_equal c.args.script.now c.args.self.now (focused c.args.self.now focus.Conditional) c.conditional_step.new.self (Ok None)
+      (unfocused c.args.self.now focus.Conditional (sym c.in-Conditional.ensures.value))
+      (subst (λ w. Keeps c.args.script.now (Left c.args.script.now (focused c.args.self.now focus.Conditional)) w)
+        (sym c.in_ok-conditional_step-in-Conditional.ensures) (conditional_keeps c.args.script.now c.args.self.now))
 
 pub returns-in-Level-clause-keeps : goal.returns-in-Level-clause-keeps
 returns-in-Level-clause-keeps c =
