@@ -8,9 +8,13 @@ mod limits;
 mod openings;
 mod words;
 
+ghost use Rattle.std.specs.Prelude.{◌≡◌, ◌≤◌, true, None, length, IfOk};
+ghost use Rattle.sh_words.specs.Modes.{seen};
+ghost use Rattle.sh_words.specs.Sound.{IsSound};
+
 use crate::{Mode, Next, WordBuilder};
 use sh_tree::Items;
-use sh_tree::limits::MAX_SCRIPT;
+use sh_tree::limits::{MAX_NESTING, MAX_SCRIPT};
 use sh_tree::tree::{Script, Word};
 use std::alloc::{AllocError, Global};
 use std::process::Abort;
@@ -60,7 +64,10 @@ fn tree(alloc: Global, word: &Word) -> Result<String, AllocError> {
 }
 
 /// Where the commands end that begin at `at`, and the `)` behind them with them.
-fn closed(text: &[u8], at: u32) -> u32 {
+fn closed(text: &[u8], at: u32) -> u32
+    requires small { length text.now ≤ MAX_SCRIPT }
+    ensures { result ≤ length text.now }
+{
     let commands = text.iter().skip(at as usize);
     let length = commands.take_while(|byte| **byte != b')').count();
     text.len().min(at as usize + length + 1) as u32
@@ -69,6 +76,49 @@ fn closed(text: &[u8], at: u32) -> u32 {
 fn no_commands(alloc: Global) -> Script {
     Script {
         items: Items::new(alloc),
+    }
+}
+
+fn tell_word(alloc: Global, told: &mut String, word: Word) -> Result<(), AllocError> {
+    let text = tree(alloc, &word)?;
+    told.push_str(&text)
+}
+
+/// Reads on, up to commands or to the end, and tells that. Whether there is more.
+fn read_on(
+    alloc: Global,
+    builder: &mut WordBuilder,
+    mode: Mode,
+    text: &[u8],
+    told: &mut String,
+) -> Result<bool, AllocError>
+    requires small { length text.now ≤ MAX_SCRIPT }
+    requires mode { builder.old.mode ≡ mode }
+    requires reads { builder.old.failed ≡ None }
+    requires inside { builder.old.at ≤ length (seen text.now mode) }
+    requires sound { IsSound (seen text.now mode) builder.old }
+    ensures mode { IfOk result (λ more. more ≡ true → builder.new.mode ≡ mode) }
+    ensures reads { IfOk result (λ more. more ≡ true → builder.new.failed ≡ None) }
+    ensures inside { IfOk result (λ more. more ≡ true → builder.new.at ≤ length (seen text.now mode)) }
+    ensures sound { IfOk result (λ more. more ≡ true → IsSound (seen text.now mode) builder.new) }
+{
+    match builder.run(text) {
+        Ok(Next::Done(word)) => {
+            tell_word(alloc, told, word)?;
+            Ok(false)
+        }
+        Ok(Next::Inner { at, depth }) => {
+            told.push_str(&format!(in alloc; "{at}/{depth} ")?)?;
+            let end = closed(mode.seen(text), at);
+            match builder.resume(no_commands(alloc), end) {
+                Ok(()) => Ok(true),
+                Err(_) => Ok(false),
+            }
+        }
+        Err(refusal) => {
+            told.push_str(&format!(in alloc; "{refusal:?}")?)?;
+            Ok(false)
+        }
     }
 }
 
@@ -81,24 +131,16 @@ fn told_at(
     text: &[u8],
 ) -> Result<String, AllocError> {
     let mut told = String::new(alloc);
+    if text.len() > MAX_SCRIPT || u32::from(depth) > MAX_NESTING {
+        return Ok(told);
+    }
+    if at as usize > mode.seen(text).len() {
+        return Ok(told);
+    }
     let mut builder = WordBuilder::start(alloc, mode, depth, at)?;
     for _ in 0..4 {
-        match builder.run(text) {
-            Ok(Next::Done(word)) => {
-                told.push_str(&tree(alloc, &word)?)?;
-                return Ok(told);
-            }
-            Ok(Next::Inner { at, depth }) => {
-                told.push_str(&format!(in alloc; "{at}/{depth} ")?)?;
-                let end = closed(text, at);
-                if builder.resume(no_commands(alloc), end).is_err() {
-                    return Ok(told);
-                }
-            }
-            Err(refusal) => {
-                told.push_str(&format!(in alloc; "{refusal:?}")?)?;
-                return Ok(told);
-            }
+        if !read_on(alloc, &mut builder, mode, text, &mut told)? {
+            break;
         }
     }
     Ok(told)

@@ -1,6 +1,12 @@
+ghost use Rattle.std.specs.Prelude.{◌≡◌, ◌≤◌, None, Some, length, IfSome};
+ghost use Rattle.sh_tree.specs.declared.refusal.Refusal as refusal;
+ghost use Rattle.sh_words.specs.Modes.{seen};
+ghost use Rattle.sh_words.specs.Sound.{IsSound};
+
 use super::{Row, check, no_commands};
 use crate::{Mode, Next, WordBuilder};
-use sh_tree::refusal::{Fault, Refusal};
+use sh_tree::limits::MAX_SCRIPT;
+use sh_tree::refusal::{Fault, Form, Refusal};
 use std::alloc::{AllocError, Global};
 use std::test::Fail;
 
@@ -120,20 +126,47 @@ fn state(alloc: Global, builder: &WordBuilder) -> Result<String, AllocError> {
     format!(in alloc; "{builder:?}")
 }
 
+/// What is refused of the word, where it is.
+fn refused(builder: &mut WordBuilder, text: &[u8]) -> Option<Refusal>
+    requires small { length text.now ≤ MAX_SCRIPT }
+    requires inside { builder.old.failed ≡ None → builder.old.at ≤ length (seen text.now builder.old.mode) }
+    requires sound { builder.old.failed ≡ None → IsSound (seen text.now builder.old.mode) builder.old }
+    ensures { IfSome result (λ e. builder.new.failed ≡ Some e) }
+{
+    builder.run(text).err()
+}
+
+/// A builder that refused: the first refusal, and the same one of whatever follows, with the builder as it was.
+fn refused_again(alloc: Global, builder: &mut WordBuilder) -> Result<bool, AllocError>
+    requires fails { (e : refusal.Refusal) × (builder.old.failed ≡ Some e) }
+{
+    let before = state(alloc, builder)?;
+    let first = refused(builder, b"a\"");
+    let second = refused(builder, b"a");
+    let fed = builder.resume(no_commands(alloc), 1).err();
+    let after = state(alloc, builder)?;
+    Ok(first == second && first == fed && before == after)
+}
+
 #[test]
-fn refused_again(rt: HostRuntime) -> Result<(), Fail> {
+fn the_same_refusal_again(rt: HostRuntime) -> Result<(), Fail> {
     let alloc = rt.alloc();
-    let refusal = Refusal::Syntax(Fault::OpenDouble, 4);
-    let mut builder = WordBuilder::start(alloc, Mode::Word, 0, 0)?;
-    let text = b"$(a)\"b";
-    assert!(rt; matches!(builder.run(text), Ok(Next::Inner { at: 2, depth: 1 })));
-    assert!(rt; builder.resume(no_commands(alloc), 4).is_ok());
-    assert_eq!(rt; builder.run(text).err(), Some(refusal));
-    let before = state(alloc, &builder)?;
-    assert_eq!(rt; builder.run(text).err(), Some(refusal));
-    assert_eq!(rt; builder.run(b"a").err(), Some(refusal));
-    assert_eq!(rt; builder.resume(no_commands(alloc), 4).err(), Some(refusal));
-    assert_eq!(rt; state(alloc, &builder)?.as_str(), before.as_str());
+    for (text, want) in [
+        ("a\"b", Refusal::Syntax(Fault::OpenDouble, 1)),
+        ("$((08))", Refusal::Syntax(Fault::BadArith, 4)),
+        ("${x/y}", Refusal::LeftOut(Form::Braced, 0)),
+        ("\"${x-`", Refusal::LeftOut(Form::Backquoted, 5)),
+    ] {
+        let mut builder = WordBuilder::start(alloc, Mode::Word, 0, 0)?;
+        if text.len() <= MAX_SCRIPT
+            && let Some(first) = refused(&mut builder, text.as_bytes())
+        {
+            assert_eq!(rt; first, want, "{text:?}");
+            assert!(rt; refused_again(alloc, &mut builder)?, "{text:?}");
+            continue;
+        }
+        panic!(rt; "{text:?}");
+    }
     Ok(())
 }
 
@@ -151,10 +184,10 @@ fn commands_that_were_not_asked_for(rt: HostRuntime) -> Result<(), Fail> {
 fn commands_that_never_came(rt: HostRuntime) -> Result<(), Fail> {
     let mut builder = WordBuilder::start(rt.alloc(), Mode::Word, 0, 0)?;
     let text = b"a$(b)";
-    assert!(rt; matches!(builder.run(text), Ok(Next::Inner { at: 3, depth: 1 })));
-    assert_eq!(rt;
-        builder.run(text).err(),
-        Some(Refusal::Syntax(Fault::OpenSubstitution, 1))
-    );
+    let Ok(Next::Inner { at: 3, depth: 1 }) = builder.run(text) else {
+        panic!(rt; "no commands");
+    };
+    let told = refused(&mut builder, text);
+    assert_eq!(rt; told, Some(Refusal::Syntax(Fault::OpenSubstitution, 1)));
     Ok(())
 }
