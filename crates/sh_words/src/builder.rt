@@ -89,8 +89,8 @@ impl WordBuilder {
     /// within the limit; `Memory` where a growth was refused. After a refusal it answers the same one again.
     pub fn run(&mut self, script: &[u8]) -> Result<Next, Refusal>
         requires small { length script.now ≤ MAX_SCRIPT }
-        requires inside { self.old.at ≤ length (seen script.now self.old.mode) }
-        requires sound { IsSound (seen script.now self.old.mode) self.old }
+        requires inside { self.old.failed ≡ None → self.old.at ≤ length (seen script.now self.old.mode) }
+        requires sound { self.old.failed ≡ None → IsSound (seen script.now self.old.mode) self.old }
         ensures runs { self.old.failed ≡ None → Runs (seen script.now self.old.mode) (Left (seen script.now self.old.mode) self.old) self.new result }
         ensures moves { RunMoves (seen script.now self.old.mode) self.old self.new result }
         ensures takes { TakesWord (seen script.now self.old.mode) self.old self.new result }
