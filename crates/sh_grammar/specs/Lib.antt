@@ -1,6 +1,0 @@
-pub mod Readers
-pub mod Language
-pub mod Parsing
-pub mod Faults
-pub mod Breaks
-pub mod Items
