@@ -10,10 +10,10 @@ use Rattle.sh_tree.specs.declared.tree.Item.{out-Item, roll-Item}
 use Rattle.sh_tree.specs.declared.tree.AndOr.{out-AndOr, roll-AndOr}
 use Rattle.sh_tree.specs.declared.tree.Pipe.{out-Pipe, roll-Pipe}
 use Rattle.sh_tree.specs.declared.tree.Command.{out-Command, roll-Command}
-use Rattle.sh_tree.specs.Tree.{span, value_of}
+use Rattle.sh_tree.specs.language.Trees.{span}
 use Rattle.sh_flow.proofs.FactLemmas.{or_cases}
 use Rattle.sh_tree.specs.Words.{expansions_in-Double, static_text, is_pattern, is_bracket, has_wildcard, has_bracket, parts_text, part_text, row_text, lone_command, lone_list, lone_pipe, lone_part, elements_of, form_of, word_in, assignment_in, expansions, expansions_in, row_expansions}
-use Rattle.sh_tree.specs.Examples.{quoted_text, assigned_text, passed_text}
+use Rattle.sh_tree.specs.language.Examples.{value, double_text, assigned_text, passed_text}
 use Rattle.sh_flow.specs.Policy.{Text}
 use Rattle.sh_flow.specs.Names.{start_names, is_one_of}
 use Rattle.sh_flow.specs.Profile.{is_admitted, is_straight, is_straight_form, is_straight_part, is_flat, is_variable, is_value, is_simple, has_none, is_plain_name, is_named_utility, is_utility}
@@ -77,16 +77,16 @@ unfolding bare_start start_with goes fails run step step_of act command_work is_
 examples_run = record {
   bare_allowed = bare_allowed;
   with_allowed = with_allowed;
-  quoted_unset = ap (λ s. Some false ∷ Some false ∷ Some s ∷ Some false ∷ Some false ∷ []) (double_names quoted_text bare_start (span 5 9) (value_of 6 8 ∷ []));
-  quoted_set = λ v. ap (λ s. Some false ∷ Some false ∷ Some s ∷ Some false ∷ Some false ∷ []) (double_names quoted_text (start_with v) (span 5 9) (value_of 6 8 ∷ []));
+  quoted_unset = ap (λ s. Some false ∷ Some false ∷ Some s ∷ Some false ∷ Some false ∷ []) (double_names double_text bare_start (span 5 9) (value 6 8 ∷ []));
+  quoted_set = λ v. ap (λ s. Some false ∷ Some false ∷ Some s ∷ Some false ∷ Some false ∷ []) (double_names double_text (start_with v) (span 5 9) (value 6 8 ∷ []));
   quoted_whole = refl;
   bare_split = refl;
   bare_empty = refl;
   bare_pattern = refl;
   bare_whole = refl;
-  assigned_set = ap (λ s. Some false ∷ Some false ∷ Some false ∷ Some false ∷ Some false ∷ Some s ∷ Some false ∷ Some false ∷ []) (double_names assigned_text (start_with (codes "1")) (span 9 13) (value_of 10 12 ∷ []));
-  assigned_value = ap Some (double_expands assigned_text (start_with (codes "1")) (span 9 13) (value_of 10 12 ∷ []));
+  assigned_set = ap (λ s. Some false ∷ Some false ∷ Some false ∷ Some false ∷ Some false ∷ Some s ∷ Some false ∷ Some false ∷ []) (double_names assigned_text (start_with (codes "1")) (span 9 13) (value 10 12 ∷ []));
+  assigned_value = ap Some (double_expands assigned_text (start_with (codes "1")) (span 9 13) (value 10 12 ∷ []));
   assigned_fails = refl;
-  passed_unset = ap (λ s. Some false ∷ Some false ∷ Some s ∷ Some false ∷ Some false ∷ []) (double_names passed_text bare_start (span 9 13) (value_of 10 12 ∷ []));
+  passed_unset = ap (λ s. Some false ∷ Some false ∷ Some s ∷ Some false ∷ Some false ∷ []) (double_names passed_text bare_start (span 9 13) (value 10 12 ∷ []));
   passed_kept = refl;
 }

@@ -2,7 +2,7 @@
 use Rattle.std.proofs.Common.{◌≡◌, ℕ, ◌+◌, Bool, cond, not, List, [], ◌∷◌, map, Some, Bor, refl, ap, sym, ◌∙◌}
 use Rattle.std.specs.List.{position, position_from}
 use Rattle.std.proofs.lemmas.Iterator.Adapters.{position_from-zero}
-use Rattle.sh_tree.specs.Tokens.{is_name}
+use Rattle.sh_tree.specs.language.Bytes.{is_name}
 use Rattle.sh_flow.specs.Policy.{first_bad}
 
 position_from-map : {A B : Type 0} (p : B → Bool) (f : A → B) (i : ℕ) (xs : List A) → position_from p i (map f xs) ≡ position_from (λ x. p (f x)) i xs

@@ -2,7 +2,7 @@
 -- POSIX.1-2024, XCU 2.6.2 (parameter expansion), 2.6.5 (field splitting), 2.9.1 (simple commands).
 use Rattle.std.specs.Prelude.{◌≡◌, ℕ, Bool, true, false, List, [], ◌∷◌, replicate, map, codes, Option, Some, None, is_some, option_map}
 use Rattle.sh_tree.specs.declared.tree.Script.{Script}
-use Rattle.sh_tree.specs.Examples.{quoted_text, quoted_script, bare_text, bare_script, assigned_text, assigned_parts, assigned_script, passed_text, passed_script}
+use Rattle.sh_tree.specs.language.Examples.{double_text, double_script, bare_text, bare_script, assigned_text, assigned_parts, assigned_script, passed_text, passed_script}
 use Rattle.sh_flow.specs.Policy.{Text, Declared}
 use Rattle.sh_flow.specs.Environment.{Environment, assigned}
 use Rattle.sh_flow.specs.Pieces.{Quoted, expand}
@@ -60,9 +60,9 @@ pub record ExamplesRun : Type 0 where
   pub bare_allowed : IsStart nothing_declared bare_start []
   pub with_allowed : (v : Text) → IsStart x_declared (start_with v) []
   -- `echo "$x"`: an Unset event where x is not set, and none where it is; never a Split event
-  pub quoted_unset : unset_events quoted_text quoted_script bare_start steps ≡ at_second_word
-  pub quoted_set : (v : Text) → unset_events quoted_text quoted_script (start_with v) steps ≡ at_none
-  pub quoted_whole : split_events quoted_text quoted_script (start_with (codes "a b")) steps ≡ at_none
+  pub quoted_unset : unset_events double_text double_script bare_start steps ≡ at_second_word
+  pub quoted_set : (v : Text) → unset_events double_text double_script (start_with v) steps ≡ at_none
+  pub quoted_whole : split_events double_text double_script (start_with (codes "a b")) steps ≡ at_none
   -- `echo $x`: a Split event where the value has a separator, is empty, or may be a pattern
   pub bare_split : split_events bare_text bare_script (start_with (codes "a b")) steps ≡ at_second_word
   pub bare_empty : split_events bare_text bare_script (start_with []) steps ≡ at_second_word

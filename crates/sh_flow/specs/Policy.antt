@@ -1,7 +1,7 @@
 -- What is declared to be set at the start of a run.
 -- POSIX.1-2024, XCU 2.5.3 (shell variables); a name is as in XBD 3.216.
 use Rattle.std.specs.Prelude.{◌≡◌, ℕ, not, List, position, Option, Some, None, Result, Ok, Err}
-use Rattle.sh_tree.specs.Tokens.{is_name}
+use Rattle.sh_tree.specs.language.Bytes.{is_name}
 use Rattle.sh_flow.specs.declared.policy.PolicyFault.{PolicyFault}
 use Rattle.sh_flow.specs.declared.policy.PolicyFault.TheVariants.{BadName, Memory}
 

@@ -1,6 +1,6 @@
 //! What is set when a script starts.
 ghost use Rattle.std.specs.Prelude.{◌≡◌, not, map, position, IfOk};
-ghost use Rattle.sh_tree.specs.Tokens as tokens;
+ghost use Rattle.sh_tree.specs.language.Bytes as bytes;
 
 use sh_tree::name::is_name;
 use std::alloc::{AllocError, AllocFailed, Global};
@@ -92,7 +92,7 @@ impl Policy {
 }
 
 fn first_bad(texts: &[&[u8]]) -> Option<usize>
-    ensures { result ≡ position (λ s. not (tokens.is_name s.now)) texts.now }
+    ensures { result ≡ position (λ s. not (bytes.is_name s.now)) texts.now }
 {
     texts.iter().position(|text| !is_name(text))
 }

@@ -27,7 +27,7 @@ use Rattle.sh_tree.specs.language.Words as words
 use Rattle.sh_tree.specs.language.Commands.{gap_length, blank_length, blanks, operator_of, operator_lead, whole_operator, opening, reserved_lead, first_lead, name_lead, word_lead, number_lead, other_lead, lead_of, lead_at, is_assignment, name_end, bare_word, named, reserved_words, left_out_names}
 use Rattle.sh_tree.specs.language.Contexts.{in_word, in_value, in_operand, in_stage}
 use Rattle.sh_tree.specs.language.Reading.{sign_at}
-use Rattle.sh_grammar.specs.Language.{plain_spot}
+use Rattle.sh_grammar.specs.Readers.{plain_spot}
 
 -- Tests
 

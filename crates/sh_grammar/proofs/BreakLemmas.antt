@@ -12,7 +12,7 @@ use Rattle.sh_tree.specs.language.Reading as r
 use Rattle.sh_tree.specs.language.States.{State, next}
 use Rattle.sh_tree.proofs.Inversions.{no_breaks, some_breaks}
 use Rattle.sh_grammar.specs.Breaks.{BreaksTo}
-use Rattle.sh_grammar.specs.Language.{plain}
+use Rattle.sh_grammar.specs.Readers.{plain}
 
 -- Behind blanks stand none
 

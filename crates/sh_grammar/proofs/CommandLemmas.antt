@@ -19,7 +19,7 @@ use Rattle.sh_tree.specs.language.States.{State, Document, counted, closing}
 use Rattle.sh_tree.specs.language.Trees as tree
 use Rattle.sh_tree.proofs.Inversions.{apart}
 use Rattle.sh_grammar.specs.Faults.{IsUnexpected}
-use Rattle.sh_grammar.specs.Language.{plain, ElementsFrom, ElementsTo, Elements, CommandFrom, CommandTo, Commands}
+use Rattle.sh_grammar.specs.Readers.{plain, ElementsFrom, ElementsTo, Elements, CommandFrom, CommandTo, Commands}
 use Rattle.sh_grammar.proofs.ElementLemmas.{refused_by}
 
 -- What begins a command

@@ -18,7 +18,7 @@ use Rattle.sh_tree.specs.language.Reading.{ReadsWord, ReadsElements, lead_of, na
 use Rattle.sh_tree.specs.language.States.{Spot, State, Document, to, facing, past, waits}
 use Rattle.sh_tree.specs.language.Trees.{span}
 use Rattle.sh_tree.proofs.Inversions.{apart}
-use Rattle.sh_grammar.specs.Language.{plain, plain_spot, One, Refused, WordFrom, WordTo, Words, ElementsFrom, ElementsTo, Elements}
+use Rattle.sh_grammar.specs.Readers.{plain, plain_spot, One, Refused, WordFrom, WordTo, Words, ElementsFrom, ElementsTo, Elements}
 use Rattle.sh_grammar.proofs.BeginningLemmas.{word_goes}
 
 -- Lists of which some elements were found: what is left to read decides what the whole is

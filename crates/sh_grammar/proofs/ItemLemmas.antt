@@ -27,8 +27,8 @@ use Rattle.sh_tree.proofs.Inversions.{apart, script_is}
 use Rattle.sh_tree.proofs.Counts.{items_count_more}
 use Rattle.sh_grammar.specs.Breaks.{BreaksTo}
 use Rattle.sh_grammar.specs.Items.{IsAlone, GoesOn, EndsWrong, Goes, PipelineFrom, Pipelines, ReadsRest, ReadsTail, item_of}
-use Rattle.sh_grammar.specs.Language.{plain_spot, plain, Commands, CommandFrom, CommandTo}
-use Rattle.sh_grammar.specs.Parsing.{Parses}
+use Rattle.sh_grammar.specs.Readers.{plain_spot, plain, Commands, CommandFrom, CommandTo}
+use Rattle.sh_tree.specs.Answers.{Parses}
 use Rattle.sh_grammar.proofs.BreakLemmas.{blanks_settle}
 use Rattle.sh_grammar.proofs.CommandLemmas.{simple_pipeline}
 use Rattle.sh_grammar.proofs.ElementLemmas.{refused_by}

@@ -28,7 +28,7 @@ use Rattle.sh_words.specs.Modes.{context_of, first_prior, seen}
 use Rattle.sh_words.specs.Rest.{Around, Rest, Left, here, spot}
 use Rattle.sh_words.specs.Sound.{Begins, RunMoves, TakesWord}
 use Rattle.sh_words.specs.Starts.{IsStart}
-use Rattle.sh_grammar.specs.Language.{One, Nothing, NothingWithin, Refused, WordFrom, WordTo, plain_spot}
+use Rattle.sh_grammar.specs.Readers.{One, Nothing, NothingWithin, Refused, WordFrom, WordTo, plain_spot}
 use Rattle.sh_grammar.specs.Modes.{Builds, IsWhole, PartsTo}
 
 -- Where a word is read, the depth is the one around it

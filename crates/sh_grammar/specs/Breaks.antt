@@ -5,7 +5,7 @@ use Rattle.sh_tree.specs.declared.token.command.Stage.TheVariants.{First}
 use Rattle.sh_tree.specs.language.Commands.{blanks, lead_at, is_newline_lead}
 use Rattle.sh_tree.specs.language.Reading.{ReadsBreaks}
 use Rattle.sh_tree.specs.language.States.{State}
-use Rattle.sh_grammar.specs.Language.{plain}
+use Rattle.sh_grammar.specs.Readers.{plain}
 
 -- any number of newlines from i on lead to j, where none begins
 pub record BreaksTo (b : List ℕ) (i j : ℕ) : Type 0 where

@@ -15,7 +15,7 @@ use Rattle.sh_tree.specs.language.Commands.{blanks, lead_at, begins_pipeline, se
 use Rattle.sh_tree.specs.language.Reading.{ReadsPipeline, ReadsItems, ReadsBreaks, lead_here, parted}
 use Rattle.sh_tree.specs.language.States.{State, Document}
 use Rattle.sh_tree.specs.language.Trees.{item, and_or, pipe}
-use Rattle.sh_grammar.specs.Language.{plain, Refused, CommandTo}
+use Rattle.sh_grammar.specs.Readers.{plain, Refused, CommandTo}
 
 -- the item that is the command alone
 abbrev pub item_of : Command → Item

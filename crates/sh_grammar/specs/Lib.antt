@@ -1,7 +1,5 @@
 pub mod Readers
-pub mod Language
-pub mod Parsing
+pub mod Modes
 pub mod Faults
 pub mod Breaks
 pub mod Items
-pub mod Modes

@@ -12,7 +12,7 @@ use Rattle.sh_tree.specs.language.Trees.{word}
 use Rattle.sh_words.specs.declared.builder.Next.{Next}
 use Rattle.sh_words.specs.declared.builder.Next.TheVariants.{Done, Inner}
 use Rattle.sh_words.specs.Modes.{context_of}
-use Rattle.sh_grammar.specs.Language.{Refused, WordFrom, plain_spot}
+use Rattle.sh_grammar.specs.Readers.{Refused, WordFrom, plain_spot}
 use Rattle.sh_words.specs.declared.mode.Mode.{Mode}
 use Rattle.sh_words.specs.declared.mode.Mode.TheVariants as mode
 

@@ -1,9 +1,10 @@
 //! Reads the bytes of a script as its tree, or refuses them.
 #![tactic(auto)]
 
+mod breaks;
 mod commands;
-pub mod language;
-mod scan;
+mod elements;
+mod faults;
 mod script;
 #[cfg(test)]
 mod tests;

@@ -1,93 +1,88 @@
-//! The parts of a word (XCU 2.2, 2.6.2).
+//! Words (XCU 2.2, 2.6).
+ghost use Rattle.std.specs.Prelude.{◌≡◌, ◌≤◌, ◌<◌, ℕ, not, ◌&&◌, true, List, length};
+ghost use Rattle.sh_grammar.specs.Readers.{Words};
+ghost use Rattle.sh_tree.specs.language.Contexts as contexts;
+ghost use Rattle.sh_words.specs.Modes as modes;
+ghost use Rattle.sh_grammar.specs.Modes.{Builds, IsWhole};
+ghost use Rattle.sh_tree.specs.language.Commands as commands;
 
-ghost use Rattle.std.specs.Prelude.{◌≡◌, ◌<◌, ◌≤◌, ◌+◌, length};
-ghost use Rattle.sh_grammar.specs.Readers.{Parts, Words};
-ghost use Rattle.sh_tree.specs.Tree as tree;
-
-use crate::scan::token_at;
-use sh_tree::Items;
+use sh_scan::is_location_at;
 use sh_tree::limits::MAX_SCRIPT;
-use sh_tree::refusal::{Fault, Form, Refusal};
-use sh_tree::sign::{Context, Sign};
-use sh_tree::tree::{Operator, Param, Part, Span, Subject, Word};
+use sh_tree::refusal::{Form, Refusal};
+use sh_tree::token::Stage;
+use sh_tree::tree::Word;
+use sh_words::{Mode, Next, WordBuilder};
 use std::alloc::Global;
 
-fn plain(at: u32, end: u32) -> Part
-    ensures { result ≡ Part.Plain (tree.span at end) }
+/// The mode of a word at a stage of a simple command.
+#[tactic(auto, unfolding(sh_tree::specs::language::Contexts::in_stage))]
+fn mode_of(stage: Stage) -> Mode
+    ensures whole { IsWhole result }
+    ensures value { (b : List ℕ) (i : ℕ) → modes.context_of b result i ≡ contexts.in_stage b stage i }
 {
-    Part::Plain(Span { start: at, end })
-}
-
-/// `$name`, from the `$` at `at` up to `end`.
-fn value(at: u32, end: u32) -> Part
-    requires { at < end }
-    ensures { result ≡ tree.value_of at end }
-{
-    Part::Param(Param {
-        span: Span { start: at, end },
-        subject: Subject::Name(Span { start: at + 1, end }),
-        operator: Operator::Value,
-    })
-}
-
-/// The parts inside the double quotes that open at `quote`, and the offset behind the quotes.
-#[tactic(auto, using(crate::proofs::Parts::parts_end, crate::proofs::Parts::parts_plain, crate::proofs::Parts::parts_value, crate::proofs::Parts::parts_open, crate::proofs::Parts::parts_later, crate::proofs::Behind::nothing_yet))]
-fn quoted_parts(alloc: Global, script: &[u8], quote: u32) -> Result<(Items<Part>, u32), Refusal>
-    requires small { length script.now ≤ MAX_SCRIPT }
-    requires inside { quote < length script.now }
-    ensures { Parts script.now Context.Quoted (quote + 1) result }
-{
-    let mut parts = Items::new(alloc);
-    let mut at = quote + 1;
-    loop {
-        let token = token_at(script, Context::Quoted, at);
-        let part = match token.sign {
-            Sign::Stop => return Ok((parts, token.end)),
-            Sign::Open => return Err(Refusal::Syntax(Fault::OpenDouble, quote)),
-            Sign::Quote | Sign::Later => return Err(Refusal::LeftOut(Form::Later, at)),
-            Sign::Plain => plain(at, token.end),
-            Sign::Name => value(at, token.end),
-        };
-        parts.push(part)?;
-        at = token.end;
+    match stage {
+        Stage::Named(true) => Mode::Operand,
+        Stage::Named(false) | Stage::First | Stage::Prefixed => Mode::Word,
     }
 }
 
-/// The parts of a word at `start`, and the word's end.
-#[tactic(auto, using(crate::proofs::Parts::parts_end, crate::proofs::Parts::parts_plain, crate::proofs::Parts::parts_value, crate::proofs::Parts::parts_double, crate::proofs::Parts::parts_double_none, crate::proofs::Parts::parts_later, crate::proofs::Behind::nothing_yet))]
-fn parts_at(alloc: Global, script: &[u8], start: u32) -> Result<(Items<Part>, u32), Refusal>
-    requires small { length script.now ≤ MAX_SCRIPT }
-    requires inside { start ≤ length script.now }
-    ensures { Parts script.now Context.Unquoted start result }
-{
-    let mut parts = Items::new(alloc);
-    let mut at = start;
-    loop {
-        let token = token_at(script, Context::Unquoted, at);
-        let (part, end) = match token.sign {
-            Sign::Stop => return Ok((parts, token.end)),
-            Sign::Open | Sign::Later => return Err(Refusal::LeftOut(Form::Later, at)),
-            Sign::Plain => (plain(at, token.end), token.end),
-            Sign::Name => (value(at, token.end), token.end),
-            Sign::Quote => {
-                let (quoted, end) = quoted_parts(alloc, script, at)?;
-                (Part::Double(Span { start: at, end }, quoted), end)
-            }
-        };
-        parts.push(part)?;
-        at = end;
-    }
-}
-
-/// The word at `at`. Its span ends before a blank, a newline, a `;` or the end of the text.
-pub fn word_at(alloc: Global, script: &[u8], at: u32) -> Result<Word, Refusal>
+/// The word of a mode at `at`, or the commands that come first in it.
+#[tactic(auto, using(crate::proofs::WordLemmas::word_built))]
+fn built(alloc: Global, script: &[u8], mode: Mode, at: u32) -> Result<Next, Refusal>
     requires small { length script.now ≤ MAX_SCRIPT }
     requires inside { at ≤ length script.now }
-    ensures { Words script.now at result }
+    requires whole { IsWhole mode }
+    ensures { Builds script.now mode at result }
 {
-    let (parts, end) = parts_at(alloc, script, at)?;
-    Ok(Word {
-        span: Span { start: at, end },
-        parts,
-    })
+    let mut builder = WordBuilder::start(alloc, mode, 0, at)?;
+    builder.run(script)
+}
+
+/// The word of a mode at `at`. Commands in it are not read yet.
+#[tactic(auto, using(crate::proofs::WordLemmas::word_read, crate::proofs::WordLemmas::word_located))]
+fn whole_word(alloc: Global, script: &[u8], mode: Mode, at: u32) -> Result<Word, Refusal>
+    requires small { length script.now ≤ MAX_SCRIPT }
+    requires inside { at ≤ length script.now }
+    requires whole { IsWhole mode }
+    ensures { Words script.now (modes.context_of script.now mode at) at result }
+{
+    match built(alloc, script, mode, at)? {
+        Next::Done(word) => {
+            if is_location(script, mode, at, word.span.end) {
+                return Err(Refusal::LeftOut(Form::IoLocation, at));
+            }
+            Ok(word)
+        }
+        Next::Inner { at, .. } => Err(Refusal::LeftOut(Form::Later, at.saturating_sub(2))),
+    }
+}
+
+/// Whether the word from `start` to `end` may be an IO location. The value of an assignment is none.
+fn is_location(script: &[u8], mode: Mode, start: u32, end: u32) -> bool
+    requires small { length script.now ≤ MAX_SCRIPT }
+    requires ordered { start ≤ end }
+    requires inside { end ≤ length script.now }
+    ensures value { result ≡ (not (modes.context_of script.now mode start).colons && commands.is_location script.now start end) }
+    ensures within { result ≡ true → start < length script.now }
+{
+    let value = mode.context(script, start).colons;
+    !value && is_location_at(script, start, end)
+}
+
+/// The value of an assignment at `at`.
+pub fn value_at(alloc: Global, script: &[u8], at: u32) -> Result<Word, Refusal>
+    requires small { length script.now ≤ MAX_SCRIPT }
+    requires inside { at ≤ length script.now }
+    ensures { Words script.now (contexts.in_value at) at result }
+{
+    whole_word(alloc, script, Mode::Value, at)
+}
+
+/// The word of a simple command at `at`.
+pub fn word_at(alloc: Global, script: &[u8], stage: Stage, at: u32) -> Result<Word, Refusal>
+    requires small { length script.now ≤ MAX_SCRIPT }
+    requires inside { at ≤ length script.now }
+    ensures { Words script.now (contexts.in_stage script.now stage at) at result }
+{
+    whole_word(alloc, script, mode_of(stage), at)
 }

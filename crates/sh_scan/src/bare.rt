@@ -6,8 +6,9 @@ ghost use Rattle.sh_tree.specs.language.Words as words;
 
 use crate::bytes::ends_token;
 use crate::class::{Class, classify};
-use crate::front::{behind_joined, is_name};
+use crate::front::behind_joined;
 use sh_tree::limits::MAX_SCRIPT;
+use sh_tree::name::is_name;
 use sh_tree::refusal::Form;
 use sh_tree::token::Reserved;
 

@@ -12,22 +12,6 @@ pub fn is_blank(byte: u8) -> bool
     matches!(classify(byte), Class::Blank)
 }
 
-/// A letter or an underscore.
-#[tactic(auto, unfolding(crate::specs::Classes::class_of))]
-pub fn is_name_start(byte: u8) -> bool
-    ensures { result ≡ bytes.is_name_start byte }
-{
-    matches!(classify(byte), Class::Letter)
-}
-
-/// A letter, an underscore or a digit.
-#[tactic(auto, unfolding(crate::specs::Classes::class_of))]
-pub fn is_name_byte(byte: u8) -> bool
-    ensures { result ≡ bytes.is_name_byte byte }
-{
-    matches!(classify(byte), Class::Letter | Class::Digit)
-}
-
 #[tactic(auto, unfolding(crate::specs::Classes::class_of))]
 pub fn is_digit(byte: u8) -> bool
     ensures { result ≡ bytes.is_digit byte }

@@ -1,12 +1,12 @@
 //! The front of a text.
 ghost use Rattle.std.specs.Prelude.{◌≡◌, ◌≤◌, ◌<◌, ◌==◌, true, not, length, drop};
-ghost use Rattle.std.specs.List.{list_all};
 ghost use Rattle.sh_tree.specs.language.Bytes as bytes;
 ghost use Rattle.sh_tree.specs.language.Commands as commands;
 ghost use Rattle.sh_scan.specs.Steps.{joined_step};
 
-use crate::bytes::{is_digit, is_name_byte, is_name_start};
+use crate::bytes::is_digit;
 use sh_tree::limits::MAX_SCRIPT;
+use sh_tree::name::{is_name_byte, is_name_start};
 
 /// Whether the text begins with the byte.
 #[tactic(auto, unfolding(sh_tree::specs::language::Bytes::is_first))]
@@ -48,20 +48,6 @@ pub fn name_length(rest: &[u8]) -> usize
     } else {
         0
     }
-}
-
-fn are_name_bytes(text: &[u8]) -> bool
-    ensures { result ≡ list_all bytes.is_name_byte text.now }
-{
-    text.iter().all(|byte| is_name_byte(*byte))
-}
-
-/// Whether the whole text is a name (XBD 3.216).
-pub fn is_name(text: &[u8]) -> bool
-    ensures { result ≡ bytes.is_name text.now }
-{
-    let begun = begins_name(text);
-    begun && are_name_bytes(text)
 }
 
 /// Whether the text begins with `<` or `>`.

@@ -5,9 +5,10 @@ ghost use Rattle.sh_tree.specs.language.Commands as commands;
 use crate::assignments::is_assignment;
 use crate::bare::{bare_word, left_out_name, reserved_word};
 use crate::blanks::blanks_at;
-use crate::front::{begins_angle, begins_with, behind_joined, digit_length, is_name};
+use crate::front::{begins_angle, begins_with, behind_joined, digit_length};
 use crate::operators::{is_split, operator_of};
 use sh_tree::limits::MAX_SCRIPT;
+use sh_tree::name::is_name;
 use sh_tree::refusal::Form;
 use sh_tree::token::{Lead, Operator, Reserved, Stage};
 

@@ -37,7 +37,7 @@ use Rattle.sh_tree.specs.language.Commands.{begins_command, is_bar, link_of}
 use Rattle.sh_tree.specs.language.Contexts.{in_word, in_unsplit, in_value, in_document_of}
 use Rattle.sh_tree.specs.language.HereDocuments.{Mark}
 use Rattle.sh_tree.specs.language.Trees.{span, word, redirect, here_doc, command, pipe, and_or, script, branch, clause}
-use Rattle.sh_tree.specs.language.Examples.{plain, bare, value, quoted_text, quoted_words, quoted_script, home_text, home_value, home_script, braces_text, braces_elements, braces_script, braced_text, default_part, length_part, removal_part, braced_words, braced_script, arithmetic_text, product, sum, arithmetic_part, arithmetic_script, substituted_text, inner_script, substituted_part, substituted_script, utility, lone, document_text, document_body, document_words, document_script, branch_text, branch_script, loop_text, loop_script, case_text, case_clauses, case_script, defined_text, defined_command, defined_list, defined_script, closed_text, closed_script, separated_text, separated_script, comment_text}
+use Rattle.sh_tree.specs.language.Examples.{plain, bare, value, quoted_text, quoted_words, quoted_script, double_text, double_words, double_script, bare_text, bare_words, bare_script, assigned_text, assigned_parts, assigned_words, assigned_script, passed_text, passed_script, home_text, home_value, home_script, braces_text, braces_elements, braces_script, braced_text, default_part, length_part, removal_part, braced_words, braced_script, arithmetic_text, product, sum, arithmetic_part, arithmetic_script, substituted_text, inner_script, substituted_part, substituted_script, utility, lone, document_text, document_body, document_words, document_script, branch_text, branch_script, loop_text, loop_script, case_text, case_clauses, case_script, defined_text, defined_command, defined_list, defined_script, closed_text, closed_script, separated_text, separated_script, comment_text}
 
 -- what a reading of a known text computes
 unfoldable pub computes : Unit {0}
@@ -80,6 +80,55 @@ quoted_reads =
     r.word_element refl echo (r.word_element refl value (r.word_element refl kept (r.no_element refl))) in
     let list : ReadsAndOr 0 quoted_text no_bodies (at_token 0 0 0) (at_token 15 1 0) _ = alone_reads (r.simple_command refl elements) refl refl refl in
     whole quoted_text 0 (at_token 15 1 0) quoted_script refl (r.sequence (r.list (r.no_break refl) refl (r.last_item list refl refl))) refl refl
+
+pub double_reads : Reads double_text double_script
+unfolding computes
+double_reads =
+    let echo : ReadsWord 0 double_text (in_word 0) (at_word 0 1 0) (at_word 4 1 0) (bare 0 4) = r.whole_word (r.more refl r.plain (r.stop refl)) refl refl in
+    let inner : ReadsParts 0 double_text (in_double (in_word 5)) 0 (at_word 6 1 0) (at_word 9 1 0) (value 6 8 ∷ []) = r.more refl r.value (r.stop refl) in
+    let quoted : ReadsWord 0 double_text (in_word 5) (at_word 5 1 0) (at_word 9 1 0) (word 5 9 (part.Double (span 5 9) (value 6 8 ∷ []) ∷ [])) =
+    r.whole_word (r.more refl (r.double_quoted inner) (r.stop refl)) refl refl in
+    let elements : ReadsElements 0 double_text no_bodies First (at_token 0 1 0) (at_token 9 1 0) double_words =
+    r.word_element refl echo (r.word_element refl quoted (r.no_element refl)) in
+    let list : ReadsAndOr 0 double_text no_bodies (at_token 0 0 0) (at_token 9 1 0) _ = alone_reads (r.simple_command refl elements) refl refl refl in
+    whole double_text 0 (at_token 9 1 0) double_script refl (r.sequence (r.list (r.no_break refl) refl (r.last_item list refl refl))) refl refl
+
+pub bare_reads : Reads bare_text bare_script
+unfolding computes
+bare_reads =
+    let echo : ReadsWord 0 bare_text (in_word 0) (at_word 0 1 0) (at_word 4 1 0) (bare 0 4) = r.whole_word (r.more refl r.plain (r.stop refl)) refl refl in
+    let split : ReadsWord 0 bare_text (in_word 5) (at_word 5 1 0) (at_word 7 1 0) (word 5 7 (value 5 7 ∷ [])) = r.whole_word (r.more refl r.value (r.stop refl)) refl refl in
+    let elements : ReadsElements 0 bare_text no_bodies First (at_token 0 1 0) (at_token 7 1 0) bare_words = r.word_element refl echo (r.word_element refl split (r.no_element refl)) in
+    let list : ReadsAndOr 0 bare_text no_bodies (at_token 0 0 0) (at_token 7 1 0) _ = alone_reads (r.simple_command refl elements) refl refl refl in
+    whole bare_text 0 (at_token 7 1 0) bare_script refl (r.sequence (r.list (r.no_break refl) refl (r.last_item list refl refl))) refl refl
+
+pub assigned_reads : Reads assigned_text assigned_script
+unfolding computes
+assigned_reads =
+    let one : ReadsWord 0 assigned_text (in_value 2) (at_word 2 1 0) (at_word 3 1 0) (bare 2 3) = r.whole_word (r.more refl r.plain (r.stop refl)) refl refl in
+    let set : ReadsAndOr 0 assigned_text no_bodies (at_token 0 0 0) (at_token 3 1 0) _ =
+    alone_reads (r.simple_command refl (r.assigned_element refl one (r.no_element refl))) refl refl refl in
+    let line : ReadsBreaks 0 assigned_text (at_token 3 1 0) (at_token 4 1 0) = r.more_breaks refl refl r.no_body (r.no_break refl) in
+    let echo : ReadsWord 0 assigned_text (in_word 4) (at_word 4 2 0) (at_word 8 2 0) (bare 4 8) = r.whole_word (r.more refl r.plain (r.stop refl)) refl refl in
+    let inner : ReadsParts 0 assigned_text (in_double (in_word 9)) 0 (at_word 10 2 0) (at_word 13 2 0) (value 10 12 ∷ []) = r.more refl r.value (r.stop refl) in
+    let quoted : ReadsWord 0 assigned_text (in_word 9) (at_word 9 2 0) (at_word 13 2 0) (word 9 13 assigned_parts) = r.whole_word (r.more refl (r.double_quoted inner) (r.stop refl)) refl refl in
+    let elements : ReadsElements 0 assigned_text no_bodies First (at_token 4 2 0) (at_token 13 2 0) assigned_words =
+    r.word_element refl echo (r.word_element refl quoted (r.no_element refl)) in
+    let list : ReadsAndOr 0 assigned_text no_bodies (at_token 4 1 0) (at_token 13 2 0) _ = alone_reads (r.simple_command refl elements) refl refl refl in
+    whole assigned_text 0 (at_token 13 2 0) assigned_script refl
+    (r.sequence (r.list (r.no_break refl) refl (r.more_items set refl line refl (r.last_item list refl refl)))) refl refl
+
+pub passed_reads : Reads passed_text passed_script
+unfolding computes
+passed_reads =
+    let one : ReadsWord 0 passed_text (in_value 2) (at_word 2 1 0) (at_word 3 1 0) (bare 2 3) = r.whole_word (r.more refl r.plain (r.stop refl)) refl refl in
+    let echo : ReadsWord 0 passed_text (in_word 4) (at_word 4 1 0) (at_word 8 1 0) (bare 4 8) = r.whole_word (r.more refl r.plain (r.stop refl)) refl refl in
+    let inner : ReadsParts 0 passed_text (in_double (in_word 9)) 0 (at_word 10 1 0) (at_word 13 1 0) (value 10 12 ∷ []) = r.more refl r.value (r.stop refl) in
+    let quoted : ReadsWord 0 passed_text (in_word 9) (at_word 9 1 0) (at_word 13 1 0) (word 9 13 assigned_parts) = r.whole_word (r.more refl (r.double_quoted inner) (r.stop refl)) refl refl in
+    let elements : ReadsElements 0 passed_text no_bodies First (at_token 0 1 0) (at_token 13 1 0) (element.Assignment (span 0 1) (bare 2 3) ∷ assigned_words) =
+    r.assigned_element refl one (r.word_element refl echo (r.word_element refl quoted (r.no_element refl))) in
+    let list : ReadsAndOr 0 passed_text no_bodies (at_token 0 0 0) (at_token 13 1 0) _ = alone_reads (r.simple_command refl elements) refl refl refl in
+    whole passed_text 0 (at_token 13 1 0) passed_script refl (r.sequence (r.list (r.no_break refl) refl (r.last_item list refl refl))) refl refl
 
 pub home_reads : Reads home_text home_script
 unfolding computes

@@ -1,4 +1,3 @@
-pub mod ExampleLemmas
 pub mod RefusalLemmas
 pub mod TextLemmas
 pub mod LanguageLemmas

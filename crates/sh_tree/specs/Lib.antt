@@ -1,10 +1,7 @@
 pub mod formers
 pub mod language
 pub mod Texts
-pub mod Tokens
 pub mod Tree
 pub mod Words
-pub mod Reading
 pub mod Answers
-pub mod Examples
 pub mod Commands

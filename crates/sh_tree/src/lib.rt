@@ -11,7 +11,6 @@ pub mod limits;
 pub mod name;
 pub mod place;
 pub mod refusal;
-pub mod sign;
 #[cfg(test)]
 mod tests;
 pub mod text;

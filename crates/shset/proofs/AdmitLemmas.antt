@@ -1,8 +1,8 @@
--- The first command that is not analysed, item by item.
-use Rattle.std.proofs.Common.{◌≡◌, ℕ, ◌+◌, ◌<◌, ◌≤◌, Bool, true, false, cond, Option, Some, None, List, [], ◌∷◌, length, get_or, drop, refl, ◌∙◌, ap, add-one, drop-cons, slice_get, option_to_list, suc}
-use Rattle.std.specs.Option.{option_or}
+-- The first item that is not analysed.
+use Rattle.std.proofs.Common.{◌≡◌, ℕ, ◌+◌, ◌<◌, ◌≤◌, Bool, true, false, cond, ◌&&◌, Option, Some, None, Ok, List, [], ◌∷◌, length, get_or, drop, refl, ◌∙◌, ap, add-one, drop-cons, slice_get}
 use Rattle.std.proofs.lemmas.List.{drop_all}
-use Rattle.std.specs.List.{filter_map, list_all, cons_option}
+use Rattle.std.specs.List.{list_all}
+use Rattle.sh_tree.specs.declared.tree.Script.{Script, out-Script}
 use Rattle.sh_tree.specs.declared.tree.Item.{Item}
 use Rattle.sh_tree.specs.declared.tree.Command.{Command}
 use Rattle.sh_tree.specs.declared.tree.Element.{Element}
@@ -14,8 +14,8 @@ use Rattle.sh_tree.specs.declared.tree.Part.{Part, Double}
 use Rattle.sh_tree.specs.declared.tree.Element.TheBlock.{items_hidden-the_row-Part-0}
 use Rattle.sh_tree.specs.Words.{lone_command, words_of, form_of_assignment, form_of_word, form_of_redirection, word_in, word_of, static_text}
 use Rattle.sh_flow.specs.Policy.{Text}
-use Rattle.sh_flow.specs.Profile.{is_utility, is_named_utility, is_flat, is_straight_part, is_straight_form, is_straight_element, is_plain_name, is_admitted, is_item_admitted}
-use Rattle.shset.specs.Findings.{first_refused}
+use Rattle.sh_flow.specs.Profile.{is_utility, is_named_utility, is_flat, is_straight_part, is_straight_form, is_straight_element, is_plain_name, is_admitted, is_item_admitted, Admitted}
+use Rattle.shset.specs.Findings.{Admits, first_refused}
 
 -- the name of a command, element by element
 
@@ -64,63 +64,45 @@ pub none_named : false ≡ is_named_utility None
 unfolding is_named_utility
 none_named = refl
 
--- the command of an item, where it is not analysed
+-- whether an item is analysed, by its command
 
-pub refused_none : (b : List ℕ) (o : Option Command) → None ≡ o → None ≡ first_refused b (option_to_list o)
+pub none_admitted : (b : List ℕ) (o : Option Command) → None ≡ o → false ≡ is_item_admitted b o
+unfolding is_item_admitted
+none_admitted b o e = rw (← e) refl
+
+pub one_admitted : (b : List ℕ) (o : Option Command) (c : Command) → Some c ≡ o → is_admitted b c ≡ is_item_admitted b o
+unfolding is_item_admitted
+one_admitted b o c e = rw (← e) refl
+
+-- the first refused item from a place on
+
+pub refused_here : (b : List ℕ) (is : List Item) (i : ℕ) (x : Item) → i < length is → x ≡ get_or is i x → false ≡ is_item_admitted b (lone_command x)
+    → first_refused b (drop i is) ≡ Some x
 unfolding first_refused
-refused_none b o e = rw (← e) refl
+refused_here b is i x h e t = rw (drop-cons is i x, ← e, ← t) refl
 
-pub refused_not : (b : List ℕ) (o : Option Command) (c : Command) → Some c ≡ o → true ≡ is_admitted b c → None ≡ first_refused b (option_to_list o)
+pub refused_later : (b : List ℕ) (is : List Item) (i : ℕ) (x : Item) → i < length is → x ≡ get_or is i x → true ≡ is_item_admitted b (lone_command x)
+    → first_refused b (drop i is) ≡ first_refused b (drop (i + 1) is)
 unfolding first_refused
-refused_not b o c e t = rw (← e, ← t) refl
+refused_later b is i x h e t = rw (drop-cons is i x, add-one, ← e, ← t) refl
 
-pub refused_one : (b : List ℕ) (o : Option Command) (c : Command) → Some c ≡ o → false ≡ is_admitted b c → Some c ≡ first_refused b (option_to_list o)
-unfolding first_refused
-refused_one b o c e t = rw (← e, ← t) refl
-
--- the first refused command from a place on
-
-pub refused_cons : (b : List ℕ) (o : Option Command) (rest : List Command) (f : Option Command) → f ≡ first_refused b (option_to_list o)
-    → first_refused b (cons_option o rest) ≡ option_or f (first_refused b rest)
-unfolding first_refused
-refused_cons b None rest f e = rw e refl
-refused_cons b (Some d) rest f e = rw e (go (is_admitted b d))
-  where
-    go : (t : Bool) → cond t (first_refused b rest) (Some d) ≡ option_or (cond t None (Some d)) (first_refused b rest)
-    go true = refl
-    go false = refl
-
-pub refused_step : (b : List ℕ) (is : List Item) (i : ℕ) (x : Item) (f : Option Command) → i < length is → x ≡ get_or is i x
-    → f ≡ first_refused b (option_to_list (lone_command x))
-    → first_refused b (filter_map lone_command (drop i is)) ≡ option_or f (first_refused b (filter_map lone_command (drop (i + 1) is)))
-refused_step b is i x f h e k = rw (drop-cons is i x, add-one, ← e) (refused_cons b (lone_command x) (filter_map lone_command (drop (suc i) is)) f k)
-
-pub refused_stop : (b : List ℕ) (is : List Item) (i : ℕ) → length is ≤ i → first_refused b (filter_map lone_command (drop i is)) ≡ None
+pub refused_stop : (b : List ℕ) (is : List Item) (i : ℕ) → length is ≤ i → first_refused b (drop i is) ≡ None
 unfolding first_refused
 refused_stop b is i h = rw (drop_all i is h) refl
 
--- each item is one command
-abbrev pub IsLone : Item → Type 0
-IsLone i = (c : Command) × (lone_command i ≡ Some c)
-
-abbrev pub AllLone : List Item → Type 0
-AllLone [] = Unit {0}
-AllLone (i ∷ is) = IsLone i × AllLone is
-
--- where each item is one command and none is refused, all are analysed
-pub admitted_from_none : (b : List ℕ) (is : List Item) → AllLone is → first_refused b (filter_map lone_command is) ≡ None
-    → list_all (λ i. is_item_admitted b (lone_command i)) is ≡ true
-unfolding first_refused is_item_admitted
-admitted_from_none b [] l e = refl
-admitted_from_none b (i ∷ is) l e =
-    let none_left : first_refused b (cons_option (Some l.0.0) (filter_map lone_command is)) ≡ None = rw l.0.1 at e in
-    let here = bool_cases (is_admitted b l.0.0) none_left in
-    rw (l.0.1, here.0) (admitted_from_none b is l.1 here.1)
+-- where none is refused, all are analysed
+all_admitted : (b : List ℕ) (is : List Item) → first_refused b is ≡ None → list_all (λ i. is_item_admitted b (lone_command i)) is ≡ true
+unfolding first_refused
+all_admitted b [] e = refl
+all_admitted b (i ∷ is) e = go (is_item_admitted b (lone_command i)) (all_admitted b is) e
   where
-    bool_cases : (t : Bool) → cond t (first_refused b (filter_map lone_command is)) (Some l.0.0) ≡ None
-        → (t ≡ true) × (first_refused b (filter_map lone_command is) ≡ None)
-    bool_cases true e = (refl, e)
-    bool_cases false e = cc
+    go : (t : Bool) → (first_refused b is ≡ None → list_all (λ j. is_item_admitted b (lone_command j)) is ≡ true) → cond t (first_refused b is) (Some i) ≡ None
+        → (t && list_all (λ j. is_item_admitted b (lone_command j)) is) ≡ true
+    go true rest e = rest e
+    go false rest e = cc
+
+pub admitted_from_none : (b : List ℕ) (t : Script) → Admits b t (Ok tt) → Admitted b t
+admitted_from_none b t e = all_admitted b (out-Script t).items e
 
 -- straight parts and elements
 

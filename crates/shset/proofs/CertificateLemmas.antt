@@ -27,7 +27,8 @@ use Rattle.shset.specs.Findings.{gains, command_gains, unsure, form_unset, eleme
 use Rattle.shset.specs.Certifies.{numbers_of, HoldsNames, Says, Round, Follows, Found}
 use Rattle.shset.specs.declared.find.Finder.{Finder}
 use Rattle.shset.proofs.RowLemmas.{or_swap, has_append, numbers_append}
-use Rattle.shset.proofs.NumberingLemmas.{and_left, and_right, all_of, NameOf, name_of, number_shared, NumberedFrom}
+use Rattle.shset.proofs.NumberingLemmas.{and_left, and_right, all_of, NameOf, name_of, number_shared}
+use Rattle.shset.proofs.ReadLemmas.{NumberedFrom}
 
 -- What an entry claims
 

@@ -9,4 +9,5 @@ pub mod LintLemmas
 pub mod RowLemmas
 pub mod FinderLemmas
 pub mod NumberingLemmas
+pub mod ReadLemmas
 pub mod CertificateLemmas

@@ -1,102 +1,43 @@
 -- From the parts of a check to what is told of a script.
-use Rattle.std.proofs.Common.{◌≡◌, ℕ, ◌+◌, ◌<◌, ◌≤◌, inl, inr, List, [], ◌∷◌, ◌++◌, length, map, Result, Ok, Err, Some, Vec, refl, sym, ◌∙◌, ap, subst, arith, IfOk, Bool, true, false, if◌then◌else◌, ⊎_elim}
+use Rattle.std.proofs.Common.{◌≡◌, ℕ, ◌<◌, inl, inr, List, [], ◌∷◌, ◌++◌, length, map, Result, Ok, Err, Some, Vec, refl, sym, ◌∙◌, subst, arith, IfOk, Bool, true, false, if◌then◌else◌}
 use Rattle.std.specs.declared.alloc.Global.{Global}
 use Rattle.std.proofs.lemmas.List.Sorted.{IsPermutation-map, length_permutation}
-use Rattle.std.proofs.lemmas.List.{length-map, drop_all}
+use Rattle.std.proofs.lemmas.List.{length-map}
 use Rattle.std.specs.List.Sorted.{IsPermutation, IsSortedByKey}
 use Rattle.sh_tree.specs.declared.place.Place.{Place}
 use Rattle.sh_tree.specs.declared.tree.Script.{Script, out-Script}
 use Rattle.sh_tree.specs.declared.tree.Item.{Item}
 use Rattle.sh_tree.specs.declared.refusal.Refusal.{Refusal}
 use Rattle.sh_tree.specs.declared.refusal.Refusal.TheVariants.{TooLong, NulByte, Syntax, LeftOut, TooDeep, TooMany, Memory, Profile, CertSyntax, CertShape}
-use Rattle.std.proofs.lemmas.Bool.{cases_lt}
-use Rattle.std.specs.List.{filter_map}
-use Rattle.sh_tree.specs.declared.tree.Command.{Command, out-Command}
-use Rattle.sh_tree.specs.declared.tree.Element.{Element}
-use Rattle.sh_tree.specs.declared.sign.Stage.{Stage}
-use Rattle.sh_tree.specs.declared.sign.Stage.TheVariants.{First}
-use Rattle.sh_tree.specs.declared.sign.Begin.TheVariants as begin
-use Rattle.sh_tree.specs.Tokens.{begin_at, begin_of}
-use Rattle.sh_flow.specs.Profile.{is_admitted}
-use Rattle.sh_tree.specs.Reading.{Spot, Reads, ReadsElements, ReadsItems, ReadsAndOr, ReadsPipe, ReadsCommand}
-use Rattle.sh_tree.specs.Reading as reads
+use Rattle.sh_tree.specs.declared.limits.TheConstants.{MAX_NESTING}
+use Rattle.sh_tree.specs.language.Reading.{Reads}
 use Rattle.sh_tree.specs.Words.{lone_command}
-use Rattle.sh_tree.specs.Tree.{foreground, and_or}
-use Rattle.sh_tree.specs.declared.tree.AndOr.{AndOr}
-use Rattle.sh_tree.specs.declared.tree.Pipe.{Pipe}
 use Rattle.sh_tree.specs.Answers.{Parses}
 use Rattle.sh_flow.specs.Policy.{Declared}
 use Rattle.sh_flow.specs.Names.{Numbers}
-use Rattle.sh_flow.specs.Profile.{Admitted}
+use Rattle.sh_flow.specs.Profile.{is_item_admitted, Admitted}
 use Rattle.shset.specs.declared.verdict.Finding.{Finding}
 use Rattle.shset.specs.declared.verdict.Verdict.TheVariants.{Pass, Fail}
-use Rattle.shset.specs.Findings.{Admits, first_refused}
+use Rattle.shset.specs.Findings.{Admits, first_refused, item_start}
 use Rattle.shset.specs.Lint.{IsReading, IsAccepted, Accepts, AreFindings, Lints, shown_at}
 use Rattle.shset.specs.Verdicts.{shown, shown_cmp}
-use Rattle.shset.proofs.NumberingLemmas.{alone_command, opened_simple}
-use Rattle.shset.proofs.AdmitLemmas.{AllLone, admitted_from_none}
+use Rattle.shset.proofs.ReadLemmas.{AllPlaced, reads_placed}
 
--- where something begins, the text goes on
-begins_within : (b : List ℕ) (s : Stage) (i : ℕ) → (begin_at b s i ≡ begin.Stop → ⊥) → i < length b
-unfolding begin_at begin_of
-begins_within b s i h =
-    ⊎_elim
-    (λ (below : i < length b). below)
-    (λ (past : length b ≤ i). absurd (h (ap (begin_of s) (drop_all i b past))))
-    (cases_lt i (length b))
-
-elements_within : (b : List ℕ) (s : Stage) (i j : ℕ) (es : List Element) → ReadsElements b s i j es → (es ≡ [] → ⊥) → i < length b
-elements_within b s i j es (reads.ReadsElements.stop h) some = absurd (some refl)
-elements_within b s i j es (reads.ReadsElements.assignment_word h p q) some = begins_within b s i (λ e. cc)
-elements_within b s i j es (reads.ReadsElements.word h p q) some = begins_within b s i (λ e. cc)
-
--- an item that is one command, which starts in the text
-abbrev IsPlaced : ℕ → Item → Type 0
-IsPlaced n i = (c : Command) × (lone_command i ≡ Some c) × ((out-Command c).at < n)
-
-placed_command : (b : List ℕ) (s u : Spot) (c : Command) → ReadsCommand b s u c → (out-Command c).at < length b
-placed_command b s u c (reads.ReadsCommand.simple {j = j} {e = e} {es = es} r) =
-    subst (λ n. n < length b) (sym (ap (λ x. x.at) (opened_simple (s.count + 1) s.at (e ∷ es)))) (elements_within b First s.at j (e ∷ es) r (λ n. cc))
-
-placed_pipeline : (b : List ℕ) (s u : Spot) (p : Pipe) → ReadsPipe b s u p → IsPlaced (length b) (foreground (and_or p))
-placed_pipeline b s u p (reads.ReadsPipe.single {c = c} r) = (c, alone_command c, placed_command b s u c r)
-
-placed_and_or : (b : List ℕ) (s u : Spot) (l : AndOr) → ReadsAndOr b s u l → IsPlaced (length b) (foreground l)
-placed_and_or b s u l (reads.ReadsAndOr.single {p = p} r) = placed_pipeline b s u p r
-
-abbrev AllPlaced : ℕ → List Item → Type 0
-AllPlaced n [] = Unit {0}
-AllPlaced n (i ∷ is) = IsPlaced n i × AllPlaced n is
-
--- each item that is read is one command in the text
-placed_items : (b : List ℕ) (s u : Spot) (is : List Item) → ReadsItems b s u is → AllPlaced (length b) is
-placed_items b s u is (reads.finish e) = tt
-placed_items b s u is (reads.item {l = l} {is = js} p q) = (placed_and_or b s _ l p, placed_items b _ u js q)
-
-lone_from_placed : (n : ℕ) (is : List Item) → AllPlaced n is → AllLone is
-lone_from_placed n [] h = tt
-lone_from_placed n (i ∷ is) h = ((h.0.0, h.0.1), lone_from_placed n is h.1)
-
--- the first command that is refused stands in the text
-refused_within : (b : List ℕ) (n : ℕ) (is : List Item) (c : Command) → AllPlaced n is → first_refused b (filter_map lone_command is) ≡ Some c → (out-Command c).at < n
+-- the first item that is refused begins in the text
+refused_within : (b : List ℕ) (n : ℕ) (is : List Item) (x : Item) → AllPlaced n is → first_refused b is ≡ Some x → item_start x < n
 unfolding first_refused
-refused_within b n [] c h e = cc
-refused_within b n (i ∷ is) c h e =
-    go (is_admitted b h.0.0) (rw h.0.1 at e) (refused_within b n is c h.1)
+refused_within b n [] x h e = cc
+refused_within b n (i ∷ is) x h e = go (is_item_admitted b (lone_command i)) e (refused_within b n is x h.1)
   where
-    go : (admitted : Bool) → (if admitted then first_refused b (filter_map lone_command is) else Some h.0.0) ≡ Some c
-        → (first_refused b (filter_map lone_command is) ≡ Some c → (out-Command c).at < n) → (out-Command c).at < n
+    go : (admitted : Bool) → (if admitted then first_refused b is else Some i) ≡ Some x → (first_refused b is ≡ Some x → item_start x < n) → item_start x < n
     go true e next = next e
-    go false e next = let same : h.0.0 ≡ c = cc in subst (λ (d : Command). (out-Command d).at < n) same h.0.2
-
-pub admitted_reading : (b : List ℕ) (t : Script) → Reads b t → Admits b t (Ok tt) → Admitted b t
-admitted_reading b t r e = admitted_from_none b (out-Script t).items (lone_from_placed (length b) (out-Script t).items (placed_items b _ _ (out-Script t).items r.1.items)) e
+    go false e next = let same : i ≡ x = cc in subst (λ y. item_start y < n) same h.0
 
 reading : (b : List ℕ) (t : Script) → Parses b (Ok t) → IsReading b t
 reading b t h = record { text = h.0; reads = h.1; only = h.2 }
 
 pub read_within : (b : List ℕ) (t : Script) → Parses b (Ok t) → Reads b t
-read_within b t h = (h.1.0, h.1.1)
+read_within b t h = (MAX_NESTING, h.1.0, h.1.1)
 
 -- names that are not numbered
 pub unnumbered : (b : List ℕ) (t : Script) (d : Declared) (e : Refusal) → Admitted b t → Numbers b t d (Err e) → Accepts b d t (Err e)
@@ -132,7 +73,7 @@ unread b d TooLong h = h
 unread b d (NulByte at) h = h
 unread b d (Syntax f at) h = h
 unread b d (LeftOut f at) h = h
-unread b d (TooDeep at) h = absurd h
+unread b d (TooDeep at) h = h
 unread b d (Profile r at) h = absurd h
 unread b d (CertSyntax n) h = absurd h
 unread b d CertShape h = absurd h
@@ -142,7 +83,7 @@ pub unaccepted : (b : List ℕ) (d : Declared) (t : Script) (e : Refusal) → Pa
 unaccepted b d t TooMany p h = inr (t, reading b t p, h.0, h.1)
 unaccepted b d t Memory p h = p.0
 unaccepted b d t (Profile r at) p h =
-    let placed = placed_items b _ _ (out-Script t).items (read_within b t p).1.items in
+    let placed = reads_placed b t (read_within b t p) in
     (t, reading b t p, h, subst (λ n. n < length b) (sym h.2) (refused_within b (length b) (out-Script t).items h.0 placed h.1))
 unaccepted b d t TooLong p h = absurd h
 unaccepted b d t (NulByte at) p h = absurd h

@@ -1,4 +1,4 @@
--- Numbers of names, and the numbers of commands.
+-- Numbers of names.
 use Rattle.std.proofs.Common.{◌≡◌, ℕ, suc, ◌+◌, Bool, true, false, cond, ◌&&◌, ◌||◌, Option, Some, None, List, [], ◌∷◌, ◌++◌, fold, refl, sym, ◌∙◌, ap, subst, arith, eqb, slice_get, is_some}
 use Rattle.std.specs.List.{cons_option, list_all, position_from}
 use Rattle.std.specs.Str.{bytes_eq}
@@ -6,25 +6,11 @@ use Rattle.std.proofs.lemmas.Bool.{false≢true}
 use Rattle.std.proofs.lemmas.Bool.Decides.{Decides-eqb}
 use Rattle.std.proofs.lemmas.Slice.Eq.{bytes_eq-Decides}
 use Rattle.std.proofs.lemmas.List.Folds.{list_any-append, list_all-append}
-use Rattle.sh_tree.specs.declared.tree.Script.{Script, out-Script}
-use Rattle.sh_tree.specs.declared.tree.Item.{Item, out-roll-Item}
-use Rattle.sh_tree.specs.declared.tree.Command.{Command, out-Command, out-roll-Command}
-use Rattle.sh_tree.specs.declared.tree.Element.{Element}
-use Rattle.sh_tree.specs.declared.tree.Kind.TheVariants.{Simple}
-use Rattle.sh_tree.specs.declared.tree.Pipe.{Pipe, out-roll-Pipe}
-use Rattle.sh_tree.specs.declared.tree.AndOr.{AndOr, out-roll-AndOr}
-use Rattle.sh_tree.specs.Tree.{simple_command, pipeline, and_or, foreground}
-use Rattle.sh_tree.specs.Words.{lone_command, lone_commands, lone_list, lone_pipe, lone_part}
-use Rattle.sh_tree.specs.Tokens.{next_item, first_item}
-use Rattle.sh_tree.specs.Reading.{Spot, spot, ReadsCommand, ReadsPipe, ReadsAndOr, ReadsItems, ReadsTo, Reads}
-use Rattle.sh_tree.specs.Reading as r
+use Rattle.sh_tree.specs.declared.tree.Script.{Script}
 use Rattle.sh_flow.specs.Policy.{Text, Declared}
 use Rattle.sh_flow.specs.Names.{number_of, is_one_of, with_text, first_names, script_names, numbering}
-use Rattle.sh_flow.specs.Profile.{Admitted}
 use Rattle.sh_flow.specs.Facts.{has_number}
-use Rattle.shset.specs.Findings.{first_refused}
 use Rattle.shset.specs.Certifies.{numbers_of}
-use Rattle.shset.proofs.AdmitLemmas.{AllLone, admitted_from_none}
 
 -- Tests
 
@@ -186,74 +172,3 @@ all_numbered b t d names e =
     all_weaker (λ s. is_one_of names s) (λ s. is_some (number_of names s)) (λ s h. numbered_one 0 names s h) (script_names b t)
     (and_right (list_all (λ s. is_one_of names s) (first_names ++ d.names)) (list_all (λ s. is_one_of names s) (script_names b t))
     (sym (list_all-append (λ s. is_one_of names s) (first_names ++ d.names) (script_names b t)) ∙ of_names))
-
--- The commands of a script that is read
-
--- an item is a command of this number
-pub record LoneAt (k : ℕ) (i : Item) : Type 0 where
-  pub command : Command
-  pub whole : lone_command i ≡ Some command
-  pub number : (out-Command command).number ≡ k + 1
-
--- each item is a command, and they are numbered in order from the one behind k
-abbrev pub NumberedFrom : ℕ → List Item → Type 0
-NumberedFrom k [] = Unit {0}
-NumberedFrom k (i ∷ is) = LoneAt k i × NumberedFrom (k + 1) is
-
--- the fields of a simple command
-pub opened_simple : (number at : ℕ) (es : List Element) → out-Command (simple_command number at es) ≡ record { number = number; at = at; kind = Simple es; redirects = [] }
-opened_simple number at es = out-roll-Command (record { number = number; at = at; kind = Simple es; redirects = [] })
-
-record OneMore (s u : Spot) (c : Command) : Type 0 where
-  number : (out-Command c).number ≡ s.count + 1
-  count : u.count ≡ s.count + 1
-
-command_one : (b : List ℕ) (s u : Spot) (c : Command) → ReadsCommand b s u c → OneMore s u c
-command_one b s u c (r.simple {e = e} {es = es} h) = record { number = ap (λ x. x.number) (opened_simple (s.count + 1) s.at (e ∷ es)); count = refl }
-
-record Alone (s u : Spot) (l : AndOr) : Type 0 where
-  command : Command
-  whole : l ≡ and_or (pipeline (command ∷ []))
-  one : OneMore s u command
-
-pipe_alone : (b : List ℕ) (s u : Spot) (p : Pipe) → ReadsPipe b s u p → Alone s u (and_or p)
-pipe_alone b s u p (r.ReadsPipe.single {c = c} h) = record { command = c; whole = refl; one = command_one b s u c h }
-
-list_alone : (b : List ℕ) (s u : Spot) (l : AndOr) → ReadsAndOr b s u l → Alone s u l
-list_alone b s u l (r.ReadsAndOr.single {p = p} h) = pipe_alone b s u p h
-
--- an item that is a command alone
-pub alone_command : (c : Command) → lone_command (foreground (and_or (pipeline (c ∷ [])))) ≡ Some c
-unfolding lone_command lone_list lone_pipe lone_part
-alone_command c =
-    rw (
-      out-roll-Item (record { list = and_or (pipeline (c ∷ [])); background = false }),
-      out-roll-AndOr (record { first = pipeline (c ∷ []); rest = [] }),
-      out-roll-Pipe (record { negated = false; parts = c ∷ [] }),
-    )
-    refl
-
-numbered_from : (b : List ℕ) (s v : Spot) (k : ℕ) (is : List Item) → s.count ≡ k → ReadsItems b s v is → NumberedFrom k is
-numbered_from b s v k is e (r.finish h) = tt
-numbered_from b s v k is e (r.item {u = u} {l = l} {is = js} h rest) =
-    let a = list_alone b s u l h in (
-      record {
-        command = a.command;
-        whole = ap (λ x. lone_command (foreground x)) a.whole ∙ alone_command a.command;
-        number = a.one.number ∙ ap (λ n. n + 1) e;
-      },
-      numbered_from b (spot (next_item b u.at) u.count) v (k + 1) js (a.one.count ∙ ap (λ n. n + 1) e) rest,
-    )
-
-pub reads_numbered : (b : List ℕ) (t : Script) → Reads b t → NumberedFrom 0 (out-Script t).items
-reads_numbered b t h = numbered_from b (spot (first_item b) 0) (spot h.1.end h.0) 0 (out-Script t).items refl h.1.items
-
--- The profile
-
-lone_from_numbered : (k : ℕ) (is : List Item) → NumberedFrom k is → AllLone is
-lone_from_numbered k [] n = tt
-lone_from_numbered k (i ∷ is) n = ((n.0.command, n.0.whole), lone_from_numbered (k + 1) is n.1)
-
--- a script that is read, and of which no command is refused, is admitted
-pub admitted_read : (b : List ℕ) (t : Script) → Reads b t → first_refused b (lone_commands t) ≡ None → Admitted b t
-admitted_read b t h e = admitted_from_none b (out-Script t).items (lone_from_numbered 0 (out-Script t).items (reads_numbered b t h)) e

@@ -4,17 +4,20 @@ use Rattle.std.specs.Prelude.{◌≡◌, ℕ, false, List, [], ◌∷◌, ◌++�
 use Rattle.std.specs.List.{flat_map}
 use Rattle.sh_tree.specs.declared.place.Place.{Place}
 use Rattle.sh_tree.specs.declared.place.Code.TheVariants.{Q1}
-use Rattle.sh_tree.specs.declared.tree.Script.{Script}
+use Rattle.sh_tree.specs.declared.tree.Script.{Script, out-Script}
+use Rattle.sh_tree.specs.declared.tree.Item.{Item, out-Item}
+use Rattle.sh_tree.specs.declared.tree.AndOr.{out-AndOr}
+use Rattle.sh_tree.specs.declared.tree.Pipe.{out-Pipe}
 use Rattle.sh_tree.specs.declared.tree.Command.{Command, out-Command}
 use Rattle.sh_tree.specs.declared.tree.Element.{Element}
 use Rattle.sh_tree.specs.declared.tree.Word.{Word}
 use Rattle.sh_tree.specs.declared.refusal.Refusal.{Refusal}
 use Rattle.sh_tree.specs.declared.refusal.Refusal.TheVariants.{Memory, Profile}
 use Rattle.sh_tree.specs.declared.refusal.Rule.TheVariants.{Later}
-use Rattle.sh_tree.specs.Words.{lone_commands, elements_of, Form, Assigns, Operand, Redirects, form_of, words_of, assignments_of, expansions, Expansion, subject_text}
+use Rattle.sh_tree.specs.Words.{lone_command, lone_commands, elements_of, Form, Assigns, Operand, Redirects, form_of, words_of, assignments_of, expansions, Expansion, subject_text}
 use Rattle.sh_flow.specs.Policy.{Text, Declared}
 use Rattle.sh_flow.specs.Names.{start_names, is_one_of}
-use Rattle.sh_flow.specs.Profile.{is_admitted}
+use Rattle.sh_flow.specs.Profile.{is_item_admitted}
 use Rattle.sh_flow.specs.Demands.{wanted}
 
 -- Quoting: each unquoted expansion in a command's words
@@ -64,14 +67,23 @@ module _ (b : List ℕ) where
 
 -- The profile
 
--- the first command that is not analysed
-unfoldable pub first_refused : List ℕ → List Command → Option Command
+-- the first item that is not analysed
+unfoldable pub first_refused : List ℕ → List Item → Option Item
 first_refused b [] = None
-first_refused b (c ∷ cs) = if is_admitted b c then first_refused b cs else Some c
+first_refused b (i ∷ is) = if is_item_admitted b (lone_command i) then first_refused b is else Some i
 
--- A script is admitted, or its first command that is not analysed is told at its start.
+-- where the first of these commands begins
+unfoldable pub first_start : List Command → ℕ
+first_start [] = 0
+first_start (c ∷ cs) = (out-Command c).at
+
+-- where the first command of an item begins: an item that was read has one
+abbrev pub item_start : Item → ℕ
+item_start i = first_start (out-Pipe (out-AndOr (out-Item i).list).first).parts
+
+-- A script is admitted, or its first item that is not analysed is told at the start of its first command.
 abbrev pub Admits : List ℕ → Script → Result (Unit {0}) Refusal → Type 0
-Admits b t (Ok u) = first_refused b (lone_commands t) ≡ None
-Admits b t (Err (Profile r at)) = (c : Command) × (first_refused b (lone_commands t) ≡ Some c) × (at ≡ (out-Command c).at) × (r ≡ Later)
+Admits b t (Ok u) = first_refused b (out-Script t).items ≡ None
+Admits b t (Err (Profile r at)) = (i : Item) × (first_refused b (out-Script t).items ≡ Some i) × (at ≡ item_start i) × (r ≡ Later)
 Admits b t (Err Memory) = Unit {0}
 Admits b t (Err _) = ⊥

@@ -9,7 +9,7 @@ use Rattle.sh_tree.specs.declared.place.Place.{Place}
 use Rattle.sh_tree.specs.declared.tree.Script.{Script}
 use Rattle.sh_tree.specs.declared.refusal.Refusal.{Refusal}
 use Rattle.sh_tree.specs.declared.refusal.Refusal.TheVariants.{TooLong, NulByte, Syntax, LeftOut, TooDeep, TooMany, Memory, Profile, CertSyntax, CertShape}
-use Rattle.sh_tree.specs.Reading.{Reads, ReadsWithin}
+use Rattle.sh_tree.specs.language.Reading.{Reads, ReadsWithin}
 use Rattle.sh_tree.specs.Answers.{IsText, Parses}
 use Rattle.sh_scan.specs.Places.{place_of}
 use Rattle.sh_flow.specs.Policy.{Declared}
@@ -67,7 +67,7 @@ Accepts b d t (Err (CertSyntax n)) = ⊥
 Accepts b d t (Err CertShape) = ⊥
 
 -- A pass only where nothing is to be told, and then no run has an event; findings exactly where there are some; a refusal only of a
--- text, a command or names that are not accepted; want of memory aside, one of these.
+-- text, an item or names that are not accepted; want of memory aside, one of these.
 abbrev pub Lints : List ℕ → Declared → Result Verdict Refusal → Type 0
 Lints b d (Ok Pass) = (t : Script) × IsAccepted b d t × (places b d t ≡ []) × IsSafe b d t
 Lints b d (Ok (Fail r)) = (t : Script) × IsAccepted b d t × (0 < length r.findings.items) × AreFindings b (places b d t) r.findings.items
@@ -78,7 +78,7 @@ Lints b d (Err TooLong) = Parses b (Err TooLong)
 Lints b d (Err (NulByte at)) = Parses b (Err (NulByte at))
 Lints b d (Err (Syntax f at)) = Parses b (Err (Syntax f at))
 Lints b d (Err (LeftOut f at)) = Parses b (Err (LeftOut f at))
+Lints b d (Err (TooDeep at)) = Parses b (Err (TooDeep at))
 Lints b d (Err Memory) = IsText b
-Lints b d (Err (TooDeep at)) = ⊥
 Lints b d (Err (CertSyntax n)) = ⊥
 Lints b d (Err CertShape) = ⊥

@@ -1,12 +1,12 @@
 //! Which scripts are analysed.
-ghost use Rattle.std.specs.Prelude.{◌≡◌, IfOk, slice_get, option_to_list};
-ghost use Rattle.std.specs.List.{list_any, filter_map};
+ghost use Rattle.std.specs.Prelude.{◌≡◌, IfOk, slice_get};
+ghost use Rattle.std.specs.List.{list_any};
 ghost use Rattle.std.specs.Option.{option_copied};
 ghost use Rattle.std.specs.Str.{bytes_eq};
 ghost use Rattle.sh_tree.specs.Words.{word_of, words_of, lone_command};
 ghost use Rattle.sh_flow.specs.Names as names;
 ghost use Rattle.sh_flow.specs.Profile as profile;
-ghost use Rattle.shset.specs.Findings.{Admits, first_refused};
+ghost use Rattle.shset.specs.Findings.{Admits, first_refused, item_start};
 
 use crate::straight::is_straight;
 use sh_tree::refusal::{Refusal, Rule};
@@ -143,50 +143,54 @@ fn is_admitted(alloc: Global, command: &Command, script: &[u8]) -> Result<bool, 
     Ok(straight && named)
 }
 
-/// The command of an item, where it is not analysed.
-fn refused_in<'a>(
-    alloc: Global,
-    item: &'a Item,
-    script: &[u8],
-) -> Result<Option<&'a Command>, AllocError>
-    ensures { IfOk result (λ found. option_copied found ≡ first_refused script.now (option_to_list (lone_command item.entry.now))) }
+/// Whether the item is one command alone that is analysed.
+fn is_item_admitted(alloc: Global, item: &Item, script: &[u8]) -> Result<bool, AllocError>
+    ensures { IfOk result (λ admitted. admitted ≡ profile.is_item_admitted script.now (lone_command item.now)) }
 {
     let Some(command) = item.lone_command() else {
-        return Ok(None);
+        return Ok(false);
     };
-    let admitted = is_admitted(alloc, command, script)?;
-    if admitted {
-        return Ok(None);
-    }
-    Ok(Some(command))
+    is_admitted(alloc, command, script)
 }
 
-/// The first command that is not analysed.
+/// The first item that is not analysed.
 fn refused_among<'a>(
     alloc: Global,
     items: &'a [Item],
     script: &[u8],
-) -> Result<Option<&'a Command>, AllocError>
-    ensures { IfOk result (λ found. option_copied found ≡ first_refused script.now (filter_map lone_command items.entry.now)) }
+) -> Result<Option<&'a Item>, AllocError>
+    ensures { IfOk result (λ found. option_copied found ≡ first_refused script.now items.entry.now) }
 {
     for item in items {
-        if let Some(command) = refused_in(alloc, item, script)? {
-            return Ok(Some(command));
+        let admitted = is_item_admitted(alloc, item, script)?;
+        if !admitted {
+            return Ok(Some(item));
         }
     }
     Ok(None)
+}
+
+/// Where the first command of the item begins.
+#[tactic(auto, unfolding(crate::specs::Findings::first_start))]
+fn item_start(item: &Item) -> u32
+    ensures { result ≡ item_start item.now }
+{
+    match item.list.first.parts.as_slice() {
+        [] => 0,
+        [first, ..] => first.at,
+    }
 }
 
 /// Whether the script is analysed.
 ///
 /// # Errors
 ///
-/// `Profile` with the start of the first command that is not analysed; `Memory` where a growth was refused.
+/// `Profile` with the start of the first item that is not analysed; `Memory` where a growth was refused.
 pub(crate) fn admit(alloc: Global, tree: &Script, script: &[u8]) -> Result<(), Refusal>
     ensures { Admits script.now tree.now result }
 {
     match refused_among(alloc, tree.items.as_slice(), script)? {
-        Some(command) => Err(Refusal::Profile(Rule::Later, command.at)),
+        Some(item) => Err(Refusal::Profile(Rule::Later, item_start(item))),
         None => Ok(()),
     }
 }

@@ -1,10 +1,11 @@
 //! Certificates of straight scripts.
 ghost use Rattle.std.specs.Prelude.{◌≡◌, ◌++◌, ◌∷◌, [], ℕ, List, map, false, IfOk, OnOk, option_to_list};
 ghost use Rattle.std.specs.List.{filter_map};
-ghost use Rattle.sh_tree.specs.Reading.{Reads};
+ghost use Rattle.sh_tree.specs.language.Reading.{Reads};
 ghost use Rattle.sh_tree.specs.Words.{lone_command, words_of, assignment_of, assignments_of};
 ghost use Rattle.sh_flow.specs.Policy.{Text};
 ghost use Rattle.sh_flow.specs.Names.{start_names, number_of, numbering};
+ghost use Rattle.sh_flow.specs.Profile.{Admitted};
 ghost use Rattle.sh_flow.specs.Certificates.{claims_of};
 ghost use Rattle.sh_flow.specs.Rules.{script_faults};
 ghost use Rattle.sh_flow.specs.Demands.{script_unmet};
@@ -234,6 +235,7 @@ pub(crate) fn find(
     policy: &Policy,
 ) -> Result<Certificate, AllocError>
     requires reads { Reads script.now tree.now }
+    requires admitted { Admitted script.now tree.now }
     requires numbered { names.now ≡ numbering script.now tree.now policy.now }
     ensures rules { IfOk result (λ c. script_faults script.now names.now (claims_of c) policy.now tree.now ≡ []) }
     ensures demands { IfOk result (λ c. script_unmet script.now names.now (claims_of c) tree.now ≡ unset_places script.now policy.now tree.now) }

@@ -1,7 +1,8 @@
 //! The findings of a script.
 ghost use Rattle.std.specs.Prelude.{◌≡◌, ◌<◌, ◌-◌, ◌^◌, [], length, IfOk};
-ghost use Rattle.sh_tree.specs.Reading.{Reads};
+ghost use Rattle.sh_tree.specs.language.Reading.{Reads};
 ghost use Rattle.sh_flow.specs.Names.{numbering};
+ghost use Rattle.sh_flow.specs.Profile.{Admitted};
 ghost use Rattle.sh_flow.specs.Theorem.{NoUnsetEvent};
 ghost use Rattle.shset.specs.Findings.{unset_places};
 ghost use Rattle.shset.specs.Lint.{Accepts, AreFindings, IsSafe, Lints, places};
@@ -27,7 +28,7 @@ use std::alloc::{AllocError, Global};
 ///
 /// # Errors
 ///
-/// The refusal of the text, of its first command that is not analysed, or of its names, in that order; `Memory` where a
+/// The refusal of the text, of its first item that is not analysed, or of its names, in that order; `Memory` where a
 /// growth was refused.
 #[tactic(auto, using(crate::proofs::LintLemmas::read_within, crate::proofs::LintLemmas::unread, crate::proofs::LintLemmas::unaccepted, crate::proofs::LintLemmas::passes, crate::proofs::LintLemmas::fails))]
 pub fn lint(alloc: Global, script: &[u8], policy: &Policy) -> Result<Verdict, Refusal>
@@ -43,7 +44,7 @@ pub fn lint(alloc: Global, script: &[u8], policy: &Policy) -> Result<Verdict, Re
 }
 
 /// Where a demand is unmet, in a script that is accepted.
-#[tactic(auto, using(crate::proofs::LintLemmas::admitted_reading, crate::proofs::LintLemmas::unnumbered, crate::proofs::LintLemmas::unadmitted))]
+#[tactic(auto, using(crate::proofs::AdmitLemmas::admitted_from_none, crate::proofs::LintLemmas::unnumbered, crate::proofs::LintLemmas::unadmitted))]
 fn accepted_places(
     alloc: Global,
     tree: &Script,
@@ -69,6 +70,7 @@ fn places_in(
     policy: &Policy,
 ) -> Result<Vec<Place>, AllocError>
     requires reads { Reads script.now tree.now }
+    requires admitted { Admitted script.now tree.now }
     requires numbered { names.now ≡ numbering script.now tree.now policy.now }
     ensures places { IfOk result (λ v. v.items ≡ places script.now policy.now tree.now) }
     ensures safe { IfOk result (λ v. v.items ≡ [] → IsSafe script.now policy.now tree.now) }
@@ -89,6 +91,7 @@ fn unset_in(
     policy: &Policy,
 ) -> Result<Vec<Place>, AllocError>
     requires reads { Reads script.now tree.now }
+    requires admitted { Admitted script.now tree.now }
     requires numbered { names.now ≡ numbering script.now tree.now policy.now }
     ensures places { IfOk result (λ v. v.items ≡ unset_places script.now policy.now tree.now) }
     ensures safe { IfOk result (λ v. v.items ≡ [] → NoUnsetEvent script.now tree.now policy.now) }

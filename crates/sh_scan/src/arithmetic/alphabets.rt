@@ -3,8 +3,9 @@ ghost use Rattle.std.specs.Prelude.{◌≡◌, ◌≤◌, ◌<◌, ◌+◌, ◌+
 ghost use Rattle.sh_tree.specs.language.Bytes as bytes;
 ghost use Rattle.sh_scan.specs.Alphabets.{belongs};
 
-use crate::bytes::{is_digit, is_name_byte};
+use crate::bytes::is_digit;
 use sh_tree::limits::MAX_SCRIPT;
+use sh_tree::name::is_name_byte;
 
 /// Of which bytes names and constants are made.
 #[derive(Clone, Copy, Debug, PartialEq, Eq)]

@@ -6,9 +6,10 @@ ghost use Rattle.sh_tree.specs.language.Arithmetic as arithmetic;
 use super::alphabets::{Alphabet, run_over};
 use super::constants::constant_length;
 use super::operators::operator;
-use crate::bytes::{is_digit, is_name_start};
+use crate::bytes::is_digit;
 use crate::pieces::begins_so;
 use sh_tree::limits::MAX_SCRIPT;
+use sh_tree::name::is_name_start;
 use sh_tree::refusal::Form;
 use sh_tree::token::Figure;
 

@@ -2,7 +2,7 @@
 ghost use Rattle.std.specs.Prelude.{◌≡◌, ◌≤◌, ◌<◌, ◌+◌, Option, Some, None, length, if◌then◌else◌, nat_le, IfSome};
 ghost use Rattle.sh_tree.specs.language.Bytes as bytes;
 ghost use Rattle.sh_tree.specs.language.Words as words;
-ghost use Rattle.sh_tree.specs.Tree as tree;
+ghost use Rattle.sh_tree.specs.language.Trees as tree;
 
 use crate::front::{begins_with, digit_length, name_length};
 use sh_tree::limits::MAX_SCRIPT;

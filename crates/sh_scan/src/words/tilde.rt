@@ -4,8 +4,8 @@ ghost use Rattle.sh_tree.specs.language.Bytes as bytes;
 ghost use Rattle.sh_tree.specs.language.Words as words;
 
 use super::sites::{is_among, is_quoted, stops};
-use crate::bytes::is_name_byte;
 use crate::front::is_joined;
+use sh_tree::name::is_name_byte;
 use sh_tree::token::Context;
 
 fn is_login_byte(byte: u8) -> bool

@@ -22,7 +22,7 @@ use Rattle.sh_tree.specs.declared.token.command.Lead.{Lead}
 use Rattle.sh_tree.specs.declared.token.command.Lead.TheVariants as lead
 use Rattle.sh_tree.specs.language.Bytes.{is_in, is_blank, is_newline, is_backslash, is_digit, is_name, ends_token, run, is_first, name_length, longest, behind_joined, is_joined, joined_at}
 use Rattle.sh_tree.specs.language.Words.{ends_joined}
-use Rattle.sh_tree.specs.Tree.{span}
+use Rattle.sh_tree.specs.language.Trees.{span}
 
 -- Between tokens
 

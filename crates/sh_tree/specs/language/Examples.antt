@@ -70,6 +70,49 @@ quoted_words =
 abbrev pub quoted_script : Script
 quoted_script = lone (simple 1 0 quoted_words)
 
+-- the value of a variable, in double quotes
+abbrev pub double_text : List ℕ
+double_text = codes "echo \"$x\""
+
+abbrev pub double_parts : List Part
+double_parts = part.Double (span 5 9) (value 6 8 ∷ []) ∷ []
+
+abbrev pub double_words : List Element
+double_words = element.Word (bare 0 4) ∷ element.Word (word 5 9 double_parts) ∷ []
+
+abbrev pub double_script : Script
+double_script = lone (simple 1 0 double_words)
+
+-- the same without quotes
+abbrev pub bare_text : List ℕ
+bare_text = codes "echo $x"
+
+abbrev pub bare_words : List Element
+bare_words = element.Word (bare 0 4) ∷ element.Word (word 5 7 (value 5 7 ∷ [])) ∷ []
+
+abbrev pub bare_script : Script
+bare_script = lone (simple 1 0 bare_words)
+
+-- the variable gets a value first
+abbrev pub assigned_text : List ℕ
+assigned_text = codes "x=1\necho \"$x\""
+
+abbrev pub assigned_parts : List Part
+assigned_parts = part.Double (span 9 13) (value 10 12 ∷ []) ∷ []
+
+abbrev pub assigned_words : List Element
+assigned_words = element.Word (bare 4 8) ∷ element.Word (word 9 13 assigned_parts) ∷ []
+
+abbrev pub assigned_script : Script
+assigned_script = script (alone (simple 1 0 (element.Assignment (span 0 1) (bare 2 3) ∷ [])) ∷ alone (simple 2 4 assigned_words) ∷ [])
+
+-- the utility's environment gets it
+abbrev pub passed_text : List ℕ
+passed_text = codes "x=1 echo \"$x\""
+
+abbrev pub passed_script : Script
+passed_script = lone (simple 1 0 (element.Assignment (span 0 1) (bare 2 3) ∷ assigned_words))
+
 -- tilde-prefixes in a value, and a command behind it
 abbrev pub home_text : List ℕ
 home_text = codes "a=~/b:~ c"
@@ -260,6 +303,10 @@ unclosed_text = codes "{ { a; } >f }"
 -- each text is its tree, or none
 pub record LanguageRead : Type 0 where
   pub quoted : Reads quoted_text quoted_script
+  pub double : Reads double_text double_script
+  pub bare_value : Reads bare_text bare_script
+  pub assigned : Reads assigned_text assigned_script
+  pub passed : Reads passed_text passed_script
   pub home : Reads home_text home_script
   pub braces : Reads braces_text braces_script
   pub braced : Reads braced_text braced_script

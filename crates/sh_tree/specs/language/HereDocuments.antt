@@ -4,7 +4,7 @@ use Rattle.std.specs.Prelude.{ℕ, zero, suc, ◌+◌, Bool, false, not, ◌&&�
 use Rattle.std.specs.Str.{bytes_eq}
 use Rattle.sh_tree.specs.declared.tree.Span.{Span}
 use Rattle.sh_tree.specs.language.Bytes.{is_newline, is_tab, is_backslash, run, is_first}
-use Rattle.sh_tree.specs.Tree.{span}
+use Rattle.sh_tree.specs.language.Trees.{span}
 
 -- a here-document whose body has not come: whether it strips tabs, whether its delimiter is quoted, the delimiter, and how deep the operator stands
 pub record Mark : Type 0 where

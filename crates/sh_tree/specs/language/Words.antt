@@ -17,7 +17,7 @@ use Rattle.sh_tree.specs.declared.token.word.Sign.{Sign}
 use Rattle.sh_tree.specs.declared.token.word.Sign.TheVariants as sign
 use Rattle.sh_tree.specs.declared.token.word.Token.{Token}
 use Rattle.sh_tree.specs.language.Bytes.{is_in, is_newline, is_tab, is_digit, is_name_start, is_name_byte, ends_token, run, is_first, name_length, decimal, behind_joined, is_joined}
-use Rattle.sh_tree.specs.Tree.{span}
+use Rattle.sh_tree.specs.language.Trees.{span}
 
 -- Sites
 

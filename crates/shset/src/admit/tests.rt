@@ -38,22 +38,27 @@ fn command(alloc: Global, kind: Kind) -> Command {
     }
 }
 
+/// What is told of a script that is one pipeline.
+fn told_item(
+    alloc: Global,
+    first: Pipe,
+    background: bool,
+) -> Result<Result<(), Refusal>, AllocError> {
+    let list = AndOr {
+        first,
+        rest: Items::new(alloc),
+    };
+    let items = one(alloc, Item { list, background })?;
+    Ok(admit(alloc, &Script { items }, TEXT))
+}
+
 /// What is told of a script that is one command.
 fn told(alloc: Global, command: Command) -> Result<Result<(), Refusal>, AllocError> {
     let first = Pipe {
         negated: false,
         parts: one(alloc, command)?,
     };
-    let list = AndOr {
-        first,
-        rest: Items::new(alloc),
-    };
-    let item = Item {
-        list,
-        background: false,
-    };
-    let items = one(alloc, item)?;
-    Ok(admit(alloc, &Script { items }, TEXT))
+    told_item(alloc, first, false)
 }
 
 /// What is told of the command `a` with one more element.
@@ -133,5 +138,37 @@ fn commands_that_are_not_straight(rt: HostRuntime) -> Result<(), Fail> {
     let items = Items::new(alloc);
     let group = command(alloc, Kind::Group(Script { items }));
     assert_eq!(rt; told(alloc, group)?, Err(LATER));
+    Ok(())
+}
+
+/// The command that is the word at the span.
+fn utility(alloc: Global, span: Span) -> Result<Command, AllocError> {
+    let elements = one(alloc, Element::Word(word(alloc, span, Part::Plain(span))?))?;
+    let mut utility = command(alloc, Kind::Simple(elements));
+    utility.at = span.start;
+    Ok(utility)
+}
+
+#[test]
+fn items_of_more_than_a_command(rt: HostRuntime) -> Result<(), Fail> {
+    let alloc = rt.alloc();
+    let alone = Pipe {
+        negated: false,
+        parts: one(alloc, utility(alloc, NAME)?)?,
+    };
+    assert_eq!(rt; told_item(alloc, alone, true)?, Err(LATER));
+    let negated = Pipe {
+        negated: true,
+        parts: one(alloc, utility(alloc, OPERAND)?)?,
+    };
+    let at_command = Refusal::Profile(Rule::Later, 2);
+    assert_eq!(rt; told_item(alloc, negated, false)?, Err(at_command));
+    let mut parts = one(alloc, utility(alloc, NAME)?)?;
+    parts.push(utility(alloc, OPERAND)?)?;
+    let joined = Pipe {
+        negated: false,
+        parts,
+    };
+    assert_eq!(rt; told_item(alloc, joined, false)?, Err(LATER));
     Ok(())
 }

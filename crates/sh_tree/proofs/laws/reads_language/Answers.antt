@@ -1,10 +1,14 @@
-use Rattle.sh_tree.proofs.LanguageLemmas.{quoted_reads, home_reads, braces_reads, braced_reads, arithmetic_reads, substituted_reads, document_reads, branch_reads, loop_reads, case_reads, defined_reads, closed_reads, separated_reads, empty_reads, comment_reads}
+use Rattle.sh_tree.proofs.LanguageLemmas.{quoted_reads, double_reads, bare_reads, assigned_reads, passed_reads, home_reads, braces_reads, braced_reads, arithmetic_reads, substituted_reads, document_reads, branch_reads, loop_reads, case_reads, defined_reads, closed_reads, separated_reads, empty_reads, comment_reads}
 use Rattle.sh_tree.proofs.UnreadLemmas.{open_quote_unread, open_braced_unread, split_name_unread, no_expression_unread, lone_bar_unread, split_operator_unread, clause_end_unread, open_document_unread, split_document_unread, tabbed_document_unread, unclosed_unread}
 use Rattle.sh_tree.proofs.laws.reads_language.Goals as goal
 
 pub returns : goal.returns
 returns c = record {
   quoted = quoted_reads;
+  double = double_reads;
+  bare_value = bare_reads;
+  assigned = assigned_reads;
+  passed = passed_reads;
   home = home_reads;
   braces = braces_reads;
   braced = braced_reads;

@@ -1,17 +1,17 @@
-use Rattle.std.proofs.Common.{◌∙◌, sym, Some, None}
-use Rattle.shset.proofs.AdmitLemmas.{refused_step, refused_stop}
+use Rattle.std.proofs.Common.{◌∙◌, sym}
+use Rattle.shset.proofs.AdmitLemmas.{refused_here, refused_later, refused_stop}
 use Rattle.shset.proofs.admit.refused_among.Goals as goal
 
-pub returns-in-Some : goal.returns-in-Some
-returns-in-Some c =
-    sym (refused_step c.args.script.now c.args.items.now c.loop-item.item-index c.item-item.result (Some c.in-Some.command.now) c.loop-item-test.true c.item-item.is
-    (rw c.in-Some.is at c.in_ok-command.ensures))
+pub returns-then-not-admitted : goal.returns-then-not-admitted
+returns-then-not-admitted c =
+    sym (refused_here c.args.script.now c.args.items.now c.loop-item.item-index c.item-item.result c.loop-item-test.true c.item-item.is
+    (sym c.if-not-admitted.true ∙ c.in_ok-admitted.ensures))
     ∙ c.loop-item.invariant
 
 pub loop-item-preserved : goal.loop-item-preserved
 loop-item-preserved c =
-    sym (refused_step c.args.script.now c.args.items.now c.loop-item.item-index c.item-item.result None c.loop-item-test.true c.item-item.is
-    (rw c.in_default.is at c.in_ok-command.ensures))
+    sym (refused_later c.args.script.now c.args.items.now c.loop-item.item-index c.item-item.result c.loop-item-test.true c.item-item.is
+    (sym c.if-not-admitted.false ∙ c.in_ok-admitted.ensures))
     ∙ c.loop-item.invariant
 
 pub returns : goal.returns

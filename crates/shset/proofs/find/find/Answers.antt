@@ -8,7 +8,8 @@ use Rattle.sh_flow.specs.Rules.{script_faults}
 use Rattle.sh_flow.specs.Demands.{script_unmet}
 use Rattle.shset.specs.Findings.{unset_places}
 use Rattle.shset.specs.Certifies.{Found}
-use Rattle.shset.proofs.NumberingLemmas.{reads_numbered, all_numbered}
+use Rattle.shset.proofs.NumberingLemmas.{all_numbered}
+use Rattle.shset.proofs.ReadLemmas.{reads_numbered}
 use Rattle.shset.proofs.CertificateLemmas.{certificate_clean, certificate_exact}
 use Rattle.shset.proofs.find.find.Goals as goal
 
@@ -21,7 +22,7 @@ returns-clause-rules c =
     let found : Found names b c.in_ok-finder.finder (start_names ++ d.names) d.args (lone_commands t) =
     subst (λ (is : List Item). Found names b c.in_ok-finder.finder (start_names ++ d.names) d.args (filter_map lone_command is)) c.as_slice.ensures c.in_ok-finder.ensures in
     subst (λ (x : Table). script_faults b names (claims_of x) d t ≡ []) (sym c.into_certificate.ensures)
-    (certificate_clean b names d t c.in_ok-finder.finder (reads_numbered b t c.requires.reads) found)
+    (certificate_clean b names d t c.in_ok-finder.finder (reads_numbered b t c.requires.reads c.requires.admitted) found)
 
 pub returns-clause-demands : goal.returns-clause-demands
 returns-clause-demands c =
@@ -32,4 +33,4 @@ returns-clause-demands c =
     let found : Found names b c.in_ok-finder.finder (start_names ++ d.names) d.args (lone_commands t) =
     subst (λ (is : List Item). Found names b c.in_ok-finder.finder (start_names ++ d.names) d.args (filter_map lone_command is)) c.as_slice.ensures c.in_ok-finder.ensures in
     subst (λ (x : Table). script_unmet b names (claims_of x) t ≡ unset_places b d t) (sym c.into_certificate.ensures)
-    (certificate_exact b names d t c.in_ok-finder.finder (reads_numbered b t c.requires.reads) found (all_numbered b t d names c.requires.numbered))
+    (certificate_exact b names d t c.in_ok-finder.finder (reads_numbered b t c.requires.reads c.requires.admitted) found (all_numbered b t d names c.requires.numbered))

@@ -1,0 +1,324 @@
+//! Line continuations.
+use super::check;
+use std::test::Fail;
+
+#[test]
+fn between_tokens(rt: HostRuntime) -> Result<(), Fail> {
+    check(
+        &rt,
+        rt.alloc(),
+        &[
+            ("\\\n", ""),
+            ("\\\na", "1@2[w2-3(p2-3)]"),
+            ("a \\\nb", "1@0[w0-1(p0-1) w4-5(p4-5)]"),
+            ("a\\\n b", "1@0[w0-1(p0-1) w4-5(p4-5)]"),
+            ("a\\\n\tb", "1@0[w0-1(p0-1) w4-5(p4-5)]"),
+            ("a\\\n\\\n b", "1@0[w0-1(p0-1) w6-7(p6-7)]"),
+            ("a\\\n;b", "1@0[w0-1(p0-1)] 2@4[w4-5(p4-5)]"),
+            ("a;\\\nb", "1@0[w0-1(p0-1)] 2@4[w4-5(p4-5)]"),
+            ("a\\\n\nb", "1@0[w0-1(p0-1)] 2@4[w4-5(p4-5)]"),
+            ("a\n\\\nb", "1@0[w0-1(p0-1)] 2@4[w4-5(p4-5)]"),
+            ("a\\\n", "1@0[w0-1(p0-1)]"),
+            ("a \\\n", "1@0[w0-1(p0-1)]"),
+            ("a\\\n\\\n", "1@0[w0-1(p0-1)]"),
+            ("x=\\\n", "1@0[a0-1=2-2()]"),
+            ("x=1\\\n a", "1@0[a0-1=2-3(p2-3) w6-7(p6-7)]"),
+            ("x=\\\n a", "1@0[a0-1=2-2() w5-6(p5-6)]"),
+            ("'a'\\\n", "1@0[w0-3(s0-3)]"),
+            ("$\\\n", "1@0[w0-1(p0-1)]"),
+            ("$\\\n a", "1@0[w0-1(p0-1) w4-5(p4-5)]"),
+        ],
+    )
+}
+
+#[test]
+fn before_forms_that_are_not_read_yet(rt: HostRuntime) -> Result<(), Fail> {
+    check(
+        &rt,
+        rt.alloc(),
+        &[
+            ("a\\\n|b", "LeftOut(Later, 3)"),
+            ("a|\\\nb", "LeftOut(Later, 1)"),
+            ("a\\\n&b", "LeftOut(Later, 3)"),
+            ("a\\\n>b", "LeftOut(Later, 3)"),
+            ("a >\\\nb", "LeftOut(Later, 2)"),
+            ("a b\\\n>c", "LeftOut(Later, 5)"),
+            ("if\\\n a", "LeftOut(Later, 0)"),
+            ("!\\\n a", "LeftOut(Later, 0)"),
+            ("( \\\n(a))", "LeftOut(Later, 0)"),
+            ("{\\\n a", "LeftOut(Later, 0)"),
+            ("f\\\n()", "LeftOut(Later, 0)"),
+            ("f(\\\n)", "LeftOut(Later, 0)"),
+            ("time\\\n a", "LeftOut(Time, 0)"),
+            ("a2\\\n>b", "LeftOut(Later, 4)"),
+            ("a '2'\\\n>b", "LeftOut(Later, 7)"),
+            ("a 2 \\\n>b", "LeftOut(Later, 6)"),
+        ],
+    )
+}
+
+#[test]
+fn in_words(rt: HostRuntime) -> Result<(), Fail> {
+    check(
+        &rt,
+        rt.alloc(),
+        &[
+            ("ab\\\nc", "LeftOut(Continuation, 2)"),
+            ("echo ab\\\nc", "LeftOut(Continuation, 7)"),
+            ("a\\\n\\\nb", "LeftOut(Continuation, 1)"),
+            ("'a'\\\nb", "LeftOut(Continuation, 3)"),
+            ("\"a\"\\\nb", "LeftOut(Continuation, 3)"),
+            ("\\a\\\nb", "LeftOut(Continuation, 2)"),
+            ("$x\\\n.b", "LeftOut(Continuation, 2)"),
+            ("${x}\\\ny", "LeftOut(Continuation, 4)"),
+            ("$((1))\\\na", "LeftOut(Continuation, 6)"),
+            ("a\\\n'b'", "LeftOut(Continuation, 1)"),
+            ("a\\\n\"b\"", "LeftOut(Continuation, 1)"),
+            ("a\\\n$x", "LeftOut(Continuation, 1)"),
+            ("a\\\n\\b", "LeftOut(Continuation, 1)"),
+            ("a\\\n~", "LeftOut(Continuation, 1)"),
+            ("a\\\n=b", "LeftOut(Continuation, 1)"),
+            ("x=\\\na", "LeftOut(Continuation, 2)"),
+            ("x=a\\\nb", "LeftOut(Continuation, 3)"),
+            ("x\\\n=a", "LeftOut(Continuation, 1)"),
+            ("$\\\n.", "LeftOut(Continuation, 1)"),
+        ],
+    )
+}
+
+#[test]
+fn in_reserved_words(rt: HostRuntime) -> Result<(), Fail> {
+    check(
+        &rt,
+        rt.alloc(),
+        &[
+            ("i\\\nf a", "LeftOut(Continuation, 1)"),
+            ("!\\\na", "LeftOut(Continuation, 1)"),
+            ("ti\\\nme a", "LeftOut(Continuation, 2)"),
+            ("[\\\n[ a", "LeftOut(Continuation, 1)"),
+            ("{\\\na", "LeftOut(Continuation, 1)"),
+            ("!\\\n(a)", "LeftOut(Continuation, 1)"),
+            ("(\\\n(a))", "LeftOut(Continuation, 1)"),
+        ],
+    )
+}
+
+#[test]
+fn in_operators(rt: HostRuntime) -> Result<(), Fail> {
+    check(
+        &rt,
+        rt.alloc(),
+        &[
+            ("a |\\\n|b", "LeftOut(Continuation, 3)"),
+            ("a &\\\n&b", "LeftOut(Continuation, 3)"),
+            ("a ;\\\n;b", "LeftOut(Continuation, 3)"),
+            ("a ;\\\n&b", "LeftOut(Continuation, 3)"),
+            ("a >\\\n>b", "LeftOut(Continuation, 3)"),
+            ("a <\\\n<b", "LeftOut(Continuation, 3)"),
+            ("a <<\\\n-b", "LeftOut(Continuation, 4)"),
+            ("a >\\\n|b", "LeftOut(Continuation, 3)"),
+            ("a >\\\n&b", "LeftOut(Continuation, 3)"),
+            ("a <\\\n&b", "LeftOut(Continuation, 3)"),
+            ("a <\\\n>b", "LeftOut(Continuation, 3)"),
+            ("a >\\\n\\\n>b", "LeftOut(Continuation, 3)"),
+            (">\\\n>b", "LeftOut(Continuation, 1)"),
+            ("a 2>\\\n>b", "LeftOut(Continuation, 4)"),
+            ("a 2\\\n>b", "LeftOut(Continuation, 3)"),
+            ("2\\\n<b", "LeftOut(Continuation, 1)"),
+            ("a 2\\\n\\\n<b", "LeftOut(Continuation, 3)"),
+            ("a 12\\\n>b", "LeftOut(Continuation, 4)"),
+        ],
+    )
+}
+
+#[test]
+fn in_expansions(rt: HostRuntime) -> Result<(), Fail> {
+    check(
+        &rt,
+        rt.alloc(),
+        &[
+            ("$\\\nx", "LeftOut(Continuation, 1)"),
+            ("$\\\n1", "LeftOut(Continuation, 1)"),
+            ("$\\\n{x}", "LeftOut(Continuation, 1)"),
+            ("$\\\n(a)", "LeftOut(Continuation, 1)"),
+            ("$\\\n((1))", "LeftOut(Continuation, 1)"),
+            ("$\\\n[1]", "LeftOut(Continuation, 1)"),
+            ("$\\\n'a'", "LeftOut(Continuation, 1)"),
+            ("$\\\n\"a\"", "LeftOut(Continuation, 1)"),
+            ("$\\\n\\\n?", "LeftOut(Continuation, 1)"),
+            ("$na\\\nme", "LeftOut(Continuation, 3)"),
+            ("$x\\\ny", "LeftOut(Continuation, 2)"),
+            ("$(\\\n(1))", "LeftOut(Continuation, 2)"),
+            ("$(\\\na)", "LeftOut(Later, 0)"),
+            ("$1\\\n2", "LeftOut(Continuation, 2)"),
+            ("$?\\\na", "LeftOut(Continuation, 2)"),
+        ],
+    )
+}
+
+#[test]
+fn in_double_quotes(rt: HostRuntime) -> Result<(), Fail> {
+    check(
+        &rt,
+        rt.alloc(),
+        &[
+            ("\"a\\\nb\"", "1@0[w0-6(d0-6(p1-2 j2-4 p4-5))]"),
+            ("\"\\\n\"", "1@0[w0-4(d0-4(j1-3))]"),
+            ("\"\\\n\\\n\"", "1@0[w0-6(d0-6(j1-3 j3-5))]"),
+            ("\"$1\\\n2\"", "1@0[w0-7(d0-7(v1-3/1:2-3 j3-5 p5-6))]"),
+            ("\"$?\\\na\"", "1@0[w0-7(d0-7(v1-3/?:2-3 j3-5 p5-6))]"),
+            ("\"${x}\\\ny\"", "1@0[w0-9(d0-9(v1-5/3-4 j5-7 p7-8))]"),
+            ("\"$a\\\n$b\"", "1@0[w0-8(d0-8(v1-3/2-3 j3-5 v5-7/6-7))]"),
+            ("\"$a\\\n.\"", "1@0[w0-7(d0-7(v1-3/2-3 j3-5 p5-6))]"),
+            ("\"$\\\n\"", "1@0[w0-5(d0-5(p1-2 j2-4))]"),
+            ("\"$\\\n.\"", "1@0[w0-6(d0-6(p1-2 j2-4 p4-5))]"),
+            ("\"$\\\n'a'\"", "1@0[w0-8(d0-8(p1-2 j2-4 p4-7))]"),
+            ("\"'\\\n'\"", "1@0[w0-6(d0-6(p1-2 j2-4 p4-5))]"),
+            ("\"\\\\\\\na\"", "1@0[w0-7(d0-7(e1-3 j3-5 p5-6))]"),
+            (
+                "\"$((1))\\\n1\"",
+                "1@0[w0-11(d0-11(a1-7(k4-5) j7-9 p9-10))]",
+            ),
+        ],
+    )
+}
+
+#[test]
+fn in_expansions_in_double_quotes(rt: HostRuntime) -> Result<(), Fail> {
+    check(
+        &rt,
+        rt.alloc(),
+        &[
+            ("\"$\\\nx\"", "LeftOut(Continuation, 2)"),
+            ("\"$\\\n1\"", "LeftOut(Continuation, 2)"),
+            ("\"$\\\n{x}\"", "LeftOut(Continuation, 2)"),
+            ("\"$\\\n(a)\"", "LeftOut(Continuation, 2)"),
+            ("\"$\\\n[\"", "LeftOut(Continuation, 2)"),
+            ("\"$\\\n$\"", "LeftOut(Continuation, 2)"),
+            ("\"$na\\\nme\"", "LeftOut(Continuation, 4)"),
+            ("\"$na\\\n\\\n1\"", "LeftOut(Continuation, 4)"),
+            ("\"$(\\\n(1))\"", "LeftOut(Continuation, 3)"),
+            ("\"$(\\\na)\"", "LeftOut(Later, 1)"),
+            ("\"$a\\\nb", "LeftOut(Continuation, 3)"),
+        ],
+    )
+}
+
+#[test]
+fn in_braces(rt: HostRuntime) -> Result<(), Fail> {
+    check(
+        &rt,
+        rt.alloc(),
+        &[
+            ("${\\\nx}", "LeftOut(Continuation, 2)"),
+            ("${x\\\n}", "LeftOut(Continuation, 3)"),
+            ("${x\\\ny}", "LeftOut(Continuation, 3)"),
+            ("${x\\\n-a}", "LeftOut(Continuation, 3)"),
+            ("${x:\\\n-a}", "LeftOut(Continuation, 4)"),
+            ("${#\\\nx}", "LeftOut(Continuation, 3)"),
+            ("${#x\\\n}", "LeftOut(Continuation, 4)"),
+            ("${1\\\n0}", "LeftOut(Continuation, 3)"),
+            ("${@\\\n}", "LeftOut(Continuation, 3)"),
+            ("${x-\\\na}", "LeftOut(Continuation, 4)"),
+            ("${x-a\\\nb}", "LeftOut(Continuation, 5)"),
+            ("${x-a\\\n}", "LeftOut(Continuation, 5)"),
+            ("${x-a \\\n b}", "LeftOut(Continuation, 6)"),
+            ("${x%\\\n%a}", "LeftOut(Continuation, 4)"),
+            ("${x#a\\\nb}", "LeftOut(Continuation, 5)"),
+            (
+                "${x-\"a\\\nb\"}",
+                "1@0[w0-11(u0-11/2-3[-]4-10(d4-10(p5-6 j6-8 p8-9)))]",
+            ),
+            ("${x-'a\\\nb'}", "1@0[w0-11(u0-11/2-3[-]4-10(s4-10))]"),
+        ],
+    )
+}
+
+#[test]
+fn in_braces_in_double_quotes(rt: HostRuntime) -> Result<(), Fail> {
+    check(
+        &rt,
+        rt.alloc(),
+        &[
+            ("\"${\\\nx}\"", "LeftOut(Continuation, 3)"),
+            ("\"${x\\\n}\"", "LeftOut(Continuation, 4)"),
+            ("\"${x\\\n-a}\"", "LeftOut(Continuation, 4)"),
+            ("\"${x%a\\\nb}\"", "LeftOut(Continuation, 6)"),
+            ("\"${x%\\\n%a}\"", "LeftOut(Continuation, 5)"),
+            ("\"${x-$\\\ny}\"", "LeftOut(Continuation, 6)"),
+            ("\"${x-$y\\\nz}\"", "LeftOut(Continuation, 7)"),
+            (
+                "\"${x-a\\\nb}\"",
+                "1@0[w0-11(d0-11(u1-10/3-4[-]5-9(p5-6 j6-8 p8-9)))]",
+            ),
+            (
+                "\"${x-\\\n~}\"",
+                "1@0[w0-10(d0-10(u1-9/3-4[-]5-8(j5-7 p7-8)))]",
+            ),
+            (
+                "\"${x-a\\\n}\"",
+                "1@0[w0-10(d0-10(u1-9/3-4[-]5-8(p5-6 j6-8)))]",
+            ),
+        ],
+    )
+}
+
+#[test]
+fn between_tokens_of_arithmetic(rt: HostRuntime) -> Result<(), Fail> {
+    check(
+        &rt,
+        rt.alloc(),
+        &[
+            ("$((1\\\n+2))", "1@0[w0-10(a0-10([k3-4 + k7-8]))]"),
+            ("$((1+\\\n2))", "1@0[w0-10(a0-10([k3-4 + k7-8]))]"),
+            ("$((\\\n1))", "1@0[w0-8(a0-8(k5-6))]"),
+            ("$((1\\\n))", "1@0[w0-8(a0-8(k3-4))]"),
+            ("$((1 \\\n\\\n + 2))", "1@0[w0-15(a0-15([k3-4 + k12-13]))]"),
+            ("$((x\\\n=1))", "1@0[w0-10(a0-10([3-4 = k7-8]))]"),
+            ("$((x\\\n+=1))", "1@0[w0-11(a0-11([3-4 += k8-9]))]"),
+            (
+                "$((a?\\\nb\\\n:c))",
+                "1@0[w0-14(a0-14([n3-4 ? n7-8 : n11-12]))]",
+            ),
+            ("$((-\\\nx))", "1@0[w0-9(a0-9([-n6-7]))]"),
+            ("$((1-\\\n+1))", "1@0[w0-11(a0-11([k3-4 - [+k8-9]]))]"),
+            (
+                "\"$((1\\\n+2))\"",
+                "1@0[w0-12(d0-12(a1-11([k4-5 + k8-9])))]",
+            ),
+        ],
+    )
+}
+
+#[test]
+fn in_tokens_of_arithmetic(rt: HostRuntime) -> Result<(), Fail> {
+    check(
+        &rt,
+        rt.alloc(),
+        &[
+            ("$((1\\\n2))", "LeftOut(Continuation, 4)"),
+            ("$((a\\\nb))", "LeftOut(Continuation, 4)"),
+            ("$((a\\\n1))", "LeftOut(Continuation, 4)"),
+            ("$((0\\\nx1))", "LeftOut(Continuation, 4)"),
+            ("$((0\\\n7))", "LeftOut(Continuation, 4)"),
+            ("$((1+\\\n+2))", "LeftOut(Continuation, 5)"),
+            ("$((x-\\\n-y))", "LeftOut(Continuation, 5)"),
+            ("$((-\\\n-1))", "LeftOut(Continuation, 4)"),
+            ("$((1<\\\n<2))", "LeftOut(Continuation, 5)"),
+            ("$((1<\\\n=2))", "LeftOut(Continuation, 5)"),
+            ("$((1<<\\\n=2))", "LeftOut(Continuation, 6)"),
+            ("$((x=\\\n=1))", "LeftOut(Continuation, 5)"),
+            ("$((x!\\\n=1))", "LeftOut(Continuation, 5)"),
+            ("$((x&\\\n&y))", "LeftOut(Continuation, 5)"),
+            ("$((x|\\\n\\\n|y))", "LeftOut(Continuation, 5)"),
+            ("$((x+\\\n=1))", "LeftOut(Continuation, 5)"),
+            ("$(($\\\nx))", "LeftOut(Continuation, 4)"),
+            ("$(($x\\\n1))", "LeftOut(Continuation, 5)"),
+            ("$((${x\\\n}))", "LeftOut(Continuation, 6)"),
+            ("$((1\\\na))", "Syntax(BadArith, 6)"),
+            ("$((0\\\n8))", "Syntax(BadArith, 6)"),
+            ("$((1 \\\n2))", "Syntax(BadArith, 7)"),
+            ("$((1)\\\n )", "Syntax(BadArith, 4)"),
+        ],
+    )
+}
