@@ -1,5 +1,5 @@
 -- A whole word, by what a builder answers.
-use Rattle.std.proofs.Common.{◌≡◌, ℕ, ◌+◌, ◌<◌, ◌≤◌, Bool, true, false, not, ◌&&◌, ◌||◌, List, length, nat_le, None, Result, Ok, Err, refl, sym, ap, ◌∙◌, subst, arith}
+use Rattle.std.proofs.Common.{◌≡◌, ℕ, ◌+◌, ◌<◌, ◌≤◌, Bool, true, false, not, ◌&&◌, List, length, nat_le, None, Result, Ok, Err, refl, sym, ap, ◌∙◌, subst, arith}
 use Rattle.std.proofs.lemmas.Bool.{true≢false}
 use Rattle.std.proofs.lemmas.Bool.Decides.{nat_tests}
 use Rattle.sh_tree.specs.declared.tree.Part.{Part}
@@ -13,7 +13,7 @@ use Rattle.sh_tree.specs.language.Commands.{is_location}
 use Rattle.sh_tree.specs.language.Parts.{keeps_lines}
 use Rattle.sh_tree.specs.language.Reading as r
 use Rattle.sh_tree.specs.language.Reading.{ReadsParts, ReadsPart, ReadsWord, sign_at}
-use Rattle.sh_tree.specs.language.States.{Spot, Document}
+use Rattle.sh_tree.specs.language.States.{Spot}
 use Rattle.sh_tree.specs.language.Trees.{word}
 use Rattle.sh_tree.specs.language.Words.{token}
 use Rattle.sh_tree.proofs.Inversions.{word_parts}
@@ -25,10 +25,10 @@ use Rattle.sh_words.specs.declared.builder.Next.TheVariants.{Done, Inner}
 use Rattle.sh_words.specs.declared.frames.Focus.TheVariants as focus
 use Rattle.sh_words.specs.Clauses.{Ends, Refuses, Runs}
 use Rattle.sh_words.specs.Modes.{context_of, first_prior, seen}
-use Rattle.sh_words.specs.Rest.{Around, Rest, Left, here, spot}
+use Rattle.sh_words.specs.Rest.{Around, Rest, Left, spot}
 use Rattle.sh_words.specs.Sound.{Begins, RunMoves, TakesWord}
 use Rattle.sh_words.specs.Starts.{IsStart}
-use Rattle.sh_grammar.specs.Readers.{One, Nothing, NothingWithin, Refused, WordFrom, WordTo, plain_spot}
+use Rattle.sh_grammar.specs.Readers.{Nothing, Refused, WordFrom, WordTo, plain_spot}
 use Rattle.sh_grammar.specs.Modes.{Builds, IsWhole, PartsTo}
 
 -- Where a word is read, the depth is the one around it

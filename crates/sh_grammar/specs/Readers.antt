@@ -1,6 +1,6 @@
 -- What the readers of the whole language answer: the one thing that the bytes from a place on are, or why they are nothing.
 -- POSIX.1-2024, XCU 2.10: a rule of the grammar holds in one way or in none.
-use Rattle.std.specs.Prelude.{◌≡◌, ℕ, ◌+◌, ◌<◌, ◌≤◌, false, true, List, [], ◌∷◌, length, Result, Ok, Err}
+use Rattle.std.specs.Prelude.{◌≡◌, ℕ, ◌+◌, ◌<◌, ◌≤◌, false, true, List, [], length, Result, Ok, Err}
 use Rattle.sh_tree.specs.declared.limits.TheConstants.{MAX_COMMANDS}
 use Rattle.sh_tree.specs.declared.token.command.Stage.{Stage}
 use Rattle.sh_tree.specs.declared.token.command.Stage.TheVariants.{First}
