@@ -44,6 +44,9 @@ use Rattle.shset.proofs.NumberingLemmas.{and_left, and_right, all_weaker}
 opened : (number at : ℕ) (k : Kind) (rs : List Redirect) → out-Command (tree.command number at k rs) ≡ record { number = number; at = at; kind = k; redirects = rs }
 opened number at k rs = out-roll-Command (record { number = number; at = at; kind = k; redirects = rs })
 
+started : (number at : ℕ) (k : Kind) (rs : List Redirect) → (out-Command (tree.command number at k rs)).at ≡ at
+started number at k rs = ap (λ x. x.at) (opened number at k rs)
+
 opened_pipe : (negated : Bool) (cs : List Command) → out-Pipe (tree.pipe negated cs) ≡ record { negated = negated; parts = cs }
 opened_pipe negated cs = out-roll-Pipe (record { negated = negated; parts = cs })
 
@@ -70,13 +73,11 @@ within_text b i h = ⊎_elim (λ (below : i < length b). below) (λ (past : leng
 command_placed : {limit : ℕ} {b : List ℕ} {body : ℕ → Document} {s u : State} {c : Command} → ReadsCommand limit b body s u c → (out-Command c).at < length b
 unfolding begins_command begins_simple begins_compound is_redirection
 command_placed {b = b} (r.simple_command {s = s} {es = es} h e) =
-    subst (λ n. n < length b) (sym (ap (λ x. x.at) (opened (s.spot.count + 1) s.spot.at (Simple es) []))) (within_text b s.spot.at (λ end. true≢false (sym h ∙ ap begins_simple end)))
+    subst (λ n. n < length b) (sym (started (s.spot.count + 1) s.spot.at (Simple es) [])) (within_text b s.spot.at (λ end. true≢false (sym h ∙ ap begins_simple end)))
 command_placed {b = b} (r.compound_command {s = s} {k = k} {rs = rs} h e c q) =
-    subst (λ n. n < length b) (sym (ap (λ x. x.at) (opened (s.spot.count + 1) s.spot.at k rs)))
-    (within_text b s.spot.at (λ end. true≢false (sym h ∙ ap begins_compound (sym e ∙ end))))
-command_placed {b = b} (r.definition {s = s} {c = c} h o p k i d) =
-    subst (λ n. n < length b) (sym (ap (λ x. x.at) (opened (s.spot.count + 1) s.spot.at _ [])))
-    (within_text b s.spot.at (λ end. apart begins_command (sym h ∙ end) refl refl))
+    subst (λ n. n < length b) (sym (started (s.spot.count + 1) s.spot.at k rs)) (within_text b s.spot.at (λ end. true≢false (sym h ∙ ap begins_compound (sym e ∙ end))))
+command_placed {b = b} (r.definition {s = s} h o p k i d) =
+    subst (λ n. n < length b) (sym (started (s.spot.count + 1) s.spot.at _ [])) (within_text b s.spot.at (λ end. apart begins_command (sym h ∙ end) refl refl))
 
 commands_placed : {limit : ℕ} {b : List ℕ} {body : ℕ → Document} {s u : State} {cs : List Command} → ReadsCommands limit b body s u cs → first_start cs < length b
 unfolding first_start
@@ -129,7 +130,8 @@ valued i j q o h = and_right (is_variable q) (is_value o) h
 mutual
   unfolding is_straight_part is_flat is_value
 
-  parts_count : {limit : ℕ} {b : List ℕ} {x : Context} {prior : ℕ} {s u : Spot} {ps : List Part} → list_all is_straight_part ps ≡ true → ReadsParts limit b x prior s u ps → u.count ≡ s.count
+  parts_count : {limit : ℕ} {b : List ℕ} {x : Context} {prior : ℕ} {s u : Spot} {ps : List Part} → list_all is_straight_part ps ≡ true
+      → ReadsParts limit b x prior s u ps → u.count ≡ s.count
   parts_count h (r.stop e) = refl
   parts_count h (r.tabs e q) = parts_count h q
   parts_count h (r.more {p = p} {ps = ps} e q rest) =
@@ -166,7 +168,8 @@ elements_calm : {limit : ℕ} {b : List ℕ} {body : ℕ → Document} {g : Stag
 elements_calm k h c (r.no_element e) = c
 elements_calm {s = s} k h c (r.assigned_element {w = w} {es = es} e q rest) =
     let here = and_left (is_straight_element (element.Assignment _ w)) (list_all is_straight_element es) h in
-    elements_calm k (and_right (is_straight_element (element.Assignment _ w)) (list_all is_straight_element es) h) (c.0, word_count (sym (straight_Assignment _ w) ∙ here) q ∙ c.1) rest
+    elements_calm k (and_right (is_straight_element (element.Assignment _ w)) (list_all is_straight_element es) h)
+    (c.0, word_count (sym (straight_Assignment _ w) ∙ here) q ∙ c.1) rest
 elements_calm k h c (r.word_element {w = w} {es = es} e q rest) =
     let here = and_left (is_straight_element (element.Word w)) (list_all is_straight_element es) h in
     elements_calm k (and_right (is_straight_element (element.Word w)) (list_all is_straight_element es) h) (c.0, word_count (sym (straight_Word w) ∙ here) q ∙ c.1) rest
@@ -213,7 +216,8 @@ not_simple (r.until_loop d h g) = refl
 not_simple (r.for_loop d n h g) = refl
 not_simple (r.case_of d i w h k g c) = refl
 
-command_next : {limit : ℕ} {b : List ℕ} {body : ℕ → Document} {s v : State} {c : Command} (k : ℕ) → is_straight c ≡ true → IsCalm k s → ReadsCommand limit b body s v c → IsNext k v c
+command_next : {limit : ℕ} {b : List ℕ} {body : ℕ → Document} {s v : State} {c : Command} (k : ℕ) → is_straight c ≡ true → IsCalm k s
+    → ReadsCommand limit b body s v c → IsNext k v c
 unfolding is_simple
 command_next k h c (r.simple_command {s = s} {es = es} g e) =
     let kind = straight_kind (s.spot.count + 1) s.spot.at (Simple es) [] h in
@@ -252,8 +256,8 @@ pipeline_next : {limit : ℕ} {b : List ℕ} {body : ℕ → Document} {s u : St
 pipeline_next k c e h calm (r.negated {cs = cs} n q) = let none : None ≡ Some c = sym (lone_piped true cs) ∙ e in cc
 pipeline_next k c e h calm (r.straight {cs = cs} n q) = commands_next k c (sym (lone_piped false cs) ∙ e) h calm q
 
-links_next : {limit : ℕ} {b : List ℕ} {body : ℕ → Document} {s u v : State} {p : Pipe} {ps : List (Link × Pipe)} (k : ℕ) (c : Command) → lone_pipe p ps ≡ Some c → is_straight c ≡ true
-    → IsCalm k s → ReadsPipeline limit b body s u p → ReadsLinks limit b body u v ps → IsNext k v c
+links_next : {limit : ℕ} {b : List ℕ} {body : ℕ → Document} {s u v : State} {p : Pipe} {ps : List (Link × Pipe)} (k : ℕ) (c : Command) → lone_pipe p ps ≡ Some c
+    → is_straight c ≡ true → IsCalm k s → ReadsPipeline limit b body s u p → ReadsLinks limit b body u v ps → IsNext k v c
 unfolding lone_pipe
 links_next k c e h calm q (r.no_link n) = pipeline_next k c e h calm q
 links_next k c e h calm q (r.more_links n f g rest) = cc
@@ -297,7 +301,8 @@ item_next {b = b} {l = l} k g a calm h =
 abbrev AllAdmitted : List ℕ → List Item → Type 0
 AllAdmitted b is = list_all (λ i. is_item_admitted b (lone_command i)) is ≡ true
 
-items_numbered : {limit : ℕ} {b : List ℕ} {body : ℕ → Document} {s v : State} {is : List Item} (k : ℕ) → AllAdmitted b is → IsCalm k s → ReadsItems limit b body s v is → NumberedFrom k is
+items_numbered : {limit : ℕ} {b : List ℕ} {body : ℕ → Document} {s v : State} {is : List Item} (k : ℕ) → AllAdmitted b is → IsCalm k s
+    → ReadsItems limit b body s v is → NumberedFrom k is
 items_numbered {b = b} k a calm (r.last_item {l = l} h n c) = ((item_next k false (and_left (is_item_admitted b (lone_command (tree.item l false))) true a) calm h).0, tt)
 items_numbered {b = b} k a calm (r.ended_item {l = l} {g = g} h n f e) = ((item_next k g (and_left (is_item_admitted b (lone_command (tree.item l g))) true a) calm h).0, tt)
 items_numbered {b = b} k a calm (r.more_items {u = u} {l = l} {g = g} {is = is} h n f e rest) =
