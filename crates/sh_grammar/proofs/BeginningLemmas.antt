@@ -118,7 +118,8 @@ unfolding words.meant_by
 meant_ends x i c cs h = grind (arith, nat_tests, backslash_ends x cs, single_goes cs, dollar_goes x i cs)
 
 -- a word ends at its first byte only where that delimits tokens or is such a backslash
-sign_ends : (x : Context) (i c : ℕ) (cs : List ℕ) → x.site ≡ site.Word → ends (words.sign_by x 0 i c cs) ≡ true → (ends_token c || (is_backslash c && is_first is_newline cs)) ≡ true
+sign_ends : (x : Context) (i c : ℕ) (cs : List ℕ) → x.site ≡ site.Word → ends (words.sign_by x 0 i c cs) ≡ true
+    → (ends_token c || (is_backslash c && is_first is_newline cs)) ≡ true
 unfolding words.sign_by
 sign_ends x i c cs word h =
     let stops : words.stops x.site c ≡ ends_token c = ap (λ s. words.stops s c) word in

@@ -34,8 +34,9 @@ loop-alloc-preserved c =
     let moves = word_moves b at.stage at.at w c.in-Word.ensures.value at.invariant.settled c.in_ok-word-in-Word.ensures in
     let after = c.blanks_at-at-in-Word.ensures in
     let from = at.invariant.from in
+    let stage = c.stage_behind-stage in
     let found =
-    elements_word b c.args.start at.at at.stage at.elements at.invariant.behind c.in-Word.ensures.value w c.in_ok-word-in-Word.ensures c.stage_behind-stage.result c.stage_behind-stage.ensures
+    elements_word b c.args.start at.at at.stage at.elements at.invariant.behind c.in-Word.ensures.value w c.in_ok-word-in-Word.ensures stage.result stage.ensures
     c.blanks_at-at-in-Word.result after.value in
     record {
       behind = rw c.in_ok-push-in-Word.ensures.ok found;
