@@ -13,7 +13,7 @@ asked : (c : goal.In-Ok) → Answers (seen c.args.text.now c.args.builder.now.mo
     (Inner c.in-Ok-Inner.at c.in-Ok-Inner.depth)
 asked c =
     subst (λ n. Answers (seen c.args.text.now c.args.builder.now.mode) (Left (seen c.args.text.now c.args.builder.now.mode) c.args.builder.now) c.run.new.self n)
-      c.in-Ok-Inner.field-0-is (c.in-Ok-Inner.ensures.runs c.requires.reads)
+    c.in-Ok-Inner.field-0-is (c.in-Ok-Inner.ensures.runs c.requires.reads)
 
 moved : (c : goal.In-Ok) → RunMoves (seen c.args.text.now c.args.builder.now.mode) c.args.builder.now c.run.new.self (Ok (Inner c.in-Ok-Inner.at c.in-Ok-Inner.depth))
 moved c =

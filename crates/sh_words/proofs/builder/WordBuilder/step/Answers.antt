@@ -22,9 +22,9 @@ pub returns-in_ok-conditional_step-in-Conditional-clause-keeps :
     goal.returns-in_ok-conditional_step-in-Conditional-clause-keeps
 returns-in_ok-conditional_step-in-Conditional-clause-keeps c =
     steps_equal c.args.script.now c.args.self.now (focused c.args.self.now focus.Conditional) c.conditional_step.new.self (Ok None)
-      (unfocused c.args.self.now focus.Conditional (sym c.in-Conditional.ensures.value))
-      (subst (λ w. Keeps c.args.script.now (Left c.args.script.now (focused c.args.self.now focus.Conditional)) w)
-        (sym c.in_ok-conditional_step-in-Conditional.ensures) (conditional_keeps c.args.script.now c.args.self.now))
+    (unfocused c.args.self.now focus.Conditional (sym c.in-Conditional.ensures.value))
+    (subst (λ w. Keeps c.args.script.now (Left c.args.script.now (focused c.args.self.now focus.Conditional)) w)
+    (sym c.in_ok-conditional_step-in-Conditional.ensures) (conditional_keeps c.args.script.now c.args.self.now))
 
 pub returns-in-Level-clause-keeps : goal.returns-in-Level-clause-keeps
 returns-in-Level-clause-keeps c =
