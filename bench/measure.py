@@ -1,10 +1,12 @@
 #!/usr/bin/env python3
 """Measures shset beside other readers of shell scripts.
 
-Makes straight scripts of 10 KB, 100 KB and 1 MB and prints for each the processor time and the peak memory of `shset lint`,
-`dash -n` and `shellcheck`, and their ratios to shset's. A tool that is not installed is left out; one that takes longer than
-the limit is stopped and shown as more than that, and is not run on the larger scripts. The peak memory is that of GNU time
-(Debian's package time). Run it once the program is built.
+Makes scripts of 10 KB, 100 KB and 1 MB, straight ones and ones of each kind of words, and prints for each the processor time and
+the peak memory of `shset lint`, `dash -n`, `shfmt` and, of straight ones, `shellcheck`, their ratios to shset's, and how they grew
+from the script a tenth as long: by 10 at most where they are linear in the text. All of them read a script of words whole, whether
+shset goes on to analyse it or not. Kinds can be given as arguments. A tool that is not installed is left out; one that takes longer
+than the limit is stopped and shown as more than that, and is not run on the larger scripts of that kind. The peak memory is that of
+GNU time (Debian's package time). Run it once the program is built.
 """
 import os
 import shutil
@@ -19,17 +21,67 @@ RUNS = 3
 PROGRAM = os.path.join(os.path.dirname(os.path.abspath(__file__)), "..", "crates", "shset", "out", "shset")
 
 
-def script_of(size):
+def straight_lines():
     """Assignments and commands whose words have quoted expansions, some of names that are never set."""
-    lines, length, number = ["#!/bin/sh"], 10, 0
+    number = 0
     while True:
         name = f"name_{number % 3000}"
-        for line in (f'{name}="value of {number} and $PPID"', f'echo "${name} is set" plain_word_{number}', f'log "$other_{number % 50}"'):
-            if length + len(line) + 1 > size:
-                return "\n".join(lines) + "\n"
-            lines.append(line)
-            length += len(line) + 1
+        yield f'{name}="value of {number} and $PPID"'
+        yield f'echo "${name} is set" plain_word_{number}'
+        yield f'log "$other_{number % 50}"'
         number += 1
+
+
+def repeated_lines(*lines):
+    while True:
+        yield from lines
+
+
+def script_of(lines, size):
+    """As many of the lines as fit."""
+    chosen, length = ["#!/bin/sh"], 10
+    for line in lines:
+        length += len(line) + 1
+        if length > size:
+            return "\n".join(chosen) + "\n"
+        chosen.append(line)
+
+
+def word_of(head, piece, tail, size):
+    """One command whose operand is as many pieces as fit between the head and the tail."""
+    head = "echo " + head
+    return head + piece * ((size - len(head) - len(tail) - 1) // len(piece)) + tail + "\n"
+
+
+def nested(depth):
+    """Braced expansions in one another, each fourth of which removes a quoted pattern."""
+    word = "a b"
+    for level in range(depth):
+        word = '${x#"' + word + '"}' if level % 4 == 3 else "${x:-" + word + "}"
+    return word
+
+
+PLAIN = "echo " + "plain_word-" * 40 + " " + "a.b/c" * 40
+QUOTES = "echo 'a b;c'\"d e $x f\"\\g \"it's \\$y\" 'more of it'\\'''"
+EXPANSIONS = "echo $x${y}$1${10}${#x}${x%%/*}\"$@\" $# ~/a ${y:+$x}"
+SUM = "echo $((a = b ? 1 + 2 * (3 - $x) << 4 : ~c && d || e))"
+
+# How a script of a size is made, by what is in it.
+KINDS = {
+    "straight": lambda size: script_of(straight_lines(), size),
+    "long word": lambda size: word_of("", "plain_word-", "", size),
+    "long words": lambda size: script_of(repeated_lines(PLAIN), size),
+    "quotes": lambda size: script_of(repeated_lines(QUOTES), size),
+    "long quote": lambda size: word_of('"', "a b;c $x ", '"', size),
+    "expansions": lambda size: script_of(repeated_lines(EXPANSIONS), size),
+    "nested braces": lambda size: script_of(repeated_lines("echo " + nested(20), 'echo "${x-${y:-${z+a b}}}"'), size),
+    "deep braces": lambda size: script_of(repeated_lines("echo " + nested(60)), size),
+    "long default": lambda size: word_of("${x-", "a b 'c' ", "}", size),
+    "arithmetic": lambda size: script_of(repeated_lines(SUM), size),
+    "long sum": lambda size: word_of("$((1", " + 1", "))", size),
+    "continuations": lambda size: word_of('"', "ab\\\n", '"', size),
+    "comments": lambda size: script_of(repeated_lines("# a comment 'of $(some) \"words", "a \\", "b # more"), size),
+}
 
 
 def stop(_signal, _frame):
@@ -68,12 +120,42 @@ def best(words):
     return min(seconds for seconds, _ in results), min(kilobytes for _, kilobytes in results)
 
 
-def tools(path):
+def tools(kind, path):
     yield "shset lint", [PROGRAM, "lint", path]
     if shutil.which("dash"):
         yield "dash -n", ["dash", "-n", path]
-    if shutil.which("shellcheck"):
+    if shutil.which("shfmt"):
+        yield "shfmt", ["shfmt", "-ln", "posix", path]
+    if kind == "straight" and shutil.which("shellcheck"):
         yield "shellcheck", ["shellcheck", "--shell=sh", path]
+
+
+def growth(now, before):
+    """How often as much it is as it was, where that can be told."""
+    return f"{now / before:.1f}" if before and before > 0.005 else ""
+
+
+def measure(kind, folder):
+    before = {}
+    stopped = set()
+    for size in SIZES:
+        path = os.path.join(folder, "script.sh")
+        with open(path, "w", encoding="ascii") as file:
+            file.write(KINDS[kind](size))
+        own = None
+        for name, words in tools(kind, path):
+            result = None if name in stopped else best(words)
+            if result is None:
+                stopped.add(name)
+                print(f"{kind:<14} {size:>9}  {name:<11} {'> ' + str(LIMIT_SECONDS):>9}")
+                continue
+            own = own or result
+            seconds, kilobytes = result
+            old_seconds, old_kilobytes = before.get(name, (None, None))
+            before[name] = result
+            ratios = f"{seconds / max(own[0], 0.001):>10.1f} {kilobytes / own[1]:>12.2f}"
+            grown = f"{growth(seconds, old_seconds):>11} {growth(kilobytes, old_kilobytes):>13}"
+            print(f"{kind:<14} {size:>9}  {name:<11} {seconds:>9.3f} {kilobytes / 1024:>8.1f}  {ratios}  {grown}")
 
 
 def main():
@@ -81,23 +163,13 @@ def main():
         sys.exit("build the program first: ./shset --help")
     if not os.access("/usr/bin/time", os.X_OK):
         sys.exit("install GNU time first: Debian's package time")
-    print(f"{'bytes':>9}  {'tool':<11} {'seconds':>9} {'MB':>8}  {'time ratio':>10} {'memory ratio':>12}")
-    stopped = set()
+    kinds = sys.argv[1:] or list(KINDS)
+    if not set(kinds) <= set(KINDS):
+        sys.exit("kinds: " + ", ".join(KINDS))
+    print(f"{'kind':<14} {'bytes':>9}  {'tool':<11} {'seconds':>9} {'MB':>8}  {'time ratio':>10} {'memory ratio':>12}  {'time growth':>11} {'memory growth':>13}")
     with tempfile.TemporaryDirectory() as folder:
-        for size in SIZES:
-            path = os.path.join(folder, "script.sh")
-            with open(path, "w", encoding="ascii") as file:
-                file.write(script_of(size))
-            own = None
-            for name, words in tools(path):
-                result = None if name in stopped else best(words)
-                if result is None:
-                    stopped.add(name)
-                    print(f"{size:>9}  {name:<11} {'> ' + str(LIMIT_SECONDS):>9}")
-                    continue
-                own = own or result
-                seconds, kilobytes = result
-                print(f"{size:>9}  {name:<11} {seconds:>9.3f} {kilobytes / 1024:>8.1f}  {seconds / max(own[0], 0.001):>10.1f} {kilobytes / own[1]:>12.2f}")
+        for kind in kinds:
+            measure(kind, folder)
 
 
 if __name__ == "__main__":

@@ -131,7 +131,8 @@ fn refused(builder: &mut WordBuilder, text: &[u8]) -> Option<Refusal>
     requires small { length text.now ≤ MAX_SCRIPT }
     requires inside { builder.old.failed ≡ None → builder.old.at ≤ length (seen text.now builder.old.mode) }
     requires sound { builder.old.failed ≡ None → IsSound (seen text.now builder.old.mode) builder.old }
-    ensures { IfSome result (λ e. builder.new.failed ≡ Some e) }
+    ensures fails { IfSome result (λ e. builder.new.failed ≡ Some e) }
+    ensures again { (e : refusal.Refusal) → builder.old.failed ≡ Some e → builder.new.failed ≡ Some e }
 {
     builder.run(text).err()
 }
