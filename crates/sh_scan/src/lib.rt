@@ -25,7 +25,7 @@ pub use assignments::{is_assignment_at, is_location_at};
 pub use bare::{declares_at, is_bare_name_at};
 pub use blanks::blanks_at;
 pub use class::{Class, classify};
-pub use front::name_at;
+pub use front::{behind_joined, name_at};
 pub use here_document::here_line;
 pub use lead_classes::{
     begins_command, begins_compound, begins_pipeline, begins_simple, clause_end_of, is_redirection,

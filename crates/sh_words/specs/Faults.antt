@@ -1,6 +1,6 @@
 -- What is told where a word cannot go on.
 -- POSIX.1-2024, XCU 2.2 (quoting), 2.6 (word expansions), 2.6.4 (arithmetic expansion).
-use Rattle.std.specs.Prelude.{ℕ, ◌<◌, ◌≤◌, ◌==◌, if◌then◌else◌, List, ◌∷◌, length}
+use Rattle.std.specs.Prelude.{ℕ, ◌<◌, ◌≤◌, List, ◌∷◌, length}
 use Rattle.sh_tree.specs.declared.refusal.Fault.{Fault}
 use Rattle.sh_tree.specs.declared.refusal.Fault.TheVariants as fault
 use Rattle.sh_tree.specs.declared.refusal.Refusal.{Refusal}
@@ -9,7 +9,6 @@ use Rattle.sh_tree.specs.declared.token.word.Sign.{Sign}
 use Rattle.sh_tree.specs.declared.token.word.Sign.TheVariants as sign
 use Rattle.sh_tree.specs.declared.token.arithmetic.Figure.{Figure}
 use Rattle.sh_tree.specs.declared.token.arithmetic.Figure.TheVariants as figure
-use Rattle.sh_tree.specs.declared.token.arithmetic.Lexeme.{Lexeme}
 use Rattle.sh_words.specs.declared.frames.Holder.{Holder}
 use Rattle.sh_words.specs.declared.frames.Holder.TheVariants as holder
 use Rattle.sh_words.specs.declared.frames.Opening.{Opening}
@@ -47,10 +46,6 @@ bad h figure.End i = Syntax fault.OpenArith (arithmetic_start h i)
 bad h (figure.LeftOut f) i = LeftOut f i
 bad h figure.FinalBackslash i = Syntax fault.FinalBackslash i
 bad h _ i = Syntax fault.BadArith i
-
--- a closing parenthesis with no second one behind it, in a text of n bytes
-abbrev pub unclosed : ℕ → ℕ → Lexeme → Refusal
-unclosed n start l = if l.end == n then Syntax fault.OpenArith start else Syntax fault.BadArith l.start
 
 -- a fault of syntax or a form that is left out, at its place in the text
 abbrev pub IsFault : List ℕ → Refusal → Type 0

@@ -17,7 +17,7 @@ use super::signs::is_expansion;
 use super::tokens::{begins_operand, follows, is_close, is_colon, is_dollar, is_question, lexeme};
 use super::{Next, WordBuilder};
 use crate::frames::{Focus, Frame, Holder, Opening, Operation};
-use sh_scan::{binary_of, is_closed, token_at};
+use sh_scan::{behind_joined, binary_of, is_closed, token_at};
 use sh_tree::limits::MAX_SCRIPT;
 use sh_tree::refusal::{Fault, Form, Refusal};
 use sh_tree::token::Lexeme;
@@ -68,25 +68,30 @@ impl WordBuilder {
         if token.start != self.at || !begins_operand(token.figure) {
             return self.bad(token);
         }
-        if let Some(start) = expansion_start(expr) {
-            return Refusal::LeftOut(Form::Arithmetic, start.min(token.start));
+        let Some(start) = operand_start(expr, token.start) else {
+            return self.bad(token);
+        };
+        let place = start.min(token.start);
+        if is_dollar(token.figure) {
+            return self.touching(script, token.start, place);
         }
-        if is_dollar(token.figure) && is_number_or_name(expr) {
-            return self.touching(script, token.start);
+        if is_number_or_name(expr) {
+            return self.bad(token);
         }
-        self.bad(token)
+        Refusal::LeftOut(Form::Arithmetic, place)
     }
 
-    /// What the `$` at `start` begins touches an operand.
-    fn touching(&self, script: &[u8], start: u32) -> Refusal
+    /// What the `$` at `start` begins touches an operand. Of two expansions the first is told, at `place`.
+    fn touching(&self, script: &[u8], start: u32, place: u32) -> Refusal
         requires small { length script.now ≤ MAX_SCRIPT }
         requires inside { start < length script.now }
+        requires before { place ≤ start }
         requires frames { Deep script.now self.now.base self.now.frames }
         ensures { IsFault script.now result }
     {
         let token = token_at(script, self.holder.context(), 0, start);
         if is_expansion(token.sign) {
-            Refusal::LeftOut(Form::Arithmetic, start)
+            Refusal::LeftOut(Form::Arithmetic, place)
         } else {
             self.no_part(token, start)
         }
@@ -320,20 +325,29 @@ impl WordBuilder {
     }
 }
 
-/// A closing parenthesis with no second one behind it, which the end of the text leaves open.
+/// A closing parenthesis of the expansion at `start` with no second one behind it: the text ends, a line continuation hides the
+/// second one, or something else stands there.
 fn unclosed(script: &[u8], start: u32, token: Lexeme) -> Refusal
-    ensures { result ≡ faults.unclosed (length script.now) start token }
+    requires ordered { token.start ≤ token.end }
+    requires within { token.end ≤ length script.now }
+    requires begun { start ≤ length script.now }
+    ensures { IsFault script.now result }
 {
-    if token.end as usize == script.len() {
-        Refusal::Syntax(Fault::OpenArith, start)
-    } else {
-        Refusal::Syntax(Fault::BadArith, token.start)
+    let rest = &script[token.end as usize..];
+    if rest.is_empty() {
+        return Refusal::Syntax(Fault::OpenArith, start);
+    }
+    match behind_joined(rest) {
+        [] => Refusal::Syntax(Fault::OpenArith, start),
+        [b')', ..] => Refusal::LeftOut(Form::Continuation, token.end),
+        _ => Refusal::Syntax(Fault::BadArith, token.start),
     }
 }
 
-/// Where the expansion begins that the expression is.
-fn expansion_start(expr: &Expr) -> Option<u32> {
+/// Where the expansion begins that the expression is, or `at` where it is a number or a name.
+fn operand_start(expr: &Expr, at: u32) -> Option<u32> {
     match expr {
+        Expr::Constant(_) | Expr::Variable(_) => Some(at),
         Expr::Expansion(Part::Param(param)) => Some(param.span.start),
         Expr::Expansion(Part::Arith(span, _) | Part::Command(_, span, _)) => Some(span.start),
         _ => None,
