@@ -78,7 +78,7 @@ module _ (b : List ℕ) (m : Mode) (whole : IsWhole m) (i : ℕ) (w : WordBuilde
   unfolding Left
   parts_left limit n u ps h =
       let first : Rest b limit (outside n) m focus.Start w.holder w.frames (spot (outside n) 0 i) u ps =
-        subst (λ v. ReadsParts limit b (context_of b m i) v (plain_spot n i) u ps) (sym (whole_prior m whole)) h in
+      subst (λ v. ReadsParts limit b (context_of b m i) v (plain_spot n i) u ps) (sym (whole_prior m whole)) h in
       rw (start.mode, start.focus, start.depth, start.at) first
 
   left_parts : (limit n : ℕ) (u : Spot) (ps : List Part) → Left b w limit (outside n) u ps → ReadsParts limit b (context_of b m i) 0 (plain_spot n i) u ps
@@ -100,10 +100,10 @@ module _ (b : List ℕ) (m : Mode) (whole : IsWhole m) (i : ℕ) (w : WordBuilde
       let outermost : d ≡ 0 = parts_depth reads in
       record {
         reads = λ n. subst (λ v. ReadsParts 64 b (context_of b m i) 0 (plain_spot n i) (spot (outside n) v end) ps) outermost
-          (left_parts 64 n (spot (outside n) d end) ps (ends.back (outside n)));
+            (left_parts 64 n (spot (outside n) d end) ps (ends.back (outside n)));
         only = λ limit n u qs h.
-          let e = ends.forth limit (outside n) u qs (parts_left limit n u qs h) in
-          (e.0 ∙ ap (λ v. spot (outside n) v end) outermost, e.1);
+            let e = ends.forth limit (outside n) u qs (parts_left limit n u qs h) in
+            (e.0 ∙ ap (λ v. spot (outside n) v end) outermost, e.1);
         from = from;
         within = within;
         moves = λ none. takes (word_begins none);
@@ -156,9 +156,9 @@ word_read b m i w h free =
       one = λ n. record {
         reads = λ body. subst (λ v. ReadsWord 64 b x (plain_spot n i) (plain_spot n end) v) (sym h.0) (r.whole_word (h.1.reads n) free refl);
         only = λ limit body k y q.
-          let is = word_parts q in
-          let e = h.1.only limit n k is.0 is.2 in
-          (e.0, is.1 ∙ ap (λ v. word i v.at is.0) e.0 ∙ ap (λ v. word i end v) e.1 ∙ sym h.0);
+            let is = word_parts q in
+            let e = h.1.only limit n k is.0 is.2 in
+            (e.0, is.1 ∙ ap (λ v. word i v.at is.0) e.0 ∙ ap (λ v. word i end v) e.1 ∙ sym h.0);
       };
       from = h.1.from;
       within = h.1.within;

@@ -413,14 +413,21 @@ module _ (b : List ℕ) (w : WordBuilder) where
       let same : t ≡ token b x 0 (lexeme b w.at).start = is ∙ ap (λ i. token b x 0 i) begins in
       subst (λ i. Alike Operand (LeftPart b w t.sign i t.end)) (sym begins) (record {
         forth = λ limit g u ps l.
-          let q = expansion_is dollar (unary_at refl l.3) in
-          (l.1, q.0, subst (λ k. ReadsPart limit b x k.sign (operand_start b (here g w)) k.end l.1 q.0) (sym same) q.3,
-          held_one b limit g w.holder (prior_of b t.sign l.1.at) q.0 l.1 (Wanted limit g u ps) operand (moved (Wanted limit g u ps) refl q.1 l.4));
+            let q = expansion_is dollar (unary_at refl l.3) in (
+              l.1,
+              q.0,
+              subst (λ k. ReadsPart limit b x k.sign (operand_start b (here g w)) k.end l.1 q.0) (sym same) q.3,
+              held_one b limit g w.holder (prior_of b t.sign l.1.at) q.0 l.1 (Wanted limit g u ps) operand (moved (Wanted limit g u ps) refl q.1 l.4),
+            );
         back = λ g u ps l.
-          let q = subst (λ k. ReadsPart 64 b x k.sign (operand_start b (here g w)) k.end l.0 l.1) same l.2 in
-          let some : is_expansion (sign_at b x 0 (operand_start b (here g w))) ≡ true = ap (λ k. is_expansion k.sign) (sym same) ∙ expands in
-          (operand, l.0, expr.Expansion l.1, r.operand refl dollar (r.expansion refl some q),
-          one_held b 64 g w.holder (prior_of b t.sign l.0.at) l.1 l.0 (Wanted 64 g u ps) operand l.3);
+            let q = subst (λ k. ReadsPart 64 b x k.sign (operand_start b (here g w)) k.end l.0 l.1) same l.2 in
+            let some : is_expansion (sign_at b x 0 (operand_start b (here g w))) ≡ true = ap (λ k. is_expansion k.sign) (sym same) ∙ expands in (
+              operand,
+              l.0,
+              expr.Expansion l.1,
+              r.operand refl dollar (r.expansion refl some q),
+              one_held b 64 g w.holder (prior_of b t.sign l.0.at) l.1 l.0 (Wanted 64 g u ps) operand l.3,
+            );
       })
 
   pub no_expansion : (t : Token) (start : ℕ) → (lexeme b w.at).figure ≡ figure.Dollar → start ≡ (lexeme b w.at).start → t ≡ token b (context_in w.holder) 0 start

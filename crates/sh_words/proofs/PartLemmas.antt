@@ -125,12 +125,16 @@ pub whole_keeps : (b : List ℕ) (w : WordBuilder) (s : Sign) (start end : ℕ) 
 unfolding Left LeftPart
 whole_keeps b w s start end p h = record {
   forth = λ limit g u ps l.
-    let is = whole_is limit b (context_in w.holder) s (spot g w.depth start) l.0 end p l.1 h (part_is l.2) in
-    let K = λ (y : Read) (j : Spot). Then b limit g (context_in w.holder) w.frames y j u ps in
-    held_left b limit g g.count w.mode w.holder (prior_of b s end) p w.frames (spot g w.depth end) u ps
-    (moved b limit g w.holder K (ap (λ v. prior_of b s v.at) is.0) is.1 is.0 l.3);
-  back = λ g u ps l. (spot g w.depth end, p, whole_reads 64 b (context_in w.holder) s (spot g w.depth start) end p h,
-    left_held b 64 g g.count w.mode w.holder (prior_of b s end) p w.frames (spot g w.depth end) u ps l);
+      let is = whole_is limit b (context_in w.holder) s (spot g w.depth start) l.0 end p l.1 h (part_is l.2) in
+      let K = λ (y : Read) (j : Spot). Then b limit g (context_in w.holder) w.frames y j u ps in
+      held_left b limit g g.count w.mode w.holder (prior_of b s end) p w.frames (spot g w.depth end) u ps
+      (moved b limit g w.holder K (ap (λ v. prior_of b s v.at) is.0) is.1 is.0 l.3);
+  back = λ g u ps l. (
+    spot g w.depth end,
+    p,
+    whole_reads 64 b (context_in w.holder) s (spot g w.depth start) end p h,
+    left_held b 64 g g.count w.mode w.holder (prior_of b s end) p w.frames (spot g w.depth end) u ps l,
+  );
 }
 
 whole_moves : (s : Sign) (start end : ℕ) (p : Part) → whole_part s start end ≡ Some p → reads_bytes s ≡ true
@@ -164,12 +168,12 @@ double_keeps : (b : List ℕ) (w : WordBuilder) (start end : ℕ) → Keeps b (L
 unfolding Left LeftPart made
 double_keeps b w start end = record {
   forth = λ limit g u ps l.
-    let is = part_is l.2 in
-    let K = λ (y : Read) (j : Spot). Then b limit g (context_in w.holder) w.frames y j u ps in
-    (tt, is.0, is.1, is.4, (part.Double (span start is.0.at) is.1, refl, moved b limit g w.holder K refl is.3 is.2 l.3));
+      let is = part_is l.2 in
+      let K = λ (y : Read) (j : Spot). Then b limit g (context_in w.holder) w.frames y j u ps in
+      (tt, is.0, is.1, is.4, (part.Double (span start is.0.at) is.1, refl, moved b limit g w.holder K refl is.3 is.2 l.3));
   back = λ g u ps l.
-    let K = λ (y : Read) (j : Spot). Then b 64 g (context_in w.holder) w.frames y j u ps in
-    (behind l.1.at l.1 (spot g w.depth start), part.Double (span start l.1.at) l.2, r.double_quoted l.3, moved b 64 g w.holder K refl (sym (same l.4.1)) refl l.4.2);
+      let K = λ (y : Read) (j : Spot). Then b 64 g (context_in w.holder) w.frames y j u ps in
+      (behind l.1.at l.1 (spot g w.depth start), part.Double (span start l.1.at) l.2, r.double_quoted l.3, moved b 64 g w.holder K refl (sym (same l.4.1)) refl l.4.2);
 }
 
 use_keeps : (b : List ℕ) (w : WordBuilder) (q : Subject) (a : Action) (colon : Bool) (start end : ℕ) → w.depth < 64
@@ -177,13 +181,16 @@ use_keeps : (b : List ℕ) (w : WordBuilder) (q : Subject) (a : Action) (colon :
 unfolding Left LeftPart made
 use_keeps b w q a colon start end below = record {
   forth = λ limit g u ps l.
-    let is = part_is l.2 in
-    let K = λ (y : Read) (j : Spot). Then b limit g (context_in w.holder) w.frames y j u ps in
-    (tt, is.0, is.1, is.5, (param start is.0.at q (operator.Use a colon (word end (is.0.at - 1) is.1)), refl, moved b limit g w.holder K refl is.3 is.2 l.3));
+      let is = part_is l.2 in
+      let K = λ (y : Read) (j : Spot). Then b limit g (context_in w.holder) w.frames y j u ps in
+      (tt, is.0, is.1, is.5, (param start is.0.at q (operator.Use a colon (word end (is.0.at - 1) is.1)), refl, moved b limit g w.holder K refl is.3 is.2 l.3));
   back = λ g u ps l.
-    let K = λ (y : Read) (j : Spot). Then b 64 g (context_in w.holder) w.frames y j u ps in
-    (behind l.1.at l.1 (spot g w.depth start), param start l.1.at q (operator.Use a colon (word end (l.1.at - 1) l.2)), r.use_word below l.3,
-    moved b 64 g w.holder K refl (sym (same l.4.1)) refl l.4.2);
+      let K = λ (y : Read) (j : Spot). Then b 64 g (context_in w.holder) w.frames y j u ps in (
+        behind l.1.at l.1 (spot g w.depth start),
+        param start l.1.at q (operator.Use a colon (word end (l.1.at - 1) l.2)),
+        r.use_word below l.3,
+        moved b 64 g w.holder K refl (sym (same l.4.1)) refl l.4.2,
+      );
 }
 
 removal_keeps : (b : List ℕ) (w : WordBuilder) (q : Subject) (m : Removal) (start end : ℕ) → w.depth < 64
@@ -191,13 +198,16 @@ removal_keeps : (b : List ℕ) (w : WordBuilder) (q : Subject) (m : Removal) (st
 unfolding Left LeftPart made
 removal_keeps b w q m start end below = record {
   forth = λ limit g u ps l.
-    let is = part_is l.2 in
-    let K = λ (y : Read) (j : Spot). Then b limit g (context_in w.holder) w.frames y j u ps in
-    (tt, is.0, is.1, is.5, (param start is.0.at q (operator.Remove m (word end (is.0.at - 1) is.1)), refl, moved b limit g w.holder K refl is.3 is.2 l.3));
+      let is = part_is l.2 in
+      let K = λ (y : Read) (j : Spot). Then b limit g (context_in w.holder) w.frames y j u ps in
+      (tt, is.0, is.1, is.5, (param start is.0.at q (operator.Remove m (word end (is.0.at - 1) is.1)), refl, moved b limit g w.holder K refl is.3 is.2 l.3));
   back = λ g u ps l.
-    let K = λ (y : Read) (j : Spot). Then b 64 g (context_in w.holder) w.frames y j u ps in
-    (behind l.1.at l.1 (spot g w.depth start), param start l.1.at q (operator.Remove m (word end (l.1.at - 1) l.2)), r.removal below l.3,
-    moved b 64 g w.holder K refl (sym (same l.4.1)) refl l.4.2);
+      let K = λ (y : Read) (j : Spot). Then b 64 g (context_in w.holder) w.frames y j u ps in (
+        behind l.1.at l.1 (spot g w.depth start),
+        param start l.1.at q (operator.Remove m (word end (l.1.at - 1) l.2)),
+        r.removal below l.3,
+        moved b 64 g w.holder K refl (sym (same l.4.1)) refl l.4.2,
+      );
 }
 
 arithmetic_keeps : (b : List ℕ) (w : WordBuilder) (start end : ℕ) → w.depth < 64
@@ -205,11 +215,11 @@ arithmetic_keeps : (b : List ℕ) (w : WordBuilder) (start end : ℕ) → w.dept
 unfolding Left LeftPart
 arithmetic_keeps b w start end below = record {
   forth = λ limit g u ps l.
-    let is = part_is l.2 in
-    let K = λ (y : Read) (j : Spot). Then b limit g (context_in w.holder) w.frames y j u ps in
-    (tt, is.0, is.1, is.5, (refl, is.6, is.7, moved b limit g w.holder K refl is.3 is.2 l.3));
+      let is = part_is l.2 in
+      let K = λ (y : Read) (j : Spot). Then b limit g (context_in w.holder) w.frames y j u ps in
+      (tt, is.0, is.1, is.5, (refl, is.6, is.7, moved b limit g w.holder K refl is.3 is.2 l.3));
   back = λ g u ps l.
-    (behind ((over b l.1).at + 1) l.1 (spot g w.depth start), part.Arith (span start ((over b l.1).at + 1)) l.2, r.arithmetic below l.3 l.4.1 l.4.2, l.4.3);
+      (behind ((over b l.1).at + 1) l.1 (spot g w.depth start), part.Arith (span start ((over b l.1).at + 1)) l.2, r.arithmetic below l.3 l.4.1 l.4.2, l.4.3);
 }
 
 -- the sign opens this, and the words left are those that go on in it
@@ -245,10 +255,11 @@ pub opening_steps : (b : List ℕ) (w new : WordBuilder) (s : Sign) (start end :
     → end ≤ length b → opening_of (context_in w.holder) s end ≡ Some (o, x) → Opens w o x start end new res → Steps b (LeftPart b w s start end) new res
 unfolding LeftPart
 opening_steps b w new s start end o x (Ok None) inside within h a = subst (λ v. Keeps b (LeftPart b w s start end) v) (sym a.1) (opening_keeps b w s start end o x h a.0)
-opening_steps b w new s start end o x (Err (TooDeep at)) inside within h a =
-    (subst (λ i. i ≤ length b) (sym a.2) (level_inside b o start end inside within),
-    λ g u ps l. let below = opening_nests 64 b (context_in w.holder) x s (spot g w.depth start) l.0 end l.1 o h a.0 (part_is l.2) in
-    let depth : w.depth < 64 = below in let deep : 64 ≤ w.depth = a.1 in absurd (omega arith))
+opening_steps b w new s start end o x (Err (TooDeep at)) inside within h a = (
+  subst (λ i. i ≤ length b) (sym a.2) (level_inside b o start end inside within),
+  λ g u ps l. let below = opening_nests 64 b (context_in w.holder) x s (spot g w.depth start) l.0 end l.1 o h a.0 (part_is l.2) in
+      let depth : w.depth < 64 = below in let deep : 64 ≤ w.depth = a.1 in absurd (omega arith),
+)
 opening_steps b w new s start end o x (Err Memory) inside within h a = tt
 opening_steps b w new s start end o x _ inside within h a = absurd a
 
@@ -289,15 +300,23 @@ asks : (b : List ℕ) (w : WordBuilder) (start end : ℕ) → w.depth < 64 → A
 unfolding Left LeftPart
 asks b w start end below = record {
   forth = λ limit g u ps l.
-    let is = part_is l.2 in
-    let K = λ (y : Read) (j : Spot). Then b limit g (context_in w.holder) w.frames y j u ps in
-    let depth : w.depth < limit = is.4 in
-    (is.0, is.1, omega arith, is.5, is.6,
-    held_left b limit g is.0.count w.mode w.holder 0 (part.Command Paren (span start (is.0.at + 1)) is.1) w.frames (placed g w.depth (is.0.at + 1) is.0) u ps
-    (moved b limit g w.holder K refl is.3 is.2 l.3));
-  back = λ g u ps v t reads closed l.
-    (behind (v.at + 1) v (spot g w.depth start), part.Command Paren (span start (v.at + 1)) t, r.substitution below reads closed,
-    left_held b 64 g v.count w.mode w.holder 0 (part.Command Paren (span start (v.at + 1)) t) w.frames (placed g w.depth (v.at + 1) v) u ps l);
+      let is = part_is l.2 in
+      let K = λ (y : Read) (j : Spot). Then b limit g (context_in w.holder) w.frames y j u ps in
+      let depth : w.depth < limit = is.4 in (
+        is.0,
+        is.1,
+        omega arith,
+        is.5,
+        is.6,
+        held_left b limit g is.0.count w.mode w.holder 0 (part.Command Paren (span start (is.0.at + 1)) is.1) w.frames (placed g w.depth (is.0.at + 1) is.0) u ps
+            (moved b limit g w.holder K refl is.3 is.2 l.3),
+      );
+  back = λ g u ps v t reads closed l. (
+    behind (v.at + 1) v (spot g w.depth start),
+    part.Command Paren (span start (v.at + 1)) t,
+    r.substitution below reads closed,
+    left_held b 64 g v.count w.mode w.holder 0 (part.Command Paren (span start (v.at + 1)) t) w.frames (placed g w.depth (v.at + 1) v) u ps l,
+  );
 }
 
 ask_steps : (b : List ℕ) (w new : WordBuilder) (start end : ℕ) (res : Result (Option Next) Refusal) → start ≤ length b → Asked w start end new res
@@ -309,9 +328,10 @@ ask_steps b w new start end (Ok (Some (Inner at depth))) inside a =
     let here = subst (λ i. Asks b old (asking w start end) start i (w.depth + 1)) (sym a.1) asked in
     let deep = subst (λ n. Asks b old (asking w start end) start at n) (sym a.2) here in
     (start, ap (λ v. v.focus) a.3, subst (λ v. Asks b old v start at depth) (sym a.3) deep)
-ask_steps b w new start end (Err (TooDeep at)) inside a =
-    (subst (λ i. i ≤ length b) (sym a.1) inside,
-    λ g u ps l. let is = part_is l.2 in let below : w.depth < 64 = is.4 in let deep : 64 ≤ w.depth = a.0 in absurd (omega arith))
+ask_steps b w new start end (Err (TooDeep at)) inside a = (
+  subst (λ i. i ≤ length b) (sym a.1) inside,
+  λ g u ps l. let is = part_is l.2 in let below : w.depth < 64 = is.4 in let deep : 64 ≤ w.depth = a.0 in absurd (omega arith),
+)
 ask_steps b w new start end _ inside a = absurd a
 
 pub substitution_steps : (b : List ℕ) (w new : WordBuilder) (s : Sign) (start end : ℕ) (res : Result (Option Next) Refusal) → is_substitution s ≡ true → start ≤ length b
@@ -361,7 +381,7 @@ unfolding Left
 stop_back b limit g w fs end u ps frames stops are l =
     let x = context_in w.holder in
     let read : ReadsParts limit b x (prior_in w.holder) (spot g w.depth w.at) (spot g w.depth end) [] =
-      subst (λ t. ReadsParts limit b x (prior_in w.holder) (spot g w.depth w.at) (spot g w.depth t.end) []) stops (r.stop (ap (λ t. t.sign) stops)) in
+    subst (λ t. ReadsParts limit b x (prior_in w.holder) (spot g w.depth w.at) (spot g w.depth t.end) []) stops (r.stop (ap (λ t. t.sign) stops)) in
     let whole = subst (λ v. Then b limit g x v (parts (found_in w.holder)) (spot g w.depth end) u ps) (sym frames) l in
     (are, spot g w.depth end, [], read, subst (λ qs. Then b limit g x w.frames (parts qs) (spot g w.depth end) u ps) (sym (append-nil (found_in w.holder))) whole)
 
@@ -383,18 +403,19 @@ close_steps b w new fs h depth start inside o end (Ok None) frames deep are stop
     let v : WordBuilder = given (record w { frames = fs; holder = h; depth = depth }) 0 p end in
     let keeps : Keeps b (Left b (focused w focus.Parts)) v = record {
       forth = λ limit g u ps l.
-        let t = stop_forth b limit g w (frame.Opened h depth start inside o ∷ fs) end u ps frames stops l in
-        let K = λ (y : Read) (j : Spot). Then b limit g (context_in h) fs y j u ps in
-        held_left b limit g g.count w.mode h 0 p fs (spot g depth end) u ps (moved b limit g h K refl (same (sym t.1 ∙ a.1)) refl t.2);
+          let t = stop_forth b limit g w (frame.Opened h depth start inside o ∷ fs) end u ps frames stops l in
+          let K = λ (y : Read) (j : Spot). Then b limit g (context_in h) fs y j u ps in
+          held_left b limit g g.count w.mode h 0 p fs (spot g depth end) u ps (moved b limit g h K refl (same (sym t.1 ∙ a.1)) refl t.2);
       back = λ g u ps l. stop_back b 64 g w (frame.Opened h depth start inside o ∷ fs) end u ps frames stops are
-        (p, a.1, left_held b 64 g g.count w.mode h 0 p fs (spot g depth end) u ps l);
+          (p, a.1, left_held b 64 g g.count w.mode h 0 p fs (spot g depth end) u ps l);
     } in
     subst (λ v. Keeps b (Left b (focused w focus.Parts)) v) (sym a.2) keeps
-close_steps b w new fs h depth start inside o end (Err (Syntax f at)) frames deep are stops a =
-    (subst (λ i. i ≤ length b) (sym a.2) (subst (λ v. Deep b w.base v) frames deep).2,
-    λ limit g u ps l.
-    let t = stop_forth b limit g w (frame.Opened h depth start inside o ∷ fs) end u ps frames stops l in
-    let some = t.1 in let none = a.0 in cc)
+close_steps b w new fs h depth start inside o end (Err (Syntax f at)) frames deep are stops a = (
+  subst (λ i. i ≤ length b) (sym a.2) (subst (λ v. Deep b w.base v) frames deep).2,
+  λ limit g u ps l.
+      let t = stop_forth b limit g w (frame.Opened h depth start inside o ∷ fs) end u ps frames stops l in
+      let some = t.1 in let none = a.0 in cc,
+)
 close_steps b w new fs h depth start inside o end (Err Memory) frames deep are stops a = tt
 close_steps b w new fs h depth start inside o end _ frames deep are stops a = absurd a
 
@@ -457,11 +478,11 @@ part_alike b w x prior found t holds e is =
     let k : Token = token b x prior w.at in
     let alike : Alike (Left b (focused v focus.Parts)) (LeftPart b v k.sign w.at k.end) = record {
       forth = λ limit g u ps l.
-        let f = first_read (sym (ap (λ i. is_part i.sign) e) ∙ is) l.3 in
-        let regrouped : found ++ l.2 ≡ (found ++ f.1 ∷ []) ++ f.2 = ap (λ qs. found ++ qs) f.3 ∙ sym (append_assoc found (f.1 ∷ []) f.2) in
-        (f.0, f.1, f.4, (l.1, f.2, f.5, subst (λ qs. Then b limit g x w.frames (parts qs) l.1 u ps) regrouped l.4));
+          let f = first_read (sym (ap (λ i. is_part i.sign) e) ∙ is) l.3 in
+          let regrouped : found ++ l.2 ≡ (found ++ f.1 ∷ []) ++ f.2 = ap (λ qs. found ++ qs) f.3 ∙ sym (append_assoc found (f.1 ∷ []) f.2) in
+          (f.0, f.1, f.4, (l.1, f.2, f.5, subst (λ qs. Then b limit g x w.frames (parts qs) l.1 u ps) regrouped l.4));
       back = λ g u ps l.
-        (tt, l.3.0, l.1 ∷ l.3.1, r.more refl l.2 l.3.2, subst (λ qs. Then b 64 g x w.frames (parts qs) l.3.0 u ps) (append_assoc found (l.1 ∷ []) l.3.1) l.3.3);
+          (tt, l.3.0, l.1 ∷ l.3.1, r.more refl l.2 l.3.2, subst (λ qs. Then b 64 g x w.frames (parts qs) l.3.0 u ps) (append_assoc found (l.1 ∷ []) l.3.1) l.3.3);
     } in
     let there = subst (λ i. Alike (Left b (focused v focus.Parts)) (LeftPart b v i.sign w.at i.end)) (sym e) alike in
     subst (λ i. Alike (Left b (focused (record w { holder = i }) focus.Parts)) (LeftPart b (record w { holder = i }) t.sign w.at t.end)) (sym holds) there
@@ -476,9 +497,9 @@ start_keeps b w frames =
     record {
       forth = λ limit g u ps l. (tt, u, ps, l, subst (λ fs. Then b limit g x fs (parts ps) u u ps) (sym frames) (refl, refl));
       back = λ g u ps l.
-        let t = subst (λ fs. Then b 64 g x fs (parts l.2) l.1 u ps) frames l.4 in
-        let here = subst (λ v. ReadsParts 64 b x (first_prior w.mode) (spot g w.depth w.at) v l.2) (sym t.1) l.3 in
-        subst (λ qs. ReadsParts 64 b x (first_prior w.mode) (spot g w.depth w.at) u qs) (sym t.0) here;
+          let t = subst (λ fs. Then b 64 g x fs (parts l.2) l.1 u ps) frames l.4 in
+          let here = subst (λ v. ReadsParts 64 b x (first_prior w.mode) (spot g w.depth w.at) v l.2) (sym t.1) l.3 in
+          subst (λ qs. ReadsParts 64 b x (first_prior w.mode) (spot g w.depth w.at) u qs) (sym t.0) here;
     }
 
 -- a part that is not the last is read from the parts' place on

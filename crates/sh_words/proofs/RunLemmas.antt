@@ -28,13 +28,13 @@ module _ (b : List ℕ) (first w new : WordBuilder) (res : Result (Option Next) 
         | inl l ↦ inl (omega arith)
         | inr r ↦ elim r [
           | inl same ↦
-            inr (inr ((starts (ap (λ v. v.focus) same ∙ e)).1 ∙ ap (λ v. started b v) same))
+              inr (inr ((starts (ap (λ v. v.focus) same ∙ e)).1 ∙ ap (λ v. started b v) same))
           | inr same ↦
-            let parts : TakesParts b w new (Ok None) = subst (λ x. TakesParts b w new x) none (takes (ap (λ v. v.focus) same)) in
-            let empty : first.frames ≡ [] = subst (λ x. Fits b x first.frames) e sound.2 in
-            let further : w.at < new.at = parts (ap (λ v. v.frames) same ∙ empty) in
-            let here : w.at ≡ first.at = ap (λ v. v.at) same in
-            inl (omega arith)
+              let parts : TakesParts b w new (Ok None) = subst (λ x. TakesParts b w new x) none (takes (ap (λ v. v.focus) same)) in
+              let empty : first.frames ≡ [] = subst (λ x. Fits b x first.frames) e sound.2 in
+              let further : w.at < new.at = parts (ap (λ v. v.frames) same ∙ empty) in
+              let here : w.at ≡ first.at = ap (λ v. v.at) same in
+              inl (omega arith)
         ]
       ]
 
@@ -45,7 +45,7 @@ module _ (b : List ℕ) (first w new : WordBuilder) (res : Result (Option Next) 
         | inr r ↦ elim r [
           | inl same ↦ let none : Ok None ≡ Ok (Some (Done t)) = sym (starts (ap (λ v. v.focus) same ∙ e)).0 ∙ done in cc
           | inr same ↦
-            let parts : TakesParts b w new (Ok (Some (Done t))) = subst (λ x. TakesParts b w new x) done (takes (ap (λ v. v.focus) same)) in
-            absurd (begins (subst (λ v. TakesParts b v new (Ok (Some (Done t)))) same parts))
+              let parts : TakesParts b w new (Ok (Some (Done t))) = subst (λ x. TakesParts b w new x) done (takes (ap (λ v. v.focus) same)) in
+              absurd (begins (subst (λ v. TakesParts b v new (Ok (Some (Done t)))) same parts))
         ]
       ]

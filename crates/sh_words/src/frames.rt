@@ -13,7 +13,10 @@ pub enum Holder {
         parts: Items<Part>,
     },
     /// An operand of the arithmetic expansion that begins at `start`; the context is that of its expansions.
-    Operand { context: Context, start: u32 },
+    Operand {
+        context: Context,
+        start: u32,
+    },
 }
 
 /// What was opened.

@@ -52,7 +52,10 @@ impl WordBuilder {
         ensures { result ≡ faults.bad self.now.holder lexeme.figure lexeme.start }
     {
         match lexeme.figure {
-            Figure::End => Refusal::Syntax(Fault::OpenArith, self.holder.arithmetic_start(lexeme.start)),
+            Figure::End => Refusal::Syntax(
+                Fault::OpenArith,
+                self.holder.arithmetic_start(lexeme.start),
+            ),
             Figure::LeftOut(form) => Refusal::LeftOut(form, lexeme.start),
             Figure::FinalBackslash => Refusal::Syntax(Fault::FinalBackslash, lexeme.start),
             _ => Refusal::Syntax(Fault::BadArith, lexeme.start),

@@ -94,9 +94,7 @@ impl WordBuilder {
             self.give(next, part, token.end)?;
             return Ok(None);
         }
-        if let Some((opening, context)) =
-            opening_of(self.holder.context(), token.sign, token.end)
-        {
+        if let Some((opening, context)) = opening_of(self.holder.context(), token.sign, token.end) {
             return self.open_part(opening, context, start, token.end);
         }
         if is_substitution(token.sign) {
@@ -120,13 +118,15 @@ impl WordBuilder {
     {
         match self.frames.pop() {
             None => Ok(Some(Next::Done(self.whole_word(end)))),
-            Some(Frame::Opened {
-                holder,
-                depth,
-                start,
-                inside,
-                opening,
-            }) => self.close_part(holder, depth, start, inside, opening, end),
+            Some(
+                Frame::Opened {
+                    holder,
+                    depth,
+                    start,
+                    inside,
+                    opening,
+                },
+            ) => self.close_part(holder, depth, start, inside, opening, end),
             Some(Frame::Operation(_)) => Err(Refusal::Syntax(Fault::BadArith, end)),
         }
     }

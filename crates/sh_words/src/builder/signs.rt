@@ -58,13 +58,7 @@ pub fn opening_of(context: Context, sign: Sign, end: u32) -> Option<(Opening, Co
 
 /// The part that an opening at `start` makes of the parts in it, which begin at `inside`. It ends at `end`.
 #[tactic(auto, unfolding(crate::specs::States::made))]
-pub fn made(
-    opening: Opening,
-    start: u32,
-    inside: u32,
-    parts: Items<Part>,
-    end: u32,
-) -> Option<Part>
+pub fn made(opening: Opening, start: u32, inside: u32, parts: Items<Part>, end: u32) -> Option<Part>
     ensures { result ≡ states.made opening start inside parts end }
 {
     let span = Span { start, end };

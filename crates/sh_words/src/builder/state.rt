@@ -172,10 +172,7 @@ impl WordBuilder {
             }
             depth += 1;
         }
-        let holder = mem::replace(
-            &mut self.holder,
-            opening.holder(self.alloc, context, start),
-        );
+        let holder = mem::replace(&mut self.holder, opening.holder(self.alloc, context, start));
         let frame = Frame::Opened {
             holder,
             depth: self.depth,
