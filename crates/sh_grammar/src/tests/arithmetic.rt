@@ -298,6 +298,9 @@ fn expansions_that_are_no_whole_operand(rt: HostRuntime) -> Result<(), Fail> {
         rt.alloc(),
         &[
             ("$((a$x))", "LeftOut(Arithmetic, 4)"),
+            ("$(($x$))", "Syntax(BadArith, 5)"),
+            ("$((a$))", "Syntax(BadArith, 4)"),
+            ("$(($x${y/z}))", "LeftOut(Braced, 5)"),
             ("$((1$x))", "LeftOut(Arithmetic, 4)"),
             ("$((${x}1))", "LeftOut(Arithmetic, 3)"),
             ("$((${x}y))", "LeftOut(Arithmetic, 3)"),

@@ -319,6 +319,10 @@ fn in_tokens_of_arithmetic(rt: HostRuntime) -> Result<(), Fail> {
             ("$((0\\\n8))", "Syntax(BadArith, 6)"),
             ("$((1 \\\n2))", "Syntax(BadArith, 7)"),
             ("$((1)\\\n )", "Syntax(BadArith, 4)"),
+            ("$((1)\\\n))", "LeftOut(Continuation, 5)"),
+            ("$((1)\\\n\\\n))", "LeftOut(Continuation, 5)"),
+            ("$((1)\\\n", "Syntax(OpenArith, 0)"),
+            ("$((1)\\\n2)", "Syntax(BadArith, 4)"),
         ],
     )
 }
