@@ -121,7 +121,7 @@ const IN_ARITHMETIC: &[Row] = &[
     ),
     ("$((\\\n1))", "0-8[Arith(0-8, Constant(5-6))]"),
     ("$((1\\\n))", "0-8[Arith(0-8, Constant(3-4))]"),
-    ("$((1)\\\n)", "Syntax(BadArith, 4)"),
+    ("$((1)\\\n)", "LeftOut(Continuation, 5)"),
     (
         "$((a\\\n=1))",
         "0-10[Arith(0-10, let 3-4 None = Constant(7-8))]",
