@@ -275,11 +275,13 @@ fn push_part(alloc: Global, part: &Part, text: &mut String) -> Result<(), AllocE
 /// Parts, with blanks between them.
 #[cycle(render)]
 pub fn push_row(alloc: Global, parts: &[Part], text: &mut String) -> Result<(), AllocError> {
-    let mut between = "";
+    let mut is_first = true;
     for part in parts {
-        text.push_str(between)?;
+        if !is_first {
+            text.push_str(" ")?;
+        }
+        is_first = false;
         push_part(alloc, part, text)?;
-        between = " ";
     }
     Ok(())
 }
@@ -317,11 +319,13 @@ fn push_element(alloc: Global, element: &Element, text: &mut String) -> Result<(
 
 #[cycle(render)]
 fn push_elements(alloc: Global, elements: &[Element], text: &mut String) -> Result<(), AllocError> {
-    let mut between = "";
+    let mut is_first = true;
     for element in elements {
-        text.push_str(between)?;
+        if !is_first {
+            text.push_str(" ")?;
+        }
+        is_first = false;
         push_element(alloc, element, text)?;
-        between = " ";
     }
     Ok(())
 }
@@ -358,11 +362,13 @@ fn push_item(alloc: Global, item: &Item, text: &mut String) -> Result<(), AllocE
 /// The items of a script, with blanks between them.
 #[cycle(render)]
 pub fn push_script(alloc: Global, script: &Script, text: &mut String) -> Result<(), AllocError> {
-    let mut between = "";
+    let mut is_first = true;
     for item in script.items.as_slice() {
-        text.push_str(between)?;
+        if !is_first {
+            text.push_str(" ")?;
+        }
+        is_first = false;
         push_item(alloc, item, text)?;
-        between = " ";
     }
     Ok(())
 }
