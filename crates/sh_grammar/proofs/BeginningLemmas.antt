@@ -44,14 +44,16 @@ only_last f false true u w x y z i j k h = absurd (true≢false (sym h ∙ j))
 only_last f false false true w x y z i j k h = absurd (true≢false (sym h ∙ k))
 only_last f false false false w x y z i j k h = (refl, refl, refl)
 
--- Signs that end a word
+-- Signs of which no byte of a word comes: its end, tabs that are no part of it, and none of plain bytes
 
-abbrev is_stop : Sign → Bool
-is_stop sign.Stop = true
-is_stop _ = false
+abbrev pub takes_none : Sign → ℕ → Bool
+takes_none sign.Stop n = true
+takes_none sign.Tabs n = true
+takes_none sign.Plain n = n == 0
+takes_none _ n = false
 
-abbrev ends : Sign × ℕ → Bool
-ends found = is_stop found.0
+abbrev pub ends : Sign × ℕ → Bool
+ends found = takes_none found.0 found.1
 
 -- what a `$` or a quote begins does not
 misfit_goes : (k : ℕ) (rest : List ℕ) → ends (words.misfit k rest) ≡ false
@@ -117,13 +119,24 @@ meant_ends : (x : Context) (i c : ℕ) (cs : List ℕ) → ends (words.meant_by 
 unfolding words.meant_by
 meant_ends x i c cs h = grind (arith, nat_tests, backslash_ends x cs, single_goes cs, dollar_goes x i cs)
 
+not_stripped : (x : Context) (c : ℕ) → words.is_stripped x 0 c ≡ false
+not_stripped x c = go x.strip
+  where
+    go : (t : Bool) → (t && 0 == 10 && c == 9) ≡ false
+    go true = refl
+    go false = refl
+
+stands_some : (x : Context) (p i c : ℕ) (cs : List ℕ) → words.stands x p i c cs ≡ true → ends (sign.Plain, words.plain_length x p i (c ∷ cs)) ≡ false
+unfolding words.plain_length
+stands_some x p i c cs h = rw h grind (arith, nat_tests)
+
 -- a word ends at its first byte only where that delimits tokens or is such a backslash
 sign_ends : (x : Context) (i c : ℕ) (cs : List ℕ) → x.site ≡ site.Word → ends (words.sign_by x 0 i c cs) ≡ true
     → (ends_token c || (is_backslash c && is_first is_newline cs)) ≡ true
 unfolding words.sign_by
 sign_ends x i c cs word h =
     let stops : words.stops x.site c ≡ ends_token c = ap (λ s. words.stops s c) word in
-    grind (arith, nat_tests, meant_ends x i c cs)
+    grind (arith, nat_tests, not_stripped x c, stands_some x 0 i c cs, meant_ends x i c cs)
 
 -- Where blanks end
 
@@ -228,12 +241,22 @@ stage_site b (Named d) i =
     either site_of site.Word d (in_operand b i) (in_word i) operand refl
 stage_site b _ i = refl
 
-pub word_goes : (b : List ℕ) (s : Stage) (i : ℕ) → lead_at b s i ≡ lead.Word → blanks false b i ≡ i → sign_at b (in_stage b s i) 0 (plain_spot 0 i) ≡ sign.Stop → ⊥
-unfolding lead_at words.token
-word_goes b s i is settled stop =
+-- where a word begins, a byte of it comes
+pub word_takes : (b : List ℕ) (s : Stage) (i : ℕ) → lead_at b s i ≡ lead.Word → blanks false b i ≡ i
+    → (i < length b) × (ends (words.sign_of (in_stage b s i) 0 i (drop i b)) ≡ false)
+unfolding lead_at
+word_takes b s i is settled =
     let at = begins b s i (operator_of (drop i b)) (ap is_element is) in
-    let some : 0 < length (drop i b) = (let inside = at.inside in omega (arith, length-drop i b)) in
-    never (in_stage b s i) i (drop i b) (stage_site b s i) some (settled_gap b i settled) at.no_operator at.no_newline (ap is_stop stop)
+    let some : 0 < length (drop i b) = (let inside = at.inside in omega (arith, length-drop i b)) in (
+      at.inside,
+      false_from_ne_true (ends (words.sign_of (in_stage b s i) 0 i (drop i b)))
+          (never (in_stage b s i) i (drop i b) (stage_site b s i) some (settled_gap b i settled) at.no_operator at.no_newline),
+    )
+
+pub word_goes : (b : List ℕ) (s : Stage) (i : ℕ) → lead_at b s i ≡ lead.Word → blanks false b i ≡ i → sign_at b (in_stage b s i) 0 (plain_spot 0 i) ≡ sign.Stop → ⊥
+unfolding words.token
+word_goes b s i is settled stop =
+    true≢false (sym (ap (λ g. takes_none g (words.sign_of (in_stage b s i) 0 i (drop i b)).1) stop) ∙ (word_takes b s i is settled).1)
 
 -- Assignments
 

@@ -37,7 +37,7 @@ use Rattle.sh_tree.specs.language.Commands.{begins_command, is_bar, link_of}
 use Rattle.sh_tree.specs.language.Contexts.{in_word, in_unsplit, in_value, in_document_of}
 use Rattle.sh_tree.specs.language.HereDocuments.{Mark}
 use Rattle.sh_tree.specs.language.Trees.{span, word, redirect, here_doc, command, pipe, and_or, script, branch, clause}
-use Rattle.sh_tree.specs.language.Examples.{plain, bare, value, quoted_text, quoted_words, quoted_script, double_text, double_words, double_script, bare_text, bare_words, bare_script, assigned_text, assigned_parts, assigned_words, assigned_script, passed_text, passed_script, home_text, home_value, home_script, braces_text, braces_elements, braces_script, braced_text, default_part, length_part, removal_part, braced_words, braced_script, arithmetic_text, product, sum, arithmetic_part, arithmetic_script, substituted_text, inner_script, substituted_part, substituted_script, utility, lone, document_text, document_body, document_words, document_script, branch_text, branch_script, loop_text, loop_script, case_text, case_clauses, case_script, defined_text, defined_command, defined_list, defined_script, closed_text, closed_script, separated_text, separated_script, comment_text}
+use Rattle.sh_tree.specs.language.Examples.{plain, bare, value, simple, quoted_text, quoted_words, quoted_script, double_text, double_words, double_script, bare_text, bare_words, bare_script, assigned_text, assigned_parts, assigned_words, assigned_script, passed_text, passed_script, home_text, home_value, home_script, braces_text, braces_elements, braces_script, braced_text, default_part, length_part, removal_part, braced_words, braced_script, arithmetic_text, product, sum, arithmetic_part, arithmetic_script, substituted_text, inner_script, substituted_part, substituted_script, utility, lone, document_text, document_body, document_words, document_script, branch_text, branch_script, loop_text, loop_script, case_text, case_clauses, case_script, defined_text, defined_command, defined_list, defined_script, unset_first_text, unset_first_words, unset_first_value, unset_first_script, unset_last_text, unset_last_words, unset_last_script, closed_text, closed_script, separated_text, separated_script, comment_text}
 
 -- what a reading of a known text computes
 unfoldable pub computes : Unit {0}
@@ -347,6 +347,44 @@ defined_reads =
     r.more_links refl (r.no_break refl) (r.negated refl piped) (r.no_link refl) in
     let list : ReadsAndOr 1 defined_text no_bodies (at_token 0 0 0) (at_token 25 5 0) defined_list = r.linked (r.straight refl (r.last_command definition refl)) links in
     whole defined_text 1 (at_token 26 5 0) defined_script refl (r.sequence (r.list (r.no_break refl) refl (r.ended_item list refl (r.no_break refl) refl))) refl refl
+
+pub unset_first_reads : Reads unset_first_text unset_first_script
+unfolding computes
+unset_first_reads =
+    let unset : ReadsWord 0 unset_first_text (in_word 0) (at_word 0 1 0) (at_word 5 1 0) (bare 0 5) = r.whole_word (r.more refl r.plain (r.stop refl)) refl refl in
+    let x : ReadsWord 0 unset_first_text (in_word 6) (at_word 6 1 0) (at_word 7 1 0) (bare 6 7) = r.whole_word (r.more refl r.plain (r.stop refl)) refl refl in
+    let elements : ReadsElements 0 unset_first_text no_bodies First (at_token 0 1 0) (at_token 8 1 0) unset_first_words =
+    r.word_element refl unset (r.word_element refl x (r.no_element refl)) in
+    let echo : ReadsWord 0 unset_first_text (in_word 10) (at_word 10 2 0) (at_word 14 2 0) (bare 10 14) = r.whole_word (r.more refl r.plain (r.stop refl)) refl refl in
+    let inner : ReadsParts 0 unset_first_text (in_double (in_word 15)) 0 (at_word 16 2 0) (at_word 19 2 0) (value 16 18 ∷ []) = r.more refl r.value (r.stop refl) in
+    let quoted : ReadsWord 0 unset_first_text (in_word 15) (at_word 15 2 0) (at_word 19 2 0) (word 15 19 (part.Double (span 15 19) (value 16 18 ∷ []) ∷ [])) =
+    r.whole_word (r.more refl (r.double_quoted inner) (r.stop refl)) refl refl in
+    let value_elements : ReadsElements 0 unset_first_text no_bodies First (at_token 10 2 0) (at_token 19 2 0) unset_first_value =
+    r.word_element refl echo (r.word_element refl quoted (r.no_element refl)) in
+    let c : ReadsCommand 0 unset_first_text no_bodies (at_token 0 0 0) (at_token 8 1 0) (simple 1 0 unset_first_words) = r.simple_command refl elements in
+    let d : ReadsCommand 0 unset_first_text no_bodies (at_token 10 1 0) (at_token 19 2 0) (simple 2 10 unset_first_value) = r.simple_command refl value_elements in
+    let list : ReadsAndOr 0 unset_first_text no_bodies (at_token 0 0 0) (at_token 19 2 0) _ =
+    r.linked (r.straight refl (r.more_commands c refl (r.no_break refl) (r.last_command d refl))) (r.no_link refl) in
+    whole unset_first_text 0 (at_token 19 2 0) unset_first_script refl (r.sequence (r.list (r.no_break refl) refl (r.last_item list refl refl))) refl refl
+
+pub unset_last_reads : Reads unset_last_text unset_last_script
+unfolding computes
+unset_last_reads =
+    let echo : ReadsWord 0 unset_last_text (in_word 0) (at_word 0 1 0) (at_word 4 1 0) (bare 0 4) = r.whole_word (r.more refl r.plain (r.stop refl)) refl refl in
+    let inner : ReadsParts 0 unset_last_text (in_double (in_word 5)) 0 (at_word 6 1 0) (at_word 9 1 0) (value 6 8 ∷ []) = r.more refl r.value (r.stop refl) in
+    let quoted : ReadsWord 0 unset_last_text (in_word 5) (at_word 5 1 0) (at_word 9 1 0) (word 5 9 (part.Double (span 5 9) (value 6 8 ∷ []) ∷ [])) =
+    r.whole_word (r.more refl (r.double_quoted inner) (r.stop refl)) refl refl in
+    let value_elements : ReadsElements 0 unset_last_text no_bodies First (at_token 0 1 0) (at_token 10 1 0) double_words =
+    r.word_element refl echo (r.word_element refl quoted (r.no_element refl)) in
+    let unset : ReadsWord 0 unset_last_text (in_word 12) (at_word 12 2 0) (at_word 17 2 0) (bare 12 17) = r.whole_word (r.more refl r.plain (r.stop refl)) refl refl in
+    let x : ReadsWord 0 unset_last_text (in_word 18) (at_word 18 2 0) (at_word 19 2 0) (bare 18 19) = r.whole_word (r.more refl r.plain (r.stop refl)) refl refl in
+    let elements : ReadsElements 0 unset_last_text no_bodies First (at_token 12 2 0) (at_token 19 2 0) unset_last_words =
+    r.word_element refl unset (r.word_element refl x (r.no_element refl)) in
+    let c : ReadsCommand 0 unset_last_text no_bodies (at_token 0 0 0) (at_token 10 1 0) (simple 1 0 double_words) = r.simple_command refl value_elements in
+    let d : ReadsCommand 0 unset_last_text no_bodies (at_token 12 1 0) (at_token 19 2 0) (simple 2 12 unset_last_words) = r.simple_command refl elements in
+    let list : ReadsAndOr 0 unset_last_text no_bodies (at_token 0 0 0) (at_token 19 2 0) _ =
+    r.linked (r.straight refl (r.more_commands c refl (r.no_break refl) (r.last_command d refl))) (r.no_link refl) in
+    whole unset_last_text 0 (at_token 19 2 0) unset_last_script refl (r.sequence (r.list (r.no_break refl) refl (r.last_item list refl refl))) refl refl
 
 pub closed_reads : Reads closed_text closed_script
 unfolding computes

@@ -5,3 +5,4 @@ pub mod Tree
 pub mod Words
 pub mod Answers
 pub mod Commands
+pub mod program

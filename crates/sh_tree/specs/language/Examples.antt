@@ -233,6 +233,31 @@ defined_list =
 abbrev pub defined_script : Script
 defined_script = script (item defined_list true ∷ [])
 
+-- pipelines of two utilities, one that removes a variable and one that has its value, in both orders
+abbrev pub piped : Command → Command → Script
+piped c d = script (item (and_or (pipe false (c ∷ d ∷ [])) []) false ∷ [])
+
+abbrev pub unset_first_text : List ℕ
+unset_first_text = codes "unset x | echo \"$x\""
+
+abbrev pub unset_first_words : List Element
+unset_first_words = element.Word (bare 0 5) ∷ element.Word (bare 6 7) ∷ []
+
+abbrev pub unset_first_value : List Element
+unset_first_value = element.Word (bare 10 14) ∷ element.Word (word 15 19 (part.Double (span 15 19) (value 16 18 ∷ []) ∷ [])) ∷ []
+
+abbrev pub unset_first_script : Script
+unset_first_script = piped (simple 1 0 unset_first_words) (simple 2 10 unset_first_value)
+
+abbrev pub unset_last_text : List ℕ
+unset_last_text = codes "echo \"$x\" | unset x"
+
+abbrev pub unset_last_words : List Element
+unset_last_words = element.Word (bare 12 17) ∷ element.Word (bare 18 19) ∷ []
+
+abbrev pub unset_last_script : Script
+unset_last_script = piped (simple 1 0 double_words) (simple 2 12 unset_last_words)
+
 -- a closing word directly behind a compound command
 abbrev pub closed_text : List ℕ
 closed_text = codes "{ { a; } }"
@@ -317,6 +342,8 @@ pub record LanguageRead : Type 0 where
   pub loop : Reads loop_text loop_script
   pub cases : Reads case_text case_script
   pub defined : Reads defined_text defined_script
+  pub unset_first : Reads unset_first_text unset_first_script
+  pub unset_last : Reads unset_last_text unset_last_script
   pub closed : Reads closed_text closed_script
   pub separated : Reads separated_text separated_script
   pub empty : Reads [] (script [])

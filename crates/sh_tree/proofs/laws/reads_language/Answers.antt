@@ -1,4 +1,4 @@
-use Rattle.sh_tree.proofs.LanguageLemmas.{quoted_reads, double_reads, bare_reads, assigned_reads, passed_reads, home_reads, braces_reads, braced_reads, arithmetic_reads, substituted_reads, document_reads, branch_reads, loop_reads, case_reads, defined_reads, closed_reads, separated_reads, empty_reads, comment_reads}
+use Rattle.sh_tree.proofs.LanguageLemmas.{quoted_reads, double_reads, bare_reads, assigned_reads, passed_reads, home_reads, braces_reads, braced_reads, arithmetic_reads, substituted_reads, document_reads, branch_reads, loop_reads, case_reads, defined_reads, unset_first_reads, unset_last_reads, closed_reads, separated_reads, empty_reads, comment_reads}
 use Rattle.sh_tree.proofs.UnreadLemmas.{open_quote_unread, open_braced_unread, split_name_unread, no_expression_unread, lone_bar_unread, split_operator_unread, clause_end_unread, open_document_unread, split_document_unread, tabbed_document_unread, unclosed_unread}
 use Rattle.sh_tree.proofs.laws.reads_language.Goals as goal
 
@@ -19,6 +19,8 @@ returns c = record {
   loop = loop_reads;
   cases = case_reads;
   defined = defined_reads;
+  unset_first = unset_first_reads;
+  unset_last = unset_last_reads;
   closed = closed_reads;
   separated = separated_reads;
   empty = empty_reads;
