@@ -1,0 +1,10 @@
+pub mod EventLemmas
+pub mod ExampleLemmas
+pub mod FieldLemmas
+pub mod FieldRowLemmas
+pub mod FormLemmas
+pub mod OperandLemmas
+pub mod ProfileLemmas
+pub mod SteadyLemmas
+pub mod StepRowLemmas
+pub mod WorldLemmas

@@ -1,0 +1,204 @@
+-- Which commands are refused before any analysis, and by which rule.
+-- POSIX.1-2024, XCU 2.9.1 (simple commands), 2.9.5 (function definitions), 2.15 (special built-in utilities), 3 (command).
+use Rattle.std.specs.Prelude.{ℕ, ◌+◌, ◌==◌, nat_lt, Bool, true, false, not, ◌&&◌, ◌||◌, if◌then◌else◌, List, [], ◌∷◌, length, drop, map, codes, Option, Some, None, is_some}
+use Rattle.std.specs.List.{list_any, list_all, filter_map}
+use Rattle.std.specs.Str.{bytes_eq}
+use Rattle.sh_tree.specs.declared.known.Declaration.TheVariants as declaration
+use Rattle.sh_tree.specs.declared.known.KnownName.{KnownName}
+use Rattle.sh_tree.specs.declared.known.KnownName.TheVariants as known
+use Rattle.sh_tree.specs.declared.refusal.Rule.{Rule}
+use Rattle.sh_tree.specs.declared.refusal.Rule.TheVariants as rule
+use Rattle.sh_tree.specs.language.Bytes.{is_first, name_length}
+use Rattle.sh_tree.specs.program.Syntax as p
+use Rattle.sh_tree.specs.program.Syntax.{Text}
+use Rattle.sh_tree.specs.program.Words.{static_of, is_plainly, words_in}
+use Rattle.sh_table.specs.declared.kind.Kind.{Kind}
+use Rattle.sh_table.specs.declared.kind.Kind.TheVariants as kind
+use Rattle.sh_table.specs.Kinds.{kind_of}
+use Rattle.sh_table.specs.Locations.{Surroundings, Located, outside, items_located}
+use Rattle.sh_table.specs.runs.Numbers.{number_in}
+use Rattle.sh_table.specs.runs.Operands.{is_dashed, ends_options, is_set_option, ends_in_o}
+use Rattle.sh_table.specs.runs.Steps.{operands_in}
+
+-- the static text of an operand, if it has one
+abbrev pub Static : Type 0
+Static = Option Text
+
+-- Tests of operands
+
+abbrev pub is_minus : Text → Bool
+is_minus t = bytes_eq t (codes "-")
+
+-- `trap` without an action: no operand, or the first one, behind `--` if that stands there, is empty, `-` or a number
+unfoldable pub is_no_action : List Static → Bool
+is_no_action [] = true
+is_no_action (None ∷ xs) = false
+is_no_action (Some t ∷ xs) = length t == 0 || is_minus t || is_some (number_in t)
+
+unfoldable pub traps_nothing : List Static → Bool
+traps_nothing (Some t ∷ xs) = if ends_options t then is_no_action xs else is_no_action (Some t ∷ xs)
+traps_nothing xs = is_no_action xs
+
+-- what `command` may run: neither a utility that changes what is set nor one that is refused
+unfoldable pub may_run : Kind → Bool
+may_run kind.True = true
+may_run kind.False = true
+may_run kind.Utility = true
+may_run _ = false
+
+unfoldable pub runs_utility : List Static → Bool
+runs_utility [] = true
+runs_utility (None ∷ xs) = false
+runs_utility (Some t ∷ xs) = may_run (kind_of t)
+
+-- the letters of an option of `command`: `-p`, `-v`, `-V`
+abbrev pub is_command_letter : ℕ → Bool
+is_command_letter c = c == 112 || c == 118 || c == 86
+
+-- behind `-v` and `-V` anything may stand
+abbrev pub describes : Text → Bool
+describes t = list_any (λ c. c == 118 || c == 86) t
+
+abbrev pub has_command_letters : Text → Bool
+has_command_letters t = list_all is_command_letter (drop 1 t)
+
+unfoldable pub commands_utility : List Static → Bool
+commands_utility [] = true
+commands_utility (None ∷ xs) = false
+commands_utility (Some t ∷ xs) =
+    if ends_options t then runs_utility xs
+    else (if is_dashed t then has_command_letters t && (describes t || commands_utility xs) else may_run (kind_of t))
+
+-- an option of `set` with an `o` before its last letter: shells differ in which words such options take
+unfoldable pub has_inner_o : Text → Bool
+has_inner_o (c ∷ d ∷ cs) = c == 111 || has_inner_o (d ∷ cs)
+has_inner_o _ = false
+
+-- `-` or `+`, alone or with letters behind it
+abbrev pub is_signed : Text → Bool
+is_signed t = is_first (λ c. c == 45 || c == 43) t
+
+-- `set`: the options are static, none is `-` or `+` alone or has an `o` before others, the name of an option is none itself, and static
+-- is the first positional word too, if no `--` stands before it
+unfoldable pub sets_known : Bool → List Static → Bool
+sets_known takes [] = true
+sets_known takes (None ∷ xs) = false
+sets_known true (Some t ∷ xs) = not (is_signed t) && sets_known false xs
+sets_known false (Some t ∷ xs) =
+    if ends_options t then true
+    else (if is_set_option t then not (has_inner_o (drop 1 t)) && sets_known (ends_in_o t) xs else not (is_signed t))
+
+-- a static decimal number from 1
+unfoldable pub is_count : Static → Bool
+is_count None = false
+is_count (Some t) = is_positive (number_in t)
+  where
+    is_positive : Option ℕ → Bool
+    is_positive None = false
+    is_positive (Some n) = nat_lt 0 n
+
+-- a name and `+=`, which other shells read as an assignment
+abbrev pub is_append : Text → Bool
+is_append t = not (name_length t == 0) && is_first (λ c. c == 43) (drop (name_length t) t) && is_first (λ c. c == 61) (drop (name_length t + 1) t)
+
+-- words that other shells reserve: the reading leaves them out as command names, and quoted they are utilities
+unfoldable pub is_reserved_elsewhere : KnownName → Bool
+is_reserved_elsewhere known.LeftBrackets = true
+is_reserved_elsewhere known.RightBrackets = true
+is_reserved_elsewhere known.Function = true
+is_reserved_elsewhere known.Select = true
+is_reserved_elsewhere known.Time = true
+is_reserved_elsewhere known.Namespace = true
+is_reserved_elsewhere _ = false
+
+-- Rules
+
+-- the rule, unless the test holds
+unfoldable pub unless : Bool → Rule → Option Rule
+unless true r = None
+unless false r = Some r
+
+-- the first of two
+unfoldable pub or_rule : Option Rule → Option Rule → Option Rule
+or_rule None r = r
+or_rule (Some q) r = Some q
+
+-- the rule that a command with this name breaks, with these operands
+unfoldable pub kind_rule : Surroundings → Bool → Kind → List Static → Option Rule
+kind_rule x quoted (kind.Refused name) ts = unless (is_reserved_elsewhere name) (rule.Refused name)
+kind_rule x quoted kind.Export ts = unless (not quoted) (rule.Quoted declaration.Export)
+kind_rule x quoted kind.Readonly ts = unless (not quoted) (rule.Quoted declaration.Readonly)
+kind_rule x quoted kind.Trap ts = unless (traps_nothing ts) rule.TrapAction
+kind_rule x quoted kind.Command ts = unless (commands_utility ts) rule.CommandUse
+kind_rule x quoted kind.Unset ts = unless (list_all is_some ts) rule.UnsetOperand
+kind_rule x quoted kind.Set ts = unless (sets_known false ts) rule.SetOperand
+kind_rule x quoted kind.Break ts = or_rule (unless (list_all is_count ts) rule.BreakOperand) (unless x.loop rule.BreakOutside)
+kind_rule x quoted kind.Continue ts = or_rule (unless (list_all is_count ts) rule.ContinueOperand) (unless x.loop rule.ContinueOutside)
+kind_rule x quoted kind.Return ts = unless x.function rule.ReturnOutside
+kind_rule x quoted _ ts = None
+
+-- of a command with this name
+unfoldable pub named_rule : Surroundings → p.Word → Static → List Static → Option Rule
+named_rule x w None ts = Some rule.ComputedName
+named_rule x w (Some t) ts = or_rule (kind_rule x (not (is_plainly t w)) (kind_of t) ts) (unless (not (is_append t)) rule.Append)
+
+unfoldable pub words_rule : Surroundings → p.Words → Option Rule
+words_rule x p.no_words = None
+words_rule x (p.more_words w ws) = named_rule x w (static_of w) (map static_of (words_in ws))
+
+-- a special built-in utility's name and a refused one are none for a function
+unfoldable pub told_name : Kind → Option KnownName
+told_name kind.Break = Some known.Break
+told_name kind.Colon = Some known.Colon
+told_name kind.Continue = Some known.Continue
+told_name kind.Exec = Some known.Exec
+told_name kind.Exit = Some known.Exit
+told_name kind.Export = Some known.Export
+told_name kind.Readonly = Some known.Readonly
+told_name kind.Return = Some known.Return
+told_name kind.Set = Some known.Set
+told_name kind.Shift = Some known.Shift
+told_name kind.Times = Some known.Times
+told_name kind.Trap = Some known.Trap
+told_name kind.Unset = Some known.Unset
+told_name (kind.Refused name) = Some name
+told_name _ = None
+
+unfoldable pub function_rule : Option KnownName → Option Rule
+function_rule None = None
+function_rule (Some name) = Some (rule.FunctionNamed name)
+
+-- the first rule that a command breaks
+unfoldable pub command_rule : Surroundings → p.Kind → Option Rule
+command_rule x (p.Simple es) = words_rule x (operands_in es)
+command_rule x (p.Define name body) = function_rule (told_name (kind_of name))
+command_rule x _ = None
+
+-- a command that breaks a rule, by its number and its offset
+pub record Refused : Type 0 where
+  pub number : ℕ
+  pub at : ℕ
+  pub rule : Rule
+
+unfoldable pub refused_at : Located → Option Refused
+refused_at l = at_command l.command
+  where
+    with_rule : ℕ → ℕ → Option Rule → Option Refused
+    with_rule number at None = None
+    with_rule number at (Some r) = Some (record { number = number; at = at; rule = r })
+
+    at_command : p.Command → Option Refused
+    at_command (p.command number at kind rs) = with_rule number at (command_rule l.surroundings kind)
+
+-- the one with the least number
+unfoldable pub least_refused : List Refused → Option Refused
+least_refused [] = None
+least_refused (r ∷ rs) = lesser (least_refused rs)
+  where
+    lesser : Option Refused → Option Refused
+    lesser None = Some r
+    lesser (Some q) = if nat_lt q.number r.number then Some q else Some r
+
+-- of a program, the refused command with the least number and the rule that is told of it
+unfoldable pub first_refused : p.Items → Option Refused
+first_refused t = least_refused (filter_map refused_at (items_located outside t))

@@ -1,0 +1,12 @@
+pub mod Environment
+pub mod Numbers
+pub mod Answers
+pub mod States
+pub mod Arithmetic
+pub mod Expansion
+pub mod Fields
+pub mod Operands
+pub mod Work
+pub mod Builtins
+pub mod Steps
+pub mod Worlds

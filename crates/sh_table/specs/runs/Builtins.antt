@@ -1,0 +1,127 @@
+-- What built-in utilities do.
+-- POSIX.1-2024, XCU 2.8.1 (consequences of shell errors), 2.15 (special built-in utilities), 3 (cd, getopts, read).
+use Rattle.std.specs.Prelude.{ℕ, zero, suc, ◌+◌, ◌==◌, nat_le, Bool, true, false, not, ◌||◌, if◌then◌else◌, List, [], ◌∷◌, length, drop, codes, Option, Some, None, is_some, unwrap_or}
+use Rattle.std.specs.List.{list_any}
+use Rattle.std.specs.Str.{bytes_eq}
+use Rattle.sh_tree.specs.program.Syntax.{Text}
+use Rattle.sh_table.specs.declared.kind.Kind.{Kind}
+use Rattle.sh_table.specs.declared.kind.Kind.TheVariants as kind
+use Rattle.sh_table.specs.runs.Environment.{Environment, Frame, with_variable, with_function}
+use Rattle.sh_table.specs.runs.Answers.{Answer}
+use Rattle.sh_table.specs.runs.Operands.{definitions_in, Removal, OfVariables, OfFunctions, OfEither, OfBoth, unset_operands, set_words, count_operand, status_operand, has_command, read_names, getopts_name}
+use Rattle.sh_table.specs.runs.Work.{Work, Saved, Effect, Pops, goes, ends, loop_mark, broken_off, continued, return_mark}
+
+-- a status that is not zero
+unfoldable pub nonzero : ℕ → ℕ
+nonzero zero = 1
+nonzero (suc n) = suc n
+
+-- `export`, `readonly`: each operand that is a name, `=` and bytes sets the name
+unfoldable pub exported : Environment → List (Text × Text) → Environment
+exported e [] = e
+exported e (x ∷ xs) = exported (with_variable e x.0 (Some x.1)) xs
+
+-- Unset
+
+-- one name, where it is removed; a choice says whether a function goes where there was no variable
+unfoldable pub removed : Removal → Bool → Environment → Text → Environment
+removed OfVariables takes e name = with_variable e name None
+removed OfFunctions takes e name = with_function e name None
+removed OfEither takes e name = if is_some (e.variables name) then with_variable e name None else (if takes then with_function e name None else e)
+removed OfBoth takes e name = with_function (with_variable e name None) name None
+
+-- the names in their order, those that are removed
+unfoldable pub removed_all : Removal → Bool → (ℕ → Bool) → ℕ → Environment → List Text → Environment
+removed_all removal takes removes n e [] = e
+removed_all removal takes removes n e (name ∷ names) =
+    removed_all removal takes removes (n + 1) (if removes n then removed removal takes e name else e) names
+
+-- a status of zero says that each was
+unfoldable pub unset_names : Environment → Answer → Removal × List Text → Environment
+unset_names e a x = removed_all x.0 a.takes_function (λ n. a.status == 0 || a.removes n) 0 e x.1
+
+-- Set and shift
+
+-- positional words: on zero they are the parameters; otherwise a value of the answer tells whether
+unfoldable pub set_frame : Frame → Answer → Option (List Text) → Frame
+set_frame f a None = f
+set_frame f a (Some ts) = if a.status == 0 || a.removes 0 then ts else f
+
+-- the operand is no number: shells differ, so that any number of parameters may go
+unfoldable pub shifted : Environment → Frame → List Work → Answer → Option ℕ → Effect
+shifted e f ws a None = goes e (drop a.count f) a.status ws
+shifted e f ws a (Some n) = if nat_le n (length f) then goes e (drop n f) 0 ws else goes e f (nonzero a.status) ws
+
+-- Jumps
+
+-- the names of prefix assignments, left as they are or put back, by a choice
+unfoldable pub restored : (ℕ → Bool) → ℕ → Environment → Saved → Environment
+restored restores n e [] = e
+restored restores n e (x ∷ xs) = restored restores (n + 1) (if restores n then with_variable e x.0 x.1 else e) xs
+
+-- the end of a call: its frame goes
+unfoldable pub returned : Environment → Frame → ℕ → List Work → Answer → Option (Saved × List Work) → Effect
+returned e f status ws a None = goes e f status ws
+returned e f status ws a (Some x) = record (goes (restored a.restores 0 e x.0) f status x.1) { frames = Pops }
+
+-- A special built-in utility with these operands. What `.`, `eval` and an action of `trap` run is not stated: no script with them is
+-- analysed.
+unfoldable pub special : Environment → Frame → ℕ → List Work → Answer → Kind → List Text → Effect
+special e f status ws a kind.Colon ts = goes e f 0 ws
+special e f status ws a kind.Break ts = goes e f a.status (broken_off (loop_mark (unwrap_or (count_operand ts) 1) ws) ws)
+special e f status ws a kind.Continue ts = goes e f a.status (continued (loop_mark (unwrap_or (count_operand ts) 1) ws) ws)
+special e f status ws a kind.Exec ts = goes e f (if has_command ts then nonzero a.status else a.status) ws
+special e f status ws a kind.Exit ts = ends e f
+special e f status ws a kind.Export ts = goes (exported e (definitions_in ts)) f a.status ws
+special e f status ws a kind.Readonly ts = goes (exported e (definitions_in ts)) f a.status ws
+special e f status ws a kind.Return ts = returned e f (unwrap_or (status_operand ts) a.status) ws a (return_mark ws)
+special e f status ws a kind.Set ts = goes e (set_frame f a (set_words ts)) a.status ws
+special e f status ws a kind.Shift ts = shifted e f ws a (count_operand ts)
+special e f status ws a kind.Unset ts = goes (unset_names e a (unset_operands ts)) f a.status ws
+special e f status ws a _ ts = goes e f a.status ws
+
+-- an error in it may end the process
+unfoldable pub special_or_end : Environment → Frame → ℕ → List Work → Answer → Kind → List Text → Effect
+special_or_end e f status ws a k ts = if a.ends then ends e f else special e f status ws a k ts
+
+-- Other built-in utilities
+
+-- the name stands among those of the prefix assignments
+unfoldable pub is_prefix : List Text → Text → Bool
+is_prefix prefixes name = list_any (λ t. bytes_eq t name) prefixes
+
+-- a name that gets a value: it may stay as it is where that is allowed
+unfoldable pub given_to : Bool → Environment → Text → Option Text → Environment
+given_to may_stay e name (Some t) = with_variable e name (Some t)
+given_to true e name None = e
+given_to false e name None = with_variable e name (Some [])
+
+-- the names in their order: on zero each gets a value, but for those of prefix assignments; otherwise each may
+unfoldable pub read_into : List Text → Answer → ℕ → Environment → List Text → Environment
+read_into prefixes a n e [] = e
+read_into prefixes a n e (name ∷ names) =
+    read_into prefixes a (n + 1) (given_to (not (a.status == 0) || is_prefix prefixes name) e name (a.values n)) names
+
+-- an option that the standard does not have: nothing changes, and the status is not zero
+unfoldable pub reads : List Text → Environment → Frame → List Work → Answer → Option (List Text) → Effect
+reads prefixes e f ws a None = goes e f (nonzero a.status) ws
+reads prefixes e f ws a (Some names) = goes (read_into prefixes a 0 e names) f a.status ws
+
+-- its name and OPTIND get values as those of `read` do; OPTARG is set or not; without a valid name an error may leave these as they are
+unfoldable pub gets_option : List Text → Environment → Answer → Option Text → Environment
+gets_option prefixes e a None = with_variable (given_to true e (codes "OPTIND") (a.values 1)) (codes "OPTARG") (a.values 2)
+gets_option prefixes e a (Some name) = with_variable (read_into prefixes a 0 e (name ∷ codes "OPTIND" ∷ [])) (codes "OPTARG") (a.values 2)
+
+-- PWD and OLDPWD may get values
+unfoldable pub changes_directory : Environment → Answer → Environment
+changes_directory e a = given_to true (given_to true e (codes "PWD") (a.values 0)) (codes "OLDPWD") (a.values 1)
+
+-- A utility with these operands: one that no row names changes nothing. What `command` runs is such a utility in every script that is
+-- analysed.
+unfoldable pub utility : List Text → Environment → Frame → List Work → Answer → Kind → List Text → Effect
+utility prefixes e f ws a kind.True ts = goes e f 0 ws
+utility prefixes e f ws a kind.False ts = goes e f (nonzero a.status) ws
+utility prefixes e f ws a kind.Read ts = reads prefixes e f ws a (read_names ts)
+utility prefixes e f ws a kind.Getopts ts = goes (gets_option prefixes e a (getopts_name ts)) f a.status ws
+utility prefixes e f ws a kind.Cd ts = goes (changes_directory e a) f a.status ws
+utility prefixes e f ws a _ ts = goes e f a.status ws

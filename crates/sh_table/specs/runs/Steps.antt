@@ -1,0 +1,370 @@
+-- What a process does in one step.
+-- POSIX.1-2024, XCU 2.7 (redirection), 2.8.1 (consequences of shell errors), 2.9 (shell commands).
+use Rattle.std.specs.Prelude.{ℕ, zero, suc, ◌==◌, Bool, true, false, not, ◌&&◌, ◌||◌, if◌then◌else◌, List, [], ◌∷◌, ◌++◌, map, Option, Some, None}
+use Rattle.sh_tree.specs.declared.tree.ClauseEnd.{ClauseEnd}
+use Rattle.sh_tree.specs.declared.tree.ClauseEnd.TheVariants as clause
+use Rattle.sh_tree.specs.declared.tree.Link.{Link}
+use Rattle.sh_tree.specs.declared.tree.Link.TheVariants as link
+use Rattle.sh_tree.specs.declared.tree.LoopKind.{LoopKind}
+use Rattle.sh_tree.specs.declared.tree.LoopKind.TheVariants as loop
+use Rattle.sh_tree.specs.program.Syntax as p
+use Rattle.sh_tree.specs.program.Syntax.{Text}
+use Rattle.sh_tree.specs.program.Words.{assignment_in, is_plainly}
+use Rattle.sh_table.specs.Kinds.{kind_of, is_special, is_declaration}
+use Rattle.sh_table.specs.runs.Environment.{Environment, Frame, with_variable, with_function, showing, hiding, copied, separators}
+use Rattle.sh_table.specs.runs.Answers.{Answer}
+use Rattle.sh_table.specs.runs.States.{State, fresh}
+use Rattle.sh_table.specs.runs.Expansion.{Context, in_fields, in_one, Outcome, pieces_text, expand}
+use Rattle.sh_table.specs.runs.Fields.{fields, splits}
+use Rattle.sh_table.specs.runs.Work.{Work, Items, Links, Pipeline, Negation, Command, Words, Prepare, Utility, Call, Return, Compound, If, Then, Test, Again, ForWords, Turns, Clauses, Patterns, Fall, Assignments, Saved, Start, Shares, Copies, Effect, Pushes, goes, ends, after_expansion}
+use Rattle.sh_table.specs.runs.Builtins.{nonzero, special_or_end, utility, returned}
+
+-- What stands in a simple command
+
+unfoldable pub operands_in : p.Elements → p.Words
+operands_in p.no_elements = p.no_words
+operands_in (p.assignment name value es) = operands_in es
+operands_in (p.operand w es) = p.more_words w (operands_in es)
+operands_in (p.redirection r es) = operands_in es
+
+unfoldable pub redirects_in : p.Elements → p.Redirects
+redirects_in p.no_elements = p.no_redirects
+redirects_in (p.assignment name value es) = redirects_in es
+redirects_in (p.operand w es) = redirects_in es
+redirects_in (p.redirection r es) = p.more_redirects r (redirects_in es)
+
+unfoldable pub assignments_in : p.Elements → Assignments
+assignments_in p.no_elements = []
+assignments_in (p.assignment name value es) = (name, value) ∷ assignments_in es
+assignments_in (p.operand w es) = assignments_in es
+assignments_in (p.redirection r es) = assignments_in es
+
+-- the word that a redirection expands
+unfoldable pub opened : p.Redirect → p.Word
+opened (p.File at w) = w
+opened (p.Here at w) = w
+
+-- how a simple command goes on, by its fields: without a name, as a special built-in utility, or otherwise as a function or a utility
+pub data Manner : Type 0 where
+  Nameless : Manner
+  Special : (name : Text) (operands : List Text) → Manner
+  Named : (name : Text) (operands : List Text) → Manner
+
+unfoldable pub manner : List Text → Manner
+manner [] = Nameless
+manner (t ∷ ts) = if is_special (kind_of t) then Special t ts else Named t ts
+
+-- an operand of a declaration utility that is an assignment in form is not split
+unfoldable pub is_declared : List Text → p.Word → Bool
+is_declared [] w = false
+is_declared (t ∷ ts) w = is_declaration (kind_of t) && is_assignment (assignment_in w)
+  where
+    is_assignment : Option (Text × p.Word) → Bool
+    is_assignment None = false
+    is_assignment (Some x) = true
+
+abbrev pub word_context : List Text → p.Word → Context
+word_context ts w = if is_declared ts w then in_one else in_fields
+
+-- the fields of a word that is expanded so
+unfoldable pub word_fields : Context → Answer → Outcome → List Text
+word_fields c a o = if c.split then fields (separators o.state.environment) a.directory o.pieces else pieces_text o.pieces ∷ []
+
+-- a Split event
+unfoldable pub word_splits : Context → Outcome → Bool
+word_splits c o = c.split && not o.state.ended && splits (separators o.state.environment) o.pieces
+
+-- the status behind substitutions is theirs
+unfoldable pub status_behind : State → ℕ → Answer → ℕ
+status_behind s status a = substituted s.copies
+  where
+    substituted : {A : Type 0} → List A → ℕ
+    substituted [] = status
+    substituted (c ∷ cs) = a.status
+
+-- which of what is left of a simple command comes next: without a name and before a special built-in utility in any order
+pub data Preparation : Type 0 where
+  ready : Preparation
+  redirects : p.Redirect → p.Redirects → Preparation
+  assigns : (name : Text) (value : p.Word) → Assignments → Preparation
+
+unfoldable pub in_order : p.Redirects → Preparation
+in_order p.no_redirects = ready
+in_order (p.more_redirects r rs) = redirects r rs
+
+unfoldable pub in_any_order : Bool → p.Redirects → Assignments → Preparation
+in_any_order first rs [] = in_order rs
+in_any_order first p.no_redirects (x ∷ xs) = assigns x.0 x.1 xs
+in_any_order true (p.more_redirects r rs) (x ∷ xs) = assigns x.0 x.1 xs
+in_any_order false (p.more_redirects r rs) (x ∷ xs) = redirects r rs
+
+unfoldable pub next_preparation : Manner → Bool → p.Redirects → Assignments → Preparation
+next_preparation (Named t ts) first rs xs = in_order rs
+next_preparation _ first rs xs = in_any_order first rs xs
+
+-- whether a redirection may be expanded in a copy
+unfoldable pub may_copy : Manner → Bool
+may_copy (Special t ts) = false
+may_copy _ = true
+
+-- what is left of a pattern's clause when one pattern is picked
+unfoldable pub picked : ℕ → p.Word → p.Words → p.Word × p.Words
+picked n w p.no_words = (w, p.no_words)
+picked zero w (p.more_words v vs) = (w, p.more_words v vs)
+picked (suc n) w (p.more_words v vs) = ((picked n v vs).0, p.more_words w (picked n v vs).1)
+
+-- `&&` goes on behind zero, `||` behind another status
+unfoldable pub goes_on : Link → ℕ → Bool
+goes_on link.AndThen status = status == 0
+goes_on link.OrElse status = not (status == 0)
+
+-- `while` takes a turn behind zero, `until` behind another status
+unfoldable pub takes_turn : LoopKind → ℕ → Bool
+takes_turn loop.While status = status == 0
+takes_turn loop.Until status = not (status == 0)
+
+unfoldable pub and_or_work : p.AndOr → List Work
+and_or_work (p.and_or first rest) = Pipeline first ∷ Links rest ∷ []
+
+unfoldable pub command_work : p.Command → Work
+command_work (p.command number at (p.Simple es) rs) = Words (operands_in es) [] (redirects_in es) (assignments_in es)
+command_work (p.command number at kind rs) = Compound rs kind
+
+module _ (e : Environment) (f : Frame) (status : ℕ) (ws : List Work) (a : Answer) where
+  -- a word is expanded in the environment
+  abbrev pub expanded : Context → p.Word → Outcome
+  expanded c w = expand f status c w (fresh e a.given)
+
+  -- the process ends where the expansion does so; otherwise the step goes on
+  unfoldable pub unless_ended : State → Effect → Effect
+  unless_ended s x = if s.ended then ends s.environment f else x
+
+  -- Lists, and-or lists and pipelines (XCU 2.9.2, 2.9.3)
+
+  unfoldable pub negated_work : Bool → List Work
+  negated_work true = Negation ∷ ws
+  negated_work false = ws
+
+  -- the parts of a pipeline, each sharing or with copies
+  unfoldable pub parts : ℕ → p.Commands → List Start
+  parts n p.no_commands = []
+  parts n (p.more_commands c cs) = (if a.shares n then Shares (Command c ∷ []) else Copies (copied (a.carries n) e) (Command c ∷ [])) ∷ parts (suc n) cs
+
+  unfoldable pub piped : List Work → p.Commands → Effect
+  piped behind p.no_commands = goes e f status behind
+  piped behind (p.more_commands c p.no_commands) = goes e f status (Command c ∷ behind)
+  piped behind (p.more_commands c (p.more_commands d cs)) = record (goes e f a.status behind) { starts = parts 0 (p.more_commands c (p.more_commands d cs)) }
+
+  unfoldable pub items : p.Items → Effect
+  items p.no_items = goes e f status ws
+  items (p.more_items (p.and_or first links) false rest) = goes e f status (Pipeline first ∷ Links links ∷ Items rest ∷ ws)
+  items (p.more_items list true rest) =
+      record (goes (record e { job = true }) f 0 (Items rest ∷ ws)) { starts = Copies (copied (a.carries 0) e) (and_or_work list) ∷ [] }
+
+  unfoldable pub links : p.Links → Effect
+  links p.no_links = goes e f status ws
+  links (p.more_links l q rest) = goes e f status (if goes_on l status then Pipeline q ∷ Links rest ∷ ws else Links rest ∷ ws)
+
+  -- Simple commands (XCU 2.9.1)
+
+  unfoldable pub words : p.Words → List Text → p.Redirects → Assignments → Effect
+  words p.no_words ts rs xs = goes e f status (Prepare ts rs xs false ∷ ws)
+  words (p.more_words w left) ts rs xs =
+      let c = word_context ts w in
+      let o = expanded c w in
+      after_expansion o.state (word_splits c o)
+      (unless_ended o.state (goes o.state.environment f (status_behind o.state status a) (Words left (ts ++ word_fields c a o) rs xs ∷ ws)))
+
+  -- a redirection failed: a special built-in utility ends the process, and a function may; what is behind it is not done; without a name
+  -- the redirections and assignments that are left may be done all the same
+  unfoldable pub failed_in : Manner → Environment → List Work → Effect
+  failed_in Nameless d next = if a.ends then goes d f (nonzero a.status) ws else goes d f status next
+  failed_in (Special t ts) d next = ends d f
+  failed_in (Named t ts) d next = if a.ends && is_defined (d.functions t) then ends d f else goes d f (nonzero a.status) ws
+    where
+      is_defined : Option p.Command → Bool
+      is_defined None = false
+      is_defined (Some body) = true
+
+  -- a redirection: in a copy its early end is a failure, and nothing else stays of it
+  unfoldable pub redirected : Manner → State → List Work → List Work → Effect
+  redirected m s next next_failed =
+      if a.copies && may_copy m then (if s.ended || a.fails then failed_in m e next_failed else goes e f (status_behind s status a) next)
+      else unless_ended s (if a.fails then failed_in m s.environment next_failed else goes s.environment f (status_behind s status a) next)
+
+  -- an assignment, unless it fails and ends the process
+  unfoldable pub assigned : Text → Outcome → List Work → Effect
+  assigned name o next =
+      if a.ends then ends o.state.environment f
+      else goes (with_variable o.state.environment name (Some (pieces_text o.pieces))) f (status_behind o.state status a) next
+
+  -- a function, or a utility
+  unfoldable pub called : Text → List Text → Assignments → Option p.Command → Work
+  called t ts xs None = Utility t ts xs (map (λ x. x.0) xs) []
+  called t ts xs (Some body) = Call ts body xs []
+
+  -- the redirections and assignments are done
+  unfoldable pub prepared : Manner → Assignments → Bool → Effect
+  prepared Nameless xs failed = goes e f (if failed then nonzero a.status else a.status) ws
+  prepared (Special t ts) xs failed = special_or_end e f status ws a (kind_of t) ts
+  prepared (Named t ts) xs failed = goes e f status (called t ts xs (e.functions t) ∷ ws)
+
+  unfoldable pub prepare : List Text → p.Redirects → Assignments → Bool → Preparation → Effect
+  prepare ts rs xs failed ready = prepared (manner ts) xs failed
+  prepare ts rs xs failed (redirects r rest) =
+      let s = (expanded in_one (opened r)).state in
+      after_expansion s false (redirected (manner ts) s (Prepare ts rest xs failed ∷ ws) (Prepare ts rest xs true ∷ ws))
+  prepare ts rs xs failed (assigns name value rest) =
+      let o = expanded in_one value in
+      after_expansion o.state false (unless_ended o.state (assigned name o (Prepare ts rs rest failed ∷ ws)))
+
+  -- the value of a prefix assignment: it may be expanded in a copy, of which nothing stays
+  abbrev pub kept : State → State
+  kept s = record s { environment = if a.copies then e else s.environment }
+
+  -- what a value may see of the assignments before it
+  abbrev pub seen : List (Text × Text) → List (Text × Text)
+  seen values = if a.sees then values else []
+
+  -- a utility's environment gets the values, and the shell's own does not
+  unfoldable pub passed : Text → List Text → Assignments → List Text → List (Text × Text) → Effect
+  passed t ts [] prefixes values = utility prefixes e f ws a (kind_of t) ts
+  passed t ts (x ∷ xs) prefixes values =
+      let o = expand f status in_one x.1 (fresh (showing e (seen values)) a.given) in
+      let s = kept (record o.state { environment = hiding e (seen values) o.state.environment }) in
+      let left = Utility t ts xs prefixes (values ++ (x.0, pieces_text o.pieces) ∷ []) in
+      after_expansion s false (unless_ended s (if a.ends then ends s.environment f else goes s.environment f (status_behind s status a) (left ∷ ws)))
+
+  -- a function: prefix assignments are done outside it, and its operands are its frame
+  unfoldable pub calls : List Text → p.Command → Assignments → Saved → Effect
+  calls ts body [] saved = record (goes e f status (Command body ∷ Return saved ∷ ws)) { frames = Pushes ts }
+  calls ts body (x ∷ xs) saved =
+      let o = expanded in_one x.1 in
+      let kept_outcome = record o { state = kept o.state } in
+      after_expansion o.state false
+      (unless_ended (kept o.state) (assigned x.0 kept_outcome (Call ts body xs ((x.0, (kept o.state).environment.variables x.0) ∷ saved) ∷ ws)))
+
+  -- Compound commands (XCU 2.9.4)
+
+  -- a redirection failed: the command is not done, and the process may end
+  unfoldable pub failed_before : Environment → Effect
+  failed_before d = if a.ends then ends d f else goes d f (nonzero a.status) ws
+
+  unfoldable pub redirected_before : State → List Work → Effect
+  redirected_before s next = unless_ended s (if a.fails then failed_before s.environment else goes s.environment f (status_behind s status a) next)
+
+  -- `for` over these fields; without one its status is zero
+  unfoldable pub turns : Text → List Text → p.Items → Effect
+  turns name [] body = goes e f 0 ws
+  turns name (t ∷ ts) body = goes e f status (Turns name (t ∷ ts) body ∷ ws)
+
+  unfoldable pub loop_over : Text → p.ForWords → p.Items → Effect
+  loop_over name p.every_parameter body = turns name f body
+  loop_over name (p.listed left) body = goes e f status (ForWords name left [] body ∷ ws)
+
+  unfoldable pub begun : p.Kind → Effect
+  begun (p.Simple es) = goes e f status (Words (operands_in es) [] (redirects_in es) (assignments_in es) ∷ ws)
+  begun (p.Group list) = goes e f status (Items list ∷ ws)
+  begun (p.Subshell list) = record (goes e f a.status ws) { starts = Copies (copied (a.carries 0) e) (Items list ∷ []) ∷ [] }
+  begun (p.Conditional branches otherwise) = goes e f status (If branches otherwise ∷ ws)
+  begun (p.Loop kind condition body) = goes e f status (Items condition ∷ Test kind condition body 0 ∷ ws)
+  begun (p.For name left body) = loop_over name left body
+  begun (p.Case w clauses) =
+      let s = (expanded in_one w).state in
+      after_expansion s false (unless_ended s (goes s.environment f (status_behind s status a) (Clauses clauses ∷ ws)))
+  begun (p.Define name body) = goes (with_function e name (Some body)) f 0 ws
+
+  -- a subshell may expand its redirections in the process that it starts, which then does its list
+  unfoldable pub is_started_first : p.Kind → Bool
+  is_started_first (p.Subshell list) = a.copies
+  is_started_first _ = false
+
+  unfoldable pub in_process : p.Kind → p.Kind
+  in_process (p.Subshell list) = p.Group list
+  in_process kind = kind
+
+  unfoldable pub compound : p.Redirects → p.Kind → Effect
+  compound p.no_redirects kind = begun kind
+  compound (p.more_redirects r rest) kind =
+      let s = (expanded in_one (opened r)).state in
+      if is_started_first kind then record (goes e f a.status ws) { starts = Copies e (Compound (p.more_redirects r rest) (in_process kind) ∷ []) ∷ [] }
+      else after_expansion s false (redirected_before s (Compound rest kind ∷ ws))
+
+  -- without a branch and without `else` the status of `if` is zero
+  unfoldable pub branch : p.Branches → p.Otherwise → Effect
+  branch p.no_branches p.no_else = goes e f 0 ws
+  branch p.no_branches (p.else_of list) = goes e f status (Items list ∷ ws)
+  branch (p.more_branches condition body rest) otherwise = goes e f status (Items condition ∷ Then body rest otherwise ∷ ws)
+
+  unfoldable pub test : LoopKind → p.Items → p.Items → ℕ → Effect
+  test kind condition body last = if takes_turn kind status then goes e f status (Items body ∷ Again kind condition body ∷ ws) else goes e f last ws
+
+  unfoldable pub for_words : Text → p.Words → List Text → p.Items → Effect
+  for_words name p.no_words ts body = turns name ts body
+  for_words name (p.more_words w left) ts body =
+      let o = expanded in_fields w in
+      after_expansion o.state (word_splits in_fields o)
+      (unless_ended o.state (goes o.state.environment f (status_behind o.state status a) (ForWords name left (ts ++ word_fields in_fields a o) body ∷ ws)))
+
+  -- the next field is assigned, unless that fails
+  unfoldable pub turn : Text → List Text → p.Items → Effect
+  turn name [] body = goes e f status ws
+  turn name (t ∷ ts) body = if a.ends then ends e f else goes (with_variable e name (Some t)) f status (Items body ∷ Turns name ts body ∷ ws)
+
+  -- the list of a clause, and behind `;&` that of the next one; a list that is empty has any status
+  unfoldable pub fall : ClauseEnd → p.Clauses → List Work
+  fall clause.Break rest = ws
+  fall clause.FallThrough rest = Fall rest ∷ ws
+
+  unfoldable pub clause_list : p.Items → ClauseEnd → p.Clauses → Environment → ℕ → Effect
+  clause_list p.no_items end rest d last = goes d f a.status (fall end rest)
+  clause_list body end rest d last = goes d f last (Items body ∷ fall end rest)
+
+  unfoldable pub falls : p.Clauses → Effect
+  falls p.no_clauses = goes e f status ws
+  falls (p.more_clauses patterns body end rest) = clause_list body end rest e status
+
+  unfoldable pub clauses : p.Clauses → Effect
+  clauses p.no_clauses = goes e f 0 ws
+  clauses (p.more_clauses patterns body end rest) = goes e f status (Patterns patterns body end rest ∷ ws)
+
+  -- `*` alone, unquoted, matches; for another pattern the answer says so
+  unfoldable pub matched : p.Word → p.Words → p.Items → ClauseEnd → p.Clauses → Effect
+  matched w others body end rest =
+      let s = (expanded in_one w).state in
+      after_expansion s false
+      (unless_ended s
+      (if is_plainly (42 ∷ []) w || a.matches then clause_list body end rest s.environment (status_behind s status a)
+      else goes s.environment f (status_behind s status a) (Patterns others body end rest ∷ ws)))
+
+  unfoldable pub patterns : p.Words → p.Items → ClauseEnd → p.Clauses → Effect
+  patterns p.no_words body end rest = goes e f status (Clauses rest ∷ ws)
+  patterns (p.more_words w vs) body end rest = matched (picked a.pattern w vs).0 (picked a.pattern w vs).1 body end rest
+
+  -- what the front of the work asks for, with `ws` behind it
+  unfoldable pub act_on : Work → Effect
+  act_on (Items is) = items is
+  act_on (Links ls) = links ls
+  act_on (Pipeline (p.pipeline negated cs)) = piped (negated_work negated) cs
+  act_on Negation = goes e f (if status == 0 then 1 else 0) ws
+  act_on (Command c) = goes e f status (command_work c ∷ ws)
+  act_on (Words left ts rs xs) = words left ts rs xs
+  act_on (Prepare ts rs xs failed) = prepare ts rs xs failed (next_preparation (manner ts) a.assigns_first rs xs)
+  act_on (Utility t ts xs prefixes values) = passed t ts xs prefixes values
+  act_on (Call ts body xs saved) = calls ts body xs saved
+  act_on (Return saved) = returned e f status ws a (Some (saved, ws))
+  act_on (Compound rs kind) = compound rs kind
+  act_on (If branches otherwise) = branch branches otherwise
+  act_on (Then body branches otherwise) = goes e f status (if status == 0 then Items body ∷ ws else If branches otherwise ∷ ws)
+  act_on (Test kind condition body last) = test kind condition body last
+  act_on (Again kind condition body) = goes e f status (Items condition ∷ Test kind condition body status ∷ ws)
+  act_on (ForWords name left ts body) = for_words name left ts body
+  act_on (Turns name ts body) = turn name ts body
+  act_on (Clauses cs) = clauses cs
+  act_on (Patterns left body end rest) = patterns left body end rest
+  act_on (Fall cs) = falls cs
+
+-- what a process with this environment, innermost frame, last status and work does; without work it ends
+unfoldable pub act : Environment → Frame → ℕ → List Work → Answer → Effect
+act e f status [] a = ends e f
+act e f status (w ∷ ws) a = act_on e f status ws a w

@@ -1,0 +1,32 @@
+//! What the name of a command means.
+use sh_tree::known::KnownName;
+
+/// What a command does, by its name (XCU 2.9.1.4, 2.15).
+#[derive(Clone, Copy, Debug, PartialEq, Eq)]
+pub enum Kind {
+    // The special built-in utilities (XCU 2.15).
+    Break,
+    Colon,
+    Continue,
+    Exec,
+    Exit,
+    Export,
+    Readonly,
+    Return,
+    Set,
+    Shift,
+    Times,
+    Trap,
+    Unset,
+    // Utilities that set variables, run a command by its name, or have a known status.
+    Cd,
+    Command,
+    False,
+    Getopts,
+    Read,
+    True,
+    /// A name that no script may use: what it runs stands in no reading of the script, or the standard gives it no meaning.
+    Refused(KnownName),
+    /// Any other name: a utility that changes no variable and no function, unless it is a function.
+    Utility,
+}

@@ -1,0 +1,61 @@
+//! What holds of the runs and of the fields that `specs/` defines, whatever the rules of a checker are.
+ghost use Rattle.sh_table.specs.ProfileExamples.{ProfileAsExpected};
+ghost use Rattle.sh_table.specs.Theorem.{ProcessesStep, SomeProcessSteps, FieldsStandWhole, FieldsStandSteady, OperandsCount};
+ghost use Rattle.sh_table.specs.Events.{EventsExist};
+ghost use Rattle.sh_table.specs.Examples.{RunsAsExpected};
+ghost use Rattle.sh_table.specs.FormExamples.{FormsAsExpected};
+ghost use Rattle.sh_table.specs.FieldExamples.{FieldsAsExpected};
+ghost use Rattle.sh_table.specs.StepExamples.{StepsAsExpected};
+
+/// Runs do not get stuck: unless arithmetic has ended the run, a live process that waits for nobody has a step; and where a
+/// process lives, one waits for nobody.
+pub fn goes_on()
+    ensures step { ProcessesStep }
+    ensures some { SomeProcessSteps }
+{}
+
+/// The fields of a word without a Split event are those without splitting; and they hang on IFS and on the directory only
+/// where the form of the word lets them.
+pub fn fields()
+    ensures whole { FieldsStandWhole }
+    ensures steady { FieldsStandSteady }
+{}
+
+/// A word without a Split event, whose expansion does not end the process, gives at least as many fields as its form counts.
+pub fn operands()
+    ensures { OperandsCount }
+{}
+
+/// Known commands are refused, each by its rule, and known others are not.
+pub fn profile()
+    ensures { ProfileAsExpected }
+{}
+
+/// Runs of known small programs do what the standard says of them: lists, pipelines, loops, `case`, functions, expansions and the
+/// built-in utilities that change a shell's environment.
+pub fn examples()
+    ensures { RunsAsExpected }
+{}
+
+/// Known words have the counts and the quoting that their forms have.
+pub fn form_rows()
+    ensures { FormsAsExpected }
+{}
+
+/// Known small words expand to what the standard says of them: field splitting, parameters, their uses and removals, tildes,
+/// arithmetic and patterns.
+pub fn field_rows()
+    ensures { FieldsAsExpected }
+{}
+
+/// Runs of known small programs end as the standard says: jumps, lists, redirections, prefix assignments, the built-in utilities on
+/// each of their outcomes, calls, and processes that share what they change.
+pub fn step_rows()
+    ensures { StepsAsExpected }
+{}
+
+/// Some runs of scripts come to the events that they are meant to have: a variable that is not set at the start, or that a part
+/// of a pipeline removes before the other part has its value, and a value that is split.
+pub fn events()
+    ensures { EventsExist }
+{}
