@@ -5,7 +5,7 @@ use Rattle.std.proofs.lemmas.Bool.Decides.{nat_tests}
 use Rattle.std.proofs.lemmas.List.{drop_all}
 use Rattle.sh_tree.specs.declared.tree.Item.{Item}
 use Rattle.sh_tree.specs.Words.{lone_command}
-use Rattle.sh_flow.specs.Policy.{Text}
+use Rattle.sh_tree.specs.program.Syntax.{Text}
 use Rattle.sh_flow.specs.Facts.{Out, Claims, enter}
 use Rattle.sh_flow.specs.declared.rule.FlowRule.{FlowRule}
 use Rattle.sh_flow.specs.declared.flow.breach.Breach.{Breach}

@@ -11,8 +11,9 @@ use Rattle.sh_tree.specs.declared.tree.Element.TheVariants as element
 use Rattle.sh_tree.specs.declared.tree.Word.{Word}
 use Rattle.sh_tree.specs.Tree.{text_of}
 use Rattle.sh_tree.specs.Words.{words_of, form_of, form_of_assignment, form_of_word, form_of_redirection, word_in, assignment_in}
-use Rattle.sh_flow.specs.Policy.{Text}
-use Rattle.sh_flow.specs.Names.{number_of, is_one_of}
+use Rattle.sh_tree.specs.program.Syntax.{Text}
+use Rattle.sh_table.specs.runs.Worlds.{is_one_of}
+use Rattle.sh_flow.specs.Names.{number_of}
 use Rattle.sh_flow.specs.Facts.{Facts, NotReached, Known, Claim, Unreached, Claimed, has_number, within, meet, enter, both, with_vars}
 use Rattle.sh_flow.specs.Rules.{assigned_numbers, leaves, exit_rule}
 use Rattle.sh_flow.specs.declared.rule.FlowRule.TheVariants.{F4, F5}

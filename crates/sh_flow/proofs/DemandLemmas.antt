@@ -15,7 +15,7 @@ use Rattle.sh_tree.specs.declared.tree.Redirect.{Redirect}
 use Rattle.sh_tree.specs.declared.tree.Part.{Part, Plain, Escaped, Single, Double, Double', Param', Arith', Tilde, Joined}
 use Rattle.sh_tree.specs.declared.tree.Part.TheVariants as part
 use Rattle.sh_tree.specs.Words.{lone_command, form_of_assignment, form_of_word, form_of_redirection, expansions, expansions_in, expansions_in-Double, subject_text}
-use Rattle.sh_flow.specs.Policy.{Text}
+use Rattle.sh_tree.specs.program.Syntax.{Text}
 use Rattle.sh_flow.specs.Facts.{Facts}
 use Rattle.sh_flow.specs.Demands.{wanted, covers, uncovered, form_unmet, element_unmet}
 use Rattle.sh_flow.specs.Walks.{of_option, on_lone, part_unmet}

@@ -3,12 +3,13 @@ use Rattle.std.proofs.Common.{◌≡◌, ℕ, zero, suc, ◌+◌, ◌≤◌, Boo
 use Rattle.std.specs.List.{list_all, position_from, cons_option}
 use Rattle.std.proofs.lemmas.Option.{same_Some, none-some}
 use Rattle.std.proofs.lemmas.Slice.Eq.{bytes_eq-Decides}
-use Rattle.sh_flow.specs.Policy.{Text, Declared}
-use Rattle.sh_flow.specs.Names.{number_of, is_one_of, start_names}
-use Rattle.sh_flow.specs.Environment.{Environment, Frame}
+use Rattle.sh_tree.specs.program.Syntax.{Text}
+use Rattle.sh_flow.specs.Policy.{Declared}
+use Rattle.sh_table.specs.runs.Worlds.{start_names, is_one_of, IsStart}
+use Rattle.sh_flow.specs.Names.{number_of}
+use Rattle.sh_table.specs.runs.Environment.{Environment, Frame}
 use Rattle.sh_flow.specs.Facts.{Facts, NotReached, Known, Claim, Unreached, Claimed, facts, has_number, within, within_out, meet, with_vars, Satisfies, Out, both, enter}
 use Rattle.sh_flow.specs.Rules.{told, start_facts, is_set_at_start}
-use Rattle.sh_flow.specs.Machine.{IsStart}
 
 -- Tests and lists
 
@@ -138,9 +139,9 @@ with_vars_holds {A} names xs (Known v g a) e f d s = (
     go k t q (inr b) = s.0 k t b q
 
 -- what is known at the start is true there
-pub start_holds : (names : List Text) (d : Declared) (e : Environment) (f : Frame) → IsStart d e f → Satisfies names (start_facts names d) e f
+pub start_holds : (names : List Text) (d : Declared) (e : Environment) (f : Frame) → IsStart d.names d.args e f → Satisfies names (start_facts names d) e f
 unfolding start_facts is_set_at_start Satisfies
-start_holds names d e f s = (λ k t h q. set t (sym (ap (λ o. unwrap_or (option_map (λ u. is_one_of start_names u || is_one_of d.names u) o) false) q) ∙ h), λ k t h q. cc, s.args)
+start_holds names d e f s = (λ k t h q. set t (sym (ap (λ o. unwrap_or (option_map (λ u. is_one_of start_names u || is_one_of d.names u) o) false) q) ∙ h), λ k t h q. cc, s.parameters)
   where
     set : (t : Text) → (is_one_of start_names t || is_one_of d.names t) ≡ true → is_some (e.variables t) ≡ true
     set t h = go (or_cases (is_one_of start_names t) (is_one_of d.names t) h)

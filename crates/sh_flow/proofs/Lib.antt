@@ -1,11 +1,15 @@
 pub mod PolicyLemmas
 pub mod FactLemmas
+pub mod StaticLemmas
+pub mod StraightLemmas
+pub mod UtilityLemmas
 pub mod Worlds
-pub mod RunLemmas
 pub mod WorkLemmas
+pub mod CommandLemmas
+pub mod QuotedLemmas
+pub mod RunLemmas
 pub mod RowLemmas
 pub mod NameLemmas
 pub mod ClaimLemmas
 pub mod DemandLemmas
 pub mod BreachLemmas
-pub mod ExampleLemmas

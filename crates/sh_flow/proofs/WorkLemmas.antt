@@ -1,205 +1,399 @@
--- What holds of each piece of work that a process has left, whatever its environment.
-use Rattle.std.proofs.Common.{◌≡◌, ℕ, Bool, true, false, Option, Some, None, is_some, if◌then◌else◌, List, [], ◌∷◌, ◌++◌, map, option_map, filter_map, refl, append_assoc, sym, subst}
-use Rattle.std.specs.List.{list_any, list_all, cons_option}
-use Rattle.sh_tree.specs.declared.tree.Item.{Item}
-use Rattle.sh_tree.specs.declared.tree.Command.{Command, out-Command}
-use Rattle.sh_tree.specs.declared.tree.Word.{Word}
-use Rattle.sh_tree.specs.declared.tree.Part.{Part, Plain, Escaped, Single, Double', Param', Arith', Tilde, Joined}
-use Rattle.sh_tree.specs.declared.tree.Part.TheVariants as part
-use Rattle.sh_tree.specs.Words.{lone_command, elements_of, words_of, assignments_of, expansions, expansions_in, Expansion}
-use Rattle.sh_flow.specs.Policy.{Text}
-use Rattle.sh_flow.specs.Profile.{is_admitted, is_item_admitted}
-use Rattle.sh_flow.specs.Environment.{Environment}
-use Rattle.sh_flow.specs.Pieces.{Piece, Literal, Quoted, Expanded, piece_of, expand, separators, is_expanded, is_split, splits}
-use Rattle.sh_flow.specs.Machine.{Work, Items, Field, Passed, Assign, Nameless, Utility, Answer, Goes, simple_work, command_work, assign, pass, act, splits_value}
-use Rattle.sh_flow.specs.Theorem.{is_quoted_command}
-use Rattle.sh_flow.proofs.FactLemmas.{and_left, and_right}
-use Rattle.sh_flow.proofs.Worlds.{EffectOk, Keeps}
+-- What each step of a straight script keeps, whatever is asked of its words.
+use Rattle.std.proofs.Common.{◌≡◌, ℕ, Bool, true, false, Option, Some, None, is_some, if◌then◌else◌, List, [], ◌∷◌, ◌++◌, map, bytes_eq, ◌⊎◌, inl, inr, refl, sym, subst}
+use Rattle.std.proofs.lemmas.Slice.Eq.{bytes_eq-Decides}
+use Rattle.sh_tree.specs.program.Syntax as p
+use Rattle.sh_tree.specs.program.Syntax.{Text}
+use Rattle.sh_tree.proofs.ProgramForms.{lone_program}
+use Rattle.sh_table.specs.declared.kind.Kind.TheVariants as kind
+use Rattle.sh_table.specs.Kinds.{kind_of, is_special, is_declaration}
+use Rattle.sh_table.specs.runs.Environment.{Environment, Frame, put_text, with_variable, showing, hiding}
+use Rattle.sh_table.specs.runs.Answers.{Given, Answer}
+use Rattle.sh_table.specs.runs.States.{State, fresh}
+use Rattle.sh_table.specs.runs.Expansion.{Outcome, in_fields, in_one, pieces_text, expand}
+use Rattle.sh_table.specs.runs.Work.{Work, Items, Links, Pipeline, Negation, Command, Words, Prepare, Utility, Call, Return, Compound, If, Then, Test, Again, ForWords, Turns, Clauses, Patterns, Fall, Assignments, Effect, goes, ends, after_expansion}
+use Rattle.sh_table.specs.runs.Builtins.{utility}
+use Rattle.sh_table.specs.runs.Steps.{operands_in, redirects_in, assignments_in, manner, is_declared, word_fields, word_splits, status_behind, in_order, in_any_order, next_preparation, command_work, unless_ended, negated_work, piped, items, links, words, assigned, called, prepared, prepare, kept, seen, passed, act_on, act}
+use Rattle.sh_flow.proofs.FactLemmas.{AreSet}
+use Rattle.sh_flow.proofs.Worlds.{NextOk, EffectOk}
 
--- P holds of each list of items that is left, and Q of each word
-unfoldable pub EachWork : (List Item → Type 0) → (List Part → Type 0) → List Work → Type 0
-EachWork P Q [] = Unit {0}
-EachWork P Q (Items is ∷ ws) = P is × EachWork P Q ws
-EachWork P Q (Field ps ∷ ws) = Q ps × EachWork P Q ws
-EachWork P Q (Passed ps ∷ ws) = EachWork P Q ws
-EachWork P Q (Assign name ps ∷ ws) = EachWork P Q ws
-EachWork P Q (Nameless ∷ ws) = EachWork P Q ws
-EachWork P Q (Utility ∷ ws) = EachWork P Q ws
+-- every variable that was set still is, and every function is still defined
+pub record Grows (e e' : Environment) : Type 0 where
+  pub variables : (t : Text) → is_some (e.variables t) ≡ true → is_some (e'.variables t) ≡ true
+  pub functions : (t : Text) → is_some (e.functions t) ≡ true → is_some (e'.functions t) ≡ true
 
--- Q holds of each word of a command
-unfoldable pub EachWord : (List Part → Type 0) → List Word → Type 0
-EachWord Q [] = Unit {0}
-EachWord Q (w ∷ ws) = Q w.parts × EachWord Q ws
+pub grows_refl : (e : Environment) → Grows e e
+grows_refl e = record { variables = λ t h. h; functions = λ t h. h }
 
-unfoldable pub EachWordOf : (List Part → Type 0) → Option Command → Type 0
-EachWordOf Q None = Unit {0}
-EachWordOf Q (Some c) = EachWord Q (words_of (elements_of (out-Command c).kind))
+pub grows_trans : (a b c : Environment) → Grows a b → Grows b c → Grows a c
+grows_trans a b c h k = record { variables = λ t s. k.variables t (h.variables t s); functions = λ t s. k.functions t (h.functions t s) }
 
-module _ (b : List ℕ) (P : List Item → Type 0) (Q : List Part → Type 0) where
-  fields_each : (vs : List Word) (tail : List Work) → EachWord Q vs → EachWork P Q tail → EachWork P Q (map (λ v. Field v.parts) vs ++ tail)
-  unfolding EachWork EachWord
-  fields_each [] tail q h = h
-  fields_each (v ∷ vs) tail q h = (q.0, fields_each vs tail q.1 h)
+put_is_set : (b : Bool) (v : Text) (o : Option Text) → (b ≡ true) ⊎ (is_some o ≡ true) → is_some (if b then Some v else o) ≡ true
+put_is_set true v o h = refl
+put_is_set false v o (inl h) = cc
+put_is_set false v o (inr h) = h
 
-  passed_each : (xs : List (Text × Word)) (tail : List Work) → EachWork P Q tail → EachWork P Q (map (λ x. Passed x.1.parts) xs ++ tail)
-  unfolding EachWork
-  passed_each [] tail h = h
-  passed_each (x ∷ xs) tail h = passed_each xs tail h
+-- an assignment unsets nothing, and sets its name
+assigned_grows : (e : Environment) (name v : Text) → Grows e (with_variable e name (Some v))
+unfolding put_text
+assigned_grows e name v = record { variables = λ t h. put_is_set (bytes_eq t name) v (e.variables t) (inr h); functions = λ t h. h }
 
-  assigns_each : (xs : List (Text × Word)) (tail : List Work) → EachWork P Q tail → EachWork P Q ((map (λ x. Assign x.0 x.1.parts) xs ++ Nameless ∷ []) ++ tail)
-  unfolding EachWork
-  assigns_each [] tail h = h
-  assigns_each (x ∷ xs) tail h = assigns_each xs tail h
+assigned_is_set : (e : Environment) (name v : Text) → is_some ((with_variable e name (Some v)).variables name) ≡ true
+unfolding put_text
+assigned_is_set e name v = put_is_set (bytes_eq name name) v (e.variables name) (inl ((bytes_eq-Decides name name).1 refl))
 
-  simple_each : (vs : List Word) (xs : List (Text × Word)) (tail : List Work) → EachWord Q vs → EachWork P Q tail → EachWork P Q (simple_work b vs xs ++ tail)
-  unfolding simple_work EachWork
-  simple_each [] xs tail q h = assigns_each xs tail h
-  simple_each (v ∷ vs) xs tail q h =
-      let fields : List Work = map (λ (w : Word). Field w.parts) (v ∷ vs) in
-      let passed : List Work = map (λ (x : Text × Word). Passed x.1.parts) xs in
-      subst (EachWork P Q) (sym (append_assoc (fields ++ passed) (Utility ∷ []) tail))
-      (subst (EachWork P Q) (sym (append_assoc fields passed (Utility ∷ tail))) (fields_each (v ∷ vs) (passed ++ (Utility ∷ tail)) q (passed_each xs (Utility ∷ tail) h)))
+-- a name gets what it has in the first environment
+put_back_grows : (e d : Environment) (name : Text) → Grows e d → Grows e (with_variable d name (e.variables name))
+unfolding put_text
+put_back_grows e d name g = record { variables = λ t h. go t h (bytes_eq t name) refl; functions = g.functions }
+  where
+    go : (t : Text) → is_some (e.variables t) ≡ true → (b : Bool) → bytes_eq t name ≡ b → is_some (if b then e.variables name else d.variables t) ≡ true
+    go t h true same = subst (λ u. is_some (e.variables u) ≡ true) ((bytes_eq-Decides t name).0 same) h
+    go t h false other = g.variables t h
 
-  if_each : (e : Environment) (status : ℕ) (work tail : List Work) (s : Bool) → EachWork P Q (work ++ tail)
-      → Keeps (λ e status ws. EachWork P Q ws) (option_map (λ work. Goes e status (work ++ tail)) (if s then Some work else None))
-  unfolding Keeps EffectOk
-  if_each e status work tail true h = h
-  if_each e status work tail false h = tt
+-- prefix assignments are seen, and then are not: nothing that was set is lost
+showing_grows : (e : Environment) (xs : List (Text × Text)) → Grows e (showing e xs)
+unfolding showing
+showing_grows e [] = grows_refl e
+showing_grows e (x ∷ xs) =
+    let d : Environment = with_variable e x.0 (Some x.1) in
+    grows_trans e d (showing d xs) (assigned_grows e x.0 x.1) (showing_grows d xs)
 
-  item_each : (x : Option Command) (e : Environment) (status : ℕ) (tail : List Work) → EachWordOf Q x → EachWork P Q tail
-      → Keeps (λ e status ws. EachWork P Q ws) (option_map (λ work. Goes e status (work ++ tail)) (command_work b x))
-  unfolding Keeps command_work EachWordOf
-  item_each None e status tail q h = tt
-  item_each (Some c) e status tail q h =
-      if_each e status (simple_work b (words_of (elements_of (out-Command c).kind)) (assignments_of b (elements_of (out-Command c).kind))) tail (is_admitted b c)
-      (simple_each (words_of (elements_of (out-Command c).kind)) (assignments_of b (elements_of (out-Command c).kind)) tail q h)
+hiding_grows : (e d : Environment) (xs : List (Text × Text)) → Grows e d → Grows e (hiding e xs d)
+unfolding hiding
+hiding_grows e d [] g = g
+hiding_grows e d (x ∷ xs) g = hiding_grows e (with_variable d x.0 (e.variables x.0)) xs (put_back_grows e d x.0 g)
 
-  passes_each : (e : Environment) (status : ℕ) (ws : List Work) (fails : Bool) → EachWork P Q ws → Keeps (λ e status ws. EachWork P Q ws) (Some (pass b e status ws fails))
-  unfolding Keeps EffectOk pass
-  passes_each e status ws true h = tt
-  passes_each e status ws false h = h
+-- no function is defined
+abbrev pub NoFunctions : Environment → Type 0
+NoFunctions e = (t : Text) → e.functions t ≡ None
 
-  assign_each : (e : Environment) (name : Text) (ps : List Part) (ws : List Work) (fails : Bool) → EachWork P Q ws → Keeps (λ e status ws. EachWork P Q ws) (Some (assign b e name ps ws fails))
-  unfolding Keeps EffectOk assign
-  assign_each e name ps ws true h = tt
-  assign_each e name ps ws false h = h
+showing_free : (e : Environment) (xs : List (Text × Text)) → NoFunctions e → NoFunctions (showing e xs)
+unfolding showing
+showing_free e [] free = free
+showing_free e (x ∷ xs) free = showing_free (with_variable e x.0 (Some x.1)) xs free
 
-  -- where P gives Q of the first item's words, and P of the items behind it, a step keeps both
-  pub act_each : ((i : Item) (is : List Item) → P (i ∷ is) → EachWordOf Q (lone_command i) × P is) → (e : Environment) (status : ℕ) (ws : List Work) (a : Answer)
-      → EachWork P Q ws → Keeps (λ e status ws. EachWork P Q ws) (act b e status ws a)
-  unfolding act Keeps EffectOk EachWork
-  act_each splits_up e status [] a h = tt
-  act_each splits_up e status (Items [] ∷ ws) a h = h.1
-  act_each splits_up e status (Items (i ∷ is) ∷ ws) a h =
-      let parts = splits_up i is h.0 in
-      item_each (lone_command i) e status (Items is ∷ ws) parts.0 (parts.1, h.1)
-  act_each splits_up e status (Field ps ∷ ws) a h = h.1
-  act_each splits_up e status (Passed ps ∷ ws) a h = passes_each e status ws a.fails h
-  act_each splits_up e status (Assign name ps ∷ ws) a h = assign_each e name ps ws a.fails h
-  act_each splits_up e status (Nameless ∷ ws) a h = h
-  act_each splits_up e status (Utility ∷ ws) a h = h
+hiding_free : (e d : Environment) (xs : List (Text × Text)) → NoFunctions d → NoFunctions (hiding e xs d)
+unfolding hiding
+hiding_free e d [] free = free
+hiding_free e d (x ∷ xs) free = hiding_free e (with_variable d x.0 (e.variables x.0)) xs free
 
--- Quoted words
+-- an expansion that changes nothing, starts no process and ends none
+pub record Stays (e : Environment) (s : State) : Type 0 where
+  pub environment : s.environment ≡ e
+  pub copies : s.copies ≡ []
+  pub ended : s.ended ≡ false
 
--- every expansion of the word is quoted
-abbrev pub are_quoted : List Part → Bool
-are_quoted ps = list_all (λ (x : Expansion). x.quoted) (expansions false ps)
+-- The event that is excluded, by whether a step has an Unset event, and a Split event: a step without both does not have it.
+module _ (event : Bool → Bool → Bool) (none : event false false ≡ false) where
+  -- a word whose fields are split
+  pub record WordGoes (e : Environment) (w : p.Word) : Type 0 where
+    pub stays : (f : Frame) (status : ℕ) (given : ℕ → Given) → Stays e (expand f status in_fields w (fresh e given)).state
+    pub quiet : (f : Frame) (status : ℕ) (given : ℕ → Given)
+        → event (expand f status in_fields w (fresh e given)).state.unset (word_splits in_fields (expand f status in_fields w (fresh e given))) ≡ false
 
-abbrev pub QuotedItems : List Item → Type 0
-QuotedItems is = list_all is_quoted_command (filter_map lone_command is) ≡ true
+  -- a value
+  pub record ValueGoes (e : Environment) (w : p.Word) : Type 0 where
+    pub stays : (f : Frame) (status : ℕ) (given : ℕ → Given) → Stays e (expand f status in_one w (fresh e given)).state
+    pub quiet : (f : Frame) (status : ℕ) (given : ℕ → Given) → event (expand f status in_one w (fresh e given)).state.unset false ≡ false
 
-unfoldable pub QuotedWord : List Part → Type 0
-QuotedWord ps = are_quoted ps ≡ true
+  unfoldable pub WordsGo : p.Words → Environment → Type 0
+  WordsGo p.no_words e = Unit {0}
+  WordsGo (p.more_words w ws) e = WordGoes e w × WordsGo ws e
 
-all_right : {A : Type 0} (test : A → Bool) (xs ys : List A) → list_all test (xs ++ ys) ≡ true → list_all test ys ≡ true
-all_right test [] ys h = h
-all_right test (x ∷ xs) ys h = all_right test xs ys (and_right (test x) (list_all test (xs ++ ys)) h)
+  -- now and later
+  unfoldable pub ValuesGo : Assignments → Environment → Type 0
+  ValuesGo [] e = Unit {0}
+  ValuesGo (x ∷ xs) e = ((e' : Environment) → Grows e e' → ValueGoes e' x.1) × ValuesGo xs e
 
-quoted_words : (ws : List Word) → list_all (λ (w : Word). are_quoted w.parts) ws ≡ true → EachWord QuotedWord ws
-unfolding EachWord QuotedWord
-quoted_words [] h = tt
-quoted_words (w ∷ ws) h = (and_left (are_quoted w.parts) _ h, quoted_words ws (and_right (are_quoted w.parts) _ h))
+  values_grow : (xs : Assignments) (e e' : Environment) → Grows e e' → ValuesGo xs e → ValuesGo xs e'
+  unfolding ValuesGo
+  values_grow [] e e' g h = tt
+  values_grow (x ∷ xs) e e' g h = ((λ e'' g'. h.0 e'' (grows_trans e e' e'' g g')), values_grow xs e e' g h.1)
 
-quoted_lone : (x : Option Command) (cs : List Command) → list_all is_quoted_command (cons_option x cs) ≡ true → EachWordOf QuotedWord x × (list_all is_quoted_command cs ≡ true)
-unfolding EachWordOf
-quoted_lone None cs h = (tt, h)
-quoted_lone (Some c) cs h = (quoted_words (words_of (elements_of (out-Command c).kind)) (and_left (is_quoted_command c) _ h), and_right (is_quoted_command c) _ h)
+  -- the word is the name of a utility
+  pub record NameGoes (e : Environment) (w : p.Word) (t : Text) : Type 0 where
+    pub field : (f : Frame) (status : ℕ) (a : Answer) → word_fields in_fields a (expand f status in_fields w (fresh e a.given)) ≡ t ∷ []
+    pub utility : kind_of t ≡ kind.Utility
 
-pub quoted_items : (i : Item) (is : List Item) → QuotedItems (i ∷ is) → EachWordOf QuotedWord (lone_command i) × QuotedItems is
-quoted_items i is h = quoted_lone (lone_command i) (filter_map lone_command is) h
+  -- K is what has to hold behind a command, by its status and its environment
+  module _ (K : ℕ → Environment → Type 0) where
+    -- the words are expanded
+    unfoldable pub ReadyGoes : List Text → Assignments → Environment → Type 0
+    ReadyGoes [] xs e = ValuesGo xs e × ((status : ℕ) (e' : Environment) → Grows e e' → AreSet xs e' → K status e')
+    ReadyGoes (t ∷ ts) xs e = (kind_of t ≡ kind.Utility) × ValuesGo xs e × ((status : ℕ) (e' : Environment) → Grows e e' → K status e')
 
-module _ (b : List ℕ) where
-  -- a quoted word has no piece that is expanded outside quotes
-  none_expanded : (e : Environment) (ps : List Part) → are_quoted ps ≡ true → list_any is_expanded (expand b e ps) ≡ false
-  unfolding expand piece_of is_expanded expansions expansions_in
-  none_expanded e [] h = refl
-  none_expanded e (Plain s ∷ ps) h = none_expanded e ps h
-  none_expanded e (Double' s shape row ∷ ps) h = none_expanded e ps (all_right _ (expansions_in false (Double' s shape row)) (expansions false ps) h)
-  none_expanded e (Param' s subject operator ∷ ps) h = cc
-  none_expanded e (Escaped s ∷ ps) h = none_expanded e ps h
-  none_expanded e (Single style s ∷ ps) h = none_expanded e ps h
-  none_expanded e (Arith' s shape row ∷ ps) h = none_expanded e ps h
-  none_expanded e (part.Command style s t ∷ ps) h = none_expanded e ps h
-  none_expanded e (Tilde s ∷ ps) h = none_expanded e ps h
-  none_expanded e (Joined s ∷ ps) h = none_expanded e ps h
+    -- these words are left
+    unfoldable pub LeftGoes : p.Words → List Text → Assignments → Environment → Type 0
+    LeftGoes p.no_words ts xs e = ReadyGoes ts xs e
+    LeftGoes (p.more_words w ws) [] xs e = (t : Text) × NameGoes e w t × WordGoes e w × WordsGo ws e × ReadyGoes (t ∷ []) xs e
+    LeftGoes (p.more_words w ws) (t ∷ ts) xs e = WordGoes e w × WordsGo ws e × ReadyGoes (t ∷ []) xs e
 
-  none_split : (ifs : Text) (ps : List Piece) → list_any is_expanded ps ≡ false → list_any (is_split ifs) ps ≡ false
-  unfolding is_expanded is_split
-  none_split ifs [] h = refl
-  none_split ifs (Literal t ∷ ps) h = none_split ifs ps h
-  none_split ifs (Quoted t ∷ ps) h = none_split ifs ps h
-  none_split ifs (Expanded t ∷ ps) h = cc
+    unfoldable pub CommandGoes : p.Command → Environment → Type 0
+    CommandGoes (p.command number at (p.Simple es) rs) e = (redirects_in es ≡ p.no_redirects) × LeftGoes (operands_in es) [] (assignments_in es) e
+    CommandGoes (p.command number at (p.Group list) rs) e = ⊥
+    CommandGoes (p.command number at (p.Subshell list) rs) e = ⊥
+    CommandGoes (p.command number at (p.Conditional bs otherwise) rs) e = ⊥
+    CommandGoes (p.command number at (p.Loop kind condition body) rs) e = ⊥
+    CommandGoes (p.command number at (p.For name left body) rs) e = ⊥
+    CommandGoes (p.command number at (p.Case w cs) rs) e = ⊥
+    CommandGoes (p.command number at (p.Define name body) rs) e = ⊥
 
-  word_whole : (e : Environment) (ps : List Part) → QuotedWord ps → splits (separators e) (expand b e ps) ≡ false
-  unfolding splits QuotedWord
-  word_whole e ps h = rw (none_split (separators e) (expand b e ps) (none_expanded e ps h), none_expanded e ps h) refl
+    unfoldable pub PipelineGoes : p.Pipeline → Environment → Type 0
+    PipelineGoes (p.pipeline false (p.more_commands c p.no_commands)) e = CommandGoes c e
+    PipelineGoes (p.pipeline false (p.more_commands c (p.more_commands d cs))) e = ⊥
+    PipelineGoes (p.pipeline false p.no_commands) e = ⊥
+    PipelineGoes (p.pipeline true cs) e = ⊥
 
-  -- work of quoted words has no Split event
-  pub whole : (e : Environment) (ws : List Work) → EachWork QuotedItems QuotedWord ws → splits_value b e ws ≡ false
-  unfolding splits_value EachWork
-  whole e [] h = refl
-  whole e (Items is ∷ ws) h = refl
-  whole e (Field ps ∷ ws) h = word_whole e ps h.0
-  whole e (Passed ps ∷ ws) h = refl
-  whole e (Assign name ps ∷ ws) h = refl
-  whole e (Nameless ∷ ws) h = refl
-  whole e (Utility ∷ ws) h = refl
+    -- behind the name of a utility
+    left_named : (left : p.Words) (t : Text) (ts : List Text) (xs : Assignments) (e : Environment) → WordsGo left e → ReadyGoes (t ∷ []) xs e → LeftGoes left (t ∷ ts) xs e
+    unfolding LeftGoes ReadyGoes WordsGo
+    left_named p.no_words t ts xs e h k = k
+    left_named (p.more_words w ws) t ts xs e h k = (h.0, h.1, k)
 
-  -- Admitted items
+  -- what has to hold of the list that is left, with the work behind it
+  module _ (Rest : Frame → List Work → p.Items → ℕ → Environment → Type 0) where
+    unfoldable pub FrontGoes : Frame → Work → List Work → (ℕ → Environment → Type 0) → ℕ → Environment → Type 0
+    FrontGoes f (Items q) ws K status e = Rest f ws q status e
+    FrontGoes f (Links p.no_links) ws K status e = K status e
+    FrontGoes f (Links (p.more_links l q rest)) ws K status e = ⊥
+    FrontGoes f (Pipeline q) ws K status e = PipelineGoes K q e
+    FrontGoes f (Command c) ws K status e = CommandGoes K c e
+    FrontGoes f (Words left ts rs xs) ws K status e = (rs ≡ p.no_redirects) × LeftGoes K left ts xs e
+    FrontGoes f (Prepare ts rs xs failed) ws K status e = (rs ≡ p.no_redirects) × ReadyGoes K ts xs e
+    FrontGoes f (Utility t ts xs prefixes values) ws K status e = ReadyGoes K (t ∷ []) xs e
+    FrontGoes f _ ws K status e = ⊥
 
-  abbrev pub AdmittedItems : List Item → Type 0
-  AdmittedItems is = list_all (λ i. is_item_admitted b (lone_command i)) is ≡ true
+    -- the work of a process with this status and environment
+    unfoldable pub Goes : Frame → List Work → ℕ → Environment → Type 0
+    Goes f [] status e = Unit {0}
+    Goes f (w ∷ ws) status e = FrontGoes f w ws (λ s d. Goes f ws s d) status e
 
-  abbrev pub AnyWord : List Part → Type 0
-  AnyWord ps = Unit {0}
+    abbrev pub Lives : Frame → Environment → ℕ → List Work → Type 0
+    Lives f e status ws = NoFunctions e × Goes f ws status e
 
-  any_words : (ws : List Word) → EachWord AnyWord ws
-  unfolding EachWord
-  any_words [] = tt
-  any_words (w ∷ ws) = (tt, any_words ws)
+    -- a list is at its end, with nothing behind it, or its first item is a command alone
+    unfoldable pub Opened : Frame → List Work → p.Items → Environment → Type 0
+    Opened f ws p.no_items e = ws ≡ []
+    Opened f ws (p.more_items list background rest) e =
+        (c : p.Command) × (list ≡ lone_program c) × (background ≡ false) × CommandGoes (λ s d. Rest f ws rest s d) c e
 
-  any_words_of : (x : Option Command) → EachWordOf AnyWord x
-  unfolding EachWordOf
-  any_words_of None = tt
-  any_words_of (Some c) = any_words (words_of (elements_of (out-Command c).kind))
+    -- a step that goes well
+    pub record StepOk (f : Frame) (x : Effect) : Type 0 where
+      pub effect : EffectOk Lives f x
+      pub quiet : event x.unset x.split ≡ false
 
-  pub admitted_items : (i : Item) (is : List Item) → AdmittedItems (i ∷ is) → EachWordOf AnyWord (lone_command i) × AdmittedItems is
-  admitted_items i is h = (any_words_of (lone_command i), and_right (is_item_admitted b (lone_command i)) _ h)
+    goes_ok : (e : Environment) (f : Frame) (status : ℕ) (ws : List Work) → Lives f e status ws → StepOk f (goes e f status ws)
+    unfolding NextOk
+    goes_ok e f status ws h = record { effect = record { starts = refl; frames = refl; next = h }; quiet = none }
 
-  has_work : (x : Option Command) (e : Environment) (status : ℕ) (tail : List Work) → is_item_admitted b x ≡ true
-      → is_some (option_map (λ work. Goes e status (work ++ tail)) (command_work b x)) ≡ true
-  unfolding is_item_admitted command_work
-  has_work None e status tail h = cc
-  has_work (Some c) e status tail h = rw h refl
+    ends_ok : (e : Environment) (f : Frame) → StepOk f (ends e f)
+    unfolding NextOk
+    ends_ok e f = record { effect = record { starts = refl; frames = refl; next = tt }; quiet = none }
 
-  -- work of admitted items has a step
-  pub has_step : (e : Environment) (status : ℕ) (ws : List Work) (a : Answer) → EachWork AdmittedItems AnyWord ws → is_some (act b e status ws a) ≡ true
-  unfolding act EachWork
-  has_step e status [] a h = refl
-  has_step e status (Items [] ∷ ws) a h = refl
-  has_step e status (Items (i ∷ is) ∷ ws) a h = has_work (lone_command i) e status (Items is ∷ ws) (and_left (is_item_admitted b (lone_command i)) _ h.0)
-  has_step e status (Field ps ∷ ws) a h = refl
-  has_step e status (Passed ps ∷ ws) a h = refl
-  has_step e status (Assign name ps ∷ ws) a h = refl
-  has_step e status (Nameless ∷ ws) a h = refl
-  has_step e status (Utility ∷ ws) a h = refl
+    -- a step behind an expansion
+    expanded_ok : (f : Frame) (s : State) (split : Bool) (x : Effect) → s.copies ≡ [] → event s.unset split ≡ false → StepOk f x → StepOk f (after_expansion s split x)
+    expanded_ok f s split x h q ok = record {
+      effect = record { starts = rw h ok.effect.starts; frames = ok.effect.frames; next = ok.effect.next };
+      quiet = q;
+    }
+
+    unless_ok : (e : Environment) (f : Frame) (status : ℕ) (ws : List Work) (a : Answer) (s : State) (x : Effect) → s.ended ≡ false → StepOk f x → StepOk f (unless_ended e f status ws a s x)
+    unfolding unless_ended
+    unless_ok e f status ws a s x h ok = rw h ok
+
+    -- a word
+    word_ok : (e : Environment) (f : Frame) (status : ℕ) (ws : List Work) (a : Answer) (w : p.Word) (left : p.Words) (ts : List Text) (xs : Assignments) → NoFunctions e → WordGoes e w
+        → LeftGoes (λ s d. Goes f ws s d) left (ts ++ word_fields in_fields a (expand f status in_fields w (fresh e a.given))) xs e
+        → let o = expand f status in_fields w (fresh e a.given) in
+        StepOk f
+        (after_expansion o.state (word_splits in_fields o)
+        (unless_ended e f status ws a o.state
+        (goes o.state.environment f (status_behind o.state status a) (Words left (ts ++ word_fields in_fields a o) p.no_redirects xs ∷ ws))))
+    unfolding Goes FrontGoes
+    word_ok e f status ws a w left ts xs free h k =
+        let o : Outcome = expand f status in_fields w (fresh e a.given) in
+        let fs : List Text = ts ++ word_fields in_fields a o in
+        let stays : Stays e o.state = h.stays f status a.given in
+        expanded_ok f o.state (word_splits in_fields o) _ stays.copies (h.quiet f status a.given)
+        (unless_ok e f status ws a o.state _ stays.ended
+        (goes_ok o.state.environment f (status_behind o.state status a) (Words left fs p.no_redirects xs ∷ ws)
+        (subst (λ d. Lives f d (status_behind o.state status a) (Words left fs p.no_redirects xs ∷ ws)) (sym stays.environment) (free, (refl, k)))))
+
+    is_no_declaration : (t : Text) → kind_of t ≡ kind.Utility → is_declaration (kind_of t) ≡ false
+    unfolding is_declaration
+    is_no_declaration t h = rw h refl
+
+    is_not_special : (t : Text) → kind_of t ≡ kind.Utility → is_special (kind_of t) ≡ false
+    unfolding is_special
+    is_not_special t h = rw h refl
+
+    words_ok : (e : Environment) (f : Frame) (status : ℕ) (ws : List Work) (a : Answer) (left : p.Words) (ts : List Text) (xs : Assignments) → NoFunctions e
+        → LeftGoes (λ s d. Goes f ws s d) left ts xs e → StepOk f (words e f status ws a left ts p.no_redirects xs)
+    unfolding words LeftGoes Goes FrontGoes is_declared ReadyGoes
+    words_ok e f status ws a p.no_words ts xs free h = goes_ok e f status (Prepare ts p.no_redirects xs false ∷ ws) (free, (refl, h))
+    words_ok e f status ws a (p.more_words w left) [] xs free h =
+        word_ok e f status ws a w left [] xs free h.2
+        (subst (λ fs. LeftGoes (λ s d. Goes f ws s d) left fs xs e) (sym (h.1.field f status a)) (left_named (λ s d. Goes f ws s d) left h.0 [] xs e h.3 h.4))
+    words_ok e f status ws a (p.more_words w left) (t ∷ ts) xs free h =
+        rw (is_no_declaration t h.2.0)
+        (word_ok e f status ws a w left (t ∷ ts) xs free h.0
+        (left_named (λ s d. Goes f ws s d) left t (ts ++ word_fields in_fields a (expand f status in_fields w (fresh e a.given))) xs e h.1 h.2))
+
+    -- an assignment without a name
+    assigned_ok : (e : Environment) (f : Frame) (status : ℕ) (ws : List Work) (a : Answer) (name : Text) (w : p.Word) (xs : Assignments) (failed : Bool) → NoFunctions e
+        → ((e' : Environment) → Grows e e' → ValueGoes e' w) → ValuesGo xs e → ((s : ℕ) (e' : Environment) → Grows e e' → AreSet ((name, w) ∷ xs) e' → Goes f ws s e')
+        → let o = expand f status in_one w (fresh e a.given) in
+        StepOk f (after_expansion o.state false (unless_ended e f status ws a o.state (assigned e f status ws a name o (Prepare [] p.no_redirects xs failed ∷ ws))))
+    unfolding assigned Goes FrontGoes ReadyGoes AreSet
+    assigned_ok e f status ws a name w xs failed free h g k =
+        expanded_ok f o.state false _ stays.copies (value.quiet f status a.given) (unless_ok e f status ws a o.state _ stays.ended (go a.ends))
+      where
+        value : ValueGoes e w
+        value = h e (grows_refl e)
+
+        o : Outcome
+        o = expand f status in_one w (fresh e a.given)
+
+        stays : Stays e o.state
+        stays = value.stays f status a.given
+
+        v : Text
+        v = pieces_text o.pieces
+
+        grows : Grows e (with_variable e name (Some v))
+        grows = assigned_grows e name v
+
+        behind : List Work
+        behind = Prepare [] p.no_redirects xs failed ∷ ws
+
+        lives : Lives f (with_variable e name (Some v)) (status_behind o.state status a) behind
+        lives = (
+          free,
+          (
+            refl,
+            (
+              values_grow xs e (with_variable e name (Some v)) grows g,
+              λ s e' m d. k s e' (grows_trans e (with_variable e name (Some v)) e' grows m) (m.variables name (assigned_is_set e name v), d),
+            ),
+          ),
+        )
+
+        go : (b : Bool)
+            → StepOk f (if b then ends o.state.environment f else goes (with_variable o.state.environment name (Some v)) f (status_behind o.state status a) behind)
+        go true = ends_ok o.state.environment f
+        go false =
+            goes_ok (with_variable o.state.environment name (Some v)) f (status_behind o.state status a) behind
+            (subst (λ d. Lives f (with_variable d name (Some v)) (status_behind o.state status a) behind) (sym stays.environment) lives)
+
+    prepare_ok : (e : Environment) (f : Frame) (status : ℕ) (ws : List Work) (a : Answer) (ts : List Text) (xs : Assignments) (failed : Bool) → NoFunctions e
+        → ReadyGoes (λ s d. Goes f ws s d) ts xs e → StepOk f (prepare e f status ws a ts p.no_redirects xs failed (next_preparation (manner ts) a.assigns_first p.no_redirects xs))
+    unfolding prepare prepared manner next_preparation in_any_order in_order called Goes FrontGoes ReadyGoes ValuesGo AreSet
+    prepare_ok e f status ws a [] [] failed free h = goes_ok e f _ ws (free, h.1 _ e (grows_refl e) tt)
+    prepare_ok e f status ws a [] (x ∷ xs) failed free h = assigned_ok e f status ws a x.0 x.1 xs failed free h.0.0 h.0.1 h.1
+    prepare_ok e f status ws a (t ∷ ts) xs failed free h =
+        rw (is_not_special t h.0, is_not_special t h.0)
+        (subst (λ o. StepOk f (goes e f status (called e f status ws a t ts xs o ∷ ws))) (sym (free t)) (goes_ok e f status (Utility t ts xs (map (λ x. x.0) xs) [] ∷ ws) (free, h)))
+
+    -- a utility: its prefix assignments unset nothing
+    utility_ok : (e : Environment) (f : Frame) (status : ℕ) (ws : List Work) (a : Answer) (t : Text) (ts : List Text) (xs : Assignments) (prefixes : List Text)
+        (values : List (Text × Text)) → NoFunctions e → ReadyGoes (λ s d. Goes f ws s d) (t ∷ []) xs e → StepOk f (passed e f status ws a t ts xs prefixes values)
+    unfolding passed utility Goes FrontGoes ReadyGoes ValuesGo
+    utility_ok e f status ws a t ts [] prefixes values free h = rw (h.0) (goes_ok e f a.status ws (free, h.2 a.status e (grows_refl e)))
+    utility_ok e f status ws a t ts (x ∷ xs) prefixes values free h =
+        expanded_ok f s false _ stays.copies (value.quiet f status a.given) (unless_ok e f status ws a s _ stays.ended (go a.ends))
+      where
+        shown : List (Text × Text)
+        shown = seen e f status ws a values
+
+        seen_in : Environment
+        seen_in = showing e shown
+
+        value : ValueGoes seen_in x.1
+        value = h.1.0 seen_in (showing_grows e shown)
+
+        o : Outcome
+        o = expand f status in_one x.1 (fresh seen_in a.given)
+
+        stays : Stays seen_in o.state
+        stays = value.stays f status a.given
+
+        s : State
+        s = kept e f status ws a (record o.state { environment = hiding e shown o.state.environment })
+
+        grows : (b : Bool) → Grows e (if b then e else hiding e shown o.state.environment)
+        grows true = grows_refl e
+        grows false = hiding_grows e o.state.environment shown (subst (λ d. Grows e d) (sym stays.environment) (showing_grows e shown))
+
+        none_defined : (b : Bool) → NoFunctions (if b then e else hiding e shown o.state.environment)
+        none_defined true = free
+        none_defined false = hiding_free e o.state.environment shown (subst NoFunctions (sym stays.environment) (showing_free e shown free))
+
+        left : Work
+        left = Utility t ts xs prefixes (values ++ (x.0, pieces_text o.pieces) ∷ [])
+
+        go : (b : Bool) → StepOk f (if b then ends s.environment f else goes s.environment f (status_behind s status a) (left ∷ ws))
+        go true = ends_ok s.environment f
+        go false =
+            let more : Grows e s.environment = grows a.copies in
+            goes_ok s.environment f (status_behind s status a) (left ∷ ws)
+            (none_defined a.copies, (h.0, values_grow xs e s.environment more h.1.1, λ u d m. h.2 u d (grows_trans e s.environment d more m)))
+
+    command_ok : (e : Environment) (f : Frame) (status : ℕ) (ws : List Work) (c : p.Command) → NoFunctions e → CommandGoes (λ s d. Goes f ws s d) c e
+        → StepOk f (goes e f status (command_work c ∷ ws))
+    unfolding command_work CommandGoes Goes FrontGoes
+    command_ok e f status ws (p.command number at (p.Simple es) rs) free h = goes_ok e f status (Words (operands_in es) [] (redirects_in es) (assignments_in es) ∷ ws) (free, h)
+    command_ok e f status ws (p.command number at (p.Group list) rs) free h = absurd h
+    command_ok e f status ws (p.command number at (p.Subshell list) rs) free h = absurd h
+    command_ok e f status ws (p.command number at (p.Conditional bs otherwise) rs) free h = absurd h
+    command_ok e f status ws (p.command number at (p.Loop kind condition body) rs) free h = absurd h
+    command_ok e f status ws (p.command number at (p.For name left body) rs) free h = absurd h
+    command_ok e f status ws (p.command number at (p.Case w cs) rs) free h = absurd h
+    command_ok e f status ws (p.command number at (p.Define name body) rs) free h = absurd h
+
+    pipeline_ok : (e : Environment) (f : Frame) (status : ℕ) (ws : List Work) (a : Answer) (q : p.Pipeline) → NoFunctions e → PipelineGoes (λ s d. Goes f ws s d) q e
+        → StepOk f (act_on e f status ws a (Pipeline q))
+    unfolding act_on piped negated_work PipelineGoes Goes FrontGoes
+    pipeline_ok e f status ws a (p.pipeline false (p.more_commands c p.no_commands)) free h = goes_ok e f status (Command c ∷ ws) (free, h)
+    pipeline_ok e f status ws a (p.pipeline false (p.more_commands c (p.more_commands d cs))) free h = absurd h
+    pipeline_ok e f status ws a (p.pipeline false p.no_commands) free h = absurd h
+    pipeline_ok e f status ws a (p.pipeline true cs) free h = absurd h
+
+    items_ok : (e : Environment) (f : Frame) (status : ℕ) (ws : List Work) (a : Answer) (q : p.Items) → NoFunctions e → Opened f ws q e → StepOk f (items e f status ws a q)
+    unfolding items Opened Goes FrontGoes PipelineGoes
+    items_ok e f status ws a p.no_items free h = goes_ok e f status ws (free, subst (λ vs. Goes f vs status e) (sym h) tt)
+    items_ok e f status ws a (p.more_items list background rest) free h =
+        subst (λ l. StepOk f (items e f status ws a (p.more_items l background rest))) (sym h.1)
+        (subst (λ b. StepOk f (items e f status ws a (p.more_items (lone_program h.0) b rest))) (sym h.2)
+        (goes_ok e f status (Pipeline (p.pipeline false (p.more_commands h.0 p.no_commands)) ∷ Links p.no_links ∷ Items rest ∷ ws) (free, h.3)))
+
+    -- what is left opens: then a step keeps it, and has no event
+    module _ (opens : (f : Frame) (ws : List Work) (q : p.Items) (status : ℕ) (e : Environment) → Rest f ws q status e → Opened f ws q e) where
+      front_ok : (e : Environment) (f : Frame) (status : ℕ) (ws : List Work) (a : Answer) (w : Work) → NoFunctions e → FrontGoes f w ws (λ s d. Goes f ws s d) status e
+          → StepOk f (act_on e f status ws a w)
+      unfolding act_on FrontGoes links
+      front_ok e f status ws a (Items q) free h = items_ok e f status ws a q free (opens f ws q status e h)
+      front_ok e f status ws a (Links p.no_links) free h = goes_ok e f status ws (free, h)
+      front_ok e f status ws a (Links (p.more_links l q rest)) free h = absurd h
+      front_ok e f status ws a (Pipeline q) free h = pipeline_ok e f status ws a q free h
+      front_ok e f status ws a (Command c) free h = command_ok e f status ws c free h
+      front_ok e f status ws a (Words left ts rs xs) free h = rw (h.0) (words_ok e f status ws a left ts xs free h.1)
+      front_ok e f status ws a (Prepare ts rs xs failed) free h = rw (h.0) (prepare_ok e f status ws a ts xs failed free h.1)
+      front_ok e f status ws a (Utility t ts xs prefixes values) free h = utility_ok e f status ws a t ts xs prefixes values free h
+      front_ok e f status ws a Negation free h = absurd h
+      front_ok e f status ws a (Call ts body xs saved) free h = absurd h
+      front_ok e f status ws a (Return saved) free h = absurd h
+      front_ok e f status ws a (Compound rs kind) free h = absurd h
+      front_ok e f status ws a (If bs otherwise) free h = absurd h
+      front_ok e f status ws a (Then body bs otherwise) free h = absurd h
+      front_ok e f status ws a (Test kind condition body last) free h = absurd h
+      front_ok e f status ws a (Again kind condition body) free h = absurd h
+      front_ok e f status ws a (ForWords name left ts body) free h = absurd h
+      front_ok e f status ws a (Turns name ts body) free h = absurd h
+      front_ok e f status ws a (Clauses cs) free h = absurd h
+      front_ok e f status ws a (Patterns left body end rest) free h = absurd h
+      front_ok e f status ws a (Fall cs) free h = absurd h
+
+      pub act_ok : (e : Environment) (f : Frame) (status : ℕ) (ws : List Work) (a : Answer) → Lives f e status ws → StepOk f (act e f status ws a)
+      unfolding act Goes
+      act_ok e f status [] a h = ends_ok e f
+      act_ok e f status (w ∷ ws) a h = front_ok e f status ws a w h.0 h.1

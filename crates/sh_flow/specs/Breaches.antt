@@ -4,7 +4,8 @@ use Rattle.std.specs.Prelude.{ℕ, ◌==◌, Bool, true, false, List, Option, So
 use Rattle.sh_tree.specs.declared.tree.Element.{Element}
 use Rattle.sh_tree.specs.Tree.{text_of}
 use Rattle.sh_tree.specs.Words.{Form, Assigns, Operand, form_of}
-use Rattle.sh_flow.specs.Policy.{Text, Declared}
+use Rattle.sh_tree.specs.program.Syntax.{Text}
+use Rattle.sh_flow.specs.Policy.{Declared}
 use Rattle.sh_flow.specs.Names.{number_of}
 use Rattle.sh_flow.specs.Facts.{Out, Claims, both, out_at}
 use Rattle.sh_flow.specs.Rules.{Fault, start_facts}

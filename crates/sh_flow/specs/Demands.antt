@@ -8,7 +8,7 @@ use Rattle.sh_tree.specs.declared.tree.Script.{Script}
 use Rattle.sh_tree.specs.declared.tree.Command.{Command, out-Command}
 use Rattle.sh_tree.specs.declared.tree.Element.{Element}
 use Rattle.sh_tree.specs.Words.{lone_commands, elements_of, Form, Assigns, Operand, Redirects, form_of, expansions, Expansion, subject_text}
-use Rattle.sh_flow.specs.Policy.{Text}
+use Rattle.sh_tree.specs.program.Syntax.{Text}
 use Rattle.sh_flow.specs.Names.{number_of}
 use Rattle.sh_flow.specs.Facts.{Facts, NotReached, Known, Claims, facts}
 

@@ -2,8 +2,8 @@
 -- POSIX.1-2024, XCU 2.5.3 (shell variables), 2.5.1 (positional parameters): which of them are set at a place, in every run.
 use Rattle.std.specs.Prelude.{◌≡◌, ℕ, ◌≤◌, nat_le, Bool, true, false, ◌&&◌, ◌||◌, ◌==◌, List, length, min, Some, is_some, slice_get}
 use Rattle.std.specs.List.{list_all, list_any}
-use Rattle.sh_flow.specs.Policy.{Text}
-use Rattle.sh_flow.specs.Environment.{Environment, Frame}
+use Rattle.sh_tree.specs.program.Syntax.{Text}
+use Rattle.sh_table.specs.runs.Environment.{Environment, Frame}
 
 -- NotReached claims everything; the variables and functions are numbers of names
 pub data Facts : Type 0 where

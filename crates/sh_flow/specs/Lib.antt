@@ -1,10 +1,8 @@
 pub mod Policy
 pub mod Names
 pub mod Numbers
+pub mod Expansions
 pub mod Profile
-pub mod Environment
-pub mod Pieces
-pub mod Machine
 pub mod Facts
 pub mod Certificates
 pub mod Rules
@@ -14,4 +12,3 @@ pub mod Walks
 pub mod Checked
 pub mod Answers
 pub mod Theorem
-pub mod Examples

@@ -1,7 +1,7 @@
 -- The names of a script, each with a number from 0.
 -- POSIX.1-2024, XCU 2.5.3 (shell variables): the names that every script has, those that are declared, and those in the text.
-use Rattle.std.specs.Prelude.{◌≡◌, ◌≤◌, ◌<◌, ℕ, Bool, false, List, [], ◌∷◌, ◌++◌, if◌then◌else◌, length, map, fold, codes, Option, Result, Ok, Err}
-use Rattle.std.specs.List.{list_any, flat_map, position_from}
+use Rattle.std.specs.Prelude.{◌≡◌, ◌≤◌, ◌<◌, ℕ, false, List, [], ◌∷◌, ◌++◌, if◌then◌else◌, length, map, fold, codes, Option, Result, Ok, Err}
+use Rattle.std.specs.List.{flat_map, position_from}
 use Rattle.std.specs.Str.{bytes_eq}
 use Rattle.sh_tree.specs.declared.limits.TheConstants.{MAX_NAMES}
 use Rattle.sh_tree.specs.declared.tree.Script.{Script}
@@ -11,19 +11,13 @@ use Rattle.sh_tree.specs.declared.refusal.Refusal.{Refusal}
 use Rattle.sh_tree.specs.declared.refusal.Refusal.TheVariants.{TooMany, Memory}
 use Rattle.sh_tree.specs.Tree.{text_of}
 use Rattle.sh_tree.specs.Words.{lone_commands, elements_of, Form, Assigns, Operand, Redirects, form_of, expansions, Expansion, subject_text}
-use Rattle.sh_flow.specs.Policy.{Text, Declared}
-
--- set at the start of every run
-abbrev pub start_names : List Text
-start_names = codes "IFS" ∷ codes "OPTIND" ∷ codes "PPID" ∷ []
+use Rattle.sh_tree.specs.program.Syntax.{Text}
+use Rattle.sh_table.specs.runs.Worlds.{start_names, is_one_of}
+use Rattle.sh_flow.specs.Policy.{Declared}
 
 -- numbered first, whether a script has them or not
 abbrev pub first_names : List Text
 first_names = start_names ++ codes "OPTARG" ∷ codes "!" ∷ []
-
--- the text is one of these
-abbrev pub is_one_of : List Text → Text → Bool
-is_one_of names t = list_any (λ n. bytes_eq n t) names
 
 -- the names with one more at the end, unless it is there
 abbrev pub with_text : List Text → Text → List Text

@@ -2,12 +2,9 @@
 -- POSIX.1-2024, XCU 2.5.3 (shell variables); a name is as in XBD 3.216.
 use Rattle.std.specs.Prelude.{◌≡◌, ℕ, not, List, position, Option, Some, None, Result, Ok, Err}
 use Rattle.sh_tree.specs.language.Bytes.{is_name}
+use Rattle.sh_tree.specs.program.Syntax.{Text}
 use Rattle.sh_flow.specs.declared.policy.PolicyFault.{PolicyFault}
 use Rattle.sh_flow.specs.declared.policy.PolicyFault.TheVariants.{BadName, Memory}
-
--- the bytes of a name or of a value
-abbrev pub Text : Type 0
-Text = List ℕ
 
 -- the names that are set, and how many positional parameters there are at least
 pub record Declared : Type 0 where

@@ -13,9 +13,11 @@ use Rattle.sh_tree.specs.declared.tree.Subject.{Subject}
 use Rattle.sh_tree.specs.declared.tree.Subject.TheVariants.{Name}
 use Rattle.sh_tree.specs.declared.tree.Operator.{Operator, Value}
 use Rattle.sh_tree.specs.declared.tree.Word.{Word}
-use Rattle.sh_tree.specs.Words.{lone_command, elements_of, words_of, Form, Assigns, Operand, Redirects, form_of, static_text}
-use Rattle.sh_flow.specs.Policy.{Text}
-use Rattle.sh_flow.specs.Names.{is_one_of}
+use Rattle.sh_tree.specs.Words.{lone_command, lone_commands, elements_of, words_of, Form, Assigns, Operand, Redirects, form_of, static_text}
+use Rattle.sh_tree.specs.program.Syntax.{Text}
+use Rattle.sh_tree.specs.program.Lists.{parts_from}
+use Rattle.sh_table.specs.runs.Worlds.{is_one_of}
+use Rattle.sh_table.specs.Counts.{some_gives_field}
 
 -- the special built-in utilities (XCU 2.15)
 abbrev pub special_names : List Text
@@ -101,3 +103,15 @@ is_item_admitted b (Some c) = is_admitted b c
 -- every command of the script is
 abbrev pub Admitted : List ℕ → Script → Type 0
 Admitted b t = list_all (λ i. is_item_admitted b (lone_command i)) (out-Script t).items ≡ true
+
+-- the first word, if there is one, gives a field, as each word that is read from a text does
+unfoldable pub gives_name : List ℕ → List Word → Bool
+gives_name b [] = true
+gives_name b (w ∷ ws) = some_gives_field (parts_from b w.parts)
+
+abbrev pub has_name : List ℕ → Command → Bool
+has_name b c = gives_name b (words_of (elements_of (out-Command c).kind))
+
+-- so does the first word of every command of the script
+abbrev pub HasNames : List ℕ → Script → Type 0
+HasNames b t = list_all (has_name b) (lone_commands t) ≡ true

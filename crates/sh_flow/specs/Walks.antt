@@ -9,7 +9,7 @@ use Rattle.sh_tree.specs.declared.tree.Item.{Item}
 use Rattle.sh_tree.specs.declared.tree.Command.{Command, out-Command}
 use Rattle.sh_tree.specs.declared.tree.Part.{Part}
 use Rattle.sh_tree.specs.Words.{lone_command, elements_of, expansions_in}
-use Rattle.sh_flow.specs.Policy.{Text}
+use Rattle.sh_tree.specs.program.Syntax.{Text}
 use Rattle.sh_flow.specs.Names.{names_in, subjects}
 use Rattle.sh_flow.specs.Facts.{Facts}
 use Rattle.sh_flow.specs.Demands.{uncovered}

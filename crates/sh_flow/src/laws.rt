@@ -1,6 +1,5 @@
 //! What the rules, the demands and quoting are good for, as laws of the runs that `specs/` defines.
-ghost use Rattle.sh_flow.specs.Theorem.{RulesAndDemandsSuffice, QuotingSuffices, RunsGoOn};
-ghost use Rattle.sh_flow.specs.Examples.{ExamplesRun};
+ghost use Rattle.sh_flow.specs.Theorem.{RulesAndDemandsSuffice, QuotingSuffices};
 
 /// Where every rule and every demand holds of some claims, no run expands a parameter that is not set.
 pub fn no_unset()
@@ -11,14 +10,4 @@ pub fn no_unset()
 /// pathname expansion.
 pub fn no_split()
     ensures { QuotingSuffices }
-{}
-
-/// Runs of an admitted script do not get stuck.
-pub fn goes_on()
-    ensures { RunsGoOn }
-{}
-
-/// Runs of four scripts have the events that they are meant to have, and no others.
-pub fn events()
-    ensures { ExamplesRun }
 {}

@@ -13,8 +13,10 @@ use Rattle.sh_tree.specs.declared.tree.Element.{Element, Assignment', Word', Red
 use Rattle.sh_tree.specs.declared.tree.Part.{items-the_row-Part}
 use Rattle.sh_tree.specs.declared.tree.Word.{Word}
 use Rattle.sh_tree.specs.Words.{lone_command, lone_commands, elements_of, form_of, words_of, assignments_of, Expansion, expansions, subject_text}
-use Rattle.sh_flow.specs.Policy.{Text, Declared}
-use Rattle.sh_flow.specs.Names.{start_names, is_one_of, number_of, subjects, form_names, names_in, script_names}
+use Rattle.sh_tree.specs.program.Syntax.{Text}
+use Rattle.sh_table.specs.runs.Worlds.{start_names, is_one_of}
+use Rattle.sh_flow.specs.Policy.{Declared}
+use Rattle.sh_flow.specs.Names.{number_of, subjects, form_names, names_in, script_names}
 use Rattle.sh_flow.specs.Facts.{Facts, Known, Claim, Claimed, has_number, facts, within, meet, with_vars, Out, both, enter, out_at, Claims}
 use Rattle.sh_flow.specs.Certificates.{Table, row_at, claim_of, claim_in, entry_of, claims_of}
 use Rattle.sh_flow.specs.Rules.{told, is_set_at_start, start_facts, assigned_numbers, leaves, faults, item_faults, rule_behind, out_behind, list_faults, script_faults}
@@ -138,7 +140,7 @@ command_clean b names c args x by f sure enters said =
     let nonzero : within (c.nonzero_at (out-Command x).number) (leaves b names (words_of (elements_of (out-Command x).kind)) (elements_of (out-Command x).kind) (facts (c.before (out-Command x).number))) ≡ true = left (c.nonzero_at (out-Command x).number) said.nonzero_at in
     rw (entered, zero, nonzero) refl
 
-list_clean : (b : List ℕ) (names : List Text) (t : Table) (args k : ℕ) (sure : List Text) (is : List Item) (by : FlowRule) (o : Out) → NumberedFrom k is
+list_clean : (b : List ℕ) (names : List Text) (t : Table) (args k : ℕ) (sure : List Text) (is : List Item) (by : FlowRule) (o : Out) → NumberedFrom b k is
     → Follows names b t args k sure (filter_map lone_command is) → Enters names args (enter o) sure → list_faults b names (claims_of t) is by o ≡ []
 unfolding list_faults item_faults rule_behind out_behind Follows
 list_clean b names t args k sure [] by o n f e = refl
@@ -155,7 +157,7 @@ list_clean b names t args k sure (i ∷ is) by o n f e =
         rw (command_clean b names (claims_of t) args c by (enter o) sure e said)
         (rest (sure ++ command_gains b c) (out_at (claims_of t) (out-Command c).number) g.1 (enters_out names (claims_of t) args (out-Command c).number sure (sure ++ command_gains b c) said))
 
-pub certificate_clean : (b : List ℕ) (names : List Text) (d : Declared) (t : Script) (f : Finder) → NumberedFrom 0 (out-Script t).items
+pub certificate_clean : (b : List ℕ) (names : List Text) (d : Declared) (t : Script) (f : Finder) → NumberedFrom b 0 (out-Script t).items
     → Found names b f (start_names ++ d.names) d.args (lone_commands t) → script_faults b names (claims_of f.certificate) d t ≡ []
 certificate_clean b names d t f n h =
     list_clean b names f.certificate d.args 0 (start_names ++ d.names) (out-Script t).items F1 (both (start_facts names d)) n h.follows (enters_start names d)
@@ -216,7 +218,7 @@ command_same b names t args k sure c cs number round h =
       and_right (list_all test own) (list_all test others) parts,
     )
 
-commands_same : (b : List ℕ) (names : List Text) (t : Table) (args k : ℕ) (sure : List Text) (is : List Item) → NumberedFrom k is
+commands_same : (b : List ℕ) (names : List Text) (t : Table) (args k : ℕ) (sure : List Text) (is : List Item) → NumberedFrom b k is
     → Follows names b t args k sure (filter_map lone_command is) → AreNumbered b names (filter_map lone_command is)
     → flat_map (command_unmet b names (claims_of t)) (filter_map lone_command is) ≡ unset_from b sure (filter_map lone_command is)
 unfolding unset_from Follows
@@ -235,7 +237,7 @@ commands_same b names t args k sure (i ∷ is) n f h =
         ap (λ (ps : List Place). ps ++ flat_map (command_unmet b names (claims_of t)) (filter_map lone_command is)) one.0
         ∙ ap (λ (ps : List Place). command_unset b sure c ++ ps) (rest (sure ++ command_gains b c) g.1 one.1)
 
-pub certificate_exact : (b : List ℕ) (names : List Text) (d : Declared) (t : Script) (f : Finder) → NumberedFrom 0 (out-Script t).items
+pub certificate_exact : (b : List ℕ) (names : List Text) (d : Declared) (t : Script) (f : Finder) → NumberedFrom b 0 (out-Script t).items
     → Found names b f (start_names ++ d.names) d.args (lone_commands t) → list_all (λ s. is_some (number_of names s)) (script_names b t) ≡ true
     → script_unmet b names (claims_of f.certificate) t ≡ unset_places b d t
 certificate_exact b names d t f n h e = commands_same b names f.certificate d.args 0 (start_names ++ d.names) (out-Script t).items n h.follows e

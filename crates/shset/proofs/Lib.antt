@@ -9,5 +9,6 @@ pub mod LintLemmas
 pub mod RowLemmas
 pub mod FinderLemmas
 pub mod NumberingLemmas
+pub mod NamedLemmas
 pub mod ReadLemmas
 pub mod CertificateLemmas

@@ -1,6 +1,6 @@
 -- What a script that was read is like: each item begins in the text, and where all are analysed, the n-th is the command of the number n.
 use Rattle.std.proofs.Common.{◌≡◌, ℕ, ◌+◌, ◌-◌, ◌<◌, ◌≤◌, Bool, true, false, ◌&&◌, if◌then◌else◌, Option, Some, None, List, [], ◌∷◌, length, refl, sym, ◌∙◌, ap, subst, nat_le, ⊎_elim}
-use Rattle.std.specs.List.{list_all}
+use Rattle.std.specs.List.{list_all, filter_map}
 use Rattle.std.proofs.lemmas.Bool.{true≢false, cases_lt, le-leb}
 use Rattle.std.proofs.lemmas.List.{drop_all}
 use Rattle.sh_tree.specs.declared.tree.AndOr.{AndOr, out-AndOr, out-roll-AndOr}
@@ -34,9 +34,10 @@ use Rattle.sh_tree.specs.language.Reading.{lead_here, parted, ReadsParts, ReadsP
 use Rattle.sh_tree.specs.language.States.{Spot, State, Document}
 use Rattle.sh_tree.specs.language.Trees as tree
 use Rattle.sh_tree.proofs.Inversions.{apart, some_one}
-use Rattle.sh_flow.specs.Profile.{is_variable, is_value, is_flat, is_straight_part, is_straight_element, is_simple, has_none, is_straight, is_plain_name, is_admitted, is_item_admitted, Admitted}
+use Rattle.sh_flow.specs.Profile.{is_variable, is_value, is_flat, is_straight_part, is_straight_element, is_simple, has_none, is_straight, is_plain_name, is_admitted, is_item_admitted, Admitted, gives_name, has_name, HasNames}
 use Rattle.shset.specs.Findings.{first_start, item_start}
 use Rattle.shset.proofs.AdmitLemmas.{is_straight_part-Double, straight_Assignment, straight_Word, straight_Redirection}
+use Rattle.shset.proofs.NamedLemmas.{IsSettled, settles, settled_past, settled_next, elements_named}
 use Rattle.shset.proofs.NumberingLemmas.{and_left, and_right, all_weaker}
 
 -- The fields of what was read
@@ -159,20 +160,21 @@ word_count h (r.whole_word q l k) = parts_count h q
 
 -- The numbers of commands
 
--- no here-document waits, and so many commands came before
-abbrev IsCalm : ℕ → State → Type 0
-IsCalm k s = (s.pending ≡ []) × (s.spot.count ≡ k)
+-- no here-document waits, so many commands came before, and this is a token
+abbrev IsCalm : List ℕ → ℕ → State → Type 0
+IsCalm b k s = (s.pending ≡ []) × (s.spot.count ≡ k) × IsSettled b s.spot
 
-elements_calm : {limit : ℕ} {b : List ℕ} {body : ℕ → Document} {g : Stage} {s v : State} {es : List Element} (k : ℕ) → list_all is_straight_element es ≡ true → IsCalm k s
-    → ReadsElements limit b body g s v es → IsCalm k v
+elements_calm : {limit : ℕ} {b : List ℕ} {body : ℕ → Document} {g : Stage} {s v : State} {es : List Element} (k : ℕ) → list_all is_straight_element es ≡ true → IsCalm b k s
+    → ReadsElements limit b body g s v es → IsCalm b k v
 elements_calm k h c (r.no_element e) = c
-elements_calm {s = s} k h c (r.assigned_element {w = w} {es = es} e q rest) =
+elements_calm {b = b} {s = s} k h c (r.assigned_element {u = u} {w = w} {es = es} e q rest) =
     let here = and_left (is_straight_element (element.Assignment _ w)) (list_all is_straight_element es) h in
     elements_calm k (and_right (is_straight_element (element.Assignment _ w)) (list_all is_straight_element es) h)
-    (c.0, word_count (sym (straight_Assignment _ w) ∙ here) q ∙ c.1) rest
-elements_calm k h c (r.word_element {w = w} {es = es} e q rest) =
+    (c.0, word_count (sym (straight_Assignment _ w) ∙ here) q ∙ c.1, settled_past b s u c.2) rest
+elements_calm {b = b} {s = s} k h c (r.word_element {u = u} {w = w} {es = es} e q rest) =
     let here = and_left (is_straight_element (element.Word w)) (list_all is_straight_element es) h in
-    elements_calm k (and_right (is_straight_element (element.Word w)) (list_all is_straight_element es) h) (c.0, word_count (sym (straight_Word w) ∙ here) q ∙ c.1) rest
+    elements_calm k (and_right (is_straight_element (element.Word w)) (list_all is_straight_element es) h)
+    (c.0, word_count (sym (straight_Word w) ∙ here) q ∙ c.1, settled_past b s u c.2) rest
 elements_calm k h c (r.redirect_element {r = f} {es = es} e q rest) =
     absurd (true≢false (sym (and_left (is_straight_element (element.Redirection f)) (list_all is_straight_element es) h) ∙ straight_Redirection f))
 
@@ -180,21 +182,25 @@ no_documents : {limit : ℕ} {b : List ℕ} {ms : List Mark} {s u : State} → m
 no_documents none r.no_body = refl
 no_documents none (r.more_bodies e a c h k d) = cc
 
-breaks_calm : {limit : ℕ} {b : List ℕ} {s v : State} (k : ℕ) → IsCalm k s → ReadsBreaks limit b s v → IsCalm k v
+breaks_calm : {limit : ℕ} {b : List ℕ} {s v : State} (k : ℕ) → IsCalm b k s → ReadsBreaks limit b s v → IsCalm b k v
 breaks_calm k c (r.no_break h) = c
-breaks_calm k c (r.more_breaks h q d rest) = let same = no_documents c.0 d in breaks_calm k (ap (λ w. w.pending) same, ap (λ w. w.spot.count) same ∙ c.1) rest
+breaks_calm {b = b} {s = s} k c (r.more_breaks {u = u} h q d rest) =
+    let same = no_documents c.0 d in
+    let outside : u.spot.body ≡ false = ap (λ w. w.spot.body) same ∙ c.2.0 in
+    breaks_calm k (ap (λ w. w.pending) same, ap (λ w. w.spot.count) same ∙ c.1, settled_next b u.spot.at u outside) rest
 
-parted_calm : (b : List ℕ) (k : ℕ) (s : State) → IsCalm k s → IsCalm k (parted b s)
+parted_calm : (b : List ℕ) (k : ℕ) (s : State) → IsCalm b k s → IsCalm b k (parted b s)
 parted_calm b k s c = go (is_newline_lead (lead_here b s))
   where
-    go : (line : Bool) → IsCalm k (if line then s else r.skip b 1 s)
+    go : (line : Bool) → IsCalm b k (if line then s else r.skip b 1 s)
     go true = c
-    go false = c
+    go false = (c.0, c.1, settled_next b (s.spot.at + 1) s c.2.0)
 
--- a command that was read is the next one, and one more came then
-record IsNext (k : ℕ) (v : State) (c : Command) : Type 0 where
+-- a command that was read is the next one and its name gives a field, and one more came then
+record IsNext (b : List ℕ) (k : ℕ) (v : State) (c : Command) : Type 0 where
   number : (out-Command c).number ≡ k + 1
-  calm : IsCalm (k + 1) v
+  named : has_name b c ≡ true
+  calm : IsCalm b (k + 1) v
 
 -- of a straight command
 straight_kind : (number at : ℕ) (k : Kind) (rs : List Redirect) → is_straight (tree.command number at k rs) ≡ true
@@ -216,15 +222,17 @@ not_simple (r.until_loop d h g) = refl
 not_simple (r.for_loop d n h g) = refl
 not_simple (r.case_of d i w h k g c) = refl
 
-command_next : {limit : ℕ} {b : List ℕ} {body : ℕ → Document} {s v : State} {c : Command} (k : ℕ) → is_straight c ≡ true → IsCalm k s
-    → ReadsCommand limit b body s v c → IsNext k v c
+command_next : {limit : ℕ} {b : List ℕ} {body : ℕ → Document} {s v : State} {c : Command} (k : ℕ) → is_straight c ≡ true → IsCalm b k s
+    → ReadsCommand limit b body s v c → IsNext b k v c
 unfolding is_simple
-command_next k h c (r.simple_command {s = s} {es = es} g e) =
+command_next {b = b} k h c (r.simple_command {s = s} {es = es} g e) =
     let kind = straight_kind (s.spot.count + 1) s.spot.at (Simple es) [] h in
     let straight : list_all is_straight_element es ≡ true = sym (ap (list_all is_straight_element) (elements_of_simple es)) ∙ kind.1 in
     record {
       number = ap (λ x. x.number) (opened (s.spot.count + 1) s.spot.at (Simple es) []) ∙ ap (λ n. n + 1) c.1;
-      calm = elements_calm (k + 1) straight (c.0, ap (λ n. n + 1) c.1) e;
+      named = ap (λ x. gives_name b (words_of (elements_of x.kind))) (opened (s.spot.count + 1) s.spot.at (Simple es) [])
+          ∙ ap (λ xs. gives_name b (words_of xs)) (elements_of_simple es) ∙ elements_named c.2 straight e;
+      calm = elements_calm (k + 1) straight (c.0, ap (λ n. n + 1) c.1, c.2) e;
     }
 command_next k h c (r.compound_command {s = s} {k = d} {rs = rs} g e q f) =
     absurd (true≢false (sym (straight_kind (s.spot.count + 1) s.spot.at d rs h).0 ∙ not_simple q))
@@ -239,44 +247,45 @@ unfolding lone_part
 not_lone c d [] some e = some refl
 not_lone c d (x ∷ xs) some e = cc
 
-commands_next : {limit : ℕ} {b : List ℕ} {body : ℕ → Document} {s u : State} {cs : List Command} (k : ℕ) (c : Command) → lone_part cs ≡ Some c → is_straight c ≡ true → IsCalm k s
-    → ReadsCommands limit b body s u cs → IsNext k u c
+commands_next : {limit : ℕ} {b : List ℕ} {body : ℕ → Document} {s u : State} {cs : List Command} (k : ℕ) (c : Command) → lone_part cs ≡ Some c → is_straight c ≡ true → IsCalm b k s
+    → ReadsCommands limit b body s u cs → IsNext b k u c
 unfolding lone_part
-commands_next {u = u} k c e h calm (r.last_command {c = d} q n) =
+commands_next {b = b} {u = u} k c e h calm (r.last_command {c = d} q n) =
     let same : d ≡ c = some_one e in
-    subst (λ x. IsNext k u x) same (command_next k (subst (λ x. is_straight x ≡ true) (sym same) h) calm q)
+    subst (λ x. IsNext b k u x) same (command_next k (subst (λ x. is_straight x ≡ true) (sym same) h) calm q)
 commands_next k c e h calm (r.more_commands {c = d} {cs = cs} q n f rest) = absurd (not_lone c d cs (commands_some rest) e)
 
 lone_piped : (negated : Bool) (cs : List Command) → lone_pipe (tree.pipe negated cs) [] ≡ (if negated then None else lone_part cs)
 unfolding lone_pipe
 lone_piped negated cs = ap (λ x. if x.negated then None else lone_part x.parts) (opened_pipe negated cs)
 
-pipeline_next : {limit : ℕ} {b : List ℕ} {body : ℕ → Document} {s u : State} {p : Pipe} (k : ℕ) (c : Command) → lone_pipe p [] ≡ Some c → is_straight c ≡ true → IsCalm k s
-    → ReadsPipeline limit b body s u p → IsNext k u c
+pipeline_next : {limit : ℕ} {b : List ℕ} {body : ℕ → Document} {s u : State} {p : Pipe} (k : ℕ) (c : Command) → lone_pipe p [] ≡ Some c → is_straight c ≡ true → IsCalm b k s
+    → ReadsPipeline limit b body s u p → IsNext b k u c
 pipeline_next k c e h calm (r.negated {cs = cs} n q) = let none : None ≡ Some c = sym (lone_piped true cs) ∙ e in cc
 pipeline_next k c e h calm (r.straight {cs = cs} n q) = commands_next k c (sym (lone_piped false cs) ∙ e) h calm q
 
 links_next : {limit : ℕ} {b : List ℕ} {body : ℕ → Document} {s u v : State} {p : Pipe} {ps : List (Link × Pipe)} (k : ℕ) (c : Command) → lone_pipe p ps ≡ Some c
-    → is_straight c ≡ true → IsCalm k s → ReadsPipeline limit b body s u p → ReadsLinks limit b body u v ps → IsNext k v c
+    → is_straight c ≡ true → IsCalm b k s → ReadsPipeline limit b body s u p → ReadsLinks limit b body u v ps → IsNext b k v c
 unfolding lone_pipe
 links_next k c e h calm q (r.no_link n) = pipeline_next k c e h calm q
 links_next k c e h calm q (r.more_links n f g rest) = cc
 
-list_next : {limit : ℕ} {b : List ℕ} {body : ℕ → Document} {s v : State} {l : AndOr} (k : ℕ) (c : Command) → lone_list l ≡ Some c → is_straight c ≡ true → IsCalm k s
-    → ReadsAndOr limit b body s v l → IsNext k v c
+list_next : {limit : ℕ} {b : List ℕ} {body : ℕ → Document} {s v : State} {l : AndOr} (k : ℕ) (c : Command) → lone_list l ≡ Some c → is_straight c ≡ true → IsCalm b k s
+    → ReadsAndOr limit b body s v l → IsNext b k v c
 unfolding lone_list
 list_next k c e h calm (r.linked {p = p} {ps = ps} q links) = links_next k c (sym (ap (λ x. lone_pipe x.first x.rest) (opened_list p ps)) ∙ e) h calm q links
 
--- an item is a command of this number
-pub record LoneAt (k : ℕ) (i : Item) : Type 0 where
+-- an item is a command of this number whose name gives a field
+pub record LoneAt (b : List ℕ) (k : ℕ) (i : Item) : Type 0 where
   pub command : Command
   pub whole : lone_command i ≡ Some command
   pub number : (out-Command command).number ≡ k + 1
+  pub named : has_name b command ≡ true
 
--- each item is a command, and they are numbered in order from the one behind k
-abbrev pub NumberedFrom : ℕ → List Item → Type 0
-NumberedFrom k [] = Unit {0}
-NumberedFrom k (i ∷ is) = LoneAt k i × NumberedFrom (k + 1) is
+-- each item is such a command, and they are numbered in order from the one behind k
+abbrev pub NumberedFrom : List ℕ → ℕ → List Item → Type 0
+NumberedFrom b k [] = Unit {0}
+NumberedFrom b k (i ∷ is) = LoneAt b k i × NumberedFrom b (k + 1) is
 
 lone_admitted : (b : List ℕ) (o : Option Command) → is_item_admitted b o ≡ true → (c : Command) × (o ≡ Some c) × (is_straight c ≡ true)
 unfolding is_item_admitted is_admitted
@@ -291,18 +300,18 @@ lone_in_list : (l : AndOr) (g : Bool) (c : Command) → (if g then None else lon
 lone_in_list l true c e = cc
 lone_in_list l false c e = e
 
-item_next : {limit : ℕ} {b : List ℕ} {body : ℕ → Document} {s u : State} {l : AndOr} (k : ℕ) (g : Bool) → is_item_admitted b (lone_command (tree.item l g)) ≡ true → IsCalm k s
-    → ReadsAndOr limit b body s u l → LoneAt k (tree.item l g) × IsCalm (k + 1) u
+item_next : {limit : ℕ} {b : List ℕ} {body : ℕ → Document} {s u : State} {l : AndOr} (k : ℕ) (g : Bool) → is_item_admitted b (lone_command (tree.item l g)) ≡ true → IsCalm b k s
+    → ReadsAndOr limit b body s u l → LoneAt b k (tree.item l g) × IsCalm b (k + 1) u
 item_next {b = b} {l = l} k g a calm h =
     let o = lone_admitted b (lone_command (tree.item l g)) a in
     let n = list_next k o.0 (lone_in_list l g o.0 (sym (lone_item l g) ∙ o.1)) o.2 calm h in
-    (record { command = o.0; whole = o.1; number = n.number }, n.calm)
+    (record { command = o.0; whole = o.1; number = n.number; named = n.named }, n.calm)
 
 abbrev AllAdmitted : List ℕ → List Item → Type 0
 AllAdmitted b is = list_all (λ i. is_item_admitted b (lone_command i)) is ≡ true
 
-items_numbered : {limit : ℕ} {b : List ℕ} {body : ℕ → Document} {s v : State} {is : List Item} (k : ℕ) → AllAdmitted b is → IsCalm k s
-    → ReadsItems limit b body s v is → NumberedFrom k is
+items_numbered : {limit : ℕ} {b : List ℕ} {body : ℕ → Document} {s v : State} {is : List Item} (k : ℕ) → AllAdmitted b is → IsCalm b k s
+    → ReadsItems limit b body s v is → NumberedFrom b k is
 items_numbered {b = b} k a calm (r.last_item {l = l} h n c) = ((item_next k false (and_left (is_item_admitted b (lone_command (tree.item l false))) true a) calm h).0, tt)
 items_numbered {b = b} k a calm (r.ended_item {l = l} {g = g} h n f e) = ((item_next k g (and_left (is_item_admitted b (lone_command (tree.item l g))) true a) calm h).0, tt)
 items_numbered {b = b} k a calm (r.more_items {u = u} {l = l} {g = g} {is = is} h n f e rest) =
@@ -310,14 +319,22 @@ items_numbered {b = b} k a calm (r.more_items {u = u} {l = l} {g = g} {is = is} 
     let one = item_next k g (and_left (admitted (tree.item l g)) (list_all admitted is) a) calm h in
     (one.0, items_numbered (k + 1) (and_right (admitted (tree.item l g)) (list_all admitted is) a) (breaks_calm (k + 1) (parted_calm b (k + 1) u one.1) f) rest)
 
-sequence_numbered : {limit : ℕ} {b : List ℕ} {body : ℕ → Document} {s u : State} {t : Script} (k : ℕ) → AllAdmitted b (out-Script t).items → IsCalm k s
-    → ReadsSequence limit b body s u t → NumberedFrom k (out-Script t).items
-sequence_numbered k a calm (r.nothing f e) = subst (λ is. NumberedFrom k is) (sym (opened_script [])) tt
+sequence_numbered : {limit : ℕ} {b : List ℕ} {body : ℕ → Document} {s u : State} {t : Script} (k : ℕ) → AllAdmitted b (out-Script t).items → IsCalm b k s
+    → ReadsSequence limit b body s u t → NumberedFrom b k (out-Script t).items
+sequence_numbered {b = b} k a calm (r.nothing f e) = subst (λ is. NumberedFrom b k is) (sym (opened_script [])) tt
 sequence_numbered {b = b} k a calm (r.sequence (r.list {is = is} f e h)) =
-    subst (λ is. NumberedFrom k is) (sym (opened_script is)) (items_numbered k (subst (λ is. AllAdmitted b is) (opened_script is) a) (breaks_calm k calm f) h)
+    subst (λ is. NumberedFrom b k is) (sym (opened_script is)) (items_numbered k (subst (λ is. AllAdmitted b is) (opened_script is) a) (breaks_calm k calm f) h)
 
-script_numbered : {limit : ℕ} {b : List ℕ} {s u : Spot} {t : Script} → AllAdmitted b (out-Script t).items → ReadsScript limit b s u t → NumberedFrom s.count (out-Script t).items
-script_numbered {s = s} a (r.script h w) = sequence_numbered s.count a (refl, refl) h
+script_numbered : {limit : ℕ} {b : List ℕ} {s u : Spot} {t : Script} → IsSettled b s → AllAdmitted b (out-Script t).items → ReadsScript limit b s u t → NumberedFrom b s.count (out-Script t).items
+script_numbered {s = s} here a (r.script h w) = sequence_numbered s.count a (refl, refl, here) h
 
-pub reads_numbered : (b : List ℕ) (t : Script) → Reads b t → Admitted b t → NumberedFrom 0 (out-Script t).items
-reads_numbered b t h a = script_numbered a h.2.script
+pub reads_numbered : (b : List ℕ) (t : Script) → Reads b t → Admitted b t → NumberedFrom b 0 (out-Script t).items
+reads_numbered b t h a = script_numbered (refl, settles b false 0 refl) a h.2.script
+
+names_from : (b : List ℕ) (k : ℕ) (is : List Item) → NumberedFrom b k is → list_all (has_name b) (filter_map lone_command is) ≡ true
+names_from b k [] n = refl
+names_from b k (i ∷ is) n = rw (n.0.whole, n.0.named) (names_from b (k + 1) is n.1)
+
+-- the names of its commands give fields
+pub reads_named : (b : List ℕ) (t : Script) → Reads b t → Admitted b t → HasNames b t
+reads_named b t h a = names_from b 0 (out-Script t).items (reads_numbered b t h a)

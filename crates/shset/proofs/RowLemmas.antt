@@ -10,7 +10,7 @@ use Rattle.sh_tree.specs.declared.tree.Word.{Word}
 use Rattle.sh_tree.specs.Tree.{text_of}
 use Rattle.sh_tree.specs.declared.tree.Redirect.{Redirect}
 use Rattle.sh_tree.specs.Words.{form_of_assignment, form_of_word, form_of_redirection, assignment_in, assignment_of, assignments_of}
-use Rattle.sh_flow.specs.Policy.{Text}
+use Rattle.sh_tree.specs.program.Syntax.{Text}
 use Rattle.sh_flow.specs.Names.{number_of}
 use Rattle.sh_flow.specs.Facts.{has_number}
 use Rattle.shset.specs.Findings.{gains}

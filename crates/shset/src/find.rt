@@ -3,8 +3,9 @@ ghost use Rattle.std.specs.Prelude.{◌≡◌, ◌++◌, ◌∷◌, [], ℕ, Lis
 ghost use Rattle.std.specs.List.{filter_map};
 ghost use Rattle.sh_tree.specs.language.Reading.{Reads};
 ghost use Rattle.sh_tree.specs.Words.{lone_command, words_of, assignment_of, assignments_of};
-ghost use Rattle.sh_flow.specs.Policy.{Text};
-ghost use Rattle.sh_flow.specs.Names.{start_names, number_of, numbering};
+ghost use Rattle.sh_tree.specs.program.Syntax.{Text};
+ghost use Rattle.sh_table.specs.runs.Worlds.{start_names};
+ghost use Rattle.sh_flow.specs.Names.{number_of, numbering};
 ghost use Rattle.sh_flow.specs.Profile.{Admitted};
 ghost use Rattle.sh_flow.specs.Certificates.{claims_of};
 ghost use Rattle.sh_flow.specs.Rules.{script_faults};

@@ -83,6 +83,7 @@ fn places_in(
 }
 
 /// Where a parameter may be unset.
+#[tactic(auto, using(crate::proofs::ReadLemmas::reads_named))]
 fn unset_in(
     alloc: Global,
     tree: &Script,

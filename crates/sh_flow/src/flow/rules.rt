@@ -4,7 +4,7 @@ ghost use Rattle.std.specs.List.{list_any, list_all};
 ghost use Rattle.std.specs.Str.{bytes_eq};
 ghost use Rattle.sh_tree.specs.Words.{lone_command, words_of};
 ghost use Rattle.sh_flow.specs.Facts.{has_number, facts, within, within_out, enter, both, with_vars};
-ghost use Rattle.sh_flow.specs.Names.{start_names, is_one_of};
+ghost use Rattle.sh_table.specs.runs.Worlds.{start_names, is_one_of};
 ghost use Rattle.sh_flow.specs.Rules.{is_set_at_start, leaves, exit_rule, faults, item_faults, rule_behind, out_behind, list_faults, told, least_from};
 ghost use Rattle.sh_flow.specs.Breaches as breaches;
 ghost use Rattle.sh_flow.specs.Breaches.{fault_found, rule_of};

@@ -1,14 +1,16 @@
-use Rattle.std.proofs.Common.{ℕ, List}
-use Rattle.sh_flow.specs.Machine.{Work, has_unset_event, expands_unset, start_world}
-use Rattle.sh_flow.specs.Environment.{Environment, Frame}
-use Rattle.sh_flow.proofs.RunLemmas.{GoesWell, goes_from_start, act_ok, quiet}
-use Rattle.sh_flow.proofs.Worlds.{run_ok, start_ok, no_event}
+use Rattle.std.proofs.Common.{refl}
+use Rattle.sh_table.specs.runs.Worlds.{has_unset_event}
+use Rattle.sh_flow.specs.Facts.{both}
+use Rattle.sh_flow.specs.Rules.{start_facts}
+use Rattle.sh_flow.specs.declared.rule.FlowRule.TheVariants.{F1}
+use Rattle.sh_flow.proofs.FactLemmas.{holds_both, start_holds}
+use Rattle.sh_flow.proofs.CommandLemmas.{no_step_has}
+use Rattle.sh_flow.proofs.RunLemmas.{IsQuiet, unset_event, ListOk, quiet_suits, ok_first}
 use Rattle.sh_flow.proofs.laws.no_unset.Goals as goal
 
 pub returns : goal.returns
 unfolding has_unset_event
-returns c = λ b names d t claims rules demands e f start moves w h p.
-    let go = λ (g : Frame) (v : Environment) (status : ℕ) (ws : List Work). GoesWell b names claims g ws status v in
-    no_event b go (expands_unset b) (λ g v status ws. quiet b names claims g v status ws) w p
-    (run_ok b go (λ g v status ws a. act_ok b names claims g v status ws a) moves (start_world e f t) w
-    (start_ok b go e f t (goes_from_start b names claims d t e f rules demands start)) h)
+returns c = λ b names d t claims admitted named rules demands e f start moves w h m.
+    no_step_has b unset_event refl (IsQuiet b) (IsQuiet b) (quiet_suits b) (ListOk b names claims) (ok_first b names claims) e f t moves w admitted named start.functions
+    (record { rule = F1; known = both (start_facts names d); rules = rules; demands = demands; holds = holds_both names 0 (start_facts names d) e f (start_holds names d e f start) })
+    h m

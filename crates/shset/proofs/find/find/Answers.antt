@@ -2,7 +2,7 @@ use Rattle.std.proofs.Common.{◌≡◌, ◌++◌, List, [], subst, sym}
 use Rattle.std.specs.List.{filter_map}
 use Rattle.sh_tree.specs.declared.tree.Item.{Item}
 use Rattle.sh_tree.specs.Words.{lone_command, lone_commands}
-use Rattle.sh_flow.specs.Names.{start_names}
+use Rattle.sh_table.specs.runs.Worlds.{start_names}
 use Rattle.sh_flow.specs.Certificates.{Table, claims_of}
 use Rattle.sh_flow.specs.Rules.{script_faults}
 use Rattle.sh_flow.specs.Demands.{script_unmet}

@@ -1,7 +1,7 @@
 use Rattle.std.proofs.Common.{◌++◌, take}
 use Rattle.std.specs.List.{filter_map}
 use Rattle.sh_tree.specs.Words.{lone_command}
-use Rattle.sh_flow.specs.Names.{start_names}
+use Rattle.sh_table.specs.runs.Worlds.{start_names}
 use Rattle.shset.proofs.FinderLemmas.{began, visited_more}
 use Rattle.shset.proofs.find.walk.Goals as goal
 
