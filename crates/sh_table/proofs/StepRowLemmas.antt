@@ -47,6 +47,10 @@ redirects_as_expected = record {
   subshell_copied = refl;
   subshell_sees = refl;
   subshell_sees_own = refl;
+  subshell_sets = refl;
+  subshell_sets_own = refl;
+  subshell_meets = refl;
+  subshell_meets_own = refl;
   special_not_copied = refl;
   group_not_copied = refl;
   fault_here = refl;
@@ -158,6 +162,8 @@ pub calls_as_expected : CallsAsExpected
 unfolding computes examples.far examples.comes_to examples.behind
 calls_as_expected = record {
   return_in_function = refl;
+  return_alone = refl;
+  return_beyond = refl;
   return_outside = refl;
   return_ends = refl;
   return_in_loop = refl;
@@ -182,6 +188,12 @@ calls_as_expected = record {
   interleaved_end = refl;
   interleaved_meets = refl;
   copied_apart = refl;
+  copied_own = refl;
+  copied_meets = refl;
+  asynchronous_apart = refl;
+  asynchronous_own = refl;
+  asynchronous_status = refl;
+  any_status = refl;
 }
 
 pub steps_as_expected : StepsAsExpected

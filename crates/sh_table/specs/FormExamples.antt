@@ -1,14 +1,18 @@
 -- Words, and what their form says of their fields, against which the definitions are held.
 -- POSIX.1-2024, XCU 2.5.2 (special parameters), 2.6.2 (parameter expansion), 2.6.5 (field splitting).
-use Rattle.std.specs.Prelude.{◌≡◌, true, false, [], ◌∷◌, map, codes}
+use Rattle.std.specs.Prelude.{◌≡◌, true, false, [], ◌∷◌, replicate, map, codes, Some, None}
 use Rattle.sh_tree.specs.declared.tree.Action.TheVariants as action
+use Rattle.sh_tree.specs.declared.tree.Binary.TheVariants as binary
 use Rattle.sh_tree.specs.declared.tree.Removal.TheVariants as removal
+use Rattle.sh_tree.specs.declared.tree.SingleStyle.TheVariants as style
 use Rattle.sh_tree.specs.declared.tree.Special as tree
 use Rattle.sh_tree.specs.declared.tree.Special.TheVariants as special
-use Rattle.sh_tree.specs.program.Examples.{only, plain, expansion}
-use Rattle.sh_tree.specs.program.Syntax.{Special, Part, Escaped, Double, Expansion, Arithmetic, Substitution, Tilde, Word, no_parts, more_parts, Value, Length, Use, Remove, Constant, no_items}
+use Rattle.sh_tree.specs.declared.tree.Unary.TheVariants as unary
+use Rattle.sh_tree.specs.program.Examples.{only, plain, expansion, simple, lone}
+use Rattle.sh_tree.specs.program.Syntax.{Parameter, Variable, Positional, Special, Part, Plain, Escaped, Single, Double, Expansion, Arithmetic, Substitution, Tilde, Word, no_parts, more_parts, Value, Length, Use, Remove, Expression, Constant, Name, Parenthesis, Signed, Chain, Choice, Assigned, no_operands, more_operands, no_items, operand, no_elements}
 use Rattle.sh_table.specs.Counts.{Parameters, One, Nothing, count_of}
-use Rattle.sh_table.specs.Quoting.{are_whole, word_begins_pattern}
+use Rattle.sh_table.specs.Quoting.{are_whole, word_begins_pattern, word_mentions, is_about_separators, is_steady}
+use Rattle.sh_table.specs.runs.Environment.{blanks}
 
 -- one part of this, outside quotes and in double quotes
 abbrev pub shell_parameter : tree.Special → Part
@@ -17,7 +21,7 @@ shell_parameter c = Expansion 0 (Special c) Value
 abbrev pub quoted : Part → Word
 quoted x = only (Double (only x))
 
--- `${x-w}`, `${x+w}`, `${x=w}`; `$x`, `${#x}`
+-- `${x-w}`, `${x+w}`, `${x=w}`, `${x?w}`; `$x`, `${#x}`
 abbrev pub default : Word → Part
 default w = expansion 0 (Use action.Default false w)
 
@@ -26,6 +30,9 @@ alternative w = expansion 0 (Use action.Alternative false w)
 
 abbrev pub assigning : Word → Part
 assigning w = expansion 0 (Use action.Assign false w)
+
+abbrev pub demanding : Word → Part
+demanding w = expansion 0 (Use action.Fault false w)
 
 abbrev pub value : Part
 value = expansion 0 Value
@@ -53,37 +60,84 @@ quoted_a = only (Double a)
 abbrev pub star : Part
 star = shell_parameter special.Asterisk
 
-pub record FormsAsExpected : Type 0 where
+abbrev pub every : Part
+every = shell_parameter special.At
+
+-- `$IFS`; `$((IFS+1))` and the like
+abbrev pub ifs : Parameter
+ifs = Variable (codes "IFS")
+
+abbrev pub arithmetic : Expression → Word
+arithmetic e = only (Arithmetic 0 e)
+
+abbrev pub one : Expression
+one = Constant (codes "1")
+
+abbrev pub ifs_read : Expression
+ifs_read = Name 0 (codes "IFS")
+
+pub record CountsAsExpected : Type 0 where
   -- `"$@"`
   pub parameters : count_of (quoted (shell_parameter special.At)) ≡ Parameters
-  -- `a`, `$x`, `"$*"`, `${x=a}`, `$((1))`, `~`, `${x-a}a`
+  -- `a`, `$x`, `"$*"`, `${x=a}`, `${x?a}`, `${x%a}`, `$((1))`, `$()`, `~`, `\a`
   pub at_least_one :
-      map count_of (a ∷ only value ∷ quoted star ∷ only (assigning a) ∷ only computed ∷ only (Tilde 0 []) ∷ more_parts (default a) a ∷ [])
-      ≡ One ∷ One ∷ One ∷ One ∷ One ∷ One ∷ One ∷ []
-  -- `$*`, `$@`, `a"$@"`, `${x+a}`, `${x-a}`, `"${x%$*}"`
-  pub perhaps_none :
       map count_of
-      (only star ∷ only (shell_parameter special.At) ∷ only (Double (more_parts (shell_parameter special.At) a)) ∷ only (alternative a) ∷ only (default a)
-      ∷ quoted (removing (only star)) ∷ [])
-      ≡ Nothing ∷ Nothing ∷ Nothing ∷ Nothing ∷ Nothing ∷ Nothing ∷ []
-  -- `$#`, `$?`, `$$`, `$!`, `${#x}`, `$((1))`, `${x+"a"}`, `${x+\a}`, `a"$x"`
+      (a ∷ only value ∷ quoted star ∷ only (assigning a) ∷ only (demanding a) ∷ only (removing a) ∷ only computed ∷ only substituted ∷ only (Tilde 0 []) ∷ only (Escaped (codes "a")) ∷ [])
+      ≡ replicate 10 One
+  -- `""`, `"${x-$*}"`, `"${x+a}"`, `${x-a}a`
+  pub one_by_quotes :
+      map count_of (only (Double no_parts) ∷ quoted (default (only star)) ∷ quoted (alternative a) ∷ more_parts (default a) a ∷ []) ≡ replicate 4 One
+  -- `$*`, `$@`, `"$@a"`, `a"$@"`, `${x+"$@"}`, `"${x%$*}"`
+  pub perhaps_no_parameters :
+      map count_of
+      (only star ∷ only every ∷ only (Double (more_parts every a)) ∷ more_parts (Plain (codes "a")) (quoted every) ∷ only (alternative (quoted every)) ∷ quoted (removing (only star)) ∷ [])
+      ≡ replicate 6 Nothing
+  -- `${x+a}`, `${x-a}`, `${x-a}${x+b}`
+  pub perhaps_no_default : map count_of (only (alternative a) ∷ only (default a) ∷ more_parts (default a) (only (alternative (plain (codes "b")))) ∷ []) ≡ replicate 3 Nothing
+
+pub record QuotingAsExpected : Type 0 where
+  -- `$#`, `$?`, `$$`, `$!`, `${#x}`, `$((1))`, `${x+"a"}`, `${x+\a'a'}`, `"$x"`, `a"$x"`
   pub whole :
       map are_whole
       (only (shell_parameter special.NumberSign) ∷ only (shell_parameter special.QuestionMark) ∷ only (shell_parameter special.Dollar) ∷ only (shell_parameter special.Exclamation) ∷ only length_of
-      ∷ only computed ∷ only (alternative quoted_a) ∷ only (alternative (only (Escaped (codes "a")))) ∷ quoted value ∷ [])
-      ≡ true ∷ true ∷ true ∷ true ∷ true ∷ true ∷ true ∷ true ∷ true ∷ []
-  -- `$x`, `$-`, `$()`, `${x+}`, `${x+a}`, `${x+~}`, `${x+${x+"a"}}`, `${x-"a"}`
+      ∷ only computed ∷ only (alternative quoted_a) ∷ only (alternative (more_parts (Escaped (codes "a")) (only (Single style.Plain (codes "a"))))) ∷ quoted value ∷ more_parts (Plain (codes "a")) (quoted value) ∷ [])
+      ≡ replicate 10 true
+  -- `$x`, `$-`, `$()`, `${x+}`, `${x+a}`, `${x+~}`, `${x+${x+"a"}}`, `${x-"a"}`, `${x+"a"a}`, `a$x`, `${x%a}`, `$1`, `$0`
   pub perhaps_split :
       map are_whole
       (only value ∷ only (shell_parameter special.Hyphen) ∷ only substituted ∷ only (alternative no_parts) ∷ only (alternative a) ∷ only (alternative (only (Tilde 0 [])))
-      ∷ only (alternative (only (alternative quoted_a))) ∷ only (default quoted_a) ∷ [])
-      ≡ false ∷ false ∷ false ∷ false ∷ false ∷ false ∷ false ∷ false ∷ []
-  -- `*`, `[`, `${x+*}`, `${x-${x+?}}`
+      ∷ only (alternative (only (alternative quoted_a))) ∷ only (default quoted_a) ∷ only (alternative (more_parts (Double a) a)) ∷ more_parts (Plain (codes "a")) (only value) ∷ only (removing a)
+      ∷ only (Expansion 0 (Positional 1) Value) ∷ only (shell_parameter special.Zero) ∷ [])
+      ≡ replicate 13 false
+  -- `*`, `?`, `[`, `a*`, `${x+*}`, `${x=*}`, `${x?*}`, `${x-${x+?}}`
   pub patterns :
       map word_begins_pattern
-      (plain (codes "*") ∷ plain (codes "[") ∷ only (alternative (plain (codes "*"))) ∷ only (default (only (alternative (plain (codes "?"))))) ∷ [])
-      ≡ true ∷ true ∷ true ∷ true ∷ []
-  -- `"*"`, `${x%*}`, `$?`, `$*`
+      (plain (codes "*") ∷ plain (codes "?") ∷ plain (codes "[") ∷ plain (codes "a*") ∷ only (alternative (plain (codes "*"))) ∷ only (assigning (plain (codes "*")))
+      ∷ only (demanding (plain (codes "*"))) ∷ only (default (only (alternative (plain (codes "?"))))) ∷ [])
+      ≡ replicate 8 true
+  -- `"*"`, `\*`, `'*'`, `${x+"*"}`, `${x%*}`, `$(*)`, `$?`, `$*`, `]`
   pub no_patterns :
-      map word_begins_pattern (only (Double (plain (codes "*"))) ∷ only (removing (plain (codes "*"))) ∷ only (shell_parameter special.QuestionMark) ∷ only star ∷ [])
-      ≡ false ∷ false ∷ false ∷ false ∷ []
+      map word_begins_pattern
+      (only (Double (plain (codes "*"))) ∷ only (Escaped (codes "*")) ∷ only (Single style.Plain (codes "*")) ∷ only (alternative (only (Double (plain (codes "*"))))) ∷ only (removing (plain (codes "*")))
+      ∷ only (Substitution 0 (lone (simple 1 0 (operand (plain (codes "*")) no_elements)))) ∷ only (shell_parameter special.QuestionMark) ∷ only star ∷ plain (codes "]") ∷ [])
+      ≡ replicate 9 false
+  -- `$IFS`, `"$*"`, `${x+"$IFS"}`, `${x%$*}`, `${IFS=a}`, `$((IFS+1))`, `$((1+IFS))`, `$((IFS=1))`, `$((1?1:IFS))`, `$((-(IFS)))`
+  pub separators :
+      map (word_mentions is_about_separators)
+      (only (Expansion 0 ifs Value) ∷ quoted star ∷ only (alternative (quoted (Expansion 0 ifs Value))) ∷ only (removing (only star)) ∷ only (Expansion 0 ifs (Use action.Assign false a))
+      ∷ map arithmetic
+      (Chain ifs_read (more_operands binary.Add one no_operands) ∷ Chain one (more_operands binary.Add ifs_read no_operands) ∷ Assigned 0 (codes "IFS") None one ∷ Choice one one ifs_read
+      ∷ Signed unary.Minus (Parenthesis ifs_read) ∷ []))
+      ≡ replicate 10 true
+  -- `a"$x"`, `$#`, `IFS`, `$((1))`, `"$@"`, `${IFSx}`
+  pub no_separators :
+      map (word_mentions is_about_separators)
+      (more_parts (Plain (codes "a")) (quoted value) ∷ only (shell_parameter special.NumberSign) ∷ plain (codes "IFS") ∷ only computed ∷ quoted every ∷ only (Expansion 0 (Variable (codes "IFSx")) Value) ∷ [])
+      ≡ replicate 6 false
+  -- IFS that is not set, and some values of it
+  pub steady : map is_steady (None ∷ Some [] ∷ Some blanks ∷ Some (codes ":a") ∷ []) ≡ replicate 4 true
+  pub unsteady : map is_steady (Some (codes "0") ∷ Some (codes " 9") ∷ Some (codes ":-") ∷ []) ≡ replicate 3 false
+
+pub record FormsAsExpected : Type 0 where
+  pub counts : CountsAsExpected
+  pub quoting : QuotingAsExpected

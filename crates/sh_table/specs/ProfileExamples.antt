@@ -1,103 +1,267 @@
 -- Commands that are refused, and such that are not, against which the profile is held.
 -- POSIX.1-2024, XCU 2.9.1 (simple commands), 2.9.5 (function definitions), 2.15 (special built-in utilities), 3 (command).
-use Rattle.std.specs.Prelude.{◌≡◌, ℕ, true, false, List, [], ◌∷◌, map, codes, Option, Some, None, option_map}
+use Rattle.std.specs.Prelude.{◌≡◌, ℕ, ◌-◌, ◌==◌, if◌then◌else◌, true, false, List, [], ◌∷◌, ◌++◌, replicate, map, length, take, drop, codes, Option, Some, None, option_map}
+use Rattle.std.specs.Str.{bytes_eq}
 use Rattle.sh_tree.specs.declared.known.Declaration.TheVariants as declaration
 use Rattle.sh_tree.specs.declared.known.KnownName.TheVariants as known
 use Rattle.sh_tree.specs.declared.refusal.Rule.{Rule}
 use Rattle.sh_tree.specs.declared.refusal.Rule.TheVariants as rule
+use Rattle.sh_tree.specs.declared.tree.Action.TheVariants as action
+use Rattle.sh_tree.specs.declared.tree.Binary.TheVariants as binary
+use Rattle.sh_tree.specs.declared.tree.ClauseEnd.TheVariants as clause
+use Rattle.sh_tree.specs.declared.tree.Link.TheVariants as link
+use Rattle.sh_tree.specs.declared.tree.LoopKind.{LoopKind}
 use Rattle.sh_tree.specs.declared.tree.LoopKind.TheVariants as loop
+use Rattle.sh_tree.specs.declared.tree.Removal.TheVariants as removal
 use Rattle.sh_tree.specs.declared.tree.SingleStyle.TheVariants as style
+use Rattle.sh_tree.specs.declared.tree.Unary.TheVariants as unary
+use Rattle.sh_tree.specs.language.Bytes.{is_first}
 use Rattle.sh_tree.specs.program.Syntax as p
 use Rattle.sh_tree.specs.program.Syntax.{Text}
+use Rattle.sh_table.specs.declared.kind.Kind.TheVariants as kind
+use Rattle.sh_table.specs.Kinds.{kind_of}
 use Rattle.sh_table.specs.Profile.{Refused, first_refused}
 
--- a word of plain bytes, one in single quotes, and `"$x"`
-abbrev pub plain : Text → p.Word
-plain t = p.more_parts (p.Plain t) p.no_parts
+-- Commands as lines: words with one blank between two, each `"$x"`, a text in single quotes, or plain bytes
 
-abbrev pub single : Text → p.Word
-single t = p.more_parts (p.Single style.Plain t) p.no_parts
+unfoldable pub words_from : Text → Text → List Text
+words_from t [] = t ∷ []
+words_from t (c ∷ cs) = if c == 32 then t ∷ words_from [] cs else words_from (t ++ c ∷ []) cs
+
+abbrev pub words : Text → List Text
+words line = words_from [] line
+
+abbrev pub of_part : p.Part → p.Word
+of_part x = p.more_parts x p.no_parts
 
 abbrev pub value : p.Word
-value = p.more_parts (p.Double (p.more_parts (p.Expansion 0 (p.Variable (codes "x")) p.Value) p.no_parts)) p.no_parts
+value = of_part (p.Double (of_part (p.Expansion 0 (p.Variable (codes "x")) p.Value)))
+
+unfoldable pub word : Text → p.Word
+word t =
+    if bytes_eq t (codes "\"$x\"") then value
+    else of_part (if is_first (λ c. c == 39) t then p.Single style.Plain (take (length t - 2) (drop 1 t)) else p.Plain t)
 
 unfoldable pub operands : List p.Word → p.Elements
 operands [] = p.no_elements
 operands (w ∷ ws) = p.operand w (operands ws)
 
 -- a simple command, of this number
-abbrev pub simple : ℕ → List p.Word → p.Command
-simple n ws = p.command n 0 (p.Simple (operands ws)) p.no_redirects
+abbrev pub simple : ℕ → Text → p.Command
+simple n line = p.command n 0 (p.Simple (operands (map word (words line)))) p.no_redirects
 
 abbrev pub compound : p.Kind → p.Command
 compound kind = p.command 1 0 kind p.no_redirects
 
+abbrev pub piece : p.Command → p.Pipeline
+piece c = p.pipeline false (p.more_commands c p.no_commands)
+
 -- a list of commands, each alone in the foreground
-unfoldable pub list_of : List p.Command → p.Items
-list_of [] = p.no_items
-list_of (c ∷ cs) = p.more_items (p.and_or (p.pipeline false (p.more_commands c p.no_commands)) p.no_links) false (list_of cs)
+unfoldable pub list : List p.Command → p.Items
+list [] = p.no_items
+list (c ∷ cs) = p.more_items (p.and_or (piece c) p.no_links) false (list cs)
 
 abbrev pub alone : p.Command → p.Items
-alone c = list_of (c ∷ [])
+alone c = list (c ∷ [])
 
--- the rule that is told of a command of these words
-abbrev pub told : List p.Word → Option Rule
-told ws = option_map (λ (r : Refused). r.rule) (first_refused (alone (simple 1 ws)))
+abbrev pub background : p.Command → p.Items
+background c = p.more_items (p.and_or (piece c) p.no_links) true p.no_items
 
--- the rule that is told of a command round a `break`, a `continue` or a `return`
+abbrev pub piped : p.Command → p.Command → p.Items
+piped c d = p.more_items (p.and_or (p.pipeline false (p.more_commands c (p.more_commands d p.no_commands))) p.no_links) false p.no_items
+
+abbrev pub linked : p.Command → p.Command → p.Items
+linked c d = p.more_items (p.and_or (piece c) (p.more_links link.AndThen (piece d) p.no_links)) false p.no_items
+
+-- the rule that is told of a program, and of a command
+abbrev pub told_in : p.Items → Option Rule
+told_in t = option_map (λ (r : Refused). r.rule) (first_refused t)
+
+abbrev pub told : Text → Option Rule
+told line = told_in (alone (simple 1 line))
+
 abbrev pub told_of : p.Kind → Option Rule
-told_of kind = option_map (λ (r : Refused). r.rule) (first_refused (alone (compound kind)))
+told_of kind = told_in (alone (compound kind))
 
-abbrev pub while_true : p.Items → p.Kind
-while_true body = p.Loop loop.While (alone (simple 2 (plain (codes ":") ∷ []))) body
+-- Commands in commands
 
-abbrev pub breaks : p.Command
-breaks = simple 3 (plain (codes "break") ∷ [])
+abbrev pub says : Text → p.Items
+says line = alone (simple 3 line)
 
-abbrev pub returns : p.Items
-returns = alone (simple 3 (plain (codes "return") ∷ []))
+abbrev pub colon : p.Items
+colon = says (codes ":")
 
 abbrev pub group : p.Items → p.Command
-group list = compound (p.Group list)
+group t = compound (p.Group t)
+
+abbrev pub function : p.Items → p.Kind
+function t = p.Define (codes "f") (group t)
+
+-- `while :; do list; done`, and `until`
+abbrev pub turning : LoopKind → p.Items → p.Kind
+turning kind body = p.Loop kind colon body
+
+abbrev pub looping : p.Items → Option Rule
+looping body = told_of (turning loop.While body)
+
+-- `for x in word; do list; done`, and one clause of `case word in pattern) list`
+abbrev pub over : p.Word → p.Items → p.Kind
+over w body = p.For (codes "x") (p.listed (p.more_words w p.no_words)) body
+
+abbrev pub choosing : p.Word → p.Word → p.Items → p.Kind
+choosing w pattern body = p.Case w (p.more_clauses (p.more_words pattern p.no_words) body clause.Break p.no_clauses)
+
+abbrev pub conditional : p.Items → p.Items → p.Items → p.Items → p.Items → p.Kind
+conditional first then_first second then_second otherwise =
+    p.Conditional (p.more_branches first then_first (p.more_branches second then_second p.no_branches)) (p.else_of otherwise)
+
+-- Places at which a command may stand: one with `eval` in it
+
+abbrev pub evaluates : p.Items
+evaluates = says (codes "eval")
+
+abbrev pub refused_eval : Option Rule
+refused_eval = Some (rule.Refused known.Eval)
+
+-- `$(eval)`; `a`
+abbrev pub running : p.Word
+running = of_part (p.Substitution 0 evaluates)
+
+abbrev pub a : p.Word
+a = word (codes "a")
+
+abbrev pub expansion : p.Operator → p.Word
+expansion operator = of_part (p.Expansion 0 (p.Variable (codes "x")) operator)
+
+-- `$(($(eval)))` and `$((1))`, as operands of arithmetic
+abbrev pub computing : p.Expression
+computing = p.Expanded (p.Substitution 0 evaluates)
+
+abbrev pub one : p.Expression
+one = p.Constant (codes "1")
+
+abbrev pub arithmetic : p.Expression → p.Word
+arithmetic e = of_part (p.Arithmetic 0 e)
+
+-- behind another part, in double quotes, in a braced word, in a pattern, and in each form of arithmetic
+abbrev pub words_running : List p.Word
+words_running =
+    running ∷ p.more_parts (p.Plain (codes "a")) running ∷ of_part (p.Double running) ∷ expansion (p.Use action.Default false running) ∷ expansion (p.Remove removal.LongPrefix running)
+    ∷ map arithmetic
+    (computing ∷ p.Parenthesis computing ∷ p.Signed unary.Minus computing ∷ p.Chain computing p.no_operands ∷ p.Chain one (p.more_operands binary.Add one (p.more_operands binary.Add computing p.no_operands))
+    ∷ p.Choice computing one one ∷ p.Choice one computing one ∷ p.Choice one one computing ∷ p.Assigned 0 (codes "x") None computing ∷ [])
+
+-- in an operand, a value, targets and here-documents of a simple command and of a compound one, the word and a pattern of `case`, a word of `for`
+abbrev pub opens : p.Redirect → p.Command
+opens r = p.command 1 0 (p.Simple (p.redirection r p.no_elements)) p.no_redirects
+
+abbrev pub opened : p.Redirect → p.Command
+opened r = p.command 1 0 (p.Group colon) (p.more_redirects (p.File 0 a) (p.more_redirects r p.no_redirects))
+
+abbrev pub commands_running : List p.Command
+commands_running =
+    p.command 1 0 (p.Simple (p.operand a (p.operand running p.no_elements))) p.no_redirects ∷ p.command 1 0 (p.Simple (p.assignment (codes "x") running p.no_elements)) p.no_redirects
+    ∷ opens (p.File 0 running) ∷ opens (p.Here 0 running) ∷ opened (p.File 0 running) ∷ opened (p.Here 0 running)
+    ∷ map compound (choosing running a colon ∷ choosing a running colon ∷ over running colon ∷ [])
+
+-- in each list of each compound command
+abbrev pub kinds_running : List p.Kind
+kinds_running =
+    p.Group evaluates ∷ p.Subshell evaluates ∷ conditional evaluates colon colon colon colon ∷ conditional colon evaluates colon colon colon ∷ conditional colon colon evaluates colon colon
+    ∷ conditional colon colon colon evaluates colon ∷ conditional colon colon colon colon evaluates ∷ turning loop.While evaluates ∷ p.Loop loop.Until evaluates colon ∷ over a evaluates
+    ∷ choosing a a evaluates ∷ function evaluates ∷ []
+
+-- in each place of a list
+abbrev pub lists_running : List p.Items
+lists_running =
+    list (group colon ∷ group evaluates ∷ []) ∷ linked (group colon) (group evaluates) ∷ piped (group evaluates) (group colon) ∷ piped (group colon) (group evaluates)
+    ∷ background (group evaluates) ∷ []
+
+pub record NamesAsExpected : Type 0 where
+  pub special :
+      map kind_of (words (codes "break : continue exec exit export readonly return set shift times trap unset"))
+      ≡ kind.Break ∷ kind.Colon ∷ kind.Continue ∷ kind.Exec ∷ kind.Exit ∷ kind.Export ∷ kind.Readonly ∷ kind.Return ∷ kind.Set ∷ kind.Shift ∷ kind.Times ∷ kind.Trap ∷ kind.Unset ∷ []
+  pub analysed : map kind_of (words (codes "cd command false getopts read true")) ≡ kind.Cd ∷ kind.Command ∷ kind.False ∷ kind.Getopts ∷ kind.Read ∷ kind.True ∷ []
+  pub refused :
+      map kind_of (words (codes ". eval alias unalias fc local typeset declare source let builtin nameref integer float mapfile readarray shopt [[ ]] function select time namespace"))
+      ≡ map kind.Refused
+      (known.Dot ∷ known.Eval ∷ known.Alias ∷ known.Unalias ∷ known.Fc ∷ known.Local ∷ known.Typeset ∷ known.Declare ∷ known.Source ∷ known.Let ∷ known.Builtin ∷ known.Nameref
+      ∷ known.Integer ∷ known.Float ∷ known.Mapfile ∷ known.Readarray ∷ known.Shopt ∷ known.LeftBrackets ∷ known.RightBrackets ∷ known.Function ∷ known.Select ∷ known.Time ∷ known.Namespace ∷ [])
+  pub utilities : map kind_of (words (codes "ls [ echo test wait hash evals Eval ..")) ≡ replicate 9 kind.Utility
+
+pub record OperandsAsExpected : Type 0 where
+  -- a name that is no static text, a refused one, quoted too, and `+=`
+  pub computed_name : map told (codes "\"$x\"" ∷ codes "[[" ∷ []) ≡ Some rule.ComputedName ∷ Some rule.ComputedName ∷ []
+  pub refused_name : map told (codes "eval \"$x\"" ∷ codes "'local' a" ∷ codes ". a" ∷ []) ≡ refused_eval ∷ Some (rule.Refused known.Local) ∷ Some (rule.Refused known.Dot) ∷ []
+  pub append : map told (codes "a+=b" ∷ codes "'a+=b'" ∷ codes "./a+=b" ∷ codes "a=+b" ∷ []) ≡ Some rule.Append ∷ Some rule.Append ∷ None ∷ None ∷ []
+  -- words that other shells reserve, quoted
+  pub reserved_elsewhere : map told (codes "'time' ls" ∷ codes "'[[' a" ∷ codes "'select'" ∷ codes "'function'" ∷ []) ≡ replicate 4 None
+  pub utilities : map told (codes "ls \"$x\"" ∷ codes "[ \"$x\"" ∷ codes "''" ∷ codes "times" ∷ codes "read -t \"$x\"" ∷ codes "shift \"$x\"" ∷ codes "exec \"$x\"" ∷ []) ≡ replicate 7 None
+  -- functions with such names
+  pub functions :
+      map (λ name. told_of (p.Define name (group colon))) (words (codes "eval export time read cd command f"))
+      ≡ Some (rule.FunctionNamed known.Eval) ∷ Some (rule.FunctionNamed known.Export) ∷ Some (rule.FunctionNamed known.Time) ∷ replicate 4 None
+  pub quoted_name : map told (codes "'export'" ∷ codes "'readonly' x" ∷ codes "export x" ∷ codes "readonly" ∷ []) ≡ Some (rule.Quoted declaration.Export) ∷ Some (rule.Quoted declaration.Readonly) ∷ None ∷ None ∷ []
+  pub traps : map told (codes "trap 'a' EXIT" ∷ codes "trap \"$x\"" ∷ codes "trap -- a" ∷ codes "trap -- \"$x\"" ∷ codes "trap -p" ∷ []) ≡ replicate 5 (Some rule.TrapAction)
+  pub trap_resets : map told (codes "trap" ∷ codes "trap '' INT" ∷ codes "trap - INT" ∷ codes "trap -- 2" ∷ codes "trap --" ∷ codes "trap 2 \"$x\"" ∷ []) ≡ replicate 6 None
+  pub commands :
+      map told
+      (codes "command alias a=b" ∷ codes "command read x" ∷ codes "command cd" ∷ codes "command getopts a x" ∷ codes "command command ls" ∷ codes "command set a" ∷ codes "command 'time'"
+      ∷ codes "command \"$x\"" ∷ codes "command -p \"$x\"" ∷ codes "command -x ls" ∷ codes "command -- eval" ∷ [])
+      ≡ replicate 11 (Some rule.CommandUse)
+  pub command_runs :
+      map told (codes "command" ∷ codes "command -v \"$x\"" ∷ codes "command -pV eval" ∷ codes "command -p ls" ∷ codes "command -- true \"$x\"" ∷ codes "command false" ∷ []) ≡ replicate 6 None
+  pub unsets : map told (codes "unset \"$x\"" ∷ codes "unset -v x \"$x\"" ∷ codes "unset -v x" ∷ codes "unset" ∷ []) ≡ Some rule.UnsetOperand ∷ Some rule.UnsetOperand ∷ None ∷ None ∷ []
+  -- operands of `set` that are computed where an option may stand, or of which shells differ in what they take
+  pub sets :
+      map told
+      (codes "set \"$x\"" ∷ codes "set -" ∷ codes "set +" ∷ codes "set -e \"$x\"" ∷ codes "set -o \"$x\"" ∷ codes "set -o -e" ∷ codes "set -o --" ∷ codes "set -oe noglob a" ∷ codes "set -e -" ∷ [])
+      ≡ replicate 9 (Some rule.SetOperand)
+  pub set_words :
+      map told
+      (codes "set" ∷ codes "set -- \"$x\"" ∷ codes "set a \"$x\"" ∷ codes "set -e a \"$x\"" ∷ codes "set -eo pipefail" ∷ codes "set -o noglob a" ∷ codes "set -o" ∷ codes "set +e -- -" ∷ [])
+      ≡ replicate 8 None
+  -- outside loops, `break` and `continue` are told so where their operands are numbers from 1
+  pub break_operands : map told (codes "break 0" ∷ codes "break \"$x\"" ∷ codes "break 1 a" ∷ codes "break -1" ∷ []) ≡ replicate 4 (Some rule.BreakOperand)
+  pub break_outside : map told (codes "break" ∷ codes "break 2" ∷ codes "break 01" ∷ []) ≡ replicate 3 (Some rule.BreakOutside)
+  pub continue_operands : map told (codes "continue 0" ∷ codes "continue \"$x\"" ∷ codes "continue 2" ∷ codes "continue" ∷ []) ≡ Some rule.ContinueOperand ∷ Some rule.ContinueOperand ∷ Some rule.ContinueOutside ∷ Some rule.ContinueOutside ∷ []
+
+pub record PlacesAsExpected : Type 0 where
+  -- a command is met in every place of a word, of a command and of a list
+  pub in_words : map (λ w. told_in (alone (p.command 1 0 (p.Simple (p.operand a (p.operand w p.no_elements))) p.no_redirects))) words_running ≡ replicate 14 refused_eval
+  pub in_commands : map (λ c. told_in (alone c)) commands_running ≡ replicate 9 refused_eval
+  pub in_kinds : map told_of kinds_running ≡ replicate 12 refused_eval
+  pub in_lists : map told_in lists_running ≡ replicate 5 refused_eval
+  -- `break` in a loop of each kind, in its condition, and in other commands in it
+  pub in_loop :
+      map told_of
+      (turning loop.While (says (codes "break 2")) ∷ turning loop.Until (says (codes "continue")) ∷ over a (says (codes "break")) ∷ p.Loop loop.While (says (codes "break")) colon
+      ∷ turning loop.While (alone (compound (conditional colon (says (codes "break")) colon colon (says (codes "continue"))))) ∷ turning loop.While (alone (compound (choosing a a (says (codes "break"))))) ∷ [])
+      ≡ replicate 6 None
+  -- in a subshell of one, an asynchronous list of one, a part of a pipeline, a substitution, a function, and behind it
+  pub out_of_loop :
+      map looping
+      (alone (compound (p.Subshell (says (codes "break")))) ∷ background (simple 3 (codes "break")) ∷ piped (simple 3 (codes "break")) (simple 4 (codes ":"))
+      ∷ alone (p.command 2 0 (p.Simple (p.assignment (codes "x") (of_part (p.Substitution 0 (says (codes "break")))) p.no_elements)) p.no_redirects) ∷ [])
+      ≡ replicate 4 (Some rule.BreakOutside)
+  pub in_function_in_loop : looping (alone (compound (function (says (codes "break"))))) ≡ Some rule.BreakOutside
+  pub behind_loop : told_in (list (compound (turning loop.While colon) ∷ simple 5 (codes "break") ∷ [])) ≡ Some rule.BreakOutside
+  -- `return` in a function, and in a loop, an inner group and a redirected command in it; not in what it starts
+  pub in_function :
+      map (λ t. told_of (function t)) (says (codes "return") ∷ alone (compound (over a (says (codes "return \"$x\"")))) ∷ alone (group (says (codes "return"))) ∷ []) ≡ replicate 3 None
+  pub out_of_function :
+      map (λ t. told_of (function t))
+      (alone (compound (p.Subshell (says (codes "return")))) ∷ background (simple 3 (codes "return")) ∷ piped (simple 3 (codes ":")) (simple 4 (codes "return"))
+      ∷ alone (p.command 2 0 (p.Simple (p.assignment (codes "x") (of_part (p.Substitution 0 (says (codes "return")))) p.no_elements)) p.no_redirects) ∷ [])
+      ≡ replicate 4 (Some rule.ReturnOutside)
+  pub outside : told_of (p.Group (says (codes "return"))) ≡ Some rule.ReturnOutside
+  -- the least number is told, wherever its command stands, and its place
+  pub least :
+      first_refused (list (simple 7 (codes "eval") ∷ p.command 3 9 (p.Simple (operands (value ∷ []))) p.no_redirects ∷ simple 5 (codes "local") ∷ []))
+      ≡ Some (record { number = 3; at = 9; rule = rule.ComputedName })
+  pub none : first_refused (list (simple 7 (codes "ls") ∷ group colon ∷ [])) ≡ None
 
 pub record ProfileAsExpected : Type 0 where
-  -- a name that is no static text, a refused one, quoted too, and `+=`
-  pub computed_name : told (value ∷ []) ≡ Some rule.ComputedName
-  pub refused_name : map told ((plain (codes "eval") ∷ value ∷ []) ∷ (single (codes "local") ∷ []) ∷ (plain (codes "[[") ∷ []) ∷ []) ≡ Some (rule.Refused known.Eval) ∷ Some (rule.Refused known.Local) ∷ Some rule.ComputedName ∷ []
-  pub append : map told ((plain (codes "a+=b") ∷ []) ∷ (single (codes "a+=b") ∷ []) ∷ (plain (codes "./a+=b") ∷ []) ∷ []) ≡ Some rule.Append ∷ Some rule.Append ∷ None ∷ []
-  -- words that other shells reserve, quoted
-  pub reserved_elsewhere : map told ((single (codes "time") ∷ []) ∷ (single (codes "[[") ∷ []) ∷ []) ≡ None ∷ None ∷ []
-  pub reserved_function : told_of (p.Define (codes "time") (group returns)) ≡ Some (rule.FunctionNamed known.Time)
-  pub utilities : map told ((plain (codes "ls") ∷ value ∷ []) ∷ (plain (codes "[") ∷ value ∷ []) ∷ (single [] ∷ []) ∷ []) ≡ None ∷ None ∷ None ∷ []
-  -- functions with such names
-  pub functions : map told_of (p.Define (codes "eval") (group returns) ∷ p.Define (codes "export") (group returns) ∷ p.Define (codes "read") (group returns) ∷ []) ≡ Some (rule.FunctionNamed known.Eval) ∷ Some (rule.FunctionNamed known.Export) ∷ None ∷ []
-  -- `export` and 'export'
-  pub quoted_name : map told ((single (codes "export") ∷ []) ∷ (plain (codes "export") ∷ []) ∷ (single (codes "readonly") ∷ []) ∷ []) ≡ Some (rule.Quoted declaration.Export) ∷ None ∷ Some (rule.Quoted declaration.Readonly) ∷ []
-  -- `trap 'a' EXIT`, `trap "$x"`, `trap '' INT`, `trap - INT`, `trap -- 2`, `trap --`, `trap`
-  pub traps : map told ((plain (codes "trap") ∷ single (codes "a") ∷ plain (codes "EXIT") ∷ []) ∷ (plain (codes "trap") ∷ value ∷ []) ∷ (plain (codes "trap") ∷ single [] ∷ plain (codes "INT") ∷ []) ∷ (plain (codes "trap") ∷ plain (codes "-") ∷ plain (codes "INT") ∷ []) ∷ (plain (codes "trap") ∷ plain (codes "--") ∷ plain (codes "2") ∷ []) ∷ (plain (codes "trap") ∷ plain (codes "--") ∷ []) ∷ (plain (codes "trap") ∷ []) ∷ []) ≡ Some rule.TrapAction ∷ Some rule.TrapAction ∷ None ∷ None ∷ None ∷ None ∷ None ∷ []
-  -- `command alias a=b`, `command read x`, `command "$x"`, `command -x ls`, `command -v "$x"`, `command -p ls`, `command -- true`, `command`
-  pub commands : map told ((plain (codes "command") ∷ plain (codes "alias") ∷ plain (codes "a=b") ∷ []) ∷ (plain (codes "command") ∷ plain (codes "read") ∷ plain (codes "x") ∷ []) ∷ (plain (codes "command") ∷ value ∷ []) ∷ (plain (codes "command") ∷ plain (codes "-x") ∷ plain (codes "ls") ∷ []) ∷ (plain (codes "command") ∷ plain (codes "-v") ∷ value ∷ []) ∷ (plain (codes "command") ∷ plain (codes "-p") ∷ plain (codes "ls") ∷ []) ∷ (plain (codes "command") ∷ plain (codes "--") ∷ plain (codes "true") ∷ []) ∷ (plain (codes "command") ∷ []) ∷ []) ≡ Some rule.CommandUse ∷ Some rule.CommandUse ∷ Some rule.CommandUse ∷ Some rule.CommandUse ∷ None ∷ None ∷ None ∷ None ∷ []
-  -- `unset "$x"`, `unset -v x`
-  pub unsets : map told ((plain (codes "unset") ∷ value ∷ []) ∷ (plain (codes "unset") ∷ plain (codes "-v") ∷ plain (codes "x") ∷ []) ∷ []) ≡ Some rule.UnsetOperand ∷ None ∷ []
-  -- `set "$x"`, `set -`, `set -o "$x"`, `set -- "$x"`, `set a "$x"`, `set -eo pipefail`
-  pub sets : map told ((plain (codes "set") ∷ value ∷ []) ∷ (plain (codes "set") ∷ plain (codes "-") ∷ []) ∷ (plain (codes "set") ∷ plain (codes "-o") ∷ value ∷ []) ∷ (plain (codes "set") ∷ plain (codes "--") ∷ value ∷ []) ∷ (plain (codes "set") ∷ plain (codes "a") ∷ value ∷ []) ∷ (plain (codes "set") ∷ plain (codes "-eo") ∷ plain (codes "pipefail") ∷ []) ∷ []) ≡ Some rule.SetOperand ∷ Some rule.SetOperand ∷ Some rule.SetOperand ∷ None ∷ None ∷ None ∷ []
-  -- `set -oe noglob a`, `set -o -e`, `set -o noglob a`: which words an option takes, shells differ in
-  pub set_options :
-      map told
-      ((plain (codes "set") ∷ plain (codes "-oe") ∷ plain (codes "noglob") ∷ plain (codes "a") ∷ []) ∷ (plain (codes "set") ∷ plain (codes "-o") ∷ plain (codes "-e") ∷ [])
-      ∷ (plain (codes "set") ∷ plain (codes "-o") ∷ plain (codes "noglob") ∷ plain (codes "a") ∷ []) ∷ [])
-      ≡ Some rule.SetOperand ∷ Some rule.SetOperand ∷ None ∷ []
-  -- `break 0`, `continue "$x"`, `break 2`, `continue`: the operand first, then the place
-  pub counts : map told ((plain (codes "break") ∷ plain (codes "0") ∷ []) ∷ (plain (codes "continue") ∷ value ∷ []) ∷ (plain (codes "break") ∷ plain (codes "2") ∷ []) ∷ (plain (codes "continue") ∷ []) ∷ []) ≡ Some rule.BreakOperand ∷ Some rule.ContinueOperand ∷ Some rule.BreakOutside ∷ Some rule.ContinueOutside ∷ []
-  -- `break` in a loop, in a subshell of one, in an asynchronous list of one, in a part of a pipeline of one, in a function in one
-  pub in_loop : told_of (while_true (alone breaks)) ≡ None
-  pub in_subshell : told_of (while_true (alone (compound (p.Subshell (alone breaks))))) ≡ Some rule.BreakOutside
-  pub in_background : told_of (while_true (p.more_items (p.and_or (p.pipeline false (p.more_commands breaks p.no_commands)) p.no_links) true p.no_items)) ≡ Some rule.BreakOutside
-  pub in_pipeline : told_of (while_true (p.more_items (p.and_or (p.pipeline false (p.more_commands breaks (p.more_commands breaks p.no_commands))) p.no_links) false p.no_items)) ≡ Some rule.BreakOutside
-  pub in_function : told_of (while_true (alone (compound (p.Define (codes "f") (group (alone breaks)))))) ≡ Some rule.BreakOutside
-  -- `return` in a function, in a subshell of one, outside
-  pub return_inside : told_of (p.Define (codes "f") (group returns)) ≡ None
-  pub return_copied : told_of (p.Define (codes "f") (group (alone (compound (p.Subshell returns))))) ≡ Some rule.ReturnOutside
-  pub return_outside : told_of (p.Group returns) ≡ Some rule.ReturnOutside
-  -- the least number is told, wherever its command stands
-  pub least : first_refused (list_of (simple 7 (plain (codes "eval") ∷ []) ∷ simple 3 (value ∷ []) ∷ [])) ≡ Some (record { number = 3; at = 0; rule = rule.ComputedName })
+  pub names : NamesAsExpected
+  pub operands : OperandsAsExpected
+  pub places : PlacesAsExpected

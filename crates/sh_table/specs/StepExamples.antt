@@ -1,6 +1,6 @@
 -- Runs of small programs to their end, against which the steps of commands are held.
 -- POSIX.1-2024, XCU 2.7 (redirection), 2.8.1 (consequences of shell errors), 2.9 (shell commands), 2.15 (special built-in utilities).
-use Rattle.std.specs.Prelude.{◌≡◌, ℕ, zero, suc, ◌==◌, ◌||◌, Bool, true, false, List, [], ◌∷◌, map, codes, Option, Some, None, is_some, unwrap_or, option_map, slice_get}
+use Rattle.std.specs.Prelude.{◌≡◌, ℕ, zero, suc, ◌==◌, ◌||◌, Bool, true, false, List, [], ◌∷◌, replicate, map, codes, Option, Some, None, is_some, unwrap_or, option_map, slice_get}
 use Rattle.sh_tree.specs.declared.tree.Action.TheVariants as action
 use Rattle.sh_tree.specs.declared.tree.ClauseEnd.TheVariants as clause
 use Rattle.sh_tree.specs.declared.tree.Link.TheVariants as link
@@ -244,6 +244,10 @@ opens_behind = start_world bare_start [] (list (simple 1 0 (assignment x (plain 
 abbrev pub opens_twice : Items
 opens_twice = list (command 1 0 (Subshell (list (says_one (codes ":") ∷ []))) (more_redirects (File 0 x_set) (more_redirects (File 0 (value_of x)) no_redirects)) ∷ [])
 
+-- and the other way round
+abbrev pub opens_twice_before : Items
+opens_twice_before = list (command 1 0 (Subshell (list (says_one (codes ":") ∷ []))) (more_redirects (File 0 (value_of x)) (more_redirects (File 0 x_set) no_redirects)) ∷ [])
+
 pub record RedirectsAsExpected : Type 0 where
   -- `>"${x=t}"`, `ls >"${x=t}"`, `f >"${x=t}"`, `( :; ) >"${x=t}"`: in the shell, or in a copy
   pub nameless_here : x_and_status quiet (opens [] x_set ∷ notes ∷ []) ≡ just (codes "t") ∷ just (codes "0") ∷ []
@@ -257,6 +261,11 @@ pub record RedirectsAsExpected : Type 0 where
   -- a redirection sees what those before it set, in the shell and in the process that it starts
   pub subshell_sees : map (λ a. meets_unset a bare_start opens_twice) (quiet ∷ copying ∷ []) ≡ false ∷ false ∷ []
   pub subshell_sees_own : comes_to has_unset_event 100 1 quiet (far 100 0 copying (start_world bare_start [] opens_twice)) ≡ false
+  pub subshell_sets : value x (far 100 0 quiet (start_world bare_start [] opens_twice)) ≡ just (codes "t")
+  pub subshell_sets_own : ((far 100 1 quiet (far 100 0 copying (start_world bare_start [] opens_twice))).environments 1).variables x ≡ just (codes "t")
+  -- `( :; ) >"$x" >"${x=t}"`: and not what those behind it set
+  pub subshell_meets : meets_unset quiet bare_start opens_twice_before ≡ true
+  pub subshell_meets_own : comes_to has_unset_event 100 1 quiet (far 100 0 copying (start_world bare_start [] opens_twice_before)) ≡ true
   -- `: >"${x=t}"` and `{ :; } >"${x=t}"`: in the shell
   pub special_not_copied : x_and_status copying (opens (plain (codes ":") ∷ []) x_set ∷ notes ∷ []) ≡ just (codes "t") ∷ just (codes "0") ∷ []
   pub group_not_copied : x_and_status copying (opened (Group (list (says_one (codes ":") ∷ []))) x_set ∷ notes ∷ []) ≡ just (codes "t") ∷ just (codes "0") ∷ []
@@ -443,7 +452,7 @@ pub record BuiltinsAsExpected : Type 0 where
       x_and_status (of_values 0 (just (codes "v") ∷ [])) (before x (plain (codes "1")) (map plain (codes "read" ∷ codes "-r" ∷ x ∷ [])) ∷ notes ∷ [])
       ≡ just (codes "v") ∷ just (codes "0") ∷ []
   pub read_other : seen quiet (x ∷ y ∷ []) (before x (plain (codes "1")) (map plain (codes "read" ∷ codes "-r" ∷ y ∷ [])) ∷ []) ≡ None ∷ just [] ∷ []
-  -- `read -d "" x`, `read -rd: x`, `read -- x`: x alone is a name; `read -t 1 x`: no option of the standard
+  -- `read -d y x`, `read -rd: x`, `read -- x`: x alone is a name; `read -t 1 x`: no option of the standard
   pub read_delimited : seen quiet (x ∷ y ∷ []) (utility (plain (codes "read") ∷ plain (codes "-d") ∷ plain y ∷ plain x ∷ []) ∷ []) ≡ just [] ∷ None ∷ []
   pub read_delimiter_behind : seen quiet (x ∷ y ∷ []) (says (codes "read" ∷ codes "-rd:" ∷ x ∷ []) ∷ []) ≡ just [] ∷ None ∷ []
   pub read_behind_dashes : seen quiet (x ∷ y ∷ []) (says (codes "read" ∷ codes "--" ∷ x ∷ []) ∷ []) ≡ just [] ∷ None ∷ []
@@ -497,6 +506,13 @@ two_patterns =
 abbrev pub parted : Bool → Command → Command → World
 parted share c d = far 2 0 (record quiet { shares = λ n. share }) (start_world bare_start a_and_b (both c d))
 
+-- a command in the background, before `s="$?"`; a pipeline, before that
+abbrev pub in_background : Command → Items
+in_background c = more_items (and_or (piece c) no_links) true (list (notes ∷ []))
+
+abbrev pub before_notes : Command → Command → Items
+before_notes c d = more_items (and_or (pipeline false (more_commands c (more_commands d no_commands))) no_links) false (list (notes ∷ []))
+
 -- `{ x=1; x=2; }`
 abbrev pub twice : Command
 twice = group (one x ∷ assign x (codes "2") ∷ [])
@@ -508,8 +524,10 @@ opening_function =
     compound (Define f (opened (Group (list (says_one (codes ":") ∷ []))) (only (Double (only (Expansion 0 (Variable x) (Use action.Assign false first)))))))
 
 pub record CallsAsExpected : Type 0 where
-  -- `return 3` in a function, and outside; `f() { return 3; x=1; }; f`, `f() { false; return; }; f`
+  -- `f() { return 3; x=1; }; f`; `f() { return; x=1; }; f` and `f() { return 256; }; f`, which have any status; `return 3` outside
   pub return_in_function : x_and_status quiet (function f (returns ∷ one x ∷ []) ∷ says_one f ∷ notes ∷ []) ≡ None ∷ just (codes "3") ∷ []
+  pub return_alone : x_and_status (with_status 7) (function f (says_one (codes "return") ∷ one x ∷ []) ∷ says_one f ∷ notes ∷ []) ≡ None ∷ just (codes "7") ∷ []
+  pub return_beyond : x_and_status (with_status 7) (function f (says (codes "return" ∷ codes "256" ∷ []) ∷ []) ∷ says_one f ∷ notes ∷ []) ≡ None ∷ just (codes "7") ∷ []
   pub return_outside : x_and_status quiet (returns ∷ notes ∷ []) ≡ None ∷ just (codes "3") ∷ []
   pub return_ends : x_and_status ending (returns ∷ notes ∷ []) ≡ None ∷ None ∷ []
   -- `f() { for x in a b; do return 3; done; }; f`: the loop is left
@@ -554,6 +572,19 @@ pub record CallsAsExpected : Type 0 where
   pub interleaved_meets : map (λ n. comes_to has_unset_event 100 2 quiet (far n 1 quiet (parted true twice (gives y (value_of x))))) (0 ∷ 9 ∷ 100 ∷ []) ≡ true ∷ false ∷ false ∷ []
   -- `{ x=1; x=2; } | y="$x"`, with copies: each has its own x
   pub copied_apart : x_y_z (behind (1 ∷ 2 ∷ 0 ∷ []) (parted false twice (gives y (value_of x)))) ≡ None ∷ None ∷ None ∷ []
+  pub copied_own : ((behind (1 ∷ []) (parted false twice (gives y (value_of x)))).environments 1).variables x ≡ just (codes "2")
+  pub copied_meets : comes_to has_unset_event 100 2 quiet (behind (1 ∷ []) (parted false twice (gives y (value_of x)))) ≡ true
+  -- `x=1 &`: the shell's x stays, and the status is zero
+  pub asynchronous_apart : value x (behind (0 ∷ 1 ∷ []) (start_world bare_start [] (in_background (one x)))) ≡ None
+  pub asynchronous_own : ((behind (0 ∷ 1 ∷ []) (start_world bare_start [] (in_background (one x)))).environments 1).variables x ≡ just (codes "1")
+  pub asynchronous_status : value (codes "s") (ends_by (with_status 7) bare_start [] (in_background false_command)) ≡ just (codes "0")
+  -- a subshell, a pipeline, an assignment, `break` and `continue` have any status; `f() { false; }; f` has that of its body
+  pub any_status :
+      map (λ t. value (codes "s") (ends_by (with_status 7) bare_start [] t))
+      (list (subshell (says_one (codes ":") ∷ []) ∷ notes ∷ []) ∷ before_notes true_command true_command ∷ list (one x ∷ notes ∷ [])
+      ∷ list (over x a_and_b (says_one (codes "break") ∷ []) ∷ notes ∷ []) ∷ list (over x a_and_b (says_one (codes "continue") ∷ []) ∷ notes ∷ [])
+      ∷ list (function f (false_command ∷ []) ∷ says_one f ∷ notes ∷ []) ∷ [])
+      ≡ replicate 6 (just (codes "7"))
 
 pub record StepsAsExpected : Type 0 where
   pub jumps : JumpsAsExpected
