@@ -5,9 +5,9 @@ use Rattle.std.proofs.lemmas.Option.{same_Some, none-some}
 use Rattle.std.proofs.lemmas.Slice.Eq.{bytes_eq-Decides}
 use Rattle.sh_tree.specs.program.Syntax.{Text}
 use Rattle.sh_flow.specs.Policy.{Declared}
-use Rattle.sh_table.specs.runs.Worlds.{start_names, is_one_of, IsStart}
+use Rattle.sh_table.specs.runs.Worlds.{start_names, IsStart}
 use Rattle.sh_flow.specs.Names.{number_of}
-use Rattle.sh_table.specs.runs.Environment.{Environment, Frame}
+use Rattle.sh_table.specs.runs.Environment.{Environment, Frame, is_one_of}
 use Rattle.sh_flow.specs.Facts.{Facts, NotReached, Known, Claim, Unreached, Claimed, facts, has_number, within, within_out, meet, with_vars, Satisfies, Out, both, enter}
 use Rattle.sh_flow.specs.Rules.{told, start_facts, is_set_at_start}
 

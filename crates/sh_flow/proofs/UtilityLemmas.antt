@@ -8,7 +8,7 @@ use Rattle.sh_table.specs.declared.kind.Kind.{Kind}
 use Rattle.sh_table.specs.declared.kind.Kind.TheVariants as kind
 use Rattle.sh_table.specs.Kinds as kinds
 use Rattle.sh_table.specs.Kinds.{Table, look_up, kind_of, refused}
-use Rattle.sh_table.specs.runs.Worlds.{is_one_of}
+use Rattle.sh_table.specs.runs.Environment.{is_one_of}
 use Rattle.sh_flow.specs.Profile.{special_names, changing_names, unspecified_names, is_utility}
 use Rattle.sh_flow.proofs.FactLemmas.{and_left, and_right}
 

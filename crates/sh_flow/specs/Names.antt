@@ -12,7 +12,8 @@ use Rattle.sh_tree.specs.declared.refusal.Refusal.TheVariants.{TooMany, Memory}
 use Rattle.sh_tree.specs.Tree.{text_of}
 use Rattle.sh_tree.specs.Words.{lone_commands, elements_of, Form, Assigns, Operand, Redirects, form_of, expansions, Expansion, subject_text}
 use Rattle.sh_tree.specs.program.Syntax.{Text}
-use Rattle.sh_table.specs.runs.Worlds.{start_names, is_one_of}
+use Rattle.sh_table.specs.runs.Environment.{is_one_of}
+use Rattle.sh_table.specs.runs.Worlds.{start_names}
 use Rattle.sh_flow.specs.Policy.{Declared}
 
 -- numbered first, whether a script has them or not

@@ -16,7 +16,7 @@ use Rattle.sh_tree.specs.declared.tree.Word.{Word}
 use Rattle.sh_tree.specs.Words.{lone_command, lone_commands, elements_of, words_of, Form, Assigns, Operand, Redirects, form_of, static_text}
 use Rattle.sh_tree.specs.program.Syntax.{Text}
 use Rattle.sh_tree.specs.program.Lists.{parts_from}
-use Rattle.sh_table.specs.runs.Worlds.{is_one_of}
+use Rattle.sh_table.specs.runs.Environment.{is_one_of}
 use Rattle.sh_table.specs.Counts.{some_gives_field}
 
 -- the special built-in utilities (XCU 2.15)

@@ -10,7 +10,8 @@ use Rattle.sh_tree.specs.declared.tree.Word.{Word}
 use Rattle.sh_tree.specs.Words.{lone_command, elements_of, words_of, assignments_of}
 use Rattle.sh_tree.specs.program.Syntax.{Text}
 use Rattle.sh_flow.specs.Policy.{Declared}
-use Rattle.sh_table.specs.runs.Worlds.{start_names, is_one_of}
+use Rattle.sh_table.specs.runs.Environment.{is_one_of}
+use Rattle.sh_table.specs.runs.Worlds.{start_names}
 use Rattle.sh_flow.specs.Names.{number_of}
 use Rattle.sh_flow.specs.Facts.{Facts, Known, Out, Claims, facts, within, within_out, both, enter, out_at, with_vars}
 use Rattle.sh_flow.specs.declared.rule.FlowRule.{FlowRule}

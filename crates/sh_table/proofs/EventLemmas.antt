@@ -12,8 +12,8 @@ use Rattle.sh_tree.specs.program.Syntax.{Text}
 use Rattle.sh_tree.specs.program.Trees.{parameter_of, part_of, script_of}
 use Rattle.sh_table.specs.Events.{EventsExist}
 use Rattle.sh_table.specs.Examples.{bare_start, start_with, quiet, by, steps, shared}
-use Rattle.sh_table.specs.runs.Environment.{Environment}
-use Rattle.sh_table.specs.runs.Worlds.{World, Move, run, start_world, start_names, is_one_of, IsStart}
+use Rattle.sh_table.specs.runs.Environment.{Environment, is_one_of}
+use Rattle.sh_table.specs.runs.Worlds.{World, Move, run, start_world, start_names, IsStart}
 use Rattle.sh_table.proofs.ExampleLemmas.{computes}
 
 -- the start

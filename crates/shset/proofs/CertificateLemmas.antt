@@ -14,7 +14,8 @@ use Rattle.sh_tree.specs.declared.tree.Part.{items-the_row-Part}
 use Rattle.sh_tree.specs.declared.tree.Word.{Word}
 use Rattle.sh_tree.specs.Words.{lone_command, lone_commands, elements_of, form_of, words_of, assignments_of, Expansion, expansions, subject_text}
 use Rattle.sh_tree.specs.program.Syntax.{Text}
-use Rattle.sh_table.specs.runs.Worlds.{start_names, is_one_of}
+use Rattle.sh_table.specs.runs.Environment.{is_one_of}
+use Rattle.sh_table.specs.runs.Worlds.{start_names}
 use Rattle.sh_flow.specs.Policy.{Declared}
 use Rattle.sh_flow.specs.Names.{number_of, subjects, form_names, names_in, script_names}
 use Rattle.sh_flow.specs.Facts.{Facts, Known, Claim, Claimed, has_number, facts, within, meet, with_vars, Out, both, enter, out_at, Claims}

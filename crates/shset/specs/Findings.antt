@@ -16,7 +16,8 @@ use Rattle.sh_tree.specs.declared.refusal.Refusal.TheVariants.{Memory, Profile}
 use Rattle.sh_tree.specs.declared.refusal.Rule.TheVariants.{Later}
 use Rattle.sh_tree.specs.Words.{lone_command, lone_commands, elements_of, Form, Assigns, Operand, Redirects, form_of, words_of, assignments_of, expansions, Expansion, subject_text}
 use Rattle.sh_tree.specs.program.Syntax.{Text}
-use Rattle.sh_table.specs.runs.Worlds.{start_names, is_one_of}
+use Rattle.sh_table.specs.runs.Environment.{is_one_of}
+use Rattle.sh_table.specs.runs.Worlds.{start_names}
 use Rattle.sh_flow.specs.Policy.{Declared}
 use Rattle.sh_flow.specs.Profile.{is_item_admitted}
 use Rattle.sh_flow.specs.Demands.{wanted}

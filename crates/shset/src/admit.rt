@@ -4,7 +4,7 @@ ghost use Rattle.std.specs.List.{list_any};
 ghost use Rattle.std.specs.Option.{option_copied};
 ghost use Rattle.std.specs.Str.{bytes_eq};
 ghost use Rattle.sh_tree.specs.Words.{word_of, words_of, lone_command};
-ghost use Rattle.sh_table.specs.runs.Worlds as worlds;
+ghost use Rattle.sh_table.specs.runs.Environment as environment;
 ghost use Rattle.sh_flow.specs.Profile as profile;
 ghost use Rattle.shset.specs.Findings.{Admits, first_refused, item_start};
 
@@ -68,19 +68,19 @@ fn is_one_of(texts: &[&[u8]], name: &[u8]) -> bool
 }
 
 fn is_special(name: &[u8]) -> bool
-    ensures { result ≡ worlds.is_one_of profile.special_names name.now }
+    ensures { result ≡ environment.is_one_of profile.special_names name.now }
 {
     is_one_of(&SPECIAL_NAMES, name)
 }
 
 fn is_changing(name: &[u8]) -> bool
-    ensures { result ≡ worlds.is_one_of profile.changing_names name.now }
+    ensures { result ≡ environment.is_one_of profile.changing_names name.now }
 {
     is_one_of(&CHANGING_NAMES, name)
 }
 
 fn is_unspecified(name: &[u8]) -> bool
-    ensures { result ≡ worlds.is_one_of profile.unspecified_names name.now }
+    ensures { result ≡ environment.is_one_of profile.unspecified_names name.now }
 {
     is_one_of(&UNSPECIFIED_NAMES, name)
 }

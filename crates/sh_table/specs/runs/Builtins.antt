@@ -1,12 +1,10 @@
 -- What built-in utilities do.
 -- POSIX.1-2024, XCU 2.8.1 (consequences of shell errors), 2.15 (special built-in utilities), 3 (cd, getopts, read).
 use Rattle.std.specs.Prelude.{ℕ, zero, suc, ◌+◌, ◌==◌, nat_le, Bool, true, false, not, ◌||◌, if◌then◌else◌, List, [], ◌∷◌, length, drop, codes, Option, Some, None, is_some, unwrap_or}
-use Rattle.std.specs.List.{list_any}
-use Rattle.std.specs.Str.{bytes_eq}
 use Rattle.sh_tree.specs.program.Syntax.{Text}
 use Rattle.sh_table.specs.declared.kind.Kind.{Kind}
 use Rattle.sh_table.specs.declared.kind.Kind.TheVariants as kind
-use Rattle.sh_table.specs.runs.Environment.{Environment, Frame, with_variable, with_function}
+use Rattle.sh_table.specs.runs.Environment.{Environment, Frame, is_one_of, with_variable, with_function, showing}
 use Rattle.sh_table.specs.runs.Answers.{Answer}
 use Rattle.sh_table.specs.runs.Operands.{definitions_in, Removal, OfVariables, OfFunctions, OfEither, OfBoth, unset_operands, set_words, count_operand, status_operand, has_command, read_names, getopts_name}
 use Rattle.sh_table.specs.runs.Work.{Work, Saved, Effect, Pops, goes, ends, loop_mark, broken_off, continued, return_mark}
@@ -15,11 +13,6 @@ use Rattle.sh_table.specs.runs.Work.{Work, Saved, Effect, Pops, goes, ends, loop
 unfoldable pub nonzero : ℕ → ℕ
 nonzero zero = 1
 nonzero (suc n) = suc n
-
--- `export`, `readonly`: each operand that is a name, `=` and bytes sets the name
-unfoldable pub exported : Environment → List (Text × Text) → Environment
-exported e [] = e
-exported e (x ∷ xs) = exported (with_variable e x.0 (Some x.1)) xs
 
 -- Unset
 
@@ -72,12 +65,14 @@ special e f status ws a kind.Break ts = goes e f a.status (broken_off (loop_mark
 special e f status ws a kind.Continue ts = goes e f a.status (continued (loop_mark (unwrap_or (count_operand ts) 1) ws) ws)
 special e f status ws a kind.Exec ts = goes e f (if has_command ts then nonzero a.status else a.status) ws
 special e f status ws a kind.Exit ts = ends e f
-special e f status ws a kind.Export ts = goes (exported e (definitions_in ts)) f a.status ws
-special e f status ws a kind.Readonly ts = goes (exported e (definitions_in ts)) f a.status ws
+special e f status ws a kind.Export ts = goes (showing e (definitions_in ts)) f a.status ws
+special e f status ws a kind.Readonly ts = goes (showing e (definitions_in ts)) f a.status ws
 special e f status ws a kind.Return ts = returned e f (unwrap_or (status_operand ts) a.status) ws a (return_mark ws)
 special e f status ws a kind.Set ts = goes e (set_frame f a (set_words ts)) a.status ws
 special e f status ws a kind.Shift ts = shifted e f ws a (count_operand ts)
 special e f status ws a kind.Unset ts = goes (unset_names e a (unset_operands ts)) f a.status ws
+special e f status ws a kind.Times ts = goes e f a.status ws
+special e f status ws a kind.Trap ts = goes e f a.status ws
 special e f status ws a _ ts = goes e f a.status ws
 
 -- an error in it may end the process
@@ -85,10 +80,6 @@ unfoldable pub special_or_end : Environment → Frame → ℕ → List Work → 
 special_or_end e f status ws a k ts = if a.ends then ends e f else special e f status ws a k ts
 
 -- Other built-in utilities
-
--- the name stands among those of the prefix assignments
-unfoldable pub is_prefix : List Text → Text → Bool
-is_prefix prefixes name = list_any (λ t. bytes_eq t name) prefixes
 
 -- a name that gets a value: it may stay as it is where that is allowed
 unfoldable pub given_to : Bool → Environment → Text → Option Text → Environment
@@ -100,7 +91,7 @@ given_to false e name None = with_variable e name (Some [])
 unfoldable pub read_into : List Text → Answer → ℕ → Environment → List Text → Environment
 read_into prefixes a n e [] = e
 read_into prefixes a n e (name ∷ names) =
-    read_into prefixes a (n + 1) (given_to (not (a.status == 0) || is_prefix prefixes name) e name (a.values n)) names
+    read_into prefixes a (n + 1) (given_to (not (a.status == 0) || is_one_of prefixes name) e name (a.values n)) names
 
 -- an option that the standard does not have: nothing changes, and the status is not zero
 unfoldable pub reads : List Text → Environment → Frame → List Work → Answer → Option (List Text) → Effect

@@ -1,6 +1,7 @@
 -- What a shell keeps for the commands that it runs.
 -- POSIX.1-2024, XCU 2.5 (parameters and variables), 2.9.5 (functions), 2.13 (shell execution environment).
 use Rattle.std.specs.Prelude.{Bool, ◌&&◌, List, [], ◌∷◌, codes, Option, Some, if◌then◌else◌, unwrap_or}
+use Rattle.std.specs.List.{list_any}
 use Rattle.std.specs.Str.{bytes_eq}
 use Rattle.sh_tree.specs.program.Syntax.{Text, Command}
 
@@ -13,6 +14,10 @@ pub record Environment : Type 0 where
 -- the positional parameters
 abbrev pub Frame : Type 0
 Frame = List Text
+
+-- the text is one of these
+abbrev pub is_one_of : List Text → Text → Bool
+is_one_of names t = list_any (λ n. bytes_eq n t) names
 
 -- the map with the value of one name changed
 unfoldable pub put_text : {A : Type 0} → (Text → A) → Text → A → Text → A

@@ -251,7 +251,8 @@ module _ (e : Environment) (f : Frame) (status : ℕ) (ws : List Work) (a : Answ
   failed_before d = if a.ends then ends d f else goes d f (nonzero a.status) ws
 
   unfoldable pub redirected_before : State → List Work → Effect
-  redirected_before s next = unless_ended s (if a.fails then failed_before s.environment else goes s.environment f (status_behind s status a) next)
+  redirected_before s next =
+      after_expansion s false (unless_ended s (if a.fails then failed_before s.environment else goes s.environment f (status_behind s status a) next))
 
   -- `for` over these fields; without one its status is zero
   unfoldable pub turns : Text → List Text → p.Items → Effect
@@ -286,9 +287,8 @@ module _ (e : Environment) (f : Frame) (status : ℕ) (ws : List Work) (a : Answ
   unfoldable pub compound : p.Redirects → p.Kind → Effect
   compound p.no_redirects kind = begun kind
   compound (p.more_redirects r rest) kind =
-      let s = (expanded in_one (opened r)).state in
       if is_started_first kind then record (goes e f a.status ws) { starts = Copies e (Compound (p.more_redirects r rest) (in_process kind) ∷ []) ∷ [] }
-      else after_expansion s false (redirected_before s (Compound rest kind ∷ ws))
+      else redirected_before (expanded in_one (opened r)).state (Compound rest kind ∷ ws)
 
   -- without a branch and without `else` the status of `if` is zero
   unfoldable pub branch : p.Branches → p.Otherwise → Effect

@@ -1,11 +1,9 @@
 -- Processes, what they share, and runs.
 -- POSIX.1-2024, XCU 2.9.2 (pipelines), 2.9.3.1 (asynchronous lists), 2.13 (shell execution environment).
 use Rattle.std.specs.Prelude.{◌≡◌, ℕ, zero, suc, ◌≤◌, Bool, true, false, ◌||◌, ◌==◌, if◌then◌else◌, List, [], ◌∷◌, length, codes, Option, Some, None, is_some, unwrap_or, option_map, option_and_then}
-use Rattle.std.specs.List.{list_any}
-use Rattle.std.specs.Str.{bytes_eq}
 use Rattle.sh_tree.specs.program.Syntax.{Text}
 use Rattle.sh_tree.specs.program.Syntax as p
-use Rattle.sh_table.specs.runs.Environment.{Environment, Frame, blanks}
+use Rattle.sh_table.specs.runs.Environment.{Environment, Frame, is_one_of, blanks}
 use Rattle.sh_table.specs.runs.Answers.{Answer}
 use Rattle.sh_table.specs.runs.Work.{Work, Items, Start, Shares, Copies, Frames, Keeps, Pushes, Pops, Effect}
 use Rattle.sh_table.specs.runs.Steps.{act}
@@ -57,15 +55,16 @@ waits w p = any_below w.next_process (λ q. is_part_of p (w.processes q))
 
 -- What a step makes of the world
 
-unfoldable pub outermost : List ℕ → List ℕ
-outermost [] = []
-outermost (n ∷ ns) = ns
+-- without the innermost frame
+unfoldable pub outer : List ℕ → List ℕ
+outer [] = []
+outer (n ∷ ns) = ns
 
 -- the frames of the process afterwards
 unfoldable pub frames_after : World → List ℕ → Frames → List ℕ
 frames_after w ns (Keeps f) = ns
 frames_after w ns (Pushes f) = w.next_frame ∷ ns
-frames_after w ns Pops = outermost ns
+frames_after w ns Pops = outer ns
 
 -- the innermost frame gets other parameters, or a new one comes
 unfoldable pub with_frames : World → List ℕ → Frames → World
@@ -167,10 +166,6 @@ start_world e f t =
 -- set at the start of every run
 abbrev pub start_names : List Text
 start_names = codes "IFS" ∷ codes "OPTIND" ∷ codes "PPID" ∷ []
-
--- the text is one of these
-abbrev pub is_one_of : List Text → Text → Bool
-is_one_of names t = list_any (λ n. bytes_eq n t) names
 
 -- What is allowed at the start: the declared names and those of every start are set, IFS to space, tab and newline; no function is
 -- defined; there are at least so many positional parameters.

@@ -1,5 +1,6 @@
 use Rattle.std.proofs.Common.{◌≡◌, false, sym, ◌∙◌}
-use Rattle.sh_table.specs.runs.Worlds.{start_names, is_one_of}
+use Rattle.sh_table.specs.runs.Environment.{is_one_of}
+use Rattle.sh_table.specs.runs.Worlds.{start_names}
 use Rattle.sh_flow.specs.Rules.{is_set_at_start}
 use Rattle.sh_flow.proofs.ClaimLemmas.{is_declared_of}
 use Rattle.sh_flow.proofs.flow.rules.Checker.is_set_at_start.Goals as goal
