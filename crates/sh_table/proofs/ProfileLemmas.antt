@@ -5,14 +5,15 @@ use Rattle.sh_tree.specs.language.Bytes.{is_first, name_length, decimal}
 use Rattle.sh_table.specs.Kinds.{look_up, kind_of}
 use Rattle.sh_table.specs.Locations.{in_part, in_item, items_located}
 use Rattle.sh_table.specs.Profile.{is_no_action, traps_nothing, may_run, runs_utility, commands_utility, has_inner_o, sets_known, is_count, is_reserved_elsewhere, unless, or_rule, kind_rule, named_rule, words_rule, told_name, function_rule, command_rule, refused_at, least_refused, first_refused}
-use Rattle.sh_table.specs.ProfileExamples.{words_from, word, operands, list, NamesAsExpected, OperandsAsExpected, PlacesAsExpected, ProfileAsExpected}
+use Rattle.sh_table.specs.Examples.{elements_of, list}
+use Rattle.sh_table.specs.ProfileExamples.{words_from, word, NamesAsExpected, RulesAsExpected, PlacesAsExpected, ProfileAsExpected}
 use Rattle.sh_table.specs.runs.Numbers.{is_number, number_in}
 use Rattle.sh_table.specs.runs.Operands.{is_dashed, is_set_option, ends_in_o}
 use Rattle.sh_table.specs.runs.Steps.{operands_in}
 
 -- what the profile of a known program computes
 unfoldable pub computes : Unit {0}
-unfolding quoted_text part_text word_text part_has word_has is_plainly is_pattern static_of words_in is_first name_length decimal look_up kind_of in_part in_item items_located is_no_action traps_nothing may_run runs_utility commands_utility has_inner_o sets_known is_count is_reserved_elsewhere unless or_rule kind_rule named_rule words_rule told_name function_rule command_rule refused_at least_refused first_refused words_from word operands list is_number number_in is_dashed is_set_option ends_in_o operands_in
+unfolding quoted_text part_text word_text part_has word_has is_plainly is_pattern static_of words_in is_first name_length decimal look_up kind_of in_part in_item items_located is_no_action traps_nothing may_run runs_utility commands_utility has_inner_o sets_known is_count is_reserved_elsewhere unless or_rule kind_rule named_rule words_rule told_name function_rule command_rule refused_at least_refused first_refused elements_of list words_from word is_number number_in is_dashed is_set_option ends_in_o operands_in
 computes = tt
 
 pub names_as_expected : NamesAsExpected
@@ -24,9 +25,9 @@ names_as_expected = record {
   utilities = refl;
 }
 
-pub operands_as_expected : OperandsAsExpected
+pub rules_as_expected : RulesAsExpected
 unfolding computes
-operands_as_expected = record {
+rules_as_expected = record {
   computed_name = refl;
   refused_name = refl;
   append = refl;
@@ -67,6 +68,6 @@ places_as_expected = record {
 pub profile_as_expected : ProfileAsExpected
 profile_as_expected = record {
   names = names_as_expected;
-  operands = operands_as_expected;
+  rules = rules_as_expected;
   places = places_as_expected;
 }

@@ -13,7 +13,7 @@ use Rattle.sh_tree.specs.declared.tree.Special as tree
 use Rattle.sh_tree.specs.declared.tree.Special.TheVariants as special
 use Rattle.sh_tree.specs.language.Bytes.{is_digit, is_in}
 use Rattle.sh_tree.specs.program.Syntax.{Text, Parameter, Variable, Positional, Special, Part, Plain, Escaped, Single, Double, Expansion, Arithmetic, Substitution, Tilde, Joined, Word, no_parts, more_parts, Operator, Value, Length, Use, Remove, Expression, Constant, Name, Expanded, Parenthesis, Signed, Chain, Choice, Assigned, Operands, no_operands, more_operands}
-use Rattle.sh_table.specs.Quoting.{is_counter, gives_number, is_quotation, are_quotations, is_quoted_alternative, is_whole, are_whole, part_begins_pattern, word_begins_pattern, part_mentions, word_mentions, operator_mentions, expression_mentions, operands_mention, is_ifs, is_about_separators, is_steady}
+use Rattle.sh_table.specs.Quoting.{is_numeric, gives_number, is_quotation, are_quotations, is_quoted_alternative, is_whole, are_whole, part_begins_pattern, word_begins_pattern, part_mentions, word_mentions, operator_mentions, expression_mentions, operands_mention, is_ifs, is_about_separators, is_steady}
 use Rattle.sh_table.specs.Theorem.{DifferInIfs, FieldsStandSteady}
 use Rattle.sh_table.specs.runs.Answers.{Given, Marked, Directory}
 use Rattle.sh_table.specs.runs.Arithmetic.{Computed, computes, answered, operated, then_computed, read_name, named, skips, read_before, stored, evaluate, evaluate_rest}
@@ -494,9 +494,9 @@ module _ (f : Frame) (status : ℕ) where
       let q = and_parts (is_quotation x) (are_quotations w) h in
       followed_firm (expand_part f status c x s) _ (quotation_firm c x s q.0) (λ t. quotations_firm c w t q.1)
 
-  counter_firm : (x : tree.Special) (e : Environment) (g : Given) (s : State) → is_counter x ≡ true
+  counter_firm : (x : tree.Special) (e : Environment) (g : Given) (s : State) → is_numeric x ≡ true
       → Firm (value_pieces f status in_fields (Special x) (special_value f status x e g) s).pieces
-  unfolding is_counter special_value value_pieces needed value_origin is_firm
+  unfolding is_numeric special_value value_pieces needed value_origin is_firm
   counter_firm special.NumberSign e g s h = and_from _ true (last_digits_firm (length f) (length f)) refl
   counter_firm special.QuestionMark e g s h = and_from _ true (last_digits_firm status status) refl
   counter_firm special.Dollar e g s h = and_from _ true (last_digits_firm g.number g.number) refl
@@ -525,7 +525,7 @@ module _ (f : Frame) (status : ℕ) where
   expansion_firm : (p : Parameter) (operator : Operator) (e : Environment) (g : Given) (s : State)
       → (gives_number p operator || is_quoted_alternative operator) ≡ true → Firm (expand_operator f status in_fields p operator g (value_of f status p e g) s).pieces
   unfolding expand_operator gives_number is_quoted_alternative value_of value_origin is_firm
-  expansion_firm (Special x) Value e g s h = counter_firm x e g s (sym (or-false (is_counter x)) ∙ h)
+  expansion_firm (Special x) Value e g s h = counter_firm x e g s (sym (or-false (is_numeric x)) ∙ h)
   expansion_firm (Variable name) Value e g s h = absurd (false≢true h)
   expansion_firm (Positional n) Value e g s h = absurd (false≢true h)
   expansion_firm p Length e g s h = length_firm p g (value_of f status p e g) s

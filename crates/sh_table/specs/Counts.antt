@@ -3,7 +3,7 @@
 use Rattle.std.specs.Prelude.{ℕ, ◌==◌, Bool, true, false, not, ◌||◌, if◌then◌else◌, length}
 use Rattle.sh_tree.specs.declared.tree.Action.TheVariants as action
 use Rattle.sh_tree.specs.declared.tree.Special.TheVariants as special
-use Rattle.sh_tree.specs.program.Syntax.{Parameter, Special, Part, Plain, Double, Expansion, Joined, Word, no_parts, more_parts, Operator, Value, Use, Remove}
+use Rattle.sh_tree.specs.program.Syntax.{Parameter, Special, Part, Plain, Double, Expansion, Arithmetic, Joined, Word, no_parts, more_parts, Operator, Value, Use, Remove, Expression, Constant, Name, Expanded, Parenthesis, Signed, Chain, Choice, Assigned, Operands, no_operands, more_operands}
 use Rattle.sh_table.specs.runs.Environment.{Frame}
 
 -- `$@`, or `$*` outside quotes
@@ -12,11 +12,12 @@ is_all quoted (Special special.At) = true
 is_all quoted (Special special.Asterisk) = not quoted
 is_all quoted p = false
 
--- such a parameter in a word, or in a word of a braced expansion in it; patterns are read as outside quotes
+-- such a parameter in a word, or in a word of a braced expansion or of arithmetic in it; patterns are read as outside quotes
 unfoldable mutual
   pub part_has_all : Bool → Part → Bool
   part_has_all quoted (Double w) = word_has_all true w
   part_has_all quoted (Expansion at p operator) = is_all quoted p || operator_has_all quoted operator
+  part_has_all quoted (Arithmetic at e) = expression_has_all e
   part_has_all quoted _ = false
 
   pub word_has_all : Bool → Word → Bool
@@ -27,6 +28,21 @@ unfoldable mutual
   operator_has_all quoted (Use action colon w) = word_has_all quoted w
   operator_has_all quoted (Remove removal w) = word_has_all false w
   operator_has_all quoted _ = false
+
+  -- the expansions of arithmetic are quoted
+  pub expression_has_all : Expression → Bool
+  expression_has_all (Constant t) = false
+  expression_has_all (Name at name) = false
+  expression_has_all (Expanded x) = part_has_all true x
+  expression_has_all (Parenthesis e) = expression_has_all e
+  expression_has_all (Signed operator e) = expression_has_all e
+  expression_has_all (Chain e rest) = expression_has_all e || operands_have_all rest
+  expression_has_all (Choice e then_one else_one) = expression_has_all e || expression_has_all then_one || expression_has_all else_one
+  expression_has_all (Assigned at name operator e) = expression_has_all e
+
+  pub operands_have_all : Operands → Bool
+  operands_have_all no_operands = false
+  operands_have_all (more_operands operator e rest) = expression_has_all e || operands_have_all rest
 
 -- whether a part gives a field of its own: an expansion with a default or an alternative may give none
 unfoldable pub gives_field : Part → Bool

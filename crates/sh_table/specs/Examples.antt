@@ -333,11 +333,11 @@ subshell_moves = steps 0 4 ++ steps 1 5
 
 -- `name >f`; its redirection fails
 abbrev pub redirected : Text → Items
-redirected name = lone (simple 1 0 (operand (plain name) (redirection (File 0 (plain (codes "f"))) no_elements)))
+redirected name = lone (simple 1 0 (operand (plain name) (redirection (File (plain (codes "f"))) no_elements)))
 
 -- `>${x=w}`
 abbrev pub opened : Items
-opened = lone (simple 1 0 (redirection (File 0 (x_used action.Assign false)) no_elements))
+opened = lone (simple 1 0 (redirection (File (x_used action.Assign false)) no_elements))
 
 abbrev pub redirect_fails : List Move
 redirect_fails = steps 0 5 ++ by 0 (record quiet { fails = true }) ∷ []

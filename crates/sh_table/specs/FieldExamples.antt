@@ -9,12 +9,12 @@ use Rattle.sh_tree.specs.declared.tree.Special as tree
 use Rattle.sh_tree.specs.declared.tree.Special.TheVariants as special
 use Rattle.sh_tree.specs.program.Syntax.{Text, Variable, Positional, Special, Plain, Escaped, Double, Expansion, Arithmetic, Tilde, Part, Word, no_parts, more_parts, Value, Length, Use, Remove, Expression, Name, Constant, Expanded, Parenthesis, Chain, Choice, Assigned, no_operands, more_operands}
 use Rattle.sh_tree.specs.program.Examples.{only, plain, expansion}
-use Rattle.sh_table.specs.runs.Environment.{Environment, Frame, with_variable, separators}
+use Rattle.sh_table.specs.runs.Environment.{Environment, Frame, with_variable}
 use Rattle.sh_table.specs.runs.Numbers.{digits, integer_text, is_integer}
 use Rattle.sh_table.specs.runs.Answers.{Given, Directory}
 use Rattle.sh_table.specs.runs.States.{State, fresh}
 use Rattle.sh_table.specs.runs.Expansion.{Outcome, in_fields, expand}
-use Rattle.sh_table.specs.runs.Fields.{fields}
+use Rattle.sh_table.specs.Theorem.{fields_of}
 use Rattle.sh_table.specs.Examples.{bare_x, quoted_x, every, bare_start, start_with, quiet_given}
 
 -- Words
@@ -30,8 +30,8 @@ abbrev pub quoted : Part → Word
 quoted x = only (Double (only x))
 
 -- a special parameter
-abbrev pub bare : tree.Special → Part
-bare c = Expansion 0 (Special c) Value
+abbrev pub special_parameter : tree.Special → Part
+special_parameter c = Expansion 0 (Special c) Value
 
 -- `${x-w}` and the like, without a colon and with one
 abbrev pub used : Action → Word → Word
@@ -45,7 +45,7 @@ w_word = plain (codes "w")
 
 -- `a"$@"b`
 abbrev pub between : Word
-between = more_parts (Plain (codes "a")) (more_parts (Double (only (bare special.At))) (plain (codes "b")))
+between = more_parts (Plain (codes "a")) (more_parts (Double (only (special_parameter special.At))) (plain (codes "b")))
 
 -- `$((..))`, and what stands in it
 abbrev pub computed : Expression → Word
@@ -104,9 +104,6 @@ integers k n = record quiet_given { integer = k }
 
 abbrev pub expanded_by : (ℕ → Given) → Environment → Frame → Word → Outcome
 expanded_by given e f w = expand f 0 in_fields w (fresh e given)
-
-abbrev pub fields_of : Directory → Outcome → List Text
-fields_of directory o = fields (separators o.state.environment) directory o.pieces
 
 -- a directory without names, and one with two, for each pattern
 abbrev pub empty_directory : Directory
@@ -180,21 +177,21 @@ pub record SplittingAsExpected : Type 0 where
 
 pub record ParametersAsExpected : Type 0 where
   -- `$*`, with none, one and three parameters; under an empty IFS
-  pub star_none : fields_of_word bare_start [] (only (bare special.Asterisk)) ≡ []
-  pub star_one : fields_of_word bare_start (codes "a b" ∷ []) (only (bare special.Asterisk)) ≡ codes "a" ∷ codes "b" ∷ []
-  pub star_three : fields_of_word bare_start three (only (bare special.Asterisk)) ≡ four
-  pub star_unsplit : fields_of_word (with_ifs [] bare_start) three (only (bare special.Asterisk)) ≡ three
+  pub star_none : fields_of_word bare_start [] (only (special_parameter special.Asterisk)) ≡ []
+  pub star_one : fields_of_word bare_start (codes "a b" ∷ []) (only (special_parameter special.Asterisk)) ≡ codes "a" ∷ codes "b" ∷ []
+  pub star_three : fields_of_word bare_start three (only (special_parameter special.Asterisk)) ≡ four
+  pub star_unsplit : fields_of_word (with_ifs [] bare_start) three (only (special_parameter special.Asterisk)) ≡ three
   -- `"$*"`: joined by the first byte of IFS, by nothing where that is empty, and by a blank where it is not set
-  pub quoted_star_none : fields_of_word bare_start [] (quoted (bare special.Asterisk)) ≡ [] ∷ []
-  pub quoted_star_one : fields_of_word bare_start (codes "a b" ∷ []) (quoted (bare special.Asterisk)) ≡ codes "a b" ∷ []
-  pub quoted_star_three : fields_of_word bare_start three (quoted (bare special.Asterisk)) ≡ codes "a b c d" ∷ []
-  pub quoted_star_ifs : fields_of_word (with_ifs (codes ":-") bare_start) three (quoted (bare special.Asterisk)) ≡ codes "a:b c:d" ∷ []
-  pub quoted_star_empty_ifs : fields_of_word (with_ifs [] bare_start) three (quoted (bare special.Asterisk)) ≡ codes "ab cd" ∷ []
-  pub quoted_star_without_ifs : fields_of_word (without_ifs bare_start) three (quoted (bare special.Asterisk)) ≡ codes "a b c d" ∷ []
+  pub quoted_star_none : fields_of_word bare_start [] (quoted (special_parameter special.Asterisk)) ≡ [] ∷ []
+  pub quoted_star_one : fields_of_word bare_start (codes "a b" ∷ []) (quoted (special_parameter special.Asterisk)) ≡ codes "a b" ∷ []
+  pub quoted_star_three : fields_of_word bare_start three (quoted (special_parameter special.Asterisk)) ≡ codes "a b c d" ∷ []
+  pub quoted_star_ifs : fields_of_word (with_ifs (codes ":-") bare_start) three (quoted (special_parameter special.Asterisk)) ≡ codes "a:b c:d" ∷ []
+  pub quoted_star_empty_ifs : fields_of_word (with_ifs [] bare_start) three (quoted (special_parameter special.Asterisk)) ≡ codes "ab cd" ∷ []
+  pub quoted_star_without_ifs : fields_of_word (without_ifs bare_start) three (quoted (special_parameter special.Asterisk)) ≡ codes "a b c d" ∷ []
   -- `$@`
-  pub at_none : fields_of_word bare_start [] (only (bare special.At)) ≡ []
-  pub at_one : fields_of_word bare_start (codes "a b" ∷ []) (only (bare special.At)) ≡ codes "a" ∷ codes "b" ∷ []
-  pub at_three : fields_of_word bare_start three (only (bare special.At)) ≡ four
+  pub at_none : fields_of_word bare_start [] (only (special_parameter special.At)) ≡ []
+  pub at_one : fields_of_word bare_start (codes "a b" ∷ []) (only (special_parameter special.At)) ≡ codes "a" ∷ codes "b" ∷ []
+  pub at_three : fields_of_word bare_start three (only (special_parameter special.At)) ≡ four
   -- `"$@"`, with empty parameters too; `a"$@"b`; `"$@"""`; `${1+"$@"}`
   pub every_none : fields_of_word bare_start [] every ≡ []
   pub every_one : fields_of_word bare_start (codes "a b" ∷ []) every ≡ codes "a b" ∷ []
@@ -204,18 +201,18 @@ pub record ParametersAsExpected : Type 0 where
   pub between_none : fields_of_word bare_start [] between ≡ codes "ab" ∷ []
   pub between_one : fields_of_word bare_start (codes "c d" ∷ []) between ≡ codes "ac db" ∷ []
   pub between_three : fields_of_word bare_start three between ≡ codes "aa" ∷ codes "b c" ∷ codes "db" ∷ []
-  pub every_and_quotes : fields_of_word bare_start [] (more_parts (Double (only (bare special.At))) (only (Double no_parts))) ≡ [] ∷ []
+  pub every_and_quotes : fields_of_word bare_start [] (more_parts (Double (only (special_parameter special.At))) (only (Double no_parts))) ≡ [] ∷ []
   pub first_and_every : map (λ f. fields_of_word bare_start f (only (Expansion 0 (Positional 1) (Use action.Alternative false every)))) ([] ∷ three ∷ []) ≡ [] ∷ three ∷ []
   -- `$#`, `${#x}`, `$?`, `$$`, `$!`, `$2`
-  pub number_of_parameters : fields_of_word bare_start three (only (bare special.NumberSign)) ≡ codes "3" ∷ []
+  pub number_of_parameters : fields_of_word bare_start three (only (special_parameter special.NumberSign)) ≡ codes "3" ∷ []
   pub length_of_x : fields_of_word (start_with (codes "hello world")) [] (only (expansion 0 Length)) ≡ codes "11" ∷ []
   pub length_of_unset : is_unset bare_start (only (expansion 0 Length)) ≡ true
-  pub last_status : fields_of empty_directory (expand [] 127 in_fields (only (bare special.QuestionMark)) (fresh bare_start quiet_givens)) ≡ codes "127" ∷ []
-  pub process : fields_by (λ n. record quiet_given { number = 4321 }) bare_start [] (only (bare special.Dollar)) ≡ codes "4321" ∷ []
-  pub job : fields_by (λ n. record quiet_given { number = 77 }) (record bare_start { job = true }) [] (only (bare special.Exclamation)) ≡ codes "77" ∷ []
-  pub job_is_set : is_unset (record bare_start { job = true }) (only (bare special.Exclamation)) ≡ false
-  pub job_is_unset : is_unset bare_start (only (bare special.Exclamation)) ≡ true
-  pub job_is_nothing : fields_of_word bare_start [] (only (bare special.Exclamation)) ≡ []
+  pub last_status : fields_of empty_directory (expand [] 127 in_fields (only (special_parameter special.QuestionMark)) (fresh bare_start quiet_givens)) ≡ codes "127" ∷ []
+  pub process : fields_by (λ n. record quiet_given { number = 4321 }) bare_start [] (only (special_parameter special.Dollar)) ≡ codes "4321" ∷ []
+  pub job : fields_by (λ n. record quiet_given { number = 77 }) (record bare_start { job = true }) [] (only (special_parameter special.Exclamation)) ≡ codes "77" ∷ []
+  pub job_is_set : is_unset (record bare_start { job = true }) (only (special_parameter special.Exclamation)) ≡ false
+  pub job_is_unset : is_unset bare_start (only (special_parameter special.Exclamation)) ≡ true
+  pub job_is_nothing : fields_of_word bare_start [] (only (special_parameter special.Exclamation)) ≡ []
   pub second : fields_of_word bare_start three (only (Expansion 0 (Positional 2) Value)) ≡ codes "b" ∷ codes "c" ∷ []
   pub second_is_unset : is_unset bare_start (only (Expansion 0 (Positional 2) Value)) ≡ true
 

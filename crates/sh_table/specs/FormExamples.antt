@@ -5,21 +5,14 @@ use Rattle.sh_tree.specs.declared.tree.Action.TheVariants as action
 use Rattle.sh_tree.specs.declared.tree.Binary.TheVariants as binary
 use Rattle.sh_tree.specs.declared.tree.Removal.TheVariants as removal
 use Rattle.sh_tree.specs.declared.tree.SingleStyle.TheVariants as style
-use Rattle.sh_tree.specs.declared.tree.Special as tree
 use Rattle.sh_tree.specs.declared.tree.Special.TheVariants as special
 use Rattle.sh_tree.specs.declared.tree.Unary.TheVariants as unary
 use Rattle.sh_tree.specs.program.Examples.{only, plain, expansion, simple, lone}
-use Rattle.sh_tree.specs.program.Syntax.{Parameter, Variable, Positional, Special, Part, Plain, Escaped, Single, Double, Expansion, Arithmetic, Substitution, Tilde, Word, no_parts, more_parts, Value, Length, Use, Remove, Expression, Constant, Name, Parenthesis, Signed, Chain, Choice, Assigned, no_operands, more_operands, no_items, operand, no_elements}
+use Rattle.sh_tree.specs.program.Syntax.{Parameter, Variable, Positional, Part, Plain, Escaped, Single, Double, Expansion, Substitution, Tilde, Word, no_parts, more_parts, Value, Length, Use, Remove, Expression, Name, Expanded, Parenthesis, Signed, Chain, Choice, Assigned, no_operands, more_operands, no_items, operand, no_elements}
 use Rattle.sh_table.specs.Counts.{Parameters, One, Nothing, count_of}
+use Rattle.sh_table.specs.FieldExamples.{quoted, special_parameter, computed, one}
 use Rattle.sh_table.specs.Quoting.{are_whole, word_begins_pattern, word_mentions, is_about_separators, is_steady}
 use Rattle.sh_table.specs.runs.Environment.{blanks}
-
--- one part of this, outside quotes and in double quotes
-abbrev pub shell_parameter : tree.Special → Part
-shell_parameter c = Expansion 0 (Special c) Value
-
-abbrev pub quoted : Part → Word
-quoted x = only (Double (only x))
 
 -- `${x-w}`, `${x+w}`, `${x=w}`, `${x?w}`; `$x`, `${#x}`
 abbrev pub default : Word → Part
@@ -44,10 +37,7 @@ length_of = expansion 0 Length
 abbrev pub removing : Word → Part
 removing w = expansion 0 (Remove removal.ShortSuffix w)
 
--- `$((1))`, `$()`
-abbrev pub computed : Part
-computed = Arithmetic 0 (Constant (codes "1"))
-
+-- `$()`
 abbrev pub substituted : Part
 substituted = Substitution 0 no_items
 
@@ -58,40 +48,36 @@ abbrev pub quoted_a : Word
 quoted_a = only (Double a)
 
 abbrev pub star : Part
-star = shell_parameter special.Asterisk
+star = special_parameter special.Asterisk
 
 abbrev pub every : Part
-every = shell_parameter special.At
+every = special_parameter special.At
 
--- `$IFS`; `$((IFS+1))` and the like
+-- `$IFS`, and the name in arithmetic
 abbrev pub ifs : Parameter
 ifs = Variable (codes "IFS")
-
-abbrev pub arithmetic : Expression → Word
-arithmetic e = only (Arithmetic 0 e)
-
-abbrev pub one : Expression
-one = Constant (codes "1")
 
 abbrev pub ifs_read : Expression
 ifs_read = Name 0 (codes "IFS")
 
 pub record CountsAsExpected : Type 0 where
   -- `"$@"`
-  pub parameters : count_of (quoted (shell_parameter special.At)) ≡ Parameters
-  -- `a`, `$x`, `"$*"`, `${x=a}`, `${x?a}`, `${x%a}`, `$((1))`, `$()`, `~`, `\a`
+  pub parameters : count_of (quoted (special_parameter special.At)) ≡ Parameters
+  -- `a`, `$x`, `"$*"`, `${x=a}`, `${x?a}`, `${x%a}`, `$((1))`, `$()`, `~`, `\a`, `${x-a}a`
   pub at_least_one :
       map count_of
-      (a ∷ only value ∷ quoted star ∷ only (assigning a) ∷ only (demanding a) ∷ only (removing a) ∷ only computed ∷ only substituted ∷ only (Tilde 0 []) ∷ only (Escaped (codes "a")) ∷ [])
-      ≡ replicate 10 One
-  -- `""`, `"${x-$*}"`, `"${x+a}"`, `${x-a}a`
+      (a ∷ only value ∷ quoted star ∷ only (assigning a) ∷ only (demanding a) ∷ only (removing a) ∷ computed one ∷ only substituted ∷ only (Tilde 0 []) ∷ only (Escaped (codes "a"))
+      ∷ more_parts (default a) a ∷ [])
+      ≡ replicate 11 One
+  -- `""`, `"${x-$*}"`, `"${x+a}"`, `$((${x-$*}))`
   pub one_by_quotes :
-      map count_of (only (Double no_parts) ∷ quoted (default (only star)) ∷ quoted (alternative a) ∷ more_parts (default a) a ∷ []) ≡ replicate 4 One
-  -- `$*`, `$@`, `"$@a"`, `a"$@"`, `${x+"$@"}`, `"${x%$*}"`
+      map count_of (only (Double no_parts) ∷ quoted (default (only star)) ∷ quoted (alternative a) ∷ computed (Expanded (default (only star))) ∷ []) ≡ replicate 4 One
+  -- `$*`, `$@`, `"$@a"`, `a"$@"`, `${x+"$@"}`, `"${x%$*}"`, `$((1+${x%$*}))`
   pub perhaps_no_parameters :
       map count_of
-      (only star ∷ only every ∷ only (Double (more_parts every a)) ∷ more_parts (Plain (codes "a")) (quoted every) ∷ only (alternative (quoted every)) ∷ quoted (removing (only star)) ∷ [])
-      ≡ replicate 6 Nothing
+      (only star ∷ only every ∷ only (Double (more_parts every a)) ∷ more_parts (Plain (codes "a")) (quoted every) ∷ only (alternative (quoted every)) ∷ quoted (removing (only star))
+      ∷ computed (Chain one (more_operands binary.Add (Expanded (removing (only star))) no_operands)) ∷ [])
+      ≡ replicate 7 Nothing
   -- `${x+a}`, `${x-a}`, `${x-a}${x+b}`
   pub perhaps_no_default : map count_of (only (alternative a) ∷ only (default a) ∷ more_parts (default a) (only (alternative (plain (codes "b")))) ∷ []) ≡ replicate 3 Nothing
 
@@ -99,15 +85,15 @@ pub record QuotingAsExpected : Type 0 where
   -- `$#`, `$?`, `$$`, `$!`, `${#x}`, `$((1))`, `${x+"a"}`, `${x+\a'a'}`, `"$x"`, `a"$x"`
   pub whole :
       map are_whole
-      (only (shell_parameter special.NumberSign) ∷ only (shell_parameter special.QuestionMark) ∷ only (shell_parameter special.Dollar) ∷ only (shell_parameter special.Exclamation) ∷ only length_of
-      ∷ only computed ∷ only (alternative quoted_a) ∷ only (alternative (more_parts (Escaped (codes "a")) (only (Single style.Plain (codes "a"))))) ∷ quoted value ∷ more_parts (Plain (codes "a")) (quoted value) ∷ [])
+      (only (special_parameter special.NumberSign) ∷ only (special_parameter special.QuestionMark) ∷ only (special_parameter special.Dollar) ∷ only (special_parameter special.Exclamation) ∷ only length_of
+      ∷ computed one ∷ only (alternative quoted_a) ∷ only (alternative (more_parts (Escaped (codes "a")) (only (Single style.Plain (codes "a"))))) ∷ quoted value ∷ more_parts (Plain (codes "a")) (quoted value) ∷ [])
       ≡ replicate 10 true
   -- `$x`, `$-`, `$()`, `${x+}`, `${x+a}`, `${x+~}`, `${x+${x+"a"}}`, `${x-"a"}`, `${x+"a"a}`, `a$x`, `${x%a}`, `$1`, `$0`
   pub perhaps_split :
       map are_whole
-      (only value ∷ only (shell_parameter special.Hyphen) ∷ only substituted ∷ only (alternative no_parts) ∷ only (alternative a) ∷ only (alternative (only (Tilde 0 [])))
+      (only value ∷ only (special_parameter special.Hyphen) ∷ only substituted ∷ only (alternative no_parts) ∷ only (alternative a) ∷ only (alternative (only (Tilde 0 [])))
       ∷ only (alternative (only (alternative quoted_a))) ∷ only (default quoted_a) ∷ only (alternative (more_parts (Double a) a)) ∷ more_parts (Plain (codes "a")) (only value) ∷ only (removing a)
-      ∷ only (Expansion 0 (Positional 1) Value) ∷ only (shell_parameter special.Zero) ∷ [])
+      ∷ only (Expansion 0 (Positional 1) Value) ∷ only (special_parameter special.Zero) ∷ [])
       ≡ replicate 13 false
   -- `*`, `?`, `[`, `a*`, `${x+*}`, `${x=*}`, `${x?*}`, `${x-${x+?}}`
   pub patterns :
@@ -119,20 +105,20 @@ pub record QuotingAsExpected : Type 0 where
   pub no_patterns :
       map word_begins_pattern
       (only (Double (plain (codes "*"))) ∷ only (Escaped (codes "*")) ∷ only (Single style.Plain (codes "*")) ∷ only (alternative (only (Double (plain (codes "*"))))) ∷ only (removing (plain (codes "*")))
-      ∷ only (Substitution 0 (lone (simple 1 0 (operand (plain (codes "*")) no_elements)))) ∷ only (shell_parameter special.QuestionMark) ∷ only star ∷ plain (codes "]") ∷ [])
+      ∷ only (Substitution 0 (lone (simple 1 0 (operand (plain (codes "*")) no_elements)))) ∷ only (special_parameter special.QuestionMark) ∷ only star ∷ plain (codes "]") ∷ [])
       ≡ replicate 9 false
   -- `$IFS`, `"$*"`, `${x+"$IFS"}`, `${x%$*}`, `${IFS=a}`, `$((IFS+1))`, `$((1+IFS))`, `$((IFS=1))`, `$((1?1:IFS))`, `$((-(IFS)))`
   pub separators :
       map (word_mentions is_about_separators)
       (only (Expansion 0 ifs Value) ∷ quoted star ∷ only (alternative (quoted (Expansion 0 ifs Value))) ∷ only (removing (only star)) ∷ only (Expansion 0 ifs (Use action.Assign false a))
-      ∷ map arithmetic
+      ∷ map computed
       (Chain ifs_read (more_operands binary.Add one no_operands) ∷ Chain one (more_operands binary.Add ifs_read no_operands) ∷ Assigned 0 (codes "IFS") None one ∷ Choice one one ifs_read
       ∷ Signed unary.Minus (Parenthesis ifs_read) ∷ []))
       ≡ replicate 10 true
   -- `a"$x"`, `$#`, `IFS`, `$((1))`, `"$@"`, `${IFSx}`
   pub no_separators :
       map (word_mentions is_about_separators)
-      (more_parts (Plain (codes "a")) (quoted value) ∷ only (shell_parameter special.NumberSign) ∷ plain (codes "IFS") ∷ only computed ∷ quoted every ∷ only (Expansion 0 (Variable (codes "IFSx")) Value) ∷ [])
+      (more_parts (Plain (codes "a")) (quoted value) ∷ only (special_parameter special.NumberSign) ∷ plain (codes "IFS") ∷ computed one ∷ quoted every ∷ only (Expansion 0 (Variable (codes "IFSx")) Value) ∷ [])
       ≡ replicate 6 false
   -- IFS that is not set, and some values of it
   pub steady : map is_steady (None ∷ Some [] ∷ Some blanks ∷ Some (codes ":a") ∷ []) ≡ replicate 4 true

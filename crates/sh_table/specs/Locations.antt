@@ -71,8 +71,8 @@ unfoldable mutual
   elements_located (p.redirection r es) = redirect_located r ++ elements_located es
 
   pub redirect_located : p.Redirect → List Located
-  redirect_located (p.File at w) = word_located w
-  redirect_located (p.Here at w) = word_located w
+  redirect_located (p.File w) = word_located w
+  redirect_located (p.Here w) = word_located w
 
   pub redirects_located : p.Redirects → List Located
   redirects_located p.no_redirects = []

@@ -39,7 +39,7 @@ unfoldable pub traps_nothing : List Static → Bool
 traps_nothing (Some t ∷ xs) = if ends_options t then is_no_action xs else is_no_action (Some t ∷ xs)
 traps_nothing xs = is_no_action xs
 
--- what `command` may run: neither a utility that changes what is set nor one that is refused
+-- what `command` may run: no special built-in utility, none of `cd`, `read`, `getopts` and `command`, and no name that is refused
 unfoldable pub may_run : Kind → Bool
 may_run kind.True = true
 may_run kind.False = true
@@ -78,12 +78,16 @@ has_inner_o _ = false
 abbrev pub is_signed : Text → Bool
 is_signed t = is_first (λ c. c == 45 || c == 43) t
 
--- `set`: the options are static, none is `-` or `+` alone or has an `o` before others, the name of an option is none itself, and static
--- is the first positional word too, if no `--` stands before it
+-- what may be the argument of `-o`: shells take an empty one, and one that looks like an option, as none or as another option
+abbrev pub is_argument : Text → Bool
+is_argument t = not (length t == 0) && not (is_signed t)
+
+-- `set`: the options are static, none is `-` or `+` alone or has an `o` before others, what `-o` takes is its argument, and where no `--`
+-- stands before it the first positional word is static too
 unfoldable pub sets_known : Bool → List Static → Bool
 sets_known takes [] = true
 sets_known takes (None ∷ xs) = false
-sets_known true (Some t ∷ xs) = not (is_signed t) && sets_known false xs
+sets_known true (Some t ∷ xs) = is_argument t && sets_known false xs
 sets_known false (Some t ∷ xs) =
     if ends_options t then true
     else (if is_set_option t then not (has_inner_o (drop 1 t)) && sets_known (ends_in_o t) xs else not (is_signed t))

@@ -1,4 +1,4 @@
--- Commands that are refused, and such that are not, against which the profile is held.
+-- Commands that are refused, and some that are not, against which the profile is held.
 -- POSIX.1-2024, XCU 2.9.1 (simple commands), 2.9.5 (function definitions), 2.15 (special built-in utilities), 3 (command).
 use Rattle.std.specs.Prelude.{◌≡◌, ℕ, ◌-◌, ◌==◌, if◌then◌else◌, true, false, List, [], ◌∷◌, ◌++◌, replicate, map, length, take, drop, codes, Option, Some, None, option_map}
 use Rattle.std.specs.Str.{bytes_eq}
@@ -16,11 +16,14 @@ use Rattle.sh_tree.specs.declared.tree.Removal.TheVariants as removal
 use Rattle.sh_tree.specs.declared.tree.SingleStyle.TheVariants as style
 use Rattle.sh_tree.specs.declared.tree.Unary.TheVariants as unary
 use Rattle.sh_tree.specs.language.Bytes.{is_first}
+use Rattle.sh_tree.specs.program.Examples.{only, simple, lone}
 use Rattle.sh_tree.specs.program.Syntax as p
 use Rattle.sh_tree.specs.program.Syntax.{Text}
 use Rattle.sh_table.specs.declared.kind.Kind.TheVariants as kind
+use Rattle.sh_table.specs.Examples.{elements_of, compound, list, both, quoted_x}
 use Rattle.sh_table.specs.Kinds.{kind_of}
 use Rattle.sh_table.specs.Profile.{Refused, first_refused}
+use Rattle.sh_table.specs.StepExamples.{piece}
 
 -- Commands as lines: words with one blank between two, each `"$x"`, a text in single quotes, or plain bytes
 
@@ -31,44 +34,17 @@ words_from t (c ∷ cs) = if c == 32 then t ∷ words_from [] cs else words_from
 abbrev pub words : Text → List Text
 words line = words_from [] line
 
-abbrev pub of_part : p.Part → p.Word
-of_part x = p.more_parts x p.no_parts
-
-abbrev pub value : p.Word
-value = of_part (p.Double (of_part (p.Expansion 0 (p.Variable (codes "x")) p.Value)))
-
 unfoldable pub word : Text → p.Word
 word t =
-    if bytes_eq t (codes "\"$x\"") then value
-    else of_part (if is_first (λ c. c == 39) t then p.Single style.Plain (take (length t - 2) (drop 1 t)) else p.Plain t)
-
-unfoldable pub operands : List p.Word → p.Elements
-operands [] = p.no_elements
-operands (w ∷ ws) = p.operand w (operands ws)
+    if bytes_eq t (codes "\"$x\"") then quoted_x
+    else only (if is_first (λ c. c == 39) t then p.Single style.Plain (take (length t - 2) (drop 1 t)) else p.Plain t)
 
 -- a simple command, of this number
-abbrev pub simple : ℕ → Text → p.Command
-simple n line = p.command n 0 (p.Simple (operands (map word (words line)))) p.no_redirects
-
-abbrev pub compound : p.Kind → p.Command
-compound kind = p.command 1 0 kind p.no_redirects
-
-abbrev pub piece : p.Command → p.Pipeline
-piece c = p.pipeline false (p.more_commands c p.no_commands)
-
--- a list of commands, each alone in the foreground
-unfoldable pub list : List p.Command → p.Items
-list [] = p.no_items
-list (c ∷ cs) = p.more_items (p.and_or (piece c) p.no_links) false (list cs)
-
-abbrev pub alone : p.Command → p.Items
-alone c = list (c ∷ [])
+abbrev pub written : ℕ → Text → p.Command
+written n line = simple n 0 (elements_of (map word (words line)))
 
 abbrev pub background : p.Command → p.Items
 background c = p.more_items (p.and_or (piece c) p.no_links) true p.no_items
-
-abbrev pub piped : p.Command → p.Command → p.Items
-piped c d = p.more_items (p.and_or (p.pipeline false (p.more_commands c (p.more_commands d p.no_commands))) p.no_links) false p.no_items
 
 abbrev pub linked : p.Command → p.Command → p.Items
 linked c d = p.more_items (p.and_or (piece c) (p.more_links link.AndThen (piece d) p.no_links)) false p.no_items
@@ -78,15 +54,15 @@ abbrev pub told_in : p.Items → Option Rule
 told_in t = option_map (λ (r : Refused). r.rule) (first_refused t)
 
 abbrev pub told : Text → Option Rule
-told line = told_in (alone (simple 1 line))
+told line = told_in (lone (written 1 line))
 
 abbrev pub told_of : p.Kind → Option Rule
-told_of kind = told_in (alone (compound kind))
+told_of kind = told_in (lone (compound kind))
 
 -- Commands in commands
 
 abbrev pub says : Text → p.Items
-says line = alone (simple 3 line)
+says line = lone (written 3 line)
 
 abbrev pub colon : p.Items
 colon = says (codes ":")
@@ -125,13 +101,13 @@ refused_eval = Some (rule.Refused known.Eval)
 
 -- `$(eval)`; `a`
 abbrev pub running : p.Word
-running = of_part (p.Substitution 0 evaluates)
+running = only (p.Substitution 0 evaluates)
 
 abbrev pub a : p.Word
 a = word (codes "a")
 
 abbrev pub expansion : p.Operator → p.Word
-expansion operator = of_part (p.Expansion 0 (p.Variable (codes "x")) operator)
+expansion operator = only (p.Expansion 0 (p.Variable (codes "x")) operator)
 
 -- `$(($(eval)))` and `$((1))`, as operands of arithmetic
 abbrev pub computing : p.Expression
@@ -141,12 +117,12 @@ abbrev pub one : p.Expression
 one = p.Constant (codes "1")
 
 abbrev pub arithmetic : p.Expression → p.Word
-arithmetic e = of_part (p.Arithmetic 0 e)
+arithmetic e = only (p.Arithmetic 0 e)
 
 -- behind another part, in double quotes, in a braced word, in a pattern, and in each form of arithmetic
 abbrev pub words_running : List p.Word
 words_running =
-    running ∷ p.more_parts (p.Plain (codes "a")) running ∷ of_part (p.Double running) ∷ expansion (p.Use action.Default false running) ∷ expansion (p.Remove removal.LongPrefix running)
+    running ∷ p.more_parts (p.Plain (codes "a")) running ∷ only (p.Double running) ∷ expansion (p.Use action.Default false running) ∷ expansion (p.Remove removal.LongPrefix running)
     ∷ map arithmetic
     (computing ∷ p.Parenthesis computing ∷ p.Signed unary.Minus computing ∷ p.Chain computing p.no_operands ∷ p.Chain one (p.more_operands binary.Add one (p.more_operands binary.Add computing p.no_operands))
     ∷ p.Choice computing one one ∷ p.Choice one computing one ∷ p.Choice one one computing ∷ p.Assigned 0 (codes "x") None computing ∷ [])
@@ -156,12 +132,12 @@ abbrev pub opens : p.Redirect → p.Command
 opens r = p.command 1 0 (p.Simple (p.redirection r p.no_elements)) p.no_redirects
 
 abbrev pub opened : p.Redirect → p.Command
-opened r = p.command 1 0 (p.Group colon) (p.more_redirects (p.File 0 a) (p.more_redirects r p.no_redirects))
+opened r = p.command 1 0 (p.Group colon) (p.more_redirects (p.File a) (p.more_redirects r p.no_redirects))
 
 abbrev pub commands_running : List p.Command
 commands_running =
     p.command 1 0 (p.Simple (p.operand a (p.operand running p.no_elements))) p.no_redirects ∷ p.command 1 0 (p.Simple (p.assignment (codes "x") running p.no_elements)) p.no_redirects
-    ∷ opens (p.File 0 running) ∷ opens (p.Here 0 running) ∷ opened (p.File 0 running) ∷ opened (p.Here 0 running)
+    ∷ opens (p.File running) ∷ opens (p.Here running) ∷ opened (p.File running) ∷ opened (p.Here running)
     ∷ map compound (choosing running a colon ∷ choosing a running colon ∷ over running colon ∷ [])
 
 -- in each list of each compound command
@@ -174,7 +150,7 @@ kinds_running =
 -- in each place of a list
 abbrev pub lists_running : List p.Items
 lists_running =
-    list (group colon ∷ group evaluates ∷ []) ∷ linked (group colon) (group evaluates) ∷ piped (group evaluates) (group colon) ∷ piped (group colon) (group evaluates)
+    list (group colon ∷ group evaluates ∷ []) ∷ linked (group colon) (group evaluates) ∷ both (group evaluates) (group colon) ∷ both (group colon) (group evaluates)
     ∷ background (group evaluates) ∷ []
 
 pub record NamesAsExpected : Type 0 where
@@ -189,7 +165,7 @@ pub record NamesAsExpected : Type 0 where
       ∷ known.Integer ∷ known.Float ∷ known.Mapfile ∷ known.Readarray ∷ known.Shopt ∷ known.LeftBrackets ∷ known.RightBrackets ∷ known.Function ∷ known.Select ∷ known.Time ∷ known.Namespace ∷ [])
   pub utilities : map kind_of (words (codes "ls [ echo test wait hash evals Eval ..")) ≡ replicate 9 kind.Utility
 
-pub record OperandsAsExpected : Type 0 where
+pub record RulesAsExpected : Type 0 where
   -- a name that is no static text, a refused one, quoted too, and `+=`
   pub computed_name : map told (codes "\"$x\"" ∷ codes "[[" ∷ []) ≡ Some rule.ComputedName ∷ Some rule.ComputedName ∷ []
   pub refused_name : map told (codes "eval \"$x\"" ∷ codes "'local' a" ∷ codes ". a" ∷ []) ≡ refused_eval ∷ Some (rule.Refused known.Local) ∷ Some (rule.Refused known.Dot) ∷ []
@@ -215,8 +191,9 @@ pub record OperandsAsExpected : Type 0 where
   -- operands of `set` that are computed where an option may stand, or of which shells differ in what they take
   pub sets :
       map told
-      (codes "set \"$x\"" ∷ codes "set -" ∷ codes "set +" ∷ codes "set -e \"$x\"" ∷ codes "set -o \"$x\"" ∷ codes "set -o -e" ∷ codes "set -o --" ∷ codes "set -oe noglob a" ∷ codes "set -e -" ∷ [])
-      ≡ replicate 9 (Some rule.SetOperand)
+      (codes "set \"$x\"" ∷ codes "set -" ∷ codes "set +" ∷ codes "set -e \"$x\"" ∷ codes "set -o \"$x\"" ∷ codes "set -o -e" ∷ codes "set -o --" ∷ codes "set -o '' a" ∷ codes "set -oe noglob a"
+      ∷ codes "set -e -" ∷ [])
+      ≡ replicate 10 (Some rule.SetOperand)
   pub set_words :
       map told
       (codes "set" ∷ codes "set -- \"$x\"" ∷ codes "set a \"$x\"" ∷ codes "set -e a \"$x\"" ∷ codes "set -eo pipefail" ∷ codes "set -o noglob a" ∷ codes "set -o" ∷ codes "set +e -- -" ∷ [])
@@ -228,40 +205,41 @@ pub record OperandsAsExpected : Type 0 where
 
 pub record PlacesAsExpected : Type 0 where
   -- a command is met in every place of a word, of a command and of a list
-  pub in_words : map (λ w. told_in (alone (p.command 1 0 (p.Simple (p.operand a (p.operand w p.no_elements))) p.no_redirects))) words_running ≡ replicate 14 refused_eval
-  pub in_commands : map (λ c. told_in (alone c)) commands_running ≡ replicate 9 refused_eval
+  pub in_words : map (λ w. told_in (lone (p.command 1 0 (p.Simple (p.operand a (p.operand w p.no_elements))) p.no_redirects))) words_running ≡ replicate 14 refused_eval
+  pub in_commands : map (λ c. told_in (lone c)) commands_running ≡ replicate 9 refused_eval
   pub in_kinds : map told_of kinds_running ≡ replicate 12 refused_eval
   pub in_lists : map told_in lists_running ≡ replicate 5 refused_eval
   -- `break` in a loop of each kind, in its condition, and in other commands in it
   pub in_loop :
       map told_of
       (turning loop.While (says (codes "break 2")) ∷ turning loop.Until (says (codes "continue")) ∷ over a (says (codes "break")) ∷ p.Loop loop.While (says (codes "break")) colon
-      ∷ turning loop.While (alone (compound (conditional colon (says (codes "break")) colon colon (says (codes "continue"))))) ∷ turning loop.While (alone (compound (choosing a a (says (codes "break"))))) ∷ [])
+      ∷ turning loop.While (lone (compound (conditional colon (says (codes "break")) colon colon (says (codes "continue"))))) ∷ turning loop.While (lone (compound (choosing a a (says (codes "break"))))) ∷ [])
       ≡ replicate 6 None
-  -- in a subshell of one, an asynchronous list of one, a part of a pipeline, a substitution, a function, and behind it
+  -- in what a loop starts: a subshell, an asynchronous list, a part of a pipeline, a substitution; in a function in it, and behind it
   pub out_of_loop :
       map looping
-      (alone (compound (p.Subshell (says (codes "break")))) ∷ background (simple 3 (codes "break")) ∷ piped (simple 3 (codes "break")) (simple 4 (codes ":"))
-      ∷ alone (p.command 2 0 (p.Simple (p.assignment (codes "x") (of_part (p.Substitution 0 (says (codes "break")))) p.no_elements)) p.no_redirects) ∷ [])
+      (lone (compound (p.Subshell (says (codes "break")))) ∷ background (written 3 (codes "break")) ∷ both (written 3 (codes "break")) (written 4 (codes ":"))
+      ∷ lone (p.command 2 0 (p.Simple (p.assignment (codes "x") (only (p.Substitution 0 (says (codes "break")))) p.no_elements)) p.no_redirects) ∷ [])
       ≡ replicate 4 (Some rule.BreakOutside)
-  pub in_function_in_loop : looping (alone (compound (function (says (codes "break"))))) ≡ Some rule.BreakOutside
-  pub behind_loop : told_in (list (compound (turning loop.While colon) ∷ simple 5 (codes "break") ∷ [])) ≡ Some rule.BreakOutside
+  pub in_function_in_loop : looping (lone (compound (function (says (codes "break"))))) ≡ Some rule.BreakOutside
+  pub behind_loop : told_in (list (compound (turning loop.While colon) ∷ written 5 (codes "break") ∷ [])) ≡ Some rule.BreakOutside
   -- `return` in a function, and in a loop, an inner group and a redirected command in it; not in what it starts
   pub in_function :
-      map (λ t. told_of (function t)) (says (codes "return") ∷ alone (compound (over a (says (codes "return \"$x\"")))) ∷ alone (group (says (codes "return"))) ∷ []) ≡ replicate 3 None
+      map (λ t. told_of (function t)) (says (codes "return") ∷ lone (compound (over a (says (codes "return \"$x\"")))) ∷ lone (group (says (codes "return")))
+      ∷ lone (p.command 2 0 (p.Group (says (codes "return"))) (p.more_redirects (p.File a) p.no_redirects)) ∷ []) ≡ replicate 4 None
   pub out_of_function :
       map (λ t. told_of (function t))
-      (alone (compound (p.Subshell (says (codes "return")))) ∷ background (simple 3 (codes "return")) ∷ piped (simple 3 (codes ":")) (simple 4 (codes "return"))
-      ∷ alone (p.command 2 0 (p.Simple (p.assignment (codes "x") (of_part (p.Substitution 0 (says (codes "return")))) p.no_elements)) p.no_redirects) ∷ [])
+      (lone (compound (p.Subshell (says (codes "return")))) ∷ background (written 3 (codes "return")) ∷ both (written 3 (codes ":")) (written 4 (codes "return"))
+      ∷ lone (p.command 2 0 (p.Simple (p.assignment (codes "x") (only (p.Substitution 0 (says (codes "return")))) p.no_elements)) p.no_redirects) ∷ [])
       ≡ replicate 4 (Some rule.ReturnOutside)
   pub outside : told_of (p.Group (says (codes "return"))) ≡ Some rule.ReturnOutside
   -- the least number is told, wherever its command stands, and its place
   pub least :
-      first_refused (list (simple 7 (codes "eval") ∷ p.command 3 9 (p.Simple (operands (value ∷ []))) p.no_redirects ∷ simple 5 (codes "local") ∷ []))
+      first_refused (list (written 7 (codes "eval") ∷ p.command 3 9 (p.Simple (elements_of (quoted_x ∷ []))) p.no_redirects ∷ written 5 (codes "local") ∷ []))
       ≡ Some (record { number = 3; at = 9; rule = rule.ComputedName })
-  pub none : first_refused (list (simple 7 (codes "ls") ∷ group colon ∷ [])) ≡ None
+  pub none : first_refused (list (written 7 (codes "ls") ∷ group colon ∷ [])) ≡ None
 
 pub record ProfileAsExpected : Type 0 where
   pub names : NamesAsExpected
-  pub operands : OperandsAsExpected
+  pub rules : RulesAsExpected
   pub places : PlacesAsExpected

@@ -10,17 +10,17 @@ use Rattle.sh_tree.specs.language.Bytes.{is_digit}
 use Rattle.sh_tree.specs.program.Syntax.{Text, Parameter, Variable, Special, Part, Plain, Escaped, Single, Double, Expansion, Arithmetic, Substitution, Word, no_parts, more_parts, Operator, Value, Length, Use, Remove, Expression, Constant, Name, Expanded, Parenthesis, Signed, Chain, Choice, Assigned, Operands, no_operands, more_operands}
 use Rattle.sh_table.specs.runs.Fields.{begins_pattern}
 
--- Expansions that give digits and `-` alone
+-- Expansions that give nothing but digits and `-`
 
-unfoldable pub is_counter : tree.Special → Bool
-is_counter special.NumberSign = true
-is_counter special.QuestionMark = true
-is_counter special.Dollar = true
-is_counter special.Exclamation = true
-is_counter _ = false
+unfoldable pub is_numeric : tree.Special → Bool
+is_numeric special.NumberSign = true
+is_numeric special.QuestionMark = true
+is_numeric special.Dollar = true
+is_numeric special.Exclamation = true
+is_numeric _ = false
 
 unfoldable pub gives_number : Parameter → Operator → Bool
-gives_number (Special c) Value = is_counter c
+gives_number (Special c) Value = is_numeric c
 gives_number p Length = true
 gives_number p _ = false
 

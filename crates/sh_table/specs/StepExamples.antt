@@ -13,7 +13,7 @@ use Rattle.sh_tree.specs.program.Examples.{only, plain, simple}
 use Rattle.sh_table.specs.runs.Environment.{Environment, Frame, with_variable}
 use Rattle.sh_table.specs.runs.Answers.{Answer}
 use Rattle.sh_table.specs.runs.Worlds.{World, Move, step, has_unset_event, has_split_event, start_world}
-use Rattle.sh_table.specs.Examples.{elements_of, words_of, utility, assign, says, says_one, compound, list, both, bare_start, start_with, quiet, with_status, by, a_and_b}
+use Rattle.sh_table.specs.Examples.{elements_of, words_of, utility, assign, says, says_one, compound, list, both, bare_start, start_with, quiet, with_status, by, a_and_b, put_back}
 
 -- Words and commands
 
@@ -43,7 +43,7 @@ notes = gives (codes "s") (special_of special.QuestionMark)
 
 -- words, and a redirection to the last one
 abbrev pub opens : List Word → Word → Command
-opens ws target = simple 1 0 (redirection (File 0 target) (elements_of ws))
+opens ws target = simple 1 0 (redirection (File target) (elements_of ws))
 
 abbrev pub group : List Command → Command
 group cs = compound (Group (list cs))
@@ -53,7 +53,7 @@ subshell cs = compound (Subshell (list cs))
 
 -- `{ .. } >target`, `( .. ) >target`
 abbrev pub opened : Kind → Word → Command
-opened kind target = command 1 0 kind (more_redirects (File 0 target) no_redirects)
+opened kind target = command 1 0 kind (more_redirects (File target) no_redirects)
 
 abbrev pub function : Text → List Command → Command
 function name cs = compound (Define name (group cs))
@@ -234,19 +234,19 @@ target = plain (codes "t")
 
 -- `x="$y" >"${y=t}"`, and before these words
 abbrev pub crossing : List Word → Command
-crossing ws = simple 1 0 (assignment x (value_of y) (redirection (File 0 (assigning y (codes "t"))) (elements_of ws)))
+crossing ws = simple 1 0 (assignment x (value_of y) (redirection (File (assigning y (codes "t"))) (elements_of ws)))
 
 -- `x=1 >t` before `s="$?"`
 abbrev pub opens_behind : World
-opens_behind = start_world bare_start [] (list (simple 1 0 (assignment x (plain (codes "1")) (redirection (File 0 target) no_elements)) ∷ notes ∷ []))
+opens_behind = start_world bare_start [] (list (simple 1 0 (assignment x (plain (codes "1")) (redirection (File target) no_elements)) ∷ notes ∷ []))
 
 -- `( :; ) >"${x=t}" >"$x"`
 abbrev pub opens_twice : Items
-opens_twice = list (command 1 0 (Subshell (list (says_one (codes ":") ∷ []))) (more_redirects (File 0 x_set) (more_redirects (File 0 (value_of x)) no_redirects)) ∷ [])
+opens_twice = list (command 1 0 (Subshell (list (says_one (codes ":") ∷ []))) (more_redirects (File x_set) (more_redirects (File (value_of x)) no_redirects)) ∷ [])
 
 -- and the other way round
 abbrev pub opens_twice_before : Items
-opens_twice_before = list (command 1 0 (Subshell (list (says_one (codes ":") ∷ []))) (more_redirects (File 0 (value_of x)) (more_redirects (File 0 x_set) no_redirects)) ∷ [])
+opens_twice_before = list (command 1 0 (Subshell (list (says_one (codes ":") ∷ []))) (more_redirects (File (value_of x)) (more_redirects (File x_set) no_redirects)) ∷ [])
 
 pub record RedirectsAsExpected : Type 0 where
   -- `>"${x=t}"`, `ls >"${x=t}"`, `f >"${x=t}"`, `( :; ) >"${x=t}"`: in the shell, or in a copy
@@ -299,9 +299,6 @@ shown_to w = simple 1 0 (assignment x (plain (codes "1")) (assignment y w (eleme
 abbrev pub z_if_x : Word
 z_if_x = only (Double (only (Expansion 0 (Variable x) (Use action.Alternative false (only (Expansion 0 (Variable z) Value))))))
 
-abbrev pub restoring : Answer
-restoring = record quiet { restores = λ n. true }
-
 abbrev pub seeing : Answer
 seeing = record quiet { sees = true }
 
@@ -329,14 +326,14 @@ pub record AssignmentsAsExpected : Type 0 where
   pub before_utility : x_and_status quiet (before x (plain (codes "1")) (plain (codes "ls") ∷ []) ∷ []) ≡ None ∷ None ∷ []
   pub before_function : gives_x_y_z (function f (gives z (value_of x) ∷ []) ∷ before x (plain (codes "1")) (plain f ∷ []) ∷ []) ≡ just (codes "1") ∷ None ∷ just (codes "1") ∷ []
   pub before_function_restored :
-      seen restoring (x ∷ z ∷ []) (function f (gives z (value_of x) ∷ []) ∷ before x (plain (codes "1")) (plain f ∷ []) ∷ []) ≡ None ∷ just (codes "1") ∷ []
+      seen put_back (x ∷ z ∷ []) (function f (gives z (value_of x) ∷ []) ∷ before x (plain (codes "1")) (plain f ∷ []) ∷ []) ≡ None ∷ just (codes "1") ∷ []
   -- `f() { :; }; y="${x=t}" x=1 f`, with both put back: x was set by the value of y; `x=1 x=2 f`, with x set before
   pub before_function_seen :
-      seen restoring (x ∷ y ∷ [])
+      seen put_back (x ∷ y ∷ [])
       (function f (says_one (codes ":") ∷ []) ∷ simple 1 0 (assignment y (assigning x (codes "t")) (assignment x (plain (codes "1")) (elements_of (plain f ∷ [])))) ∷ [])
       ≡ just (codes "t") ∷ None ∷ []
   pub before_function_twice :
-      seen restoring (x ∷ z ∷ [])
+      seen put_back (x ∷ z ∷ [])
       (assign x (codes "0") ∷ function f (gives z (value_of x) ∷ []) ∷ simple 1 0 (assignment x (plain (codes "1")) (assignment x (plain (codes "2")) (elements_of (plain f ∷ [])))) ∷ [])
       ≡ just (codes "0") ∷ just (codes "2") ∷ []
   -- `x="$y" ls`: y is met where it is not set

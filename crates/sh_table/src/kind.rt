@@ -25,7 +25,8 @@ pub enum Kind {
     Getopts,
     Read,
     True,
-    /// A name that no script may use: what it runs stands in no reading of the script, or the standard gives it no meaning.
+    /// A name that is refused: what it runs stands in no reading of the script, the standard gives it no meaning, or
+    /// other shells reserve it. A quoted command name of the last kind is a utility.
     Refused(KnownName),
     /// Any other name: a utility that changes no variable and no function, unless it is a function.
     Utility,

@@ -1,6 +1,7 @@
 -- What a reading begins with, by the token or the sign at its first byte.
 use Rattle.std.proofs.Common.{◌≡◌, ℕ, ◌+◌, ◌-◌, ◌<◌, Bool, true, false, not, ◌||◌, ◌⊎◌, inl, inr, List, [], ◌∷◌, Option, Some, None, take, refl, sym, ap, ◌∙◌, subst}
 use Rattle.std.proofs.lemmas.Bool.{true≢false}
+use Rattle.std.proofs.lemmas.Option.{same_Some}
 use Rattle.sh_tree.specs.declared.tree.AndOr.{AndOr}
 use Rattle.sh_tree.specs.declared.tree.Command.{Command}
 use Rattle.sh_tree.specs.declared.tree.CommandStyle.TheVariants.{Paren}
@@ -413,11 +414,7 @@ redirects_first some (r.no_redirect h) = absurd (true≢false (sym some ∙ h))
 redirects_first some (r.more_redirects {u = u} {r = q} {rs = others} h read l) = (u, q, others, refl, read, l)
 
 pub some_one : {A : Type 0} {x y : A} → Some x ≡ Some y → x ≡ y
-some_one {x = x} e = ap (or_else x) e
-  where
-    or_else : {A : Type 0} → A → Option A → A
-    or_else d (Some v) = v
-    or_else d None = d
+some_one {x = x} {y = y} = same_Some x y
 
 pub redirect_file : {limit : ℕ} {b : List ℕ} {body : ℕ → Document} {s v : State} {q : Redirect} (at : Redirection) → redirection b s.spot.at ≡ Some at
     → strip_of at.operator ≡ None → ReadsRedirect limit b body s v q

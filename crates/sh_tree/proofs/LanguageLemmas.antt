@@ -10,9 +10,9 @@ use Rattle.sh_tree.specs.language.Contexts as contexts
 use Rattle.sh_tree.specs.language.Parts as parts
 use Rattle.sh_tree.specs.language.States as states
 use Rattle.sh_tree.specs.Words.{parts_text, part_text}
-use Rattle.sh_tree.specs.language.States.{Spot, State, Document, within, nth, waits, to}
+use Rattle.sh_tree.specs.language.States.{Spot, State, Document, within, nth, waits}
 use Rattle.sh_tree.specs.language.Reading as r
-use Rattle.sh_tree.specs.language.Reading.{ReadsParts, ReadsExpression, ReadsLevel, ReadsWord, ReadsRedirect, ReadsRedirects, ReadsDocuments, ReadsBreaks, ReadsElements, ReadsCommand, ReadsCompound, ReadsBranches, ReadsForWords, ReadsClauses, ReadsPatterns, ReadsCommands, ReadsAndOr, ReadsLinks, ReadsList, ReadsSequence, ReadsScript, Reads, HasNoNul, start, lead_here, figure_at}
+use Rattle.sh_tree.specs.language.Reading.{ReadsParts, ReadsExpression, ReadsConditional, ReadsLevel, ReadsWord, ReadsRedirect, ReadsRedirects, ReadsDocuments, ReadsBreaks, ReadsElements, ReadsCommand, ReadsCompound, ReadsBranches, ReadsForWords, ReadsClauses, ReadsPatterns, ReadsCommands, ReadsAndOr, ReadsLinks, ReadsList, ReadsSequence, ReadsScript, Reads, HasNoNul, start, lead_here, figure_at}
 use Rattle.sh_tree.specs.declared.token.word.Context.{Context}
 use Rattle.sh_tree.specs.declared.token.command.Stage.TheVariants.{First}
 use Rattle.sh_tree.specs.declared.tree.Action.TheVariants as action
@@ -28,7 +28,9 @@ use Rattle.sh_tree.specs.declared.tree.Kind.TheVariants as kind
 use Rattle.sh_tree.specs.declared.tree.Link.TheVariants as link
 use Rattle.sh_tree.specs.declared.tree.Part.TheVariants as part
 use Rattle.sh_tree.specs.declared.tree.Target.TheVariants.{File, Here}
+use Rattle.sh_tree.specs.declared.tree.Unary.TheVariants as unary
 use Rattle.sh_tree.specs.declared.token.command.Lead.TheVariants as lead
+use Rattle.sh_tree.specs.declared.token.command.Operator.TheVariants as op
 use Rattle.sh_tree.specs.declared.token.command.Reserved.TheVariants as reserved
 use Rattle.sh_tree.specs.declared.tree.SingleStyle.TheVariants as single
 use Rattle.sh_tree.specs.language.Words.{in_double, in_use, in_removal, in_arithmetic}
@@ -37,7 +39,7 @@ use Rattle.sh_tree.specs.language.Commands.{begins_command, is_bar, link_of}
 use Rattle.sh_tree.specs.language.Contexts.{in_word, in_unsplit, in_value, in_document_of}
 use Rattle.sh_tree.specs.language.HereDocuments.{Mark}
 use Rattle.sh_tree.specs.language.Trees.{span, word, redirect, here_doc, command, pipe, and_or, script, branch, clause}
-use Rattle.sh_tree.specs.language.Examples.{plain, bare, value, simple, quoted_text, quoted_words, quoted_script, double_text, double_words, double_script, bare_text, bare_words, bare_script, assigned_text, assigned_parts, assigned_words, assigned_script, passed_text, passed_script, home_text, home_value, home_script, braces_text, braces_elements, braces_script, braced_text, default_part, length_part, removal_part, braced_words, braced_script, arithmetic_text, product, sum, arithmetic_part, arithmetic_script, substituted_text, inner_script, substituted_part, substituted_script, utility, lone, document_text, document_body, document_words, document_script, branch_text, branch_script, loop_text, loop_script, case_text, case_clauses, case_script, defined_text, defined_command, defined_list, defined_script, unset_first_text, unset_first_words, unset_first_value, unset_first_script, unset_last_text, unset_last_words, unset_last_script, closed_text, closed_script, separated_text, separated_script, comment_text}
+use Rattle.sh_tree.specs.language.Examples.{plain, bare, value, simple, quoted_text, quoted_words, quoted_script, double_text, double_words, double_script, bare_text, bare_words, bare_script, assigned_text, assigned_parts, assigned_words, assigned_script, passed_text, passed_script, home_text, home_value, home_script, braces_text, braces_elements, braces_script, braced_text, default_part, length_part, removal_part, braced_words, braced_script, parameters_text, parameters_parts, parameters_words, parameters_script, arithmetic_text, product, sum, arithmetic_part, arithmetic_script, choice_text, choice_part, choice_script, substituted_text, inner_script, substituted_part, substituted_script, utility, lone, document_text, document_body, document_words, document_script, stripped_text, stripped_body, stripped_script, branch_text, branch_script, elif_text, elif_branches, elif_script, until_text, until_subshell, until_condition, until_script, every_text, every_command, every_script, loop_text, loop_script, case_text, case_clauses, case_script, through_text, through_clauses, through_script, defined_text, defined_command, defined_list, defined_script, unset_first_text, unset_first_words, unset_first_value, unset_first_script, unset_last_text, unset_last_words, unset_last_script, closed_text, closed_script, separated_text, separated_script, comment_text}
 
 -- what a reading of a known text computes
 unfoldable pub computes : Unit {0}
@@ -173,12 +175,39 @@ braced_reads =
     let list : ReadsAndOr 1 braced_text no_bodies (at_token 0 0 0) (at_token 29 1 0) _ = alone_reads (r.simple_command refl elements) refl refl refl in
     whole braced_text 1 (at_token 29 1 0) braced_script refl (r.sequence (r.list (r.no_break refl) refl (r.last_item list refl refl))) refl refl
 
+pub parameters_reads : Reads parameters_text parameters_script
+unfolding computes
+parameters_reads =
+    let echo : ReadsWord 0 parameters_text (in_word 0) (at_word 0 1 0) (at_word 4 1 0) (bare 0 4) = r.whole_word (r.more refl r.plain (r.stop refl)) refl refl in
+    let inner : ReadsParts 0 parameters_text (in_double (in_word 5)) 0 (at_word 6 1 0) (at_word 18 1 0) parameters_parts =
+    r.more refl r.value (r.more refl r.value (r.more refl r.joined (r.more refl r.value (r.stop refl)))) in
+    let quoted : ReadsWord 0 parameters_text (in_word 5) (at_word 5 1 0) (at_word 18 1 0) (word 5 18 (part.Double (span 5 18) parameters_parts ∷ [])) =
+    r.whole_word (r.more refl (r.double_quoted inner) (r.stop refl)) refl refl in
+    let elements : ReadsElements 0 parameters_text no_bodies First (at_token 0 1 0) (at_token 18 1 0) parameters_words = r.word_element refl echo (r.word_element refl quoted (r.no_element refl)) in
+    let list : ReadsAndOr 0 parameters_text no_bodies (at_token 0 0 0) (at_token 18 1 0) _ = alone_reads (r.simple_command refl elements) refl refl refl in
+    whole parameters_text 0 (at_token 18 1 0) parameters_script refl (r.sequence (r.list (r.no_break refl) refl (r.last_item list refl refl))) refl refl
+
 -- Arithmetic
 
 -- no operator of this level follows
 level_through : {limit : ℕ} {b : List ℕ} {x : Context} {l : ℕ} {s u : Spot} {e : Expr} → l < unary_level → ReadsLevel limit b x (l + 1) s u e → binary_of l (figure_at b u) ≡ None
     → ReadsLevel limit b x l s u e
 level_through {e = e} below h none = r.chain {e = e} {es = []} below h (r.no_operand none)
+
+-- no operator follows
+loosest_level : {limit : ℕ} {b : List ℕ} {x : Context} {s u : Spot} {e : Expr} → ReadsLevel limit b x unary_level s u e → ((l : ℕ) → binary_of l (figure_at b u) ≡ None)
+    → ReadsLevel limit b x 0 s u e
+loosest_level {limit = limit} {b = b} {x = x} {s = s} {u = u} {e = e} h none =
+    let times : ReadsLevel limit b x 9 s u e = level_through (omega arith) h (none 9) in
+    let plus : ReadsLevel limit b x 8 s u e = level_through (omega arith) times (none 8) in
+    let shift : ReadsLevel limit b x 7 s u e = level_through (omega arith) plus (none 7) in
+    let less : ReadsLevel limit b x 6 s u e = level_through (omega arith) shift (none 6) in
+    let equal : ReadsLevel limit b x 5 s u e = level_through (omega arith) less (none 5) in
+    let bits : ReadsLevel limit b x 4 s u e = level_through (omega arith) equal (none 4) in
+    let parity : ReadsLevel limit b x 3 s u e = level_through (omega arith) bits (none 3) in
+    let either : ReadsLevel limit b x 2 s u e = level_through (omega arith) parity (none 2) in
+    let both : ReadsLevel limit b x 1 s u e = level_through (omega arith) either (none 1) in
+    level_through (omega arith) both (none 0)
 
 pub arithmetic_reads : Reads arithmetic_text arithmetic_script
 unfolding computes
@@ -205,6 +234,32 @@ arithmetic_reads =
     r.word_element refl echo (r.word_element refl whole_expansion (r.no_element refl)) in
     let list : ReadsAndOr 2 arithmetic_text no_bodies (at_token 0 0 0) (at_token 17 1 0) _ = alone_reads (r.simple_command refl elements) refl refl refl in
     whole arithmetic_text 2 (at_token 17 1 0) arithmetic_script refl (r.sequence (r.list (r.no_break refl) refl (r.last_item list refl refl))) refl refl
+
+pub choice_reads : Reads choice_text choice_script
+unfolding computes
+choice_reads =
+    let x : ReadsLevel 3 choice_text (in_arithmetic (in_word 5)) 10 (at_word 9 1 2) (at_word 10 1 2) (expr.Variable (span 9 10)) = r.operand refl refl r.variable in
+    let minus : ReadsLevel 3 choice_text (in_arithmetic (in_word 5)) 10 (at_word 8 1 1) (at_word 10 1 1) (expr.Unary unary.Minus (expr.Variable (span 9 10))) =
+    r.operand refl refl (r.signed refl (omega arith) x) in
+    let y : ReadsLevel 3 choice_text (in_arithmetic (in_word 5)) 10 (at_word 12 1 3) (at_word 13 1 3) (expr.Variable (span 12 13)) = r.operand refl refl r.variable in
+    let inside : ReadsExpression 3 choice_text (in_arithmetic (in_word 5)) (at_word 12 1 3) (at_word 13 1 3) (expr.Variable (span 12 13)) =
+    r.no_assignment refl (r.one_level (loosest_level y (λ l. refl)) refl) in
+    let between : ReadsLevel 3 choice_text (in_arithmetic (in_word 5)) 10 (at_word 11 1 2) (at_word 14 1 2) (expr.Parenthesis (expr.Variable (span 12 13))) =
+    r.operand refl refl (r.parenthesis (omega arith) inside refl) in
+    let yes : ReadsExpression 3 choice_text (in_arithmetic (in_word 5)) (at_word 11 1 2) (at_word 14 1 2) (expr.Parenthesis (expr.Variable (span 12 13))) =
+    r.no_assignment refl (r.one_level (loosest_level between (λ l. refl)) refl) in
+    let z : ReadsLevel 3 choice_text (in_arithmetic (in_word 5)) 10 (at_word 15 1 2) (at_word 17 1 2) (expr.Expansion (value 15 17)) = r.operand refl refl (r.expansion refl refl r.value) in
+    let no : ReadsConditional 3 choice_text (in_arithmetic (in_word 5)) (at_word 15 1 2) (at_word 17 1 2) (expr.Expansion (value 15 17)) =
+    r.one_level (loosest_level z (λ l. refl)) refl in
+    let choice : ReadsExpression 3 choice_text (in_arithmetic (in_word 5)) (at_word 8 1 1) (at_word 17 1 1) _ =
+    r.no_assignment refl (r.choice (loosest_level minus (λ l. refl)) refl (omega arith) yes refl no) in
+    let echo : ReadsWord 3 choice_text (in_word 0) (at_word 0 1 0) (at_word 4 1 0) (bare 0 4) = r.whole_word (r.more refl r.plain (r.stop refl)) refl refl in
+    let whole_expansion : ReadsWord 3 choice_text (in_word 5) (at_word 5 1 0) (at_word 19 1 0) (word 5 19 (choice_part ∷ [])) =
+    r.whole_word (r.more refl (r.arithmetic (omega arith) choice refl refl) (r.stop refl)) refl refl in
+    let elements : ReadsElements 3 choice_text no_bodies First (at_token 0 1 0) (at_token 19 1 0) (element.Word (bare 0 4) ∷ element.Word (word 5 19 (choice_part ∷ [])) ∷ []) =
+    r.word_element refl echo (r.word_element refl whole_expansion (r.no_element refl)) in
+    let list : ReadsAndOr 3 choice_text no_bodies (at_token 0 0 0) (at_token 19 1 0) _ = alone_reads (r.simple_command refl elements) refl refl refl in
+    whole choice_text 3 (at_token 19 1 0) choice_script refl (r.sequence (r.list (r.no_break refl) refl (r.last_item list refl refl))) refl refl
 
 pub substituted_reads : Reads substituted_text substituted_script
 unfolding computes
@@ -265,6 +320,37 @@ document_reads =
     (r.more_items first refl (r.no_break refl) refl (r.ended_item (alone_reads second refl refl refl) refl line refl))))
     refl refl
 
+abbrev stripping : Mark
+stripping = record { strip = true; quoted = false; delimiter = codes "E"; depth = 0 }
+
+abbrev stripped_document : Document
+stripped_document = record { text = stripped_body; end = span 8 10 }
+
+abbrev stripped_bodies : ℕ → Document
+stripped_bodies = nth (stripped_document ∷ [])
+
+abbrev stripping_from : ℕ → State
+stripping_from i = record (at_token i 1 0) { pending = stripping ∷ [] }
+
+abbrev behind_stripped : ℕ → State
+behind_stripped i = record (at_token i 1 0) { bodies = stripped_document ∷ [] }
+
+pub stripped_reads : Reads stripped_text stripped_script
+unfolding computes
+stripped_reads =
+    let delimiter : ReadsWord 0 stripped_text (in_unsplit 3) (at_word 3 1 0) (at_word 4 1 0) (bare 3 4) = r.whole_word (r.more refl r.plain (r.stop refl)) refl refl in
+    let operator : ReadsRedirect 0 stripped_text stripped_bodies (at_token 0 1 0) (stripping_from 4) (redirect 0 None (Here (here_doc true (bare 3 4) stripped_body (span 8 10)))) =
+    r.here_document refl refl refl delimiter refl in
+    let elements : ReadsElements 0 stripped_text stripped_bodies First (at_token 0 1 0) (stripping_from 4) (element.Redirection (redirect 0 None (Here (here_doc true (bare 3 4) stripped_body (span 8 10)))) ∷ []) =
+    r.redirect_element refl operator (r.no_element refl) in
+    let body : ReadsParts 0 (take 8 stripped_text) (in_document_of stripping) 10 (record (at_word 5 1 0) { body = true; tabs = true }) (record (at_word 8 1 0) { body = true; tabs = true })
+    stripped_body.parts =
+    r.tabs refl (r.more refl r.plain (r.stop refl)) in
+    let bodies : ReadsDocuments 0 stripped_text (stripping ∷ []) (at_token 5 1 0) (behind_stripped 11) = r.more_bodies refl refl refl body refl r.no_body in
+    let line : ReadsBreaks 0 stripped_text (stripping_from 4) (behind_stripped 11) = r.more_breaks refl refl bodies (r.no_break refl) in
+    whole stripped_text 0 (behind_stripped 11) stripped_script refl
+    (r.sequence (r.list (r.no_break refl) refl (r.ended_item (alone_reads (r.simple_command refl elements) refl refl refl) refl line refl))) refl refl
+
 -- Compound commands
 
 pub branch_reads : Reads branch_text branch_script
@@ -287,6 +373,68 @@ branch_reads =
     let compound : ReadsCompound 1 branch_text no_bodies (lead.Reserved reserved.If) (at_token 0 1 0) (at_token 24 4 0) _ = r.cond (omega arith) branches in
     let command : ReadsCommand 1 branch_text no_bodies (at_token 0 0 0) (at_close 24 4 0) _ = r.compound_command refl refl compound (r.no_redirect refl) in
     whole branch_text 1 (at_close 24 4 0) branch_script refl (r.sequence (r.list (r.no_break refl) refl (r.last_item (alone_reads command refl refl refl) refl refl))) refl refl
+
+pub elif_reads : Reads elif_text elif_script
+unfolding computes
+elif_reads =
+    let a : ReadsCommand 1 elif_text no_bodies (at_token 3 1 1) (at_token 4 2 1) (utility 2 3 4) =
+    r.simple_command refl (r.word_element refl (r.whole_word (r.more refl r.plain (r.stop refl)) refl refl) (r.no_element refl)) in
+    let first : ReadsList 1 elif_text no_bodies (at_token 3 1 1) (at_token 6 2 1) (lone (utility 2 3 4)) =
+    r.list (r.no_break refl) refl (r.ended_item (alone_reads a refl refl refl) refl (r.no_break refl) refl) in
+    let b : ReadsCommand 1 elif_text no_bodies (at_token 11 2 1) (at_token 12 3 1) (utility 3 11 12) =
+    r.simple_command refl (r.word_element refl (r.whole_word (r.more refl r.plain (r.stop refl)) refl refl) (r.no_element refl)) in
+    let first_body : ReadsList 1 elif_text no_bodies (at_token 11 2 1) (at_token 14 3 1) (lone (utility 3 11 12)) =
+    r.list (r.no_break refl) refl (r.ended_item (alone_reads b refl refl refl) refl (r.no_break refl) refl) in
+    let c : ReadsCommand 1 elif_text no_bodies (at_token 19 3 1) (at_token 20 4 1) (utility 4 19 20) =
+    r.simple_command refl (r.word_element refl (r.whole_word (r.more refl r.plain (r.stop refl)) refl refl) (r.no_element refl)) in
+    let second : ReadsList 1 elif_text no_bodies (at_token 19 3 1) (at_token 22 4 1) (lone (utility 4 19 20)) =
+    r.list (r.no_break refl) refl (r.ended_item (alone_reads c refl refl refl) refl (r.no_break refl) refl) in
+    let d : ReadsCommand 1 elif_text no_bodies (at_token 27 4 1) (at_token 28 5 1) (utility 5 27 28) =
+    r.simple_command refl (r.word_element refl (r.whole_word (r.more refl r.plain (r.stop refl)) refl refl) (r.no_element refl)) in
+    let second_body : ReadsList 1 elif_text no_bodies (at_token 27 4 1) (at_token 30 5 1) (lone (utility 5 27 28)) =
+    r.list (r.no_break refl) refl (r.ended_item (alone_reads d refl refl refl) refl (r.no_break refl) refl) in
+    let branches : ReadsBranches 1 elif_text no_bodies (at_token 3 1 1) (at_token 32 5 1) elif_branches None =
+    r.branch first refl first_body (r.elif refl (r.branch second refl second_body (r.fi refl))) in
+    let compound : ReadsCompound 1 elif_text no_bodies (lead.Reserved reserved.If) (at_token 0 1 0) (at_token 32 5 0) _ = r.cond (omega arith) branches in
+    let command : ReadsCommand 1 elif_text no_bodies (at_token 0 0 0) (at_close 32 5 0) _ = r.compound_command refl refl compound (r.no_redirect refl) in
+    whole elif_text 1 (at_close 32 5 0) elif_script refl (r.sequence (r.list (r.no_break refl) refl (r.last_item (alone_reads command refl refl refl) refl refl))) refl refl
+
+pub until_reads : Reads until_text until_script
+unfolding computes
+until_reads =
+    let a : ReadsCommand 2 until_text no_bodies (at_token 7 2 2) (at_token 8 3 2) (utility 3 7 8) =
+    r.simple_command refl (r.word_element refl (r.whole_word (r.more refl r.plain (r.stop refl)) refl refl) (r.no_element refl)) in
+    let inside : ReadsList 2 until_text no_bodies (at_token 7 2 2) (at_token 8 3 2) (lone (utility 3 7 8)) =
+    r.list (r.no_break refl) refl (r.last_item (alone_reads a refl refl refl) refl refl) in
+    let inner : ReadsCompound 2 until_text no_bodies (lead.Operator op.LeftParenthesis) (at_token 6 2 1) (at_token 10 3 1) (kind.Subshell (lone (utility 3 7 8))) = r.subshell (omega arith) inside refl in
+    let subshell : ReadsCommand 2 until_text no_bodies (at_token 6 1 1) (at_close 10 3 1) until_subshell = r.compound_command refl refl inner (r.no_redirect refl) in
+    let b : ReadsCommand 2 until_text no_bodies (at_close 13 3 1) (at_token 14 4 1) (utility 4 13 14) =
+    r.simple_command refl (r.word_element refl (r.whole_word (r.more refl r.plain (r.stop refl)) refl refl) (r.no_element refl)) in
+    let links : ReadsLinks 2 until_text no_bodies (at_close 10 3 1) (at_token 14 4 1) ((link.OrElse, pipe false (utility 4 13 14 ∷ [])) ∷ []) =
+    r.more_links refl (r.no_break refl) (r.straight refl (r.last_command b refl)) (r.no_link refl) in
+    let condition : ReadsList 2 until_text no_bodies (at_token 6 1 1) (at_token 16 4 1) until_condition =
+    r.list (r.no_break refl) refl (r.ended_item (r.linked (r.straight refl (r.last_command subshell refl)) links) refl (r.no_break refl) refl) in
+    let c : ReadsCommand 2 until_text no_bodies (at_token 19 4 1) (at_token 20 5 1) (utility 5 19 20) =
+    r.simple_command refl (r.word_element refl (r.whole_word (r.more refl r.plain (r.stop refl)) refl refl) (r.no_element refl)) in
+    let body : ReadsList 2 until_text no_bodies (at_token 19 4 1) (at_token 22 5 1) (lone (utility 5 19 20)) =
+    r.list (r.no_break refl) refl (r.ended_item (alone_reads c refl refl refl) refl (r.no_break refl) refl) in
+    let compound : ReadsCompound 2 until_text no_bodies (lead.Reserved reserved.Until) (at_token 0 1 0) (at_token 26 5 0) _ =
+    r.until_loop (omega arith) condition (r.do_group refl body refl) in
+    let command : ReadsCommand 2 until_text no_bodies (at_token 0 0 0) (at_close 26 5 0) _ = r.compound_command refl refl compound (r.no_redirect refl) in
+    whole until_text 2 (at_close 26 5 0) until_script refl (r.sequence (r.list (r.no_break refl) refl (r.last_item (alone_reads command refl refl refl) refl refl))) refl refl
+
+pub every_reads : Reads every_text every_script
+unfolding computes
+every_reads =
+    let login : ReadsWord 1 every_text (in_word 9) (at_word 9 2 1) (at_word 11 2 1) (word 9 11 (part.Tilde (span 9 11) ∷ [])) = r.whole_word (r.more refl r.tilde (r.stop refl)) refl refl in
+    let a : ReadsCommand 1 every_text no_bodies (at_token 9 1 1) (at_token 11 2 1) every_command = r.simple_command refl (r.word_element refl login (r.no_element refl)) in
+    let body : ReadsList 1 every_text no_bodies (at_token 9 1 1) (at_token 13 2 1) (lone every_command) =
+    r.list (r.no_break refl) refl (r.ended_item (alone_reads a refl refl refl) refl (r.no_break refl) refl) in
+    let words : ReadsForWords 1 every_text (at_token 6 1 1) (at_token 6 1 1) None = r.arguments (r.no_break refl) refl in
+    let compound : ReadsCompound 1 every_text no_bodies (lead.Reserved reserved.For) (at_token 0 1 0) (at_token 17 2 0) _ =
+    r.for_loop (omega arith) refl words (r.do_group refl body refl) in
+    let command : ReadsCommand 1 every_text no_bodies (at_token 0 0 0) (at_close 17 2 0) _ = r.compound_command refl refl compound (r.no_redirect refl) in
+    whole every_text 1 (at_close 17 2 0) every_script refl (r.sequence (r.list (r.no_break refl) refl (r.last_item (alone_reads command refl refl refl) refl refl))) refl refl
 
 pub loop_reads : Reads loop_text loop_script
 unfolding computes
@@ -322,6 +470,25 @@ case_reads =
     r.case_of (omega arith) refl subject (r.no_break refl) refl (r.no_break refl) clauses in
     let command : ReadsCommand 1 case_text no_bodies (at_token 0 0 0) (at_close 27 2 0) _ = r.compound_command refl refl compound (r.no_redirect refl) in
     whole case_text 1 (at_close 27 2 0) case_script refl (r.sequence (r.list (r.no_break refl) refl (r.last_item (alone_reads command refl refl refl) refl refl))) refl refl
+
+pub through_reads : Reads through_text through_script
+unfolding computes
+through_reads =
+    let subject : ReadsWord 1 through_text (in_unsplit 5) (at_word 5 1 1) (at_word 6 1 1) (bare 5 6) = r.whole_word (r.more refl r.plain (r.stop refl)) refl refl in
+    let b : ReadsWord 1 through_text (in_unsplit 10) (at_word 10 1 1) (at_word 11 1 1) (bare 10 11) = r.whole_word (r.more refl r.plain (r.stop refl)) refl refl in
+    let c : ReadsCommand 1 through_text no_bodies (at_token 13 1 1) (at_token 14 2 1) (utility 2 13 14) =
+    r.simple_command refl (r.word_element refl (r.whole_word (r.more refl r.plain (r.stop refl)) refl refl) (r.no_element refl)) in
+    let body : ReadsSequence 1 through_text no_bodies (at_token 13 1 1) (at_token 14 2 1) (lone (utility 2 13 14)) =
+    r.sequence (r.list (r.no_break refl) refl (r.last_item (alone_reads c refl refl refl) refl refl)) in
+    let d : ReadsWord 1 through_text (in_unsplit 17) (at_word 17 2 1) (at_word 18 2 1) (bare 17 18) = r.whole_word (r.more refl r.plain (r.stop refl)) refl refl in
+    let last : ReadsClauses 1 through_text no_bodies (at_token 17 2 1) (at_token 27 2 1) (clause (bare 17 18 ∷ []) (script []) Break ∷ []) =
+    r.more_clauses refl (r.last_pattern {s = at_token 17 2 1} refl d refl) (r.nothing (r.no_break refl) refl) refl (r.no_break refl) (r.esac refl) in
+    let clauses : ReadsClauses 1 through_text no_bodies (at_token 10 1 1) (at_token 27 2 1) through_clauses =
+    r.more_clauses refl (r.last_pattern {s = at_token 10 1 1} refl b refl) body refl (r.no_break refl) last in
+    let compound : ReadsCompound 1 through_text no_bodies (lead.Reserved reserved.Case) (at_token 0 1 0) (at_token 27 2 0) _ =
+    r.case_of (omega arith) refl subject (r.no_break refl) refl (r.no_break refl) clauses in
+    let command : ReadsCommand 1 through_text no_bodies (at_token 0 0 0) (at_close 27 2 0) _ = r.compound_command refl refl compound (r.no_redirect refl) in
+    whole through_text 1 (at_close 27 2 0) through_script refl (r.sequence (r.list (r.no_break refl) refl (r.last_item (alone_reads command refl refl refl) refl refl))) refl refl
 
 pub defined_reads : Reads defined_text defined_script
 unfolding computes

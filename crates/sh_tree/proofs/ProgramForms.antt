@@ -1,21 +1,15 @@
 -- The program of what is read off a tree: a command alone, its elements, and their forms.
 use Rattle.std.proofs.Common.{◌≡◌, ℕ, Bool, true, false, if◌then◌else◌, List, [], ◌∷◌, Some, None, refl, ap, ◌∙◌}
 use Rattle.sh_tree.specs.declared.tree.Command.{Command}
-use Rattle.sh_tree.specs.declared.tree.Element.{Element, Assignment', Word', Redirection'}
 use Rattle.sh_tree.specs.declared.tree.Item.{Item, out-Item}
 use Rattle.sh_tree.specs.declared.tree.AndOr.{out-AndOr}
 use Rattle.sh_tree.specs.declared.tree.Pipe.{Pipe, out-Pipe}
-use Rattle.sh_tree.specs.declared.tree.Kind.{Kind, Simple'}
 use Rattle.sh_tree.specs.declared.tree.Link.{Link}
-use Rattle.sh_tree.specs.declared.tree.Part.{items-the_row-Part}
-use Rattle.sh_tree.specs.declared.tree.Span.{Span}
-use Rattle.sh_tree.specs.declared.tree.Word.{Word}
-use Rattle.sh_tree.specs.Tree.{text_of}
-use Rattle.sh_tree.specs.Words.{lone_command, lone_list, lone_pipe, lone_part, elements_of, Assigns, Operand, form_of}
+use Rattle.sh_tree.specs.Words.{lone_command, lone_list, lone_pipe, lone_part}
 use Rattle.sh_tree.specs.program.Syntax as p
-use Rattle.sh_tree.specs.program.Lists.{parts_from, items_from, links_from, commands_from, element_from, elements_from}
-use Rattle.sh_tree.specs.program.Trees.{word_of, and_or_of, pipeline_of, command_of, kind_of}
-use Rattle.sh_tree.proofs.ProgramRules.{parts_listed, elements_listed, and_or_of-out, pipeline_of-out}
+use Rattle.sh_tree.specs.program.Lists.{items_from, links_from, commands_from}
+use Rattle.sh_tree.specs.program.Trees.{and_or_of, pipeline_of, command_of}
+use Rattle.sh_tree.proofs.ProgramRules.{and_or_of-out, pipeline_of-out}
 
 -- the and-or list of one command
 abbrev pub lone_program : p.Command → p.AndOr
@@ -50,29 +44,3 @@ pub items_from-lone : (b : List ℕ) (x : Item) (xs : List Item) (c : Command) �
     → items_from b (x ∷ xs) ≡ p.more_items (lone_program (command_of b c)) false (items_from b xs)
 unfolding lone_command items_from
 items_from-lone b x xs c h = let found = item_from b x (out-Item x).background c h in rw (found.0, found.1) refl
-
--- a command that has elements is a simple one
-pub kind_of-elements : (b : List ℕ) (k : Kind) (e : Element) (es : List Element) → elements_of k ≡ e ∷ es → kind_of b k ≡ p.Simple (elements_from b (e ∷ es))
-unfolding elements_of kind_of
-kind_of-elements b (Simple' shape row) e es h = ap p.Simple (elements_listed b row ∙ ap (elements_from b) h)
-kind_of-elements b k e es h = cc
-
--- an element by its form
-pub element_from-Assigns : (b : List ℕ) (e : Element) (s : Span) (w : Word) (rest : p.Elements) → form_of e ≡ Assigns s w
-    → element_from b e rest ≡ p.assignment (text_of b s) (parts_from b w.parts) rest
-unfolding form_of element_from
-element_from-Assigns b (Assignment' name t shape row) s w rest h =
-    let same : ◌≡◌ {A = Word} (record { span = t; parts = items-the_row-Part _ row }) w = cc in
-    let named : name ≡ s = cc in
-    let parts : word_of b row ≡ parts_from b w.parts = parts_listed b row ∙ ap (λ (x : Word). parts_from b x.parts) same in
-    rw (named, parts) refl
-element_from-Assigns b (Word' t shape row) s w rest h = cc
-element_from-Assigns b (Redirection' at number target) s w rest h = cc
-
-pub element_from-Operand : (b : List ℕ) (e : Element) (w : Word) (rest : p.Elements) → form_of e ≡ Operand w → element_from b e rest ≡ p.operand (parts_from b w.parts) rest
-unfolding form_of element_from
-element_from-Operand b (Assignment' name t shape row) w rest h = cc
-element_from-Operand b (Word' t shape row) w rest h =
-    let same : ◌≡◌ {A = Word} (record { span = t; parts = items-the_row-Part _ row }) w = cc in
-    ap (λ x. p.operand x rest) (parts_listed b row ∙ ap (λ (x : Word). parts_from b x.parts) same)
-element_from-Operand b (Redirection' at number target) w rest h = cc

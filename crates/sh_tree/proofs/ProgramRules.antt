@@ -70,12 +70,12 @@ unfolding part_of element_from elements_from
 elements_listed b end_of-Element = refl
 elements_listed b (more_of-Element (Assignment' name s shape row) rest) = ap (p.assignment (text_of b name) (word_of b row)) (elements_listed b rest)
 elements_listed b (more_of-Element (Word' s shape row) rest) = ap (p.operand (word_of b row)) (elements_listed b rest)
-elements_listed b (more_of-Element (Redirection' at number target) rest) = ap (p.redirection (target_of b at target)) (elements_listed b rest)
+elements_listed b (more_of-Element (Redirection' at number target) rest) = ap (p.redirection (target_of b target)) (elements_listed b rest)
 
 pub redirects_listed : {m : _} (b : List ℕ) (k : Row_of-Redirect m) → redirects_of b k ≡ redirects_from b (items-the_row-Redirect m k)
 unfolding part_of redirects_from
 redirects_listed b end_of-Redirect = refl
-redirects_listed b (more_of-Redirect at number target rest) = ap (p.more_redirects (target_of b at target)) (redirects_listed b rest)
+redirects_listed b (more_of-Redirect at number target rest) = ap (p.more_redirects (target_of b target)) (redirects_listed b rest)
 
 pub branches_listed : {m : _} (b : List ℕ) (k : Row_of-Branch m) → branches_of b k ≡ branches_from b (items-the_row-Branch m k)
 unfolding part_of branches_from out-Branch denote.Hole.Carrier.out
@@ -203,7 +203,7 @@ pub redirects_from-empty : (b : List ℕ) → redirects_from b [] ≡ p.no_redir
 unfolding redirects_from
 redirects_from-empty b = refl
 
-pub redirects_from-more : (b : List ℕ) (x : Redirect) (xs : List Redirect) → redirects_from b (x ∷ xs) ≡ p.more_redirects (target_of b x.at x.target) (redirects_from b xs)
+pub redirects_from-more : (b : List ℕ) (x : Redirect) (xs : List Redirect) → redirects_from b (x ∷ xs) ≡ p.more_redirects (target_of b x.target) (redirects_from b xs)
 unfolding redirects_from
 redirects_from-more b x xs = refl
 
@@ -293,7 +293,7 @@ pub element_from-Word : (b : List ℕ) (w : Word) (rest : p.Elements) → elemen
 unfolding element_from
 element_from-Word b w rest = ap (λ x. p.operand x rest) (word_row b w.parts)
 
-pub element_from-Redirection : (b : List ℕ) (r : Redirect) (rest : p.Elements) → element_from b (element.Redirection r) rest ≡ p.redirection (target_of b r.at r.target) rest
+pub element_from-Redirection : (b : List ℕ) (r : Redirect) (rest : p.Elements) → element_from b (element.Redirection r) rest ≡ p.redirection (target_of b r.target) rest
 unfolding element_from
 element_from-Redirection b r rest = refl
 
@@ -305,18 +305,18 @@ pub elements_from-Word : (b : List ℕ) (w : Word) (es : List Element) → eleme
 elements_from-Word b w es = elements_from-more b (element.Word w) es ∙ element_from-Word b w (elements_from b es)
 
 pub elements_from-Redirection : (b : List ℕ) (r : Redirect) (es : List Element)
-    → elements_from b (element.Redirection r ∷ es) ≡ p.redirection (target_of b r.at r.target) (elements_from b es)
+    → elements_from b (element.Redirection r ∷ es) ≡ p.redirection (target_of b r.target) (elements_from b es)
 elements_from-Redirection b r es = elements_from-more b (element.Redirection r) es ∙ element_from-Redirection b r (elements_from b es)
 
 pub ruleset program_elements = (element_from-Assignment, element_from-Word, element_from-Redirection, elements_from-Assignment, elements_from-Word, elements_from-Redirection)
 
-pub target_of-File : (b : List ℕ) (at : ℕ) (d : Direction) (w : Word) → target_of b at (target.File d w) ≡ p.File at (parts_from b w.parts)
+pub target_of-File : (b : List ℕ) (d : Direction) (w : Word) → target_of b (target.File d w) ≡ p.File (parts_from b w.parts)
 unfolding part_of
-target_of-File b at d w = ap (p.File at) (word_row b w.parts)
+target_of-File b d w = ap p.File (word_row b w.parts)
 
-pub target_of-Here : (b : List ℕ) (at : ℕ) (h : HereDoc) → target_of b at (target.Here h) ≡ p.Here at (parts_from b h.body.parts)
+pub target_of-Here : (b : List ℕ) (h : HereDoc) → target_of b (target.Here h) ≡ p.Here (parts_from b h.body.parts)
 unfolding part_of
-target_of-Here b at h = ap (p.Here at) (word_row b h.body.parts)
+target_of-Here b h = ap p.Here (word_row b h.body.parts)
 
 pub ruleset program_targets = (target_of-File, target_of-Here)
 

@@ -1,5 +1,5 @@
 -- Static texts, one part after another.
-use Rattle.std.proofs.Common.{◌≡◌, ℕ, ◌+◌, ◌<◌, ◌≤◌, Option, Some, None, List, [], length, get_or, drop, refl, ap, add-one, drop-cons, append_assoc}
+use Rattle.std.proofs.Common.{◌≡◌, ℕ, ◌+◌, ◌<◌, ◌≤◌, Option, Some, None, List, length, get_or, drop, refl, ap, add-one, drop-cons, append_assoc}
 use Rattle.std.proofs.lemmas.List.{drop_all, append-nil}
 use Rattle.sh_tree.specs.declared.tree.Part.{Part}
 use Rattle.sh_tree.specs.Words.{joined, part_text, parts_text}
@@ -8,10 +8,6 @@ use Rattle.sh_tree.specs.Words.{joined, part_text, parts_text}
 pub joined_none : (t : List ℕ) (x : Option (List ℕ)) → None ≡ joined (Some t) x → None ≡ x
 joined_none t None e = refl
 joined_none t (Some u) e = cc
-
-pub joined_empty : (t : List ℕ) (x : Option (List ℕ)) → Some t ≡ joined (Some []) x → Some t ≡ x
-joined_empty t None e = cc
-joined_empty t (Some u) e = e
 
 joined_assoc : (a : List ℕ) (x y : Option (List ℕ)) → joined (joined (Some a) x) y ≡ joined (Some a) (joined x y)
 joined_assoc a None y = refl

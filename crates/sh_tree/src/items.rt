@@ -30,13 +30,6 @@ impl<T> Items<T> {
         }
     }
 
-    /// The items of a vector.
-    pub fn from_vec(items: Vec<T>) -> Items<T>
-        ensures { result ≡ items.items }
-    {
-        Items { items }
-    }
-
     /// The items as a slice.
     pub fn as_slice(&self) -> &[T]
         ensures { result.now ≡ self.now }
@@ -61,6 +54,10 @@ impl<T> Items<T> {
 
 impl<T: Copy> Items<T> {
     /// A copy of a slice.
+    ///
+    /// # Errors
+    ///
+    /// `AllocError` where a growth was refused.
     pub fn from_slice(alloc: Global, items: &[T]) -> Result<Items<T>, AllocError>
         ensures { IfOk result (λ it. it ≡ items.now) }
     {
@@ -71,6 +68,10 @@ impl<T: Copy> Items<T> {
 
 impl<T: Drop> Items<T> {
     /// Adds an item at the end.
+    ///
+    /// # Errors
+    ///
+    /// `AllocError` where a growth was refused; the items stay.
     pub fn push(&mut self, item: T) -> Result<(), AllocError>
         ensures ok { OnOk result (self.new ≡ self.old ++ item ∷ []) }
         ensures err { OnErr result (self.new ≡ self.old) }

@@ -21,7 +21,7 @@ pub enum KnownName {
     Times,
     Trap,
     Unset,
-    // Utilities that change how commands are read.
+    // Utilities that change how commands are read, or that run commands that stand elsewhere.
     Alias,
     Unalias,
     Fc,

@@ -2,13 +2,14 @@
 ghost use Rattle.sh_tree.specs.language.Examples.{LanguageRead};
 ghost use Rattle.sh_tree.specs.program.Examples.{ProgramsRead};
 
-/// Texts of each form of the language are the trees that they are meant to be, and texts that are no scripts are none.
+/// Texts with each kind of part, expansion, arithmetic expression and command are the trees that they are meant to be, and
+/// texts that are no scripts are none.
 pub fn reads_language()
     ensures { LanguageRead }
 {}
 
-/// The trees of such texts are the programs that they are meant to be: simple commands, expansions, arithmetic, a
-/// here-document, a loop, `case`, and a function definition.
+/// The trees of such texts are the programs that they are meant to be: each kind of part, expansion, arithmetic
+/// expression, redirection and command.
 pub fn reads_programs()
     ensures { ProgramsRead }
 {}

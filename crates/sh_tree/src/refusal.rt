@@ -97,7 +97,7 @@ pub enum Form {
     Time,
     /// `namespace`, which other shells reserve (XCU 2.4).
     Namespace,
-    /// `{` name `}` before a redirection (XCU 2.7).
+    /// A word from `{` to `}` before a redirection (XCU 2.7).
     IoLocation,
     /// A delimiter of a here-document with an expansion or a newline in it (XCU 2.7.4).
     HereWord,
@@ -149,7 +149,7 @@ pub enum Rule {
     ComputedName,
     /// The command has a name that is refused.
     Refused(KnownName),
-    /// The command name holds `+=`, which other shells read as an assignment.
+    /// The command name begins with a name and `+=`, which other shells read as an assignment.
     Append,
     /// A function is defined that has such a name.
     FunctionNamed(KnownName),
@@ -157,11 +157,13 @@ pub enum Rule {
     Quoted(Declaration),
     /// `trap` is given an action (XCU 2.15, trap).
     TrapAction,
-    /// `command` is to run a built-in that changes the shell, or what it runs is no static text (XCU 3, command).
+    /// `command` is to run a built-in that changes the shell or a refused name, or has an unknown option, or what it runs is
+    /// no static text (XCU 3, command).
     CommandUse,
     /// An operand of `unset` is no static text (XCU 2.15, unset).
     UnsetOperand,
-    /// Where `set` may have an option stands no static text, or `-` or `+` alone (XCU 2.15, set).
+    /// Where `set` may have an option stands no static text, `-` or `+` alone, an `o` before other letters, or an `-o`
+    /// whose argument is empty or looks like an option (XCU 2.15, set).
     SetOperand,
     /// The operand of `break` is no static number from 1 (XCU 2.15, break).
     BreakOperand,
@@ -221,24 +223,34 @@ impl Rule {
 /// Why there is no answer. Offsets count the script's bytes from 0.
 #[derive(Clone, Copy, Debug, PartialEq, Eq, Error)]
 pub enum Refusal {
+    /// The script has more than `MAX_SCRIPT` bytes.
     #[error("the script is too long")]
     TooLong,
+    /// A NUL byte, which no text has, at its offset.
     #[error("a NUL byte at {0}")]
     NulByte(u32),
+    /// A fault of syntax and its offset, which may be the script's end.
     #[error("a syntax fault at {1}: {0:?}")]
     Syntax(Fault, u32),
+    /// A form that is left out, and the offset of its first byte.
     #[error("a form that is left out at {1}: {0:?}")]
     LeftOut(Form, u32),
+    /// More than `MAX_NESTING` levels, at the offset of the first that is too many.
     #[error("nested too deep at {0}")]
     TooDeep(u32),
+    /// More than `MAX_COMMANDS` commands, or more names than are numbered.
     #[error("too many commands or names")]
     TooMany,
+    /// A growth was refused.
     #[error("out of memory")]
     Memory,
+    /// A command breaks a rule of the profile; the offset of the command.
     #[error("outside the profile at {1}: {0:?}")]
     Profile(Rule, u32),
+    /// A line of a certificate, by its number from 1, is none of the format.
     #[error("line {0} of the certificate is malformed")]
     CertSyntax(u32),
+    /// A certificate that is well-formed speaks of another script.
     #[error("the certificate does not fit the script")]
     CertShape,
 }

@@ -9,6 +9,10 @@ use std::alloc::{AllocError, Global};
 
 /// The text of a word without its quoting (XCU 2.2), or nothing where the word holds an expansion, a tilde-prefix or a byte
 /// of a pattern outside quotes: a `*`, a `?`, or a `[` that is not the whole word.
+///
+/// # Errors
+///
+/// `AllocError` where a growth was refused.
 #[tactic(auto, using(crate::proofs::TextLemmas::joined_none), unfolding(crate::specs::Words::static_text))]
 pub fn static_text(alloc: Global, word: &Word, script: &[u8]) -> Result<Option<Vec<u8>>, AllocError>
     ensures { IfOk result (λ found. option_map (λ v. v.items) found ≡ words.static_text script.now word.now.parts) }

@@ -42,9 +42,9 @@ pub record Answer : Type 0 where
   pub matches : Bool
   -- the values that `read`, `getopts` and `cd` give to their names, where they give one
   pub values : ℕ → Option Text
-  -- the names that `unset` removes though it fails, and the first for whether `set` does its work then; how many parameters `shift`
-  -- removes where its operand is no number
+  -- by place, the operands that `unset` removes though it fails; the first one is also whether `set` does its work though it fails
   pub removes : ℕ → Bool
+  -- how many parameters `shift` removes where its operand is no number
   pub count : ℕ
   -- Choices
 

@@ -4,13 +4,13 @@ use Rattle.std.specs.Prelude.{ℕ, ◌+◌, ◌==◌, nat_lt, Bool, true, false,
 use Rattle.std.specs.List.{list_all, filter_map}
 use Rattle.std.specs.Str.{bytes_eq}
 use Rattle.sh_tree.specs.language.Bytes.{is_first, is_name, name_length}
+use Rattle.sh_tree.specs.language.Commands.{is_assignment}
 use Rattle.sh_tree.specs.program.Syntax.{Text}
 use Rattle.sh_table.specs.runs.Numbers.{number_in}
 
 -- An operand as a name, `=` and a value.
 unfoldable pub definition_in : Text → Option (Text × Text)
-definition_in t =
-    if not (name_length t == 0) && is_first (λ c. c == 61) (drop (name_length t) t) then Some (take (name_length t) t, drop (name_length t + 1) t) else None
+definition_in t = if is_assignment t then Some (take (name_length t) t, drop (name_length t + 1) t) else None
 
 -- what `export` and `readonly` set
 abbrev pub definitions_in : List Text → List (Text × Text)
@@ -67,7 +67,7 @@ set_from false (t ∷ ts) = if ends_options t then Some ts else (if is_set_optio
 abbrev pub set_words : List Text → Option (List Text)
 set_words ts = set_from false ts
 
--- the number that the first operand of `shift` or `break` writes; without one it is 1
+-- the number that the first operand of `shift`, `break` or `continue` writes; without one it is 1
 unfoldable pub count_operand : List Text → Option ℕ
 count_operand [] = Some 1
 count_operand (t ∷ ts) = number_in t

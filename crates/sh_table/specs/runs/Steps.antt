@@ -1,6 +1,6 @@
 -- What a process does in one step.
 -- POSIX.1-2024, XCU 2.7 (redirection), 2.8.1 (consequences of shell errors), 2.9 (shell commands).
-use Rattle.std.specs.Prelude.{ℕ, zero, suc, ◌==◌, Bool, true, false, not, ◌&&◌, ◌||◌, if◌then◌else◌, List, [], ◌∷◌, ◌++◌, map, Option, Some, None}
+use Rattle.std.specs.Prelude.{ℕ, zero, suc, ◌==◌, Bool, true, false, not, ◌&&◌, ◌||◌, if◌then◌else◌, List, [], ◌∷◌, ◌++◌, map, Option, Some, None, is_some}
 use Rattle.sh_tree.specs.declared.tree.ClauseEnd.{ClauseEnd}
 use Rattle.sh_tree.specs.declared.tree.ClauseEnd.TheVariants as clause
 use Rattle.sh_tree.specs.declared.tree.Link.{Link}
@@ -41,8 +41,8 @@ assignments_in (p.redirection r es) = assignments_in es
 
 -- the word that a redirection expands
 unfoldable pub opened : p.Redirect → p.Word
-opened (p.File at w) = w
-opened (p.Here at w) = w
+opened (p.File w) = w
+opened (p.Here w) = w
 
 -- how a simple command goes on, by its fields: without a name, as a special built-in utility, or otherwise as a function or a utility
 pub data Manner : Type 0 where
@@ -57,11 +57,7 @@ manner (t ∷ ts) = if is_special (kind_of t) then Special t ts else Named t ts
 -- an operand of a declaration utility that is an assignment in form is not split
 unfoldable pub is_declared : List Text → p.Word → Bool
 is_declared [] w = false
-is_declared (t ∷ ts) w = is_declaration (kind_of t) && is_assignment (assignment_in w)
-  where
-    is_assignment : Option (Text × p.Word) → Bool
-    is_assignment None = false
-    is_assignment (Some x) = true
+is_declared (t ∷ ts) w = is_declaration (kind_of t) && is_some (assignment_in w)
 
 abbrev pub word_context : List Text → p.Word → Context
 word_context ts w = if is_declared ts w then in_one else in_fields
@@ -180,11 +176,7 @@ module _ (e : Environment) (f : Frame) (status : ℕ) (ws : List Work) (a : Answ
   unfoldable pub failed_in : Manner → Environment → List Work → Effect
   failed_in Nameless d next = if a.ends then goes d f (nonzero a.status) ws else goes d f status next
   failed_in (Special t ts) d next = ends d f
-  failed_in (Named t ts) d next = if a.ends && is_defined (d.functions t) then ends d f else goes d f (nonzero a.status) ws
-    where
-      is_defined : Option p.Command → Bool
-      is_defined None = false
-      is_defined (Some body) = true
+  failed_in (Named t ts) d next = if a.ends && is_some (d.functions t) then ends d f else goes d f (nonzero a.status) ws
 
   -- a redirection: in a copy its early end is a failure, and nothing else stays of it
   unfoldable pub redirected : Manner → State → List Work → List Work → Effect

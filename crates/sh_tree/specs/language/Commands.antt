@@ -159,15 +159,15 @@ name_end b i = i + name_length (drop i b)
 unfoldable pub declares : List ℕ → ℕ → Bool
 declares b i = bytes_eq (codes "export") (bare_word b i) || bytes_eq (codes "readonly") (bare_word b i)
 
+-- `<` or `>` stands at the front
+abbrev pub is_angle : List ℕ → Bool
+is_angle cs = is_first (λ c. c == 60 || c == 62) cs
+
 -- A word of three bytes or more that begins with `{` and ends with `}`, from i to j, before `<` or `>`: a shell may take it as an IO location (XCU 2.7).
 unfoldable pub is_location : List ℕ → ℕ → ℕ → Bool
 is_location b i j =
     nat_le (i + 3) j && is_first (λ c. c == 123) (drop i b) && is_first (λ c. c == 125) (drop (j - 1) b)
-    && is_first (λ c. c == 60 || c == 62) (behind_joined (drop j b))
-
--- `<` or `>` stands at the front
-abbrev pub is_angle : List ℕ → Bool
-is_angle cs = is_first (λ c. c == 60 || c == 62) cs
+    && is_angle (behind_joined (drop j b))
 
 -- Leads
 

@@ -4,8 +4,9 @@ use Rattle.std.specs.Prelude.{ℕ, true, false, List, [], ◌∷◌, ◌+◌, co
 use Rattle.sh_tree.specs.declared.tree.Action.TheVariants as action
 use Rattle.sh_tree.specs.declared.tree.AndOr.{AndOr}
 use Rattle.sh_tree.specs.declared.tree.Binary.TheVariants as binary
+use Rattle.sh_tree.specs.declared.tree.Branch.{Branch}
 use Rattle.sh_tree.specs.declared.tree.Clause.{Clause}
-use Rattle.sh_tree.specs.declared.tree.ClauseEnd.TheVariants.{Break}
+use Rattle.sh_tree.specs.declared.tree.ClauseEnd.TheVariants.{Break, FallThrough}
 use Rattle.sh_tree.specs.declared.tree.Command.{Command}
 use Rattle.sh_tree.specs.declared.tree.CommandStyle.TheVariants.{Paren}
 use Rattle.sh_tree.specs.declared.tree.Direction.TheVariants as direction
@@ -13,19 +14,21 @@ use Rattle.sh_tree.specs.declared.tree.Element.{Element}
 use Rattle.sh_tree.specs.declared.tree.Element.TheVariants as element
 use Rattle.sh_tree.specs.declared.tree.Expr.{Expr}
 use Rattle.sh_tree.specs.declared.tree.Expr.TheVariants as expr
-use Rattle.sh_tree.specs.declared.tree.Item.{Item}
 use Rattle.sh_tree.specs.declared.tree.Kind.TheVariants as kind
 use Rattle.sh_tree.specs.declared.tree.Link.TheVariants as link
+use Rattle.sh_tree.specs.declared.tree.LoopKind.TheVariants as loop
 use Rattle.sh_tree.specs.declared.tree.Operator.TheVariants as operator
 use Rattle.sh_tree.specs.declared.tree.Part.{Part}
 use Rattle.sh_tree.specs.declared.tree.Part.TheVariants as part
 use Rattle.sh_tree.specs.declared.tree.Removal.TheVariants as removal
 use Rattle.sh_tree.specs.declared.tree.Script.{Script}
 use Rattle.sh_tree.specs.declared.tree.SingleStyle.TheVariants as single
-use Rattle.sh_tree.specs.declared.tree.Subject.TheVariants.{Name}
+use Rattle.sh_tree.specs.declared.tree.Special.TheVariants as special
+use Rattle.sh_tree.specs.declared.tree.Subject.TheVariants.{Name, Positional, Special}
 use Rattle.sh_tree.specs.declared.tree.Target.TheVariants.{File, Here}
+use Rattle.sh_tree.specs.declared.tree.Unary.TheVariants as unary
 use Rattle.sh_tree.specs.declared.tree.Word.{Word}
-use Rattle.sh_tree.specs.language.Trees.{span, word, param, redirect, here_doc, command, pipe, and_or, item, script, branch, clause}
+use Rattle.sh_tree.specs.language.Trees.{span, word, param, redirect, here_doc, command, pipe, and_or, item, item_of, script, branch, clause}
 use Rattle.sh_tree.specs.language.Reading.{Reads}
 
 -- Trees
@@ -49,12 +52,8 @@ simple number at elements = command number at (kind.Simple elements) []
 abbrev pub utility : ℕ → ℕ → ℕ → Command
 utility number i j = simple number i (element.Word (bare i j) ∷ [])
 
--- a command alone
-abbrev pub alone : Command → Item
-alone c = item (and_or (pipe false (c ∷ [])) []) false
-
 abbrev pub lone : Command → Script
-lone c = script (alone c ∷ [])
+lone c = script (item_of c ∷ [])
 
 -- Texts
 
@@ -104,7 +103,7 @@ abbrev pub assigned_words : List Element
 assigned_words = element.Word (bare 4 8) ∷ element.Word (word 9 13 assigned_parts) ∷ []
 
 abbrev pub assigned_script : Script
-assigned_script = script (alone (simple 1 0 (element.Assignment (span 0 1) (bare 2 3) ∷ [])) ∷ alone (simple 2 4 assigned_words) ∷ [])
+assigned_script = script (item_of (simple 1 0 (element.Assignment (span 0 1) (bare 2 3) ∷ [])) ∷ item_of (simple 2 4 assigned_words) ∷ [])
 
 -- the utility's environment gets it
 abbrev pub passed_text : List ℕ
@@ -154,6 +153,21 @@ braced_words =
 abbrev pub braced_script : Script
 braced_script = lone (simple 1 0 braced_words)
 
+-- positional parameters, a line continuation in quotes and a special parameter
+abbrev pub parameters_text : List ℕ
+parameters_text = codes "echo \"$1${10}\\\n$?\""
+
+abbrev pub parameters_parts : List Part
+parameters_parts =
+    param 6 8 (Positional 1 (span 7 8)) operator.Value ∷ param 8 13 (Positional 10 (span 10 12)) operator.Value ∷ part.Joined (span 13 15)
+    ∷ param 15 17 (Special special.QuestionMark (span 16 17)) operator.Value ∷ []
+
+abbrev pub parameters_words : List Element
+parameters_words = element.Word (bare 0 4) ∷ element.Word (word 5 18 (part.Double (span 5 18) parameters_parts ∷ [])) ∷ []
+
+abbrev pub parameters_script : Script
+parameters_script = lone (simple 1 0 parameters_words)
+
 -- levels of arithmetic, and an assignment
 abbrev pub arithmetic_text : List ℕ
 arithmetic_text = codes "echo $((a=1+2*3))"
@@ -169,6 +183,18 @@ arithmetic_part = part.Arith (span 5 17) (expr.Assign (span 8 9) None sum)
 
 abbrev pub arithmetic_script : Script
 arithmetic_script = lone (simple 1 0 (element.Word (bare 0 4) ∷ element.Word (word 5 17 (arithmetic_part ∷ [])) ∷ []))
+
+-- a choice between a parenthesis and an expansion
+abbrev pub choice_text : List ℕ
+choice_text = codes "echo $((-x?(y):$z))"
+
+abbrev pub choice_part : Part
+choice_part =
+    part.Arith (span 5 19) (expr.Choice (expr.Unary unary.Minus (expr.Variable (span 9 10)))
+    (expr.Parenthesis (expr.Variable (span 12 13))) (expr.Expansion (value 15 17)))
+
+abbrev pub choice_script : Script
+choice_script = lone (simple 1 0 (element.Word (bare 0 4) ∷ element.Word (word 5 19 (choice_part ∷ [])) ∷ []))
 
 -- a substitution: its command is the second one
 abbrev pub substituted_text : List ℕ
@@ -194,13 +220,56 @@ abbrev pub document_words : List Element
 document_words = element.Word (bare 0 3) ∷ element.Redirection (redirect 4 None (Here (here_doc false (bare 6 7) document_body (span 15 16)))) ∷ []
 
 abbrev pub document_script : Script
-document_script = script (alone (simple 1 0 document_words) ∷ alone (utility 2 9 10) ∷ [])
+document_script = script (item_of (simple 1 0 document_words) ∷ item_of (utility 2 9 10) ∷ [])
+
+-- the body and the end line begin with tabs
+abbrev pub stripped_text : List ℕ
+stripped_text = codes "<<-E\n\ta\n\tE\n"
+
+abbrev pub stripped_body : Word
+stripped_body = word 5 8 (plain 6 8 ∷ [])
+
+abbrev pub stripped_script : Script
+stripped_script = lone (simple 1 0 (element.Redirection (redirect 0 None (Here (here_doc true (bare 3 4) stripped_body (span 8 10)))) ∷ []))
 
 abbrev pub branch_text : List ℕ
 branch_text = codes "if a; then b; else c; fi"
 
 abbrev pub branch_script : Script
 branch_script = lone (command 1 0 (kind.Cond (branch (lone (utility 2 3 4)) (lone (utility 3 11 12)) ∷ []) (Some (lone (utility 4 19 20)))) [])
+
+-- a second condition, and nothing otherwise
+abbrev pub elif_text : List ℕ
+elif_text = codes "if a; then b; elif c; then d; fi"
+
+abbrev pub elif_branches : List Branch
+elif_branches = branch (lone (utility 2 3 4)) (lone (utility 3 11 12)) ∷ branch (lone (utility 4 19 20)) (lone (utility 5 27 28)) ∷ []
+
+abbrev pub elif_script : Script
+elif_script = lone (command 1 0 (kind.Cond elif_branches None) [])
+
+-- a loop whose condition is a subshell or a utility
+abbrev pub until_text : List ℕ
+until_text = codes "until (a) || b; do c; done"
+
+abbrev pub until_subshell : Command
+until_subshell = command 2 6 (kind.Subshell (lone (utility 3 7 8))) []
+
+abbrev pub until_condition : Script
+until_condition = script (item (and_or (pipe false (until_subshell ∷ [])) ((link.OrElse, pipe false (utility 4 13 14 ∷ [])) ∷ [])) false ∷ [])
+
+abbrev pub until_script : Script
+until_script = lone (command 1 0 (kind.Loop loop.Until until_condition (lone (utility 5 19 20))) [])
+
+-- all positional parameters; the command's name has a login name
+abbrev pub every_text : List ℕ
+every_text = codes "for x do ~a; done"
+
+abbrev pub every_command : Command
+every_command = simple 2 9 (element.Word (word 9 11 (part.Tilde (span 9 11) ∷ [])) ∷ [])
+
+abbrev pub every_script : Script
+every_script = lone (command 1 0 (kind.For (span 4 5) None (lone every_command)) [])
 
 abbrev pub loop_text : List ℕ
 loop_text = codes "for x in a; do b; done"
@@ -217,6 +286,16 @@ case_clauses = clause (bare 11 12 ∷ bare 13 14 ∷ []) (lone (utility 2 16 17)
 
 abbrev pub case_script : Script
 case_script = lone (command 1 0 (kind.Branches (bare 5 6) case_clauses) [])
+
+-- a clause that falls through to one with an empty list
+abbrev pub through_text : List ℕ
+through_text = codes "case a in b) c;& d) ;; esac"
+
+abbrev pub through_clauses : List Clause
+through_clauses = clause (bare 10 11 ∷ []) (lone (utility 2 13 14)) FallThrough ∷ clause (bare 17 18 ∷ []) (script []) Break ∷ []
+
+abbrev pub through_script : Script
+through_script = lone (command 1 0 (kind.Branches (bare 5 6) through_clauses) [])
 
 -- a definition, whose body has the redirection; a pipeline behind `!`; an asynchronous list
 abbrev pub defined_text : List ℕ
@@ -335,12 +414,19 @@ pub record LanguageRead : Type 0 where
   pub home : Reads home_text home_script
   pub braces : Reads braces_text braces_script
   pub braced : Reads braced_text braced_script
+  pub parameters : Reads parameters_text parameters_script
   pub arithmetic : Reads arithmetic_text arithmetic_script
+  pub choice : Reads choice_text choice_script
   pub substituted : Reads substituted_text substituted_script
   pub document : Reads document_text document_script
+  pub stripped : Reads stripped_text stripped_script
   pub branches : Reads branch_text branch_script
+  pub elif : Reads elif_text elif_script
+  pub until : Reads until_text until_script
+  pub every : Reads every_text every_script
   pub loop : Reads loop_text loop_script
   pub cases : Reads case_text case_script
+  pub through : Reads through_text through_script
   pub defined : Reads defined_text defined_script
   pub unset_first : Reads unset_first_text unset_first_script
   pub unset_last : Reads unset_last_text unset_last_script

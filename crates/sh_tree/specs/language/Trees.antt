@@ -1,6 +1,6 @@
 -- The tree's words as the reading writes them.
 -- POSIX.1-2024, XCU 2.10 (shell grammar).
-use Rattle.std.specs.Prelude.{ℕ, Bool, List, [], ◌∷◌, Option}
+use Rattle.std.specs.Prelude.{ℕ, Bool, false, List, [], ◌∷◌, Option}
 use Rattle.sh_tree.specs.declared.tree.Span.{Span}
 use Rattle.sh_tree.specs.declared.tree.Script.{Script, roll-Script}
 use Rattle.sh_tree.specs.declared.tree.Item.{Item, roll-Item}
@@ -56,6 +56,10 @@ and_or first rest = roll-AndOr (record { first = first; rest = rest })
 
 abbrev pub item : AndOr → Bool → Item
 item list background = roll-Item (record { list = list; background = background })
+
+-- the item that is the command alone, in the foreground
+abbrev pub item_of : Command → Item
+item_of c = item (and_or (pipe false (c ∷ [])) []) false
 
 abbrev pub script : List Item → Script
 script items = roll-Script (record { items = items })

@@ -46,7 +46,7 @@ commands_from b (c ∷ cs) = p.more_commands (command_of b c) (commands_from b c
 unfoldable pub element_from : List ℕ → Element → p.Elements → p.Elements
 element_from b (Assignment' name s shape row) rest = p.assignment (text_of b name) (word_of b row) rest
 element_from b (Word' s shape row) rest = p.operand (word_of b row) rest
-element_from b (Redirection' at number target) rest = p.redirection (target_of b at target) rest
+element_from b (Redirection' at number target) rest = p.redirection (target_of b target) rest
 
 unfoldable pub elements_from : List ℕ → List Element → p.Elements
 elements_from b [] = p.no_elements
@@ -54,7 +54,7 @@ elements_from b (e ∷ es) = element_from b e (elements_from b es)
 
 unfoldable pub redirects_from : List ℕ → List Redirect → p.Redirects
 redirects_from b [] = p.no_redirects
-redirects_from b (r ∷ rs) = p.more_redirects (target_of b r.at r.target) (redirects_from b rs)
+redirects_from b (r ∷ rs) = p.more_redirects (target_of b r.target) (redirects_from b rs)
 
 unfoldable pub branches_from : List ℕ → List Branch → p.Branches
 branches_from b [] = p.no_branches

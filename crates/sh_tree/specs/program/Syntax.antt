@@ -1,4 +1,4 @@
--- The program that a script is: its commands and words without the places of their bytes.
+-- The program that a script is: its commands and words, with an offset where something may be told of one.
 -- POSIX.1-2024, XCU 2.6 (word expansions), 2.7 (redirection), 2.9 (shell commands).
 use Rattle.std.specs.Prelude.{ℕ, Bool, List, Option}
 use Rattle.sh_tree.specs.declared.tree.Action.{Action}
@@ -116,8 +116,8 @@ mutual
 
   -- a redirection: the word that it opens, or the body of a here-document (XCU 2.7)
   pub data Redirect : Type 0 where
-    File : (at : ℕ) (target : Word) → Redirect
-    Here : (at : ℕ) (body : Word) → Redirect
+    File : (target : Word) → Redirect
+    Here : (body : Word) → Redirect
 
   pub data Redirects : Type 0 where
     no_redirects : Redirects

@@ -118,15 +118,15 @@ unfoldable mutual
   elements_of b end_of-Element = p.no_elements
   elements_of b (more_of-Element (Assignment' name s shape row) rest) = p.assignment (text_of b name) (word_of b row) (elements_of b rest)
   elements_of b (more_of-Element (Word' s shape row) rest) = p.operand (word_of b row) (elements_of b rest)
-  elements_of b (more_of-Element (Redirection' at number target) rest) = p.redirection (target_of b at target) (elements_of b rest)
+  elements_of b (more_of-Element (Redirection' at number target) rest) = p.redirection (target_of b target) (elements_of b rest)
 
-  pub target_of : List ℕ → ℕ → Target → p.Redirect
-  target_of b at (File' direction s shape row) = p.File at (word_of b row)
-  target_of b at (Here' strip s shape delimiter s' shape' body end) = p.Here at (word_of b body)
+  pub target_of : List ℕ → Target → p.Redirect
+  target_of b (File' direction s shape row) = p.File (word_of b row)
+  target_of b (Here' strip s shape delimiter s' shape' body end) = p.Here (word_of b body)
 
   pub redirects_of : {m : _} → List ℕ → Row_of-Redirect m → p.Redirects
   redirects_of b end_of-Redirect = p.no_redirects
-  redirects_of b (more_of-Redirect at number target rest) = p.more_redirects (target_of b at target) (redirects_of b rest)
+  redirects_of b (more_of-Redirect at number target rest) = p.more_redirects (target_of b target) (redirects_of b rest)
 
   pub branches_of : {m : _} → List ℕ → Row_of-Branch m → p.Branches
   branches_of b end_of-Branch = p.no_branches

@@ -6,10 +6,11 @@ use Rattle.std.specs.Str.{bytes_eq}
 use Rattle.sh_tree.specs.declared.tree.SingleStyle.{SingleStyle}
 use Rattle.sh_tree.specs.declared.tree.SingleStyle.TheVariants as single
 use Rattle.sh_tree.specs.Words.{joined, is_wildcard}
-use Rattle.sh_tree.specs.language.Bytes.{is_first, name_length}
+use Rattle.sh_tree.specs.language.Bytes.{name_length}
+use Rattle.sh_tree.specs.language.Commands.{is_assignment}
 use Rattle.sh_tree.specs.program.Syntax.{Text, Part, Plain, Escaped, Single, Double, Joined, Word, no_parts, more_parts, Words, no_words, more_words}
 
--- what single quotes hold; that of `$'` is not stated yet
+-- what single quotes hold; what `$'` holds is not stated yet
 unfoldable pub quoted_text : SingleStyle → Text → Option Text
 quoted_text single.Plain t = Some t
 quoted_text single.Dollar t = None
@@ -62,11 +63,7 @@ unfoldable pub before_word : Text → Word → Word
 before_word [] w = w
 before_word (c ∷ cs) w = more_parts (Plain (c ∷ cs)) w
 
--- a name of so many bytes, `=`, and what is behind it
-unfoldable pub assignment_from : ℕ → Text → Word → Option (Text × Word)
-assignment_from n t w = if not (n == 0) && is_first (λ c. c == 61) (drop n t) then Some (take n t, before_word (drop (n + 1) t) w) else None
-
 -- the name and the value
 unfoldable pub assignment_in : Word → Option (Text × Word)
-assignment_in (more_parts (Plain t) w) = assignment_from (name_length t) t w
+assignment_in (more_parts (Plain t) w) = if is_assignment t then Some (take (name_length t) t, before_word (drop (name_length t + 1) t) w) else None
 assignment_in _ = None

@@ -1,4 +1,4 @@
-use Rattle.sh_tree.proofs.LanguageLemmas.{quoted_reads, double_reads, bare_reads, assigned_reads, passed_reads, home_reads, braces_reads, braced_reads, arithmetic_reads, substituted_reads, document_reads, branch_reads, loop_reads, case_reads, defined_reads, unset_first_reads, unset_last_reads, closed_reads, separated_reads, empty_reads, comment_reads}
+use Rattle.sh_tree.proofs.LanguageLemmas.{quoted_reads, double_reads, bare_reads, assigned_reads, passed_reads, home_reads, braces_reads, braced_reads, parameters_reads, arithmetic_reads, choice_reads, substituted_reads, document_reads, stripped_reads, branch_reads, elif_reads, until_reads, every_reads, loop_reads, case_reads, through_reads, defined_reads, unset_first_reads, unset_last_reads, closed_reads, separated_reads, empty_reads, comment_reads}
 use Rattle.sh_tree.proofs.UnreadLemmas.{open_quote_unread, open_braced_unread, split_name_unread, no_expression_unread, lone_bar_unread, split_operator_unread, clause_end_unread, open_document_unread, split_document_unread, tabbed_document_unread, unclosed_unread}
 use Rattle.sh_tree.proofs.laws.reads_language.Goals as goal
 
@@ -12,12 +12,19 @@ returns c = record {
   home = home_reads;
   braces = braces_reads;
   braced = braced_reads;
+  parameters = parameters_reads;
   arithmetic = arithmetic_reads;
+  choice = choice_reads;
   substituted = substituted_reads;
   document = document_reads;
+  stripped = stripped_reads;
   branches = branch_reads;
+  elif = elif_reads;
+  until = until_reads;
+  every = every_reads;
   loop = loop_reads;
   cases = case_reads;
+  through = through_reads;
   defined = defined_reads;
   unset_first = unset_first_reads;
   unset_last = unset_last_reads;
