@@ -30,9 +30,6 @@ pub list_stop : (b : List ℕ) (names : List Text) (c : Claims) (is : List Item)
 unfolding list_faults least_from
 list_stop b names c is i by o best h = rw (drop_all i is h) refl
 
-before : (k r j s : ℕ) → Bool
-before k r j s = ltb k j || ((k == j) && ltb r s)
-
 along_numbers : (k r j s i t : ℕ) → (ltb k j || ((k == j) && ltb r s)) ≡ false → (ltb j i || ((j == i) && ltb s t)) ≡ false → (ltb k i || ((k == i) && ltb r t)) ≡ false
 along_numbers k r j s i t h g = grind (arith, nat_tests)
 

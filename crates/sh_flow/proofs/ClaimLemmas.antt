@@ -2,6 +2,7 @@
 use Rattle.std.proofs.Common.{◌≡◌, ℕ, zero, suc, ◌<◌, Bool, true, false, ◌&&◌, ◌||◌, nat_le, min, Option, Some, None, List, [], ◌∷◌, length, take, drop, map, refl, sym, ◌∙◌, ap, subst, arith, eqb, eq-eqb, Vec, Global}
 use Rattle.std.specs.List.{list_all, list_any, cons_option}
 use Rattle.std.specs.Str.{bytes_eq}
+use Rattle.std.proofs.lemmas.Bool.{or_right}
 use Rattle.std.proofs.lemmas.Grind.{common_steps}
 use Rattle.sh_tree.specs.declared.tree.Redirect.{Redirect}
 use Rattle.sh_tree.specs.declared.tree.Span.{Span}
@@ -18,35 +19,20 @@ use Rattle.sh_flow.specs.Facts.{Facts, NotReached, Known, Claim, Unreached, Clai
 use Rattle.sh_flow.specs.Rules.{assigned_numbers, leaves, exit_rule}
 use Rattle.sh_flow.specs.declared.rule.FlowRule.TheVariants.{F4, F5}
 use Rattle.sh_flow.specs.Breaches.{is_operand, is_word, number_is, form_assigns, assigns}
-
-and_true : (b : Bool) → (b && true) ≡ b
-and_true true = refl
-and_true false = refl
-
-or_true : (b : Bool) → (b || true) ≡ true
-or_true true = refl
-or_true false = refl
-
-or_swap : (a b : Bool) → (a || b) ≡ (b || a)
-or_swap true b = sym (or_true b)
-or_swap false true = refl
-or_swap false false = refl
-
-pub or_other : (a b : Bool) → b ≡ true → (a || b) ≡ true
-or_other a b e = ap (λ c. a || c) e ∙ or_true a
+use Rattle.sh_flow.proofs.BoolLemmas.{and_true, or_swap}
 
 -- Each number of a list is one of it
 
-all_among : (f : ℕ → Bool) (xs : List ℕ) → ((n : ℕ) → has_number n xs ≡ true → f n ≡ true) → list_all f xs ≡ true
+pub all_among : (f : ℕ → Bool) (xs : List ℕ) → ((n : ℕ) → has_number n xs ≡ true → f n ≡ true) → list_all f xs ≡ true
 all_among f [] h = refl
 all_among f (x ∷ xs) h =
-    rw (h x (ap (λ b. b || has_number x xs) (eq-eqb x x refl)), all_among f xs (λ n e. h n (or_other (eqb n x) (has_number n xs) e))) refl
+    rw (h x (ap (λ b. b || has_number x xs) (eq-eqb x x refl)), all_among f xs (λ n e. h n (or_right (eqb n x) (has_number n xs) e))) refl
 
 pub all_in_own : (xs : List ℕ) → list_all (λ n. has_number n xs) xs ≡ true
 all_in_own xs = all_among (λ n. has_number n xs) xs (λ n e. e)
 
 pub all_in_more : (ns xs : List ℕ) → list_all (λ n. has_number n ns || has_number n xs) xs ≡ true
-all_in_more ns xs = all_among (λ n. has_number n ns || has_number n xs) xs (λ n e. or_other (has_number n ns) (has_number n xs) e)
+all_in_more ns xs = all_among (λ n. has_number n ns || has_number n xs) xs (λ n e. or_right (has_number n ns) (has_number n xs) e)
 
 -- what passes at each number of a list need not be tried at the front that another list shares with it
 pub all_past_front : (p : ℕ → Bool) (k : ℕ) (xs ys : List ℕ) → ((n : ℕ) → has_number n ys ≡ true → p n ≡ true) → take k xs ≡ take k ys → list_all p (drop k xs) ≡ list_all p xs
@@ -57,12 +43,12 @@ all_past_front p (suc k) (x ∷ xs) (y ∷ ys) h e =
     let same : x ≡ y = cc in
     let others : take k xs ≡ take k ys = cc in
     let here : p x ≡ true = h x (ap (λ b. b || has_number x ys) (eq-eqb x y same)) in
-    rw here (all_past_front p k xs ys (λ n f. h n (or_other (eqb n y) (has_number n ys) f)) others)
+    rw here (all_past_front p k xs ys (λ n f. h n (or_right (eqb n y) (has_number n ys) f)) others)
 
 pub gained_past_front : (ns : List ℕ) (k : ℕ) (xs ys : List ℕ) → take k xs ≡ take k ys
     → list_all (λ n. has_number n ns || has_number n ys) (drop k xs) ≡ list_all (λ n. has_number n ns || has_number n ys) xs
 gained_past_front ns k xs ys e =
-    all_past_front (λ n. has_number n ns || has_number n ys) k xs ys (λ n f. or_other (has_number n ns) (has_number n ys) f) e
+    all_past_front (λ n. has_number n ns || has_number n ys) k xs ys (λ n f. or_right (has_number n ns) (has_number n ys) f) e
 
 pub none_held : (xs : List ℕ) → length xs ≡ 0 → list_all (λ n. false) xs ≡ true
 none_held [] e = refl

@@ -25,7 +25,8 @@ use Rattle.sh_table.specs.runs.Steps.{operands_in, redirects_in, assignments_in,
 use Rattle.sh_table.specs.runs.Worlds.{World, Move, effect_of, stepping, run, start_world}
 use Rattle.sh_flow.specs.Expansions.{names_unset}
 use Rattle.sh_flow.specs.Profile.{is_straight_part, is_straight_form, is_straight_element, is_simple, has_none, is_straight, is_named_utility, is_plain_name, is_admitted, is_item_admitted, gives_name, has_name, Admitted, HasNames}
-use Rattle.sh_flow.proofs.FactLemmas.{and_left, and_right, AreSet}
+use Rattle.sh_flow.proofs.BoolLemmas.{and_left, and_right}
+use Rattle.sh_flow.proofs.FactLemmas.{AreSet}
 use Rattle.sh_flow.proofs.StraightLemmas.{Expanded, straight_expands, static_field}
 use Rattle.sh_flow.proofs.Worlds.{WorldOk, run_ok, start_ok, no_event}
 use Rattle.sh_flow.proofs.UtilityLemmas.{utility_kind}

@@ -1,7 +1,7 @@
 -- Places of unmet demands, a piece at a time.
-use Rattle.std.proofs.Common.{◌≡◌, ℕ, ◌+◌, ◌<◌, true, false, Option, Some, None, Result, Ok, Err, OnErr, List, [], ◌∷◌, ◌++◌, length, get_or, take, refl, sym, ◌∙◌, ap, subst, arith, append_assoc}
+use Rattle.std.proofs.Common.{◌≡◌, ℕ, ◌<◌, true, false, Option, Some, None, Result, Ok, Err, OnErr, List, [], ◌∷◌, ◌++◌, length, get_or, refl, sym, ◌∙◌, ap, subst, arith}
 use Rattle.std.specs.List.{flat_map, filter_map, cons_option}
-use Rattle.std.proofs.lemmas.List.{take_more, append-nil}
+use Rattle.std.proofs.lemmas.List.{append-nil}
 use Rattle.std.proofs.lemmas.List.Concat.{flat_map-append}
 use Rattle.std.proofs.lemmas.List.Folds.{length-flat_map-take}
 use Rattle.sh_tree.specs.declared.place.Place.{Place}
@@ -71,14 +71,6 @@ element_unmet-Redirection b names f r = ap (form_unmet b names f) (form_of_redir
 pub ruleset unmet_in_part = (part_unmet-Plain, part_unmet-Double, part_unmet-Param)
 
 pub ruleset unmet_in_element = (element_unmet-Assignment, element_unmet-Word, element_unmet-Redirection)
-
--- one more piece
-pub places_more : {X : Type 0} (f : X → List Place) (first : List Place) (xs : List X) (i : ℕ) (x : X) (old new : List Place) → i < length xs → x ≡ get_or xs i x
-    → old ≡ first ++ flat_map f (take i xs) → new ≡ old ++ f x → new ≡ first ++ flat_map f (take (i + 1) xs)
-places_more f first xs i x old new lt at known step =
-    let one : flat_map f (take (i + 1) xs) ≡ flat_map f (take i xs) ++ f x =
-    rw (take_more xs i x lt, flat_map-append f (take i xs) (get_or xs i x ∷ []), ← at) (ap (λ ps. flat_map f (take i xs) ++ ps) (append-nil (f x))) in
-    step ∙ ap (λ ps. ps ++ f x) known ∙ append_assoc first (flat_map f (take i xs)) (f x) ∙ ap (λ ps. first ++ ps) (sym one)
 
 -- a place in a piece is one of all
 pub some_in_all : {X : Type 0} (f : X → List Place) (xs : List X) (i : ℕ) (x : X) → i < length xs → x ≡ get_or xs i x → 0 < length (f x) → 0 < length (flat_map f xs)

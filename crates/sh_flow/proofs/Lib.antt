@@ -1,3 +1,4 @@
+pub mod BoolLemmas
 pub mod PolicyLemmas
 pub mod FactLemmas
 pub mod StaticLemmas

@@ -12,7 +12,7 @@ use Rattle.sh_table.specs.runs.States.{fresh}
 use Rattle.sh_table.specs.runs.Expansion.{Outcome, in_fields, in_one, expand}
 use Rattle.sh_table.specs.runs.Steps.{word_splits}
 use Rattle.sh_flow.specs.Theorem.{is_quoted_command}
-use Rattle.sh_flow.proofs.FactLemmas.{and_left, and_right}
+use Rattle.sh_flow.proofs.BoolLemmas.{and_left, and_right}
 use Rattle.sh_flow.proofs.StraightLemmas.{quoted_whole}
 use Rattle.sh_flow.proofs.CommandLemmas.{EachWord, straight_stays, values_of, Suits, FirstGoes}
 

@@ -1,9 +1,9 @@
 -- Rising lists of numbers, as sets.
-use Rattle.std.proofs.Common.{◌≡◌, ℕ, zero, suc, ◌<◌, ◌≤◌, Bool, true, false, ◌||◌, List, [], ◌∷◌, length, get_or, refl, sym, ap, ◌∙◌, arith, ⊎_elim, add-one, take, drop, eqb, eq-eqb, le_refl}
+use Rattle.std.proofs.Common.{◌≡◌, ℕ, zero, suc, ◌<◌, ◌≤◌, Bool, true, false, ◌||◌, List, [], ◌∷◌, length, get_or, refl, sym, ap, ◌∙◌, arith, ⊎_elim, add-one, take, drop, eqb, le_refl}
 use Rattle.std.proofs.Math.Nat.{eq-or-lt_of_le}
 use Rattle.std.specs.List.{list_any, insert}
 use Rattle.std.specs.List.Sorted.{IsStrictlyIncreasing}
-use Rattle.std.proofs.lemmas.List.Folds.{list_any-append, list_any_at}
+use Rattle.std.proofs.lemmas.List.Folds.{list_any-append}
 use Rattle.std.proofs.lemmas.List.{take-append-drop}
 use Rattle.std.proofs.lemmas.Bool.{ne_eqb}
 use Rattle.sh_flow.specs.Facts.{has_number}
@@ -18,9 +18,6 @@ rising_le xs r i (suc j) le lt =
     let step : get_or xs j 0 < get_or xs (suc j) 0 = rw (← add-one j) (r j (omega arith)) in
     omega (arith, before, step))
     (eq-or-lt_of_le le)
-
-pub has_number-at : (xs : List ℕ) (n i : ℕ) → i < length xs → get_or xs i 0 ≡ n → has_number n xs ≡ true
-has_number-at xs n i lt e = list_any_at (λ x. eqb n x) xs i 0 lt (eq-eqb n (get_or xs i 0) (sym e))
 
 pub has_number-none : (n : ℕ) (xs : List ℕ) → ((k : ℕ) → k < length xs → get_or xs k 0 ≡ n → ⊥) → has_number n xs ≡ false
 has_number-none n [] h = refl

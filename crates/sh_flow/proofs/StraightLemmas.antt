@@ -18,16 +18,8 @@ use Rattle.sh_table.specs.runs.Expansion.{Piece, Bytes, Break, Literal, Quoted, 
 use Rattle.sh_table.specs.runs.Fields.{fields, is_expanded, is_split, splits}
 use Rattle.sh_flow.specs.Profile.{is_variable, is_value, is_flat, is_straight_part}
 use Rattle.sh_flow.specs.Expansions.{is_unset, names_unset}
-use Rattle.sh_flow.proofs.FactLemmas.{and_left, and_right}
+use Rattle.sh_flow.proofs.BoolLemmas.{and_left, and_right, or_false, or_true}
 use Rattle.sh_flow.proofs.StaticLemmas.{static_fields}
-
-or_false : (a : Bool) → (a || false) ≡ a
-or_false true = refl
-or_false false = refl
-
-or_true : (a : Bool) → (a || true) ≡ true
-or_true true = refl
-or_true false = refl
 
 or_assoc : (a b c : Bool) → ((a || b) || c) ≡ (a || (b || c))
 or_assoc true b c = refl

@@ -1,28 +1,17 @@
 -- A name that the profile takes for a utility's is one that no table of commands has.
 use Rattle.std.proofs.Common.{◌≡◌, Bool, true, false, not, ◌&&◌, ◌||◌, List, [], ◌∷◌, ◌++◌, bytes_eq, refl, ◌∙◌, ap, subst}
 use Rattle.std.specs.List.{list_all}
+use Rattle.std.proofs.lemmas.Bool.{not-true, or_parts}
 use Rattle.std.proofs.lemmas.List.Folds.{list_any-append}
 use Rattle.std.proofs.lemmas.Slice.Eq.{bytes_eq-Decides}
 use Rattle.sh_tree.specs.program.Syntax.{Text}
 use Rattle.sh_table.specs.declared.kind.Kind.{Kind}
 use Rattle.sh_table.specs.declared.kind.Kind.TheVariants as kind
 use Rattle.sh_table.specs.Kinds as kinds
-use Rattle.sh_table.specs.Kinds.{Table, look_up, kind_of, refused}
+use Rattle.sh_table.specs.Kinds.{Table, look_up, kind_of}
 use Rattle.sh_table.specs.runs.Environment.{is_one_of}
 use Rattle.sh_flow.specs.Profile.{special_names, changing_names, unspecified_names, is_utility}
-use Rattle.sh_flow.proofs.FactLemmas.{and_left, and_right}
-
-not_true : (b : Bool) → not b ≡ true → b ≡ false
-not_true true h = cc
-not_true false h = refl
-
-or_left : (a b : Bool) → (a || b) ≡ false → a ≡ false
-or_left true b h = h
-or_left false b h = refl
-
-or_right : (a b : Bool) → (a || b) ≡ false → b ≡ false
-or_right true b h = cc
-or_right false b h = h
+use Rattle.sh_flow.proofs.BoolLemmas.{and_left, and_right}
 
 -- the names of the profile's tables
 abbrev told_names : List Text
@@ -32,9 +21,9 @@ none_told : (t : Text) → is_utility t ≡ true → is_one_of told_names t ≡ 
 unfolding is_utility
 none_told t h =
     let front : (not (is_one_of special_names t) && not (is_one_of changing_names t) && not (is_one_of unspecified_names t)) ≡ true = and_left _ _ h in
-    let special : is_one_of special_names t ≡ false = not_true _ (and_left _ _ (and_left _ _ front)) in
-    let changing : is_one_of changing_names t ≡ false = not_true _ (and_right (not (is_one_of special_names t)) _ (and_left _ _ front)) in
-    let unspecified : is_one_of unspecified_names t ≡ false = not_true _ (and_right (not (is_one_of special_names t) && not (is_one_of changing_names t)) _ front) in
+    let special : is_one_of special_names t ≡ false = not-true _ (and_left _ _ (and_left _ _ front)) in
+    let changing : is_one_of changing_names t ≡ false = not-true _ (and_right (not (is_one_of special_names t)) _ (and_left _ _ front)) in
+    let unspecified : is_one_of unspecified_names t ≡ false = not-true _ (and_right (not (is_one_of special_names t) && not (is_one_of changing_names t)) _ front) in
     let test = λ (n : Text). bytes_eq n t in
     list_any-append test (special_names ++ changing_names) unspecified_names
     ∙ ap (λ x. x || is_one_of unspecified_names t) (list_any-append test special_names changing_names ∙ ap (λ x. x || is_one_of changing_names t) special ∙ changing)
@@ -43,10 +32,10 @@ none_told t h =
 -- a name among others is none that is not among them
 apart : (names : List Text) (n t : Text) → is_one_of names t ≡ false → is_one_of names n ≡ true → bytes_eq n t ≡ false
 apart [] n t h k = cc
-apart (m ∷ names) n t h k = go (bytes_eq m n) refl k (λ k'. apart names n t (or_right (bytes_eq m t) _ h) k')
+apart (m ∷ names) n t h k = go (bytes_eq m n) refl k (λ k'. apart names n t (or_parts (bytes_eq m t) _ h).1 k')
   where
     go : (b : Bool) → bytes_eq m n ≡ b → (b || is_one_of names n) ≡ true → (is_one_of names n ≡ true → bytes_eq n t ≡ false) → bytes_eq n t ≡ false
-    go true e d ih = subst (λ u. bytes_eq u t ≡ false) ((bytes_eq-Decides m n).0 e) (or_left (bytes_eq m t) _ h)
+    go true e d ih = subst (λ u. bytes_eq u t ≡ false) ((bytes_eq-Decides m n).0 e) (or_parts (bytes_eq m t) _ h).0
     go false e d ih = ih d
 
 looks_up_none : (names : List Text) (rows : Table) (t : Text) → is_one_of names t ≡ false → list_all (λ (x : Text × Kind). is_one_of names x.0) rows ≡ true → look_up rows t ≡ kind.Utility

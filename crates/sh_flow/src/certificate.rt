@@ -61,6 +61,10 @@ impl Certificate {
     }
 
     /// Adds a row, which the result names.
+    ///
+    /// # Errors
+    ///
+    /// `AllocError` where a growth was refused; the certificate stays.
     pub fn add_row(&mut self, row: Row) -> Result<RowId, AllocError>
         ensures ok { OnOk result (self.new ≡ record self.old { rows = self.old.rows ++ row ∷ [] }) }
         ensures id { IfOk result (λ id. id.index ≡ length self.old.rows) }
@@ -72,6 +76,10 @@ impl Certificate {
     }
 
     /// Adds the facts round the next command.
+    ///
+    /// # Errors
+    ///
+    /// `AllocError` where a growth was refused; the certificate stays.
     pub fn push(&mut self, entry: Entry) -> Result<(), AllocError>
         ensures ok { OnOk result (self.new ≡ record self.old { entries = self.old.entries ++ entry ∷ [] }) }
         ensures err { OnErr result (self.new ≡ self.old) }

@@ -1,4 +1,4 @@
-//! What the rules, the demands and quoting are good for, as laws of the runs that `specs/` defines.
+//! What the rules, the demands and quoting are good for, as laws of the runs that `sh_table` defines.
 ghost use Rattle.sh_flow.specs.Theorem.{RulesAndDemandsSuffice, QuotingSuffices};
 
 /// Where every rule and every demand holds of some claims, no run expands a parameter that is not set.

@@ -1,5 +1,5 @@
-//! What is surely set before and after each command of a script, and the check of it; beside it, in `specs/`, what a shell
-//! does with a script.
+//! What is surely set before and after each command of a script, and the check of it; beside it, as laws, what that is good
+//! for in every run.
 #![tactic(auto)]
 
 pub mod certificate;

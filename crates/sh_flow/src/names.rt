@@ -1,5 +1,5 @@
 //! The names of a script, each with a number.
-ghost use Rattle.std.specs.Prelude.{◌≡◌, ◌<◌, [], ◌∷◌, length, map, fold, flat_map, Some, slice_get, OnOk, IfErr, MatchResult};
+ghost use Rattle.std.specs.Prelude.{◌≡◌, ◌<◌, [], ◌∷◌, length, map, fold, flat_map, Some, slice_get, OnOk, IfErr};
 ghost use Rattle.sh_flow.specs.Names.{Numbers, with_text, number_of, names_in};
 ghost use Rattle.sh_flow.specs.Walks.{Refuses, part_names, command_names, on_lone};
 

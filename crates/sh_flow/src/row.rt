@@ -49,6 +49,10 @@ impl Row {
     }
 
     /// Adds a number.
+    ///
+    /// # Errors
+    ///
+    /// `AllocError` where a growth was refused; the set stays.
     pub fn add(&mut self, number: u32) -> Result<(), AllocError>
         ensures ok { OnOk result ((k : ℕ) → has_number k self.new ≡ (k == number || has_number k self.old)) }
         ensures err { OnErr result (self.new ≡ self.old) }
@@ -63,6 +67,10 @@ impl Row {
     }
 
     /// A copy of the set.
+    ///
+    /// # Errors
+    ///
+    /// `AllocError` where a growth was refused.
     pub fn copy(&self) -> Result<Row, AllocError>
         ensures { IfOk result (λ r. r ≡ self.now) }
     {

@@ -27,6 +27,7 @@ use Rattle.sh_tree.specs.language.Words as words
 use Rattle.sh_tree.specs.language.Commands.{gap_length, blank_length, blanks, operator_of, operator_lead, whole_operator, opening, reserved_lead, first_lead, name_lead, word_lead, number_lead, other_lead, lead_of, lead_at, is_assignment, name_end, bare_word, named, reserved_words, left_out_names}
 use Rattle.sh_tree.specs.language.Contexts.{in_word, in_value, in_operand, in_stage}
 use Rattle.sh_tree.specs.language.Reading.{sign_at}
+use Rattle.sh_words.proofs.OperationLemmas.{first_some}
 use Rattle.sh_grammar.specs.Readers.{plain_spot}
 
 -- Tests
@@ -296,11 +297,6 @@ assigned_is b s i h =
     let digits = run is_digit (drop i b) in
     let rest = drop digits (drop i b) in
     grind (arith, nat_tests, number_none rest (operator_of rest), word_none b s i (bare_word b i))
-
-first_some : (p : ℕ → Bool) (cs : List ℕ) → is_first p cs ≡ true → 0 < length cs
-unfolding is_first
-first_some p [] h = absurd (true≢false (sym h))
-first_some p (c ∷ cs) h = omega arith
 
 -- the name of an assignment ends before its `=`
 pub name_within : (b : List ℕ) (s : Stage) (i : ℕ) → lead.Assignment ≡ lead_at b s i → name_end b i < length b

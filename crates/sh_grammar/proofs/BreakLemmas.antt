@@ -84,7 +84,7 @@ blanks_settle b i =
 
 -- One newline
 
-no_documents : {limit : ℕ} {b : List ℕ} {ms : List Mark} {s v : State} → ms ≡ [] → ReadsDocuments limit b ms s v → v ≡ s
+pub no_documents : {limit : ℕ} {b : List ℕ} {ms : List Mark} {s v : State} → ms ≡ [] → ReadsDocuments limit b ms s v → v ≡ s
 no_documents none r.no_body = refl
 no_documents none (r.more_bodies e a c h k d) = cc
 

@@ -18,7 +18,7 @@ use Rattle.sh_tree.specs.language.Reading.{ReadsElements, ReadsCommand, lead_her
 use Rattle.sh_tree.specs.language.States.{State, Document, counted, closing}
 use Rattle.sh_tree.specs.language.Trees as tree
 use Rattle.sh_tree.proofs.Inversions.{apart}
-use Rattle.sh_grammar.specs.Faults.{IsUnexpected}
+use Rattle.sh_words.specs.Faults.{IsFault}
 use Rattle.sh_grammar.specs.Readers.{plain, ElementsFrom, ElementsTo, Elements, CommandFrom, CommandTo, Commands}
 use Rattle.sh_grammar.proofs.ElementLemmas.{refused_by}
 
@@ -49,7 +49,7 @@ unread none (r.compound_command {l = l} h is k q) = true≢false (sym (compound_
 unread none (r.definition h o p k i c) = apart begins_pipeline (sym h) refl none
 
 -- a token that begins no pipeline begins no command
-pub command_unexpected : (b : List ℕ) (n i : ℕ) (e : Refusal) → IsUnexpected b e → begins_pipeline (lead_at b First i) ≡ false → Commands b n i (Err e)
+pub command_unexpected : (b : List ℕ) (n i : ℕ) (e : Refusal) → IsFault b e → begins_pipeline (lead_at b First i) ≡ false → Commands b n i (Err e)
 command_unexpected b n i (Syntax f at) is none = (is, λ limit body v c l. unread {s = plain n i} none l)
 command_unexpected b n i (LeftOut f at) is none = (is, λ told limit body v c l. unread {s = plain n i} none l)
 command_unexpected b n i _ is none = absurd is

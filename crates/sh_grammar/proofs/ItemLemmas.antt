@@ -22,11 +22,11 @@ use Rattle.sh_tree.specs.language.Bytes.{longest}
 use Rattle.sh_tree.specs.language.Reading.{ReadsCommand, ReadsCommands, ReadsPipeline, ReadsLinks, ReadsAndOr, ReadsItems, ReadsSequence, ReadsBreaks, ReadsTo, Reads, ReadsWithin, lead_here, parted}
 use Rattle.sh_tree.specs.language.Reading as r
 use Rattle.sh_tree.specs.language.States.{State, Document, nth, waits}
-use Rattle.sh_tree.specs.language.Trees.{script, item, and_or, pipe}
+use Rattle.sh_tree.specs.language.Trees.{script, item, item_of, and_or, pipe}
 use Rattle.sh_tree.proofs.Inversions.{apart, script_is}
 use Rattle.sh_tree.proofs.Counts.{items_count_more}
 use Rattle.sh_grammar.specs.Breaks.{BreaksTo}
-use Rattle.sh_grammar.specs.Items.{IsAlone, GoesOn, EndsWrong, Goes, PipelineFrom, Pipelines, ReadsRest, ReadsTail, item_of}
+use Rattle.sh_grammar.specs.Items.{IsAlone, GoesOn, EndsWrong, Goes, PipelineFrom, Pipelines, ReadsRest, ReadsTail}
 use Rattle.sh_grammar.specs.Readers.{plain_spot, plain, Commands, CommandFrom, CommandTo}
 use Rattle.sh_tree.specs.Answers.{Parses}
 use Rattle.sh_grammar.proofs.BreakLemmas.{blanks_settle}
@@ -36,7 +36,7 @@ use Rattle.sh_grammar.proofs.Nul.{has_no_nul}
 
 -- Behind a command
 
-end_lead : (b : List ℕ) (i : ℕ) → length b ≤ i → lead_at b First i ≡ lead.End
+pub end_lead : (b : List ℕ) (i : ℕ) → length b ≤ i → lead_at b First i ≡ lead.End
 unfolding lead_at lead_of operator_of longest
 end_lead b i ended =
     let over : nat_le (length b) i ≡ true = grind (arith, nat_tests) in

@@ -1,6 +1,6 @@
 -- A whole word, by what a builder answers.
-use Rattle.std.proofs.Common.{◌≡◌, ℕ, ◌+◌, ◌<◌, ◌≤◌, Bool, true, false, not, ◌&&◌, List, length, nat_le, None, Result, Ok, Err, refl, sym, ap, ◌∙◌, subst, arith}
-use Rattle.std.proofs.lemmas.Bool.{true≢false}
+use Rattle.std.proofs.Common.{◌≡◌, ℕ, ◌+◌, ◌<◌, ◌≤◌, true, false, not, ◌&&◌, List, length, nat_le, None, Result, Ok, Err, refl, sym, ap, ◌∙◌, subst, arith}
+use Rattle.std.proofs.lemmas.Bool.{true≢false, and_parts}
 use Rattle.std.proofs.lemmas.Bool.Decides.{nat_tests}
 use Rattle.sh_tree.specs.declared.tree.Part.{Part}
 use Rattle.sh_tree.specs.declared.tree.Word.{Word}
@@ -176,13 +176,9 @@ word_located b m i w h located n = λ limit body k y q. none limit k y q
         let there : not (context_of b m i).colons && is_location b i w.span.end ≡ false = subst (λ v. not (context_of b m i).colons && is_location b i v.at ≡ false) e.0 free in
         true≢false (sym located ∙ there)
 
-both_left : (p q : Bool) → (p && q) ≡ true → p ≡ true
-both_left true q h = refl
-both_left false q h = h
-
 -- an IO location has bytes
 pub located_inside : (b : List ℕ) (i j : ℕ) → is_location b i j ≡ true → j ≤ length b → i < length b
 unfolding is_location
 located_inside b i j h inside =
-    let long : nat_le (i + 3) j ≡ true = both_left _ _ (both_left _ _ (both_left _ _ h)) in
+    let long : nat_le (i + 3) j ≡ true = (and_parts _ _ (and_parts _ _ (and_parts _ _ h).0).0).0 in
     grind (arith, nat_tests)

@@ -14,12 +14,8 @@ use Rattle.sh_tree.specs.declared.refusal.Refusal.TheVariants.{Syntax, LeftOut, 
 use Rattle.sh_tree.specs.language.Commands.{blanks, lead_at, begins_pipeline, separator, link_of, is_bar, is_reserved}
 use Rattle.sh_tree.specs.language.Reading.{ReadsPipeline, ReadsItems, ReadsBreaks, lead_here, parted}
 use Rattle.sh_tree.specs.language.States.{State, Document}
-use Rattle.sh_tree.specs.language.Trees.{item, and_or, pipe}
+use Rattle.sh_tree.specs.language.Trees.{item}
 use Rattle.sh_grammar.specs.Readers.{plain, Refused, CommandTo}
-
--- the item that is the command alone
-abbrev pub item_of : Command → Item
-item_of c = item (and_or (pipe false (c ∷ [])) []) false
 
 abbrev pub PipelineFrom : List ℕ → ℕ → ℕ → ℕ → (ℕ → Document) → State → Pipe → Type 0
 PipelineFrom b n i limit body u p = ReadsPipeline limit b body (plain n i) u p

@@ -1,5 +1,4 @@
 pub mod Readers
 pub mod Modes
-pub mod Faults
 pub mod Breaks
 pub mod Items

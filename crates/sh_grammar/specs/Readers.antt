@@ -25,10 +25,6 @@ plain_spot n i = record { at = i; count = n; depth = 0; quiet = false; body = fa
 abbrev pub plain : ℕ → ℕ → State
 plain n i = record { spot = plain_spot n i; closed = false; pending = []; bodies = [] }
 
--- Readings: at a limit, with the bodies of the here-documents, up to an end, of a thing
-abbrev pub Family : Type 0 → Type 0 → Type 1
-Family J A = ℕ → (ℕ → Document) → J → A → Type 0
-
 -- x is read within the limit, up to j, and nothing else is read at any limit
 pub record One {J A : Type 0} (R : ℕ → (ℕ → Document) → J → A → Type 0) (j : J) (x : A) : Type 0 where
   pub reads : (body : ℕ → Document) → R 64 body j x

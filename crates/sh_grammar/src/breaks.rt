@@ -13,7 +13,7 @@ pub fn is_newline(lead: Lead) -> bool
     matches!(lead, Lead::Newline)
 }
 
-/// The first token at or behind `at` that is no newline.
+/// The first token at or behind `start` that is no newline.
 pub fn breaks_at(script: &[u8], start: u32) -> u32
     requires small { length script.now ≤ MAX_SCRIPT }
     requires inside { start ≤ length script.now }

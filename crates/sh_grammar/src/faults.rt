@@ -1,6 +1,6 @@
 //! What is told of a token that has no place (XCU 2.10).
 ghost use Rattle.std.specs.Prelude.{◌≡◌, ◌<◌, ◌≤◌, length};
-ghost use Rattle.sh_grammar.specs.Faults.{IsUnexpected};
+ghost use Rattle.sh_words.specs.Faults.{IsFault};
 
 use memchr::memchr;
 use sh_tree::limits::MAX_SCRIPT;
@@ -26,7 +26,7 @@ fn place_of(script: &[u8], form: Form, at: u32) -> u32
 pub fn unexpected(script: &[u8], lead: Lead, at: u32) -> Refusal
     requires small { length script.now ≤ MAX_SCRIPT }
     requires inside { at < length script.now }
-    ensures { IsUnexpected script.now result }
+    ensures { IsFault script.now result }
 {
     match lead {
         Lead::LeftOut(form) => Refusal::LeftOut(form, place_of(script, form, at)),

@@ -1,7 +1,8 @@
 //! Scripts (XCU 2.10).
 ghost use Rattle.std.specs.Prelude.{◌≡◌, ◌≢◌, ◌<◌, ◌≤◌, ℕ, false, length, IfOk};
 ghost use Rattle.sh_tree.specs.Answers.{IsText, Parses};
-ghost use Rattle.sh_grammar.specs.Items.{Goes, IsAlone, Pipelines, item_of};
+ghost use Rattle.sh_grammar.specs.Items.{Goes, IsAlone, Pipelines};
+ghost use Rattle.sh_tree.specs.language.Trees.{item_of};
 ghost use Rattle.sh_grammar.specs.Readers.{plain};
 ghost use Rattle.sh_tree.specs.declared.token.command.Stage.TheVariants.{First};
 ghost use Rattle.sh_tree.specs.language.Commands as commands;

@@ -1,7 +1,7 @@
 -- Tokens of arithmetic.
 use Rattle.std.proofs.Common.{◌≡◌, ℕ, ◌+◌, ◌<◌, ◌≤◌, Bool, true, false, not, ◌&&◌, ◌||◌, ◌==◌, List, [], ◌∷◌, length, drop, codes, cond, refl, ap, sym, ◌∙◌, arith}
 use Rattle.std.proofs.lemmas.Bool.Decides.{nat_tests}
-use Rattle.std.proofs.lemmas.Bool.{false≢true}
+use Rattle.std.proofs.lemmas.Bool.{false≢true, and_parts}
 use Rattle.sh_tree.specs.declared.token.arithmetic.Figure.{Figure}
 use Rattle.std.specs.Prelude.{IfSome, Some, nat_eq}
 use Rattle.std.specs.List.{starts_with}
@@ -58,12 +58,8 @@ longest_moves (x ∷ xs) cs h = go (starts_with nat_eq cs x.0) (some (length x.0
 pub operator_moves : (cs : List ℕ) → IfSome (longest operators cs) (λ found. 0 < found.1)
 operator_moves cs = longest_moves operators cs refl
 
-second : (a b : Bool) → (a && b) ≡ true → b ≡ true
-second true b h = h
-second false b h = absurd (false≢true h)
-
 -- what begins with a text is no shorter
 pub begun_within : (cs t : List ℕ) → starts_with nat_eq cs t ≡ true → length t ≤ length cs
 begun_within cs [] h = omega arith
 begun_within [] (c ∷ t) h = absurd (false≢true h)
-begun_within (d ∷ cs) (c ∷ t) h = let shorter : length t ≤ length cs = begun_within cs t (second (nat_eq c d) _ h) in omega arith
+begun_within (d ∷ cs) (c ∷ t) h = let shorter : length t ≤ length cs = begun_within cs t (and_parts (nat_eq c d) _ h).1 in omega arith

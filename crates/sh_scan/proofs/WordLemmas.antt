@@ -2,7 +2,7 @@
 use Rattle.std.proofs.Common.{◌≡◌, ℕ, ◌+◌, ◌-◌, ◌*◌, ◌<◌, ◌≤◌, ◌==◌, Bool, true, false, not, ◌&&◌, ◌||◌, List, [], ◌∷◌, length, take, drop, get_or, nat_lt, nat_le, Some, None, cond, refl, sym, ap, ◌∙◌, arith}
 use Rattle.std.specs.List.{position_or_len}
 use Rattle.std.proofs.lemmas.Bool.Decides.{nat_tests}
-use Rattle.std.proofs.lemmas.Bool.{lt-ltb, false≢true}
+use Rattle.std.proofs.lemmas.Bool.{lt-ltb, false≢true, false_from_ne_true}
 use Rattle.std.proofs.lemmas.List.{at_drop_more, at_drop_all, take_rest}
 use Rattle.std.proofs.lemmas.List.Sums.{position_or_len_is}
 use Rattle.std.proofs.lemmas.List.Folds.{length-prefix_len}
@@ -18,15 +18,11 @@ use Rattle.sh_tree.specs.language.Words.{single, stands, plain_length, stops, is
 
 -- Single quotes
 
-fails : (p : Bool) → (p ≡ true → ⊥) → p ≡ false
-fails true h = absurd (h refl)
-fails false h = refl
-
 pub single_open : (cs : List ℕ) → IsFirstByte (is_byte 39) cs None → (sign.Fault fault.OpenSingle, 0) ≡ single cs
 unfolding single
 single_open cs none =
     let n : position_or_len (λ c. c == 39) cs ≡ length cs =
-    position_or_len_is (λ c. c == 39) cs (length cs) 0 (omega arith) (λ k below. fails _ (none k (omega arith) below)) (λ below. absurd (omega arith)) in
+    position_or_len_is (λ c. c == 39) cs (length cs) 0 (omega arith) (λ k below. false_from_ne_true _ (none k (omega arith) below)) (λ below. absurd (omega arith)) in
     let r : run (λ c. not (c == 39)) cs ≡ length cs = length-prefix_len (λ c. not (c == 39)) cs ∙ n in
     let at_end : nat_lt (run (λ c. not (c == 39)) cs) (length cs) ≡ false = grind (arith, nat_tests) in
     sym (ap (λ t. cond {A = Sign × ℕ} t (sign.Single, run (λ c. not (c == 39)) cs + 2) (sign.Fault fault.OpenSingle, 0)) at_end)
@@ -36,7 +32,7 @@ unfolding single
 single_closed cs k found =
     let first = found.0 in
     let n : position_or_len (λ c. c == 39) cs ≡ k =
-    position_or_len_is (λ c. c == 39) cs k 0 (let h : k < length cs = first.high in omega arith) (λ j below. fails _ (first.before j (omega arith) below)) (λ below. found.1) in
+    position_or_len_is (λ c. c == 39) cs k 0 (let h : k < length cs = first.high in omega arith) (λ j below. false_from_ne_true _ (first.before j (omega arith) below)) (λ below. found.1) in
     let r : run (λ c. not (c == 39)) cs ≡ k = length-prefix_len (λ c. not (c == 39)) cs ∙ n in
     let inside : nat_lt (run (λ c. not (c == 39)) cs) (length cs) ≡ true = lt-ltb _ _ (let h : k < length cs = first.high in omega arith) in
     ap (λ v. (sign.Single, v + 2)) (sym r)

@@ -2,11 +2,9 @@
 ghost use Rattle.std.specs.Prelude.{◌≡◌, ◌≤◌, ◌+◌, length};
 ghost use Rattle.sh_tree.specs.language.Bytes as bytes;
 ghost use Rattle.sh_tree.specs.language.Commands as commands;
-ghost use Rattle.sh_tree.specs.language.Words as words;
 
-use crate::bytes::ends_token;
 use crate::class::{Class, classify};
-use crate::front::behind_joined;
+use crate::front::ends_joined;
 use sh_tree::limits::MAX_SCRIPT;
 use sh_tree::name::is_name;
 use sh_tree::refusal::Form;
@@ -24,17 +22,6 @@ fn bare_length(rest: &[u8]) -> usize
     ensures within { result ≤ length rest.now }
 {
     rest.iter().take_while(|byte| is_bare(**byte)).count()
-}
-
-/// Whether a word ends before `rest`, of which line continuations are no part.
-#[tactic(auto, unfolding(sh_tree::specs::language::Bytes::is_first))]
-fn ends_joined(rest: &[u8]) -> bool
-    ensures { result ≡ words.ends_joined rest.now }
-{
-    match behind_joined(rest) {
-        [] => true,
-        [first, ..] => ends_token(*first),
-    }
 }
 
 /// The token at `at`, if none of its bytes means more than itself, or no bytes.

@@ -1,10 +1,11 @@
 //! The front of a text.
-ghost use Rattle.std.specs.Prelude.{◌≡◌, ◌≤◌, ◌<◌, ◌==◌, true, not, length, drop};
+ghost use Rattle.std.specs.Prelude.{◌≡◌, ◌≤◌, ◌<◌, ◌==◌, true, length};
 ghost use Rattle.sh_tree.specs.language.Bytes as bytes;
 ghost use Rattle.sh_tree.specs.language.Commands as commands;
+ghost use Rattle.sh_tree.specs.language.Words as words;
 ghost use Rattle.sh_scan.specs.Steps.{joined_step};
 
-use crate::bytes::is_digit;
+use crate::bytes::{ends_token, is_digit};
 use sh_tree::limits::MAX_SCRIPT;
 use sh_tree::name::{is_name_byte, is_name_start};
 
@@ -110,6 +111,17 @@ pub fn behind_joined(rest: &[u8]) -> &[u8]
     ensures { result.now ≡ bytes.behind_joined rest.now }
 {
     &rest[joined_length(rest)..]
+}
+
+/// Whether a word ends before `rest`, of which line continuations are no part.
+#[tactic(auto, unfolding(sh_tree::specs::language::Bytes::is_first))]
+pub fn ends_joined(rest: &[u8]) -> bool
+    ensures { result ≡ words.ends_joined rest.now }
+{
+    match behind_joined(rest) {
+        [] => true,
+        [first, ..] => ends_token(*first),
+    }
 }
 
 /// Where the name at `at` ends, or `at` where none begins there (XBD 3.216).

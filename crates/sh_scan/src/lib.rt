@@ -37,6 +37,6 @@ pub use operators::{direction_of, operator_at, strip_of};
 pub use quotes::single_end;
 pub use redirection::redirection_at;
 pub use words::{
-    in_arithmetic, in_body, in_double, in_operand, in_removal, in_stage, in_unsplit, in_use,
-    in_value, in_word, token_at,
+    in_arithmetic, in_body, in_double, in_operand, in_removal, in_unsplit, in_use, in_value,
+    in_word, token_at,
 };

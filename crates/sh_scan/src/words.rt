@@ -11,7 +11,7 @@ mod tests;
 mod tilde;
 
 pub use contexts::{
-    in_arithmetic, in_body, in_double, in_operand, in_removal, in_stage, in_unsplit, in_use,
-    in_value, in_word,
+    in_arithmetic, in_body, in_double, in_operand, in_removal, in_unsplit, in_use, in_value,
+    in_word,
 };
 pub use signs::{single, token_at};

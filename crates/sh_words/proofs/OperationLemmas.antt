@@ -304,7 +304,7 @@ no_operand_around b w e none limit g u ps l = none l.0
 
 -- The end of an arithmetic expansion
 
-first_some : (p : ℕ → Bool) (cs : List ℕ) → is_first p cs ≡ true → 0 < length cs
+pub first_some : (p : ℕ → Bool) (cs : List ℕ) → is_first p cs ≡ true → 0 < length cs
 unfolding is_first
 first_some p [] h = absurd (true≢false (sym h))
 first_some p (c ∷ cs) h = omega arith

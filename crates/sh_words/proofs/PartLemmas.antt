@@ -24,7 +24,7 @@ use Rattle.sh_tree.specs.language.States.{Spot, to, behind}
 use Rattle.sh_tree.specs.language.Trees.{span, word, param}
 use Rattle.sh_tree.specs.language.Words.{token, in_double, in_use, in_removal, in_arithmetic}
 use Rattle.sh_scan.specs.Moves.{reads_bytes}
-use Rattle.sh_tree.proofs.Inversions.{PartIs, part_is, stopped}
+use Rattle.sh_tree.proofs.Inversions.{PartIs, part_is, stopped, some_one}
 use Rattle.sh_words.specs.declared.mode.Mode.{Mode}
 use Rattle.sh_words.specs.declared.frames.Holder.{Holder}
 use Rattle.sh_words.specs.declared.frames.Holder.TheVariants as holder
@@ -46,9 +46,6 @@ use Rattle.sh_words.specs.Sound.{Deep, turns_left, work, StepWorks, Takes, Takes
 use Rattle.sh_words.specs.States.{context_in, prior_in, found_in, held, holding, whole_part, opening_of, nests, level_start, made, given, focus_in, opened, asking, focused, skipped, ended}
 use Rattle.sh_words.specs.Steps.{Opens, Asked, Closes}
 use Rattle.sh_words.proofs.Exchange.{Alike}
-
-same : {A : Type 0} {x y : A} → Some x ≡ Some y → x ≡ y
-same e = cc
 
 -- What is left around a part does not depend on how many commands began before it
 
@@ -100,24 +97,24 @@ moved b limit g h K {next' = next'} {p = p} {p' = p'} {u = u} e f d l =
 
 whole_is : (limit : ℕ) (b : List ℕ) (x : Context) (s : Sign) (i v : Spot) (e : ℕ) (p q : Part) → whole_part s i.at e ≡ Some p → PartIs limit b x s i e v q → (v ≡ to e i) × (q ≡ p)
 unfolding whole_part
-whole_is limit b x sign.Plain i v e p q h is = (is.0, is.1 ∙ same h)
-whole_is limit b x sign.Escaped i v e p q h is = (is.0, is.1 ∙ same h)
-whole_is limit b x sign.Joined i v e p q h is = (is.0, is.1 ∙ same h)
-whole_is limit b x sign.Single i v e p q h is = (is.0, is.1 ∙ same h)
-whole_is limit b x sign.Tilde i v e p q h is = (is.0, is.1 ∙ same h)
-whole_is limit b x (sign.Value f) i v e p q h is = (is.0, is.1 ∙ same h)
-whole_is limit b x (sign.Length f) i v e p q h is = (is.0, is.1 ∙ same h)
+whole_is limit b x sign.Plain i v e p q h is = (is.0, is.1 ∙ some_one h)
+whole_is limit b x sign.Escaped i v e p q h is = (is.0, is.1 ∙ some_one h)
+whole_is limit b x sign.Joined i v e p q h is = (is.0, is.1 ∙ some_one h)
+whole_is limit b x sign.Single i v e p q h is = (is.0, is.1 ∙ some_one h)
+whole_is limit b x sign.Tilde i v e p q h is = (is.0, is.1 ∙ some_one h)
+whole_is limit b x (sign.Value f) i v e p q h is = (is.0, is.1 ∙ some_one h)
+whole_is limit b x (sign.Length f) i v e p q h is = (is.0, is.1 ∙ some_one h)
 whole_is limit b x _ i v e p q h is = cc
 
 whole_reads : (limit : ℕ) (b : List ℕ) (x : Context) (s : Sign) (i : Spot) (e : ℕ) (p : Part) → whole_part s i.at e ≡ Some p → ReadsPart limit b x s i e (to e i) p
 unfolding whole_part
-whole_reads limit b x sign.Plain i e p h = subst (λ q. ReadsPart limit b x sign.Plain i e (to e i) q) (same h) r.plain
-whole_reads limit b x sign.Escaped i e p h = subst (λ q. ReadsPart limit b x sign.Escaped i e (to e i) q) (same h) r.escaped
-whole_reads limit b x sign.Joined i e p h = subst (λ q. ReadsPart limit b x sign.Joined i e (to e i) q) (same h) r.joined
-whole_reads limit b x sign.Single i e p h = subst (λ q. ReadsPart limit b x sign.Single i e (to e i) q) (same h) r.single_quoted
-whole_reads limit b x sign.Tilde i e p h = subst (λ q. ReadsPart limit b x sign.Tilde i e (to e i) q) (same h) r.tilde
-whole_reads limit b x (sign.Value f) i e p h = subst (λ q. ReadsPart limit b x (sign.Value f) i e (to e i) q) (same h) r.value
-whole_reads limit b x (sign.Length f) i e p h = subst (λ q. ReadsPart limit b x (sign.Length f) i e (to e i) q) (same h) r.length_value
+whole_reads limit b x sign.Plain i e p h = subst (λ q. ReadsPart limit b x sign.Plain i e (to e i) q) (some_one h) r.plain
+whole_reads limit b x sign.Escaped i e p h = subst (λ q. ReadsPart limit b x sign.Escaped i e (to e i) q) (some_one h) r.escaped
+whole_reads limit b x sign.Joined i e p h = subst (λ q. ReadsPart limit b x sign.Joined i e (to e i) q) (some_one h) r.joined
+whole_reads limit b x sign.Single i e p h = subst (λ q. ReadsPart limit b x sign.Single i e (to e i) q) (some_one h) r.single_quoted
+whole_reads limit b x sign.Tilde i e p h = subst (λ q. ReadsPart limit b x sign.Tilde i e (to e i) q) (some_one h) r.tilde
+whole_reads limit b x (sign.Value f) i e p h = subst (λ q. ReadsPart limit b x (sign.Value f) i e (to e i) q) (some_one h) r.value
+whole_reads limit b x (sign.Length f) i e p h = subst (λ q. ReadsPart limit b x (sign.Length f) i e (to e i) q) (some_one h) r.length_value
 whole_reads limit b x _ i e p h = cc
 
 pub whole_keeps : (b : List ℕ) (w : WordBuilder) (s : Sign) (start end : ℕ) (p : Part) → whole_part s start end ≡ Some p
@@ -173,7 +170,7 @@ double_keeps b w start end = record {
       (tt, is.0, is.1, is.4, (part.Double (span start is.0.at) is.1, refl, moved b limit g w.holder K refl is.3 is.2 l.3));
   back = λ g u ps l.
       let K = λ (y : Read) (j : Spot). Then b 64 g (context_in w.holder) w.frames y j u ps in
-      (behind l.1.at l.1 (spot g w.depth start), part.Double (span start l.1.at) l.2, r.double_quoted l.3, moved b 64 g w.holder K refl (sym (same l.4.1)) refl l.4.2);
+      (behind l.1.at l.1 (spot g w.depth start), part.Double (span start l.1.at) l.2, r.double_quoted l.3, moved b 64 g w.holder K refl (sym (some_one l.4.1)) refl l.4.2);
 }
 
 use_keeps : (b : List ℕ) (w : WordBuilder) (q : Subject) (a : Action) (colon : Bool) (start end : ℕ) → w.depth < 64
@@ -189,7 +186,7 @@ use_keeps b w q a colon start end below = record {
         behind l.1.at l.1 (spot g w.depth start),
         param start l.1.at q (operator.Use a colon (word end (l.1.at - 1) l.2)),
         r.use_word below l.3,
-        moved b 64 g w.holder K refl (sym (same l.4.1)) refl l.4.2,
+        moved b 64 g w.holder K refl (sym (some_one l.4.1)) refl l.4.2,
       );
 }
 
@@ -206,7 +203,7 @@ removal_keeps b w q m start end below = record {
         behind l.1.at l.1 (spot g w.depth start),
         param start l.1.at q (operator.Remove m (word end (l.1.at - 1) l.2)),
         r.removal below l.3,
-        moved b 64 g w.holder K refl (sym (same l.4.1)) refl l.4.2,
+        moved b 64 g w.holder K refl (sym (some_one l.4.1)) refl l.4.2,
       );
 }
 
@@ -229,11 +226,11 @@ OpenKeeps b w s start end q = (nests q.0 ≡ true → w.depth < 64) → Keeps b 
 opening_keeps : (b : List ℕ) (w : WordBuilder) (s : Sign) (start end : ℕ) (o : Opening) (x : Context) → opening_of (context_in w.holder) s end ≡ Some (o, x)
     → OpenKeeps b w s start end (o, x)
 unfolding opening_of
-opening_keeps b w sign.Double start end o x h = subst (OpenKeeps b w sign.Double start end) (same h) (λ below. double_keeps b w start end)
+opening_keeps b w sign.Double start end o x h = subst (OpenKeeps b w sign.Double start end) (some_one h) (λ below. double_keeps b w start end)
 opening_keeps b w (sign.Use q a colon) start end o x h =
-    subst (OpenKeeps b w (sign.Use q a colon) start end) (same h) (λ below. use_keeps b w q a colon start end (below refl))
-opening_keeps b w (sign.Remove q m) start end o x h = subst (OpenKeeps b w (sign.Remove q m) start end) (same h) (λ below. removal_keeps b w q m start end (below refl))
-opening_keeps b w sign.Arith start end o x h = subst (OpenKeeps b w sign.Arith start end) (same h) (λ below. arithmetic_keeps b w start end (below refl))
+    subst (OpenKeeps b w (sign.Use q a colon) start end) (some_one h) (λ below. use_keeps b w q a colon start end (below refl))
+opening_keeps b w (sign.Remove q m) start end o x h = subst (OpenKeeps b w (sign.Remove q m) start end) (some_one h) (λ below. removal_keeps b w q m start end (below refl))
+opening_keeps b w sign.Arith start end o x h = subst (OpenKeeps b w sign.Arith start end) (some_one h) (λ below. arithmetic_keeps b w start end (below refl))
 opening_keeps b w _ start end o x h = cc
 
 -- a level is open in what the sign opens
@@ -241,7 +238,7 @@ opening_nests : (limit : ℕ) (b : List ℕ) (x y : Context) (s : Sign) (i v : S
     → PartIs limit b x s i e v p → i.depth < limit
 unfolding opening_of
 opening_nests limit b x y sign.Double i v e p o h deep is =
-    let q = same h in absurd (true≢false (sym deep ∙ ap (λ z. nests z.0) (sym q)))
+    let q = some_one h in absurd (true≢false (sym deep ∙ ap (λ z. nests z.0) (sym q)))
 opening_nests limit b x y (sign.Use q a colon) i v e p o h deep is = is.4
 opening_nests limit b x y (sign.Remove q m) i v e p o h deep is = is.4
 opening_nests limit b x y sign.Arith i v e p o h deep is = is.4
@@ -405,7 +402,7 @@ close_steps b w new fs h depth start inside o end (Ok None) frames deep are stop
       forth = λ limit g u ps l.
           let t = stop_forth b limit g w (frame.Opened h depth start inside o ∷ fs) end u ps frames stops l in
           let K = λ (y : Read) (j : Spot). Then b limit g (context_in h) fs y j u ps in
-          held_left b limit g g.count w.mode h 0 p fs (spot g depth end) u ps (moved b limit g h K refl (same (sym t.1 ∙ a.1)) refl t.2);
+          held_left b limit g g.count w.mode h 0 p fs (spot g depth end) u ps (moved b limit g h K refl (some_one (sym t.1 ∙ a.1)) refl t.2);
       back = λ g u ps l. stop_back b 64 g w (frame.Opened h depth start inside o ∷ fs) end u ps frames stops are
           (p, a.1, left_held b 64 g g.count w.mode h 0 p fs (spot g depth end) u ps l);
     } in

@@ -59,7 +59,7 @@ impl WordBuilder {
     ///
     /// # Errors
     ///
-    /// `AllocError` where a growth was refused.
+    /// None: nothing grows yet.
     pub fn start(alloc: Global, mode: Mode, depth: u8, at: u32) -> Result<WordBuilder, AllocError>
         ensures { (w : WordBuilder) × (result ≡ Ok w) × IsStart w mode depth at }
     {

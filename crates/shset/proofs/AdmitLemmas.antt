@@ -41,9 +41,6 @@ pub name_past : (es : List Element) (i : ℕ) (e : Element) → i < length es �
     → words_of (drop i es) ≡ words_of (drop (i + 1) es)
 name_past es i e h is v = rw (drop-cons es i e, add-one, ← is, ← v) refl
 
-pub no_name : (es : List Element) (i : ℕ) → length es ≤ i → words_of (drop i es) ≡ []
-no_name es i h = rw (drop_all i es h) refl
-
 -- whether a command is analysed, by its name
 
 pub plain_without : (b : List ℕ) (ws : List Word) → None ≡ slice_get ws 0 → true ≡ is_plain_name b ws

@@ -29,8 +29,10 @@ use Rattle.sh_flow.specs.declared.rule.FlowRule.TheVariants.{F1, F2}
 use Rattle.shset.specs.Findings.{gains, command_gains, unsure, form_unset, element_unset, command_unset, unset_from, unset_places}
 use Rattle.shset.specs.Certifies.{numbers_of, HoldsNames, Says, Round, Follows, Found}
 use Rattle.shset.specs.declared.find.Finder.{Finder}
-use Rattle.shset.proofs.RowLemmas.{or_swap, has_append, numbers_append}
-use Rattle.shset.proofs.NumberingLemmas.{and_left, and_right, all_of, NameOf, name_of, number_shared}
+use Rattle.sh_flow.proofs.BoolLemmas.{and_left, and_right, or_swap}
+use Rattle.sh_flow.proofs.ClaimLemmas.{all_among}
+use Rattle.shset.proofs.RowLemmas.{has_append, numbers_append}
+use Rattle.shset.proofs.NumberingLemmas.{NameOf, name_of, number_shared}
 use Rattle.shset.proofs.ReadLemmas.{NumberedFrom}
 
 -- What an entry claims
@@ -83,7 +85,7 @@ within_known : (names : List Text) (args : ℕ) (c : Claim) (ts : List Text) (v 
     → ((n : ℕ) → has_number n (numbers_of names ts) ≡ true → v n ≡ true) → nat_le args a ≡ true → within c (Known v f a) ≡ true
 unfolding within
 within_known names args c ts v f a claim h le =
-    let each : list_all v claim.row ≡ true = all_of v claim.row (λ n e. h n (sym (claim.holds n) ∙ e)) in
+    let each : list_all v claim.row ≡ true = all_among v claim.row (λ n e. h n (sym (claim.holds n) ∙ e)) in
     rw (claim.is, each, le) refl
 
 -- the facts know the names

@@ -27,7 +27,7 @@ use Rattle.sh_grammar.proofs.BreakLemmas.{blanks_settle}
 use Rattle.sh_table.specs.Counts.{gives_field, some_gives_field}
 use Rattle.sh_flow.specs.Profile.{is_variable, is_value, is_flat, is_straight_part, is_straight_element, gives_name}
 use Rattle.shset.proofs.AdmitLemmas.{word_of-Assignment, word_of-Word, straight_Word, straight_Redirection}
-use Rattle.shset.proofs.NumberingLemmas.{and_left, and_right}
+use Rattle.sh_flow.proofs.BoolLemmas.{and_left, and_right}
 
 -- Words
 

@@ -1,8 +1,8 @@
 -- Numbers of names.
-use Rattle.std.proofs.Common.{◌≡◌, ℕ, suc, ◌+◌, Bool, true, false, cond, ◌&&◌, ◌||◌, Option, Some, None, List, [], ◌∷◌, ◌++◌, fold, refl, sym, ◌∙◌, ap, subst, arith, eqb, slice_get, is_some}
+use Rattle.std.proofs.Common.{◌≡◌, ℕ, suc, ◌+◌, Bool, true, false, cond, ◌||◌, Option, Some, None, List, [], ◌∷◌, ◌++◌, fold, refl, sym, ◌∙◌, ap, subst, arith, eqb, slice_get, is_some}
 use Rattle.std.specs.List.{cons_option, list_all, position_from}
 use Rattle.std.specs.Str.{bytes_eq}
-use Rattle.std.proofs.lemmas.Bool.{false≢true}
+use Rattle.std.proofs.lemmas.Bool.{false≢true, or_right}
 use Rattle.std.proofs.lemmas.Bool.Decides.{Decides-eqb}
 use Rattle.std.proofs.lemmas.Slice.Eq.{bytes_eq-Decides}
 use Rattle.std.proofs.lemmas.List.Folds.{list_any-append, list_all-append}
@@ -12,6 +12,8 @@ use Rattle.sh_table.specs.runs.Environment.{is_one_of}
 use Rattle.sh_flow.specs.Policy.{Declared}
 use Rattle.sh_flow.specs.Names.{number_of, with_text, first_names, script_names, numbering}
 use Rattle.sh_flow.specs.Facts.{has_number}
+use Rattle.sh_flow.proofs.BoolLemmas.{and_left, and_right}
+use Rattle.sh_flow.proofs.FactLemmas.{number_finds}
 use Rattle.shset.specs.Certifies.{numbers_of}
 
 -- Tests
@@ -19,7 +21,7 @@ use Rattle.shset.specs.Certifies.{numbers_of}
 same_text : (s t : Text) → bytes_eq s t ≡ true → s ≡ t
 same_text s t e = (bytes_eq-Decides s t).0 e
 
-text_same : (t : Text) → bytes_eq t t ≡ true
+pub text_same : (t : Text) → bytes_eq t t ≡ true
 text_same t = (bytes_eq-Decides t t).1 refl
 
 number_same : (n : ℕ) → eqb n n ≡ true
@@ -27,25 +29,6 @@ number_same n = (Decides-eqb n n).1 refl
 
 same_number : (m n : ℕ) → eqb m n ≡ true → m ≡ n
 same_number m n e = (Decides-eqb m n).0 e
-
-or_right : (a b : Bool) → b ≡ true → (a || b) ≡ true
-or_right true b e = refl
-or_right false b e = e
-
-pub and_left : (a b : Bool) → (a && b) ≡ true → a ≡ true
-and_left true b e = refl
-and_left false b e = e
-
-pub and_right : (a b : Bool) → (a && b) ≡ true → b ≡ true
-and_right true b e = e
-and_right false b e = cc
-
--- what holds of each number of a row
-pub all_of : (p : ℕ → Bool) (ns : List ℕ) → ((n : ℕ) → has_number n ns ≡ true → p n ≡ true) → list_all p ns ≡ true
-all_of p [] h = refl
-all_of p (n ∷ ns) h =
-    let here : p n ≡ true = h n (ap (λ (b : Bool). b || has_number n ns) (number_same n)) in
-    rw here (all_of p ns (λ k e. h k (or_right (eqb k n) (has_number k ns) e)))
 
 pub all_weaker : {X : Type 0} (p q : X → Bool) → ((x : X) → p x ≡ true → q x ≡ true) → (xs : List X) → list_all p xs ≡ true → list_all q xs ≡ true
 all_weaker p q h [] e = refl
@@ -67,14 +50,8 @@ place_of i m (x ∷ xs) s e = go (place_of (i + 1) m xs s) (bytes_eq x s) refl e
     go rest true t h = let same : i ≡ m = cc in record { place = 0; sum = omega (arith, same); stands = ap Some (same_text x s t) }
     go rest false t h = let p = rest h in record { place = suc p.place; sum = omega (arith, p.sum); stands = p.stands }
 
-pub stands_at : (names : List Text) (t : Text) (n : ℕ) → number_of names t ≡ Some n → slice_get names n ≡ Some t
-stands_at names t n e =
-    let p = place_of 0 n names t e in
-    let here : p.place ≡ n = omega (arith, p.sum) in
-    ap (slice_get names) (sym here) ∙ p.stands
-
 one_name : (names : List Text) (s t : Text) (n : ℕ) → number_of names s ≡ Some n → number_of names t ≡ Some n → s ≡ t
-one_name names s t n e f = let a = stands_at names s n e in let b = stands_at names t n f in cc
+one_name names s t n e f = let a = number_finds names s n e in let b = number_finds names t n f in cc
 
 -- a number is one of those of the sure names where its name is one of these
 
@@ -116,7 +93,7 @@ name_further names sure s n f = record { name = f.name; stands = f.stands; among
 
 name_here : (names sure : List Text) (s : Text) (n m : ℕ) → number_of names s ≡ Some m → n ≡ m → NameOf names (s ∷ sure) n
 name_here names sure s n m f same =
-    record { name = s; stands = stands_at names s n (f ∙ ap Some (sym same)); among = ap (λ (c : Bool). c || is_one_of sure s) (text_same s) }
+    record { name = s; stands = number_finds names s n (f ∙ ap Some (sym same)); among = ap (λ (c : Bool). c || is_one_of sure s) (text_same s) }
 
 pub name_of : (names sure : List Text) (n : ℕ) → has_number n (numbers_of names sure) ≡ true → NameOf names sure n
 name_of names [] n e = cc

@@ -1,9 +1,8 @@
 -- Places of unquoted expansions, a piece at a time.
-use Rattle.std.proofs.Common.{◌≡◌, ℕ, ◌+◌, ◌<◌, Bool, true, false, cond, Option, Some, None, Result, Ok, Err, OnErr, List, [], ◌∷◌, ◌++◌, length, get_or, take, refl, sym, ◌∙◌, ap, subst, arith, append_assoc}
+use Rattle.std.proofs.Common.{◌≡◌, Bool, true, false, cond, Option, Some, None, List, [], ◌∷◌, ◌++◌, refl, sym, ◌∙◌, ap}
 use Rattle.std.specs.List.{flat_map, filter_map, list_all, cons_option}
-use Rattle.std.proofs.lemmas.List.{take_more, append-nil}
+use Rattle.std.proofs.lemmas.List.{append-nil}
 use Rattle.std.proofs.lemmas.List.Concat.{flat_map-append}
-use Rattle.std.proofs.lemmas.List.Folds.{length-flat_map-take}
 use Rattle.sh_tree.specs.declared.place.Place.{Place}
 use Rattle.sh_tree.specs.declared.place.Code.TheVariants.{Q1}
 use Rattle.sh_tree.specs.declared.tree.Span.{Span}
@@ -104,28 +103,9 @@ items_lone (i ∷ is) = go (lone_command i) (items_lone is)
     go None h = h
     go (Some c) h = ap (λ qs. flat_map word_quote_places (words_of (elements_of (out-Command c).kind)) ++ qs) h ∙ ap (λ qs. qs ++ flat_map (on_lone command_quote_places) is) (words_all (elements_of (out-Command c).kind))
 
--- one more piece
-pub places_more : {X : Type 0} (f : X → List Place) (first : List Place) (xs : List X) (i : ℕ) (x : X) (old new : List Place) → i < length xs → x ≡ get_or xs i x
-    → old ≡ first ++ flat_map f (take i xs) → new ≡ old ++ f x → new ≡ first ++ flat_map f (take (i + 1) xs)
-places_more f first xs i x old new lt at known step =
-    let one : flat_map f (take (i + 1) xs) ≡ flat_map f (take i xs) ++ f x =
-    rw (take_more xs i x lt, flat_map-append f (take i xs) (get_or xs i x ∷ []), ← at) (ap (λ ps. flat_map f (take i xs) ++ ps) (append-nil (f x))) in
-    step ∙ ap (λ ps. ps ++ f x) known ∙ append_assoc first (flat_map f (take i xs)) (f x) ∙ ap (λ ps. first ++ ps) (sym one)
-
 -- a piece without a place
 pub nothing_noted : (old ps : List Place) → ps ≡ [] → old ≡ old ++ ps
 nothing_noted old ps e = sym (ap (λ qs. old ++ qs) e ∙ append-nil old)
-
-pub whatever : {X Y P : Type 0} (r : Result X Y) → P → OnErr r P
-whatever (Ok x) p = tt
-whatever (Err e) p = p
-
--- a place in a piece is one of all
-pub some_in_all : {X : Type 0} (f : X → List Place) (xs : List X) (i : ℕ) (x : X) → i < length xs → x ≡ get_or xs i x → 0 < length (f x) → 0 < length (flat_map f xs)
-some_in_all f xs i x lt at h =
-    let less = length-flat_map-take f xs i x lt in
-    let here : 0 < length (f (get_or xs i x)) = subst (λ y. 0 < length (f y)) at h in
-    omega (arith, less, here)
 
 -- Where there are none, every expansion is quoted
 

@@ -1,8 +1,7 @@
 -- What a script that was read is like: each item begins in the text, and where all are analysed, the n-th is the command of the number n.
-use Rattle.std.proofs.Common.{◌≡◌, ℕ, ◌+◌, ◌-◌, ◌<◌, ◌≤◌, Bool, true, false, ◌&&◌, if◌then◌else◌, Option, Some, None, List, [], ◌∷◌, length, refl, sym, ◌∙◌, ap, subst, nat_le, ⊎_elim}
+use Rattle.std.proofs.Common.{◌≡◌, ℕ, ◌+◌, ◌-◌, ◌<◌, ◌≤◌, Bool, true, false, ◌&&◌, if◌then◌else◌, Option, Some, None, List, [], ◌∷◌, length, refl, sym, ◌∙◌, ap, subst, ⊎_elim}
 use Rattle.std.specs.List.{list_all, filter_map}
-use Rattle.std.proofs.lemmas.Bool.{true≢false, cases_lt, le-leb}
-use Rattle.std.proofs.lemmas.List.{drop_all}
+use Rattle.std.proofs.lemmas.Bool.{true≢false, cases_lt}
 use Rattle.sh_tree.specs.declared.tree.AndOr.{AndOr, out-AndOr, out-roll-AndOr}
 use Rattle.sh_tree.specs.declared.tree.Command.{Command, out-Command, out-roll-Command}
 use Rattle.sh_tree.specs.declared.tree.Element.{Element}
@@ -26,19 +25,20 @@ use Rattle.sh_tree.specs.declared.token.command.Stage.TheVariants.{First}
 use Rattle.sh_tree.specs.declared.token.word.Context.{Context}
 use Rattle.sh_tree.specs.declared.token.word.Sign.{Sign}
 use Rattle.sh_tree.specs.Words.{elements_of, elements_of_simple, lone_command, lone_list, lone_pipe, lone_part, words_of}
-use Rattle.sh_tree.specs.language.Bytes.{longest}
-use Rattle.sh_tree.specs.language.Commands.{lead_at, lead_of, operator_of, is_newline_lead, is_redirection, begins_simple, begins_compound, begins_command}
-use Rattle.sh_tree.specs.language.HereDocuments.{Mark}
+use Rattle.sh_tree.specs.language.Commands.{lead_at, is_newline_lead, is_redirection, begins_simple, begins_compound, begins_command}
 use Rattle.sh_tree.specs.language.Reading as r
-use Rattle.sh_tree.specs.language.Reading.{lead_here, parted, ReadsParts, ReadsPart, ReadsWord, ReadsDocuments, ReadsBreaks, ReadsElements, ReadsCommand, ReadsCompound, ReadsPipeline, ReadsCommands, ReadsAndOr, ReadsLinks, ReadsItems, ReadsSequence, ReadsScript, Reads}
+use Rattle.sh_tree.specs.language.Reading.{lead_here, parted, ReadsParts, ReadsPart, ReadsWord, ReadsBreaks, ReadsElements, ReadsCommand, ReadsCompound, ReadsPipeline, ReadsCommands, ReadsAndOr, ReadsLinks, ReadsItems, ReadsSequence, ReadsScript, Reads}
 use Rattle.sh_tree.specs.language.States.{Spot, State, Document}
 use Rattle.sh_tree.specs.language.Trees as tree
 use Rattle.sh_tree.proofs.Inversions.{apart, some_one}
+use Rattle.sh_grammar.proofs.BreakLemmas.{no_documents}
+use Rattle.sh_grammar.proofs.ItemLemmas.{end_lead}
 use Rattle.sh_flow.specs.Profile.{is_variable, is_value, is_flat, is_straight_part, is_straight_element, is_simple, has_none, is_straight, is_plain_name, is_admitted, is_item_admitted, Admitted, gives_name, has_name, HasNames}
 use Rattle.shset.specs.Findings.{first_start, item_start}
 use Rattle.shset.proofs.AdmitLemmas.{is_straight_part-Double, straight_Assignment, straight_Word, straight_Redirection}
 use Rattle.shset.proofs.NamedLemmas.{IsSettled, settles, settled_past, settled_next, elements_named}
-use Rattle.shset.proofs.NumberingLemmas.{and_left, and_right, all_weaker}
+use Rattle.sh_flow.proofs.BoolLemmas.{and_left, and_right}
+use Rattle.shset.proofs.NumberingLemmas.{all_weaker}
 
 -- The fields of what was read
 
@@ -59,17 +59,8 @@ opened_script is = ap (λ t. t.items) (out-roll-Script (record { items = is }))
 
 -- Where items begin
 
--- behind a text there is nothing
-behind_text : (b : List ℕ) (i : ℕ) → nat_le (length b) i ≡ true → lead_of b First i None ≡ lead.End
-unfolding lead_of
-behind_text b i past = rw past refl
-
-end_at : (b : List ℕ) (i : ℕ) → length b ≤ i → lead_at b First i ≡ lead.End
-unfolding lead_at operator_of longest
-end_at b i past = ap (λ cs. lead_of b First i (operator_of cs)) (drop_all i b past) ∙ behind_text b i (le-leb (length b) i past)
-
 within_text : (b : List ℕ) (i : ℕ) → (lead_at b First i ≡ lead.End → ⊥) → i < length b
-within_text b i h = ⊎_elim (λ (below : i < length b). below) (λ (past : length b ≤ i). absurd (h (end_at b i past))) (cases_lt i (length b))
+within_text b i h = ⊎_elim (λ (below : i < length b). below) (λ (past : length b ≤ i). absurd (h (end_lead b i past))) (cases_lt i (length b))
 
 command_placed : {limit : ℕ} {b : List ℕ} {body : ℕ → Document} {s u : State} {c : Command} → ReadsCommand limit b body s u c → (out-Command c).at < length b
 unfolding begins_command begins_simple begins_compound is_redirection
@@ -177,10 +168,6 @@ elements_calm {b = b} {s = s} k h c (r.word_element {u = u} {w = w} {es = es} e 
     (c.0, word_count (sym (straight_Word w) ∙ here) q ∙ c.1, settled_past b s u c.2) rest
 elements_calm k h c (r.redirect_element {r = f} {es = es} e q rest) =
     absurd (true≢false (sym (and_left (is_straight_element (element.Redirection f)) (list_all is_straight_element es) h) ∙ straight_Redirection f))
-
-no_documents : {limit : ℕ} {b : List ℕ} {ms : List Mark} {s u : State} → ms ≡ [] → ReadsDocuments limit b ms s u → u ≡ s
-no_documents none r.no_body = refl
-no_documents none (r.more_bodies e a c h k d) = cc
 
 breaks_calm : {limit : ℕ} {b : List ℕ} {s v : State} (k : ℕ) → IsCalm b k s → ReadsBreaks limit b s v → IsCalm b k v
 breaks_calm k c (r.no_break h) = c

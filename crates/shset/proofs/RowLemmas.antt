@@ -1,5 +1,5 @@
 -- Rows of numbers of names, a name at a time.
-use Rattle.std.proofs.Common.{◌≡◌, ℕ, Bool, true, false, ◌||◌, Option, Some, None, Result, Ok, Err, IfOk, List, [], ◌∷◌, ◌++◌, map, Vec, Global, refl, sym, ◌∙◌, ap, subst, eqb, option_to_list, slice_get}
+use Rattle.std.proofs.Common.{◌≡◌, ℕ, Bool, ◌||◌, Option, Some, None, Result, Ok, Err, IfOk, List, [], ◌∷◌, ◌++◌, map, Vec, Global, refl, sym, ◌∙◌, ap, subst, eqb, option_to_list, slice_get}
 use Rattle.std.specs.List.{cons_option}
 use Rattle.std.proofs.lemmas.List.Elements.{filter_map-append}
 use Rattle.std.proofs.lemmas.List.Folds.{list_any-append}
@@ -13,17 +13,9 @@ use Rattle.sh_tree.specs.Words.{form_of_assignment, form_of_word, form_of_redire
 use Rattle.sh_tree.specs.program.Syntax.{Text}
 use Rattle.sh_flow.specs.Names.{number_of}
 use Rattle.sh_flow.specs.Facts.{has_number}
+use Rattle.sh_flow.proofs.BoolLemmas.{or_swap}
 use Rattle.shset.specs.Findings.{gains}
 use Rattle.shset.specs.Certifies.{numbers_of, HoldsNames, Gains}
-
-pub or_false : (a : Bool) → (a || false) ≡ a
-or_false true = refl
-or_false false = refl
-
-pub or_swap : (a b : Bool) → (a || b) ≡ (b || a)
-or_swap true true = refl
-or_swap true false = refl
-or_swap false b = sym (or_false b)
 
 pub has_append : (n : ℕ) (xs ys : List ℕ) → has_number n (xs ++ ys) ≡ (has_number n xs || has_number n ys)
 has_append n xs ys = list_any-append (λ k. eqb n k) xs ys

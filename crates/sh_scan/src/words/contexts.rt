@@ -7,7 +7,7 @@ use super::sites::is_quoted;
 use crate::assignments::is_assignment_at;
 use crate::front::name_at;
 use sh_tree::limits::MAX_SCRIPT;
-use sh_tree::token::{Context, Site, Stage};
+use sh_tree::token::{Context, Site};
 use sh_tree::tree::Action;
 
 /// Inside the double quotes that open here.
@@ -114,19 +114,6 @@ pub fn in_operand(script: &[u8], at: u32) -> Context
         in_value(name_at(script, at) + 1)
     } else {
         in_word(at)
-    }
-}
-
-/// A word of a simple command at `at`.
-#[tactic(auto, unfolding(sh_tree::specs::language::Contexts::in_stage))]
-pub fn in_stage(script: &[u8], stage: Stage, at: u32) -> Context
-    requires small { length script.now ≤ MAX_SCRIPT }
-    requires inside { at ≤ length script.now }
-    ensures { result ≡ contexts.in_stage script.now stage at }
-{
-    match stage {
-        Stage::Named(true) => in_operand(script, at),
-        Stage::Named(false) | Stage::First | Stage::Prefixed => in_word(at),
     }
 }
 

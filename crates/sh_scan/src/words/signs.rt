@@ -8,23 +8,11 @@ use super::dollar::dollar;
 use super::plain::{is_stripped, plain_length, stands};
 use super::sites::{is_default_site, is_quoted, is_word_site, stop_length, stops};
 use super::tilde::tilde_length;
-use crate::bytes::ends_token;
-use crate::front::{begins_with, behind_joined};
+use crate::front::{begins_with, ends_joined};
 use memchr::memchr;
 use sh_tree::limits::MAX_SCRIPT;
 use sh_tree::refusal::{Fault, Form};
 use sh_tree::token::{Context, Sign, Site, Token};
-
-/// Whether a word ends before continuations, behind which no token goes on.
-#[tactic(auto, unfolding(sh_tree::specs::language::Bytes::is_first))]
-fn ends_joined(rest: &[u8]) -> bool
-    ensures { result ≡ words.ends_joined rest.now }
-{
-    match behind_joined(rest) {
-        [] => true,
-        [first, ..] => ends_token(*first),
-    }
-}
 
 /// A backslash and a newline, before `rest`.
 #[tactic(auto, unfolding(sh_tree::specs::language::Words::continued))]

@@ -1,10 +1,10 @@
 use super::{
-    in_arithmetic, in_body, in_double, in_operand, in_removal, in_stage, in_unsplit, in_use,
-    in_value, in_word, token_at,
+    in_arithmetic, in_body, in_double, in_operand, in_removal, in_unsplit, in_use, in_value,
+    in_word, token_at,
 };
 use sh_tree::limits::MAX_SCRIPT;
 use sh_tree::refusal::{Fault, Form};
-use sh_tree::token::{Context, Sign, Site, Stage, Token};
+use sh_tree::token::{Context, Sign, Site, Token};
 use sh_tree::tree::{Action, Removal, Span, Special, Subject};
 use std::process::Abort;
 use std::test::Fail;
@@ -300,9 +300,6 @@ fn operands_of_declarations(rt: HostRuntime) -> Result<(), Fail> {
     assert_eq!(rt; in_operand(b"a=~", 0), in_value(2));
     assert_eq!(rt; in_operand(b"'a'=~", 0), in_word(0));
     assert_eq!(rt; in_operand(b"a", 0), in_word(0));
-    assert_eq!(rt; in_stage(b"a=~", Stage::Named(true), 0), in_value(2));
-    assert_eq!(rt; in_stage(b"a=~", Stage::Named(false), 0), in_word(0));
-    assert_eq!(rt; in_stage(b"a=~", Stage::Prefixed, 0), in_word(0));
     assert_eq!(rt; in_body(true, false).site, Site::Verbatim);
     Ok(())
 }

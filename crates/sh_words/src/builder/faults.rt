@@ -1,5 +1,5 @@
 //! What is told where a word cannot go on.
-ghost use Rattle.std.specs.Prelude.{◌≡◌, ◌≤◌, ◌<◌, length};
+ghost use Rattle.std.specs.Prelude.{◌≡◌, ◌≤◌, ◌<◌};
 ghost use Rattle.sh_words.specs.Faults as faults;
 
 use super::WordBuilder;

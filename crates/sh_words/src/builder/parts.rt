@@ -5,7 +5,7 @@ ghost use Rattle.sh_tree.specs.language.Words as words;
 ghost use Rattle.sh_words.specs.Clauses.{Keeps, Steps};
 ghost use Rattle.sh_words.specs.Rest.{IsParts, Left, LeftPart};
 ghost use Rattle.sh_words.specs.Signs.{IsTokenFrom};
-ghost use Rattle.sh_words.specs.Sound.{Fits, IsSound, StepMoves, StepSound, StepWorks, Takes, TakesParts, work};
+ghost use Rattle.sh_words.specs.Sound.{IsSound, StepMoves, StepSound, StepWorks, Takes, TakesParts, work};
 ghost use Rattle.sh_words.specs.States.{context_in, ended, focused, found_in, prior_in, started};
 ghost use Rattle.sh_words.specs.Steps.{Closes};
 ghost use Rattle.sh_tree.specs.language.Trees.{word};

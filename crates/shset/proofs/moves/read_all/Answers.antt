@@ -1,12 +1,8 @@
-use Rattle.std.proofs.Common.{◌++◌, take, Result, Ok, Err, arith, length-append}
+use Rattle.std.proofs.Common.{◌++◌, take, arith, length-append}
 use Rattle.std.proofs.lemmas.List.{length-take}
-use Rattle.std.specs.Result.{OnErr}
 use Rattle.std.proofs.KnownBytes.{Consumes-trans}
+use Rattle.sh_flow.proofs.DemandLemmas.{whatever}
 use Rattle.shset.proofs.moves.read_all.Goals as goal
-
-whatever : {T E P : Type 0} (r : Result T E) → P → OnErr r P
-whatever (Ok x) p = tt
-whatever (Err e) p = p
 
 pub returns-in_err-extend_from_slice-in-Ok-clause-lost :
     goal.returns-in_err-extend_from_slice-in-Ok-clause-lost
