@@ -38,6 +38,7 @@ runs_as_expected = record {
   nothing_where_unset = refl;
   length_is_counted = refl;
   quotes_go = refl;
+  dollar_quotes_hold_any = refl;
   home_is_given = refl;
   home_is_unset = refl;
   substitution_gives = refl;

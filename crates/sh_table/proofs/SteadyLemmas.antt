@@ -9,6 +9,7 @@ use Rattle.sh_tree.specs.declared.tree.Action.{Action}
 use Rattle.sh_tree.specs.declared.tree.Action.TheVariants as action
 use Rattle.sh_tree.specs.declared.tree.Binary.{Binary}
 use Rattle.sh_tree.specs.declared.tree.Removal.{Removal}
+use Rattle.sh_tree.specs.declared.tree.SingleStyle.TheVariants as single
 use Rattle.sh_tree.specs.declared.tree.Special as tree
 use Rattle.sh_tree.specs.declared.tree.Special.TheVariants as special
 use Rattle.sh_tree.specs.language.Bytes.{is_digit, is_in}
@@ -253,7 +254,8 @@ module _ (i j : Option Text) where
           → SameOutcome (expand_part f status c x s) (expand_part f status c x t)
       part_same c (Plain v) s t h a = record { pieces = refl; state = a }
       part_same c (Escaped v) s t h a = record { pieces = refl; state = a }
-      part_same c (Single style v) s t h a = record { pieces = refl; state = a }
+      part_same c (Single single.Plain v) s t h a = record { pieces = refl; state = a }
+      part_same c (Single single.Dollar v) s t h a = record { pieces = ap (λ (g : Given). Bytes Quoted g.text ∷ []) (a.given 0); state = alike_taken s t a }
       part_same c (Double w) s t h a =
           followed_same (gives (quote_pieces (c.split && has_every w)) s) (gives (quote_pieces (c.split && has_every w)) t)
           (expand f status (in_quotes c) w) (expand f status (in_quotes c) w)
@@ -448,7 +450,8 @@ module _ (f : Frame) (status : ℕ) where
     quoted_part_firm : (c : Context) (x : Part) (s : State) → Firm (expand_part f status (in_quotes c) x s).pieces
     quoted_part_firm c (Plain t) s = refl
     quoted_part_firm c (Escaped t) s = refl
-    quoted_part_firm c (Single style t) s = refl
+    quoted_part_firm c (Single single.Plain t) s = refl
+    quoted_part_firm c (Single single.Dollar t) s = refl
     quoted_part_firm c (Double w) s = followed_firm (gives (quote_pieces (c.split && has_every w)) s) _ (quotes_firm (c.split && has_every w)) (quoted_firm c w)
     quoted_part_firm c (Expansion at p operator) s = quoted_operator_firm c p operator (s.given 0) (value_of f status p s.environment (s.given 0)) (taken s)
     quoted_part_firm c (Arithmetic at e) s = followed_firm (gives [] (expand_inside f status e s)) _ refl (λ t. refl)
@@ -479,7 +482,8 @@ module _ (f : Frame) (status : ℕ) where
   unfolding expand_part is_quotation is_firm
   quotation_firm c (Plain t) s h = absurd (false≢true h)
   quotation_firm c (Escaped t) s h = refl
-  quotation_firm c (Single style t) s h = refl
+  quotation_firm c (Single single.Plain t) s h = refl
+  quotation_firm c (Single single.Dollar t) s h = refl
   quotation_firm c (Double w) s h = double_firm c w s
   quotation_firm c (Expansion at p operator) s h = absurd (false≢true h)
   quotation_firm c (Arithmetic at e) s h = absurd (false≢true h)
@@ -536,7 +540,8 @@ module _ (f : Frame) (status : ℕ) where
   unfolding expand_part is_whole part_begins_pattern computed_pieces value_origin is_firm
   part_firm (Plain t) s h k = and_from _ true (not_from_false (list_any begins_pattern t) k) refl
   part_firm (Escaped t) s h k = refl
-  part_firm (Single style t) s h k = refl
+  part_firm (Single single.Plain t) s h k = refl
+  part_firm (Single single.Dollar t) s h k = refl
   part_firm (Double w) s h k = double_firm in_fields w s
   part_firm (Expansion at p operator) s h k = expansion_firm p operator s.environment (s.given 0) (taken s) h
   part_firm (Arithmetic at e) s h k =

@@ -5,7 +5,7 @@ use Rattle.sh_tree.specs.program.Syntax.{Text}
 
 -- what one expansion, or one operation of arithmetic, takes
 pub record Given : Type 0 where
-  -- bytes: those of `$0` and `$-`, the output of a substitution, what a removal leaves, a user's home
+  -- bytes: those of `$0` and `$-`, of `$'`, the output of a substitution, what a removal leaves, a user's home
   pub text : Text
   -- the process number in `$$` or `$!`
   pub number : ℕ
