@@ -159,11 +159,13 @@ builtins_as_expected = record {
 }
 
 pub calls_as_expected : CallsAsExpected
-unfolding computes examples.far examples.comes_to examples.behind
+unfolding computes examples.far examples.comes_to examples.behind examples.numbered
 calls_as_expected = record {
   return_in_function = refl;
   return_alone = refl;
   return_beyond = refl;
+  return_computed = refl;
+  work_is_numbered = refl;
   return_outside = refl;
   return_ends = refl;
   return_in_loop = refl;

@@ -1,6 +1,7 @@
 -- Runs of small programs to their end, against which the steps of commands are held.
 -- POSIX.1-2024, XCU 2.7 (redirection), 2.8.1 (consequences of shell errors), 2.9 (shell commands), 2.15 (special built-in utilities).
 use Rattle.std.specs.Prelude.{◌≡◌, ℕ, zero, suc, ◌==◌, ◌||◌, Bool, true, false, List, [], ◌∷◌, replicate, map, codes, Option, Some, None, is_some, unwrap_or, option_map, slice_get}
+use Rattle.std.specs.List.{flat_map}
 use Rattle.sh_tree.specs.declared.tree.Action.TheVariants as action
 use Rattle.sh_tree.specs.declared.tree.ClauseEnd.TheVariants as clause
 use Rattle.sh_tree.specs.declared.tree.Link.TheVariants as link
@@ -9,9 +10,11 @@ use Rattle.sh_tree.specs.declared.tree.LoopKind.TheVariants as loop
 use Rattle.sh_tree.specs.declared.tree.Special as tree
 use Rattle.sh_tree.specs.declared.tree.Special.TheVariants as special
 use Rattle.sh_tree.specs.program.Syntax.{Text, Variable, Positional, Special, Plain, Double, Expansion, Word, more_parts, Value, Use, Items, more_items, and_or, Links, no_links, more_links, Pipeline, pipeline, Command, no_commands, more_commands, command, Kind, Group, Subshell, Conditional, Loop, For, Case, Define, no_elements, assignment, redirection, File, no_redirects, more_redirects, Branches, more_branches, no_branches, no_else, else_of, listed, no_clauses, more_clauses}
-use Rattle.sh_tree.specs.program.Examples.{only, plain, simple}
+use Rattle.sh_tree.specs.program.Examples as program
+use Rattle.sh_tree.specs.program.Examples.{only, plain, simple, alone, lone}
 use Rattle.sh_table.specs.runs.Environment.{Environment, Frame, with_variable}
 use Rattle.sh_table.specs.runs.Answers.{Answer}
+use Rattle.sh_table.specs.runs.Work.{Work, Words, Again, Return}
 use Rattle.sh_table.specs.runs.Worlds.{World, Move, step, has_unset_event, has_split_event, start_world}
 use Rattle.sh_table.specs.Examples.{elements_of, words_of, utility, assign, says, says_one, compound, list, both, bare_start, start_with, quiet, with_status, by, a_and_b, put_back}
 
@@ -520,11 +523,31 @@ opening_function =
     let first = only (Expansion 0 (Positional 1) Value) in
     compound (Define f (opened (Group (list (says_one (codes ":") ∷ []))) (only (Double (only (Expansion 0 (Variable x) (Use action.Assign false first)))))))
 
+-- the number of the command that a piece of work belongs to, and the function at a return mark
+unfoldable pub numbered : Work → List (ℕ × Text)
+numbered (Words c left ts rs xs) = (c.number, []) ∷ []
+numbered (Again n kind while_list body) = (n, []) ∷ []
+numbered (Return n t saved) = (n, t) ∷ []
+numbered _ = []
+
+-- `f() { while :; do break; done; }; f`, with the numbers of its commands
+abbrev pub numbered_calls : Items
+numbered_calls =
+    let loops = command 3 0 (Loop loop.While (lone (program.utility 4 0 (codes ":"))) (lone (program.utility 5 0 (codes "break")))) no_redirects in
+    let defines = command 1 0 (Define f (command 2 0 (Group (lone loops)) no_redirects)) no_redirects in
+    alone defines (lone (program.utility 6 0 f))
+
 pub record CallsAsExpected : Type 0 where
   -- `f() { return 3; x=1; }; f`; `f() { return; x=1; }; f` and `f() { return 256; }; f`, which have any status; `return 3` outside
   pub return_in_function : x_and_status quiet (function f (returns ∷ one x ∷ []) ∷ says_one f ∷ notes ∷ []) ≡ None ∷ just (codes "3") ∷ []
   pub return_alone : x_and_status (with_status 7) (function f (says_one (codes "return") ∷ one x ∷ []) ∷ says_one f ∷ notes ∷ []) ≡ None ∷ just (codes "7") ∷ []
   pub return_beyond : x_and_status (with_status 7) (function f (says (codes "return" ∷ codes "256" ∷ []) ∷ []) ∷ says_one f ∷ notes ∷ []) ≡ None ∷ just (codes "7") ∷ []
+  -- `f() { return "$x"; }; x=3; f`: an operand that is computed may give any status
+  pub return_computed :
+      x_and_status (with_status 7) (function f (utility (plain (codes "return") ∷ value_of x ∷ []) ∷ []) ∷ assign x (codes "3") ∷ says_one f ∷ notes ∷ []) ≡ just (codes "3") ∷ just (codes "7") ∷ []
+  -- `f() { while :; do break; done; }; f`: at `break` the work knows its commands by their numbers, and the function that it returns from
+  pub work_is_numbered :
+      option_map (λ r. flat_map numbered r.work) ((far 30 0 quiet (start_world bare_start [] numbered_calls)).processes 0) ≡ Some ((5, []) ∷ (3, []) ∷ (6, f) ∷ [])
   pub return_outside : x_and_status quiet (returns ∷ notes ∷ []) ≡ None ∷ just (codes "3") ∷ []
   pub return_ends : x_and_status ending (returns ∷ notes ∷ []) ≡ None ∷ None ∷ []
   -- `f() { for x in a b; do return 3; done; }; f`: the loop is left

@@ -1,6 +1,7 @@
 -- What built-in utilities do.
 -- POSIX.1-2024, XCU 2.8.1 (consequences of shell errors), 2.15 (special built-in utilities), 3 (cd, getopts, read).
 use Rattle.std.specs.Prelude.{ℕ, zero, suc, ◌+◌, ◌==◌, nat_le, Bool, true, false, not, ◌||◌, if◌then◌else◌, List, [], ◌∷◌, length, drop, codes, Option, Some, None, is_some, unwrap_or}
+use Rattle.sh_tree.specs.program.Syntax as p
 use Rattle.sh_tree.specs.program.Syntax.{Text}
 use Rattle.sh_table.specs.declared.kind.Kind.{Kind}
 use Rattle.sh_table.specs.declared.kind.Kind.TheVariants as kind
@@ -57,27 +58,27 @@ unfoldable pub returned : Environment → Frame → ℕ → List Work → Answer
 returned e f status ws a None = goes e f status ws
 returned e f status ws a (Some x) = record (goes (restored a.restores 0 e x.0) f status x.1) { frames = Pops }
 
--- A special built-in utility with these operands. What `.`, `eval` and an action of `trap` run is not stated: no script with them is
+-- A special built-in utility, with the words of its command and its operands. What `.`, `eval` and an action of `trap` run is not stated: no script with them is
 -- analysed.
-unfoldable pub special : Environment → Frame → ℕ → List Work → Answer → Kind → List Text → Effect
-special e f status ws a kind.Colon ts = goes e f 0 ws
-special e f status ws a kind.Break ts = goes e f a.status (broken_off (loop_mark (unwrap_or (count_operand ts) 1) ws) ws)
-special e f status ws a kind.Continue ts = goes e f a.status (continued (loop_mark (unwrap_or (count_operand ts) 1) ws) ws)
-special e f status ws a kind.Exec ts = goes e f (if has_command ts then nonzero a.status else a.status) ws
-special e f status ws a kind.Exit ts = ends e f
-special e f status ws a kind.Export ts = goes (showing e (definitions_in ts)) f a.status ws
-special e f status ws a kind.Readonly ts = goes (showing e (definitions_in ts)) f a.status ws
-special e f status ws a kind.Return ts = returned e f (unwrap_or (status_operand ts) a.status) ws a (return_mark ws)
-special e f status ws a kind.Set ts = goes e (set_frame f a (set_words ts)) a.status ws
-special e f status ws a kind.Shift ts = shifted e f ws a (count_operand ts)
-special e f status ws a kind.Unset ts = goes (unset_names e a (unset_operands ts)) f a.status ws
-special e f status ws a kind.Times ts = goes e f a.status ws
-special e f status ws a kind.Trap ts = goes e f a.status ws
-special e f status ws a _ ts = goes e f a.status ws
+unfoldable pub special : Environment → Frame → ℕ → List Work → Answer → p.Words → Kind → List Text → Effect
+special e f status ws a vs kind.Colon ts = goes e f 0 ws
+special e f status ws a vs kind.Break ts = goes e f a.status (broken_off (loop_mark (unwrap_or (count_operand ts) 1) ws) ws)
+special e f status ws a vs kind.Continue ts = goes e f a.status (continued (loop_mark (unwrap_or (count_operand ts) 1) ws) ws)
+special e f status ws a vs kind.Exec ts = goes e f (if has_command ts then nonzero a.status else a.status) ws
+special e f status ws a vs kind.Exit ts = ends e f
+special e f status ws a vs kind.Export ts = goes (showing e (definitions_in ts)) f a.status ws
+special e f status ws a vs kind.Readonly ts = goes (showing e (definitions_in ts)) f a.status ws
+special e f status ws a vs kind.Return ts = returned e f (unwrap_or (status_operand vs) a.status) ws a (return_mark ws)
+special e f status ws a vs kind.Set ts = goes e (set_frame f a (set_words ts)) a.status ws
+special e f status ws a vs kind.Shift ts = shifted e f ws a (count_operand ts)
+special e f status ws a vs kind.Unset ts = goes (unset_names e a (unset_operands ts)) f a.status ws
+special e f status ws a vs kind.Times ts = goes e f a.status ws
+special e f status ws a vs kind.Trap ts = goes e f a.status ws
+special e f status ws a vs _ ts = goes e f a.status ws
 
 -- an error in it may end the process
-unfoldable pub special_or_end : Environment → Frame → ℕ → List Work → Answer → Kind → List Text → Effect
-special_or_end e f status ws a k ts = if a.ends then ends e f else special e f status ws a k ts
+unfoldable pub special_or_end : Environment → Frame → ℕ → List Work → Answer → p.Words → Kind → List Text → Effect
+special_or_end e f status ws a vs k ts = if a.ends then ends e f else special e f status ws a vs k ts
 
 -- Other built-in utilities
 

@@ -1,11 +1,13 @@
 -- What built-in utilities read off their operands.
 -- POSIX.1-2024, XCU 2.15 (export, readonly, set, shift, return, break, unset, exec), 3 (read, getopts).
-use Rattle.std.specs.Prelude.{ℕ, ◌+◌, ◌==◌, nat_lt, Bool, true, false, not, ◌&&◌, ◌||◌, if◌then◌else◌, List, [], ◌∷◌, ◌++◌, length, take, drop, filter, codes, Option, Some, None}
+use Rattle.std.specs.Prelude.{ℕ, ◌+◌, ◌==◌, nat_lt, Bool, true, false, not, ◌&&◌, ◌||◌, if◌then◌else◌, List, [], ◌∷◌, ◌++◌, length, take, drop, filter, codes, Option, Some, None, option_and_then}
 use Rattle.std.specs.List.{list_all, filter_map}
 use Rattle.std.specs.Str.{bytes_eq}
 use Rattle.sh_tree.specs.language.Bytes.{is_first, is_name, name_length}
 use Rattle.sh_tree.specs.language.Commands.{is_assignment}
+use Rattle.sh_tree.specs.program.Syntax as p
 use Rattle.sh_tree.specs.program.Syntax.{Text}
+use Rattle.sh_tree.specs.program.Words.{static_of}
 use Rattle.sh_table.specs.runs.Numbers.{number_in}
 
 -- An operand as a name, `=` and a value.
@@ -72,10 +74,11 @@ unfoldable pub count_operand : List Text → Option ℕ
 count_operand [] = Some 1
 count_operand (t ∷ ts) = number_in t
 
--- the operand of `return`, if it is a status
-unfoldable pub status_operand : List Text → Option ℕ
-status_operand [] = None
-status_operand (t ∷ ts) = status_in (number_in t)
+-- the status that `return` names: its operand, if that is static and a number below 256
+unfoldable pub status_operand : p.Words → Option ℕ
+status_operand p.no_words = None
+status_operand (p.more_words name p.no_words) = None
+status_operand (p.more_words name (p.more_words w ws)) = status_in (option_and_then number_in (static_of w))
   where
     status_in : Option ℕ → Option ℕ
     status_in None = None
