@@ -17,7 +17,7 @@ use Rattle.sh_tree.specs.program.Syntax.{Text, Parameter, Variable, Positional, 
 use Rattle.sh_table.specs.Quoting.{is_numeric, gives_number, is_quotation, are_quotations, is_quoted_alternative, is_whole, are_whole, part_begins_pattern, word_begins_pattern, part_mentions, word_mentions, operator_mentions, expression_mentions, operands_mention, is_ifs, is_about_separators, is_steady}
 use Rattle.sh_table.specs.Theorem.{DifferInIfs, FieldsStandSteady}
 use Rattle.sh_table.specs.runs.Answers.{Given, Marked, Directory}
-use Rattle.sh_table.specs.runs.Arithmetic.{Computed, computes, answered, operated, then_computed, read_name, named, skips, read_before, stored, evaluate, evaluate_rest}
+use Rattle.sh_table.specs.runs.Arithmetic.{Computed, computes, answered, operated, then_computed, read_name, named, skips, read_where, stored, assign, evaluate, evaluate_rest}
 use Rattle.sh_table.specs.runs.Environment.{Environment, Frame, with_variable, put_text, blanks, separators}
 use Rattle.sh_table.specs.runs.Expansion.{Literal, Quoted, Unquoted, Piece, Bytes, Break, Context, in_fields, in_quotes, in_one, in_default, value_origin, pieces_text, quote_pieces, has_every, broken, star_pieces, at_pieces, is_empty_value, Outcome, gives, followed, special_value, value_of, needed, value_pieces, assigned_by, used, constant_in, behind, tilde_pieces, computed_pieces, expand_part, expand, expand_operator, expand_inside, expand_operands}
 use Rattle.sh_table.specs.runs.Fields.{begins_pattern, Sign, Stands, Blank, Separates, Quote, Breaks, stands, unquoted_sign, piece_signs, Scan, Before, Behind, Inside, scan, split_fields, is_unquoted, is_bracket, is_pattern, field_text, names_or, field_names, fields}
@@ -118,13 +118,26 @@ module _ (i j : Option Text) where
   named_same : (name : Text) (s t : State) → is_ifs name ≡ false → Alike s t → Alike (named name s) (named name t)
   named_same name s t h a = rw (a.differ.variables name h) (read_same (t.environment.variables name) s t a)
 
-  read_before_same : (o : Option Binary) (name : Text) (s t : State) → is_ifs name ≡ false → Alike s t → Alike (read_before o name s) (read_before o name t)
-  unfolding read_before
-  read_before_same None name s t h a = a
-  read_before_same (Some operator) name s t h a = named_same name s t h a
+  read_where_same : (reads : Bool) (o : Option Binary) (name : Text) (s t : State) → is_ifs name ≡ false → Alike s t → Alike (read_where reads o name s) (read_where reads o name t)
+  unfolding read_where
+  read_where_same reads None name s t h a = a
+  read_where_same true (Some operator) name s t h a = named_same name s t h a
+  read_where_same false (Some operator) name s t h a = a
 
   stored_same : (name : Text) (n : ℤ) (s t : State) → is_ifs name ≡ false → Alike s t → SameComputed (stored name (computes n s)) (stored name (computes n t))
   stored_same name n s t h a = record { value = refl; state = alike_set s t name (integer_text n) (integer_text n) h refl a }
+
+  assign_same : (first : Bool) (name : Text) (operator : Option Binary) (value : State → Computed) (s t : State) → is_ifs name ≡ false
+      → ((u v : State) → Alike u v → SameComputed (value u) (value v)) → Alike s t → SameComputed (assign first name operator value s) (assign first name operator value t)
+  unfolding assign
+  assign_same first name operator value s t i k a =
+      let last = λ (u : State). operated (read_where (not first) operator name u) in
+      then_same (value (read_where first operator name s)) (value (read_where first operator name t)) (λ n u. then_computed (last u) (λ m v. stored name (computes m v)))
+      (k (read_where first operator name s) (read_where first operator name t) (read_where_same first operator name s t i a))
+      (λ n u v b.
+      then_same (last u) (last v) (λ m x. stored name (computes m x))
+      (operated_same (read_where (not first) operator name u) (read_where (not first) operator name v) (read_where_same (not first) operator name u v i b))
+      (λ m x y d. stored_same name m x y i d))
 
   mutual
     unfolding evaluate expression_mentions operands_mention is_about_separators
@@ -145,10 +158,7 @@ module _ (i j : Option Text) where
         (λ n u v b. either_computed (is_zero n) (is_zero n) refl _ _ _ _ (evaluate_same else_one u v p.1 b) (evaluate_same then_one u v q.1 b))
     evaluate_same (Assigned at name operator e) s t h a =
         let p = or_parts (is_ifs name) (expression_mentions is_about_separators e) h in
-        then_same (evaluate e s) (evaluate e t) (λ n u. then_computed (operated (read_before operator name u)) (λ m v. stored name (computes m v))) (evaluate_same e s t p.1 a)
-        (λ n u v b.
-        then_same (operated (read_before operator name u)) (operated (read_before operator name v)) (λ m x. stored name (computes m x))
-        (operated_same (read_before operator name u) (read_before operator name v) (read_before_same operator name u v p.0 b)) (λ m x y d. stored_same name m x y p.0 d))
+        rw (ap (λ (g : Given). g.reads_first) (a.given 0)) (assign_same (t.given 0).reads_first name operator (evaluate e) (taken s) (taken t) p.0 (λ u v b. evaluate_same e u v p.1 b) (alike_taken s t a))
 
     evaluate_rest_same : (es : Operands) (n : ℤ) (s t : State) → operands_mention is_about_separators es ≡ false → Alike s t
         → SameComputed (evaluate_rest es n s) (evaluate_rest es n t)

@@ -118,6 +118,7 @@ builtins_as_expected = record {
   unset_either = refl;
   unset_variable_first = refl;
   unset_function_alone = refl;
+  unset_letters = refl;
   unset_ends = refl;
   set_one = refl;
   set_fails = refl;

@@ -104,7 +104,7 @@ colon_start v = with_variable (start_with v) (codes "IFS") (Some (codes ":"))
 -- Answers and moves
 
 abbrev pub quiet_given : Given
-quiet_given = record { text = []; number = 0; integer = pos 0; fails = false; carries = false }
+quiet_given = record { text = []; number = 0; integer = pos 0; fails = false; reads_first = false; carries = false }
 
 -- every status is zero, nothing fails, nothing is shared or put back
 unfoldable pub quiet : Answer
@@ -118,6 +118,7 @@ quiet =
       matches = false;
       values = λ n. None;
       removes = λ n. false;
+      removes_function = λ n. false;
       count = 0;
       shares = λ n. false;
       restores = λ n. false;

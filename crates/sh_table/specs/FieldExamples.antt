@@ -105,6 +105,13 @@ integers k n = record quiet_given { integer = k }
 abbrev pub expanded_by : (ℕ → Given) → Environment → Frame → Word → Outcome
 expanded_by given e f w = expand f 0 in_fields w (fresh e given)
 
+-- `$((x += (x = 1)))`; x is read first, or not
+abbrev pub added : Word
+added = computed (Assigned 0 (codes "x") (Some binary.Add) (Parenthesis (x_gets one)))
+
+abbrev pub reading : Bool → ℕ → Given
+reading first n = record quiet_given { integer = pos 3; reads_first = first }
+
 -- a directory without names, and one with two, for each pattern
 abbrev pub empty_directory : Directory
 empty_directory field = []
@@ -268,6 +275,9 @@ pub record ComputedAsExpected : Type 0 where
   pub assigned_unmet : is_unset bare_start (computed (x_gets (Constant (codes "2")))) ≡ false
   -- `$((x += 1))` reads x
   pub added_met : is_unset bare_start (computed (Assigned 0 (codes "x") (Some binary.Add) one)) ≡ true
+  -- `$((x += (x = 1)))` reads x before it is assigned, or behind that; it has the last answer's integer
+  pub added_to_assigned : map (λ first. (state_by (reading first) bare_start added).unset) (true ∷ false ∷ []) ≡ true ∷ false ∷ []
+  pub added_value : map (λ first. x_by (reading first) bare_start added) (true ∷ false ∷ []) ≡ Some (codes "3") ∷ Some (codes "3") ∷ []
   -- `$((0 && (x=1)))`, where the answer for `0` is zero, and where it is one; `$((1 || (x=1)))`
   pub and_zero : x_by (integers (pos 0)) bare_start (computed (Chain (Constant (codes "0")) (more_operands binary.And (Parenthesis (x_gets one)) no_operands))) ≡ None
   pub and_one : x_by (integers (pos 1)) bare_start (computed (Chain (Constant (codes "0")) (more_operands binary.And (Parenthesis (x_gets one)) no_operands))) ≡ Some (codes "1")

@@ -392,6 +392,15 @@ taking = record quiet { takes_function = true }
 abbrev pub with_f : List Command → List Command
 with_f cs = function f (says_one (codes ":") ∷ []) ∷ cs
 
+-- the variable f, and whether the function is defined, behind `f() { :; }; f=1; unset letters f`
+abbrev pub unset_by : Text → Answer → Option Text × Bool
+unset_by letters a =
+    let w = ends_by a bare_start [] (list (with_f (one f ∷ unsets (letters ∷ f ∷ []) ∷ []))) in
+    (value f w, is_some ((w.environments 0).functions f))
+
+abbrev pub removing_either : Bool → Bool → Answer
+removing_either variable function = record quiet { removes = λ n. variable; removes_function = λ n. function }
+
 abbrev pub opt_names : List Text
 opt_names = x ∷ codes "OPTIND" ∷ codes "OPTARG" ∷ []
 
@@ -411,6 +420,10 @@ pub record BuiltinsAsExpected : Type 0 where
   pub unset_either : map (λ a. is_defined a (with_f (unsets (f ∷ []) ∷ []))) (taking ∷ quiet ∷ []) ≡ false ∷ true ∷ []
   pub unset_variable_first : is_defined taking (with_f (one f ∷ unsets (f ∷ []) ∷ [])) ≡ true
   pub unset_function_alone : seen quiet (f ∷ []) (with_f (one f ∷ unsets (codes "-f" ∷ f ∷ []) ∷ [])) ≡ just (codes "1") ∷ []
+  -- `f=1; unset -vf f`, and `-n`, which the standard does not have: the variable goes or stays, and the function does, on zero too
+  pub unset_letters :
+      map (λ a. map (λ letters. unset_by letters a) (codes "-vf" ∷ codes "-n" ∷ [])) (removing_either false false ∷ removing_either true false ∷ removing_either false true ∷ removing_either true true ∷ [])
+      ≡ replicate 2 (just (codes "1"), true) ∷ replicate 2 (None, true) ∷ replicate 2 (just (codes "1"), false) ∷ replicate 2 (None, false) ∷ []
   pub unset_ends : seen ending (x ∷ []) (unsets (x ∷ []) ∷ one x ∷ []) ≡ None ∷ []
   -- `set c`, on zero and on another status, where the parameters may change; `set -o errexit`, `set -e`, `set -eo errexit c`, `set -e -- -c`, `set --`, `set +e c`
   pub set_one : parameters quiet (sets (codes "c" ∷ []) ∷ []) ≡ codes "c" ∷ []

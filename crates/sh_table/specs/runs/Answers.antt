@@ -13,6 +13,8 @@ pub record Given : Type 0 where
   pub integer : ℤ
   -- an assignment or an operation fails, which ends the process
   pub fails : Bool
+  -- `x += e` reads x before e, and not behind it
+  pub reads_first : Bool
   -- `!` goes into the copy for a substitution
   pub carries : Bool
 
@@ -42,8 +44,11 @@ pub record Answer : Type 0 where
   pub matches : Bool
   -- the values that `read`, `getopts` and `cd` give to their names, where they give one
   pub values : ℕ → Option Text
-  -- by place, the operands that `unset` removes though it fails; the first one is also whether `set` does its work though it fails
+  -- by place, the operands that `unset` removes though it fails, and the variables that it removes by options that the standard does not
+  -- have; the first one is also whether `set` does its work though it fails
   pub removes : ℕ → Bool
+  -- by place, the functions that `unset` removes by such options
+  pub removes_function : ℕ → Bool
   -- how many parameters `shift` removes where its operand is no number
   pub count : ℕ
   -- Choices

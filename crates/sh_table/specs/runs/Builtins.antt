@@ -7,7 +7,7 @@ use Rattle.sh_table.specs.declared.kind.Kind.{Kind}
 use Rattle.sh_table.specs.declared.kind.Kind.TheVariants as kind
 use Rattle.sh_table.specs.runs.Environment.{Environment, Frame, is_one_of, with_variable, with_function, showing}
 use Rattle.sh_table.specs.runs.Answers.{Answer}
-use Rattle.sh_table.specs.runs.Operands.{definitions_in, Removal, OfVariables, OfFunctions, OfEither, OfBoth, unset_operands, set_words, count_operand, status_operand, has_command, read_names, getopts_name}
+use Rattle.sh_table.specs.runs.Operands.{definitions_in, Removal, OfVariables, OfFunctions, OfEither, OfAny, unset_operands, set_words, count_operand, status_operand, has_command, read_names, getopts_name}
 use Rattle.sh_table.specs.runs.Work.{Work, Saved, Effect, Pops, goes, ends, loop_mark, broken_off, continued, return_mark}
 
 -- a status that is not zero
@@ -17,22 +17,34 @@ nonzero (suc n) = suc n
 
 -- Unset
 
--- one name, where it is removed; a choice says whether a function goes where there was no variable
-unfoldable pub removed : Removal → Bool → Environment → Text → Environment
-removed OfVariables takes e name = with_variable e name None
-removed OfFunctions takes e name = with_function e name None
-removed OfEither takes e name = if is_some (e.variables name) then with_variable e name None else (if takes then with_function e name None else e)
-removed OfBoth takes e name = with_function (with_variable e name None) name None
+-- the operand at a place is removed: a status of zero says that each is
+abbrev pub is_removed : Answer → ℕ → Bool
+is_removed a n = a.status == 0 || a.removes n
 
--- the names in their order, those that are removed
-unfoldable pub removed_all : Removal → Bool → (ℕ → Bool) → ℕ → Environment → List Text → Environment
-removed_all removal takes removes n e [] = e
-removed_all removal takes removes n e (name ∷ names) =
-    removed_all removal takes removes (n + 1) (if removes n then removed removal takes e name else e) names
+-- a variable, or else a function by a choice
+unfoldable pub removed_either : Bool → Environment → Text → Environment
+removed_either takes e name = if is_some (e.variables name) then with_variable e name None else (if takes then with_function e name None else e)
 
--- a status of zero says that each was
+-- a variable, a function, both or none
+unfoldable pub removed_any : Bool → Bool → Environment → Text → Environment
+removed_any variable function e name =
+    let d = if variable then with_variable e name None else e in
+    if function then with_function d name None else d
+
+-- the operand at a place
+unfoldable pub removed : Removal → Answer → ℕ → Environment → Text → Environment
+removed OfVariables a n e name = if is_removed a n then with_variable e name None else e
+removed OfFunctions a n e name = if is_removed a n then with_function e name None else e
+removed OfEither a n e name = if is_removed a n then removed_either a.takes_function e name else e
+removed OfAny a n e name = removed_any (a.removes n) (a.removes_function n) e name
+
+-- the operands in their order
+unfoldable pub removed_all : Removal → Answer → ℕ → Environment → List Text → Environment
+removed_all removal a n e [] = e
+removed_all removal a n e (name ∷ names) = removed_all removal a (n + 1) (removed removal a n e name) names
+
 unfoldable pub unset_names : Environment → Answer → Removal × List Text → Environment
-unset_names e a x = removed_all x.0 a.takes_function (λ n. a.status == 0 || a.removes n) 0 e x.1
+unset_names e a x = removed_all x.0 a 0 e x.1
 
 -- Set and shift
 

@@ -27,17 +27,18 @@ is_dashed _ = false
 abbrev pub ends_options : Text → Bool
 ends_options t = bytes_eq t (codes "--")
 
--- what `unset` removes: by `-v` variables, by `-f` functions, without options a variable or else a function, otherwise both
+-- what `unset` removes: by `-v` variables, by `-f` functions, without options a variable or else a function; by both together, or by
+-- options that the standard does not have, either, both or none
 pub data Removal : Type 0 where
   OfVariables : Removal
   OfFunctions : Removal
   OfEither : Removal
-  OfBoth : Removal
+  OfAny : Removal
 
 unfoldable pub removal_of : Text → Removal
 removal_of [] = OfEither
 removal_of (c ∷ cs) =
-    if list_all (λ d. d == 118) (c ∷ cs) then OfVariables else (if list_all (λ d. d == 102) (c ∷ cs) then OfFunctions else OfBoth)
+    if list_all (λ d. d == 118) (c ∷ cs) then OfVariables else (if list_all (λ d. d == 102) (c ∷ cs) then OfFunctions else OfAny)
 
 -- the options' letters so far, and the names
 unfoldable pub unset_from : Text → List Text → Removal × List Text
