@@ -130,6 +130,8 @@ computed_as_expected = record {
   expanded_text = refl;
   expanded_nothing = refl;
   expanded_unset = refl;
+  expanded_blanks = refl;
+  named_value = refl;
   division = refl;
   division_fails = refl;
 }

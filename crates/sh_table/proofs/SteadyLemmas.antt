@@ -21,7 +21,7 @@ use Rattle.sh_table.specs.runs.Arithmetic.{Computed, computes, answered, operate
 use Rattle.sh_table.specs.runs.Environment.{Environment, Frame, with_variable, put_text, blanks, separators}
 use Rattle.sh_table.specs.runs.Expansion.{Literal, Quoted, Unquoted, Piece, Bytes, Break, Context, in_fields, in_quotes, in_one, in_default, value_origin, pieces_text, quote_pieces, has_every, broken, star_pieces, at_pieces, is_empty_value, Outcome, gives, followed, special_value, value_of, needed, value_pieces, assigned_by, used, constant_in, behind, tilde_pieces, computed_pieces, expand_part, expand, expand_operator, expand_inside, expand_operands}
 use Rattle.sh_table.specs.runs.Fields.{begins_pattern, Sign, Stands, Blank, Separates, Quote, Breaks, stands, unquoted_sign, piece_signs, Scan, Before, Behind, Inside, scan, split_fields, is_unquoted, is_bracket, is_pattern, field_text, names_or, field_names, fields}
-use Rattle.sh_table.specs.runs.Numbers.{last_digits, digits, integer_text, is_integer, is_zero}
+use Rattle.sh_table.specs.runs.Numbers.{last_digits, digits, integer_text, is_operand, is_computed, is_zero}
 use Rattle.sh_table.specs.runs.States.{State, fresh, taken, ending, stray, with_environment}
 
 -- Environments and states that are alike but for IFS
@@ -113,7 +113,7 @@ module _ (i j : Option Text) where
   read_same : (v : Option Text) (s t : State) → Alike s t → Alike (read_name v s) (read_name v t)
   unfolding read_name
   read_same None s t a = a
-  read_same (Some v) s t a = either_alike (is_integer v) (is_integer v) refl s t (stray s) (stray t) a a
+  read_same (Some v) s t a = either_alike (is_computed v) (is_computed v) refl s t (stray s) (stray t) a a
 
   named_same : (name : Text) (s t : State) → is_ifs name ≡ false → Alike s t → Alike (named name s) (named name t)
   named_same name s t h a = rw (a.differ.variables name h) (read_same (t.environment.variables name) s t a)
@@ -199,8 +199,8 @@ module _ (i j : Option Text) where
     constant_same : (o p : Outcome) → SameOutcome o p → Alike (constant_in f status o) (constant_in f status p)
     unfolding constant_in
     constant_same o p h =
-        either_alike (o.state.ended || is_integer (pieces_text o.pieces)) (p.state.ended || is_integer (pieces_text p.pieces))
-        (ap₂ (λ ends ps. ends || is_integer (pieces_text ps)) h.state.ended h.pieces) o.state p.state (stray o.state) (stray p.state) h.state h.state
+        either_alike (o.state.ended || is_operand (pieces_text o.pieces)) (p.state.ended || is_operand (pieces_text p.pieces))
+        (ap₂ (λ ends ps. ends || is_operand (pieces_text ps)) h.state.ended h.pieces) o.state p.state (stray o.state) (stray p.state) h.state h.state
 
     needed_same : (c : Context) (v : Option Text) (s t : State) → Alike s t → SameOutcome (needed f status c v s) (needed f status c v t)
     unfolding needed

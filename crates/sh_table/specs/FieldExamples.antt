@@ -67,6 +67,10 @@ x_chooses = computed (Choice (name (codes "x")) (name (codes "y")) (name (codes 
 abbrev pub expanded_sum : Word
 expanded_sum = computed (Chain (Expanded (expansion 0 Value)) (more_operands binary.Add one no_operands))
 
+-- `$((x + 1))`
+abbrev pub named_sum : Word
+named_sum = computed (Chain (name (codes "x")) (more_operands binary.Add one no_operands))
+
 -- Starts
 
 abbrev pub with_ifs : Text → Environment → Environment
@@ -291,6 +295,11 @@ pub record ComputedAsExpected : Type 0 where
   pub expanded_text : strays (start_with (codes "a")) expanded_sum ≡ true
   pub expanded_nothing : strays (start_with []) expanded_sum ≡ true
   pub expanded_unset : is_unset bare_start expanded_sum ≡ true
+  pub expanded_blanks : map (λ t. strays (start_with t) expanded_sum) (codes " 5 " ∷ codes "\t-0x1F\n" ∷ codes " " ∷ codes "1 2" ∷ []) ≡ false ∷ false ∷ true ∷ true ∷ []
+  -- `$((x + 1))`: x may be empty, and blanks may stand round its value
+  pub named_value :
+      map (λ t. strays (start_with t) named_sum) ([] ∷ codes " " ∷ codes " 5 " ∷ codes "\t-0x1F\n" ∷ codes "1 2" ∷ codes "- 1" ∷ codes "a" ∷ [])
+      ≡ false ∷ false ∷ false ∷ false ∷ true ∷ true ∷ true ∷ []
   -- `$((1 / 0))`: a division that fails ends the process
   pub division : is_ended bare_start (computed (Chain one (more_operands binary.Divide one no_operands))) ≡ false
   pub division_fails : (state_by (λ n. record quiet_given { fails = n == 2 }) bare_start (computed (Chain one (more_operands binary.Divide one no_operands)))).ended ≡ true

@@ -6,7 +6,7 @@ use Rattle.sh_tree.specs.declared.tree.Binary.{Binary}
 use Rattle.sh_tree.specs.declared.tree.Binary.TheVariants as binary
 use Rattle.sh_tree.specs.program.Syntax.{Text, Expression, Constant, Name, Expanded, Parenthesis, Signed, Chain, Choice, Assigned, Operands, no_operands, more_operands}
 use Rattle.sh_table.specs.runs.Environment.{with_variable}
-use Rattle.sh_table.specs.runs.Numbers.{integer_text, is_zero, is_integer}
+use Rattle.sh_table.specs.runs.Numbers.{integer_text, is_zero, is_computed}
 use Rattle.sh_table.specs.runs.States.{State, met, taken, with_environment, ending, stray}
 
 pub record Computed : Type 0 where
@@ -28,10 +28,10 @@ operated s = if (s.given 0).fails then computes (s.given 0).integer (ending (tak
 unfoldable pub then_computed : Computed → (ℤ → State → Computed) → Computed
 then_computed r next = if r.state.ended then r else next r.value r.state
 
--- a name is read: it has to be set, and to an integer constant
+-- a name is read: it has to be set, and to an integer constant or to nothing
 unfoldable pub read_name : Option Text → State → State
 read_name None s = met s
-read_name (Some t) s = if is_integer t then s else stray s
+read_name (Some t) s = if is_computed t then s else stray s
 
 abbrev pub named : Text → State → State
 named name s = read_name (s.environment.variables name) s

@@ -10,7 +10,7 @@ use Rattle.sh_tree.specs.declared.tree.Special as tree
 use Rattle.sh_tree.specs.declared.tree.Special.TheVariants as special
 use Rattle.sh_tree.specs.program.Syntax.{Text, Parameter, Variable, Positional, Special, Part, Plain, Escaped, Single, Double, Expansion, Arithmetic, Substitution, Tilde, Joined, Word, no_parts, more_parts, Operator, Value, Length, Use, Remove, Expression, Constant, Name, Expanded, Parenthesis, Signed, Chain, Choice, Assigned, Operands, no_operands, more_operands}
 use Rattle.sh_table.specs.runs.Environment.{Environment, Frame, with_variable, copied, separators}
-use Rattle.sh_table.specs.runs.Numbers.{digits, integer_text, is_integer}
+use Rattle.sh_table.specs.runs.Numbers.{digits, integer_text, is_operand}
 use Rattle.sh_table.specs.runs.Answers.{Given}
 use Rattle.sh_table.specs.runs.States.{State, met, taken, with_environment, started, ending, stray}
 use Rattle.sh_table.specs.runs.Arithmetic.{Computed, evaluate}
@@ -166,7 +166,7 @@ module _ (f : Frame) (status : ℕ) where
 
   -- an expansion inside arithmetic: its text has to be an integer constant
   unfoldable pub constant_in : Outcome → State
-  constant_in o = if o.state.ended || is_integer (pieces_text o.pieces) then o.state else stray o.state
+  constant_in o = if o.state.ended || is_operand (pieces_text o.pieces) then o.state else stray o.state
 
   unfoldable pub behind : State → (State → State) → State
   behind s next = if s.ended then s else next s

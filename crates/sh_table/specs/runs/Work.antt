@@ -84,7 +84,7 @@ pub record Effect : Type 0 where
   pub unset : Bool
   -- it gives an expansion's value to splitting or pathname expansion that could change it
   pub split : Bool
-  -- it computes with a value that is no integer constant
+  -- it meets a value in arithmetic that is neither nothing nor an integer constant
   pub strays : Bool
 
 -- a step without expansions: the process goes on
