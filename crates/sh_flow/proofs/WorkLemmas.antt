@@ -1,5 +1,5 @@
 -- What each step of a straight script keeps, whatever is asked of its words.
-use Rattle.std.proofs.Common.{◌≡◌, ℕ, Bool, true, false, Option, Some, None, is_some, if◌then◌else◌, List, [], ◌∷◌, ◌++◌, map, bytes_eq, ◌⊎◌, inl, inr, refl, sym, subst}
+use Rattle.std.proofs.Common.{◌≡◌, ℕ, Bool, true, false, Option, Some, None, is_some, if◌then◌else◌, List, [], ◌∷◌, ◌++◌, map, bytes_eq, ◌⊎◌, inl, inr, refl, sym, ap, ◌∙◌, subst}
 use Rattle.std.proofs.lemmas.Slice.Eq.{bytes_eq-Decides}
 use Rattle.sh_tree.specs.program.Syntax as p
 use Rattle.sh_tree.specs.program.Syntax.{Text}
@@ -12,7 +12,7 @@ use Rattle.sh_table.specs.runs.States.{State, fresh}
 use Rattle.sh_table.specs.runs.Expansion.{Outcome, in_fields, in_one, pieces_text, expand}
 use Rattle.sh_table.specs.runs.Work.{Simple, Work, Items, Links, Pipeline, Negation, Command, Words, Prepare, Utility, Call, Return, Compound, If, Then, Test, Again, ForWords, Turns, Clauses, Patterns, Fall, Assignments, Effect, goes, ends, after_expansion}
 use Rattle.sh_table.specs.runs.Builtins.{utility}
-use Rattle.sh_table.specs.runs.Steps.{operands_in, redirects_in, assignments_in, manner, is_declared, word_fields, word_splits, status_behind, in_order, in_any_order, next_preparation, simple_work, command_work, unless_ended, negated_work, piped, items, links, words, assigned, called, prepared, prepare, kept, seen, passed, act_on, act}
+use Rattle.sh_table.specs.runs.Steps.{Named, ready, operands_in, redirects_in, assignments_in, manner, is_declared, word_fields, word_splits, status_behind, in_order, in_any_order, next_preparation, simple_work, command_work, unless_ended, negated_work, piped, items, links, words, assigned, called, prepared, prepare, kept, seen, passed, act_on, act}
 use Rattle.sh_flow.proofs.FactLemmas.{AreSet}
 use Rattle.sh_flow.proofs.Worlds.{NextOk, EffectOk}
 
@@ -160,7 +160,7 @@ module _ (event : Bool → Bool → Bool) (none : event false false ≡ false) w
     FrontGoes f (Command c) ws K status e = CommandGoes K c e
     FrontGoes f (Words simple left ts rs xs) ws K status e = (rs ≡ p.no_redirects) × LeftGoes K left ts xs e
     FrontGoes f (Prepare simple ts rs xs failed) ws K status e = (rs ≡ p.no_redirects) × ReadyGoes K ts xs e
-    FrontGoes f (Utility simple t ts xs prefixes values) ws K status e = ReadyGoes K (t ∷ []) xs e
+    FrontGoes f (Utility simple t ts rs xs prefixes values) ws K status e = (rs ≡ p.no_redirects) × ReadyGoes K (t ∷ []) xs e
     FrontGoes f _ ws K status e = ⊥
 
     -- the work of a process with this status and environment
@@ -285,18 +285,34 @@ module _ (event : Bool → Bool → Bool) (none : event false false ≡ false) w
             goes_ok (with_variable o.state.environment name (Some v)) f (status_behind o.state status a) behind
             (subst (λ d. Lives f (with_variable d name (Some v)) (status_behind o.state status a) behind) (sym stays.environment) lives)
 
+    manner_named : (t : Text) (ts : List Text) → kind_of t ≡ kind.Utility → manner (t ∷ ts) ≡ Named t ts
+    unfolding manner
+    manner_named t ts h = rw (is_not_special t h) refl
+
+    next_named : (t : Text) (ts : List Text) (first : Bool) (xs : Assignments) → next_preparation (Named t ts) first p.no_redirects xs ≡ ready
+    unfolding next_preparation in_order
+    next_named t ts first [] = refl
+    next_named t ts true (x ∷ xs) = refl
+    next_named t ts false (x ∷ xs) = refl
+
     prepare_ok : (e : Environment) (f : Frame) (status : ℕ) (ws : List Work) (a : Answer) (simple : Simple) (ts : List Text) (xs : Assignments) (failed : Bool) → NoFunctions e
-        → ReadyGoes (λ s d. Goes f ws s d) ts xs e → StepOk f (prepare e f status ws a simple ts p.no_redirects xs failed (next_preparation (manner ts) a.assigns_first p.no_redirects xs))
+        → ReadyGoes (λ s d. Goes f ws s d) ts xs e
+        → StepOk f (prepare e f status ws a simple ts p.no_redirects xs failed (next_preparation (manner ts) a.assigns_first p.no_redirects xs))
     unfolding prepare prepared manner next_preparation in_any_order in_order called Goes FrontGoes ReadyGoes ValuesGo AreSet
     prepare_ok e f status ws a simple [] [] failed free h = goes_ok e f _ ws (free, h.1 _ e (grows_refl e) tt)
     prepare_ok e f status ws a simple [] (x ∷ xs) failed free h = assigned_ok e f status ws a simple x.0 x.1 xs failed free h.0.0 h.0.1 h.1
     prepare_ok e f status ws a simple (t ∷ ts) xs failed free h =
-        rw (is_not_special t h.0, is_not_special t h.0)
-        (subst (λ o. StepOk f (goes e f status (called e f status ws a simple t ts xs o ∷ ws))) (sym (free t)) (goes_ok e f status (Utility simple t ts xs (map (λ x. x.0) xs) [] ∷ ws) (free, h)))
+        let named : manner (t ∷ ts) ≡ Named t ts = manner_named t ts h.0 in
+        let next : next_preparation (manner (t ∷ ts)) a.assigns_first p.no_redirects xs ≡ ready =
+        ap (λ m. next_preparation m a.assigns_first p.no_redirects xs) named ∙ next_named t ts a.assigns_first xs in
+        subst (λ q. StepOk f (prepare e f status ws a simple (t ∷ ts) p.no_redirects xs failed q)) (sym next)
+        (subst (λ m. StepOk f (prepared e f status ws a simple m p.no_redirects xs failed)) (sym named)
+        (subst (λ o. StepOk f (goes e f status (called e f status ws a simple t ts p.no_redirects xs o ∷ ws))) (sym (free t))
+        (goes_ok e f status (Utility simple t ts p.no_redirects xs (map (λ x. x.0) xs) [] ∷ ws) (free, (refl, h)))))
 
     -- a utility: its prefix assignments unset nothing
     utility_ok : (e : Environment) (f : Frame) (status : ℕ) (ws : List Work) (a : Answer) (simple : Simple) (t : Text) (ts : List Text) (xs : Assignments) (prefixes : List Text)
-        (values : List (Text × Text)) → NoFunctions e → ReadyGoes (λ s d. Goes f ws s d) (t ∷ []) xs e → StepOk f (passed e f status ws a simple t ts xs prefixes values)
+        (values : List (Text × Text)) → NoFunctions e → ReadyGoes (λ s d. Goes f ws s d) (t ∷ []) xs e → StepOk f (passed e f status ws a simple t ts p.no_redirects xs prefixes values)
     unfolding passed utility Goes FrontGoes ReadyGoes ValuesGo
     utility_ok e f status ws a simple t ts [] prefixes values free h = rw (h.0) (goes_ok e f a.status ws (free, h.2 a.status e (grows_refl e)))
     utility_ok e f status ws a simple t ts (x ∷ xs) prefixes values free h =
@@ -329,14 +345,14 @@ module _ (event : Bool → Bool → Bool) (none : event false false ≡ false) w
         none_defined false = hiding_free e o.state.environment shown (subst NoFunctions (sym stays.environment) (showing_free e shown free))
 
         left : Work
-        left = Utility simple t ts xs prefixes (values ++ (x.0, pieces_text o.pieces) ∷ [])
+        left = Utility simple t ts p.no_redirects xs prefixes (values ++ (x.0, pieces_text o.pieces) ∷ [])
 
         go : (b : Bool) → StepOk f (if b then ends s.environment f else goes s.environment f (status_behind s status a) (left ∷ ws))
         go true = ends_ok s.environment f
         go false =
             let more : Grows e s.environment = grows a.copies in
             goes_ok s.environment f (status_behind s status a) (left ∷ ws)
-            (none_defined a.copies, (h.0, values_grow xs e s.environment more h.1.1, λ u d m. h.2 u d (grows_trans e s.environment d more m)))
+            (none_defined a.copies, (refl, (h.0, values_grow xs e s.environment more h.1.1, λ u d m. h.2 u d (grows_trans e s.environment d more m))))
 
     command_ok : (e : Environment) (f : Frame) (status : ℕ) (ws : List Work) (c : p.Command) → NoFunctions e → CommandGoes (λ s d. Goes f ws s d) c e
         → StepOk f (goes e f status (command_work c ∷ ws))
@@ -378,9 +394,9 @@ module _ (event : Bool → Bool → Bool) (none : event false false ≡ false) w
       front_ok e f status ws a (Command c) free h = command_ok e f status ws c free h
       front_ok e f status ws a (Words simple left ts rs xs) free h = rw (h.0) (words_ok e f status ws a simple left ts xs free h.1)
       front_ok e f status ws a (Prepare simple ts rs xs failed) free h = rw (h.0) (prepare_ok e f status ws a simple ts xs failed free h.1)
-      front_ok e f status ws a (Utility simple t ts xs prefixes values) free h = utility_ok e f status ws a simple t ts xs prefixes values free h
+      front_ok e f status ws a (Utility simple t ts rs xs prefixes values) free h = rw (h.0) (utility_ok e f status ws a simple t ts xs prefixes values free h.1)
       front_ok e f status ws a Negation free h = absurd h
-      front_ok e f status ws a (Call n t ts body xs saved) free h = absurd h
+      front_ok e f status ws a (Call n t ts body rs xs saved) free h = absurd h
       front_ok e f status ws a (Return n t saved) free h = absurd h
       front_ok e f status ws a (Compound n rs kind) free h = absurd h
       front_ok e f status ws a (If n bs otherwise) free h = absurd h

@@ -70,6 +70,11 @@ redirects_as_expected = record {
   assignment_first_meets = refl;
   special_meets = refl;
   utility_meets = refl;
+  value_before_meets = refl;
+  value_before_call_meets = refl;
+  redirection_sees_no_value = refl;
+  call_behind_values = refl;
+  call_fails_behind_values = refl;
 }
 
 pub assignments_as_expected : AssignmentsAsExpected

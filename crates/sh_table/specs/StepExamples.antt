@@ -239,6 +239,19 @@ target = plain (codes "t")
 abbrev pub crossing : List Word → Command
 crossing ws = simple 1 0 (assignment x (value_of y) (redirection (File (assigning y (codes "t"))) (elements_of ws)))
 
+abbrev pub ls : Text
+ls = codes "ls"
+
+-- `x="${y=t}" name >"$y"`, and `x=1 name >target`
+abbrev pub valued_before : Text → List Command
+valued_before name = simple 1 0 (assignment x (assigning y (codes "t")) (redirection (File (value_of y)) (elements_of (plain name ∷ [])))) ∷ []
+
+abbrev pub prefixed_to : Text → Word → Command
+prefixed_to name target = simple 1 0 (assignment x (plain (codes "1")) (redirection (File target) (elements_of (plain name ∷ []))))
+
+abbrev pub restoring_first : Answer
+restoring_first = record assigning_first { restores = λ n. true }
+
 -- `x=1 >t` before `s="$?"`
 abbrev pub opens_behind : World
 opens_behind = start_world bare_start [] (list (simple 1 0 (assignment x (plain (codes "1")) (redirection (File target) no_elements)) ∷ notes ∷ []))
@@ -288,12 +301,27 @@ pub record RedirectsAsExpected : Type 0 where
   pub group_ends : x_and_status failing_ends (opened (Group (list (one x ∷ []))) target ∷ notes ∷ []) ≡ None ∷ None ∷ []
   pub function_fails : x_and_status failing (function f (one x ∷ []) ∷ opens (plain f ∷ []) target ∷ notes ∷ []) ≡ None ∷ just (codes "1") ∷ []
   pub function_ends : x_and_status failing_ends (function f (one x ∷ []) ∷ opens (plain f ∷ []) target ∷ notes ∷ []) ≡ None ∷ None ∷ []
-  -- `x="$y" >"${y=t}"`: the redirection first, or the assignment, which then meets y; `x="$y" : >"${y=t}"` too; before `ls` in this order alone
+  -- `x="$y" >"${y=t}"`: the redirection first, or the assignment, which then meets y; `x="$y" : >"${y=t}"` too; before `ls` too
   pub redirection_first : seen quiet (x ∷ y ∷ []) (crossing [] ∷ []) ≡ just (codes "t") ∷ just (codes "t") ∷ []
   pub assignment_first : seen assigning_first (x ∷ y ∷ []) (crossing [] ∷ []) ≡ just [] ∷ just (codes "t") ∷ []
   pub assignment_first_meets : map (λ a. meets_unset a bare_start (list (crossing [] ∷ []))) (quiet ∷ assigning_first ∷ []) ≡ false ∷ true ∷ []
   pub special_meets : map (λ a. meets_unset a bare_start (list (crossing (plain (codes ":") ∷ []) ∷ []))) (quiet ∷ assigning_first ∷ []) ≡ false ∷ true ∷ []
-  pub utility_meets : map (λ a. meets_unset a bare_start (list (crossing (plain (codes "ls") ∷ []) ∷ []))) (quiet ∷ assigning_first ∷ []) ≡ false ∷ false ∷ []
+  pub utility_meets : map (λ a. meets_unset a bare_start (list (crossing (plain (codes "ls") ∷ []) ∷ []))) (quiet ∷ assigning_first ∷ []) ≡ false ∷ true ∷ []
+  -- `x="${y=t}" ls >"$y"`, and before the function f: the redirection first meets y, and the assignment first sets it
+  pub value_before_meets : map (λ a. meets_unset a bare_start (list (valued_before ls))) (quiet ∷ assigning_first ∷ []) ≡ true ∷ false ∷ []
+  pub value_before_call_meets : map (λ a. meets_unset a bare_start (list (function f (one z ∷ []) ∷ valued_before f))) (quiet ∷ assigning_first ∷ []) ≡ true ∷ false ∷ []
+  -- `x=1 ls >"$x"`, and before f: the redirection does not see the assignment, in either order
+  pub redirection_sees_no_value :
+      map (λ name. map (λ a. meets_unset a bare_start (list (function f (one z ∷ []) ∷ prefixed_to name (value_of x) ∷ []))) (quiet ∷ assigning_first ∷ [])) (ls ∷ f ∷ [])
+      ≡ (true ∷ true ∷ []) ∷ (true ∷ true ∷ []) ∷ []
+  -- `f() { z="$x"; }; x=1 f >"${y=t}"`, with the assignment first: it is called, and x stays, or is put back; where the redirection fails it is not
+  pub call_behind_values :
+      map (λ a. seen a (x ∷ y ∷ z ∷ []) (function f (gives z (value_of x) ∷ []) ∷ prefixed_to f (assigning y (codes "t")) ∷ [])) (assigning_first ∷ restoring_first ∷ [])
+      ≡ (just (codes "1") ∷ just (codes "t") ∷ just (codes "1") ∷ []) ∷ (None ∷ just (codes "t") ∷ just (codes "1") ∷ []) ∷ []
+  pub call_fails_behind_values :
+      map (λ a. seen a (x ∷ y ∷ z ∷ []) (function f (gives z (value_of x) ∷ []) ∷ prefixed_to f (assigning y (codes "t")) ∷ []))
+      (failing_first ∷ record restoring_first { fails = true } ∷ [])
+      ≡ (just (codes "1") ∷ just (codes "t") ∷ None ∷ []) ∷ (None ∷ just (codes "t") ∷ None ∷ []) ∷ []
 
 -- `x=1 y=word ls`; `"${x+$z}"`
 abbrev pub shown_to : Word → Command

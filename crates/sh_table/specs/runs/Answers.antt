@@ -57,7 +57,7 @@ pub record Answer : Type 0 where
   pub shares : ℕ → Bool
   -- the prefix assignments that do not outlive a function
   pub restores : ℕ → Bool
-  -- an assignment comes before the redirections that are left
+  -- an assignment comes before the redirections that are left; before a function or another utility all assignments do
   pub assigns_first : Bool
   -- the redirection, or the value of a prefix assignment, is expanded in a copy; the redirections of a subshell, in its process
   pub copies : Bool

@@ -17,7 +17,7 @@ use Rattle.sh_table.specs.runs.States.{State, fresh}
 use Rattle.sh_table.specs.runs.Expansion.{Context, in_fields, in_one, Outcome, pieces_text, expand}
 use Rattle.sh_table.specs.runs.Fields.{fields, splits}
 use Rattle.sh_table.specs.runs.Work.{Simple, Work, Items, Links, Pipeline, Negation, Command, Words, Prepare, Utility, Call, Return, Compound, If, Then, Test, Again, ForWords, Turns, Clauses, Patterns, Fall, Assignments, Saved, Start, Shares, Copies, Effect, Pushes, goes, ends, after_expansion}
-use Rattle.sh_table.specs.runs.Builtins.{nonzero, special_or_end, utility, returned}
+use Rattle.sh_table.specs.runs.Builtins.{nonzero, special_or_end, utility, restored, returned}
 
 -- What stands in a simple command
 
@@ -78,7 +78,8 @@ status_behind s status a = substituted s.copies
     substituted [] = status
     substituted (c ∷ cs) = a.status
 
--- which of what is left of a simple command comes next: without a name and before a special built-in utility in any order
+-- which of what is left of a simple command comes next: without a name and before a special built-in utility in any order, otherwise
+-- the redirections, unless all assignments come before those that are left
 pub data Preparation : Type 0 where
   ready : Preparation
   redirects : p.Redirect → p.Redirects → Preparation
@@ -95,8 +96,10 @@ in_any_order true (p.more_redirects r rs) (x ∷ xs) = assigns x.0 x.1 xs
 in_any_order false (p.more_redirects r rs) (x ∷ xs) = redirects r rs
 
 unfoldable pub next_preparation : Manner → Bool → p.Redirects → Assignments → Preparation
-next_preparation (Named t ts) first rs xs = in_order rs
-next_preparation _ first rs xs = in_any_order first rs xs
+next_preparation (Named t ts) first rs [] = in_order rs
+next_preparation (Named t ts) first rs (x ∷ xs) = if first then ready else in_order rs
+next_preparation Nameless first rs xs = in_any_order first rs xs
+next_preparation (Special t ts) first rs xs = in_any_order first rs xs
 
 -- whether a redirection may be expanded in a copy
 unfoldable pub may_copy : Manner → Bool
@@ -182,11 +185,11 @@ module _ (e : Environment) (f : Frame) (status : ℕ) (ws : List Work) (a : Answ
   failed_in (Special t ts) d next = ends d f
   failed_in (Named t ts) d next = if a.ends && is_some (d.functions t) then ends d f else goes d f (nonzero a.status) ws
 
-  -- a redirection: in a copy its early end is a failure, and nothing else stays of it
-  unfoldable pub redirected : Manner → State → List Work → List Work → Effect
-  redirected m s next next_failed =
-      if a.copies && may_copy m then (if s.ended || a.fails then failed_in m e next_failed else goes e f (status_behind s status a) next)
-      else unless_ended s (if a.fails then failed_in m s.environment next_failed else goes s.environment f (status_behind s status a) next)
+  -- a redirection, and what comes where it failed: in a copy its early end is a failure, and nothing else stays of it
+  unfoldable pub redirected : Bool → State → List Work → (Environment → Effect) → Effect
+  redirected copied s next failed =
+      if copied then (if s.ended || a.fails then failed e else goes e f (status_behind s status a) next)
+      else unless_ended s (if a.fails then failed s.environment else goes s.environment f (status_behind s status a) next)
 
   -- an assignment, unless it fails and ends the process
   unfoldable pub assigned : Text → Outcome → List Work → Effect
@@ -195,21 +198,21 @@ module _ (e : Environment) (f : Frame) (status : ℕ) (ws : List Work) (a : Answ
       else goes (with_variable o.state.environment name (Some (pieces_text o.pieces))) f (status_behind o.state status a) next
 
   -- a function, or a utility
-  unfoldable pub called : Simple → Text → List Text → Assignments → Option p.Command → Work
-  called k t ts xs None = Utility k t ts xs (map (λ x. x.0) xs) []
-  called k t ts xs (Some body) = Call k.number t ts body xs []
+  unfoldable pub called : Simple → Text → List Text → p.Redirects → Assignments → Option p.Command → Work
+  called k t ts rs xs None = Utility k t ts rs xs (map (λ x. x.0) xs) []
+  called k t ts rs xs (Some body) = Call k.number t ts body rs xs []
 
-  -- the redirections and assignments are done
-  unfoldable pub prepared : Simple → Manner → Assignments → Bool → Effect
-  prepared k Nameless xs failed = goes e f (if failed then nonzero a.status else a.status) ws
-  prepared k (Special t ts) xs failed = special_or_end e f status ws a (operands_in k.elements) (kind_of t) ts
-  prepared k (Named t ts) xs failed = goes e f status (called k t ts xs (e.functions t) ∷ ws)
+  -- the redirections and assignments are done, but for those that a function or a utility has left
+  unfoldable pub prepared : Simple → Manner → p.Redirects → Assignments → Bool → Effect
+  prepared k Nameless rs xs failed = goes e f (if failed then nonzero a.status else a.status) ws
+  prepared k (Special t ts) rs xs failed = special_or_end e f status ws a (operands_in k.elements) (kind_of t) ts
+  prepared k (Named t ts) rs xs failed = goes e f status (called k t ts rs xs (e.functions t) ∷ ws)
 
   unfoldable pub prepare : Simple → List Text → p.Redirects → Assignments → Bool → Preparation → Effect
-  prepare k ts rs xs failed ready = prepared k (manner ts) xs failed
+  prepare k ts rs xs failed ready = prepared k (manner ts) rs xs failed
   prepare k ts rs xs failed (redirects r rest) =
       let s = (expanded in_one (opened r)).state in
-      after_expansion s false (redirected (manner ts) s (Prepare k ts rest xs failed ∷ ws) (Prepare k ts rest xs true ∷ ws))
+      after_expansion s false (redirected (a.copies && may_copy (manner ts)) s (Prepare k ts rest xs failed ∷ ws) (λ d. failed_in (manner ts) d (Prepare k ts rest xs true ∷ ws)))
   prepare k ts rs xs failed (assigns name value rest) =
       let o = expanded in_one value in
       after_expansion o.state false (unless_ended o.state (assigned name o (Prepare k ts rs rest failed ∷ ws)))
@@ -222,23 +225,36 @@ module _ (e : Environment) (f : Frame) (status : ℕ) (ws : List Work) (a : Answ
   abbrev pub seen : List (Text × Text) → List (Text × Text)
   seen values = if a.sees then values else []
 
-  -- a utility's environment gets the values, and the shell's own does not
-  unfoldable pub passed : Simple → Text → List Text → Assignments → List Text → List (Text × Text) → Effect
-  passed k t ts [] prefixes values = utility prefixes e f ws a (kind_of t) ts
-  passed k t ts (x ∷ xs) prefixes values =
+  -- a utility's environment gets the values, and the shell's own does not; redirections behind the values do not see them
+  unfoldable pub passed : Simple → Text → List Text → p.Redirects → Assignments → List Text → List (Text × Text) → Effect
+  passed k t ts p.no_redirects [] prefixes values = utility prefixes e f ws a (kind_of t) ts
+  passed k t ts (p.more_redirects r rest) [] prefixes values =
+      let s = (expanded in_one (opened r)).state in
+      after_expansion s false (redirected a.copies s (Utility k t ts rest [] prefixes values ∷ ws) (λ d. failed_in (Named t ts) d ws))
+  passed k t ts rs (x ∷ xs) prefixes values =
       let o = expand f status in_one x.1 (fresh (showing e (seen values)) a.given) in
       let s = kept (record o.state { environment = hiding e (seen values) o.state.environment }) in
-      let left = Utility k t ts xs prefixes (values ++ (x.0, pieces_text o.pieces) ∷ []) in
+      let left = Utility k t ts rs xs prefixes (values ++ (x.0, pieces_text o.pieces) ∷ []) in
       after_expansion s false (unless_ended s (if a.ends then ends s.environment f else goes s.environment f (status_behind s status a) (left ∷ ws)))
 
+  -- what a redirection behind the prefix assignments of a function does: it does not see them
+  abbrev pub unseen : Saved → p.Redirect → State
+  unseen saved r =
+      let s = (expand f status in_one (opened r) (fresh (restored (λ n. true) 0 e saved) a.given)).state in
+      record s { environment = hiding e saved s.environment }
+
   -- a function: prefix assignments are done outside it, and its operands are its frame
-  unfoldable pub calls : ℕ → Text → List Text → p.Command → Assignments → Saved → Effect
-  calls n t ts body [] saved = record (goes e f status (Command body ∷ Return n t saved ∷ ws)) { frames = Pushes ts }
-  calls n t ts body (x ∷ xs) saved =
+  unfoldable pub calls : ℕ → Text → List Text → p.Command → p.Redirects → Assignments → Saved → Effect
+  calls n t ts body p.no_redirects [] saved = record (goes e f status (Command body ∷ Return n t saved ∷ ws)) { frames = Pushes ts }
+  calls n t ts body (p.more_redirects r rest) [] saved =
+      let s = unseen saved r in
+      after_expansion s false
+      (redirected a.copies s (Call n t ts body rest [] saved ∷ ws) (λ d. failed_in (Named t ts) (restored a.restores 0 d saved) ws))
+  calls n t ts body rs (x ∷ xs) saved =
       let o = expanded in_one x.1 in
       let kept_outcome = record o { state = kept o.state } in
       after_expansion o.state false
-      (unless_ended (kept o.state) (assigned x.0 kept_outcome (Call n t ts body xs ((x.0, (kept o.state).environment.variables x.0) ∷ saved) ∷ ws)))
+      (unless_ended (kept o.state) (assigned x.0 kept_outcome (Call n t ts body rs xs ((x.0, (kept o.state).environment.variables x.0) ∷ saved) ∷ ws)))
 
   -- Compound commands (XCU 2.9.4)
 
@@ -346,8 +362,8 @@ module _ (e : Environment) (f : Frame) (status : ℕ) (ws : List Work) (a : Answ
   act_on (Command c) = goes e f status (command_work c ∷ ws)
   act_on (Words k left ts rs xs) = words k left ts rs xs
   act_on (Prepare k ts rs xs failed) = prepare k ts rs xs failed (next_preparation (manner ts) a.assigns_first rs xs)
-  act_on (Utility k t ts xs prefixes values) = passed k t ts xs prefixes values
-  act_on (Call n t ts body xs saved) = calls n t ts body xs saved
+  act_on (Utility k t ts rs xs prefixes values) = passed k t ts rs xs prefixes values
+  act_on (Call n t ts body rs xs saved) = calls n t ts body rs xs saved
   act_on (Return n t saved) = returned e f status ws a (Some (saved, ws))
   act_on (Compound n rs kind) = compound n rs kind
   act_on (If n branches otherwise) = branch n branches otherwise

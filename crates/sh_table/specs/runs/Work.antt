@@ -36,10 +36,11 @@ pub data Work : Type 0 where
   Words : (command : Simple) (left : p.Words) (fields : List Text) (redirects : p.Redirects) (assignments : Assignments) → Work
   -- its redirections and assignments that are left; whether a redirection failed
   Prepare : (command : Simple) (fields : List Text) (redirects : p.Redirects) (assignments : Assignments) (failed : Bool) → Work
-  -- a utility, its prefix assignments that are left, the names of all of them, and the values so far
-  Utility : (command : Simple) (name : Text) (operands : List Text) (assignments : Assignments) (prefixes : List Text) (values : List (Text × Text)) → Work
-  -- a function by its name, the prefix assignments that are left, and what the names of the others had before, the last one first
-  Call : (number : ℕ) (function : Text) (operands : List Text) (body : p.Command) (assignments : Assignments) (saved : Saved) → Work
+  -- a utility, its redirections and prefix assignments that are left, the names of all assignments, and the values so far
+  Utility : (command : Simple) (name : Text) (operands : List Text) (redirects : p.Redirects) (assignments : Assignments) (prefixes : List Text) (values : List (Text × Text)) → Work
+  -- a function by its name, the redirections and prefix assignments that are left, and what the names of the other assignments had before,
+  -- the last one first
+  Call : (number : ℕ) (function : Text) (operands : List Text) (body : p.Command) (redirects : p.Redirects) (assignments : Assignments) (saved : Saved) → Work
   -- the return mark of a call: the function, and what the names of prefix assignments had before
   Return : (number : ℕ) (function : Text) (saved : Saved) → Work
   -- a compound command, its redirections that are left before it
