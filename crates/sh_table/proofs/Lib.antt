@@ -1,3 +1,4 @@
+pub mod AdmittedLemmas
 pub mod EventLemmas
 pub mod ExampleLemmas
 pub mod FieldLemmas

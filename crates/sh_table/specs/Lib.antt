@@ -2,6 +2,7 @@ pub mod Kinds
 pub mod runs
 pub mod Surroundings
 pub mod Profile
+pub mod Admitted
 pub mod Counts
 pub mod Quoting
 pub mod Theorem

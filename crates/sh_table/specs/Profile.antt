@@ -1,6 +1,6 @@
 -- Which commands are refused before any analysis, and by which rule.
 -- POSIX.1-2024, XCU 2.9.1 (simple commands), 2.9.5 (function definitions), 2.15 (special built-in utilities), 3 (command).
-use Rattle.std.specs.Prelude.{ℕ, ◌+◌, ◌==◌, nat_lt, Bool, true, false, not, ◌&&◌, ◌||◌, if◌then◌else◌, List, [], ◌∷◌, length, drop, map, codes, Option, Some, None, is_some}
+use Rattle.std.specs.Prelude.{ℕ, ◌+◌, ◌==◌, nat_lt, Bool, true, false, not, ◌&&◌, ◌||◌, if◌then◌else◌, List, [], ◌∷◌, length, drop, map, codes, Option, Some, None, is_some, option_map}
 use Rattle.std.specs.List.{list_any, list_all, filter_map}
 use Rattle.std.specs.Str.{bytes_eq}
 use Rattle.sh_tree.specs.declared.known.Declaration.TheVariants as declaration
@@ -177,12 +177,8 @@ pub record Refused : Type 0 where
 unfoldable pub refused_at : Located → Option Refused
 refused_at l = at_command l.command
   where
-    with_rule : ℕ → ℕ → Option Rule → Option Refused
-    with_rule number at None = None
-    with_rule number at (Some r) = Some (record { number = number; at = at; rule = r })
-
     at_command : p.Command → Option Refused
-    at_command (p.command number at kind rs) = with_rule number at (command_rule l.surroundings kind)
+    at_command (p.command number at kind rs) = option_map (λ (r : Rule). record { number = number; at = at; rule = r }) (command_rule l.surroundings kind)
 
 -- the one with the least number
 unfoldable pub least_refused : List Refused → Option Refused

@@ -1,5 +1,6 @@
 //! What holds of the runs and of the fields that `specs/` defines, whatever the rules of a checker are.
 ghost use Rattle.sh_table.specs.examples.Profile.{ProfileAsExpected};
+ghost use Rattle.sh_table.specs.Admitted.{AdmittedAsListed};
 ghost use Rattle.sh_table.specs.Theorem.{ProcessesStep, SomeProcessSteps, FieldsStandWhole, FieldsStandSteady, OperandsCount};
 ghost use Rattle.sh_table.specs.examples.Events.{EventsExist};
 ghost use Rattle.sh_table.specs.examples.Runs.{RunsAsExpected};
@@ -24,6 +25,11 @@ pub fn fields()
 /// A word without a Split event, whose expansion does not end the process, gives at least as many fields as its form counts.
 pub fn operands()
     ensures { OperandsCount }
+{}
+
+/// A walk over a program that asks each command for its rule admits it exactly where no command is refused.
+pub fn admitted()
+    ensures { AdmittedAsListed }
 {}
 
 /// Known commands are refused, each by its rule, and known others are not.
