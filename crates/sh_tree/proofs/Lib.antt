@@ -8,3 +8,6 @@ pub mod ProgramForms
 pub mod Inversions
 pub mod UnreadLemmas
 pub mod Counts
+pub mod ListLemmas
+pub mod ResultLemmas
+pub mod NameLemmas

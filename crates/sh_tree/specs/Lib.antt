@@ -6,3 +6,4 @@ pub mod Words
 pub mod Answers
 pub mod Commands
 pub mod program
+pub mod Numbers

@@ -16,6 +16,7 @@ mod tests;
 pub mod text;
 pub mod token;
 pub mod tree;
+pub mod words;
 
 pub use boxed::Boxed;
 pub use items::Items;

@@ -17,30 +17,6 @@ use Rattle.sh_tree.specs.program.Syntax.{Text}
 use Rattle.sh_flow.specs.Profile.{is_utility, is_named_utility, is_flat, is_straight_part, is_straight_form, is_straight_element, is_plain_name, is_admitted, is_item_admitted, Admitted}
 use Rattle.shset.specs.Findings.{Admits, first_refused}
 
--- the name of a command, element by element
-
-pub word_of-Assignment : (s : Span) (w : Word) → word_of (element.Assignment s w) ≡ None
-unfolding word_in
-word_of-Assignment s w = ap word_in (form_of_assignment s w)
-
-pub word_of-Word : (w : Word) → word_of (element.Word w) ≡ Some w
-unfolding word_in
-word_of-Word w = ap word_in (form_of_word w)
-
-pub word_of-Redirection : (r : Redirect) → word_of (element.Redirection r) ≡ None
-unfolding word_in
-word_of-Redirection r = ap word_in (form_of_redirection r)
-
-pub ruleset word_in_element = (word_of-Assignment, word_of-Word, word_of-Redirection)
-
-pub name_at_word : (es : List Element) (i : ℕ) (e : Element) (w : Word) → i < length es → e ≡ get_or es i e → Some w ≡ word_of e
-    → slice_get (words_of (drop i es)) 0 ≡ Some w
-name_at_word es i e w h is v = rw (drop-cons es i e, ← is, ← v) refl
-
-pub name_past : (es : List Element) (i : ℕ) (e : Element) → i < length es → e ≡ get_or es i e → None ≡ word_of e
-    → words_of (drop i es) ≡ words_of (drop (i + 1) es)
-name_past es i e h is v = rw (drop-cons es i e, add-one, ← is, ← v) refl
-
 -- whether a command is analysed, by its name
 
 pub plain_without : (b : List ℕ) (ws : List Word) → None ≡ slice_get ws 0 → true ≡ is_plain_name b ws

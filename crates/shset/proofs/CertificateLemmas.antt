@@ -1,5 +1,7 @@
 -- The certificate that the finder makes: each rule holds by it, and what is unmet is what the text alone tells.
 use Rattle.std.proofs.Common.{◌≡◌, ℕ, ◌+◌, ◌-◌, Bool, true, false, ◌&&◌, ◌||◌, Option, Some, None, List, [], ◌∷◌, ◌++◌, map, min, refl, sym, ◌∙◌, ap, subst, arith, nat_le, slice_get, is_some, unwrap_or, option_map}
+use Rattle.std.proofs.lemmas.Bool.{and_parts}
+use Rattle.std.proofs.Math.Bool.{or_comm}
 use Rattle.std.specs.List.{filter_map, cons_option, list_all, flat_map}
 use Rattle.std.specs.Str.{bytes_eq}
 use Rattle.std.proofs.lemmas.Grind.{common_steps}
@@ -18,7 +20,8 @@ use Rattle.sh_table.specs.runs.Environment.{is_one_of}
 use Rattle.sh_table.specs.runs.Worlds.{start_names}
 use Rattle.sh_flow.specs.Policy.{Declared}
 use Rattle.sh_flow.specs.Names.{number_of, subjects, form_names, names_in, script_names}
-use Rattle.sh_flow.specs.Facts.{Facts, Known, Claim, Claimed, has_number, facts, within, meet, with_vars, Out, both, enter, out_at, Claims}
+use Rattle.sh_tree.specs.Numbers.{has_number}
+use Rattle.sh_flow.specs.Facts.{Facts, Known, Claim, Claimed, facts, within, meet, with_vars, Out, both, enter, out_at, Claims}
 use Rattle.sh_flow.specs.Certificates.{Table, row_at, claim_of, claim_in, entry_of, claims_of}
 use Rattle.sh_flow.specs.Rules.{told, is_set_at_start, start_facts, assigned_numbers, leaves, faults, item_faults, rule_behind, out_behind, list_faults, script_faults}
 use Rattle.sh_flow.specs.Demands.{wanted, knows, covers, uncovered, form_unmet, element_unmet, command_unmet, script_unmet}
@@ -29,7 +32,6 @@ use Rattle.sh_flow.specs.declared.rule.FlowRule.TheVariants.{F1, F2}
 use Rattle.shset.specs.Findings.{gains, command_gains, unsure, form_unset, element_unset, command_unset, unset_from, unset_places}
 use Rattle.shset.specs.Certifies.{numbers_of, HoldsNames, Says, Round, Follows, Found}
 use Rattle.shset.specs.declared.find.Finder.{Finder}
-use Rattle.sh_flow.proofs.BoolLemmas.{and_left, and_right, or_swap}
 use Rattle.sh_flow.proofs.ClaimLemmas.{all_among}
 use Rattle.shset.proofs.RowLemmas.{has_append, numbers_append}
 use Rattle.shset.proofs.NumberingLemmas.{NameOf, name_of, number_shared}
@@ -122,7 +124,7 @@ leaves_known b names args [] es before sure known = λ c claim.
     rw known.is
     (within_known names args c (sure ++ map (λ x. x.0) (assignments_of b es)) _ _ _ claim
     (λ n h.
-    sym (or_swap (has_number n (numbers_of names sure)) (has_number n (assigned_numbers b names es)) ∙ ap (λ x. has_number n (assigned_numbers b names es) || x) (sym (known.holds n)))
+    sym (or_comm (has_number n (numbers_of names sure)) (has_number n (assigned_numbers b names es)) ∙ ap (λ x. has_number n (assigned_numbers b names es) || x) (sym (known.holds n)))
     ∙ ap (λ ns. has_number n (numbers_of names sure) || has_number n ns) (sym (gained_numbers b names (assignments_of b es)))
     ∙ sym (has_append n (numbers_of names sure) (numbers_of names (map (λ x. x.0) (assignments_of b es))))
     ∙ ap (λ ns. has_number n ns) (sym (numbers_append names sure (map (λ x. x.0) (assignments_of b es)))) ∙ h)
@@ -180,8 +182,8 @@ uncovered_unsure : (b : List ℕ) (names : List Text) (args : ℕ) (c : Claim) (
 uncovered_unsure b names args c sure [] claim e = refl
 uncovered_unsure b names args c sure (x ∷ xs) claim e =
     let test = λ (s : Text). is_some (number_of names s) in
-    let here = covers_known names args c sure (subject_text b x.param.subject) claim (and_left (test (subject_text b x.param.subject)) (list_all test (subjects b xs)) e) in
-    let there = uncovered_unsure b names args c sure xs claim (and_right (test (subject_text b x.param.subject)) (list_all test (subjects b xs)) e) in
+    let here = covers_known names args c sure (subject_text b x.param.subject) claim (and_parts (test (subject_text b x.param.subject)) (list_all test (subjects b xs)) e).0 in
+    let there = uncovered_unsure b names args c sure xs claim (and_parts (test (subject_text b x.param.subject)) (list_all test (subjects b xs)) e).1 in
     ap (λ q. wanted q x.param.span.start (subject_text b x.param.subject) ++ uncovered b names (facts c) xs) here
     ∙ ap (λ ps. wanted (is_one_of sure (subject_text b x.param.subject)) x.param.span.start (subject_text b x.param.subject) ++ ps) there
 
@@ -190,7 +192,7 @@ element_same : (b : List ℕ) (names : List Text) (args : ℕ) (c : Claim) (sure
 unfolding form_names form_unmet form_unset form_of
 element_same b names args c sure (Assignment' s t shape row) claim h =
     uncovered_unsure b names args c sure (expansions false (items-the_row-Part _ row)) claim
-    (and_right (is_some (number_of names _)) (list_all (λ s. is_some (number_of names s)) (subjects b (expansions false (items-the_row-Part _ row)))) h)
+    (and_parts (is_some (number_of names _)) (list_all (λ s. is_some (number_of names s)) (subjects b (expansions false (items-the_row-Part _ row)))) h).1
 element_same b names args c sure (Word' t shape row) claim h = uncovered_unsure b names args c sure (expansions false (items-the_row-Part _ row)) claim h
 element_same b names args c sure (Redirection' at n t) claim h = refl
 
@@ -200,8 +202,8 @@ elements_same b names args c sure [] claim h = refl
 elements_same b names args c sure (e ∷ es) claim h =
     let test = λ (s : Text). is_some (number_of names s) in
     let parts = sym (list_all-append test (names_in b e) (flat_map (names_in b) es)) ∙ h in
-    let here = element_same b names args c sure e claim (and_left (list_all test (names_in b e)) (list_all test (flat_map (names_in b) es)) parts) in
-    let there = elements_same b names args c sure es claim (and_right (list_all test (names_in b e)) (list_all test (flat_map (names_in b) es)) parts) in
+    let here = element_same b names args c sure e claim (and_parts (list_all test (names_in b e)) (list_all test (flat_map (names_in b) es)) parts).0 in
+    let there = elements_same b names args c sure es claim (and_parts (list_all test (names_in b e)) (list_all test (flat_map (names_in b) es)) parts).1 in
     ap (λ ps. ps ++ flat_map (element_unmet b names (facts c)) es) here ∙ ap (λ ps. element_unset b sure e ++ ps) there
 
 -- each name in the elements of these commands has a number
@@ -217,8 +219,8 @@ command_same b names t args k sure c cs number round h =
     let others : List Text = flat_map (λ (x : Command). flat_map (names_in b) (elements_of (out-Command x).kind)) cs in
     let said = claims_at names t args k (out-Command c).number sure (sure ++ command_gains b c) round number in
     let parts : (list_all test own && list_all test others) ≡ true = sym (list_all-append test own others) ∙ h in (
-      elements_same b names args ((claims_of t).before (out-Command c).number) sure (elements_of (out-Command c).kind) said.before (and_left (list_all test own) (list_all test others) parts),
-      and_right (list_all test own) (list_all test others) parts,
+      elements_same b names args ((claims_of t).before (out-Command c).number) sure (elements_of (out-Command c).kind) said.before (and_parts (list_all test own) (list_all test others) parts).0,
+      (and_parts (list_all test own) (list_all test others) parts).1,
     )
 
 commands_same : (b : List ℕ) (names : List Text) (t : Table) (args k : ℕ) (sure : List Text) (is : List Item) → NumberedFrom b k is

@@ -1,7 +1,7 @@
 -- The command names of a script that was read give fields: a word begins with a byte that is no blank.
 use Rattle.std.proofs.Common.{◌≡◌, ℕ, ◌+◌, ◌-◌, ◌<◌, ◌==◌, Bool, true, false, ◌||◌, List, length, drop, take, refl, sym, ◌∙◌, ap, subst, arith, length-drop, length-take}
 use Rattle.std.specs.List.{list_all}
-use Rattle.std.proofs.lemmas.Bool.{true≢false}
+use Rattle.std.proofs.lemmas.Bool.{and_parts, true≢false}
 use Rattle.std.proofs.lemmas.Bool.Decides.{nat_tests}
 use Rattle.sh_tree.specs.declared.tree.Element.{Element}
 use Rattle.sh_tree.specs.declared.tree.Element.TheVariants as element
@@ -27,7 +27,6 @@ use Rattle.sh_grammar.proofs.BreakLemmas.{blanks_settle}
 use Rattle.sh_table.specs.Counts.{gives_field, some_gives_field}
 use Rattle.sh_flow.specs.Profile.{is_variable, is_value, is_flat, is_straight_part, is_straight_element, gives_name}
 use Rattle.shset.proofs.AdmitLemmas.{word_of-Assignment, word_of-Word, straight_Word, straight_Redirection}
-use Rattle.sh_flow.proofs.BoolLemmas.{and_left, and_right}
 
 -- Words
 
@@ -49,9 +48,9 @@ part_gives {b = b} n inside some end h (r.value {s = s} {e = e} {p = q}) =
 part_gives {b = b} n inside some end h (r.length_value {s = s} {e = e} {p = q}) =
     rw (part_of-Param b (record { span = tree.span s.at e; subject = q; operator = operator.Length }), operator_of-Length b) refl
 part_gives n inside some end h (r.use_word {s = s} {u = u} {e = e} {p = q} {a = a} {colon = colon} {ps = ps} l k) =
-    absurd (true≢false (sym (and_right (is_variable q) (is_value (operator.Use a colon (tree.word e (u.at - 1) ps))) h)))
+    absurd (true≢false (sym (and_parts (is_variable q) (is_value (operator.Use a colon (tree.word e (u.at - 1) ps))) h).1))
 part_gives n inside some end h (r.removal {s = s} {u = u} {e = e} {p = q} {r = removal} {ps = ps} l k) =
-    absurd (true≢false (sym (and_right (is_variable q) (is_value (operator.Remove removal (tree.word e (u.at - 1) ps))) h)))
+    absurd (true≢false (sym (and_parts (is_variable q) (is_value (operator.Remove removal (tree.word e (u.at - 1) ps))) h).1))
 part_gives n inside some end h _ = absurd (true≢false (sym h))
 
 -- parts, the first of which takes bytes
@@ -65,7 +64,7 @@ parts_give {b = b} inside goes h (r.tabs {x = x} {prior = prior} {s = s} is q) =
 parts_give {b = b} inside goes h (r.more {x = x} {prior = prior} {s = s} {p = p} {ps = ps} is q rest) =
     let n = (sign_of x prior s.at (drop s.at b)).1 in
     let some = ap (λ g. takes_none g n) (sym is) ∙ goes in
-    ap (λ t. t || some_gives_field (parts_from b ps)) (part_gives n inside some refl (and_left (is_straight_part p) (list_all is_straight_part ps) h) q)
+    ap (λ t. t || some_gives_field (parts_from b ps)) (part_gives n inside some refl (and_parts (is_straight_part p) (list_all is_straight_part ps) h).0 q)
 
 word_gives : {limit : ℕ} {b : List ℕ} {x : Context} {s u : Spot} {w : Word} → s.at < length b → ends (sign_of x 0 s.at (drop s.at b)) ≡ false
     → list_all is_straight_part w.parts ≡ true → ReadsWord limit b x s u w → some_gives_field (parts_from b w.parts) ≡ true
@@ -93,10 +92,10 @@ unfolding gives_name
 elements_named here h (r.no_element e) = refl
 elements_named {b = b} {s = s} here h (r.assigned_element {u = u} {w = w} {es = es} e q rest) =
     rw (word_of-Assignment _ w)
-    (elements_named (settled_past b s u here) (and_right (is_straight_element (element.Assignment _ w)) (list_all is_straight_element es) h) rest)
+    (elements_named (settled_past b s u here) (and_parts (is_straight_element (element.Assignment _ w)) (list_all is_straight_element es) h).1 rest)
 elements_named {b = b} {s = s} here h (r.word_element {g = g} {w = w} {es = es} e q rest) =
     let begins = word_takes b g s.spot.at e here.1 in
-    let straight = sym (straight_Word w) ∙ and_left (is_straight_element (element.Word w)) (list_all is_straight_element es) h in
+    let straight = sym (straight_Word w) ∙ (and_parts (is_straight_element (element.Word w)) (list_all is_straight_element es) h).0 in
     rw (word_of-Word w) (word_gives begins.0 begins.1 straight q)
 elements_named here h (r.redirect_element {r = f} {es = es} e q rest) =
-    absurd (true≢false (sym (and_left (is_straight_element (element.Redirection f)) (list_all is_straight_element es) h) ∙ straight_Redirection f))
+    absurd (true≢false (sym (and_parts (is_straight_element (element.Redirection f)) (list_all is_straight_element es) h).0 ∙ straight_Redirection f))

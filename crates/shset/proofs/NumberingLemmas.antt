@@ -2,7 +2,7 @@
 use Rattle.std.proofs.Common.{◌≡◌, ℕ, suc, ◌+◌, Bool, true, false, cond, ◌||◌, Option, Some, None, List, [], ◌∷◌, ◌++◌, fold, refl, sym, ◌∙◌, ap, subst, arith, eqb, slice_get, is_some}
 use Rattle.std.specs.List.{cons_option, list_all, position_from}
 use Rattle.std.specs.Str.{bytes_eq}
-use Rattle.std.proofs.lemmas.Bool.{false≢true, or_right}
+use Rattle.std.proofs.lemmas.Bool.{and_parts, false≢true, or_right}
 use Rattle.std.proofs.lemmas.Bool.Decides.{Decides-eqb}
 use Rattle.std.proofs.lemmas.Slice.Eq.{bytes_eq-Decides}
 use Rattle.std.proofs.lemmas.List.Folds.{list_any-append, list_all-append}
@@ -11,8 +11,8 @@ use Rattle.sh_tree.specs.program.Syntax.{Text}
 use Rattle.sh_table.specs.runs.Environment.{is_one_of}
 use Rattle.sh_flow.specs.Policy.{Declared}
 use Rattle.sh_flow.specs.Names.{number_of, with_text, first_names, script_names, numbering}
-use Rattle.sh_flow.specs.Facts.{has_number}
-use Rattle.sh_flow.proofs.BoolLemmas.{and_left, and_right}
+use Rattle.sh_tree.specs.Numbers.{has_number}
+use Rattle.sh_tree.proofs.ListLemmas.{text_same, all_weaker}
 use Rattle.sh_flow.proofs.FactLemmas.{number_finds}
 use Rattle.shset.specs.Certifies.{numbers_of}
 
@@ -21,18 +21,11 @@ use Rattle.shset.specs.Certifies.{numbers_of}
 same_text : (s t : Text) → bytes_eq s t ≡ true → s ≡ t
 same_text s t e = (bytes_eq-Decides s t).0 e
 
-pub text_same : (t : Text) → bytes_eq t t ≡ true
-text_same t = (bytes_eq-Decides t t).1 refl
-
 number_same : (n : ℕ) → eqb n n ≡ true
 number_same n = (Decides-eqb n n).1 refl
 
 same_number : (m n : ℕ) → eqb m n ≡ true → m ≡ n
 same_number m n e = (Decides-eqb m n).0 e
-
-pub all_weaker : {X : Type 0} (p q : X → Bool) → ((x : X) → p x ≡ true → q x ≡ true) → (xs : List X) → list_all p xs ≡ true → list_all q xs ≡ true
-all_weaker p q h [] e = refl
-all_weaker p q h (x ∷ xs) e = rw (h x (and_left (p x) (list_all p xs) e)) (all_weaker p q h xs (and_right (p x) (list_all p xs) e))
 
 -- The place of a name
 
@@ -149,5 +142,5 @@ all_numbered b t d names e =
     let of_names : list_all (λ s. is_one_of names s) (first_names ++ d.names ++ script_names b t) ≡ true =
     subst (λ ns. list_all (λ s. is_one_of ns s) (first_names ++ d.names ++ script_names b t) ≡ true) (sym e) held in
     all_weaker (λ s. is_one_of names s) (λ s. is_some (number_of names s)) (λ s h. numbered_one 0 names s h) (script_names b t)
-    (and_right (list_all (λ s. is_one_of names s) (first_names ++ d.names)) (list_all (λ s. is_one_of names s) (script_names b t))
+    ((and_parts (list_all (λ s. is_one_of names s) (first_names ++ d.names)) (list_all (λ s. is_one_of names s) (script_names b t)) ).1
     (sym (list_all-append (λ s. is_one_of names s) (first_names ++ d.names) (script_names b t)) ∙ of_names))

@@ -1,5 +1,6 @@
 -- Places of unquoted expansions, a piece at a time.
 use Rattle.std.proofs.Common.{◌≡◌, Bool, true, false, cond, Option, Some, None, List, [], ◌∷◌, ◌++◌, refl, sym, ◌∙◌, ap}
+use Rattle.std.specs.Option.{option_map_or}
 use Rattle.std.specs.List.{flat_map, filter_map, list_all, cons_option}
 use Rattle.std.proofs.lemmas.List.{append-nil}
 use Rattle.std.proofs.lemmas.List.Concat.{flat_map-append}
@@ -17,7 +18,7 @@ use Rattle.sh_tree.specs.declared.tree.Param.{Param}
 use Rattle.sh_tree.specs.declared.tree.Part.{Part, Plain, Escaped, Single, Double, Double', Param', Arith', Tilde, Joined, Row_of-Part, end_of-Part, more_of-Part, items-the_row-Part}
 use Rattle.sh_tree.specs.declared.tree.Part.TheVariants as part
 use Rattle.sh_tree.specs.Words.{lone_command, lone_commands, elements_of, words_of, form_of, form_of_assignment, form_of_word, form_of_redirection, word_in, Expansion, expansions, expansions_in, row_expansions, expansions_in-Double}
-use Rattle.sh_flow.specs.Walks.{of_option, on_lone}
+use Rattle.sh_flow.specs.Walks.{on_lone}
 use Rattle.sh_flow.specs.Theorem.{is_quoted_command}
 use Rattle.shset.specs.Findings.{quote_place, word_quote_places, quote_places}
 use Rattle.shset.specs.Walks.{part_quote_places, form_quote_places, element_quote_places, command_quote_places}
@@ -94,12 +95,11 @@ words_all (Word' t shape row ∷ es) = ap (λ qs. word_quote_places (record { sp
 words_all (Redirection' at n t ∷ es) = words_all es
 
 pub items_lone : (is : List Item) → flat_map (λ c. flat_map word_quote_places (words_of (elements_of (out-Command c).kind))) (filter_map lone_command is) ≡ flat_map (on_lone command_quote_places) is
-unfolding of_option
 items_lone [] = refl
 items_lone (i ∷ is) = go (lone_command i) (items_lone is)
   where
     go : (o : Option Command) → flat_map (λ (c : Command). flat_map word_quote_places (words_of (elements_of (out-Command c).kind))) (filter_map lone_command is) ≡ flat_map (on_lone command_quote_places) is
-        → flat_map (λ (c : Command). flat_map word_quote_places (words_of (elements_of (out-Command c).kind))) (cons_option o (filter_map lone_command is)) ≡ of_option command_quote_places o ++ flat_map (on_lone command_quote_places) is
+        → flat_map (λ (c : Command). flat_map word_quote_places (words_of (elements_of (out-Command c).kind))) (cons_option o (filter_map lone_command is)) ≡ option_map_or command_quote_places o [] ++ flat_map (on_lone command_quote_places) is
     go None h = h
     go (Some c) h = ap (λ qs. flat_map word_quote_places (words_of (elements_of (out-Command c).kind)) ++ qs) h ∙ ap (λ qs. qs ++ flat_map (on_lone command_quote_places) is) (words_all (elements_of (out-Command c).kind))
 

@@ -1,7 +1,7 @@
 -- What a script that was read is like: each item begins in the text, and where all are analysed, the n-th is the command of the number n.
 use Rattle.std.proofs.Common.{◌≡◌, ℕ, ◌+◌, ◌-◌, ◌<◌, ◌≤◌, Bool, true, false, ◌&&◌, if◌then◌else◌, Option, Some, None, List, [], ◌∷◌, length, refl, sym, ◌∙◌, ap, subst, ⊎_elim}
 use Rattle.std.specs.List.{list_all, filter_map}
-use Rattle.std.proofs.lemmas.Bool.{true≢false, cases_lt}
+use Rattle.std.proofs.lemmas.Bool.{and_parts, true≢false, cases_lt}
 use Rattle.sh_tree.specs.declared.tree.AndOr.{AndOr, out-AndOr, out-roll-AndOr}
 use Rattle.sh_tree.specs.declared.tree.Command.{Command, out-Command, out-roll-Command}
 use Rattle.sh_tree.specs.declared.tree.Element.{Element}
@@ -37,8 +37,7 @@ use Rattle.sh_flow.specs.Profile.{is_variable, is_value, is_flat, is_straight_pa
 use Rattle.shset.specs.Findings.{first_start, item_start}
 use Rattle.shset.proofs.AdmitLemmas.{is_straight_part-Double, straight_Assignment, straight_Word, straight_Redirection}
 use Rattle.shset.proofs.NamedLemmas.{IsSettled, settles, settled_past, settled_next, elements_named}
-use Rattle.sh_flow.proofs.BoolLemmas.{and_left, and_right}
-use Rattle.shset.proofs.NumberingLemmas.{all_weaker}
+use Rattle.sh_tree.proofs.ListLemmas.{all_weaker}
 
 -- The fields of what was read
 
@@ -117,7 +116,7 @@ flat_straight _ h = h
 
 valued : (i j : ℕ) (q : Subject) (o : Operator) → is_straight_part (tree.param i j q o) ≡ true → is_value o ≡ true
 unfolding is_straight_part is_flat
-valued i j q o h = and_right (is_variable q) (is_value o) h
+valued i j q o h = (and_parts (is_variable q) (is_value o) h).1
 
 mutual
   unfolding is_straight_part is_flat is_value
@@ -127,7 +126,7 @@ mutual
   parts_count h (r.stop e) = refl
   parts_count h (r.tabs e q) = parts_count h q
   parts_count h (r.more {p = p} {ps = ps} e q rest) =
-      parts_count (and_right (is_straight_part p) (list_all is_straight_part ps) h) rest ∙ part_count (and_left (is_straight_part p) (list_all is_straight_part ps) h) q
+      parts_count (and_parts (is_straight_part p) (list_all is_straight_part ps) h).1 rest ∙ part_count (and_parts (is_straight_part p) (list_all is_straight_part ps) h).0 q
 
   part_count : {limit : ℕ} {b : List ℕ} {x : Context} {g : Sign} {s v : Spot} {e : ℕ} {p : Part} → is_straight_part p ≡ true → ReadsPart limit b x g s e v p → v.count ≡ s.count
   part_count h r.plain = refl
@@ -159,15 +158,15 @@ elements_calm : {limit : ℕ} {b : List ℕ} {body : ℕ → Document} {g : Stag
     → ReadsElements limit b body g s v es → IsCalm b k v
 elements_calm k h c (r.no_element e) = c
 elements_calm {b = b} {s = s} k h c (r.assigned_element {u = u} {w = w} {es = es} e q rest) =
-    let here = and_left (is_straight_element (element.Assignment _ w)) (list_all is_straight_element es) h in
-    elements_calm k (and_right (is_straight_element (element.Assignment _ w)) (list_all is_straight_element es) h)
+    let here = (and_parts (is_straight_element (element.Assignment _ w)) (list_all is_straight_element es) h).0 in
+    elements_calm k (and_parts (is_straight_element (element.Assignment _ w)) (list_all is_straight_element es) h).1
     (c.0, word_count (sym (straight_Assignment _ w) ∙ here) q ∙ c.1, settled_past b s u c.2) rest
 elements_calm {b = b} {s = s} k h c (r.word_element {u = u} {w = w} {es = es} e q rest) =
-    let here = and_left (is_straight_element (element.Word w)) (list_all is_straight_element es) h in
-    elements_calm k (and_right (is_straight_element (element.Word w)) (list_all is_straight_element es) h)
+    let here = (and_parts (is_straight_element (element.Word w)) (list_all is_straight_element es) h).0 in
+    elements_calm k (and_parts (is_straight_element (element.Word w)) (list_all is_straight_element es) h).1
     (c.0, word_count (sym (straight_Word w) ∙ here) q ∙ c.1, settled_past b s u c.2) rest
 elements_calm k h c (r.redirect_element {r = f} {es = es} e q rest) =
-    absurd (true≢false (sym (and_left (is_straight_element (element.Redirection f)) (list_all is_straight_element es) h) ∙ straight_Redirection f))
+    absurd (true≢false (sym (and_parts (is_straight_element (element.Redirection f)) (list_all is_straight_element es) h).0 ∙ straight_Redirection f))
 
 breaks_calm : {limit : ℕ} {b : List ℕ} {s v : State} (k : ℕ) → IsCalm b k s → ReadsBreaks limit b s v → IsCalm b k v
 breaks_calm k c (r.no_break h) = c
@@ -196,8 +195,8 @@ unfolding is_straight
 straight_kind number at k rs h =
     let whole : (is_simple k && list_all is_straight_element (elements_of k) && has_none rs) ≡ true =
     subst (λ x. (is_simple x.kind && list_all is_straight_element (elements_of x.kind) && has_none x.redirects) ≡ true) (opened number at k rs) h in
-    let front = and_left (is_simple k && list_all is_straight_element (elements_of k)) (has_none rs) whole in
-    (and_left (is_simple k) (list_all is_straight_element (elements_of k)) front, and_right (is_simple k) (list_all is_straight_element (elements_of k)) front)
+    let front = (and_parts (is_simple k && list_all is_straight_element (elements_of k)) (has_none rs) whole).0 in
+    ((and_parts (is_simple k) (list_all is_straight_element (elements_of k)) front).0, (and_parts (is_simple k) (list_all is_straight_element (elements_of k)) front).1)
 
 not_simple : {limit : ℕ} {b : List ℕ} {body : ℕ → Document} {l : Lead} {s u : State} {k : Kind} → ReadsCompound limit b body l s u k → is_simple k ≡ false
 unfolding is_simple
@@ -277,7 +276,7 @@ NumberedFrom b k (i ∷ is) = LoneAt b k i × NumberedFrom b (k + 1) is
 lone_admitted : (b : List ℕ) (o : Option Command) → is_item_admitted b o ≡ true → (c : Command) × (o ≡ Some c) × (is_straight c ≡ true)
 unfolding is_item_admitted is_admitted
 lone_admitted b None h = absurd (true≢false (sym h))
-lone_admitted b (Some c) h = (c, refl, and_left (is_straight c) (is_plain_name b (words_of (elements_of (out-Command c).kind))) h)
+lone_admitted b (Some c) h = (c, refl, (and_parts (is_straight c) (is_plain_name b (words_of (elements_of (out-Command c).kind))) h).0)
 
 lone_item : (l : AndOr) (g : Bool) → lone_command (tree.item l g) ≡ (if g then None else lone_list l)
 unfolding lone_command
@@ -299,12 +298,12 @@ AllAdmitted b is = list_all (λ i. is_item_admitted b (lone_command i)) is ≡ t
 
 items_numbered : {limit : ℕ} {b : List ℕ} {body : ℕ → Document} {s v : State} {is : List Item} (k : ℕ) → AllAdmitted b is → IsCalm b k s
     → ReadsItems limit b body s v is → NumberedFrom b k is
-items_numbered {b = b} k a calm (r.last_item {l = l} h n c) = ((item_next k false (and_left (is_item_admitted b (lone_command (tree.item l false))) true a) calm h).0, tt)
-items_numbered {b = b} k a calm (r.ended_item {l = l} {g = g} h n f e) = ((item_next k g (and_left (is_item_admitted b (lone_command (tree.item l g))) true a) calm h).0, tt)
+items_numbered {b = b} k a calm (r.last_item {l = l} h n c) = ((item_next k false (and_parts (is_item_admitted b (lone_command (tree.item l false))) true a).0 calm h).0, tt)
+items_numbered {b = b} k a calm (r.ended_item {l = l} {g = g} h n f e) = ((item_next k g (and_parts (is_item_admitted b (lone_command (tree.item l g))) true a).0 calm h).0, tt)
 items_numbered {b = b} k a calm (r.more_items {u = u} {l = l} {g = g} {is = is} h n f e rest) =
     let admitted = λ (i : Item). is_item_admitted b (lone_command i) in
-    let one = item_next k g (and_left (admitted (tree.item l g)) (list_all admitted is) a) calm h in
-    (one.0, items_numbered (k + 1) (and_right (admitted (tree.item l g)) (list_all admitted is) a) (breaks_calm (k + 1) (parted_calm b (k + 1) u one.1) f) rest)
+    let one = item_next k g (and_parts (admitted (tree.item l g)) (list_all admitted is) a).0 calm h in
+    (one.0, items_numbered (k + 1) (and_parts (admitted (tree.item l g)) (list_all admitted is) a).1 (breaks_calm (k + 1) (parted_calm b (k + 1) u one.1) f) rest)
 
 sequence_numbered : {limit : ℕ} {b : List ℕ} {body : ℕ → Document} {s u : State} {t : Script} (k : ℕ) → AllAdmitted b (out-Script t).items → IsCalm b k s
     → ReadsSequence limit b body s u t → NumberedFrom b k (out-Script t).items

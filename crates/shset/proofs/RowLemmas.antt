@@ -1,5 +1,6 @@
 -- Rows of numbers of names, a name at a time.
 use Rattle.std.proofs.Common.{◌≡◌, ℕ, Bool, ◌||◌, Option, Some, None, Result, Ok, Err, IfOk, List, [], ◌∷◌, ◌++◌, map, Vec, Global, refl, sym, ◌∙◌, ap, subst, eqb, option_to_list, slice_get}
+use Rattle.std.proofs.Math.Bool.{or_comm}
 use Rattle.std.specs.List.{cons_option}
 use Rattle.std.proofs.lemmas.List.Elements.{filter_map-append}
 use Rattle.std.proofs.lemmas.List.Folds.{list_any-append}
@@ -12,8 +13,7 @@ use Rattle.sh_tree.specs.declared.tree.Redirect.{Redirect}
 use Rattle.sh_tree.specs.Words.{form_of_assignment, form_of_word, form_of_redirection, assignment_in, assignment_of, assignments_of}
 use Rattle.sh_tree.specs.program.Syntax.{Text}
 use Rattle.sh_flow.specs.Names.{number_of}
-use Rattle.sh_flow.specs.Facts.{has_number}
-use Rattle.sh_flow.proofs.BoolLemmas.{or_swap}
+use Rattle.sh_tree.specs.Numbers.{has_number}
 use Rattle.shset.specs.Findings.{gains}
 use Rattle.shset.specs.Certifies.{numbers_of, HoldsNames, Gains}
 
@@ -26,7 +26,7 @@ numbers_append names xs ys = filter_map-append (number_of names) xs ys
 -- a row that gains the numbers of further names
 pub gained_holds : (names ts us : List Text) (old new : List ℕ) → HoldsNames names old ts → Gains (numbers_of names us) old new → HoldsNames names new (ts ++ us)
 gained_holds names ts us old new h g = λ n.
-    g n ∙ ap (λ b. has_number n (numbers_of names us) || b) (h n) ∙ or_swap (has_number n (numbers_of names us)) (has_number n (numbers_of names ts))
+    g n ∙ ap (λ b. has_number n (numbers_of names us) || b) (h n) ∙ or_comm (has_number n (numbers_of names us)) (has_number n (numbers_of names ts))
     ∙ sym (has_append n (numbers_of names ts) (numbers_of names us)) ∙ ap (λ ns. has_number n ns) (sym (numbers_append names ts us))
 
 one_number : (o : Option ℕ) → cons_option o [] ≡ option_to_list o

@@ -1,9 +1,9 @@
 //! Which scripts are analysed.
-ghost use Rattle.std.specs.Prelude.{◌≡◌, IfOk, slice_get};
+ghost use Rattle.std.specs.Prelude.{◌≡◌, IfOk};
 ghost use Rattle.std.specs.List.{list_any};
 ghost use Rattle.std.specs.Option.{option_copied};
 ghost use Rattle.std.specs.Str.{bytes_eq};
-ghost use Rattle.sh_tree.specs.Words.{word_of, words_of, lone_command};
+ghost use Rattle.sh_tree.specs.Words.{words_of, lone_command};
 ghost use Rattle.sh_table.specs.runs.Environment as environment;
 ghost use Rattle.sh_flow.specs.Profile as profile;
 ghost use Rattle.shset.specs.Findings.{Admits, first_refused, item_start};
@@ -11,7 +11,8 @@ ghost use Rattle.shset.specs.Findings.{Admits, first_refused, item_start};
 use crate::straight::is_straight;
 use sh_tree::refusal::{Refusal, Rule};
 use sh_tree::text::static_text;
-use sh_tree::tree::{Command, Element, Item, Script, Word};
+use sh_tree::tree::{Command, Element, Item, Script};
+use sh_tree::words::command_name;
 use std::alloc::{AllocError, Global};
 
 /// The special built-in utilities (XCU 2.15).
@@ -96,29 +97,6 @@ fn is_utility(name: &[u8]) -> bool
     let unspecified = is_unspecified(name);
     let equals = name.contains(&b'=');
     !special && !changing && !unspecified && !equals
-}
-
-#[tactic(auto, using(crate::proofs::AdmitLemmas::word_in_element))]
-fn word_of(element: &Element) -> Option<&Word>
-    ensures { option_copied result ≡ word_of element.entry.now }
-{
-    match element {
-        Element::Assignment { .. } => None,
-        Element::Word(word) => Some(word),
-        Element::Redirection(_) => None,
-    }
-}
-
-/// The first word of a command, which is its name.
-pub(crate) fn command_name(elements: &[Element]) -> Option<&Word>
-    ensures { option_copied result ≡ slice_get (words_of elements.entry.now) 0 }
-{
-    for element in elements {
-        if let Some(word) = word_of(element) {
-            return Some(word);
-        }
-    }
-    None
 }
 
 /// Whether there is no command name, or it is static text and a utility's.

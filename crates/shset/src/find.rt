@@ -15,12 +15,12 @@ ghost use Rattle.sh_tree.specs.declared.tree.Command.{Command};
 ghost use Rattle.shset.specs.Findings.{gains, command_gains, unset_places};
 ghost use Rattle.shset.specs.Certifies.{Gains, HoldsNames, numbers_of, Begins, Learns, Found};
 
-use crate::admit::command_name;
 use sh_flow::certificate::{Certificate, Entry, Facts, RowId};
 use sh_flow::names::Names;
 use sh_flow::policy::Policy;
 use sh_flow::row::Row;
 use sh_tree::tree::{Command, Element, Item, Script};
+use sh_tree::words::command_name;
 use std::alloc::{AllocError, Global};
 
 /// A certificate in the making: what is sure before the next command, and the row of the certificate that says so.

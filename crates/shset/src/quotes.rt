@@ -34,7 +34,6 @@ fn places_in(alloc: Global, items: &[Item]) -> Result<Vec<Place>, AllocError>
     Ok(places)
 }
 
-#[tactic(auto, unfolding(sh_flow::specs::Walks::of_option))]
 fn note_item(item: &Item, places: &mut Vec<Place>) -> Result<(), AllocError>
     ensures noted { OnOk result (places.new.items ≡ places.old.items ++ on_lone command_quote_places item.now) }
     ensures some { OnErr result (0 < length (on_lone command_quote_places item.now)) }

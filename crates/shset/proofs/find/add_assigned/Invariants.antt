@@ -1,5 +1,5 @@
 use Rattle.std.proofs.Common.{◌≡◌, ℕ, ◌||◌, false, drop}
-use Rattle.sh_flow.specs.Facts.{has_number}
+use Rattle.sh_tree.specs.Numbers.{has_number}
 use Rattle.shset.proofs.RowLemmas.{assigned}
 use Rattle.shset.proofs.find.add_assigned.Given as goal
 

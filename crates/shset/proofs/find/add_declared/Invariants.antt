@@ -1,5 +1,5 @@
 use Rattle.std.proofs.Common.{◌≡◌, ℕ, ◌||◌, drop}
-use Rattle.sh_flow.specs.Facts.{has_number}
+use Rattle.sh_tree.specs.Numbers.{has_number}
 use Rattle.shset.proofs.RowLemmas.{declared}
 use Rattle.shset.proofs.find.add_declared.Given as goal
 

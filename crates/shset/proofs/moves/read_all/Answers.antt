@@ -1,7 +1,7 @@
 use Rattle.std.proofs.Common.{◌++◌, take, arith, length-append}
 use Rattle.std.proofs.lemmas.List.{length-take}
 use Rattle.std.proofs.KnownBytes.{Consumes-trans}
-use Rattle.sh_flow.proofs.DemandLemmas.{whatever}
+use Rattle.sh_tree.proofs.ResultLemmas.{whatever}
 use Rattle.shset.proofs.moves.read_all.Goals as goal
 
 pub returns-in_err-extend_from_slice-in-Ok-clause-lost :

@@ -1,5 +1,6 @@
 use Rattle.shset.specs.Walks.{part_quote_places}
-use Rattle.sh_flow.proofs.DemandLemmas.{some_in_all, whatever}
+use Rattle.sh_tree.proofs.ListLemmas.{some_in_all}
+use Rattle.sh_tree.proofs.ResultLemmas.{whatever}
 use Rattle.shset.proofs.quotes.note_parts.Goals as goal
 
 pub returns-in_err-note_part-clause-some : goal.returns-in_err-note_part-clause-some

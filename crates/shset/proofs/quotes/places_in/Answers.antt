@@ -1,6 +1,7 @@
 use Rattle.sh_flow.specs.Walks.{on_lone}
 use Rattle.shset.specs.Walks.{command_quote_places}
-use Rattle.sh_flow.proofs.DemandLemmas.{some_in_all, whatever}
+use Rattle.sh_tree.proofs.ListLemmas.{some_in_all}
+use Rattle.sh_tree.proofs.ResultLemmas.{whatever}
 use Rattle.shset.proofs.quotes.places_in.Goals as goal
 
 pub returns-in_err-note_item-clause-some : goal.returns-in_err-note_item-clause-some

@@ -1,6 +1,6 @@
 use Rattle.std.proofs.Common.{◌∙◌, sym, ap, slice_get}
-use Rattle.shset.proofs.AdmitLemmas.{name_at_word, name_past}
-use Rattle.shset.proofs.admit.command_name.Goals as goal
+use Rattle.sh_tree.proofs.NameLemmas.{name_at_word, name_past}
+use Rattle.sh_tree.proofs.words.command_name.Goals as goal
 
 pub returns-in-Some : goal.returns-in-Some
 returns-in-Some c =

@@ -1,6 +1,6 @@
 use Rattle.std.proofs.Common.{◌≡◌, drop}
 use Rattle.sh_tree.specs.Words.{words_of}
-use Rattle.shset.proofs.admit.command_name.Given as goal
+use Rattle.sh_tree.proofs.words.command_name.Given as goal
 
 -- no word yet
 abbrev pub invariant-loop-element : goal.invariant-loop-element
