@@ -1,8 +1,3 @@
-pub mod MoveLemmas
-pub mod TextLemmas
-pub mod LineLemmas
-pub mod LineRowLemmas
-pub mod LineWholeLemmas
 pub mod AdmitLemmas
 pub mod QuoteLemmas
 pub mod LintLemmas

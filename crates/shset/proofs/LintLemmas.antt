@@ -16,11 +16,11 @@ use Rattle.sh_tree.specs.Answers.{Parses}
 use Rattle.sh_flow.specs.Policy.{Declared}
 use Rattle.sh_flow.specs.Names.{Numbers}
 use Rattle.sh_flow.specs.Profile.{is_item_admitted, Admitted}
-use Rattle.shset.specs.declared.verdict.Finding.{Finding}
-use Rattle.shset.specs.declared.verdict.Verdict.TheVariants.{Pass, Fail}
+use Rattle.sh_report.specs.declared.verdict.Finding.{Finding}
+use Rattle.sh_report.specs.declared.verdict.Verdict.TheVariants.{Pass, Fail}
 use Rattle.shset.specs.Findings.{Admits, first_refused, item_start}
 use Rattle.shset.specs.Lint.{IsReading, IsAccepted, Accepts, AreFindings, Lints, shown_at}
-use Rattle.shset.specs.Verdicts.{shown, shown_cmp}
+use Rattle.sh_report.specs.Verdicts.{shown, shown_cmp}
 use Rattle.shset.proofs.ReadLemmas.{AllPlaced, reads_placed}
 
 -- the first item that is refused begins in the text

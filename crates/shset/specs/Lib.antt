@@ -1,11 +1,5 @@
-pub mod Ends
-pub mod Moves
-pub mod Verdicts
-pub mod Texts
 pub mod Findings
 pub mod Walks
 pub mod Lint
 pub mod Runs
-pub mod App
-pub mod Line
 pub mod Certifies

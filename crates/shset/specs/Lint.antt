@@ -16,11 +16,11 @@ use Rattle.sh_flow.specs.Policy.{Declared}
 use Rattle.sh_flow.specs.Names.{numbering}
 use Rattle.sh_flow.specs.Profile.{Admitted}
 use Rattle.sh_flow.specs.Theorem.{NoUnsetEvent, NoSplitEvent}
-use Rattle.shset.specs.declared.verdict.Finding.{Finding}
-use Rattle.shset.specs.declared.verdict.Verdict.{Verdict}
-use Rattle.shset.specs.declared.verdict.Verdict.TheVariants.{Pass, Fail, Forged}
+use Rattle.sh_report.specs.declared.verdict.Finding.{Finding}
+use Rattle.sh_report.specs.declared.verdict.Verdict.{Verdict}
+use Rattle.sh_report.specs.declared.verdict.Verdict.TheVariants.{Pass, Fail, Forged}
 use Rattle.shset.specs.Findings.{Admits, quote_places, unset_places}
-use Rattle.shset.specs.Verdicts.{Shown, shown, shown_cmp}
+use Rattle.sh_report.specs.Verdicts.{Shown, shown, shown_cmp}
 
 -- the tree is the one reading of the text, within the limits
 pub record IsReading (b : List ℕ) (t : Script) : Type 0 where

@@ -5,12 +5,12 @@ use Rattle.std.specs.Io.KnownBytes.{Appends}
 use Rattle.sh_tree.specs.declared.refusal.Refusal.{Refusal}
 use Rattle.sh_tree.specs.declared.refusal.Refusal.TheVariants.{Memory}
 use Rattle.sh_flow.specs.Policy.{Declared}
-use Rattle.shset.specs.declared.task.Action.{Action}
-use Rattle.shset.specs.declared.task.Action.TheVariants.{Lint}
-use Rattle.shset.specs.declared.task.Task.{Task}
-use Rattle.shset.specs.declared.verdict.Verdict.{Verdict}
+use Rattle.sh_report.specs.declared.task.Action.{Action}
+use Rattle.sh_report.specs.declared.task.Action.TheVariants.{Lint}
+use Rattle.sh_report.specs.declared.task.Task.{Task}
+use Rattle.sh_report.specs.declared.verdict.Verdict.{Verdict}
 use Rattle.shset.specs.Lint.{Lints}
-use Rattle.shset.specs.Texts.{answer_text, status_of}
+use Rattle.sh_report.specs.Texts.{answer_text, status_of}
 
 -- the answer is one of the action on the bytes, and has a text
 abbrev pub Answers : Action → List ℕ → Declared → Result Verdict Refusal → Type 0

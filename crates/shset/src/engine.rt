@@ -1,14 +1,14 @@
 //! One run: reads what its action reads, and writes the text of the answer.
 ghost use Rattle.std.specs.Prelude.{◌≡◌, ◌≤◌, ℕ, List, IfOk, OnOk, IsErrOf, length};
-ghost use Rattle.shset.specs.Ends.{FailedBetween, HasRoom, RefusedBetween};
-ghost use Rattle.shset.specs.Moves.{Had, IsReadWhole};
+ghost use Rattle.sh_report.specs.Ends.{FailedBetween, HasRoom, RefusedBetween};
+ghost use Rattle.sh_report.specs.Moves.{Had, IsReadWhole};
 ghost use Rattle.shset.specs.Runs.{TellsAnswer, WritesAnswer, WritesFront};
 
-use crate::ends::{Feed, Outlet};
 use crate::lint::lint;
-use crate::moves::{Fault, read_all, write_all};
-use crate::task::{Action, Task};
-use crate::texts;
+use sh_report::ends::{Feed, Outlet};
+use sh_report::moves::{Fault, read_all, write_all};
+use sh_report::task::{Action, Task};
+use sh_report::texts;
 use sh_tree::limits::MAX_SCRIPT;
 use std::alloc::{AllocError, Global};
 

@@ -3,27 +3,18 @@
 #![tactic(auto)]
 
 mod admit;
-mod counted;
-mod ends;
 mod engine;
 mod find;
-mod line;
 mod lint;
-mod moves;
 mod quotes;
-#[cfg(test)]
-mod rigged;
 mod straight;
-mod task;
 #[cfg(test)]
 mod tests;
-mod texts;
-mod verdict;
 
-use counted::Counted;
 use engine::run;
-use line::{Line, Source, Stop, command_line};
-use moves::Fault;
+use sh_line::line::{Line, Source, Stop, command_line};
+use sh_report::counted::Counted;
+use sh_report::moves::Fault;
 use std::io::{self, ErrorKind, Read};
 use std::process::ExitCode;
 use std::rt::{Env, Files};

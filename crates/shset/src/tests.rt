@@ -1,12 +1,12 @@
 //! Whole runs over memory: the bytes of a script, the text and the status that they give.
 mod words;
 
-use crate::counted::Counted;
 use crate::engine::run;
-use crate::moves::Fault;
-use crate::rigged::{Rigged, Trick};
-use crate::task::{Action, Task};
 use sh_flow::policy::Policy;
+use sh_report::counted::Counted;
+use sh_report::moves::Fault;
+use sh_report::task::{Action, Task};
+use sh_rigged::{Rigged, Trick};
 use std::alloc::Global;
 use std::test::Fail;
 

@@ -1,6 +1,6 @@
 use Rattle.std.proofs.Common.{◌≡◌, map, take}
 use Rattle.shset.specs.Lint.{shown_at}
-use Rattle.shset.specs.Verdicts.{shown}
+use Rattle.sh_report.specs.Verdicts.{shown}
 use Rattle.shset.proofs.lint.findings_at.Given as goal
 
 -- the findings so far are those of the places so far
