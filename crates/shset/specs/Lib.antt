@@ -1,5 +1,1 @@
-pub mod Findings
-pub mod Walks
-pub mod Lint
-pub mod Runs
-pub mod Certifies
+pub mod Endings
