@@ -1,10 +1,14 @@
 use sh_line::line::{Line, Source, Stop, command_line};
 use sh_report::task::Action;
 use std::alloc::Global;
+use std::process::Abort;
 use std::test::Fail;
 
+/// The words of a command line, and what is shown of its answer.
+type Row = (&'static [&'static str], &'static str);
+
 /// The action, the script, the number and the names of a line, as one text.
-fn shown(alloc: Global, line: &Line<'_>) -> Result<String, Fail> {
+fn shown_line(alloc: Global, line: &Line<'_>) -> Result<String, Fail> {
     let action = match line.task.action {
         Action::Lint => "lint",
     };
@@ -24,144 +28,136 @@ fn shown(alloc: Global, line: &Line<'_>) -> Result<String, Fail> {
     Ok(text)
 }
 
-#[test]
-fn lines(rt: HostRuntime) -> Result<(), Fail> {
-    let alloc = rt.alloc();
-    let cases: [(&[&str], &str); 12] = [
-        (&["shset", "lint", "-"], "lint standard input args 0"),
-        (
-            &["shset", "lint", "script.sh"],
-            "lint file script.sh args 0",
-        ),
-        (
-            &["shset", "lint", "-", "y"],
-            "lint standard input args 0 name y",
-        ),
-        (
-            &["shset", "lint", "--args", "5", "f", "a", "b"],
-            "lint file f args 5 name a name b",
-        ),
-        (
-            &["shset", "lint", "f", "a", "--args=5", "b"],
-            "lint file f args 5 name a name b",
-        ),
-        (
-            &["shset", "lint", "--args", "65535", "f"],
-            "lint file f args 65535",
-        ),
-        (
-            &["shset", "lint", "--args", "+007", "f"],
-            "lint file f args 7",
-        ),
-        (
-            &["shset", "lint", "f", "b", "a", "b"],
-            "lint file f args 0 name b name a name b",
-        ),
-        (
-            &["shset", "lint", "f", "_a9"],
-            "lint file f args 0 name _a9",
-        ),
-        (
-            &["shset", "lint", "--", "-", "y"],
-            "lint standard input args 0 name y",
-        ),
-        (
-            &["shset", "lint", "--", "--args"],
-            "lint file --args args 0",
-        ),
-        (
-            &["shset", "lint", "lint", "lint"],
-            "lint file lint args 0 name lint",
-        ),
-    ];
-    for (words, want) in cases {
-        match command_line(alloc, words) {
-            Ok(line) => {
-                let text = shown(alloc, &line)?;
-                assert_eq!(rt; text.as_str(), want);
-            }
-            Err(stop) => assert!(rt; false, "{words:?}: {stop:?}"),
-        }
+/// The answer to the words of a command line, as one text.
+fn shown(alloc: Global, words: &[&str]) -> Result<String, Fail> {
+    match command_line(alloc, words) {
+        Ok(line) => shown_line(alloc, &line),
+        Err(Stop::Usage(text)) => Ok(format!(in alloc; "usage: {text}")?),
+        Err(Stop::Help(text)) => Ok(format!(in alloc; "help: {text}")?),
+        Err(Stop::BadName) => Ok("bad name".to_string(alloc)?),
+        Err(Stop::Memory) => Ok("out of memory".to_string(alloc)?),
+    }
+}
+
+fn check(rt: &(impl Abort + AllocGlobal), rows: &[Row]) -> Result<(), Fail> {
+    for (words, wanted) in rows {
+        let text = shown(rt.alloc(), words)?;
+        assert_eq!(rt; text.as_str(), *wanted, "{words:?}");
     }
     Ok(())
 }
 
-/// What clap says of the words, of which the line is refused.
-fn usage_of(alloc: Global, words: &[&str]) -> Option<String> {
-    match command_line(alloc, words) {
-        Err(Stop::Usage(text)) => Some(text),
-        _ => None,
-    }
-}
-
-fn help_of(alloc: Global, words: &[&str]) -> Option<String> {
-    match command_line(alloc, words) {
-        Err(Stop::Help(text)) => Some(text),
-        _ => None,
-    }
-}
+const LINES: &[Row] = &[
+    (&["shset", "lint", "-"], "lint standard input args 0"),
+    (
+        &["shset", "lint", "script.sh"],
+        "lint file script.sh args 0",
+    ),
+    (
+        &["shset", "lint", "-", "y"],
+        "lint standard input args 0 name y",
+    ),
+    (
+        &["shset", "lint", "--args", "5", "f", "a", "b"],
+        "lint file f args 5 name a name b",
+    ),
+    (
+        &["shset", "lint", "f", "a", "--args=5", "b"],
+        "lint file f args 5 name a name b",
+    ),
+    (
+        &["shset", "lint", "--args", "65535", "f"],
+        "lint file f args 65535",
+    ),
+    (
+        &["shset", "lint", "--args", "+007", "f"],
+        "lint file f args 7",
+    ),
+    (
+        &["shset", "lint", "f", "b", "a", "b"],
+        "lint file f args 0 name b name a name b",
+    ),
+    (
+        &["shset", "lint", "f", "_a9"],
+        "lint file f args 0 name _a9",
+    ),
+    (
+        &["shset", "lint", "--", "-", "y"],
+        "lint standard input args 0 name y",
+    ),
+    (
+        &["shset", "lint", "--", "--args"],
+        "lint file --args args 0",
+    ),
+    (
+        &["shset", "lint", "lint", "lint"],
+        "lint file lint args 0 name lint",
+    ),
+];
 
 #[test]
-fn usage_faults_of_lint(rt: HostRuntime) -> Result<(), Fail> {
-    let alloc = rt.alloc();
-    let cases: [(&[&str], &str); 10] = [
-        (
-            &["shset", "lint", "--args", "65536", "f"],
-            "error: invalid value '65536' for '--args <N>': 65536 is not in 0..=65535
+fn lines(rt: HostRuntime) -> Result<(), Fail> {
+    check(&rt, LINES)
+}
+
+const USAGE_OF_LINT: &[Row] = &[
+    (
+        &["shset", "lint", "--args", "65536", "f"],
+        "usage: error: invalid value '65536' for '--args <N>': 65536 is not in 0..=65535
 
 For more information, try '--help'.
 ",
-        ),
-        (
-            &["shset", "lint", "--args", "65536", "-", "1x"],
-            "error: invalid value '65536' for '--args <N>': 65536 is not in 0..=65535
+    ),
+    (
+        &["shset", "lint", "--args", "65536", "-", "1x"],
+        "usage: error: invalid value '65536' for '--args <N>': 65536 is not in 0..=65535
 
 For more information, try '--help'.
 ",
-        ),
-        (
-            &["shset", "lint", "--args", "x", "f"],
-            "error: invalid value 'x' for '--args <N>': invalid digit found in string
+    ),
+    (
+        &["shset", "lint", "--args", "x", "f"],
+        "usage: error: invalid value 'x' for '--args <N>': invalid digit found in string
 
 For more information, try '--help'.
 ",
-        ),
-        (
-            &["shset", "lint", "--args=-1", "f"],
-            "error: invalid value '-1' for '--args <N>': -1 is not in 0..=65535
+    ),
+    (
+        &["shset", "lint", "--args=-1", "f"],
+        "usage: error: invalid value '-1' for '--args <N>': -1 is not in 0..=65535
 
 For more information, try '--help'.
 ",
-        ),
-        (
-            &["shset", "lint", "f", "--args"],
-            "error: a value is required for '--args <N>' but none was supplied
+    ),
+    (
+        &["shset", "lint", "f", "--args"],
+        "usage: error: a value is required for '--args <N>' but none was supplied
 
 For more information, try '--help'.
 ",
-        ),
-        (
-            &["shset", "lint", "--args", "1", "--args", "2", "f"],
-            "error: the argument '--args <N>' cannot be used multiple times
+    ),
+    (
+        &["shset", "lint", "--args", "1", "--args", "2", "f"],
+        "usage: error: the argument '--args <N>' cannot be used multiple times
 
 Usage: shset lint [OPTIONS] <FILE> [NAME]...
 
 For more information, try '--help'.
 ",
-        ),
-        (
-            &["shset", "lint"],
-            "error: the following required arguments were not provided:
+    ),
+    (
+        &["shset", "lint"],
+        "usage: error: the following required arguments were not provided:
   <FILE>
 
 Usage: shset lint <FILE> [NAME]...
 
 For more information, try '--help'.
 ",
-        ),
-        (
-            &["shset", "lint", "--all", "f"],
-            "error: unexpected argument '--all' found
+    ),
+    (
+        &["shset", "lint", "--all", "f"],
+        "usage: error: unexpected argument '--all' found
 
   tip: to pass '--all' as a value, use '-- --all'
 
@@ -169,10 +165,10 @@ Usage: shset lint [OPTIONS] <FILE> [NAME]...
 
 For more information, try '--help'.
 ",
-        ),
-        (
-            &["shset", "lint", "-x", "f"],
-            "error: unexpected argument '-x' found
+    ),
+    (
+        &["shset", "lint", "-x", "f"],
+        "usage: error: unexpected argument '-x' found
 
   tip: to pass '-x' as a value, use '-- -x'
 
@@ -180,10 +176,10 @@ Usage: shset lint [OPTIONS] <FILE> [NAME]...
 
 For more information, try '--help'.
 ",
-        ),
-        (
-            &["shset", "lint", "--args", "-5", "f"],
-            "error: unexpected argument '-5' found
+    ),
+    (
+        &["shset", "lint", "--args", "-5", "f"],
+        "usage: error: unexpected argument '-5' found
 
   tip: to pass '-5' as a value, use '-- -5'
 
@@ -191,50 +187,46 @@ Usage: shset lint [OPTIONS] <FILE> [NAME]...
 
 For more information, try '--help'.
 ",
-        ),
-    ];
-    for (words, want) in cases {
-        let text = usage_of(alloc, words).ok_or("a usage fault")?;
-        assert_eq!(rt; text.as_str(), want);
-    }
-    Ok(())
-}
+    ),
+];
 
 #[test]
-fn usage_faults_of_the_program(rt: HostRuntime) -> Result<(), Fail> {
-    let alloc = rt.alloc();
-    let cases: [(&[&str], &str); 5] = [
-        (
-            &["shset"],
-            "error: 'shset' requires a subcommand but one was not provided
+fn usage_faults_of_lint(rt: HostRuntime) -> Result<(), Fail> {
+    check(&rt, USAGE_OF_LINT)
+}
+
+const USAGE_OF_PROGRAM: &[Row] = &[
+    (
+        &["shset"],
+        "usage: error: 'shset' requires a subcommand but one was not provided
   [subcommands: lint]
 
 Usage: shset <COMMAND>
 
 For more information, try '--help'.
 ",
-        ),
-        (
-            &["shset", "mend", "f"],
-            "error: unrecognized subcommand 'mend'
+    ),
+    (
+        &["shset", "mend", "f"],
+        "usage: error: unrecognized subcommand 'mend'
 
 Usage: shset <COMMAND>
 
 For more information, try '--help'.
 ",
-        ),
-        (
-            &["shset", "help"],
-            "error: unrecognized subcommand 'help'
+    ),
+    (
+        &["shset", "help"],
+        "usage: error: unrecognized subcommand 'help'
 
 Usage: shset <COMMAND>
 
 For more information, try '--help'.
 ",
-        ),
-        (
-            &["shset", "--args", "1", "lint", "f"],
-            "error: unexpected argument '--args' found
+    ),
+    (
+        &["shset", "--args", "1", "lint", "f"],
+        "usage: error: unexpected argument '--args' found
 
   tip: 'lint --args' exists
 
@@ -242,30 +234,26 @@ Usage: shset <COMMAND>
 
 For more information, try '--help'.
 ",
-        ),
-        (
-            &[],
-            "error: 'shset' requires a subcommand but one was not provided
+    ),
+    (
+        &[],
+        "usage: error: 'shset' requires a subcommand but one was not provided
   [subcommands: lint]
 
 Usage: shset <COMMAND>
 
 For more information, try '--help'.
 ",
-        ),
-    ];
-    for (words, want) in cases {
-        let text = usage_of(alloc, words).ok_or("a usage fault")?;
-        assert_eq!(rt; text.as_str(), want);
-    }
-    Ok(())
-}
+    ),
+];
 
 #[test]
-fn help(rt: HostRuntime) -> Result<(), Fail> {
-    let alloc = rt.alloc();
-    let program =
-        "Looks in shell scripts for variables that may be unset and words that may be split
+fn usage_faults_of_the_program(rt: HostRuntime) -> Result<(), Fail> {
+    check(&rt, USAGE_OF_PROGRAM)
+}
+
+const HELP: &str =
+    "help: Looks in shell scripts for variables that may be unset and words that may be split
 
 Usage: shset <COMMAND>
 
@@ -275,7 +263,8 @@ Commands:
 Options:
   -h, --help  Print help
 ";
-    let lint = "Prints what is wrong with a script, or that it is clean
+
+const HELP_OF_LINT: &str = "help: Prints what is wrong with a script, or that it is clean
 
 Usage: shset lint [OPTIONS] <FILE> [NAME]...
 
@@ -287,31 +276,29 @@ Options:
       --args <N>  How many positional parameters are set at least when the script starts [default: 0]
   -h, --help      Print help
 ";
-    let cases: [(&[&str], &str); 5] = [
-        (&["shset", "--help"], program),
-        (&["shset", "-h"], program),
-        (&["shset", "lint", "--help"], lint),
-        (&["shset", "lint", "-h"], lint),
-        (&["shset", "lint", "-", "1x", "--help"], lint),
-    ];
-    for (words, want) in cases {
-        let text = help_of(alloc, words).ok_or("help")?;
-        assert_eq!(rt; text.as_str(), want);
-    }
-    Ok(())
-}
+
+const HELPED: &[Row] = &[
+    (&["shset", "--help"], HELP),
+    (&["shset", "-h"], HELP),
+    (&["shset", "lint", "--help"], HELP_OF_LINT),
+    (&["shset", "lint", "-h"], HELP_OF_LINT),
+    (&["shset", "lint", "-", "1x", "--help"], HELP_OF_LINT),
+];
 
 #[test]
-fn bad_names(rt: HostRuntime) {
-    let cases: [&[&str]; 5] = [
-        &["shset", "lint", "-", "1x"],
-        &["shset", "lint", "-", "-"],
-        &["shset", "lint", "-", "a", "b c", "c"],
-        &["shset", "lint", "-", ""],
-        &["shset", "lint", "f", "é"],
-    ];
-    for words in cases {
-        let stop = command_line(rt.alloc(), words);
-        assert!(rt; matches!(stop, Err(Stop::BadName)), "{words:?}");
-    }
+fn help(rt: HostRuntime) -> Result<(), Fail> {
+    check(&rt, HELPED)
+}
+
+const BAD_NAMES: &[Row] = &[
+    (&["shset", "lint", "-", "1x"], "bad name"),
+    (&["shset", "lint", "-", "-"], "bad name"),
+    (&["shset", "lint", "-", "a", "b c", "c"], "bad name"),
+    (&["shset", "lint", "-", ""], "bad name"),
+    (&["shset", "lint", "f", "é"], "bad name"),
+];
+
+#[test]
+fn bad_names(rt: HostRuntime) -> Result<(), Fail> {
+    check(&rt, BAD_NAMES)
 }
