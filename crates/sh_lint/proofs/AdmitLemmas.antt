@@ -5,14 +5,13 @@ use Rattle.std.specs.List.{list_all}
 use Rattle.sh_tree.specs.declared.tree.Script.{Script, out-Script}
 use Rattle.sh_tree.specs.declared.tree.Item.{Item}
 use Rattle.sh_tree.specs.declared.tree.Command.{Command}
-use Rattle.sh_tree.specs.declared.tree.Element.{Element}
 use Rattle.sh_tree.specs.declared.tree.Element.TheVariants as element
 use Rattle.sh_tree.specs.declared.tree.Span.{Span}
 use Rattle.sh_tree.specs.declared.tree.Word.{Word}
 use Rattle.sh_tree.specs.declared.tree.Redirect.{Redirect}
 use Rattle.sh_tree.specs.declared.tree.Part.{Part, Double}
 use Rattle.sh_tree.specs.declared.tree.Element.TheBlock.{items_hidden-the_row-Part-0}
-use Rattle.sh_tree.specs.Words.{lone_command, words_of, form_of_assignment, form_of_word, form_of_redirection, word_in, word_of, static_text}
+use Rattle.sh_tree.specs.Words.{lone_command, form_of_assignment, form_of_word, form_of_redirection, static_text}
 use Rattle.sh_tree.specs.program.Syntax.{Text}
 use Rattle.sh_flow.specs.Profile.{is_utility, is_named_utility, is_flat, is_straight_part, is_straight_form, is_straight_element, is_plain_name, is_admitted, is_item_admitted, Admitted}
 use Rattle.sh_lint.specs.Findings.{Admits, first_refused}
