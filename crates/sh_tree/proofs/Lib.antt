@@ -1,7 +1,6 @@
 pub mod RefusalLemmas
 pub mod TextLemmas
 pub mod LanguageLemmas
-pub mod CommandLemmas
 pub mod ProgramRules
 pub mod ProgramWords
 pub mod ProgramForms

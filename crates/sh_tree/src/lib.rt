@@ -3,7 +3,6 @@
 #![tactic(auto)]
 
 mod boxed;
-pub mod commands;
 mod items;
 pub mod known;
 pub mod laws;

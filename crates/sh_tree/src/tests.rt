@@ -1,11 +1,9 @@
 use crate::boxed::Boxed;
-use crate::commands::commands;
 use crate::items::Items;
 use crate::limits::MAX_SCRIPT;
 use crate::text::static_text;
 use crate::tree::{
-    AndOr, Command, CommandStyle, Element, Expr, HereDoc, Item, Kind, Operator, Param, Part, Pipe,
-    Redirect, Script, SingleStyle, Span, Subject, Target, Word,
+    CommandStyle, Expr, Operator, Param, Part, Script, SingleStyle, Span, Subject, Word,
 };
 use std::alloc::{AllocError, Global};
 use std::test::Fail;
@@ -93,72 +91,5 @@ fn no_text_of_patterns(rt: HostRuntime) -> Result<(), Fail> {
     let mut parts = one(alloc, Part::Plain(Span { start: 0, end: 1 }))?;
     parts.push(Part::Double(Span { start: 1, end: 3 }, Items::new(alloc)))?;
     assert!(rt; told(alloc, b"[\"\"", parts)?.is_none());
-    Ok(())
-}
-
-/// An item that is a simple command alone.
-fn item(alloc: Global, number: u32, at: u32, element: Element) -> Result<Item, AllocError> {
-    let command = Command {
-        number,
-        at,
-        kind: Kind::Simple(one(alloc, element)?),
-        redirects: Items::new(alloc),
-    };
-    let first = Pipe {
-        negated: false,
-        parts: one(alloc, command)?,
-    };
-    let list = AndOr {
-        first,
-        rest: Items::new(alloc),
-    };
-    Ok(Item {
-        list,
-        background: false,
-    })
-}
-
-fn word(alloc: Global, start: u32, end: u32) -> Result<Word, AllocError> {
-    let span = Span { start, end };
-    let parts = one(alloc, Part::Plain(span))?;
-    Ok(Word { span, parts })
-}
-
-/// `<<E; b`, and in the body of the here-document `$(c)`.
-fn with_body(alloc: Global) -> Result<Script, AllocError> {
-    let inner = item(alloc, 3, 9, Element::Word(word(alloc, 9, 10)?))?;
-    let list = Script {
-        items: one(alloc, inner)?,
-    };
-    let span = Span { start: 7, end: 12 };
-    let substitution = Part::Command(CommandStyle::Paren, Span { start: 7, end: 11 }, list);
-    let here = HereDoc {
-        strip: false,
-        delimiter: word(alloc, 2, 3)?,
-        body: Word {
-            span,
-            parts: one(alloc, substitution)?,
-        },
-        end: Span { start: 12, end: 13 },
-    };
-    let redirect = Redirect {
-        at: 0,
-        number: None,
-        target: Target::Here(here),
-    };
-    let mut items = one(alloc, item(alloc, 1, 0, Element::Redirection(redirect))?)?;
-    items.push(item(alloc, 2, 5, Element::Word(word(alloc, 5, 6)?))?)?;
-    Ok(Script { items })
-}
-
-#[test]
-fn commands_by_their_starts(rt: HostRuntime) -> Result<(), Fail> {
-    let alloc = rt.alloc();
-    let script = with_body(alloc)?;
-    let mut numbers = Vec::new(alloc);
-    for command in commands(alloc, &script)? {
-        numbers.push(command.number)?;
-    }
-    assert_eq!(rt; numbers.as_slice(), [1, 2, 3].as_slice());
     Ok(())
 }

@@ -28,7 +28,7 @@ use std::alloc::{AllocError, Global};
 use std::mem;
 
 /// What a builder answers.
-#[derive(Debug, Drop)]
+#[derive(Drop)]
 pub enum Next {
     /// The word.
     Done(Word),
@@ -38,7 +38,7 @@ pub enum Next {
 }
 
 /// A word that is being read (XCU 2.2, 2.6).
-#[derive(Debug, Drop)]
+#[derive(Drop)]
 pub struct WordBuilder {
     alloc: Global,
     mode: Mode,

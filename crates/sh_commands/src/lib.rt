@@ -1,10 +1,12 @@
-//! The commands of a script.
+//! The commands of a script, those in its words included.
+#![tactic(auto)]
+
 ghost use Rattle.std.specs.Prelude.{◌≡◌, ◌++◌, map, flat_map, OnOk, IfOk};
 ghost use Rattle.std.specs.List.Sorted.{IsPermutation, IsNonDecreasingBy};
 ghost use Rattle.sh_tree.specs.declared.tree.Command.{out-Command};
-ghost use Rattle.sh_tree.specs.Commands as spec;
+ghost use Rattle.sh_commands.specs.Commands as spec;
 
-use crate::tree::{
+use sh_tree::tree::{
     AndOr, Binary, Branch, Clause, Command, Element, Expr, Item, Kind, Link, Operator, Part, Pipe,
     Redirect, Script, Target, Word,
 };

@@ -1,8 +1,8 @@
 use Rattle.std.proofs.Common.{ap, ◌∙◌}
-use Rattle.sh_tree.proofs.CommandLemmas.{and_or_out, branch_out, clause_out, command_out, of_kind-Cond, of_kind-Loop, of_kind-For-None, of_kind-For-Some, of_kind-Branches, of_target-Here, of_operator-Value, of_operator-Length, of_expression-Chain, of_expression-Choice, both, pushed, thrice, nothing_added}
-use Rattle.sh_tree.specs.Commands as spec
-use Rattle.sh_tree.specs.Commands.{of_script}
-use Rattle.sh_tree.proofs.commands.+walk.Goals as goal
+use Rattle.sh_commands.proofs.CommandLemmas.{and_or_out, branch_out, clause_out, command_out, of_kind-Cond, of_kind-Loop, of_kind-For-None, of_kind-For-Some, of_kind-Branches, of_target-Here, of_operator-Value, of_operator-Length, of_expression-Chain, of_expression-Choice, both, pushed, thrice, nothing_added}
+use Rattle.sh_commands.specs.Commands as spec
+use Rattle.sh_commands.specs.Commands.{of_script}
+use Rattle.sh_commands.proofs.+walk.Goals as goal
 
 pub add_and_or-returns : goal.add_and_or-returns
 add_and_or-returns t c = both c.add_links.result _ _ _ _ _ _ c.in_ok-add_pipe.ensures (and_or_out c.args.list.now) (rw c.as_slice.ensures at c.add_links.ensures)

@@ -1,8 +1,8 @@
 use Rattle.std.proofs.Common.{◌≡◌, Bor, map, rules}
 use Rattle.sh_tree.specs.declared.tree.Command.{Command}
-use Rattle.sh_tree.specs.Commands as spec
-use Rattle.sh_tree.proofs.CommandLemmas.{all_in_order}
-use Rattle.sh_tree.proofs.commands.commands.Goals as goal
+use Rattle.sh_commands.specs.Commands as spec
+use Rattle.sh_commands.proofs.CommandLemmas.{all_in_order}
+use Rattle.sh_commands.proofs.commands.Goals as goal
 
 pub returns-clause-same : goal.returns-clause-same
 returns-clause-same c =

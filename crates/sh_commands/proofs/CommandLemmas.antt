@@ -34,7 +34,7 @@ use Rattle.sh_tree.specs.declared.tree.Unary.{Unary}
 use Rattle.sh_tree.specs.declared.tree.Expr.{Expr, Row_of-Expr-Chain-1-2, end_of-Expr-Chain-1-2, more_of-Expr-Chain-1-2, items-the_row-Expr-Chain-1-2}
 use Rattle.sh_tree.specs.declared.tree.Expr.TheVariants as expression
 use Rattle.sh_tree.specs.declared.tree.Element.TheBlock.{items_shown-the_row-Part-0, items_hidden-the_row-Part-0, shown-the_row-Part-0, hidden-the_row-Part-0, items_hidden-the_row-Element-3, hidden-the_row-Element-3, items_hidden-the_row-Branch-4, hidden-the_row-Branch-4, back-Kind-Cond-1, back-Kind-For-1, items_shown-the_row-Word-5, items_hidden-the_row-Word-5, hidden-the_row-Word-5, items_hidden-the_row-Clause-6, hidden-the_row-Clause-6, shape-the_row-Command-7, hidden-the_row-Command-7, shape-the_row-Expr-1, hidden-the_row-Expr-1, items_hidden-the_row-Expr-Chain-1-2-2, hidden-the_row-Expr-Chain-1-2-2, items_shown-the_row-AndOr-rest-2-8, items_shown-the_row-Redirect-9, items_shown-the_row-Command-10, items_shown-the_row-Item-11}
-use Rattle.sh_tree.specs.Commands.{of_script, of_items, of_item, of_and_or, of_links, of_pipe, of_commands, of_command, of_redirects, of_redirect, of_link, of_step, of_option, of_kind, of_elements, of_element, of_branches, of_branch, of_otherwise, of_list, of_words, of_word, of_clauses, of_clause, of_target, of_parts, of_part, of_operator, of_expressions, of_chain, of_expression}
+use Rattle.sh_commands.specs.Commands.{of_script, of_items, of_item, of_and_or, of_links, of_pipe, of_commands, of_command, of_redirects, of_redirect, of_link, of_step, of_option, of_kind, of_elements, of_element, of_branches, of_branch, of_otherwise, of_list, of_words, of_word, of_clauses, of_clause, of_target, of_parts, of_part, of_operator, of_expressions, of_chain, of_expression}
 
 -- lists
 items_listed : {m : _} (k : Row_of-Item m) → of_items k ≡ flat_map of_item (items-the_row-Item m k)

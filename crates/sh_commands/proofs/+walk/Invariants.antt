@@ -1,7 +1,7 @@
 use Rattle.std.proofs.Common.{◌≡◌, ◌++◌, map, drop}
 use Rattle.std.specs.List.{flat_map}
-use Rattle.sh_tree.specs.Commands as spec
-use Rattle.sh_tree.proofs.commands.+walk.Given as goal
+use Rattle.sh_commands.specs.Commands as spec
+use Rattle.sh_commands.proofs.+walk.Given as goal
 
 -- In each loop what is found and what is left are the whole.
 
