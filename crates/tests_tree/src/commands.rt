@@ -1,7 +1,7 @@
-use crate::trees::{one, plain_item, plain_word, simple_item};
+use crate::trees::{holds, one, plain_item, plain_word, simple_item};
 use sh_tree::commands::commands;
 use sh_tree::tree::{
-    CommandStyle, Element, HereDoc, Item, Part, Redirect, Script, Span, Target, Word,
+    Command, CommandStyle, Element, HereDoc, Item, Part, Redirect, Script, Span, Target, Word,
 };
 use std::alloc::{AllocError, Global};
 use std::test::Fail;
@@ -46,18 +46,18 @@ fn with_body(alloc: Global) -> Result<Script, AllocError> {
     Ok(Script { items })
 }
 
-fn numbers(alloc: Global, script: &Script) -> Result<Vec<u32>, AllocError> {
-    let mut numbers = Vec::new(alloc);
-    for command in commands(alloc, script)? {
-        numbers.push(command.number)?;
+/// Whether three commands are numbered in their order.
+fn are_in_order(found: &[&Command]) -> bool {
+    match found {
+        [first, second, third] => first.number == 1 && second.number == 2 && third.number == 3,
+        _ => false,
     }
-    Ok(numbers)
 }
 
 #[test]
 fn by_their_starts(rt: HostRuntime) -> Result<(), Fail> {
     let script = with_body(rt.alloc())?;
-    let found = numbers(rt.alloc(), &script)?;
-    assert_eq!(rt; found.as_slice(), [1, 2, 3].as_slice());
+    let found = commands(rt.alloc(), &script)?;
+    holds(&rt, b"<<E; b", are_in_order(&found));
     Ok(())
 }

@@ -1,3 +1,4 @@
+use crate::trees::holds;
 use sh_tree::name::is_name;
 use std::process::Abort;
 use std::test::Fail;
@@ -7,7 +8,7 @@ type Row = (&'static [u8], bool);
 
 fn check(rt: &impl Abort, rows: &[Row]) {
     for (text, wanted) in rows {
-        assert_eq!(rt; is_name(text), *wanted, "{text:?}");
+        holds(rt, text, is_name(text) == *wanted);
     }
 }
 

@@ -1,4 +1,4 @@
-use crate::trees::one;
+use crate::trees::{holds, one};
 use sh_tree::limits::MAX_SCRIPT;
 use sh_tree::text::static_text;
 use sh_tree::tree::{
@@ -100,7 +100,7 @@ fn is_same(found: &Option<Vec<u8>>, wanted: Option<&[u8]>) -> bool {
 fn check(rt: &impl Abort, alloc: Global, rows: &[Row]) -> Result<(), AllocError> {
     for (text, pieces, wanted) in rows {
         let found = told(alloc, text, pieces)?;
-        assert!(rt; is_same(&found, *wanted), "{text:?}");
+        holds(rt, text, is_same(&found, *wanted));
     }
     Ok(())
 }

@@ -1,7 +1,13 @@
-//! Small trees.
+//! Small trees, and what the checks share.
 use sh_tree::Items;
 use sh_tree::tree::{AndOr, Command, Element, Item, Kind, Part, Pipe, Span, Word};
 use std::alloc::{AllocError, Global};
+use std::process::Abort;
+
+/// Holds what is so of a text.
+pub fn holds(rt: &impl Abort, text: &[u8], is_so: bool) {
+    assert!(rt; is_so, "{text:?}");
+}
 
 pub fn one<T: Drop>(alloc: Global, item: T) -> Result<Items<T>, AllocError> {
     let mut items = Items::new(alloc);
