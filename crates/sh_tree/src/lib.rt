@@ -10,8 +10,6 @@ pub mod limits;
 pub mod name;
 pub mod place;
 pub mod refusal;
-#[cfg(test)]
-mod tests;
 pub mod text;
 pub mod token;
 pub mod tree;
