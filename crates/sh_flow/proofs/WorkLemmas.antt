@@ -5,7 +5,7 @@ use Rattle.sh_tree.specs.program.Syntax as p
 use Rattle.sh_tree.specs.program.Syntax.{Text}
 use Rattle.sh_tree.proofs.ProgramForms.{lone_program}
 use Rattle.sh_table.specs.declared.kind.Kind.TheVariants as kind
-use Rattle.sh_table.specs.Kinds.{kind_of, is_special, is_declaration}
+use Rattle.sh_table.specs.Kinds.{kind_of, is_declaration}
 use Rattle.sh_table.specs.runs.Environment.{Environment, Frame, put_text, with_variable, showing, hiding}
 use Rattle.sh_table.specs.runs.Answers.{Given, Answer}
 use Rattle.sh_table.specs.runs.States.{State, fresh}
@@ -223,10 +223,6 @@ module _ (event : Bool → Bool → Bool) (none : event false false ≡ false) w
     unfolding is_declaration
     is_no_declaration t h = rw h refl
 
-    is_not_special : (t : Text) → kind_of t ≡ kind.Utility → is_special (kind_of t) ≡ false
-    unfolding is_special
-    is_not_special t h = rw h refl
-
     words_ok : (e : Environment) (f : Frame) (status : ℕ) (ws : List Work) (a : Answer) (simple : Simple) (left : p.Words) (ts : List Text) (xs : Assignments) → NoFunctions e
         → LeftGoes (λ s d. Goes f ws s d) left ts xs e → StepOk f (words e f status ws a simple left ts p.no_redirects xs)
     unfolding words LeftGoes Goes FrontGoes is_declared ReadyGoes
@@ -246,7 +242,7 @@ module _ (event : Bool → Bool → Bool) (none : event false false ≡ false) w
         StepOk f (after_expansion o.state false (unless_ended e f status ws a o.state (assigned e f status ws a name o (Prepare simple [] p.no_redirects xs failed ∷ ws))))
     unfolding assigned Goes FrontGoes ReadyGoes AreSet
     assigned_ok e f status ws a simple name w xs failed free h g k =
-        expanded_ok f o.state false _ stays.copies (value.quiet f status a.given) (unless_ok e f status ws a o.state _ stays.ended (go a.ends))
+        expanded_ok f o.state false _ stays.copies (value.quiet f status a.given) (unless_ok e f status ws a o.state _ stays.ended (go a.assignment_fails))
       where
         value : ValueGoes e w
         value = h e (grows_refl e)
@@ -286,8 +282,8 @@ module _ (event : Bool → Bool → Bool) (none : event false false ≡ false) w
             (subst (λ d. Lives f (with_variable d name (Some v)) (status_behind o.state status a) behind) (sym stays.environment) lives)
 
     manner_named : (t : Text) (ts : List Text) → kind_of t ≡ kind.Utility → manner (t ∷ ts) ≡ Named t ts
-    unfolding manner
-    manner_named t ts h = rw (is_not_special t h) refl
+    unfolding named_manner manner
+    manner_named t ts h = rw h refl
 
     next_named : (t : Text) (ts : List Text) (first : Bool) (xs : Assignments) → next_preparation (Named t ts) first p.no_redirects xs ≡ ready
     unfolding next_preparation in_order
@@ -297,14 +293,14 @@ module _ (event : Bool → Bool → Bool) (none : event false false ≡ false) w
 
     prepare_ok : (e : Environment) (f : Frame) (status : ℕ) (ws : List Work) (a : Answer) (simple : Simple) (ts : List Text) (xs : Assignments) (failed : Bool) → NoFunctions e
         → ReadyGoes (λ s d. Goes f ws s d) ts xs e
-        → StepOk f (prepare e f status ws a simple ts p.no_redirects xs failed (next_preparation (manner ts) a.assigns_first p.no_redirects xs))
+        → StepOk f (prepare e f status ws a simple ts p.no_redirects xs failed (next_preparation (manner ts) a.assignment_first p.no_redirects xs))
     unfolding prepare prepared manner next_preparation in_any_order in_order called Goes FrontGoes ReadyGoes ValuesGo AreSet
     prepare_ok e f status ws a simple [] [] failed free h = goes_ok e f _ ws (free, h.1 _ e (grows_refl e) tt)
     prepare_ok e f status ws a simple [] (x ∷ xs) failed free h = assigned_ok e f status ws a simple x.0 x.1 xs failed free h.0.0 h.0.1 h.1
     prepare_ok e f status ws a simple (t ∷ ts) xs failed free h =
         let named : manner (t ∷ ts) ≡ Named t ts = manner_named t ts h.0 in
-        let next : next_preparation (manner (t ∷ ts)) a.assigns_first p.no_redirects xs ≡ ready =
-        ap (λ m. next_preparation m a.assigns_first p.no_redirects xs) named ∙ next_named t ts a.assigns_first xs in
+        let next : next_preparation (manner (t ∷ ts)) a.assignment_first p.no_redirects xs ≡ ready =
+        ap (λ m. next_preparation m a.assignment_first p.no_redirects xs) named ∙ next_named t ts a.assignment_first xs in
         subst (λ q. StepOk f (prepare e f status ws a simple (t ∷ ts) p.no_redirects xs failed q)) (sym next)
         (subst (λ m. StepOk f (prepared e f status ws a simple m p.no_redirects xs failed)) (sym named)
         (subst (λ o. StepOk f (goes e f status (called e f status ws a simple t ts p.no_redirects xs o ∷ ws))) (sym (free t))
@@ -316,7 +312,7 @@ module _ (event : Bool → Bool → Bool) (none : event false false ≡ false) w
     unfolding passed utility Goes FrontGoes ReadyGoes ValuesGo
     utility_ok e f status ws a simple t ts [] prefixes values free h = rw (h.0) (goes_ok e f a.status ws (free, h.2 a.status e (grows_refl e)))
     utility_ok e f status ws a simple t ts (x ∷ xs) prefixes values free h =
-        expanded_ok f s false _ stays.copies (value.quiet f status a.given) (unless_ok e f status ws a s _ stays.ended (go a.ends))
+        expanded_ok f s false _ stays.copies (value.quiet f status a.given) (unless_ok e f status ws a s _ stays.ended (go a.assignment_fails))
       where
         shown : List (Text × Text)
         shown = seen e f status ws a values
@@ -350,9 +346,9 @@ module _ (event : Bool → Bool → Bool) (none : event false false ≡ false) w
         go : (b : Bool) → StepOk f (if b then ends s.environment f else goes s.environment f (status_behind s status a) (left ∷ ws))
         go true = ends_ok s.environment f
         go false =
-            let more : Grows e s.environment = grows a.copies in
+            let more : Grows e s.environment = grows a.value_in_copy in
             goes_ok s.environment f (status_behind s status a) (left ∷ ws)
-            (none_defined a.copies, (refl, (h.0, values_grow xs e s.environment more h.1.1, λ u d m. h.2 u d (grows_trans e s.environment d more m))))
+            (none_defined a.value_in_copy, (refl, (h.0, values_grow xs e s.environment more h.1.1, λ u d m. h.2 u d (grows_trans e s.environment d more m))))
 
     command_ok : (e : Environment) (f : Frame) (status : ℕ) (ws : List Work) (c : p.Command) → NoFunctions e → CommandGoes (λ s d. Goes f ws s d) c e
         → StepOk f (goes e f status (command_work c ∷ ws))

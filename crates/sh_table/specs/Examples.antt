@@ -113,17 +113,24 @@ quiet =
       given = λ n. quiet_given;
       directory = λ field. [];
       status = 0;
-      fails = false;
-      ends = false;
+      redirection_fails = false;
+      redirection_ends = false;
+      redirection_leaves_out = false;
+      assignment_fails = false;
+      special_ends = false;
       matches = false;
       values = λ n. None;
       removes = λ n. false;
+      removes_variable = λ n. false;
       removes_function = λ n. false;
+      sets_parameters = false;
       count = 0;
       shares = λ n. false;
       restores = λ n. false;
-      assigns_first = false;
-      copies = false;
+      assignment_first = false;
+      redirection_in_copy = false;
+      value_in_copy = false;
+      redirections_in_process = false;
       sees = false;
       takes_function = false;
       pattern = 0;
@@ -348,7 +355,7 @@ abbrev pub opened : Items
 opened = lone (simple 1 0 (redirection (File (x_used action.Assign false)) no_elements))
 
 abbrev pub redirect_fails : List Move
-redirect_fails = steps 0 5 ++ by 0 (record quiet { fails = true }) ∷ []
+redirect_fails = steps 0 5 ++ by 0 (record quiet { redirection_fails = true }) ∷ []
 
 -- `set -- a b; shift`
 abbrev pub shifted : Items
@@ -516,7 +523,7 @@ pub record RunsAsExpected : Type 0 where
   pub other_redirection_goes_on : status (ran bare_start [] (redirected (codes "echo")) redirect_fails) ≡ Some 1
   -- `>${x=w}`: without a command name the word is expanded in the shell, or in a copy
   pub redirection_sets : x_is (ran bare_start [] opened (steps 0 5)) ≡ Some (Some (codes "w"))
-  pub redirection_copies : x_is (ran bare_start [] opened (steps 0 4 ++ by 0 (record quiet { copies = true }) ∷ [])) ≡ Some None
+  pub redirection_copies : x_is (ran bare_start [] opened (steps 0 4 ++ by 0 (record quiet { redirection_in_copy = true }) ∷ [])) ≡ Some None
   -- `set -- a b; shift`
   pub set_gives_parameters : frame (ran bare_start [] shifted (steps 0 9)) ≡ Some a_and_b
   pub shift_removes_one : frame (ran bare_start [] shifted (steps 0 16)) ≡ Some (codes "b" ∷ [])
@@ -565,7 +572,7 @@ pub record RunsAsExpected : Type 0 where
   pub unset_removes : x_is (ran (start_with (codes "v")) [] (lone (says (codes "unset" ∷ codes "x" ∷ []))) (steps 0 7)) ≡ Some None
   -- `exec`: the shell goes on, unless an error ends it
   pub exec_goes_on : lives 0 (ran bare_start [] (lone (says_one (codes "exec"))) (steps 0 6)) ≡ Some true
-  pub exec_fails : lives 0 (ran bare_start [] (lone (says_one (codes "exec"))) (steps 0 5 ++ by 0 (record quiet { ends = true }) ∷ [])) ≡ Some false
+  pub exec_fails : lives 0 (ran bare_start [] (lone (says_one (codes "exec"))) (steps 0 5 ++ by 0 (record quiet { special_ends = true }) ∷ [])) ≡ Some false
   -- `exit`
   pub exit_ends : lives 0 (ran bare_start [] (lone (says_one (codes "exit"))) (steps 0 6)) ≡ Some false
   -- `sleep 1 & echo "$!"`: a process is started, and `!` is set; `echo "$!"` alone has an Unset event

@@ -156,22 +156,22 @@ abbrev pub is_defined : Answer → List Command → Bool
 is_defined a cs = is_some (((ends_by a bare_start [] (list cs)).environments 0).functions f)
 
 abbrev pub copying : Answer
-copying = record quiet { copies = true }
+copying = record quiet { redirection_in_copy = true; value_in_copy = true; redirections_in_process = true }
 
 abbrev pub failing : Answer
-failing = record quiet { fails = true }
+failing = record quiet { redirection_fails = true }
 
 abbrev pub failing_first : Answer
-failing_first = record quiet { fails = true; assigns_first = true }
+failing_first = record quiet { redirection_fails = true; assignment_first = true }
 
 abbrev pub failing_ends : Answer
-failing_ends = record quiet { fails = true; ends = true }
+failing_ends = record quiet { redirection_fails = true; redirection_ends = true; redirection_leaves_out = true }
 
 abbrev pub ending : Answer
-ending = record quiet { ends = true }
+ending = record quiet { assignment_fails = true; special_ends = true }
 
 abbrev pub assigning_first : Answer
-assigning_first = record quiet { assigns_first = true }
+assigning_first = record quiet { assignment_first = true }
 
 abbrev pub just : Text → Option Text
 just t = Some t
@@ -320,7 +320,7 @@ pub record RedirectsAsExpected : Type 0 where
       ≡ (just (codes "1") ∷ just (codes "t") ∷ just (codes "1") ∷ []) ∷ (None ∷ just (codes "t") ∷ just (codes "1") ∷ []) ∷ []
   pub call_fails_behind_values :
       map (λ a. seen a (x ∷ y ∷ z ∷ []) (function f (gives z (value_of x) ∷ []) ∷ prefixed_to f (assigning y (codes "t")) ∷ []))
-      (failing_first ∷ record restoring_first { fails = true } ∷ [])
+      (failing_first ∷ record restoring_first { redirection_fails = true } ∷ [])
       ≡ (just (codes "1") ∷ just (codes "t") ∷ None ∷ []) ∷ (None ∷ just (codes "t") ∷ None ∷ []) ∷ []
 
 -- `x=1 y=word ls`; `"${x+$z}"`
@@ -427,7 +427,7 @@ unset_by letters a =
     (value f w, is_some ((w.environments 0).functions f))
 
 abbrev pub removing_either : Bool → Bool → Answer
-removing_either variable function = record quiet { removes = λ n. variable; removes_function = λ n. function }
+removing_either variable function = record quiet { removes_variable = λ n. variable; removes_function = λ n. function }
 
 abbrev pub opt_names : List Text
 opt_names = x ∷ codes "OPTIND" ∷ codes "OPTARG" ∷ []
@@ -456,7 +456,7 @@ pub record BuiltinsAsExpected : Type 0 where
   -- `set c`, on zero and on another status, where the parameters may change; `set -o errexit`, `set -e`, `set -eo errexit c`, `set -e -- -c`, `set --`, `set +e c`
   pub set_one : parameters quiet (sets (codes "c" ∷ []) ∷ []) ≡ codes "c" ∷ []
   pub set_fails : parameters (with_status 1) (sets (codes "c" ∷ []) ∷ []) ≡ a_and_b
-  pub set_fails_behind : parameters (record quiet { status = 1; removes = λ n. true }) (sets (codes "c" ∷ []) ∷ []) ≡ codes "c" ∷ []
+  pub set_fails_behind : parameters (record quiet { status = 1; sets_parameters = true }) (sets (codes "c" ∷ []) ∷ []) ≡ codes "c" ∷ []
   pub set_option_word : parameters quiet (sets (codes "-o" ∷ codes "errexit" ∷ []) ∷ []) ≡ a_and_b
   pub set_option : parameters quiet (sets (codes "-e" ∷ []) ∷ []) ≡ a_and_b
   pub set_alone : parameters quiet (sets [] ∷ []) ≡ a_and_b

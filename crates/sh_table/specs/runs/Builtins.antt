@@ -3,6 +3,8 @@
 use Rattle.std.specs.Prelude.{ℕ, zero, suc, ◌+◌, ◌==◌, nat_le, Bool, true, false, not, ◌||◌, if◌then◌else◌, List, [], ◌∷◌, length, drop, codes, Option, Some, None, is_some, unwrap_or}
 use Rattle.sh_tree.specs.program.Syntax as p
 use Rattle.sh_tree.specs.program.Syntax.{Text}
+use Rattle.sh_tree.specs.declared.known.KnownName.{KnownName}
+use Rattle.sh_tree.specs.declared.known.KnownName.TheVariants as known
 use Rattle.sh_table.specs.declared.kind.Kind.{Kind}
 use Rattle.sh_table.specs.declared.kind.Kind.TheVariants as kind
 use Rattle.sh_table.specs.runs.Environment.{Environment, Frame, is_one_of, with_variable, with_function, showing}
@@ -36,7 +38,7 @@ unfoldable pub removed : Removal → Answer → ℕ → Environment → Text →
 removed OfVariables a n e name = if is_removed a n then with_variable e name None else e
 removed OfFunctions a n e name = if is_removed a n then with_function e name None else e
 removed OfEither a n e name = if is_removed a n then removed_either a.takes_function e name else e
-removed OfAny a n e name = removed_any (a.removes n) (a.removes_function n) e name
+removed OfAny a n e name = removed_any (a.removes_variable n) (a.removes_function n) e name
 
 -- the operands in their order
 unfoldable pub removed_all : Removal → Answer → ℕ → Environment → List Text → Environment
@@ -48,10 +50,10 @@ unset_names e a x = removed_all x.0 a 0 e x.1
 
 -- Set and shift
 
--- positional words: on zero they are the parameters; otherwise a value of the answer tells whether
+-- positional words: on zero they are the parameters; otherwise the answer tells whether
 unfoldable pub set_frame : Frame → Answer → Option (List Text) → Frame
 set_frame f a None = f
-set_frame f a (Some ts) = if a.status == 0 || a.removes 0 then ts else f
+set_frame f a (Some ts) = if a.status == 0 || a.sets_parameters then ts else f
 
 -- the operand is no number: shells differ, so that any number of parameters may go
 unfoldable pub shifted : Environment → Frame → List Work → Answer → Option ℕ → Effect
@@ -72,25 +74,25 @@ returned e f status ws a (Some x) = record (goes (restored a.restores 0 e x.0) f
 
 -- A special built-in utility, with the words of its command and its operands. What `.`, `eval` and an action of `trap` run is not stated: no script with them is
 -- analysed.
-unfoldable pub special : Environment → Frame → ℕ → List Work → Answer → p.Words → Kind → List Text → Effect
-special e f status ws a vs kind.Colon ts = goes e f 0 ws
-special e f status ws a vs kind.Break ts = goes e f a.status (broken_off (loop_mark (unwrap_or (count_operand ts) 1) ws) ws)
-special e f status ws a vs kind.Continue ts = goes e f a.status (continued (loop_mark (unwrap_or (count_operand ts) 1) ws) ws)
-special e f status ws a vs kind.Exec ts = goes e f (if has_command ts then nonzero a.status else a.status) ws
-special e f status ws a vs kind.Exit ts = ends e f
-special e f status ws a vs kind.Export ts = goes (showing e (definitions_in ts)) f a.status ws
-special e f status ws a vs kind.Readonly ts = goes (showing e (definitions_in ts)) f a.status ws
-special e f status ws a vs kind.Return ts = returned e f (unwrap_or (status_operand vs) a.status) ws a (return_mark ws)
-special e f status ws a vs kind.Set ts = goes e (set_frame f a (set_words ts)) a.status ws
-special e f status ws a vs kind.Shift ts = shifted e f ws a (count_operand ts)
-special e f status ws a vs kind.Unset ts = goes (unset_names e a (unset_operands ts)) f a.status ws
-special e f status ws a vs kind.Times ts = goes e f a.status ws
-special e f status ws a vs kind.Trap ts = goes e f a.status ws
+unfoldable pub special : Environment → Frame → ℕ → List Work → Answer → p.Words → KnownName → List Text → Effect
+special e f status ws a vs known.Colon ts = goes e f 0 ws
+special e f status ws a vs known.Break ts = goes e f a.status (broken_off (loop_mark (unwrap_or (count_operand ts) 1) ws) ws)
+special e f status ws a vs known.Continue ts = goes e f a.status (continued (loop_mark (unwrap_or (count_operand ts) 1) ws) ws)
+special e f status ws a vs known.Exec ts = goes e f (if has_command ts then nonzero a.status else a.status) ws
+special e f status ws a vs known.Exit ts = ends e f
+special e f status ws a vs known.Export ts = goes (showing e (definitions_in ts)) f a.status ws
+special e f status ws a vs known.Readonly ts = goes (showing e (definitions_in ts)) f a.status ws
+special e f status ws a vs known.Return ts = returned e f (unwrap_or (status_operand vs) a.status) ws a (return_mark ws)
+special e f status ws a vs known.Set ts = goes e (set_frame f a (set_words ts)) a.status ws
+special e f status ws a vs known.Shift ts = shifted e f ws a (count_operand ts)
+special e f status ws a vs known.Unset ts = goes (unset_names e a (unset_operands ts)) f a.status ws
+special e f status ws a vs known.Times ts = goes e f a.status ws
+special e f status ws a vs known.Trap ts = goes e f a.status ws
 special e f status ws a vs _ ts = goes e f a.status ws
 
 -- an error in it may end the process
-unfoldable pub special_or_end : Environment → Frame → ℕ → List Work → Answer → p.Words → Kind → List Text → Effect
-special_or_end e f status ws a vs k ts = if a.ends then ends e f else special e f status ws a vs k ts
+unfoldable pub special_or_end : Environment → Frame → ℕ → List Work → Answer → p.Words → KnownName → List Text → Effect
+special_or_end e f status ws a vs k ts = if a.special_ends then ends e f else special e f status ws a vs k ts
 
 -- Other built-in utilities
 

@@ -1,6 +1,7 @@
 -- What a process does in one step.
 -- POSIX.1-2024, XCU 2.7 (redirection), 2.8.1 (consequences of shell errors), 2.9 (shell commands).
 use Rattle.std.specs.Prelude.{ℕ, zero, suc, ◌==◌, Bool, true, false, not, ◌&&◌, ◌||◌, if◌then◌else◌, List, [], ◌∷◌, ◌++◌, map, Option, Some, None, is_some}
+use Rattle.sh_tree.specs.declared.known.KnownName.{KnownName}
 use Rattle.sh_tree.specs.declared.tree.ClauseEnd.{ClauseEnd}
 use Rattle.sh_tree.specs.declared.tree.ClauseEnd.TheVariants as clause
 use Rattle.sh_tree.specs.declared.tree.Link.{Link}
@@ -10,7 +11,9 @@ use Rattle.sh_tree.specs.declared.tree.LoopKind.TheVariants as loop
 use Rattle.sh_tree.specs.program.Syntax as p
 use Rattle.sh_tree.specs.program.Syntax.{Text}
 use Rattle.sh_tree.specs.program.Words.{assignment_in, is_plainly}
-use Rattle.sh_table.specs.Kinds.{kind_of, is_special, is_declaration}
+use Rattle.sh_table.specs.declared.kind.Kind.{Kind}
+use Rattle.sh_table.specs.declared.kind.Kind.TheVariants as kind
+use Rattle.sh_table.specs.Kinds.{kind_of, is_declaration}
 use Rattle.sh_table.specs.runs.Environment.{Environment, Frame, with_variable, with_function, showing, hiding, copied, separators}
 use Rattle.sh_table.specs.runs.Answers.{Answer}
 use Rattle.sh_table.specs.runs.States.{State, fresh}
@@ -47,12 +50,16 @@ opened (p.Here w) = w
 -- how a simple command goes on, by its fields: without a name, as a special built-in utility, or otherwise as a function or a utility
 pub data Manner : Type 0 where
   Nameless : Manner
-  Special : (name : Text) (operands : List Text) → Manner
+  Special : (name : KnownName) (operands : List Text) → Manner
   Named : (name : Text) (operands : List Text) → Manner
+
+unfoldable pub named_manner : Kind → Text → List Text → Manner
+named_manner (kind.Special name) t ts = Special name ts
+named_manner _ t ts = Named t ts
 
 unfoldable pub manner : List Text → Manner
 manner [] = Nameless
-manner (t ∷ ts) = if is_special (kind_of t) then Special t ts else Named t ts
+manner (t ∷ ts) = named_manner (kind_of t) t ts
 
 -- an operand of a declaration utility that is an assignment in form is not split
 unfoldable pub is_declared : List Text → p.Word → Bool
@@ -181,20 +188,20 @@ module _ (e : Environment) (f : Frame) (status : ℕ) (ws : List Work) (a : Answ
   -- a redirection failed: a special built-in utility ends the process, and a function may; what is behind it is not done; without a name
   -- the redirections and assignments that are left may be done all the same
   unfoldable pub failed_in : Manner → Environment → List Work → Effect
-  failed_in Nameless d next = if a.ends then goes d f (nonzero a.status) ws else goes d f status next
+  failed_in Nameless d next = if a.redirection_leaves_out then goes d f (nonzero a.status) ws else goes d f status next
   failed_in (Special t ts) d next = ends d f
-  failed_in (Named t ts) d next = if a.ends && is_some (d.functions t) then ends d f else goes d f (nonzero a.status) ws
+  failed_in (Named t ts) d next = if a.redirection_ends && is_some (d.functions t) then ends d f else goes d f (nonzero a.status) ws
 
   -- a redirection, and what comes where it failed: in a copy its early end is a failure, and nothing else stays of it
   unfoldable pub redirected : Bool → State → List Work → (Environment → Effect) → Effect
   redirected copied s next failed =
-      if copied then (if s.ended || a.fails then failed e else goes e f (status_behind s status a) next)
-      else unless_ended s (if a.fails then failed s.environment else goes s.environment f (status_behind s status a) next)
+      if copied then (if s.ended || a.redirection_fails then failed e else goes e f (status_behind s status a) next)
+      else unless_ended s (if a.redirection_fails then failed s.environment else goes s.environment f (status_behind s status a) next)
 
   -- an assignment, unless it fails and ends the process
   unfoldable pub assigned : Text → Outcome → List Work → Effect
   assigned name o next =
-      if a.ends then ends o.state.environment f
+      if a.assignment_fails then ends o.state.environment f
       else goes (with_variable o.state.environment name (Some (pieces_text o.pieces))) f (status_behind o.state status a) next
 
   -- a function, or a utility
@@ -205,21 +212,21 @@ module _ (e : Environment) (f : Frame) (status : ℕ) (ws : List Work) (a : Answ
   -- the redirections and assignments are done, but for those that a function or a utility has left
   unfoldable pub prepared : Simple → Manner → p.Redirects → Assignments → Bool → Effect
   prepared k Nameless rs xs failed = goes e f (if failed then nonzero a.status else a.status) ws
-  prepared k (Special t ts) rs xs failed = special_or_end e f status ws a (operands_in k.elements) (kind_of t) ts
+  prepared k (Special name ts) rs xs failed = special_or_end e f status ws a (operands_in k.elements) name ts
   prepared k (Named t ts) rs xs failed = goes e f status (called k t ts rs xs (e.functions t) ∷ ws)
 
   unfoldable pub prepare : Simple → List Text → p.Redirects → Assignments → Bool → Preparation → Effect
   prepare k ts rs xs failed ready = prepared k (manner ts) rs xs failed
   prepare k ts rs xs failed (redirects r rest) =
       let s = (expanded in_one (opened r)).state in
-      after_expansion s false (redirected (a.copies && may_copy (manner ts)) s (Prepare k ts rest xs failed ∷ ws) (λ d. failed_in (manner ts) d (Prepare k ts rest xs true ∷ ws)))
+      after_expansion s false (redirected (a.redirection_in_copy && may_copy (manner ts)) s (Prepare k ts rest xs failed ∷ ws) (λ d. failed_in (manner ts) d (Prepare k ts rest xs true ∷ ws)))
   prepare k ts rs xs failed (assigns name value rest) =
       let o = expanded in_one value in
       after_expansion o.state false (unless_ended o.state (assigned name o (Prepare k ts rs rest failed ∷ ws)))
 
   -- the value of a prefix assignment: it may be expanded in a copy, of which nothing stays
   abbrev pub kept : State → State
-  kept s = record s { environment = if a.copies then e else s.environment }
+  kept s = record s { environment = if a.value_in_copy then e else s.environment }
 
   -- what a value may see of the assignments before it
   abbrev pub seen : List (Text × Text) → List (Text × Text)
@@ -230,12 +237,12 @@ module _ (e : Environment) (f : Frame) (status : ℕ) (ws : List Work) (a : Answ
   passed k t ts p.no_redirects [] prefixes values = utility prefixes e f ws a (kind_of t) ts
   passed k t ts (p.more_redirects r rest) [] prefixes values =
       let s = (expanded in_one (opened r)).state in
-      after_expansion s false (redirected a.copies s (Utility k t ts rest [] prefixes values ∷ ws) (λ d. failed_in (Named t ts) d ws))
+      after_expansion s false (redirected a.redirection_in_copy s (Utility k t ts rest [] prefixes values ∷ ws) (λ d. failed_in (Named t ts) d ws))
   passed k t ts rs (x ∷ xs) prefixes values =
       let o = expand f status in_one x.1 (fresh (showing e (seen values)) a.given) in
       let s = kept (record o.state { environment = hiding e (seen values) o.state.environment }) in
       let left = Utility k t ts rs xs prefixes (values ++ (x.0, pieces_text o.pieces) ∷ []) in
-      after_expansion s false (unless_ended s (if a.ends then ends s.environment f else goes s.environment f (status_behind s status a) (left ∷ ws)))
+      after_expansion s false (unless_ended s (if a.assignment_fails then ends s.environment f else goes s.environment f (status_behind s status a) (left ∷ ws)))
 
   -- what a redirection behind the prefix assignments of a function does: it does not see them
   abbrev pub unseen : Saved → p.Redirect → State
@@ -249,7 +256,7 @@ module _ (e : Environment) (f : Frame) (status : ℕ) (ws : List Work) (a : Answ
   calls n t ts body (p.more_redirects r rest) [] saved =
       let s = unseen saved r in
       after_expansion s false
-      (redirected a.copies s (Call n t ts body rest [] saved ∷ ws) (λ d. failed_in (Named t ts) (restored a.restores 0 d saved) ws))
+      (redirected a.redirection_in_copy s (Call n t ts body rest [] saved ∷ ws) (λ d. failed_in (Named t ts) (restored a.restores 0 d saved) ws))
   calls n t ts body rs (x ∷ xs) saved =
       let o = expanded in_one x.1 in
       let kept_outcome = record o { state = kept o.state } in
@@ -260,11 +267,11 @@ module _ (e : Environment) (f : Frame) (status : ℕ) (ws : List Work) (a : Answ
 
   -- a redirection failed: the command is not done, and the process may end
   unfoldable pub failed_before : Environment → Effect
-  failed_before d = if a.ends then ends d f else goes d f (nonzero a.status) ws
+  failed_before d = if a.redirection_ends then ends d f else goes d f (nonzero a.status) ws
 
   unfoldable pub redirected_before : State → List Work → Effect
   redirected_before s next =
-      after_expansion s false (unless_ended s (if a.fails then failed_before s.environment else goes s.environment f (status_behind s status a) next))
+      after_expansion s false (unless_ended s (if a.redirection_fails then failed_before s.environment else goes s.environment f (status_behind s status a) next))
 
   -- `for` over these fields; without one its status is zero
   unfoldable pub turns : ℕ → Text → List Text → p.Items → Effect
@@ -289,7 +296,7 @@ module _ (e : Environment) (f : Frame) (status : ℕ) (ws : List Work) (a : Answ
 
   -- a subshell may expand its redirections in the process that it starts, which then does its list
   unfoldable pub is_started_first : p.Kind → Bool
-  is_started_first (p.Subshell list) = a.copies
+  is_started_first (p.Subshell list) = a.redirections_in_process
   is_started_first _ = false
 
   unfoldable pub in_process : p.Kind → p.Kind
@@ -321,7 +328,7 @@ module _ (e : Environment) (f : Frame) (status : ℕ) (ws : List Work) (a : Answ
   -- the next field is assigned, unless that fails
   unfoldable pub turn : ℕ → Text → List Text → p.Items → Effect
   turn n name [] body = goes e f status ws
-  turn n name (t ∷ ts) body = if a.ends then ends e f else goes (with_variable e name (Some t)) f status (Items body ∷ Turns n name ts body ∷ ws)
+  turn n name (t ∷ ts) body = if a.assignment_fails then ends e f else goes (with_variable e name (Some t)) f status (Items body ∷ Turns n name ts body ∷ ws)
 
   -- the list of a clause, and behind `;&` that of the next one; a list that is empty has any status
   unfoldable pub fall : ℕ → ClauseEnd → p.Clauses → List Work
@@ -361,7 +368,7 @@ module _ (e : Environment) (f : Frame) (status : ℕ) (ws : List Work) (a : Answ
   act_on Negation = goes e f (if status == 0 then 1 else 0) ws
   act_on (Command c) = goes e f status (command_work c ∷ ws)
   act_on (Words k left ts rs xs) = words k left ts rs xs
-  act_on (Prepare k ts rs xs failed) = prepare k ts rs xs failed (next_preparation (manner ts) a.assigns_first rs xs)
+  act_on (Prepare k ts rs xs failed) = prepare k ts rs xs failed (next_preparation (manner ts) a.assignment_first rs xs)
   act_on (Utility k t ts rs xs prefixes values) = passed k t ts rs xs prefixes values
   act_on (Call n t ts body rs xs saved) = calls n t ts body rs xs saved
   act_on (Return n t saved) = returned e f status ws a (Some (saved, ws))
