@@ -10,9 +10,9 @@ use Rattle.sh_table.specs.runs.Environment.{Environment, Frame, put_text, with_v
 use Rattle.sh_table.specs.runs.Answers.{Given, Answer}
 use Rattle.sh_table.specs.runs.States.{State, fresh}
 use Rattle.sh_table.specs.runs.Expansion.{Outcome, in_fields, in_one, pieces_text, expand}
-use Rattle.sh_table.specs.runs.Work.{Simple, Work, Items, Links, Pipeline, Negation, Command, Words, Prepare, Utility, Call, Return, Compound, If, Then, Test, Again, ForWords, Turns, Clauses, Patterns, Fall, Assignments, Effect, goes, ends, after_expansion}
+use Rattle.sh_table.specs.runs.Work.{Simple, Work, Items, Links, Pipeline, Negation, Command, Words, Prepare, Utility, Call, Return, Compound, If, Then, Test, Again, ForWords, ForFields, Clauses, Patterns, Fall, Assignments, Effect, goes, ends, after_expansion}
 use Rattle.sh_table.specs.runs.Builtins.{utility}
-use Rattle.sh_table.specs.runs.Steps.{Named, ready, operands_in, redirects_in, assignments_in, manner, is_declared, word_fields, word_splits, status_behind, in_order, in_any_order, next_preparation, simple_work, command_work, unless_ended, negated_work, piped, items, links, words, assigned, called, prepared, prepare, kept, seen, passed, act_on, act}
+use Rattle.sh_table.specs.runs.Steps.{Named, ready, operands_in, redirects_in, assignments_in, manner, is_declared, word_fields, word_splits, status_behind, in_order, in_any_order, next_preparation, simple_work, command_work, unless_ended, negated_work, piped, items, links, words, assignment, invoked, prepared, prepare, kept, seen, utility_step, act_on, act}
 use Rattle.sh_flow.proofs.FactLemmas.{AreSet}
 use Rattle.sh_flow.proofs.Worlds.{NextOk, EffectOk}
 
@@ -239,8 +239,8 @@ module _ (event : Bool → Bool → Bool) (none : event false false ≡ false) w
     assigned_ok : (e : Environment) (f : Frame) (status : ℕ) (ws : List Work) (a : Answer) (simple : Simple) (name : Text) (w : p.Word) (xs : Assignments) (failed : Bool) → NoFunctions e
         → ((e' : Environment) → Grows e e' → ValueGoes e' w) → ValuesGo xs e → ((s : ℕ) (e' : Environment) → Grows e e' → AreSet ((name, w) ∷ xs) e' → Goes f ws s e')
         → let o = expand f status in_one w (fresh e a.given) in
-        StepOk f (after_expansion o.state false (unless_ended e f status ws a o.state (assigned e f status ws a name o (Prepare simple [] p.no_redirects xs failed ∷ ws))))
-    unfolding assigned Goes FrontGoes ReadyGoes AreSet
+        StepOk f (after_expansion o.state false (unless_ended e f status ws a o.state (assignment e f status ws a name o (Prepare simple [] p.no_redirects xs failed ∷ ws))))
+    unfolding assignment Goes FrontGoes ReadyGoes AreSet
     assigned_ok e f status ws a simple name w xs failed free h g k =
         expanded_ok f o.state false _ stays.copies (value.quiet f status a.given) (unless_ok e f status ws a o.state _ stays.ended (go a.assignment_fails))
       where
@@ -294,7 +294,7 @@ module _ (event : Bool → Bool → Bool) (none : event false false ≡ false) w
     prepare_ok : (e : Environment) (f : Frame) (status : ℕ) (ws : List Work) (a : Answer) (simple : Simple) (ts : List Text) (xs : Assignments) (failed : Bool) → NoFunctions e
         → ReadyGoes (λ s d. Goes f ws s d) ts xs e
         → StepOk f (prepare e f status ws a simple ts p.no_redirects xs failed (next_preparation (manner ts) a.assignment_first p.no_redirects xs))
-    unfolding prepare prepared manner next_preparation in_any_order in_order called Goes FrontGoes ReadyGoes ValuesGo AreSet
+    unfolding prepare prepared manner next_preparation in_any_order in_order invoked Goes FrontGoes ReadyGoes ValuesGo AreSet
     prepare_ok e f status ws a simple [] [] failed free h = goes_ok e f _ ws (free, h.1 _ e (grows_refl e) tt)
     prepare_ok e f status ws a simple [] (x ∷ xs) failed free h = assigned_ok e f status ws a simple x.0 x.1 xs failed free h.0.0 h.0.1 h.1
     prepare_ok e f status ws a simple (t ∷ ts) xs failed free h =
@@ -303,13 +303,13 @@ module _ (event : Bool → Bool → Bool) (none : event false false ≡ false) w
         ap (λ m. next_preparation m a.assignment_first p.no_redirects xs) named ∙ next_named t ts a.assignment_first xs in
         subst (λ q. StepOk f (prepare e f status ws a simple (t ∷ ts) p.no_redirects xs failed q)) (sym next)
         (subst (λ m. StepOk f (prepared e f status ws a simple m p.no_redirects xs failed)) (sym named)
-        (subst (λ o. StepOk f (goes e f status (called e f status ws a simple t ts p.no_redirects xs o ∷ ws))) (sym (free t))
+        (subst (λ o. StepOk f (goes e f status (invoked e f status ws a simple t ts p.no_redirects xs o ∷ ws))) (sym (free t))
         (goes_ok e f status (Utility simple t ts p.no_redirects xs (map (λ x. x.0) xs) [] ∷ ws) (free, (refl, h)))))
 
     -- a utility: its prefix assignments unset nothing
     utility_ok : (e : Environment) (f : Frame) (status : ℕ) (ws : List Work) (a : Answer) (simple : Simple) (t : Text) (ts : List Text) (xs : Assignments) (prefixes : List Text)
-        (values : List (Text × Text)) → NoFunctions e → ReadyGoes (λ s d. Goes f ws s d) (t ∷ []) xs e → StepOk f (passed e f status ws a simple t ts p.no_redirects xs prefixes values)
-    unfolding passed utility Goes FrontGoes ReadyGoes ValuesGo
+        (values : List (Text × Text)) → NoFunctions e → ReadyGoes (λ s d. Goes f ws s d) (t ∷ []) xs e → StepOk f (utility_step e f status ws a simple t ts p.no_redirects xs prefixes values)
+    unfolding utility_step utility Goes FrontGoes ReadyGoes ValuesGo
     utility_ok e f status ws a simple t ts [] prefixes values free h = rw (h.0) (goes_ok e f a.status ws (free, h.2 a.status e (grows_refl e)))
     utility_ok e f status ws a simple t ts (x ∷ xs) prefixes values free h =
         expanded_ok f s false _ stays.copies (value.quiet f status a.given) (unless_ok e f status ws a s _ stays.ended (go a.assignment_fails))
@@ -400,7 +400,7 @@ module _ (event : Bool → Bool → Bool) (none : event false false ≡ false) w
       front_ok e f status ws a (Test n kind condition body last) free h = absurd h
       front_ok e f status ws a (Again n kind condition body) free h = absurd h
       front_ok e f status ws a (ForWords n name left ts body) free h = absurd h
-      front_ok e f status ws a (Turns n name ts body) free h = absurd h
+      front_ok e f status ws a (ForFields n name ts body) free h = absurd h
       front_ok e f status ws a (Clauses n cs) free h = absurd h
       front_ok e f status ws a (Patterns n left body end rest) free h = absurd h
       front_ok e f status ws a (Fall n cs) free h = absurd h

@@ -1,6 +1,6 @@
 -- What small words expand to, computed.
 use Rattle.std.proofs.Common.{refl}
-use Rattle.sh_table.specs.FieldExamples.{SplittingAsExpected, ParametersAsExpected, UsesAsExpected, ComputedAsExpected, NamesAsExpected, NumbersAsExpected, FieldsAsExpected}
+use Rattle.sh_table.specs.examples.Fields.{SplittingAsExpected, ParametersAsExpected, UsesAsExpected, ComputedAsExpected, NamesAsExpected, NumbersAsExpected, FieldsAsExpected}
 use Rattle.sh_table.proofs.ExampleLemmas.{computes}
 
 pub splitting_as_expected : SplittingAsExpected

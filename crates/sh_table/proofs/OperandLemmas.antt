@@ -12,7 +12,7 @@ use Rattle.sh_table.specs.runs.Environment.{Frame, separators}
 use Rattle.sh_table.specs.runs.Answers.{Given, Marked, Directory}
 use Rattle.sh_table.specs.runs.States.{State, taken}
 use Rattle.sh_table.specs.runs.Arithmetic.{evaluate}
-use Rattle.sh_table.specs.runs.Expansion.{Origin, Literal, Quoted, Unquoted, Piece, Bytes, Break, Context, in_fields, in_one, in_quotes, in_default, pieces_text, Outcome, gives, followed, value_origin, broken, at_pieces, is_every, has_every, quote_pieces, is_empty_value, value_of, needed, value_pieces, assigned_by, used, tilde_pieces, computed_pieces, expand_part, expand, expand_operator, expand_inside}
+use Rattle.sh_table.specs.runs.Expansion.{Origin, Literal, Quoted, Unquoted, Piece, Bytes, Break, Context, in_fields, in_one, in_quotes, in_default, pieces_text, Outcome, gives, followed, value_origin, broken, at_pieces, is_every, has_every, quote_pieces, is_empty_value, value_of, needed, value_pieces, default_assigned, used, tilde_pieces, computed_pieces, expand_part, expand, expand_operator, expand_inside}
 use Rattle.sh_table.specs.runs.Fields.{Sign, Stands, Blank, Separates, Quote, Breaks, stands, unquoted_sign, piece_signs, Before, Inside, scan, is_pattern, field_text, field_names, names_or, split_fields, is_expanded, is_split, holds_pattern, splits}
 use Rattle.sh_table.specs.Counts.{is_all, part_has_all, word_has_all, operator_has_all, gives_field, some_gives_field, is_parameters, Parameters, One, Nothing, count_of, least_fields}
 use Rattle.sh_table.specs.Theorem.{fields_of, OperandsCount}
@@ -157,9 +157,9 @@ module _ (f : Frame) (status : ℕ) where
   parameter_holds (Special special.Asterisk) v s h = cc
   parameter_holds p v s h = needed_holds in_fields v s
 
-  assigned_holds : (p : Parameter) (t : Text) (fails : Bool) (s : State) → (assigned_by f status in_fields p t fails s).state.ended ≡ false
-      → list_any holds_field (assigned_by f status in_fields p t fails s).pieces ≡ true
-  unfolding assigned_by holds_field value_origin
+  assigned_holds : (p : Parameter) (t : Text) (fails : Bool) (s : State) → (default_assigned f status in_fields p t fails s).state.ended ≡ false
+      → list_any holds_field (default_assigned f status in_fields p t fails s).pieces ≡ true
+  unfolding default_assigned holds_field value_origin
   assigned_holds (Variable name) t false s h = refl
   assigned_holds p t fails s h = cc
 
@@ -168,7 +168,7 @@ module _ (f : Frame) (status : ℕ) where
   unfolding used
   assign_holds p g v true word text s h = needed_holds in_fields v s
   assign_holds p g v false word text s h =
-      let next = assigned_by f status in_fields p (pieces_text (text s).pieces) g.fails in
+      let next = default_assigned f status in_fields p (pieces_text (text s).pieces) g.fails in
       second_holds (gives [] (text s).state) next h (assigned_holds p (pieces_text (text s).pieces) g.fails (text s).state (second_goes_on (gives [] (text s).state) next h))
 
   fault_holds : (p : Parameter) (g : Given) (v : Option Text) (b : Bool) (word text : State → Outcome) (s : State)

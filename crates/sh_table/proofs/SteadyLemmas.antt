@@ -17,9 +17,9 @@ use Rattle.sh_tree.specs.program.Syntax.{Text, Parameter, Variable, Positional, 
 use Rattle.sh_table.specs.Quoting.{is_numeric, gives_number, is_quotation, are_quotations, is_quoted_alternative, is_whole, are_whole, part_begins_pattern, word_begins_pattern, part_mentions, word_mentions, operator_mentions, expression_mentions, operands_mention, is_ifs, is_about_separators, is_steady}
 use Rattle.sh_table.specs.Theorem.{DifferInIfs, FieldsStandSteady}
 use Rattle.sh_table.specs.runs.Answers.{Given, Marked, Directory}
-use Rattle.sh_table.specs.runs.Arithmetic.{Computed, computes, answered, operated, then_computed, read_name, named, skips, read_where, stored, assign, evaluate, evaluate_rest}
+use Rattle.sh_table.specs.runs.Arithmetic.{Computed, computes, answered, operated, then_computed, read_name, named, skips, read_where, stored, operated_assignment, evaluate, evaluate_rest}
 use Rattle.sh_table.specs.runs.Environment.{Environment, Frame, with_variable, put_text, blanks, separators}
-use Rattle.sh_table.specs.runs.Expansion.{Literal, Quoted, Unquoted, Piece, Bytes, Break, Context, in_fields, in_quotes, in_one, in_default, value_origin, pieces_text, quote_pieces, has_every, broken, star_pieces, at_pieces, is_empty_value, Outcome, gives, followed, special_value, value_of, needed, value_pieces, assigned_by, used, constant_in, behind, tilde_pieces, computed_pieces, expand_part, expand, expand_operator, expand_inside, expand_operands}
+use Rattle.sh_table.specs.runs.Expansion.{Literal, Quoted, Unquoted, Piece, Bytes, Break, Context, in_fields, in_quotes, in_one, in_default, value_origin, pieces_text, quote_pieces, has_every, broken, star_pieces, at_pieces, is_empty_value, Outcome, gives, followed, special_value, value_of, needed, value_pieces, default_assigned, used, constant_in, behind, tilde_pieces, computed_pieces, expand_part, expand, expand_operator, expand_inside, expand_operands}
 use Rattle.sh_table.specs.runs.Fields.{begins_pattern, Sign, Stands, Blank, Separates, Quote, Breaks, stands, unquoted_sign, piece_signs, Scan, Before, Behind, Inside, scan, split_fields, is_unquoted, is_bracket, is_pattern, field_text, names_or, field_names, fields}
 use Rattle.sh_table.specs.runs.Numbers.{last_digits, digits, integer_text, is_operand, is_computed, is_zero}
 use Rattle.sh_table.specs.runs.States.{State, fresh, taken, ending, stray, with_environment}
@@ -128,8 +128,8 @@ module _ (i j : Option Text) where
   stored_same name n s t h a = record { value = refl; state = alike_set s t name (integer_text n) (integer_text n) h refl a }
 
   assign_same : (first : Bool) (name : Text) (operator : Option Binary) (value : State → Computed) (s t : State) → is_ifs name ≡ false
-      → ((u v : State) → Alike u v → SameComputed (value u) (value v)) → Alike s t → SameComputed (assign first name operator value s) (assign first name operator value t)
-  unfolding assign
+      → ((u v : State) → Alike u v → SameComputed (value u) (value v)) → Alike s t → SameComputed (operated_assignment first name operator value s) (operated_assignment first name operator value t)
+  unfolding operated_assignment
   assign_same first name operator value s t i k a =
       let last = λ (u : State). operated (read_where (not first) operator name u) in
       then_same (value (read_where first operator name s)) (value (read_where first operator name t)) (λ n u. then_computed (last u) (λ m v. stored name (computes m v)))
@@ -228,8 +228,8 @@ module _ (i j : Option Text) where
     value_pieces_same c p v s t h a = needed_same c v s t a
 
     assigned_by_same : (c : Context) (p : Parameter) (v u : Text) (fails : Bool) (s t : State) → is_about_separators p ≡ false → v ≡ u → Alike s t
-        → SameOutcome (assigned_by f status c p v fails s) (assigned_by f status c p u fails t)
-    unfolding assigned_by is_about_separators
+        → SameOutcome (default_assigned f status c p v fails s) (default_assigned f status c p u fails t)
+    unfolding default_assigned is_about_separators
     assigned_by_same c (Variable name) v u false s t h q a = record { pieces = ap (λ x. Bytes (value_origin c.plain) x ∷ []) q; state = alike_set s t name v u h q a }
     assigned_by_same c p v u fails s t h q a = record { pieces = refl; state = alike_ending s t a }
 
@@ -242,8 +242,8 @@ module _ (i j : Option Text) where
     used_same c p g action.Assign v true word text s t h j k a = needed_same c v s t a
     used_same c p g action.Assign v false word text s t h j k a =
         let o : SameOutcome (text s) (text t) = k s t a in
-        followed_same (gives [] (text s).state) (gives [] (text t).state) (assigned_by f status c p (pieces_text (text s).pieces) g.fails)
-        (assigned_by f status c p (pieces_text (text t).pieces) g.fails) (record { pieces = refl; state = o.state })
+        followed_same (gives [] (text s).state) (gives [] (text t).state) (default_assigned f status c p (pieces_text (text s).pieces) g.fails)
+        (default_assigned f status c p (pieces_text (text t).pieces) g.fails) (record { pieces = refl; state = o.state })
         (λ u w b. assigned_by_same c p _ _ g.fails u w h (ap pieces_text o.pieces) b)
     used_same c p g action.Fault v true word text s t h j k a = needed_same c v s t a
     used_same c p g action.Fault v false word text s t h j k a =
@@ -427,8 +427,8 @@ module _ (f : Frame) (status : ℕ) where
   value_firm c (Special special.Asterisk) v s = cond_both c.split _ _ Firm (λ b. refl) (λ b. refl)
   value_firm c p v s = needed_firm c v s
 
-  assigned_firm : (c : Context) (p : Parameter) (t : Text) (fails : Bool) (s : State) → Firm (assigned_by f status (in_quotes c) p t fails s).pieces
-  unfolding assigned_by value_origin is_firm
+  assigned_firm : (c : Context) (p : Parameter) (t : Text) (fails : Bool) (s : State) → Firm (default_assigned f status (in_quotes c) p t fails s).pieces
+  unfolding default_assigned value_origin is_firm
   assigned_firm c (Variable name) t false s = refl
   assigned_firm c p t fails s = refl
 

@@ -1,7 +1,7 @@
 -- The runs of small programs to their end, computed.
 use Rattle.std.proofs.Common.{refl}
-use Rattle.sh_table.specs.StepExamples as examples
-use Rattle.sh_table.specs.StepExamples.{JumpsAsExpected, RedirectsAsExpected, AssignmentsAsExpected, BuiltinsAsExpected, CallsAsExpected, StepsAsExpected}
+use Rattle.sh_table.specs.examples.Steps as examples
+use Rattle.sh_table.specs.examples.Steps.{JumpsAsExpected, RedirectsAsExpected, AssignmentsAsExpected, BuiltinsAsExpected, CallsAsExpected, StepsAsExpected}
 use Rattle.sh_table.proofs.ExampleLemmas.{computes}
 
 pub jumps_as_expected : JumpsAsExpected

@@ -15,7 +15,7 @@ use Rattle.sh_tree.specs.program.Words.{static_of, is_plainly, words_in}
 use Rattle.sh_table.specs.declared.kind.Kind.{Kind}
 use Rattle.sh_table.specs.declared.kind.Kind.TheVariants as kind
 use Rattle.sh_table.specs.Kinds.{kind_of}
-use Rattle.sh_table.specs.Locations.{Surroundings, Located, outside, items_located}
+use Rattle.sh_table.specs.Surroundings.{Surroundings, Located, outside, items_located}
 use Rattle.sh_table.specs.runs.Numbers.{number_in}
 use Rattle.sh_table.specs.runs.Operands.{is_dashed, ends_options, is_set_option, ends_in_o}
 use Rattle.sh_table.specs.runs.Steps.{operands_in}

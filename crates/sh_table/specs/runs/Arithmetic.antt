@@ -52,8 +52,8 @@ abbrev pub stored : Text → Computed → Computed
 stored name r = computes r.value (with_environment r.state (with_variable r.state.environment name (Some (integer_text r.value))))
 
 -- a value is assigned to the name, which is read before it is computed, or behind that
-unfoldable pub assign : Bool → Text → Option Binary → (State → Computed) → State → Computed
-assign first name operator value s =
+unfoldable pub operated_assignment : Bool → Text → Option Binary → (State → Computed) → State → Computed
+operated_assignment first name operator value s =
     then_computed (value (read_where first operator name s))
     (λ n t. then_computed (operated (read_where (not first) operator name t)) (λ m u. stored name (computes m u)))
 
@@ -66,7 +66,7 @@ unfoldable mutual
   evaluate (Signed operator e) s = then_computed (evaluate e s) (λ n t. operated t)
   evaluate (Chain e rest) s = then_computed (evaluate e s) (evaluate_rest rest)
   evaluate (Choice e then_one else_one) s = then_computed (evaluate e s) (λ n t. if is_zero n then evaluate else_one t else evaluate then_one t)
-  evaluate (Assigned at name operator e) s = assign (s.given 0).reads_first name operator (evaluate e) (taken s)
+  evaluate (Assigned at name operator e) s = operated_assignment (s.given 0).reads_first name operator (evaluate e) (taken s)
 
   -- the operands behind the first one, whose value is this
   pub evaluate_rest : Operands → ℤ → State → Computed

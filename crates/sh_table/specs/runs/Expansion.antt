@@ -149,16 +149,16 @@ module _ (f : Frame) (status : ℕ) where
   value_pieces c p v s = needed c v s
 
   -- `=`: a variable gets the text, and nothing else can
-  unfoldable pub assigned_by : Context → Parameter → Text → Bool → State → Outcome
-  assigned_by c (Variable name) t false s = gives (Bytes (value_origin c.plain) t ∷ []) (with_environment s (with_variable s.environment name (Some t)))
-  assigned_by c _ t _ s = gives [] (ending s)
+  unfoldable pub default_assigned : Context → Parameter → Text → Bool → State → Outcome
+  default_assigned c (Variable name) t false s = gives (Bytes (value_origin c.plain) t ∷ []) (with_environment s (with_variable s.environment name (Some t)))
+  default_assigned c _ t _ s = gives [] (ending s)
 
   -- `-`, `=`, `?` and `+`, with what the word behind them expands to: in the same context, and as one field
   unfoldable pub used : Context → Parameter → Given → Action → Option Text → Bool → (State → Outcome) → (State → Outcome) → State → Outcome
   used c p g action.Default v true word text s = needed c v s
   used c p g action.Default v false word text s = word s
   used c p g action.Assign v true word text s = needed c v s
-  used c p g action.Assign v false word text s = followed (gives [] (text s).state) (assigned_by c p (pieces_text (text s).pieces) g.fails)
+  used c p g action.Assign v false word text s = followed (gives [] (text s).state) (default_assigned c p (pieces_text (text s).pieces) g.fails)
   used c p g action.Fault v true word text s = needed c v s
   used c p g action.Fault v false word text s = gives [] (ending (text s).state)
   used c p g action.Alternative v true word text s = word s

@@ -19,7 +19,7 @@ use Rattle.sh_table.specs.runs.Answers.{Answer}
 use Rattle.sh_table.specs.runs.States.{State, fresh}
 use Rattle.sh_table.specs.runs.Expansion.{Context, in_fields, in_one, Outcome, pieces_text, expand}
 use Rattle.sh_table.specs.runs.Fields.{fields, splits}
-use Rattle.sh_table.specs.runs.Work.{Simple, Work, Items, Links, Pipeline, Negation, Command, Words, Prepare, Utility, Call, Return, Compound, If, Then, Test, Again, ForWords, Turns, Clauses, Patterns, Fall, Assignments, Saved, Start, Shares, Copies, Effect, Pushes, goes, ends, after_expansion}
+use Rattle.sh_table.specs.runs.Work.{Simple, Work, Items, Links, Pipeline, Negation, Command, Words, Prepare, Utility, Call, Return, Compound, If, Then, Test, Again, ForWords, ForFields, Clauses, Patterns, Fall, Assignments, Saved, Start, Shares, Copies, Effect, Pushes, goes, ends, after_expansion}
 use Rattle.sh_table.specs.runs.Builtins.{nonzero, special_or_end, utility, restored, returned}
 
 -- What stands in a simple command
@@ -89,18 +89,18 @@ status_behind s status a = substituted s.copies
 -- the redirections, unless all assignments come before those that are left
 pub data Preparation : Type 0 where
   ready : Preparation
-  redirects : p.Redirect → p.Redirects → Preparation
-  assigns : (name : Text) (value : p.Word) → Assignments → Preparation
+  next_redirect : p.Redirect → p.Redirects → Preparation
+  next_assignment : (name : Text) (value : p.Word) → Assignments → Preparation
 
 unfoldable pub in_order : p.Redirects → Preparation
 in_order p.no_redirects = ready
-in_order (p.more_redirects r rs) = redirects r rs
+in_order (p.more_redirects r rs) = next_redirect r rs
 
 unfoldable pub in_any_order : Bool → p.Redirects → Assignments → Preparation
 in_any_order first rs [] = in_order rs
-in_any_order first p.no_redirects (x ∷ xs) = assigns x.0 x.1 xs
-in_any_order true (p.more_redirects r rs) (x ∷ xs) = assigns x.0 x.1 xs
-in_any_order false (p.more_redirects r rs) (x ∷ xs) = redirects r rs
+in_any_order first p.no_redirects (x ∷ xs) = next_assignment x.0 x.1 xs
+in_any_order true (p.more_redirects r rs) (x ∷ xs) = next_assignment x.0 x.1 xs
+in_any_order false (p.more_redirects r rs) (x ∷ xs) = next_redirect r rs
 
 unfoldable pub next_preparation : Manner → Bool → p.Redirects → Assignments → Preparation
 next_preparation (Named t ts) first rs [] = in_order rs
@@ -120,11 +120,11 @@ picked zero w (p.more_words v vs) = (w, p.more_words v vs)
 picked (suc n) w (p.more_words v vs) = ((picked n v vs).0, p.more_words w (picked n v vs).1)
 
 -- `&&` goes on behind zero, `||` behind another status
-unfoldable pub goes_on : Link → ℕ → Bool
-goes_on link.AndThen status = status == 0
-goes_on link.OrElse status = not (status == 0)
+unfoldable pub takes_link : Link → ℕ → Bool
+takes_link link.AndThen status = status == 0
+takes_link link.OrElse status = not (status == 0)
 
--- `while` takes a turn behind zero, `until` behind another status
+-- `while` takes a for_fields behind zero, `until` behind another status
 unfoldable pub takes_turn : LoopKind → ℕ → Bool
 takes_turn loop.While status = status == 0
 takes_turn loop.Until status = not (status == 0)
@@ -173,7 +173,7 @@ module _ (e : Environment) (f : Frame) (status : ℕ) (ws : List Work) (a : Answ
 
   unfoldable pub links : p.Links → Effect
   links p.no_links = goes e f status ws
-  links (p.more_links l q rest) = goes e f status (if goes_on l status then Pipeline q ∷ Links rest ∷ ws else Links rest ∷ ws)
+  links (p.more_links l q rest) = goes e f status (if takes_link l status then Pipeline q ∷ Links rest ∷ ws else Links rest ∷ ws)
 
   -- Simple commands (XCU 2.9.1)
 
@@ -199,30 +199,30 @@ module _ (e : Environment) (f : Frame) (status : ℕ) (ws : List Work) (a : Answ
       else unless_ended s (if a.redirection_fails then failed s.environment else goes s.environment f (status_behind s status a) next)
 
   -- an assignment, unless it fails and ends the process
-  unfoldable pub assigned : Text → Outcome → List Work → Effect
-  assigned name o next =
+  unfoldable pub assignment : Text → Outcome → List Work → Effect
+  assignment name o next =
       if a.assignment_fails then ends o.state.environment f
       else goes (with_variable o.state.environment name (Some (pieces_text o.pieces))) f (status_behind o.state status a) next
 
   -- a function, or a utility
-  unfoldable pub called : Simple → Text → List Text → p.Redirects → Assignments → Option p.Command → Work
-  called k t ts rs xs None = Utility k t ts rs xs (map (λ x. x.0) xs) []
-  called k t ts rs xs (Some body) = Call k.number t ts body rs xs []
+  unfoldable pub invoked : Simple → Text → List Text → p.Redirects → Assignments → Option p.Command → Work
+  invoked k t ts rs xs None = Utility k t ts rs xs (map (λ x. x.0) xs) []
+  invoked k t ts rs xs (Some body) = Call k.number t ts body rs xs []
 
   -- the redirections and assignments are done, but for those that a function or a utility has left
   unfoldable pub prepared : Simple → Manner → p.Redirects → Assignments → Bool → Effect
   prepared k Nameless rs xs failed = goes e f (if failed then nonzero a.status else a.status) ws
   prepared k (Special name ts) rs xs failed = special_or_end e f status ws a (operands_in k.elements) name ts
-  prepared k (Named t ts) rs xs failed = goes e f status (called k t ts rs xs (e.functions t) ∷ ws)
+  prepared k (Named t ts) rs xs failed = goes e f status (invoked k t ts rs xs (e.functions t) ∷ ws)
 
   unfoldable pub prepare : Simple → List Text → p.Redirects → Assignments → Bool → Preparation → Effect
   prepare k ts rs xs failed ready = prepared k (manner ts) rs xs failed
-  prepare k ts rs xs failed (redirects r rest) =
+  prepare k ts rs xs failed (next_redirect r rest) =
       let s = (expanded in_one (opened r)).state in
       after_expansion s false (redirected (a.redirection_in_copy && may_copy (manner ts)) s (Prepare k ts rest xs failed ∷ ws) (λ d. failed_in (manner ts) d (Prepare k ts rest xs true ∷ ws)))
-  prepare k ts rs xs failed (assigns name value rest) =
+  prepare k ts rs xs failed (next_assignment name value rest) =
       let o = expanded in_one value in
-      after_expansion o.state false (unless_ended o.state (assigned name o (Prepare k ts rs rest failed ∷ ws)))
+      after_expansion o.state false (unless_ended o.state (assignment name o (Prepare k ts rs rest failed ∷ ws)))
 
   -- the value of a prefix assignment: it may be expanded in a copy, of which nothing stays
   abbrev pub kept : State → State
@@ -233,12 +233,12 @@ module _ (e : Environment) (f : Frame) (status : ℕ) (ws : List Work) (a : Answ
   seen values = if a.sees then values else []
 
   -- a utility's environment gets the values, and the shell's own does not; redirections behind the values do not see them
-  unfoldable pub passed : Simple → Text → List Text → p.Redirects → Assignments → List Text → List (Text × Text) → Effect
-  passed k t ts p.no_redirects [] prefixes values = utility prefixes e f ws a (kind_of t) ts
-  passed k t ts (p.more_redirects r rest) [] prefixes values =
+  unfoldable pub utility_step : Simple → Text → List Text → p.Redirects → Assignments → List Text → List (Text × Text) → Effect
+  utility_step k t ts p.no_redirects [] prefixes values = utility prefixes e f ws a (kind_of t) ts
+  utility_step k t ts (p.more_redirects r rest) [] prefixes values =
       let s = (expanded in_one (opened r)).state in
       after_expansion s false (redirected a.redirection_in_copy s (Utility k t ts rest [] prefixes values ∷ ws) (λ d. failed_in (Named t ts) d ws))
-  passed k t ts rs (x ∷ xs) prefixes values =
+  utility_step k t ts rs (x ∷ xs) prefixes values =
       let o = expand f status in_one x.1 (fresh (showing e (seen values)) a.given) in
       let s = kept (record o.state { environment = hiding e (seen values) o.state.environment }) in
       let left = Utility k t ts rs xs prefixes (values ++ (x.0, pieces_text o.pieces) ∷ []) in
@@ -251,17 +251,17 @@ module _ (e : Environment) (f : Frame) (status : ℕ) (ws : List Work) (a : Answ
       record s { environment = hiding e saved s.environment }
 
   -- a function: prefix assignments are done outside it, and its operands are its frame
-  unfoldable pub calls : ℕ → Text → List Text → p.Command → p.Redirects → Assignments → Saved → Effect
-  calls n t ts body p.no_redirects [] saved = record (goes e f status (Command body ∷ Return n t saved ∷ ws)) { frames = Pushes ts }
-  calls n t ts body (p.more_redirects r rest) [] saved =
+  unfoldable pub call : ℕ → Text → List Text → p.Command → p.Redirects → Assignments → Saved → Effect
+  call n t ts body p.no_redirects [] saved = record (goes e f status (Command body ∷ Return n t saved ∷ ws)) { frames = Pushes ts }
+  call n t ts body (p.more_redirects r rest) [] saved =
       let s = unseen saved r in
       after_expansion s false
       (redirected a.redirection_in_copy s (Call n t ts body rest [] saved ∷ ws) (λ d. failed_in (Named t ts) (restored a.restores 0 d saved) ws))
-  calls n t ts body rs (x ∷ xs) saved =
+  call n t ts body rs (x ∷ xs) saved =
       let o = expanded in_one x.1 in
       let kept_outcome = record o { state = kept o.state } in
       after_expansion o.state false
-      (unless_ended (kept o.state) (assigned x.0 kept_outcome (Call n t ts body rs xs ((x.0, (kept o.state).environment.variables x.0) ∷ saved) ∷ ws)))
+      (unless_ended (kept o.state) (assignment x.0 kept_outcome (Call n t ts body rs xs ((x.0, (kept o.state).environment.variables x.0) ∷ saved) ∷ ws)))
 
   -- Compound commands (XCU 2.9.4)
 
@@ -274,13 +274,13 @@ module _ (e : Environment) (f : Frame) (status : ℕ) (ws : List Work) (a : Answ
       after_expansion s false (unless_ended s (if a.redirection_fails then failed_before s.environment else goes s.environment f (status_behind s status a) next))
 
   -- `for` over these fields; without one its status is zero
-  unfoldable pub turns : ℕ → Text → List Text → p.Items → Effect
-  turns n name [] body = goes e f 0 ws
-  turns n name (t ∷ ts) body = goes e f status (Turns n name (t ∷ ts) body ∷ ws)
+  unfoldable pub over_fields : ℕ → Text → List Text → p.Items → Effect
+  over_fields n name [] body = goes e f 0 ws
+  over_fields n name (t ∷ ts) body = goes e f status (ForFields n name (t ∷ ts) body ∷ ws)
 
-  unfoldable pub loop_over : ℕ → Text → p.ForWords → p.Items → Effect
-  loop_over n name p.every_parameter body = turns n name f body
-  loop_over n name (p.listed left) body = goes e f status (ForWords n name left [] body ∷ ws)
+  unfoldable pub over_words : ℕ → Text → p.ForWords → p.Items → Effect
+  over_words n name p.every_parameter body = over_fields n name f body
+  over_words n name (p.listed left) body = goes e f status (ForWords n name left [] body ∷ ws)
 
   unfoldable pub begun : ℕ → p.Kind → Effect
   begun n (p.Simple es) = goes e f status (simple_work (record { number = n; elements = es }) ∷ ws)
@@ -288,7 +288,7 @@ module _ (e : Environment) (f : Frame) (status : ℕ) (ws : List Work) (a : Answ
   begun n (p.Subshell list) = record (goes e f a.status ws) { starts = Copies (copied (a.carries 0) e) (Items list ∷ []) ∷ [] }
   begun n (p.Conditional branches otherwise) = goes e f status (If n branches otherwise ∷ ws)
   begun n (p.Loop kind condition body) = goes e f status (Items condition ∷ Test n kind condition body 0 ∷ ws)
-  begun n (p.For name left body) = loop_over n name left body
+  begun n (p.For name left body) = over_words n name left body
   begun n (p.Case w clauses) =
       let s = (expanded in_one w).state in
       after_expansion s false (unless_ended s (goes s.environment f (status_behind s status a) (Clauses n clauses ∷ ws)))
@@ -319,16 +319,16 @@ module _ (e : Environment) (f : Frame) (status : ℕ) (ws : List Work) (a : Answ
   test n kind condition body last = if takes_turn kind status then goes e f status (Items body ∷ Again n kind condition body ∷ ws) else goes e f last ws
 
   unfoldable pub for_words : ℕ → Text → p.Words → List Text → p.Items → Effect
-  for_words n name p.no_words ts body = turns n name ts body
+  for_words n name p.no_words ts body = over_fields n name ts body
   for_words n name (p.more_words w left) ts body =
       let o = expanded in_fields w in
       after_expansion o.state (word_splits in_fields o)
       (unless_ended o.state (goes o.state.environment f (status_behind o.state status a) (ForWords n name left (ts ++ word_fields in_fields a o) body ∷ ws)))
 
-  -- the next field is assigned, unless that fails
-  unfoldable pub turn : ℕ → Text → List Text → p.Items → Effect
-  turn n name [] body = goes e f status ws
-  turn n name (t ∷ ts) body = if a.assignment_fails then ends e f else goes (with_variable e name (Some t)) f status (Items body ∷ Turns n name ts body ∷ ws)
+  -- the next field is assignment, unless that fails
+  unfoldable pub for_fields : ℕ → Text → List Text → p.Items → Effect
+  for_fields n name [] body = goes e f status ws
+  for_fields n name (t ∷ ts) body = if a.assignment_fails then ends e f else goes (with_variable e name (Some t)) f status (Items body ∷ ForFields n name ts body ∷ ws)
 
   -- the list of a clause, and behind `;&` that of the next one; a list that is empty has any status
   unfoldable pub fall : ℕ → ClauseEnd → p.Clauses → List Work
@@ -369,8 +369,8 @@ module _ (e : Environment) (f : Frame) (status : ℕ) (ws : List Work) (a : Answ
   act_on (Command c) = goes e f status (command_work c ∷ ws)
   act_on (Words k left ts rs xs) = words k left ts rs xs
   act_on (Prepare k ts rs xs failed) = prepare k ts rs xs failed (next_preparation (manner ts) a.assignment_first rs xs)
-  act_on (Utility k t ts rs xs prefixes values) = passed k t ts rs xs prefixes values
-  act_on (Call n t ts body rs xs saved) = calls n t ts body rs xs saved
+  act_on (Utility k t ts rs xs prefixes values) = utility_step k t ts rs xs prefixes values
+  act_on (Call n t ts body rs xs saved) = call n t ts body rs xs saved
   act_on (Return n t saved) = returned e f status ws a (Some (saved, ws))
   act_on (Compound n rs kind) = compound n rs kind
   act_on (If n branches otherwise) = branch n branches otherwise
@@ -378,7 +378,7 @@ module _ (e : Environment) (f : Frame) (status : ℕ) (ws : List Work) (a : Answ
   act_on (Test n kind condition body last) = test n kind condition body last
   act_on (Again n kind condition body) = goes e f status (Items condition ∷ Test n kind condition body status ∷ ws)
   act_on (ForWords n name left ts body) = for_words n name left ts body
-  act_on (Turns n name ts body) = turn n name ts body
+  act_on (ForFields n name ts body) = for_fields n name ts body
   act_on (Clauses n cs) = clauses n cs
   act_on (Patterns n left body end rest) = patterns n left body end rest
   act_on (Fall n cs) = falls n cs

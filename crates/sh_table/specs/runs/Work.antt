@@ -53,7 +53,7 @@ pub data Work : Type 0 where
   -- the words of `for` that are left, and the fields so far
   ForWords : (number : ℕ) (name : Text) (left : p.Words) (fields : List Text) (body : p.Items) → Work
   -- the mark of `for`, with the fields that are left
-  Turns : (number : ℕ) (name : Text) (fields : List Text) (body : p.Items) → Work
+  ForFields : (number : ℕ) (name : Text) (fields : List Text) (body : p.Items) → Work
   -- the clauses of `case` that are left
   Clauses : (number : ℕ) (clauses : p.Clauses) → Work
   -- the patterns of a clause that are left, its list and its end, and the clauses behind it
@@ -123,7 +123,7 @@ loop_mark n [] = no_loop
 loop_mark n (Return number function saved ∷ ws) = no_loop
 loop_mark n (Test number kind condition body last ∷ ws) = nth_mark n (loop_mark (n - 1) ws) (Again number kind condition body) ws
 loop_mark n (Again number kind condition body ∷ ws) = nth_mark n (loop_mark (n - 1) ws) (Again number kind condition body) ws
-loop_mark n (Turns number name fields body ∷ ws) = nth_mark n (loop_mark (n - 1) ws) (Turns number name fields body) ws
+loop_mark n (ForFields number name fields body ∷ ws) = nth_mark n (loop_mark (n - 1) ws) (ForFields number name fields body) ws
 loop_mark n (w ∷ ws) = loop_mark n ws
 
 -- `break` goes on behind the loop, `continue` with its next turn; outside loops both change nothing

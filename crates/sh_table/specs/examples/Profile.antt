@@ -20,10 +20,10 @@ use Rattle.sh_tree.specs.program.Examples.{only, simple, lone}
 use Rattle.sh_tree.specs.program.Syntax as p
 use Rattle.sh_tree.specs.program.Syntax.{Text}
 use Rattle.sh_table.specs.declared.kind.Kind.TheVariants as kind
-use Rattle.sh_table.specs.Examples.{elements_of, compound, list, both, quoted_x}
+use Rattle.sh_table.specs.examples.Runs.{elements_of, compound, list, both, quoted_x}
 use Rattle.sh_table.specs.Kinds.{kind_of}
 use Rattle.sh_table.specs.Profile.{Refused, first_refused}
-use Rattle.sh_table.specs.StepExamples.{piece}
+use Rattle.sh_table.specs.examples.Steps.{piece}
 
 -- Commands as lines: words with one blank between two, each `"$x"`, a text in single quotes, or plain bytes
 

@@ -15,7 +15,7 @@ use Rattle.sh_table.specs.runs.Answers.{Given, Directory}
 use Rattle.sh_table.specs.runs.States.{State, fresh}
 use Rattle.sh_table.specs.runs.Expansion.{Outcome, in_fields, expand}
 use Rattle.sh_table.specs.Theorem.{fields_of}
-use Rattle.sh_table.specs.Examples.{bare_x, quoted_x, every, bare_start, start_with, quiet_given}
+use Rattle.sh_table.specs.examples.Runs.{bare_x, quoted_x, every, bare_start, start_with, quiet_given}
 
 -- Words
 

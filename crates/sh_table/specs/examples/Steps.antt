@@ -16,7 +16,7 @@ use Rattle.sh_table.specs.runs.Environment.{Environment, Frame, with_variable}
 use Rattle.sh_table.specs.runs.Answers.{Answer}
 use Rattle.sh_table.specs.runs.Work.{Work, Words, Again, Return}
 use Rattle.sh_table.specs.runs.Worlds.{World, Move, step, has_unset_event, has_split_event, start_world}
-use Rattle.sh_table.specs.Examples.{elements_of, words_of, utility, assign, says, says_one, compound, list, both, bare_start, start_with, quiet, with_status, by, a_and_b, put_back}
+use Rattle.sh_table.specs.examples.Runs.{elements_of, words_of, utility, assign, says, says_one, compound, list, both, bare_start, start_with, quiet, with_status, by, a_and_b, put_back}
 
 -- Words and commands
 
