@@ -6,6 +6,7 @@ use Rattle.std.proofs.lemmas.List.Folds.{list_any-append, list_all-append}
 use Rattle.std.proofs.lemmas.Option.{same_Some, none-some}
 use Rattle.std.proofs.lemmas.Slice.Eq.{bytes_eq-Decides}
 use Rattle.sh_tree.specs.Words.{joined, is_wildcard}
+use Rattle.sh_tree.specs.declared.tree.SingleStyle.TheVariants as single
 use Rattle.sh_tree.specs.program.Syntax as p
 use Rattle.sh_tree.specs.program.Words as words
 use Rattle.sh_table.specs.Counts.{gives_field, some_gives_field}
@@ -190,7 +191,7 @@ module _ (f : Frame) (status : ℕ) where
         → Spells false t no_class (expand_part f status (in_quotes c) x s)
     quoted_part c (p.Plain u) t s h l = begin_where (λ i. refl) (quoted_spells (Some u) t s h l)
     quoted_part c (p.Escaped u) t s h l = begin_where (λ i. refl) (quoted_spells (Some u) t s h l)
-    quoted_part c (p.Single style u) t s h l = begin_where (λ i. refl) (quoted_spells (words.quoted_text style u) t s h l)
+    quoted_part c (p.Single single.Plain u) t s h l = begin_where (λ i. refl) (quoted_spells (Some u) t s h l)
     quoted_part c (p.Double w) t s h l = begin_where (λ i. absurd (true≢false (sym i)))
         (both_spell (gives (quote_pieces (c.split && has_every w)) s) (expand f status (in_quotes c) w) (quotes_spell (c.split && has_every w) s l)
         (λ s l. quoted_word c w t s h l))
@@ -213,7 +214,7 @@ module _ (f : Frame) (status : ℕ) where
   static_part (p.Plain u) t s h l =
       subst (λ t. Spells (not (length u == 0)) t (λ class. list_any class u) (gives (Bytes Literal u ∷ []) s)) (same_Some u t h) (plain_spells u s l)
   static_part (p.Escaped u) t s h l = quoted_spells (Some u) t s h l
-  static_part (p.Single style u) t s h l = quoted_spells (words.quoted_text style u) t s h l
+  static_part (p.Single single.Plain u) t s h l = quoted_spells (Some u) t s h l
   static_part (p.Double w) t s h l = begin_where (λ i. rw (static_every w t h) refl)
       (both_spell (gives (quote_pieces (has_every w)) s) (expand f status (in_quotes in_fields) w) (quotes_spell (has_every w) s l) (λ s l. quoted_word in_fields w t s h l))
   static_part p.Joined t s h l = nothing_spells t s h l

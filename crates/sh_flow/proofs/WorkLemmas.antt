@@ -1,18 +1,18 @@
 -- What each step of a straight script keeps, whatever is asked of its words.
-use Rattle.std.proofs.Common.{◌≡◌, ℕ, Bool, true, false, Option, Some, None, is_some, if◌then◌else◌, List, [], ◌∷◌, ◌++◌, map, bytes_eq, ◌⊎◌, inl, inr, refl, sym, subst}
+use Rattle.std.proofs.Common.{◌≡◌, ℕ, Bool, true, false, Option, Some, None, is_some, if◌then◌else◌, List, [], ◌∷◌, ◌++◌, map, bytes_eq, ◌⊎◌, inl, inr, refl, sym, ap, ◌∙◌, subst}
 use Rattle.std.proofs.lemmas.Slice.Eq.{bytes_eq-Decides}
 use Rattle.sh_tree.specs.program.Syntax as p
 use Rattle.sh_tree.specs.program.Syntax.{Text}
 use Rattle.sh_tree.proofs.ProgramForms.{lone_program}
 use Rattle.sh_table.specs.declared.kind.Kind.TheVariants as kind
-use Rattle.sh_table.specs.Kinds.{kind_of, is_special, is_declaration}
+use Rattle.sh_table.specs.Kinds.{kind_of, is_declaration}
 use Rattle.sh_table.specs.runs.Environment.{Environment, Frame, put_text, with_variable, showing, hiding}
 use Rattle.sh_table.specs.runs.Answers.{Given, Answer}
 use Rattle.sh_table.specs.runs.States.{State, fresh}
 use Rattle.sh_table.specs.runs.Expansion.{Outcome, in_fields, in_one, pieces_text, expand}
-use Rattle.sh_table.specs.runs.Work.{Work, Items, Links, Pipeline, Negation, Command, Words, Prepare, Utility, Call, Return, Compound, If, Then, Test, Again, ForWords, Turns, Clauses, Patterns, Fall, Assignments, Effect, goes, ends, after_expansion}
+use Rattle.sh_table.specs.runs.Work.{Simple, Work, Items, Links, Pipeline, Negation, Command, Words, Prepare, Utility, Call, Return, Compound, If, Then, Test, Again, ForWords, ForFields, Clauses, Patterns, Fall, Assignments, Effect, goes, ends, after_expansion}
 use Rattle.sh_table.specs.runs.Builtins.{utility}
-use Rattle.sh_table.specs.runs.Steps.{operands_in, redirects_in, assignments_in, manner, is_declared, word_fields, word_splits, status_behind, in_order, in_any_order, next_preparation, command_work, unless_ended, negated_work, piped, items, links, words, assigned, called, prepared, prepare, kept, seen, passed, act_on, act}
+use Rattle.sh_table.specs.runs.Steps.{Named, ready, operands_in, redirects_in, assignments_in, manner, is_declared, word_fields, word_splits, status_behind, in_order, in_any_order, next_preparation, simple_work, command_work, unless_ended, negated_work, piped, items, links, words, assignment, invoked, prepared, prepare, kept, seen, utility_step, act_on, act}
 use Rattle.sh_table.proofs.EnvironmentLemmas.{AreSet}
 use Rattle.sh_flow.proofs.Worlds.{NextOk, EffectOk}
 
@@ -158,9 +158,9 @@ module _ (event : Bool → Bool → Bool) (none : event false false ≡ false) w
     FrontGoes f (Links (p.more_links l q rest)) ws K status e = ⊥
     FrontGoes f (Pipeline q) ws K status e = PipelineGoes K q e
     FrontGoes f (Command c) ws K status e = CommandGoes K c e
-    FrontGoes f (Words left ts rs xs) ws K status e = (rs ≡ p.no_redirects) × LeftGoes K left ts xs e
-    FrontGoes f (Prepare ts rs xs failed) ws K status e = (rs ≡ p.no_redirects) × ReadyGoes K ts xs e
-    FrontGoes f (Utility t ts xs prefixes values) ws K status e = ReadyGoes K (t ∷ []) xs e
+    FrontGoes f (Words simple left ts rs xs) ws K status e = (rs ≡ p.no_redirects) × LeftGoes K left ts xs e
+    FrontGoes f (Prepare simple ts rs xs failed) ws K status e = (rs ≡ p.no_redirects) × ReadyGoes K ts xs e
+    FrontGoes f (Utility simple t ts rs xs prefixes values) ws K status e = (rs ≡ p.no_redirects) × ReadyGoes K (t ∷ []) xs e
     FrontGoes f _ ws K status e = ⊥
 
     -- the work of a process with this status and environment
@@ -202,51 +202,47 @@ module _ (event : Bool → Bool → Bool) (none : event false false ≡ false) w
     unless_ok e f status ws a s x h ok = rw h ok
 
     -- a word
-    word_ok : (e : Environment) (f : Frame) (status : ℕ) (ws : List Work) (a : Answer) (w : p.Word) (left : p.Words) (ts : List Text) (xs : Assignments) → NoFunctions e → WordGoes e w
+    word_ok : (e : Environment) (f : Frame) (status : ℕ) (ws : List Work) (a : Answer) (simple : Simple) (w : p.Word) (left : p.Words) (ts : List Text) (xs : Assignments) → NoFunctions e → WordGoes e w
         → LeftGoes (λ s d. Goes f ws s d) left (ts ++ word_fields in_fields a (expand f status in_fields w (fresh e a.given))) xs e
         → let o = expand f status in_fields w (fresh e a.given) in
         StepOk f
         (after_expansion o.state (word_splits in_fields o)
         (unless_ended e f status ws a o.state
-        (goes o.state.environment f (status_behind o.state status a) (Words left (ts ++ word_fields in_fields a o) p.no_redirects xs ∷ ws))))
+        (goes o.state.environment f (status_behind o.state status a) (Words simple left (ts ++ word_fields in_fields a o) p.no_redirects xs ∷ ws))))
     unfolding Goes FrontGoes
-    word_ok e f status ws a w left ts xs free h k =
+    word_ok e f status ws a simple w left ts xs free h k =
         let o : Outcome = expand f status in_fields w (fresh e a.given) in
         let fs : List Text = ts ++ word_fields in_fields a o in
         let stays : Stays e o.state = h.stays f status a.given in
         expanded_ok f o.state (word_splits in_fields o) _ stays.copies (h.quiet f status a.given)
         (unless_ok e f status ws a o.state _ stays.ended
-        (goes_ok o.state.environment f (status_behind o.state status a) (Words left fs p.no_redirects xs ∷ ws)
-        (subst (λ d. Lives f d (status_behind o.state status a) (Words left fs p.no_redirects xs ∷ ws)) (sym stays.environment) (free, (refl, k)))))
+        (goes_ok o.state.environment f (status_behind o.state status a) (Words simple left fs p.no_redirects xs ∷ ws)
+        (subst (λ d. Lives f d (status_behind o.state status a) (Words simple left fs p.no_redirects xs ∷ ws)) (sym stays.environment) (free, (refl, k)))))
 
     is_no_declaration : (t : Text) → kind_of t ≡ kind.Utility → is_declaration (kind_of t) ≡ false
     unfolding is_declaration
     is_no_declaration t h = rw h refl
 
-    is_not_special : (t : Text) → kind_of t ≡ kind.Utility → is_special (kind_of t) ≡ false
-    unfolding is_special
-    is_not_special t h = rw h refl
-
-    words_ok : (e : Environment) (f : Frame) (status : ℕ) (ws : List Work) (a : Answer) (left : p.Words) (ts : List Text) (xs : Assignments) → NoFunctions e
-        → LeftGoes (λ s d. Goes f ws s d) left ts xs e → StepOk f (words e f status ws a left ts p.no_redirects xs)
+    words_ok : (e : Environment) (f : Frame) (status : ℕ) (ws : List Work) (a : Answer) (simple : Simple) (left : p.Words) (ts : List Text) (xs : Assignments) → NoFunctions e
+        → LeftGoes (λ s d. Goes f ws s d) left ts xs e → StepOk f (words e f status ws a simple left ts p.no_redirects xs)
     unfolding words LeftGoes Goes FrontGoes is_declared ReadyGoes
-    words_ok e f status ws a p.no_words ts xs free h = goes_ok e f status (Prepare ts p.no_redirects xs false ∷ ws) (free, (refl, h))
-    words_ok e f status ws a (p.more_words w left) [] xs free h =
-        word_ok e f status ws a w left [] xs free h.2
+    words_ok e f status ws a simple p.no_words ts xs free h = goes_ok e f status (Prepare simple ts p.no_redirects xs false ∷ ws) (free, (refl, h))
+    words_ok e f status ws a simple (p.more_words w left) [] xs free h =
+        word_ok e f status ws a simple w left [] xs free h.2
         (subst (λ fs. LeftGoes (λ s d. Goes f ws s d) left fs xs e) (sym (h.1.field f status a)) (left_named (λ s d. Goes f ws s d) left h.0 [] xs e h.3 h.4))
-    words_ok e f status ws a (p.more_words w left) (t ∷ ts) xs free h =
+    words_ok e f status ws a simple (p.more_words w left) (t ∷ ts) xs free h =
         rw (is_no_declaration t h.2.0)
-        (word_ok e f status ws a w left (t ∷ ts) xs free h.0
+        (word_ok e f status ws a simple w left (t ∷ ts) xs free h.0
         (left_named (λ s d. Goes f ws s d) left t (ts ++ word_fields in_fields a (expand f status in_fields w (fresh e a.given))) xs e h.1 h.2))
 
     -- an assignment without a name
-    assigned_ok : (e : Environment) (f : Frame) (status : ℕ) (ws : List Work) (a : Answer) (name : Text) (w : p.Word) (xs : Assignments) (failed : Bool) → NoFunctions e
+    assigned_ok : (e : Environment) (f : Frame) (status : ℕ) (ws : List Work) (a : Answer) (simple : Simple) (name : Text) (w : p.Word) (xs : Assignments) (failed : Bool) → NoFunctions e
         → ((e' : Environment) → Grows e e' → ValueGoes e' w) → ValuesGo xs e → ((s : ℕ) (e' : Environment) → Grows e e' → AreSet ((name, w) ∷ xs) e' → Goes f ws s e')
         → let o = expand f status in_one w (fresh e a.given) in
-        StepOk f (after_expansion o.state false (unless_ended e f status ws a o.state (assigned e f status ws a name o (Prepare [] p.no_redirects xs failed ∷ ws))))
-    unfolding assigned Goes FrontGoes ReadyGoes AreSet
-    assigned_ok e f status ws a name w xs failed free h g k =
-        expanded_ok f o.state false _ stays.copies (value.quiet f status a.given) (unless_ok e f status ws a o.state _ stays.ended (go a.ends))
+        StepOk f (after_expansion o.state false (unless_ended e f status ws a o.state (assignment e f status ws a name o (Prepare simple [] p.no_redirects xs failed ∷ ws))))
+    unfolding assignment Goes FrontGoes ReadyGoes AreSet
+    assigned_ok e f status ws a simple name w xs failed free h g k =
+        expanded_ok f o.state false _ stays.copies (value.quiet f status a.given) (unless_ok e f status ws a o.state _ stays.ended (go a.assignment_fails))
       where
         value : ValueGoes e w
         value = h e (grows_refl e)
@@ -264,7 +260,7 @@ module _ (event : Bool → Bool → Bool) (none : event false false ≡ false) w
         grows = assigned_grows e name v
 
         behind : List Work
-        behind = Prepare [] p.no_redirects xs failed ∷ ws
+        behind = Prepare simple [] p.no_redirects xs failed ∷ ws
 
         lives : Lives f (with_variable e name (Some v)) (status_behind o.state status a) behind
         lives = (
@@ -285,22 +281,38 @@ module _ (event : Bool → Bool → Bool) (none : event false false ≡ false) w
             goes_ok (with_variable o.state.environment name (Some v)) f (status_behind o.state status a) behind
             (subst (λ d. Lives f (with_variable d name (Some v)) (status_behind o.state status a) behind) (sym stays.environment) lives)
 
-    prepare_ok : (e : Environment) (f : Frame) (status : ℕ) (ws : List Work) (a : Answer) (ts : List Text) (xs : Assignments) (failed : Bool) → NoFunctions e
-        → ReadyGoes (λ s d. Goes f ws s d) ts xs e → StepOk f (prepare e f status ws a ts p.no_redirects xs failed (next_preparation (manner ts) a.assigns_first p.no_redirects xs))
-    unfolding prepare prepared manner next_preparation in_any_order in_order called Goes FrontGoes ReadyGoes ValuesGo AreSet
-    prepare_ok e f status ws a [] [] failed free h = goes_ok e f _ ws (free, h.1 _ e (grows_refl e) tt)
-    prepare_ok e f status ws a [] (x ∷ xs) failed free h = assigned_ok e f status ws a x.0 x.1 xs failed free h.0.0 h.0.1 h.1
-    prepare_ok e f status ws a (t ∷ ts) xs failed free h =
-        rw (is_not_special t h.0, is_not_special t h.0)
-        (subst (λ o. StepOk f (goes e f status (called e f status ws a t ts xs o ∷ ws))) (sym (free t)) (goes_ok e f status (Utility t ts xs (map (λ x. x.0) xs) [] ∷ ws) (free, h)))
+    manner_named : (t : Text) (ts : List Text) → kind_of t ≡ kind.Utility → manner (t ∷ ts) ≡ Named t ts
+    unfolding named_manner manner
+    manner_named t ts h = rw h refl
+
+    next_named : (t : Text) (ts : List Text) (first : Bool) (xs : Assignments) → next_preparation (Named t ts) first p.no_redirects xs ≡ ready
+    unfolding next_preparation in_order
+    next_named t ts first [] = refl
+    next_named t ts true (x ∷ xs) = refl
+    next_named t ts false (x ∷ xs) = refl
+
+    prepare_ok : (e : Environment) (f : Frame) (status : ℕ) (ws : List Work) (a : Answer) (simple : Simple) (ts : List Text) (xs : Assignments) (failed : Bool) → NoFunctions e
+        → ReadyGoes (λ s d. Goes f ws s d) ts xs e
+        → StepOk f (prepare e f status ws a simple ts p.no_redirects xs failed (next_preparation (manner ts) a.assignment_first p.no_redirects xs))
+    unfolding prepare prepared manner next_preparation in_any_order in_order invoked Goes FrontGoes ReadyGoes ValuesGo AreSet
+    prepare_ok e f status ws a simple [] [] failed free h = goes_ok e f _ ws (free, h.1 _ e (grows_refl e) tt)
+    prepare_ok e f status ws a simple [] (x ∷ xs) failed free h = assigned_ok e f status ws a simple x.0 x.1 xs failed free h.0.0 h.0.1 h.1
+    prepare_ok e f status ws a simple (t ∷ ts) xs failed free h =
+        let named : manner (t ∷ ts) ≡ Named t ts = manner_named t ts h.0 in
+        let next : next_preparation (manner (t ∷ ts)) a.assignment_first p.no_redirects xs ≡ ready =
+        ap (λ m. next_preparation m a.assignment_first p.no_redirects xs) named ∙ next_named t ts a.assignment_first xs in
+        subst (λ q. StepOk f (prepare e f status ws a simple (t ∷ ts) p.no_redirects xs failed q)) (sym next)
+        (subst (λ m. StepOk f (prepared e f status ws a simple m p.no_redirects xs failed)) (sym named)
+        (subst (λ o. StepOk f (goes e f status (invoked e f status ws a simple t ts p.no_redirects xs o ∷ ws))) (sym (free t))
+        (goes_ok e f status (Utility simple t ts p.no_redirects xs (map (λ x. x.0) xs) [] ∷ ws) (free, (refl, h)))))
 
     -- a utility: its prefix assignments unset nothing
-    utility_ok : (e : Environment) (f : Frame) (status : ℕ) (ws : List Work) (a : Answer) (t : Text) (ts : List Text) (xs : Assignments) (prefixes : List Text)
-        (values : List (Text × Text)) → NoFunctions e → ReadyGoes (λ s d. Goes f ws s d) (t ∷ []) xs e → StepOk f (passed e f status ws a t ts xs prefixes values)
-    unfolding passed utility Goes FrontGoes ReadyGoes ValuesGo
-    utility_ok e f status ws a t ts [] prefixes values free h = rw (h.0) (goes_ok e f a.status ws (free, h.2 a.status e (grows_refl e)))
-    utility_ok e f status ws a t ts (x ∷ xs) prefixes values free h =
-        expanded_ok f s false _ stays.copies (value.quiet f status a.given) (unless_ok e f status ws a s _ stays.ended (go a.ends))
+    utility_ok : (e : Environment) (f : Frame) (status : ℕ) (ws : List Work) (a : Answer) (simple : Simple) (t : Text) (ts : List Text) (xs : Assignments) (prefixes : List Text)
+        (values : List (Text × Text)) → NoFunctions e → ReadyGoes (λ s d. Goes f ws s d) (t ∷ []) xs e → StepOk f (utility_step e f status ws a simple t ts p.no_redirects xs prefixes values)
+    unfolding utility_step utility Goes FrontGoes ReadyGoes ValuesGo
+    utility_ok e f status ws a simple t ts [] prefixes values free h = rw (h.0) (goes_ok e f a.status ws (free, h.2 a.status e (grows_refl e)))
+    utility_ok e f status ws a simple t ts (x ∷ xs) prefixes values free h =
+        expanded_ok f s false _ stays.copies (value.quiet f status a.given) (unless_ok e f status ws a s _ stays.ended (go a.assignment_fails))
       where
         shown : List (Text × Text)
         shown = seen e f status ws a values
@@ -329,19 +341,19 @@ module _ (event : Bool → Bool → Bool) (none : event false false ≡ false) w
         none_defined false = hiding_free e o.state.environment shown (subst NoFunctions (sym stays.environment) (showing_free e shown free))
 
         left : Work
-        left = Utility t ts xs prefixes (values ++ (x.0, pieces_text o.pieces) ∷ [])
+        left = Utility simple t ts p.no_redirects xs prefixes (values ++ (x.0, pieces_text o.pieces) ∷ [])
 
         go : (b : Bool) → StepOk f (if b then ends s.environment f else goes s.environment f (status_behind s status a) (left ∷ ws))
         go true = ends_ok s.environment f
         go false =
-            let more : Grows e s.environment = grows a.copies in
+            let more : Grows e s.environment = grows a.value_in_copy in
             goes_ok s.environment f (status_behind s status a) (left ∷ ws)
-            (none_defined a.copies, (h.0, values_grow xs e s.environment more h.1.1, λ u d m. h.2 u d (grows_trans e s.environment d more m)))
+            (none_defined a.value_in_copy, (refl, (h.0, values_grow xs e s.environment more h.1.1, λ u d m. h.2 u d (grows_trans e s.environment d more m))))
 
     command_ok : (e : Environment) (f : Frame) (status : ℕ) (ws : List Work) (c : p.Command) → NoFunctions e → CommandGoes (λ s d. Goes f ws s d) c e
         → StepOk f (goes e f status (command_work c ∷ ws))
     unfolding command_work CommandGoes Goes FrontGoes
-    command_ok e f status ws (p.command number at (p.Simple es) rs) free h = goes_ok e f status (Words (operands_in es) [] (redirects_in es) (assignments_in es) ∷ ws) (free, h)
+    command_ok e f status ws (p.command number at (p.Simple es) rs) free h = goes_ok e f status (simple_work (record { number = number; elements = es }) ∷ ws) (free, h)
     command_ok e f status ws (p.command number at (p.Group list) rs) free h = absurd h
     command_ok e f status ws (p.command number at (p.Subshell list) rs) free h = absurd h
     command_ok e f status ws (p.command number at (p.Conditional bs otherwise) rs) free h = absurd h
@@ -376,22 +388,22 @@ module _ (event : Bool → Bool → Bool) (none : event false false ≡ false) w
       front_ok e f status ws a (Links (p.more_links l q rest)) free h = absurd h
       front_ok e f status ws a (Pipeline q) free h = pipeline_ok e f status ws a q free h
       front_ok e f status ws a (Command c) free h = command_ok e f status ws c free h
-      front_ok e f status ws a (Words left ts rs xs) free h = rw (h.0) (words_ok e f status ws a left ts xs free h.1)
-      front_ok e f status ws a (Prepare ts rs xs failed) free h = rw (h.0) (prepare_ok e f status ws a ts xs failed free h.1)
-      front_ok e f status ws a (Utility t ts xs prefixes values) free h = utility_ok e f status ws a t ts xs prefixes values free h
+      front_ok e f status ws a (Words simple left ts rs xs) free h = rw (h.0) (words_ok e f status ws a simple left ts xs free h.1)
+      front_ok e f status ws a (Prepare simple ts rs xs failed) free h = rw (h.0) (prepare_ok e f status ws a simple ts xs failed free h.1)
+      front_ok e f status ws a (Utility simple t ts rs xs prefixes values) free h = rw (h.0) (utility_ok e f status ws a simple t ts xs prefixes values free h.1)
       front_ok e f status ws a Negation free h = absurd h
-      front_ok e f status ws a (Call ts body xs saved) free h = absurd h
-      front_ok e f status ws a (Return saved) free h = absurd h
-      front_ok e f status ws a (Compound rs kind) free h = absurd h
-      front_ok e f status ws a (If bs otherwise) free h = absurd h
-      front_ok e f status ws a (Then body bs otherwise) free h = absurd h
-      front_ok e f status ws a (Test kind condition body last) free h = absurd h
-      front_ok e f status ws a (Again kind condition body) free h = absurd h
-      front_ok e f status ws a (ForWords name left ts body) free h = absurd h
-      front_ok e f status ws a (Turns name ts body) free h = absurd h
-      front_ok e f status ws a (Clauses cs) free h = absurd h
-      front_ok e f status ws a (Patterns left body end rest) free h = absurd h
-      front_ok e f status ws a (Fall cs) free h = absurd h
+      front_ok e f status ws a (Call n t ts body rs xs saved) free h = absurd h
+      front_ok e f status ws a (Return n t saved) free h = absurd h
+      front_ok e f status ws a (Compound n rs kind) free h = absurd h
+      front_ok e f status ws a (If n bs otherwise) free h = absurd h
+      front_ok e f status ws a (Then n body bs otherwise) free h = absurd h
+      front_ok e f status ws a (Test n kind condition body last) free h = absurd h
+      front_ok e f status ws a (Again n kind condition body) free h = absurd h
+      front_ok e f status ws a (ForWords n name left ts body) free h = absurd h
+      front_ok e f status ws a (ForFields n name ts body) free h = absurd h
+      front_ok e f status ws a (Clauses n cs) free h = absurd h
+      front_ok e f status ws a (Patterns n left body end rest) free h = absurd h
+      front_ok e f status ws a (Fall n cs) free h = absurd h
 
       pub act_ok : (e : Environment) (f : Frame) (status : ℕ) (ws : List Work) (a : Answer) → Lives f e status ws → StepOk f (act e f status ws a)
       unfolding act Goes

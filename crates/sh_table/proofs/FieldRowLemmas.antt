@@ -1,6 +1,6 @@
 -- What small words expand to, computed.
 use Rattle.std.proofs.Common.{refl}
-use Rattle.sh_table.specs.FieldExamples.{SplittingAsExpected, ParametersAsExpected, UsesAsExpected, ComputedAsExpected, NamesAsExpected, NumbersAsExpected, FieldsAsExpected}
+use Rattle.sh_table.specs.examples.Fields.{SplittingAsExpected, ParametersAsExpected, UsesAsExpected, ComputedAsExpected, NamesAsExpected, NumbersAsExpected, FieldsAsExpected}
 use Rattle.sh_table.proofs.ExampleLemmas.{computes}
 
 pub splitting_as_expected : SplittingAsExpected
@@ -118,6 +118,8 @@ computed_as_expected = record {
   assigned_text = refl;
   assigned_unmet = refl;
   added_met = refl;
+  added_to_assigned = refl;
+  added_value = refl;
   and_zero = refl;
   and_one = refl;
   or_zero = refl;
@@ -128,6 +130,8 @@ computed_as_expected = record {
   expanded_text = refl;
   expanded_nothing = refl;
   expanded_unset = refl;
+  expanded_blanks = refl;
+  named_value = refl;
   division = refl;
   division_fails = refl;
 }

@@ -1,7 +1,7 @@
 -- The examples of forms, computed.
 use Rattle.std.proofs.Common.{refl}
 use Rattle.sh_table.specs.Counts.{is_all, part_has_all, gives_field, some_gives_field, is_parameters, count_of}
-use Rattle.sh_table.specs.FormExamples.{CountsAsExpected, QuotingAsExpected, FormsAsExpected}
+use Rattle.sh_table.specs.examples.Forms.{CountsAsExpected, QuotingAsExpected, FormsAsExpected}
 use Rattle.sh_table.specs.Quoting.{is_numeric, gives_number, is_quotation, are_quotations, is_quoted_alternative, is_whole, are_whole, part_begins_pattern, part_mentions, is_about_separators, is_steady}
 
 pub counts_as_expected : CountsAsExpected

@@ -4,6 +4,7 @@ use Rattle.std.specs.List.{list_any}
 use Rattle.std.proofs.lemmas.Bool.{or_parts, or_left, or_right, or_from, or_cases, not-true, not-false}
 use Rattle.std.proofs.lemmas.List.Folds.{list_any-append}
 use Rattle.sh_tree.specs.declared.tree.Action.TheVariants as action
+use Rattle.sh_tree.specs.declared.tree.SingleStyle.TheVariants as single
 use Rattle.sh_tree.specs.declared.tree.Special.TheVariants as special
 use Rattle.sh_tree.specs.language.Bytes.{is_in}
 use Rattle.sh_tree.specs.program.Syntax.{Text, Parameter, Variable, Special, Part, Plain, Escaped, Single, Double, Expansion, Arithmetic, Substitution, Tilde, Joined, Word, no_parts, more_parts, Operator, Value, Length, Use, Remove}
@@ -11,7 +12,7 @@ use Rattle.sh_table.specs.runs.Environment.{Frame, separators}
 use Rattle.sh_table.specs.runs.Answers.{Given, Marked, Directory}
 use Rattle.sh_table.specs.runs.States.{State, taken}
 use Rattle.sh_table.specs.runs.Arithmetic.{evaluate}
-use Rattle.sh_table.specs.runs.Expansion.{Origin, Literal, Quoted, Unquoted, Piece, Bytes, Break, Context, in_fields, in_one, in_quotes, in_default, pieces_text, Outcome, gives, followed, value_origin, broken, at_pieces, is_every, has_every, quote_pieces, is_empty_value, value_of, needed, value_pieces, assigned_by, used, tilde_pieces, computed_pieces, expand_part, expand, expand_operator, expand_inside}
+use Rattle.sh_table.specs.runs.Expansion.{Origin, Literal, Quoted, Unquoted, Piece, Bytes, Break, Context, in_fields, in_one, in_quotes, in_default, pieces_text, Outcome, gives, followed, value_origin, broken, at_pieces, is_every, has_every, quote_pieces, is_empty_value, value_of, needed, value_pieces, default_assigned, used, tilde_pieces, computed_pieces, expand_part, expand, expand_operator, expand_inside}
 use Rattle.sh_table.specs.runs.Fields.{Sign, Stands, Blank, Separates, Quote, Breaks, stands, unquoted_sign, piece_signs, Before, Inside, scan, is_pattern, field_text, field_names, names_or, split_fields, is_expanded, is_split, holds_pattern, splits}
 use Rattle.sh_table.specs.Counts.{is_all, part_has_all, word_has_all, operator_has_all, gives_field, some_gives_field, is_parameters, Parameters, One, Nothing, count_of, least_fields}
 use Rattle.sh_table.specs.Theorem.{fields_of, OperandsCount}
@@ -156,9 +157,9 @@ module _ (f : Frame) (status : ℕ) where
   parameter_holds (Special special.Asterisk) v s h = cc
   parameter_holds p v s h = needed_holds in_fields v s
 
-  assigned_holds : (p : Parameter) (t : Text) (fails : Bool) (s : State) → (assigned_by f status in_fields p t fails s).state.ended ≡ false
-      → list_any holds_field (assigned_by f status in_fields p t fails s).pieces ≡ true
-  unfolding assigned_by holds_field value_origin
+  assigned_holds : (p : Parameter) (t : Text) (fails : Bool) (s : State) → (default_assigned f status in_fields p t fails s).state.ended ≡ false
+      → list_any holds_field (default_assigned f status in_fields p t fails s).pieces ≡ true
+  unfolding default_assigned holds_field value_origin
   assigned_holds (Variable name) t false s h = refl
   assigned_holds p t fails s h = cc
 
@@ -167,7 +168,7 @@ module _ (f : Frame) (status : ℕ) where
   unfolding used
   assign_holds p g v true word text s h = needed_holds in_fields v s
   assign_holds p g v false word text s h =
-      let next = assigned_by f status in_fields p (pieces_text (text s).pieces) g.fails in
+      let next = default_assigned f status in_fields p (pieces_text (text s).pieces) g.fails in
       second_holds (gives [] (text s).state) next h (assigned_holds p (pieces_text (text s).pieces) g.fails (text s).state (second_goes_on (gives [] (text s).state) next h))
 
   fault_holds : (p : Parameter) (g : Given) (v : Option Text) (b : Bool) (word text : State → Outcome) (s : State)
@@ -199,7 +200,8 @@ module _ (f : Frame) (status : ℕ) where
   unfolding expand_part tilde_pieces computed_pieces quote_pieces gives_field part_has_all holds_field value_origin
   part_holds (Plain t) s a k h = ap (λ b. b || false) k
   part_holds (Escaped t) s a k h = refl
-  part_holds (Single style t) s a k h = refl
+  part_holds (Single single.Plain t) s a k h = refl
+  part_holds (Single single.Dollar t) s a k h = refl
   part_holds (Double w) s a k h = first_holds (gives (quote_pieces (has_every w)) s) (expand f status (in_quotes in_fields) w) h (rw (none_every w a) refl)
   part_holds (Expansion at p operator) s a k h =
       operator_holds at p operator (s.given 0) (value_of f status p s.environment (s.given 0)) (taken s) (or_parts (is_all false p) (operator_has_all false operator) a).0 k h

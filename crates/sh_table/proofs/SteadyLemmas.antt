@@ -9,6 +9,7 @@ use Rattle.sh_tree.specs.declared.tree.Action.{Action}
 use Rattle.sh_tree.specs.declared.tree.Action.TheVariants as action
 use Rattle.sh_tree.specs.declared.tree.Binary.{Binary}
 use Rattle.sh_tree.specs.declared.tree.Removal.{Removal}
+use Rattle.sh_tree.specs.declared.tree.SingleStyle.TheVariants as single
 use Rattle.sh_tree.specs.declared.tree.Special as tree
 use Rattle.sh_tree.specs.declared.tree.Special.TheVariants as special
 use Rattle.sh_tree.specs.language.Bytes.{is_digit, is_in}
@@ -16,11 +17,11 @@ use Rattle.sh_tree.specs.program.Syntax.{Text, Parameter, Variable, Positional, 
 use Rattle.sh_table.specs.Quoting.{is_numeric, gives_number, is_quotation, are_quotations, is_quoted_alternative, is_whole, are_whole, part_begins_pattern, word_begins_pattern, part_mentions, word_mentions, operator_mentions, expression_mentions, operands_mention, is_ifs, is_about_separators, is_steady}
 use Rattle.sh_table.specs.Theorem.{DifferInIfs, FieldsStandSteady}
 use Rattle.sh_table.specs.runs.Answers.{Given, Marked, Directory}
-use Rattle.sh_table.specs.runs.Arithmetic.{Computed, computes, answered, operated, then_computed, read_name, named, skips, read_before, stored, evaluate, evaluate_rest}
+use Rattle.sh_table.specs.runs.Arithmetic.{Computed, computes, answered, operated, then_computed, read_name, named, skips, read_where, stored, operated_assignment, evaluate, evaluate_rest}
 use Rattle.sh_table.specs.runs.Environment.{Environment, Frame, with_variable, put_text, blanks, separators}
-use Rattle.sh_table.specs.runs.Expansion.{Literal, Quoted, Unquoted, Piece, Bytes, Break, Context, in_fields, in_quotes, in_one, in_default, value_origin, pieces_text, quote_pieces, has_every, broken, star_pieces, at_pieces, is_empty_value, Outcome, gives, followed, special_value, value_of, needed, value_pieces, assigned_by, used, constant_in, behind, tilde_pieces, computed_pieces, expand_part, expand, expand_operator, expand_inside, expand_operands}
+use Rattle.sh_table.specs.runs.Expansion.{Literal, Quoted, Unquoted, Piece, Bytes, Break, Context, in_fields, in_quotes, in_one, in_default, value_origin, pieces_text, quote_pieces, has_every, broken, star_pieces, at_pieces, is_empty_value, Outcome, gives, followed, special_value, value_of, needed, value_pieces, default_assigned, used, constant_in, behind, tilde_pieces, computed_pieces, expand_part, expand, expand_operator, expand_inside, expand_operands}
 use Rattle.sh_table.specs.runs.Fields.{begins_pattern, Sign, Stands, Blank, Separates, Quote, Breaks, stands, unquoted_sign, piece_signs, Scan, Before, Behind, Inside, scan, split_fields, is_unquoted, is_bracket, is_pattern, field_text, names_or, field_names, fields}
-use Rattle.sh_table.specs.runs.Numbers.{last_digits, digits, integer_text, is_integer, is_zero}
+use Rattle.sh_table.specs.runs.Numbers.{last_digits, digits, integer_text, is_operand, is_computed, is_zero}
 use Rattle.sh_table.specs.runs.States.{State, fresh, taken, ending, stray, with_environment}
 
 -- Environments and states that are alike but for IFS
@@ -112,18 +113,31 @@ module _ (i j : Option Text) where
   read_same : (v : Option Text) (s t : State) → Alike s t → Alike (read_name v s) (read_name v t)
   unfolding read_name
   read_same None s t a = a
-  read_same (Some v) s t a = either_alike (is_integer v) (is_integer v) refl s t (stray s) (stray t) a a
+  read_same (Some v) s t a = either_alike (is_computed v) (is_computed v) refl s t (stray s) (stray t) a a
 
   named_same : (name : Text) (s t : State) → is_ifs name ≡ false → Alike s t → Alike (named name s) (named name t)
   named_same name s t h a = rw (a.differ.variables name h) (read_same (t.environment.variables name) s t a)
 
-  read_before_same : (o : Option Binary) (name : Text) (s t : State) → is_ifs name ≡ false → Alike s t → Alike (read_before o name s) (read_before o name t)
-  unfolding read_before
-  read_before_same None name s t h a = a
-  read_before_same (Some operator) name s t h a = named_same name s t h a
+  read_where_same : (reads : Bool) (o : Option Binary) (name : Text) (s t : State) → is_ifs name ≡ false → Alike s t → Alike (read_where reads o name s) (read_where reads o name t)
+  unfolding read_where
+  read_where_same reads None name s t h a = a
+  read_where_same true (Some operator) name s t h a = named_same name s t h a
+  read_where_same false (Some operator) name s t h a = a
 
   stored_same : (name : Text) (n : ℤ) (s t : State) → is_ifs name ≡ false → Alike s t → SameComputed (stored name (computes n s)) (stored name (computes n t))
   stored_same name n s t h a = record { value = refl; state = alike_set s t name (integer_text n) (integer_text n) h refl a }
+
+  assign_same : (first : Bool) (name : Text) (operator : Option Binary) (value : State → Computed) (s t : State) → is_ifs name ≡ false
+      → ((u v : State) → Alike u v → SameComputed (value u) (value v)) → Alike s t → SameComputed (operated_assignment first name operator value s) (operated_assignment first name operator value t)
+  unfolding operated_assignment
+  assign_same first name operator value s t i k a =
+      let last = λ (u : State). operated (read_where (not first) operator name u) in
+      then_same (value (read_where first operator name s)) (value (read_where first operator name t)) (λ n u. then_computed (last u) (λ m v. stored name (computes m v)))
+      (k (read_where first operator name s) (read_where first operator name t) (read_where_same first operator name s t i a))
+      (λ n u v b.
+      then_same (last u) (last v) (λ m x. stored name (computes m x))
+      (operated_same (read_where (not first) operator name u) (read_where (not first) operator name v) (read_where_same (not first) operator name u v i b))
+      (λ m x y d. stored_same name m x y i d))
 
   mutual
     unfolding evaluate expression_mentions operands_mention is_about_separators
@@ -144,10 +158,7 @@ module _ (i j : Option Text) where
         (λ n u v b. either_computed (is_zero n) (is_zero n) refl _ _ _ _ (evaluate_same else_one u v p.1 b) (evaluate_same then_one u v q.1 b))
     evaluate_same (Assigned at name operator e) s t h a =
         let p = or_parts (is_ifs name) (expression_mentions is_about_separators e) h in
-        then_same (evaluate e s) (evaluate e t) (λ n u. then_computed (operated (read_before operator name u)) (λ m v. stored name (computes m v))) (evaluate_same e s t p.1 a)
-        (λ n u v b.
-        then_same (operated (read_before operator name u)) (operated (read_before operator name v)) (λ m x. stored name (computes m x))
-        (operated_same (read_before operator name u) (read_before operator name v) (read_before_same operator name u v p.0 b)) (λ m x y d. stored_same name m x y p.0 d))
+        rw (ap (λ (g : Given). g.reads_first) (a.given 0)) (assign_same (t.given 0).reads_first name operator (evaluate e) (taken s) (taken t) p.0 (λ u v b. evaluate_same e u v p.1 b) (alike_taken s t a))
 
     evaluate_rest_same : (es : Operands) (n : ℤ) (s t : State) → operands_mention is_about_separators es ≡ false → Alike s t
         → SameComputed (evaluate_rest es n s) (evaluate_rest es n t)
@@ -188,8 +199,8 @@ module _ (i j : Option Text) where
     constant_same : (o p : Outcome) → SameOutcome o p → Alike (constant_in f status o) (constant_in f status p)
     unfolding constant_in
     constant_same o p h =
-        either_alike (o.state.ended || is_integer (pieces_text o.pieces)) (p.state.ended || is_integer (pieces_text p.pieces))
-        (ap₂ (λ ends ps. ends || is_integer (pieces_text ps)) h.state.ended h.pieces) o.state p.state (stray o.state) (stray p.state) h.state h.state
+        either_alike (o.state.ended || is_operand (pieces_text o.pieces)) (p.state.ended || is_operand (pieces_text p.pieces))
+        (ap₂ (λ ends ps. ends || is_operand (pieces_text ps)) h.state.ended h.pieces) o.state p.state (stray o.state) (stray p.state) h.state h.state
 
     needed_same : (c : Context) (v : Option Text) (s t : State) → Alike s t → SameOutcome (needed f status c v s) (needed f status c v t)
     unfolding needed
@@ -217,8 +228,8 @@ module _ (i j : Option Text) where
     value_pieces_same c p v s t h a = needed_same c v s t a
 
     assigned_by_same : (c : Context) (p : Parameter) (v u : Text) (fails : Bool) (s t : State) → is_about_separators p ≡ false → v ≡ u → Alike s t
-        → SameOutcome (assigned_by f status c p v fails s) (assigned_by f status c p u fails t)
-    unfolding assigned_by is_about_separators
+        → SameOutcome (default_assigned f status c p v fails s) (default_assigned f status c p u fails t)
+    unfolding default_assigned is_about_separators
     assigned_by_same c (Variable name) v u false s t h q a = record { pieces = ap (λ x. Bytes (value_origin c.plain) x ∷ []) q; state = alike_set s t name v u h q a }
     assigned_by_same c p v u fails s t h q a = record { pieces = refl; state = alike_ending s t a }
 
@@ -231,8 +242,8 @@ module _ (i j : Option Text) where
     used_same c p g action.Assign v true word text s t h j k a = needed_same c v s t a
     used_same c p g action.Assign v false word text s t h j k a =
         let o : SameOutcome (text s) (text t) = k s t a in
-        followed_same (gives [] (text s).state) (gives [] (text t).state) (assigned_by f status c p (pieces_text (text s).pieces) g.fails)
-        (assigned_by f status c p (pieces_text (text t).pieces) g.fails) (record { pieces = refl; state = o.state })
+        followed_same (gives [] (text s).state) (gives [] (text t).state) (default_assigned f status c p (pieces_text (text s).pieces) g.fails)
+        (default_assigned f status c p (pieces_text (text t).pieces) g.fails) (record { pieces = refl; state = o.state })
         (λ u w b. assigned_by_same c p _ _ g.fails u w h (ap pieces_text o.pieces) b)
     used_same c p g action.Fault v true word text s t h j k a = needed_same c v s t a
     used_same c p g action.Fault v false word text s t h j k a =
@@ -253,7 +264,8 @@ module _ (i j : Option Text) where
           → SameOutcome (expand_part f status c x s) (expand_part f status c x t)
       part_same c (Plain v) s t h a = record { pieces = refl; state = a }
       part_same c (Escaped v) s t h a = record { pieces = refl; state = a }
-      part_same c (Single style v) s t h a = record { pieces = refl; state = a }
+      part_same c (Single single.Plain v) s t h a = record { pieces = refl; state = a }
+      part_same c (Single single.Dollar v) s t h a = record { pieces = ap (λ (g : Given). Bytes Quoted g.text ∷ []) (a.given 0); state = alike_taken s t a }
       part_same c (Double w) s t h a =
           followed_same (gives (quote_pieces (c.split && has_every w)) s) (gives (quote_pieces (c.split && has_every w)) t)
           (expand f status (in_quotes c) w) (expand f status (in_quotes c) w)
@@ -415,8 +427,8 @@ module _ (f : Frame) (status : ℕ) where
   value_firm c (Special special.Asterisk) v s = cond_both c.split _ _ Firm (λ b. refl) (λ b. refl)
   value_firm c p v s = needed_firm c v s
 
-  assigned_firm : (c : Context) (p : Parameter) (t : Text) (fails : Bool) (s : State) → Firm (assigned_by f status (in_quotes c) p t fails s).pieces
-  unfolding assigned_by value_origin is_firm
+  assigned_firm : (c : Context) (p : Parameter) (t : Text) (fails : Bool) (s : State) → Firm (default_assigned f status (in_quotes c) p t fails s).pieces
+  unfolding default_assigned value_origin is_firm
   assigned_firm c (Variable name) t false s = refl
   assigned_firm c p t fails s = refl
 
@@ -448,7 +460,8 @@ module _ (f : Frame) (status : ℕ) where
     quoted_part_firm : (c : Context) (x : Part) (s : State) → Firm (expand_part f status (in_quotes c) x s).pieces
     quoted_part_firm c (Plain t) s = refl
     quoted_part_firm c (Escaped t) s = refl
-    quoted_part_firm c (Single style t) s = refl
+    quoted_part_firm c (Single single.Plain t) s = refl
+    quoted_part_firm c (Single single.Dollar t) s = refl
     quoted_part_firm c (Double w) s = followed_firm (gives (quote_pieces (c.split && has_every w)) s) _ (quotes_firm (c.split && has_every w)) (quoted_firm c w)
     quoted_part_firm c (Expansion at p operator) s = quoted_operator_firm c p operator (s.given 0) (value_of f status p s.environment (s.given 0)) (taken s)
     quoted_part_firm c (Arithmetic at e) s = followed_firm (gives [] (expand_inside f status e s)) _ refl (λ t. refl)
@@ -479,7 +492,8 @@ module _ (f : Frame) (status : ℕ) where
   unfolding expand_part is_quotation is_firm
   quotation_firm c (Plain t) s h = absurd (false≢true h)
   quotation_firm c (Escaped t) s h = refl
-  quotation_firm c (Single style t) s h = refl
+  quotation_firm c (Single single.Plain t) s h = refl
+  quotation_firm c (Single single.Dollar t) s h = refl
   quotation_firm c (Double w) s h = double_firm c w s
   quotation_firm c (Expansion at p operator) s h = absurd (false≢true h)
   quotation_firm c (Arithmetic at e) s h = absurd (false≢true h)
@@ -536,7 +550,8 @@ module _ (f : Frame) (status : ℕ) where
   unfolding expand_part is_whole part_begins_pattern computed_pieces value_origin is_firm
   part_firm (Plain t) s h k = and_from _ true (not_from_false (list_any begins_pattern t) k) refl
   part_firm (Escaped t) s h k = refl
-  part_firm (Single style t) s h k = refl
+  part_firm (Single single.Plain t) s h k = refl
+  part_firm (Single single.Dollar t) s h k = refl
   part_firm (Double w) s h k = double_firm in_fields w s
   part_firm (Expansion at p operator) s h k = expansion_firm p operator s.environment (s.given 0) (taken s) h
   part_firm (Arithmetic at e) s h k =

@@ -1,7 +1,7 @@
 -- The runs of small programs to their end, computed.
 use Rattle.std.proofs.Common.{refl}
-use Rattle.sh_table.specs.StepExamples as examples
-use Rattle.sh_table.specs.StepExamples.{JumpsAsExpected, RedirectsAsExpected, AssignmentsAsExpected, BuiltinsAsExpected, CallsAsExpected, StepsAsExpected}
+use Rattle.sh_table.specs.examples.Steps as examples
+use Rattle.sh_table.specs.examples.Steps.{JumpsAsExpected, RedirectsAsExpected, AssignmentsAsExpected, BuiltinsAsExpected, CallsAsExpected, StepsAsExpected}
 use Rattle.sh_table.proofs.ExampleLemmas.{computes}
 
 pub jumps_as_expected : JumpsAsExpected
@@ -70,6 +70,11 @@ redirects_as_expected = record {
   assignment_first_meets = refl;
   special_meets = refl;
   utility_meets = refl;
+  value_before_meets = refl;
+  value_before_call_meets = refl;
+  redirection_sees_no_value = refl;
+  call_behind_values = refl;
+  call_fails_behind_values = refl;
 }
 
 pub assignments_as_expected : AssignmentsAsExpected
@@ -118,6 +123,7 @@ builtins_as_expected = record {
   unset_either = refl;
   unset_variable_first = refl;
   unset_function_alone = refl;
+  unset_letters = refl;
   unset_ends = refl;
   set_one = refl;
   set_fails = refl;
@@ -159,11 +165,13 @@ builtins_as_expected = record {
 }
 
 pub calls_as_expected : CallsAsExpected
-unfolding computes examples.far examples.comes_to examples.behind
+unfolding computes examples.far examples.comes_to examples.behind examples.numbered
 calls_as_expected = record {
   return_in_function = refl;
   return_alone = refl;
   return_beyond = refl;
+  return_computed = refl;
+  work_is_numbered = refl;
   return_outside = refl;
   return_ends = refl;
   return_in_loop = refl;

@@ -18,12 +18,15 @@ unfoldable pub look_up : Table → Text → Kind
 look_up [] t = kind.Utility
 look_up (x ∷ xs) t = if bytes_eq x.0 t then x.1 else look_up xs t
 
--- the special built-in utilities that are analysed
+abbrev pub special : KnownName → Text × Kind
+special n = (known_text n, kind.Special n)
+
+-- the special built-in utilities (XCU 2.15)
 abbrev pub special_names : Table
 special_names =
-    (codes "break", kind.Break) ∷ (codes ":", kind.Colon) ∷ (codes "continue", kind.Continue) ∷ (codes "exec", kind.Exec) ∷ (codes "exit", kind.Exit)
-    ∷ (codes "export", kind.Export) ∷ (codes "readonly", kind.Readonly) ∷ (codes "return", kind.Return) ∷ (codes "set", kind.Set) ∷ (codes "shift", kind.Shift)
-    ∷ (codes "times", kind.Times) ∷ (codes "trap", kind.Trap) ∷ (codes "unset", kind.Unset) ∷ []
+    map special
+    (known.Break ∷ known.Colon ∷ known.Continue ∷ known.Dot ∷ known.Eval ∷ known.Exec ∷ known.Exit ∷ known.Export ∷ known.Readonly ∷ known.Return ∷ known.Set
+    ∷ known.Shift ∷ known.Times ∷ known.Trap ∷ known.Unset ∷ [])
 
 -- other utilities that change what is set, run a command by its name, or have a known status
 abbrev pub known_names : Table
@@ -38,7 +41,7 @@ refused n = (known_text n, kind.Refused n)
 abbrev pub refused_names : Table
 refused_names =
     map refused
-    (known.Dot ∷ known.Eval ∷ known.Alias ∷ known.Unalias ∷ known.Fc ∷ known.Local ∷ known.Typeset ∷ known.Declare ∷ known.Source ∷ known.Let ∷ known.Builtin
+    (known.Alias ∷ known.Unalias ∷ known.Fc ∷ known.Local ∷ known.Typeset ∷ known.Declare ∷ known.Source ∷ known.Let ∷ known.Builtin
     ∷ known.Nameref ∷ known.Integer ∷ known.Float ∷ known.Mapfile ∷ known.Readarray ∷ known.Shopt ∷ known.LeftBrackets ∷ known.RightBrackets ∷ known.Function
     ∷ known.Select ∷ known.Time ∷ known.Namespace ∷ [])
 
@@ -46,27 +49,8 @@ refused_names =
 unfoldable pub kind_of : Text → Kind
 kind_of t = look_up (special_names ++ known_names ++ refused_names) t
 
--- a special built-in utility: no function has its name
-unfoldable pub is_special : Kind → Bool
-is_special kind.Break = true
-is_special kind.Colon = true
-is_special kind.Continue = true
-is_special kind.Exec = true
-is_special kind.Exit = true
-is_special kind.Export = true
-is_special kind.Readonly = true
-is_special kind.Return = true
-is_special kind.Set = true
-is_special kind.Shift = true
-is_special kind.Times = true
-is_special kind.Trap = true
-is_special kind.Unset = true
-is_special (kind.Refused known.Dot) = true
-is_special (kind.Refused known.Eval) = true
-is_special _ = false
-
 -- a declaration utility: its operands that are assignments in form are not split (XCU 2.9.1.1)
 unfoldable pub is_declaration : Kind → Bool
-is_declaration kind.Export = true
-is_declaration kind.Readonly = true
+is_declaration (kind.Special known.Export) = true
+is_declaration (kind.Special known.Readonly) = true
 is_declaration _ = false

@@ -1,13 +1,8 @@
 pub mod Kinds
 pub mod runs
-pub mod Locations
+pub mod Surroundings
 pub mod Profile
-pub mod ProfileExamples
 pub mod Counts
 pub mod Quoting
 pub mod Theorem
-pub mod Examples
-pub mod Events
-pub mod FormExamples
-pub mod FieldExamples
-pub mod StepExamples
+pub mod examples

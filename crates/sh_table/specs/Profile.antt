@@ -15,7 +15,7 @@ use Rattle.sh_tree.specs.program.Words.{static_of, is_plainly, words_in}
 use Rattle.sh_table.specs.declared.kind.Kind.{Kind}
 use Rattle.sh_table.specs.declared.kind.Kind.TheVariants as kind
 use Rattle.sh_table.specs.Kinds.{kind_of}
-use Rattle.sh_table.specs.Locations.{Surroundings, Located, outside, items_located}
+use Rattle.sh_table.specs.Surroundings.{Surroundings, Located, outside, items_located}
 use Rattle.sh_table.specs.runs.Numbers.{number_in}
 use Rattle.sh_table.specs.runs.Operands.{is_dashed, ends_options, is_set_option, ends_in_o}
 use Rattle.sh_table.specs.runs.Steps.{operands_in}
@@ -129,16 +129,18 @@ or_rule (Some q) r = Some q
 
 -- the rule that a command with this name breaks, with these operands
 unfoldable pub kind_rule : Surroundings → Bool → Kind → List Static → Option Rule
+kind_rule x quoted (kind.Special known.Dot) ts = Some (rule.Refused known.Dot)
+kind_rule x quoted (kind.Special known.Eval) ts = Some (rule.Refused known.Eval)
 kind_rule x quoted (kind.Refused name) ts = unless (is_reserved_elsewhere name) (rule.Refused name)
-kind_rule x quoted kind.Export ts = unless (not quoted) (rule.Quoted declaration.Export)
-kind_rule x quoted kind.Readonly ts = unless (not quoted) (rule.Quoted declaration.Readonly)
-kind_rule x quoted kind.Trap ts = unless (traps_nothing ts) rule.TrapAction
+kind_rule x quoted (kind.Special known.Export) ts = unless (not quoted) (rule.Quoted declaration.Export)
+kind_rule x quoted (kind.Special known.Readonly) ts = unless (not quoted) (rule.Quoted declaration.Readonly)
+kind_rule x quoted (kind.Special known.Trap) ts = unless (traps_nothing ts) rule.TrapAction
 kind_rule x quoted kind.Command ts = unless (commands_utility ts) rule.CommandUse
-kind_rule x quoted kind.Unset ts = unless (list_all is_some ts) rule.UnsetOperand
-kind_rule x quoted kind.Set ts = unless (sets_known false ts) rule.SetOperand
-kind_rule x quoted kind.Break ts = or_rule (unless (list_all is_count ts) rule.BreakOperand) (unless x.loop rule.BreakOutside)
-kind_rule x quoted kind.Continue ts = or_rule (unless (list_all is_count ts) rule.ContinueOperand) (unless x.loop rule.ContinueOutside)
-kind_rule x quoted kind.Return ts = unless x.function rule.ReturnOutside
+kind_rule x quoted (kind.Special known.Unset) ts = unless (list_all is_some ts) rule.UnsetOperand
+kind_rule x quoted (kind.Special known.Set) ts = unless (sets_known false ts) rule.SetOperand
+kind_rule x quoted (kind.Special known.Break) ts = or_rule (unless (list_all is_count ts) rule.BreakOperand) (unless x.loop rule.BreakOutside)
+kind_rule x quoted (kind.Special known.Continue) ts = or_rule (unless (list_all is_count ts) rule.ContinueOperand) (unless x.loop rule.ContinueOutside)
+kind_rule x quoted (kind.Special known.Return) ts = unless x.function rule.ReturnOutside
 kind_rule x quoted _ ts = None
 
 -- of a command with this name
@@ -152,19 +154,7 @@ words_rule x (p.more_words w ws) = named_rule x w (static_of w) (map static_of (
 
 -- a special built-in utility's name and a refused one are none for a function
 unfoldable pub told_name : Kind → Option KnownName
-told_name kind.Break = Some known.Break
-told_name kind.Colon = Some known.Colon
-told_name kind.Continue = Some known.Continue
-told_name kind.Exec = Some known.Exec
-told_name kind.Exit = Some known.Exit
-told_name kind.Export = Some known.Export
-told_name kind.Readonly = Some known.Readonly
-told_name kind.Return = Some known.Return
-told_name kind.Set = Some known.Set
-told_name kind.Shift = Some known.Shift
-told_name kind.Times = Some known.Times
-told_name kind.Trap = Some known.Trap
-told_name kind.Unset = Some known.Unset
+told_name (kind.Special name) = Some name
 told_name (kind.Refused name) = Some name
 told_name _ = None
 

@@ -4,20 +4,8 @@ use sh_tree::known::KnownName;
 /// What a command does, by its name (XCU 2.9.1.4, 2.15).
 #[derive(Clone, Copy, Debug, PartialEq, Eq)]
 pub enum Kind {
-    // The special built-in utilities (XCU 2.15).
-    Break,
-    Colon,
-    Continue,
-    Exec,
-    Exit,
-    Export,
-    Readonly,
-    Return,
-    Set,
-    Shift,
-    Times,
-    Trap,
-    Unset,
+    /// A special built-in utility (XCU 2.15): no function has its name.
+    Special(KnownName),
     // Utilities that set variables, run a command by its name, or have a known status.
     Cd,
     Command,

@@ -1,11 +1,11 @@
 //! What holds of the runs and of the fields that `specs/` defines, whatever the rules of a checker are.
-ghost use Rattle.sh_table.specs.ProfileExamples.{ProfileAsExpected};
+ghost use Rattle.sh_table.specs.examples.Profile.{ProfileAsExpected};
 ghost use Rattle.sh_table.specs.Theorem.{ProcessesStep, SomeProcessSteps, FieldsStandWhole, FieldsStandSteady, OperandsCount};
-ghost use Rattle.sh_table.specs.Events.{EventsExist};
-ghost use Rattle.sh_table.specs.Examples.{RunsAsExpected};
-ghost use Rattle.sh_table.specs.FormExamples.{FormsAsExpected};
-ghost use Rattle.sh_table.specs.FieldExamples.{FieldsAsExpected};
-ghost use Rattle.sh_table.specs.StepExamples.{StepsAsExpected};
+ghost use Rattle.sh_table.specs.examples.Events.{EventsExist};
+ghost use Rattle.sh_table.specs.examples.Runs.{RunsAsExpected};
+ghost use Rattle.sh_table.specs.examples.Forms.{FormsAsExpected};
+ghost use Rattle.sh_table.specs.examples.Fields.{FieldsAsExpected};
+ghost use Rattle.sh_table.specs.examples.Steps.{StepsAsExpected};
 
 /// Runs do not get stuck: unless arithmetic has ended the run, a live process that waits for nobody has a step; and where a
 /// process lives, one waits for nobody.

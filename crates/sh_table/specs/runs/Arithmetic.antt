@@ -6,7 +6,7 @@ use Rattle.sh_tree.specs.declared.tree.Binary.{Binary}
 use Rattle.sh_tree.specs.declared.tree.Binary.TheVariants as binary
 use Rattle.sh_tree.specs.program.Syntax.{Text, Expression, Constant, Name, Expanded, Parenthesis, Signed, Chain, Choice, Assigned, Operands, no_operands, more_operands}
 use Rattle.sh_table.specs.runs.Environment.{with_variable}
-use Rattle.sh_table.specs.runs.Numbers.{integer_text, is_zero, is_integer}
+use Rattle.sh_table.specs.runs.Numbers.{integer_text, is_zero, is_computed}
 use Rattle.sh_table.specs.runs.States.{State, met, taken, with_environment, ending, stray}
 
 pub record Computed : Type 0 where
@@ -28,10 +28,10 @@ operated s = if (s.given 0).fails then computes (s.given 0).integer (ending (tak
 unfoldable pub then_computed : Computed → (ℤ → State → Computed) → Computed
 then_computed r next = if r.state.ended then r else next r.value r.state
 
--- a name is read: it has to be set, and to an integer constant
+-- a name is read: it has to be set, and to an integer constant or to nothing
 unfoldable pub read_name : Option Text → State → State
 read_name None s = met s
-read_name (Some t) s = if is_integer t then s else stray s
+read_name (Some t) s = if is_computed t then s else stray s
 
 abbrev pub named : Text → State → State
 named name s = read_name (s.environment.variables name) s
@@ -42,14 +42,20 @@ skips binary.And zero = zero
 skips binary.Or zero = not zero
 skips _ zero = false
 
--- `=` reads nothing; an operator before it reads the name
-unfoldable pub read_before : Option Binary → Text → State → State
-read_before None name s = s
-read_before (Some operator) name s = named name s
+-- an operator before `=` reads the name, now or not
+unfoldable pub read_where : Bool → Option Binary → Text → State → State
+read_where reads None name s = s
+read_where reads (Some operator) name s = if reads then named name s else s
 
 -- the name gets the value
 abbrev pub stored : Text → Computed → Computed
 stored name r = computes r.value (with_environment r.state (with_variable r.state.environment name (Some (integer_text r.value))))
+
+-- a value is assigned to the name, which is read before it is computed, or behind that
+unfoldable pub operated_assignment : Bool → Text → Option Binary → (State → Computed) → State → Computed
+operated_assignment first name operator value s =
+    then_computed (value (read_where first operator name s))
+    (λ n t. then_computed (operated (read_where (not first) operator name t)) (λ m u. stored name (computes m u)))
 
 unfoldable mutual
   pub evaluate : Expression → State → Computed
@@ -60,8 +66,7 @@ unfoldable mutual
   evaluate (Signed operator e) s = then_computed (evaluate e s) (λ n t. operated t)
   evaluate (Chain e rest) s = then_computed (evaluate e s) (evaluate_rest rest)
   evaluate (Choice e then_one else_one) s = then_computed (evaluate e s) (λ n t. if is_zero n then evaluate else_one t else evaluate then_one t)
-  evaluate (Assigned at name operator e) s =
-      then_computed (evaluate e s) (λ n t. then_computed (operated (read_before operator name t)) (λ m u. stored name (computes m u)))
+  evaluate (Assigned at name operator e) s = operated_assignment (s.given 0).reads_first name operator (evaluate e) (taken s)
 
   -- the operands behind the first one, whose value is this
   pub evaluate_rest : Operands → ℤ → State → Computed

@@ -1,12 +1,15 @@
 -- What built-in utilities do.
 -- POSIX.1-2024, XCU 2.8.1 (consequences of shell errors), 2.15 (special built-in utilities), 3 (cd, getopts, read).
 use Rattle.std.specs.Prelude.{ℕ, zero, suc, ◌+◌, ◌==◌, nat_le, Bool, true, false, not, ◌||◌, if◌then◌else◌, List, [], ◌∷◌, length, drop, codes, Option, Some, None, is_some, unwrap_or}
+use Rattle.sh_tree.specs.program.Syntax as p
 use Rattle.sh_tree.specs.program.Syntax.{Text}
+use Rattle.sh_tree.specs.declared.known.KnownName.{KnownName}
+use Rattle.sh_tree.specs.declared.known.KnownName.TheVariants as known
 use Rattle.sh_table.specs.declared.kind.Kind.{Kind}
 use Rattle.sh_table.specs.declared.kind.Kind.TheVariants as kind
 use Rattle.sh_table.specs.runs.Environment.{Environment, Frame, is_one_of, with_variable, with_function, showing}
 use Rattle.sh_table.specs.runs.Answers.{Answer}
-use Rattle.sh_table.specs.runs.Operands.{definitions_in, Removal, OfVariables, OfFunctions, OfEither, OfBoth, unset_operands, set_words, count_operand, status_operand, has_command, read_names, getopts_name}
+use Rattle.sh_table.specs.runs.Operands.{definitions_in, Removal, OfVariables, OfFunctions, OfEither, OfAny, unset_operands, set_words, count_operand, status_operand, has_command, read_names, getopts_name}
 use Rattle.sh_table.specs.runs.Work.{Work, Saved, Effect, Pops, goes, ends, loop_mark, broken_off, continued, return_mark}
 
 -- a status that is not zero
@@ -16,29 +19,41 @@ nonzero (suc n) = suc n
 
 -- Unset
 
--- one name, where it is removed; a choice says whether a function goes where there was no variable
-unfoldable pub removed : Removal → Bool → Environment → Text → Environment
-removed OfVariables takes e name = with_variable e name None
-removed OfFunctions takes e name = with_function e name None
-removed OfEither takes e name = if is_some (e.variables name) then with_variable e name None else (if takes then with_function e name None else e)
-removed OfBoth takes e name = with_function (with_variable e name None) name None
+-- the operand at a place is removed: a status of zero says that each is
+abbrev pub is_removed : Answer → ℕ → Bool
+is_removed a n = a.status == 0 || a.removes n
 
--- the names in their order, those that are removed
-unfoldable pub removed_all : Removal → Bool → (ℕ → Bool) → ℕ → Environment → List Text → Environment
-removed_all removal takes removes n e [] = e
-removed_all removal takes removes n e (name ∷ names) =
-    removed_all removal takes removes (n + 1) (if removes n then removed removal takes e name else e) names
+-- a variable, or else a function by a choice
+unfoldable pub removed_either : Bool → Environment → Text → Environment
+removed_either takes e name = if is_some (e.variables name) then with_variable e name None else (if takes then with_function e name None else e)
 
--- a status of zero says that each was
+-- a variable, a function, both or none
+unfoldable pub removed_any : Bool → Bool → Environment → Text → Environment
+removed_any variable function e name =
+    let d = if variable then with_variable e name None else e in
+    if function then with_function d name None else d
+
+-- the operand at a place
+unfoldable pub removed : Removal → Answer → ℕ → Environment → Text → Environment
+removed OfVariables a n e name = if is_removed a n then with_variable e name None else e
+removed OfFunctions a n e name = if is_removed a n then with_function e name None else e
+removed OfEither a n e name = if is_removed a n then removed_either a.takes_function e name else e
+removed OfAny a n e name = removed_any (a.removes_variable n) (a.removes_function n) e name
+
+-- the operands in their order
+unfoldable pub removed_all : Removal → Answer → ℕ → Environment → List Text → Environment
+removed_all removal a n e [] = e
+removed_all removal a n e (name ∷ names) = removed_all removal a (n + 1) (removed removal a n e name) names
+
 unfoldable pub unset_names : Environment → Answer → Removal × List Text → Environment
-unset_names e a x = removed_all x.0 a.takes_function (λ n. a.status == 0 || a.removes n) 0 e x.1
+unset_names e a x = removed_all x.0 a 0 e x.1
 
 -- Set and shift
 
--- positional words: on zero they are the parameters; otherwise a value of the answer tells whether
+-- positional words: on zero they are the parameters; otherwise the answer tells whether
 unfoldable pub set_frame : Frame → Answer → Option (List Text) → Frame
 set_frame f a None = f
-set_frame f a (Some ts) = if a.status == 0 || a.removes 0 then ts else f
+set_frame f a (Some ts) = if a.status == 0 || a.sets_parameters then ts else f
 
 -- the operand is no number: shells differ, so that any number of parameters may go
 unfoldable pub shifted : Environment → Frame → List Work → Answer → Option ℕ → Effect
@@ -57,27 +72,27 @@ unfoldable pub returned : Environment → Frame → ℕ → List Work → Answer
 returned e f status ws a None = goes e f status ws
 returned e f status ws a (Some x) = record (goes (restored a.restores 0 e x.0) f status x.1) { frames = Pops }
 
--- A special built-in utility with these operands. What `.`, `eval` and an action of `trap` run is not stated: no script with them is
+-- A special built-in utility, with the words of its command and its operands. What `.`, `eval` and an action of `trap` run is not stated: no script with them is
 -- analysed.
-unfoldable pub special : Environment → Frame → ℕ → List Work → Answer → Kind → List Text → Effect
-special e f status ws a kind.Colon ts = goes e f 0 ws
-special e f status ws a kind.Break ts = goes e f a.status (broken_off (loop_mark (unwrap_or (count_operand ts) 1) ws) ws)
-special e f status ws a kind.Continue ts = goes e f a.status (continued (loop_mark (unwrap_or (count_operand ts) 1) ws) ws)
-special e f status ws a kind.Exec ts = goes e f (if has_command ts then nonzero a.status else a.status) ws
-special e f status ws a kind.Exit ts = ends e f
-special e f status ws a kind.Export ts = goes (showing e (definitions_in ts)) f a.status ws
-special e f status ws a kind.Readonly ts = goes (showing e (definitions_in ts)) f a.status ws
-special e f status ws a kind.Return ts = returned e f (unwrap_or (status_operand ts) a.status) ws a (return_mark ws)
-special e f status ws a kind.Set ts = goes e (set_frame f a (set_words ts)) a.status ws
-special e f status ws a kind.Shift ts = shifted e f ws a (count_operand ts)
-special e f status ws a kind.Unset ts = goes (unset_names e a (unset_operands ts)) f a.status ws
-special e f status ws a kind.Times ts = goes e f a.status ws
-special e f status ws a kind.Trap ts = goes e f a.status ws
-special e f status ws a _ ts = goes e f a.status ws
+unfoldable pub special : Environment → Frame → ℕ → List Work → Answer → p.Words → KnownName → List Text → Effect
+special e f status ws a vs known.Colon ts = goes e f 0 ws
+special e f status ws a vs known.Break ts = goes e f a.status (broken_off (loop_mark (unwrap_or (count_operand ts) 1) ws) ws)
+special e f status ws a vs known.Continue ts = goes e f a.status (continued (loop_mark (unwrap_or (count_operand ts) 1) ws) ws)
+special e f status ws a vs known.Exec ts = goes e f (if has_command ts then nonzero a.status else a.status) ws
+special e f status ws a vs known.Exit ts = ends e f
+special e f status ws a vs known.Export ts = goes (showing e (definitions_in ts)) f a.status ws
+special e f status ws a vs known.Readonly ts = goes (showing e (definitions_in ts)) f a.status ws
+special e f status ws a vs known.Return ts = returned e f (unwrap_or (status_operand vs) a.status) ws a (return_mark ws)
+special e f status ws a vs known.Set ts = goes e (set_frame f a (set_words ts)) a.status ws
+special e f status ws a vs known.Shift ts = shifted e f ws a (count_operand ts)
+special e f status ws a vs known.Unset ts = goes (unset_names e a (unset_operands ts)) f a.status ws
+special e f status ws a vs known.Times ts = goes e f a.status ws
+special e f status ws a vs known.Trap ts = goes e f a.status ws
+special e f status ws a vs _ ts = goes e f a.status ws
 
 -- an error in it may end the process
-unfoldable pub special_or_end : Environment → Frame → ℕ → List Work → Answer → Kind → List Text → Effect
-special_or_end e f status ws a k ts = if a.ends then ends e f else special e f status ws a k ts
+unfoldable pub special_or_end : Environment → Frame → ℕ → List Work → Answer → p.Words → KnownName → List Text → Effect
+special_or_end e f status ws a vs k ts = if a.special_ends then ends e f else special e f status ws a vs k ts
 
 -- Other built-in utilities
 

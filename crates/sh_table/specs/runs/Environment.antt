@@ -37,7 +37,7 @@ showing e [] = e
 showing e (x ∷ xs) = showing (with_variable e x.0 (Some x.1)) xs
 
 -- the second environment, in which these names have what they have in the first
-unfoldable pub hiding : Environment → List (Text × Text) → Environment → Environment
+unfoldable pub hiding : {A : Type 0} → Environment → List (Text × A) → Environment → Environment
 hiding e [] d = d
 hiding e (x ∷ xs) d = hiding e xs (with_variable d x.0 (e.variables x.0))
 

@@ -1,16 +1,16 @@
 -- What a word expands to, and what its expansion does: the variables that it sets, the processes that it starts, whether it meets a
 -- parameter that is not set, and whether it ends the process.
 -- POSIX.1-2024, XCU 2.5 (parameters), 2.6.1 (tilde), 2.6.2 (parameters), 2.6.3 (substitution), 2.6.4 (arithmetic), 2.6.7 (quotes).
-use Rattle.std.specs.Prelude.{ℕ, ◌-◌, ◌==◌, Bool, true, false, not, ◌&&◌, ◌||◌, if◌then◌else◌, List, [], ◌∷◌, ◌++◌, length, take, codes, Option, Some, None, is_some, unwrap_or, slice_get}
+use Rattle.std.specs.Prelude.{ℕ, ◌-◌, ◌==◌, Bool, true, false, not, ◌&&◌, ◌||◌, if◌then◌else◌, List, [], ◌∷◌, ◌++◌, length, take, codes, Option, Some, None, is_some, slice_get}
 use Rattle.std.specs.List.{flat_map}
 use Rattle.sh_tree.specs.declared.tree.Action.{Action}
 use Rattle.sh_tree.specs.declared.tree.Action.TheVariants as action
+use Rattle.sh_tree.specs.declared.tree.SingleStyle.TheVariants as single
 use Rattle.sh_tree.specs.declared.tree.Special as tree
 use Rattle.sh_tree.specs.declared.tree.Special.TheVariants as special
 use Rattle.sh_tree.specs.program.Syntax.{Text, Parameter, Variable, Positional, Special, Part, Plain, Escaped, Single, Double, Expansion, Arithmetic, Substitution, Tilde, Joined, Word, no_parts, more_parts, Operator, Value, Length, Use, Remove, Expression, Constant, Name, Expanded, Parenthesis, Signed, Chain, Choice, Assigned, Operands, no_operands, more_operands}
-use Rattle.sh_tree.specs.program.Words.{quoted_text}
 use Rattle.sh_table.specs.runs.Environment.{Environment, Frame, with_variable, copied, separators}
-use Rattle.sh_table.specs.runs.Numbers.{digits, integer_text, is_integer}
+use Rattle.sh_table.specs.runs.Numbers.{digits, integer_text, is_operand}
 use Rattle.sh_table.specs.runs.Answers.{Given}
 use Rattle.sh_table.specs.runs.States.{State, met, taken, with_environment, started, ending, stray}
 use Rattle.sh_table.specs.runs.Arithmetic.{Computed, evaluate}
@@ -149,16 +149,16 @@ module _ (f : Frame) (status : ℕ) where
   value_pieces c p v s = needed c v s
 
   -- `=`: a variable gets the text, and nothing else can
-  unfoldable pub assigned_by : Context → Parameter → Text → Bool → State → Outcome
-  assigned_by c (Variable name) t false s = gives (Bytes (value_origin c.plain) t ∷ []) (with_environment s (with_variable s.environment name (Some t)))
-  assigned_by c _ t _ s = gives [] (ending s)
+  unfoldable pub default_assigned : Context → Parameter → Text → Bool → State → Outcome
+  default_assigned c (Variable name) t false s = gives (Bytes (value_origin c.plain) t ∷ []) (with_environment s (with_variable s.environment name (Some t)))
+  default_assigned c _ t _ s = gives [] (ending s)
 
   -- `-`, `=`, `?` and `+`, with what the word behind them expands to: in the same context, and as one field
   unfoldable pub used : Context → Parameter → Given → Action → Option Text → Bool → (State → Outcome) → (State → Outcome) → State → Outcome
   used c p g action.Default v true word text s = needed c v s
   used c p g action.Default v false word text s = word s
   used c p g action.Assign v true word text s = needed c v s
-  used c p g action.Assign v false word text s = followed (gives [] (text s).state) (assigned_by c p (pieces_text (text s).pieces) g.fails)
+  used c p g action.Assign v false word text s = followed (gives [] (text s).state) (default_assigned c p (pieces_text (text s).pieces) g.fails)
   used c p g action.Fault v true word text s = needed c v s
   used c p g action.Fault v false word text s = gives [] (ending (text s).state)
   used c p g action.Alternative v true word text s = word s
@@ -166,7 +166,7 @@ module _ (f : Frame) (status : ℕ) where
 
   -- an expansion inside arithmetic: its text has to be an integer constant
   unfoldable pub constant_in : Outcome → State
-  constant_in o = if o.state.ended || is_integer (pieces_text o.pieces) then o.state else stray o.state
+  constant_in o = if o.state.ended || is_operand (pieces_text o.pieces) then o.state else stray o.state
 
   unfoldable pub behind : State → (State → State) → State
   behind s next = if s.ended then s else next s
@@ -184,7 +184,9 @@ module _ (f : Frame) (status : ℕ) where
     pub expand_part : Context → Part → State → Outcome
     expand_part c (Plain t) s = gives (Bytes c.plain t ∷ []) s
     expand_part c (Escaped t) s = gives (Bytes Quoted t ∷ []) s
-    expand_part c (Single style t) s = gives (Bytes Quoted (unwrap_or (quoted_text style t) []) ∷ []) s
+    expand_part c (Single single.Plain t) s = gives (Bytes Quoted t ∷ []) s
+    -- which bytes the escapes in `$'` stand for is not stated, so that they may be any (XCU 2.2.4)
+    expand_part c (Single single.Dollar t) s = gives (Bytes Quoted (s.given 0).text ∷ []) (taken s)
     expand_part c (Double w) s = followed (gives (quote_pieces (c.split && has_every w)) s) (expand (in_quotes c) w)
     expand_part c (Expansion at p operator) s = expand_operator c p operator (s.given 0) (value_of p s.environment (s.given 0)) (taken s)
     expand_part c (Arithmetic at e) s = followed (gives [] (expand_inside e s)) (λ t. computed_pieces c (evaluate e t))

@@ -1,9 +1,11 @@
 -- Numbers as texts.
--- POSIX.1-2024, XCU 2.5.2 (special parameters), 2.6.4 (arithmetic expansion): decimal numerals, and which texts are integer constants.
+-- POSIX.1-2024, XCU 2.5.2 (special parameters), 2.6.4 (arithmetic expansion): decimal numerals, and which texts are integer constants; blanks may
+-- stand round a value that is computed with, and one of blanks alone is zero.
 use Rattle.std.specs.Prelude.{ℕ, zero, suc, ◌+◌, ◌/◌, ◌%◌, ◌==◌, nat_lt, Bool, true, false, not, ◌&&◌, ◌||◌, if◌then◌else◌, [], ◌∷◌, ◌++◌, length, ℤ, pos, negsuc, Option, Some, None}
 use Rattle.std.specs.List.{list_all}
-use Rattle.sh_tree.specs.language.Bytes.{is_digit, is_octal, is_hexadecimal, decimal}
+use Rattle.sh_tree.specs.language.Bytes.{is_digit, is_octal, is_hexadecimal, is_in, decimal}
 use Rattle.sh_tree.specs.program.Syntax.{Text}
+use Rattle.sh_table.specs.runs.Environment.{blanks}
 
 -- the last digits of a number, at most so many and one
 unfoldable pub last_digits : ℕ → ℕ → Text
@@ -46,3 +48,29 @@ is_constant (c ∷ cs) = if c == 48 then is_behind_zero cs else list_all is_digi
 unfoldable pub is_integer : Text → Bool
 is_integer [] = false
 is_integer (c ∷ cs) = if c == 43 || c == 45 then is_constant cs else is_constant (c ∷ cs)
+
+-- Values that arithmetic computes with
+
+-- space, tab and newline
+abbrev pub is_blank : ℕ → Bool
+is_blank c = is_in blanks c
+
+unfoldable pub behind_blanks : Text → Text
+behind_blanks [] = []
+behind_blanks (c ∷ cs) = if is_blank c then behind_blanks cs else c ∷ cs
+
+unfoldable pub before_blanks : Text → Text
+before_blanks [] = []
+before_blanks (c ∷ cs) = if list_all is_blank (c ∷ cs) then [] else c ∷ before_blanks cs
+
+-- the text without the blanks around it
+abbrev pub trimmed : Text → Text
+trimmed t = before_blanks (behind_blanks t)
+
+-- what an expansion in an expression has to give: an integer constant
+abbrev pub is_operand : Text → Bool
+is_operand t = is_integer (trimmed t)
+
+-- what a name in an expression has to have: an integer constant, or nothing, which is zero
+abbrev pub is_computed : Text → Bool
+is_computed t = length (trimmed t) == 0 || is_integer (trimmed t)

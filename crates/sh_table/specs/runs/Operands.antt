@@ -1,11 +1,13 @@
 -- What built-in utilities read off their operands.
 -- POSIX.1-2024, XCU 2.15 (export, readonly, set, shift, return, break, unset, exec), 3 (read, getopts).
-use Rattle.std.specs.Prelude.{ℕ, ◌+◌, ◌==◌, nat_lt, Bool, true, false, not, ◌&&◌, ◌||◌, if◌then◌else◌, List, [], ◌∷◌, ◌++◌, length, take, drop, filter, codes, Option, Some, None}
+use Rattle.std.specs.Prelude.{ℕ, ◌+◌, ◌==◌, nat_lt, Bool, true, false, not, ◌&&◌, ◌||◌, if◌then◌else◌, List, [], ◌∷◌, ◌++◌, length, take, drop, filter, codes, Option, Some, None, option_and_then}
 use Rattle.std.specs.List.{list_all, filter_map}
 use Rattle.std.specs.Str.{bytes_eq}
 use Rattle.sh_tree.specs.language.Bytes.{is_first, is_name, name_length}
 use Rattle.sh_tree.specs.language.Commands.{is_assignment}
+use Rattle.sh_tree.specs.program.Syntax as p
 use Rattle.sh_tree.specs.program.Syntax.{Text}
+use Rattle.sh_tree.specs.program.Words.{static_of}
 use Rattle.sh_table.specs.runs.Numbers.{number_in}
 
 -- An operand as a name, `=` and a value.
@@ -25,17 +27,18 @@ is_dashed _ = false
 abbrev pub ends_options : Text → Bool
 ends_options t = bytes_eq t (codes "--")
 
--- what `unset` removes: by `-v` variables, by `-f` functions, without options a variable or else a function, otherwise both
+-- what `unset` removes: by `-v` variables, by `-f` functions, without options a variable or else a function; by both together, or by
+-- options that the standard does not have, either, both or none
 pub data Removal : Type 0 where
   OfVariables : Removal
   OfFunctions : Removal
   OfEither : Removal
-  OfBoth : Removal
+  OfAny : Removal
 
 unfoldable pub removal_of : Text → Removal
 removal_of [] = OfEither
 removal_of (c ∷ cs) =
-    if list_all (λ d. d == 118) (c ∷ cs) then OfVariables else (if list_all (λ d. d == 102) (c ∷ cs) then OfFunctions else OfBoth)
+    if list_all (λ d. d == 118) (c ∷ cs) then OfVariables else (if list_all (λ d. d == 102) (c ∷ cs) then OfFunctions else OfAny)
 
 -- the options' letters so far, and the names
 unfoldable pub unset_from : Text → List Text → Removal × List Text
@@ -72,10 +75,11 @@ unfoldable pub count_operand : List Text → Option ℕ
 count_operand [] = Some 1
 count_operand (t ∷ ts) = number_in t
 
--- the operand of `return`, if it is a status
-unfoldable pub status_operand : List Text → Option ℕ
-status_operand [] = None
-status_operand (t ∷ ts) = status_in (number_in t)
+-- the status that `return` names: its operand, if that is static and a number below 256
+unfoldable pub status_operand : p.Words → Option ℕ
+status_operand p.no_words = None
+status_operand (p.more_words name p.no_words) = None
+status_operand (p.more_words name (p.more_words w ws)) = status_in (option_and_then number_in (static_of w))
   where
     status_in : Option ℕ → Option ℕ
     status_in None = None

@@ -18,7 +18,7 @@ pub record State : Type 0 where
   pub copies : List Copy
   -- a parameter that is not set was met
   pub unset : Bool
-  -- arithmetic met a value that is no integer constant
+  -- arithmetic met a value that it does not compute with
   pub strays : Bool
   -- the process ends
   pub ended : Bool

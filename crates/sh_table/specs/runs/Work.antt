@@ -16,7 +16,13 @@ Assignments = List (Text × p.Word)
 abbrev pub Saved : Type 0
 Saved = List (Text × Option Text)
 
--- what is left to do, a piece for each place at which a command of the syntax can stand still
+-- a simple command that is being done: its number, and what stands in it
+pub record Simple : Type 0 where
+  pub number : ℕ
+  pub elements : p.Elements
+
+-- What is left to do, a piece for each place at which a command of the syntax can stand still. A piece that belongs to one command has its
+-- number, that of a simple command the command itself.
 pub data Work : Type 0 where
   -- the items of a list that are left
   Items : p.Items → Work
@@ -27,32 +33,33 @@ pub data Work : Type 0 where
   Negation : Work
   Command : p.Command → Work
   -- a simple command: the words that are left, and the fields so far
-  Words : (left : p.Words) (fields : List Text) (redirects : p.Redirects) (assignments : Assignments) → Work
+  Words : (command : Simple) (left : p.Words) (fields : List Text) (redirects : p.Redirects) (assignments : Assignments) → Work
   -- its redirections and assignments that are left; whether a redirection failed
-  Prepare : (fields : List Text) (redirects : p.Redirects) (assignments : Assignments) (failed : Bool) → Work
-  -- a utility, its prefix assignments that are left, the names of all of them, and the values so far
-  Utility : (name : Text) (operands : List Text) (assignments : Assignments) (prefixes : List Text) (values : List (Text × Text)) → Work
-  -- a function, the prefix assignments that are left, and what the names of the others had before, the last one first
-  Call : (operands : List Text) (body : p.Command) (assignments : Assignments) (saved : Saved) → Work
-  -- the return mark: what the names of prefix assignments had before
-  Return : (saved : Saved) → Work
+  Prepare : (command : Simple) (fields : List Text) (redirects : p.Redirects) (assignments : Assignments) (failed : Bool) → Work
+  -- a utility, its redirections and prefix assignments that are left, the names of all assignments, and the values so far
+  Utility : (command : Simple) (name : Text) (operands : List Text) (redirects : p.Redirects) (assignments : Assignments) (prefixes : List Text) (values : List (Text × Text)) → Work
+  -- a function by its name, the redirections and prefix assignments that are left, and what the names of the other assignments had before,
+  -- the last one first
+  Call : (number : ℕ) (function : Text) (operands : List Text) (body : p.Command) (redirects : p.Redirects) (assignments : Assignments) (saved : Saved) → Work
+  -- the return mark of a call: the function, and what the names of prefix assignments had before
+  Return : (number : ℕ) (function : Text) (saved : Saved) → Work
   -- a compound command, its redirections that are left before it
-  Compound : (redirects : p.Redirects) (kind : p.Kind) → Work
-  If : (branches : p.Branches) (otherwise : p.Otherwise) → Work
-  Then : (body : p.Items) (branches : p.Branches) (otherwise : p.Otherwise) → Work
+  Compound : (number : ℕ) (redirects : p.Redirects) (kind : p.Kind) → Work
+  If : (number : ℕ) (branches : p.Branches) (otherwise : p.Otherwise) → Work
+  Then : (number : ℕ) (body : p.Items) (branches : p.Branches) (otherwise : p.Otherwise) → Work
   -- the mark of a loop under its condition, with the status that the loop has if no other turn comes, and under its body
-  Test : (kind : LoopKind) (condition body : p.Items) (last : ℕ) → Work
-  Again : (kind : LoopKind) (condition body : p.Items) → Work
+  Test : (number : ℕ) (kind : LoopKind) (condition body : p.Items) (last : ℕ) → Work
+  Again : (number : ℕ) (kind : LoopKind) (condition body : p.Items) → Work
   -- the words of `for` that are left, and the fields so far
-  ForWords : (name : Text) (left : p.Words) (fields : List Text) (body : p.Items) → Work
+  ForWords : (number : ℕ) (name : Text) (left : p.Words) (fields : List Text) (body : p.Items) → Work
   -- the mark of `for`, with the fields that are left
-  Turns : (name : Text) (fields : List Text) (body : p.Items) → Work
+  ForFields : (number : ℕ) (name : Text) (fields : List Text) (body : p.Items) → Work
   -- the clauses of `case` that are left
-  Clauses : p.Clauses → Work
+  Clauses : (number : ℕ) (clauses : p.Clauses) → Work
   -- the patterns of a clause that are left, its list and its end, and the clauses behind it
-  Patterns : (left : p.Words) (body : p.Items) (end : ClauseEnd) (rest : p.Clauses) → Work
+  Patterns : (number : ℕ) (left : p.Words) (body : p.Items) (end : ClauseEnd) (rest : p.Clauses) → Work
   -- `;&`: the list of the next clause
-  Fall : p.Clauses → Work
+  Fall : (number : ℕ) (clauses : p.Clauses) → Work
 
 -- a process that is started: it shares the environment and the innermost frame, or has copies
 pub data Start : Type 0 where
@@ -78,7 +85,7 @@ pub record Effect : Type 0 where
   pub unset : Bool
   -- it gives an expansion's value to splitting or pathname expansion that could change it
   pub split : Bool
-  -- it computes with a value that is no integer constant
+  -- it meets a value in arithmetic that is neither nothing nor an integer constant
   pub strays : Bool
 
 -- a step without expansions: the process goes on
@@ -113,10 +120,10 @@ nth_mark n further turn behind = if nat_le n 1 then marked turn behind else or_n
 
 unfoldable pub loop_mark : ℕ → List Work → Mark
 loop_mark n [] = no_loop
-loop_mark n (Return saved ∷ ws) = no_loop
-loop_mark n (Test kind condition body last ∷ ws) = nth_mark n (loop_mark (n - 1) ws) (Again kind condition body) ws
-loop_mark n (Again kind condition body ∷ ws) = nth_mark n (loop_mark (n - 1) ws) (Again kind condition body) ws
-loop_mark n (Turns name fields body ∷ ws) = nth_mark n (loop_mark (n - 1) ws) (Turns name fields body) ws
+loop_mark n (Return number function saved ∷ ws) = no_loop
+loop_mark n (Test number kind condition body last ∷ ws) = nth_mark n (loop_mark (n - 1) ws) (Again number kind condition body) ws
+loop_mark n (Again number kind condition body ∷ ws) = nth_mark n (loop_mark (n - 1) ws) (Again number kind condition body) ws
+loop_mark n (ForFields number name fields body ∷ ws) = nth_mark n (loop_mark (n - 1) ws) (ForFields number name fields body) ws
 loop_mark n (w ∷ ws) = loop_mark n ws
 
 -- `break` goes on behind the loop, `continue` with its next turn; outside loops both change nothing
@@ -131,5 +138,5 @@ continued (marked turn behind) ws = turn ∷ behind
 -- the innermost return mark, and the work behind it
 unfoldable pub return_mark : List Work → Option (Saved × List Work)
 return_mark [] = None
-return_mark (Return saved ∷ ws) = Some (saved, ws)
+return_mark (Return number function saved ∷ ws) = Some (saved, ws)
 return_mark (w ∷ ws) = return_mark ws

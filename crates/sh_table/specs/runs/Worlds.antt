@@ -30,7 +30,7 @@ pub record World : Type 0 where
   pub next_environment : ℕ
   pub next_frame : ℕ
   pub next_process : ℕ
-  -- arithmetic met a value that is no integer constant: nothing is said of what comes then
+  -- arithmetic met a value that is neither nothing nor an integer constant: nothing is said of what comes then
   pub over : Bool
 
 -- the innermost frame

@@ -104,7 +104,7 @@ colon_start v = with_variable (start_with v) (codes "IFS") (Some (codes ":"))
 -- Answers and moves
 
 abbrev pub quiet_given : Given
-quiet_given = record { text = []; number = 0; integer = pos 0; fails = false; carries = false }
+quiet_given = record { text = []; number = 0; integer = pos 0; fails = false; reads_first = false; carries = false }
 
 -- every status is zero, nothing fails, nothing is shared or put back
 unfoldable pub quiet : Answer
@@ -113,16 +113,24 @@ quiet =
       given = λ n. quiet_given;
       directory = λ field. [];
       status = 0;
-      fails = false;
-      ends = false;
+      redirection_fails = false;
+      redirection_ends = false;
+      redirection_leaves_out = false;
+      assignment_fails = false;
+      special_ends = false;
       matches = false;
       values = λ n. None;
       removes = λ n. false;
+      removes_variable = λ n. false;
+      removes_function = λ n. false;
+      sets_parameters = false;
       count = 0;
       shares = λ n. false;
       restores = λ n. false;
-      assigns_first = false;
-      copies = false;
+      assignment_first = false;
+      redirection_in_copy = false;
+      value_in_copy = false;
+      redirections_in_process = false;
       sees = false;
       takes_function = false;
       pattern = 0;
@@ -203,6 +211,13 @@ parameter q = only (Expansion 0 q Value)
 -- `'a'\b"c"`
 abbrev pub quotations : Word
 quotations = more_parts (Single single.Plain (codes "a")) (more_parts (Escaped (codes "b")) (only (Double (plain (codes "c")))))
+
+-- `x=$'a'`, whose bytes are the answer's
+abbrev pub dollar_quotes : Items
+dollar_quotes = to_x (only (Single single.Dollar (codes "a")))
+
+abbrev pub dollar_moves : List Move
+dollar_moves = steps 0 4 ++ by 0 (record quiet { given = λ n. record quiet_given { text = codes "b" } }) ∷ []
 
 -- `x=$(case a in a) echo b;; esac)`; the answer to the substitution; in its process the pattern matches
 abbrev pub substituted : Items
@@ -340,7 +355,7 @@ abbrev pub opened : Items
 opened = lone (simple 1 0 (redirection (File (x_used action.Assign false)) no_elements))
 
 abbrev pub redirect_fails : List Move
-redirect_fails = steps 0 5 ++ by 0 (record quiet { fails = true }) ∷ []
+redirect_fails = steps 0 5 ++ by 0 (record quiet { redirection_fails = true }) ∷ []
 
 -- `set -- a b; shift`
 abbrev pub shifted : Items
@@ -427,6 +442,8 @@ pub record RunsAsExpected : Type 0 where
   -- `x=${#x}`, `x='a'\b"c"`, and `x=~`, which has HOME's value
   pub length_is_counted : x_is (ran (start_with (codes "abc")) [] (to_x (only (expansion 0 Length))) to_x_moves) ≡ Some (Some (codes "3"))
   pub quotes_go : x_is (ran bare_start [] (to_x quotations) to_x_moves) ≡ Some (Some (codes "abc"))
+  -- `x=$'a'` has the answer's bytes
+  pub dollar_quotes_hold_any : x_is (ran bare_start [] dollar_quotes dollar_moves) ≡ Some (Some (codes "b"))
   pub home_is_given : x_is (ran (with_variable bare_start (codes "HOME") (Some (codes "/h"))) [] (to_x (only (Tilde 0 []))) to_x_moves) ≡ Some (Some (codes "/h"))
   pub home_is_unset : unset_next (ran bare_start [] (to_x (only (Tilde 0 []))) (steps 0 4)) ≡ Some true
   -- `x=$(case a in a) echo b;; esac)`: x has what the answer gives, a process is started, and both end, in any order
@@ -506,7 +523,7 @@ pub record RunsAsExpected : Type 0 where
   pub other_redirection_goes_on : status (ran bare_start [] (redirected (codes "echo")) redirect_fails) ≡ Some 1
   -- `>${x=w}`: without a command name the word is expanded in the shell, or in a copy
   pub redirection_sets : x_is (ran bare_start [] opened (steps 0 5)) ≡ Some (Some (codes "w"))
-  pub redirection_copies : x_is (ran bare_start [] opened (steps 0 4 ++ by 0 (record quiet { copies = true }) ∷ [])) ≡ Some None
+  pub redirection_copies : x_is (ran bare_start [] opened (steps 0 4 ++ by 0 (record quiet { redirection_in_copy = true }) ∷ [])) ≡ Some None
   -- `set -- a b; shift`
   pub set_gives_parameters : frame (ran bare_start [] shifted (steps 0 9)) ≡ Some a_and_b
   pub shift_removes_one : frame (ran bare_start [] shifted (steps 0 16)) ≡ Some (codes "b" ∷ [])
@@ -555,7 +572,7 @@ pub record RunsAsExpected : Type 0 where
   pub unset_removes : x_is (ran (start_with (codes "v")) [] (lone (says (codes "unset" ∷ codes "x" ∷ []))) (steps 0 7)) ≡ Some None
   -- `exec`: the shell goes on, unless an error ends it
   pub exec_goes_on : lives 0 (ran bare_start [] (lone (says_one (codes "exec"))) (steps 0 6)) ≡ Some true
-  pub exec_fails : lives 0 (ran bare_start [] (lone (says_one (codes "exec"))) (steps 0 5 ++ by 0 (record quiet { ends = true }) ∷ [])) ≡ Some false
+  pub exec_fails : lives 0 (ran bare_start [] (lone (says_one (codes "exec"))) (steps 0 5 ++ by 0 (record quiet { special_ends = true }) ∷ [])) ≡ Some false
   -- `exit`
   pub exit_ends : lives 0 (ran bare_start [] (lone (says_one (codes "exit"))) (steps 0 6)) ≡ Some false
   -- `sleep 1 & echo "$!"`: a process is started, and `!` is set; `echo "$!"` alone has an Unset event

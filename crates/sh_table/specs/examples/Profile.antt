@@ -20,10 +20,10 @@ use Rattle.sh_tree.specs.program.Examples.{only, simple, lone}
 use Rattle.sh_tree.specs.program.Syntax as p
 use Rattle.sh_tree.specs.program.Syntax.{Text}
 use Rattle.sh_table.specs.declared.kind.Kind.TheVariants as kind
-use Rattle.sh_table.specs.Examples.{elements_of, compound, list, both, quoted_x}
+use Rattle.sh_table.specs.examples.Runs.{elements_of, compound, list, both, quoted_x}
 use Rattle.sh_table.specs.Kinds.{kind_of}
 use Rattle.sh_table.specs.Profile.{Refused, first_refused}
-use Rattle.sh_table.specs.StepExamples.{piece}
+use Rattle.sh_table.specs.examples.Steps.{piece}
 
 -- Commands as lines: words with one blank between two, each `"$x"`, a text in single quotes, or plain bytes
 
@@ -155,13 +155,14 @@ lists_running =
 
 pub record NamesAsExpected : Type 0 where
   pub special :
-      map kind_of (words (codes "break : continue exec exit export readonly return set shift times trap unset"))
-      ≡ kind.Break ∷ kind.Colon ∷ kind.Continue ∷ kind.Exec ∷ kind.Exit ∷ kind.Export ∷ kind.Readonly ∷ kind.Return ∷ kind.Set ∷ kind.Shift ∷ kind.Times ∷ kind.Trap ∷ kind.Unset ∷ []
+      map kind_of (words (codes "break : continue . eval exec exit export readonly return set shift times trap unset"))
+      ≡ map kind.Special
+      (known.Break ∷ known.Colon ∷ known.Continue ∷ known.Dot ∷ known.Eval ∷ known.Exec ∷ known.Exit ∷ known.Export ∷ known.Readonly ∷ known.Return ∷ known.Set ∷ known.Shift ∷ known.Times ∷ known.Trap ∷ known.Unset ∷ [])
   pub analysed : map kind_of (words (codes "cd command false getopts read true")) ≡ kind.Cd ∷ kind.Command ∷ kind.False ∷ kind.Getopts ∷ kind.Read ∷ kind.True ∷ []
   pub refused :
-      map kind_of (words (codes ". eval alias unalias fc local typeset declare source let builtin nameref integer float mapfile readarray shopt [[ ]] function select time namespace"))
+      map kind_of (words (codes "alias unalias fc local typeset declare source let builtin nameref integer float mapfile readarray shopt [[ ]] function select time namespace"))
       ≡ map kind.Refused
-      (known.Dot ∷ known.Eval ∷ known.Alias ∷ known.Unalias ∷ known.Fc ∷ known.Local ∷ known.Typeset ∷ known.Declare ∷ known.Source ∷ known.Let ∷ known.Builtin ∷ known.Nameref
+      (known.Alias ∷ known.Unalias ∷ known.Fc ∷ known.Local ∷ known.Typeset ∷ known.Declare ∷ known.Source ∷ known.Let ∷ known.Builtin ∷ known.Nameref
       ∷ known.Integer ∷ known.Float ∷ known.Mapfile ∷ known.Readarray ∷ known.Shopt ∷ known.LeftBrackets ∷ known.RightBrackets ∷ known.Function ∷ known.Select ∷ known.Time ∷ known.Namespace ∷ [])
   pub utilities : map kind_of (words (codes "ls [ echo test wait hash evals Eval ..")) ≡ replicate 9 kind.Utility
 

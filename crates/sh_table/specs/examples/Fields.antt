@@ -15,7 +15,7 @@ use Rattle.sh_table.specs.runs.Answers.{Given, Directory}
 use Rattle.sh_table.specs.runs.States.{State, fresh}
 use Rattle.sh_table.specs.runs.Expansion.{Outcome, in_fields, expand}
 use Rattle.sh_table.specs.Theorem.{fields_of}
-use Rattle.sh_table.specs.Examples.{bare_x, quoted_x, every, bare_start, start_with, quiet_given}
+use Rattle.sh_table.specs.examples.Runs.{bare_x, quoted_x, every, bare_start, start_with, quiet_given}
 
 -- Words
 
@@ -67,6 +67,10 @@ x_chooses = computed (Choice (name (codes "x")) (name (codes "y")) (name (codes 
 abbrev pub expanded_sum : Word
 expanded_sum = computed (Chain (Expanded (expansion 0 Value)) (more_operands binary.Add one no_operands))
 
+-- `$((x + 1))`
+abbrev pub named_sum : Word
+named_sum = computed (Chain (name (codes "x")) (more_operands binary.Add one no_operands))
+
 -- Starts
 
 abbrev pub with_ifs : Text → Environment → Environment
@@ -104,6 +108,13 @@ integers k n = record quiet_given { integer = k }
 
 abbrev pub expanded_by : (ℕ → Given) → Environment → Frame → Word → Outcome
 expanded_by given e f w = expand f 0 in_fields w (fresh e given)
+
+-- `$((x += (x = 1)))`; x is read first, or not
+abbrev pub added : Word
+added = computed (Assigned 0 (codes "x") (Some binary.Add) (Parenthesis (x_gets one)))
+
+abbrev pub reading : Bool → ℕ → Given
+reading first n = record quiet_given { integer = pos 3; reads_first = first }
 
 -- a directory without names, and one with two, for each pattern
 abbrev pub empty_directory : Directory
@@ -268,6 +279,9 @@ pub record ComputedAsExpected : Type 0 where
   pub assigned_unmet : is_unset bare_start (computed (x_gets (Constant (codes "2")))) ≡ false
   -- `$((x += 1))` reads x
   pub added_met : is_unset bare_start (computed (Assigned 0 (codes "x") (Some binary.Add) one)) ≡ true
+  -- `$((x += (x = 1)))` reads x before it is assigned, or behind that; it has the last answer's integer
+  pub added_to_assigned : map (λ first. (state_by (reading first) bare_start added).unset) (true ∷ false ∷ []) ≡ true ∷ false ∷ []
+  pub added_value : map (λ first. x_by (reading first) bare_start added) (true ∷ false ∷ []) ≡ Some (codes "3") ∷ Some (codes "3") ∷ []
   -- `$((0 && (x=1)))`, where the answer for `0` is zero, and where it is one; `$((1 || (x=1)))`
   pub and_zero : x_by (integers (pos 0)) bare_start (computed (Chain (Constant (codes "0")) (more_operands binary.And (Parenthesis (x_gets one)) no_operands))) ≡ None
   pub and_one : x_by (integers (pos 1)) bare_start (computed (Chain (Constant (codes "0")) (more_operands binary.And (Parenthesis (x_gets one)) no_operands))) ≡ Some (codes "1")
@@ -281,6 +295,11 @@ pub record ComputedAsExpected : Type 0 where
   pub expanded_text : strays (start_with (codes "a")) expanded_sum ≡ true
   pub expanded_nothing : strays (start_with []) expanded_sum ≡ true
   pub expanded_unset : is_unset bare_start expanded_sum ≡ true
+  pub expanded_blanks : map (λ t. strays (start_with t) expanded_sum) (codes " 5 " ∷ codes "\t-0x1F\n" ∷ codes " " ∷ codes "1 2" ∷ []) ≡ false ∷ false ∷ true ∷ true ∷ []
+  -- `$((x + 1))`: x may be empty, and blanks may stand round its value
+  pub named_value :
+      map (λ t. strays (start_with t) named_sum) ([] ∷ codes " " ∷ codes " 5 " ∷ codes "\t-0x1F\n" ∷ codes "1 2" ∷ codes "- 1" ∷ codes "a" ∷ [])
+      ≡ false ∷ false ∷ false ∷ false ∷ true ∷ true ∷ true ∷ []
   -- `$((1 / 0))`: a division that fails ends the process
   pub division : is_ended bare_start (computed (Chain one (more_operands binary.Divide one no_operands))) ≡ false
   pub division_fails : (state_by (λ n. record quiet_given { fails = n == 2 }) bare_start (computed (Chain one (more_operands binary.Divide one no_operands)))).ended ≡ true

@@ -1,6 +1,7 @@
 -- Runs of small programs to their end, against which the steps of commands are held.
 -- POSIX.1-2024, XCU 2.7 (redirection), 2.8.1 (consequences of shell errors), 2.9 (shell commands), 2.15 (special built-in utilities).
 use Rattle.std.specs.Prelude.{◌≡◌, ℕ, zero, suc, ◌==◌, ◌||◌, Bool, true, false, List, [], ◌∷◌, replicate, map, codes, Option, Some, None, is_some, unwrap_or, option_map, slice_get}
+use Rattle.std.specs.List.{flat_map}
 use Rattle.sh_tree.specs.declared.tree.Action.TheVariants as action
 use Rattle.sh_tree.specs.declared.tree.ClauseEnd.TheVariants as clause
 use Rattle.sh_tree.specs.declared.tree.Link.TheVariants as link
@@ -9,11 +10,13 @@ use Rattle.sh_tree.specs.declared.tree.LoopKind.TheVariants as loop
 use Rattle.sh_tree.specs.declared.tree.Special as tree
 use Rattle.sh_tree.specs.declared.tree.Special.TheVariants as special
 use Rattle.sh_tree.specs.program.Syntax.{Text, Variable, Positional, Special, Plain, Double, Expansion, Word, more_parts, Value, Use, Items, more_items, and_or, Links, no_links, more_links, Pipeline, pipeline, Command, no_commands, more_commands, command, Kind, Group, Subshell, Conditional, Loop, For, Case, Define, no_elements, assignment, redirection, File, no_redirects, more_redirects, Branches, more_branches, no_branches, no_else, else_of, listed, no_clauses, more_clauses}
-use Rattle.sh_tree.specs.program.Examples.{only, plain, simple}
+use Rattle.sh_tree.specs.program.Examples as program
+use Rattle.sh_tree.specs.program.Examples.{only, plain, simple, alone, lone}
 use Rattle.sh_table.specs.runs.Environment.{Environment, Frame, with_variable}
 use Rattle.sh_table.specs.runs.Answers.{Answer}
+use Rattle.sh_table.specs.runs.Work.{Work, Words, Again, Return}
 use Rattle.sh_table.specs.runs.Worlds.{World, Move, step, has_unset_event, has_split_event, start_world}
-use Rattle.sh_table.specs.Examples.{elements_of, words_of, utility, assign, says, says_one, compound, list, both, bare_start, start_with, quiet, with_status, by, a_and_b, put_back}
+use Rattle.sh_table.specs.examples.Runs.{elements_of, words_of, utility, assign, says, says_one, compound, list, both, bare_start, start_with, quiet, with_status, by, a_and_b, put_back}
 
 -- Words and commands
 
@@ -153,22 +156,22 @@ abbrev pub is_defined : Answer → List Command → Bool
 is_defined a cs = is_some (((ends_by a bare_start [] (list cs)).environments 0).functions f)
 
 abbrev pub copying : Answer
-copying = record quiet { copies = true }
+copying = record quiet { redirection_in_copy = true; value_in_copy = true; redirections_in_process = true }
 
 abbrev pub failing : Answer
-failing = record quiet { fails = true }
+failing = record quiet { redirection_fails = true }
 
 abbrev pub failing_first : Answer
-failing_first = record quiet { fails = true; assigns_first = true }
+failing_first = record quiet { redirection_fails = true; assignment_first = true }
 
 abbrev pub failing_ends : Answer
-failing_ends = record quiet { fails = true; ends = true }
+failing_ends = record quiet { redirection_fails = true; redirection_ends = true; redirection_leaves_out = true }
 
 abbrev pub ending : Answer
-ending = record quiet { ends = true }
+ending = record quiet { assignment_fails = true; special_ends = true }
 
 abbrev pub assigning_first : Answer
-assigning_first = record quiet { assigns_first = true }
+assigning_first = record quiet { assignment_first = true }
 
 abbrev pub just : Text → Option Text
 just t = Some t
@@ -236,6 +239,19 @@ target = plain (codes "t")
 abbrev pub crossing : List Word → Command
 crossing ws = simple 1 0 (assignment x (value_of y) (redirection (File (assigning y (codes "t"))) (elements_of ws)))
 
+abbrev pub ls : Text
+ls = codes "ls"
+
+-- `x="${y=t}" name >"$y"`, and `x=1 name >target`
+abbrev pub valued_before : Text → List Command
+valued_before name = simple 1 0 (assignment x (assigning y (codes "t")) (redirection (File (value_of y)) (elements_of (plain name ∷ [])))) ∷ []
+
+abbrev pub prefixed_to : Text → Word → Command
+prefixed_to name target = simple 1 0 (assignment x (plain (codes "1")) (redirection (File target) (elements_of (plain name ∷ []))))
+
+abbrev pub restoring_first : Answer
+restoring_first = record assigning_first { restores = λ n. true }
+
 -- `x=1 >t` before `s="$?"`
 abbrev pub opens_behind : World
 opens_behind = start_world bare_start [] (list (simple 1 0 (assignment x (plain (codes "1")) (redirection (File target) no_elements)) ∷ notes ∷ []))
@@ -285,12 +301,27 @@ pub record RedirectsAsExpected : Type 0 where
   pub group_ends : x_and_status failing_ends (opened (Group (list (one x ∷ []))) target ∷ notes ∷ []) ≡ None ∷ None ∷ []
   pub function_fails : x_and_status failing (function f (one x ∷ []) ∷ opens (plain f ∷ []) target ∷ notes ∷ []) ≡ None ∷ just (codes "1") ∷ []
   pub function_ends : x_and_status failing_ends (function f (one x ∷ []) ∷ opens (plain f ∷ []) target ∷ notes ∷ []) ≡ None ∷ None ∷ []
-  -- `x="$y" >"${y=t}"`: the redirection first, or the assignment, which then meets y; `x="$y" : >"${y=t}"` too; before `ls` in this order alone
+  -- `x="$y" >"${y=t}"`: the redirection first, or the assignment, which then meets y; `x="$y" : >"${y=t}"` too; before `ls` too
   pub redirection_first : seen quiet (x ∷ y ∷ []) (crossing [] ∷ []) ≡ just (codes "t") ∷ just (codes "t") ∷ []
   pub assignment_first : seen assigning_first (x ∷ y ∷ []) (crossing [] ∷ []) ≡ just [] ∷ just (codes "t") ∷ []
   pub assignment_first_meets : map (λ a. meets_unset a bare_start (list (crossing [] ∷ []))) (quiet ∷ assigning_first ∷ []) ≡ false ∷ true ∷ []
   pub special_meets : map (λ a. meets_unset a bare_start (list (crossing (plain (codes ":") ∷ []) ∷ []))) (quiet ∷ assigning_first ∷ []) ≡ false ∷ true ∷ []
-  pub utility_meets : map (λ a. meets_unset a bare_start (list (crossing (plain (codes "ls") ∷ []) ∷ []))) (quiet ∷ assigning_first ∷ []) ≡ false ∷ false ∷ []
+  pub utility_meets : map (λ a. meets_unset a bare_start (list (crossing (plain (codes "ls") ∷ []) ∷ []))) (quiet ∷ assigning_first ∷ []) ≡ false ∷ true ∷ []
+  -- `x="${y=t}" ls >"$y"`, and before the function f: the redirection first meets y, and the assignment first sets it
+  pub value_before_meets : map (λ a. meets_unset a bare_start (list (valued_before ls))) (quiet ∷ assigning_first ∷ []) ≡ true ∷ false ∷ []
+  pub value_before_call_meets : map (λ a. meets_unset a bare_start (list (function f (one z ∷ []) ∷ valued_before f))) (quiet ∷ assigning_first ∷ []) ≡ true ∷ false ∷ []
+  -- `x=1 ls >"$x"`, and before f: the redirection does not see the assignment, in either order
+  pub redirection_sees_no_value :
+      map (λ name. map (λ a. meets_unset a bare_start (list (function f (one z ∷ []) ∷ prefixed_to name (value_of x) ∷ []))) (quiet ∷ assigning_first ∷ [])) (ls ∷ f ∷ [])
+      ≡ (true ∷ true ∷ []) ∷ (true ∷ true ∷ []) ∷ []
+  -- `f() { z="$x"; }; x=1 f >"${y=t}"`, with the assignment first: it is called, and x stays, or is put back; where the redirection fails it is not
+  pub call_behind_values :
+      map (λ a. seen a (x ∷ y ∷ z ∷ []) (function f (gives z (value_of x) ∷ []) ∷ prefixed_to f (assigning y (codes "t")) ∷ [])) (assigning_first ∷ restoring_first ∷ [])
+      ≡ (just (codes "1") ∷ just (codes "t") ∷ just (codes "1") ∷ []) ∷ (None ∷ just (codes "t") ∷ just (codes "1") ∷ []) ∷ []
+  pub call_fails_behind_values :
+      map (λ a. seen a (x ∷ y ∷ z ∷ []) (function f (gives z (value_of x) ∷ []) ∷ prefixed_to f (assigning y (codes "t")) ∷ []))
+      (failing_first ∷ record restoring_first { redirection_fails = true } ∷ [])
+      ≡ (just (codes "1") ∷ just (codes "t") ∷ None ∷ []) ∷ (None ∷ just (codes "t") ∷ None ∷ []) ∷ []
 
 -- `x=1 y=word ls`; `"${x+$z}"`
 abbrev pub shown_to : Word → Command
@@ -389,6 +420,15 @@ taking = record quiet { takes_function = true }
 abbrev pub with_f : List Command → List Command
 with_f cs = function f (says_one (codes ":") ∷ []) ∷ cs
 
+-- the variable f, and whether the function is defined, behind `f() { :; }; f=1; unset letters f`
+abbrev pub unset_by : Text → Answer → Option Text × Bool
+unset_by letters a =
+    let w = ends_by a bare_start [] (list (with_f (one f ∷ unsets (letters ∷ f ∷ []) ∷ []))) in
+    (value f w, is_some ((w.environments 0).functions f))
+
+abbrev pub removing_either : Bool → Bool → Answer
+removing_either variable function = record quiet { removes_variable = λ n. variable; removes_function = λ n. function }
+
 abbrev pub opt_names : List Text
 opt_names = x ∷ codes "OPTIND" ∷ codes "OPTARG" ∷ []
 
@@ -408,11 +448,15 @@ pub record BuiltinsAsExpected : Type 0 where
   pub unset_either : map (λ a. is_defined a (with_f (unsets (f ∷ []) ∷ []))) (taking ∷ quiet ∷ []) ≡ false ∷ true ∷ []
   pub unset_variable_first : is_defined taking (with_f (one f ∷ unsets (f ∷ []) ∷ [])) ≡ true
   pub unset_function_alone : seen quiet (f ∷ []) (with_f (one f ∷ unsets (codes "-f" ∷ f ∷ []) ∷ [])) ≡ just (codes "1") ∷ []
+  -- `f=1; unset -vf f`, and `-n`, which the standard does not have: the variable goes or stays, and the function does, on zero too
+  pub unset_letters :
+      map (λ a. map (λ letters. unset_by letters a) (codes "-vf" ∷ codes "-n" ∷ [])) (removing_either false false ∷ removing_either true false ∷ removing_either false true ∷ removing_either true true ∷ [])
+      ≡ replicate 2 (just (codes "1"), true) ∷ replicate 2 (None, true) ∷ replicate 2 (just (codes "1"), false) ∷ replicate 2 (None, false) ∷ []
   pub unset_ends : seen ending (x ∷ []) (unsets (x ∷ []) ∷ one x ∷ []) ≡ None ∷ []
   -- `set c`, on zero and on another status, where the parameters may change; `set -o errexit`, `set -e`, `set -eo errexit c`, `set -e -- -c`, `set --`, `set +e c`
   pub set_one : parameters quiet (sets (codes "c" ∷ []) ∷ []) ≡ codes "c" ∷ []
   pub set_fails : parameters (with_status 1) (sets (codes "c" ∷ []) ∷ []) ≡ a_and_b
-  pub set_fails_behind : parameters (record quiet { status = 1; removes = λ n. true }) (sets (codes "c" ∷ []) ∷ []) ≡ codes "c" ∷ []
+  pub set_fails_behind : parameters (record quiet { status = 1; sets_parameters = true }) (sets (codes "c" ∷ []) ∷ []) ≡ codes "c" ∷ []
   pub set_option_word : parameters quiet (sets (codes "-o" ∷ codes "errexit" ∷ []) ∷ []) ≡ a_and_b
   pub set_option : parameters quiet (sets (codes "-e" ∷ []) ∷ []) ≡ a_and_b
   pub set_alone : parameters quiet (sets [] ∷ []) ≡ a_and_b
@@ -520,11 +564,31 @@ opening_function =
     let first = only (Expansion 0 (Positional 1) Value) in
     compound (Define f (opened (Group (list (says_one (codes ":") ∷ []))) (only (Double (only (Expansion 0 (Variable x) (Use action.Assign false first)))))))
 
+-- the number of the command that a piece of work belongs to, and the function at a return mark
+unfoldable pub numbered : Work → List (ℕ × Text)
+numbered (Words c left ts rs xs) = (c.number, []) ∷ []
+numbered (Again n kind while_list body) = (n, []) ∷ []
+numbered (Return n t saved) = (n, t) ∷ []
+numbered _ = []
+
+-- `f() { while :; do break; done; }; f`, with the numbers of its commands
+abbrev pub numbered_calls : Items
+numbered_calls =
+    let loops = command 3 0 (Loop loop.While (lone (program.utility 4 0 (codes ":"))) (lone (program.utility 5 0 (codes "break")))) no_redirects in
+    let defines = command 1 0 (Define f (command 2 0 (Group (lone loops)) no_redirects)) no_redirects in
+    alone defines (lone (program.utility 6 0 f))
+
 pub record CallsAsExpected : Type 0 where
   -- `f() { return 3; x=1; }; f`; `f() { return; x=1; }; f` and `f() { return 256; }; f`, which have any status; `return 3` outside
   pub return_in_function : x_and_status quiet (function f (returns ∷ one x ∷ []) ∷ says_one f ∷ notes ∷ []) ≡ None ∷ just (codes "3") ∷ []
   pub return_alone : x_and_status (with_status 7) (function f (says_one (codes "return") ∷ one x ∷ []) ∷ says_one f ∷ notes ∷ []) ≡ None ∷ just (codes "7") ∷ []
   pub return_beyond : x_and_status (with_status 7) (function f (says (codes "return" ∷ codes "256" ∷ []) ∷ []) ∷ says_one f ∷ notes ∷ []) ≡ None ∷ just (codes "7") ∷ []
+  -- `f() { return "$x"; }; x=3; f`: an operand that is computed may give any status
+  pub return_computed :
+      x_and_status (with_status 7) (function f (utility (plain (codes "return") ∷ value_of x ∷ []) ∷ []) ∷ assign x (codes "3") ∷ says_one f ∷ notes ∷ []) ≡ just (codes "3") ∷ just (codes "7") ∷ []
+  -- `f() { while :; do break; done; }; f`: at `break` the work knows its commands by their numbers, and the function that it returns from
+  pub work_is_numbered :
+      option_map (λ r. flat_map numbered r.work) ((far 30 0 quiet (start_world bare_start [] numbered_calls)).processes 0) ≡ Some ((5, []) ∷ (3, []) ∷ (6, f) ∷ [])
   pub return_outside : x_and_status quiet (returns ∷ notes ∷ []) ≡ None ∷ just (codes "3") ∷ []
   pub return_ends : x_and_status ending (returns ∷ notes ∷ []) ≡ None ∷ None ∷ []
   -- `f() { for x in a b; do return 3; done; }; f`: the loop is left
