@@ -118,6 +118,7 @@ impl WordBuilder {
     /// `Memory` where a growth was refused, and what was refused before.
     pub fn resume(&mut self, inner: Script, end: u32) -> Result<(), Refusal>
         ensures gives { (start : ℕ) → self.old.focus ≡ Focus.Commands start → self.old.failed ≡ None → MatchResult result (λ _. self.new ≡ fed self.old start inner end) (λ e. e ≡ Refusal.Memory) }
+        ensures leaves { ((start : ℕ) → self.old.focus ≡ Focus.Commands start → ⊥) → self.old.failed ≡ None → MatchResult result (λ _. self.new ≡ self.old) (λ _. ⊥) }
         ensures again { (e : refusal.Refusal) → self.old.failed ≡ Some e → (result ≡ Err e) × (self.new ≡ self.old) }
         ensures sound { (b : List ℕ) → end ≤ length b → IsSound b self.old → OnOk result (IsSound b self.new) }
         ensures fails { IfErr result (λ e. self.new.failed ≡ Some e) }

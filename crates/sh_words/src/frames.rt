@@ -20,7 +20,7 @@ pub enum Holder {
 }
 
 /// What was opened.
-#[derive(Clone, Copy, Debug, PartialEq, Eq)]
+#[derive(Clone, Copy, PartialEq, Eq)]
 pub enum Opening {
     /// Double quotes (XCU 2.2.3).
     Double,
