@@ -1,6 +1,9 @@
 -- What the counts of an end say.
 -- shset's own reading and writing; the standard says nothing of it.
-use Rattle.std.specs.Prelude.{◌≡◌, ℕ, ◌+◌, ◌-◌, ◌<◌, ◌≤◌, ◌^◌, ◌⊎◌, Result, Ok, Err, if◌then◌else◌, ◌==◌}
+use Rattle.std.specs.Prelude.{◌≡◌, ◌≢◌, ℕ, ◌+◌, ◌-◌, ◌<◌, ◌≤◌, ◌^◌, ◌⊎◌, Result, Ok, Err, if◌then◌else◌, ◌==◌}
+use Rattle.std.specs.IoError.{error_kind}
+use Rattle.std.specs.declared.io.ErrorKind.TheVariants as kind
+use Rattle.std.specs.declared.io.Error.{Error}
 use Rattle.sh_report.specs.declared.ends.Counts.{Counts}
 use Rattle.sh_report.specs.declared.ends.Broken.{Broken}
 use Rattle.sh_report.specs.declared.ends.Broken.TheVariants.{Interrupted, Failed}
@@ -26,6 +29,12 @@ abbrev pub counted : Result ℕ Broken → ℕ → Counts → Counts
 counted (Ok n) room c = with_moved n room c
 counted (Err Interrupted) room c = record c { interruptions = c.interruptions + 1 }
 counted (Err Failed) room c = record c { errors = c.errors + 1 }
+
+-- what an end answers for what its reader or writer answered: an interruption where the error is one that
+-- may be tried again, and a failure where it is any other
+abbrev pub Tells : Result ℕ Error → Result ℕ Broken → Type 0
+Tells (Ok n) r = r ≡ Ok n
+Tells (Err e) r = ((error_kind e ≡ kind.Interrupted) × (r ≡ Err Interrupted)) ⊎ ((error_kind e ≢ kind.Interrupted) × (r ≡ Err Failed))
 
 -- the end was interrupted between the two counts, and so seldom that it is borne
 abbrev pub Borne : Counts → Counts → Type 0

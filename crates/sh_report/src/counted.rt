@@ -1,10 +1,10 @@
 //! An end over any reader or writer of std.
 ghost use Rattle.std.specs.Prelude.{◌≡◌, ◌↔◌};
 ghost use Rattle.std.specs.declared.io.ErrorKind.TheVariants as error_kind;
-ghost use Rattle.sh_report.specs.Ends.{CanCount, counted, no_counts};
+ghost use Rattle.sh_report.specs.Ends.{CanCount, Tells, counted, no_counts};
 
 use crate::ends::{Broken, Counts, Feed, Outlet};
-use std::io::{ErrorKind, Read, Write};
+use std::io::{self, ErrorKind, Read, Write};
 
 /// A reader or a writer, and what went wrong at it.
 #[derive(Drop)]
@@ -28,8 +28,8 @@ impl<T> Counted<T> {
     }
 }
 
-/// Notes what a call answered that had room for so many bytes.
-pub fn note(seen: &mut Counts, answer: Result<usize, Broken>, room: usize)
+// Notes what a call answered that had room for so many bytes.
+fn note(seen: &mut Counts, answer: Result<usize, Broken>, room: usize)
     requires { CanCount seen.old }
     ensures { seen.new ≡ counted answer room seen.old }
 {
@@ -53,6 +53,21 @@ fn broken_of(kind: ErrorKind) -> Broken
     }
 }
 
+/// What an end answers where its reader or writer, which had room for so many bytes, answered this: an error that may be
+/// tried again is an interruption, and each other one a failure. What went wrong is counted.
+pub fn answered(seen: &mut Counts, answer: io::Result<usize>, room: usize) -> Result<usize, Broken>
+    requires { CanCount seen.old }
+    ensures told { Tells answer result }
+    ensures counts { seen.new ≡ counted result room seen.old }
+{
+    let answer = match answer {
+        Ok(n) => Ok(n),
+        Err(error) => Err(broken_of(error.kind())),
+    };
+    note(seen, answer, room);
+    answer
+}
+
 impl<R: Read> Feed for Counted<R> {
     ghost remaining = { λ c. R.remaining c.inner };
 
@@ -60,12 +75,8 @@ impl<R: Read> Feed for Counted<R> {
 
     fn pull(&mut self, buffer: &mut [u8]) -> Result<usize, Broken> {
         let room = buffer.len();
-        let answer = match self.inner.read(buffer) {
-            Ok(n) => Ok(n),
-            Err(error) => Err(broken_of(error.kind())),
-        };
-        note(&mut self.seen, answer, room);
-        answer
+        let answer = self.inner.read(buffer);
+        answered(&mut self.seen, answer, room)
     }
 
     fn counts(&self) -> Counts {
@@ -80,12 +91,8 @@ impl<W: Write> Outlet for Counted<W> {
 
     fn push(&mut self, piece: &[u8]) -> Result<usize, Broken> {
         let room = piece.len();
-        let answer = match self.inner.write(piece) {
-            Ok(n) => Ok(n),
-            Err(error) => Err(broken_of(error.kind())),
-        };
-        note(&mut self.seen, answer, room);
-        answer
+        let answer = self.inner.write(piece);
+        answered(&mut self.seen, answer, room)
     }
 
     fn counts(&self) -> Counts {

@@ -2,9 +2,9 @@
 ghost use Rattle.std.specs.Prelude.{◌≡◌};
 ghost use Rattle.sh_report.specs.Ends.{no_counts};
 
-use sh_report::counted::note;
+use sh_report::counted::answered;
 use sh_report::ends::{Broken, Counts, Feed, Outlet};
-use std::io::{Read, Write};
+use std::io::{self, ErrorKind, Read, Write};
 
 /// What a rigged end does at the call of its number.
 #[derive(Clone, Copy, Debug, PartialEq, Eq)]
@@ -24,7 +24,7 @@ pub struct Rigged<T> {
     interrupts: u32,
     call: u32,
     trick: Trick,
-    seen: Counts,
+    pub seen: Counts,
 }
 
 impl<T> Rigged<T> {
@@ -48,15 +48,15 @@ impl<T> Rigged<T> {
 }
 
 // How many bytes a call may move.
-fn turn(interrupts: &mut u32, call: &mut u32, trick: Trick, most: usize) -> Result<usize, Broken> {
+fn turn(interrupts: &mut u32, call: &mut u32, trick: Trick, most: usize) -> io::Result<usize> {
     if *interrupts > 0 {
         *interrupts -= 1;
-        return Err(Broken::Interrupted);
+        return Err(ErrorKind::Interrupted.into());
     }
     let is_played = *call == 1;
     *call = call.saturating_sub(1);
     match trick {
-        Trick::Fail if is_played => Err(Broken::Failed),
+        Trick::Fail if is_played => Err(ErrorKind::Other.into()),
         Trick::Refuse if is_played => Ok(0),
         _ => Ok(most),
     }
@@ -72,15 +72,11 @@ impl<R: Read> Feed for Rigged<R> {
         let answer = match turn(&mut self.interrupts, &mut self.call, self.trick, self.most) {
             Ok(most) => {
                 let most = most.max(1).min(room);
-                match self.inner.read(&mut buffer[..most]) {
-                    Ok(n) => Ok(n),
-                    Err(_) => Err(Broken::Failed),
-                }
+                self.inner.read(&mut buffer[..most])
             }
-            Err(broken) => Err(broken),
+            Err(error) => Err(error),
         };
-        note(&mut self.seen, answer, room);
-        answer
+        answered(&mut self.seen, answer, room)
     }
 
     fn counts(&self) -> Counts {
@@ -98,15 +94,11 @@ impl<W: Write> Outlet for Rigged<W> {
         let answer = match turn(&mut self.interrupts, &mut self.call, self.trick, self.most) {
             Ok(most) => {
                 let most = most.min(room);
-                match self.inner.write(&piece[..most]) {
-                    Ok(n) => Ok(n),
-                    Err(_) => Err(Broken::Failed),
-                }
+                self.inner.write(&piece[..most])
             }
-            Err(broken) => Err(broken),
+            Err(error) => Err(error),
         };
-        note(&mut self.seen, answer, room);
-        answer
+        answered(&mut self.seen, answer, room)
     }
 
     fn counts(&self) -> Counts {

@@ -3,10 +3,10 @@
 use sh_report::texts::answer;
 use sh_tree::known::{Declaration, KnownName};
 use sh_tree::refusal::{Fault, Form, Refusal, Rule};
-use std::alloc::Global;
+use std::process::Abort;
 use std::test::Fail;
 
-const FAULTS: [(Fault, &str); 10] = [
+const FAULTS: &[(Fault, &str)] = &[
     (Fault::OpenSingle, "a single quote is not closed"),
     (Fault::OpenDouble, "a double quote is not closed"),
     (Fault::OpenBraced, "a braced expansion is not closed"),
@@ -22,7 +22,7 @@ const FAULTS: [(Fault, &str); 10] = [
     (Fault::FinalBackslash, "a backslash ends the script"),
 ];
 
-const FORMS: [(Form, &str); 23] = [
+const FORMS: &[(Form, &str)] = &[
     (
         Form::Continuation,
         "a line continuation inside a token is outside the profile",
@@ -72,7 +72,7 @@ const FORMS: [(Form, &str); 23] = [
     (Form::Later, "this form is outside the profile"),
 ];
 
-const RULES: [(Rule, &str); 14] = [
+const RULES: &[(Rule, &str)] = &[
     (
         Rule::ComputedName,
         "a computed command name is outside the profile",
@@ -126,7 +126,7 @@ const RULES: [(Rule, &str); 14] = [
 ];
 
 // Each name where it is refused itself, and where a function has it.
-const NAMES: [(KnownName, &str, &str); 36] = [
+const NAMES: &[(KnownName, &str, &str)] = &[
     (
         KnownName::Break,
         "break is outside the profile",
@@ -309,17 +309,18 @@ const NAMES: [(KnownName, &str, &str); 36] = [
     ),
 ];
 
-/// Whether a refusal at the start of a script is told with this text.
-fn is_told(alloc: Global, refusal: Refusal, text: &str) -> Result<bool, Fail> {
-    let want = format!(in alloc; "refused 1:1: {text}\n")?;
-    Ok(answer(alloc, b"", &Err(refusal))?.as_slice() == want.as_bytes())
+/// Holds the text of a refusal at the start of a script against what is wanted.
+fn check(rt: &(impl Abort + AllocGlobal), refusal: Refusal, wanted: &str) -> Result<(), Fail> {
+    let wanted = format!(in rt.alloc(); "refused 1:1: {wanted}\n")?;
+    let text = answer(rt.alloc(), b"", &Err(refusal))?;
+    assert_eq!(rt; text.as_slice(), wanted.as_bytes(), "{wanted}");
+    Ok(())
 }
 
 #[test]
 fn faults_are_told(rt: HostRuntime) -> Result<(), Fail> {
     for (fault, text) in FAULTS {
-        let told = is_told(rt.alloc(), Refusal::Syntax(fault, 0), text)?;
-        assert!(rt; told, "{text}");
+        check(&rt, Refusal::Syntax(*fault, 0), text)?;
     }
     Ok(())
 }
@@ -327,8 +328,7 @@ fn faults_are_told(rt: HostRuntime) -> Result<(), Fail> {
 #[test]
 fn forms_are_told(rt: HostRuntime) -> Result<(), Fail> {
     for (form, text) in FORMS {
-        let told = is_told(rt.alloc(), Refusal::LeftOut(form, 0), text)?;
-        assert!(rt; told, "{text}");
+        check(&rt, Refusal::LeftOut(*form, 0), text)?;
     }
     Ok(())
 }
@@ -336,8 +336,7 @@ fn forms_are_told(rt: HostRuntime) -> Result<(), Fail> {
 #[test]
 fn rules_are_told(rt: HostRuntime) -> Result<(), Fail> {
     for (rule, text) in RULES {
-        let told = is_told(rt.alloc(), Refusal::Profile(rule, 0), text)?;
-        assert!(rt; told, "{text}");
+        check(&rt, Refusal::Profile(*rule, 0), text)?;
     }
     Ok(())
 }
@@ -345,18 +344,12 @@ fn rules_are_told(rt: HostRuntime) -> Result<(), Fail> {
 #[test]
 fn names_are_told(rt: HostRuntime) -> Result<(), Fail> {
     for (name, refused, function) in NAMES {
-        let told = is_told(
-            rt.alloc(),
-            Refusal::Profile(Rule::Refused(name), 0),
-            refused,
-        )?;
-        assert!(rt; told, "{refused}");
-        let told = is_told(
-            rt.alloc(),
-            Refusal::Profile(Rule::FunctionNamed(name), 0),
+        check(&rt, Refusal::Profile(Rule::Refused(*name), 0), refused)?;
+        check(
+            &rt,
+            Refusal::Profile(Rule::FunctionNamed(*name), 0),
             function,
         )?;
-        assert!(rt; told, "{function}");
     }
     Ok(())
 }
