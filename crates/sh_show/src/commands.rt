@@ -111,11 +111,7 @@ fn push_kind(alloc: Global, kind: &Kind, text: &mut String) -> Result<(), AllocE
     match kind {
         Kind::Simple(elements) => push_elements(alloc, elements.as_slice(), text),
         Kind::Group(body) => push_body(alloc, "", body, text),
-        Kind::Subshell(body) => {
-            text.push_str("(")?;
-            push_script(alloc, body, text)?;
-            text.push_str(")")
-        }
+        Kind::Subshell(body) => push_subshell(alloc, body, text),
         Kind::Cond {
             branches,
             otherwise,
@@ -142,22 +138,27 @@ fn push_kind(alloc: Global, kind: &Kind, text: &mut String) -> Result<(), AllocE
             }
             push_body(alloc, "", body, text)
         }
-        Kind::Branches { word, clauses } => push_case(alloc, word, clauses.as_slice(), text),
+        Kind::Branches { word, clauses } => {
+            push_case(alloc, word, text)?;
+            push_clauses(alloc, clauses.as_slice(), text)
+        }
         Kind::Define { name, body } => push_definition(alloc, *name, body.get(), text),
     }
 }
 
-/// `case`, its word and its clauses.
+/// A list in parentheses.
 #[cycle(show)]
-fn push_case(
-    alloc: Global,
-    word: &Word,
-    clauses: &[Clause],
-    text: &mut String,
-) -> Result<(), AllocError> {
+fn push_subshell(alloc: Global, body: &Script, text: &mut String) -> Result<(), AllocError> {
+    text.push_str("(")?;
+    push_script(alloc, body, text)?;
+    text.push_str(")")
+}
+
+/// `case` and its word.
+#[cycle(show)]
+fn push_case(alloc: Global, word: &Word, text: &mut String) -> Result<(), AllocError> {
     text.push_str("case")?;
-    push_word(alloc, word, text)?;
-    push_clauses(alloc, clauses, text)
+    push_word(alloc, word, text)
 }
 
 /// A function definition, its body in parentheses.
