@@ -21,12 +21,13 @@ use Rattle.sh_tree.specs.language.Words.{sign_of, token}
 use Rattle.sh_tree.specs.program.Lists.{parts_from}
 use Rattle.sh_tree.specs.program.Trees.{part_of}
 use Rattle.sh_tree.specs.Words.{words_of}
+use Rattle.sh_tree.proofs.NameLemmas.{word_of-Assignment, word_of-Word}
 use Rattle.sh_tree.proofs.ProgramRules.{part_of-Plain, part_of-Double, part_of-Param, operator_of-Value, operator_of-Length}
 use Rattle.sh_grammar.proofs.BeginningLemmas.{takes_none, ends, word_takes}
 use Rattle.sh_grammar.proofs.BreakLemmas.{blanks_settle}
 use Rattle.sh_table.specs.Counts.{gives_field, some_gives_field}
 use Rattle.sh_flow.specs.Profile.{is_variable, is_value, is_flat, is_straight_part, is_straight_element, gives_name}
-use Rattle.sh_lint.proofs.AdmitLemmas.{word_of-Assignment, word_of-Word, straight_Word, straight_Redirection}
+use Rattle.sh_lint.proofs.AdmitLemmas.{straight_Word, straight_Redirection}
 
 -- Words
 

@@ -142,5 +142,5 @@ all_numbered b t d names e =
     let of_names : list_all (λ s. is_one_of names s) (first_names ++ d.names ++ script_names b t) ≡ true =
     subst (λ ns. list_all (λ s. is_one_of ns s) (first_names ++ d.names ++ script_names b t) ≡ true) (sym e) held in
     all_weaker (λ s. is_one_of names s) (λ s. is_some (number_of names s)) (λ s h. numbered_one 0 names s h) (script_names b t)
-    ((and_parts (list_all (λ s. is_one_of names s) (first_names ++ d.names)) (list_all (λ s. is_one_of names s) (script_names b t))).1
-    (sym (list_all-append (λ s. is_one_of names s) (first_names ++ d.names) (script_names b t)) ∙ of_names))
+    (and_parts (list_all (λ s. is_one_of names s) (first_names ++ d.names)) (list_all (λ s. is_one_of names s) (script_names b t))
+    (sym (list_all-append (λ s. is_one_of names s) (first_names ++ d.names) (script_names b t)) ∙ of_names)).1
