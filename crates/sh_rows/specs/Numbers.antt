@@ -1,6 +1,6 @@
 -- The set that a row is: of numbers in a rising list, and of bits in words.
 -- The standard has no such thing: rows of the numbers of names.
-use Rattle.std.specs.Prelude.{ℕ, Bool, true, List, slice_index, ◌==◌, ◌≡◌, ◌<◌, ◌≤◌, ◌/◌, ◌%◌, length, Result, MatchResult}
+use Rattle.std.specs.Prelude.{ℕ, Bool, List, slice_index, ◌==◌, ◌≡◌, ◌<◌, ◌≤◌, ◌/◌, ◌%◌, length, Result, MatchResult}
 use Rattle.std.specs.List.{list_any}
 use Rattle.std.specs.Int.{bit_at}
 

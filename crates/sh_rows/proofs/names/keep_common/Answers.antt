@@ -1,4 +1,4 @@
-use Rattle.std.proofs.Common.{◌≡◌, ℕ, rules}
+use Rattle.std.proofs.Common.{ℕ, rules}
 use Rattle.std.proofs.lemmas.Fn.{filter_same}
 use Rattle.sh_rows.specs.Numbers.{has_number}
 use Rattle.sh_rows.proofs.names.keep_common.Goals as goal

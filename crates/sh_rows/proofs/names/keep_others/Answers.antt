@@ -1,4 +1,4 @@
-use Rattle.std.proofs.Common.{◌≡◌, ℕ, rules, not, eqb}
+use Rattle.std.proofs.Common.{ℕ, rules, not, eqb}
 use Rattle.std.proofs.lemmas.Fn.{filter_same}
 use Rattle.sh_rows.proofs.names.keep_others.Goals as goal
 

@@ -1,4 +1,4 @@
-use Rattle.std.proofs.Common.{◌≡◌, ℕ, ap, ◌∙◌, not, eqb}
+use Rattle.std.proofs.Common.{ℕ, ap, ◌∙◌, not, eqb}
 use Rattle.std.proofs.lemmas.List.Kept.{IsStrictlyIncreasing-filter}
 use Rattle.sh_rows.specs.Numbers.{has_number}
 use Rattle.sh_rows.proofs.NumberLemmas.{has_number-filter, below-filter}

@@ -1,4 +1,4 @@
-use Rattle.std.proofs.Common.{◌≡◌, ℕ, ap, ◌∙◌, rules, not}
+use Rattle.std.proofs.Common.{◌≡◌, ℕ, ap, ◌∙◌, rules}
 use Rattle.std.specs.List.{filter}
 use Rattle.std.proofs.lemmas.List.Kept.{IsStrictlyIncreasing-filter}
 use Rattle.sh_rows.specs.Numbers.{has_number}

@@ -1,4 +1,4 @@
-use Rattle.std.proofs.Common.{◌≡◌, sym, ◌∙◌, rules, true}
+use Rattle.std.proofs.Common.{◌≡◌, sym, ◌∙◌, rules}
 use Rattle.std.specs.List.{list_all}
 use Rattle.sh_rows.specs.Numbers.{has_number}
 use Rattle.sh_rows.proofs.NumberLemmas.{within-from_all, all-from_within}
