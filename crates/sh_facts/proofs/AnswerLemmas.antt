@@ -6,6 +6,7 @@ use Rattle.sh_facts.specs.Entries.{parts_after, pipeline_after, link_seen, linke
 use Rattle.sh_facts.specs.Examples.{names_from, names_in, head_in, function_in, claim_in, is_slot, changed, told_of, answer, answers}
 use Rattle.sh_facts.specs.Facts.{facts, within, claims, start_facts}
 use Rattle.sh_facts.specs.Faults.{are_among, told, broken, faults, rank, precedes, lesser, least}
+use Rattle.sh_facts.specs.ForgedScripts.{ForgedScriptsAsExpected}
 use Rattle.sh_facts.specs.Gains.{with_gains, sure, operator_gains, surely, assigned_in, operands_assigned, part_gains, word_gains, expanded_gains, operands_gains, words_gains, redirect_gains, redirects_gains}
 use Rattle.sh_facts.specs.LongerScripts.{LongerScriptsAsExpected}
 use Rattle.sh_facts.specs.MoreShortScripts.{MoreShortScriptsAsExpected}
@@ -177,10 +178,43 @@ longer_scripts_as_expected = record {
   script_66 = refl;
 }
 
+pub forged_scripts_as_expected : ForgedScriptsAsExpected
+unfolding computes
+forged_scripts_as_expected = record {
+  loop_gains = refl;
+  loop_gains_again = refl;
+  failed_read = refl;
+  failed_read_again = refl;
+  prefix_kept = refl;
+  prefix_kept_again = refl;
+  maybe_defined = refl;
+  maybe_defined_again = refl;
+  substitution_gains = refl;
+  break_forgotten = refl;
+  break_forgotten_again = refl;
+  function_kept = refl;
+  function_kept_again = refl;
+  never_entered = refl;
+  subshell_changes = refl;
+  subshell_changes_again = refl;
+  parameters_of_callee = refl;
+  parameters_of_callee_again = refl;
+  redirection_counted = refl;
+  empty_clause = refl;
+  empty_clause_again = refl;
+  job_in_process = refl;
+  job_in_process_again = refl;
+  failed_redirection = refl;
+  failed_redirection_again = refl;
+  drops_forgotten = refl;
+  drops_forgotten_again = refl;
+}
+
 pub answers_as_expected : AnswersAsExpected
 answers_as_expected = record {
   short_scripts = short_scripts_as_expected;
   more_short_scripts = more_short_scripts_as_expected;
   scripts = scripts_as_expected;
   longer_scripts = longer_scripts_as_expected;
+  forged_scripts = forged_scripts_as_expected;
 }

@@ -13,4 +13,5 @@ pub mod ShortScripts
 pub mod MoreShortScripts
 pub mod Scripts
 pub mod LongerScripts
+pub mod ForgedScripts
 pub mod AnswerExamples

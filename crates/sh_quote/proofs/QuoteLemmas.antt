@@ -21,8 +21,10 @@ computes = tt
 pub quotes_as_expected : QuotesAsExpected
 unfolding computes
 quotes_as_expected = record {
-  short_scripts = refl;
-  more_short_scripts = refl;
-  scripts = refl;
-  longer_scripts = refl;
+  in_short_scripts = refl;
+  in_more_short_scripts = refl;
+  in_scripts = refl;
+  in_longer_scripts = refl;
+  steady_scripts = refl;
+  unsteady_scripts = refl;
 }
