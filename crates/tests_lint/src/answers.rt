@@ -8,7 +8,14 @@ type Row = (&'static [u8], &'static [&'static [u8]], &'static [u8], u8);
 
 const OUTSIDE: &[u8] = b"refused 1:1: this command is outside the profile\n";
 
-const ROWS: &[Row] = &[
+fn check_rows(rt: &(impl Abort + AllocGlobal), rows: &[Row]) -> Result<(), Fail> {
+    for (script, names, text, status) in rows {
+        check(rt, names, script, text, *status)?;
+    }
+    Ok(())
+}
+
+const COMMANDS: &[Row] = &[
     (b"", &[], CLEAN, 0),
     (b"\n", &[], CLEAN, 0),
     (b"\n\n \t\n", &[], CLEAN, 0),
@@ -20,16 +27,6 @@ const ROWS: &[Row] = &[
     (b"a ; b", &[], CLEAN, 0),
     (b"a;b\n\nc ;\n\n", &[], CLEAN, 0),
     (b"  a  b\t c  ", &[], CLEAN, 0),
-    (b"x=1", &[], CLEAN, 0),
-    (b"x=", &[], CLEAN, 0),
-    (b"x=1 y=2 z=", &[], CLEAN, 0),
-    (b"x=1\necho \"$x\"", &[], CLEAN, 0),
-    (b"x=1;echo \"$x\"", &[], CLEAN, 0),
-    (b"x=1\nx=2 echo \"$x\"", &[], CLEAN, 0),
-    (b"x=1\ny=$x\necho \"$x$y\"", &[], CLEAN, 0),
-    (b"x=1\nif=$x\necho \"$if\"", &[], CLEAN, 0),
-    (b"_a9Z=1\necho \"$_a9Z\"", &[], CLEAN, 0),
-    (b"echo \"$IFS$OPTIND$PPID\"", &[], CLEAN, 0),
     (b"echo \"\" a\"b\"c \"d e;f\ng\" =", &[], CLEAN, 0),
     (
         b"echo \"it's * ? [ ] # ~ ! { } | & ; < > ( )\"",
@@ -44,7 +41,32 @@ const ROWS: &[Row] = &[
     (b"#! a; b & 'c\n\n", &[], CLEAN, 0),
     (b"a if then function", &[], CLEAN, 0),
     (b"x=1 if y", &[], CLEAN, 0),
-    // Comments, continuations and braces.
+];
+
+#[test]
+fn clean_commands(rt: HostRuntime) -> Result<(), Fail> {
+    check_rows(&rt, COMMANDS)
+}
+
+const VARIABLES: &[Row] = &[
+    (b"x=1", &[], CLEAN, 0),
+    (b"x=", &[], CLEAN, 0),
+    (b"x=1 y=2 z=", &[], CLEAN, 0),
+    (b"x=1\necho \"$x\"", &[], CLEAN, 0),
+    (b"x=1;echo \"$x\"", &[], CLEAN, 0),
+    (b"x=1\nx=2 echo \"$x\"", &[], CLEAN, 0),
+    (b"x=1\ny=$x\necho \"$x$y\"", &[], CLEAN, 0),
+    (b"x=1\nif=$x\necho \"$if\"", &[], CLEAN, 0),
+    (b"_a9Z=1\necho \"$_a9Z\"", &[], CLEAN, 0),
+    (b"echo \"$IFS$OPTIND$PPID\"", &[], CLEAN, 0),
+];
+
+#[test]
+fn clean_variables(rt: HostRuntime) -> Result<(), Fail> {
+    check_rows(&rt, VARIABLES)
+}
+
+const COMMENTS: &[Row] = &[
     (b"# a", &[], CLEAN, 0),
     (b"echo a # 'b", &[], CLEAN, 0),
     (b"#a\\\necho a", &[], CLEAN, 0),
@@ -58,14 +80,29 @@ const ROWS: &[Row] = &[
     (b"x=1 # 2\necho \"$x\"", &[], CLEAN, 0),
     (b"{}", &[], CLEAN, 0),
     (b"ifx", &[], CLEAN, 0),
-    // Bytes that stand for themselves in words, also where a pattern or a field is meant later.
+];
+
+#[test]
+fn clean_comments_and_continuations(rt: HostRuntime) -> Result<(), Fail> {
+    check_rows(&rt, COMMENTS)
+}
+
+/// These stand for themselves in words, also where a pattern or a field is meant later.
+const BYTES: &[Row] = &[
     (b"echo *", &[], CLEAN, 0),
     (b"echo a?[b]", &[], CLEAN, 0),
     (b"echo $", &[], CLEAN, 0),
     (b"echo \"$\"", &[], CLEAN, 0),
     (b"echo \"a\\b\"", &[], CLEAN, 0),
     (b"echo {a} !", &[], CLEAN, 0),
-    // Findings.
+];
+
+#[test]
+fn clean_bytes(rt: HostRuntime) -> Result<(), Fail> {
+    check_rows(&rt, BYTES)
+}
+
+const FINDINGS: &[Row] = &[
     (
         b"x=1\necho \"$x$y\"\n",
         &[],
@@ -174,7 +211,14 @@ const ROWS: &[Row] = &[
         b"1:7: U1 parameter z may be unset\n1:11: Q1 unquoted expansion\n1:18: U1 parameter y may be unset\nfindings: 3\n",
         1,
     ),
-    // Names that the words declare.
+];
+
+#[test]
+fn findings(rt: HostRuntime) -> Result<(), Fail> {
+    check_rows(&rt, FINDINGS)
+}
+
+const DECLARED: &[Row] = &[
     (b"echo \"$x\"\n", &[b"x"], CLEAN, 0),
     (
         b"echo $x\n",
@@ -188,7 +232,14 @@ const ROWS: &[Row] = &[
         b"1:11: U1 parameter z may be unset\nfindings: 1\n",
         1,
     ),
-    // Refusals.
+];
+
+#[test]
+fn declared_names(rt: HostRuntime) -> Result<(), Fail> {
+    check_rows(&rt, DECLARED)
+}
+
+const REFUSED: &[Row] = &[
     (b"echo 'a'\n", &[], OUTSIDE, 2),
     (b"unset x\n", &[], OUTSIDE, 2),
     (
@@ -224,7 +275,14 @@ const ROWS: &[Row] = &[
     (b"\"time\" a", &[], OUTSIDE, 2),
     (b"a*", &[], OUTSIDE, 2),
     (b"export x", &[], OUTSIDE, 2),
-    // What is not closed.
+];
+
+#[test]
+fn refused_scripts(rt: HostRuntime) -> Result<(), Fail> {
+    check_rows(&rt, REFUSED)
+}
+
+const OPEN: &[Row] = &[
     (
         b"echo 'a",
         &[],
@@ -273,7 +331,14 @@ const ROWS: &[Row] = &[
         b"refused 1:7: a backslash ends the script\n",
         2,
     ),
-    // What has no place.
+];
+
+#[test]
+fn what_is_not_closed(rt: HostRuntime) -> Result<(), Fail> {
+    check_rows(&rt, OPEN)
+}
+
+const MISPLACED: &[Row] = &[
     (b"echo )", &[], b"refused 1:6: unexpected token\n", 2),
     (b"a;;b", &[], b"refused 1:2: unexpected token\n", 2),
     (b"fi", &[], b"refused 1:1: unexpected token\n", 2),
@@ -288,7 +353,14 @@ const ROWS: &[Row] = &[
         b"refused 1:14: bad arithmetic\n",
         2,
     ),
-    // Forms of quoting that are left out.
+];
+
+#[test]
+fn what_has_no_place(rt: HostRuntime) -> Result<(), Fail> {
+    check_rows(&rt, MISPLACED)
+}
+
+const QUOTING: &[Row] = &[
     (
         b"echo ab\\\nc",
         &[],
@@ -325,7 +397,14 @@ const ROWS: &[Row] = &[
         b"refused 1:6: a backquoted substitution is outside the profile\n",
         2,
     ),
-    // Forms of expansions that are left out.
+];
+
+#[test]
+fn forms_of_quoting_left_out(rt: HostRuntime) -> Result<(), Fail> {
+    check_rows(&rt, QUOTING)
+}
+
+const EXPANSIONS: &[Row] = &[
     (
         b"echo ${x/a/b}",
         &[],
@@ -362,7 +441,14 @@ const ROWS: &[Row] = &[
         b"refused 1:10: this arithmetic is outside the profile\n",
         2,
     ),
-    // Forms of commands that are left out.
+];
+
+#[test]
+fn forms_of_expansions_left_out(rt: HostRuntime) -> Result<(), Fail> {
+    check_rows(&rt, EXPANSIONS)
+}
+
+const COMPOUNDS: &[Row] = &[
     (
         b"((a))",
         &[],
@@ -418,7 +504,14 @@ const ROWS: &[Row] = &[
         b"refused 1:6: an IO location is outside the profile\n",
         2,
     ),
-    // Places on further lines.
+];
+
+#[test]
+fn forms_of_commands_left_out(rt: HostRuntime) -> Result<(), Fail> {
+    check_rows(&rt, COMPOUNDS)
+}
+
+const PLACES: &[Row] = &[
     (
         b"a\nb 'c\nd",
         &[],
@@ -457,7 +550,14 @@ const ROWS: &[Row] = &[
         2,
     ),
     (b"$((\n1\n2))", &[], b"refused 3:1: bad arithmetic\n", 2),
-    // Forms that are not read yet.
+];
+
+#[test]
+fn places_on_further_lines(rt: HostRuntime) -> Result<(), Fail> {
+    check_rows(&rt, PLACES)
+}
+
+const UNREAD: &[Row] = &[
     (
         b"a 'b' | c",
         &[],
@@ -518,7 +618,14 @@ const ROWS: &[Row] = &[
         b"refused 1:5: this form is outside the profile\n",
         2,
     ),
-    // Words that are not analysed yet.
+];
+
+#[test]
+fn forms_that_are_not_read_yet(rt: HostRuntime) -> Result<(), Fail> {
+    check_rows(&rt, UNREAD)
+}
+
+const UNANALYSED: &[Row] = &[
     (b"echo 'a'", &[], OUTSIDE, 2),
     (b"echo \\a", &[], OUTSIDE, 2),
     (b"echo \"\\$x\"", &[], OUTSIDE, 2),
@@ -547,14 +654,7 @@ const ROWS: &[Row] = &[
     ),
 ];
 
-fn check_rows(rt: &(impl Abort + AllocGlobal), rows: &[Row]) -> Result<(), Fail> {
-    for (script, names, text, status) in rows {
-        check(rt, names, script, text, *status)?;
-    }
-    Ok(())
-}
-
 #[test]
-fn scripts_have_their_answers(rt: HostRuntime) -> Result<(), Fail> {
-    check_rows(&rt, ROWS)
+fn words_that_are_not_analysed_yet(rt: HostRuntime) -> Result<(), Fail> {
+    check_rows(&rt, UNANALYSED)
 }
