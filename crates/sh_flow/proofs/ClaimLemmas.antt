@@ -1,5 +1,6 @@
 -- Tests of claims.
 use Rattle.std.proofs.Common.{◌≡◌, ℕ, zero, suc, ◌<◌, Bool, true, false, ◌&&◌, ◌||◌, nat_le, min, Option, Some, None, List, [], ◌∷◌, length, take, drop, map, refl, sym, ◌∙◌, ap, subst, arith, eqb, eq-eqb, Vec, Global}
+use Rattle.std.proofs.Math.Bool.{and-true, or_comm}
 use Rattle.std.specs.List.{list_all, list_any, cons_option}
 use Rattle.std.specs.Str.{bytes_eq}
 use Rattle.std.proofs.lemmas.Bool.{or_right}
@@ -15,11 +16,11 @@ use Rattle.sh_tree.specs.Words.{words_of, form_of, form_of_assignment, form_of_w
 use Rattle.sh_tree.specs.program.Syntax.{Text}
 use Rattle.sh_table.specs.runs.Environment.{is_one_of}
 use Rattle.sh_flow.specs.Names.{number_of}
-use Rattle.sh_flow.specs.Facts.{Facts, NotReached, Known, Claim, Unreached, Claimed, has_number, within, meet, enter, both, with_vars}
+use Rattle.sh_tree.specs.Numbers.{has_number}
+use Rattle.sh_flow.specs.Facts.{Facts, NotReached, Known, Claim, Unreached, Claimed, within, meet, enter, both, with_vars}
 use Rattle.sh_flow.specs.Rules.{assigned_numbers, leaves, exit_rule}
 use Rattle.sh_flow.specs.declared.rule.FlowRule.TheVariants.{F4, F5}
 use Rattle.sh_flow.specs.Breaches.{is_operand, is_word, number_is, form_assigns, assigns}
-use Rattle.sh_flow.proofs.BoolLemmas.{and_true, or_swap}
 
 -- Each number of a list is one of it
 
@@ -82,7 +83,7 @@ three p q r s t u = ap (λ v. v && (t && u)) (and_pairs p q r s) ∙ and_pairs (
 pub within_meet : (c : Claim) (f g : Facts) → within c (meet f g) ≡ (within c f && within c g)
 unfolding within meet
 within_meet c NotReached g = refl
-within_meet c (Known v f a) NotReached = sym (and_true _)
+within_meet c (Known v f a) NotReached = sym (and-true _)
 within_meet Unreached (Known v f a) (Known w g n) = refl
 within_meet (Claimed vs fs m) (Known v f a) (Known w g n) =
     rw (all_both v w vs, all_both f g fs, le_both m a n)
@@ -173,7 +174,7 @@ is_assigned b names n (Assignment' s t shape row ∷ es) = go (number_of names (
 
 pub gained : (b : List ℕ) (names : List Text) (n : ℕ) (es : List Element) (known assigned : Bool) → assigned ≡ list_any (assigns b names n) es
     → (known || assigned) ≡ (has_number n (assigned_numbers b names es) || known)
-gained b names n es known assigned e = or_swap known assigned ∙ ap (λ c. c || known) (e ∙ sym (is_assigned b names n es))
+gained b names n es known assigned e = or_comm known assigned ∙ ap (λ c. c || known) (e ∙ sym (is_assigned b names n es))
 
 -- what stands behind a command with a name, and behind one without
 pub ruleset behind = (leaves-word, exit_rule-word, leaves-assignments, exit_rule-assignments)

@@ -1,5 +1,6 @@
 -- Straight scripts as programs: what is asked of their words holds of each step of their runs.
 use Rattle.std.proofs.Common.{◌≡◌, ℕ, Bool, true, false, ◌&&◌, Option, Some, None, List, [], ◌∷◌, map, filter_map, refl, sym, ◌∙◌, ap, subst, option_map, unwrap_or}
+use Rattle.std.proofs.lemmas.Bool.{and_parts}
 use Rattle.std.specs.List.{list_all, cons_option}
 use Rattle.sh_tree.specs.declared.tree.Script.{Script, out-Script}
 use Rattle.sh_tree.specs.declared.tree.Item.{Item}
@@ -25,8 +26,7 @@ use Rattle.sh_table.specs.runs.Steps.{operands_in, redirects_in, assignments_in,
 use Rattle.sh_table.specs.runs.Worlds.{World, Move, effect_of, stepping, run, start_world}
 use Rattle.sh_flow.specs.Expansions.{names_unset}
 use Rattle.sh_flow.specs.Profile.{is_straight_part, is_straight_form, is_straight_element, is_simple, has_none, is_straight, is_named_utility, is_plain_name, is_admitted, is_item_admitted, gives_name, has_name, Admitted, HasNames}
-use Rattle.sh_flow.proofs.BoolLemmas.{and_left, and_right}
-use Rattle.sh_flow.proofs.FactLemmas.{AreSet}
+use Rattle.sh_table.proofs.EnvironmentLemmas.{AreSet}
 use Rattle.sh_flow.proofs.StraightLemmas.{Expanded, straight_expands, static_field}
 use Rattle.sh_flow.proofs.Worlds.{WorldOk, run_ok, start_ok, no_event}
 use Rattle.sh_flow.proofs.UtilityLemmas.{utility_kind}
@@ -75,17 +75,17 @@ module _ (b : List ℕ) where
   no_redirects : (es : List Element) → list_all is_straight_element es ≡ true → redirects_in (elements_from b es) ≡ p.no_redirects
   unfolding redirects_in elements_from element_from is_straight_form form_of
   no_redirects [] h = refl
-  no_redirects (Assignment' n t shape row ∷ es) h = no_redirects es (and_right (list_all is_straight_part (items-the_row-Part _ row)) _ h)
-  no_redirects (Word' t shape row ∷ es) h = no_redirects es (and_right (list_all is_straight_part (items-the_row-Part _ row)) _ h)
+  no_redirects (Assignment' n t shape row ∷ es) h = no_redirects es (and_parts (list_all is_straight_part (items-the_row-Part _ row)) _ h).1
+  no_redirects (Word' t shape row ∷ es) h = no_redirects es (and_parts (list_all is_straight_part (items-the_row-Part _ row)) _ h).1
   no_redirects (Redirection' at n t ∷ es) h = cc
 
   straight_words : (es : List Element) → list_all is_straight_element es ≡ true → EachWord IsStraight (words_of es)
   unfolding is_straight_form form_of word_in EachWord
   straight_words [] h = tt
-  straight_words (Assignment' n t shape row ∷ es) h = straight_words es (and_right (list_all is_straight_part (items-the_row-Part _ row)) _ h)
+  straight_words (Assignment' n t shape row ∷ es) h = straight_words es (and_parts (list_all is_straight_part (items-the_row-Part _ row)) _ h).1
   straight_words (Word' t shape row ∷ es) h = (
-    and_left (list_all is_straight_part (items-the_row-Part _ row)) _ h,
-    straight_words es (and_right (list_all is_straight_part (items-the_row-Part _ row)) _ h),
+    (and_parts (list_all is_straight_part (items-the_row-Part _ row)) _ h).0,
+    straight_words es (and_parts (list_all is_straight_part (items-the_row-Part _ row)) _ h).1,
   )
   straight_words (Redirection' at n t ∷ es) h = cc
 
@@ -93,10 +93,10 @@ module _ (b : List ℕ) where
   unfolding is_straight_form form_of assignment_in EachWord
   straight_values [] h = tt
   straight_values (Assignment' n t shape row ∷ es) h = (
-    and_left (list_all is_straight_part (items-the_row-Part _ row)) _ h,
-    straight_values es (and_right (list_all is_straight_part (items-the_row-Part _ row)) _ h),
+    (and_parts (list_all is_straight_part (items-the_row-Part _ row)) _ h).0,
+    straight_values es (and_parts (list_all is_straight_part (items-the_row-Part _ row)) _ h).1,
   )
-  straight_values (Word' t shape row ∷ es) h = straight_values es (and_right (list_all is_straight_part (items-the_row-Part _ row)) _ h)
+  straight_values (Word' t shape row ∷ es) h = straight_values es (and_parts (list_all is_straight_part (items-the_row-Part _ row)) _ h).1
   straight_values (Redirection' at n t ∷ es) h = cc
 
   simple_kind : (k : Kind) → is_simple k ≡ true → kind_of b k ≡ p.Simple (elements_from b (elements_of k))
@@ -171,12 +171,12 @@ module _ (b : List ℕ) where
       command_go K e x admitted named q v k =
           let kind : Kind = (out-Command x).kind in
           let es : List Element = elements_of kind in
-          let front : (is_simple kind && list_all is_straight_element es) ≡ true = and_left _ (has_none (out-Command x).redirects) (and_left _ (is_plain_name b (words_of es)) admitted) in
-          let straight : list_all is_straight_element es ≡ true = and_right (is_simple kind) _ front in
+          let front : (is_simple kind && list_all is_straight_element es) ≡ true = (and_parts _ (has_none (out-Command x).redirects) (and_parts _ (is_plain_name b (words_of es)) admitted).0).0 in
+          let straight : list_all is_straight_element es ≡ true = (and_parts (is_simple kind) _ front).1 in
           let program : command_of b x ≡ p.command (out-Command x).number (out-Command x).at (p.Simple (elements_from b es)) (redirects_from b (out-Command x).redirects) =
-          command_of-out b x ∙ ap (λ y. p.command (out-Command x).number (out-Command x).at y (redirects_from b (out-Command x).redirects)) (simple_kind kind (and_left _ _ front)) in
+          command_of-out b x ∙ ap (λ y. p.command (out-Command x).number (out-Command x).at y (redirects_from b (out-Command x).redirects)) (simple_kind kind (and_parts _ _ front).0) in
           let left : LeftGoes event none K (words_from b (words_of es)) [] (map assignment_from (assignments_of b es)) e =
-          left_go K e (words_of es) (assignments_of b es) (and_right (is_straight x) _ admitted) named (straight_words es straight) q (straight_values es straight) v k in
+          left_go K e (words_of es) (assignments_of b es) (and_parts (is_straight x) _ admitted).1 named (straight_words es straight) q (straight_values es straight) v k in
           subst (λ c. CommandGoes event none K c e) (sym program) (
             no_redirects es straight,
             subst (λ ws. LeftGoes event none K ws [] (assignments_in (elements_from b es)) e) (sym (operands_listed es))
@@ -214,9 +214,9 @@ module _ (b : List ℕ) where
                 command_of b c,
                 refl,
                 refl,
-                command_go (λ status e. Rest f ws (items_from b is) status e) e c a (and_left (has_name b c) _ n) goes.words goes.values
+                command_go (λ status e. Rest f ws (items_from b is) status e) e c a (and_parts (has_name b c) _ n).0 goes.words goes.values
                     (λ status' e' g k.
-                    record { items = is; program = refl; last = last; admitted = rest; named = and_right (has_name b c) _ n; known = goes.behind status' e' g k }),
+                    record { items = is; program = refl; last = last; admitted = rest; named = (and_parts (has_name b c) _ n).1; known = goes.behind status' e' g k }),
               )
 
           list_opens : (f : Frame) (ws : List Work) (is : List Item) (status : ℕ) (e : Environment) → ws ≡ [] → list_all (λ i. is_item_admitted b (lone_command i)) is ≡ true
@@ -224,7 +224,7 @@ module _ (b : List ℕ) where
           unfolding items_from Opened
           list_opens f ws [] status e last a n s = last
           list_opens f ws (i ∷ is) status e last a n s =
-              item_opens f ws i is status e (lone_command i) refl last (and_left (is_item_admitted b (lone_command i)) _ a) (and_right (is_item_admitted b (lone_command i)) _ a) n s
+              item_opens f ws i is status e (lone_command i) refl last (and_parts (is_item_admitted b (lone_command i)) _ a).0 (and_parts (is_item_admitted b (lone_command i)) _ a).1 n s
 
           opens : (f : Frame) (ws : List Work) (q : p.Items) (status : ℕ) (e : Environment) → Rest f ws q status e → Opened event none Rest f ws q e
           opens f ws q status e h = subst (λ r. Opened event none Rest f ws r e) (sym h.program) (list_opens f ws h.items status e h.last h.admitted h.named h.known)

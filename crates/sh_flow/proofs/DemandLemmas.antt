@@ -1,5 +1,6 @@
 -- Places of unmet demands, a piece at a time.
 use Rattle.std.proofs.Common.{◌≡◌, ℕ, ◌<◌, true, false, Option, Some, None, Result, Ok, Err, OnErr, List, [], ◌∷◌, ◌++◌, length, get_or, refl, sym, ◌∙◌, ap, subst, arith}
+use Rattle.std.specs.Option.{option_map_or}
 use Rattle.std.specs.List.{flat_map, filter_map, cons_option}
 use Rattle.std.proofs.lemmas.List.{append-nil}
 use Rattle.std.proofs.lemmas.List.Concat.{flat_map-append}
@@ -18,7 +19,7 @@ use Rattle.sh_tree.specs.Words.{lone_command, form_of_assignment, form_of_word, 
 use Rattle.sh_tree.specs.program.Syntax.{Text}
 use Rattle.sh_flow.specs.Facts.{Facts}
 use Rattle.sh_flow.specs.Demands.{wanted, covers, uncovered, form_unmet, element_unmet}
-use Rattle.sh_flow.specs.Walks.{of_option, on_lone, part_unmet}
+use Rattle.sh_flow.specs.Walks.{on_lone, part_unmet}
 
 -- the places of parts are those of each part
 part_unmet-all : (b : List ℕ) (names : List Text) (f : Facts) (ps : List Part) → uncovered b names f (expansions true ps) ≡ flat_map (part_unmet b names f) ps
@@ -72,26 +73,14 @@ pub ruleset unmet_in_part = (part_unmet-Plain, part_unmet-Double, part_unmet-Par
 
 pub ruleset unmet_in_element = (element_unmet-Assignment, element_unmet-Word, element_unmet-Redirection)
 
--- a place in a piece is one of all
-pub some_in_all : {X : Type 0} (f : X → List Place) (xs : List X) (i : ℕ) (x : X) → i < length xs → x ≡ get_or xs i x → 0 < length (f x) → 0 < length (flat_map f xs)
-some_in_all f xs i x lt at h =
-    let less = length-flat_map-take f xs i x lt in
-    let here : 0 < length (f (get_or xs i x)) = subst (λ y. 0 < length (f y)) at h in
-    omega (arith, less, here)
-
 -- the places of a script are those of its items
 pub items_lone : {A : Type 0} (f : Command → List A) (is : List Item) → flat_map f (filter_map lone_command is) ≡ flat_map (on_lone f) is
-unfolding of_option
 items_lone f [] = refl
 items_lone {A} f (i ∷ is) = go (lone_command i) (items_lone f is)
   where
-    go : (o : Option Command) → flat_map f (filter_map lone_command is) ≡ flat_map (on_lone f) is → flat_map f (cons_option o (filter_map lone_command is)) ≡ of_option f o ++ flat_map (on_lone f) is
+    go : (o : Option Command) → flat_map f (filter_map lone_command is) ≡ flat_map (on_lone f) is → flat_map f (cons_option o (filter_map lone_command is)) ≡ option_map_or f o [] ++ flat_map (on_lone f) is
     go None h = h
     go (Some c) h = ap (λ ts. f c ++ ts) h
-
-pub whatever : {X Y P : Type 0} (r : Result X Y) → P → OnErr r P
-whatever (Ok x) p = tt
-whatever (Err e) p = p
 
 pub no_places : (found all : List Place) → length found ≡ 0 → found ≡ all → all ≡ []
 no_places [] all e s = sym s

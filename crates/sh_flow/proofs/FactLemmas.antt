@@ -1,7 +1,7 @@
 -- Laws of facts, and of the numbers of names.
 use Rattle.std.proofs.Common.{◌≡◌, ℕ, zero, suc, ◌+◌, ◌≤◌, Bool, true, false, cond, ◌&&◌, ◌||◌, ◌==◌, nat_le, Option, Some, None, is_some, List, [], ◌∷◌, ◌++◌, length, slice_get, unwrap_or, option_map, filter_map, bytes_eq, ◌⊎◌, inl, inr, refl, sym, ◌∙◌, ap, subst, arith, eqb-true, leb-true}
 use Rattle.std.specs.List.{list_all, position_from, cons_option}
-use Rattle.std.proofs.lemmas.Bool.{or_cases}
+use Rattle.std.proofs.lemmas.Bool.{and_parts, or_cases}
 use Rattle.std.proofs.lemmas.Option.{same_Some, none-some}
 use Rattle.std.proofs.lemmas.Slice.Eq.{bytes_eq-Decides}
 use Rattle.sh_tree.specs.program.Syntax.{Text}
@@ -9,9 +9,10 @@ use Rattle.sh_flow.specs.Policy.{Declared}
 use Rattle.sh_table.specs.runs.Worlds.{start_names, IsStart}
 use Rattle.sh_flow.specs.Names.{number_of}
 use Rattle.sh_table.specs.runs.Environment.{Environment, Frame, is_one_of}
-use Rattle.sh_flow.specs.Facts.{Facts, NotReached, Known, Claim, Unreached, Claimed, facts, has_number, within, within_out, meet, with_vars, Satisfies, Out, both, enter}
+use Rattle.sh_tree.specs.Numbers.{has_number}
+use Rattle.sh_table.proofs.EnvironmentLemmas.{AreSet}
+use Rattle.sh_flow.specs.Facts.{Facts, NotReached, Known, Claim, Unreached, Claimed, facts, within, within_out, meet, with_vars, Satisfies, Out, both, enter}
 use Rattle.sh_flow.specs.Rules.{told, start_facts, is_set_at_start}
-use Rattle.sh_flow.proofs.BoolLemmas.{and_left, and_right}
 
 -- Tests and lists
 
@@ -26,10 +27,10 @@ append_nil_right (x ∷ xs) ys h = cc
 -- where a test holds of each number of a list
 has_all : (test : ℕ → Bool) (ns : List ℕ) (k : ℕ) → list_all test ns ≡ true → has_number k ns ≡ true → test k ≡ true
 has_all test [] k h e = cc
-has_all test (n ∷ ns) k h e = go (or_cases (k == n) (has_number k ns) e) (has_all test ns k (and_right (test n) (list_all test ns) h))
+has_all test (n ∷ ns) k h e = go (or_cases (k == n) (has_number k ns) e) (has_all test ns k (and_parts (test n) (list_all test ns) h).1)
   where
     go : ((k == n) ≡ true) ⊎ (has_number k ns ≡ true) → (has_number k ns ≡ true → test k ≡ true) → test k ≡ true
-    go (inl d) ih = ap test (eqb-true k n d) ∙ and_left (test n) (list_all test ns) h
+    go (inl d) ih = ap test (eqb-true k n d) ∙ (and_parts (test n) (list_all test ns) h).0
     go (inr d) ih = ih d
 
 -- Numbers of names
@@ -59,9 +60,9 @@ unfolding within facts Satisfies
 claimed_holds names c NotReached e f h s = absurd s
 claimed_holds names Unreached (Known v g a) e f h s = cc
 claimed_holds names (Claimed vs fs n) (Known v g a) e f h s = (
-  λ k t d. s.0 k t (has_all v vs k (and_left _ (list_all g fs) (and_left _ (nat_le n a) h)) d),
-  λ k t d. s.1 k t (has_all g fs k (and_right (list_all v vs) _ (and_left _ (nat_le n a) h)) d),
-  (let b : n ≤ a = leb-true n a (and_right (list_all v vs && list_all g fs) _ h) in let m : a ≤ length f = s.2 in omega arith),
+  λ k t d. s.0 k t (has_all v vs k (and_parts _ (list_all g fs) (and_parts _ (nat_le n a) h).0).0 d),
+  λ k t d. s.1 k t (has_all g fs k (and_parts (list_all v vs) _ (and_parts _ (nat_le n a) h).0).1 d),
+  (let b : n ≤ a = leb-true n a (and_parts (list_all v vs && list_all g fs) _ h).1 in let m : a ≤ length f = s.2 in omega arith),
 )
 
 pub meet_left : (names : List Text) (a b : Facts) (e : Environment) (f : Frame) → Satisfies names a e f → Satisfies names (meet a b) e f
@@ -69,8 +70,8 @@ unfolding meet Satisfies
 meet_left names NotReached b e f s = absurd s
 meet_left names (Known v g a) NotReached e f s = s
 meet_left names (Known v g a) (Known w h n) e f s = (
-  λ k t d. s.0 k t (and_left (v k) (w k) d),
-  λ k t d. s.1 k t (and_left (g k) (h k) d),
+  λ k t d. s.0 k t (and_parts (v k) (w k) d).0,
+  λ k t d. s.1 k t (and_parts (g k) (h k) d).0,
   (let m : a ≤ length f = s.2 in omega arith),
 )
 
@@ -79,15 +80,10 @@ unfolding meet Satisfies
 meet_right names NotReached b e f s = s
 meet_right names (Known v g a) NotReached e f s = absurd s
 meet_right names (Known v g a) (Known w h n) e f s = (
-  λ k t d. s.0 k t (and_right (v k) (w k) d),
-  λ k t d. s.1 k t (and_right (g k) (h k) d),
+  λ k t d. s.0 k t (and_parts (v k) (w k) d).1,
+  λ k t d. s.1 k t (and_parts (g k) (h k) d).1,
   (let m : n ≤ length f = s.2 in omega arith),
 )
-
--- these names are set
-unfoldable pub AreSet : {A : Type 0} → List (Text × A) → Environment → Type 0
-AreSet [] e = Unit {0}
-AreSet (x ∷ xs) e = (is_some (e.variables x.0) ≡ true) × AreSet xs e
 
 numbered_is_set : {A : Type 0} (names : List Text) (xs : List (Text × A)) (e : Environment) (k : ℕ) (t : Text)
     → AreSet xs e → slice_get names k ≡ Some t → has_number k (filter_map (λ x. number_of names x.0) xs) ≡ true → is_some (e.variables t) ≡ true
@@ -160,8 +156,8 @@ holds_enter names (suc n) o e f s = meet_right names o.zero o.nonzero e f s
 pub claimed_after : (names : List Text) (status : ℕ) (z n : Claim) (g : Facts) (e : Environment) (f : Frame) → within_out z n (both g) ≡ true → Satisfies names g e f
     → HoldsAfter names status (record { zero = facts z; nonzero = facts n }) e f
 unfolding HoldsAfter by_status
-claimed_after names zero z n g e f h s = claimed_holds names z g e f (and_left (within z g) (within n g) h) s
-claimed_after names (suc m) z n g e f h s = claimed_holds names n g e f (and_right (within z g) (within n g) h) s
+claimed_after names zero z n g e f h s = claimed_holds names z g e f (and_parts (within z g) (within n g) h).0 s
+claimed_after names (suc m) z n g e f h s = claimed_holds names n g e f (and_parts (within z g) (within n g) h).1 s
 
 -- nothing is told where the test holds
 pub untold : (b : Bool) (k : ℕ) (r : _) → told b k r ≡ [] → b ≡ true

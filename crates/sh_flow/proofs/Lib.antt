@@ -1,4 +1,3 @@
-pub mod BoolLemmas
 pub mod PolicyLemmas
 pub mod FactLemmas
 pub mod StaticLemmas

@@ -1,5 +1,6 @@
 -- Names by first sight, a piece at a time.
 use Rattle.std.proofs.Common.{◌≡◌, ℕ, ◌+◌, ◌<◌, ◌≤◌, Bool, true, false, Option, Some, None, Err, List, [], ◌∷◌, ◌++◌, length, get_or, take, drop, map, fold, refl, sym, ◌∙◌, ap, subst, arith, if◌then◌else◌, eqb, position, Vec, Global, length-append}
+use Rattle.std.specs.Option.{option_map_or}
 use Rattle.std.specs.List.{flat_map, filter_map, cons_option, list_any, position_from}
 use Rattle.std.specs.Str.{bytes_eq}
 use Rattle.std.proofs.lemmas.Grind.{common_steps}
@@ -25,7 +26,7 @@ use Rattle.sh_tree.specs.program.Syntax.{Text}
 use Rattle.sh_flow.specs.Policy.{Declared}
 use Rattle.sh_table.specs.runs.Environment.{is_one_of}
 use Rattle.sh_flow.specs.Names.{with_text, number_of, subjects, form_names, names_in, script_names, first_names, numbering, Numbers}
-use Rattle.sh_flow.specs.Walks.{Refuses, of_option, on_lone, command_names, part_names}
+use Rattle.sh_flow.specs.Walks.{Refuses, on_lone, command_names, part_names}
 
 -- the names of parts are those of each part
 
@@ -145,12 +146,11 @@ texts_stop f first xs i x old e lt at known h =
 
 -- the names of a script are those of its items
 pub script_names-items : (b : List ℕ) (is : List Item) → flat_map (command_names b) (filter_map lone_command is) ≡ flat_map (on_lone (command_names b)) is
-unfolding of_option
 script_names-items b [] = refl
 script_names-items b (i ∷ is) = go (lone_command i) (script_names-items b is)
   where
     go : (o : Option Command) → flat_map (command_names b) (filter_map lone_command is) ≡ flat_map (on_lone (command_names b)) is
-        → flat_map (command_names b) (cons_option o (filter_map lone_command is)) ≡ of_option (command_names b) o ++ flat_map (on_lone (command_names b)) is
+        → flat_map (command_names b) (cons_option o (filter_map lone_command is)) ≡ option_map_or (command_names b) o [] ++ flat_map (on_lone (command_names b)) is
     go None h = h
     go (Some c) h = ap (λ ts. command_names b c ++ ts) h
 

@@ -1,5 +1,6 @@
 -- Scripts whose expansions are all quoted: no step of a run splits a value.
 use Rattle.std.proofs.Common.{◌≡◌, ℕ, Bool, true, false, ◌&&◌, Option, Some, List, [], ◌∷◌, filter_map, refl, subst}
+use Rattle.std.proofs.lemmas.Bool.{and_parts}
 use Rattle.std.specs.List.{list_all, cons_option}
 use Rattle.sh_tree.specs.declared.tree.Item.{Item}
 use Rattle.sh_tree.specs.declared.tree.Command.{Command, out-Command}
@@ -12,7 +13,6 @@ use Rattle.sh_table.specs.runs.States.{fresh}
 use Rattle.sh_table.specs.runs.Expansion.{Outcome, in_fields, in_one, expand}
 use Rattle.sh_table.specs.runs.Steps.{word_splits}
 use Rattle.sh_flow.specs.Theorem.{is_quoted_command}
-use Rattle.sh_flow.proofs.BoolLemmas.{and_left, and_right}
 use Rattle.sh_flow.proofs.StraightLemmas.{quoted_whole}
 use Rattle.sh_flow.proofs.CommandLemmas.{EachWord, straight_stays, values_of, Suits, FirstGoes}
 
@@ -46,7 +46,7 @@ quoted_suits b = record {
 quoted_words : (e : Environment) (ws : List Word) → list_all (λ (w : Word). list_all (λ (x : Expansion). x.quoted) (expansions false w.parts)) ws ≡ true → EachWord (IsQuoted e) ws
 unfolding EachWord
 quoted_words e [] h = tt
-quoted_words e (w ∷ ws) h = (and_left _ _ h, quoted_words e ws (and_right (list_all (λ (x : Expansion). x.quoted) (expansions false w.parts)) _ h))
+quoted_words e (w ∷ ws) h = ((and_parts _ _ h).0, quoted_words e ws (and_parts (list_all (λ (x : Expansion). x.quoted) (expansions false w.parts)) _ h).1)
 
 any_values : (e : Environment) (ws : List Word) → EachWord (AnyValue e) ws
 unfolding EachWord
@@ -59,7 +59,7 @@ quoted_first b f i is status e c d h =
     let quoted : (is_quoted_command c && list_all is_quoted_command (filter_map lone_command is)) ≡ true =
     subst (λ (o : Option Command). list_all is_quoted_command (cons_option o (filter_map lone_command is)) ≡ true) d h in
     record {
-      words = quoted_words e (words_of (elements_of (out-Command c).kind)) (and_left (is_quoted_command c) _ quoted);
+      words = quoted_words e (words_of (elements_of (out-Command c).kind)) (and_parts (is_quoted_command c) _ quoted).0;
       values = any_values e (values_of (assignments_of b (elements_of (out-Command c).kind)));
-      behind = λ status' e' g k. and_right (is_quoted_command c) _ quoted;
+      behind = λ status' e' g k. (and_parts (is_quoted_command c) _ quoted).1;
     }

@@ -1,5 +1,7 @@
 -- What straight words expand to: the state behind them, and the pieces of those whose expansions are all quoted.
 use Rattle.std.proofs.Common.{◌≡◌, ℕ, Bool, true, false, not, ◌&&◌, ◌||◌, if◌then◌else◌, Option, Some, None, is_some, List, [], ◌∷◌, ◌++◌, refl, sym, subst, ◌∙◌}
+use Rattle.std.proofs.lemmas.Bool.{and_parts}
+use Rattle.std.proofs.Math.Bool.{or-false, or-true}
 use Rattle.std.specs.List.{list_any, list_all}
 use Rattle.std.proofs.lemmas.List.Folds.{list_any-append, list_all-append}
 use Rattle.sh_tree.specs.declared.tree.Part.{Part, Plain, Double', Param', Row_of-Part, end_of-Part, more_of-Part, items-the_row-Part}
@@ -18,7 +20,6 @@ use Rattle.sh_table.specs.runs.Expansion.{Piece, Bytes, Break, Literal, Quoted, 
 use Rattle.sh_table.specs.runs.Fields.{fields, is_expanded, is_split, splits}
 use Rattle.sh_flow.specs.Profile.{is_variable, is_value, is_flat, is_straight_part}
 use Rattle.sh_flow.specs.Expansions.{is_unset, names_unset}
-use Rattle.sh_flow.proofs.BoolLemmas.{and_left, and_right, or_false, or_true}
 use Rattle.sh_flow.proofs.StaticLemmas.{static_fields}
 
 or_assoc : (a b c : Bool) → ((a || b) || c) ≡ (a || (b || c))
@@ -52,7 +53,7 @@ unfolding followed
 both_expand o next k l = behind_first o (next o.state) o.state.ended k.ended k (l o.state k.environment k.ended)
 
 stays : {e : Environment} (ps : List Piece) (s : State) → s.environment ≡ e → s.ended ≡ false → Expanded e false s (gives ps s)
-stays ps s k l = record { environment = k; ended = l; copies = refl; strays = refl; unset = sym (or_false s.unset) }
+stays ps s k l = record { environment = k; ended = l; copies = refl; strays = refl; unset = sym (or-false s.unset) }
 
 module _ (b : List ℕ) (e : Environment) (f : Frame) (status : ℕ) where
   abbrev names : List Expansion → Bool
@@ -62,8 +63,8 @@ module _ (b : List ℕ) (e : Environment) (f : Frame) (status : ℕ) where
   value_expands : (c : Context) (v : Option (List ℕ)) (s : State) → s.environment ≡ e → s.ended ≡ false
       → Expanded e (not (is_some v) || false) s (needed f status c v (taken s))
   unfolding needed
-  value_expands c None s k l = record { environment = k; ended = l; copies = refl; strays = refl; unset = sym (or_true s.unset) }
-  value_expands c (Some v) s k l = record { environment = k; ended = l; copies = refl; strays = refl; unset = sym (or_false s.unset) }
+  value_expands c None s k l = record { environment = k; ended = l; copies = refl; strays = refl; unset = sym (or-true s.unset) }
+  value_expands c (Some v) s k l = record { environment = k; ended = l; copies = refl; strays = refl; unset = sym (or-false s.unset) }
 
   flat_expands : (c : Context) (q : Bool) (x : Part) (s : State) → is_flat x ≡ true → s.environment ≡ e → s.ended ≡ false
       → Expanded e (names (expansions_in q x)) s (expand_part f status c (part_of b x) s)
@@ -83,8 +84,8 @@ module _ (b : List ℕ) (e : Environment) (f : Frame) (status : ℕ) where
   row_expands c q end_of-Part s h k l = stays [] s k l
   row_expands c q (more_of-Part x rest) s h k l =
       rw (list_any-append (is_unset b e) (expansions_in q x) (row_expansions q rest))
-      (both_expand (expand_part f status c (part_of b x) s) (expand f status c (word_of b rest)) (flat_expands c q x s (and_left (is_flat x) _ h) k l)
-      (λ t k l. row_expands c q rest t (and_right (is_flat x) _ h) k l))
+      (both_expand (expand_part f status c (part_of b x) s) (expand f status c (word_of b rest)) (flat_expands c q x s (and_parts (is_flat x) _ h).0 k l)
+      (λ t k l. row_expands c q rest t (and_parts (is_flat x) _ h).1 k l))
 
   part_expands : (c : Context) (q : Bool) (x : Part) (s : State) → is_straight_part x ≡ true → s.environment ≡ e → s.ended ≡ false
       → Expanded e (names (expansions_in q x)) s (expand_part f status c (part_of b x) s)
@@ -99,8 +100,8 @@ module _ (b : List ℕ) (e : Environment) (f : Frame) (status : ℕ) where
   parts_expand c q [] s h k l = stays [] s k l
   parts_expand c q (x ∷ xs) s h k l =
       rw (list_any-append (is_unset b e) (expansions_in q x) (expansions q xs))
-      (both_expand (expand_part f status c (part_of b x) s) (expand f status c (parts_from b xs)) (part_expands c q x s (and_left (is_straight_part x) _ h) k l)
-      (λ t k l. parts_expand c q xs t (and_right (is_straight_part x) _ h) k l))
+      (both_expand (expand_part f status c (part_of b x) s) (expand f status c (parts_from b xs)) (part_expands c q x s (and_parts (is_straight_part x) _ h).0 k l)
+      (λ t k l. parts_expand c q xs t (and_parts (is_straight_part x) _ h).1 k l))
 
 -- a straight word leaves the environment as it is, and meets a parameter that is not set where its expansions name one
 pub straight_expands : (b : List ℕ) (ps : List Part) → list_all is_straight_part ps ≡ true → (c : Context) (f : Frame) (status : ℕ) (s : State) → s.ended ≡ false
@@ -150,8 +151,8 @@ module _ (b : List ℕ) (f : Frame) (status : ℕ) where
   unfolding part_of expand_part
   row_whole c end_of-Part s h = refl
   row_whole c (more_of-Part x rest) s h =
-      both_whole (expand_part f status (in_quotes c) (part_of b x) s) (expand f status (in_quotes c) (word_of b rest)) (flat_whole c x s (and_left (is_flat x) _ h))
-      (λ t. row_whole c rest t (and_right (is_flat x) _ h))
+      both_whole (expand_part f status (in_quotes c) (part_of b x) s) (expand f status (in_quotes c) (word_of b rest)) (flat_whole c x s (and_parts (is_flat x) _ h).0)
+      (λ t. row_whole c rest t (and_parts (is_flat x) _ h).1)
 
   part_whole : (x : Part) (s : State) → is_straight_part x ≡ true → list_all is_quoted (expansions_in false x) ≡ true
       → Whole (expand_part f status in_fields (part_of b x) s).pieces
@@ -170,8 +171,8 @@ module _ (b : List ℕ) (f : Frame) (status : ℕ) where
       let both : (list_all is_quoted (expansions_in false x) && list_all is_quoted (expansions false xs)) ≡ true =
       sym (list_all-append is_quoted (expansions_in false x) (expansions false xs)) ∙ k in
       both_whole (expand_part f status in_fields (part_of b x) s) (expand f status in_fields (parts_from b xs))
-      (part_whole x s (and_left (is_straight_part x) _ h) (and_left (list_all is_quoted (expansions_in false x)) _ both))
-      (λ t. parts_whole xs t (and_right (is_straight_part x) _ h) (and_right (list_all is_quoted (expansions_in false x)) _ both))
+      (part_whole x s (and_parts (is_straight_part x) _ h).0 (and_parts (list_all is_quoted (expansions_in false x)) _ both).0)
+      (λ t. parts_whole xs t (and_parts (is_straight_part x) _ h).1 (and_parts (list_all is_quoted (expansions_in false x)) _ both).1)
 
 whole_splits : (separators : List ℕ) (ps : List Piece) → Whole ps → list_any (is_split separators) ps ≡ false
 unfolding is_expanded is_split

@@ -13,7 +13,7 @@ use Rattle.sh_table.specs.runs.Expansion.{Outcome, in_fields, in_one, pieces_tex
 use Rattle.sh_table.specs.runs.Work.{Simple, Work, Items, Links, Pipeline, Negation, Command, Words, Prepare, Utility, Call, Return, Compound, If, Then, Test, Again, ForWords, ForFields, Clauses, Patterns, Fall, Assignments, Effect, goes, ends, after_expansion}
 use Rattle.sh_table.specs.runs.Builtins.{utility}
 use Rattle.sh_table.specs.runs.Steps.{Named, ready, operands_in, redirects_in, assignments_in, named_manner, manner, is_declared, word_fields, word_splits, status_behind, in_order, in_any_order, next_preparation, simple_work, command_work, unless_ended, negated_work, piped, items, links, words, assignment, invoked, prepared, prepare, kept, seen, utility_step, act_on, act}
-use Rattle.sh_flow.proofs.FactLemmas.{AreSet}
+use Rattle.sh_table.proofs.EnvironmentLemmas.{AreSet}
 use Rattle.sh_flow.proofs.Worlds.{NextOk, EffectOk}
 
 -- every variable that was set still is, and every function is still defined

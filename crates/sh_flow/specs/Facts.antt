@@ -1,7 +1,8 @@
 -- What is surely set.
 -- POSIX.1-2024, XCU 2.5.3 (shell variables), 2.5.1 (positional parameters): which of them are set at a place, in every run.
-use Rattle.std.specs.Prelude.{◌≡◌, ℕ, ◌≤◌, nat_le, Bool, true, false, ◌&&◌, ◌||◌, ◌==◌, List, length, min, Some, is_some, slice_get}
-use Rattle.std.specs.List.{list_all, list_any}
+use Rattle.std.specs.Prelude.{◌≡◌, ℕ, ◌≤◌, nat_le, Bool, true, false, ◌&&◌, ◌||◌, List, length, min, Some, is_some, slice_get}
+use Rattle.std.specs.List.{list_all}
+use Rattle.sh_tree.specs.Numbers.{has_number}
 use Rattle.sh_tree.specs.program.Syntax.{Text}
 use Rattle.sh_table.specs.runs.Environment.{Environment, Frame}
 
@@ -14,10 +15,6 @@ pub data Facts : Type 0 where
 pub data Claim : Type 0 where
   Unreached : Claim
   Claimed : (vars functions : List ℕ) (args : ℕ) → Claim
-
--- the number stands in the list
-abbrev pub has_number : ℕ → List ℕ → Bool
-has_number n ns = list_any (λ k. n == k) ns
 
 unfoldable pub facts : Claim → Facts
 facts Unreached = NotReached

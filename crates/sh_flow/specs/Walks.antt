@@ -1,7 +1,8 @@
 -- What is gathered from the pieces of a script, in the order of the text.
 -- POSIX.1-2024, XCU 2.6 (word expansions), 2.9.1 (simple commands): the names and the parameters in a piece.
-use Rattle.std.specs.Prelude.{◌<◌, ℕ, true, List, [], length, Option, Some, None}
+use Rattle.std.specs.Prelude.{◌<◌, ℕ, true, List, [], length}
 use Rattle.std.specs.List.{flat_map}
+use Rattle.std.specs.Option.{option_map_or}
 use Rattle.sh_tree.specs.declared.limits.TheConstants.{MAX_NAMES}
 use Rattle.sh_tree.specs.declared.refusal.Refusal.{Refusal}
 use Rattle.sh_tree.specs.declared.refusal.Refusal.TheVariants.{TooMany, Memory}
@@ -21,13 +22,9 @@ Refuses names TooMany = MAX_NAMES < length names
 Refuses names Memory = Unit {0}
 Refuses names _ = ⊥
 
-unfoldable pub of_option : {A : Type 0} → (Command → List A) → Option Command → List A
-of_option f None = []
-of_option f (Some c) = f c
-
 -- what is gathered from an item: from its command, where it is one
 abbrev pub on_lone : {A : Type 0} → (Command → List A) → Item → List A
-on_lone f i = of_option f (lone_command i)
+on_lone f i = option_map_or f (lone_command i) []
 
 abbrev pub command_names : List ℕ → Command → List Text
 command_names b c = flat_map (names_in b) (elements_of (out-Command c).kind)

@@ -9,5 +9,3 @@ pub mod names;
 pub mod policy;
 pub mod row;
 pub mod rule;
-#[cfg(test)]
-mod tests;

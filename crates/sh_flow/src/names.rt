@@ -120,7 +120,6 @@ impl Names {
         Ok(())
     }
 
-    #[tactic(auto, unfolding(crate::specs::Walks::of_option))]
     fn add_item(&mut self, script: &[u8], item: &Item) -> Result<(), Refusal>
         ensures names { OnOk result (self.new ≡ fold with_text self.old (on_lone (command_names script.now) item.now)) }
         ensures refusal { IfErr result (Refuses (fold with_text self.old (on_lone (command_names script.now) item.now))) }

@@ -6,8 +6,6 @@ mod commands;
 mod elements;
 mod faults;
 mod script;
-#[cfg(test)]
-mod tests;
 mod words;
 
 pub use script::parse;

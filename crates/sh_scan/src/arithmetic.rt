@@ -4,8 +4,6 @@ mod constants;
 mod figures;
 mod operators;
 mod spaces;
-#[cfg(test)]
-mod tests;
 
 ghost use Rattle.std.specs.Prelude.{◌≡◌, ◌≢◌, ◌≤◌, ◌<◌, ◌+◌, true, length};
 ghost use Rattle.sh_tree.specs.language.Arithmetic as arithmetic;

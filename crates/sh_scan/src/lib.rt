@@ -16,8 +16,6 @@ mod operators;
 mod pieces;
 mod quotes;
 mod redirection;
-#[cfg(test)]
-mod tests;
 mod words;
 
 pub use arithmetic::{assignment_of, binary_of, is_closed, lexeme_at, unary_of};

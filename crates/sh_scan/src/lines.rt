@@ -74,30 +74,3 @@ fn count_below(rising: &[usize], bound: usize) -> usize
 {
     rising.partition_point(|number| *number < bound)
 }
-
-#[cfg(test)]
-mod tests {
-    use super::*;
-    use std::test::Fail;
-
-    #[test]
-    fn places_count_from_one(rt: HostRuntime) -> Result<(), Fail> {
-        let rows: [(&[u8], u32, (u32, u32)); 10] = [
-            (b"", 0, (1, 1)),
-            (b"", 7, (1, 1)),
-            (b"ab", 1, (1, 2)),
-            (b"ab", 2, (1, 3)),
-            (b"ab\n", 2, (1, 3)),
-            (b"ab\n", 3, (2, 1)),
-            (b"\n\n\n", 2, (3, 1)),
-            (b"\n\n\n", 3, (4, 1)),
-            (b"a\nbc\n\nd", 4, (2, 3)),
-            (b"a\nbc\n\nd", 7, (4, 2)),
-        ];
-        for (text, at, want) in rows {
-            let lines = Lines::new(rt.alloc(), text)?;
-            assert_eq!(rt; lines.place(at), want, "at {at}");
-        }
-        Ok(())
-    }
-}

@@ -6,8 +6,6 @@ mod parameters;
 mod plain;
 mod signs;
 mod sites;
-#[cfg(test)]
-mod tests;
 mod tilde;
 
 pub use contexts::{

@@ -9,3 +9,4 @@ pub mod ProfileLemmas
 pub mod SteadyLemmas
 pub mod StepRowLemmas
 pub mod WorldLemmas
+pub mod EnvironmentLemmas

@@ -1,10 +1,12 @@
 pub mod RefusalLemmas
 pub mod TextLemmas
 pub mod LanguageLemmas
-pub mod CommandLemmas
 pub mod ProgramRules
 pub mod ProgramWords
 pub mod ProgramForms
 pub mod Inversions
 pub mod UnreadLemmas
 pub mod Counts
+pub mod ListLemmas
+pub mod ResultLemmas
+pub mod NameLemmas

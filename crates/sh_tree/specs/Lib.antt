@@ -4,5 +4,5 @@ pub mod Texts
 pub mod Tree
 pub mod Words
 pub mod Answers
-pub mod Commands
 pub mod program
+pub mod Numbers

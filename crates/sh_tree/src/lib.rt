@@ -3,7 +3,6 @@
 #![tactic(auto)]
 
 mod boxed;
-pub mod commands;
 mod items;
 pub mod known;
 pub mod laws;
@@ -11,11 +10,10 @@ pub mod limits;
 pub mod name;
 pub mod place;
 pub mod refusal;
-#[cfg(test)]
-mod tests;
 pub mod text;
 pub mod token;
 pub mod tree;
+pub mod words;
 
 pub use boxed::Boxed;
 pub use items::Items;

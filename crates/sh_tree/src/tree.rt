@@ -28,14 +28,14 @@ impl Span {
 
 /// The items of a list, in order (XCU 2.9.3).
 #[cycle(tree)]
-#[derive(Debug, Drop)]
+#[derive(Drop)]
 pub struct Script {
     pub items: Items<Item>,
 }
 
 /// One and-or list, and whether it is an asynchronous one.
 #[cycle(tree)]
-#[derive(Debug, Drop)]
+#[derive(Drop)]
 pub struct Item {
     pub list: AndOr,
     pub background: bool,
@@ -63,7 +63,7 @@ pub enum Link {
 
 /// An and-or list.
 #[cycle(tree)]
-#[derive(Debug, Drop)]
+#[derive(Drop)]
 pub struct AndOr {
     pub first: Pipe,
     pub rest: Items<(Link, Pipe)>,
@@ -86,7 +86,7 @@ impl AndOr {
 
 /// A pipeline, and whether `!` stands before it (XCU 2.9.2).
 #[cycle(tree)]
-#[derive(Debug, Drop)]
+#[derive(Drop)]
 pub struct Pipe {
     pub negated: bool,
     pub parts: Items<Command>,
@@ -95,7 +95,7 @@ pub struct Pipe {
 /// A command: its number from 1 in the order of starts, the offset at which it starts, what it is, and the redirections
 /// behind a compound command.
 #[cycle(tree)]
-#[derive(Debug, Drop)]
+#[derive(Drop)]
 pub struct Command {
     pub number: u32,
     pub at: u32,
@@ -124,7 +124,7 @@ impl Command {
 
 /// What a command is (XCU 2.9).
 #[cycle(tree)]
-#[derive(Debug, Drop)]
+#[derive(Drop)]
 pub enum Kind {
     /// A simple command, its elements in the order of the source (XCU 2.9.1).
     Simple(Items<Element>),
@@ -170,7 +170,7 @@ pub enum LoopKind {
 
 /// A condition of `if` or `elif`, and the list behind its `then`.
 #[cycle(tree)]
-#[derive(Debug, Drop)]
+#[derive(Drop)]
 pub struct Branch {
     pub condition: Script,
     pub body: Script,
@@ -178,7 +178,7 @@ pub struct Branch {
 
 /// A clause of `case`: its patterns, its list, which may be empty, and how it ends.
 #[cycle(tree)]
-#[derive(Debug, Drop)]
+#[derive(Drop)]
 pub struct Clause {
     pub patterns: Items<Word>,
     pub body: Script,
@@ -196,7 +196,7 @@ pub enum ClauseEnd {
 
 /// An element of a simple command.
 #[cycle(tree)]
-#[derive(Debug, Drop)]
+#[derive(Drop)]
 pub enum Element {
     /// A name, `=` and a value, before the command name.
     Assignment { name: Span, value: Word },
@@ -227,7 +227,7 @@ pub enum Direction {
 
 /// A redirection: the offset of its operator, its IO number, and what it opens (XCU 2.7).
 #[cycle(tree)]
-#[derive(Debug, Drop)]
+#[derive(Drop)]
 pub struct Redirect {
     pub at: u32,
     pub number: Option<Span>,
@@ -236,7 +236,7 @@ pub struct Redirect {
 
 /// What a redirection opens.
 #[cycle(tree)]
-#[derive(Debug, Drop)]
+#[derive(Drop)]
 pub enum Target {
     File(Direction, Word),
     Here(HereDoc),
@@ -245,7 +245,7 @@ pub enum Target {
 /// A here-document: whether its operator is `<<-`, the word behind the operator, the body, and the line that ends it,
 /// without its newline (XCU 2.7.4).
 #[cycle(tree)]
-#[derive(Debug, Drop)]
+#[derive(Drop)]
 pub struct HereDoc {
     pub strip: bool,
     pub delimiter: Word,
@@ -255,7 +255,7 @@ pub struct HereDoc {
 
 /// A word: its bytes and its parts. The word behind the operator of a braced expansion may have none.
 #[cycle(tree)]
-#[derive(Debug, Drop)]
+#[derive(Drop)]
 pub struct Word {
     pub span: Span,
     pub parts: Items<Part>,
@@ -263,7 +263,7 @@ pub struct Word {
 
 /// A part of a word. Each span holds all bytes of the part, those of its quoting too.
 #[cycle(tree)]
-#[derive(Debug, Drop)]
+#[derive(Drop)]
 pub enum Part {
     /// Bytes that stand for themselves.
     Plain(Span),
@@ -305,7 +305,7 @@ pub enum CommandStyle {
 
 /// A parameter expansion: its bytes, the parameter, and what is done with its value (XCU 2.6.2).
 #[cycle(tree)]
-#[derive(Debug, Drop)]
+#[derive(Drop)]
 pub struct Param {
     pub span: Span,
     pub subject: Subject,
@@ -359,7 +359,7 @@ impl Subject {
 
 /// What an expansion does with the parameter's value (XCU 2.6.2).
 #[cycle(tree)]
-#[derive(Debug, Drop)]
+#[derive(Drop)]
 pub enum Operator {
     /// It gives the value.
     Value,
@@ -406,7 +406,7 @@ pub enum Removal {
 
 /// An arithmetic expression (XCU 1.1.2.1, 2.6.4). Operators of one level that group from the left are a list.
 #[cycle(tree)]
-#[derive(Debug, Drop)]
+#[derive(Drop)]
 pub enum Expr {
     /// A decimal, octal or hexadecimal constant.
     Constant(Span),

@@ -28,7 +28,7 @@ use std::alloc::{AllocError, Global};
 use std::mem;
 
 /// What a builder answers.
-#[derive(Debug, Drop)]
+#[derive(Drop)]
 pub enum Next {
     /// The word.
     Done(Word),
@@ -38,7 +38,7 @@ pub enum Next {
 }
 
 /// A word that is being read (XCU 2.2, 2.6).
-#[derive(Debug, Drop)]
+#[derive(Drop)]
 pub struct WordBuilder {
     alloc: Global,
     mode: Mode,
@@ -118,6 +118,7 @@ impl WordBuilder {
     /// `Memory` where a growth was refused, and what was refused before.
     pub fn resume(&mut self, inner: Script, end: u32) -> Result<(), Refusal>
         ensures gives { (start : ℕ) → self.old.focus ≡ Focus.Commands start → self.old.failed ≡ None → MatchResult result (λ _. self.new ≡ fed self.old start inner end) (λ e. e ≡ Refusal.Memory) }
+        ensures leaves { ((start : ℕ) → self.old.focus ≡ Focus.Commands start → ⊥) → self.old.failed ≡ None → MatchResult result (λ _. self.new ≡ self.old) (λ _. ⊥) }
         ensures again { (e : refusal.Refusal) → self.old.failed ≡ Some e → (result ≡ Err e) × (self.new ≡ self.old) }
         ensures sound { (b : List ℕ) → end ≤ length b → IsSound b self.old → OnOk result (IsSound b self.new) }
         ensures fails { IfErr result (λ e. self.new.failed ≡ Some e) }

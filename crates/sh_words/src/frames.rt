@@ -4,7 +4,7 @@ use sh_tree::token::Context;
 use sh_tree::tree::{Action, Binary, Expr, Part, Removal, Span, Subject, Unary};
 
 /// What takes the next part.
-#[derive(Debug, Drop)]
+#[derive(Drop)]
 pub enum Holder {
     /// The parts of a context, behind the plain byte `prior`, or 0.
     Parts {
@@ -20,7 +20,7 @@ pub enum Holder {
 }
 
 /// What was opened.
-#[derive(Clone, Copy, Debug, PartialEq, Eq)]
+#[derive(Clone, Copy, PartialEq, Eq)]
 pub enum Opening {
     /// Double quotes (XCU 2.2.3).
     Double,
@@ -33,7 +33,7 @@ pub enum Opening {
 }
 
 /// An operation of arithmetic of which an operand is read. The depth is the one around it.
-#[derive(Debug, Drop)]
+#[derive(Drop)]
 pub enum Operation {
     Parenthesis {
         depth: u8,
@@ -75,7 +75,7 @@ pub enum Operation {
 }
 
 /// What stands around.
-#[derive(Debug, Drop)]
+#[derive(Drop)]
 pub enum Frame {
     /// A part that begins at `start` and whose inside begins at `inside`; what takes the part, and the depth there.
     Opened {
@@ -89,7 +89,7 @@ pub enum Frame {
 }
 
 /// What is done next.
-#[derive(Debug, Drop)]
+#[derive(Drop)]
 pub enum Focus {
     /// The word begins.
     Start,

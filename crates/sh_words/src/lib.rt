@@ -5,8 +5,6 @@ mod builder;
 mod frames;
 mod mode;
 mod stack;
-#[cfg(test)]
-mod tests;
 
 pub use builder::{Next, WordBuilder};
 pub use mode::Mode;

@@ -5,7 +5,7 @@ use std::alloc::{AllocError, Global};
 use std::marker::Model;
 
 /// A `Vec` that contracts see as the list of its elements, the last one first.
-#[derive(Debug, Drop)]
+#[derive(Drop)]
 pub struct Stack<T> {
     items: Vec<T>,
 }

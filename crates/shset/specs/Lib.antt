@@ -1,11 +1,1 @@
-pub mod Ends
-pub mod Moves
-pub mod Verdicts
-pub mod Texts
-pub mod Findings
-pub mod Walks
-pub mod Lint
-pub mod Runs
-pub mod App
-pub mod Line
-pub mod Certifies
+pub mod Endings

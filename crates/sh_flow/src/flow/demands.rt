@@ -131,7 +131,6 @@ impl Checker<'_> {
         self.want_elements(known, command.elements(), &mut *places)
     }
 
-    #[tactic(auto, unfolding(crate::specs::Walks::of_option))]
     fn want_item(&self, item: &Item, places: &mut Vec<Place>) -> Result<(), AllocError>
         ensures noted { OnOk result (places.new.items ≡ places.old.items ++ item_places self.now item.now) }
         ensures some { OnErr result (0 < length (item_places self.now item.now)) }

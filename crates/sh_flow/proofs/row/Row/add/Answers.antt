@@ -1,5 +1,5 @@
 use Rattle.std.proofs.Common.{List, ℕ, ap, ◌∙◌, ◌||◌, eqb}
-use Rattle.sh_flow.specs.Facts.{has_number}
+use Rattle.sh_tree.specs.Numbers.{has_number}
 use Rattle.sh_flow.proofs.RowLemmas.{has_number-insert}
 use Rattle.sh_flow.proofs.row.Row.add.Goals as goal
 

@@ -4,7 +4,9 @@ use Rattle.sh_tree.specs.Words.{expansions_in}
 use Rattle.sh_flow.specs.Facts.{facts}
 use Rattle.sh_flow.specs.Certificates.{claim_of}
 use Rattle.sh_flow.specs.Walks.{part_unmet}
-use Rattle.sh_flow.proofs.DemandLemmas.{some_in_all, whatever, part_unmet-Double}
+use Rattle.sh_tree.proofs.ListLemmas.{some_in_all}
+use Rattle.sh_tree.proofs.ResultLemmas.{whatever}
+use Rattle.sh_flow.proofs.DemandLemmas.{part_unmet-Double}
 use Rattle.sh_flow.proofs.flow.rules.Checker.+parts.Goals as goal
 
 pub want_parts-returns-in_err-want_part-clause-some : goal.want_parts-returns-in_err-want_part-clause-some

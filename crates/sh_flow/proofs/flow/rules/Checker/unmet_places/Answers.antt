@@ -1,7 +1,8 @@
 use Rattle.sh_flow.specs.Certificates.{claims_of}
 use Rattle.sh_flow.specs.Demands.{command_unmet}
 use Rattle.sh_flow.specs.Walks.{on_lone}
-use Rattle.sh_flow.proofs.DemandLemmas.{some_in_all, whatever}
+use Rattle.sh_tree.proofs.ListLemmas.{some_in_all}
+use Rattle.sh_tree.proofs.ResultLemmas.{whatever}
 use Rattle.sh_flow.proofs.flow.rules.Checker.unmet_places.Goals as goal
 
 pub returns-in_err-want_item-clause-some : goal.returns-in_err-want_item-clause-some

@@ -1,7 +1,8 @@
 use Rattle.sh_flow.specs.Facts.{facts}
 use Rattle.sh_flow.specs.Certificates.{claim_of}
 use Rattle.sh_flow.specs.Demands.{element_unmet}
-use Rattle.sh_flow.proofs.DemandLemmas.{some_in_all, whatever}
+use Rattle.sh_tree.proofs.ListLemmas.{some_in_all}
+use Rattle.sh_tree.proofs.ResultLemmas.{whatever}
 use Rattle.sh_flow.proofs.flow.rules.Checker.want_elements.Goals as goal
 
 pub returns-in_err-want_element-clause-some : goal.returns-in_err-want_element-clause-some

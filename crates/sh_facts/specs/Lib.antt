@@ -1,0 +1,17 @@
+pub mod Facts
+pub mod Gains
+pub mod Operands
+pub mod Views
+pub mod Table
+pub mod Entries
+pub mod Rules
+pub mod Faults
+pub mod Needs
+pub mod Demands
+pub mod Examples
+pub mod ShortScripts
+pub mod MoreShortScripts
+pub mod Scripts
+pub mod LongerScripts
+pub mod ForgedScripts
+pub mod AnswerExamples

@@ -1,0 +1,3 @@
+pub mod LineLemmas
+pub mod LineRowLemmas
+pub mod LineWholeLemmas

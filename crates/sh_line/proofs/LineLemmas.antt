@@ -1,0 +1,72 @@
+-- From clap's facts on a parse to what a line says.
+use Rattle.std.proofs.Common.{◌≡◌, ◌∙◌, ◌⊎◌, false, true, refl, sym, subst, List, [], Option, Some, None, inl, inr}
+use Rattle.std.specs.Prelude.{IsSome, option_map}
+use Rattle.clap.specs.Words.{IsAmong, Row, Text, fault_of, first_of, first_value, is_simple, is_simple_and_free, rows_of, subcommand_of}
+use Rattle.clap.specs.Faults.{level_fault}
+use Rattle.clap.specs.Walk.{nothing_held, rows_after}
+use Rattle.clap.specs.declared.error.kind.ErrorKind.{ErrorKind}
+use Rattle.clap.specs.declared.error.kind.ErrorKind.TheVariants.{OutOfMemory}
+use Rattle.clap.specs.declared.parser.matches.Found.{Found}
+use Rattle.clap.proofs.OnLiterals.{clap_on_literals}
+use Rattle.clap.proofs.WalkLemmas.{first_value-rows}
+use Rattle.sh_line.specs.App.{shset_app}
+use Rattle.sh_line.specs.Line.{IsWhole, StopsAs, StopsAt, StopsRead, action_name}
+use Rattle.sh_line.specs.declared.line.Stop.{Stop}
+use Rattle.sh_line.specs.declared.line.Stop.TheVariants.{Usage, Help, BadName, Memory}
+use Rattle.sh_report.specs.declared.task.Action.{Action}
+use Rattle.sh_report.specs.declared.task.Action.TheVariants.{Lint}
+use Rattle.sh_line.proofs.LineWholeLemmas.{file_found, found_passes, number_found, reading}
+
+-- clap's clauses say what the program's command line takes
+pub is_simple-shset : is_simple shset_app ≡ true
+unfolding clap_on_literals
+is_simple-shset = refl
+
+pub is_simple_and_free-shset : is_simple_and_free shset_app ≡ true
+unfolding clap_on_literals
+is_simple_and_free-shset = refl
+
+pub pair_from_parts : {X A B : Type 0} (f : X → A) (g : X → B) (s : Option X) (a : A) (b : B) → Some a ≡ option_map f s
+    → Some b ≡ option_map {T = A × B} (λ p. p.1) (option_map {T = X} {U = A × B} (λ x. (f x, g x)) s)
+    → option_map {T = X} {U = A × B} (λ x. (f x, g x)) s ≡ Some (a, b)
+pair_from_parts f g None a b p q = cc
+pair_from_parts f g (Some x) a b p q =
+    let e : f x ≡ a = cc in
+    let d : g x ≡ b = cc in
+    rw (e, d) refl
+
+pub no_file : (f : Found) (id : Text) → IsSome (first_of id (rows_of f)) → None ≡ first_value f id → ⊥
+no_file f id some none =
+    let e : None ≡ first_of id (rows_of f) = none ∙ first_value-rows f id in
+    let bad : IsSome {T = Text} None = subst (λ (o : Option Text). IsSome o) (sym e) some in
+    cc
+
+-- a subcommand that reads a script is whole where its level has no fault
+reading_whole : (a : Action) (words : List Text) → level_fault (reading (action_name a)) [] nothing_held words false [] ≡ []
+    → IsWhole (action_name a) (rows_after (reading (action_name a)).rules [] words)
+reading_whole a words passes = record {
+  action = (a, refl);
+  file = file_found (action_name a) words passes;
+  args = number_found (action_name a) words passes;
+}
+
+-- what a parse with no fault finds is whole
+pub whole : (words : List Text) (q : Text × List Row) → fault_of shset_app words ≡ [] → subcommand_of shset_app words ≡ Some q → IsWhole q.0 q.1
+whole words q none is = found_passes (λ p. IsWhole p.0 p.1) (reading_whole Lint, tt) words q none is
+
+-- an error of clap's is answered as its kind says
+pub error_stops : (words : List Text) (kind : ErrorKind) (s : Stop) → (kind ≡ OutOfMemory) ⊎ IsAmong kind (fault_of shset_app words)
+    → StopsAs kind s → StopsAt words s
+error_stops words kind (Usage text) (inl m) s = absurd (s.1 m)
+error_stops words kind (Usage text) (inr k) s = (kind, k, s.0)
+error_stops words kind (Help text) (inl m) s = cc
+error_stops words kind (Help text) (inr k) s = subst (λ (x : ErrorKind). IsAmong x (fault_of shset_app words)) s k
+error_stops words kind BadName h s = absurd s
+error_stops words kind Memory h s = tt
+
+pub read_stops : (words : List Text) (q : Text × List Row) (s : Stop) → fault_of shset_app words ≡ [] → subcommand_of shset_app words ≡ Some q
+    → StopsRead q.1 s → StopsAt words s
+read_stops words q (Usage text) none is s = absurd s
+read_stops words q (Help text) none is s = absurd s
+read_stops words q BadName none is s = (none, q, is, s)
+read_stops words q Memory none is s = tt

@@ -1,0 +1,15 @@
+use Rattle.std.proofs.Common.{rules, ◌≡◌, ap, ap₂, ◌∙◌, codes, true}
+use Rattle.std.proofs.lemmas.Result.{IfOk-weaker}
+use Rattle.clap.specs.Words.{App, app_of, new_app, with_subcommand}
+use Rattle.clap.specs.Simple.{on_top}
+use Rattle.sh_line.proofs.line.shset_command.Goals as goal
+
+abbrev top : App
+top = on_top (λ s. record s { subcommand_required = true; disable_help_subcommand = true }) (new_app (codes "shset"))
+
+pub returns : goal.returns
+returns c =
+    let base : app_of c.disable_help_subcommand.result ≡ top = search rules in
+    IfOk-weaker c.subcommand.result _ _
+    (λ r h. h.shape c.in_ok-lint.ensures.local ∙ ap₂ with_subcommand base (ap (λ (a : App). a.top) c.in_ok-lint.ensures.app))
+    c.subcommand.ensures

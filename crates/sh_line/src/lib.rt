@@ -1,0 +1,4 @@
+//! The command line of the program.
+#![tactic(auto)]
+
+pub mod line;

@@ -1,0 +1,232 @@
+//! The words of a command line, read by clap.
+ghost use Rattle.std.specs.Prelude.{◌≡◌, IfOk, IfErr, Some, [], codes, false, map, List};
+ghost use Rattle.clap.specs.Words.{Row, Text, app_of, fault_of, found_of, kind_of, rows_of, rule_of, subcommand_of};
+ghost use Rattle.clap.specs.declared.builder.command.Command.TheViews.{out-Command};
+ghost use Rattle.sh_line.specs.App.{args_rule, file_rule, name_rule, reading_app, shset_app};
+ghost use Rattle.sh_line.specs.Line.{IsLineOf, IsSourceOf, IsWhole, StopsAs, StopsAt, StopsRead, action_name, declared_texts, fault_stop};
+
+use clap::error::ErrorKind;
+use clap::{Arg, ArgAction, ArgMatches, Command, Error};
+use sh_flow::policy::{Policy, PolicyFault};
+use sh_report::task::{Action, Task};
+use std::alloc::{AllocError, Global};
+use std::convert::AsStr;
+
+/// Where bytes come from.
+#[derive(Clone, Copy, Debug, PartialEq, Eq)]
+pub enum Source<'a> {
+    /// Standard input, which the words call `-`.
+    Input,
+    /// The file of this name.
+    File(&'a str),
+}
+
+/// What a command line asks for.
+#[derive(Debug, Drop)]
+pub struct Line<'a> {
+    /// What is done.
+    pub task: Task,
+    /// Where the script comes from.
+    pub script: Source<'a>,
+    /// Where the certificate comes from, for a task that reads one.
+    pub cert: Option<Source<'a>>,
+}
+
+/// Why there is no line.
+#[derive(Debug, Drop)]
+pub enum Stop {
+    /// The words are no line of the program. The text is clap's, for standard error.
+    Usage(String),
+    /// Help was asked for. The text is clap's, for standard output.
+    Help(String),
+    /// A declared name is no name.
+    BadName,
+    /// Memory was refused.
+    Memory,
+}
+
+impl From<AllocError> for Stop {
+    ghost use Rattle.sh_line.specs.declared.line.Stop.TheVariants.{Memory};
+
+    ghost from_gives = { λ _ s. s ≡ Memory };
+
+    fn from(_error: AllocError) -> Stop {
+        Stop::Memory
+    }
+}
+
+impl From<PolicyFault> for Stop {
+    ghost use Rattle.sh_line.specs.Line.{fault_stop};
+
+    ghost from_gives = { λ f s. s ≡ fault_stop f };
+
+    fn from(fault: PolicyFault) -> Stop {
+        match fault {
+            PolicyFault::BadName(_) => Stop::BadName,
+            PolicyFault::Memory => Stop::Memory,
+        }
+    }
+}
+
+fn args_arg<'a>(alloc: Global) -> Arg<'a>
+    ensures rule { rule_of result ≡ args_rule }
+    ensures local { result.global ≡ false }
+{
+    Arg::new(alloc, "args")
+        .long("args")
+        .value_name("N")
+        .value_parser(clap::value_parser!(u16))
+        .default_value("0")
+        .help("How many positional parameters are set at least when the script starts")
+}
+
+fn file_arg<'a>(alloc: Global) -> Arg<'a>
+    ensures rule { rule_of result ≡ file_rule (codes "FILE") }
+    ensures local { result.global ≡ false }
+{
+    Arg::new(alloc, "FILE")
+        .required(true)
+        .help("The script, or - for standard input")
+}
+
+fn name_arg<'a>(alloc: Global) -> Arg<'a>
+    ensures rule { rule_of result ≡ name_rule }
+    ensures local { result.global ≡ false }
+{
+    Arg::new(alloc, "NAME")
+        .action(ArgAction::Append)
+        .help("A variable that is set when the script starts")
+}
+
+fn reading_command<'a>(
+    alloc: Global,
+    name: &'a str,
+    about: &'a str,
+) -> Result<Command<'a>, AllocError>
+    ensures app { IfOk result (λ c. app_of c ≡ reading_app name.entry.now) }
+    ensures local { IfOk result (λ c. (out-Command c).has_globals ≡ false) }
+{
+    Command::new(alloc, name)
+        .about(about)
+        .arg(args_arg(alloc))?
+        .arg(file_arg(alloc))?
+        .arg(name_arg(alloc))
+}
+
+fn shset_command<'a>(alloc: Global) -> Result<Command<'a>, AllocError>
+    ensures { IfOk result (λ c. app_of c ≡ shset_app) }
+{
+    let lint = reading_command(
+        alloc,
+        "lint",
+        "Prints what is wrong with a script, or that it is clean",
+    )?;
+    Command::new(alloc, "shset")
+        .about("Looks in shell scripts for variables that may be unset and words that may be split")
+        .subcommand_required(true)
+        .disable_help_subcommand(true)
+        .subcommand(lint)
+}
+
+fn stop_of(alloc: Global, error: Error) -> Stop
+    ensures { StopsAs (kind_of error) result }
+{
+    let kind = error.kind();
+    if kind == ErrorKind::OutOfMemory {
+        return Stop::Memory;
+    }
+    let Ok(text) = format!(in alloc; "{error}") else {
+        return Stop::Memory;
+    };
+    if kind == ErrorKind::DisplayHelp {
+        Stop::Help(text)
+    } else {
+        Stop::Usage(text)
+    }
+}
+
+fn action_of(name: &str) -> Action
+    requires { (a : Action) × (name.now ≡ action_name a) }
+    ensures { name.now ≡ action_name result }
+{
+    match name {
+        "lint" => Action::Lint,
+        _ => unreachable!(),
+    }
+}
+
+fn source_of<'a>(text: &'a str) -> Source<'a>
+    ensures { IsSourceOf text.entry.now result }
+{
+    if text == "-" {
+        Source::Input
+    } else {
+        Source::File(text)
+    }
+}
+
+fn names_of<'a>(alloc: Global, sub: &ArgMatches<'a>) -> Result<Vec<&'a [u8]>, AllocError>
+    ensures { IfOk result (λ v. map (λ s. s.now) v.items ≡ declared_texts (rows_of (found_of sub.now))) }
+{
+    match sub.get_strs("NAME") {
+        Some(given) => bytes_of(alloc, given),
+        None => Ok(Vec::new(alloc)),
+    }
+}
+
+fn bytes_of<'a>(alloc: Global, texts: &[&'a str]) -> Result<Vec<&'a [u8]>, AllocError>
+    ensures { IfOk result (λ v. map (λ s. s.now) v.items ≡ map (λ s. s.now) texts.now) }
+{
+    let mut bytes = Vec::with_capacity(alloc, texts.len())?;
+    for text in texts {
+        bytes.push(text.as_bytes())?;
+    }
+    Ok(bytes)
+}
+
+fn read_line<'a>(alloc: Global, name: &str, sub: &ArgMatches<'a>) -> Result<Line<'a>, Stop>
+    requires { IsWhole name.now (rows_of (found_of sub.now)) }
+    ensures line { IfOk result (IsLineOf name.now (rows_of (found_of sub.now))) }
+    ensures stop { IfErr result (StopsRead (rows_of (found_of sub.now))) }
+{
+    let Some(file) = sub.get_str("FILE") else {
+        unreachable!()
+    };
+    let Some(args) = sub.get_one::<u16>("args") else {
+        unreachable!()
+    };
+    let names = names_of(alloc, sub)?;
+    let policy = Policy::new(alloc, &names, args)?;
+    Ok(Line {
+        task: Task {
+            action: action_of(name),
+            policy,
+        },
+        script: source_of(file),
+        cert: None,
+    })
+}
+
+/// Reads the words of a command line, the program's name first: `lint [--args N] FILE [NAME..]`. N is 0 to 65535, and 0 where
+/// it is not given; FILE `-` is standard input; each NAME is a variable that is set when the script starts.
+///
+/// # Errors
+///
+/// `Usage` and `Help` where clap takes no line from the words, `BadName` where it takes one that declares what is no name,
+/// and `Memory` where a growth was refused.
+pub fn command_line<'a, S: AsStr>(alloc: Global, words: &'a [S]) -> Result<Line<'a>, Stop>
+    // clap's parse finds no fault in the words, and the line says what it found
+    ensures taken { IfOk result (λ _. fault_of shset_app (map S.text words.entry.now) ≡ []) }
+    ensures line { IfOk result (λ l. (p : Text × List Row) × (subcommand_of shset_app (map S.text words.entry.now) ≡ Some p) × IsLineOf p.0 p.1 l) }
+    ensures stop { IfErr result (StopsAt (map S.text words.entry.now)) }
+{
+    let command = shset_command(alloc)?;
+    let matches = match command.try_get_matches_from(words) {
+        Ok(matches) => matches,
+        Err(error) => return Err(stop_of(alloc, error)),
+    };
+    let Some((name, sub)) = matches.subcommand() else {
+        unreachable!()
+    };
+    read_line(alloc, name, sub)
+}

@@ -1,0 +1,5 @@
+pub mod Findings
+pub mod Walks
+pub mod Lint
+pub mod Runs
+pub mod Certifies

@@ -1,0 +1,38 @@
+-- What a run of the engine reads and writes.
+-- shset's own; the standard has no linter.
+use Rattle.std.specs.Prelude.{◌≡◌, ℕ, List, take, Option, Result, Err}
+use Rattle.std.specs.Io.KnownBytes.{Appends}
+use Rattle.sh_tree.specs.declared.refusal.Refusal.{Refusal}
+use Rattle.sh_tree.specs.declared.refusal.Refusal.TheVariants.{Memory}
+use Rattle.sh_flow.specs.Policy.{Declared}
+use Rattle.sh_report.specs.declared.task.Action.{Action}
+use Rattle.sh_report.specs.declared.task.Action.TheVariants.{Lint}
+use Rattle.sh_report.specs.declared.task.Task.{Task}
+use Rattle.sh_report.specs.declared.verdict.Verdict.{Verdict}
+use Rattle.sh_lint.specs.Lint.{Lints}
+use Rattle.sh_report.specs.Texts.{answer_text, status_of}
+
+-- the answer is one of the action on the bytes, and has a text
+abbrev pub Answers : Action → List ℕ → Declared → Result Verdict Refusal → Type 0
+Answers Lint b d r = Lints b d r × (r ≡ Err Memory → ⊥)
+
+-- the text and the status are those of such an answer
+pub record TellsAnswer (task : Task) (b text : List ℕ) (status : ℕ) : Type 0 where
+  pub answer : Result Verdict Refusal
+  pub answers : Answers task.action b task.policy answer
+  pub text_is : text ≡ answer_text b answer
+  pub status_is : status ≡ status_of answer
+
+-- the text of such an answer was written, and the status is its own
+pub record WritesAnswer (task : Task) (b : List ℕ) (old new : Option (List ℕ)) (status : ℕ) : Type 0 where
+  pub text : List ℕ
+  pub tells : TellsAnswer task b text status
+  pub written : Appends old new text
+
+-- a front of the text of such an answer was written
+pub record WritesFront (task : Task) (b : List ℕ) (old new : Option (List ℕ)) : Type 0 where
+  pub text : List ℕ
+  pub status : ℕ
+  pub tells : TellsAnswer task b text status
+  pub count : ℕ
+  pub written : Appends old new (take count text)

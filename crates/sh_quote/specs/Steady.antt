@@ -1,0 +1,139 @@
+-- When IFS separates no numbers, whatever a script does: a look at its whole text.
+-- POSIX.1-2024, XCU 2.6.5 (field splitting), 2.15 (export, readonly), 3 (getopts, read).
+use Rattle.std.specs.Prelude.{ℕ, ◌+◌, Bool, true, false, not, ◌&&◌, ◌||◌, List, [], ◌∷◌, ◌++◌, take, drop, codes, Option, Some, None, is_some, unwrap_or, option_map}
+use Rattle.std.specs.List.{list_any, list_all}
+use Rattle.std.specs.Str.{bytes_eq}
+use Rattle.sh_tree.specs.declared.tree.Action.TheVariants as action
+use Rattle.sh_tree.specs.declared.tree.Special.TheVariants as special
+use Rattle.sh_tree.specs.program.Syntax as p
+use Rattle.sh_tree.specs.program.Syntax.{Text, Word}
+use Rattle.sh_tree.specs.program.Words.{static_of, assignment_in, words_in}
+use Rattle.sh_table.specs.Kinds.{kind_of}
+use Rattle.sh_table.specs.Surroundings.{outside, items_located}
+use Rattle.sh_table.specs.Quoting.{are_quotations, word_mentions, is_ifs, is_steady}
+use Rattle.sh_table.specs.declared.kind.Kind.{Kind}
+use Rattle.sh_tree.specs.declared.known.KnownName.TheVariants as known
+use Rattle.sh_table.specs.declared.kind.Kind.TheVariants as kind
+use Rattle.sh_table.specs.runs.Steps.{operands_in, redirects_in, assignments_in, opened}
+use Rattle.sh_facts.specs.Operands.{read_names}
+
+-- `${IFS=w}`, and arithmetic that assigns IFS, in a word; substitutions aside
+unfoldable mutual
+  pub part_assigns : p.Part → Bool
+  part_assigns (p.Double w) = word_assigns w
+  part_assigns (p.Expansion at parameter operator) = operator_assigns parameter operator
+  part_assigns (p.Arithmetic at e) = expression_assigns e
+  part_assigns _ = false
+
+  pub word_assigns : p.Word → Bool
+  word_assigns p.no_parts = false
+  word_assigns (p.more_parts x w) = part_assigns x || word_assigns w
+
+  pub operator_assigns : p.Parameter → p.Operator → Bool
+  operator_assigns (p.Variable name) (p.Use action.Assign colon w) = is_ifs name || word_assigns w
+  operator_assigns parameter (p.Use action colon w) = word_assigns w
+  operator_assigns parameter (p.Remove removal w) = word_assigns w
+  operator_assigns parameter _ = false
+
+  pub expression_assigns : p.Expression → Bool
+  expression_assigns (p.Expanded x) = part_assigns x
+  expression_assigns (p.Parenthesis e) = expression_assigns e
+  expression_assigns (p.Signed operator e) = expression_assigns e
+  expression_assigns (p.Chain e rest) = expression_assigns e || operands_assign rest
+  expression_assigns (p.Choice e then_one else_one) = expression_assigns e || expression_assigns then_one || expression_assigns else_one
+  expression_assigns (p.Assigned at name operator e) = is_ifs name || expression_assigns e
+  expression_assigns _ = false
+
+  pub operands_assign : p.Operands → Bool
+  operands_assign p.no_operands = false
+  operands_assign (p.more_operands operator e rest) = expression_assigns e || operands_assign rest
+
+-- The words of a command
+
+unfoldable pub redirect_words : p.Redirects → List Word
+redirect_words p.no_redirects = []
+redirect_words (p.more_redirects r rs) = opened r ∷ redirect_words rs
+
+unfoldable pub value_words : List (Text × Word) → List Word
+value_words [] = []
+value_words (x ∷ xs) = x.1 ∷ value_words xs
+
+unfoldable pub for_words : p.ForWords → List Word
+for_words p.every_parameter = []
+for_words (p.listed ws) = words_in ws
+
+unfoldable pub pattern_words : p.Clauses → List Word
+pattern_words p.no_clauses = []
+pattern_words (p.more_clauses patterns body end rest) = words_in patterns ++ pattern_words rest
+
+unfoldable pub kind_words : p.Kind → List Word
+kind_words (p.Simple es) = words_in (operands_in es) ++ redirect_words (redirects_in es) ++ value_words (assignments_in es)
+kind_words (p.For name ws body) = for_words ws
+kind_words (p.Case w cs) = w ∷ pattern_words cs
+kind_words _ = []
+
+-- Values of IFS
+
+-- a value that is static and separates no numbers
+unfoldable pub steady_value : Word → Bool
+steady_value w = unwrap_or (option_map (λ t. is_steady (Some t)) (static_of w)) false
+
+unfoldable pub steady_assignment : Text × Word → Bool
+steady_assignment x = not (is_ifs x.0) || steady_value x.1
+
+abbrev pub ifs_and_equals : Text
+ifs_and_equals = codes "IFS="
+
+-- a static operand that gives IFS a value, as `export` and `readonly` read it
+unfoldable pub steady_text : Option Text → Bool
+steady_text None = false
+steady_text (Some t) = not (bytes_eq (take 4 t) ifs_and_equals) || is_steady (Some (drop 4 t))
+
+-- an operand of `export` or `readonly`: an assignment in form, or static
+unfoldable pub steady_declared : Word → Bool
+steady_declared w = by_form (assignment_in w)
+  where
+    by_form : Option (Text × Word) → Bool
+    by_form (Some x) = steady_assignment x
+    by_form None = steady_text (static_of w)
+
+abbrev pub is_static : Word → Bool
+is_static w = is_some (static_of w)
+
+unfoldable pub is_every : p.Parameter → Bool
+is_every (p.Special special.At) = true
+is_every _ = false
+
+-- an operand of `getopts`: static, and not IFS
+unfoldable pub steady_operand : Word → Bool
+steady_operand w = unwrap_or (option_map (λ t. not (is_ifs t)) (static_of w)) false
+
+-- the first one may also be quoted, without `$@`, so that it is one field
+unfoldable pub steady_getopts : List Word → Bool
+steady_getopts [] = true
+steady_getopts (w ∷ ws) = (steady_operand w || (not (is_static w) && are_quotations w && not (word_mentions is_every w))) && list_all steady_operand ws
+
+-- the operands of a utility do not let it set IFS
+unfoldable pub steady_operands : Kind → List Word → Bool
+steady_operands (kind.Special known.Export) ws = list_all steady_declared ws
+steady_operands (kind.Special known.Readonly) ws = list_all steady_declared ws
+steady_operands kind.Read ws = list_all is_static ws && not (list_any is_ifs (read_names ws))
+steady_operands kind.Getopts ws = steady_getopts ws
+steady_operands _ ws = true
+
+unfoldable pub steady_words : List Word → Bool
+steady_words [] = true
+steady_words (w ∷ ws) = unwrap_or (option_map (λ t. steady_operands (kind_of t) ws) (static_of w)) true
+
+-- what a command is keeps IFS steady: its assignments, its operands, the name of `for`
+unfoldable pub steady_kind : p.Kind → Bool
+steady_kind (p.Simple es) = list_all steady_assignment (assignments_in es) && steady_words (words_in (operands_in es))
+steady_kind (p.For name ws body) = not (is_ifs name)
+steady_kind _ = true
+
+unfoldable pub steady_command : p.Command → Bool
+steady_command (p.command n at kind rs) = steady_kind kind && not (list_any word_assigns (redirect_words rs ++ kind_words kind))
+
+-- every command of the script does
+unfoldable pub steady : p.Items → Bool
+steady t = list_all (λ l. steady_command l.command) (items_located outside t)

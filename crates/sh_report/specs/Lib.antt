@@ -1,0 +1,4 @@
+pub mod Ends
+pub mod Moves
+pub mod Verdicts
+pub mod Texts

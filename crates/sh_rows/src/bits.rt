@@ -1,0 +1,66 @@
+//! A row as bits.
+ghost use Rattle.std.specs.Prelude.{◌≡◌, ◌<◌, ℕ, true, length};
+ghost use Rattle.std.specs.Int.{div_ceil};
+ghost use Rattle.sh_rows.specs.Numbers.{has_bit};
+
+use crate::kernels::{is_set, meet_words, remove_words, set, unset, within_words, zeros};
+use crate::row::Row;
+use std::alloc::{AllocError, Global};
+
+/// A row as bits: number n is bit n modulo 64 of word n divided by 64, and the bits past the last number are zero.
+///
+/// Adding takes no memory: the words stand from the start, one for 64 numbers.
+#[derive(Debug, Drop)]
+pub struct BitRow {
+    words: Vec<u64>,
+    count: u32,
+    ghost sized: { length words.items ≡ div_ceil count 64 },
+    ghost below: { (k : ℕ) → has_bit k words.items ≡ true → k < count },
+}
+
+impl Row for BitRow {
+    ghost holds = { λ r k. has_bit k r.words.items };
+
+    ghost limit = { λ r. r.count };
+
+    fn empty(alloc: Global, count: u32) -> Result<Self, AllocError> {
+        let length = (count as usize).div_ceil(64);
+        let words = zeros(alloc, length)?;
+        Ok(BitRow { words, count })
+    }
+
+    fn copy(&self) -> Result<Self, AllocError> {
+        let words = self.words.clone()?;
+        Ok(BitRow {
+            words,
+            count: self.count,
+        })
+    }
+
+    fn add(&mut self, n: u32) -> Result<(), AllocError> {
+        set(&mut self.words, n);
+        Ok(())
+    }
+
+    fn has(&self, n: u32) -> bool {
+        is_set(&self.words, n)
+    }
+
+    fn clear(&mut self, n: u32) {
+        unset(&mut self.words, n);
+    }
+
+    fn remove(&mut self, other: &Self) {
+        remove_words(&mut self.words, &other.words);
+    }
+
+    fn meet(&mut self, other: &Self) {
+        meet_words(&mut self.words, &other.words);
+    }
+
+    fn within(&self, other: &Self) -> bool {
+        within_words(&self.words, &other.words)
+    }
+
+    ghost below = { λ r k there. r.below k there };
+}

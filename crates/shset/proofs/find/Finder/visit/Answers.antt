@@ -1,7 +1,0 @@
-use Rattle.shset.proofs.FinderLemmas.{visited_in}
-use Rattle.shset.proofs.find.Finder.visit.Goals as goal
-
-pub returns : goal.returns
-returns c =
-    visited_in c.args.names.now c.args.script.now c.args.self.now c.learn.new.self c.args.command.now c.known-before.result c.known-after.result c.push.new.self
-    c.in_ok-learn.ensures c.known-before.ensures c.known-after.ensures c.in_ok-push.ensures.ok

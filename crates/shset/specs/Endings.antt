@@ -1,0 +1,61 @@
+-- How the program ends: what it prints beside an answer, where, and its status.
+-- POSIX.1-2024, XCU 1.4 (utility description defaults): diagnostics go to standard error, and a status above zero tells a fault.
+use Rattle.std.specs.Prelude.{◌≡◌, ◌⊎◌, ℕ, List, [], ◌∷◌, ◌++◌, codes, string_bytes, Option, Some, None, Result, Ok, Err}
+use Rattle.std.specs.Option.{option_map}
+use Rattle.std.specs.declared.io.ErrorKind.{ErrorKind}
+use Rattle.std.specs.declared.io.ErrorKind.TheVariants.{OutOfMemory}
+use Rattle.sh_report.specs.declared.moves.Fault.{Fault}
+use Rattle.sh_report.specs.declared.moves.Fault.TheVariants as fault
+use Rattle.sh_line.specs.declared.line.Stop.{Stop}
+use Rattle.sh_line.specs.declared.line.Stop.TheVariants.{Usage, Help, BadName, Memory}
+use Rattle.shset.specs.declared.ending.Stream.{Stream}
+use Rattle.shset.specs.declared.ending.Stream.TheVariants.{Output, Error}
+use Rattle.shset.specs.declared.ending.Ending.{Ending}
+
+-- what is printed, and where
+abbrev pub printed : Ending → Option (Stream × List ℕ)
+printed e = option_map (λ m. (m.stream, m.text.now)) e.message
+
+-- it ends with this status and prints nothing
+abbrev pub EndsSilently : ℕ → Ending → Type 0
+EndsSilently status e = (e.status ≡ status) × (printed e ≡ None)
+
+-- it prints this text on this stream and ends with this status
+abbrev pub EndsWith : Stream → List ℕ → ℕ → Ending → Type 0
+EndsWith stream text status e = (e.status ≡ status) × (printed e ≡ Some (stream, text))
+
+-- a line on standard error, and status 3
+abbrev pub Fails : List ℕ → Ending → Type 0
+Fails line e = EndsWith Error (line ++ 10 ∷ []) 3 e
+
+abbrev pub fault_line : Fault → List ℕ
+fault_line fault.Memory = codes "shset: out of memory"
+fault_line fault.Read = codes "shset: cannot read"
+fault_line fault.Write = codes "shset: cannot write"
+
+-- where the runtime has no words: it gives them as text or not at all
+abbrev pub words_line : ErrorKind → List ℕ
+words_line OutOfMemory = fault_line fault.Memory
+words_line _ = codes "shset: the words of the command line are not UTF-8"
+
+-- the texts of usage and help are clap's, and whole
+abbrev pub StopsWith : Stop → Ending → Type 0
+StopsWith (Usage text) e = EndsWith Error (string_bytes text) 3 e
+StopsWith (Help text) e = EndsWith Output (string_bytes text) 0 e
+StopsWith BadName e = Fails (codes "shset: bad name") e
+StopsWith Memory e = Fails (fault_line fault.Memory) e
+
+-- a run ends with its status, its answer written, or tells its fault
+abbrev pub RunsTo : Result ℕ Fault → Ending → Type 0
+RunsTo (Ok status) e = EndsSilently status e
+RunsTo (Err f) e = Fails (fault_line f) e
+
+-- where its text was not printed: a standard output that takes none is a fault, and of standard error there is nothing to tell
+abbrev pub EndsUnprinted : Option (Stream × List ℕ) → ℕ → Ending → Type 0
+EndsUnprinted None status e = EndsSilently status e
+EndsUnprinted (Some (Output, text)) status e = Fails (fault_line fault.Write) e
+EndsUnprinted (Some (Error, text)) status e = EndsSilently status e
+
+-- the status is that of the ending, or of what follows where its text was not printed
+abbrev pub IsStatusOf : Ending → ℕ → Type 0
+IsStatusOf e status = (status ≡ e.status) ⊎ ((last : Ending) × EndsUnprinted (printed e) e.status last × (status ≡ last.status))

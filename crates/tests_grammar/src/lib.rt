@@ -1,0 +1,25 @@
+//! Tests of the grammar: what is told of a script.
+#![tactic(auto)]
+
+#[cfg(test)]
+mod assignments;
+#[cfg(test)]
+mod bytes;
+#[cfg(test)]
+mod comments;
+#[cfg(test)]
+mod continuations;
+#[cfg(test)]
+mod faults;
+#[cfg(test)]
+mod limits;
+#[cfg(test)]
+mod lists;
+#[cfg(test)]
+mod reserved;
+#[cfg(test)]
+mod rows;
+#[cfg(test)]
+mod tildes;
+#[cfg(test)]
+mod trees;

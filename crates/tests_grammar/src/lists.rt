@@ -1,0 +1,154 @@
+//! Lists of simple commands, and the forms that are not read yet.
+use crate::rows::{Row, check};
+use std::test::Fail;
+
+const LISTS: &[Row] = &[
+    ("", ""),
+    (" \t", ""),
+    ("\n \n\t\n", ""),
+    ("a", "1@0[w0-1(p0-1)]"),
+    ("a;", "1@0[w0-1(p0-1)]"),
+    ("a\n", "1@0[w0-1(p0-1)]"),
+    (" a ", "1@1[w1-2(p1-2)]"),
+    ("a ;b", "1@0[w0-1(p0-1)] 2@3[w3-4(p3-4)]"),
+    (
+        "a; b\n\n c",
+        "1@0[w0-1(p0-1)] 2@3[w3-4(p3-4)] 3@7[w7-8(p7-8)]",
+    ),
+    ("a;\nb", "1@0[w0-1(p0-1)] 2@3[w3-4(p3-4)]"),
+    ("a;\n\n", "1@0[w0-1(p0-1)]"),
+    ("a\tb  c", "1@0[w0-1(p0-1) w2-3(p2-3) w5-6(p5-6)]"),
+];
+
+#[test]
+fn lists(rt: HostRuntime) -> Result<(), Fail> {
+    check(&rt, rt.alloc(), LISTS)
+}
+
+const SEPARATORS_WITHOUT_COMMANDS: &[Row] = &[
+    (";", "Syntax(UnexpectedToken, 0)"),
+    ("; a", "Syntax(UnexpectedToken, 0)"),
+    ("\n ;", "Syntax(UnexpectedToken, 2)"),
+    ("a\n;", "Syntax(UnexpectedToken, 2)"),
+    ("a; ;b", "Syntax(UnexpectedToken, 3)"),
+    ("a;;b", "Syntax(UnexpectedToken, 1)"),
+    ("a;&b", "Syntax(UnexpectedToken, 1)"),
+    (";;", "Syntax(UnexpectedToken, 0)"),
+    ("&", "Syntax(UnexpectedToken, 0)"),
+    ("a &&& b", "LeftOut(Later, 2)"),
+    ("|a", "Syntax(UnexpectedToken, 0)"),
+    ("&& a", "Syntax(UnexpectedToken, 0)"),
+    ("a\n&b", "Syntax(UnexpectedToken, 2)"),
+    (")", "Syntax(UnexpectedToken, 0)"),
+    ("a)", "Syntax(UnexpectedToken, 1)"),
+    ("a b)", "Syntax(UnexpectedToken, 3)"),
+];
+
+#[test]
+fn separators_without_commands(rt: HostRuntime) -> Result<(), Fail> {
+    check(&rt, rt.alloc(), SEPARATORS_WITHOUT_COMMANDS)
+}
+
+const FORMS_OF_LISTS: &[Row] = &[
+    ("a&b", "LeftOut(Later, 1)"),
+    ("a & b", "LeftOut(Later, 2)"),
+    ("a &", "LeftOut(Later, 2)"),
+    ("a &>b", "LeftOut(Later, 2)"),
+    ("a|b", "LeftOut(Later, 1)"),
+    ("a | b", "LeftOut(Later, 2)"),
+    ("a && b", "LeftOut(Later, 2)"),
+    ("a || b", "LeftOut(Later, 2)"),
+    ("a\nb|c", "LeftOut(Later, 3)"),
+    ("a 'b", "Syntax(OpenSingle, 2)"),
+    ("a|'b", "LeftOut(Later, 1)"),
+    ("! a", "LeftOut(Later, 0)"),
+    ("!", "LeftOut(Later, 0)"),
+    ("!(a)", "LeftOut(BangParenthesis, 0)"),
+    ("a;!(b)", "LeftOut(BangParenthesis, 2)"),
+];
+
+#[test]
+fn forms_of_lists(rt: HostRuntime) -> Result<(), Fail> {
+    check(&rt, rt.alloc(), FORMS_OF_LISTS)
+}
+
+const REDIRECTIONS: &[Row] = &[
+    (">a", "LeftOut(Later, 0)"),
+    ("a >b", "LeftOut(Later, 2)"),
+    ("a>b", "LeftOut(Later, 1)"),
+    ("a <b", "LeftOut(Later, 2)"),
+    ("a >>b", "LeftOut(Later, 2)"),
+    ("a <<b", "LeftOut(Later, 2)"),
+    ("a <<-b", "LeftOut(Later, 2)"),
+    ("a <>b", "LeftOut(Later, 2)"),
+    ("a >|b", "LeftOut(Later, 2)"),
+    ("a <&b", "LeftOut(Later, 2)"),
+    ("a >&b", "LeftOut(Later, 2)"),
+    ("2>a", "LeftOut(Later, 0)"),
+    ("a 2>b", "LeftOut(Later, 2)"),
+    ("a 12<b", "LeftOut(Later, 2)"),
+    ("a2>b", "LeftOut(Later, 2)"),
+    ("a '2'>b", "LeftOut(Later, 5)"),
+    ("a \\2>b", "LeftOut(Later, 4)"),
+    ("a 2 >b", "LeftOut(Later, 4)"),
+    ("a=2>b", "LeftOut(Later, 3)"),
+    ("x=1 >b", "LeftOut(Later, 4)"),
+    ("a $1>b", "LeftOut(Later, 4)"),
+];
+
+#[test]
+fn redirections(rt: HostRuntime) -> Result<(), Fail> {
+    check(&rt, rt.alloc(), REDIRECTIONS)
+}
+
+const COMMANDS_THAT_ARE_NOT_SIMPLE: &[Row] = &[
+    ("(a)", "LeftOut(Later, 0)"),
+    ("( (a))", "LeftOut(Later, 0)"),
+    ("((a))", "LeftOut(DoubleParenthesis, 0)"),
+    ("a;((b))", "LeftOut(DoubleParenthesis, 2)"),
+    ("{ a", "LeftOut(Later, 0)"),
+    ("{ a; }", "LeftOut(Later, 0)"),
+    ("if a", "LeftOut(Later, 0)"),
+    ("a\nwhile b", "LeftOut(Later, 2)"),
+    ("until a", "LeftOut(Later, 0)"),
+    ("for a", "LeftOut(Later, 0)"),
+    ("case a", "LeftOut(Later, 0)"),
+    ("f()", "LeftOut(Later, 0)"),
+    ("f () { a; }", "LeftOut(Later, 0)"),
+    ("f #\n()", "LeftOut(Later, 4)"),
+    ("a b()", "Syntax(UnexpectedToken, 3)"),
+    ("'f'()", "Syntax(UnexpectedToken, 3)"),
+    ("x=1 f()", "Syntax(UnexpectedToken, 5)"),
+    ("f-()", "Syntax(UnexpectedToken, 2)"),
+    ("1f()", "Syntax(UnexpectedToken, 2)"),
+    ("a b ((c))", "Syntax(UnexpectedToken, 4)"),
+    ("echo !(a)", "Syntax(UnexpectedToken, 6)"),
+    ("x=1 ((a))", "Syntax(UnexpectedToken, 4)"),
+    ("a b (\\\n(c))", "Syntax(UnexpectedToken, 4)"),
+    ("a ((b))", "LeftOut(Later, 0)"),
+];
+
+#[test]
+fn commands_that_are_not_simple(rt: HostRuntime) -> Result<(), Fail> {
+    check(&rt, rt.alloc(), COMMANDS_THAT_ARE_NOT_SIMPLE)
+}
+
+const SUBSTITUTIONS: &[Row] = &[
+    ("$(a)", "LeftOut(Later, 0)"),
+    ("a $(b)", "LeftOut(Later, 2)"),
+    ("a\"$(b)\"", "LeftOut(Later, 2)"),
+    ("${x-$(a)}", "LeftOut(Later, 4)"),
+    ("\"${x-$(a)}\"", "LeftOut(Later, 5)"),
+    ("x=$(a)", "LeftOut(Later, 2)"),
+    ("$(", "LeftOut(Later, 0)"),
+    ("$( (a))", "LeftOut(Later, 0)"),
+    ("$((1+$(a)))", "LeftOut(Later, 5)"),
+    ("a 'b' $(c", "LeftOut(Later, 6)"),
+    ("$(a) 'b", "LeftOut(Later, 0)"),
+    ("\\$(a)", "Syntax(UnexpectedToken, 2)"),
+];
+
+#[test]
+fn substitutions(rt: HostRuntime) -> Result<(), Fail> {
+    check(&rt, rt.alloc(), SUBSTITUTIONS)
+}

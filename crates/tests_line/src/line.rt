@@ -1,0 +1,304 @@
+use sh_line::line::{Line, Source, Stop, command_line};
+use sh_report::task::Action;
+use std::alloc::Global;
+use std::process::Abort;
+use std::test::Fail;
+
+/// The words of a command line, and what is shown of its answer.
+type Row = (&'static [&'static str], &'static str);
+
+/// The action, the script, the number and the names of a line, as one text.
+fn shown_line(alloc: Global, line: &Line<'_>) -> Result<String, Fail> {
+    let action = match line.task.action {
+        Action::Lint => "lint",
+    };
+    let mut text = match line.script {
+        Source::Input => format!(in alloc; "{action} standard input")?,
+        Source::File(name) => format!(in alloc; "{action} file {name}")?,
+    };
+    let args = line.task.policy.args();
+    text.push_str(format!(in alloc; " args {args}")?.as_str())?;
+    for name in line.task.policy.names() {
+        let name = String::from_utf8(name.clone()?)?;
+        text.push_str(format!(in alloc; " name {name}")?.as_str())?;
+    }
+    if line.cert.is_some() {
+        text.push_str(" with a certificate")?;
+    }
+    Ok(text)
+}
+
+/// The answer to the words of a command line, as one text.
+fn shown(alloc: Global, words: &[&str]) -> Result<String, Fail> {
+    match command_line(alloc, words) {
+        Ok(line) => shown_line(alloc, &line),
+        Err(Stop::Usage(text)) => Ok(format!(in alloc; "usage: {text}")?),
+        Err(Stop::Help(text)) => Ok(format!(in alloc; "help: {text}")?),
+        Err(Stop::BadName) => Ok("bad name".to_string(alloc)?),
+        Err(Stop::Memory) => Ok("out of memory".to_string(alloc)?),
+    }
+}
+
+fn check(rt: &(impl Abort + AllocGlobal), rows: &[Row]) -> Result<(), Fail> {
+    for (words, wanted) in rows {
+        let text = shown(rt.alloc(), words)?;
+        assert_eq!(rt; text.as_str(), *wanted, "{words:?}");
+    }
+    Ok(())
+}
+
+const LINES: &[Row] = &[
+    (&["shset", "lint", "-"], "lint standard input args 0"),
+    (
+        &["shset", "lint", "script.sh"],
+        "lint file script.sh args 0",
+    ),
+    (
+        &["shset", "lint", "-", "y"],
+        "lint standard input args 0 name y",
+    ),
+    (
+        &["shset", "lint", "--args", "5", "f", "a", "b"],
+        "lint file f args 5 name a name b",
+    ),
+    (
+        &["shset", "lint", "f", "a", "--args=5", "b"],
+        "lint file f args 5 name a name b",
+    ),
+    (
+        &["shset", "lint", "--args", "65535", "f"],
+        "lint file f args 65535",
+    ),
+    (
+        &["shset", "lint", "--args", "+007", "f"],
+        "lint file f args 7",
+    ),
+    (
+        &["shset", "lint", "f", "b", "a", "b"],
+        "lint file f args 0 name b name a name b",
+    ),
+    (
+        &["shset", "lint", "f", "_a9"],
+        "lint file f args 0 name _a9",
+    ),
+    (
+        &["shset", "lint", "--", "-", "y"],
+        "lint standard input args 0 name y",
+    ),
+    (
+        &["shset", "lint", "--", "--args"],
+        "lint file --args args 0",
+    ),
+    (
+        &["shset", "lint", "lint", "lint"],
+        "lint file lint args 0 name lint",
+    ),
+];
+
+#[test]
+fn lines(rt: HostRuntime) -> Result<(), Fail> {
+    check(&rt, LINES)
+}
+
+const USAGE_OF_LINT: &[Row] = &[
+    (
+        &["shset", "lint", "--args", "65536", "f"],
+        "usage: error: invalid value '65536' for '--args <N>': 65536 is not in 0..=65535
+
+For more information, try '--help'.
+",
+    ),
+    (
+        &["shset", "lint", "--args", "65536", "-", "1x"],
+        "usage: error: invalid value '65536' for '--args <N>': 65536 is not in 0..=65535
+
+For more information, try '--help'.
+",
+    ),
+    (
+        &["shset", "lint", "--args", "x", "f"],
+        "usage: error: invalid value 'x' for '--args <N>': invalid digit found in string
+
+For more information, try '--help'.
+",
+    ),
+    (
+        &["shset", "lint", "--args=-1", "f"],
+        "usage: error: invalid value '-1' for '--args <N>': -1 is not in 0..=65535
+
+For more information, try '--help'.
+",
+    ),
+    (
+        &["shset", "lint", "f", "--args"],
+        "usage: error: a value is required for '--args <N>' but none was supplied
+
+For more information, try '--help'.
+",
+    ),
+    (
+        &["shset", "lint", "--args", "1", "--args", "2", "f"],
+        "usage: error: the argument '--args <N>' cannot be used multiple times
+
+Usage: shset lint [OPTIONS] <FILE> [NAME]...
+
+For more information, try '--help'.
+",
+    ),
+    (
+        &["shset", "lint"],
+        "usage: error: the following required arguments were not provided:
+  <FILE>
+
+Usage: shset lint <FILE> [NAME]...
+
+For more information, try '--help'.
+",
+    ),
+    (
+        &["shset", "lint", "--all", "f"],
+        "usage: error: unexpected argument '--all' found
+
+  tip: to pass '--all' as a value, use '-- --all'
+
+Usage: shset lint [OPTIONS] <FILE> [NAME]...
+
+For more information, try '--help'.
+",
+    ),
+    (
+        &["shset", "lint", "-x", "f"],
+        "usage: error: unexpected argument '-x' found
+
+  tip: to pass '-x' as a value, use '-- -x'
+
+Usage: shset lint [OPTIONS] <FILE> [NAME]...
+
+For more information, try '--help'.
+",
+    ),
+    (
+        &["shset", "lint", "--args", "-5", "f"],
+        "usage: error: unexpected argument '-5' found
+
+  tip: to pass '-5' as a value, use '-- -5'
+
+Usage: shset lint [OPTIONS] <FILE> [NAME]...
+
+For more information, try '--help'.
+",
+    ),
+];
+
+#[test]
+fn usage_faults_of_lint(rt: HostRuntime) -> Result<(), Fail> {
+    check(&rt, USAGE_OF_LINT)
+}
+
+const USAGE_OF_PROGRAM: &[Row] = &[
+    (
+        &["shset"],
+        "usage: error: 'shset' requires a subcommand but one was not provided
+  [subcommands: lint]
+
+Usage: shset <COMMAND>
+
+For more information, try '--help'.
+",
+    ),
+    (
+        &["shset", "mend", "f"],
+        "usage: error: unrecognized subcommand 'mend'
+
+Usage: shset <COMMAND>
+
+For more information, try '--help'.
+",
+    ),
+    (
+        &["shset", "help"],
+        "usage: error: unrecognized subcommand 'help'
+
+Usage: shset <COMMAND>
+
+For more information, try '--help'.
+",
+    ),
+    (
+        &["shset", "--args", "1", "lint", "f"],
+        "usage: error: unexpected argument '--args' found
+
+  tip: 'lint --args' exists
+
+Usage: shset <COMMAND>
+
+For more information, try '--help'.
+",
+    ),
+    (
+        &[],
+        "usage: error: 'shset' requires a subcommand but one was not provided
+  [subcommands: lint]
+
+Usage: shset <COMMAND>
+
+For more information, try '--help'.
+",
+    ),
+];
+
+#[test]
+fn usage_faults_of_the_program(rt: HostRuntime) -> Result<(), Fail> {
+    check(&rt, USAGE_OF_PROGRAM)
+}
+
+const HELP: &str =
+    "help: Looks in shell scripts for variables that may be unset and words that may be split
+
+Usage: shset <COMMAND>
+
+Commands:
+  lint  Prints what is wrong with a script, or that it is clean
+
+Options:
+  -h, --help  Print help
+";
+
+const HELP_OF_LINT: &str = "help: Prints what is wrong with a script, or that it is clean
+
+Usage: shset lint [OPTIONS] <FILE> [NAME]...
+
+Arguments:
+  <FILE>     The script, or - for standard input
+  [NAME]...  A variable that is set when the script starts
+
+Options:
+      --args <N>  How many positional parameters are set at least when the script starts [default: 0]
+  -h, --help      Print help
+";
+
+const HELPED: &[Row] = &[
+    (&["shset", "--help"], HELP),
+    (&["shset", "-h"], HELP),
+    (&["shset", "lint", "--help"], HELP_OF_LINT),
+    (&["shset", "lint", "-h"], HELP_OF_LINT),
+    (&["shset", "lint", "-", "1x", "--help"], HELP_OF_LINT),
+];
+
+#[test]
+fn help(rt: HostRuntime) -> Result<(), Fail> {
+    check(&rt, HELPED)
+}
+
+const BAD_NAMES: &[Row] = &[
+    (&["shset", "lint", "-", "1x"], "bad name"),
+    (&["shset", "lint", "-", "-"], "bad name"),
+    (&["shset", "lint", "-", "a", "b c", "c"], "bad name"),
+    (&["shset", "lint", "-", ""], "bad name"),
+    (&["shset", "lint", "f", "é"], "bad name"),
+];
+
+#[test]
+fn bad_names(rt: HostRuntime) -> Result<(), Fail> {
+    check(&rt, BAD_NAMES)
+}
