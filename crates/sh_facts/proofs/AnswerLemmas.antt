@@ -205,6 +205,7 @@ forged_scripts_as_expected = record {
   job_in_process = refl;
   job_in_process_again = refl;
   failed_redirection = refl;
+  failed_call = refl;
   failed_redirection_again = refl;
   drops_forgotten = refl;
   drops_forgotten_again = refl;

@@ -485,6 +485,25 @@ failed_redirection_sheet =
     let c = known (codes "IFS OPTIND PPID x y") [] 0 in
     record { commands = row a b b ∷ row c Unreached c ∷ []; heads = (1, b) ∷ []; functions = [] }
 
+-- what is known where a function returns, taken as known where a redirection of its call failed
+-- `f() { x=1; false; }; f >a`
+abbrev pub failed_call_program : Items
+failed_call_program =
+    alone (compound 1 0 (Define (codes "f") (compound 2 4 (Group (alone (simple 3 6 (assignment (codes "x") (plain (codes "1")) no_elements)) (lone
+    (simple 4 11 (text (codes "false") no_elements)))))))) (lone (simple 5 21 (text (codes "f") (redirection (File (plain (codes "a")))
+    no_elements))))
+
+abbrev pub failed_call_sheet : Sheet
+failed_call_sheet =
+    let a = known (codes "IFS OPTIND PPID") [] 0 in
+    let b = known (codes "IFS OPTIND PPID") (codes "f") 0 in
+    let c = known (codes "IFS OPTIND PPID x") (codes "f") 0 in
+    record {
+      commands = row a b Unreached ∷ row b Unreached c ∷ row b c c ∷ row c Unreached c ∷ row b Unreached c ∷ [];
+      heads = [];
+      functions = function (codes "f") b (dropping [] []) Unreached c ∷ [];
+    }
+
 -- a failed redirection of a compound command, left out
 -- `for x do export f; read -r g >"${y=f}"; done && if ! g "in"& then unset -f f <"$x"; NL fi >"${y=f}"; ! false;`, x declared
 abbrev pub failed_redirection_again_program : Items
@@ -624,6 +643,9 @@ pub record ForgedScriptsAsExpected : Type 0 where
   pub failed_redirection :
       answers (declared [] 0) failed_redirection_program failed_redirection_sheet ([])
       ≡ Breaks 1 F10 ∷ []
+  pub failed_call :
+      answers (declared [] 0) failed_call_program failed_call_sheet ([])
+      ≡ Breaks 5 F14 ∷ []
   pub failed_redirection_again :
       answers (declared (codes "x") 0) failed_redirection_again_program failed_redirection_again_sheet ([])
       ≡ Breaks 4 F10 ∷ []
