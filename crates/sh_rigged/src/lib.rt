@@ -1,4 +1,6 @@
 //! Ends for tests that fail, are interrupted or move little.
+#![tactic(auto)]
+
 ghost use Rattle.std.specs.Prelude.{◌≡◌};
 ghost use Rattle.sh_report.specs.Ends.{no_counts};
 
