@@ -1,10 +1,9 @@
 //! Why a script or a certificate is refused.
-ghost use Rattle.std.specs.Prelude.{◌≡◌, ◌++◌, OnOk};
+ghost use Rattle.std.specs.Prelude.{◌≡◌, ◌++◌, length, take, OnOk, OnErr};
 ghost use Rattle.sh_tree.specs.Texts.{fault_text, form_text, rule_name, rule_text};
 
 use crate::known::{Declaration, KnownName};
 use std::alloc::{AllocError, AllocFailed};
-use thiserror::Error;
 
 /// A fault of syntax.
 #[derive(Clone, Copy, Debug, PartialEq, Eq)]
@@ -184,9 +183,23 @@ impl Rule {
     ///
     /// # Errors
     ///
-    /// `AllocError` where a growth was refused.
+    /// `AllocError` where a growth was refused; what was written before stays, and nothing more.
     pub fn push_text(self, out: &mut Vec<u8>) -> Result<(), AllocError>
-        ensures { OnOk result (out.new.items ≡ out.old.items ++ rule_text self) }
+        ensures ok { OnOk result (out.new.items ≡ out.old.items ++ rule_text self) }
+        ensures err { OnErr result (out.new.items ≡ out.old.items) }
+    {
+        let before = out.len();
+        let pushed = self.push_pieces(out);
+        if pushed.is_err() {
+            out.truncate(before);
+        }
+        pushed
+    }
+
+    // Appends the text, or a front of it where a growth was refused.
+    fn push_pieces(self, out: &mut Vec<u8>) -> Result<(), AllocError>
+        ensures ok { OnOk result (out.new.items ≡ out.old.items ++ rule_text self) }
+        ensures err { OnErr result (take (length out.old.items) out.new.items ≡ out.old.items) }
     {
         let (words, name) = self.pieces();
         out.extend_from_slice(words.as_bytes())?;
@@ -221,37 +234,27 @@ impl Rule {
 }
 
 /// Why there is no answer. Offsets count the script's bytes from 0.
-#[derive(Clone, Copy, Debug, PartialEq, Eq, Error)]
+#[derive(Clone, Copy, Debug, PartialEq, Eq)]
 pub enum Refusal {
     /// The script has more than `MAX_SCRIPT` bytes.
-    #[error("the script is too long")]
     TooLong,
     /// A NUL byte, which no text has, at its offset.
-    #[error("a NUL byte at {0}")]
     NulByte(u32),
     /// A fault of syntax and its offset, which may be the script's end.
-    #[error("a syntax fault at {1}: {0:?}")]
     Syntax(Fault, u32),
     /// A form that is left out, and the offset of its first byte.
-    #[error("a form that is left out at {1}: {0:?}")]
     LeftOut(Form, u32),
     /// More than `MAX_NESTING` levels, at the offset of the first that is too many.
-    #[error("nested too deep at {0}")]
     TooDeep(u32),
     /// More than `MAX_COMMANDS` commands, or more names than are numbered.
-    #[error("too many commands or names")]
     TooMany,
     /// A growth was refused.
-    #[error("out of memory")]
     Memory,
     /// A command breaks a rule of the profile; the offset of the command.
-    #[error("outside the profile at {1}: {0:?}")]
     Profile(Rule, u32),
     /// A line of a certificate, by its number from 1, is none of the format.
-    #[error("line {0} of the certificate is malformed")]
     CertSyntax(u32),
     /// A certificate that is well-formed speaks of another script.
-    #[error("the certificate does not fit the script")]
     CertShape,
 }
 

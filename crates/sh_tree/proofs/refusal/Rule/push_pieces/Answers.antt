@@ -2,10 +2,10 @@ use Rattle.std.specs.Prelude.{codes, ◌++◌}
 use Rattle.std.proofs.Common.{◌∙◌, ap}
 use Rattle.sh_tree.specs.Texts.{rule_name}
 use Rattle.sh_tree.proofs.RefusalLemmas.{rule_done}
-use Rattle.sh_tree.proofs.refusal.Rule.push_text.Goals as goal
+use Rattle.sh_tree.proofs.refusal.Rule.push_pieces.Goals as goal
 
-pub returns : goal.returns
-returns c =
+pub returns-clause-ok : goal.returns-clause-ok
+returns-clause-ok c =
     let out = c.args.out.now.items in
     let a = c.extend_from_slice.new.self.items in
     let b = c.extend_from_slice-2.new.self.items in
