@@ -316,24 +316,24 @@ fn add_expression<'a>(expression: &'a Expr, found: &mut Vec<&'a Command>) -> Res
     }
 }
 
-/// The commands by the offsets at which they start.
+/// The commands by their numbers.
 fn in_order(mut found: Vec<&Command>) -> Result<Vec<&Command>, AllocError>
     ensures same { IfOk result (λ sorted. IsPermutation found.entry.items sorted.items) }
-    ensures ordered { IfOk result (λ sorted. IsNonDecreasingBy (λ c. (out-Command c.now).at) sorted.items) }
+    ensures ordered { IfOk result (λ sorted. IsNonDecreasingBy (λ c. (out-Command c.now).number) sorted.items) }
 {
-    found.sort_by_key(|command| command.at)?;
+    found.sort_by_key(|command| command.number)?;
     Ok(found)
 }
 
-/// All commands of a script, those in its words included, each once, in the order of the offsets at which they start, which is
-/// that of their numbers: a command before those in it, and those of a here-document behind the rest of its operator's line.
+/// All commands of a script, those in its words included, each once, in the order of their numbers: as a script is read, a command
+/// stands before those in it, and those of a here-document behind the rest of its operator's line.
 ///
 /// # Errors
 ///
 /// Where a growth was refused.
 pub fn commands(alloc: Global, script: &Script) -> Result<Vec<&Command>, AllocError>
     ensures same { IfOk result (λ found. IsPermutation (spec.commands_of script.now) (map (λ c. c.now) found.items)) }
-    ensures ordered { IfOk result (λ found. IsNonDecreasingBy (λ c. (out-Command c.now).at) found.items) }
+    ensures ordered { IfOk result (λ found. IsNonDecreasingBy (λ c. (out-Command c.now).number) found.items) }
 {
     let mut found = Vec::new(alloc);
     add_script(script, &mut found)?;
