@@ -2,7 +2,7 @@
 ghost use Rattle.std.specs.Prelude.{◌≡◌, ◌≤◌, ◌<◌, length, IfSome};
 ghost use Rattle.sh_scan.specs.Quotes as quotes;
 
-use crate::words::single;
+use crate::words::single_sign;
 use sh_tree::limits::MAX_SCRIPT;
 use sh_tree::token::Sign;
 
@@ -15,7 +15,7 @@ pub fn single_end(script: &[u8], at: u32) -> Option<u32>
     ensures within { IfSome result (λ end. end ≤ length script.now) }
     ensures moves { IfSome result (λ end. at < end) }
 {
-    let (sign, length) = single(&script[at as usize + 1..]);
+    let (sign, length) = single_sign(&script[at as usize + 1..]);
     match sign {
         Sign::Single => Some((at as usize + length) as u32),
         _ => None,

@@ -12,4 +12,4 @@ pub use contexts::{
     in_arithmetic, in_body, in_double, in_operand, in_removal, in_unsplit, in_use, in_value,
     in_word,
 };
-pub use signs::{single, token_at};
+pub use signs::{single_sign, token_at};

@@ -14,7 +14,7 @@ use sh_tree::refusal::Form;
 use sh_tree::token::Figure;
 
 #[tactic(auto, using(crate::proofs::ArithmeticLemmas::name_some), unfolding(sh_tree::specs::language::Arithmetic::named, sh_tree::specs::language::Bytes::name_length))]
-fn named(front: &[u8], rest: &[u8]) -> (Figure, usize)
+fn name_figure(front: &[u8], rest: &[u8]) -> (Figure, usize)
     requires small { length front.now + length rest.now ≤ MAX_SCRIPT }
     requires begun { bytes.is_first bytes.is_name_start (front.now ++ rest.now) ≡ true }
     ensures value { result ≡ arithmetic.named (front.now ++ rest.now) }
@@ -32,7 +32,7 @@ fn named(front: &[u8], rest: &[u8]) -> (Figure, usize)
 
 /// No token begins so.
 #[tactic(auto, unfolding(sh_tree::specs::language::Arithmetic::unknown, sh_tree::specs::language::Bytes::is_first))]
-fn unknown(first: u8, others: &[u8], rest: &[u8]) -> (Figure, usize)
+fn unknown_figure(first: u8, others: &[u8], rest: &[u8]) -> (Figure, usize)
     ensures value { result ≡ arithmetic.unknown (first ∷ (others.now ++ rest.now)) }
     ensures length { result.1 ≡ 1 }
     ensures some { result.0 ≢ Figure.End }
@@ -58,13 +58,13 @@ pub fn figure_of(front: &[u8], rest: &[u8]) -> (Figure, usize)
         [] => (Figure::End, 0),
         [first, others @ ..] => {
             if is_name_start(*first) {
-                named(front, rest)
+                name_figure(front, rest)
             } else if is_digit(*first) {
                 (Figure::Constant, constant_length(*first, others, rest))
             } else {
                 match operator(front, rest) {
                     Some(found) => found,
-                    None => unknown(*first, others, rest),
+                    None => unknown_figure(*first, others, rest),
                 }
             }
         }

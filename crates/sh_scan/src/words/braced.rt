@@ -15,7 +15,7 @@ use sh_tree::tree::{Action, Removal, Special, Subject};
 
 /// No braced expansion goes on with `rest`.
 #[tactic(auto, unfolding(sh_tree::specs::language::Words::misfit))]
-fn misfit(behind: usize, rest: &[u8]) -> (Sign, usize)
+fn misfit_sign(behind: usize, rest: &[u8]) -> (Sign, usize)
     requires some { 0 < behind }
     ensures value { result ≡ words.misfit behind rest.now }
     ensures told { result.1 < behind + length rest.now }
@@ -47,7 +47,7 @@ fn action_of(byte: u8) -> Option<Action>
 
 /// A pattern removal of the longest or of the shortest.
 #[tactic(auto, unfolding(sh_tree::specs::language::Words::removed))]
-fn removed(subject: Subject, behind: usize, rest: &[u8]) -> (Sign, usize)
+fn removal_sign(subject: Subject, behind: usize, rest: &[u8]) -> (Sign, usize)
     requires some { 0 < behind }
     requires small { behind + length rest.now ≤ MAX_SCRIPT }
     ensures value { result ≡ words.removed subject behind rest.now }
@@ -57,7 +57,7 @@ fn removed(subject: Subject, behind: usize, rest: &[u8]) -> (Sign, usize)
     ensures part { result.0 ≢ Sign.Stop }
 {
     match rest {
-        [] => misfit(behind, rest),
+        [] => misfit_sign(behind, rest),
         [first, ..] => {
             if *first == b'%' {
                 if begins_at(rest, 1, b'%') {
@@ -72,7 +72,7 @@ fn removed(subject: Subject, behind: usize, rest: &[u8]) -> (Sign, usize)
                     (Sign::Remove(subject, Removal::ShortPrefix), behind + 1)
                 }
             } else {
-                misfit(behind, rest)
+                misfit_sign(behind, rest)
             }
         }
     }
@@ -80,7 +80,7 @@ fn removed(subject: Subject, behind: usize, rest: &[u8]) -> (Sign, usize)
 
 /// `-`, `=`, `?` or `+`, behind a colon or not.
 #[tactic(auto, unfolding(sh_tree::specs::language::Words::used))]
-fn used(colon: bool, subject: Subject, behind: usize, rest: &[u8]) -> (Sign, usize)
+fn use_sign(colon: bool, subject: Subject, behind: usize, rest: &[u8]) -> (Sign, usize)
     requires some { 0 < behind }
     requires small { behind + length rest.now ≤ MAX_SCRIPT }
     ensures value { result ≡ words.used colon subject behind rest.now }
@@ -90,14 +90,14 @@ fn used(colon: bool, subject: Subject, behind: usize, rest: &[u8]) -> (Sign, usi
     ensures part { result.0 ≢ Sign.Stop }
 {
     match rest {
-        [] => misfit(behind, rest),
+        [] => misfit_sign(behind, rest),
         [first, ..] => match action_of(*first) {
             Some(action) => (Sign::Use(subject, action, colon), behind + 1),
             None => {
                 if colon {
-                    misfit(behind, rest)
+                    misfit_sign(behind, rest)
                 } else {
-                    removed(subject, behind, rest)
+                    removal_sign(subject, behind, rest)
                 }
             }
         },
@@ -106,7 +106,7 @@ fn used(colon: bool, subject: Subject, behind: usize, rest: &[u8]) -> (Sign, usi
 
 /// What stands behind the parameter.
 #[tactic(auto, unfolding(sh_tree::specs::language::Words::operated))]
-fn operated(subject: Subject, behind: usize, rest: &[u8]) -> (Sign, usize)
+fn operator_sign(subject: Subject, behind: usize, rest: &[u8]) -> (Sign, usize)
     requires some { 0 < behind }
     requires small { behind + length rest.now ≤ MAX_SCRIPT }
     ensures value { result ≡ words.operated subject behind rest.now }
@@ -118,15 +118,15 @@ fn operated(subject: Subject, behind: usize, rest: &[u8]) -> (Sign, usize)
     if begins_with(rest, b'}') {
         (Sign::Value(subject), behind + 1)
     } else if begins_with(rest, b':') {
-        used(true, subject, behind + 1, &rest[1..])
+        use_sign(true, subject, behind + 1, &rest[1..])
     } else {
-        used(false, subject, behind, rest)
+        use_sign(false, subject, behind, rest)
     }
 }
 
 /// The length of a parameter, behind `${#` at `at`.
 #[tactic(auto, unfolding(sh_tree::specs::language::Words::counted))]
-fn counted(at: usize, rest: &[u8]) -> (Sign, usize)
+fn length_sign(at: usize, rest: &[u8]) -> (Sign, usize)
     requires small { at + 3 + length rest.now ≤ MAX_SCRIPT }
     ensures value { result ≡ words.counted at rest.now }
     ensures within { result.1 ≤ length rest.now + 3 }
@@ -139,15 +139,15 @@ fn counted(at: usize, rest: &[u8]) -> (Sign, usize)
             if begins_at(rest, length, b'}') {
                 (Sign::Length(subject), length + 4)
             } else {
-                misfit(length + 3, &rest[length..])
+                misfit_sign(length + 3, &rest[length..])
             }
         }
-        None => misfit(3, rest),
+        None => misfit_sign(3, rest),
     }
 }
 
 /// A special parameter in the byte at `at`, which has no operator; `rest` begins with it.
-fn specially(at: usize, rest: &[u8], special: Option<Special>) -> (Sign, usize)
+fn special_sign(at: usize, rest: &[u8], special: Option<Special>) -> (Sign, usize)
     requires some { 0 < length rest.now }
     requires small { at + length rest.now ≤ MAX_SCRIPT }
     ensures value { result ≡ words.specially at rest.now special }
@@ -161,15 +161,15 @@ fn specially(at: usize, rest: &[u8], special: Option<Special>) -> (Sign, usize)
             if begins_at(rest, 1, b'}') {
                 (Sign::Value(Subject::Special(special, span(at, at + 1))), 4)
             } else {
-                misfit(3, &rest[1..])
+                misfit_sign(3, &rest[1..])
             }
         }
-        None => misfit(2, rest),
+        None => misfit_sign(2, rest),
     }
 }
 
 #[tactic(auto, unfolding(sh_tree::specs::language::Words::unnamed))]
-fn unnamed(at: usize, rest: &[u8]) -> (Sign, usize)
+fn nameless_sign(at: usize, rest: &[u8]) -> (Sign, usize)
     requires small { at + 2 + length rest.now ≤ MAX_SCRIPT }
     ensures value { result ≡ words.unnamed at rest.now }
     ensures within { result.1 ≤ length rest.now + 2 }
@@ -178,13 +178,13 @@ fn unnamed(at: usize, rest: &[u8]) -> (Sign, usize)
     ensures part { result.0 ≢ Sign.Stop }
 {
     match rest {
-        [] => misfit(2, rest),
+        [] => misfit_sign(2, rest),
         [first, others @ ..] => {
             let closed = begins_at(rest, 1, b'}');
             if *first == b'#' && !closed {
-                counted(at, others)
+                length_sign(at, others)
             } else {
-                specially(at + 2, rest, special_of(*first))
+                special_sign(at + 2, rest, special_of(*first))
             }
         }
     }
@@ -192,7 +192,7 @@ fn unnamed(at: usize, rest: &[u8]) -> (Sign, usize)
 
 /// The expansion that `${` at `at` begins.
 #[tactic(auto, unfolding(sh_tree::specs::language::Words::braced))]
-pub fn braced(at: usize, rest: &[u8]) -> (Sign, usize)
+pub fn braced_sign(at: usize, rest: &[u8]) -> (Sign, usize)
     requires small { at + 2 + length rest.now ≤ MAX_SCRIPT }
     ensures value { result ≡ words.braced at rest.now }
     ensures within { result.1 ≤ length rest.now + 2 }
@@ -201,7 +201,7 @@ pub fn braced(at: usize, rest: &[u8]) -> (Sign, usize)
     ensures part { result.0 ≢ Sign.Stop }
 {
     match parameter(at + 2, rest) {
-        Some((subject, length)) => operated(subject, length + 2, &rest[length..]),
-        None => unnamed(at, rest),
+        Some((subject, length)) => operator_sign(subject, length + 2, &rest[length..]),
+        None => nameless_sign(at, rest),
     }
 }

@@ -4,7 +4,7 @@ ghost use Rattle.sh_tree.specs.language.Bytes as bytes;
 ghost use Rattle.sh_tree.specs.language.Words as words;
 ghost use Rattle.sh_scan.specs.Moves.{reads_bytes, refuses};
 
-use super::braced::braced;
+use super::braced::braced_sign;
 use super::parameters::{span, special_of};
 use super::sites::is_among;
 use crate::front::{begins_with, behind_joined, is_joined, name_length};
@@ -43,7 +43,7 @@ fn begins_name_byte(rest: &[u8]) -> bool
 
 /// A `$` at `at` and the name before which it stands.
 #[tactic(auto, unfolding(sh_tree::specs::language::Words::named))]
-fn named(at: usize, rest: &[u8]) -> (Sign, usize)
+fn name_sign(at: usize, rest: &[u8]) -> (Sign, usize)
     requires small { at + 1 + length rest.now ≤ MAX_SCRIPT }
     ensures value { result ≡ words.named at (bytes.name_length rest.now) (drop (bytes.name_length rest.now) rest.now) }
     ensures within { result.1 ≤ length rest.now + 1 }
@@ -93,7 +93,7 @@ fn parenthesis(rest: &[u8]) -> (Sign, usize)
 
 /// A `$` at `at` that opens something, before `rest`.
 #[tactic(auto, unfolding(sh_tree::specs::language::Words::opened, sh_tree::specs::language::Words::single_parameter))]
-fn opened(at: usize, rest: &[u8]) -> (Sign, usize)
+fn opening_sign(at: usize, rest: &[u8]) -> (Sign, usize)
     requires small { at + 1 + length rest.now ≤ MAX_SCRIPT }
     ensures value { result ≡ words.opened at rest.now }
     ensures within { result.1 ≤ length rest.now + 1 }
@@ -105,10 +105,10 @@ fn opened(at: usize, rest: &[u8]) -> (Sign, usize)
         [] => (Sign::Plain, 1),
         [first, others @ ..] => {
             if is_name_start(*first) {
-                named(at, rest)
+                name_sign(at, rest)
             } else {
                 match *first {
-                    b'{' => braced(at, others),
+                    b'{' => braced_sign(at, others),
                     b'(' => parenthesis(others),
                     b'[' => (Sign::LeftOut(Form::DollarBracket), 0),
                     b'\'' => (Sign::LeftOut(Form::DollarSingle), 0),
@@ -140,7 +140,7 @@ pub fn dollar(context: Context, at: usize, rest: &[u8]) -> (Sign, usize)
     if is_joined(rest) {
         return (Sign::LeftOut(Form::Continuation), 1);
     }
-    let found = opened(at, rest);
+    let found = opening_sign(at, rest);
     if is_all(found.0) && !context.fields {
         (Sign::LeftOut(Form::AllParameters), 0)
     } else {

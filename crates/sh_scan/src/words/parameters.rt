@@ -55,7 +55,7 @@ fn number_of(digits: &[u8]) -> Option<u16>
 
 /// The parameter whose digits stand at `at`.
 #[tactic(auto, unfolding(sh_tree::specs::language::Words::numbered))]
-fn numbered(at: usize, digits: &[u8]) -> Option<(Subject, usize)>
+fn positional(at: usize, digits: &[u8]) -> Option<(Subject, usize)>
     requires small { at + length digits.now ≤ MAX_SCRIPT }
     ensures value { result ≡ words.numbered at digits.now }
     ensures within { IfSome result (λ found. found.1 ≤ length digits.now) }
@@ -88,7 +88,7 @@ pub fn parameter(at: usize, rest: &[u8]) -> Option<(Subject, usize)>
 {
     let length = name_length(rest);
     if length == 0 {
-        numbered(at, &rest[..digit_length(rest)])
+        positional(at, &rest[..digit_length(rest)])
     } else {
         Some((Subject::Name(span(at, at + length)), length))
     }

@@ -16,7 +16,7 @@ use sh_tree::token::{Context, Sign, Site, Token};
 
 /// A backslash and a newline, before `rest`.
 #[tactic(auto, unfolding(sh_tree::specs::language::Words::continued))]
-fn continued(context: Context, rest: &[u8]) -> (Sign, usize)
+fn continuation_sign(context: Context, rest: &[u8]) -> (Sign, usize)
     ensures value { result ≡ words.continued context rest.now }
     ensures within { result.1 ≤ 2 }
     ensures moves { reads_bytes result.0 ≡ true → 0 < result.1 }
@@ -38,7 +38,7 @@ fn continued(context: Context, rest: &[u8]) -> (Sign, usize)
 
 /// A backslash that does not stand for itself, before `rest`.
 #[tactic(auto, unfolding(sh_tree::specs::language::Words::backslash))]
-fn backslash(context: Context, rest: &[u8]) -> (Sign, usize)
+fn backslash_sign(context: Context, rest: &[u8]) -> (Sign, usize)
     ensures value { result ≡ words.backslash context rest.now }
     ensures within { result.1 ≤ length rest.now + 1 }
     ensures moves { reads_bytes result.0 ≡ true → 0 < result.1 }
@@ -50,7 +50,7 @@ fn backslash(context: Context, rest: &[u8]) -> (Sign, usize)
         [first, others @ ..] => {
             let default = is_default_site(context.site);
             if *first == b'\n' {
-                continued(context, others)
+                continuation_sign(context, others)
             } else if default && *first == b'}' {
                 (Sign::LeftOut(Form::BackslashInDefault), 0)
             } else if default && context.body && *first == b'"' {
@@ -64,7 +64,7 @@ fn backslash(context: Context, rest: &[u8]) -> (Sign, usize)
 
 /// A single quote, before `rest` (XCU 2.2.2).
 #[tactic(auto, unfolding(sh_tree::specs::language::Words::single))]
-pub fn single(rest: &[u8]) -> (Sign, usize)
+pub fn single_sign(rest: &[u8]) -> (Sign, usize)
     ensures value { result ≡ words.single rest.now }
     ensures within { result.1 ≤ length rest.now + 1 }
     ensures moves { reads_bytes result.0 ≡ true → 0 < result.1 }
@@ -78,7 +78,7 @@ pub fn single(rest: &[u8]) -> (Sign, usize)
 }
 
 /// A double quote that ends nothing.
-fn double(site: Site) -> (Sign, usize)
+fn double_sign(site: Site) -> (Sign, usize)
     ensures value { result ≡ words.double site }
     ensures within { result.1 ≤ 1 }
     ensures moves { reads_bytes result.0 ≡ true → 0 < result.1 }
@@ -94,7 +94,7 @@ fn double(site: Site) -> (Sign, usize)
 
 /// What a byte that does not stand for itself begins, before `rest`.
 #[tactic(auto, unfolding(sh_tree::specs::language::Words::meant_by))]
-fn meant_by(context: Context, at: usize, byte: u8, rest: &[u8]) -> (Sign, usize)
+fn byte_sign(context: Context, at: usize, byte: u8, rest: &[u8]) -> (Sign, usize)
     requires small { at + 1 + length rest.now ≤ MAX_SCRIPT }
     ensures value { result ≡ words.meant_by context at byte rest.now }
     ensures within { result.1 ≤ length rest.now + 1 }
@@ -103,9 +103,9 @@ fn meant_by(context: Context, at: usize, byte: u8, rest: &[u8]) -> (Sign, usize)
     ensures stops { result.0 ≡ Sign.Stop → result.1 ≡ words.stop_length context.site }
 {
     match byte {
-        b'\\' => backslash(context, rest),
-        b'\'' => single(rest),
-        b'"' => double(context.site),
+        b'\\' => backslash_sign(context, rest),
+        b'\'' => single_sign(rest),
+        b'"' => double_sign(context.site),
         b'`' => (Sign::LeftOut(Form::Backquoted), 0),
         _ => dollar(context, at, rest),
     }
@@ -137,7 +137,7 @@ fn sign_by(context: Context, prior: u8, at: usize, byte: u8, rest: &[u8]) -> (Si
     } else if byte == b'~' {
         (Sign::Tilde, tilde_length(context, rest))
     } else {
-        meant_by(context, at, byte, rest)
+        byte_sign(context, at, byte, rest)
     }
 }
 

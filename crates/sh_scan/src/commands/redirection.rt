@@ -2,8 +2,8 @@
 ghost use Rattle.std.specs.Prelude.{◌≡◌, ◌≤◌, ◌<◌, ◌==◌, if◌then◌else◌, None, Some, length, IfSome};
 ghost use Rattle.sh_tree.specs.language.Commands as commands;
 
+use super::operators::{operator_at, redirects};
 use crate::front::digit_length;
-use crate::operators::{operator_at, redirects};
 use sh_tree::limits::MAX_SCRIPT;
 use sh_tree::token::Redirection;
 use sh_tree::tree::Span;

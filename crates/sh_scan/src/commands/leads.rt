@@ -2,11 +2,11 @@
 ghost use Rattle.std.specs.Prelude.{◌≡◌, ◌≢◌, ◌≤◌, ◌<◌, ◌+◌, None, length, drop};
 ghost use Rattle.sh_tree.specs.language.Commands as commands;
 
+use super::bare::{bare_word, left_out_name, reserved_word};
+use super::operators::{is_split, operator_of};
 use crate::assignments::is_assignment;
-use crate::bare::{bare_word, left_out_name, reserved_word};
 use crate::blanks::blanks_at;
 use crate::front::{begins_angle, begins_with, behind_joined, digit_length};
-use crate::operators::{is_split, operator_of};
 use sh_tree::limits::MAX_SCRIPT;
 use sh_tree::name::is_name;
 use sh_tree::refusal::Form;

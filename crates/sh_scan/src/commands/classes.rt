@@ -2,7 +2,7 @@
 ghost use Rattle.std.specs.Prelude.{◌≡◌};
 ghost use Rattle.sh_tree.specs.language.Commands as commands;
 
-use crate::operators::redirects;
+use super::operators::redirects;
 use sh_tree::token::{Lead, Operator, Reserved};
 use sh_tree::tree::{ClauseEnd, Link};
 

@@ -1,5 +1,5 @@
 use Rattle.sh_scan.proofs.WordLemmas.{single_open, single_closed}
-use Rattle.sh_scan.proofs.words.signs.single.Goals as goal
+use Rattle.sh_scan.proofs.words.signs.single_sign.Goals as goal
 
 pub returns-in-Some-clause-value : goal.returns-in-Some-clause-value
 returns-in-Some-clause-value c = single_closed c.args.rest.now _ c.in-Some.ensures

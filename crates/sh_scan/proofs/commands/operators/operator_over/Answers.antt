@@ -1,7 +1,7 @@
 use Rattle.std.proofs.Common.{refl, sym, ◌∙◌, ◌++◌}
 use Rattle.sh_tree.specs.language.Commands.{operator_of, long_operators, short_operators}
 use Rattle.sh_scan.proofs.OperatorLemmas.{longest_found, longest_missed, longest_fits, all_within, all_move}
-use Rattle.sh_scan.proofs.operators.operator_over.Goals as goal
+use Rattle.sh_scan.proofs.commands.operators.operator_over.Goals as goal
 
 pub returns-in-Some-clause-value : goal.returns-in-Some-clause-value
 unfolding operator_of
