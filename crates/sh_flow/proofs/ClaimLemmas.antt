@@ -1,7 +1,8 @@
 -- Tests of claims.
-use Rattle.std.proofs.Common.{◌≡◌, ℕ, zero, suc, ◌<◌, Bool, true, false, ◌&&◌, ◌||◌, nat_le, min, Option, Some, None, List, [], ◌∷◌, length, take, drop, map, refl, sym, ◌∙◌, ap, subst, arith, eqb, eq-eqb, Vec, Global}
+use Rattle.std.proofs.Common.{Bor, is_some, slice_get, ◌≡◌, ℕ, zero, suc, ◌<◌, Bool, true, false, ◌&&◌, ◌||◌, nat_le, min, Option, Some, None, List, [], ◌∷◌, length, take, drop, map, refl, sym, ◌∙◌, ap, subst, arith, eqb, eq-eqb, Vec, Global}
 use Rattle.std.proofs.Math.Bool.{and-true, or_comm}
 use Rattle.std.specs.List.{list_all, list_any, cons_option}
+use Rattle.std.specs.Option.{option_copied}
 use Rattle.std.specs.Str.{bytes_eq}
 use Rattle.std.proofs.lemmas.Bool.{or_right}
 use Rattle.std.proofs.lemmas.Grind.{common_steps}
@@ -16,11 +17,11 @@ use Rattle.sh_tree.specs.Words.{words_of, form_of, form_of_assignment, form_of_w
 use Rattle.sh_tree.specs.program.Syntax.{Text}
 use Rattle.sh_table.specs.runs.Environment.{is_one_of}
 use Rattle.sh_flow.specs.Names.{number_of}
-use Rattle.sh_tree.specs.Numbers.{has_number}
+use Rattle.sh_rows.specs.Numbers.{has_number}
 use Rattle.sh_flow.specs.Facts.{Facts, NotReached, Known, Claim, Unreached, Claimed, within, meet, enter, both, with_vars}
 use Rattle.sh_flow.specs.Rules.{assigned_numbers, leaves, exit_rule}
 use Rattle.sh_flow.specs.declared.rule.FlowRule.TheVariants.{F4, F5}
-use Rattle.sh_flow.specs.Breaches.{is_operand, is_word, number_is, form_assigns, assigns}
+use Rattle.sh_flow.specs.Breaches.{number_is, form_assigns, assigns}
 
 -- Each number of a list is one of it
 
@@ -97,53 +98,33 @@ and_same false = refl
 pub within_enter_both : (c : Claim) (f : Facts) → within c (enter (both f)) ≡ within c f
 within_enter_both c f = within_meet c f f ∙ and_same (within c f)
 
--- Elements
+-- Behind a command with a name, and behind one without
 
-pub has_no_word : (es : List Element) → list_any is_word es ≡ false → words_of es ≡ []
-unfolding is_operand form_of word_in
-has_no_word [] h = refl
-has_no_word (Assignment' s t shape row ∷ es) h = has_no_word es h
-has_no_word (Word' t shape row ∷ es) h = cc
-has_no_word (Redirection' at n t ∷ es) h = has_no_word es h
+pub same_copied : {A : Type 0} (o : Option (Bor A)) (p : Option A) → option_copied o ≡ p → is_some o ≡ is_some p
+same_copied None p e = ap is_some e
+same_copied (Some x) p e = ap is_some e
 
-some_word : (es : List Element) → list_any is_word es ≡ true → (w : Word) × (ws : List Word) × (words_of es ≡ w ∷ ws)
-unfolding is_operand form_of word_in
-some_word [] h = cc
-some_word (Assignment' s t shape row ∷ es) h = some_word es h
-some_word (Word' t shape row ∷ es) h = (record { span = t; parts = items-the_row-Part _ row }, words_of es, refl)
-some_word (Redirection' at n t ∷ es) h = some_word es h
-
-pub leaves-word : (b : List ℕ) (names : List Text) (es : List Element) (f : Facts) → list_any is_word es ≡ true → leaves b names (words_of es) es f ≡ f
+pub leaves-named : (b : List ℕ) (names : List Text) (es : List Element) (f : Facts) (ws : List Word) → is_some (slice_get ws 0) ≡ true → leaves b names ws es f ≡ f
 unfolding leaves
-leaves-word b names es f h = let w = some_word es h in rw (w.2) refl
+leaves-named b names es f [] h = cc
+leaves-named b names es f (v ∷ ws) h = refl
 
-pub exit_rule-word : (b : List ℕ) (names : List Text) (es : List Element) → list_any is_word es ≡ true → exit_rule b names (words_of es) ≡ F4
+pub exit_rule-named : (b : List ℕ) (names : List Text) (ws : List Word) → is_some (slice_get ws 0) ≡ true → exit_rule b names ws ≡ F4
 unfolding exit_rule
-exit_rule-word b names es h = let w = some_word es h in rw (w.2) refl
+exit_rule-named b names [] h = cc
+exit_rule-named b names (v ∷ ws) h = refl
 
-pub leaves-assignments : (b : List ℕ) (names : List Text) (es : List Element) (f : Facts) → list_any is_word es ≡ false → leaves b names (words_of es) es f ≡ with_vars (assigned_numbers b names es) f
+pub leaves-unnamed : (b : List ℕ) (names : List Text) (es : List Element) (f : Facts) (ws : List Word) → is_some (slice_get ws 0) ≡ false → leaves b names ws es f ≡ with_vars (assigned_numbers b names es) f
 unfolding leaves
-leaves-assignments b names es f h = rw (has_no_word es h) refl
+leaves-unnamed b names es f [] h = refl
+leaves-unnamed b names es f (v ∷ ws) h = cc
 
-pub exit_rule-assignments : (b : List ℕ) (names : List Text) (es : List Element) → list_any is_word es ≡ false → exit_rule b names (words_of es) ≡ F5
+pub exit_rule-unnamed : (b : List ℕ) (names : List Text) (ws : List Word) → is_some (slice_get ws 0) ≡ false → exit_rule b names ws ≡ F5
 unfolding exit_rule
-exit_rule-assignments b names es h = rw (has_no_word es h) refl
+exit_rule-unnamed b names [] h = refl
+exit_rule-unnamed b names (v ∷ ws) h = cc
 
--- the word of an element, and the name that it assigns
-
-pub is_word-Assignment : (s : Span) (w : Word) → is_word (element.Assignment s w) ≡ false
-unfolding is_operand
-is_word-Assignment s w = ap is_operand (form_of_assignment s w)
-
-pub is_word-Word : (w : Word) → is_word (element.Word w) ≡ true
-unfolding is_operand
-is_word-Word w = ap is_operand (form_of_word w)
-
-pub is_word-Redirection : (r : Redirect) → is_word (element.Redirection r) ≡ false
-unfolding is_operand
-is_word-Redirection r = ap is_operand (form_of_redirection r)
-
-pub ruleset word_in_element = (is_word-Assignment, is_word-Word, is_word-Redirection)
+-- the name that an element assigns
 
 pub assigns-Assignment : (b : List ℕ) (names : List Text) (n : ℕ) (s : Span) (w : Word) → assigns b names n (element.Assignment s w) ≡ number_is n (number_of names (text_of b s))
 unfolding form_assigns
@@ -177,7 +158,7 @@ pub gained : (b : List ℕ) (names : List Text) (n : ℕ) (es : List Element) (k
 gained b names n es known assigned e = or_comm known assigned ∙ ap (λ c. c || known) (e ∙ sym (is_assigned b names n es))
 
 -- what stands behind a command with a name, and behind one without
-pub ruleset behind = (leaves-word, exit_rule-word, leaves-assignments, exit_rule-assignments)
+pub ruleset behind = (leaves-named, exit_rule-named, leaves-unnamed, exit_rule-unnamed)
 
 -- the declared names, behind their vectors
 pub is_declared_of : (t : Text) (vs : List (Vec ℕ Global)) (names : List Text) → map (λ v. v.items) vs ≡ names → list_any (λ v. bytes_eq v.items t) vs ≡ is_one_of names t

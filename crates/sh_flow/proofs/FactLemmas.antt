@@ -9,7 +9,7 @@ use Rattle.sh_flow.specs.Policy.{Declared}
 use Rattle.sh_table.specs.runs.Worlds.{start_names, IsStart}
 use Rattle.sh_flow.specs.Names.{number_of}
 use Rattle.sh_table.specs.runs.Environment.{Environment, Frame, is_one_of}
-use Rattle.sh_tree.specs.Numbers.{has_number}
+use Rattle.sh_rows.specs.Numbers.{has_number}
 use Rattle.sh_table.proofs.EnvironmentLemmas.{AreSet}
 use Rattle.sh_flow.specs.Facts.{Facts, NotReached, Known, Claim, Unreached, Claimed, facts, within, within_out, meet, with_vars, Satisfies, Out, both, enter}
 use Rattle.sh_flow.specs.Rules.{told, start_facts, is_set_at_start}

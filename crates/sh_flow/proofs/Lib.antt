@@ -8,7 +8,6 @@ pub mod WorkLemmas
 pub mod CommandLemmas
 pub mod QuotedLemmas
 pub mod RunLemmas
-pub mod RowLemmas
 pub mod NameLemmas
 pub mod ClaimLemmas
 pub mod DemandLemmas

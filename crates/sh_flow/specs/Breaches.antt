@@ -1,9 +1,9 @@
 -- What the check of the rules keeps, as definitions see it.
 -- POSIX.1-2024, XCU 2.9.1 (simple commands), 2.9.3 (lists).
-use Rattle.std.specs.Prelude.{ℕ, ◌==◌, Bool, true, false, List, Option, Some, None}
+use Rattle.std.specs.Prelude.{ℕ, ◌==◌, Bool, false, List, Option, Some, None}
 use Rattle.sh_tree.specs.declared.tree.Element.{Element}
 use Rattle.sh_tree.specs.Tree.{text_of}
-use Rattle.sh_tree.specs.Words.{Form, Assigns, Operand, form_of}
+use Rattle.sh_tree.specs.Words.{Form, Assigns, form_of}
 use Rattle.sh_tree.specs.program.Syntax.{Text}
 use Rattle.sh_flow.specs.Policy.{Declared}
 use Rattle.sh_flow.specs.Names.{number_of}
@@ -31,14 +31,6 @@ rule_of (Command k) = F2
 unfoldable pub out_of : List Text → Declared → Claims → Predecessor → Out
 out_of names d c Start = both (start_facts names d)
 out_of names d c (Command k) = out_at c k
-
--- the element is the command name or an operand
-unfoldable pub is_operand : Form → Bool
-is_operand (Operand w) = true
-is_operand _ = false
-
-abbrev pub is_word : Element → Bool
-is_word e = is_operand (form_of e)
 
 unfoldable pub number_is : ℕ → Option ℕ → Bool
 number_is n None = false

@@ -1,6 +1,6 @@
 -- A certificate: rows of numbers, each kept once, and for each command the facts round it, which name rows.
 -- The standard has no such thing: what is surely set (XCU 2.5) before a command, and after each status.
-use Rattle.std.specs.Prelude.{ℕ, ◌-◌, List, [], Option, Some, None, slice_get, unwrap_or}
+use Rattle.std.specs.Prelude.{ℕ, zero, suc, List, [], Option, Some, None, slice_get, unwrap_or}
 use Rattle.sh_flow.specs.declared.certificate.RowId.{RowId}
 use Rattle.sh_flow.specs.declared.certificate.Facts.{Facts}
 use Rattle.sh_flow.specs.declared.certificate.Facts.TheVariants.{NotReached, Known}
@@ -27,7 +27,8 @@ claim_in rows pick (Some e) = claim_of rows (pick e)
 
 -- the entry of a command, by its number from 1
 abbrev pub entry_of : Table → ℕ → Option Entry
-entry_of c k = slice_get c.entries (k - 1)
+entry_of c zero = None
+entry_of c (suc k) = slice_get c.entries k
 
 unfoldable pub claims_of : Table → Claims
 claims_of c = record {

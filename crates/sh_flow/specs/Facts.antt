@@ -2,7 +2,7 @@
 -- POSIX.1-2024, XCU 2.5.3 (shell variables), 2.5.1 (positional parameters): which of them are set at a place, in every run.
 use Rattle.std.specs.Prelude.{◌≡◌, ℕ, ◌≤◌, nat_le, Bool, true, false, ◌&&◌, ◌||◌, List, length, min, Some, is_some, slice_get}
 use Rattle.std.specs.List.{list_all}
-use Rattle.sh_tree.specs.Numbers.{has_number}
+use Rattle.sh_rows.specs.Numbers.{has_number}
 use Rattle.sh_tree.specs.program.Syntax.{Text}
 use Rattle.sh_table.specs.runs.Environment.{Environment, Frame}
 

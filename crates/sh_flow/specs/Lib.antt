@@ -1,6 +1,5 @@
 pub mod Policy
 pub mod Names
-pub mod Numbers
 pub mod Expansions
 pub mod Profile
 pub mod Facts

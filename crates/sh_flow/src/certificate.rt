@@ -92,9 +92,8 @@ impl Certificate {
     pub fn entry(&self, number: u32) -> Option<Entry>
         ensures { result ≡ entry_of self.now number }
     {
-        self.entries
-            .get((number as usize).saturating_sub(1))
-            .copied()
+        let index = number.checked_sub(1)?;
+        self.entries.get(index as usize).copied()
     }
 
     /// The row of this identifier.

@@ -1,8 +1,7 @@
 //! Rows: sets of numbers of names.
 ghost use Rattle.std.specs.Prelude.{◌≡◌, ◌||◌, ◌==◌, ℕ, [], IfOk, OnOk, OnErr};
 ghost use Rattle.std.specs.List.Sorted.{IsStrictlyIncreasing};
-ghost use Rattle.sh_tree.specs.Numbers.{has_number};
-ghost use Rattle.sh_flow.specs.Numbers.{IsPlace};
+ghost use Rattle.sh_rows.specs.Numbers.{has_number, IsPlace};
 
 use std::alloc::{AllocError, Global};
 use std::marker::Model;

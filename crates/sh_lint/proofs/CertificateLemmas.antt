@@ -1,5 +1,5 @@
 -- The certificate that the finder makes: each rule holds by it, and what is unmet is what the text alone tells.
-use Rattle.std.proofs.Common.{◌≡◌, ℕ, ◌+◌, ◌-◌, Bool, true, false, ◌&&◌, ◌||◌, Option, Some, None, List, [], ◌∷◌, ◌++◌, map, min, refl, sym, ◌∙◌, ap, subst, arith, nat_le, slice_get, is_some, unwrap_or, option_map}
+use Rattle.std.proofs.Common.{◌≡◌, ℕ, suc, ◌+◌, ◌-◌, Bool, true, false, ◌&&◌, ◌||◌, Option, Some, None, List, [], ◌∷◌, ◌++◌, map, min, refl, sym, ◌∙◌, ap, subst, arith, nat_le, slice_get, is_some, unwrap_or, option_map}
 use Rattle.std.proofs.lemmas.Bool.{and_parts}
 use Rattle.std.proofs.Math.Bool.{or_comm}
 use Rattle.std.specs.List.{filter_map, cons_option, list_all, flat_map}
@@ -20,7 +20,7 @@ use Rattle.sh_table.specs.runs.Environment.{is_one_of}
 use Rattle.sh_table.specs.runs.Worlds.{start_names}
 use Rattle.sh_flow.specs.Policy.{Declared}
 use Rattle.sh_flow.specs.Names.{number_of, subjects, form_names, names_in, script_names}
-use Rattle.sh_tree.specs.Numbers.{has_number}
+use Rattle.sh_rows.specs.Numbers.{has_number}
 use Rattle.sh_flow.specs.Facts.{Facts, Known, Claim, Claimed, facts, within, meet, with_vars, Out, both, enter, out_at, Claims}
 use Rattle.sh_flow.specs.Certificates.{Table, row_at, claim_of, claim_in, entry_of, claims_of}
 use Rattle.sh_flow.specs.Rules.{told, is_set_at_start, start_facts, assigned_numbers, leaves, faults, item_faults, rule_behind, out_behind, list_faults, script_faults}
@@ -56,8 +56,8 @@ claim_at : (names : List Text) (t : Table) (args k number : ℕ) (pick : Entry �
     → Says names t.rows args (pick e) ts → ClaimOf names args (claim_in t.rows pick (entry_of t number)) ts
 unfolding claim_in
 claim_at names t args k number pick e ts h n s =
-    let before : number - 1 ≡ k = omega (arith, n) in
-    let stands : entry_of t number ≡ Some e = ap (slice_get t.entries) before ∙ h in
+    let next : k + 1 ≡ suc k = omega arith in
+    let stands : entry_of t number ≡ Some e = ap (entry_of t) (n ∙ next) ∙ h in
     subst (λ (o : Option Entry). ClaimOf names args (claim_in t.rows pick o) ts) (sym stands) (claim_said names t.rows args (pick e) ts s)
 
 -- what is claimed round a command

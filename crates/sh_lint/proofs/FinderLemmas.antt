@@ -8,7 +8,7 @@ use Rattle.sh_tree.specs.declared.tree.Item.{Item}
 use Rattle.sh_tree.specs.declared.tree.Command.{Command}
 use Rattle.sh_tree.specs.Words.{lone_command}
 use Rattle.sh_tree.specs.program.Syntax.{Text}
-use Rattle.sh_tree.specs.Numbers.{has_number}
+use Rattle.sh_rows.specs.Numbers.{has_number}
 use Rattle.sh_flow.specs.Certificates.{Table, row_at}
 use Rattle.sh_flow.specs.declared.certificate.RowId.{RowId}
 use Rattle.sh_flow.specs.declared.certificate.Facts.{Facts}

@@ -11,7 +11,7 @@ use Rattle.sh_tree.specs.program.Syntax.{Text}
 use Rattle.sh_table.specs.runs.Environment.{is_one_of}
 use Rattle.sh_flow.specs.Policy.{Declared}
 use Rattle.sh_flow.specs.Names.{number_of, with_text, first_names, script_names, numbering}
-use Rattle.sh_tree.specs.Numbers.{has_number}
+use Rattle.sh_rows.specs.Numbers.{has_number}
 use Rattle.sh_tree.proofs.ListLemmas.{text_same, all_weaker}
 use Rattle.sh_flow.proofs.FactLemmas.{number_finds}
 use Rattle.sh_lint.specs.Certifies.{numbers_of}

@@ -13,7 +13,7 @@ use Rattle.sh_tree.specs.declared.tree.Redirect.{Redirect}
 use Rattle.sh_tree.specs.Words.{form_of_assignment, form_of_word, form_of_redirection, assignment_in, assignment_of, assignments_of}
 use Rattle.sh_tree.specs.program.Syntax.{Text}
 use Rattle.sh_flow.specs.Names.{number_of}
-use Rattle.sh_tree.specs.Numbers.{has_number}
+use Rattle.sh_rows.specs.Numbers.{has_number}
 use Rattle.sh_lint.specs.Findings.{gains}
 use Rattle.sh_lint.specs.Certifies.{numbers_of, HoldsNames, Gains}
 

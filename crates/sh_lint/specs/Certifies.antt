@@ -6,7 +6,7 @@ use Rattle.std.specs.List.{filter_map}
 use Rattle.sh_tree.specs.declared.tree.Command.{Command}
 use Rattle.sh_tree.specs.program.Syntax.{Text}
 use Rattle.sh_flow.specs.Names.{number_of}
-use Rattle.sh_tree.specs.Numbers.{has_number}
+use Rattle.sh_rows.specs.Numbers.{has_number}
 use Rattle.sh_flow.specs.Certificates.{Table, row_at}
 use Rattle.sh_flow.specs.declared.certificate.RowId.{RowId}
 use Rattle.sh_flow.specs.declared.certificate.Facts.{Facts}

@@ -7,7 +7,7 @@ use Rattle.std.proofs.lemmas.List.Folds.{list_any-append, list_any_at}
 use Rattle.std.proofs.lemmas.Map.Views.{any-filter_same}
 use Rattle.std.proofs.lemmas.List.{take-append-drop}
 use Rattle.std.specs.List.{filter}
-use Rattle.std.proofs.lemmas.Bool.{ne_eqb, eqb-true, cases_Bool, or_cases, or_left, cases_lt}
+use Rattle.std.proofs.lemmas.Bool.{ne_eqb, eqb-true, cases_Bool, and_parts, or_cases, or_left, cases_lt}
 use Rattle.sh_rows.specs.Numbers.{has_number}
 
 pub rising_le : (xs : List ℕ) → IsStrictlyIncreasing xs → (i j : ℕ) → i ≤ j → j < length xs → get_or xs i 0 ≤ get_or xs j 0
@@ -47,22 +47,14 @@ has_number-insert k xs i n =
 pub has_number-filter : (k : ℕ) (p : ℕ → Bool) (xs : List ℕ) → has_number k (filter p xs) ≡ (p k && has_number k xs)
 has_number-filter k p xs = any-filter_same (λ x. eqb k x) p (p k) (λ x e. ap p (sym (eqb-true k x e))) xs
 
-and_left : (a b : Bool) → (a && b) ≡ true → a ≡ true
-and_left true b h = refl
-and_left false b h = h
-
-and_right : (a b : Bool) → (a && b) ≡ true → b ≡ true
-and_right true b h = h
-and_right false b h = cc
-
 pub within-from_all : (xs ys : List ℕ) → list_all (λ n. has_number n ys) xs ≡ true → (k : ℕ) → has_number k xs ≡ true → has_number k ys ≡ true
 within-from_all [] ys all k h = cc
 within-from_all (x ∷ xs) ys all k h =
     ⊎_elim
-    (λ (e : eqb k x ≡ true). rw (eqb-true k x e) (and_left (has_number x ys) (list_all (λ n. has_number n ys) xs) all))
+    (λ (e : eqb k x ≡ true). rw (eqb-true k x e) (and_parts (has_number x ys) (list_all (λ n. has_number n ys) xs) all).0)
     (λ (e : eqb k x ≡ false).
     let there : has_number k xs ≡ true = rw e at h in
-    within-from_all xs ys (and_right (has_number x ys) (list_all (λ n. has_number n ys) xs) all) k there)
+    within-from_all xs ys (and_parts (has_number x ys) (list_all (λ n. has_number n ys) xs) all).1 k there)
     (cases_Bool (eqb k x))
 
 pub all-from_within : (xs ys : List ℕ) → ((k : ℕ) → has_number k xs ≡ true → has_number k ys ≡ true) → list_all (λ n. has_number n ys) xs ≡ true
@@ -94,7 +86,7 @@ has_number-absent k n xs none = not_there k n (has_number k xs) (λ e. ap (λ m.
 -- what is kept of numbers below a count is below it
 pub below-filter : (count : ℕ) (p : ℕ → Bool) (xs : List ℕ) → ((k : ℕ) → has_number k xs ≡ true → k < count)
     → (k : ℕ) → has_number k (filter p xs) ≡ true → k < count
-below-filter count p xs below k there = below k (and_right (p k) (has_number k xs) (sym (has_number-filter k p xs) ∙ there))
+below-filter count p xs below k there = below k (and_parts (p k) (has_number k xs) (sym (has_number-filter k p xs) ∙ there)).1
 
 -- and one more number below it
 pub below-insert : (count n i : ℕ) (xs : List ℕ) → n < count → ((k : ℕ) → has_number k xs ≡ true → k < count)

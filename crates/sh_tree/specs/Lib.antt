@@ -5,4 +5,3 @@ pub mod Tree
 pub mod Words
 pub mod Answers
 pub mod program
-pub mod Numbers

@@ -37,7 +37,7 @@ fn is_before(first: Breach, second: Breach) -> bool
 
 /// The least of what is found so far and of a breach here, where the rule does not hold.
 #[tactic(auto, unfolding(crate::specs::Rules::told, crate::specs::Rules::least_from, crate::specs::Rules::lesser, crate::specs::Breaches::fault_of, crate::specs::Breaches::fault_found))]
-pub fn noted(found: Option<Breach>, holds: bool, number: u32, rule: FlowRule) -> Option<Breach>
+pub fn least_with(found: Option<Breach>, holds: bool, number: u32, rule: FlowRule) -> Option<Breach>
     ensures { fault_found result ≡ least_from (fault_found found) (told holds number rule) }
 {
     if holds {

@@ -1,7 +1,7 @@
 //! Tests of what a certificate claims.
 ghost use Rattle.std.specs.Prelude.{◌≡◌, ◌≤◌, ◌&&◌, length, take};
 ghost use Rattle.std.specs.List.{list_all};
-ghost use Rattle.sh_tree.specs.Numbers.{has_number};
+ghost use Rattle.sh_rows.specs.Numbers.{has_number};
 ghost use Rattle.sh_flow.specs.Facts.{facts, within};
 ghost use Rattle.sh_flow.specs.Certificates.{row_at, claim_of, claims_of};
 

@@ -1,20 +1,19 @@
 //! The flow rules of a script.
-ghost use Rattle.std.specs.Prelude.{◌≡◌, ◌||◌, None};
+ghost use Rattle.std.specs.Prelude.{◌≡◌, ◌||◌, None, is_some, slice_get};
 ghost use Rattle.std.specs.List.{list_any, list_all};
 ghost use Rattle.std.specs.Str.{bytes_eq};
 ghost use Rattle.sh_tree.specs.Words.{lone_command, words_of};
-ghost use Rattle.sh_tree.specs.Numbers.{has_number};
+ghost use Rattle.sh_rows.specs.Numbers.{has_number};
 ghost use Rattle.sh_flow.specs.Facts.{facts, within, within_out, enter, both, with_vars};
 ghost use Rattle.sh_table.specs.runs.Environment.{is_one_of};
 ghost use Rattle.sh_table.specs.runs.Worlds.{start_names};
 ghost use Rattle.sh_flow.specs.Rules.{is_set_at_start, leaves, exit_rule, faults, item_faults, rule_behind, out_behind, list_faults, told, least_from};
-ghost use Rattle.sh_flow.specs.Breaches as breaches;
 ghost use Rattle.sh_flow.specs.Breaches.{fault_found, rule_of};
 ghost use Rattle.sh_flow.specs.Checked.{claims, row_numbers, claim, facts_in, at_start, out_behind_of, assigned_by, is_assigner};
 ghost use Rattle.sh_flow.specs.declared.rule.FlowRule.TheVariants.{F1};
 
 use crate::certificate::{Certificate, Facts, RowId};
-use crate::flow::breach::{Breach, noted};
+use crate::flow::breach::{Breach, least_with};
 use crate::flow::claims::{
     entry_at, has_in_row, is_row_within, is_within, numbers_of, shared_front,
 };
@@ -22,6 +21,7 @@ use crate::names::Names;
 use crate::policy::Policy;
 use crate::rule::FlowRule;
 use sh_tree::tree::{Command, Element, Item};
+use sh_tree::words::command_name;
 
 /// What a check goes by.
 #[derive(Clone, Copy)]
@@ -73,20 +73,11 @@ fn is_declared(declared: &[Vec<u8>], name: &[u8]) -> bool
     declared.iter().any(|own| own.as_slice() == name)
 }
 
-#[tactic(auto, using(crate::proofs::ClaimLemmas::word_in_element))]
-fn is_word(element: &Element) -> bool
-    ensures { result ≡ breaches.is_word element.now }
+#[tactic(auto, using(crate::proofs::ClaimLemmas::same_copied))]
+fn has_name(elements: &[Element]) -> bool
+    ensures { result ≡ is_some (slice_get (words_of elements.now) 0) }
 {
-    match element {
-        Element::Word(_) => true,
-        Element::Assignment { .. } | Element::Redirection(_) => false,
-    }
-}
-
-fn has_word(elements: &[Element]) -> bool
-    ensures { result ≡ list_any breaches.is_word elements.now }
-{
-    elements.iter().any(is_word)
+    command_name(elements).is_some()
 }
 
 impl Checker<'_> {
@@ -244,14 +235,14 @@ impl Checker<'_> {
             fault_found result ≡ least_from (fault_found found) (told holds number rule) }
     {
         let entry = entry_at(self.certificate, number);
-        if has_word(elements) {
+        if has_name(elements) {
             let zero = is_within(self.certificate, entry.zero, entry.before);
             let nonzero = is_within(self.certificate, entry.nonzero, entry.before);
-            noted(found, zero && nonzero, number, FlowRule::F4)
+            least_with(found, zero && nonzero, number, FlowRule::F4)
         } else {
             let zero = self.is_within_gained(elements, entry.zero, entry.before);
             let nonzero = self.is_within_gained(elements, entry.nonzero, entry.before);
-            noted(found, zero && nonzero, number, FlowRule::F5)
+            least_with(found, zero && nonzero, number, FlowRule::F5)
         }
     }
 
@@ -266,7 +257,7 @@ impl Checker<'_> {
         let number = command.number;
         let entry = entry_at(self.certificate, number);
         let entered = self.is_entered(entry.before, progress.predecessor);
-        let found = noted(progress.found, entered, number, progress.predecessor.rule());
+        let found = least_with(progress.found, entered, number, progress.predecessor.rule());
         self.noted_behind(command.elements(), number, found)
     }
 

@@ -1,6 +1,6 @@
 use Rattle.std.proofs.Common.{sym, arith, ◌<◌, ◌≤◌, ⊎_elim}
 use Rattle.std.proofs.lemmas.Bool.{cases_lt}
-use Rattle.sh_flow.proofs.RowLemmas.{has_number-none}
+use Rattle.sh_rows.proofs.NumberLemmas.{has_number-none}
 use Rattle.sh_flow.proofs.row.has_in.Goals as goal
 
 pub returns-in-Err : goal.returns-in-Err

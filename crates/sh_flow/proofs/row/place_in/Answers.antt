@@ -1,5 +1,5 @@
 use Rattle.std.proofs.lemmas.List.Sorted.{searched}
-use Rattle.sh_flow.proofs.RowLemmas.{rising_le}
+use Rattle.sh_rows.proofs.NumberLemmas.{rising_le}
 use Rattle.sh_flow.proofs.row.place_in.Goals as goal
 
 pub returns : goal.returns

@@ -1,5 +1,5 @@
 use Rattle.std.proofs.Common.{◌≡◌, ℕ, ◌||◌, false, drop}
-use Rattle.sh_tree.specs.Numbers.{has_number}
+use Rattle.sh_rows.specs.Numbers.{has_number}
 use Rattle.sh_lint.proofs.RowLemmas.{assigned}
 use Rattle.sh_lint.proofs.find.add_assigned.Given as goal
 

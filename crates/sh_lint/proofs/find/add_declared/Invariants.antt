@@ -1,5 +1,5 @@
 use Rattle.std.proofs.Common.{◌≡◌, ℕ, ◌||◌, drop}
-use Rattle.sh_tree.specs.Numbers.{has_number}
+use Rattle.sh_rows.specs.Numbers.{has_number}
 use Rattle.sh_lint.proofs.RowLemmas.{declared}
 use Rattle.sh_lint.proofs.find.add_declared.Given as goal
 

@@ -2,7 +2,7 @@ use Rattle.std.proofs.Common.{◌≡◌, true, sym, subst}
 use Rattle.std.proofs.lemmas.Grind.{common_steps}
 use Rattle.std.proofs.Common.{rules, arith}
 use Rattle.std.specs.List.{list_all}
-use Rattle.sh_tree.specs.Numbers.{has_number}
+use Rattle.sh_rows.specs.Numbers.{has_number}
 use Rattle.sh_flow.specs.Certificates.{row_at}
 use Rattle.sh_flow.specs.declared.certificate.RowId.{RowId}
 use Rattle.sh_flow.proofs.ClaimLemmas.{all_in_own}

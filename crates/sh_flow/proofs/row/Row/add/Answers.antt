@@ -1,6 +1,6 @@
 use Rattle.std.proofs.Common.{List, ℕ, ap, ◌∙◌, ◌||◌, eqb}
-use Rattle.sh_tree.specs.Numbers.{has_number}
-use Rattle.sh_flow.proofs.RowLemmas.{has_number-insert}
+use Rattle.sh_rows.specs.Numbers.{has_number}
+use Rattle.sh_rows.proofs.NumberLemmas.{has_number-insert}
 use Rattle.sh_flow.proofs.row.Row.add.Goals as goal
 
 pub returns-in_ok-insert-in-Err-clause-ok : goal.returns-in_ok-insert-in-Err-clause-ok

@@ -1,7 +1,7 @@
 use Rattle.std.proofs.Common.{◌≡◌, ℕ, ◌||◌, List, take, drop, length, ◌-◌, sym, ap, ◌∙◌, arith, rules, length-drop}
 use Rattle.std.proofs.lemmas.List.{take_all}
 use Rattle.std.specs.List.{list_all}
-use Rattle.sh_tree.specs.Numbers.{has_number}
+use Rattle.sh_rows.specs.Numbers.{has_number}
 use Rattle.sh_flow.specs.Checked.{assigned_by, row_numbers}
 use Rattle.sh_flow.proofs.ClaimLemmas.{all_in_more, gained_past_front}
 use Rattle.sh_flow.proofs.flow.rules.Checker.is_row_gained.Goals as goal
