@@ -1,7 +1,7 @@
 //! One run: reads what its action reads, and writes the text of the answer.
-ghost use Rattle.std.specs.Prelude.{◌≡◌, ◌≤◌, ℕ, List, IfOk, OnOk, IsErrOf, length};
-ghost use Rattle.sh_report.specs.Ends.{FailedBetween, HasRoom, RefusedBetween};
-ghost use Rattle.sh_report.specs.Moves.{Had, IsReadWhole};
+ghost use Rattle.std.specs.Prelude.{◌≡◌, ◌≤◌, ℕ, List, IfOk, OnOk, OnErr, IsErrOf, length};
+ghost use Rattle.sh_report.specs.Ends.{BoreOnly, FailedBetween, HasRoom, RefusedBetween};
+ghost use Rattle.sh_report.specs.Moves.{BoreAll, Had, TookAtMost, TookWhole};
 ghost use Rattle.sh_lint.specs.Runs.{TellsAnswer, WritesAnswer, WritesFront};
 
 use crate::lint::lint;
@@ -36,7 +36,9 @@ pub fn run<R: Feed, C: Feed, W: Outlet>(
     // What was written is the text of the answer on the bytes read, and nothing else.
     ensures text { IfOk result (λ status. (b : List ℕ) → Had (R.remaining script.old) SCRIPT_READ b
         → WritesAnswer task.now b (W.contents out.old) (W.contents out.new) status) }
-    ensures script_whole { OnOk result ((n : ℕ) × IsReadWhole (R.tally script.old) (R.tally script.new) (R.remaining script.new) SCRIPT_READ n) }
+    ensures script_whole { OnOk result (TookWhole (R.tally script.old) (R.tally script.new) (R.remaining script.old) (R.remaining script.new) SCRIPT_READ) }
+    ensures script_written { IsErrOf result Fault.Write → TookWhole (R.tally script.old) (R.tally script.new) (R.remaining script.old) (R.remaining script.new) SCRIPT_READ }
+    ensures script_lost { OnErr result (TookAtMost (R.remaining script.old) (R.remaining script.new) SCRIPT_READ) }
     ensures cert_left { cert.new ≡ cert.old }
 
     // After a failed write a front of that text was written, and otherwise nothing.
@@ -45,7 +47,9 @@ pub fn run<R: Feed, C: Feed, W: Outlet>(
     ensures memory { IsErrOf result Fault.Memory → out.new ≡ out.old }
     ensures read { IsErrOf result Fault.Read → out.new ≡ out.old }
 
-    // A fault is told only where that end failed.
+    // A fault is told where that end failed, and only there.
+    ensures wrote { OnOk result (BoreOnly (W.tally out.old) (W.tally out.new)) }
+    ensures memory_read { IsErrOf result Fault.Memory → BoreAll (R.tally script.old) (R.tally script.new) }
     ensures read_failed { IsErrOf result Fault.Read → FailedBetween (R.tally script.old) (R.tally script.new) }
     ensures write_failed { IsErrOf result Fault.Write → RefusedBetween (W.tally out.old) (W.tally out.new) }
 {

@@ -14,6 +14,14 @@ abbrev pub Had : Option (List ℕ) → ℕ → List ℕ → Type 0
 Had None limit b = ⊥
 Had (Some xs) limit b = b ≡ take limit xs
 
+-- the bytes taken are those that were read, and reading stopped as a whole read does
+abbrev pub TookWhole : Counts → Counts → Option (List ℕ) → Option (List ℕ) → ℕ → Type 0
+TookWhole old new before left limit = (b : List ℕ) × Consumes before left b × IsReadWhole old new left limit (length b)
+
+-- nothing failed while at most so many bytes were taken
+abbrev pub BoreAll : Counts → Counts → Type 0
+BoreAll old new = BoreOnly old new ⊎ MovedNothing old new
+
 -- at most so many bytes were taken
 abbrev pub TookAtMost : Option (List ℕ) → Option (List ℕ) → ℕ → Type 0
 TookAtMost old new limit = (b : List ℕ) × (length b ≤ limit) × Consumes old new b
