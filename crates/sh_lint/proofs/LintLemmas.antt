@@ -19,8 +19,8 @@ use Rattle.sh_flow.specs.Profile.{is_item_admitted, Admitted}
 use Rattle.sh_report.specs.declared.verdict.Finding.{Finding}
 use Rattle.sh_report.specs.declared.verdict.Verdict.TheVariants.{Pass, Fail}
 use Rattle.sh_lint.specs.Findings.{Admits, first_refused, item_start}
-use Rattle.sh_lint.specs.Lint.{IsReading, IsAccepted, Accepts, AreFindings, Lints, shown_at}
-use Rattle.sh_report.specs.Verdicts.{shown, shown_cmp}
+use Rattle.sh_lint.specs.Lint.{IsReading, IsAccepted, Accepts, AreFindings, Lints, contents_at}
+use Rattle.sh_report.specs.Verdicts.{contents_of, contents_cmp}
 use Rattle.sh_lint.proofs.ReadLemmas.{AllPlaced, reads_placed}
 
 -- the first item that is refused begins in the text
@@ -100,18 +100,18 @@ pub passes : (b : List ℕ) (d : Declared) (t : Script) (v : Vec Place Global) �
 passes b d t v p h e = (t, accepted b d t v p h, sym h.2 ∙ e, h.3 e)
 
 -- sorted findings of the same contents
-pub findings_shown : (b : List ℕ) (ps : List Place) (fs gs : List Finding) → map shown fs ≡ map (shown_at b) ps → IsPermutation fs gs → IsSortedByKey shown shown_cmp gs → AreFindings b ps gs
+pub findings_shown : (b : List ℕ) (ps : List Place) (fs gs : List Finding) → map contents_of fs ≡ map (contents_at b) ps → IsPermutation fs gs → IsSortedByKey contents_of contents_cmp gs → AreFindings b ps gs
 findings_shown b ps fs gs e p s = record {
-  same = subst (λ l. IsPermutation l (map shown gs)) e (IsPermutation-map shown fs gs p);
+  same = subst (λ l. IsPermutation l (map contents_of gs)) e (IsPermutation-map contents_of fs gs p);
   sorted = s;
 }
 
 pub fails : (b : List ℕ) (d : Declared) (t : Script) (v : Vec Place Global) (fs : Vec Finding Global) → Parses b (Ok t) → Accepts b d t (Ok v) → (v.items ≡ [] → ⊥) → AreFindings b v.items fs.items
     → Lints b d (Ok (Fail (record { findings = fs })))
 fails b d t v fs p h some f =
-    let same : length (map shown fs.items) ≡ length (map (shown_at b) v.items) = length_permutation _ _ f.same in
-    let own : length (map shown fs.items) ≡ length fs.items = length-map fs.items shown in
-    let others : length (map (shown_at b) v.items) ≡ length v.items = length-map v.items (shown_at b) in
+    let same : length (map contents_of fs.items) ≡ length (map (contents_at b) v.items) = length_permutation _ _ f.same in
+    let own : length (map contents_of fs.items) ≡ length fs.items = length-map fs.items contents_of in
+    let others : length (map (contents_at b) v.items) ≡ length v.items = length-map v.items (contents_at b) in
     (t, accepted b d t v p h, subst (λ n. 0 < n) (sym others ∙ sym same ∙ own) (has_some v.items some), subst (λ ps. AreFindings b ps fs.items) h.2 f)
   where
     has_some : (ps : List Place) → (ps ≡ [] → ⊥) → 0 < length ps
@@ -128,7 +128,7 @@ none_second [] ys e = e
 none_second (x ∷ xs) ys e = cc
 
 -- the same of a sort that may be refused memory
-pub sorted_findings : {E : Type 0} (b : List ℕ) (ps : List Place) (fs : List Finding) (r : Result (Vec Finding Global) E) → map shown fs ≡ map (shown_at b) ps
-    → IfOk r (λ v. IsPermutation fs v.items) → IfOk r (λ v. IsSortedByKey shown shown_cmp v.items) → IfOk r (λ v. AreFindings b ps v.items)
+pub sorted_findings : {E : Type 0} (b : List ℕ) (ps : List Place) (fs : List Finding) (r : Result (Vec Finding Global) E) → map contents_of fs ≡ map (contents_at b) ps
+    → IfOk r (λ v. IsPermutation fs v.items) → IfOk r (λ v. IsSortedByKey contents_of contents_cmp v.items) → IfOk r (λ v. AreFindings b ps v.items)
 sorted_findings b ps fs (Ok v) e p s = findings_shown b ps fs v.items e p s
 sorted_findings b ps fs (Err x) e p s = tt

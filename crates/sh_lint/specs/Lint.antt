@@ -20,7 +20,7 @@ use Rattle.sh_report.specs.declared.verdict.Finding.{Finding}
 use Rattle.sh_report.specs.declared.verdict.Verdict.{Verdict}
 use Rattle.sh_report.specs.declared.verdict.Verdict.TheVariants.{Pass, Fail, Forged}
 use Rattle.sh_lint.specs.Findings.{Admits, quote_places, unset_places}
-use Rattle.sh_report.specs.Verdicts.{Shown, shown, shown_cmp}
+use Rattle.sh_report.specs.Verdicts.{Contents, contents_of, contents_cmp}
 
 -- the tree is the one reading of the text, within the limits
 pub record IsReading (b : List ℕ) (t : Script) : Type 0 where
@@ -39,13 +39,13 @@ abbrev pub places : List ℕ → Declared → Script → List Place
 places b d t = quote_places t ++ unset_places b d t
 
 -- the finding of a place, at its line and column
-abbrev pub shown_at : List ℕ → Place → Shown
-shown_at b p = let q = place_of b p.at in record { line = q.0; column = q.1; code = p.code; subject = p.subject }
+abbrev pub contents_at : List ℕ → Place → Contents
+contents_at b p = let q = place_of b p.at in record { line = q.0; column = q.1; code = p.code; subject = p.subject }
 
 -- the findings are those of the places, each once, in order
 pub record AreFindings (b : List ℕ) (ps : List Place) (fs : List Finding) : Type 0 where
-  pub same : IsPermutation (map (shown_at b) ps) (map shown fs)
-  pub sorted : IsSortedByKey shown shown_cmp fs
+  pub same : IsPermutation (map (contents_at b) ps) (map contents_of fs)
+  pub sorted : IsSortedByKey contents_of contents_cmp fs
 
 -- no run has an Unset or a Split event
 pub record IsSafe (b : List ℕ) (d : Declared) (t : Script) : Type 0 where

@@ -50,7 +50,7 @@ impl Finder {
     }
 
     /// What is known before the next command.
-    fn known(&self) -> Facts
+    fn sure_facts(&self) -> Facts
         ensures { result ≡ facts.Known self.now.vars self.now.functions self.now.args }
     {
         Facts::Known {
@@ -77,9 +77,9 @@ impl Finder {
     fn visit(&mut self, command: &Command, script: &[u8], names: &Names) -> Result<(), AllocError>
         ensures { OnOk result ((start : List Text) (args : ℕ) (cs : List Command) → Found names.now script.now self.old start args cs → Found names.now script.now self.new start args (cs ++ command.now ∷ [])) }
     {
-        let before = self.known();
+        let before = self.sure_facts();
         self.learn(command, script, names)?;
-        let after = self.known();
+        let after = self.sure_facts();
         self.certificate.push(Entry {
             before,
             zero: after,

@@ -9,7 +9,7 @@ ghost use Rattle.sh_lint.specs.Lint.{Accepts, AreFindings, IsSafe, Lints, places
 
 use crate::admit::admit;
 use crate::find::find;
-use crate::quotes::unquoted;
+use crate::quotes::unquoted_places;
 use sh_flow::flow::{Flow, check_flow};
 use sh_flow::laws::{no_split, no_unset};
 use sh_flow::names::Names;
@@ -76,7 +76,7 @@ fn places_in(
     ensures safe { IfOk result (λ v. v.items ≡ [] → IsSafe script.now policy.now tree.now) }
 {
     no_split();
-    let mut places = unquoted(alloc, tree)?;
+    let mut places = unquoted_places(alloc, tree)?;
     let mut unset = unset_in(alloc, tree, script, names, policy)?;
     places.append(&mut unset)?;
     Ok(places)

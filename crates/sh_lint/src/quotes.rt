@@ -16,7 +16,7 @@ use std::alloc::{AllocError, Global};
 ///
 /// Where there is one and no memory for it.
 #[tactic(auto, using(crate::proofs::QuoteLemmas::items_lone))]
-pub(crate) fn unquoted(alloc: Global, tree: &Script) -> Result<Vec<Place>, AllocError>
+pub(crate) fn unquoted_places(alloc: Global, tree: &Script) -> Result<Vec<Place>, AllocError>
     ensures places { IfOk result (λ v. v.items ≡ quote_places tree.now) }
     ensures some { OnErr result (0 < length (quote_places tree.now)) }
 {

@@ -5,19 +5,19 @@ use Rattle.std.proofs.lemmas.List.{length-map}
 use Rattle.std.proofs.lemmas.List.Folds.{flat_map-map}
 use Rattle.sh_flow.specs.declared.rule.FlowRule.{FlowRule}
 use Rattle.sh_report.specs.declared.verdict.Finding.{Finding}
-use Rattle.sh_report.specs.Verdicts.{shown}
+use Rattle.sh_report.specs.Verdicts.{contents_of}
 use Rattle.sh_report.specs.Texts.{finding_text, report_text, last_line, rule_name_text, command_text, forged_text}
 
 -- the findings and the last line
 pub report_done : (out mid new : List ℕ) (fs : List Finding) (n : ℕ) → length fs ≤ n
-    → mid ≡ out ++ flat_map (λ f. finding_text (shown f)) (take n fs) → new ≡ mid ++ last_line (length fs) → new ≡ out ++ report_text (map shown fs)
+    → mid ≡ out ++ flat_map (λ f. finding_text (contents_of f)) (take n fs) → new ≡ mid ++ last_line (length fs) → new ≡ out ++ report_text (map contents_of fs)
 report_done out mid new fs n le findings last =
     let all : take n fs ≡ fs = take_all n fs le in
-    let lines : flat_map finding_text (map shown fs) ≡ flat_map (λ f. finding_text (shown f)) fs = flat_map-map finding_text shown fs in
-    let count : length (map shown fs) ≡ length fs = length-map fs shown in
-    last ∙ ap (λ l. l ++ last_line (length fs)) (findings ∙ ap (λ l. out ++ flat_map (λ f. finding_text (shown f)) l) all ∙ ap (λ l. out ++ l) (sym lines))
-    ∙ ap (λ k. (out ++ flat_map finding_text (map shown fs)) ++ last_line k) (sym count)
-    ∙ append_assoc out (flat_map finding_text (map shown fs)) (last_line (length (map shown fs)))
+    let lines : flat_map finding_text (map contents_of fs) ≡ flat_map (λ f. finding_text (contents_of f)) fs = flat_map-map finding_text contents_of fs in
+    let count : length (map contents_of fs) ≡ length fs = length-map fs contents_of in
+    last ∙ ap (λ l. l ++ last_line (length fs)) (findings ∙ ap (λ l. out ++ flat_map (λ f. finding_text (contents_of f)) l) all ∙ ap (λ l. out ++ l) (sym lines))
+    ∙ ap (λ k. (out ++ flat_map finding_text (map contents_of fs)) ++ last_line k) (sym count)
+    ∙ append_assoc out (flat_map finding_text (map contents_of fs)) (last_line (length (map contents_of fs)))
 
 -- the pieces of a line on a forged certificate
 pub forged_done : (out a b new : List ℕ) (command : ℕ) (rule : FlowRule) → a ≡ out ++ command_text command

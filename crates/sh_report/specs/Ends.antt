@@ -25,10 +25,10 @@ abbrev pub with_moved : ℕ → ℕ → Counts → Counts
 with_moved n room c = if n == 0 then (if room == 0 then c else record c { empty = c.empty + 1 }) else c
 
 -- the counts after a call that answered r and had room for so many bytes
-abbrev pub counted : Result ℕ Broken → ℕ → Counts → Counts
-counted (Ok n) room c = with_moved n room c
-counted (Err Interrupted) room c = record c { interruptions = c.interruptions + 1 }
-counted (Err Failed) room c = record c { errors = c.errors + 1 }
+abbrev pub counts_after : Result ℕ Broken → ℕ → Counts → Counts
+counts_after (Ok n) room c = with_moved n room c
+counts_after (Err Interrupted) room c = record c { interruptions = c.interruptions + 1 }
+counts_after (Err Failed) room c = record c { errors = c.errors + 1 }
 
 -- what an end answers for what its reader or writer answered: an interruption where the error is one that
 -- may be tried again, and a failure where it is any other

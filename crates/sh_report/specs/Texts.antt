@@ -1,6 +1,6 @@
 -- The texts of answers, and their exit statuses.
 -- shset's own; the standard has none.
-use Rattle.std.specs.Prelude.{ℕ, zero, suc, List, [], ◌∷◌, ◌++◌, length, map, codes, Result, Ok, Err}
+use Rattle.std.specs.Prelude.{ℕ, zero, suc, List, [], ◌∷◌, ◌++◌, length, map, codes, Option, Some, None, Result, Ok, Err}
 use Rattle.std.specs.List.{flat_map}
 use Rattle.std.specs.Fmt.{decimal}
 use Rattle.sh_tree.specs.declared.place.Code.{Code}
@@ -13,7 +13,7 @@ use Rattle.sh_flow.specs.declared.rule.FlowRule.{FlowRule}
 use Rattle.sh_flow.specs.declared.rule.FlowRule.TheVariants.{F1, F2, F4, F5}
 use Rattle.sh_report.specs.declared.verdict.Verdict.{Verdict}
 use Rattle.sh_report.specs.declared.verdict.Verdict.TheVariants.{Pass, Fail, Forged}
-use Rattle.sh_report.specs.Verdicts.{Shown, shown}
+use Rattle.sh_report.specs.Verdicts.{Contents, contents_of}
 
 abbrev pub code_text : Code → List ℕ
 code_text P1 = codes "P1"
@@ -23,14 +23,10 @@ code_text U1 = codes "U1"
 code_text U2 = codes "U2"
 code_text U3 = codes "U3"
 
--- what is shown of the subject
-abbrev pub shown_subject : Code → List ℕ → List ℕ
-shown_subject P1 s = s
-shown_subject P2 s = []
-shown_subject Q1 s = []
-shown_subject U1 s = s
-shown_subject U2 s = []
-shown_subject U3 s = s
+-- the subject and the words behind it, where it is shown
+abbrev pub subject_shown : List ℕ → Option (List ℕ) → List ℕ
+subject_shown s None = []
+subject_shown s (Some after) = s ++ after
 
 abbrev pub message_text : Code → List ℕ → List ℕ
 message_text P1 s = codes "may unset " ++ s ++ codes " inside a pipeline"
@@ -45,7 +41,7 @@ abbrev pub place_text : ℕ → ℕ → List ℕ
 place_text line column = decimal line ++ codes ":" ++ decimal column ++ codes ": "
 
 -- `LINE:COLUMN: CODE message`, and a newline
-abbrev pub finding_text : Shown → List ℕ
+abbrev pub finding_text : Contents → List ℕ
 finding_text f = place_text f.line f.column ++ code_text f.code ++ codes " " ++ message_text f.code f.subject ++ 10 ∷ []
 
 -- the last line, by how many findings there are
@@ -53,7 +49,7 @@ abbrev pub last_line : ℕ → List ℕ
 last_line zero = codes "clean" ++ 10 ∷ []
 last_line (suc n) = codes "findings: " ++ decimal (suc n) ++ 10 ∷ []
 
-abbrev pub report_text : List Shown → List ℕ
+abbrev pub report_text : List Contents → List ℕ
 report_text fs = flat_map finding_text fs ++ last_line (length fs)
 
 abbrev pub rule_name_text : FlowRule → List ℕ
@@ -70,7 +66,7 @@ forged_text command rule = command_text command ++ rule_name_text rule ++ 10 ∷
 
 abbrev pub verdict_text : Verdict → List ℕ
 verdict_text Pass = report_text []
-verdict_text (Fail report) = report_text (map shown report.findings.items)
+verdict_text (Fail report) = report_text (map contents_of report.findings.items)
 verdict_text (Forged command rule) = forged_text command rule
 
 -- how a refusal at an offset of the script begins

@@ -9,14 +9,14 @@ use Rattle.sh_tree.specs.declared.place.Code.TheVariants.{P1, P2, Q1, U1, U2, U3
 use Rattle.sh_report.specs.declared.verdict.Finding.{Finding}
 
 -- a finding by its contents
-pub record Shown : Type 0 where
+pub record Contents : Type 0 where
   pub line : ℕ
   pub column : ℕ
   pub code : Code
   pub subject : List ℕ
 
-abbrev pub shown : Finding → Shown
-shown f = record { line = f.line; column = f.column; code = f.code; subject = f.subject.items }
+abbrev pub contents_of : Finding → Contents
+contents_of f = record { line = f.line; column = f.column; code = f.code; subject = f.subject.items }
 
 abbrev pub code_index : Code → ℕ
 code_index P1 = 0
@@ -27,6 +27,6 @@ code_index U2 = 4
 code_index U3 = 5
 
 -- by line, column, code and subject
-abbrev pub shown_cmp : Shown → Shown → Ordering
-shown_cmp = then_cmp (on (λ (f : Shown). f.line) nat_cmp) (then_cmp (on (λ (f : Shown). f.column) nat_cmp)
-    (then_cmp (on (λ (f : Shown). code_index f.code) nat_cmp) (on (λ (f : Shown). f.subject) (slice_cmp nat_cmp))))
+abbrev pub contents_cmp : Contents → Contents → Ordering
+contents_cmp = then_cmp (on (λ (f : Contents). f.line) nat_cmp) (then_cmp (on (λ (f : Contents). f.column) nat_cmp)
+    (then_cmp (on (λ (f : Contents). code_index f.code) nat_cmp) (on (λ (f : Contents). f.subject) (slice_cmp nat_cmp))))

@@ -1,7 +1,7 @@
 //! An end over any reader or writer of std.
 ghost use Rattle.std.specs.Prelude.{◌≡◌, ◌↔◌};
 ghost use Rattle.std.specs.declared.io.ErrorKind.TheVariants as error_kind;
-ghost use Rattle.sh_report.specs.Ends.{CanCount, Tells, counted, no_counts};
+ghost use Rattle.sh_report.specs.Ends.{CanCount, Tells, counts_after, no_counts};
 
 use crate::ends::{Broken, Counts, Feed, Outlet};
 use std::io::{self, ErrorKind, Read, Write};
@@ -10,37 +10,37 @@ use std::io::{self, ErrorKind, Read, Write};
 #[derive(Drop)]
 pub struct Counted<T> {
     pub inner: T,
-    pub seen: Counts,
+    pub counts: Counts,
 }
 
 impl<T> Counted<T> {
     /// The end, at which nothing went wrong yet.
     pub fn new(inner: T) -> Self
         ensures inner { result.inner ≡ inner }
-        ensures fresh { result.seen ≡ no_counts }
+        ensures fresh { result.counts ≡ no_counts }
     {
-        let seen = Counts {
+        let counts = Counts {
             errors: 0,
             interruptions: 0,
             empty: 0,
         };
-        Counted { inner, seen }
+        Counted { inner, counts }
     }
 }
 
 // Notes what a call answered that had room for so many bytes.
-fn note(seen: &mut Counts, answer: Result<usize, Broken>, room: usize)
-    requires { CanCount seen.old }
-    ensures { seen.new ≡ counted answer room seen.old }
+fn note(counts: &mut Counts, answer: Result<usize, Broken>, room: usize)
+    requires { CanCount counts.old }
+    ensures { counts.new ≡ counts_after answer room counts.old }
 {
     match answer {
         Ok(n) => {
             if n == 0 && room != 0 {
-                seen.empty += 1;
+                counts.empty += 1;
             }
         }
-        Err(Broken::Interrupted) => seen.interruptions += 1,
-        Err(Broken::Failed) => seen.errors += 1,
+        Err(Broken::Interrupted) => counts.interruptions += 1,
+        Err(Broken::Failed) => counts.errors += 1,
     }
 }
 
@@ -55,47 +55,51 @@ fn broken_of(kind: ErrorKind) -> Broken
 
 /// What an end answers where its reader or writer, which had room for so many bytes, answered this: an error that may be
 /// tried again is an interruption, and each other one a failure. What went wrong is counted.
-pub fn answered(seen: &mut Counts, answer: io::Result<usize>, room: usize) -> Result<usize, Broken>
-    requires { CanCount seen.old }
+pub fn end_answer(
+    counts: &mut Counts,
+    answer: io::Result<usize>,
+    room: usize,
+) -> Result<usize, Broken>
+    requires { CanCount counts.old }
     ensures told { Tells answer result }
-    ensures counts { seen.new ≡ counted result room seen.old }
+    ensures counts { counts.new ≡ counts_after result room counts.old }
 {
     let answer = match answer {
         Ok(n) => Ok(n),
         Err(error) => Err(broken_of(error.kind())),
     };
-    note(seen, answer, room);
+    note(counts, answer, room);
     answer
 }
 
 impl<R: Read> Feed for Counted<R> {
     ghost remaining = { λ c. R.remaining c.inner };
 
-    ghost tally = { λ c. c.seen };
+    ghost tally = { λ c. c.counts };
 
     fn pull(&mut self, buffer: &mut [u8]) -> Result<usize, Broken> {
         let room = buffer.len();
         let answer = self.inner.read(buffer);
-        answered(&mut self.seen, answer, room)
+        end_answer(&mut self.counts, answer, room)
     }
 
     fn counts(&self) -> Counts {
-        self.seen
+        self.counts
     }
 }
 
 impl<W: Write> Outlet for Counted<W> {
     ghost contents = { λ c. W.contents c.inner };
 
-    ghost tally = { λ c. c.seen };
+    ghost tally = { λ c. c.counts };
 
     fn push(&mut self, piece: &[u8]) -> Result<usize, Broken> {
         let room = piece.len();
         let answer = self.inner.write(piece);
-        answered(&mut self.seen, answer, room)
+        end_answer(&mut self.counts, answer, room)
     }
 
     fn counts(&self) -> Counts {
-        self.seen
+        self.counts
     }
 }

@@ -3,7 +3,7 @@ ghost use Rattle.std.specs.Prelude.{◌≡◌, ℕ, List, length, Option};
 ghost use Rattle.std.specs.Io.{ReadsAtMost, WritesAtMost};
 ghost use Rattle.std.specs.Io.KnownBytes.{ReadConsumes, WriteAppends};
 ghost use Rattle.sh_report.specs.declared.ends.Counts.{Counts};
-ghost use Rattle.sh_report.specs.Ends.{CanCount, counted};
+ghost use Rattle.sh_report.specs.Ends.{CanCount, counts_after};
 
 /// What went wrong at an end so far, each a number of calls.
 #[derive(Clone, Copy, Debug, PartialEq, Eq)]
@@ -41,7 +41,7 @@ pub trait Feed {
         requires { CanCount (tally self.old) }
         ensures bound { ReadsAtMost result buffer.new }
         ensures bytes { ReadConsumes (remaining self.old) (remaining self.new) result buffer.new }
-        ensures counts { tally self.new ≡ counted result (length buffer.old) (tally self.old) };
+        ensures counts { tally self.new ≡ counts_after result (length buffer.old) (tally self.old) };
 
     /// What went wrong so far.
     fn counts(&self) -> Counts
@@ -64,7 +64,7 @@ pub trait Outlet {
         requires { CanCount (tally self.old) }
         ensures bound { WritesAtMost result piece.now }
         ensures bytes { WriteAppends (contents self.old) (contents self.new) result piece.now }
-        ensures counts { tally self.new ≡ counted result (length piece.now) (tally self.old) };
+        ensures counts { tally self.new ≡ counts_after result (length piece.now) (tally self.old) };
 
     /// What went wrong so far.
     fn counts(&self) -> Counts

@@ -1,8 +1,9 @@
 //! The texts of answers.
 ghost use Rattle.std.specs.Prelude.{◌≡◌, ◌++◌, ◌<◌, ◌-◌, ◌^◌, length, map, List, ℕ, IfOk, OnOk, IsErr};
+ghost use Rattle.std.specs.Option.{option_copied};
 ghost use Rattle.sh_tree.specs.declared.refusal.Refusal.TheVariants as refusal_kind;
 ghost use Rattle.sh_tree.specs.Texts.{rule_text};
-ghost use Rattle.sh_report.specs.Verdicts.{shown};
+ghost use Rattle.sh_report.specs.Verdicts.{contents_of};
 ghost use Rattle.sh_report.specs.Texts as text;
 
 use crate::verdict::{Finding, Verdict};
@@ -65,7 +66,7 @@ fn push_verdict(out: &mut Vec<u8>, verdict: &Verdict) -> Result<(), AllocError>
 }
 
 fn push_report(out: &mut Vec<u8>, findings: &[Finding]) -> Result<(), AllocError>
-    ensures { OnOk result (out.new.items ≡ out.old.items ++ text.report_text (map shown findings.now)) }
+    ensures { OnOk result (out.new.items ≡ out.old.items ++ text.report_text (map contents_of findings.now)) }
 {
     for finding in findings {
         push_finding(out, finding)?;
@@ -74,7 +75,7 @@ fn push_report(out: &mut Vec<u8>, findings: &[Finding]) -> Result<(), AllocError
 }
 
 fn push_finding(out: &mut Vec<u8>, finding: &Finding) -> Result<(), AllocError>
-    ensures { OnOk result (out.new.items ≡ out.old.items ++ text.finding_text (shown finding.now)) }
+    ensures { OnOk result (out.new.items ≡ out.old.items ++ text.finding_text (contents_of finding.now)) }
 {
     push_place(out, finding.line, finding.column)?;
     push_text(out, code_name(finding.code))?;
@@ -94,26 +95,26 @@ fn push_message(out: &mut Vec<u8>, code: Code, subject: &[u8]) -> Result<(), All
 {
     let (before, after) = message_parts(code);
     push_text(out, before)?;
-    match code {
-        Code::P1 | Code::U1 | Code::U3 => {
+    match after {
+        None => Ok(()),
+        Some(after) => {
             out.extend_from_slice(subject)?;
+            push_text(out, after)
         }
-        Code::P2 | Code::Q1 | Code::U2 => {}
     }
-    push_text(out, after)
 }
 
-// The words before and behind the subject.
-fn message_parts(code: Code) -> (&'static str, &'static str)
-    ensures { (s : List ℕ) → text.message_text code s ≡ result.0.now ++ text.shown_subject code s ++ result.1.now }
+// The words before the subject, and those behind it where it is shown.
+fn message_parts(code: Code) -> (&'static str, Option<&'static str>)
+    ensures { (s : List ℕ) → text.message_text code s ≡ result.0.now ++ text.subject_shown s (option_copied result.1) }
 {
     match code {
-        Code::P1 => ("may unset ", " inside a pipeline"),
-        Code::P2 => ("changes the positional parameters inside a pipeline", ""),
-        Code::Q1 => ("unquoted expansion", ""),
-        Code::U1 => ("parameter ", " may be unset"),
-        Code::U2 => ("HOME may be unset", ""),
-        Code::U3 => ("parameter ", " may be unset in arithmetic"),
+        Code::P1 => ("may unset ", Some(" inside a pipeline")),
+        Code::P2 => ("changes the positional parameters inside a pipeline", None),
+        Code::Q1 => ("unquoted expansion", None),
+        Code::U1 => ("parameter ", Some(" may be unset")),
+        Code::U2 => ("HOME may be unset", None),
+        Code::U3 => ("parameter ", Some(" may be unset in arithmetic")),
     }
 }
 

@@ -1,7 +1,7 @@
 //! Findings, and what is told of a script.
 ghost use Rattle.std.specs.Prelude.{IfOk};
 ghost use Rattle.std.specs.List.Sorted.{IsPermutation, IsSortedByKey};
-ghost use Rattle.sh_report.specs.Verdicts.{shown, shown_cmp};
+ghost use Rattle.sh_report.specs.Verdicts.{contents_of, contents_cmp};
 
 use sh_flow::rule::FlowRule;
 use sh_tree::place::Code;
@@ -40,7 +40,7 @@ pub enum Verdict {
 /// `AllocError` where a growth was refused.
 pub fn in_order(mut findings: Vec<Finding>) -> Result<Vec<Finding>, AllocError>
     ensures same { IfOk result (λ v. IsPermutation findings.items v.items) }
-    ensures sorted { IfOk result (λ v. IsSortedByKey shown shown_cmp v.items) }
+    ensures sorted { IfOk result (λ v. IsSortedByKey contents_of contents_cmp v.items) }
 {
     findings.sort()?;
     Ok(findings)

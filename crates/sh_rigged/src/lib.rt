@@ -4,7 +4,7 @@
 ghost use Rattle.std.specs.Prelude.{◌≡◌};
 ghost use Rattle.sh_report.specs.Ends.{no_counts};
 
-use sh_report::counted::answered;
+use sh_report::counted::end_answer;
 use sh_report::ends::{Broken, Counts, Feed, Outlet};
 use std::io::{self, ErrorKind, Read, Write};
 
@@ -26,14 +26,14 @@ pub struct Rigged<T> {
     interrupts: u32,
     call: u32,
     trick: Trick,
-    pub seen: Counts,
+    pub counts: Counts,
 }
 
 impl<T> Rigged<T> {
     pub fn new(inner: T, most: usize, interrupts: u32, call: u32, trick: Trick) -> Self
-        ensures { result.seen ≡ no_counts }
+        ensures { result.counts ≡ no_counts }
     {
-        let seen = Counts {
+        let counts = Counts {
             errors: 0,
             interruptions: 0,
             empty: 0,
@@ -44,7 +44,7 @@ impl<T> Rigged<T> {
             interrupts,
             call,
             trick,
-            seen,
+            counts,
         }
     }
 }
@@ -67,7 +67,7 @@ fn turn(interrupts: &mut u32, call: &mut u32, trick: Trick, most: usize) -> io::
 impl<R: Read> Feed for Rigged<R> {
     ghost remaining = { λ r. R.remaining r.inner };
 
-    ghost tally = { λ r. r.seen };
+    ghost tally = { λ r. r.counts };
 
     fn pull(&mut self, buffer: &mut [u8]) -> Result<usize, Broken> {
         let room = buffer.len();
@@ -78,18 +78,18 @@ impl<R: Read> Feed for Rigged<R> {
             }
             Err(error) => Err(error),
         };
-        answered(&mut self.seen, answer, room)
+        end_answer(&mut self.counts, answer, room)
     }
 
     fn counts(&self) -> Counts {
-        self.seen
+        self.counts
     }
 }
 
 impl<W: Write> Outlet for Rigged<W> {
     ghost contents = { λ r. W.contents r.inner };
 
-    ghost tally = { λ r. r.seen };
+    ghost tally = { λ r. r.counts };
 
     fn push(&mut self, piece: &[u8]) -> Result<usize, Broken> {
         let room = piece.len();
@@ -100,10 +100,10 @@ impl<W: Write> Outlet for Rigged<W> {
             }
             Err(error) => Err(error),
         };
-        answered(&mut self.seen, answer, room)
+        end_answer(&mut self.counts, answer, room)
     }
 
     fn counts(&self) -> Counts {
-        self.seen
+        self.counts
     }
 }

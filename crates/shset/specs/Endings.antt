@@ -13,16 +13,16 @@ use Rattle.shset.specs.declared.ending.Stream.TheVariants.{Output, Error}
 use Rattle.shset.specs.declared.ending.Ending.{Ending}
 
 -- what is printed, and where
-abbrev pub printed : Ending → Option (Stream × List ℕ)
-printed e = option_map (λ m. (m.stream, m.text.now)) e.message
+abbrev pub message_of : Ending → Option (Stream × List ℕ)
+message_of e = option_map (λ m. (m.stream, m.text.now)) e.message
 
 -- it ends with this status and prints nothing
 abbrev pub EndsSilently : ℕ → Ending → Type 0
-EndsSilently status e = (e.status ≡ status) × (printed e ≡ None)
+EndsSilently status e = (e.status ≡ status) × (message_of e ≡ None)
 
 -- it prints this text on this stream and ends with this status
 abbrev pub EndsWith : Stream → List ℕ → ℕ → Ending → Type 0
-EndsWith stream text status e = (e.status ≡ status) × (printed e ≡ Some (stream, text))
+EndsWith stream text status e = (e.status ≡ status) × (message_of e ≡ Some (stream, text))
 
 -- a line on standard error, and status 3
 abbrev pub Fails : List ℕ → Ending → Type 0
@@ -58,4 +58,4 @@ EndsUnprinted (Some (Error, text)) status e = EndsSilently status e
 
 -- the status is that of the ending, or of what follows where its text was not printed
 abbrev pub IsStatusOf : Ending → ℕ → Type 0
-IsStatusOf e status = (status ≡ e.status) ⊎ ((last : Ending) × EndsUnprinted (printed e) e.status last × (status ≡ last.status))
+IsStatusOf e status = (status ≡ e.status) ⊎ ((last : Ending) × EndsUnprinted (message_of e) e.status last × (status ≡ last.status))

@@ -1,7 +1,7 @@
 //! How the program ends: what it prints beside an answer, where, and its status.
 ghost use Rattle.std.specs.Prelude.{◌≡◌, Some};
 ghost use Rattle.shset.specs.declared.ending.Stream.TheVariants.{Error};
-ghost use Rattle.shset.specs.Endings.{EndsUnprinted, Fails, RunsTo, StopsWith, fault_line, printed, words_line};
+ghost use Rattle.shset.specs.Endings.{EndsUnprinted, Fails, RunsTo, StopsWith, fault_line, message_of, words_line};
 
 use sh_line::line::Stop;
 use sh_report::moves::Fault;
@@ -39,7 +39,7 @@ pub struct Ending<'a> {
 
 fn failing(text: &str) -> Ending<'_>
     ensures status { result.status ≡ 3 }
-    ensures text { printed result ≡ Some (Error, text.entry.now) }
+    ensures text { message_of result ≡ Some (Error, text.entry.now) }
 {
     Ending {
         status: FAILED,
@@ -104,7 +104,7 @@ pub fn after_run(answer: Result<u8, Fault>) -> Ending<'static>
 
 /// The end where the message of an end was not printed.
 pub fn unprinted(ending: Ending<'_>) -> Ending<'static>
-    ensures { EndsUnprinted (printed ending.entry) ending.entry.status result }
+    ensures { EndsUnprinted (message_of ending.entry) ending.entry.status result }
 {
     match ending.message {
         Some(

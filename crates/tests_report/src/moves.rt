@@ -19,7 +19,7 @@ type Way = (usize, u32, u32, Trick);
 type Tally = (u64, u64, u64);
 
 fn rigged<T>(inner: T, way: Way) -> Rigged<T>
-    ensures { result.seen ≡ no_counts }
+    ensures { result.counts ≡ no_counts }
 {
     let (most, interrupts, call, trick) = way;
     Rigged::new(inner, most, interrupts, call, trick)
