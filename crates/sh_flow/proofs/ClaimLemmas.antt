@@ -8,12 +8,11 @@ use Rattle.std.proofs.lemmas.Bool.{or_right}
 use Rattle.std.proofs.lemmas.Grind.{common_steps}
 use Rattle.sh_tree.specs.declared.tree.Redirect.{Redirect}
 use Rattle.sh_tree.specs.declared.tree.Span.{Span}
-use Rattle.sh_tree.specs.declared.tree.Part.{items-the_row-Part}
 use Rattle.sh_tree.specs.declared.tree.Element.{Element, Assignment', Word', Redirection'}
 use Rattle.sh_tree.specs.declared.tree.Element.TheVariants as element
 use Rattle.sh_tree.specs.declared.tree.Word.{Word}
 use Rattle.sh_tree.specs.Tree.{text_of}
-use Rattle.sh_tree.specs.Words.{words_of, form_of, form_of_assignment, form_of_word, form_of_redirection, word_in, assignment_in}
+use Rattle.sh_tree.specs.Words.{form_of, form_of_assignment, form_of_word, form_of_redirection, assignment_in}
 use Rattle.sh_tree.specs.program.Syntax.{Text}
 use Rattle.sh_table.specs.runs.Environment.{is_one_of}
 use Rattle.sh_flow.specs.Names.{number_of}

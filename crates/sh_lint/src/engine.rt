@@ -12,11 +12,12 @@ use sh_report::texts;
 use sh_tree::limits::MAX_SCRIPT;
 use std::alloc::{AllocError, Global};
 
-/// The most bytes that the script's reader is asked for: one more than a script may have.
+/// The most bytes that are taken of the script's reader: one more than a script may have.
 pub const SCRIPT_READ: usize = MAX_SCRIPT + 1;
 
-/// Reads the script, does the task, and writes the text of the answer: the whole text is made before its first byte is
-/// written. The result is the exit status: 0 clean, 1 findings, 2 refused. `cert` is read by no action yet.
+/// Reads the script, at most `SCRIPT_READ` bytes of it, does the task, and writes the text of the answer: the whole text is
+/// made before its first byte is written. The result is the exit status: 0 clean, 1 findings, 2 refused. `cert` is read by
+/// no action yet.
 ///
 /// # Errors
 ///
@@ -47,7 +48,7 @@ pub fn run<R: Feed, C: Feed, W: Outlet>(
     ensures memory { IsErrOf result Fault.Memory → out.new ≡ out.old }
     ensures read { IsErrOf result Fault.Read → out.new ≡ out.old }
 
-    // A fault is told where that end failed, and only there.
+    // A fault is told where that end failed, and only there. After a refused growth the script's reader had not failed.
     ensures wrote { OnOk result (BoreOnly (W.tally out.old) (W.tally out.new)) }
     ensures memory_read { IsErrOf result Fault.Memory → BoreAll (R.tally script.old) (R.tally script.new) }
     ensures read_failed { IsErrOf result Fault.Read → FailedBetween (R.tally script.old) (R.tally script.new) }
