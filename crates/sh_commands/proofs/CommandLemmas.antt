@@ -1,6 +1,7 @@
 -- The commands of a piece of a tree, by the pieces one level below it.
 use Rattle.std.proofs.Common.{◌≡◌, Bool, Option, Some, None, List, [], ◌∷◌, ◌++◌, refl, sym, ap, ◌∙◌, Result, Ok, Err, OnOk, append_assoc, map, Bor, Vec, Global, IfOk, subst}
 use Rattle.std.specs.List.{flat_map}
+use Rattle.std.specs.Option.{option_map_or}
 use Rattle.std.specs.List.Sorted.{IsPermutation}
 use Rattle.std.proofs.lemmas.List.{append-nil, map-append}
 use Rattle.std.proofs.lemmas.List.Sorted.{IsPermutation-map}
@@ -34,7 +35,7 @@ use Rattle.sh_tree.specs.declared.tree.Unary.{Unary}
 use Rattle.sh_tree.specs.declared.tree.Expr.{Expr, Row_of-Expr-Chain-1-2, end_of-Expr-Chain-1-2, more_of-Expr-Chain-1-2, items-the_row-Expr-Chain-1-2}
 use Rattle.sh_tree.specs.declared.tree.Expr.TheVariants as expression
 use Rattle.sh_tree.specs.declared.tree.Element.TheBlock.{items_shown-the_row-Part-0, items_hidden-the_row-Part-0, shown-the_row-Part-0, hidden-the_row-Part-0, items_hidden-the_row-Element-3, hidden-the_row-Element-3, items_hidden-the_row-Branch-4, hidden-the_row-Branch-4, back-Kind-Cond-1, back-Kind-For-1, items_shown-the_row-Word-5, items_hidden-the_row-Word-5, hidden-the_row-Word-5, items_hidden-the_row-Clause-6, hidden-the_row-Clause-6, shape-the_row-Command-7, hidden-the_row-Command-7, shape-the_row-Expr-1, hidden-the_row-Expr-1, items_hidden-the_row-Expr-Chain-1-2-2, hidden-the_row-Expr-Chain-1-2-2, items_shown-the_row-AndOr-rest-2-8, items_shown-the_row-Redirect-9, items_shown-the_row-Command-10, items_shown-the_row-Item-11}
-use Rattle.sh_commands.specs.Commands.{of_script, of_items, of_item, of_and_or, of_links, of_pipe, of_commands, of_command, of_redirects, of_redirect, of_link, of_step, of_option, of_kind, of_elements, of_element, of_branches, of_branch, of_otherwise, of_list, of_words, of_word, of_clauses, of_clause, of_target, of_parts, of_part, of_operator, of_expressions, of_chain, of_expression}
+use Rattle.sh_commands.specs.Commands.{of_script, of_items, of_item, of_and_or, of_links, of_pipe, of_commands, of_command, of_redirects, of_redirect, of_link, of_step, of_kind, of_elements, of_element, of_branches, of_branch, of_otherwise, of_list, of_words, of_word, of_clauses, of_clause, of_target, of_parts, of_part, of_operator, of_expressions, of_chain, of_expression}
 
 -- lists
 items_listed : {m : _} (k : Row_of-Item m) → of_items k ≡ flat_map of_item (items-the_row-Item m k)
@@ -149,31 +150,31 @@ pub of_kind-Subshell : (t : Script) → of_kind (kind.Subshell t) ≡ of_script 
 unfolding of_script
 of_kind-Subshell t = refl
 
-otherwise_row : (o : Option Script) → of_otherwise (back-Kind-Cond-1 o) ≡ of_option of_script o
+otherwise_row : (o : Option Script) → of_otherwise (back-Kind-Cond-1 o) ≡ option_map_or of_script o []
 unfolding of_script
 otherwise_row None = refl
 otherwise_row (Some t) = refl
 
-pub of_kind-Cond : (bs : List Branch) (o : Option Script) → of_kind (kind.Cond bs o) ≡ flat_map of_branch bs ++ of_option of_script o
+pub of_kind-Cond : (bs : List Branch) (o : Option Script) → of_kind (kind.Cond bs o) ≡ flat_map of_branch bs ++ option_map_or of_script o []
 unfolding of_script
 of_kind-Cond bs o =
     ap (λ xs. xs ++ of_otherwise (back-Kind-Cond-1 o)) (branches_listed (hidden-the_row-Branch-4 bs) ∙ ap (flat_map of_branch) (items_hidden-the_row-Branch-4 bs))
     ∙ ap (λ xs. flat_map of_branch bs ++ xs) (otherwise_row o)
 
-list_row : (o : Option (List Word)) → of_list (back-Kind-For-1 o) ≡ of_option (flat_map of_word) o
+list_row : (o : Option (List Word)) → of_list (back-Kind-For-1 o) ≡ option_map_or (flat_map of_word) o []
 unfolding of_script
 list_row None = refl
 list_row (Some ws) = words_listed (hidden-the_row-Word-5 ws) ∙ ap (flat_map of_word) (items_hidden-the_row-Word-5 ws)
 
-pub of_kind-For : (s : Span) (o : Option (List Word)) (t : Script) → of_kind (kind.For s o t) ≡ of_option (flat_map of_word) o ++ of_script t
+pub of_kind-For : (s : Span) (o : Option (List Word)) (t : Script) → of_kind (kind.For s o t) ≡ option_map_or (flat_map of_word) o [] ++ of_script t
 unfolding of_script
 of_kind-For s o t = ap (λ xs. xs ++ of_script t) (list_row o)
 
 pub of_kind-For-None : (k : Kind) (s : Span) (o : Option (List Word)) (t : Script) → k ≡ kind.For s o t → o ≡ None → of_kind k ≡ of_script t
-of_kind-For-None k s o t e n = ap of_kind e ∙ of_kind-For s o t ∙ ap (λ w. of_option (flat_map of_word) w ++ of_script t) n
+of_kind-For-None k s o t e n = ap of_kind e ∙ of_kind-For s o t ∙ ap (λ w. option_map_or (flat_map of_word) w [] ++ of_script t) n
 
 pub of_kind-For-Some : (k : Kind) (s : Span) (o : Option (List Word)) (ws : List Word) (t : Script) → k ≡ kind.For s o t → o ≡ Some ws → of_kind k ≡ flat_map of_word ws ++ of_script t
-of_kind-For-Some k s o ws t e n = ap of_kind e ∙ of_kind-For s o t ∙ ap (λ w. of_option (flat_map of_word) w ++ of_script t) n
+of_kind-For-Some k s o ws t e n = ap of_kind e ∙ of_kind-For s o t ∙ ap (λ w. option_map_or (flat_map of_word) w [] ++ of_script t) n
 
 pub of_kind-Branches : (w : Word) (cs : List Clause) → of_kind (kind.Branches w cs) ≡ of_word w ++ flat_map of_clause cs
 unfolding of_script

@@ -1,6 +1,6 @@
 -- The commands of a script, those in its words included.
 -- POSIX.1-2024, XCU 2.9 (shell commands), 2.6.3 (command substitution), 2.7.4 (here-documents).
-use Rattle.std.specs.Prelude.{List, [], ◌∷◌, ◌++◌, Option, Some, None}
+use Rattle.std.specs.Prelude.{List, [], ◌∷◌, ◌++◌}
 use Rattle.std.specs.List.{flat_map}
 use Rattle.sh_tree.specs.declared.tree.Script.{Script, Script', Row_of-Item, end_of-Item, more_of-Item}
 use Rattle.sh_tree.specs.declared.tree.Item.{Item, Item'}
@@ -142,10 +142,6 @@ of_link x = of_pipe x.1
 
 abbrev pub of_step : Binary × Expr → List Command
 of_step x = of_expression x.1
-
-abbrev pub of_option : {A : Type 0} → (A → List Command) → Option A → List Command
-of_option f None = []
-of_option f (Some x) = f x
 
 abbrev pub of_redirect : Redirect → List Command
 of_redirect r = of_target r.target

@@ -1,7 +1,8 @@
 //! The commands of a script, those in its words included.
 #![tactic(auto)]
 
-ghost use Rattle.std.specs.Prelude.{◌≡◌, ◌++◌, map, flat_map, OnOk, IfOk};
+ghost use Rattle.std.specs.Prelude.{◌≡◌, ◌++◌, [], map, flat_map, OnOk, IfOk};
+ghost use Rattle.std.specs.Option.{option_map_or};
 ghost use Rattle.std.specs.List.Sorted.{IsPermutation, IsNonDecreasingBy};
 ghost use Rattle.sh_tree.specs.declared.tree.Command.{out-Command};
 ghost use Rattle.sh_commands.specs.Commands as spec;
@@ -142,7 +143,7 @@ fn add_otherwise<'a>(
     otherwise: &'a Option<Script>,
     found: &mut Vec<&'a Command>,
 ) -> Result<(), AllocError>
-    ensures { OnOk result (map (λ c. c.now) found.new.items ≡ map (λ c. c.now) found.old.items ++ spec.of_option spec.of_script otherwise.now) }
+    ensures { OnOk result (map (λ c. c.now) found.new.items ≡ map (λ c. c.now) found.old.items ++ option_map_or spec.of_script otherwise.now []) }
 {
     match otherwise {
         Some(list) => add_script(list, found),
