@@ -1,7 +1,7 @@
 -- Which commands are analysed.
 -- POSIX.1-2024, XCU 2.9.1.4 (command search and execution), 2.15 (special built-in utilities): a name that no table here has is a
 -- utility that changes no variable and no function.
-use Rattle.std.specs.Prelude.{◌≡◌, ℕ, Bool, true, false, not, ◌&&◌, ◌==◌, List, [], ◌∷◌, codes, Option, Some, None}
+use Rattle.std.specs.Prelude.{◌≡◌, ℕ, Bool, true, false, not, ◌&&◌, ◌==◌, List, [], ◌∷◌, Option, Some, None}
 use Rattle.std.specs.List.{list_any, list_all}
 use Rattle.sh_tree.specs.declared.tree.Script.{Script, out-Script}
 use Rattle.sh_tree.specs.declared.tree.Command.{Command, out-Command}
@@ -16,30 +16,19 @@ use Rattle.sh_tree.specs.declared.tree.Word.{Word}
 use Rattle.sh_tree.specs.Words.{lone_command, lone_commands, elements_of, words_of, Form, Assigns, Operand, Redirects, form_of, static_text}
 use Rattle.sh_tree.specs.program.Syntax.{Text}
 use Rattle.sh_tree.specs.program.Lists.{parts_from}
-use Rattle.sh_table.specs.runs.Environment.{is_one_of}
+use Rattle.sh_table.specs.declared.kind.Kind as meaning
+use Rattle.sh_table.specs.declared.kind.Kind.TheVariants.{Utility}
+use Rattle.sh_table.specs.Kinds.{kind_of}
 use Rattle.sh_table.specs.Counts.{some_gives_field}
 
--- the special built-in utilities (XCU 2.15)
-abbrev pub special_names : List Text
-special_names =
-    codes "break" ∷ codes ":" ∷ codes "continue" ∷ codes "." ∷ codes "eval" ∷ codes "exec" ∷ codes "exit" ∷ codes "export" ∷ codes "readonly"
-    ∷ codes "return" ∷ codes "set" ∷ codes "shift" ∷ codes "times" ∷ codes "trap" ∷ codes "unset" ∷ []
-
--- other built-ins that change what is set, run a command by its name, or have a known status
-abbrev pub changing_names : List Text
-changing_names = codes "true" ∷ codes "false" ∷ codes "read" ∷ codes "getopts" ∷ codes "cd" ∷ codes "command" ∷ codes "alias" ∷ codes "unalias" ∷ codes "fc" ∷ []
-
--- names to which the standard gives no meaning (XCU 2.9.1.4), and words that other shells reserve
-abbrev pub unspecified_names : List Text
-unspecified_names =
-    codes "local" ∷ codes "typeset" ∷ codes "declare" ∷ codes "source" ∷ codes "let" ∷ codes "builtin" ∷ codes "nameref" ∷ codes "integer" ∷ codes "float"
-    ∷ codes "mapfile" ∷ codes "readarray" ∷ codes "shopt" ∷ codes "[[" ∷ codes "]]" ∷ codes "function" ∷ codes "select" ∷ codes "time" ∷ codes "namespace" ∷ []
+-- no table of commands has the name
+unfoldable pub is_utility_kind : meaning.Kind → Bool
+is_utility_kind Utility = true
+is_utility_kind _ = false
 
 -- a utility that changes no variable and no function; a `=` may be an assignment of another shell
 unfoldable pub is_utility : Text → Bool
-is_utility t =
-    not (is_one_of special_names t) && not (is_one_of changing_names t) && not (is_one_of unspecified_names t)
-    && not (list_any (λ c. c == 61) t)
+is_utility t = is_utility_kind (kind_of t) && not (list_any (λ c. c == 61) t)
 
 unfoldable pub is_named_utility : Option Text → Bool
 is_named_utility None = false

@@ -4,7 +4,7 @@ ghost use Rattle.std.specs.List.{list_any};
 ghost use Rattle.std.specs.Option.{option_copied};
 ghost use Rattle.std.specs.Str.{bytes_eq};
 ghost use Rattle.sh_tree.specs.Words.{words_of, lone_command};
-ghost use Rattle.sh_table.specs.runs.Environment as environment;
+ghost use Rattle.sh_table.specs.Kinds.{kind_of};
 ghost use Rattle.sh_flow.specs.Profile as profile;
 ghost use Rattle.sh_lint.specs.Findings.{Admits, first_refused, item_start};
 
@@ -15,8 +15,10 @@ use sh_tree::tree::{Command, Element, Item, Script};
 use sh_tree::words::command_name;
 use std::alloc::{AllocError, Global};
 
-/// The special built-in utilities (XCU 2.15).
-const SPECIAL_NAMES: [&[u8]; 15] = [
+/// The names of commands that are more than a utility: the special built-in utilities (XCU 2.15); others that change what is
+/// set, run a command by its name, or have a known status; those that change how commands are read, names to which the standard
+/// gives no meaning (XCU 2.9.1.4), and words that other shells reserve.
+const KNOWN_NAMES: [&[u8]; 42] = [
     b"break",
     b":",
     b"continue",
@@ -32,15 +34,15 @@ const SPECIAL_NAMES: [&[u8]; 15] = [
     b"times",
     b"trap",
     b"unset",
-];
-
-/// Other built-ins that change what is set, run a command by its name, or have a known status.
-const CHANGING_NAMES: [&[u8]; 9] = [
-    b"true", b"false", b"read", b"getopts", b"cd", b"command", b"alias", b"unalias", b"fc",
-];
-
-/// Names to which the standard gives no meaning (XCU 2.9.1.4), and words that other shells reserve.
-const UNSPECIFIED_NAMES: [&[u8]; 18] = [
+    b"cd",
+    b"command",
+    b"false",
+    b"getopts",
+    b"read",
+    b"true",
+    b"alias",
+    b"unalias",
+    b"fc",
     b"local",
     b"typeset",
     b"declare",
@@ -61,29 +63,16 @@ const UNSPECIFIED_NAMES: [&[u8]; 18] = [
     b"namespace",
 ];
 
-/// Whether a text is one of these names.
-fn is_one_of(texts: &[&[u8]], name: &[u8]) -> bool
-    ensures { result ≡ list_any (λ t. bytes_eq t.now name.now) texts.now }
+fn is_utility_name(name: &[u8]) -> bool
+    ensures { result ≡ profile.is_utility_kind (kind_of name.now) }
 {
-    texts.iter().any(|text| *text == name)
+    !is_known(&KNOWN_NAMES, name)
 }
 
-fn is_special(name: &[u8]) -> bool
-    ensures { result ≡ environment.is_one_of profile.special_names name.now }
+fn is_known(names: &[&[u8]], name: &[u8]) -> bool
+    ensures { result ≡ list_any (λ t. bytes_eq t.now name.now) names.now }
 {
-    is_one_of(&SPECIAL_NAMES, name)
-}
-
-fn is_changing(name: &[u8]) -> bool
-    ensures { result ≡ environment.is_one_of profile.changing_names name.now }
-{
-    is_one_of(&CHANGING_NAMES, name)
-}
-
-fn is_unspecified(name: &[u8]) -> bool
-    ensures { result ≡ environment.is_one_of profile.unspecified_names name.now }
-{
-    is_one_of(&UNSPECIFIED_NAMES, name)
+    names.iter().any(|known| *known == name)
 }
 
 /// Whether the name is that of a utility that changes no variable and no function. A `=` in it may be an assignment of another
@@ -92,11 +81,9 @@ fn is_unspecified(name: &[u8]) -> bool
 fn is_utility(name: &[u8]) -> bool
     ensures { result ≡ profile.is_utility name.now }
 {
-    let special = is_special(name);
-    let changing = is_changing(name);
-    let unspecified = is_unspecified(name);
+    let utility = is_utility_name(name);
     let equals = name.contains(&b'=');
-    !special && !changing && !unspecified && !equals
+    utility && !equals
 }
 
 /// Whether there is no command name, or it is static text and a utility's.
