@@ -55,7 +55,7 @@ fn are_in_order(found: &[&Command]) -> bool {
 }
 
 #[test]
-fn by_their_starts(rt: HostRuntime) -> Result<(), Fail> {
+fn by_their_numbers(rt: HostRuntime) -> Result<(), Fail> {
     let script = with_body(rt.alloc())?;
     let found = commands(rt.alloc(), &script)?;
     holds(&rt, b"<<E; b", are_in_order(&found));
