@@ -4,7 +4,7 @@ use Rattle.std.specs.Prelude.{ℕ, Bool, true, false, not, ◌&&◌, ◌||◌, L
 use Rattle.std.specs.List.{list_any, list_all}
 use Rattle.sh_tree.specs.declared.tree.Span.{Span}
 use Rattle.sh_tree.specs.declared.tree.Word.{Word}
-use Rattle.sh_tree.specs.declared.tree.Operator.{Operator, Use', Remove'}
+use Rattle.sh_tree.specs.declared.tree.ParameterOperator.{ParameterOperator, Use', Remove'}
 use Rattle.sh_tree.specs.declared.tree.Expr.{Expr, Constant, Variable, Expansion, Parenthesis', Unary', Chain', Choice', Assign', Row_of-Expr, end_of-Expr, more_of-Expr, Row_of-Expr-Chain-1-2, end_of-Expr-Chain-1-2, more_of-Expr-Chain-1-2}
 use Rattle.sh_tree.specs.declared.tree.Part.{Part, Escaped, Single, Double', Param', Arith', Row_of-Part, end_of-Part, more_of-Part}
 use Rattle.sh_tree.specs.language.Bytes.{is_newline, is_backslash, is_first}
@@ -56,7 +56,7 @@ unfoldable mutual
   row_singles end_of-Part = []
   row_singles (more_of-Part x rest) = singles_in x ++ row_singles rest
 
-  pub operator_singles : Operator → List Span
+  pub operator_singles : ParameterOperator → List Span
   operator_singles (Use' a c s shape row) = row_singles row
   operator_singles (Remove' r s shape row) = row_singles row
   operator_singles _ = []
