@@ -18,7 +18,7 @@ use Rattle.sh_tree.specs.declared.tree.Element.{Element, Assignment', Word', Red
 use Rattle.sh_tree.specs.declared.tree.Target.{Target, File', Here'}
 use Rattle.sh_tree.specs.declared.tree.Part.{Part, Double', Param', Arith', Row_of-Part, end_of-Part, more_of-Part}
 use Rattle.sh_tree.specs.declared.tree.Part.TheVariants as part
-use Rattle.sh_tree.specs.declared.tree.Operator.{Operator, Use', Remove'}
+use Rattle.sh_tree.specs.declared.tree.ParameterOperator.{ParameterOperator, Use', Remove'}
 use Rattle.sh_tree.specs.declared.tree.Expr.{Expr, Expansion, Parenthesis', Unary', Chain', Choice', Assign', Row_of-Expr, end_of-Expr, more_of-Expr, Row_of-Expr-Chain-1-2, end_of-Expr-Chain-1-2, more_of-Expr-Chain-1-2}
 
 -- The commands in each piece of a tree, a command before those in it
@@ -115,7 +115,7 @@ unfoldable mutual
   of_part (part.Command style span list) = of_script list
   of_part _ = []
 
-  pub of_operator : Operator → List Command
+  pub of_operator : ParameterOperator → List Command
   of_operator (Use' action colon span shape parts) = of_parts parts
   of_operator (Remove' removal span shape parts) = of_parts parts
   of_operator _ = []

@@ -8,8 +8,8 @@ ghost use Rattle.sh_tree.specs.declared.tree.Command.{out-Command};
 ghost use Rattle.sh_commands.specs.Commands as spec;
 
 use sh_tree::tree::{
-    AndOr, Binary, Branch, Clause, Command, Element, Expr, Item, Kind, Link, Operator, Part, Pipe,
-    Redirect, Script, Target, Word,
+    AndOr, Binary, Branch, Clause, Command, Element, Expr, Item, Kind, Link, ParameterOperator,
+    Part, Pipe, Redirect, Script, Target, Word,
 };
 use std::alloc::{AllocError, Global};
 
@@ -272,14 +272,17 @@ fn add_part<'a>(part: &'a Part, found: &mut Vec<&'a Command>) -> Result<(), Allo
 
 #[cycle(walk)]
 #[tactic(auto, using(crate::proofs::CommandLemmas::operators))]
-fn add_operator<'a>(operator: &'a Operator, found: &mut Vec<&'a Command>) -> Result<(), AllocError>
+fn add_operator<'a>(
+    operator: &'a ParameterOperator,
+    found: &mut Vec<&'a Command>,
+) -> Result<(), AllocError>
     ensures { OnOk result (map (λ c. c.now) found.new.items ≡ map (λ c. c.now) found.old.items ++ spec.of_operator operator.now) }
 {
     match operator {
-        Operator::Value => Ok(()),
-        Operator::Length => Ok(()),
-        Operator::Use { word, .. } => add_word(word, found),
-        Operator::Remove { pattern, .. } => add_word(pattern, found),
+        ParameterOperator::Value => Ok(()),
+        ParameterOperator::Length => Ok(()),
+        ParameterOperator::Use { word, .. } => add_word(word, found),
+        ParameterOperator::Remove { pattern, .. } => add_word(pattern, found),
     }
 }
 

@@ -5,7 +5,7 @@ use Rattle.std.proofs.Math.Bool.{or-false, or-true}
 use Rattle.std.specs.List.{list_any, list_all}
 use Rattle.std.proofs.lemmas.List.Folds.{list_any-append, list_all-append}
 use Rattle.sh_tree.specs.declared.tree.Part.{Part, Plain, Double', Param', Row_of-Part, end_of-Part, more_of-Part, items-the_row-Part}
-use Rattle.sh_tree.specs.declared.tree.Operator.{Value}
+use Rattle.sh_tree.specs.declared.tree.ParameterOperator.{Value}
 use Rattle.sh_tree.specs.declared.tree.Subject.TheVariants.{Name, Positional, Special}
 use Rattle.sh_tree.specs.Tree.{text_of}
 use Rattle.sh_tree.specs.Words.{Expansion, expansions, expansions_in, row_expansions, static_text}

@@ -11,7 +11,7 @@ use Rattle.sh_tree.specs.declared.tree.Element.{Element}
 use Rattle.sh_tree.specs.declared.tree.Part.{Part, Plain, Double', Param', items-the_row-Part}
 use Rattle.sh_tree.specs.declared.tree.Subject.{Subject}
 use Rattle.sh_tree.specs.declared.tree.Subject.TheVariants.{Name}
-use Rattle.sh_tree.specs.declared.tree.Operator.{Operator, Value}
+use Rattle.sh_tree.specs.declared.tree.ParameterOperator.{ParameterOperator, Value}
 use Rattle.sh_tree.specs.declared.tree.Word.{Word}
 use Rattle.sh_tree.specs.Words.{lone_command, lone_commands, elements_of, words_of, Form, Assigns, Operand, Redirects, form_of, static_text}
 use Rattle.sh_tree.specs.program.Syntax.{Text}
@@ -45,7 +45,7 @@ unfoldable pub is_variable : Subject → Bool
 is_variable (Name s) = true
 is_variable _ = false
 
-unfoldable pub is_value : Operator → Bool
+unfoldable pub is_value : ParameterOperator → Bool
 is_value Value = true
 is_value _ = false
 

@@ -10,8 +10,8 @@ use Rattle.sh_tree.specs.declared.tree.Item.{Item, out-roll-Item}
 use Rattle.sh_tree.specs.declared.tree.Kind.{Kind}
 use Rattle.sh_tree.specs.declared.tree.Kind.TheVariants.{Simple}
 use Rattle.sh_tree.specs.declared.tree.Link.{Link}
-use Rattle.sh_tree.specs.declared.tree.Operator.{Operator}
-use Rattle.sh_tree.specs.declared.tree.Operator.TheVariants as operator
+use Rattle.sh_tree.specs.declared.tree.ParameterOperator.{ParameterOperator}
+use Rattle.sh_tree.specs.declared.tree.ParameterOperator.TheVariants as operator
 use Rattle.sh_tree.specs.declared.tree.Part.{Part, Double'}
 use Rattle.sh_tree.specs.declared.tree.Pipe.{Pipe, out-Pipe, out-roll-Pipe}
 use Rattle.sh_tree.specs.declared.tree.Redirect.{Redirect}
@@ -114,7 +114,7 @@ unfolding is_straight_part is_flat
 flat_straight (Double' s shape row) h = absurd (true≢false (sym h))
 flat_straight _ h = h
 
-valued : (i j : ℕ) (q : Subject) (o : Operator) → is_straight_part (tree.param i j q o) ≡ true → is_value o ≡ true
+valued : (i j : ℕ) (q : Subject) (o : ParameterOperator) → is_straight_part (tree.param i j q o) ≡ true → is_value o ≡ true
 unfolding is_straight_part is_flat
 valued i j q o h = (and_parts (is_variable q) (is_value o) h).1
 

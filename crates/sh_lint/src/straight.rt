@@ -3,7 +3,7 @@ ghost use Rattle.std.specs.Prelude.{◌≡◌, ◌&&◌};
 ghost use Rattle.std.specs.List.{list_all};
 ghost use Rattle.sh_flow.specs.Profile as profile;
 
-use sh_tree::tree::{Command, Element, Kind, Operator, Param, Part, Redirect, Subject};
+use sh_tree::tree::{Command, Element, Kind, Param, ParameterOperator, Part, Redirect, Subject};
 
 #[tactic(auto, unfolding(sh_flow::specs::Profile::is_variable))]
 fn is_variable(subject: Subject) -> bool
@@ -16,12 +16,14 @@ fn is_variable(subject: Subject) -> bool
 }
 
 #[tactic(auto, unfolding(sh_flow::specs::Profile::is_value))]
-fn is_value(operator: &Operator) -> bool
+fn is_value(operator: &ParameterOperator) -> bool
     ensures { result ≡ profile.is_value operator.now }
 {
     match operator {
-        Operator::Value => true,
-        Operator::Length | Operator::Use { .. } | Operator::Remove { .. } => false,
+        ParameterOperator::Value => true,
+        ParameterOperator::Length
+        | ParameterOperator::Use { .. }
+        | ParameterOperator::Remove { .. } => false,
     }
 }
 

@@ -6,6 +6,7 @@ ghost use Rattle.sh_scan.specs.Steps.{gap_step};
 
 use crate::bytes::is_blank;
 use crate::front::{begins_with, joined_step};
+use crate::here_document::line_length;
 use sh_tree::limits::MAX_SCRIPT;
 
 #[tactic(auto, unfolding(crate::specs::Steps::gap_step))]
@@ -47,14 +48,6 @@ fn comment_length(rest: &[u8]) -> usize
     rest.iter().take_while(|byte| **byte != b'\n').count()
 }
 
-/// Whether a comment of so many bytes ends in a backslash.
-fn ends_in_backslash(rest: &[u8], count: usize) -> bool
-    requires { count ≤ length rest.now }
-    ensures { result ≡ bytes.is_first bytes.is_backslash (drop (count - 1) rest.now) }
-{
-    begins_with(&rest[count.saturating_sub(1)..], b'\\')
-}
-
 /// How many bytes the comment at the front has, if there is one.
 fn comment_step(body: bool, rest: &[u8]) -> usize
     ensures value { result ≡ if commands.is_comment body rest.now then commands.comment_length rest.now else 0 }
@@ -64,7 +57,7 @@ fn comment_step(body: bool, rest: &[u8]) -> usize
         return 0;
     }
     let count = comment_length(rest);
-    if body && ends_in_backslash(rest, count) {
+    if body && line_length(rest, true) != count {
         0
     } else {
         count
@@ -81,7 +74,7 @@ fn blank_length(body: bool, rest: &[u8]) -> usize
 }
 
 /// Where the token at or behind `at` begins: behind blanks, line continuations and a comment. In the body of a
-/// here-document a comment that ends in a backslash is none.
+/// here-document a comment whose line goes on behind a continuation is none.
 #[tactic(auto, unfolding(sh_tree::specs::language::Commands::blanks))]
 pub fn blanks_at(script: &[u8], at: u32, body: bool) -> u32
     requires small { length script.now ≤ MAX_SCRIPT }

@@ -17,7 +17,8 @@ fn line_step(rest: &[u8], joins: bool) -> usize
     }
 }
 
-fn line_length(rest: &[u8], joins: bool) -> usize
+/// How long the line at the front is, without its newline.
+pub fn line_length(rest: &[u8], joins: bool) -> usize
     ensures value { result ≡ documents.line_length joins rest.now }
     ensures within { result ≤ length rest.now }
 {

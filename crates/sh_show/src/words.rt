@@ -2,7 +2,8 @@ use crate::arithmetic::push_expr;
 use crate::commands::push_script;
 use crate::spans::{push_signed, push_span};
 use sh_tree::tree::{
-    Action, CommandStyle, Operator, Param, Part, Removal, SingleStyle, Special, Subject, Word,
+    Action, CommandStyle, Param, ParameterOperator, Part, Removal, SingleStyle, Special, Subject,
+    Word,
 };
 use std::alloc::{AllocError, Global};
 
@@ -55,12 +56,12 @@ fn sign_of_removal(removal: Removal) -> &'static str {
 }
 
 /// The letter of an expansion: `v` a value, `l` a length, `u` the use of a word, `r` a removal.
-fn letter_of(operator: &Operator) -> &'static str {
+fn letter_of(operator: &ParameterOperator) -> &'static str {
     match operator {
-        Operator::Value => "v",
-        Operator::Length => "l",
-        Operator::Use { .. } => "u",
-        Operator::Remove { .. } => "r",
+        ParameterOperator::Value => "v",
+        ParameterOperator::Length => "l",
+        ParameterOperator::Use { .. } => "u",
+        ParameterOperator::Remove { .. } => "r",
     }
 }
 
@@ -71,8 +72,8 @@ fn push_param(alloc: Global, param: &Param, text: &mut String) -> Result<(), All
     text.push_str("/")?;
     push_subject(alloc, param.subject, text)?;
     match &param.operator {
-        Operator::Value | Operator::Length => Ok(()),
-        Operator::Use {
+        ParameterOperator::Value | ParameterOperator::Length => Ok(()),
+        ParameterOperator::Use {
             action,
             colon,
             word,
@@ -80,7 +81,7 @@ fn push_param(alloc: Global, param: &Param, text: &mut String) -> Result<(), All
             text.push_str(if *colon { "[:" } else { "[" })?;
             push_operand(alloc, sign_of_action(*action), word, text)
         }
-        Operator::Remove { removal, pattern } => {
+        ParameterOperator::Remove { removal, pattern } => {
             text.push_str("[")?;
             push_operand(alloc, sign_of_removal(*removal), pattern, text)
         }

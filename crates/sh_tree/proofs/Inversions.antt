@@ -10,7 +10,7 @@ use Rattle.sh_tree.specs.declared.tree.Expr.{Expr}
 use Rattle.sh_tree.specs.declared.tree.Item.{Item}
 use Rattle.sh_tree.specs.declared.tree.Kind.{Kind}
 use Rattle.sh_tree.specs.declared.tree.Link.{Link}
-use Rattle.sh_tree.specs.declared.tree.Operator.TheVariants as operator
+use Rattle.sh_tree.specs.declared.tree.ParameterOperator.TheVariants as operator
 use Rattle.sh_tree.specs.declared.tree.Part.{Part}
 use Rattle.sh_tree.specs.declared.tree.Part.TheVariants as part
 use Rattle.sh_tree.specs.declared.tree.Pipe.{Pipe}
@@ -36,7 +36,7 @@ use Rattle.sh_tree.specs.language.Arithmetic.{is_closed, unary_of}
 use Rattle.sh_tree.specs.language.Commands.{blanks, lead_at, redirection, redirects, direction_of, strip_of, is_word, is_redirection, is_reserved, is_bar, is_newline_lead, begins_simple, begins_compound, begins_command, begins_pipeline, separator, link_of}
 use Rattle.sh_tree.specs.language.Contexts.{in_word, in_unsplit, in_stage}
 use Rattle.sh_tree.specs.language.Parts.{is_quoted_word, delimiter_of, keeps_document}
-use Rattle.sh_tree.specs.language.HereDocuments.{Mark, end_line}
+use Rattle.sh_tree.specs.language.HereDocuments.{Mark, end_line, behind_line}
 use Rattle.sh_tree.specs.language.Contexts.{in_document_of}
 use Rattle.sh_tree.specs.language.States.{Spot, State, Document, to, deeper, behind, facing, within, nth, waits, next, past, on_line, in_document, pended, counted, lower, as_deep, closing}
 use Rattle.sh_tree.specs.language.Trees.{span, word, param}
@@ -233,7 +233,7 @@ module _ (limit : ℕ) (b : List ℕ) (s : State) where
   -- the body at s and the line that ends it
   abbrev pub DocumentIs : Mark → Type 0
   DocumentIs m =
-      (l : Span) × (u : Spot) × (ps : List Part) × (end_line m b s.spot.at ≡ Some l) × (keeps_document b s.spot.body s.spot.tabs m (span s.spot.at l.end) ≡ true)
+      (l : Span) × (u : Spot) × (ps : List Part) × (end_line m b s.spot.at ≡ Some l) × (keeps_document b s.spot.body s.spot.tabs m (span s.spot.at (behind_line b l.end)) ≡ true)
       × ReadsParts limit (take l.start b) (in_document_of m) 10 (in_document m s) u ps
 
 first_mark : {m n : Mark} {ms ns : List Mark} → m ∷ ms ≡ n ∷ ns → m ≡ n

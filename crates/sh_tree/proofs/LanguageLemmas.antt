@@ -43,7 +43,7 @@ use Rattle.sh_tree.specs.language.Examples.{plain, bare, value, simple, quoted_t
 
 -- what a reading of a known text computes
 unfoldable pub computes : Unit {0}
-unfolding bytes.is_first bytes.name_length bytes.decimal bytes.longest bytes.joined_length words.tilde_length words.is_tilde words.special_of words.named words.single_parameter words.parenthesis words.numbered words.parameter words.misfit words.action_of words.removed words.used words.operated words.counted words.unnamed words.braced words.opened words.dollar words.stands words.plain_length words.continued words.backslash words.single words.meant_by words.sign_by words.sign_of words.token arithmetic.space_length arithmetic.constant_length arithmetic.named arithmetic.unknown arithmetic.figure_of arithmetic.lexeme_start arithmetic.lexeme arithmetic.binary_of arithmetic.unary_of arithmetic.assignment_of arithmetic.is_closed commands.gap_length commands.blank_length commands.blanks commands.operator_of commands.operator commands.is_split commands.direction_of commands.strip_of commands.redirects commands.bare_word commands.named commands.is_assignment commands.name_end commands.declares commands.is_location commands.opening commands.whole_operator commands.operator_lead commands.reserved_lead commands.is_definition commands.name_lead commands.first_lead commands.word_lead commands.number_lead commands.other_lead commands.lead_of commands.lead_at commands.redirection commands.is_redirection commands.begins_simple commands.begins_compound commands.begins_command commands.begins_pipeline commands.clause_end_of commands.is_bare_name commands.separator commands.link_of documents.line_length documents.line_end documents.line_text documents.compared documents.end_line_within documents.end_line documents.has_tabbed_line documents.has_joined_tab contexts.in_operand contexts.in_document_of contexts.in_stage parts.is_static parts.is_delimiter parts.delimiter_of parts.is_quotation parts.is_quoted_word parts.singles_in parts.singles parts.has_joined parts.keeps_lines parts.keeps_document states.nth states.waits r.is_empty r.is_some parts_text part_text
+unfolding bytes.is_first bytes.name_length bytes.decimal bytes.longest bytes.joined_length words.tilde_length words.is_tilde words.special_of words.named words.single_parameter words.parenthesis words.numbered words.parameter words.misfit words.action_of words.removed words.used words.operated words.counted words.unnamed words.braced words.opened words.dollar words.stands words.plain_length words.continued words.backslash words.single words.meant_by words.sign_by words.sign_of words.token arithmetic.space_length arithmetic.constant_length arithmetic.named arithmetic.unknown arithmetic.figure_of arithmetic.lexeme_start arithmetic.lexeme arithmetic.binary_of arithmetic.unary_of arithmetic.assignment_of arithmetic.is_closed commands.gap_length commands.blank_length commands.blanks commands.operator_of commands.operator commands.is_split commands.direction_of commands.strip_of commands.redirects commands.bare_word commands.named commands.is_assignment commands.name_end commands.declares commands.is_location commands.opening commands.whole_operator commands.operator_lead commands.reserved_lead commands.is_definition commands.name_lead commands.first_lead commands.word_lead commands.number_lead commands.other_lead commands.lead_of commands.lead_at commands.redirection commands.is_redirection commands.begins_simple commands.begins_compound commands.begins_command commands.begins_pipeline commands.clause_end_of commands.is_bare_name commands.separator commands.link_of documents.line_length documents.line_end documents.line_text documents.compared documents.end_line_within documents.end_line documents.has_tabbed_line documents.has_joined contexts.in_operand contexts.in_document_of contexts.in_stage parts.is_static parts.is_delimiter parts.delimiter_of parts.is_quotation parts.is_quoted_word parts.singles_in parts.singles parts.keeps_lines parts.keeps_document states.nth states.waits r.is_empty r.is_some parts_text part_text
 computes = tt
 
 -- a text with this sequence is its script

@@ -17,7 +17,7 @@ use Rattle.sh_tree.specs.declared.tree.Part.TheVariants as part
 use Rattle.sh_tree.specs.declared.tree.Script.{Script}
 use Rattle.sh_tree.specs.declared.tree.SingleStyle.TheVariants as single
 use Rattle.sh_tree.specs.language.Contexts.{in_document_of}
-use Rattle.sh_tree.specs.language.HereDocuments.{Mark}
+use Rattle.sh_tree.specs.language.HereDocuments.{Mark, behind_line}
 use Rattle.sh_tree.specs.language.Parts.{keeps_document}
 use Rattle.sh_tree.specs.language.Trees.{span, word}
 use Rattle.sh_tree.specs.language.Reading.{ReadsParts, ReadsScript, ReadsCommand, ReadsRedirects, lead_here, parted, skip, is_empty, is_some}
@@ -113,7 +113,7 @@ inner_unread limit u t h =
     refl refl h in
     let body = document_is inner_mark [] refl d.1 in
     let end : span 14 15 ≡ body.0 = some_one body.3 in
-    true≢false (sym body.4 ∙ ap (λ l. keeps_document b true false inner_mark (span 12 l.end)) (sym end))
+    true≢false (sym body.4 ∙ ap (λ l. keeps_document b true false inner_mark (span 12 (behind_line b l.end))) (sym end))
 
 pub split_document_unread : IsUnread split_document_text
 unfolding computes
@@ -148,7 +148,7 @@ tabbed_unread limit u t h =
     refl refl h in
     let body = document_is tabbed_mark [] refl d.1 in
     let end : span 14 15 ≡ body.0 = some_one body.3 in
-    true≢false (sym body.4 ∙ ap (λ l. keeps_document b true true tabbed_mark (span 11 l.end)) (sym end))
+    true≢false (sym body.4 ∙ ap (λ l. keeps_document b true true tabbed_mark (span 11 (behind_line b l.end))) (sym end))
 
 pub tabbed_document_unread : IsUnread tabbed_document_text
 unfolding computes

@@ -309,7 +309,7 @@ pub enum CommandStyle {
 pub struct Param {
     pub span: Span,
     pub subject: Subject,
-    pub operator: Operator,
+    pub operator: ParameterOperator,
 }
 
 /// The parameter that an expansion names (XCU 2.5).
@@ -360,7 +360,7 @@ impl Subject {
 /// What an expansion does with the parameter's value (XCU 2.6.2).
 #[cycle(tree)]
 #[derive(Drop)]
-pub enum Operator {
+pub enum ParameterOperator {
     /// It gives the value.
     Value,
     /// `#`: it gives the value's length.

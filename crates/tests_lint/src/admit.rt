@@ -4,8 +4,8 @@ use sh_lint::admit::admit;
 use sh_tree::Items;
 use sh_tree::refusal::{Refusal, Rule};
 use sh_tree::tree::{
-    AndOr, Command, CommandStyle, Direction, Element, Item, Kind, Operator, Param, Part, Pipe,
-    Redirect, Script, SingleStyle, Span, Subject, Target, Word,
+    AndOr, Command, CommandStyle, Direction, Element, Item, Kind, Param, ParameterOperator, Part,
+    Pipe, Redirect, Script, SingleStyle, Span, Subject, Target, Word,
 };
 use std::alloc::{AllocError, Global};
 use std::process::Abort;
@@ -91,7 +91,7 @@ fn check_part(
     check_element(rt, Element::Word(operand), wanted)
 }
 
-fn param(subject: Subject, operator: Operator) -> Part {
+fn param(subject: Subject, operator: ParameterOperator) -> Part {
     Part::Param(Param {
         span: OPERAND,
         subject,
@@ -111,10 +111,10 @@ fn redirect(alloc: Global) -> Result<Redirect, AllocError> {
 #[test]
 fn straight_commands(rt: HostRuntime) -> Result<(), Fail> {
     check_part(&rt, Part::Plain(OPERAND), Ok(()))?;
-    let value = param(Subject::Name(OPERAND), Operator::Value);
+    let value = param(Subject::Name(OPERAND), ParameterOperator::Value);
     check_part(&rt, value, Ok(()))?;
     let mut inner = one(rt.alloc(), Part::Plain(OPERAND))?;
-    inner.push(param(Subject::Name(OPERAND), Operator::Value))?;
+    inner.push(param(Subject::Name(OPERAND), ParameterOperator::Value))?;
     check_part(&rt, Part::Double(OPERAND, inner), Ok(()))
 }
 
@@ -134,9 +134,9 @@ fn expansions_that_are_not_straight(rt: HostRuntime) -> Result<(), Fail> {
     let items = Items::new(rt.alloc());
     let substitution = Part::Command(CommandStyle::Paren, OPERAND, Script { items });
     check_part(&rt, substitution, Err(LATER))?;
-    let positional = param(Subject::Positional(1, OPERAND), Operator::Value);
+    let positional = param(Subject::Positional(1, OPERAND), ParameterOperator::Value);
     check_part(&rt, positional, Err(LATER))?;
-    let length = param(Subject::Name(OPERAND), Operator::Length);
+    let length = param(Subject::Name(OPERAND), ParameterOperator::Length);
     check_part(&rt, length, Err(LATER))
 }
 

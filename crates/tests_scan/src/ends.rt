@@ -48,7 +48,10 @@ const BLANKS: &[Blanks] = &[
     (b"#\\\na", false, 2),
     (b"#\\\na", true, 0),
     (b"#a\na", true, 2),
-    (b"# a\\", true, 0),
+    (b"# a\\", true, 4),
+    (b"#a\\\\\na", true, 4),
+    (b"#a\\\\\\\na", true, 0),
+    (b"#a\\ \na", true, 4),
 ];
 
 #[test]

@@ -2,7 +2,7 @@ use crate::trees::{holds, one};
 use sh_tree::limits::MAX_SCRIPT;
 use sh_tree::text::static_text;
 use sh_tree::tree::{
-    CommandStyle, Expr, Operator, Param, Part, Script, SingleStyle, Span, Subject, Word,
+    CommandStyle, Expr, Param, ParameterOperator, Part, Script, SingleStyle, Span, Subject, Word,
 };
 use sh_tree::{Boxed, Items};
 use std::alloc::{AllocError, Global};
@@ -44,7 +44,7 @@ fn parameter(span: Span) -> Param {
     Param {
         span,
         subject: Subject::Name(name),
-        operator: Operator::Value,
+        operator: ParameterOperator::Value,
     }
 }
 

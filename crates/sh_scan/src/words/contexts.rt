@@ -16,6 +16,7 @@ pub fn in_double(context: Context) -> Context
 {
     Context {
         site: Site::Double,
+        colons: false,
         ..context
     }
 }

@@ -22,6 +22,7 @@ use Rattle.sh_tree.specs.declared.token.command.Lead.{Lead}
 use Rattle.sh_tree.specs.declared.token.command.Lead.TheVariants as lead
 use Rattle.sh_tree.specs.language.Bytes.{is_in, is_blank, is_newline, is_backslash, is_digit, is_name, ends_token, run, is_first, name_length, longest, behind_joined, is_joined, joined_at}
 use Rattle.sh_tree.specs.language.Words.{ends_joined}
+use Rattle.sh_tree.specs.language.HereDocuments.{line_length}
 use Rattle.sh_tree.specs.language.Trees.{span}
 
 -- Between tokens
@@ -30,9 +31,9 @@ use Rattle.sh_tree.specs.language.Trees.{span}
 abbrev pub comment_length : List ℕ → ℕ
 comment_length cs = run (λ c. not (is_newline c)) cs
 
--- A comment in a here-document's body must not end in a backslash: the body's lines are joined before its commands are read (XCU 2.7.4).
+-- A comment in a here-document's body ends where its line does once lines are joined, which is before its commands are read (XCU 2.7.4).
 abbrev pub is_comment : Bool → List ℕ → Bool
-is_comment body cs = is_first (λ c. c == 35) cs && not (body && is_first is_backslash (drop (comment_length cs - 1) cs))
+is_comment body cs = is_first (λ c. c == 35) cs && (not body || line_length true cs == comment_length cs)
 
 -- how many bytes of blanks and line continuations stand at the front
 unfoldable pub gap_length : List ℕ → ℕ

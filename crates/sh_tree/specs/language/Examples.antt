@@ -17,7 +17,7 @@ use Rattle.sh_tree.specs.declared.tree.Expr.TheVariants as expr
 use Rattle.sh_tree.specs.declared.tree.Kind.TheVariants as kind
 use Rattle.sh_tree.specs.declared.tree.Link.TheVariants as link
 use Rattle.sh_tree.specs.declared.tree.LoopKind.TheVariants as loop
-use Rattle.sh_tree.specs.declared.tree.Operator.TheVariants as operator
+use Rattle.sh_tree.specs.declared.tree.ParameterOperator.TheVariants as operator
 use Rattle.sh_tree.specs.declared.tree.Part.{Part}
 use Rattle.sh_tree.specs.declared.tree.Part.TheVariants as part
 use Rattle.sh_tree.specs.declared.tree.Removal.TheVariants as removal

@@ -60,12 +60,12 @@ unfoldable pub has_tabbed_line : Bool → List ℕ → Bool
 has_tabbed_line begins [] = false
 has_tabbed_line begins (c ∷ cs) = (begins && is_tab c) || has_tabbed_line (is_newline c) cs
 
--- a tab stands behind a line continuation: whether `<<-` strips it is read in two ways
-unfoldable pub has_joined_tab : List ℕ → Bool
-has_joined_tab [] = false
-has_joined_tab (c ∷ []) = false
-has_joined_tab (c ∷ d ∷ cs) = if is_backslash c then (is_newline d && is_first is_tab cs) || has_joined_tab cs else has_joined_tab (d ∷ cs)
+-- A line continuation stands in the text, and behind it what this is true of. The second of two backslashes begins none.
+unfoldable pub has_joined : (List ℕ → Bool) → List ℕ → Bool
+has_joined p [] = false
+has_joined p (c ∷ []) = false
+has_joined p (c ∷ d ∷ cs) = if is_backslash c then (is_newline d && p cs) || has_joined p cs else has_joined p (d ∷ cs)
 
--- such a tab stands in the body from i to e or in its end line, up to k
+-- a tab stands behind a line continuation in the body from i to e: whether `<<-` strips it is read in two ways
 abbrev pub is_ambiguous : Mark → List ℕ → ℕ → ℕ → Bool
-is_ambiguous m b i k = m.strip && not m.quoted && has_joined_tab (slice_range b i k)
+is_ambiguous m b i e = m.strip && not m.quoted && has_joined (is_first is_tab) (slice_range b i e)

@@ -4,11 +4,11 @@ use Rattle.std.specs.Prelude.{ℕ, Bool, true, false, not, ◌&&◌, ◌||◌, L
 use Rattle.std.specs.List.{list_any, list_all}
 use Rattle.sh_tree.specs.declared.tree.Span.{Span}
 use Rattle.sh_tree.specs.declared.tree.Word.{Word}
-use Rattle.sh_tree.specs.declared.tree.Operator.{Operator, Use', Remove'}
+use Rattle.sh_tree.specs.declared.tree.ParameterOperator.{ParameterOperator, Use', Remove'}
 use Rattle.sh_tree.specs.declared.tree.Expr.{Expr, Constant, Variable, Expansion, Parenthesis', Unary', Chain', Choice', Assign', Row_of-Expr, end_of-Expr, more_of-Expr, Row_of-Expr-Chain-1-2, end_of-Expr-Chain-1-2, more_of-Expr-Chain-1-2}
 use Rattle.sh_tree.specs.declared.tree.Part.{Part, Escaped, Single, Double', Param', Arith', Row_of-Part, end_of-Part, more_of-Part}
-use Rattle.sh_tree.specs.language.Bytes.{is_newline, is_backslash, is_first}
-use Rattle.sh_tree.specs.language.HereDocuments.{Mark, has_tabbed_line}
+use Rattle.sh_tree.specs.language.Bytes.{is_newline}
+use Rattle.sh_tree.specs.language.HereDocuments.{Mark, has_joined, has_tabbed_line}
 use Rattle.sh_tree.specs.Tree.{text_of}
 use Rattle.sh_tree.specs.Words.{parts_text}
 
@@ -56,7 +56,7 @@ unfoldable mutual
   row_singles end_of-Part = []
   row_singles (more_of-Part x rest) = singles_in x ++ row_singles rest
 
-  pub operator_singles : Operator → List Span
+  pub operator_singles : ParameterOperator → List Span
   operator_singles (Use' a c s shape row) = row_singles row
   operator_singles (Remove' r s shape row) = row_singles row
   operator_singles _ = []
@@ -83,17 +83,16 @@ unfoldable pub singles : List Part → List Span
 singles [] = []
 singles (p ∷ ps) = singles_in p ++ singles ps
 
--- a backslash and a newline stand in the text
-unfoldable pub has_joined : List ℕ → Bool
-has_joined [] = false
-has_joined (c ∷ cs) = (is_backslash c && is_first is_newline cs) || has_joined cs
+-- a line continuation stands in the text
+abbrev pub is_split_text : List ℕ → Bool
+is_split_text t = has_joined (λ rest. true) t
 
 -- A here-document's lines are joined before its commands are read, but a reader of quotes keeps them: no single quotes in a body hold a continuation.
 unfoldable pub keeps_lines : List ℕ → Bool → List Part → Bool
-keeps_lines b body ps = not body || list_all (λ s. not (has_joined (text_of b s))) (singles ps)
+keeps_lines b body ps = not body || list_all (λ s. not (is_split_text (text_of b s))) (singles ps)
 
 -- So are those of a here-document in such a body, but a quoted delimiter keeps its lines: they hold no continuation there. And where tabs are stripped around
--- it they are stripped from its lines too, but only `<<-` says so: no other's lines begin with one. The lines are those from the body's first to the end line.
+-- it they are stripped from its lines too, but only `<<-` says so: no other's lines begin with one. The lines are those from the body's first to the end line, whose newline counts too.
 unfoldable pub keeps_document : List ℕ → Bool → Bool → Mark → Span → Bool
 keeps_document b body tabs m s =
-    (not (body && m.quoted) || not (has_joined (text_of b s))) && (not tabs || m.strip || not (has_tabbed_line true (text_of b s)))
+    (not (body && m.quoted) || not (is_split_text (text_of b s))) && (not tabs || m.strip || not (has_tabbed_line true (text_of b s)))

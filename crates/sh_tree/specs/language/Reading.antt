@@ -30,7 +30,7 @@ use Rattle.sh_tree.specs.declared.tree.CommandStyle.TheVariants.{Paren}
 use Rattle.sh_tree.specs.declared.tree.Subject.{Subject}
 use Rattle.sh_tree.specs.declared.tree.Action.{Action}
 use Rattle.sh_tree.specs.declared.tree.Removal.{Removal}
-use Rattle.sh_tree.specs.declared.tree.Operator.TheVariants as operator
+use Rattle.sh_tree.specs.declared.tree.ParameterOperator.TheVariants as operator
 use Rattle.sh_tree.specs.declared.tree.Binary.{Binary}
 use Rattle.sh_tree.specs.declared.tree.Unary.{Unary}
 use Rattle.sh_tree.specs.declared.tree.Expr.{Expr}
@@ -245,7 +245,7 @@ module _ (limit : ℕ) where
     pub data ReadsDocuments : List ℕ → List Mark → State → State → Type 0 where
       no_body : {b : List ℕ} {s : State} → ReadsDocuments b [] s s
       more_bodies : {b : List ℕ} {s v : State} {u : Spot} {m : Mark} {ms : List Mark} {l : Span} {ps : List Part} → end_line m b s.spot.at ≡ Some l
-          → is_ambiguous m b s.spot.at l.end ≡ false → keeps_document b s.spot.body s.spot.tabs m (span s.spot.at l.end) ≡ true → ReadsParts (take l.start b) (in_document_of m) 10 (in_document m s) u ps
+          → is_ambiguous m b s.spot.at l.start ≡ false → keeps_document b s.spot.body s.spot.tabs m (span s.spot.at (behind_line b l.end)) ≡ true → ReadsParts (take l.start b) (in_document_of m) 10 (in_document m s) u ps
           → keeps_lines b (not m.quoted) ps ≡ true
           → ReadsDocuments b ms (with_document (behind_line b l.end) (record { text = tree.word s.spot.at l.start ps; end = l }) u s) v
           → ReadsDocuments b (m ∷ ms) s v

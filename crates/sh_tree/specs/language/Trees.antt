@@ -19,7 +19,7 @@ use Rattle.sh_tree.specs.declared.tree.Word.{Word}
 use Rattle.sh_tree.specs.declared.tree.Part.{Part}
 use Rattle.sh_tree.specs.declared.tree.Part.TheVariants as part
 use Rattle.sh_tree.specs.declared.tree.Subject.{Subject}
-use Rattle.sh_tree.specs.declared.tree.Operator.{Operator}
+use Rattle.sh_tree.specs.declared.tree.ParameterOperator.{ParameterOperator}
 use Rattle.sh_tree.specs.declared.tree.Binary.{Binary}
 use Rattle.sh_tree.specs.declared.tree.Expr.{Expr}
 use Rattle.sh_tree.specs.declared.tree.Expr.TheVariants as expr
@@ -31,7 +31,7 @@ abbrev pub word : ℕ → ℕ → List Part → Word
 word i j parts = record { span = span i j; parts = parts }
 
 -- the expansion from i to j
-abbrev pub param : ℕ → ℕ → Subject → Operator → Part
+abbrev pub param : ℕ → ℕ → Subject → ParameterOperator → Part
 param i j subject operator = part.Param (record { span = span i j; subject = subject; operator = operator })
 
 -- an operand, and the operators of one level with theirs

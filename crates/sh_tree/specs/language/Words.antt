@@ -337,9 +337,9 @@ token b x prior i = let found = sign_of x prior i (drop i b) in record { sign = 
 
 -- Contexts
 
--- inside the double quotes that open here
+-- inside the double quotes that open here, where a colon is quoted
 abbrev pub in_double : Context → Context
-in_double x = record x { site = Double }
+in_double x = record x { site = Double; colons = false }
 
 abbrev pub is_alternative : Action → Bool
 is_alternative action.Alternative = true
@@ -353,6 +353,6 @@ in_use x a i = record x { site = if is_quoted x.site then QuotedBraced else Brac
 abbrev pub in_removal : Context → ℕ → Context
 in_removal x i = record x { site = Braced; origin = i; fields = false }
 
--- around an expansion that is an operand of arithmetic
+-- around an expansion that is an operand of arithmetic, which is read as in double quotes
 abbrev pub in_arithmetic : Context → Context
-in_arithmetic x = record x { site = Double; fields = false }
+in_arithmetic x = record (in_double x) { fields = false }

@@ -9,7 +9,7 @@ use Rattle.sh_tree.specs.declared.tree.Element.{Assignment', Word', Redirection'
 use Rattle.sh_tree.specs.declared.tree.Expr.{Expr, Constant, Variable, Expansion, Parenthesis', Unary', Chain', Choice', Assign', Row_of-Expr, end_of-Expr, more_of-Expr, Row_of-Expr-Chain-1-2, end_of-Expr-Chain-1-2, more_of-Expr-Chain-1-2}
 use Rattle.sh_tree.specs.declared.tree.Item.{Item'}
 use Rattle.sh_tree.specs.declared.tree.Kind.{Kind, Simple', Group, Subshell, Cond', Loop, For', Branches', Define', Row_of-Element, end_of-Element, more_of-Element, Row_of-Branch, end_of-Branch, more_of-Branch, Row_of-Word, end_of-Word, more_of-Word, Row_of-Clause, end_of-Clause, more_of-Clause, Held-Kind-Cond-1, Kind-Cond-1-None', Kind-Cond-1-Some', Held-Kind-For-1, Kind-For-1-None', Kind-For-1-Some'}
-use Rattle.sh_tree.specs.declared.tree.Operator.{Operator, Value, Length, Use', Remove'}
+use Rattle.sh_tree.specs.declared.tree.ParameterOperator.{ParameterOperator, Value, Length, Use', Remove'}
 use Rattle.sh_tree.specs.declared.tree.Part.{Part, Plain, Escaped, Single, Double', Param', Arith', Tilde, Joined, Row_of-Part, end_of-Part, more_of-Part}
 use Rattle.sh_tree.specs.declared.tree.Part.TheVariants as part
 use Rattle.sh_tree.specs.declared.tree.Pipe.{Pipe, Pipe', Row_of-Command, end_of-Command, more_of-Command}
@@ -49,7 +49,7 @@ unfoldable mutual
   word_of b end_of-Part = p.no_parts
   word_of b (more_of-Part x rest) = p.more_parts (part_of b x) (word_of b rest)
 
-  pub operator_of : List ℕ → Operator → p.Operator
+  pub operator_of : List ℕ → ParameterOperator → p.Operator
   operator_of b Value = p.Value
   operator_of b Length = p.Length
   operator_of b (Use' action colon s shape row) = p.Use action colon (word_of b row)

@@ -8,9 +8,9 @@ use crate::frames::Opening;
 use sh_scan::{in_arithmetic, in_double, in_removal, in_use};
 use sh_tree::Items;
 use sh_tree::token::{Context, Sign};
-use sh_tree::tree::{Operator, Param, Part, SingleStyle, Span, Subject, Word};
+use sh_tree::tree::{Param, ParameterOperator, Part, SingleStyle, Span, Subject, Word};
 
-fn expansion(span: Span, subject: Subject, operator: Operator) -> Part
+fn expansion(span: Span, subject: Subject, operator: ParameterOperator) -> Part
     ensures { result ≡ Part.Param (record { span = span; subject = subject; operator = operator }) }
 {
     Part::Param(Param {
@@ -31,8 +31,8 @@ pub fn whole_part(sign: Sign, span: Span) -> Option<Part>
         Sign::Joined => Some(Part::Joined(span)),
         Sign::Single => Some(Part::Single(SingleStyle::Plain, span)),
         Sign::Tilde => Some(Part::Tilde(span)),
-        Sign::Value(subject) => Some(expansion(span, subject, Operator::Value)),
-        Sign::Length(subject) => Some(expansion(span, subject, Operator::Length)),
+        Sign::Value(subject) => Some(expansion(span, subject, ParameterOperator::Value)),
+        Sign::Length(subject) => Some(expansion(span, subject, ParameterOperator::Length)),
         _ => None,
     }
 }
@@ -73,7 +73,7 @@ pub fn made(opening: Opening, start: u32, inside: u32, parts: Items<Part>, end: 
                 span: pattern,
                 parts,
             };
-            let operator = Operator::Use {
+            let operator = ParameterOperator::Use {
                 action,
                 colon,
                 word,
@@ -85,7 +85,7 @@ pub fn made(opening: Opening, start: u32, inside: u32, parts: Items<Part>, end: 
                 span: pattern,
                 parts,
             };
-            let operator = Operator::Remove { removal, pattern };
+            let operator = ParameterOperator::Remove { removal, pattern };
             Some(expansion(span, subject, operator))
         }
         Opening::Arith => None,
