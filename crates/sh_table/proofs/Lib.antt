@@ -4,6 +4,7 @@ pub mod ExampleLemmas
 pub mod FieldLemmas
 pub mod FieldRowLemmas
 pub mod FormLemmas
+pub mod KeepLemmas
 pub mod OperandLemmas
 pub mod ProfileLemmas
 pub mod SteadyLemmas
