@@ -3,13 +3,12 @@
 use Rattle.std.specs.Prelude.{ℕ, ◌+◌, Bool, true, false, not, ◌&&◌, ◌||◌, List, [], ◌∷◌, ◌++◌, take, drop, codes, Option, Some, None, is_some, unwrap_or, option_map}
 use Rattle.std.specs.List.{list_any, list_all}
 use Rattle.std.specs.Str.{bytes_eq}
-use Rattle.sh_tree.specs.declared.tree.Special.TheVariants as special
 use Rattle.sh_tree.specs.program.Syntax as p
 use Rattle.sh_tree.specs.program.Syntax.{Text, Word}
 use Rattle.sh_tree.specs.program.Words.{static_of, assignment_in, words_in}
 use Rattle.sh_table.specs.Kinds.{kind_of}
 use Rattle.sh_table.specs.Surroundings.{outside, items_located}
-use Rattle.sh_table.specs.Quoting.{are_quotations, word_mentions, word_assigns, is_ifs, is_steady}
+use Rattle.sh_table.specs.Quoting.{are_quotations, word_mentions, word_assigns, is_at, is_ifs, is_steady}
 use Rattle.sh_table.specs.declared.kind.Kind.{Kind}
 use Rattle.sh_tree.specs.declared.known.KnownName.TheVariants as known
 use Rattle.sh_table.specs.declared.kind.Kind.TheVariants as kind
@@ -68,10 +67,6 @@ steady_declared w = by_form (assignment_in w)
 abbrev pub is_static : Word → Bool
 is_static w = is_some (static_of w)
 
-unfoldable pub is_every : p.Parameter → Bool
-is_every (p.Special special.At) = true
-is_every _ = false
-
 -- an operand of `getopts`: static, and not IFS
 unfoldable pub steady_operand : Word → Bool
 steady_operand w = unwrap_or (option_map (λ t. not (is_ifs t)) (static_of w)) false
@@ -79,7 +74,7 @@ steady_operand w = unwrap_or (option_map (λ t. not (is_ifs t)) (static_of w)) f
 -- the first one may also be quoted, without `$@`, so that it is one field
 unfoldable pub steady_getopts : List Word → Bool
 steady_getopts [] = true
-steady_getopts (w ∷ ws) = (steady_operand w || (not (is_static w) && are_quotations w && not (word_mentions is_every w))) && list_all steady_operand ws
+steady_getopts (w ∷ ws) = (steady_operand w || (not (is_static w) && are_quotations w && not (word_mentions is_at w))) && list_all steady_operand ws
 
 -- the operands of a utility do not let it set IFS
 unfoldable pub steady_operands : Kind → List Word → Bool

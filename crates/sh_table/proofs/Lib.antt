@@ -7,6 +7,7 @@ pub mod FormLemmas
 pub mod KeepLemmas
 pub mod OperandLemmas
 pub mod ProfileLemmas
+pub mod QuotedLemmas
 pub mod SteadyLemmas
 pub mod StepRowLemmas
 pub mod WorldLemmas

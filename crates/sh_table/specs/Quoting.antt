@@ -128,6 +128,11 @@ unfoldable mutual
 abbrev pub is_ifs : Text → Bool
 is_ifs t = bytes_eq t (codes "IFS")
 
+-- `$@`
+unfoldable pub is_at : Parameter → Bool
+is_at (Special special.At) = true
+is_at _ = false
+
 -- IFS, or `$*`, in which the first byte of IFS stands
 unfoldable pub is_about_separators : Parameter → Bool
 is_about_separators (Variable name) = is_ifs name
