@@ -1,8 +1,8 @@
 -- What an expansion keeps of a state, whatever its answers are: what stays where an answer is taken, a variable of those that the word
 -- may assign is set, and a process is started for a list that stands in the word.
-use Rattle.std.proofs.Common.{◌≡◌, ℕ, Bool, true, false, not, ◌&&◌, ◌||◌, Option, Some, None, is_some, codes, List, [], ◌∷◌, ◌++◌, ℤ, sym, ◌∙◌}
+use Rattle.std.proofs.Common.{◌≡◌, ℕ, Bool, true, false, not, ◌&&◌, ◌||◌, Option, Some, None, is_some, codes, List, [], ◌∷◌, ◌++◌, ℤ, refl, sym, ◌∙◌}
 use Rattle.std.specs.List.{list_all}
-use Rattle.std.proofs.lemmas.Bool.{or_parts, cond_both, and_parts}
+use Rattle.std.proofs.lemmas.Bool.{or_parts, or_from, cond_both, and_parts}
 use Rattle.std.proofs.lemmas.List.Folds.{list_all-append}
 use Rattle.sh_tree.specs.declared.tree.Action.{Action}
 use Rattle.sh_tree.specs.declared.tree.Action.TheVariants as action
@@ -227,3 +227,62 @@ module _ (is_one : Text → Bool) (ok : Located → Bool) (Stays : State → Typ
             let q = or_parts (expression_assigns is_one e) (operands_assign is_one rest) i in
             let r = all_parts ok (expression_located e) (operands_located rest) l in
             behind_stays (expand_inside f status e s) (expand_operands f status rest) (inside_stays e s q.0 r.0 h) (λ t k. operands_stay rest t q.1 r.1 k)
+
+-- No name, and no command, is asked for
+
+mutual
+  unfolding part_assigns word_assigns operator_assigns expression_assigns operands_assign
+
+  part_assigns_none : (x : Part) → part_assigns (λ n. false) x ≡ false
+  part_assigns_none (Double w) = word_assigns_none w
+  part_assigns_none (Expansion at x operator) = operator_assigns_none x operator
+  part_assigns_none (Arithmetic at e) = expression_assigns_none e
+  part_assigns_none x = refl
+
+  pub word_assigns_none : (w : Word) → word_assigns (λ n. false) w ≡ false
+  word_assigns_none no_parts = refl
+  word_assigns_none (more_parts x w) = or_from (part_assigns (λ n. false) x) (word_assigns (λ n. false) w) (part_assigns_none x) (word_assigns_none w)
+
+  operator_assigns_none : (x : Parameter) (operator : Operator) → operator_assigns (λ n. false) x operator ≡ false
+  operator_assigns_none (Variable name) (Use action.Assign colon w) = word_assigns_none w
+  operator_assigns_none x (Use y colon w) = word_assigns_none w
+  operator_assigns_none x (Remove removal w) = word_assigns_none w
+  operator_assigns_none x operator = refl
+
+  expression_assigns_none : (e : Expression) → expression_assigns (λ n. false) e ≡ false
+  expression_assigns_none (Expanded x) = part_assigns_none x
+  expression_assigns_none (Parenthesis e) = expression_assigns_none e
+  expression_assigns_none (Signed operator e) = expression_assigns_none e
+  expression_assigns_none (Chain e rest) = or_from (expression_assigns (λ n. false) e) (operands_assign (λ n. false) rest) (expression_assigns_none e) (operands_assign_none rest)
+  expression_assigns_none (Choice e then_one else_one) =
+      or_from (expression_assigns (λ n. false) e || expression_assigns (λ n. false) then_one) (expression_assigns (λ n. false) else_one)
+      (or_from (expression_assigns (λ n. false) e) (expression_assigns (λ n. false) then_one) (expression_assigns_none e) (expression_assigns_none then_one)) (expression_assigns_none else_one)
+  expression_assigns_none (Assigned at name operator e) = expression_assigns_none e
+  expression_assigns_none e = refl
+
+  operands_assign_none : (es : Operands) → operands_assign (λ n. false) es ≡ false
+  operands_assign_none no_operands = refl
+  operands_assign_none (more_operands operator e rest) =
+      or_from (expression_assigns (λ n. false) e) (operands_assign (λ n. false) rest) (expression_assigns_none e) (operands_assign_none rest)
+
+pub all_so : (ls : List Located) → list_all (λ (l : Located). true) ls ≡ true
+all_so [] = refl
+all_so (l ∷ ls) = all_so ls
+
+-- once a parameter that is not set was met, this stays told
+met_closed : Closed (λ n. false) (λ l. true) (λ s. s.unset ≡ true)
+met_closed = record {
+  takes = λ s h. h;
+  meets = λ s h. refl;
+  ends = λ s h. h;
+  strays = λ s h. h;
+  sets = λ s name v i h. h;
+  starts = λ s carries list l h. h;
+}
+
+module _ (f : Frame) (status : ℕ) where
+  pub part_tells : (c : Context) (x : Part) (s : State) → s.unset ≡ true → (expand_part f status c x s).state.unset ≡ true
+  part_tells c x s h = part_stays (λ n. false) (λ l. true) (λ t. t.unset ≡ true) met_closed f status c x s (part_assigns_none x) (all_so (part_located x)) h
+
+  pub word_tells : (c : Context) (w : Word) (s : State) → s.unset ≡ true → (expand f status c w s).state.unset ≡ true
+  word_tells c w s h = word_stays (λ n. false) (λ l. true) (λ t. t.unset ≡ true) met_closed f status c w s (word_assigns_none w) (all_so (word_located w)) h
