@@ -15,9 +15,9 @@ use Rattle.sh_tree.specs.program.Syntax.{Text, Parameter, Variable, Positional, 
 use Rattle.sh_table.specs.Surroundings.{Located, outside, items_located, word_located, part_located, operator_located, expression_located, operands_located}
 use Rattle.sh_table.specs.Quoting.{part_assigns, word_assigns, operator_assigns, expression_assigns, operands_assign}
 use Rattle.sh_table.specs.runs.Answers.{Given}
-use Rattle.sh_table.specs.runs.Arithmetic.{Computed, computes, answered, operated, then_computed, read_name, named, skips, read_where, stored, operated_assignment, evaluate, evaluate_rest}
-use Rattle.sh_table.specs.runs.Environment.{Environment, Frame, with_variable, copied}
-use Rattle.sh_table.specs.runs.Expansion.{Piece, Context, in_fields, in_quotes, in_one, in_default, pieces_text, is_empty_value, Outcome, gives, followed, value_of, needed, value_pieces, default_assigned, used, constant_in, behind, tilde_pieces, computed_pieces, expand_part, expand, expand_operator, expand_inside, expand_operands}
+use Rattle.sh_table.specs.runs.Arithmetic.{Computed, computes, answered, operated, then_computed, read_name, named, skips, read_where, operated_assignment, evaluate, evaluate_rest}
+use Rattle.sh_table.specs.runs.Environment.{Frame, with_variable, copied}
+use Rattle.sh_table.specs.runs.Expansion.{Context, in_quotes, in_one, in_default, pieces_text, is_empty_value, Outcome, gives, followed, value_of, needed, value_pieces, default_assigned, used, constant_in, behind, tilde_pieces, computed_pieces, expand_part, expand, expand_operator, expand_inside, expand_operands}
 use Rattle.sh_table.specs.runs.Numbers.{integer_text, is_operand, is_computed, is_zero}
 use Rattle.sh_table.specs.runs.States.{State, met, taken, ending, stray, with_environment, started}
 

@@ -9,6 +9,7 @@ pub mod OperandLemmas
 pub mod ProfileLemmas
 pub mod QuotedLemmas
 pub mod SteadyLemmas
+pub mod UnsplitLemmas
 pub mod StepRowLemmas
 pub mod WorldLemmas
 pub mod EnvironmentLemmas

@@ -1,5 +1,5 @@
 -- What quotes hold: pieces that stand as they are, and breaks where `$@` makes them.
-use Rattle.std.proofs.Common.{◌≡◌, ℕ, Bool, true, false, not, ◌&&◌, ◌||◌, if◌then◌else◌, Option, Some, None, is_some, codes, List, [], ◌∷◌, ◌++◌, refl, sym, ◌∙◌}
+use Rattle.std.proofs.Common.{◌≡◌, ℕ, Bool, true, false, not, ◌&&◌, ◌||◌, Option, Some, None, codes, List, [], ◌∷◌, ◌++◌, refl, sym, ◌∙◌}
 use Rattle.std.specs.List.{list_all}
 use Rattle.std.proofs.lemmas.Bool.{and_parts, and_from, or_parts, cond_both, false≢true}
 use Rattle.std.proofs.lemmas.List.Folds.{list_all-append}
@@ -7,11 +7,11 @@ use Rattle.sh_tree.specs.declared.tree.Action.{Action}
 use Rattle.sh_tree.specs.declared.tree.Action.TheVariants as action
 use Rattle.sh_tree.specs.declared.tree.SingleStyle.TheVariants as single
 use Rattle.sh_tree.specs.declared.tree.Special.TheVariants as special
-use Rattle.sh_tree.specs.program.Syntax.{Text, Parameter, Variable, Positional, Special, Part, Plain, Escaped, Single, Double, Expansion, Arithmetic, Substitution, Tilde, Joined, Word, no_parts, more_parts, Operator, Value, Length, Use, Remove}
+use Rattle.sh_tree.specs.program.Syntax.{Text, Parameter, Variable, Special, Part, Plain, Escaped, Single, Double, Expansion, Arithmetic, Substitution, Tilde, Joined, Word, no_parts, more_parts, Operator, Value, Length, Use, Remove}
 use Rattle.sh_table.specs.Quoting.{is_quotation, are_quotations, part_mentions, word_mentions, operator_mentions, is_at}
 use Rattle.sh_table.specs.runs.Answers.{Given}
 use Rattle.sh_table.specs.runs.Environment.{Frame}
-use Rattle.sh_table.specs.runs.Expansion.{Literal, Quoted, Unquoted, Piece, Bytes, Break, Context, in_fields, in_quotes, in_one, in_default, value_origin, quote_pieces, has_every, broken, star_pieces, at_pieces, is_empty_value, Outcome, gives, followed, value_of, needed, value_pieces, default_assigned, used, tilde_pieces, computed_pieces, expand_part, expand, expand_operator, expand_inside}
+use Rattle.sh_table.specs.runs.Expansion.{Quoted, Piece, Bytes, Break, Context, in_quotes, in_one, value_origin, quote_pieces, has_every, broken, star_pieces, at_pieces, Outcome, gives, followed, value_of, needed, value_pieces, default_assigned, used, tilde_pieces, computed_pieces, expand_part, expand, expand_operator, expand_inside}
 use Rattle.sh_table.specs.runs.States.{State, taken}
 
 -- quoted bytes; a break where those are counted too

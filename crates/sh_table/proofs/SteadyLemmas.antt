@@ -14,13 +14,13 @@ use Rattle.sh_tree.specs.declared.tree.Special as tree
 use Rattle.sh_tree.specs.declared.tree.Special.TheVariants as special
 use Rattle.sh_tree.specs.language.Bytes.{is_digit, is_in}
 use Rattle.sh_tree.specs.program.Syntax.{Text, Parameter, Variable, Positional, Special, Part, Plain, Escaped, Single, Double, Expansion, Arithmetic, Substitution, Tilde, Joined, Word, no_parts, more_parts, Operator, Value, Length, Use, Remove, Expression, Constant, Name, Expanded, Parenthesis, Signed, Chain, Choice, Assigned, Operands, no_operands, more_operands}
-use Rattle.sh_table.specs.Quoting.{is_numeric, gives_number, is_quotation, are_quotations, is_quoted_alternative, is_whole, are_whole, part_begins_pattern, word_begins_pattern, part_mentions, word_mentions, operator_mentions, expression_mentions, operands_mention, is_ifs, is_about_separators, is_steady}
+use Rattle.sh_table.specs.Quoting.{is_numeric, gives_number, is_quoted_alternative, is_whole, are_whole, part_begins_pattern, word_begins_pattern, part_mentions, word_mentions, operator_mentions, expression_mentions, operands_mention, is_ifs, is_about_separators, is_steady}
 use Rattle.sh_table.specs.Theorem.{DifferInIfs, FieldsStandSteady}
 use Rattle.sh_table.proofs.QuotedLemmas.{is_held, Held, followed_all, tilde_held, double_held, quotations_held}
 use Rattle.sh_table.specs.runs.Answers.{Given, Marked, Directory}
 use Rattle.sh_table.specs.runs.Arithmetic.{Computed, computes, answered, operated, then_computed, read_name, named, skips, read_where, stored, operated_assignment, evaluate, evaluate_rest}
 use Rattle.sh_table.specs.runs.Environment.{Environment, Frame, with_variable, put_text, blanks, separators}
-use Rattle.sh_table.specs.runs.Expansion.{Literal, Quoted, Unquoted, Piece, Bytes, Break, Context, in_fields, in_quotes, in_one, in_default, value_origin, pieces_text, quote_pieces, has_every, broken, star_pieces, at_pieces, is_empty_value, Outcome, gives, followed, special_value, value_of, needed, value_pieces, default_assigned, used, constant_in, behind, tilde_pieces, computed_pieces, expand_part, expand, expand_operator, expand_inside, expand_operands}
+use Rattle.sh_table.specs.runs.Expansion.{Literal, Quoted, Unquoted, Piece, Bytes, Break, Context, in_fields, in_quotes, in_one, in_default, value_origin, pieces_text, quote_pieces, has_every, is_empty_value, Outcome, gives, followed, special_value, value_of, needed, value_pieces, default_assigned, used, constant_in, behind, tilde_pieces, computed_pieces, expand_part, expand, expand_operator, expand_inside, expand_operands}
 use Rattle.sh_table.specs.runs.Fields.{begins_pattern, Sign, Stands, Blank, Separates, Quote, Breaks, stands, unquoted_sign, piece_signs, Scan, Before, Behind, Inside, scan, split_fields, is_unquoted, is_bracket, is_pattern, field_text, names_or, field_names, fields}
 use Rattle.sh_table.specs.runs.Numbers.{last_digits, digits, integer_text, is_operand, is_computed, is_zero}
 use Rattle.sh_table.specs.runs.States.{State, fresh, taken, ending, stray, with_environment}
@@ -362,18 +362,18 @@ is_firm Break = true
 abbrev pub Firm : List Piece → Type 0
 Firm ps = list_all is_firm ps ≡ true
 
-or_second : (b c : Bool) → b ≡ false → (b || c) ≡ true → c ≡ true
+pub or_second : (b c : Bool) → b ≡ false → (b || c) ≡ true → c ≡ true
 or_second true c k h = absurd (false≢true (sym k))
 or_second false c k h = h
 
 -- such an operator gives no number, whatever the parameter is
-use_no_number : (p : Parameter) (x : Action) (colon : Bool) (w : Word) → gives_number p (Use x colon w) ≡ false
+pub use_no_number : (p : Parameter) (x : Action) (colon : Bool) (w : Word) → gives_number p (Use x colon w) ≡ false
 unfolding gives_number
 use_no_number (Variable name) x colon w = refl
 use_no_number (Positional n) x colon w = refl
 use_no_number (Special c) x colon w = refl
 
-removal_no_number : (p : Parameter) (removal : Removal) (w : Word) → gives_number p (Remove removal w) ≡ false
+pub removal_no_number : (p : Parameter) (removal : Removal) (w : Word) → gives_number p (Remove removal w) ≡ false
 unfolding gives_number
 removal_no_number (Variable name) removal w = refl
 removal_no_number (Positional n) removal w = refl
@@ -484,7 +484,7 @@ is_kept_scan (Inside field) = list_all is_kept field
 is_kept_scan _ = true
 
 -- a numeral is no separator, where these are none
-numeral_stands : (ifs : Text) (c : ℕ) → list_any is_numeral ifs ≡ false → is_numeral c ≡ true → is_in ifs c ≡ false
+pub numeral_stands : (ifs : Text) (c : ℕ) → list_any is_numeral ifs ≡ false → is_numeral c ≡ true → is_in ifs c ≡ false
 numeral_stands [] c h n = refl
 numeral_stands (d ∷ ds) c h n =
     let p = or_parts (is_numeral d) (list_any is_numeral ds) h in
@@ -513,7 +513,7 @@ all_signs_same ifs (x ∷ ps) h k =
     let p = and_parts (is_firm x) (list_all is_firm ps) k in ap₂ (λ xs ys. xs ++ ys) (signs_same ifs x h p.0) (all_signs_same ifs ps h p.1)
 
 -- and none of them begins a pattern
-numeral_kept : (c : ℕ) → is_numeral c ≡ true → not (begins_pattern c) ≡ true
+pub numeral_kept : (c : ℕ) → is_numeral c ≡ true → not (begins_pattern c) ≡ true
 numeral_kept c h = not_from_false (begins_pattern c) (or_from (c == 42 || c == 63) (c == 91) (or_from (c == 42) (c == 63) (other 42 refl) (other 63 refl)) (other 91 refl))
   where
     other : (d : ℕ) → is_numeral d ≡ false → (c == d) ≡ false
