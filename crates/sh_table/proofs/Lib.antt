@@ -8,7 +8,9 @@ pub mod KeepLemmas
 pub mod OperandLemmas
 pub mod ProfileLemmas
 pub mod QuotedLemmas
+pub mod StaticLemmas
 pub mod SteadyLemmas
+pub mod TextLemmas
 pub mod UnsplitLemmas
 pub mod StepRowLemmas
 pub mod WorldLemmas

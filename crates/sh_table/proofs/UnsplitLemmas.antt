@@ -87,10 +87,9 @@ firm_unsplit ifs (Bytes Quoted t ∷ ps) h k l = firm_unsplit ifs ps h k l
 firm_unsplit ifs (Bytes Unquoted t ∷ ps) h k l =
     let p = and_parts (list_all is_numeral t) (list_all is_firm ps) k in
     let r = and_parts (not (length t == 0)) (list_all is_full ps) l in
-    let q = firm_unsplit ifs ps h p.1 r.1 in
-    (
+    let q = firm_unsplit ifs ps h p.1 r.1 in (
       or_from (length t == 0 || list_any (λ c. is_in ifs c || c == 92) t) (list_any (is_split ifs) ps)
-      (or_from (length t == 0) (list_any (λ c. is_in ifs c || c == 92) t) (not-true (length t == 0) r.0) (numerals_unsplit ifs t h p.0)) q.0,
+          (or_from (length t == 0) (list_any (λ c. is_in ifs c || c == 92) t) (not-true (length t == 0) r.0) (numerals_unsplit ifs t h p.0)) q.0,
       or_from (list_any begins_pattern t) (list_any holds_pattern ps) (numerals_no_pattern t p.0) q.1,
     )
 firm_unsplit ifs (Break ∷ ps) h k l = firm_unsplit ifs ps h k l
