@@ -1,1 +1,3 @@
+pub mod GoodLemmas
 pub mod QuoteLemmas
+pub mod SteadyLemmas

@@ -144,7 +144,7 @@ module _ (f : Frame) (status : ℕ) where
 -- Texts that are an assignment in form
 
 -- there is a byte behind as many
-first_below : (other : ℕ → Bool) (n : ℕ) (t : Text) → is_first other (drop n t) ≡ true → n < length t
+pub first_below : (other : ℕ → Bool) (n : ℕ) (t : Text) → is_first other (drop n t) ≡ true → n < length t
 unfolding is_first
 first_below other n [] h = absurd (false≢true (sym (ap (is_first other) (drop_none n)) ∙ h))
   where
