@@ -1,3 +1,5 @@
 pub mod GoodLemmas
+pub mod EffectLemmas
 pub mod QuoteLemmas
 pub mod SteadyLemmas
+pub mod SimpleLemmas

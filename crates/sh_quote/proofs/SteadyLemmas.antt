@@ -38,7 +38,7 @@ value_steady w h f status s l = go (static_of w) refl h
     go None e k = absurd (false≢true k)
     go (Some t) e k = subst (λ u. is_steady (Some u) ≡ true) (sym (word_writes f status in_one w t s (static_text w t e) l).text) k
 
-either_or : (b c : Bool) → (not b || c) ≡ true → b ≡ true → c ≡ true
+pub either_or : (b c : Bool) → (not b || c) ≡ true → b ≡ true → c ≡ true
 either_or true c h e = h
 either_or false c h e = absurd (false≢true e)
 

@@ -137,13 +137,13 @@ followed_full o next h m k =
     ∙ and_from (list_all is_full o.pieces) (list_all is_full (next o.state).pieces) (h (not_told o.state.unset (next o.state).state.unset (m o.state) u)) (k o.state u))
 
 -- an expansion of the word outside quotes, if there is one, is a quoted alternative
-pub is_still_part : Part → Bool
+unfoldable pub is_still_part : Part → Bool
 is_still_part (Expansion at p operator) = is_quoted_alternative operator
 is_still_part (Arithmetic at e) = false
 is_still_part (Substitution at list) = false
 is_still_part _ = true
 
-pub are_still : Word → Bool
+unfoldable pub are_still : Word → Bool
 are_still no_parts = true
 are_still (more_parts x w) = is_still_part x && are_still w
 
