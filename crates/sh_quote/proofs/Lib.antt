@@ -3,3 +3,4 @@ pub mod EffectLemmas
 pub mod QuoteLemmas
 pub mod SteadyLemmas
 pub mod SimpleLemmas
+pub mod StepLemmas
