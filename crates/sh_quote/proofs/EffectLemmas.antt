@@ -1,21 +1,21 @@
 -- What keeps an environment good, and what an expansion and a step make of it.
-use Rattle.std.proofs.Common.{◌≡◌, ℕ, zero, suc, ◌+◌, Bool, true, false, not, ◌&&◌, ◌||◌, if◌then◌else◌, Option, Some, None, is_some, List, [], ◌∷◌, ◌++◌, map, codes, bytes_eq, refl, sym, ap, subst, ◌∙◌}
-use Rattle.std.specs.List.{list_any, list_all, filter_map, cons_option}
-use Rattle.std.proofs.lemmas.Bool.{and_parts, or_parts, cond_both, false≢true, true≢false}
-use Rattle.std.proofs.lemmas.Option.{same_Some, none-some}
+use Rattle.std.proofs.Common.{◌≡◌, ℕ, ◌+◌, Bool, true, false, if◌then◌else◌, Option, Some, None, is_some, List, [], ◌∷◌, ◌++◌, codes, bytes_eq, refl, sym, subst, ◌∙◌}
+use Rattle.std.specs.List.{list_any, list_all, cons_option}
+use Rattle.std.proofs.lemmas.Bool.{and_parts, or_parts, cond_both, true≢false}
+use Rattle.std.proofs.lemmas.Option.{none-some}
 use Rattle.std.proofs.lemmas.Slice.Eq.{bytes_eq-Decides}
 use Rattle.sh_tree.specs.program.Syntax as p
 use Rattle.sh_tree.specs.program.Syntax.{Text}
 use Rattle.sh_table.specs.Quoting.{is_ifs, is_steady}
-use Rattle.sh_table.specs.Surroundings.{Located, outside, items_located}
+use Rattle.sh_table.specs.Surroundings.{outside}
 use Rattle.sh_table.specs.runs.Environment.{Environment, Frame, with_variable, with_function, put_text, showing, hiding, copied}
 use Rattle.sh_table.specs.runs.Answers.{Given, Answer}
 use Rattle.sh_table.specs.runs.Builtins.{restored, removed_either, removed_any, is_removed, removed, removed_all, unset_names, given_to, read_into, gets_option, changes_directory}
-use Rattle.sh_table.specs.runs.Expansion.{Context, Outcome, expand}
+use Rattle.sh_table.specs.runs.Expansion.{Context, expand}
 use Rattle.sh_table.specs.runs.Operands.{definition_in, definitions_in, Removal, OfVariables, OfFunctions, OfEither, OfAny}
 use Rattle.sh_table.specs.runs.States.{State, Copy, fresh}
 use Rattle.sh_table.specs.runs.Steps.{unless_ended}
-use Rattle.sh_table.specs.runs.Work.{Work, Items, Saved, Start, Shares, Copies, Effect, goes, ends, of_copies, after_expansion}
+use Rattle.sh_table.specs.runs.Work.{Work, Saved, Start, Shares, Copies, Effect, goes, ends, of_copies, after_expansion}
 use Rattle.sh_table.proofs.KeepLemmas.{Closed, word_stays}
 use Rattle.sh_quote.specs.Invariant.{steady_definition, steady_field, watched, is_good, WordGood, ItemsGood, CommandGood, SavedGood, ShownGood, WorkGood, AllWorkGood, EnvironmentGood}
 use Rattle.sh_quote.proofs.SteadyLemmas.{either_or}

@@ -6,7 +6,6 @@ use Rattle.std.proofs.lemmas.List.Folds.{list_any-append, list_all-append}
 use Rattle.std.proofs.lemmas.List.{nil_from_length}
 use Rattle.std.proofs.lemmas.Option.{none-some}
 use Rattle.sh_tree.specs.declared.known.KnownName.TheVariants as known
-use Rattle.sh_tree.specs.declared.refusal.Rule.{Rule}
 use Rattle.sh_tree.specs.declared.refusal.Rule.TheVariants as rule
 use Rattle.sh_tree.specs.declared.place.Place.{Place}
 use Rattle.sh_tree.specs.program.Syntax as p
@@ -22,12 +21,11 @@ use Rattle.sh_table.specs.Rows.{stands_for_itself, fields_stand, command_stands}
 use Rattle.sh_table.specs.Surroundings.{Surroundings, Located, outside, in_loop, in_function, items_located, command_located, kind_located, elements_located, redirect_located, redirects_located, branches_located, otherwise_located, for_words_located, words_located, clauses_located, word_located}
 use Rattle.sh_table.specs.runs.Operands as o
 use Rattle.sh_table.specs.runs.Steps.{operands_in, redirects_in, assignments_in, opened}
-use Rattle.sh_table.specs.runs.Work.{Assignments}
 use Rattle.sh_table.proofs.KeepLemmas.{all_parts, word_assigns_none}
 use Rattle.sh_facts.specs.Operands.{statics, read_names}
 use Rattle.sh_quote.specs.Places.{word_places, split_operands, split_words}
 use Rattle.sh_quote.specs.Steady.{redirect_words, value_words, for_words, pattern_words, kind_words, is_static, steady_assignment, steady_operands, steady_words, steady_kind, steady_command}
-use Rattle.sh_quote.specs.Invariant.{watched, is_good, AllGood, WordGood, WordsGood, RedirectsGood, ValueGood, ValuesGood, SplitGood, SplitWordsGood, OperandGood, OperandsGood, SteadyGetopts, Steady, BehindGood, NameGood, LeftGood, ItemsGood, CommandGood, BranchesGood, ClausesGood, ForWordsGood, KindGood}
+use Rattle.sh_quote.specs.Invariant.{watched, is_good, AllGood, WordGood, WordsGood, RedirectsGood, ValuesGood, SplitWordsGood, OperandsGood, SteadyGetopts, Steady, NameGood, LeftGood, ItemsGood, CommandGood, BranchesGood, ClausesGood, ForWordsGood, KindGood}
 
 -- Lists
 
@@ -146,8 +144,7 @@ module _ (numbers : Bool) where
         operands = rest.operands;
         redirects = rest.redirects;
         values = λ k l.
-            let b = first_assigns value (value_words (assignments_in es)) k in
-            (
+            let b = first_assigns value (value_words (assignments_in es)) k in (
               record {
                 word = record { assigns = b.0; located = a.0 };
                 steady = λ e. (and_parts (steady_assignment (name, value)) (list_all steady_assignment (assignments_in es)) (l e)).0;
@@ -230,10 +227,13 @@ module _ (numbers : Bool) where
     where
       a : (word_assigns (watched numbers) w ≡ false) × NoneAssigns (words_in ws)
       a = first_assigns w (words_in ws) h
+
       b : AllGood numbers (word_located w) × AllGood numbers (words_located ws)
       b = all_parts (is_good numbers) (word_located w) (words_located ws) l
+
       d : (stands_for_itself w ≡ true) × (list_all stands_for_itself (words_in ws) ≡ true)
       d = and_parts (stands_for_itself w) (list_all stands_for_itself (words_in ws)) s
+
       go : (v : Option Text) → static_of w ≡ v → NameGood numbers w ws
       go None e = absurd (no_name x w ws e r)
       go (Some t) e =
@@ -292,8 +292,7 @@ module _ (numbers : Bool) where
       let a = parts_assign (words_in (operands_in es) ++ redirect_words (redirects_in es)) (value_words (assignments_in es)) q.assigns in
       let b = parts_assign (words_in (operands_in es)) (redirect_words (redirects_in es)) a.0 in
       let n : Elements es = in_elements es k in
-      let s = λ (e : numbers ≡ true). and_parts (list_all steady_assignment (assignments_in es)) (steady_words (words_in (operands_in es))) (q.steady e) in
-      (
+      let s = λ (e : numbers ≡ true). and_parts (list_all steady_assignment (assignments_in es)) (steady_words (words_in (operands_in es))) (q.steady e) in (
         simple_left x (operands_in es) q.free b.0 n.operands q.stands q.places (λ e. (s e).1),
         redirects_good (redirects_in es) b.1 n.redirects,
         n.values a.1 (λ e. (s e).0),
@@ -333,8 +332,7 @@ module _ (numbers : Bool) where
       let b = all_parts (is_good numbers) (kind_located x kind) (redirects_located rs) a.1 in
       let k : Kept l = kept l a.0 in
       let s = λ (e : numbers ≡ true). and_parts (steady_kind kind) (not (list_any (word_assigns is_ifs) (redirect_words rs ++ kind_words kind))) (k.steady e) in
-      let c = parts_assign (redirect_words rs) (kind_words kind) (λ e. not-true (list_any (word_assigns is_ifs) (redirect_words rs ++ kind_words kind)) (s e).1) in
-      (
+      let c = parts_assign (redirect_words rs) (kind_words kind) (λ e. not-true (list_any (word_assigns is_ifs) (redirect_words rs ++ kind_words kind)) (s e).1) in (
         redirects_good rs c.0 b.1,
         kind_good x kind (record { places = same_places number at kind rs k.quoted; steady = λ e. (s e).0; assigns = c.1; stands = same_stands number at kind rs k.stands; free = no_rule _ (command_rule x kind) k.free }) b.0,
       )

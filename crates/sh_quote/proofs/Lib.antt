@@ -4,3 +4,4 @@ pub mod QuoteLemmas
 pub mod SteadyLemmas
 pub mod SimpleLemmas
 pub mod StepLemmas
+pub mod SplitLemmas

@@ -1,7 +1,7 @@
 -- The steps of a simple command leave all good: its words, its redirections and assignments, functions and utilities.
-use Rattle.std.proofs.Common.{◌≡◌, ◌⊎◌, inl, inr, option_map, ℕ, zero, suc, ◌==◌, ◌+◌, Bool, true, false, not, ◌&&◌, ◌||◌, if◌then◌else◌, Option, Some, None, is_some, unwrap_or, List, [], ◌∷◌, ◌++◌, map, length, codes, append_assoc, append-nil, nat_le, drop, ◌-◌, refl, sym, ap, subst, ◌∙◌}
-use Rattle.std.specs.List.{list_any, list_all, flat_map, filter_map, cons_option}
-use Rattle.std.proofs.lemmas.Bool.{and_parts, and_from, or_parts, or_from, cond_both, false≢true, true≢false, not-true}
+use Rattle.std.proofs.Common.{◌≡◌, ◌⊎◌, inl, inr, option_map, ℕ, ◌==◌, ◌+◌, Bool, true, false, not, ◌&&◌, ◌||◌, if◌then◌else◌, Option, Some, None, is_some, unwrap_or, List, [], ◌∷◌, ◌++◌, length, codes, append_assoc, append-nil, nat_le, ◌-◌, refl, sym, ap, subst, ◌∙◌}
+use Rattle.std.specs.List.{list_any, list_all, cons_option}
+use Rattle.std.proofs.lemmas.Bool.{and_parts, and_from, or_parts, or_from, cond_both, false≢true, not-true}
 use Rattle.std.proofs.lemmas.List.Folds.{list_any-append, list_all-append}
 use Rattle.std.proofs.Math.Bool.{and-false}
 use Rattle.std.proofs.lemmas.Option.{same_Some, none-some}
@@ -18,25 +18,25 @@ use Rattle.sh_table.specs.Counts.{some_gives_field}
 use Rattle.sh_table.specs.Kinds.{kind_of, is_declaration}
 use Rattle.sh_table.specs.Quoting.{is_quotation, are_quotations, word_mentions, is_at, is_whole, are_whole, word_begins_pattern, is_ifs, is_steady}
 use Rattle.sh_table.specs.Rows.{stands_for_itself}
-use Rattle.sh_table.specs.runs.Environment.{Environment, Frame, with_variable, showing, hiding, separators}
+use Rattle.sh_table.specs.runs.Environment.{Environment, Frame, showing, hiding, separators}
 use Rattle.sh_table.specs.runs.Answers.{Given, Answer}
-use Rattle.sh_table.specs.runs.Builtins.{nonzero, given_to, read_into, set_frame, shifted, restored, returned, special, special_or_end, reads, gets_option, changes_directory, utility}
+use Rattle.sh_table.specs.runs.Builtins.{nonzero, given_to, read_into, shifted, restored, returned, special, special_or_end, reads, gets_option, changes_directory, utility}
 use Rattle.sh_table.specs.runs.Expansion.{Context, in_fields, in_one, Outcome, pieces_text, expand}
 use Rattle.sh_table.specs.runs.Fields.{fields, splits}
 use Rattle.sh_table.specs.runs.Operands as o
 use Rattle.sh_table.specs.runs.States.{State, fresh}
-use Rattle.sh_table.specs.runs.Steps.{Manner, Nameless, Special, Named, named_manner, manner, opened, is_declared, word_context, word_fields, word_splits, status_behind, Preparation, ready, next_redirect, next_assignment, in_order, in_any_order, next_preparation, may_copy, unless_ended, words, failed_in, redirected, assignment, invoked, prepared, prepare, kept, seen, utility_step, unseen, call}
-use Rattle.sh_table.specs.runs.Work.{Simple, Work, Items, Links, Pipeline, Negation, Command, Words, Prepare, Utility, Call, Return, Compound, If, Then, Test, Again, ForWords, ForFields, Clauses, Patterns, Fall, Assignments, Saved, Effect, Pops, Pushes, goes, ends, after_expansion, Mark, no_loop, marked, or_nearer, nth_mark, loop_mark, broken_off, continued, return_mark}
+use Rattle.sh_table.specs.runs.Steps.{Manner, Nameless, Special, Named, named_manner, manner, opened, is_declared, word_context, word_fields, word_splits, status_behind, Preparation, ready, next_redirect, next_assignment, in_order, in_any_order, next_preparation, unless_ended, words, failed_in, redirected, assignment, invoked, prepared, prepare, kept, seen, utility_step, unseen, call}
+use Rattle.sh_table.specs.runs.Work.{Simple, Work, Command, Words, Prepare, Utility, Call, Return, Test, Again, ForFields, Assignments, Saved, Effect, goes, after_expansion, Mark, no_loop, marked, or_nearer, nth_mark, loop_mark, broken_off, continued, return_mark}
 use Rattle.sh_table.proofs.StaticLemmas.{static_fields}
-use Rattle.sh_table.proofs.SteadyLemmas.{is_numeral, steady_separators}
+use Rattle.sh_table.proofs.SteadyLemmas.{steady_separators}
 use Rattle.sh_table.proofs.TextLemmas.{quotations_one}
 use Rattle.sh_table.proofs.UnsplitLemmas.{is_still_part, are_still, still_never_splits, whole_never_splits}
 use Rattle.sh_facts.specs.Operands.{statics}
 use Rattle.sh_quote.specs.Places.{told_at, part_places, parts_places, word_places}
 use Rattle.sh_quote.specs.Steady.{is_static, steady_assignment, steady_text, steady_declared, steady_operand, steady_getopts}
-use Rattle.sh_quote.specs.Invariant.{steady_definition, steady_field, watched, WordGood, WordsGood, RedirectsGood, ValueGood, ValuesGood, SplitGood, OperandGood, OperandsGood, SteadyGetopts, Steady, FieldsGood, BehindGood, NameGood, LeftGood, CommandGood, SavedGood, ShownGood, WorkGood, AllWorkGood, EnvironmentGood}
+use Rattle.sh_quote.specs.Invariant.{steady_field, watched, WordGood, RedirectsGood, ValueGood, ValuesGood, SplitGood, OperandsGood, SteadyGetopts, Steady, FieldsGood, LeftGood, CommandGood, SavedGood, ShownGood, WorkGood, AllWorkGood, EnvironmentGood}
 use Rattle.sh_quote.proofs.EffectLemmas.{set_good, showing_good, hiding_good, restored_good, had_fits, definitions_good, unset_good, read_good, option_good, directory_good, StateGood, expands, EffectGood, goes_good, ends_good, expanded_good, either_good, unless_good}
-use Rattle.sh_quote.proofs.SteadyLemmas.{either_or, assignment_steady, text_steady, declared_steady}
+use Rattle.sh_quote.proofs.SteadyLemmas.{assignment_steady, text_steady, declared_steady}
 
 -- A word whose places are none
 
@@ -206,8 +206,10 @@ module _ (numbers : Bool) where
       where
         rest : list_all steady_operand left ≡ true
         rest = (and_parts (steady_operand w || (not (is_static w) && are_quotations w && not (word_mentions is_at w))) (list_all steady_operand left) h).1
+
         one : (t : Text) → FieldsIn in_fields ≡ t ∷ [] → SteadyGetopts numbers (FieldsIn in_fields) left
         one t q = subst (λ ts. SteadyGetopts numbers ts left) (sym q) (refl, rest)
+
         go : (steady_operand w ≡ true) ⊎ ((not (is_static w) && are_quotations w && not (word_mentions is_at w)) ≡ true) → SteadyGetopts numbers (FieldsIn in_fields) left
         go (inl k) = let t = operand_static k in one t.0 (one_static t.0 t.1)
         go (inr k) =
@@ -217,10 +219,9 @@ module _ (numbers : Bool) where
             one t.0 t.1
     getopts_on (t ∷ ts) h =
         let q = and_parts (steady_operand w) (list_all steady_operand left) h.1 in
-        let u = operand_static q.0 in
-        (
+        let u = operand_static q.0 in (
           list_any-append is_ifs ts _
-          ∙ or_from (list_any is_ifs ts) _ h.0 (subst (λ us. list_any is_ifs us ≡ false) (sym (one_static u.0 u.1)) (or_from (is_ifs u.0) false u.2 refl)),
+              ∙ or_from (list_any is_ifs ts) _ h.0 (subst (λ us. list_any is_ifs us ≡ false) (sym (one_static u.0 u.1)) (or_from (is_ifs u.0) false u.2 refl)),
           q.1,
         )
 

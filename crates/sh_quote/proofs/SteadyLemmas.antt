@@ -1,7 +1,6 @@
 -- IFS stays steady where the rules ask it: the values that assignments and declarations give it, and what an expansion sets.
-use Rattle.std.proofs.Common.{◌≡◌, ℕ, zero, suc, ◌+◌, ◌==◌, ◌<◌, Bool, true, false, not, ◌&&◌, ◌||◌, if◌then◌else◌, Option, Some, None, is_some, unwrap_or, option_map, List, [], ◌∷◌, ◌++◌, length, take, drop, codes, bytes_eq, append_assoc, append-nil, arith, refl, sym, ap, ap₂, subst, ◌∙◌, eqb-true, length-take-le}
-use Rattle.std.specs.List.{list_any, list_all, flat_map}
-use Rattle.std.proofs.lemmas.Bool.{and_parts, and_from, or_parts, or_from, or_left, false≢true, true≢false, not-true, false_from_ne_true}
+use Rattle.std.proofs.Common.{◌≡◌, ℕ, ◌+◌, ◌==◌, ◌<◌, Bool, true, false, not, ◌||◌, if◌then◌else◌, Option, Some, None, unwrap_or, option_map, List, [], ◌∷◌, ◌++◌, length, take, drop, codes, bytes_eq, arith, refl, sym, ap, ap₂, subst, ◌∙◌, eqb-true, length-take-le}
+use Rattle.std.proofs.lemmas.Bool.{and_parts, false≢true, true≢false}
 use Rattle.std.proofs.lemmas.Option.{same_Some, none-some}
 use Rattle.std.proofs.lemmas.Slice.Eq.{bytes_eq-Decides}
 use Rattle.sh_tree.specs.language.Bytes.{is_first, name_length}
@@ -9,19 +8,15 @@ use Rattle.sh_tree.specs.language.Commands.{is_assignment}
 use Rattle.sh_tree.specs.program.Syntax as p
 use Rattle.sh_tree.specs.program.Syntax.{Text}
 use Rattle.sh_tree.specs.program.Words.{part_text, word_text, static_of, before_word, assignment_in}
-use Rattle.sh_tree.specs.Words.{joined}
-use Rattle.sh_table.specs.Quoting.{is_ifs, is_steady, word_assigns}
-use Rattle.sh_table.specs.Surroundings.{Located, outside, items_located, word_located}
-use Rattle.sh_table.specs.runs.Environment.{Environment, Frame, with_variable, with_function, put_text, showing, hiding, copied}
-use Rattle.sh_table.specs.runs.Answers.{Given}
-use Rattle.sh_table.specs.runs.Expansion.{Literal, Piece, Bytes, Context, in_one, piece_text, pieces_text, Outcome, gives, followed, expand_part, expand}
-use Rattle.sh_table.specs.runs.Operands.{definition_in, definitions_in}
-use Rattle.sh_table.specs.runs.States.{State, Copy, fresh}
-use Rattle.sh_table.proofs.KeepLemmas.{Closed, word_stays}
+use Rattle.sh_table.specs.Quoting.{is_ifs, is_steady}
+use Rattle.sh_table.specs.runs.Environment.{Frame}
+use Rattle.sh_table.specs.runs.Expansion.{Literal, Piece, Bytes, in_one, piece_text, pieces_text, Outcome, gives, followed, expand_part, expand}
+use Rattle.sh_table.specs.runs.Operands.{definition_in}
+use Rattle.sh_table.specs.runs.States.{State}
 use Rattle.sh_table.proofs.StaticLemmas.{Joins, joined_some, unless}
-use Rattle.sh_table.proofs.TextLemmas.{Writes, word_writes, Assigns, assignment_front, first_below}
-use Rattle.sh_quote.specs.Steady.{steady_value, steady_assignment, ifs_and_equals, steady_text, steady_declared}
-use Rattle.sh_quote.specs.Invariant.{steady_definition, steady_field, watched, is_good, AllGood, WordGood, ItemsGood, CommandGood, SavedGood, ShownGood, EnvironmentGood}
+use Rattle.sh_table.proofs.TextLemmas.{word_writes, Assigns, assignment_front, first_below}
+use Rattle.sh_quote.specs.Steady.{steady_value, steady_assignment, ifs_and_equals, steady_text}
+use Rattle.sh_quote.specs.Invariant.{steady_definition, steady_field}
 
 -- Values
 
@@ -69,6 +64,7 @@ text_steady t h = go (is_assignment t) refl
   where
     n : ℕ
     n = name_length t
+
     named : is_first (λ c. c == 61) (drop n t) ≡ true → is_ifs (take n t) ≡ true → is_steady (Some (drop (n + 1) t)) ≡ true
     named k e =
         let below : n < length t = first_below (λ c. c == 61) n t k in
@@ -79,6 +75,7 @@ text_steady t h = go (is_assignment t) refl
         front_of t (codes "IFS") refl (subst (λ k. take k t ≡ codes "IFS") three same) (subst (λ j. is_first (λ c. c == 61) (drop j t) ≡ true) three k) in
         subst (λ j. is_steady (Some (drop (j + 1) t)) ≡ true) (sym three)
         (either_or (bytes_eq (take 4 t) ifs_and_equals) (is_steady (Some (drop 4 t))) h ((bytes_eq-Decides (take 4 t) ifs_and_equals).1 front))
+
     go : (b : Bool) → is_assignment t ≡ b → steady_definition (if b then Some (take n t, drop (n + 1) t) else None) ≡ true
     go true e = or_either (is_ifs (take n t)) (is_steady (Some (drop (n + 1) t))) (named (and_parts (not (n == 0)) (is_first (λ c. c == 61) (drop n t)) e).1)
     go false e = refl

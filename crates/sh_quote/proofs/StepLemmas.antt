@@ -1,6 +1,5 @@
 -- Each step of a process leaves all good: lists, pipelines and compound commands, and with them every piece of work.
-use Rattle.std.proofs.Common.{◌≡◌, ℕ, zero, suc, ◌==◌, ◌+◌, Bool, true, false, not, ◌&&◌, ◌||◌, if◌then◌else◌, Option, Some, None, List, [], ◌∷◌, ◌++◌, refl, sym, ap, subst, ◌∙◌}
-use Rattle.std.specs.List.{list_all}
+use Rattle.std.proofs.Common.{◌≡◌, ℕ, zero, suc, ◌==◌, Bool, true, false, ◌||◌, if◌then◌else◌, Some, List, [], ◌∷◌, ◌++◌, refl, subst}
 use Rattle.std.proofs.lemmas.Bool.{cond_both}
 use Rattle.std.proofs.lemmas.Option.{same_Some}
 use Rattle.sh_tree.specs.declared.tree.ClauseEnd.{ClauseEnd}
@@ -9,16 +8,16 @@ use Rattle.sh_tree.specs.declared.tree.LoopKind.{LoopKind}
 use Rattle.sh_tree.specs.program.Syntax as p
 use Rattle.sh_tree.specs.program.Syntax.{Text}
 use Rattle.sh_tree.specs.program.Words.{is_plainly}
-use Rattle.sh_table.specs.Surroundings.{Surroundings, outside, in_part, in_item, items_located, list_located, links_located, pipeline_located, commands_located, command_located, branches_located, otherwise_located, clauses_located}
-use Rattle.sh_table.specs.runs.Environment.{Environment, Frame, with_variable, with_function, copied}
+use Rattle.sh_table.specs.Surroundings.{Surroundings, outside, in_part, in_item, items_located, list_located, links_located, pipeline_located, commands_located, command_located, branches_located, otherwise_located}
+use Rattle.sh_table.specs.runs.Environment.{Environment, Frame, copied}
 use Rattle.sh_table.specs.runs.Answers.{Answer}
-use Rattle.sh_table.specs.runs.Builtins.{nonzero, returned}
+use Rattle.sh_table.specs.runs.Builtins.{nonzero}
 use Rattle.sh_table.specs.runs.Expansion.{in_fields, in_one, Outcome, expand}
-use Rattle.sh_table.specs.runs.States.{State, fresh}
-use Rattle.sh_table.specs.runs.Steps.{opened, word_fields, word_splits, status_behind, picked, takes_link, takes_turn, and_or_work, simple_work, command_work, unless_ended, negated_work, parts, piped, items, links, failed_before, redirected_before, over_fields, over_words, begun, is_started_first, in_process, compound, branch, test, for_words, for_fields, fall, clause_list, falls, clauses, matched, patterns, manner, act_on, act}
-use Rattle.sh_table.specs.runs.Work.{Simple, Work, Items, Links, Pipeline, Negation, Command, Words, Prepare, Utility, Call, Return, Compound, If, Then, Test, Again, ForWords, ForFields, Clauses, Patterns, Fall, Start, Shares, Copies, Effect, goes, ends, after_expansion}
+use Rattle.sh_table.specs.runs.States.{fresh}
+use Rattle.sh_table.specs.runs.Steps.{opened, word_fields, word_splits, status_behind, picked, takes_link, takes_turn, and_or_work, simple_work, command_work, unless_ended, negated_work, parts, piped, items, links, failed_before, redirected_before, over_fields, over_words, begun, is_started_first, in_process, compound, branch, test, for_words, for_fields, fall, clause_list, falls, clauses, matched, patterns, act_on}
+use Rattle.sh_table.specs.runs.Work.{Work, Items, Links, Pipeline, Negation, Command, Words, Prepare, Utility, Call, Return, Compound, If, Then, Test, Again, ForWords, ForFields, Clauses, Patterns, Fall, Start, Shares, Copies, Effect, goes, after_expansion}
 use Rattle.sh_table.proofs.KeepLemmas.{all_parts}
-use Rattle.sh_quote.specs.Invariant.{watched, is_good, AllGood, WordGood, WordsGood, RedirectsGood, ValuesGood, SplitGood, SplitWordsGood, ItemsGood, CommandGood, BranchesGood, ClausesGood, ForWordsGood, KindGood, WorkGood, AllWorkGood, EnvironmentGood}
+use Rattle.sh_quote.specs.Invariant.{watched, is_good, AllGood, WordGood, WordsGood, RedirectsGood, SplitWordsGood, ItemsGood, CommandGood, BranchesGood, ClausesGood, ForWordsGood, KindGood, WorkGood, AllWorkGood, EnvironmentGood}
 use Rattle.sh_quote.proofs.EffectLemmas.{set_good, unwatched_fits, function_good, copied_good, StateGood, expands, StartsGood, EffectGood, goes_good, ends_good, expanded_good, either_good, unless_good}
 use Rattle.sh_quote.proofs.GoodLemmas.{command_good}
 use Rattle.sh_quote.proofs.SimpleLemmas.{never_splits, words_good, prepare_good, back_good, utility_step_good, call_good}
@@ -94,7 +93,7 @@ module _ (numbers : Bool) (e : Environment) (f : Frame) (status : ℕ) (ws : Lis
       by_kind number at (p.Simple es) rs k = k.1
       by_kind number at (p.Group list) rs k = k
       by_kind number at (p.Subshell list) rs k = k
-      by_kind number at (p.Conditional branches otherwise) rs k = k
+      by_kind number at (p.Conditional bs otherwise) rs k = k
       by_kind number at (p.Loop kind condition body) rs k = k
       by_kind number at (p.For name left body) rs k = k
       by_kind number at (p.Case w cs) rs k = k

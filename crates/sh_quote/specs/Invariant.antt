@@ -1,7 +1,7 @@
 -- What stays true of every process while a script runs whose expansions are quoted: each command that is left keeps the rules, and IFS
 -- separates no numbers where the rules count on it.
 -- POSIX.1-2024, XCU 2.6.5 (field splitting), 2.9 (shell commands).
-use Rattle.std.specs.Prelude.{◌≡◌, ℕ, ◌==◌, Bool, true, false, not, ◌&&◌, ◌||◌, List, [], ◌∷◌, ◌++◌, length, codes, Option, Some, None, is_some, unwrap_or, flat_map, ◌⊎◌}
+use Rattle.std.specs.Prelude.{◌≡◌, ◌==◌, Bool, true, false, not, ◌&&◌, ◌||◌, List, [], ◌∷◌, ◌++◌, length, codes, Option, Some, None, is_some, unwrap_or, flat_map}
 use Rattle.std.specs.List.{list_any, list_all}
 use Rattle.sh_tree.specs.program.Syntax as p
 use Rattle.sh_tree.specs.program.Syntax.{Text}
@@ -14,11 +14,11 @@ use Rattle.sh_table.specs.Kinds.{kind_of, is_declaration}
 use Rattle.sh_table.specs.Profile.{refused_at}
 use Rattle.sh_table.specs.Quoting.{word_assigns, is_ifs, is_steady}
 use Rattle.sh_table.specs.Rows.{stands_for_itself, command_stands}
-use Rattle.sh_table.specs.Surroundings.{Surroundings, Located, items_located, list_located, links_located, pipeline_located, command_located, branches_located, otherwise_located, clauses_located, word_located}
+use Rattle.sh_table.specs.Surroundings.{Surroundings, Located, items_located, links_located, pipeline_located, command_located, branches_located, otherwise_located, word_located}
 use Rattle.sh_table.specs.runs.Environment.{Environment}
 use Rattle.sh_table.specs.runs.Operands as o
 use Rattle.sh_table.specs.runs.Steps.{operands_in, redirects_in, assignments_in, opened}
-use Rattle.sh_table.specs.runs.Work.{Simple, Work, Items, Links, Pipeline, Negation, Command, Words, Prepare, Utility, Call, Return, Compound, If, Then, Test, Again, ForWords, ForFields, Clauses, Patterns, Fall, Assignments, Saved}
+use Rattle.sh_table.specs.runs.Work.{Work, Items, Links, Pipeline, Negation, Command, Words, Prepare, Utility, Call, Return, Compound, If, Then, Test, Again, ForWords, ForFields, Clauses, Patterns, Fall, Assignments, Saved}
 use Rattle.sh_facts.specs.Operands.{statics}
 use Rattle.sh_quote.specs.Places.{word_places, split_words}
 use Rattle.sh_quote.specs.Steady.{is_static, steady_command, steady_assignment, steady_declared, steady_operand, steady_getopts}

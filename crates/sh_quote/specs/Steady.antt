@@ -1,6 +1,6 @@
 -- When IFS separates no numbers, whatever a script does: a look at its whole text.
 -- POSIX.1-2024, XCU 2.6.5 (field splitting), 2.15 (export, readonly), 3 (getopts, read).
-use Rattle.std.specs.Prelude.{ℕ, ◌+◌, Bool, true, false, not, ◌&&◌, ◌||◌, List, [], ◌∷◌, ◌++◌, take, drop, codes, Option, Some, None, is_some, unwrap_or, option_map}
+use Rattle.std.specs.Prelude.{Bool, true, false, not, ◌&&◌, ◌||◌, List, [], ◌∷◌, ◌++◌, take, drop, codes, Option, Some, None, is_some, unwrap_or, option_map}
 use Rattle.std.specs.List.{list_any, list_all}
 use Rattle.std.specs.Str.{bytes_eq}
 use Rattle.sh_tree.specs.program.Syntax as p

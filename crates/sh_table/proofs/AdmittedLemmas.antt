@@ -12,7 +12,7 @@ abbrev refused : ℕ → ℕ → Rule → Refused
 refused number at r = record { number = number; at = at; rule = r }
 
 -- the command breaks no rule
-abbrev is_free : Located → Bool
+abbrev pub is_free : Located → Bool
 is_free l = not (is_some (refused_at l))
 
 both : {a b : Bool} (xs ys : List Located) → a ≡ list_all is_free xs → b ≡ list_all is_free ys → (a && b) ≡ list_all is_free (xs ++ ys)
@@ -30,7 +30,7 @@ with_command x number at kind rs ls h = ap₂ (λ c d. not c && d) (sym (mapped 
 mutual
   unfolding items_admitted items_located
 
-  items_listed : (x : Surroundings) (t : p.Items) → items_admitted x t ≡ list_all is_free (items_located x t)
+  pub items_listed : (x : Surroundings) (t : p.Items) → items_admitted x t ≡ list_all is_free (items_located x t)
   items_listed x p.no_items = refl
   items_listed x (p.more_items list background rest) = both _ _ (list_listed (in_item x background) list) (items_listed x rest)
 

@@ -1,9 +1,9 @@
 -- The texts that words write: static words in every context, quoted words as one field, operands as an assignment.
-use Rattle.std.proofs.Common.{◌≡◌, ◌≢◌, ℕ, zero, suc, ◌+◌, ◌==◌, ◌<◌, cond, arith, Bool, true, false, not, ◌&&◌, ◌||◌, if◌then◌else◌, Option, Some, None, is_some, List, [], ◌∷◌, ◌++◌, map, length, take, drop, take_while, flat_map, append_assoc, append-nil, true≢false, refl, sym, ap, ap₂, subst, ◌∙◌}
+use Rattle.std.proofs.Common.{◌≡◌, ◌≢◌, ℕ, zero, suc, ◌+◌, ◌==◌, ◌<◌, cond, arith, Bool, true, false, not, ◌&&◌, ◌||◌, if◌then◌else◌, Some, List, [], ◌∷◌, ◌++◌, map, length, take, drop, append-nil, true≢false, refl, sym, ap, ap₂, subst, ◌∙◌}
 use Rattle.std.specs.List.{list_any, list_all, prefix_len}
 use Rattle.std.proofs.lemmas.Bool.{ne_eqb, and_parts, and_from, or_parts, cond_both, false≢true, or_left}
 use Rattle.std.proofs.lemmas.List.Concat.{flat_map-append}
-use Rattle.std.proofs.lemmas.List.Folds.{list_any-append, list_all-append}
+use Rattle.std.proofs.lemmas.List.Folds.{list_any-append}
 use Rattle.std.proofs.lemmas.List.Folds.{length-prefix_len, prefix_len-append}
 use Rattle.std.proofs.lemmas.List.{take-append-le, drop-append-le}
 use Rattle.std.proofs.lemmas.Option.{same_Some, none-some}
@@ -19,9 +19,8 @@ use Rattle.sh_table.specs.runs.Answers.{Marked, Directory}
 use Rattle.sh_table.specs.runs.Environment.{Frame}
 use Rattle.sh_table.specs.runs.Expansion.{Piece, Bytes, Break, Literal, Quoted, Unquoted, piece_text, pieces_text, Context, in_fields, in_quotes, Outcome, gives, followed, is_every, has_every, quote_pieces, expand_part, expand}
 use Rattle.sh_table.specs.runs.Fields.{is_unquoted, is_pattern, field_text, field_names, fields}
-use Rattle.sh_table.specs.runs.Operands.{definition_in}
 use Rattle.sh_table.specs.runs.States.{State}
-use Rattle.sh_table.proofs.QuotedLemmas.{is_held, Held, followed_all, quotations_held}
+use Rattle.sh_table.proofs.QuotedLemmas.{is_held, Held, quotations_held}
 use Rattle.sh_table.proofs.StaticLemmas.{is_standing, begins, mark, marks_of, marks, scan_before, Joins, joined_some}
 
 -- Static words

@@ -1,6 +1,6 @@
 -- Words that give fields.
 -- POSIX.1-2024, XCU 2.9.1.
-use Rattle.std.specs.Prelude.{◌≡◌, Bool, true, not, ◌||◌, is_some}
+use Rattle.std.specs.Prelude.{Bool, true, not, ◌||◌, is_some}
 use Rattle.std.specs.List.{list_all}
 use Rattle.sh_tree.specs.program.Syntax as p
 use Rattle.sh_tree.specs.program.Words.{static_of, words_in}
