@@ -1,20 +1,20 @@
 -- When IFS separates no numbers, whatever a script does: a look at its whole text.
 -- POSIX.1-2024, XCU 2.6.5 (field splitting), 2.15 (export, readonly), 3 (getopts, read).
-use Rattle.std.specs.Prelude.{ℕ, ◌+◌, Bool, true, false, not, ◌&&◌, ◌||◌, List, [], ◌∷◌, ◌++◌, take, drop, codes, Option, Some, None, is_some, unwrap_or, option_map}
+use Rattle.std.specs.Prelude.{Bool, true, false, not, ◌&&◌, ◌||◌, List, [], ◌∷◌, ◌++◌, take, drop, codes, Option, Some, None, is_some, unwrap_or, option_map}
 use Rattle.std.specs.List.{list_any, list_all}
 use Rattle.std.specs.Str.{bytes_eq}
 use Rattle.sh_tree.specs.declared.tree.Action.TheVariants as action
 use Rattle.sh_tree.specs.declared.tree.Special.TheVariants as special
 use Rattle.sh_tree.specs.program.Syntax as p
 use Rattle.sh_tree.specs.program.Syntax.{Text, Word}
-use Rattle.sh_tree.specs.program.Words.{static_of, assignment_in, words_in}
+use Rattle.sh_tree.specs.program.Words.{static_of, assignment_in, words_in, operands_in, redirects_in, assignments_in}
 use Rattle.sh_table.specs.Kinds.{kind_of}
 use Rattle.sh_table.specs.Surroundings.{outside, items_located}
 use Rattle.sh_table.specs.Quoting.{are_quotations, word_mentions, is_ifs, is_steady}
 use Rattle.sh_table.specs.declared.kind.Kind.{Kind}
 use Rattle.sh_tree.specs.declared.known.KnownName.TheVariants as known
 use Rattle.sh_table.specs.declared.kind.Kind.TheVariants as kind
-use Rattle.sh_table.specs.runs.Steps.{operands_in, redirects_in, assignments_in, opened}
+use Rattle.sh_table.specs.runs.Steps.{opened}
 use Rattle.sh_facts.specs.Operands.{read_names}
 
 -- `${IFS=w}`, and arithmetic that assigns IFS, in a word; substitutions aside
