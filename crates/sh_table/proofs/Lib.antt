@@ -6,7 +6,13 @@ pub mod FieldRowLemmas
 pub mod FormLemmas
 pub mod OperandLemmas
 pub mod ProfileLemmas
+pub mod StaticLemmas
 pub mod SteadyLemmas
 pub mod StepRowLemmas
 pub mod WorldLemmas
 pub mod EnvironmentLemmas
+pub mod ExpansionLemmas
+pub mod MarkLemmas
+pub mod LeftLemmas
+pub mod RowLemmas
+pub mod RowExampleLemmas
