@@ -1,5 +1,5 @@
 -- What keeps an environment good, and what an expansion and a step make of it.
-use Rattle.std.proofs.Common.{◌≡◌, ℕ, ◌+◌, Bool, true, false, if◌then◌else◌, Option, Some, None, is_some, List, [], ◌∷◌, ◌++◌, codes, bytes_eq, refl, sym, subst, ◌∙◌}
+use Rattle.std.proofs.Common.{◌≡◌, ℕ, ◌+◌, Bool, true, false, if◌then◌else◌, Option, Some, None, List, [], ◌∷◌, ◌++◌, codes, bytes_eq, refl, sym, subst, ◌∙◌}
 use Rattle.std.specs.List.{list_any, list_all, cons_option}
 use Rattle.std.proofs.lemmas.Bool.{and_parts, or_parts, cond_both, true≢false}
 use Rattle.std.proofs.lemmas.Option.{none-some}
@@ -10,13 +10,14 @@ use Rattle.sh_table.specs.Quoting.{is_ifs, is_steady}
 use Rattle.sh_table.specs.Surroundings.{outside}
 use Rattle.sh_table.specs.runs.Environment.{Environment, Frame, with_variable, with_function, put_text, showing, hiding, copied}
 use Rattle.sh_table.specs.runs.Answers.{Given, Answer}
-use Rattle.sh_table.specs.runs.Builtins.{restored, removed_either, removed_any, is_removed, removed, removed_all, unset_names, given_to, read_into, gets_option, changes_directory}
+use Rattle.sh_table.specs.runs.Builtins.{restored, unset_names, given_to, read_into, gets_option, changes_directory}
 use Rattle.sh_table.specs.runs.Expansion.{Context, expand}
-use Rattle.sh_table.specs.runs.Operands.{definition_in, definitions_in, Removal, OfVariables, OfFunctions, OfEither, OfAny}
+use Rattle.sh_table.specs.runs.Operands.{definition_in, definitions_in, Removal}
 use Rattle.sh_table.specs.runs.States.{State, Copy, fresh}
 use Rattle.sh_table.specs.runs.Steps.{unless_ended}
 use Rattle.sh_table.specs.runs.Work.{Work, Saved, Start, Shares, Copies, Effect, goes, ends, of_copies, after_expansion}
-use Rattle.sh_table.proofs.KeepLemmas.{Closed, word_stays}
+use Rattle.sh_table.proofs.EnvironmentLemmas.{all_removed_kept}
+use Rattle.sh_table.proofs.ExpansionLemmas.{Closed, word_stays}
 use Rattle.sh_quote.specs.Invariant.{steady_definition, steady_field, watched, is_good, WordGood, ItemsGood, CommandGood, SavedGood, ShownGood, WorkGood, AllWorkGood, EnvironmentGood}
 use Rattle.sh_quote.proofs.SteadyLemmas.{either_or}
 
@@ -97,29 +98,9 @@ module _ (numbers : Bool) where
       go None d k = k
       go (Some x) d k = ((λ w. either_or (is_ifs x.0) (is_steady (Some x.1)) d (and_parts numbers (is_ifs x.0) w).1), k)
 
-  either_kept : (b : Bool) (d e : Environment) → EnvironmentGood numbers d → EnvironmentGood numbers e → EnvironmentGood numbers (if b then d else e)
-  either_kept b d e h k = cond_both b d e (EnvironmentGood numbers) (λ q. h) (λ q. k)
-
-  removed_good : (removal : Removal) (a : Answer) (n : ℕ) (e : Environment) (name : Text) → EnvironmentGood numbers e → EnvironmentGood numbers (removed removal a n e name)
-  unfolding removed removed_either removed_any
-  removed_good OfVariables a n e name h = either_kept (is_removed a n) _ e (set_good e name None h (unset_fits name)) h
-  removed_good OfFunctions a n e name h = either_kept (is_removed a n) _ e (undefined_good e name h) h
-  removed_good OfEither a n e name h =
-      either_kept (is_removed a n) _ e
-      (either_kept (is_some (e.variables name)) _ _ (set_good e name None h (unset_fits name)) (either_kept a.takes_function _ e (undefined_good e name h) h)) h
-  removed_good OfAny a n e name h =
-      let d : Environment = if a.removes_variable n then with_variable e name None else e in
-      let k : EnvironmentGood numbers d = either_kept (a.removes_variable n) _ e (set_good e name None h (unset_fits name)) h in
-      either_kept (a.removes_function n) _ d (undefined_good d name k) k
-
-  removed_all_good : (removal : Removal) (a : Answer) (n : ℕ) (e : Environment) (names : List Text) → EnvironmentGood numbers e → EnvironmentGood numbers (removed_all removal a n e names)
-  unfolding removed_all
-  removed_all_good removal a n e [] h = h
-  removed_all_good removal a n e (name ∷ names) h = removed_all_good removal a (n + 1) (removed removal a n e name) names (removed_good removal a n e name h)
-
   pub unset_good : (e : Environment) (a : Answer) (x : Removal × List Text) → EnvironmentGood numbers e → EnvironmentGood numbers (unset_names e a x)
   unfolding unset_names
-  unset_good e a x h = removed_all_good x.0 a 0 e x.1 h
+  unset_good e a x h = all_removed_kept (EnvironmentGood numbers) (λ d name k. set_good d name None k (unset_fits name)) undefined_good x.0 a 0 e x.1 h
 
   given_good : (may_stay : Bool) (e : Environment) (name : Text) (v : Option Text) → is_ifs name ≡ false → EnvironmentGood numbers e → EnvironmentGood numbers (given_to may_stay e name v)
   unfolding given_to

@@ -10,18 +10,18 @@ use Rattle.sh_tree.specs.declared.refusal.Rule.TheVariants as rule
 use Rattle.sh_tree.specs.declared.place.Place.{Place}
 use Rattle.sh_tree.specs.program.Syntax as p
 use Rattle.sh_tree.specs.program.Syntax.{Text}
-use Rattle.sh_tree.specs.program.Words.{static_of, assignment_in, words_in}
+use Rattle.sh_tree.specs.program.Words.{operands_in, redirects_in, assignments_in, static_of, assignment_in, words_in}
 use Rattle.sh_table.specs.declared.kind.Kind.{Kind}
 use Rattle.sh_table.specs.declared.kind.Kind.TheVariants as kind
 use Rattle.sh_table.specs.Counts.{some_gives_field}
 use Rattle.sh_table.specs.Kinds.{kind_of, is_declaration}
 use Rattle.sh_table.specs.Profile.{named_rule, words_rule, command_rule, refused_at}
 use Rattle.sh_table.specs.Quoting.{word_assigns, is_ifs}
-use Rattle.sh_table.specs.Rows.{stands_for_itself, fields_stand, command_stands}
+use Rattle.sh_table.specs.Rows.{text_gives_field, kind_gives_fields, command_gives_fields}
 use Rattle.sh_table.specs.Surroundings.{Surroundings, Located, outside, in_loop, in_function, items_located, command_located, kind_located, elements_located, redirect_located, redirects_located, branches_located, otherwise_located, for_words_located, words_located, clauses_located, word_located}
 use Rattle.sh_table.specs.runs.Operands as o
-use Rattle.sh_table.specs.runs.Steps.{operands_in, redirects_in, assignments_in, opened}
-use Rattle.sh_table.proofs.KeepLemmas.{all_parts, word_assigns_none}
+use Rattle.sh_table.specs.runs.Steps.{opened}
+use Rattle.sh_table.proofs.ExpansionLemmas.{each_parts, word_assigns_none}
 use Rattle.sh_facts.specs.Operands.{statics, read_names}
 use Rattle.sh_quote.specs.Places.{word_places, split_operands, split_words}
 use Rattle.sh_quote.specs.Steady.{redirect_words, value_words, for_words, pattern_words, kind_words, is_static, steady_assignment, steady_operands, steady_words, steady_kind, steady_command}
@@ -38,7 +38,7 @@ module _ (numbers : Bool) where
   record Kept (l : Located) : Type 0 where
     quoted : flat_map (word_places numbers) (split_words l.command) ≡ []
     steady : numbers ≡ true → steady_command l.command ≡ true
-    stands : command_stands l.command ≡ true
+    stands : command_gives_fields l.command ≡ true
     free : refused_at l ≡ None
 
   where_counted : (b c : Bool) → (not b || c) ≡ true → b ≡ true → c ≡ true
@@ -53,8 +53,8 @@ module _ (numbers : Bool) where
   unfolding is_good
   kept l h =
       let told : List Place = flat_map (word_places numbers) (split_words l.command) in
-      let a = and_parts (length told == 0 && (not numbers || steady_command l.command) && command_stands l.command) (not (is_some (refused_at l))) h in
-      let b = and_parts (length told == 0 && (not numbers || steady_command l.command)) (command_stands l.command) a.0 in
+      let a = and_parts (length told == 0 && (not numbers || steady_command l.command) && command_gives_fields l.command) (not (is_some (refused_at l))) h in
+      let b = and_parts (length told == 0 && (not numbers || steady_command l.command)) (command_gives_fields l.command) a.0 in
       let c = and_parts (length told == 0) (not numbers || steady_command l.command) b.0 in
       record {
         quoted = nil_from_length told (eqb-true (length told) 0 c.0);
@@ -64,7 +64,7 @@ module _ (numbers : Bool) where
       }
 
   -- and where all is kept the command is good
-  pub good_from : (l : Located) → flat_map (word_places numbers) (split_words l.command) ≡ [] → (numbers ≡ true → steady_command l.command ≡ true) → command_stands l.command ≡ true
+  pub good_from : (l : Located) → flat_map (word_places numbers) (split_words l.command) ≡ [] → (numbers ≡ true → steady_command l.command ≡ true) → command_gives_fields l.command ≡ true
       → not (is_some (refused_at l)) ≡ true → is_good numbers l ≡ true
   unfolding is_good
   good_from l q s c f = rw (q, counted numbers s, c, f) refl
@@ -101,7 +101,7 @@ module _ (numbers : Bool) where
   words_good p.no_words h k = tt
   words_good (p.more_words w ws) h k =
       let a = first_assigns w (words_in ws) h in
-      let b = all_parts (is_good numbers) (word_located w) (words_located ws) k in
+      let b = each_parts (is_good numbers) (word_located w) (words_located ws) k in
       (record { assigns = a.0; located = b.0 }, words_good ws a.1 b.1)
 
   redirect_good : (r : p.Redirect) → word_assigns (watched numbers) (opened r) ≡ false → AllGood numbers (redirect_located r) → WordGood numbers (opened r)
@@ -114,7 +114,7 @@ module _ (numbers : Bool) where
   redirects_good p.no_redirects h k = tt
   redirects_good (p.more_redirects r rs) h k =
       let a = first_assigns (opened r) (redirect_words rs) h in
-      let b = all_parts (is_good numbers) (redirect_located r) (redirects_located rs) k in
+      let b = each_parts (is_good numbers) (redirect_located r) (redirects_located rs) k in
       (redirect_good r a.0 b.0, redirects_good rs a.1 b.1)
 
   split_words_good : (ws : p.Words) → NoneAssigns (words_in ws) → flat_map (word_places numbers) (words_in ws) ≡ [] → AllGood numbers (words_located ws) → SplitWordsGood numbers ws
@@ -122,7 +122,7 @@ module _ (numbers : Bool) where
   split_words_good p.no_words h q k = tt
   split_words_good (p.more_words w ws) h q k =
       let a = first_assigns w (words_in ws) h in
-      let b = all_parts (is_good numbers) (word_located w) (words_located ws) k in
+      let b = each_parts (is_good numbers) (word_located w) (words_located ws) k in
       let c = nil_parts (word_places numbers w) (flat_map (word_places numbers) (words_in ws)) q in
       (record { word = record { assigns = a.0; located = b.0 }; quoted = c.0 }, split_words_good ws a.1 c.1 b.1)
 
@@ -138,7 +138,7 @@ module _ (numbers : Bool) where
   unfolding elements_located operands_in redirects_in assignments_in words_located redirects_located value_words ValuesGood
   in_elements p.no_elements h = record { operands = refl; redirects = refl; values = λ k l. tt }
   in_elements (p.assignment name value es) h =
-      let a = all_parts (is_good numbers) (word_located value) (elements_located es) h in
+      let a = each_parts (is_good numbers) (word_located value) (elements_located es) h in
       let rest : Elements es = in_elements es a.1 in
       record {
         operands = rest.operands;
@@ -153,7 +153,7 @@ module _ (numbers : Bool) where
             );
       }
   in_elements (p.operand w es) h =
-      let a = all_parts (is_good numbers) (word_located w) (elements_located es) h in
+      let a = each_parts (is_good numbers) (word_located w) (elements_located es) h in
       let rest : Elements es = in_elements es a.1 in
       record {
         operands = list_all-append (is_good numbers) (word_located w) (words_located (operands_in es)) ∙ and_from _ _ a.0 rest.operands;
@@ -161,7 +161,7 @@ module _ (numbers : Bool) where
         values = rest.values;
       }
   in_elements (p.redirection r es) h =
-      let a = all_parts (is_good numbers) (redirect_located r) (elements_located es) h in
+      let a = each_parts (is_good numbers) (redirect_located r) (elements_located es) h in
       let rest : Elements es = in_elements es a.1 in
       record {
         operands = rest.operands;
@@ -183,14 +183,14 @@ module _ (numbers : Bool) where
       go true k = (λ e. absurd (true≢false e), k)
       go false k = let a = nil_parts (word_places numbers w) (flat_map (word_places numbers) (filter (λ v. not (is_some (assignment_in v))) ws)) k in (λ e. a.0, a.1)
 
-  operands_good : (k : Kind) (ws : p.Words) → NoneAssigns (words_in ws) → AllGood numbers (words_located ws) → list_all stands_for_itself (words_in ws) ≡ true
+  operands_good : (k : Kind) (ws : p.Words) → NoneAssigns (words_in ws) → AllGood numbers (words_located ws) → list_all text_gives_field (words_in ws) ≡ true
       → flat_map (word_places numbers) (split_by (is_declaration k) (words_in ws)) ≡ [] → OperandsGood numbers k ws
   unfolding words_located OperandsGood words_in
   operands_good k p.no_words h l s q = tt
   operands_good k (p.more_words w ws) h l s q =
       let a = first_assigns w (words_in ws) h in
-      let b = all_parts (is_good numbers) (word_located w) (words_located ws) l in
-      let c = and_parts (stands_for_itself w) (list_all stands_for_itself (words_in ws)) s in
+      let b = each_parts (is_good numbers) (word_located w) (words_located ws) l in
+      let c = and_parts (text_gives_field w) (list_all text_gives_field (words_in ws)) s in
       let d = places_by (is_declaration k) w (words_in ws) q in
       (record { word = record { assigns = a.0; located = b.0 }; quoted = d.0; stands = c.0 }, operands_good k ws a.1 b.1 c.1 d.1)
 
@@ -214,12 +214,12 @@ module _ (numbers : Bool) where
   unfolding words_rule named_rule
   no_name x w ws e r = none-some rule.ComputedName (sym r ∙ ap (λ v. named_rule x w v (map static_of (words_in ws))) e)
 
-  stands_static : (w : p.Word) (t : Text) → static_of w ≡ Some t → stands_for_itself w ≡ true → some_gives_field w ≡ true
-  unfolding stands_for_itself
+  stands_static : (w : p.Word) (t : Text) → static_of w ≡ Some t → text_gives_field w ≡ true → some_gives_field w ≡ true
+  unfolding text_gives_field
   stands_static w t e h = subst (λ (v : Option Text). (not (is_some v) || some_gives_field w) ≡ true) e h
 
   -- the name is static, and gives a field
-  simple_left : (x : Surroundings) (ws : p.Words) → words_rule x ws ≡ None → NoneAssigns (words_in ws) → AllGood numbers (words_located ws) → list_all stands_for_itself (words_in ws) ≡ true
+  simple_left : (x : Surroundings) (ws : p.Words) → words_rule x ws ≡ None → NoneAssigns (words_in ws) → AllGood numbers (words_located ws) → list_all text_gives_field (words_in ws) ≡ true
       → flat_map (word_places numbers) (split_operands (words_in ws)) ≡ [] → (numbers ≡ true → steady_words (words_in ws) ≡ true) → LeftGood numbers [] ws
   unfolding words_rule LeftGood words_located words_in split_operands steady_words
   simple_left x p.no_words r h l s q c = tt
@@ -229,10 +229,10 @@ module _ (numbers : Bool) where
       a = first_assigns w (words_in ws) h
 
       b : AllGood numbers (word_located w) × AllGood numbers (words_located ws)
-      b = all_parts (is_good numbers) (word_located w) (words_located ws) l
+      b = each_parts (is_good numbers) (word_located w) (words_located ws) l
 
-      d : (stands_for_itself w ≡ true) × (list_all stands_for_itself (words_in ws) ≡ true)
-      d = and_parts (stands_for_itself w) (list_all stands_for_itself (words_in ws)) s
+      d : (text_gives_field w ≡ true) × (list_all text_gives_field (words_in ws) ≡ true)
+      d = and_parts (text_gives_field w) (list_all text_gives_field (words_in ws)) s
 
       go : (v : Option Text) → static_of w ≡ v → NameGood numbers w ws
       go None e = absurd (no_name x w ws e r)
@@ -269,8 +269,8 @@ module _ (numbers : Bool) where
   clauses_good x p.no_clauses h k = tt
   clauses_good x (p.more_clauses patterns body end rest) h k =
       let a = parts_assign (words_in patterns) (pattern_words rest) h in
-      let b = all_parts (is_good numbers) (words_located patterns ++ items_located x body) (clauses_located x rest) k in
-      let c = all_parts (is_good numbers) (words_located patterns) (items_located x body) b.0 in
+      let b = each_parts (is_good numbers) (words_located patterns ++ items_located x body) (clauses_located x rest) k in
+      let c = each_parts (is_good numbers) (words_located patterns) (items_located x body) b.0 in
       (words_good patterns a.0 c.0, (x, c.1), clauses_good x rest a.1 b.1)
 
   for_words_good : (ws : p.ForWords) → NoneAssigns (for_words ws) → flat_map (word_places numbers) (for_words ws) ≡ [] → AllGood numbers (for_words_located ws) → ForWordsGood numbers ws
@@ -283,11 +283,11 @@ module _ (numbers : Bool) where
     places : flat_map (word_places numbers) (split_words (p.command 0 0 kind p.no_redirects)) ≡ []
     steady : numbers ≡ true → steady_kind kind ≡ true
     assigns : NoneAssigns (kind_words kind)
-    stands : command_stands (p.command 0 0 kind p.no_redirects) ≡ true
+    stands : command_gives_fields (p.command 0 0 kind p.no_redirects) ≡ true
     free : command_rule x kind ≡ None
 
   kind_good : (x : Surroundings) (kind : p.Kind) → Asked x kind → AllGood numbers (kind_located x kind) → KindGood numbers kind
-  unfolding kind_located KindGood kind_words split_words steady_kind command_stands fields_stand command_rule ItemsGood CommandGood BranchesGood
+  unfolding kind_located KindGood kind_words split_words steady_kind command_gives_fields kind_gives_fields command_rule ItemsGood CommandGood BranchesGood
   kind_good x (p.Simple es) q k =
       let a = parts_assign (words_in (operands_in es) ++ redirect_words (redirects_in es)) (value_words (assignments_in es)) q.assigns in
       let b = parts_assign (words_in (operands_in es)) (redirect_words (redirects_in es)) a.0 in
@@ -299,14 +299,14 @@ module _ (numbers : Bool) where
       )
   kind_good x (p.Group list) q k = (x, k)
   kind_good x (p.Subshell list) q k = (outside, k)
-  kind_good x (p.Conditional branches otherwise) q k = let a = all_parts (is_good numbers) (branches_located x branches) (otherwise_located x otherwise) k in (x, a.0, a.1)
+  kind_good x (p.Conditional branches otherwise) q k = let a = each_parts (is_good numbers) (branches_located x branches) (otherwise_located x otherwise) k in (x, a.0, a.1)
   kind_good x (p.Loop kind condition body) q k =
-      let a = all_parts (is_good numbers) (items_located (in_loop x) condition) (items_located (in_loop x) body) k in ((in_loop x, a.0), (in_loop x, a.1))
+      let a = each_parts (is_good numbers) (items_located (in_loop x) condition) (items_located (in_loop x) body) k in ((in_loop x, a.0), (in_loop x, a.1))
   kind_good x (p.For name ws body) q k =
-      let a = all_parts (is_good numbers) (for_words_located ws) (items_located (in_loop x) body) k in
+      let a = each_parts (is_good numbers) (for_words_located ws) (items_located (in_loop x) body) k in
       (unwatched_name name q.steady, for_words_good ws q.assigns q.places a.0, (in_loop x, a.1))
   kind_good x (p.Case w cs) q k =
-      let a = all_parts (is_good numbers) (word_located w) (clauses_located x cs) k in
+      let a = each_parts (is_good numbers) (word_located w) (clauses_located x cs) k in
       let b = first_assigns w (pattern_words cs) q.assigns in
       (record { assigns = b.0; located = a.0 }, clauses_good x cs b.1 a.1)
   kind_good x (p.Define name body) q k = (in_function, k)
@@ -318,8 +318,8 @@ module _ (numbers : Bool) where
   same_places number at (p.For name ws body) rs h = h
   same_places number at kind rs h = refl
 
-  same_stands : (number at : ℕ) (kind : p.Kind) (rs : p.Redirects) → command_stands (p.command number at kind rs) ≡ true → command_stands (p.command 0 0 kind p.no_redirects) ≡ true
-  unfolding command_stands
+  same_stands : (number at : ℕ) (kind : p.Kind) (rs : p.Redirects) → command_gives_fields (p.command number at kind rs) ≡ true → command_gives_fields (p.command 0 0 kind p.no_redirects) ≡ true
+  unfolding command_gives_fields
   same_stands number at kind rs h = h
 
   -- a good command
@@ -329,7 +329,7 @@ module _ (numbers : Bool) where
   command_good x number at kind rs h =
       let l : Located = record { command = p.command number at kind rs; surroundings = x } in
       let a = and_parts (is_good numbers l) (list_all (is_good numbers) (kind_located x kind ++ redirects_located rs)) h in
-      let b = all_parts (is_good numbers) (kind_located x kind) (redirects_located rs) a.1 in
+      let b = each_parts (is_good numbers) (kind_located x kind) (redirects_located rs) a.1 in
       let k : Kept l = kept l a.0 in
       let s = λ (e : numbers ≡ true). and_parts (steady_kind kind) (not (list_any (word_assigns is_ifs) (redirect_words rs ++ kind_words kind))) (k.steady e) in
       let c = parts_assign (redirect_words rs) (kind_words kind) (λ e. not-true (list_any (word_assigns is_ifs) (redirect_words rs ++ kind_words kind)) (s e).1) in (

@@ -8,10 +8,10 @@ use Rattle.sh_table.specs.Kinds.{look_up, kind_of, is_declaration}
 use Rattle.sh_table.specs.Surroundings.{in_part, in_item, items_located}
 use Rattle.sh_table.specs.Quoting.{is_numeric, gives_number, is_quotation, are_quotations, is_quoted_alternative, part_begins_pattern, word_begins_pattern, part_mentions, word_mentions, part_assigns, word_assigns, operator_assigns, expression_assigns, operands_assign, is_at, is_steady}
 use Rattle.sh_table.specs.runs.Operands.{is_dashed, read_option, read_from}
-use Rattle.sh_table.specs.runs.Steps.{operands_in, redirects_in, assignments_in, opened}
+use Rattle.sh_table.specs.runs.Steps.{opened}
 use Rattle.sh_tree.specs.language.Bytes.{is_first, name_length}
 use Rattle.sh_tree.specs.language.Commands.{is_assignment}
-use Rattle.sh_tree.specs.program.Words.{quoted_text, part_text, word_text, part_has, word_has, is_plainly, is_pattern, static_of, words_in, before_word, assignment_in}
+use Rattle.sh_tree.specs.program.Words.{quoted_text, part_text, word_text, part_has, word_has, is_plainly, is_pattern, static_of, words_in, before_word, assignment_in, operands_in, redirects_in, assignments_in}
 
 -- what the places of a known script compute
 unfoldable pub computes : Unit {0}

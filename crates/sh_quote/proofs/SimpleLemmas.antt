@@ -11,13 +11,13 @@ use Rattle.sh_tree.specs.program.Syntax as p
 use Rattle.sh_tree.specs.program.Syntax.{Text}
 use Rattle.sh_tree.specs.Words.{is_wildcard}
 use Rattle.sh_tree.specs.language.Bytes.{is_name}
-use Rattle.sh_tree.specs.program.Words.{part_has, word_has, is_pattern, static_of, word_text, assignment_in, words_in}
+use Rattle.sh_tree.specs.program.Words.{Assignments, part_has, word_has, is_pattern, static_of, word_text, assignment_in, words_in}
 use Rattle.sh_table.specs.declared.kind.Kind.{Kind}
 use Rattle.sh_table.specs.declared.kind.Kind.TheVariants as kind
 use Rattle.sh_table.specs.Counts.{some_gives_field}
 use Rattle.sh_table.specs.Kinds.{kind_of, is_declaration}
 use Rattle.sh_table.specs.Quoting.{is_quotation, are_quotations, word_mentions, is_at, is_whole, are_whole, word_begins_pattern, is_ifs, is_steady}
-use Rattle.sh_table.specs.Rows.{stands_for_itself}
+use Rattle.sh_table.specs.Rows.{text_gives_field}
 use Rattle.sh_table.specs.runs.Environment.{Environment, Frame, showing, hiding, separators}
 use Rattle.sh_table.specs.runs.Answers.{Given, Answer}
 use Rattle.sh_table.specs.runs.Builtins.{nonzero, given_to, read_into, shifted, restored, returned, special, special_or_end, reads, gets_option, changes_directory, utility}
@@ -26,7 +26,7 @@ use Rattle.sh_table.specs.runs.Fields.{fields, splits}
 use Rattle.sh_table.specs.runs.Operands as o
 use Rattle.sh_table.specs.runs.States.{State, fresh}
 use Rattle.sh_table.specs.runs.Steps.{Manner, Nameless, Special, Named, named_manner, manner, opened, is_declared, word_context, word_fields, word_splits, status_behind, Preparation, ready, next_redirect, next_assignment, in_order, in_any_order, next_preparation, unless_ended, words, failed_in, redirected, assignment, invoked, prepared, prepare, kept, seen, utility_step, unseen, call}
-use Rattle.sh_table.specs.runs.Work.{Simple, Work, Command, Words, Prepare, Utility, Call, Return, Test, Again, ForFields, Assignments, Saved, Effect, goes, after_expansion, Mark, no_loop, marked, or_nearer, nth_mark, loop_mark, broken_off, continued, return_mark}
+use Rattle.sh_table.specs.runs.Work.{Simple, Work, Command, Words, Prepare, Utility, Call, Return, Test, Again, ForFields, Saved, Effect, goes, after_expansion, Mark, no_loop, marked, or_nearer, nth_mark, loop_mark, broken_off, continued, return_mark}
 use Rattle.sh_table.proofs.StaticLemmas.{static_fields}
 use Rattle.sh_table.proofs.SteadyLemmas.{steady_separators}
 use Rattle.sh_table.proofs.TextLemmas.{quotations_one}
@@ -110,8 +110,8 @@ module _ (numbers : Bool) where
   or_true true c h = inl refl
   or_true false c h = inr h
 
-  stands_static : (w : p.Word) (t : Text) → static_of w ≡ Some t → stands_for_itself w ≡ true → some_gives_field w ≡ true
-  unfolding stands_for_itself
+  stands_static : (w : p.Word) (t : Text) → static_of w ≡ Some t → text_gives_field w ≡ true → some_gives_field w ≡ true
+  unfolding text_gives_field
   stands_static w t e h = subst (λ (v : Option Text). (not (is_some v) || some_gives_field w) ≡ true) e h
 
   some_static : (v : Option Text) → is_some v ≡ true → (t : Text) × (v ≡ Some t)
@@ -136,7 +136,7 @@ module _ (numbers : Bool) where
   empty_static w q h n = false≢true (sym n ∙ rw (quotations_no_pattern w q, h) refl)
 
   -- the fields of a word behind these, and the words that are left behind it, keep IFS steady
-  module _ (f : Frame) (status : ℕ) (a : Answer) (e : Environment) (w : p.Word) (left : List p.Word) (stands : stands_for_itself w ≡ true) where
+  module _ (f : Frame) (status : ℕ) (a : Answer) (e : Environment) (w : p.Word) (left : List p.Word) (stands : text_gives_field w ≡ true) where
     abbrev FieldsIn : Context → List Text
     FieldsIn c = word_fields c a (expand f status c w (fresh e a.given))
 

@@ -6,7 +6,7 @@ use Rattle.std.proofs.lemmas.Option.{none-some}
 use Rattle.sh_tree.specs.program.Syntax as p
 use Rattle.sh_tree.specs.program.Syntax.{Text}
 use Rattle.sh_table.specs.Quoting.{is_steady}
-use Rattle.sh_table.specs.Rows.{command_stands}
+use Rattle.sh_table.specs.Rows.{command_gives_fields}
 use Rattle.sh_table.specs.Surroundings.{Located, outside, items_located}
 use Rattle.sh_table.specs.runs.Environment.{Environment, Frame}
 use Rattle.sh_table.specs.runs.Answers.{Answer}
@@ -31,12 +31,12 @@ module _ (numbers : Bool) where
   nil_first (x ∷ xs) ys h = cc
 
   all_good : (ls : List Located) → flat_map (λ l. flat_map (word_places numbers) (split_words l.command)) ls ≡ [] → (numbers ≡ true → list_all (λ l. steady_command l.command) ls ≡ true)
-      → list_all (λ l. command_stands l.command) ls ≡ true → list_all is_free ls ≡ true → AllGood numbers ls
+      → list_all (λ l. command_gives_fields l.command) ls ≡ true → list_all is_free ls ≡ true → AllGood numbers ls
   all_good [] q s c f = refl
   all_good (l ∷ ls) q s c f =
       let a = nil_first (flat_map (word_places numbers) (split_words l.command)) (flat_map (λ l. flat_map (word_places numbers) (split_words l.command)) ls) q in
       let b = λ (n : numbers ≡ true). and_parts (steady_command l.command) (list_all (λ l. steady_command l.command) ls) (s n) in
-      let d = and_parts (command_stands l.command) (list_all (λ l. command_stands l.command) ls) c in
+      let d = and_parts (command_gives_fields l.command) (list_all (λ l. command_gives_fields l.command) ls) c in
       let g = and_parts (is_free l) (list_all is_free ls) f in
       and_from (is_good numbers l) (list_all (is_good numbers) ls) (good_from numbers l a.0 (λ n. (b n).0) d.0 g.0) (all_good ls a.1 (λ n. (b n).1) d.1 g.1)
 

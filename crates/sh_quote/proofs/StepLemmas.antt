@@ -16,7 +16,7 @@ use Rattle.sh_table.specs.runs.Expansion.{in_fields, in_one, Outcome, expand}
 use Rattle.sh_table.specs.runs.States.{fresh}
 use Rattle.sh_table.specs.runs.Steps.{opened, word_fields, word_splits, status_behind, picked, takes_link, takes_turn, and_or_work, simple_work, command_work, unless_ended, negated_work, parts, piped, items, links, failed_before, redirected_before, over_fields, over_words, begun, is_started_first, in_process, compound, branch, test, for_words, for_fields, fall, clause_list, falls, clauses, matched, patterns, act_on}
 use Rattle.sh_table.specs.runs.Work.{Work, Items, Links, Pipeline, Negation, Command, Words, Prepare, Utility, Call, Return, Compound, If, Then, Test, Again, ForWords, ForFields, Clauses, Patterns, Fall, Start, Shares, Copies, Effect, goes, after_expansion}
-use Rattle.sh_table.proofs.KeepLemmas.{all_parts}
+use Rattle.sh_table.proofs.ExpansionLemmas.{each_parts}
 use Rattle.sh_quote.specs.Invariant.{watched, is_good, AllGood, WordGood, WordsGood, RedirectsGood, SplitWordsGood, ItemsGood, CommandGood, BranchesGood, ClausesGood, ForWordsGood, KindGood, WorkGood, AllWorkGood, EnvironmentGood}
 use Rattle.sh_quote.proofs.EffectLemmas.{set_good, unwatched_fits, function_good, copied_good, StateGood, expands, StartsGood, EffectGood, goes_good, ends_good, expanded_good, either_good, unless_good}
 use Rattle.sh_quote.proofs.GoodLemmas.{command_good}
@@ -40,12 +40,12 @@ module _ (numbers : Bool) (e : Environment) (f : Frame) (status : ℕ) (ws : Lis
   unfolding items ItemsGood items_located list_located in_item AllWorkGood WorkGood StartsGood and_or_work
   items_good p.no_items h = stay status
   items_good (p.more_items (p.and_or first ls) false left) h =
-      let b = all_parts (is_good numbers) (pipeline_located h.0 first ++ links_located h.0 ls) (items_located h.0 left) h.1 in
-      let c = all_parts (is_good numbers) (pipeline_located h.0 first) (links_located h.0 ls) b.0 in
+      let b = each_parts (is_good numbers) (pipeline_located h.0 first ++ links_located h.0 ls) (items_located h.0 left) h.1 in
+      let c = each_parts (is_good numbers) (pipeline_located h.0 first) (links_located h.0 ls) b.0 in
       goes_good numbers e f status (Pipeline first ∷ Links ls ∷ Items left ∷ ws) env ((h.0, c.0), ((h.0, c.1), ((h.0, b.1), rest)))
   items_good (p.more_items (p.and_or first ls) true left) h =
-      let b = all_parts (is_good numbers) (pipeline_located outside first ++ links_located outside ls) (items_located h.0 left) h.1 in
-      let c = all_parts (is_good numbers) (pipeline_located outside first) (links_located outside ls) b.0 in
+      let b = each_parts (is_good numbers) (pipeline_located outside first ++ links_located outside ls) (items_located h.0 left) h.1 in
+      let c = each_parts (is_good numbers) (pipeline_located outside first) (links_located outside ls) b.0 in
       let d : Environment = record e { job = true } in
       starting (goes d f 0 (Items left ∷ ws)) _
       (goes_good numbers d f 0 (Items left ∷ ws) (record { ifs = env.ifs; functions = env.functions }) ((h.0, b.1), rest))
@@ -55,14 +55,14 @@ module _ (numbers : Bool) (e : Environment) (f : Frame) (status : ℕ) (ws : Lis
   unfolding links links_located WorkGood AllWorkGood
   links_good p.no_links h = stay status
   links_good (p.more_links l q left) h =
-      let b = all_parts (is_good numbers) (pipeline_located h.0 q) (links_located h.0 left) h.1 in
+      let b = each_parts (is_good numbers) (pipeline_located h.0 q) (links_located h.0 left) h.1 in
       goes_good numbers e f status _ env (cond_both (takes_link l status) (Pipeline q ∷ Links left ∷ ws) (Links left ∷ ws) (AllWorkGood numbers) (λ k. ((h.0, b.0), ((h.0, b.1), rest))) (λ k. ((h.0, b.1), rest)))
 
   parts_good : (x : Surroundings) (n : ℕ) (cs : p.Commands) → AllGood numbers (commands_located x cs) → StartsGood numbers (parts e f status ws a n cs)
   unfolding parts commands_located StartsGood WorkGood AllWorkGood CommandGood
   parts_good x n p.no_commands h = tt
   parts_good x n (p.more_commands c cs) h =
-      let b = all_parts (is_good numbers) (command_located x c) (commands_located x cs) h in
+      let b = each_parts (is_good numbers) (command_located x c) (commands_located x cs) h in
       start_good (a.shares n) c (x, b.0) (copied (a.carries n) e) _ (copied_good numbers (a.carries n) e env) (parts_good x (suc n) cs b.1)
     where
       start_good : (s : Bool) (c : p.Command) → CommandGood numbers c → (d : Environment) (xs : List Start) → EnvironmentGood numbers d → StartsGood numbers xs
@@ -74,7 +74,7 @@ module _ (numbers : Bool) (e : Environment) (f : Frame) (status : ℕ) (ws : Lis
   unfolding piped commands_located AllWorkGood WorkGood CommandGood
   piped_good behind x p.no_commands k h = goes_good numbers e f status behind env k
   piped_good behind x (p.more_commands c p.no_commands) k h =
-      goes_good numbers e f status (Command c ∷ behind) env ((x, (all_parts (is_good numbers) (command_located x c) [] h).0), k)
+      goes_good numbers e f status (Command c ∷ behind) env ((x, (each_parts (is_good numbers) (command_located x c) [] h).0), k)
   piped_good behind x (p.more_commands c (p.more_commands d cs)) k h =
       starting (goes e f a.status behind) _ (goes_good numbers e f a.status behind env k) (parts_good x 0 (p.more_commands c (p.more_commands d cs)) h)
 
@@ -155,8 +155,8 @@ module _ (numbers : Bool) (e : Environment) (f : Frame) (status : ℕ) (ws : Lis
   branch_good n p.no_branches p.no_else h = stay 0
   branch_good n p.no_branches (p.else_of list) h = go_on status (Items list) (h.0, h.2)
   branch_good n (p.more_branches condition body left) otherwise h =
-      let b = all_parts (is_good numbers) (items_located h.0 condition ++ items_located h.0 body) (branches_located h.0 left) h.1 in
-      let c = all_parts (is_good numbers) (items_located h.0 condition) (items_located h.0 body) b.0 in
+      let b = each_parts (is_good numbers) (items_located h.0 condition ++ items_located h.0 body) (branches_located h.0 left) h.1 in
+      let c = each_parts (is_good numbers) (items_located h.0 condition) (items_located h.0 body) b.0 in
       goes_good numbers e f status (Items condition ∷ Then n body left otherwise ∷ ws) env ((h.0, c.0), (((h.0, c.1), (h.0, b.1, h.2)), rest))
 
   test_good : (n : ℕ) (kind : LoopKind) (condition body : p.Items) (last : ℕ) → ItemsGood numbers condition × ItemsGood numbers body → EffectGood numbers (test e f status ws a n kind condition body last)

@@ -5,7 +5,7 @@ use Rattle.std.specs.Prelude.{◌≡◌, ◌==◌, Bool, true, false, not, ◌&&
 use Rattle.std.specs.List.{list_any, list_all}
 use Rattle.sh_tree.specs.program.Syntax as p
 use Rattle.sh_tree.specs.program.Syntax.{Text}
-use Rattle.sh_tree.specs.program.Words.{static_of, assignment_in, words_in}
+use Rattle.sh_tree.specs.program.Words.{Assignments, operands_in, redirects_in, assignments_in, static_of, assignment_in, words_in}
 use Rattle.sh_tree.specs.declared.known.KnownName.TheVariants as known
 use Rattle.sh_table.specs.declared.kind.Kind.{Kind}
 use Rattle.sh_table.specs.declared.kind.Kind.TheVariants as kind
@@ -13,12 +13,12 @@ use Rattle.sh_table.specs.Counts.{some_gives_field}
 use Rattle.sh_table.specs.Kinds.{kind_of, is_declaration}
 use Rattle.sh_table.specs.Profile.{refused_at}
 use Rattle.sh_table.specs.Quoting.{word_assigns, is_ifs, is_steady}
-use Rattle.sh_table.specs.Rows.{stands_for_itself, command_stands}
+use Rattle.sh_table.specs.Rows.{text_gives_field, command_gives_fields}
 use Rattle.sh_table.specs.Surroundings.{Surroundings, Located, items_located, links_located, pipeline_located, command_located, branches_located, otherwise_located, word_located}
 use Rattle.sh_table.specs.runs.Environment.{Environment}
 use Rattle.sh_table.specs.runs.Operands as o
-use Rattle.sh_table.specs.runs.Steps.{operands_in, redirects_in, assignments_in, opened}
-use Rattle.sh_table.specs.runs.Work.{Work, Items, Links, Pipeline, Negation, Command, Words, Prepare, Utility, Call, Return, Compound, If, Then, Test, Again, ForWords, ForFields, Clauses, Patterns, Fall, Assignments, Saved}
+use Rattle.sh_table.specs.runs.Steps.{opened}
+use Rattle.sh_table.specs.runs.Work.{Work, Items, Links, Pipeline, Negation, Command, Words, Prepare, Utility, Call, Return, Compound, If, Then, Test, Again, ForWords, ForFields, Clauses, Patterns, Fall, Saved}
 use Rattle.sh_facts.specs.Operands.{statics}
 use Rattle.sh_quote.specs.Places.{word_places, split_words}
 use Rattle.sh_quote.specs.Steady.{is_static, steady_command, steady_assignment, steady_declared, steady_operand, steady_getopts}
@@ -42,7 +42,7 @@ module _ (numbers : Bool) where
   is_good l =
       length (flat_map (word_places numbers) (split_words l.command)) == 0
       && (not numbers || steady_command l.command)
-      && command_stands l.command
+      && command_gives_fields l.command
       && not (is_some (refused_at l))
 
   abbrev pub AllGood : List Located → Type 0
@@ -85,7 +85,7 @@ module _ (numbers : Bool) where
   pub record OperandGood (k : Kind) (w : p.Word) : Type 0 where
     pub word : WordGood w
     pub quoted : (is_declaration k && is_some (assignment_in w)) ≡ false → word_places numbers w ≡ []
-    pub stands : stands_for_itself w ≡ true
+    pub stands : text_gives_field w ≡ true
 
   unfoldable pub OperandsGood : Kind → p.Words → Type 0
   OperandsGood k p.no_words = Unit {0}

@@ -3,7 +3,7 @@
 use Rattle.std.specs.Prelude.{◌≡◌, ℕ, true, false, List, [], Some}
 use Rattle.sh_tree.specs.program.Syntax.{Text, Items}
 use Rattle.sh_table.specs.Admitted.{is_admitted}
-use Rattle.sh_table.specs.Rows.{words_stand}
+use Rattle.sh_table.specs.Rows.{gives_fields}
 use Rattle.sh_table.specs.runs.Environment.{Environment, Frame}
 use Rattle.sh_table.specs.runs.Worlds.{World, Move, run, has_unset_event, has_split_event, start_world, IsStart}
 use Rattle.sh_quote.specs.Places.{unquoted}
@@ -12,7 +12,7 @@ use Rattle.sh_quote.specs.Places.{unquoted}
 -- a policy allows a step that expands no unset parameter has no Split event.
 abbrev pub QuotingSuffices : Type 0
 QuotingSuffices =
-    (t : Items) → is_admitted t ≡ true → words_stand t ≡ true → unquoted t ≡ []
+    (t : Items) → is_admitted t ≡ true → gives_fields t ≡ true → unquoted t ≡ []
     → (names : List Text) (args : ℕ) (e : Environment) (f : Frame) → IsStart names args e f
     → (moves : List Move) (w : World) → run moves (start_world e f t) ≡ Some w
     → (m : Move) → has_unset_event w m ≡ false → has_split_event w m ≡ false

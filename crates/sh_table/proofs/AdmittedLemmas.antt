@@ -18,7 +18,7 @@ is_free l = not (is_some (refused_at l))
 both : {a b : Bool} (xs ys : List Located) → a ≡ list_all is_free xs → b ≡ list_all is_free ys → (a && b) ≡ list_all is_free (xs ++ ys)
 both xs ys h k = ap₂ (λ c d. c && d) h k ∙ sym (list_all-append is_free xs ys)
 
-mapped : {A B : Type 0} (f : A → B) (o : Option A) → is_some (option_map f o) ≡ is_some o
+pub mapped : {A B : Type 0} (f : A → B) (o : Option A) → is_some (option_map f o) ≡ is_some o
 mapped f None = refl
 mapped f (Some v) = refl
 

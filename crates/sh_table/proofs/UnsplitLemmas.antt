@@ -19,7 +19,7 @@ use Rattle.sh_table.specs.runs.Expansion.{Literal, Quoted, Unquoted, Piece, Byte
 use Rattle.sh_table.specs.runs.Fields.{is_expanded, is_split, begins_pattern, holds_pattern, splits}
 use Rattle.sh_table.specs.runs.Numbers.{last_digits, digits, integer_text}
 use Rattle.sh_table.specs.runs.States.{State, taken}
-use Rattle.sh_table.proofs.KeepLemmas.{word_tells}
+use Rattle.sh_table.proofs.ExpansionLemmas.{word_tells}
 use Rattle.sh_table.proofs.QuotedLemmas.{is_held, Held, followed_all, tilde_held, double_held, quotations_held}
 use Rattle.sh_table.proofs.SteadyLemmas.{is_numeral, is_firm, Firm, word_firm, numeral_stands, numeral_kept, or_second, use_no_number, removal_no_number}
 

@@ -21,9 +21,15 @@ use Rattle.sh_table.specs.runs.Expansion.{Context, in_quotes, in_one, in_default
 use Rattle.sh_table.specs.runs.Numbers.{integer_text, is_operand, is_computed, is_zero}
 use Rattle.sh_table.specs.runs.States.{State, met, taken, ending, stray, with_environment, started}
 
--- a list of located commands of which all are so, in two parts
-pub all_parts : (ok : Located → Bool) (xs ys : List Located) → list_all ok (xs ++ ys) ≡ true → (list_all ok xs ≡ true) × (list_all ok ys ≡ true)
-all_parts ok xs ys h = and_parts (list_all ok xs) (list_all ok ys) (sym (list_all-append ok xs ys) ∙ h)
+-- each of these commands passes the test
+abbrev pub Each : (Located → Bool) → List Located → Type 0
+Each ok ls = list_all ok ls ≡ true
+
+pub each_parts : (ok : Located → Bool) (xs ys : List Located) → Each ok (xs ++ ys) → Each ok xs × Each ok ys
+each_parts ok xs ys h = and_parts (list_all ok xs) (list_all ok ys) (sym (list_all-append ok xs ys) ∙ h)
+
+pub each_joined : (ok : Located → Bool) (xs ys : List Located) → Each ok xs → Each ok ys → Each ok (xs ++ ys)
+each_joined ok xs ys h k = rw (list_all-append ok xs ys, h, k) refl
 
 module _ (is_one : Text → Bool) (ok : Located → Bool) (Stays : State → Type 0) where
   -- what stays at each change of a state: no variable of these is set, and each list that is started has these commands alone
@@ -33,7 +39,7 @@ module _ (is_one : Text → Bool) (ok : Located → Bool) (Stays : State → Typ
     pub ends : (s : State) → Stays s → Stays (ending s)
     pub strays : (s : State) → Stays s → Stays (stray s)
     pub sets : (s : State) (name v : Text) → is_one name ≡ false → Stays s → Stays (with_environment s (with_variable s.environment name (Some v)))
-    pub starts : (s : State) (carries : Bool) (list : p.Items) → list_all ok (items_located outside list) ≡ true → Stays s
+    pub starts : (s : State) (carries : Bool) (list : p.Items) → Each ok (items_located outside list) → Stays s
         → Stays (started (record { environment = copied carries s.environment; list = list }) s)
 
   module _ (closed : Closed) where
@@ -168,7 +174,7 @@ module _ (is_one : Text → Bool) (ok : Located → Bool) (Stays : State → Typ
       mutual
         unfolding expand_part expand expand_operator expand_inside expand_operands part_assigns word_assigns operator_assigns expression_assigns operands_assign computed_pieces part_located word_located operator_located expression_located operands_located
 
-        pub part_stays : (c : Context) (x : Part) (s : State) → part_assigns is_one x ≡ false → list_all ok (part_located x) ≡ true → Stays s → Stays (expand_part f status c x s).state
+        pub part_stays : (c : Context) (x : Part) (s : State) → part_assigns is_one x ≡ false → Each ok (part_located x) → Stays s → Stays (expand_part f status c x s).state
         part_stays c (Plain t) s i l h = h
         part_stays c (Escaped t) s i l h = h
         part_stays c (Single single.Plain t) s i l h = h
@@ -182,15 +188,15 @@ module _ (is_one : Text → Bool) (ok : Located → Bool) (Stays : State → Typ
         part_stays c (Tilde at login) s i l h = tilde_stays login (s.given 0) (taken s) (closed.takes s h)
         part_stays c Joined s i l h = h
 
-        pub word_stays : (c : Context) (w : Word) (s : State) → word_assigns is_one w ≡ false → list_all ok (word_located w) ≡ true → Stays s → Stays (expand f status c w s).state
+        pub word_stays : (c : Context) (w : Word) (s : State) → word_assigns is_one w ≡ false → Each ok (word_located w) → Stays s → Stays (expand f status c w s).state
         word_stays c no_parts s i l h = h
         word_stays c (more_parts x w) s i l h =
             let q = or_parts (part_assigns is_one x) (word_assigns is_one w) i in
-            let r = all_parts ok (part_located x) (word_located w) l in
+            let r = each_parts ok (part_located x) (word_located w) l in
             followed_stays (expand_part f status c x s) (expand f status c w) (part_stays c x s q.0 r.0 h) (λ t k. word_stays c w t q.1 r.1 k)
 
         operator_stays : (c : Context) (x : Parameter) (operator : Operator) (g : Given) (v : Option Text) (s : State) → operator_assigns is_one x operator ≡ false
-            → list_all ok (operator_located operator) ≡ true → Stays s → Stays (expand_operator f status c x operator g v s).state
+            → Each ok (operator_located operator) → Stays s → Stays (expand_operator f status c x operator g v s).state
         operator_stays c x Value g v s i l h = value_stays c x v s h
         operator_stays c x Length g None s i l h = closed.meets s h
         operator_stays c x Length g (Some t) s i l h = h
@@ -201,7 +207,7 @@ module _ (is_one : Text → Bool) (ok : Located → Bool) (Stays : State → Typ
             followed_stays (gives [] (needed f status c v s).state) _ (needed_stays c v s h)
             (λ t k. followed_stays (gives [] (expand f status in_one w t).state) _ (word_stays in_one w t (in_removal x removal w i) l k) (λ u q. q))
 
-        inside_stays : (e : Expression) (s : State) → expression_assigns is_one e ≡ false → list_all ok (expression_located e) ≡ true → Stays s → Stays (expand_inside f status e s)
+        inside_stays : (e : Expression) (s : State) → expression_assigns is_one e ≡ false → Each ok (expression_located e) → Stays s → Stays (expand_inside f status e s)
         inside_stays (Constant c) s i l h = h
         inside_stays (Name at name) s i l h = h
         inside_stays (Expanded x) s i l h = constant_stays (expand_part f status (in_quotes in_one) x s) (part_stays (in_quotes in_one) x s i l h)
@@ -209,23 +215,23 @@ module _ (is_one : Text → Bool) (ok : Located → Bool) (Stays : State → Typ
         inside_stays (Signed operator e) s i l h = inside_stays e s i l h
         inside_stays (Chain e rest) s i l h =
             let q = or_parts (expression_assigns is_one e) (operands_assign is_one rest) i in
-            let r = all_parts ok (expression_located e) (operands_located rest) l in
+            let r = each_parts ok (expression_located e) (operands_located rest) l in
             behind_stays (expand_inside f status e s) (expand_operands f status rest) (inside_stays e s q.0 r.0 h) (λ t k. operands_stay rest t q.1 r.1 k)
         inside_stays (Choice e then_one else_one) s i l h =
             let q = or_parts (expression_assigns is_one e || expression_assigns is_one then_one) (expression_assigns is_one else_one) i in
             let r = or_parts (expression_assigns is_one e) (expression_assigns is_one then_one) q.0 in
-            let m = all_parts ok (expression_located e ++ expression_located then_one) (expression_located else_one) l in
-            let n = all_parts ok (expression_located e) (expression_located then_one) m.0 in
+            let m = each_parts ok (expression_located e ++ expression_located then_one) (expression_located else_one) l in
+            let n = each_parts ok (expression_located e) (expression_located then_one) m.0 in
             behind_stays (behind f status (expand_inside f status e s) (expand_inside f status then_one)) (expand_inside f status else_one)
             (behind_stays (expand_inside f status e s) (expand_inside f status then_one) (inside_stays e s r.0 n.0 h) (λ t k. inside_stays then_one t r.1 n.1 k))
             (λ t k. inside_stays else_one t q.1 m.1 k)
         inside_stays (Assigned at name operator e) s i l h = inside_stays e s (or_parts (is_one name) (expression_assigns is_one e) i).1 l h
 
-        operands_stay : (es : Operands) (s : State) → operands_assign is_one es ≡ false → list_all ok (operands_located es) ≡ true → Stays s → Stays (expand_operands f status es s)
+        operands_stay : (es : Operands) (s : State) → operands_assign is_one es ≡ false → Each ok (operands_located es) → Stays s → Stays (expand_operands f status es s)
         operands_stay no_operands s i l h = h
         operands_stay (more_operands operator e rest) s i l h =
             let q = or_parts (expression_assigns is_one e) (operands_assign is_one rest) i in
-            let r = all_parts ok (expression_located e) (operands_located rest) l in
+            let r = each_parts ok (expression_located e) (operands_located rest) l in
             behind_stays (expand_inside f status e s) (expand_operands f status rest) (inside_stays e s q.0 r.0 h) (λ t k. operands_stay rest t q.1 r.1 k)
 
 -- No name, and no command, is asked for
@@ -268,6 +274,30 @@ mutual
 pub all_so : (ls : List Located) → list_all (λ (l : Located). true) ls ≡ true
 all_so [] = refl
 all_so (l ∷ ls) = all_so ls
+
+module _ (ok : Located → Bool) (Stays : State → Type 0) where
+  -- and whatever is assigned
+  pub record Keeps : Type 0 where
+    pub met : (s : State) → Stays s → Stays (met s)
+    pub taken : (s : State) → Stays s → Stays (taken s)
+    pub ending : (s : State) → Stays s → Stays (ending s)
+    pub stray : (s : State) → Stays s → Stays (stray s)
+    pub assigned : (s : State) (name : Text) (v : Option Text) → Stays s → Stays (with_environment s (with_variable s.environment name v))
+    pub started : (s : State) (carries : Bool) (list : p.Items) → Each ok (items_located outside list) → Stays s
+        → Stays (started (record { environment = copied carries s.environment; list = list }) s)
+
+  any_assigned : Keeps → Closed (λ n. false) ok Stays
+  any_assigned kept = record {
+    takes = kept.taken;
+    meets = kept.met;
+    ends = kept.ending;
+    strays = kept.stray;
+    sets = λ s name v i h. kept.assigned s name (Some v) h;
+    starts = kept.started;
+  }
+
+  pub word_kept : Keeps → (f : Frame) (status : ℕ) (c : Context) (w : Word) (s : State) → Each ok (word_located w) → Stays s → Stays (expand f status c w s).state
+  word_kept kept f status c w s k h = word_stays (λ n. false) ok Stays (any_assigned kept) f status c w s (word_assigns_none w) k h
 
 -- once a parameter that is not set was met, this stays told
 met_closed : Closed (λ n. false) (λ l. true) (λ s. s.unset ≡ true)
