@@ -21,10 +21,9 @@ use Rattle.sh_table.specs.Counts.{is_all, part_has_all, gives_field, some_gives_
 use Rattle.sh_table.specs.Kinds.{look_up, kind_of}
 use Rattle.sh_table.specs.runs.Numbers.{is_number, number_in, last_digits}
 use Rattle.sh_table.specs.runs.Operands.{is_dashed, removal_of, unset_from, is_set_option, ends_in_o, has_command, read_option, read_from}
-use Rattle.sh_table.specs.runs.Steps.{operands_in, redirects_in, assignments_in}
 use Rattle.sh_tree.specs.language.Bytes.{is_first, name_length, decimal}
 use Rattle.sh_tree.specs.language.Commands.{is_assignment}
-use Rattle.sh_tree.specs.program.Words.{quoted_text, part_text, word_text, part_has, word_has, is_plainly, is_pattern, static_of, words_in, before_word, assignment_in}
+use Rattle.sh_tree.specs.program.Words.{quoted_text, part_text, word_text, part_has, word_has, is_plainly, is_pattern, static_of, words_in, before_word, assignment_in, operands_in, redirects_in, assignments_in}
 
 -- what the check of a known certificate computes
 unfoldable pub computes : Unit {0}

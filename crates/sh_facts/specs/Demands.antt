@@ -8,9 +8,9 @@ use Rattle.sh_tree.specs.program.Syntax as p
 use Rattle.sh_tree.specs.program.Syntax.{Text, Word}
 use Rattle.sh_table.specs.declared.kind.Kind.{Kind}
 use Rattle.sh_tree.specs.declared.known.KnownName.TheVariants as known
+use Rattle.sh_tree.specs.program.Words.{operands_in}
 use Rattle.sh_table.specs.declared.kind.Kind.TheVariants as kind
 use Rattle.sh_table.specs.runs.Environment.{is_one_of}
-use Rattle.sh_table.specs.runs.Steps.{operands_in}
 use Rattle.sh_facts.specs.Entries.{Entered, script_entered}
 use Rattle.sh_facts.specs.Facts.{Facts, Declared, facts, claims, Nowhere}
 use Rattle.sh_facts.specs.Gains.{with_gains, through, words_gains, redirects_gains}

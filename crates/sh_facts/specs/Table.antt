@@ -3,13 +3,12 @@
 use Rattle.std.specs.Prelude.{ℕ, Bool, true, false, not, ◌&&◌, if◌then◌else◌, List, [], ◌∷◌, ◌++◌, map, filter, codes, Option, Some, None}
 use Rattle.sh_tree.specs.program.Syntax as p
 use Rattle.sh_tree.specs.program.Syntax.{Text, Word}
-use Rattle.sh_tree.specs.program.Words.{static_of, words_in}
+use Rattle.sh_tree.specs.program.Words.{static_of, words_in, operands_in, redirects_in, assignments_in}
 use Rattle.sh_table.specs.Kinds.{kind_of}
 use Rattle.sh_table.specs.declared.kind.Kind.{Kind}
 use Rattle.sh_tree.specs.declared.known.KnownName.TheVariants as known
 use Rattle.sh_table.specs.declared.kind.Kind.TheVariants as kind
 use Rattle.sh_table.specs.runs.Environment.{is_one_of}
-use Rattle.sh_table.specs.runs.Steps.{operands_in, redirects_in, assignments_in}
 use Rattle.sh_facts.specs.Gains.{Gains, no_gains, named, and_gains, word_gains, words_gains, redirects_gains}
 use Rattle.sh_facts.specs.Operands.{unset_names, declared_names, read_names, getopts_names, positional_words, total, first_number, runs_command}
 use Rattle.sh_facts.specs.Views.{Seen, After, Both, Each, anything, gaining, gaining_names, stepped, Lose, Count, Shift}

@@ -14,15 +14,16 @@ use Rattle.sh_tree.specs.program.Syntax as p
 use Rattle.sh_tree.specs.program.Syntax.{Text}
 use Rattle.sh_tree.specs.program.Lists.{parts_from, words_from, element_from, elements_from, items_from, redirects_from}
 use Rattle.sh_tree.specs.program.Trees.{script_of, command_of, kind_of}
-use Rattle.sh_tree.proofs.ProgramRules.{parts_listed, elements_listed, script_of-out, command_of-out}
-use Rattle.sh_tree.proofs.ProgramForms.{items_from-lone}
+use Rattle.sh_tree.proofs.ProgramRules.{elements_listed, script_of-out, command_of-out}
+use Rattle.sh_tree.proofs.ProgramForms.{assignment_from, operands_of_elements, assignments_of_elements, items_from-lone}
+use Rattle.sh_tree.specs.program.Words.{redirects_in, assignments_in}
 use Rattle.sh_table.specs.Counts.{some_gives_field}
 use Rattle.sh_table.specs.runs.Environment.{Environment, Frame, separators}
 use Rattle.sh_table.specs.runs.Answers.{Given}
 use Rattle.sh_table.specs.runs.States.{State, fresh}
 use Rattle.sh_table.specs.runs.Expansion.{Context, in_fields, expand}
 use Rattle.sh_table.specs.runs.Work.{Work, Effect}
-use Rattle.sh_table.specs.runs.Steps.{operands_in, redirects_in, assignments_in, word_fields}
+use Rattle.sh_table.specs.runs.Steps.{word_fields}
 use Rattle.sh_table.specs.runs.Worlds.{World, Move, effect_of, stepping, run, start_world}
 use Rattle.sh_flow.specs.Expansions.{names_unset}
 use Rattle.sh_flow.specs.Profile.{is_straight_part, is_straight_form, is_straight_element, is_simple, has_none, is_straight, is_named_utility, is_plain_name, is_admitted, is_item_admitted, gives_name, has_name, Admitted, HasNames}
@@ -54,24 +55,6 @@ values_of xs = map (λ (x : Text × Word). x.1) xs
 -- The program of the elements of a straight command
 
 module _ (b : List ℕ) where
-  -- the program of an assignment
-  abbrev assignment_from : Text × Word → Text × p.Word
-  assignment_from x = (x.0, parts_from b x.1.parts)
-
-  operands_listed : (es : List Element) → operands_in (elements_from b es) ≡ words_from b (words_of es)
-  unfolding operands_in elements_from element_from words_from form_of word_in
-  operands_listed [] = refl
-  operands_listed (Assignment' n t shape row ∷ es) = operands_listed es
-  operands_listed (Word' t shape row ∷ es) = rw (parts_listed b row, operands_listed es) refl
-  operands_listed (Redirection' at n t ∷ es) = operands_listed es
-
-  assignments_listed : (es : List Element) → assignments_in (elements_from b es) ≡ map assignment_from (assignments_of b es)
-  unfolding assignments_in elements_from element_from form_of assignment_in
-  assignments_listed [] = refl
-  assignments_listed (Assignment' n t shape row ∷ es) = rw (parts_listed b row, assignments_listed es) refl
-  assignments_listed (Word' t shape row ∷ es) = assignments_listed es
-  assignments_listed (Redirection' at n t ∷ es) = assignments_listed es
-
   no_redirects : (es : List Element) → list_all is_straight_element es ≡ true → redirects_in (elements_from b es) ≡ p.no_redirects
   unfolding redirects_in elements_from element_from is_straight_form form_of
   no_redirects [] h = refl
@@ -104,7 +87,7 @@ module _ (b : List ℕ) where
   simple_kind (Simple' shape row) h = ap p.Simple (elements_listed b row)
   simple_kind k h = cc
 
-  names_set : (xs : List (Text × Word)) (e : Environment) → AreSet (map assignment_from xs) e → AreSet xs e
+  names_set : (xs : List (Text × Word)) (e : Environment) → AreSet (map (assignment_from b) xs) e → AreSet xs e
   unfolding AreSet
   names_set [] e h = tt
   names_set (x ∷ xs) e h = (h.0, names_set xs e h.1)
@@ -127,7 +110,7 @@ module _ (b : List ℕ) where
       words_go e [] h k = tt
       words_go e (w ∷ ws) h k = (suits.word e w.parts h.0 k.0, words_go e ws h.1 k.1)
 
-      values_go : (e : Environment) (xs : List (Text × Word)) → EachWord IsStraight (values_of xs) → EachWord (V e) (values_of xs) → ValuesGo event none (map assignment_from xs) e
+      values_go : (e : Environment) (xs : List (Text × Word)) → EachWord IsStraight (values_of xs) → EachWord (V e) (values_of xs) → ValuesGo event none (map (assignment_from b) xs) e
       unfolding EachWord ValuesGo
       values_go e [] h k = tt
       values_go e (x ∷ xs) h k = ((λ e' g. suits.value e' x.1.parts h.0 (suits.grows e e' x.1.parts g k.0)), values_go e xs h.1 k.1)
@@ -150,7 +133,7 @@ module _ (b : List ℕ) where
       -- the words and assignments of a command, with K behind it
       left_go : (K : ℕ → Environment → Type 0) (e : Environment) (ws : List Word) (xs : List (Text × Word)) → is_plain_name b ws ≡ true → gives_name b ws ≡ true
           → EachWord IsStraight ws → EachWord (Q e) ws → EachWord IsStraight (values_of xs) → EachWord (V e) (values_of xs)
-          → ((status : ℕ) (e' : Environment) → Grows e e' → Behind ws xs e' → K status e') → LeftGoes event none K (words_from b ws) [] (map assignment_from xs) e
+          → ((status : ℕ) (e' : Environment) → Grows e e' → Behind ws xs e' → K status e') → LeftGoes event none K (words_from b ws) [] (map (assignment_from b) xs) e
       unfolding is_plain_name gives_name EachWord Behind words_from LeftGoes ReadyGoes
       left_go K e [] xs named gives s q t v k = (values_go e xs t v, λ status e' g d. k status e' g (names_set xs e' d))
       left_go K e (w ∷ ws) xs named gives s q t v k =
@@ -175,12 +158,12 @@ module _ (b : List ℕ) where
           let straight : list_all is_straight_element es ≡ true = (and_parts (is_simple kind) _ front).1 in
           let program : command_of b x ≡ p.command (out-Command x).number (out-Command x).at (p.Simple (elements_from b es)) (redirects_from b (out-Command x).redirects) =
           command_of-out b x ∙ ap (λ y. p.command (out-Command x).number (out-Command x).at y (redirects_from b (out-Command x).redirects)) (simple_kind kind (and_parts _ _ front).0) in
-          let left : LeftGoes event none K (words_from b (words_of es)) [] (map assignment_from (assignments_of b es)) e =
+          let left : LeftGoes event none K (words_from b (words_of es)) [] (map (assignment_from b) (assignments_of b es)) e =
           left_go K e (words_of es) (assignments_of b es) (and_parts (is_straight x) _ admitted).1 named (straight_words es straight) q (straight_values es straight) v k in
           subst (λ c. CommandGoes event none K c e) (sym program) (
             no_redirects es straight,
-            subst (λ ws. LeftGoes event none K ws [] (assignments_in (elements_from b es)) e) (sym (operands_listed es))
-                (subst (λ xs. LeftGoes event none K (words_from b (words_of es)) [] xs e) (sym (assignments_listed es)) left),
+            subst (λ ws. LeftGoes event none K ws [] (assignments_in (elements_from b es)) e) (sym (operands_of_elements b es))
+                (subst (λ xs. LeftGoes event none K (words_from b (words_of es)) [] xs e) (sym (assignments_of_elements b es)) left),
           )
 
       -- Lists: S is what is known of the items that are left, by the status and the environment before them

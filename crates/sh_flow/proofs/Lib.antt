@@ -1,6 +1,5 @@
 pub mod PolicyLemmas
 pub mod FactLemmas
-pub mod StaticLemmas
 pub mod StraightLemmas
 pub mod UtilityLemmas
 pub mod Worlds

@@ -20,7 +20,7 @@ use Rattle.sh_table.specs.runs.Expansion.{Piece, Bytes, Break, Literal, Quoted, 
 use Rattle.sh_table.specs.runs.Fields.{fields, is_expanded, is_split, splits}
 use Rattle.sh_flow.specs.Profile.{is_variable, is_value, is_flat, is_straight_part}
 use Rattle.sh_flow.specs.Expansions.{is_unset, names_unset}
-use Rattle.sh_flow.proofs.StaticLemmas.{static_fields}
+use Rattle.sh_table.proofs.StaticLemmas.{static_fields}
 
 or_assoc : (a b c : Bool) → ((a || b) || c) ≡ (a || (b || c))
 or_assoc true b c = refl

@@ -4,15 +4,16 @@ use Rattle.std.proofs.lemmas.Slice.Eq.{bytes_eq-Decides}
 use Rattle.sh_tree.specs.program.Syntax as p
 use Rattle.sh_tree.specs.program.Syntax.{Text}
 use Rattle.sh_tree.proofs.ProgramForms.{lone_program}
+use Rattle.sh_tree.specs.program.Words.{Assignments, operands_in, redirects_in, assignments_in}
 use Rattle.sh_table.specs.declared.kind.Kind.TheVariants as kind
 use Rattle.sh_table.specs.Kinds.{kind_of, is_declaration}
 use Rattle.sh_table.specs.runs.Environment.{Environment, Frame, put_text, with_variable, showing, hiding}
 use Rattle.sh_table.specs.runs.Answers.{Given, Answer}
 use Rattle.sh_table.specs.runs.States.{State, fresh}
 use Rattle.sh_table.specs.runs.Expansion.{Outcome, in_fields, in_one, pieces_text, expand}
-use Rattle.sh_table.specs.runs.Work.{Simple, Work, Items, Links, Pipeline, Negation, Command, Words, Prepare, Utility, Call, Return, Compound, If, Then, Test, Again, ForWords, ForFields, Clauses, Patterns, Fall, Assignments, Effect, goes, ends, after_expansion}
+use Rattle.sh_table.specs.runs.Work.{Simple, Work, Items, Links, Pipeline, Negation, Command, Words, Prepare, Utility, Call, Return, Compound, If, Then, Test, Again, ForWords, ForFields, Clauses, Patterns, Fall, Effect, goes, ends, after_expansion}
 use Rattle.sh_table.specs.runs.Builtins.{utility}
-use Rattle.sh_table.specs.runs.Steps.{Named, ready, operands_in, redirects_in, assignments_in, named_manner, manner, is_declared, word_fields, word_splits, status_behind, in_order, in_any_order, next_preparation, simple_work, command_work, unless_ended, negated_work, piped, items, links, words, assignment, invoked, prepared, prepare, kept, seen, utility_step, act_on, act}
+use Rattle.sh_table.specs.runs.Steps.{Named, ready, named_manner, manner, is_declared, word_fields, word_splits, status_behind, in_order, in_any_order, next_preparation, simple_work, command_work, unless_ended, negated_work, piped, items, links, words, assignment, invoked, prepared, prepare, kept, seen, utility_step, act_on, act}
 use Rattle.sh_table.proofs.EnvironmentLemmas.{AreSet}
 use Rattle.sh_flow.proofs.Worlds.{NextOk, EffectOk}
 

@@ -1,1 +1,7 @@
+pub mod GoodLemmas
+pub mod EffectLemmas
 pub mod QuoteLemmas
+pub mod SteadyLemmas
+pub mod SimpleLemmas
+pub mod StepLemmas
+pub mod SplitLemmas

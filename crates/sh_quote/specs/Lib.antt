@@ -1,3 +1,5 @@
 pub mod Steady
+pub mod Theorem
+pub mod Invariant
 pub mod Places
 pub mod QuoteExamples

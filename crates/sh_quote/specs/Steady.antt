@@ -1,52 +1,19 @@
 -- When IFS separates no numbers, whatever a script does: a look at its whole text.
 -- POSIX.1-2024, XCU 2.6.5 (field splitting), 2.15 (export, readonly), 3 (getopts, read).
-use Rattle.std.specs.Prelude.{ℕ, ◌+◌, Bool, true, false, not, ◌&&◌, ◌||◌, List, [], ◌∷◌, ◌++◌, take, drop, codes, Option, Some, None, is_some, unwrap_or, option_map}
+use Rattle.std.specs.Prelude.{Bool, true, false, not, ◌&&◌, ◌||◌, List, [], ◌∷◌, ◌++◌, take, drop, codes, Option, Some, None, is_some, unwrap_or, option_map}
 use Rattle.std.specs.List.{list_any, list_all}
 use Rattle.std.specs.Str.{bytes_eq}
-use Rattle.sh_tree.specs.declared.tree.Action.TheVariants as action
-use Rattle.sh_tree.specs.declared.tree.Special.TheVariants as special
 use Rattle.sh_tree.specs.program.Syntax as p
 use Rattle.sh_tree.specs.program.Syntax.{Text, Word}
-use Rattle.sh_tree.specs.program.Words.{static_of, assignment_in, words_in}
+use Rattle.sh_tree.specs.program.Words.{static_of, assignment_in, words_in, operands_in, redirects_in, assignments_in}
 use Rattle.sh_table.specs.Kinds.{kind_of}
 use Rattle.sh_table.specs.Surroundings.{outside, items_located}
-use Rattle.sh_table.specs.Quoting.{are_quotations, word_mentions, is_ifs, is_steady}
+use Rattle.sh_table.specs.Quoting.{are_quotations, word_mentions, word_assigns, is_at, is_ifs, is_steady}
 use Rattle.sh_table.specs.declared.kind.Kind.{Kind}
 use Rattle.sh_tree.specs.declared.known.KnownName.TheVariants as known
 use Rattle.sh_table.specs.declared.kind.Kind.TheVariants as kind
-use Rattle.sh_table.specs.runs.Steps.{operands_in, redirects_in, assignments_in, opened}
+use Rattle.sh_table.specs.runs.Steps.{opened}
 use Rattle.sh_facts.specs.Operands.{read_names}
-
--- `${IFS=w}`, and arithmetic that assigns IFS, in a word; substitutions aside
-unfoldable mutual
-  pub part_assigns : p.Part → Bool
-  part_assigns (p.Double w) = word_assigns w
-  part_assigns (p.Expansion at parameter operator) = operator_assigns parameter operator
-  part_assigns (p.Arithmetic at e) = expression_assigns e
-  part_assigns _ = false
-
-  pub word_assigns : p.Word → Bool
-  word_assigns p.no_parts = false
-  word_assigns (p.more_parts x w) = part_assigns x || word_assigns w
-
-  pub operator_assigns : p.Parameter → p.Operator → Bool
-  operator_assigns (p.Variable name) (p.Use action.Assign colon w) = is_ifs name || word_assigns w
-  operator_assigns parameter (p.Use action colon w) = word_assigns w
-  operator_assigns parameter (p.Remove removal w) = word_assigns w
-  operator_assigns parameter _ = false
-
-  pub expression_assigns : p.Expression → Bool
-  expression_assigns (p.Expanded x) = part_assigns x
-  expression_assigns (p.Parenthesis e) = expression_assigns e
-  expression_assigns (p.Signed operator e) = expression_assigns e
-  expression_assigns (p.Chain e rest) = expression_assigns e || operands_assign rest
-  expression_assigns (p.Choice e then_one else_one) = expression_assigns e || expression_assigns then_one || expression_assigns else_one
-  expression_assigns (p.Assigned at name operator e) = is_ifs name || expression_assigns e
-  expression_assigns _ = false
-
-  pub operands_assign : p.Operands → Bool
-  operands_assign p.no_operands = false
-  operands_assign (p.more_operands operator e rest) = expression_assigns e || operands_assign rest
 
 -- The words of a command
 
@@ -100,10 +67,6 @@ steady_declared w = by_form (assignment_in w)
 abbrev pub is_static : Word → Bool
 is_static w = is_some (static_of w)
 
-unfoldable pub is_every : p.Parameter → Bool
-is_every (p.Special special.At) = true
-is_every _ = false
-
 -- an operand of `getopts`: static, and not IFS
 unfoldable pub steady_operand : Word → Bool
 steady_operand w = unwrap_or (option_map (λ t. not (is_ifs t)) (static_of w)) false
@@ -111,7 +74,7 @@ steady_operand w = unwrap_or (option_map (λ t. not (is_ifs t)) (static_of w)) f
 -- the first one may also be quoted, without `$@`, so that it is one field
 unfoldable pub steady_getopts : List Word → Bool
 steady_getopts [] = true
-steady_getopts (w ∷ ws) = (steady_operand w || (not (is_static w) && are_quotations w && not (word_mentions is_every w))) && list_all steady_operand ws
+steady_getopts (w ∷ ws) = (steady_operand w || (not (is_static w) && are_quotations w && not (word_mentions is_at w))) && list_all steady_operand ws
 
 -- the operands of a utility do not let it set IFS
 unfoldable pub steady_operands : Kind → List Word → Bool
@@ -132,7 +95,7 @@ steady_kind (p.For name ws body) = not (is_ifs name)
 steady_kind _ = true
 
 unfoldable pub steady_command : p.Command → Bool
-steady_command (p.command n at kind rs) = steady_kind kind && not (list_any word_assigns (redirect_words rs ++ kind_words kind))
+steady_command (p.command n at kind rs) = steady_kind kind && not (list_any (word_assigns is_ifs) (redirect_words rs ++ kind_words kind))
 
 -- every command of the script does
 unfoldable pub steady : p.Items → Bool

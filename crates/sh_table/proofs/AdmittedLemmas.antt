@@ -12,13 +12,13 @@ abbrev refused : ℕ → ℕ → Rule → Refused
 refused number at r = record { number = number; at = at; rule = r }
 
 -- the command breaks no rule
-abbrev is_free : Located → Bool
+abbrev pub is_free : Located → Bool
 is_free l = not (is_some (refused_at l))
 
 both : {a b : Bool} (xs ys : List Located) → a ≡ list_all is_free xs → b ≡ list_all is_free ys → (a && b) ≡ list_all is_free (xs ++ ys)
 both xs ys h k = ap₂ (λ c d. c && d) h k ∙ sym (list_all-append is_free xs ys)
 
-mapped : {A B : Type 0} (f : A → B) (o : Option A) → is_some (option_map f o) ≡ is_some o
+pub mapped : {A B : Type 0} (f : A → B) (o : Option A) → is_some (option_map f o) ≡ is_some o
 mapped f None = refl
 mapped f (Some v) = refl
 
@@ -30,7 +30,7 @@ with_command x number at kind rs ls h = ap₂ (λ c d. not c && d) (sym (mapped 
 mutual
   unfolding items_admitted items_located
 
-  items_listed : (x : Surroundings) (t : p.Items) → items_admitted x t ≡ list_all is_free (items_located x t)
+  pub items_listed : (x : Surroundings) (t : p.Items) → items_admitted x t ≡ list_all is_free (items_located x t)
   items_listed x p.no_items = refl
   items_listed x (p.more_items list background rest) = both _ _ (list_listed (in_item x background) list) (items_listed x rest)
 

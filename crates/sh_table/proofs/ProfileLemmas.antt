@@ -1,6 +1,6 @@
 -- The examples of the profile, computed.
 use Rattle.std.proofs.Common.{refl}
-use Rattle.sh_tree.specs.program.Words.{quoted_text, part_text, word_text, part_has, word_has, is_plainly, is_pattern, static_of, words_in}
+use Rattle.sh_tree.specs.program.Words.{quoted_text, part_text, word_text, part_has, word_has, is_plainly, is_pattern, static_of, words_in, operands_in}
 use Rattle.sh_tree.specs.language.Bytes.{is_first, name_length, decimal}
 use Rattle.sh_table.specs.Kinds.{look_up, kind_of}
 use Rattle.sh_table.specs.Surroundings.{in_part, in_item, items_located}
@@ -9,7 +9,6 @@ use Rattle.sh_table.specs.examples.Runs.{elements_of, list}
 use Rattle.sh_table.specs.examples.Profile.{words_from, word, NamesAsExpected, RulesAsExpected, PlacesAsExpected, ProfileAsExpected}
 use Rattle.sh_table.specs.runs.Numbers.{is_number, number_in}
 use Rattle.sh_table.specs.runs.Operands.{is_dashed, is_set_option, ends_in_o}
-use Rattle.sh_table.specs.runs.Steps.{operands_in}
 
 -- what the profile of a known program computes
 unfoldable pub computes : Unit {0}

@@ -14,12 +14,13 @@ use Rattle.sh_tree.specs.declared.tree.Special as tree
 use Rattle.sh_tree.specs.declared.tree.Special.TheVariants as special
 use Rattle.sh_tree.specs.language.Bytes.{is_digit, is_in}
 use Rattle.sh_tree.specs.program.Syntax.{Text, Parameter, Variable, Positional, Special, Part, Plain, Escaped, Single, Double, Expansion, Arithmetic, Substitution, Tilde, Joined, Word, no_parts, more_parts, Operator, Value, Length, Use, Remove, Expression, Constant, Name, Expanded, Parenthesis, Signed, Chain, Choice, Assigned, Operands, no_operands, more_operands}
-use Rattle.sh_table.specs.Quoting.{is_numeric, gives_number, is_quotation, are_quotations, is_quoted_alternative, is_whole, are_whole, part_begins_pattern, word_begins_pattern, part_mentions, word_mentions, operator_mentions, expression_mentions, operands_mention, is_ifs, is_about_separators, is_steady}
+use Rattle.sh_table.specs.Quoting.{is_numeric, gives_number, is_quoted_alternative, is_whole, are_whole, part_begins_pattern, word_begins_pattern, part_mentions, word_mentions, operator_mentions, expression_mentions, operands_mention, is_ifs, is_about_separators, is_steady}
 use Rattle.sh_table.specs.Theorem.{DifferInIfs, FieldsStandSteady}
+use Rattle.sh_table.proofs.QuotedLemmas.{is_held, Held, followed_all, tilde_held, double_held, quotations_held}
 use Rattle.sh_table.specs.runs.Answers.{Given, Marked, Directory}
 use Rattle.sh_table.specs.runs.Arithmetic.{Computed, computes, answered, operated, then_computed, read_name, named, skips, read_where, stored, operated_assignment, evaluate, evaluate_rest}
 use Rattle.sh_table.specs.runs.Environment.{Environment, Frame, with_variable, put_text, blanks, separators}
-use Rattle.sh_table.specs.runs.Expansion.{Literal, Quoted, Unquoted, Piece, Bytes, Break, Context, in_fields, in_quotes, in_one, in_default, value_origin, pieces_text, quote_pieces, has_every, broken, star_pieces, at_pieces, is_empty_value, Outcome, gives, followed, special_value, value_of, needed, value_pieces, default_assigned, used, constant_in, behind, tilde_pieces, computed_pieces, expand_part, expand, expand_operator, expand_inside, expand_operands}
+use Rattle.sh_table.specs.runs.Expansion.{Literal, Quoted, Unquoted, Piece, Bytes, Break, Context, in_fields, in_quotes, in_one, in_default, value_origin, pieces_text, quote_pieces, has_every, is_empty_value, Outcome, gives, followed, special_value, value_of, needed, value_pieces, default_assigned, used, constant_in, behind, tilde_pieces, computed_pieces, expand_part, expand, expand_operator, expand_inside, expand_operands}
 use Rattle.sh_table.specs.runs.Fields.{begins_pattern, Sign, Stands, Blank, Separates, Quote, Breaks, stands, unquoted_sign, piece_signs, Scan, Before, Behind, Inside, scan, split_fields, is_unquoted, is_bracket, is_pattern, field_text, names_or, field_names, fields}
 use Rattle.sh_table.specs.runs.Numbers.{last_digits, digits, integer_text, is_operand, is_computed, is_zero}
 use Rattle.sh_table.specs.runs.States.{State, fresh, taken, ending, stray, with_environment}
@@ -348,40 +349,31 @@ module _ (i j : Option Text) where
 -- Pieces that hang on no separator
 
 -- a digit or `-`
-abbrev is_numeral : ℕ → Bool
+abbrev pub is_numeral : ℕ → Bool
 is_numeral c = is_digit c || c == 45
 
 -- a piece without an unquoted byte of a pattern, that only digits and `-` could divide
-is_firm : Piece → Bool
+unfoldable pub is_firm : Piece → Bool
 is_firm (Bytes Literal t) = not (list_any begins_pattern t)
 is_firm (Bytes Quoted t) = true
 is_firm (Bytes Unquoted t) = list_all is_numeral t
 is_firm Break = true
 
-abbrev Firm : List Piece → Type 0
+abbrev pub Firm : List Piece → Type 0
 Firm ps = list_all is_firm ps ≡ true
 
-both_firm : (ps qs : List Piece) → Firm ps → Firm qs → Firm (ps ++ qs)
-both_firm ps qs h k = list_all-append is_firm ps qs ∙ and_from (list_all is_firm ps) (list_all is_firm qs) h k
-
-followed_firm : (o : Outcome) (next : State → Outcome) → Firm o.pieces → ((s : State) → Firm (next s).pieces) → Firm (followed o next).pieces
-unfolding followed
-followed_firm o next h k =
-    cond_both o.state.ended o (gives (o.pieces ++ (next o.state).pieces) (next o.state).state) (λ x. Firm x.pieces)
-    (λ b. h) (λ b. both_firm o.pieces (next o.state).pieces h (k o.state))
-
-or_second : (b c : Bool) → b ≡ false → (b || c) ≡ true → c ≡ true
+pub or_second : (b c : Bool) → b ≡ false → (b || c) ≡ true → c ≡ true
 or_second true c k h = absurd (false≢true (sym k))
 or_second false c k h = h
 
 -- such an operator gives no number, whatever the parameter is
-use_no_number : (p : Parameter) (x : Action) (colon : Bool) (w : Word) → gives_number p (Use x colon w) ≡ false
+pub use_no_number : (p : Parameter) (x : Action) (colon : Bool) (w : Word) → gives_number p (Use x colon w) ≡ false
 unfolding gives_number
 use_no_number (Variable name) x colon w = refl
 use_no_number (Positional n) x colon w = refl
 use_no_number (Special c) x colon w = refl
 
-removal_no_number : (p : Parameter) (removal : Removal) (w : Word) → gives_number p (Remove removal w) ≡ false
+pub removal_no_number : (p : Parameter) (removal : Removal) (w : Word) → gives_number p (Remove removal w) ≡ false
 unfolding gives_number
 removal_no_number (Variable name) removal w = refl
 removal_no_number (Positional n) removal w = refl
@@ -407,107 +399,16 @@ unfolding integer_text
 integer_firm (pos n) = last_digits_firm n n
 integer_firm (negsuc n) = last_digits_firm (suc n) (suc n)
 
+-- what quotes hold is firm
+held_firm : (ps : List Piece) → Held true ps → Firm ps
+unfolding is_held is_firm
+held_firm [] h = refl
+held_firm (Bytes Quoted t ∷ ps) h = held_firm ps h
+held_firm (Break ∷ ps) h = held_firm ps h
+held_firm (Bytes Literal t ∷ ps) h = absurd (false≢true h)
+held_firm (Bytes Unquoted t ∷ ps) h = absurd (false≢true h)
+
 module _ (f : Frame) (status : ℕ) where
-  -- in quotes
-
-  broken_firm : (ts : List Text) → Firm (broken Quoted ts)
-  unfolding broken is_firm
-  broken_firm [] = refl
-  broken_firm (t ∷ []) = refl
-  broken_firm (t ∷ u ∷ ts) = broken_firm (u ∷ ts)
-
-  needed_firm : (c : Context) (v : Option Text) (s : State) → Firm (needed f status (in_quotes c) v s).pieces
-  unfolding needed value_origin is_firm
-  needed_firm c None s = refl
-  needed_firm c (Some v) s = refl
-
-  value_firm : (c : Context) (p : Parameter) (v : Option Text) (s : State) → Firm (value_pieces f status (in_quotes c) p v s).pieces
-  unfolding value_pieces at_pieces star_pieces value_origin is_firm
-  value_firm c (Special special.At) v s = cond_both c.split _ _ Firm (λ b. broken_firm f) (λ b. refl)
-  value_firm c (Special special.Asterisk) v s = cond_both c.split _ _ Firm (λ b. refl) (λ b. refl)
-  value_firm c p v s = needed_firm c v s
-
-  assigned_firm : (c : Context) (p : Parameter) (t : Text) (fails : Bool) (s : State) → Firm (default_assigned f status (in_quotes c) p t fails s).pieces
-  unfolding default_assigned value_origin is_firm
-  assigned_firm c (Variable name) t false s = refl
-  assigned_firm c p t fails s = refl
-
-  used_firm : (c : Context) (p : Parameter) (g : Given) (x : Action) (v : Option Text) (set : Bool) (word text : State → Outcome) (s : State)
-      → ((t : State) → Firm (word t).pieces) → Firm (used f status (in_quotes c) p g x v set word text s).pieces
-  unfolding used
-  used_firm c p g action.Default v true word text s h = needed_firm c v s
-  used_firm c p g action.Default v false word text s h = h s
-  used_firm c p g action.Assign v true word text s h = needed_firm c v s
-  used_firm c p g action.Assign v false word text s h = followed_firm (gives [] (text s).state) _ refl (assigned_firm c p _ g.fails)
-  used_firm c p g action.Fault v true word text s h = needed_firm c v s
-  used_firm c p g action.Fault v false word text s h = refl
-  used_firm c p g action.Alternative v true word text s h = h s
-  used_firm c p g action.Alternative v false word text s h = refl
-
-  tilde_firm : (login : Text) (g : Given) (s : State) → Firm (tilde_pieces f status login g s).pieces
-  unfolding tilde_pieces is_firm
-  tilde_firm [] g s = needed_firm in_one (s.environment.variables (codes "HOME")) s
-  tilde_firm (c ∷ cs) g s = refl
-
-  quotes_firm : (b : Bool) → Firm (quote_pieces b)
-  unfolding quote_pieces is_firm
-  quotes_firm true = refl
-  quotes_firm false = refl
-
-  mutual
-    unfolding expand_part expand expand_operator computed_pieces value_origin is_firm
-
-    quoted_part_firm : (c : Context) (x : Part) (s : State) → Firm (expand_part f status (in_quotes c) x s).pieces
-    quoted_part_firm c (Plain t) s = refl
-    quoted_part_firm c (Escaped t) s = refl
-    quoted_part_firm c (Single single.Plain t) s = refl
-    quoted_part_firm c (Single single.Dollar t) s = refl
-    quoted_part_firm c (Double w) s = followed_firm (gives (quote_pieces (c.split && has_every w)) s) _ (quotes_firm (c.split && has_every w)) (quoted_firm c w)
-    quoted_part_firm c (Expansion at p operator) s = quoted_operator_firm c p operator (s.given 0) (value_of f status p s.environment (s.given 0)) (taken s)
-    quoted_part_firm c (Arithmetic at e) s = followed_firm (gives [] (expand_inside f status e s)) _ refl (λ t. refl)
-    quoted_part_firm c (Substitution at list) s = refl
-    quoted_part_firm c (Tilde at login) s = tilde_firm login (s.given 0) (taken s)
-    quoted_part_firm c Joined s = refl
-
-    quoted_firm : (c : Context) (w : Word) (s : State) → Firm (expand f status (in_quotes c) w s).pieces
-    quoted_firm c no_parts s = refl
-    quoted_firm c (more_parts x w) s = followed_firm (expand_part f status (in_quotes c) x s) _ (quoted_part_firm c x s) (quoted_firm c w)
-
-    quoted_operator_firm : (c : Context) (p : Parameter) (operator : Operator) (g : Given) (v : Option Text) (s : State)
-        → Firm (expand_operator f status (in_quotes c) p operator g v s).pieces
-    quoted_operator_firm c p Value g v s = value_firm c p v s
-    quoted_operator_firm c p Length g None s = refl
-    quoted_operator_firm c p Length g (Some v) s = refl
-    quoted_operator_firm c p (Use x colon w) g v s = used_firm c p g x v _ _ _ s (quoted_firm c w)
-    quoted_operator_firm c p (Remove removal w) g v s =
-        followed_firm (gives [] (needed f status (in_quotes c) v s).state) _ refl (λ t. followed_firm (gives [] (expand f status in_one w t).state) _ refl (λ u. refl))
-
-  -- outside quotes
-
-  double_firm : (c : Context) (w : Word) (s : State) → Firm (expand_part f status c (Double w) s).pieces
-  unfolding expand_part
-  double_firm c w s = followed_firm (gives (quote_pieces (c.split && has_every w)) s) _ (quotes_firm (c.split && has_every w)) (quoted_firm c w)
-
-  quotation_firm : (c : Context) (x : Part) (s : State) → is_quotation x ≡ true → Firm (expand_part f status c x s).pieces
-  unfolding expand_part is_quotation is_firm
-  quotation_firm c (Plain t) s h = absurd (false≢true h)
-  quotation_firm c (Escaped t) s h = refl
-  quotation_firm c (Single single.Plain t) s h = refl
-  quotation_firm c (Single single.Dollar t) s h = refl
-  quotation_firm c (Double w) s h = double_firm c w s
-  quotation_firm c (Expansion at p operator) s h = absurd (false≢true h)
-  quotation_firm c (Arithmetic at e) s h = absurd (false≢true h)
-  quotation_firm c (Substitution at list) s h = absurd (false≢true h)
-  quotation_firm c (Tilde at login) s h = absurd (false≢true h)
-  quotation_firm c Joined s h = absurd (false≢true h)
-
-  quotations_firm : (c : Context) (w : Word) (s : State) → are_quotations w ≡ true → Firm (expand f status c w s).pieces
-  unfolding expand are_quotations
-  quotations_firm c no_parts s h = refl
-  quotations_firm c (more_parts x w) s h =
-      let q = and_parts (is_quotation x) (are_quotations w) h in
-      followed_firm (expand_part f status c x s) _ (quotation_firm c x s q.0) (λ t. quotations_firm c w t q.1)
-
   counter_firm : (x : tree.Special) (e : Environment) (g : Given) (s : State) → is_numeric x ≡ true
       → Firm (value_pieces f status in_fields (Special x) (special_value f status x e g) s).pieces
   unfolding is_numeric special_value value_pieces needed value_origin is_firm
@@ -525,7 +426,7 @@ module _ (f : Frame) (status : ℕ) where
       → is_quoted_alternative (Use x colon w) ≡ true → Firm (used f status in_fields p g x v set (expand f status (in_default in_fields) w) text s).pieces
   unfolding used is_quoted_alternative
   use_firm p g action.Alternative v set colon no_parts text s h = absurd (false≢true h)
-  use_firm p g action.Alternative v true colon (more_parts x w) text s h = quotations_firm (in_default in_fields) (more_parts x w) s h
+  use_firm p g action.Alternative v true colon (more_parts x w) text s h = held_firm _ (quotations_held f status true (in_default in_fields) (more_parts x w) s h refl)
   use_firm p g action.Alternative v false colon (more_parts x w) text s h = refl
   use_firm p g action.Default v set colon w text s h = absurd (false≢true h)
   use_firm p g action.Assign v set colon w text s h = absurd (false≢true h)
@@ -552,21 +453,21 @@ module _ (f : Frame) (status : ℕ) where
   part_firm (Escaped t) s h k = refl
   part_firm (Single single.Plain t) s h k = refl
   part_firm (Single single.Dollar t) s h k = refl
-  part_firm (Double w) s h k = double_firm in_fields w s
+  part_firm (Double w) s h k = held_firm _ (double_held f status true in_fields w s refl)
   part_firm (Expansion at p operator) s h k = expansion_firm p operator s.environment (s.given 0) (taken s) h
   part_firm (Arithmetic at e) s h k =
-      followed_firm (gives [] (expand_inside f status e s)) _ refl (λ t. and_from _ true (integer_firm (evaluate e t).value) refl)
+      followed_all is_firm (gives [] (expand_inside f status e s)) _ refl (λ t. and_from _ true (integer_firm (evaluate e t).value) refl)
   part_firm (Substitution at list) s h k = absurd (false≢true h)
-  part_firm (Tilde at login) s h k = tilde_firm login (s.given 0) (taken s)
+  part_firm (Tilde at login) s h k = held_firm _ (tilde_held f status true login (s.given 0) (taken s))
   part_firm Joined s h k = refl
 
-  word_firm : (w : Word) (s : State) → are_whole w ≡ true → word_begins_pattern w ≡ false → Firm (expand f status in_fields w s).pieces
+  pub word_firm : (w : Word) (s : State) → are_whole w ≡ true → word_begins_pattern w ≡ false → Firm (expand f status in_fields w s).pieces
   unfolding expand are_whole word_begins_pattern
   word_firm no_parts s h k = refl
   word_firm (more_parts x w) s h k =
       let p = and_parts (is_whole x) (are_whole w) h in
       let q = or_parts (part_begins_pattern x) (word_begins_pattern w) k in
-      followed_firm (expand_part f status in_fields x s) _ (part_firm x s p.0 q.0) (λ t. word_firm w t p.1 q.1)
+      followed_all is_firm (expand_part f status in_fields x s) _ (part_firm x s p.0 q.0) (λ t. word_firm w t p.1 q.1)
 
 -- Fields of firm pieces
 
@@ -583,7 +484,7 @@ is_kept_scan (Inside field) = list_all is_kept field
 is_kept_scan _ = true
 
 -- a numeral is no separator, where these are none
-numeral_stands : (ifs : Text) (c : ℕ) → list_any is_numeral ifs ≡ false → is_numeral c ≡ true → is_in ifs c ≡ false
+pub numeral_stands : (ifs : Text) (c : ℕ) → list_any is_numeral ifs ≡ false → is_numeral c ≡ true → is_in ifs c ≡ false
 numeral_stands [] c h n = refl
 numeral_stands (d ∷ ds) c h n =
     let p = or_parts (is_numeral d) (list_any is_numeral ds) h in
@@ -612,7 +513,7 @@ all_signs_same ifs (x ∷ ps) h k =
     let p = and_parts (is_firm x) (list_all is_firm ps) k in ap₂ (λ xs ys. xs ++ ys) (signs_same ifs x h p.0) (all_signs_same ifs ps h p.1)
 
 -- and none of them begins a pattern
-numeral_kept : (c : ℕ) → is_numeral c ≡ true → not (begins_pattern c) ≡ true
+pub numeral_kept : (c : ℕ) → is_numeral c ≡ true → not (begins_pattern c) ≡ true
 numeral_kept c h = not_from_false (begins_pattern c) (or_from (c == 42 || c == 63) (c == 91) (or_from (c == 42) (c == 63) (other 42 refl) (other 63 refl)) (other 91 refl))
   where
     other : (d : ℕ) → is_numeral d ≡ false → (c == d) ≡ false
@@ -707,7 +608,7 @@ firm_fields ifs directory ps h k =
     ap (λ xs. flat_map (field_names directory) (scan Before xs)) (all_signs_same ifs ps h k)
     ∙ names_kept directory (split_fields [] ps) (scan_kept (flat_map (piece_signs []) ps) Before refl (pieces_kept ps k))
 
-steady_separators : (v i : Option Text) → v ≡ i → is_steady i ≡ true → list_any is_numeral (unwrap_or v blanks) ≡ false
+pub steady_separators : (v i : Option Text) → v ≡ i → is_steady i ≡ true → list_any is_numeral (unwrap_or v blanks) ≡ false
 unfolding is_steady
 steady_separators v i q h = ap (λ u. list_any is_numeral (unwrap_or u blanks)) q ∙ go i h
   where

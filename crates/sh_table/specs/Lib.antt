@@ -6,4 +6,5 @@ pub mod Admitted
 pub mod Counts
 pub mod Quoting
 pub mod Theorem
+pub mod Rows
 pub mod examples

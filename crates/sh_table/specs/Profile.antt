@@ -11,14 +11,13 @@ use Rattle.sh_tree.specs.declared.refusal.Rule.TheVariants as rule
 use Rattle.sh_tree.specs.language.Bytes.{is_first, name_length}
 use Rattle.sh_tree.specs.program.Syntax as p
 use Rattle.sh_tree.specs.program.Syntax.{Text}
-use Rattle.sh_tree.specs.program.Words.{static_of, is_plainly, words_in}
+use Rattle.sh_tree.specs.program.Words.{static_of, is_plainly, words_in, operands_in}
 use Rattle.sh_table.specs.declared.kind.Kind.{Kind}
 use Rattle.sh_table.specs.declared.kind.Kind.TheVariants as kind
 use Rattle.sh_table.specs.Kinds.{kind_of}
 use Rattle.sh_table.specs.Surroundings.{Surroundings, Located, outside, items_located}
 use Rattle.sh_table.specs.runs.Numbers.{number_in}
 use Rattle.sh_table.specs.runs.Operands.{is_dashed, ends_options, is_set_option, ends_in_o}
-use Rattle.sh_table.specs.runs.Steps.{operands_in}
 
 -- the static text of an operand, if it has one
 abbrev pub Static : Type 0

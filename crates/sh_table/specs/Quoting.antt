@@ -94,8 +94,44 @@ unfoldable mutual
   operands_mention is_one no_operands = false
   operands_mention is_one (more_operands operator e rest) = expression_mentions is_one e || operands_mention is_one rest
 
+-- A variable of a kind that the word may assign: `${name=w}`, and in arithmetic; substitutions aside
+unfoldable mutual
+  pub part_assigns : (Text → Bool) → Part → Bool
+  part_assigns is_one (Double w) = word_assigns is_one w
+  part_assigns is_one (Expansion at p operator) = operator_assigns is_one p operator
+  part_assigns is_one (Arithmetic at e) = expression_assigns is_one e
+  part_assigns is_one _ = false
+
+  pub word_assigns : (Text → Bool) → Word → Bool
+  word_assigns is_one no_parts = false
+  word_assigns is_one (more_parts x w) = part_assigns is_one x || word_assigns is_one w
+
+  pub operator_assigns : (Text → Bool) → Parameter → Operator → Bool
+  operator_assigns is_one (Variable name) (Use action.Assign colon w) = is_one name || word_assigns is_one w
+  operator_assigns is_one p (Use action colon w) = word_assigns is_one w
+  operator_assigns is_one p (Remove removal w) = word_assigns is_one w
+  operator_assigns is_one p _ = false
+
+  pub expression_assigns : (Text → Bool) → Expression → Bool
+  expression_assigns is_one (Expanded x) = part_assigns is_one x
+  expression_assigns is_one (Parenthesis e) = expression_assigns is_one e
+  expression_assigns is_one (Signed operator e) = expression_assigns is_one e
+  expression_assigns is_one (Chain e rest) = expression_assigns is_one e || operands_assign is_one rest
+  expression_assigns is_one (Choice e then_one else_one) = expression_assigns is_one e || expression_assigns is_one then_one || expression_assigns is_one else_one
+  expression_assigns is_one (Assigned at name operator e) = is_one name || expression_assigns is_one e
+  expression_assigns is_one _ = false
+
+  pub operands_assign : (Text → Bool) → Operands → Bool
+  operands_assign is_one no_operands = false
+  operands_assign is_one (more_operands operator e rest) = expression_assigns is_one e || operands_assign is_one rest
+
 abbrev pub is_ifs : Text → Bool
 is_ifs t = bytes_eq t (codes "IFS")
+
+-- `$@`
+unfoldable pub is_at : Parameter → Bool
+is_at (Special special.At) = true
+is_at _ = false
 
 -- IFS, or `$*`, in which the first byte of IFS stands
 unfoldable pub is_about_separators : Parameter → Bool

@@ -12,3 +12,5 @@ pub mod Forms
 pub mod Profile
 -- runs that have an event (XCU 2.5.3, 2.6.5, 2.9.2, 2.15)
 pub mod Events
+-- programs that come to a utility without a row, and others (XCU 2.9.1.4, 2.15)
+pub mod Rows

@@ -1,12 +1,14 @@
 //! What holds of the runs and of the fields that `specs/` defines, whatever the rules of a checker are.
 ghost use Rattle.sh_table.specs.examples.Profile.{ProfileAsExpected};
 ghost use Rattle.sh_table.specs.Admitted.{AdmittedAsListed};
+ghost use Rattle.sh_table.specs.Rows.{RowsAreThere};
 ghost use Rattle.sh_table.specs.Theorem.{ProcessesStep, SomeProcessSteps, FieldsStandWhole, FieldsStandSteady, OperandsCount};
 ghost use Rattle.sh_table.specs.examples.Events.{EventsExist};
 ghost use Rattle.sh_table.specs.examples.Runs.{RunsAsExpected};
 ghost use Rattle.sh_table.specs.examples.Forms.{FormsAsExpected};
 ghost use Rattle.sh_table.specs.examples.Fields.{FieldsAsExpected};
 ghost use Rattle.sh_table.specs.examples.Steps.{StepsAsExpected};
+ghost use Rattle.sh_table.specs.examples.Rows.{RowsAsExpected};
 
 /// Runs do not get stuck: unless arithmetic has ended the run, a live process that waits for nobody has a step; and where a
 /// process lives, one waits for nobody.
@@ -30,6 +32,14 @@ pub fn operands()
 /// A walk over a program that asks each command for its rule admits it exactly where no command is refused.
 pub fn admitted()
     ensures { AdmittedAsListed }
+{}
+
+/// In no run of an admitted program, whose words give fields as words that are read do, does a process come to a utility that no row
+/// speaks of: `break`, `continue` or `return` without its mark, or one that the profile refuses. Known programs that are refused come
+/// to such a utility.
+pub fn rows()
+    ensures there { RowsAreThere }
+    ensures known { RowsAsExpected }
 {}
 
 /// Known commands are refused, each by its rule, and known others are not.

@@ -1,15 +1,19 @@
 -- The program of what is read off a tree: a command alone, its elements, and their forms.
-use Rattle.std.proofs.Common.{◌≡◌, ℕ, Bool, true, false, if◌then◌else◌, List, [], ◌∷◌, Some, None, refl, ap, ◌∙◌}
+use Rattle.std.proofs.Common.{◌≡◌, ℕ, Bool, true, false, if◌then◌else◌, List, [], ◌∷◌, map, filter_map, Some, None, refl, ap, ◌∙◌}
 use Rattle.sh_tree.specs.declared.tree.Command.{Command}
+use Rattle.sh_tree.specs.declared.tree.Element.{Element, Assignment', Word', Redirection'}
 use Rattle.sh_tree.specs.declared.tree.Item.{Item, out-Item}
 use Rattle.sh_tree.specs.declared.tree.AndOr.{out-AndOr}
 use Rattle.sh_tree.specs.declared.tree.Pipe.{Pipe, out-Pipe}
 use Rattle.sh_tree.specs.declared.tree.Link.{Link}
-use Rattle.sh_tree.specs.Words.{lone_command, lone_list, lone_pipe, lone_part}
+use Rattle.sh_tree.specs.declared.tree.Word.{Word}
+use Rattle.sh_tree.specs.Words.{lone_command, lone_list, lone_pipe, lone_part, form_of, word_in, assignment_in, words_of, assignments_of}
 use Rattle.sh_tree.specs.program.Syntax as p
-use Rattle.sh_tree.specs.program.Lists.{items_from, links_from, commands_from}
+use Rattle.sh_tree.specs.program.Syntax.{Text}
+use Rattle.sh_tree.specs.program.Lists.{parts_from, words_from, element_from, elements_from, items_from, links_from, commands_from}
 use Rattle.sh_tree.specs.program.Trees.{and_or_of, pipeline_of, command_of}
-use Rattle.sh_tree.proofs.ProgramRules.{and_or_of-out, pipeline_of-out}
+use Rattle.sh_tree.specs.program.Words as words
+use Rattle.sh_tree.proofs.ProgramRules.{parts_listed, and_or_of-out, pipeline_of-out}
 
 -- the and-or list of one command
 abbrev pub lone_program : p.Command → p.AndOr
@@ -44,3 +48,23 @@ pub items_from-lone : (b : List ℕ) (x : Item) (xs : List Item) (c : Command) �
     → items_from b (x ∷ xs) ≡ p.more_items (lone_program (command_of b c)) false (items_from b xs)
 unfolding lone_command items_from
 items_from-lone b x xs c h = let found = item_from b x (out-Item x).background c h in rw (found.0, found.1) refl
+
+-- what stands in a simple command
+
+-- the program of an assignment
+abbrev pub assignment_from : List ℕ → Text × Word → Text × p.Word
+assignment_from b x = (x.0, parts_from b x.1.parts)
+
+pub operands_of_elements : (b : List ℕ) (es : List Element) → words.operands_in (elements_from b es) ≡ words_from b (words_of es)
+unfolding words.operands_in elements_from element_from words_from form_of word_in
+operands_of_elements b [] = refl
+operands_of_elements b (Assignment' n t shape row ∷ es) = operands_of_elements b es
+operands_of_elements b (Word' t shape row ∷ es) = rw (parts_listed b row, operands_of_elements b es) refl
+operands_of_elements b (Redirection' at n t ∷ es) = operands_of_elements b es
+
+pub assignments_of_elements : (b : List ℕ) (es : List Element) → words.assignments_in (elements_from b es) ≡ map (assignment_from b) (assignments_of b es)
+unfolding words.assignments_in elements_from element_from form_of assignment_in
+assignments_of_elements b [] = refl
+assignments_of_elements b (Assignment' n t shape row ∷ es) = rw (parts_listed b row, assignments_of_elements b es) refl
+assignments_of_elements b (Word' t shape row ∷ es) = assignments_of_elements b es
+assignments_of_elements b (Redirection' at n t ∷ es) = assignments_of_elements b es

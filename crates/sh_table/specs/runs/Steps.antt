@@ -10,7 +10,7 @@ use Rattle.sh_tree.specs.declared.tree.LoopKind.{LoopKind}
 use Rattle.sh_tree.specs.declared.tree.LoopKind.TheVariants as loop
 use Rattle.sh_tree.specs.program.Syntax as p
 use Rattle.sh_tree.specs.program.Syntax.{Text}
-use Rattle.sh_tree.specs.program.Words.{assignment_in, is_plainly}
+use Rattle.sh_tree.specs.program.Words.{Assignments, operands_in, redirects_in, assignments_in, assignment_in, is_plainly}
 use Rattle.sh_table.specs.declared.kind.Kind.{Kind}
 use Rattle.sh_table.specs.declared.kind.Kind.TheVariants as kind
 use Rattle.sh_table.specs.Kinds.{kind_of, is_declaration}
@@ -19,28 +19,8 @@ use Rattle.sh_table.specs.runs.Answers.{Answer}
 use Rattle.sh_table.specs.runs.States.{State, fresh}
 use Rattle.sh_table.specs.runs.Expansion.{Context, in_fields, in_one, Outcome, pieces_text, expand}
 use Rattle.sh_table.specs.runs.Fields.{fields, splits}
-use Rattle.sh_table.specs.runs.Work.{Simple, Work, Items, Links, Pipeline, Negation, Command, Words, Prepare, Utility, Call, Return, Compound, If, Then, Test, Again, ForWords, ForFields, Clauses, Patterns, Fall, Assignments, Saved, Start, Shares, Copies, Effect, Pushes, goes, ends, after_expansion}
+use Rattle.sh_table.specs.runs.Work.{Simple, Work, Items, Links, Pipeline, Negation, Command, Words, Prepare, Utility, Call, Return, Compound, If, Then, Test, Again, ForWords, ForFields, Clauses, Patterns, Fall, Saved, Start, Shares, Copies, Effect, Pushes, goes, ends, after_expansion}
 use Rattle.sh_table.specs.runs.Builtins.{nonzero, special_or_end, utility, restored, returned}
-
--- What stands in a simple command
-
-unfoldable pub operands_in : p.Elements → p.Words
-operands_in p.no_elements = p.no_words
-operands_in (p.assignment name value es) = operands_in es
-operands_in (p.operand w es) = p.more_words w (operands_in es)
-operands_in (p.redirection r es) = operands_in es
-
-unfoldable pub redirects_in : p.Elements → p.Redirects
-redirects_in p.no_elements = p.no_redirects
-redirects_in (p.assignment name value es) = redirects_in es
-redirects_in (p.operand w es) = redirects_in es
-redirects_in (p.redirection r es) = p.more_redirects r (redirects_in es)
-
-unfoldable pub assignments_in : p.Elements → Assignments
-assignments_in p.no_elements = []
-assignments_in (p.assignment name value es) = (name, value) ∷ assignments_in es
-assignments_in (p.operand w es) = assignments_in es
-assignments_in (p.redirection r es) = assignments_in es
 
 -- the word that a redirection expands
 unfoldable pub opened : p.Redirect → p.Word
@@ -124,7 +104,7 @@ unfoldable pub takes_link : Link → ℕ → Bool
 takes_link link.AndThen status = status == 0
 takes_link link.OrElse status = not (status == 0)
 
--- `while` takes a for_fields behind zero, `until` behind another status
+-- `while` takes a turn behind zero, `until` behind another status
 unfoldable pub takes_turn : LoopKind → ℕ → Bool
 takes_turn loop.While status = status == 0
 takes_turn loop.Until status = not (status == 0)
@@ -325,7 +305,7 @@ module _ (e : Environment) (f : Frame) (status : ℕ) (ws : List Work) (a : Answ
       after_expansion o.state (word_splits in_fields o)
       (unless_ended o.state (goes o.state.environment f (status_behind o.state status a) (ForWords n name left (ts ++ word_fields in_fields a o) body ∷ ws)))
 
-  -- the next field is assignment, unless that fails
+  -- the name gets the next field, unless that fails
   unfoldable pub for_fields : ℕ → Text → List Text → p.Items → Effect
   for_fields n name [] body = goes e f status ws
   for_fields n name (t ∷ ts) body = if a.assignment_fails then ends e f else goes (with_variable e name (Some t)) f status (Items body ∷ ForFields n name ts body ∷ ws)

@@ -5,12 +5,9 @@ use Rattle.sh_tree.specs.declared.tree.LoopKind.{LoopKind}
 use Rattle.sh_tree.specs.declared.tree.ClauseEnd.{ClauseEnd}
 use Rattle.sh_tree.specs.program.Syntax as p
 use Rattle.sh_tree.specs.program.Syntax.{Text}
+use Rattle.sh_tree.specs.program.Words.{Assignments}
 use Rattle.sh_table.specs.runs.Environment.{Environment, Frame}
 use Rattle.sh_table.specs.runs.States.{State, Copy}
-
--- the assignments before a command: names and values
-abbrev pub Assignments : Type 0
-Assignments = List (Text × p.Word)
 
 -- names, each with the value that it had, if it was set
 abbrev pub Saved : Type 0

@@ -1,5 +1,5 @@
--- What is read off the words of a program: their static text, and which are assignments in form.
--- POSIX.1-2024, XCU 2.2 (quoting), 2.9.1.1 (declaration utilities), 2.14 (patterns); a name is as in XBD 3.216.
+-- What is read off the words of a program: what stands in a simple command, static text, and which words are assignments in form.
+-- POSIX.1-2024, XCU 2.2 (quoting), 2.9.1 (simple commands), 2.9.1.1 (declaration utilities), 2.14 (patterns); a name is as in XBD 3.216.
 use Rattle.std.specs.Prelude.{ℕ, ◌+◌, ◌==◌, Bool, false, not, ◌&&◌, ◌||◌, if◌then◌else◌, List, [], ◌∷◌, take, drop, Option, Some, None}
 use Rattle.std.specs.List.{list_any}
 use Rattle.std.specs.Str.{bytes_eq}
@@ -8,7 +8,7 @@ use Rattle.sh_tree.specs.declared.tree.SingleStyle.TheVariants as single
 use Rattle.sh_tree.specs.Words.{joined, is_wildcard}
 use Rattle.sh_tree.specs.language.Bytes.{name_length}
 use Rattle.sh_tree.specs.language.Commands.{is_assignment}
-use Rattle.sh_tree.specs.program.Syntax.{Text, Part, Plain, Escaped, Single, Double, Joined, Word, no_parts, more_parts, Words, no_words, more_words}
+use Rattle.sh_tree.specs.program.Syntax.{Text, Part, Plain, Escaped, Single, Double, Joined, Word, no_parts, more_parts, Words, no_words, more_words, Elements, no_elements, assignment, operand, redirection, Redirects, no_redirects, more_redirects}
 
 -- what single quotes hold; what `$'` holds is not stated yet
 unfoldable pub quoted_text : SingleStyle → Text → Option Text
@@ -55,6 +55,30 @@ static_of w = if is_pattern w then None else word_text w
 unfoldable pub words_in : Words → List Word
 words_in no_words = []
 words_in (more_words w ws) = w ∷ words_in ws
+
+-- What stands in a simple command: its name and operands, its redirections, its assignments
+
+unfoldable pub operands_in : Elements → Words
+operands_in no_elements = no_words
+operands_in (assignment name value es) = operands_in es
+operands_in (operand w es) = more_words w (operands_in es)
+operands_in (redirection r es) = operands_in es
+
+unfoldable pub redirects_in : Elements → Redirects
+redirects_in no_elements = no_redirects
+redirects_in (assignment name value es) = redirects_in es
+redirects_in (operand w es) = redirects_in es
+redirects_in (redirection r es) = more_redirects r (redirects_in es)
+
+-- names and values
+abbrev pub Assignments : Type 0
+Assignments = List (Text × Word)
+
+unfoldable pub assignments_in : Elements → Assignments
+assignments_in no_elements = []
+assignments_in (assignment name value es) = (name, value) ∷ assignments_in es
+assignments_in (operand w es) = assignments_in es
+assignments_in (redirection r es) = assignments_in es
 
 -- Assignments in form: the text before the first `=` is an unquoted name
 

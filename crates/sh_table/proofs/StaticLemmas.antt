@@ -18,26 +18,26 @@ use Rattle.sh_table.specs.runs.Fields.{Sign, stands, piece_signs, Before, Inside
 
 -- Pieces that stand as they are
 
-unfoldable is_standing : Piece → Bool
+unfoldable pub is_standing : Piece → Bool
 is_standing (Bytes Literal t) = true
 is_standing (Bytes Quoted t) = true
 is_standing _ = false
 
 -- a piece that begins a field
-unfoldable begins : Piece → Bool
+unfoldable pub begins : Piece → Bool
 begins (Bytes Quoted t) = true
 begins (Bytes origin t) = not (length t == 0)
 begins Break = false
 
-abbrev mark : Bool → ℕ → Marked
+abbrev pub mark : Bool → ℕ → Marked
 mark quoted c = record { byte = c; quoted = quoted }
 
-unfoldable marks_of : Piece → List Marked
+unfoldable pub marks_of : Piece → List Marked
 marks_of (Bytes Quoted t) = map (mark true) t
 marks_of (Bytes origin t) = map (mark false) t
 marks_of Break = []
 
-abbrev marks : List Piece → List Marked
+abbrev pub marks : List Piece → List Marked
 marks ps = flat_map marks_of ps
 
 scan_map : (quoted : Bool) (t : List ℕ) (field : List Marked) (xs : List Sign) → scan (Inside field) (map (stands quoted) t ++ xs) ≡ scan (Inside (field ++ map (mark quoted) t)) xs
@@ -61,7 +61,7 @@ module _ (separators : List ℕ) where
   scan_inside (Break ∷ ps) field h = cc
 
   -- pieces that stand, and begin a field, are one field
-  scan_before : (ps : List Piece) → list_all is_standing ps ≡ true → list_any begins ps ≡ true → scan Before (flat_map (piece_signs separators) ps) ≡ marks ps ∷ []
+  pub scan_before : (ps : List Piece) → list_all is_standing ps ≡ true → list_any begins ps ≡ true → scan Before (flat_map (piece_signs separators) ps) ≡ marks ps ∷ []
   unfolding scan piece_signs is_standing begins marks_of
   scan_before [] h k = cc
   scan_before (Bytes Literal [] ∷ ps) h k = scan_before ps h k
@@ -75,7 +75,7 @@ text_map : (quoted : Bool) (t : List ℕ) (ms : List Marked) → field_text (map
 text_map quoted [] ms = refl
 text_map quoted (c ∷ cs) ms = ap (λ l. c ∷ l) (text_map quoted cs ms)
 
-marks_text : (ps : List Piece) → field_text (marks ps) ≡ pieces_text ps
+pub marks_text : (ps : List Piece) → field_text (marks ps) ≡ pieces_text ps
 unfolding marks_of piece_text
 marks_text [] = refl
 marks_text (Bytes Literal t ∷ ps) = text_map false t (marks ps) ∙ ap (λ l. t ++ l) (marks_text ps)
@@ -163,10 +163,10 @@ quotes_spell false s l = record { ended = l; standing = refl; text = refl; class
 -- Static words
 
 -- two texts, one after the other
-abbrev Joins : Option (List ℕ) → Option (List ℕ) → List ℕ → Type 0
+abbrev pub Joins : Option (List ℕ) → Option (List ℕ) → List ℕ → Type 0
 Joins v w t = (a : List ℕ) × (b : List ℕ) × (v ≡ Some a) × (w ≡ Some b) × (a ++ b ≡ t)
 
-joined_some : (v w : Option (List ℕ)) (t : List ℕ) → joined v w ≡ Some t → Joins v w t
+pub joined_some : (v w : Option (List ℕ)) (t : List ℕ) → joined v w ≡ Some t → Joins v w t
 joined_some None w t h = absurd (none-some t h)
 joined_some (Some a) None t h = absurd (none-some t h)
 joined_some (Some a) (Some b) t h = (a, b, refl, refl, same_Some (a ++ b) t h)
@@ -250,7 +250,7 @@ neither false false d e h k = refl
 neither false true true e h k = rw (k refl) refl
 neither false true false e h k = cc
 
-unless : {A : Type 0} (x : Bool) (v : Option A) (t : A) → (if x then None else v) ≡ Some t → (x ≡ false) × (v ≡ Some t)
+pub unless : {A : Type 0} (x : Bool) (v : Option A) (t : A) → (if x then None else v) ≡ Some t → (x ≡ false) × (v ≡ Some t)
 unless true v t h = absurd (none-some t h)
 unless false v t h = (refl, h)
 
