@@ -13,6 +13,7 @@ pub mod WorldLemmas
 pub mod EnvironmentLemmas
 pub mod ExpansionLemmas
 pub mod MarkLemmas
+pub mod ProcessLemmas
 pub mod LeftLemmas
 pub mod RowLemmas
 pub mod RowExampleLemmas
