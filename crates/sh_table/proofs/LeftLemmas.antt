@@ -20,15 +20,15 @@ use Rattle.sh_table.specs.runs.Answers.{Given, Answer}
 use Rattle.sh_table.specs.runs.States.{State, Copy, fresh}
 use Rattle.sh_table.specs.runs.Expansion.{Context, in_fields, in_one, Outcome, pieces_text, expand}
 use Rattle.sh_table.specs.runs.Operands.{unset_operands, definitions_in, count_operand, read_names, getopts_name}
-use Rattle.sh_table.specs.runs.Work.{Simple, Work, Items, Links, Pipeline, Negation, Command, Words, Prepare, Utility, Call, Return, Compound, If, Then, Test, Again, ForWords, ForFields, Clauses, Patterns, Fall, Saved, Start, Shares, Copies, Frames, Keeps, Pushes, Pops, Effect, goes, ends, of_copies, after_expansion, Mark, no_loop, marked, or_nearer, nth_mark, loop_mark, broken_off, continued, return_mark}
+use Rattle.sh_table.specs.runs.Work.{Simple, Work, Items, Links, Pipeline, Negation, Command, Words, Prepare, Utility, Call, Return, Compound, If, Then, Test, Again, ForWords, ForFields, Clauses, Patterns, Fall, Saved, Start, Shares, Copies, Effect, goes, ends, of_copies, after_expansion, Mark, no_loop, marked, or_nearer, nth_mark, loop_mark, broken_off, continued, return_mark}
 use Rattle.sh_table.specs.runs.Builtins.{nonzero, unset_names, shifted, restored, returned, special, special_or_end, reads, utility}
 use Rattle.sh_table.specs.runs.Steps.{opened, Manner, Nameless, Special, Named, named_manner, manner, word_context, word_fields, word_splits, status_behind, Preparation, ready, next_redirect, next_assignment, in_order, in_any_order, next_preparation, may_copy, picked, takes_link, takes_turn, and_or_work, simple_work, command_work, expanded, unless_ended, negated_work, parts, piped, items, links, words, failed_in, redirected, assignment, invoked, prepared, prepare, kept, seen, utility_step, unseen, call, failed_before, redirected_before, over_fields, over_words, begun, is_started_first, in_process, compound, branch, test, for_words, for_fields, fall, clause_list, falls, clauses, matched, patterns, act_on, act}
-use Rattle.sh_table.specs.runs.Worlds.{Process, World, Move, innermost, with_frames, with_environment, with_process, stepped, start, start_all, apply, effect_of, step, run, start_world}
+use Rattle.sh_table.specs.runs.Worlds.{Process, World, Move, run, start_world}
 use Rattle.sh_table.proofs.EnvironmentLemmas.{if_either, showing_kept, hiding_kept, restored_kept, read_kept, option_kept, directory_kept, all_removed_kept}
 use Rattle.sh_table.proofs.ExpansionLemmas as expansion
 use Rattle.sh_table.proofs.ExpansionLemmas.{Each, each_parts, each_joined, word_kept}
 use Rattle.sh_table.proofs.MarkLemmas.{around}
-use Rattle.sh_table.proofs.WorldLemmas.{put_each, Made, step_made, run_keeps}
+use Rattle.sh_table.proofs.ProcessLemmas.{StartHolds, StartsHold, EffectHolds, goes_holds, ends_holds, work_holds, run_holds}
 
 -- What is known of a simple command while its words are expanded, by what stands round it, the words that are left and the fields so
 -- far.
@@ -139,41 +139,31 @@ module _ (ok : Located → Bool) (Q : Known) where
 
   -- Effects
 
-  unfoldable pub StartStands : Start → Type 0
-  StartStands (Shares ws) = LeftStands ws
-  StartStands (Copies e ws) = FunctionsStand e × LeftStands ws
+  abbrev StartStands : Start → Type 0
+  StartStands x = StartHolds FunctionsStand LeftStands x
 
-  unfoldable pub StartsStand : List Start → Type 0
-  StartsStand [] = Unit {0}
-  StartsStand (x ∷ xs) = StartStands x × StartsStand xs
+  abbrev StartsStand : List Start → Type 0
+  StartsStand xs = StartsHold FunctionsStand LeftStands xs
 
-  unfoldable pub NextStands : Option (ℕ × List Work) → Type 0
-  NextStands None = Unit {0}
-  NextStands (Some x) = LeftStands x.1
-
-  pub record EffectStands (x : Effect) : Type 0 where
-    pub functions : FunctionsStand x.environment
-    pub next : NextStands x.next
-    pub starts : StartsStand x.starts
+  abbrev pub EffectStands : Effect → Type 0
+  EffectStands x = EffectHolds FunctionsStand LeftStands x
 
   goes_stands : (e : Environment) (f : Frame) (status : ℕ) (ws : List Work) → FunctionsStand e → LeftStands ws → EffectStands (goes e f status ws)
-  unfolding NextStands StartsStand
-  goes_stands e f status ws h k = record { functions = h; next = k; starts = tt }
+  goes_stands e f status ws h k = goes_holds FunctionsStand LeftStands e f status ws h k
 
   ends_stands : (e : Environment) (f : Frame) → FunctionsStand e → EffectStands (ends e f)
-  unfolding NextStands StartsStand
-  ends_stands e f h = record { functions = h; next = tt; starts = tt }
+  ends_stands e f h = ends_holds FunctionsStand LeftStands e f h
 
   copies_start : (cs : List Copy) (xs : List Start) → CopiesStand cs → StartsStand xs → StartsStand (of_copies cs ++ xs)
-  unfolding CopiesStand StartsStand StartStands LeftStands WorkStands around
+  unfolding CopiesStand StartsHold StartHolds LeftStands WorkStands around
   copies_start [] xs h k = k
   copies_start (c ∷ cs) xs h k = ((h.0, (h.1, tt)), copies_start cs xs h.2 k)
 
   after_stands : (s : State) (split : Bool) (x : Effect) → StateStands s → EffectStands x → EffectStands (after_expansion s split x)
-  after_stands s split x h k = record { functions = k.functions; next = k.next; starts = copies_start s.copies x.starts h.copies k.starts }
+  after_stands s split x h k = record { environment = k.environment; next = k.next; starts = copies_start s.copies x.starts h.copies k.starts }
 
   starting_stands : (x : Effect) (starts : List Start) → EffectStands x → StartsStand starts → EffectStands (record x { starts = starts })
-  starting_stands x starts h k = record { functions = h.functions; next = h.next; starts = k }
+  starting_stands x starts h k = record { environment = h.environment; next = h.next; starts = k }
 
   -- Jumps go to what stands
 
@@ -326,7 +316,7 @@ module _ (ok : Located → Bool) (Q : Known) where
     -- Lists, and-or lists and pipelines
 
     parts_stand : (n : ℕ) (cs : p.Commands) → Each ok (commands_located outside cs) → StartsStand (parts e f status ws a n cs)
-    unfolding items_located parts StartsStand StartStands LeftStands WorkStands around
+    unfolding items_located parts StartsHold StartHolds LeftStands WorkStands around
     parts_stand n p.no_commands h = tt
     parts_stand n (p.more_commands c cs) h =
         let both = each_parts ok (command_located outside c) _ h in
@@ -346,7 +336,7 @@ module _ (ok : Located → Bool) (Q : Known) where
     pipeline_stands (p.pipeline false cs) h = piped_stands ws cs left h
 
     items_stand : (t : p.Items) → Each ok (items_located (around ws) t) → EffectStands (items e f status ws a t)
-    unfolding items_located in_item items and_or_work LeftStands WorkStands around StartsStand StartStands
+    unfolding items_located in_item items and_or_work LeftStands WorkStands around StartsHold StartHolds
     items_stand p.no_items h = on status ws left
     items_stand (p.more_items (p.and_or first rest) false behind) h =
         let both = each_parts ok (list_located (around ws) (p.and_or first rest)) _ h in
@@ -407,7 +397,7 @@ module _ (ok : Located → Bool) (Q : Known) where
     returned_stands None s h = on s ws left
     returned_stands (Some x) s h =
         let there : EffectStands (goes (restored a.restores 0 e x.0) f s x.1) = goes_stands _ f s x.1 (restored_stands a.restores 0 e x.0 functions) h in
-        record { functions = there.functions; next = there.next; starts = there.starts }
+        record { environment = there.environment; next = there.next; starts = there.starts }
 
     shifted_stands : (n : Option ℕ) → EffectStands (shifted e f ws a n)
     unfolding shifted
@@ -541,7 +531,7 @@ module _ (ok : Located → Bool) (Q : Known) where
     unfolding items_located call LeftStands WorkStands around
     call_stands n t ts body p.no_redirects [] saved h =
         let there : EffectStands (goes e f status (Command body ∷ Return n t saved ∷ ws)) = on status _ (h.0, (tt, left)) in
-        record { functions = there.functions; next = there.next; starts = there.starts }
+        record { environment = there.environment; next = there.next; starts = there.starts }
     call_stands n t ts body (p.more_redirects r rest) [] saved h =
         let both = each_parts ok (redirect_located r) _ h.1 in
         let there : StateStands (unseen e f status ws a saved r) = unseen_stands saved r both.0 in
@@ -574,7 +564,7 @@ module _ (ok : Located → Bool) (Q : Known) where
     words_over_stand n name (p.listed vs) body h k = on status _ ((h, k), left)
 
     begun_stands : (n : ℕ) (kind : p.Kind) → Begins (around ws) n kind → Each ok (kind_located (around ws) kind) → EffectStands (begun e f status ws a n kind)
-    unfolding items_located begun Begins LeftStands WorkStands around StartsStand StartStands
+    unfolding items_located begun Begins LeftStands WorkStands around StartsHold StartHolds
     begun_stands n (p.Simple es) b h = on status _ (simple_stands (around ws) (record { number = n; elements = es }) b h, left)
     begun_stands n (p.Group list) b h = on status _ (h, left)
     begun_stands n (p.Subshell list) b h = starting_stands _ _ (on a.status ws left) ((functions, (h, tt)), tt)
@@ -595,7 +585,7 @@ module _ (ok : Located → Bool) (Q : Known) where
     -- a subshell that is expanded in the process that it starts, and otherwise another step
     compound_starts : (n : ℕ) (rs : p.Redirects) (kind : p.Kind) (x : Effect) → Each ok (kind_located (around ws) kind) → Each ok (redirects_located rs) → EffectStands x
         → EffectStands (if is_started_first e f status ws a kind then record (goes e f a.status ws) { starts = Copies e (Compound n rs (in_process e f status ws a kind) ∷ []) ∷ [] } else x)
-    unfolding items_located is_started_first in_process LeftStands WorkStands Begins around StartsStand StartStands
+    unfolding items_located is_started_first in_process LeftStands WorkStands Begins around StartsHold StartHolds
     compound_starts n rs (p.Subshell list) x h k l =
         if_either EffectStands a.redirections_in_process _ x (starting_stands _ _ (on a.status ws left) ((functions, ((tt, h, k), tt)), tt)) l
     compound_starts n rs kind x h k l = l
@@ -743,86 +733,9 @@ module _ (ok : Located → Bool) (Q : Known) where
   act_stands follows e f status [] a h k = ends_stands e f h
   act_stands follows e f status (w ∷ ws) a h k = front_stands follows e f status ws a h k.1 w k.0
 
-  -- Worlds
-
-  unfoldable pub ProcessStands : Option Process → Type 0
-  ProcessStands None = Unit {0}
-  ProcessStands (Some r) = LeftStands r.work
-
-  pub record WorldStands (w : World) : Type 0 where
-    pub environments : (n : ℕ) → FunctionsStand (w.environments n)
-    pub processes : (n : ℕ) → ProcessStands (w.processes n)
-
-  frames_stand : (w : World) (ns : List ℕ) (fs : Frames) → WorldStands w → WorldStands (with_frames w ns fs)
-  unfolding with_frames
-  frames_stand w [] (Keeps f) h = h
-  frames_stand w (n ∷ ns) (Keeps f) h = record { environments = h.environments; processes = h.processes }
-  frames_stand w ns (Pushes f) h = record { environments = h.environments; processes = h.processes }
-  frames_stand w ns Pops h = h
-
-  start_stands : (w : World) (n : ℕ) (r : Process) (x : Start) → StartStands x → WorldStands w → WorldStands (start w n r x)
-  unfolding start StartStands ProcessStands
-  start_stands w n r (Shares ws) h k = record {
-    environments = k.environments;
-    processes = λ q. put_each (λ j o. ProcessStands o) w.processes w.next_process _ h q (k.processes q);
-  }
-  start_stands w n r (Copies e ws) h k = record {
-    environments = λ q. put_each (λ j d. FunctionsStand d) w.environments w.next_environment e h.0 q (k.environments q);
-    processes = λ q. put_each (λ j o. ProcessStands o) w.processes w.next_process _ h.1 q (k.processes q);
-  }
-
-  starts_stand : (w : World) (n : ℕ) (r : Process) (xs : List Start) → StartsStand xs → WorldStands w → WorldStands (start_all w n r xs)
-  unfolding start_all StartsStand
-  starts_stand w n r [] h k = k
-  starts_stand w n r (x ∷ xs) h k = starts_stand (start w n r x) n r xs h.1 (start_stands w n r x h.0 k)
-
-  stepped_stands : (w : World) (r : Process) (fs : Frames) (x : Option (ℕ × List Work)) → NextStands x → ProcessStands (stepped w r fs x)
-  unfolding stepped NextStands ProcessStands
-  stepped_stands w r fs None h = tt
-  stepped_stands w r fs (Some x) h = h
-
-  apply_stands : (w : World) (n : ℕ) (r : Process) (x : Effect) → EffectStands x → WorldStands w → WorldStands (apply w n r x)
-  unfolding apply
-  apply_stands w n r x h k =
-      let v : World = with_environment w r.environment x.environment in
-      let changed : WorldStands v = record {
-        environments = λ q. put_each (λ j d. FunctionsStand d) w.environments r.environment x.environment h.functions q (k.environments q);
-        processes = k.processes;
-      } in
-      let u : World = with_frames v r.frames x.frames in
-      let there : WorldStands u = frames_stand v r.frames x.frames changed in
-      let o : Option Process = stepped w r x.frames x.next in
-      let moved : WorldStands (with_process u n o) = record {
-        environments = there.environments;
-        processes = λ q. put_each (λ j p. ProcessStands p) u.processes n o (stepped_stands w r x.frames x.next h.next) q (there.processes q);
-      } in
-      let all : WorldStands (start_all (with_process u n o) n r x.starts) = starts_stand (with_process u n o) n r x.starts h.starts moved in
-      record { environments = all.environments; processes = all.processes }
-
-  step_stands : Follows ok Q → (w w' : World) (m : Move) → WorldStands w → step w m ≡ Some w' → WorldStands w'
-  unfolding effect_of ProcessStands
-  step_stands follows w w' m h d =
-      let made : Made w m w' = step_made w w' m d in
-      let r : Process = made.process in
-      let work : LeftStands r.work = subst ProcessStands made.lives (h.processes m.process) in
-      subst WorldStands (sym made.after)
-      (apply_stands w m.process r (effect_of w m r)
-      (act_stands follows (w.environments r.environment) (innermost w.frames r.frames) r.status r.work m.answer (h.environments r.environment) work)
-      h)
-
-  start_world_stands : (e : Environment) (f : Frame) (t : p.Items) → FunctionsStand e → Each ok (items_located outside t) → WorldStands (start_world e f t)
-  unfolding start_world ProcessStands LeftStands WorkStands around
-  start_world_stands e f t h k = record {
-    environments = λ n. h;
-    processes = λ n. put_each (λ j o. ProcessStands o) (λ n. None) 0 _ (k, tt) n tt;
-  }
-
-  -- what every run keeps, from a program whose commands pass the test
+  -- in every run, from a program whose commands pass the test
   pub run_stands : Follows ok Q → (e : Environment) (f : Frame) (t : p.Items) (moves : List Move) (w : World) → FunctionsStand e → Each ok (items_located outside t)
-      → run moves (start_world e f t) ≡ Some w → WorldStands w
-  run_stands follows e f t moves w h k d = run_keeps WorldStands (step_stands follows) moves (start_world e f t) w (start_world_stands e f t h k) d
-
-  -- the work of a live process
-  pub work_stands : (w : World) (n : ℕ) (r : Process) → WorldStands w → w.processes n ≡ Some r → LeftStands r.work
-  unfolding ProcessStands
-  work_stands w n r h lives = subst ProcessStands lives (h.processes n)
+      → run moves (start_world e f t) ≡ Some w → (n : ℕ) (r : Process) → w.processes n ≡ Some r → LeftStands r.work
+  unfolding LeftStands WorkStands around
+  run_stands follows e f t moves w h k d n r lives =
+      work_holds FunctionsStand LeftStands w n r (run_holds FunctionsStand LeftStands (act_stands follows) e f t moves w h (k, tt) d) lives

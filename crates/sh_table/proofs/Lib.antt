@@ -9,6 +9,7 @@ pub mod FormLemmas
 pub mod LeftLemmas
 pub mod MarkLemmas
 pub mod OperandLemmas
+pub mod ProcessLemmas
 pub mod ProfileLemmas
 pub mod QuotedLemmas
 pub mod RowExampleLemmas

@@ -26,7 +26,7 @@ use Rattle.sh_table.specs.runs.Work.{Simple, Work, Prepare, Utility}
 use Rattle.sh_table.specs.runs.Steps.{Named, named_manner, manner, is_declared, word_context, word_fields}
 use Rattle.sh_table.proofs.AdmittedLemmas.{is_free, items_listed, mapped}
 use Rattle.sh_table.proofs.ExpansionLemmas.{Each}
-use Rattle.sh_table.proofs.LeftLemmas.{Known, Follows, LeftStands, WorkStands, run_stands, work_stands}
+use Rattle.sh_table.proofs.LeftLemmas.{Known, Follows, LeftStands, WorkStands, run_stands}
 use Rattle.sh_table.proofs.MarkLemmas.{around, loop_is_marked, function_is_marked}
 use Rattle.sh_table.proofs.StaticLemmas.{static_fields}
 
@@ -271,7 +271,4 @@ both_pass (l ∷ ls) h k =
 pub rows_are_there : RowsAreThere
 rows_are_there t e f moves w admitted give none h n r lives =
     let pass : Each passes (items_located outside t) = both_pass (items_located outside t) (sym (items_listed outside t) ∙ admitted) give in
-    work_row r.work
-    (work_stands passes RowsKnown w n r
-    (run_stands passes RowsKnown rows_follow e f t moves w (λ name body d. absurd (none-some body (sym (none name) ∙ d))) pass h)
-    lives)
+    work_row r.work (run_stands passes RowsKnown rows_follow e f t moves w (λ name body d. absurd (none-some body (sym (none name) ∙ d))) pass h n r lives)
