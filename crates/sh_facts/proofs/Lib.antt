@@ -1,1 +1,4 @@
 pub mod AnswerLemmas
+pub mod OrderLemmas
+pub mod MonotoneLemmas
+pub mod LeastLemmas

@@ -15,3 +15,5 @@ pub mod Scripts
 pub mod LongerScripts
 pub mod ForgedScripts
 pub mod AnswerExamples
+pub mod Order
+pub mod LeastFault
