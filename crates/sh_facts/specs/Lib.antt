@@ -17,3 +17,4 @@ pub mod ForgedScripts
 pub mod AnswerExamples
 pub mod Order
 pub mod LeastFault
+pub mod Inclusions

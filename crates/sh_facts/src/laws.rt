@@ -1,5 +1,6 @@
 //! What holds of the rules and the demands that `specs/` defines.
 ghost use Rattle.sh_facts.specs.AnswerExamples.{AnswersAsExpected};
+ghost use Rattle.sh_facts.specs.Inclusions.{RulesGive};
 ghost use Rattle.sh_facts.specs.LeastFault.{LeastIsTold};
 ghost use Rattle.sh_facts.specs.Order.{Monotone, Ordered};
 
@@ -23,4 +24,10 @@ pub fn monotone()
 /// Of a list of faults the one that is told stands in it, none in it precedes that one, and no other is so.
 pub fn least()
     ensures { LeastIsTold }
+{}
+
+/// What a certificate without a fault and without an unmet demand gives at each command of an admitted program: which claims are
+/// within what is seen there, which names it may drop, and that its words need no more than is known.
+pub fn inclusions()
+    ensures { RulesGive }
 {}
