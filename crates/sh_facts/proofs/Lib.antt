@@ -5,3 +5,6 @@ pub mod LeastLemmas
 pub mod EachLemmas
 pub mod AdmittedWalk
 pub mod InclusionLemmas
+pub mod CountLemmas
+pub mod SpotLemmas
+pub mod SpotExampleLemmas

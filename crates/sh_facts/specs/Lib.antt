@@ -18,3 +18,5 @@ pub mod AnswerExamples
 pub mod Order
 pub mod LeastFault
 pub mod Inclusions
+pub mod Spots
+pub mod SpotExamples

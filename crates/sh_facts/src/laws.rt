@@ -3,6 +3,8 @@ ghost use Rattle.sh_facts.specs.AnswerExamples.{AnswersAsExpected};
 ghost use Rattle.sh_facts.specs.Inclusions.{RulesGive};
 ghost use Rattle.sh_facts.specs.LeastFault.{LeastIsTold};
 ghost use Rattle.sh_facts.specs.Order.{Monotone, Ordered};
+ghost use Rattle.sh_facts.specs.SpotExamples.{SpotsAsExpected};
+ghost use Rattle.sh_facts.specs.Spots.{PlacesStandOnce};
 
 /// Known certificates of known scripts are answered as they should be: the first rule that one breaks, or the places of the demands
 /// that are unmet.
@@ -30,4 +32,11 @@ pub fn least()
 /// within what is seen there, which names it may drop, and that its words need no more than is known.
 pub fn inclusions()
     ensures { RulesGive }
+{}
+
+/// Of a program in which no two commands start at one offset, and no two expansions, tildes or names of arithmetic stand at one, no
+/// place is told twice. The offsets of known programs are such.
+pub fn once()
+    ensures law { PlacesStandOnce }
+    ensures examples { SpotsAsExpected }
 {}
