@@ -1,1 +1,10 @@
 pub mod AnswerLemmas
+pub mod OrderLemmas
+pub mod MonotoneLemmas
+pub mod LeastLemmas
+pub mod EachLemmas
+pub mod AdmittedWalk
+pub mod InclusionLemmas
+pub mod CountLemmas
+pub mod SpotLemmas
+pub mod SpotExampleLemmas

@@ -15,3 +15,8 @@ pub mod Scripts
 pub mod LongerScripts
 pub mod ForgedScripts
 pub mod AnswerExamples
+pub mod Order
+pub mod LeastFault
+pub mod Inclusions
+pub mod Spots
+pub mod SpotExamples

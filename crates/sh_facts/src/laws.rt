@@ -1,8 +1,42 @@
 //! What holds of the rules and the demands that `specs/` defines.
 ghost use Rattle.sh_facts.specs.AnswerExamples.{AnswersAsExpected};
+ghost use Rattle.sh_facts.specs.Inclusions.{RulesGive};
+ghost use Rattle.sh_facts.specs.LeastFault.{LeastIsTold};
+ghost use Rattle.sh_facts.specs.Order.{Monotone, Ordered};
+ghost use Rattle.sh_facts.specs.SpotExamples.{SpotsAsExpected};
+ghost use Rattle.sh_facts.specs.Spots.{PlacesStandOnce};
 
 /// Known certificates of known scripts are answered as they should be: the first rule that one breaks, or the places of the demands
 /// that are unmet.
 pub fn examples()
     ensures { AnswersAsExpected }
+{}
+
+/// Facts are ordered by what they claim, with a meet and a greatest, and the test of a claim is that order.
+pub fn order()
+    ensures { Ordered }
+{}
+
+/// Where a certificate claims more and has functions drop less, each bound of a rule claims more and each command drops less. So a
+/// certificate without a fault stays below whatever a greater one is lowered to.
+pub fn monotone()
+    ensures { Monotone }
+{}
+
+/// Of a list of faults the one that is told stands in it, none in it precedes that one, and no other is so.
+pub fn least()
+    ensures { LeastIsTold }
+{}
+
+/// What a certificate without a fault and without an unmet demand gives at each command of an admitted program: which claims are
+/// within what is seen there, which names it may drop, and that its words need no more than is known.
+pub fn inclusions()
+    ensures { RulesGive }
+{}
+
+/// Of a program in which no two commands start at one offset, and no two expansions, tildes or names of arithmetic stand at one, no
+/// place is told twice. The offsets of known programs are such.
+pub fn once()
+    ensures law { PlacesStandOnce }
+    ensures examples { SpotsAsExpected }
 {}
