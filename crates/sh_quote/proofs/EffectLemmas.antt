@@ -18,6 +18,7 @@ use Rattle.sh_table.specs.runs.Steps.{unless_ended}
 use Rattle.sh_table.specs.runs.Work.{Work, Saved, Start, Shares, Copies, Effect, goes, ends, of_copies, after_expansion}
 use Rattle.sh_table.proofs.EnvironmentLemmas.{all_removed_kept}
 use Rattle.sh_table.proofs.ExpansionLemmas.{Closed, word_stays}
+use Rattle.sh_table.proofs.ProcessLemmas.{StartHolds, StartsHold, NextHolds}
 use Rattle.sh_quote.specs.Invariant.{steady_definition, steady_field, watched, is_good, WordGood, ItemsGood, CommandGood, SavedGood, ShownGood, WorkGood, AllWorkGood, EnvironmentGood}
 use Rattle.sh_quote.proofs.SteadyLemmas.{either_or}
 
@@ -167,32 +168,26 @@ module _ (numbers : Bool) where
 
   -- Steps
 
-  unfoldable pub StartsGood : List Start → Type 0
-  StartsGood [] = Unit {0}
-  StartsGood (Shares ws ∷ xs) = AllWorkGood numbers ws × StartsGood xs
-  StartsGood (Copies e ws ∷ xs) = (EnvironmentGood numbers e × AllWorkGood numbers ws) × StartsGood xs
-
-  unfoldable pub NextGood : Option (ℕ × List Work) → Type 0
-  NextGood None = Unit {0}
-  NextGood (Some x) = AllWorkGood numbers x.1
+  abbrev pub StartsGood : List Start → Type 0
+  StartsGood xs = StartsHold (EnvironmentGood numbers) (AllWorkGood numbers) xs
 
   -- a step that leaves all good, and splits nothing unless it meets a parameter that is not set
   pub record EffectGood (x : Effect) : Type 0 where
     pub environment : EnvironmentGood numbers x.environment
-    pub next : NextGood x.next
+    pub next : NextHolds (EnvironmentGood numbers) (AllWorkGood numbers) x.next
     pub starts : StartsGood x.starts
     pub quiet : x.unset ≡ false → x.split ≡ false
 
   pub goes_good : (e : Environment) (f : Frame) (status : ℕ) (ws : List Work) → EnvironmentGood numbers e → AllWorkGood numbers ws → EffectGood (goes e f status ws)
-  unfolding NextGood StartsGood
+  unfolding NextHolds StartsHold
   goes_good e f status ws h k = record { environment = h; next = k; starts = tt; quiet = λ u. refl }
 
   pub ends_good : (e : Environment) (f : Frame) → EnvironmentGood numbers e → EffectGood (ends e f)
-  unfolding NextGood StartsGood
+  unfolding NextHolds StartsHold
   ends_good e f h = record { environment = h; next = tt; starts = tt; quiet = λ u. refl }
 
   behind_copies : (cs : List Copy) (xs : List Start) → CopiesGood cs → StartsGood xs → StartsGood (of_copies cs ++ xs)
-  unfolding CopiesGood StartsGood AllWorkGood WorkGood ItemsGood
+  unfolding CopiesGood StartsHold StartHolds AllWorkGood WorkGood ItemsGood
   behind_copies [] xs h k = k
   behind_copies (c ∷ cs) xs h k = ((h.0.0, (h.0.1, tt)), behind_copies cs xs h.1 k)
 

@@ -17,6 +17,7 @@ use Rattle.sh_table.specs.runs.States.{fresh}
 use Rattle.sh_table.specs.runs.Steps.{opened, word_fields, word_splits, status_behind, picked, takes_link, takes_turn, and_or_work, simple_work, command_work, unless_ended, negated_work, parts, piped, items, links, failed_before, redirected_before, over_fields, over_words, begun, is_started_first, in_process, compound, branch, test, for_words, for_fields, fall, clause_list, falls, clauses, matched, patterns, act_on}
 use Rattle.sh_table.specs.runs.Work.{Work, Items, Links, Pipeline, Negation, Command, Words, Prepare, Utility, Call, Return, Compound, If, Then, Test, Again, ForWords, ForFields, Clauses, Patterns, Fall, Start, Shares, Copies, Effect, goes, after_expansion}
 use Rattle.sh_table.proofs.ExpansionLemmas.{each_parts}
+use Rattle.sh_table.proofs.ProcessLemmas.{StartHolds, StartsHold}
 use Rattle.sh_quote.specs.Invariant.{watched, is_good, AllGood, WordGood, WordsGood, RedirectsGood, SplitWordsGood, ItemsGood, CommandGood, BranchesGood, ClausesGood, ForWordsGood, KindGood, WorkGood, AllWorkGood, EnvironmentGood}
 use Rattle.sh_quote.proofs.EffectLemmas.{set_good, unwatched_fits, function_good, copied_good, StateGood, expands, StartsGood, EffectGood, goes_good, ends_good, expanded_good, either_good, unless_good}
 use Rattle.sh_quote.proofs.GoodLemmas.{command_good}
@@ -37,7 +38,7 @@ module _ (numbers : Bool) (e : Environment) (f : Frame) (status : ℕ) (ws : Lis
   -- Lists and pipelines
 
   items_good : (is : p.Items) → ItemsGood numbers is → EffectGood numbers (items e f status ws a is)
-  unfolding items ItemsGood items_located list_located in_item AllWorkGood WorkGood StartsGood and_or_work
+  unfolding items ItemsGood items_located list_located in_item AllWorkGood WorkGood StartsHold StartHolds and_or_work
   items_good p.no_items h = stay status
   items_good (p.more_items (p.and_or first ls) false left) h =
       let b = each_parts (is_good numbers) (pipeline_located h.0 first ++ links_located h.0 ls) (items_located h.0 left) h.1 in
@@ -59,7 +60,7 @@ module _ (numbers : Bool) (e : Environment) (f : Frame) (status : ℕ) (ws : Lis
       goes_good numbers e f status _ env (cond_both (takes_link l status) (Pipeline q ∷ Links left ∷ ws) (Links left ∷ ws) (AllWorkGood numbers) (λ k. ((h.0, b.0), ((h.0, b.1), rest))) (λ k. ((h.0, b.1), rest)))
 
   parts_good : (x : Surroundings) (n : ℕ) (cs : p.Commands) → AllGood numbers (commands_located x cs) → StartsGood numbers (parts e f status ws a n cs)
-  unfolding parts commands_located StartsGood WorkGood AllWorkGood CommandGood
+  unfolding parts commands_located StartsHold StartHolds WorkGood AllWorkGood CommandGood
   parts_good x n p.no_commands h = tt
   parts_good x n (p.more_commands c cs) h =
       let b = each_parts (is_good numbers) (command_located x c) (commands_located x cs) h in
@@ -122,7 +123,7 @@ module _ (numbers : Bool) (e : Environment) (f : Frame) (status : ℕ) (ws : Lis
   over_words_good n name (p.listed left) body h k l = go_on status (ForWords n name left [] body) (h, k, l)
 
   begun_good : (n : ℕ) (kind : p.Kind) → KindGood numbers kind → EffectGood numbers (begun e f status ws a n kind)
-  unfolding begun KindGood WorkGood AllWorkGood StartsGood
+  unfolding begun KindGood WorkGood AllWorkGood StartsHold StartHolds
   begun_good n (p.Simple es) h = go_on status (simple_work (record { number = n; elements = es })) h
   begun_good n (p.Group list) h = go_on status (Items list) h
   begun_good n (p.Subshell list) h = starting (goes e f a.status ws) _ (stay a.status) ((copied_good numbers (a.carries 0) e env, (h, tt)), tt)
@@ -139,7 +140,7 @@ module _ (numbers : Bool) (e : Environment) (f : Frame) (status : ℕ) (ws : Lis
   in_process_good kind h = h
 
   compound_good : (n : ℕ) (rs : p.Redirects) (kind : p.Kind) → RedirectsGood numbers rs → KindGood numbers kind → EffectGood numbers (compound e f status ws a n rs kind)
-  unfolding compound RedirectsGood StartsGood AllWorkGood WorkGood redirected_before
+  unfolding compound RedirectsGood StartsHold StartHolds AllWorkGood WorkGood redirected_before
   compound_good n p.no_redirects kind h k = begun_good n kind k
   compound_good n (p.more_redirects r left) kind h k =
       either_good numbers (is_started_first e f status ws a kind) _ _

@@ -8,7 +8,7 @@ use std::test::Fail;
 type Row = (&'static [&'static str], &'static str);
 
 /// The action, the script, the number and the names of a line, as one text.
-fn shown_line(alloc: Global, line: &Line<'_>) -> Result<String, Fail> {
+fn line_text(alloc: Global, line: &Line<'_>) -> Result<String, Fail> {
     let action = match line.task.action {
         Action::Lint => "lint",
     };
@@ -29,9 +29,9 @@ fn shown_line(alloc: Global, line: &Line<'_>) -> Result<String, Fail> {
 }
 
 /// The answer to the words of a command line, as one text.
-fn shown(alloc: Global, words: &[&str]) -> Result<String, Fail> {
+fn answer_text(alloc: Global, words: &[&str]) -> Result<String, Fail> {
     match command_line(alloc, words) {
-        Ok(line) => shown_line(alloc, &line),
+        Ok(line) => line_text(alloc, &line),
         Err(Stop::Usage(text)) => Ok(format!(in alloc; "usage: {text}")?),
         Err(Stop::Help(text)) => Ok(format!(in alloc; "help: {text}")?),
         Err(Stop::BadName) => Ok("bad name".to_string(alloc)?),
@@ -41,7 +41,7 @@ fn shown(alloc: Global, words: &[&str]) -> Result<String, Fail> {
 
 fn check(rt: &(impl Abort + AllocGlobal), rows: &[Row]) -> Result<(), Fail> {
     for (words, wanted) in rows {
-        let text = shown(rt.alloc(), words)?;
+        let text = answer_text(rt.alloc(), words)?;
         assert_eq!(rt; text.as_str(), *wanted, "{words:?}");
     }
     Ok(())

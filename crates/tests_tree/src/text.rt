@@ -79,7 +79,11 @@ fn parts(alloc: Global, pieces: &[Piece]) -> Result<Items<Part>, AllocError> {
 }
 
 /// The static text of a word that is the whole of a script.
-fn told(alloc: Global, text: &[u8], pieces: &[Piece]) -> Result<Option<Vec<u8>>, AllocError> {
+fn static_text_of(
+    alloc: Global,
+    text: &[u8],
+    pieces: &[Piece],
+) -> Result<Option<Vec<u8>>, AllocError> {
     let parts = parts(alloc, pieces)?;
     let end = text.len().min(MAX_SCRIPT) as u32;
     let span = Span { start: 0, end };
@@ -99,7 +103,7 @@ fn is_same(found: &Option<Vec<u8>>, wanted: Option<&[u8]>) -> bool {
 
 fn check(rt: &impl Abort, alloc: Global, rows: &[Row]) -> Result<(), AllocError> {
     for (text, pieces, wanted) in rows {
-        let found = told(alloc, text, pieces)?;
+        let found = static_text_of(alloc, text, pieces)?;
         holds(rt, text, is_same(&found, *wanted));
     }
     Ok(())
