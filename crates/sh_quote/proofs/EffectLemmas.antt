@@ -15,7 +15,7 @@ use Rattle.sh_table.specs.runs.Expansion.{Context, expand}
 use Rattle.sh_table.specs.runs.Operands.{definition_in, definitions_in, Removal}
 use Rattle.sh_table.specs.runs.States.{State, Copy, fresh}
 use Rattle.sh_table.specs.runs.Steps.{unless_ended}
-use Rattle.sh_table.specs.runs.Work.{Work, Saved, Start, Shares, Copies, Effect, goes, ends, of_copies, after_expansion}
+use Rattle.sh_table.specs.runs.Work.{Work, Saved, Start, Effect, goes, ends, of_copies, after_expansion}
 use Rattle.sh_table.proofs.EnvironmentLemmas.{all_removed_kept}
 use Rattle.sh_table.proofs.ExpansionLemmas.{Closed, word_stays}
 use Rattle.sh_table.proofs.ProcessLemmas.{StartHolds, StartsHold, NextHolds}

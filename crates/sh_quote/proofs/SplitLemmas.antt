@@ -1,25 +1,23 @@
 -- In every run of a program that keeps the rules of quoting, no step splits a value, unless it meets a parameter that is not set.
-use Rattle.std.proofs.Common.{◌≡◌, ℕ, Bool, true, false, ◌||◌, if◌then◌else◌, Option, Some, None, unwrap_or, option_map, List, [], ◌∷◌, ◌++◌, flat_map, refl, sym, subst, ◌∙◌}
+use Rattle.std.proofs.Common.{◌≡◌, ℕ, Bool, true, false, ◌||◌, if◌then◌else◌, Option, Some, None, unwrap_or, option_map, List, [], ◌∷◌, ◌++◌, flat_map, refl, sym, ◌∙◌}
 use Rattle.std.specs.List.{list_all}
 use Rattle.std.proofs.lemmas.Bool.{and_parts, and_from}
 use Rattle.std.proofs.lemmas.Option.{none-some}
-use Rattle.sh_tree.specs.program.Syntax as p
-use Rattle.sh_tree.specs.program.Syntax.{Text}
 use Rattle.sh_table.specs.Quoting.{is_steady}
 use Rattle.sh_table.specs.Rows.{command_gives_fields}
 use Rattle.sh_table.specs.Surroundings.{Located, outside, items_located}
 use Rattle.sh_table.specs.runs.Environment.{Environment, Frame}
 use Rattle.sh_table.specs.runs.Answers.{Answer}
 use Rattle.sh_table.specs.runs.Steps.{act}
-use Rattle.sh_table.specs.runs.Work.{Work, Start, Shares, Copies, Frames, Keeps, Pushes, Pops, Effect}
-use Rattle.sh_table.specs.runs.Worlds.{put, Process, World, with_frames, with_environment, with_process, stepped, start, start_all, apply, Move, waits, effect_of, may_step, stepping, step, has_unset_event, has_split_event, start_world}
+use Rattle.sh_table.specs.runs.Work.{Work}
+use Rattle.sh_table.specs.runs.Worlds.{Process, World, Move, waits, effect_of, may_step, stepping, has_unset_event, has_split_event}
 use Rattle.sh_table.proofs.AdmittedLemmas.{is_free, items_listed}
 use Rattle.sh_table.proofs.ProcessLemmas.{WorldHolds, work_holds, Kept, run_holds}
 use Rattle.sh_quote.specs.Places.{word_places, split_words, unquoted}
 use Rattle.sh_quote.specs.Steady.{steady_command, steady}
 use Rattle.sh_quote.specs.Theorem.{QuotingSuffices}
 use Rattle.sh_quote.specs.Invariant.{is_good, AllGood, ItemsGood, WorkGood, AllWorkGood, EnvironmentGood}
-use Rattle.sh_quote.proofs.EffectLemmas.{StartsGood, NextGood, EffectGood, ends_good}
+use Rattle.sh_quote.proofs.EffectLemmas.{EffectGood, ends_good}
 use Rattle.sh_quote.proofs.GoodLemmas.{good_from}
 use Rattle.sh_quote.proofs.StepLemmas.{act_on_good}
 
