@@ -26,9 +26,7 @@ use Rattle.sh_tree.specs.language.Bytes.{is_blank, is_newline, is_backslash, is_
 use Rattle.sh_tree.specs.language.Words as words
 use Rattle.sh_tree.specs.language.Commands.{gap_length, blank_length, blanks, operator_of, operator_lead, whole_operator, opening, reserved_lead, first_lead, name_lead, word_lead, number_lead, other_lead, lead_of, lead_at, is_assignment, name_end, bare_word, named, reserved_words, left_out_names}
 use Rattle.sh_tree.specs.language.Contexts.{in_word, in_value, in_operand, in_stage}
-use Rattle.sh_tree.specs.language.Reading.{sign_at}
 use Rattle.sh_words.proofs.OperationLemmas.{first_some}
-use Rattle.sh_grammar.specs.Readers.{plain_spot}
 
 -- Tests
 
@@ -254,7 +252,7 @@ word_takes b s i is settled =
           (never (in_stage b s i) i (drop i b) (stage_site b s i) some (settled_gap b i settled) at.no_operator at.no_newline),
     )
 
-pub word_goes : (b : List ℕ) (s : Stage) (i : ℕ) → lead_at b s i ≡ lead.Word → blanks false b i ≡ i → sign_at b (in_stage b s i) 0 (plain_spot 0 i) ≡ sign.Stop → ⊥
+pub word_goes : (b : List ℕ) (s : Stage) (i : ℕ) → lead_at b s i ≡ lead.Word → blanks false b i ≡ i → (words.token b (in_stage b s i) 0 i).sign ≡ sign.Stop → ⊥
 unfolding words.token
 word_goes b s i is settled stop =
     true≢false (sym (ap (λ g. takes_none g (words.sign_of (in_stage b s i) 0 i (drop i b)).1) stop) ∙ (word_takes b s i is settled).1)

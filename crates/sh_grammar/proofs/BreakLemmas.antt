@@ -7,12 +7,14 @@ use Rattle.sh_tree.specs.declared.token.command.Stage.TheVariants.{First}
 use Rattle.sh_tree.specs.language.Bytes.{is_blank, is_newline, is_backslash, is_first}
 use Rattle.sh_tree.specs.language.Commands.{gap_length, comment_length, is_comment, blank_length, blanks, lead_at, is_newline_lead}
 use Rattle.sh_tree.specs.language.HereDocuments.{Mark}
-use Rattle.sh_tree.specs.language.Reading.{ReadsBreaks, ReadsDocuments}
+use Rattle.sh_tree.specs.language.Reading.{ReadsBreaks, ReadsDocuments, parted}
 use Rattle.sh_tree.specs.language.Reading as r
-use Rattle.sh_tree.specs.language.States.{State, next}
+use Rattle.sh_tree.specs.language.States as states
+use Rattle.sh_tree.specs.language.States.{next, on_line}
 use Rattle.sh_tree.proofs.Inversions.{no_breaks, some_breaks}
 use Rattle.sh_grammar.specs.Breaks.{BreaksTo}
-use Rattle.sh_grammar.specs.Readers.{plain}
+use Rattle.sh_grammar.specs.declared.state.State.{State}
+use Rattle.sh_grammar.specs.States.{here, moved, Stands}
 
 -- Behind blanks stand none
 
@@ -84,33 +86,49 @@ blanks_settle b i =
 
 -- One newline
 
-pub no_documents : {limit : ℕ} {b : List ℕ} {ms : List Mark} {s v : State} → ms ≡ [] → ReadsDocuments limit b ms s v → v ≡ s
+pub no_documents : {limit : ℕ} {b : List ℕ} {ms : List Mark} {s v : states.State} → ms ≡ [] → ReadsDocuments limit b ms s v → v ≡ s
 no_documents none r.no_body = refl
 no_documents none (r.more_bodies e a c h k d) = cc
 
 module _ (b : List ℕ) where
-  -- the same breaks are left at j as at i
-  pub record Skips (i j : ℕ) : Type 0 where
-    pub forth : (limit n : ℕ) (v : State) → ReadsBreaks limit b (plain n i) v → ReadsBreaks limit b (plain n j) v
-    pub back : (limit n : ℕ) (v : State) → ReadsBreaks limit b (plain n j) v → ReadsBreaks limit b (plain n i) v
+  -- the same breaks are left at v as at s
+  pub record Skips (s v : State) : Type 0 where
+    pub forth : (limit : ℕ) (u : states.State) → ReadsBreaks limit b (here s) u → ReadsBreaks limit b (here v) u
+    pub back : (limit : ℕ) (u : states.State) → ReadsBreaks limit b (here v) u → ReadsBreaks limit b (here s) u
 
-  pub skips_one : (i j k : ℕ) → Skips i j → is_newline_lead (lead_at b First j) ≡ true → k ≡ blanks false b (j + 1) → Skips i k
-  skips_one i j k skips line there = record {
-    forth = λ limit n v h.
-        let f = some_breaks {s = plain n j} line (skips.forth limit n v h) in
-        let same : f.0 ≡ plain n (j + 1) = no_documents refl f.2 in
-        rw there (subst (λ u. ReadsBreaks limit b (next b u.spot.at u) v) same f.3);
-    back = λ limit n v h.
-        let rest : ReadsBreaks limit b (plain n (blanks false b (j + 1))) v = rw there at h in
-        skips.back limit n v (r.more_breaks line refl r.no_body rest);
+  pub skips_none : (s : State) → Skips s s
+  skips_none s = record { forth = λ limit u h. h; back = λ limit u h. h }
+
+  pub skips_one : (s v : State) → Skips s v → is_newline_lead (lead_at b First v.at) ≡ true → Skips s (moved b (v.at + 1) v)
+  skips_one s v skips line = record {
+    forth = λ limit u h.
+        let f = some_breaks {s = here v} line (skips.forth limit u h) in
+        let same : f.0 ≡ on_line (v.at + 1) (here v) = no_documents refl f.2 in
+        subst (λ w. ReadsBreaks limit b (next b w.spot.at w) u) same f.3;
+    back = λ limit u h. skips.back limit u (r.more_breaks {s = here v} line refl r.no_body h);
   }
 
-  pub skips_all : (i j : ℕ) → Skips i j → is_newline_lead (lead_at b First j) ≡ false → blanks false b j ≡ j → i ≤ j → j ≤ length b → BreaksTo b i j
-  skips_all i j skips none settled from within = record {
-    forth = λ limit n v h. no_breaks none (skips.forth limit n v h);
-    back = λ limit n. skips.back limit n (plain n j) (r.no_break none);
+  pub skips_all : (s v : State) → Skips s v → is_newline_lead (lead_at b First v.at) ≡ false → s.at ≤ v.at → Stands b v → BreaksTo b s v
+  skips_all s v skips none from stands = record {
+    forth = λ limit u h. no_breaks none (skips.forth limit u h);
+    back = λ limit. skips.back limit (here v) (r.no_break none);
     none = none;
-    settled = settled;
     from = from;
-    within = within;
+    stands = stands;
   }
+
+-- Where states stand
+
+pub moved_stands : (b : List ℕ) (i j : ℕ) (s : State) → Stands b s → j ≡ blanks false b i → j ≤ length b → Stands b (record s { at = j; fresh = true })
+moved_stands b i j s stands is inside = record {
+  inside = inside;
+  settled = ap (blanks false b) is ∙ blanks_settle b i ∙ sym is;
+  few = stands.few;
+  shallow = stands.shallow;
+}
+
+pub parted_is : (b : List ℕ) (s : State) → is_newline_lead (lead_at b First s.at) ≡ false → here (moved b (s.at + 1) s) ≡ parted b (here s)
+parted_is b s other = sym (cond-false _ _ _ other)
+
+pub parted_line : (b : List ℕ) (s : State) → is_newline_lead (lead_at b First s.at) ≡ true → here s ≡ parted b (here s)
+parted_line b s line = sym (cond-true _ _ _ line)

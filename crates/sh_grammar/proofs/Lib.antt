@@ -1,7 +1,13 @@
 pub mod BeginningLemmas
 pub mod BreakLemmas
 pub mod CommandLemmas
+pub mod CompoundLemmas
 pub mod ElementLemmas
 pub mod ItemLemmas
+pub mod ListLemmas
 pub mod Nul
+pub mod ReaderLemmas
+pub mod RedirectLemmas
+pub mod ScriptLemmas
+pub mod WidthLemmas
 pub mod WordLemmas

@@ -1,105 +1,107 @@
 -- What the readers of the whole language answer: the one thing that the bytes from a place on are, or why they are nothing.
 -- POSIX.1-2024, XCU 2.10: a rule of the grammar holds in one way or in none.
-use Rattle.std.specs.Prelude.{◌≡◌, ℕ, ◌+◌, ◌<◌, ◌≤◌, false, true, List, [], length, Result, Ok, Err}
+use Rattle.std.specs.Prelude.{◌≡◌, ℕ, ◌<◌, ◌≤◌, List, length, Result, Ok, Err}
 use Rattle.sh_tree.specs.declared.limits.TheConstants.{MAX_COMMANDS}
+use Rattle.sh_tree.specs.declared.token.command.Lead.{Lead}
 use Rattle.sh_tree.specs.declared.token.command.Stage.{Stage}
-use Rattle.sh_tree.specs.declared.token.command.Stage.TheVariants.{First}
 use Rattle.sh_tree.specs.declared.token.word.Context.{Context}
-use Rattle.sh_tree.specs.declared.token.word.Sign.TheVariants as sign
 use Rattle.sh_tree.specs.declared.tree.Word.{Word}
 use Rattle.sh_tree.specs.declared.tree.Element.{Element}
+use Rattle.sh_tree.specs.declared.tree.Kind.{Kind}
+use Rattle.sh_tree.specs.declared.tree.Redirect.{Redirect}
 use Rattle.sh_tree.specs.declared.tree.Command.{Command}
+use Rattle.sh_tree.specs.declared.tree.Pipe.{Pipe}
+use Rattle.sh_tree.specs.declared.tree.Link.{Link}
+use Rattle.sh_tree.specs.declared.tree.AndOr.{AndOr}
+use Rattle.sh_tree.specs.declared.tree.Script.{Script}
 use Rattle.sh_tree.specs.declared.refusal.Form.TheVariants as form
 use Rattle.sh_tree.specs.declared.refusal.Refusal.{Refusal}
 use Rattle.sh_tree.specs.declared.refusal.Refusal.TheVariants.{TooLong, NulByte, Syntax, LeftOut, TooDeep, TooMany, Memory, Profile, CertSyntax, CertShape}
-use Rattle.sh_tree.specs.language.Commands.{blanks, begins_simple, lead_at}
-use Rattle.sh_tree.specs.language.Reading.{ReadsWord, ReadsElements, ReadsCommand, sign_at}
-use Rattle.sh_tree.specs.language.States.{Spot, State, Document}
+use Rattle.sh_tree.specs.language.Reading.{ReadsWord, ReadsRedirect, ReadsRedirects, ReadsElements, ReadsCommand, ReadsCompound, ReadsCommands, ReadsPipeline, ReadsLinks, ReadsAndOr, ReadsSequence, ReadsList}
+use Rattle.sh_tree.specs.language.States as states
+use Rattle.sh_tree.specs.language.States.{Document, past}
+use Rattle.sh_grammar.specs.declared.state.State.{State}
+use Rattle.sh_grammar.specs.States.{spot_of, here, Stands}
 
--- Places outside all levels, where no here-document waits
+-- What is read of a sort of thing: at a limit, with the bodies of the level's here-documents, up to a state
+abbrev pub Reading : Type 0 → Type 1
+Reading A = ℕ → (ℕ → Document) → states.State → A → Type 0
 
--- at i, behind n commands
-abbrev pub plain_spot : ℕ → ℕ → Spot
-plain_spot n i = record { at = i; count = n; depth = 0; quiet = false; body = false; tabs = false }
-
-abbrev pub plain : ℕ → ℕ → State
-plain n i = record { spot = plain_spot n i; closed = false; pending = []; bodies = [] }
-
--- x is read within the limit, up to j, and nothing else is read at any limit
-pub record One {J A : Type 0} (R : ℕ → (ℕ → Document) → J → A → Type 0) (j : J) (x : A) : Type 0 where
-  pub reads : (body : ℕ → Document) → R 64 body j x
-  pub only : (limit : ℕ) (body : ℕ → Document) (k : J) (y : A) → R limit body k y → (k ≡ j) × (y ≡ x)
+-- x is read within the limit, up to v, and nothing else is read at any limit
+pub record One {A : Type 0} (R : Reading A) (v : states.State) (x : A) : Type 0 where
+  pub reads : (body : ℕ → Document) → R 64 body v x
+  pub only : (limit : ℕ) (body : ℕ → Document) (k : states.State) (y : A) → R limit body k y → (k ≡ v) × (y ≡ x)
 
 -- nothing is read
-abbrev pub Nothing : {J A : Type 0} → (ℕ → (ℕ → Document) → J → A → Type 0) → Type 0
-Nothing {J = J} {A = A} R = (limit : ℕ) (body : ℕ → Document) (k : J) (y : A) → R limit body k y → ⊥
+abbrev pub Nothing : {A : Type 0} → Reading A → Type 0
+Nothing {A = A} R = (limit : ℕ) (body : ℕ → Document) (k : states.State) (y : A) → R limit body k y → ⊥
 
--- nothing is read within the limit
-abbrev pub NothingWithin : {J A : Type 0} → (ℕ → (ℕ → Document) → J → A → Type 0) → Type 0
-NothingWithin {J = J} {A = A} R = (body : ℕ → Document) (k : J) (y : A) → R 64 body k y → ⊥
+-- nothing is read within the limit of nesting
+abbrev pub NothingWithin : {A : Type 0} → Reading A → Type 0
+NothingWithin {A = A} R = (body : ℕ → Document) (k : states.State) (y : A) → R 64 body k y → ⊥
+
+-- whatever is read has more commands before its end than there may be
+abbrev pub Crowded : {A : Type 0} → Reading A → Type 0
+Crowded {A = A} R = (limit : ℕ) (body : ℕ → Document) (k : states.State) (y : A) → R limit body k y → MAX_COMMANDS < k.spot.count
 
 -- a refusal, at a place of the text, only where nothing is read; of a form that is not read yet nothing is said
-abbrev pub Refused : {J A : Type 0} → List ℕ → (ℕ → (ℕ → Document) → J → A → Type 0) → Refusal → Type 0
+abbrev pub Refused : {A : Type 0} → List ℕ → Reading A → Refusal → Type 0
 Refused b R (Syntax f at) = (at ≤ length b) × Nothing R
 Refused b R (LeftOut f at) = (at < length b) × ((f ≡ form.Later → ⊥) → Nothing R)
 Refused b R (TooDeep at) = (at ≤ length b) × NothingWithin R
+Refused b R TooMany = Crowded R
 Refused b R Memory = Unit {0}
 Refused b R TooLong = ⊥
 Refused b R (NulByte at) = ⊥
-Refused b R TooMany = ⊥
 Refused b R (Profile r at) = ⊥
 Refused b R (CertSyntax n) = ⊥
 Refused b R CertShape = ⊥
 
--- Words
+-- x is the one thing read, up to v, which is no earlier than `least`
+pub record To {A : Type 0} (b : List ℕ) (R : Reading A) (least : ℕ) (x : A) (v : State) : Type 0 where
+  pub one : One R (here v) x
+  pub from : least ≤ v.at
+  pub stands : Stands b v
 
-abbrev pub WordFrom : List ℕ → Context → ℕ → ℕ → ℕ → (ℕ → Document) → Spot → Word → Type 0
-WordFrom b x n i limit body u w = ReadsWord limit b x (plain_spot n i) u w
+abbrev pub Answers : {A : Type 0} → List ℕ → Reading A → ℕ → Result (A × State) Refusal → Type 0
+Answers b R least (Ok r) = To b R least r.0 r.1
+Answers b R least (Err e) = Refused b R e
 
--- the word in the context from i on; it takes bytes where its context does not end at once
-pub record WordTo (b : List ℕ) (x : Context) (i : ℕ) (w : Word) : Type 0 where
-  pub one : (n : ℕ) → One (WordFrom b x n i) (plain_spot n w.span.end) w
-  pub from : i ≤ w.span.end
-  pub within : w.span.end ≤ length b
-  pub moves : (sign_at b x 0 (plain_spot 0 i) ≡ sign.Stop → ⊥) → i < w.span.end
+-- What is read from a state on
 
-abbrev pub Words : List ℕ → Context → ℕ → Result Word Refusal → Type 0
-Words b x i (Ok w) = WordTo b x i w
-Words b x i (Err e) = (n : ℕ) → Refused b (WordFrom b x n i) e
+-- the word in the context at i, which belongs to what is read from s on
+abbrev pub WordAt : List ℕ → Context → ℕ → State → Reading Word
+WordAt b x i s limit body v w = (u : states.Spot) × ReadsWord limit b x (spot_of i s) u w × (v ≡ past b u (here s))
 
--- Elements of simple commands
+abbrev pub ElementsFrom : List ℕ → Stage × State → Reading (List Element)
+ElementsFrom b s limit body v es = ReadsElements limit b body s.0 (here s.1) v es
 
-abbrev pub ElementsFrom : List ℕ → ℕ → Stage × ℕ → ℕ → (ℕ → Document) → State → List Element → Type 0
-ElementsFrom b n s limit body j es = ReadsElements limit b body s.0 (plain n s.1) j es
+abbrev pub CommandFrom : List ℕ → State → Reading Command
+CommandFrom b s limit body v c = ReadsCommand limit b body (here s) v c
 
--- the elements from the first token of a simple command on, up to j; they take bytes where the token begins one
-pub record ElementsTo (b : List ℕ) (i : ℕ) (es : List Element) (j : ℕ) : Type 0 where
-  pub one : (n : ℕ) → One (ElementsFrom b n (First, i)) (plain n j) es
-  pub from : i ≤ j
-  pub within : j ≤ length b
-  pub moves : begins_simple (lead_at b First i) ≡ true → i < j
-  pub settled : blanks false b j ≡ j
+abbrev pub CompoundFrom : List ℕ → Lead → State → Reading Kind
+CompoundFrom b l s limit body v k = ReadsCompound limit b body l (here s) v k
 
-abbrev pub Elements : List ℕ → ℕ → Result (List Element × ℕ) Refusal → Type 0
-Elements b i (Ok r) = ElementsTo b i r.0 r.1
-Elements b i (Err e) = (n : ℕ) → Refused b (ElementsFrom b n (First, i)) e
+abbrev pub CommandsFrom : List ℕ → State → Reading (List Command)
+CommandsFrom b s limit body v cs = ReadsCommands limit b body (here s) v cs
 
--- Commands
+abbrev pub PipelineFrom : List ℕ → State → Reading Pipe
+PipelineFrom b s limit body v p = ReadsPipeline limit b body (here s) v p
 
-abbrev pub CommandFrom : List ℕ → ℕ → ℕ → ℕ → (ℕ → Document) → State → Command → Type 0
-CommandFrom b n i limit body u c = ReadsCommand limit b body (plain n i) u c
+abbrev pub LinksFrom : List ℕ → State → Reading (List (Link × Pipe))
+LinksFrom b s limit body v ps = ReadsLinks limit b body (here s) v ps
 
--- the simple command at i behind n others, up to j, where there may be one more
-pub record CommandTo (b : List ℕ) (n i : ℕ) (c : Command) (j : ℕ) : Type 0 where
-  pub few : n < MAX_COMMANDS
-  pub begins : begins_simple (lead_at b First i) ≡ true
-  pub one : One (CommandFrom b n i) (plain (n + 1) j) c
-  pub moves : i < j
-  pub within : j ≤ length b
-  pub settled : blanks false b j ≡ j
+abbrev pub AndOrFrom : List ℕ → State → Reading AndOr
+AndOrFrom b s limit body v l = ReadsAndOr limit b body (here s) v l
 
--- there are too many where as many began before as there may be
-abbrev pub Commands : List ℕ → ℕ → ℕ → Result (Command × ℕ) Refusal → Type 0
-Commands b n i (Ok r) = CommandTo b n i r.0 r.1
-Commands b n i (Err TooMany) = n ≡ MAX_COMMANDS
-Commands b n i (Err e) = Refused b (CommandFrom b n i) e
+abbrev pub SequenceFrom : List ℕ → State → Reading Script
+SequenceFrom b s limit body v t = ReadsSequence limit b body (here s) v t
+
+abbrev pub ListFrom : List ℕ → State → Reading Script
+ListFrom b s limit body v t = ReadsList limit b body (here s) v t
+
+abbrev pub RedirectFrom : List ℕ → State → Reading Redirect
+RedirectFrom b s limit body v q = ReadsRedirect limit b body (here s) v q
+
+abbrev pub RedirectsFrom : List ℕ → State → Reading (List Redirect)
+RedirectsFrom b s limit body v qs = ReadsRedirects limit b body (here s) v qs

@@ -1,16 +1,21 @@
 //! The elements of simple commands (XCU 2.9.1).
-ghost use Rattle.std.specs.Prelude.{◌≡◌, ◌≤◌, false, length};
-ghost use Rattle.sh_grammar.specs.Readers.{Elements};
+ghost use Rattle.std.specs.Prelude.{◌≡◌, ◌+◌, ◌≤◌, true, length};
+ghost use Rattle.sh_grammar.specs.States.{Stands};
+ghost use Rattle.sh_grammar.specs.Readers.{Answers, ElementsFrom};
+ghost use Rattle.sh_tree.specs.declared.token.command.Stage.TheVariants.{First};
 ghost use Rattle.sh_tree.specs.language.Commands as commands;
 ghost use Rattle.sh_tree.specs.language.Reading as reading;
 
-use super::words::{value_at, word_at};
-use sh_scan::{begins_simple, blanks_at, declares_at, lead_at, name_at};
+use super::redirects::redirect_at;
+use super::state::State;
+use super::words::{mode_of, word_at};
+use sh_scan::{begins_simple, declares_at, lead_at, name_at};
 use sh_tree::Items;
 use sh_tree::limits::MAX_SCRIPT;
-use sh_tree::refusal::{Form, Refusal};
+use sh_tree::refusal::Refusal;
 use sh_tree::token::{Lead, Stage};
 use sh_tree::tree::{Element, Span};
+use sh_words::Mode;
 use std::alloc::Global;
 
 /// The stage behind the word at `at`.
@@ -25,46 +30,61 @@ fn stage_behind(script: &[u8], stage: Stage, at: u32) -> Stage
     }
 }
 
-/// The elements of the simple command at `start`, and where the token behind them begins. There are none where no simple command
-/// begins.
-#[tactic(auto, using(crate::proofs::ElementLemmas::found_none, crate::proofs::ElementLemmas::not_moved, crate::proofs::ElementLemmas::moved_on, crate::proofs::ElementLemmas::elements_end, crate::proofs::ElementLemmas::elements_assignment, crate::proofs::BeginningLemmas::name_within, crate::proofs::BreakLemmas::blanks_settle))]
+/// The stage behind a redirection.
+fn redirected(stage: Stage) -> Stage
+    ensures { result ≡ reading.redirected stage }
+{
+    match stage {
+        Stage::First => Stage::Prefixed,
+        Stage::Prefixed => Stage::Prefixed,
+        Stage::Named(declares) => Stage::Named(declares),
+    }
+}
+
+/// The elements of the simple command at a token.
+#[tactic(auto, using(crate::proofs::ElementLemmas::found_none, crate::proofs::ElementLemmas::not_moved, crate::proofs::ElementLemmas::moved_on, crate::proofs::ElementLemmas::elements_end, crate::proofs::BeginningLemmas::name_within))]
 pub fn elements_at(
     alloc: Global,
     script: &[u8],
-    start: u32,
-) -> Result<(Items<Element>, u32), Refusal>
+    from: State,
+) -> Result<(Items<Element>, State), Refusal>
     requires small { length script.now ≤ MAX_SCRIPT }
-    requires inside { start ≤ length script.now }
-    requires settled { commands.blanks false script.now start ≡ start }
-    ensures { Elements script.now start result }
+    requires stands { Stands script.now from }
+    requires begins { commands.begins_simple (commands.lead_at script.now First from.at) ≡ true }
+    ensures { Answers script.now (ElementsFrom script.now (First, from)) (from.at + 1) result }
 {
     let mut elements = Items::new(alloc);
     let mut stage = Stage::First;
-    let mut at = start;
+    let mut next = from;
     loop {
-        let lead = lead_at(script, stage, at);
+        let lead = lead_at(script, stage, next.at);
         if !begins_simple(lead) {
-            return Ok((elements, at));
+            return Ok((elements, next));
         }
         match lead {
             Lead::Assignment => {
-                let equals = name_at(script, at);
+                let equals = name_at(script, next.at);
                 let name = Span {
-                    start: at,
+                    start: next.at,
                     end: equals,
                 };
-                let value = value_at(alloc, script, equals + 1)?;
-                at = blanks_at(script, value.span.end, false);
+                let (value, behind) = word_at(alloc, script, Mode::Value, equals + 1, next)?;
                 stage = Stage::Prefixed;
+                next = behind;
                 elements.push(Element::Assignment { name, value })?;
             }
             Lead::Word => {
-                let word = word_at(alloc, script, stage, at)?;
-                stage = stage_behind(script, stage, at);
-                at = blanks_at(script, word.span.end, false);
+                let (word, behind) = word_at(alloc, script, mode_of(stage), next.at, next)?;
+                stage = stage_behind(script, stage, next.at);
+                next = behind;
                 elements.push(Element::Word(word))?;
             }
-            _ => return Err(Refusal::LeftOut(Form::Later, at)),
+            _ => {
+                let (redirect, behind) = redirect_at(alloc, script, next)?;
+                stage = redirected(stage);
+                next = behind;
+                elements.push(Element::Redirection(redirect))?;
+            }
         }
     }
 }

@@ -3,9 +3,14 @@
 
 mod breaks;
 mod commands;
+mod compounds;
 mod elements;
 mod faults;
+mod grammar;
+mod lists;
+mod redirects;
 mod script;
+mod state;
 mod words;
 
 pub use script::parse;

@@ -1,130 +1,60 @@
 //! Scripts (XCU 2.10).
-ghost use Rattle.std.specs.Prelude.{◌≡◌, ◌≢◌, ◌<◌, ◌≤◌, ℕ, false, length, IfOk};
+ghost use Rattle.std.specs.Prelude.{◌≡◌, ◌≤◌, length};
 ghost use Rattle.sh_tree.specs.Answers.{IsText, Parses};
-ghost use Rattle.sh_grammar.specs.Items.{Goes, IsAlone, Pipelines};
-ghost use Rattle.sh_tree.specs.language.Trees.{item_of};
-ghost use Rattle.sh_grammar.specs.Readers.{plain};
-ghost use Rattle.sh_tree.specs.declared.token.command.Stage.TheVariants.{First};
-ghost use Rattle.sh_tree.specs.language.Commands as commands;
-ghost use Rattle.sh_tree.specs.language.Commands.{lead_at};
-ghost use Rattle.sh_tree.specs.language.Reading as reading;
+ghost use Rattle.sh_grammar.specs.States.{Stands, first_of};
+ghost use Rattle.sh_grammar.specs.Readers.{Answers, SequenceFrom};
 
-use super::breaks::{breaks_at, is_newline};
-use super::commands::command_at;
 use super::faults::unexpected;
+use super::grammar::Grammar;
+use super::state::State;
 use memchr::memchr;
-use sh_scan::{blanks_at, lead_at, link_of, separator};
-use sh_tree::Items;
-use sh_tree::limits::{MAX_COMMANDS, MAX_SCRIPT};
-use sh_tree::refusal::{Form, Refusal};
-use sh_tree::token::{Lead, Operator, Reserved, Stage};
-use sh_tree::tree::{AndOr, Command, Item, Pipe, Script};
-use std::alloc::{AllocError, Global};
+use sh_scan::blanks_at;
+use sh_tree::limits::MAX_SCRIPT;
+use sh_tree::refusal::Refusal;
+use sh_tree::tree::Script;
+use std::alloc::Global;
 
-/// The item that is a command alone.
-fn item_from(alloc: Global, command: Command) -> Result<Item, AllocError>
-    ensures { IfOk result (λ item. item ≡ item_of command) }
-{
-    let mut parts = Items::new(alloc);
-    parts.push(command)?;
-    let first = Pipe {
-        negated: false,
-        parts,
-    };
-    let list = AndOr {
-        first,
-        rest: Items::new(alloc),
-    };
-    Ok(Item {
-        list,
-        background: false,
-    })
-}
-
-/// Whether a pipeline or an and-or list goes on with the token.
-fn is_joining(lead: Lead) -> bool
-    ensures no { result ≡ false → IsAlone lead }
-{
-    matches!(lead, Lead::Operator(Operator::Bar)) || link_of(lead).is_some()
-}
-
-/// Whether the token negates a pipeline.
-fn is_bang(lead: Lead) -> bool
-    ensures no { result ≡ false → lead ≢ Lead.Reserved Reserved.Bang }
-{
-    matches!(lead, Lead::Reserved(Reserved::Bang))
-}
-
-/// The command at `at`, before which `count` others began, where it is a pipeline alone.
-fn pipeline_at(alloc: Global, script: &[u8], at: u32, count: u32) -> Result<(Command, u32), Refusal>
+/// The sequence at a token.
+fn sequence_at(alloc: Global, script: &[u8], from: State) -> Result<(Script, State), Refusal>
     requires small { length script.now ≤ MAX_SCRIPT }
-    requires inside { at < length script.now }
-    requires settled { commands.blanks false script.now at ≡ at }
-    requires few { count ≤ MAX_COMMANDS }
-    ensures { Pipelines script.now count at result }
+    requires stands { Stands script.now from }
+    ensures { Answers script.now (SequenceFrom script.now from) from.at result }
 {
-    if is_bang(lead_at(script, Stage::First, at)) {
-        return Err(Refusal::LeftOut(Form::Later, at));
+    Grammar {
+        alloc,
+        left: script.len() - from.at as usize,
+        nested: sequence_at,
     }
-    command_at(alloc, script, at, count)
+    .sequence(script, from)
 }
 
-/// Where the newlines behind the separator at `at` begin: a newline is one of them.
-fn parted(script: &[u8], lead: Lead, at: u32) -> u32
+/// At the first token of a text.
+#[tactic(auto, using(crate::proofs::ScriptLemmas::first_stands))]
+fn first_state(script: &[u8]) -> State
     requires small { length script.now ≤ MAX_SCRIPT }
-    requires inside { at < length script.now }
-    requires here { lead ≡ lead_at script.now First at }
-    ensures value { (n : ℕ) → reading.parted script.now (plain n at) ≡ plain n result }
-    ensures within { result ≤ length script.now }
-    ensures after { at ≤ result }
+    ensures value { result ≡ first_of script.now }
+    ensures stands { Stands script.now (first_of script.now) }
 {
-    if is_newline(lead) {
-        at
-    } else {
-        blanks_at(script, at + 1, false)
-    }
-}
-
-/// Where the next command begins behind one that ends at `at`, or the end of the text.
-fn behind_command(script: &[u8], at: u32) -> Result<u32, Refusal>
-    requires small { length script.now ≤ MAX_SCRIPT }
-    requires inside { at ≤ length script.now }
-    requires settled { commands.blanks false script.now at ≡ at }
-    ensures { Goes script.now at result }
-{
-    if at as usize == script.len() {
-        return Ok(at);
-    }
-    let lead = lead_at(script, Stage::First, at);
-    if is_joining(lead) {
-        return Err(Refusal::LeftOut(Form::Later, at));
-    }
-    match separator(lead) {
-        Some(false) => Ok(breaks_at(script, parted(script, lead, at))),
-        Some(true) => Err(Refusal::LeftOut(Form::Later, at)),
-        None => {
-            let behind = lead_at(script, Stage::Prefixed, at);
-            Err(unexpected(script, behind, at))
-        }
+    State {
+        at: blanks_at(script, 0, false),
+        count: 0,
+        depth: 0,
+        closed: false,
+        fresh: true,
     }
 }
 
 /// The script that a text is which is no longer than it may be and has no NUL byte.
+#[tactic(auto, using(crate::proofs::ScriptLemmas::text_read, crate::proofs::ScriptLemmas::text_unended, crate::proofs::ScriptLemmas::text_refused))]
 fn read(alloc: Global, script: &[u8]) -> Result<Script, Refusal>
     requires { IsText script.now }
     ensures { Parses script.now result }
 {
-    let mut items = Items::new(alloc);
-    let mut count = 0;
-    let first = blanks_at(script, 0, false);
-    let mut at = breaks_at(script, first);
-    while (at as usize) < script.len() {
-        let (command, end) = pipeline_at(alloc, script, at, count)?;
-        items.push(item_from(alloc, command)?)?;
-        count += 1;
-        at = behind_command(script, end)?;
+    let (found, end) = sequence_at(alloc, script, first_state(script))?;
+    if (end.at as usize) < script.len() {
+        return Err(unexpected(script, end));
     }
-    Ok(Script { items })
+    Ok(found)
 }
 
 /// The one script that the bytes are (XCU 2.10).

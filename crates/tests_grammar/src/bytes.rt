@@ -45,10 +45,10 @@ fn other_bytes(rt: HostRuntime) -> Result<(), Fail> {
 
 /// Texts of a letter and a byte that means more than itself.
 const BYTES_THAT_MEAN_MORE: &[Row] = &[
-    ("a|", "LeftOut(Later, 1)"),
-    ("a&", "LeftOut(Later, 1)"),
-    ("a<", "LeftOut(Later, 1)"),
-    ("a>", "LeftOut(Later, 1)"),
+    ("a|", "Syntax(UnexpectedEnd, 2)"),
+    ("a&", "1@0[w0-1(p0-1)] &"),
+    ("a<", "Syntax(UnexpectedEnd, 2)"),
+    ("a>", "Syntax(UnexpectedEnd, 2)"),
     ("a(", "LeftOut(Later, 0)"),
     ("a)", "Syntax(UnexpectedToken, 1)"),
     ("a`", "LeftOut(Backquoted, 1)"),

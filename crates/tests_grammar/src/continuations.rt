@@ -29,28 +29,28 @@ fn between_tokens(rt: HostRuntime) -> Result<(), Fail> {
     check(&rt, rt.alloc(), BETWEEN_TOKENS)
 }
 
-const BEFORE_FORMS_THAT_ARE_NOT_READ_YET: &[Row] = &[
-    ("a\\\n|b", "LeftOut(Later, 3)"),
-    ("a|\\\nb", "LeftOut(Later, 1)"),
-    ("a\\\n&b", "LeftOut(Later, 3)"),
-    ("a\\\n>b", "LeftOut(Later, 3)"),
-    ("a >\\\nb", "LeftOut(Later, 2)"),
-    ("a b\\\n>c", "LeftOut(Later, 5)"),
+const BEFORE_TOKENS_OF_COMMANDS: &[Row] = &[
+    ("a\\\n|b", "1@0[w0-1(p0-1)] | 2@4[w4-5(p4-5)]"),
+    ("a|\\\nb", "1@0[w0-1(p0-1)] | 2@4[w4-5(p4-5)]"),
+    ("a\\\n&b", "1@0[w0-1(p0-1)] & 2@4[w4-5(p4-5)]"),
+    ("a\\\n>b", "1@0[w0-1(p0-1) o3>4-5(p4-5)]"),
+    ("a >\\\nb", "1@0[w0-1(p0-1) o2>5-6(p5-6)]"),
+    ("a b\\\n>c", "1@0[w0-1(p0-1) w2-3(p2-3) o5>6-7(p6-7)]"),
     ("if\\\n a", "LeftOut(Later, 0)"),
-    ("!\\\n a", "LeftOut(Later, 0)"),
-    ("( \\\n(a))", "LeftOut(Later, 0)"),
-    ("{\\\n a", "LeftOut(Later, 0)"),
+    ("!\\\n a", "! 1@4[w4-5(p4-5)]"),
+    ("( \\\n(a))", "1@0(2@4(3@5[w5-6(p5-6)]))"),
+    ("{\\\n a", "Syntax(UnexpectedEnd, 5)"),
     ("f\\\n()", "LeftOut(Later, 0)"),
     ("f(\\\n)", "LeftOut(Later, 0)"),
     ("time\\\n a", "LeftOut(Time, 0)"),
-    ("a2\\\n>b", "LeftOut(Later, 4)"),
-    ("a '2'\\\n>b", "LeftOut(Later, 7)"),
-    ("a 2 \\\n>b", "LeftOut(Later, 6)"),
+    ("a2\\\n>b", "1@0[w0-2(p0-2) o4>5-6(p5-6)]"),
+    ("a '2'\\\n>b", "1@0[w0-1(p0-1) w2-5(s2-5) o7>8-9(p8-9)]"),
+    ("a 2 \\\n>b", "1@0[w0-1(p0-1) w2-3(p2-3) o6>7-8(p7-8)]"),
 ];
 
 #[test]
-fn before_forms_that_are_not_read_yet(rt: HostRuntime) -> Result<(), Fail> {
-    check(&rt, rt.alloc(), BEFORE_FORMS_THAT_ARE_NOT_READ_YET)
+fn before_tokens_of_commands(rt: HostRuntime) -> Result<(), Fail> {
+    check(&rt, rt.alloc(), BEFORE_TOKENS_OF_COMMANDS)
 }
 
 const IN_WORDS: &[Row] = &[

@@ -15,7 +15,7 @@ const THE_FIRST_IS_TOLD: &[Row] = &[
     ("$((1 2)) 'a", "Syntax(BadArith, 5)"),
     ("a\n\n\"b\nc", "Syntax(OpenDouble, 3)"),
     ("if 'a", "LeftOut(Later, 0)"),
-    ("'a' | 'b", "LeftOut(Later, 4)"),
+    ("'a' | 'b", "Syntax(OpenSingle, 6)"),
     ("a (", "LeftOut(Later, 0)"),
 ];
 

@@ -6,6 +6,8 @@ mod assignments;
 #[cfg(test)]
 mod bytes;
 #[cfg(test)]
+mod commands;
+#[cfg(test)]
 mod comments;
 #[cfg(test)]
 mod continuations;

@@ -51,7 +51,19 @@ const IN_MANY_COMMANDS: Pieces = ("", "a ${x-b};", "", "", "");
 
 const AROUND_COMMANDS: Pieces = ("", "${x-", "$(a)", "}", "");
 
+const GROUPS: Pieces = ("", "{ ", "a", "; }", "");
+
+const SUBSHELLS: Pieces = ("", "( ", "a", ")", "");
+
+const WORDS_IN_GROUPS: Pieces = ("", "{ ", "a ${x-b}", "; }", "");
+
 const TOWERS: &[Tower] = &[
+    (64, GROUPS, None),
+    (65, GROUPS, Some(Refusal::TooDeep(128))),
+    (64, SUBSHELLS, None),
+    (65, SUBSHELLS, Some(Refusal::TooDeep(128))),
+    (63, WORDS_IN_GROUPS, None),
+    (64, WORDS_IN_GROUPS, Some(Refusal::TooDeep(134))),
     (64, IN_OPERANDS, None),
     (65, IN_OPERANDS, Some(Refusal::TooDeep(326))),
     (64, IN_VALUES, None),
@@ -116,6 +128,13 @@ const FORM_LEFT_OUT: &[Last] = &[("[[ a", Err(Refusal::LeftOut(Form::LeftBracket
 #[test]
 fn a_form_left_out_where_one_command_more_would_begin(rt: HostRuntime) -> Result<(), Fail> {
     check_last(&rt, rt.alloc(), FORM_LEFT_OUT)
+}
+
+const ONE_GROUP_MORE: &[Last] = &[("{ b; }", Err(Refusal::TooMany))];
+
+#[test]
+fn one_group_more(rt: HostRuntime) -> Result<(), Fail> {
+    check_last(&rt, rt.alloc(), ONE_GROUP_MORE)
 }
 
 const FAULT: &[Last] = &[(";", Err(Refusal::Syntax(Fault::UnexpectedToken, 131_069)))];

@@ -11,7 +11,10 @@ const RESERVED_WORDS: &[Row] = &[
     ("if#", "1@0[w0-3(p0-3)]"),
     ("if*", "1@0[w0-3(p0-3)]"),
     ("ifx", "1@0[w0-3(p0-3)]"),
-    ("x=1 if|a", "LeftOut(Later, 6)"),
+    (
+        "x=1 if|a",
+        "1@0[a0-1=2-3(p2-3) w4-6(p4-6)] | 2@7[w7-8(p7-8)]",
+    ),
     ("x=1 if", "1@0[a0-1=2-3(p2-3) w4-6(p4-6)]"),
     ("if=1", "1@0[a0-2=3-4(p3-4)]"),
     ("\"if\"", "1@0[w0-4(d0-4(p1-3))]"),
@@ -119,16 +122,19 @@ fn io_locations(rt: HostRuntime) -> Result<(), Fail> {
 }
 
 const WORDS_THAT_ARE_NO_IO_LOCATIONS: &[Row] = &[
-    ("{}>f", "LeftOut(Later, 2)"),
-    ("a {}>f", "LeftOut(Later, 4)"),
-    ("{x} >f", "LeftOut(Later, 4)"),
-    ("{x}a>f", "LeftOut(Later, 4)"),
-    ("a{x}>f", "LeftOut(Later, 4)"),
-    ("\\{x}>f", "LeftOut(Later, 4)"),
-    ("'{x}'>f", "LeftOut(Later, 5)"),
-    ("{x}|a", "LeftOut(Later, 3)"),
-    ("a={b}>f", "LeftOut(Later, 5)"),
-    ("export a={b}>f", "LeftOut(Later, 12)"),
+    ("{}>f", "1@0[w0-2(p0-2) o2>3-4(p3-4)]"),
+    ("a {}>f", "1@0[w0-1(p0-1) w2-4(p2-4) o4>5-6(p5-6)]"),
+    ("{x} >f", "1@0[w0-3(p0-3) o4>5-6(p5-6)]"),
+    ("{x}a>f", "1@0[w0-4(p0-4) o4>5-6(p5-6)]"),
+    ("a{x}>f", "1@0[w0-4(p0-4) o4>5-6(p5-6)]"),
+    ("\\{x}>f", "1@0[w0-4(e0-2 p2-4) o4>5-6(p5-6)]"),
+    ("'{x}'>f", "1@0[w0-5(s0-5) o5>6-7(p6-7)]"),
+    ("{x}|a", "1@0[w0-3(p0-3)] | 2@4[w4-5(p4-5)]"),
+    ("a={b}>f", "1@0[a0-1=2-5(p2-5) o5>6-7(p6-7)]"),
+    (
+        "export a={b}>f",
+        "1@0[w0-6(p0-6) w7-12(p7-12) o12>13-14(p13-14)]",
+    ),
     ("{x}", "1@0[w0-3(p0-3)]"),
     ("{x};a", "1@0[w0-3(p0-3)] 2@4[w4-5(p4-5)]"),
 ];
@@ -157,8 +163,8 @@ const RESERVED: &[Row] = &[
     ("then", "Syntax(UnexpectedToken, 1)"),
     ("until", "LeftOut(Later, 1)"),
     ("while", "LeftOut(Later, 1)"),
-    ("!", "LeftOut(Later, 1)"),
-    ("{", "LeftOut(Later, 1)"),
+    ("!", "! 1@3[w3-4(p3-4)]"),
+    ("{", "Syntax(UnexpectedEnd, 4)"),
     ("}", "Syntax(UnexpectedToken, 1)"),
 ];
 

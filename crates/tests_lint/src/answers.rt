@@ -559,39 +559,15 @@ fn places_on_further_lines(rt: HostRuntime) -> Result<(), Fail> {
 
 const UNREAD: &[Row] = &[
     (
-        b"a 'b' | c",
-        &[],
-        b"refused 1:7: this form is outside the profile\n",
-        2,
-    ),
-    (
-        b"a && b",
-        &[],
-        b"refused 1:3: this form is outside the profile\n",
-        2,
-    ),
-    (
-        b"a &",
-        &[],
-        b"refused 1:3: this form is outside the profile\n",
-        2,
-    ),
-    (
-        b"a 2>b",
-        &[],
-        b"refused 1:3: this form is outside the profile\n",
-        2,
-    ),
-    (
         b"if a",
         &[],
         b"refused 1:1: this form is outside the profile\n",
         2,
     ),
     (
-        b"a\n{ b; }",
+        b"a <<b",
         &[],
-        b"refused 2:1: this form is outside the profile\n",
+        b"refused 1:3: this form is outside the profile\n",
         2,
     ),
     (
@@ -626,6 +602,16 @@ fn forms_that_are_not_read_yet(rt: HostRuntime) -> Result<(), Fail> {
 }
 
 const UNANALYSED: &[Row] = &[
+    (b"a 'b' | c", &[], OUTSIDE, 2),
+    (b"a && b", &[], OUTSIDE, 2),
+    (b"a &", &[], OUTSIDE, 2),
+    (b"a 2>b", &[], OUTSIDE, 2),
+    (
+        b"a\n{ b; }",
+        &[],
+        b"refused 2:1: this command is outside the profile\n",
+        2,
+    ),
     (b"echo 'a'", &[], OUTSIDE, 2),
     (b"echo \\a", &[], OUTSIDE, 2),
     (b"echo \"\\$x\"", &[], OUTSIDE, 2),
