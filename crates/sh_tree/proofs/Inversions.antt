@@ -36,7 +36,7 @@ use Rattle.sh_tree.specs.language.Arithmetic.{is_closed, unary_of}
 use Rattle.sh_tree.specs.language.Commands.{blanks, lead_at, redirection, redirects, direction_of, strip_of, is_word, is_redirection, is_reserved, is_bar, is_newline_lead, begins_simple, begins_compound, begins_command, begins_pipeline, separator, link_of}
 use Rattle.sh_tree.specs.language.Contexts.{in_word, in_unsplit, in_stage}
 use Rattle.sh_tree.specs.language.Parts.{is_quoted_word, delimiter_of, keeps_document}
-use Rattle.sh_tree.specs.language.HereDocuments.{Mark, end_line, behind_line}
+use Rattle.sh_tree.specs.language.HereDocuments.{Mark, end_line, behind_line, is_ambiguous}
 use Rattle.sh_tree.specs.language.Contexts.{in_document_of}
 use Rattle.sh_tree.specs.language.States.{Spot, State, Document, to, deeper, behind, facing, within, nth, waits, next, past, on_line, in_document, pended, counted, lower, as_deep, closing}
 use Rattle.sh_tree.specs.language.Trees.{span, word, param}
@@ -233,7 +233,8 @@ module _ (limit : ℕ) (b : List ℕ) (s : State) where
   -- the body at s and the line that ends it
   abbrev pub DocumentIs : Mark → Type 0
   DocumentIs m =
-      (l : Span) × (u : Spot) × (ps : List Part) × (end_line m b s.spot.at ≡ Some l) × (keeps_document b s.spot.body s.spot.tabs m (span s.spot.at (behind_line b l.end)) ≡ true)
+      (l : Span) × (u : Spot) × (ps : List Part) × (end_line m b s.spot.at ≡ Some l) × (is_ambiguous m b s.spot.at l.start ≡ false)
+      × (keeps_document b s.spot.body s.spot.tabs m (span s.spot.at (behind_line b l.end)) ≡ true)
       × ReadsParts limit (take l.start b) (in_document_of m) 10 (in_document m s) u ps
 
 first_mark : {m n : Mark} {ms ns : List Mark} → m ∷ ms ≡ n ∷ ns → m ≡ n
@@ -246,7 +247,7 @@ first_mark {m = m} e = ap (head_or m) e
 pub document_is : {limit : ℕ} {b : List ℕ} {ms : List Mark} {s v : State} (m : Mark) (ns : List Mark) → ms ≡ m ∷ ns → ReadsDocuments limit b ms s v → DocumentIs limit b s m
 document_is m ns is r.no_body = cc
 document_is {limit = limit} {b = b} {s = s} m ns is (r.more_bodies {u = u} {m = n} {l = l} {ps = ps} e a c h k d) =
-    let found : DocumentIs limit b s n = (l, u, ps, e, c, h) in
+    let found : DocumentIs limit b s n = (l, u, ps, e, a, c, h) in
     subst (λ v. DocumentIs limit b s v) (first_mark is) found
 
 -- at a token that begins no pipeline a sequence is empty
@@ -482,31 +483,73 @@ redirection_begins lead.Number h = (refl, refl, refl, refl)
 redirection_begins (lead.Operator o) h = rw h (refl, refl, refl, refl)
 redirection_begins _ h = absurd (true≢false (sym h))
 
+module _ (limit : ℕ) (b : List ℕ) (s : Spot) where
+  -- where a script at s goes on that begins with the operator of a here-document and its delimiter, up to a token at i
+  abbrev pub Awaiting : Bool → Word → ℕ → State
+  Awaiting strip w i = pended (mark_of b strip w s.depth) (record (counted (within s)) { spot = to i (counted (within s)).spot })
+
+  -- the delimiter is w, and the token behind it stands at i
+  abbrev pub Delimits : Redirection → Word → ℕ → Type 0
+  Delimits at w i =
+      (u : Spot) (y : Word) → ReadsWord limit b (in_unsplit (next b at.end (counted (within s))).spot.at) (facing (next b at.end (counted (within s)))) u y
+      → (past b u (counted (within s)) ≡ record (counted (within s)) { spot = to i (counted (within s)).spot }) × (y ≡ w)
+
+  -- what such a script goes on with, and what follows its first command where that is the only one of its and-or list
+  abbrev pub GoesOn : State → State → Type 0
+  GoesOn from v =
+      (body : ℕ → Document) × (u : State) × (es : List Element) × ReadsElements limit b body Prefixed from u es
+      × (is_bar (lead_here b (closing false u)) ≡ false → link_of (lead_here b (closing false u)) ≡ None → Follows limit b body (closing false u) v)
+
+-- a script that begins with a redirection
+pub opening_redirect : {limit : ℕ} {b : List ℕ} {s v : Spot} {t : Script} → is_redirection (lead_here b (within s)) ≡ true → ReadsScript limit b s v t
+    → (body : ℕ → Document) × (end u w : State) × (q : Redirect) × (es : List Element) × ReadsRedirect limit b body (counted (within s)) u q
+    × ReadsElements limit b body Prefixed u w es
+    × (is_bar (lead_here b (closing false w)) ≡ false → link_of (lead_here b (closing false w)) ≡ None → Follows limit b body (closing false w) end)
+opening_redirect {limit = limit} {b = b} {s = s} is h =
+    let begins = redirection_begins (lead_here b (within s)) is in
+    let q = script_is h in
+    let body : ℕ → Document = nth q.0.bodies in
+    let items = sequence_items begins.0 begins.1 q.3 in
+    let f = items_first begins.2 items.1 in
+    let c = simple_is begins.3 f.2 in
+    let e = elements_redirect is c.3 in (
+      body,
+      q.0,
+      e.0,
+      c.0,
+      e.1,
+      e.2,
+      e.3,
+      e.4,
+      subst (λ w. is_bar (lead_here b w) ≡ false → link_of (lead_here b w) ≡ None → Follows limit b body w q.0) c.2 f.3,
+    )
+
+-- a script that begins with the operator of a here-document and its delimiter
+pub opening_operator : {limit : ℕ} {b : List ℕ} {s v : Spot} {t : Script} (at : Redirection) (strip : Bool) (i : ℕ) (w : Word) → is_redirection (lead_here b (within s)) ≡ true
+    → redirection b s.at ≡ Some at → strip_of at.operator ≡ Some strip → direction_of at.operator ≡ None → Delimits limit b s at w i → ReadsScript limit b s v t
+    → (end : State) × GoesOn limit b s (Awaiting limit b s strip w i) end
+opening_operator {limit = limit} {b = b} {s = s} at strip i w is operator stripped document only h =
+    let o = opening_redirect is h in
+    let d = redirect_document at strip operator stripped document o.6 in
+    let e = only d.0 d.1 d.3 in
+    let behind : o.2 ≡ Awaiting limit b s strip w i = d.2 ∙ ap (λ u. pended (mark_of b strip d.1 s.depth) u) e.0
+    ∙ ap (λ y. pended (mark_of b strip y s.depth) (record (counted (within s)) { spot = to i (counted (within s)).spot })) e.1 in
+    (o.1, (o.0, o.3, o.5, subst (λ u. ReadsElements limit b o.0 Prefixed u o.3 o.5) behind o.7, o.8))
+
 -- a script that begins with the operator of a here-document, its delimiter and a newline
 pub opening_document : {limit : ℕ} {b : List ℕ} {s v : Spot} {t : Script} (at : Redirection) (strip : Bool) (i : ℕ) (w : Word) → is_redirection (lead_here b (within s)) ≡ true
-    → redirection b s.at ≡ Some at → strip_of at.operator ≡ Some strip → direction_of at.operator ≡ None
-    → ((u : Spot) (y : Word) → ReadsWord limit b (in_unsplit (next b at.end (counted (within s))).spot.at) (facing (next b at.end (counted (within s)))) u y
-    → (past b u (counted (within s)) ≡ record (counted (within s)) { spot = to i (counted (within s)).spot }) × (y ≡ w))
+    → redirection b s.at ≡ Some at → strip_of at.operator ≡ Some strip → direction_of at.operator ≡ None → Delimits limit b s at w i
     → lead_at b Prefixed i ≡ lead.Newline → lead_at b First i ≡ lead.Newline → ReadsScript limit b s v t
     → (u : State) × ReadsDocuments limit b (mark_of b strip w s.depth ∷ []) (on_line (i + 1) (counted (within s))) u
 unfolding begins_simple is_redirection separator link_of
 opening_document {limit = limit} {b = b} {s = s} at strip i w is operator stripped document only line line' h =
-    let begins = redirection_begins (lead_here b (within s)) is in
-    let q = script_is h in
-    let items = sequence_items begins.0 begins.1 q.3 in
-    let f = items_first begins.2 items.1 in
-    let c = simple_is begins.3 f.2 in
-    let e = elements_redirect is c.3 in
-    let d = redirect_document at strip operator stripped document e.3 in
-    let o = only d.0 d.1 d.3 in
-    let waiting : State = pended (mark_of b strip w s.depth) (record (counted (within s)) { spot = to i (counted (within s)).spot }) in
-    let behind : e.0 ≡ waiting = d.2 ∙ ap (λ u. pended (mark_of b strip d.1 s.depth) u) o.0
-    ∙ ap (λ y. pended (mark_of b strip y s.depth) (record (counted (within s)) { spot = to i (counted (within s)).spot })) o.1 in
-    let rest = subst (λ u. ReadsElements limit b (nth q.0.bodies) Prefixed u c.0 e.2) behind e.4 in
-    let command : f.0 ≡ waiting = c.2 ∙ ap (closing false) (elements_end (ap begins_simple line) rest) in
-    let here : lead_here b f.0 ≡ lead.Newline = ap (λ u. lead_here b u) command ∙ line' in
-    let follows = f.3 (ap is_bar here) (ap link_of here) in
-    let parting = items_parted limit b (nth q.0.bodies) f.0 q.0 false (ap separator here) follows in
+    let o = opening_operator at strip i w is operator stripped document only h in
+    let waiting : State = Awaiting limit b s strip w i in
+    let goes = o.1 in
+    let command : closing false goes.1 ≡ waiting = ap (closing false) (elements_end (ap begins_simple line) goes.3) in
+    let here : lead_here b (closing false goes.1) ≡ lead.Newline = ap (λ u. lead_here b u) command ∙ line' in
+    let follows = goes.4 (ap is_bar here) (ap link_of here) in
+    let parting = items_parted limit b goes.0 (closing false goes.1) o.0 false (ap separator here) follows in
     let same : parted b waiting ≡ waiting = rw line' refl in
     let breaks = subst (λ u. ReadsBreaks limit b u parting.0) (ap (parted b) command ∙ same) parting.1 in
     let documents = some_breaks {u = parting.0} (ap is_newline_lead line') breaks in

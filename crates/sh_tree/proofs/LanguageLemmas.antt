@@ -21,6 +21,7 @@ use Rattle.sh_tree.specs.declared.tree.Command.{Command}
 use Rattle.sh_tree.specs.declared.tree.ClauseEnd.TheVariants.{Break}
 use Rattle.sh_tree.specs.declared.tree.CommandStyle.TheVariants.{Paren}
 use Rattle.sh_tree.specs.declared.tree.Direction.TheVariants as direction
+use Rattle.sh_tree.specs.declared.tree.Element.TheBlock.{shape-the_row-Part-0, hidden-the_row-Part-0}
 use Rattle.sh_tree.specs.declared.tree.Element.TheVariants as element
 use Rattle.sh_tree.specs.declared.tree.Expr.{Expr}
 use Rattle.sh_tree.specs.declared.tree.Expr.TheVariants as expr
@@ -43,11 +44,11 @@ use Rattle.sh_tree.specs.language.Examples.{plain, bare, value, simple, quoted_t
 
 -- what a reading of a known text computes
 unfoldable pub computes : Unit {0}
-unfolding bytes.is_first bytes.name_length bytes.decimal bytes.longest bytes.joined_length words.tilde_length words.is_tilde words.special_of words.named words.single_parameter words.parenthesis words.numbered words.parameter words.misfit words.action_of words.removed words.used words.operated words.counted words.unnamed words.braced words.opened words.dollar words.stands words.plain_length words.continued words.backslash words.single words.meant_by words.sign_by words.sign_of words.token arithmetic.space_length arithmetic.constant_length arithmetic.named arithmetic.unknown arithmetic.figure_of arithmetic.lexeme_start arithmetic.lexeme arithmetic.binary_of arithmetic.unary_of arithmetic.assignment_of arithmetic.is_closed commands.gap_length commands.blank_length commands.blanks commands.operator_of commands.operator commands.is_split commands.direction_of commands.strip_of commands.redirects commands.bare_word commands.named commands.is_assignment commands.name_end commands.declares commands.is_location commands.opening commands.whole_operator commands.operator_lead commands.reserved_lead commands.is_definition commands.name_lead commands.first_lead commands.word_lead commands.number_lead commands.other_lead commands.lead_of commands.lead_at commands.redirection commands.is_redirection commands.begins_simple commands.begins_compound commands.begins_command commands.begins_pipeline commands.clause_end_of commands.is_bare_name commands.separator commands.link_of documents.line_length documents.line_end documents.line_text documents.compared documents.end_line_within documents.end_line documents.has_tabbed_line documents.has_joined contexts.in_operand contexts.in_document_of contexts.in_stage parts.is_static parts.is_delimiter parts.delimiter_of parts.is_quotation parts.is_quoted_word parts.singles_in parts.singles parts.keeps_lines parts.keeps_document states.nth states.waits r.is_empty r.is_some parts_text part_text
+unfolding bytes.is_first bytes.name_length bytes.decimal bytes.longest bytes.joined_length words.tilde_length words.is_tilde words.special_of words.named words.single_parameter words.parenthesis words.numbered words.parameter words.misfit words.action_of words.removed words.used words.operated words.counted words.unnamed words.braced words.opened words.dollar words.stands words.plain_length words.continued words.backslash words.single words.meant_by words.sign_by words.sign_of words.token arithmetic.space_length arithmetic.constant_length arithmetic.named arithmetic.unknown arithmetic.figure_of arithmetic.lexeme_start arithmetic.lexeme arithmetic.binary_of arithmetic.unary_of arithmetic.assignment_of arithmetic.is_closed commands.gap_length commands.blank_length commands.blanks commands.operator_of commands.operator commands.is_split commands.direction_of commands.strip_of commands.redirects commands.bare_word commands.named commands.is_assignment commands.name_end commands.declares commands.is_location commands.opening commands.whole_operator commands.operator_lead commands.reserved_lead commands.is_definition commands.name_lead commands.first_lead commands.word_lead commands.number_lead commands.other_lead commands.lead_of commands.lead_at commands.redirection commands.is_redirection commands.begins_simple commands.begins_compound commands.begins_command commands.begins_pipeline commands.clause_end_of commands.is_bare_name commands.separator commands.link_of documents.line_length documents.line_end documents.line_text documents.compared documents.end_line_within documents.end_line documents.has_tabbed_line documents.has_joined contexts.in_operand contexts.in_document_of contexts.in_stage parts.is_static parts.is_delimiter parts.delimiter_of parts.is_quotation parts.is_quoted_word parts.singles_in parts.singles parts.keeps_lines parts.keeps_document states.nth states.waits r.is_empty r.is_some parts_text part_text shape-the_row-Part-0 hidden-the_row-Part-0 denote.Hole.Carrier.hidden
 computes = tt
 
 -- a text with this sequence is its script
-whole : (b : List ℕ) (limit : ℕ) (u : State) (t : Script) → HasNoNul b → ReadsSequence limit b (nth u.bodies) (within (start b)) u t → waits u.pending ≡ false
+pub whole : (b : List ℕ) (limit : ℕ) (u : State) (t : Script) → HasNoNul b → ReadsSequence limit b (nth u.bodies) (within (start b)) u t → waits u.pending ≡ false
     → u.spot.at ≡ length b → Reads b t
 whole b limit u t n h w e = (limit, u.spot.count, record { no_nul = n; end = u.spot; script = r.script h w; to_end = e; commands = refl })
 
@@ -58,14 +59,14 @@ at_word i count depth = record { at = i; count = count; depth = depth; quiet = f
 abbrev pub at_token : ℕ → ℕ → ℕ → State
 at_token i count depth = record { spot = at_word i count depth; closed = false; pending = []; bodies = [] }
 
-abbrev at_close : ℕ → ℕ → ℕ → State
+abbrev pub at_close : ℕ → ℕ → ℕ → State
 at_close i count depth = record { spot = at_word i count depth; closed = true; pending = []; bodies = [] }
 
-abbrev no_bodies : ℕ → Document
+abbrev pub no_bodies : ℕ → Document
 no_bodies = nth []
 
 -- a command alone is a list, and one that a separator ends
-alone_reads : {limit : ℕ} {b : List ℕ} {body : ℕ → Document} {s u : State} {c : Command} → ReadsCommand limit b body s u c → begins_command (lead_here b s) ≡ true
+pub alone_reads : {limit : ℕ} {b : List ℕ} {body : ℕ → Document} {s u : State} {c : Command} → ReadsCommand limit b body s u c → begins_command (lead_here b s) ≡ true
     → is_bar (lead_here b u) ≡ false → link_of (lead_here b u) ≡ None → ReadsAndOr limit b body s u (and_or (pipe false (c ∷ [])) [])
 alone_reads h begins last unlinked = r.linked (r.straight begins (r.last_command h last)) (r.no_link unlinked)
 
@@ -190,12 +191,12 @@ parameters_reads =
 -- Arithmetic
 
 -- no operator of this level follows
-level_through : {limit : ℕ} {b : List ℕ} {x : Context} {l : ℕ} {s u : Spot} {e : Expr} → l < unary_level → ReadsLevel limit b x (l + 1) s u e → binary_of l (figure_at b u) ≡ None
+pub level_through : {limit : ℕ} {b : List ℕ} {x : Context} {l : ℕ} {s u : Spot} {e : Expr} → l < unary_level → ReadsLevel limit b x (l + 1) s u e → binary_of l (figure_at b u) ≡ None
     → ReadsLevel limit b x l s u e
 level_through {e = e} below h none = r.chain {e = e} {es = []} below h (r.no_operand none)
 
 -- no operator follows
-loosest_level : {limit : ℕ} {b : List ℕ} {x : Context} {s u : Spot} {e : Expr} → ReadsLevel limit b x unary_level s u e → ((l : ℕ) → binary_of l (figure_at b u) ≡ None)
+pub loosest_level : {limit : ℕ} {b : List ℕ} {x : Context} {s u : Spot} {e : Expr} → ReadsLevel limit b x unary_level s u e → ((l : ℕ) → binary_of l (figure_at b u) ≡ None)
     → ReadsLevel limit b x 0 s u e
 loosest_level {limit = limit} {b = b} {x = x} {s = s} {u = u} {e = e} h none =
     let times : ReadsLevel limit b x 9 s u e = level_through (omega arith) h (none 9) in

@@ -5,7 +5,11 @@ pub mod ProgramRules
 pub mod ProgramWords
 pub mod ProgramForms
 pub mod Inversions
+pub mod WordReadings
+pub mod CommandReadings
+pub mod DocumentReadings
 pub mod UnreadLemmas
+pub mod UnreadForms
 pub mod Counts
 pub mod ListLemmas
 pub mod ResultLemmas

@@ -54,7 +54,7 @@ no_expression_unread t h =
     true≢false (sym (expression_begins f.4.5))
 
 -- a reading ends where its text does
-ends_before : (b : List ℕ) (end : Spot) (u v : State) → end ≡ u.spot → u ≡ v → end.at ≡ length b → v.spot.at < length b → ⊥
+pub ends_before : (b : List ℕ) (end : Spot) (u v : State) → end ≡ u.spot → u ≡ v → end.at ≡ length b → v.spot.at < length b → ⊥
 ends_before b end u v e f n below =
     let at : v.spot.at ≡ length b = sym (ap (λ s. s.at) e ∙ ap (λ s. s.spot.at) f) ∙ n in
     omega arith
@@ -113,7 +113,7 @@ inner_unread limit u t h =
     refl refl h in
     let body = document_is inner_mark [] refl d.1 in
     let end : span 14 15 ≡ body.0 = some_one body.3 in
-    true≢false (sym body.4 ∙ ap (λ l. keeps_document b true false inner_mark (span 12 (behind_line b l.end))) (sym end))
+    true≢false (sym body.5 ∙ ap (λ l. keeps_document b true false inner_mark (span 12 (behind_line b l.end))) (sym end))
 
 pub split_document_unread : IsUnread split_document_text
 unfolding computes
@@ -124,12 +124,12 @@ split_document_unread t h =
     refl refl h.2.script in
     let body = document_is the_mark [] refl d.1 in
     let end : span 18 19 ≡ body.0 = some_one body.3 in
-    let parts = subst (λ l. ReadsParts h.0 (take l.start split_document_text) (in_document_of the_mark) 10 (record (at_word 4 1 0) { body = true }) body.1 body.2) (sym end) body.5 in
+    let parts = subst (λ l. ReadsParts h.0 (take l.start split_document_text) (in_document_of the_mark) 10 (record (at_word 4 1 0) { body = true }) body.1 body.2) (sym end) body.6 in
     let f = first_part sign.Substitution refl refl parts in
     inner_unread h.0 f.4.0 f.4.1 f.4.5
 
 -- the same where the outer one is stripped of tabs
-abbrev tabs_mark : Mark
+abbrev pub tabs_mark : Mark
 tabs_mark = record { strip = true; quoted = false; delimiter = codes "E"; depth = 0 }
 
 abbrev tabbed_spot : Spot
@@ -148,7 +148,7 @@ tabbed_unread limit u t h =
     refl refl h in
     let body = document_is tabbed_mark [] refl d.1 in
     let end : span 14 15 ≡ body.0 = some_one body.3 in
-    true≢false (sym body.4 ∙ ap (λ l. keeps_document b true true tabbed_mark (span 11 (behind_line b l.end))) (sym end))
+    true≢false (sym body.5 ∙ ap (λ l. keeps_document b true true tabbed_mark (span 11 (behind_line b l.end))) (sym end))
 
 pub tabbed_document_unread : IsUnread tabbed_document_text
 unfolding computes
@@ -159,7 +159,7 @@ tabbed_document_unread t h =
     refl refl h.2.script in
     let body = document_is tabs_mark [] refl d.1 in
     let end : span 18 19 ≡ body.0 = some_one body.3 in
-    let parts = subst (λ l. ReadsParts h.0 (take l.start tabbed_document_text) (in_document_of tabs_mark) 10 (record (at_word 5 1 0) { body = true; tabs = true }) body.1 body.2) (sym end) body.5 in
+    let parts = subst (λ l. ReadsParts h.0 (take l.start tabbed_document_text) (in_document_of tabs_mark) 10 (record (at_word 5 1 0) { body = true; tabs = true }) body.1 body.2) (sym end) body.6 in
     let f = first_part sign.Substitution refl refl parts in
     tabbed_unread h.0 f.4.0 f.4.1 f.4.5
 

@@ -9,3 +9,7 @@ pub mod Parts
 pub mod States
 pub mod Reading
 pub mod Examples
+pub mod WordExamples
+pub mod CommandExamples
+pub mod DocumentExamples
+pub mod UnreadExamples

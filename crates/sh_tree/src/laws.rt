@@ -1,11 +1,19 @@
 //! Texts that are known trees, and trees that are known programs, as laws of what `specs/` defines.
+ghost use Rattle.sh_tree.specs.language.CommandExamples.{CommandsRead};
+ghost use Rattle.sh_tree.specs.language.DocumentExamples.{DocumentsRead};
 ghost use Rattle.sh_tree.specs.language.Examples.{LanguageRead};
+ghost use Rattle.sh_tree.specs.language.UnreadExamples.{OthersUnread};
+ghost use Rattle.sh_tree.specs.language.WordExamples.{WordsRead};
 ghost use Rattle.sh_tree.specs.program.Examples.{ProgramsRead};
 
 /// Texts with each kind of part, expansion, arithmetic expression and command are the trees that they are meant to be, and
 /// texts that are no scripts are none.
 pub fn reads_language()
-    ensures { LanguageRead }
+    ensures texts { LanguageRead }
+    ensures words { WordsRead }
+    ensures commands { CommandsRead }
+    ensures documents { DocumentsRead }
+    ensures nothing { OthersUnread }
 {}
 
 /// The trees of such texts are the programs that they are meant to be: each kind of part, expansion, arithmetic
