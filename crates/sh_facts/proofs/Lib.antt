@@ -8,3 +8,4 @@ pub mod InclusionLemmas
 pub mod CountLemmas
 pub mod SpotLemmas
 pub mod SpotExampleLemmas
+pub mod MeetLemmas

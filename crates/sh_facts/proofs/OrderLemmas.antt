@@ -63,7 +63,7 @@ same_tests v w h k = fun_ext (λ x. one (v x) (w x) (h x) (k x))
     one false true h k = k refl
     one false false h k = refl
 
-within_same : (f g : Facts) → IsWithin f g → IsWithin g f → f ≡ g
+pub within_same : (f g : Facts) → IsWithin f g → IsWithin g f → f ≡ g
 within_same NotReached NotReached p q = refl
 within_same NotReached (Known w g b) p q = absurd (nowhere_known w g b p)
 within_same (Known v f a) NotReached p q = absurd (nowhere_known v f a q)

@@ -20,3 +20,4 @@ pub mod LeastFault
 pub mod Inclusions
 pub mod Spots
 pub mod SpotExamples
+pub mod Meets

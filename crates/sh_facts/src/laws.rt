@@ -2,6 +2,7 @@
 ghost use Rattle.sh_facts.specs.AnswerExamples.{AnswersAsExpected};
 ghost use Rattle.sh_facts.specs.Inclusions.{RulesGive};
 ghost use Rattle.sh_facts.specs.LeastFault.{LeastIsTold};
+ghost use Rattle.sh_facts.specs.Meets.{SeenIsMeet};
 ghost use Rattle.sh_facts.specs.Order.{Monotone, Ordered};
 ghost use Rattle.sh_facts.specs.SpotExamples.{SpotsAsExpected};
 ghost use Rattle.sh_facts.specs.Spots.{PlacesStandOnce};
@@ -21,6 +22,12 @@ pub fn order()
 /// certificate without a fault stays below whatever a greater one is lowered to.
 pub fn monotone()
     ensures { Monotone }
+{}
+
+/// What is seen at several places is the meet of what each view claims: a fact is within it where it is within each, and a step, unless
+/// it is a call, may be taken behind the meet.
+pub fn meets()
+    ensures { SeenIsMeet }
 {}
 
 /// Of a list of faults the one that is told stands in it, none in it precedes that one, and no other is so.
