@@ -128,14 +128,14 @@ fn numbers_of<T: Row + Drop>(alloc: Global, row: &T, count: u32) -> Result<Vec<u
     Ok(numbers)
 }
 
-fn both<T: Row + Drop>(alloc: Global, pair: &Pair) -> Result<Vec<u32>, AllocError> {
+fn intersection<T: Row + Drop>(alloc: Global, pair: &Pair) -> Result<Vec<u32>, AllocError> {
     let mut row: T = row_of(alloc, pair.count, pair.first)?;
     let other: T = row_of(alloc, pair.count, pair.second)?;
     row.meet(&other);
     numbers_of(alloc, &row, pair.count)
 }
 
-fn left<T: Row + Drop>(alloc: Global, pair: &Pair) -> Result<Vec<u32>, AllocError> {
+fn difference<T: Row + Drop>(alloc: Global, pair: &Pair) -> Result<Vec<u32>, AllocError> {
     let mut row: T = row_of(alloc, pair.count, pair.first)?;
     let other: T = row_of(alloc, pair.count, pair.second)?;
     row.remove(&other);
@@ -152,9 +152,9 @@ fn is_within<T: Row + Drop>(alloc: Global, pair: &Pair) -> Result<bool, AllocErr
 fn check_pairs<T: Row + Drop, R: Abort>(rt: &R, alloc: Global, pairs: &[Pair]) -> Result<(), Fail> {
     for pair in pairs {
         let count = pair.count;
-        let both = both::<T>(alloc, pair)?;
+        let both = intersection::<T>(alloc, pair)?;
         assert_eq!(rt; both.as_slice(), pair.both, "both of {count}");
-        let left = left::<T>(alloc, pair)?;
+        let left = difference::<T>(alloc, pair)?;
         assert_eq!(rt; left.as_slice(), pair.left, "left of {count}");
         let is_within = is_within::<T>(alloc, pair)?;
         assert_eq!(rt; is_within, pair.is_within, "within of {count}");
@@ -163,7 +163,7 @@ fn check_pairs<T: Row + Drop, R: Abort>(rt: &R, alloc: Global, pairs: &[Pair]) -
 }
 
 // What is left below a count where all but zero is taken out, one by one.
-fn cleared<T: Row + Drop>(alloc: Global, count: u32) -> Result<Vec<u32>, AllocError> {
+fn remainder<T: Row + Drop>(alloc: Global, count: u32) -> Result<Vec<u32>, AllocError> {
     let mut row: T = row_of(alloc, count, &[0, 1, 63, 64, 65, 127, 128, 129])?;
     for number in 1..count {
         row.clear(number);
@@ -172,7 +172,7 @@ fn cleared<T: Row + Drop>(alloc: Global, count: u32) -> Result<Vec<u32>, AllocEr
 }
 
 fn check_clear<T: Row + Drop, R: Abort>(rt: &R, alloc: Global, count: u32) -> Result<(), Fail> {
-    let left = cleared::<T>(alloc, count)?;
+    let left = remainder::<T>(alloc, count)?;
     assert_eq!(rt; left.as_slice(), [0].as_slice(), "of {count}");
     Ok(())
 }
