@@ -115,10 +115,6 @@ pub hits_cons : (q : Place) (s : Spot) (ss : List Spot) → hits q (s ∷ ss) �
 unfolding hits
 hits_cons q s ss = omega arith
 
-pub hits_none : (q : Place) → hits q [] ≡ 0
-unfolding hits
-hits_none q = refl
-
 there_is : (at : ℕ) (b : Bool) (s : Spot) → is_there at b s ≡ true → s ≡ spot_of_place at b
 unfolding is_there spot_of_place
 there_is at true (OfCommand k) e = let same = eqb-true at k (and_parts (at == k) true e).0 in ap OfCommand (sym same)
