@@ -15,9 +15,9 @@ use Rattle.sh_tree.specs.declared.refusal.Refusal.TheVariants.{Syntax, LeftOut, 
 use Rattle.sh_tree.specs.language.Commands.{lead_at, begins_simple, begins_compound, begins_command, begins_pipeline, is_redirection, redirects}
 use Rattle.sh_tree.specs.language.Reading as r
 use Rattle.sh_tree.specs.language.Reading.{ReadsElements, ReadsCommand, lead_here}
-use Rattle.sh_tree.specs.language.States.{State, Document, counted, closing}
+use Rattle.sh_tree.specs.language.States.{State, Document, begun, closing}
 use Rattle.sh_tree.specs.language.Trees as tree
-use Rattle.sh_tree.proofs.Inversions.{apart}
+use Rattle.sh_tree.proofs.Inversions.{apart, compound_begins}
 use Rattle.sh_words.specs.Faults.{IsFault}
 use Rattle.sh_grammar.specs.Readers.{plain, ElementsFrom, ElementsTo, Elements, CommandFrom, CommandTo, Commands}
 use Rattle.sh_grammar.proofs.ElementLemmas.{refused_by}
@@ -45,7 +45,7 @@ compound_pipeline l h = or_right (begins_simple l) (begins_compound l) h
 unread : {limit : ℕ} {b : List ℕ} {body : ℕ → Document} {s v : State} {c : Command} → begins_pipeline (lead_here b s) ≡ false → ReadsCommand limit b body s v c → ⊥
 unfolding begins_pipeline begins_command
 unread none (r.simple_command h e) = true≢false (sym (simple_pipeline _ h) ∙ none)
-unread none (r.compound_command {l = l} h is k q) = true≢false (sym (compound_pipeline l h) ∙ sym (ap begins_pipeline is) ∙ none)
+unread none (r.compound_command {l = l} is k q) = true≢false (sym (compound_pipeline l (compound_begins k)) ∙ sym (ap begins_pipeline is) ∙ none)
 unread none (r.definition h o p k i c) = apart begins_pipeline (sym h) refl none
 
 -- a token that begins no pipeline begins no command
@@ -58,10 +58,10 @@ command_unexpected b n i _ is none = absurd is
 
 simple_of : {limit : ℕ} {b : List ℕ} {body : ℕ → Document} {s v : State} {c : Command} → begins_simple (lead_here b s) ≡ true → ReadsCommand limit b body s v c
     → (u : State) × (es : List Element) × (v ≡ closing false u) × (c ≡ tree.command (s.spot.count + 1) s.spot.at (kind.Simple es) [])
-    × ReadsElements limit b body First (counted s) u es
+    × ReadsElements limit b body First (begun s) u es
 unfolding begins_simple is_redirection
 simple_of some (r.simple_command {u = u} {es = es} h e) = (u, es, refl, refl, e)
-simple_of some (r.compound_command {l = l} h is k q) = absurd (true≢false (sym some ∙ ap begins_simple is ∙ not_simple l h))
+simple_of some (r.compound_command {l = l} is k q) = absurd (true≢false (sym some ∙ ap begins_simple is ∙ not_simple l (compound_begins k)))
 simple_of some (r.definition h o p k i c) = absurd (apart begins_simple h some refl)
 
 pub command_read : (b : List ℕ) (n i : ℕ) (es : List Element) (j : ℕ) → begins_simple (lead_at b First i) ≡ true → ElementsTo b i es j → n < MAX_COMMANDS

@@ -14,7 +14,7 @@ use Rattle.sh_tree.specs.declared.refusal.Refusal.TheVariants.{TooLong, NulByte,
 use Rattle.sh_tree.specs.language.Commands.{blanks, lead_at, begins_simple, is_redirection, name_end}
 use Rattle.sh_tree.specs.language.Contexts.{in_value, in_stage}
 use Rattle.sh_tree.specs.language.Reading as r
-use Rattle.sh_tree.specs.language.Reading.{ReadsWord, ReadsElements, lead_of, named}
+use Rattle.sh_tree.specs.language.Reading.{ReadsWord, ReadsElements, lead_of, stage_behind}
 use Rattle.sh_tree.specs.language.States.{Spot, State, Document, to, facing, past, waits}
 use Rattle.sh_tree.specs.language.Trees.{span}
 use Rattle.sh_tree.proofs.Inversions.{apart}
@@ -89,7 +89,7 @@ no_elements {b = b} {g = g} {s = s} none (r.redirect_element h q e) = absurd (tr
 abbrev FirstWord : ℕ → List ℕ → (ℕ → Document) → Stage → State → State → List Element → Type 0
 FirstWord limit b body g s v es =
     (u : Spot) × (w : Word) × (fs : List Element) × (es ≡ element.Word w ∷ fs) × ReadsWord limit b (in_stage b g s.spot.at) (facing s) u w
-    × ReadsElements limit b body (named b g s.spot.at) (past b u s) v fs
+    × ReadsElements limit b body (stage_behind b g s.spot.at) (past b u s) v fs
 
 first_word : {limit : ℕ} {b : List ℕ} {body : ℕ → Document} {g : Stage} {s v : State} {es : List Element} → lead_of b g s ≡ lead.Word → ReadsElements limit b body g s v es
     → FirstWord limit b body g s v es
@@ -149,17 +149,17 @@ module _ (b : List ℕ) (i next : ℕ) (s : Stage) (found : List Element) (behin
 
   -- one element more, up to `after`, and none where nothing is read
   module _ (is : lead.Word ≡ lead_at b s next) where
-    pub elements_word : (w : Word) → WordTo b (in_stage b s next) next w → (g : Stage) → g ≡ named b s next → (after : ℕ) → after ≡ blanks false b w.span.end
+    pub elements_word : (w : Word) → WordTo b (in_stage b s next) next w → (g : Stage) → g ≡ stage_behind b s next → (after : ℕ) → after ≡ blanks false b w.span.end
         → Found b i (found ++ element.Word w ∷ []) (g, after)
     unfolding waits
     elements_word w read g stage after ends = subst (λ t. Found b i (found ++ element.Word w ∷ []) (t, after)) (sym stage)
-        (subst (λ k. Found b i (found ++ element.Word w ∷ []) (named b s next, k)) (sym ends) (record {
+        (subst (λ k. Found b i (found ++ element.Word w ∷ []) (stage_behind b s next, k)) (sym ends) (record {
           at = λ n.
-              one_more (ElementsFrom b n) (First, i) (s, next) (named b s next, blanks false b w.span.end) found (element.Word w) (behind.at n) (record {
+              one_more (ElementsFrom b n) (First, i) (s, next) (stage_behind b s next, blanks false b w.span.end) found (element.Word w) (behind.at n) (record {
                 forth = λ limit body k es l.
                     let f = first_word {s = plain n next} (sym is) l in
                     let o = (read.one n).only limit body f.0 f.1 f.4 in
-                    (f.2, f.3 ∙ ap (λ v. element.Word v ∷ f.2) o.1, subst (λ u. ReadsElements limit b body (named b s next) (past b u (plain n next)) k f.2) o.0 f.5);
+                    (f.2, f.3 ∙ ap (λ v. element.Word v ∷ f.2) o.1, subst (λ u. ReadsElements limit b body (stage_behind b s next) (past b u (plain n next)) k f.2) o.0 f.5);
                 back = λ body k es l. r.word_element {u = plain_spot n w.span.end} (sym is) ((read.one n).reads body) l;
               });
         }))

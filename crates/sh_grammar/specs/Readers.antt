@@ -20,7 +20,7 @@ use Rattle.sh_tree.specs.language.States.{Spot, State, Document}
 
 -- at i, behind n commands
 abbrev pub plain_spot : ℕ → ℕ → Spot
-plain_spot n i = record { at = i; count = n; depth = 0; quiet = false; body = false; tabs = false }
+plain_spot n i = record { at = i; count = n; depth = 0; quiet = false; joins = false; tabs = false }
 
 abbrev pub plain : ℕ → ℕ → State
 plain n i = record { spot = plain_spot n i; closed = false; pending = []; bodies = [] }

@@ -125,10 +125,10 @@ fn operated(subject: Subject, behind: usize, rest: &[u8]) -> (Sign, usize)
 }
 
 /// The length of a parameter, behind `${#` at `at`.
-#[tactic(auto, unfolding(sh_tree::specs::language::Words::counted))]
-fn counted(at: usize, rest: &[u8]) -> (Sign, usize)
+#[tactic(auto, unfolding(sh_tree::specs::language::Words::parameter_length))]
+fn parameter_length(at: usize, rest: &[u8]) -> (Sign, usize)
     requires small { at + 3 + length rest.now ≤ MAX_SCRIPT }
-    ensures value { result ≡ words.counted at rest.now }
+    ensures value { result ≡ words.parameter_length at rest.now }
     ensures within { result.1 ≤ length rest.now + 3 }
     ensures moves { reads_bytes result.0 ≡ true → 0 < result.1 }
     ensures told { refuses result.0 ≡ true → result.1 < length rest.now + 3 }
@@ -182,7 +182,7 @@ fn unnamed(at: usize, rest: &[u8]) -> (Sign, usize)
         [first, others @ ..] => {
             let closed = begins_at(rest, 1, b'}');
             if *first == b'#' && !closed {
-                counted(at, others)
+                parameter_length(at, others)
             } else {
                 specially(at + 2, rest, special_of(*first))
             }
