@@ -24,7 +24,7 @@ use Rattle.sh_tree.specs.declared.token.command.Lead.{Lead}
 use Rattle.sh_tree.specs.declared.token.command.Lead.TheVariants as lead
 use Rattle.sh_tree.specs.language.Bytes.{is_blank, is_newline, is_backslash, is_operator_byte, is_digit, ends_token, run, is_first, name_length, longest}
 use Rattle.sh_tree.specs.language.Words as words
-use Rattle.sh_tree.specs.language.Commands.{gap_length, blank_length, blanks, operator_of, operator_lead, whole_operator, opening, reserved_lead, first_lead, name_lead, word_lead, number_lead, other_lead, lead_of, lead_at, is_assignment, name_end, bare_word, named, reserved_words, left_out_names}
+use Rattle.sh_tree.specs.language.Commands.{gap_length, blank_length, blanks, operator_of, operator_lead, whole_operator, opening, reserved_lead, first_lead, name_lead, word_lead, number_lead, other_lead, lead_of, lead_at, is_assignment, name_end, bare_word, entry_of, reserved_words, left_out_names}
 use Rattle.sh_tree.specs.language.Contexts.{in_word, in_value, in_operand, in_stage}
 use Rattle.sh_words.proofs.OperationLemmas.{first_some}
 
@@ -77,7 +77,7 @@ operated_goes : (p : Subject) (k : ℕ) (rest : List ℕ) → ends (words.operat
 unfolding words.operated
 operated_goes p k rest = grind (arith, nat_tests, used_goes true p (k + 1) (drop 1 rest), used_goes false p k rest)
 
-counted_goes : (rest : List ℕ) (p : Option (Subject × ℕ)) → ends (words.counted_by rest p) ≡ false
+counted_goes : (rest : List ℕ) (p : Option (Subject × ℕ)) → ends (words.length_by rest p) ≡ false
 counted_goes rest (Some p) = grind (arith, nat_tests, misfit_goes (p.1 + 3) (drop p.1 rest))
 counted_goes rest None = misfit_goes 3 rest
 
@@ -86,7 +86,7 @@ specially_goes i rest (Some p) = grind (arith, nat_tests, misfit_goes 3 (drop 1 
 specially_goes i rest None = misfit_goes 2 rest
 
 unnamed_goes : (i : ℕ) (rest : List ℕ) → ends (words.unnamed i rest) ≡ false
-unfolding words.unnamed words.counted
+unfolding words.unnamed words.parameter_length
 unnamed_goes i [] = misfit_goes 2 []
 unnamed_goes i (c ∷ rest) = grind (arith, nat_tests, counted_goes rest (words.parameter (i + 3) rest), specially_goes (i + 2) (c ∷ rest) (words.special_of c))
 
@@ -95,7 +95,7 @@ braced_goes i cs (Some p) = operated_goes p.0 (p.1 + 2) (drop p.1 cs)
 braced_goes i cs None = unnamed_goes i cs
 
 opened_goes : (i : ℕ) (cs : List ℕ) → ends (words.opened i cs) ≡ false
-unfolding words.opened words.named words.braced words.parenthesis words.single_parameter
+unfolding words.opened words.named_value words.braced words.parenthesis words.single_parameter
 opened_goes i [] = refl
 opened_goes i (c ∷ rest) = grind (arith, nat_tests, braced_goes i rest (words.parameter (i + 2) rest))
 
@@ -276,12 +276,12 @@ name_none None = refl
 first_none : (b : List ℕ) (i : ℕ) (w : List ℕ) (r : Option Reserved) → is_assigned (first_lead b i w r) ≡ false
 unfolding first_lead
 first_none b i w (Some r) = reserved_none (drop i b) r
-first_none b i w None = grind (arith, nat_tests, name_none (named left_out_names w))
+first_none b i w None = grind (arith, nat_tests, name_none (entry_of left_out_names w))
 
 word_none : (b : List ℕ) (s : Stage) (i : ℕ) (w : List ℕ) → is_assigned (word_lead b s i w) ≡ false
 unfolding word_lead
-word_none b First i w = first_none b i w (named reserved_words w)
-word_none b Prefixed i w = name_none (named left_out_names w)
+word_none b First i w = first_none b i w (entry_of reserved_words w)
+word_none b Prefixed i w = name_none (entry_of left_out_names w)
 word_none b (Named d) i w = refl
 
 number_none : (rest : List ℕ) (o : Option (Operator × ℕ)) → is_assigned (number_lead rest o) ≡ false

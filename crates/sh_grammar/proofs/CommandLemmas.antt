@@ -17,9 +17,9 @@ use Rattle.sh_tree.specs.language.Commands.{lead_at, begins_simple, begins_compo
 use Rattle.sh_tree.specs.language.Reading as r
 use Rattle.sh_tree.specs.language.Reading.{ReadsElements, ReadsRedirects, ReadsCompound, ReadsCommand, lead_here, is_empty}
 use Rattle.sh_tree.specs.language.States as states
-use Rattle.sh_tree.specs.language.States.{Document, counted, closing}
+use Rattle.sh_tree.specs.language.States.{Document, begun, closing}
 use Rattle.sh_tree.specs.language.Trees as tree
-use Rattle.sh_tree.proofs.Inversions.{apart}
+use Rattle.sh_tree.proofs.Inversions.{apart, compound_begins}
 use Rattle.sh_tree.proofs.Counts.{command_count_more, redirects_count}
 use Rattle.sh_grammar.specs.declared.state.State.{State}
 use Rattle.sh_grammar.specs.States.{here}
@@ -52,7 +52,7 @@ command_pipeline _ h = h
 pub command_begins : {limit : ℕ} {b : List ℕ} {body : ℕ → Document} {s v : states.State} {c : Command} → ReadsCommand limit b body s v c → begins_command (lead_here b s) ≡ true
 unfolding begins_command
 command_begins (r.simple_command h e) = simple_command_begins _ h
-command_begins (r.compound_command {l = l} h is k q) = ap begins_command is ∙ compound_command_begins l h
+command_begins (r.compound_command {l = l} is k q) = ap begins_command is ∙ compound_command_begins l (compound_begins k)
 command_begins (r.definition h o p k i c) = ap begins_command h
 
 -- the end of the text begins none
@@ -72,10 +72,10 @@ command_crowded b s many limit body v c l = let more = command_count_more l in o
 
 simple_of : {limit : ℕ} {b : List ℕ} {body : ℕ → Document} {s v : states.State} {c : Command} → begins_simple (lead_here b s) ≡ true → ReadsCommand limit b body s v c
     → (u : states.State) × (es : List Element) × (v ≡ closing false u) × (c ≡ tree.command (s.spot.count + 1) s.spot.at (kind.Simple es) [])
-    × ReadsElements limit b body First (counted s) u es
+    × ReadsElements limit b body First (begun s) u es
 unfolding begins_simple is_redirection
 simple_of some (r.simple_command {u = u} {es = es} h e) = (u, es, refl, refl, e)
-simple_of some (r.compound_command {l = l} h is k q) = absurd (true≢false (sym some ∙ ap begins_simple is ∙ not_simple l h))
+simple_of some (r.compound_command {l = l} is k q) = absurd (true≢false (sym some ∙ ap begins_simple is ∙ not_simple l (compound_begins k)))
 simple_of some (r.definition h o p k i c) = absurd (apart begins_simple h some refl)
 
 -- behind one more command
@@ -104,11 +104,11 @@ module _ (b : List ℕ) (s : State) (some : begins_simple (lead_at b First s.at)
 
 compound_of : {limit : ℕ} {b : List ℕ} {body : ℕ → Document} {s v : states.State} {c : Command} → begins_compound (lead_here b s) ≡ true → ReadsCommand limit b body s v c
     → (u w : states.State) × (k : Kind) × (qs : List Redirect) × (v ≡ closing (is_empty qs) w) × (c ≡ tree.command (s.spot.count + 1) s.spot.at k qs)
-    × ReadsCompound limit b body (lead_here b s) (counted s) u k × ReadsRedirects limit b body u w qs
+    × ReadsCompound limit b body (lead_here b s) (begun s) u k × ReadsRedirects limit b body u w qs
 unfolding begins_compound
 compound_of some (r.simple_command h e) = absurd (true≢false (sym h ∙ not_simple _ some))
-compound_of {limit = limit} {b = b} {body = body} {s = s} some (r.compound_command {u = u} {v = w} {l = m} {k = k} {rs = qs} j h c q) =
-    (u, w, k, qs, refl, refl, subst (λ n. ReadsCompound limit b body n (counted s) u k) (sym h) c, q)
+compound_of {limit = limit} {b = b} {body = body} {s = s} some (r.compound_command {u = u} {v = w} {l = m} {k = k} {rs = qs} h c q) =
+    (u, w, k, qs, refl, refl, subst (λ n. ReadsCompound limit b body n (begun s) u k) (sym h) c, q)
 compound_of some (r.definition h o p k i c) = absurd (apart begins_compound h some refl)
 
 compound_deeper : {limit : ℕ} {b : List ℕ} {body : ℕ → Document} {l : Lead} {s v : states.State} {k : Kind} → ReadsCompound limit b body l s v k → s.spot.depth < limit
@@ -143,7 +143,7 @@ module _ (b : List ℕ) (s : State) (some : begins_compound (lead_at b First s.a
     pub redirected_read : (qs : List Redirect) (v : State) → One (RedirectsFrom b u) (here v) qs
         → One (CommandFrom b s) (closing (is_empty qs) (here v)) (tree.command (s.count + 1) s.at k qs)
     redirected_read qs v h = record {
-      reads = λ body. r.compound_command {s = here s} some refl (one.reads body) (h.reads body);
+      reads = λ body. r.compound_command {s = here s} refl (one.reads body) (h.reads body);
       only = λ limit body w c l.
           let f = compound_of {s = here s} some l in
           let o = one.only limit body f.0 f.2 f.6 in

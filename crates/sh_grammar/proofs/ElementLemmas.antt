@@ -13,7 +13,7 @@ use Rattle.sh_tree.specs.declared.refusal.Refusal.{Refusal}
 use Rattle.sh_tree.specs.language.Commands.{blanks, lead_at, begins_simple, is_redirection, name_end}
 use Rattle.sh_tree.specs.language.Contexts.{in_value, in_stage}
 use Rattle.sh_tree.specs.language.Reading as r
-use Rattle.sh_tree.specs.language.Reading.{ReadsWord, ReadsElements, ReadsRedirect, lead_of, named, redirected}
+use Rattle.sh_tree.specs.language.Reading.{ReadsWord, ReadsElements, ReadsRedirect, lead_of, stage_behind, redirected}
 use Rattle.sh_tree.specs.language.States as states
 use Rattle.sh_tree.specs.language.States.{Spot, Document, to, facing, past, waits}
 use Rattle.sh_tree.specs.language.Trees.{span}
@@ -53,7 +53,7 @@ no_elements {b = b} {g = g} {s = s} none (r.redirect_element h q e) = absurd (tr
 abbrev FirstWord : ℕ → List ℕ → (ℕ → Document) → Stage → states.State → states.State → List Element → Type 0
 FirstWord limit b body g s v es =
     (u : Spot) × (w : Word) × (fs : List Element) × (es ≡ element.Word w ∷ fs) × ReadsWord limit b (in_stage b g s.spot.at) (facing s) u w
-    × ReadsElements limit b body (named b g s.spot.at) (past b u s) v fs
+    × ReadsElements limit b body (stage_behind b g s.spot.at) (past b u s) v fs
 
 first_word : {limit : ℕ} {b : List ℕ} {body : ℕ → Document} {g : Stage} {s v : states.State} {es : List Element} → lead_of b g s ≡ lead.Word
     → ReadsElements limit b body g s v es → FirstWord limit b body g s v es
@@ -123,18 +123,18 @@ module _ (b : List ℕ) (s next : State) (g : Stage) (found : List Element) (h :
       go (inr below) = below
 
   module _ (is : lead.Word ≡ lead_at b g next.at) where
-    pub elements_word : (w : Word) (after : State) (j : Stage) → j ≡ named b g next.at → One (WordAt b (in_stage b g next.at) next.at next) (here after) w
+    pub elements_word : (w : Word) (after : State) (j : Stage) → j ≡ stage_behind b g next.at → One (WordAt b (in_stage b g next.at) next.at next) (here after) w
         → Found b s (found ++ element.Word w ∷ []) j after
     unfolding waits
     elements_word w after j stage one = subst (λ t. Found b s (found ++ element.Word w ∷ []) t after) (sym stage) (record {
-      behind = one_more (ElementsFrom b) (First, s) (g, next) (named b g next.at, after) found (element.Word w) h.behind (record {
+      behind = one_more (ElementsFrom b) (First, s) (g, next) (stage_behind b g next.at, after) found (element.Word w) h.behind (record {
         forth = λ limit body k es l.
             let f = first_word {s = here next} (sym is) l in
             let o = one.only limit body (past b f.0 (here next)) f.1 (f.0, f.4, refl) in
-            (f.2, f.3 ∙ ap (λ v. element.Word v ∷ f.2) o.1, subst (λ u. ReadsElements limit b body (named b g next.at) u k f.2) o.0 f.5);
+            (f.2, f.3 ∙ ap (λ v. element.Word v ∷ f.2) o.1, subst (λ u. ReadsElements limit b body (stage_behind b g next.at) u k f.2) o.0 f.5);
         back = λ body k es l.
             let t = one.reads body in
-            r.word_element {s = here next} {u = t.0} (sym is) t.1 (subst (λ u. ReadsElements 64 b body (named b g next.at) u k es) t.2 l);
+            r.word_element {s = here next} {u = t.0} (sym is) t.1 (subst (λ u. ReadsElements 64 b body (stage_behind b g next.at) u k es) t.2 l);
       });
     })
 

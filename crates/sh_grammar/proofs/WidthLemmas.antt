@@ -15,7 +15,7 @@ use Rattle.sh_tree.specs.declared.token.command.Reserved.TheVariants as word
 use Rattle.sh_tree.specs.declared.refusal.Form.{Form}
 use Rattle.sh_tree.specs.declared.tree.Link.{Link}
 use Rattle.sh_tree.specs.language.Bytes.{longest, is_first, is_digit, run}
-use Rattle.sh_tree.specs.language.Commands.{long_operators, short_operators, operator_of, operator_lead, whole_operator, opening, other_lead, lead_of, lead_at, link_of, number_lead, word_lead, first_lead, reserved_lead, name_lead, named, reserved_words, left_out_names, bare_word}
+use Rattle.sh_tree.specs.language.Commands.{long_operators, short_operators, operator_of, operator_lead, whole_operator, opening, other_lead, lead_of, lead_at, link_of, number_lead, word_lead, first_lead, reserved_lead, name_lead, entry_of, reserved_words, left_out_names, bare_word}
 
 -- the texts of a table are as long as `width` says
 abbrev Wide : (Operator → ℕ) → List (List ℕ × Operator) → Type 0
@@ -100,11 +100,11 @@ name_joins None = refl
 first_joins : (b : List ℕ) (i : ℕ) (w : List ℕ) (r : Option Reserved) → joins (first_lead b i w r) ≡ false
 unfolding first_lead
 first_joins b i w (Some r) = reserved_joins (drop i b) r
-first_joins b i w None = grind (arith, nat_tests, name_joins (named left_out_names w))
+first_joins b i w None = grind (arith, nat_tests, name_joins (entry_of left_out_names w))
 
 word_joins : (b : List ℕ) (i : ℕ) (w : List ℕ) → joins (word_lead b First i w) ≡ false
 unfolding word_lead
-word_joins b i w = first_joins b i w (named reserved_words w)
+word_joins b i w = first_joins b i w (entry_of reserved_words w)
 
 number_joins : (rest : List ℕ) (o : Option (Operator × ℕ)) → joins (number_lead rest o) ≡ false
 unfolding number_lead

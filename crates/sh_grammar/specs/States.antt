@@ -8,7 +8,7 @@ use Rattle.sh_grammar.specs.declared.state.State.{State}
 
 -- in a word at i: no here-document is around or waits
 abbrev pub spot_of : ℕ → State → states.Spot
-spot_of i s = record { at = i; count = s.count; depth = s.depth; quiet = false; body = false; tabs = false }
+spot_of i s = record { at = i; count = s.count; depth = s.depth; quiet = false; joins = false; tabs = false }
 
 -- the reading's state
 abbrev pub here : State → states.State

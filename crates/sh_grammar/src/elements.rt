@@ -22,7 +22,7 @@ use std::alloc::Global;
 fn stage_behind(script: &[u8], stage: Stage, at: u32) -> Stage
     requires small { length script.now ≤ MAX_SCRIPT }
     requires inside { at ≤ length script.now }
-    ensures { result ≡ reading.named script.now stage at }
+    ensures { result ≡ reading.stage_behind script.now stage at }
 {
     match stage {
         Stage::Named(declares) => Stage::Named(declares),

@@ -75,16 +75,16 @@ word_gives inside goes h (r.whole_word q l k) = parts_give inside goes h q
 
 -- at a token outside here-documents
 abbrev pub IsSettled : List ℕ → Spot → Type 0
-IsSettled b s = (s.body ≡ false) × (blanks false b s.at ≡ s.at)
+IsSettled b s = (s.joins ≡ false) × (blanks false b s.at ≡ s.at)
 
 pub settles : (b : List ℕ) (body : Bool) (i : ℕ) → body ≡ false → blanks false b (blanks body b i) ≡ blanks body b i
 settles b body i outside = subst (λ t. blanks false b (blanks t b i) ≡ blanks t b i) (sym outside) (blanks_settle b i)
 
-pub settled_next : (b : List ℕ) (i : ℕ) (s : State) → s.spot.body ≡ false → IsSettled b (next b i s).spot
-settled_next b i s outside = (outside, settles b s.spot.body i outside)
+pub settled_next : (b : List ℕ) (i : ℕ) (s : State) → s.spot.joins ≡ false → IsSettled b (next b i s).spot
+settled_next b i s outside = (outside, settles b s.spot.joins i outside)
 
 pub settled_past : (b : List ℕ) (s : State) (u : Spot) → IsSettled b s.spot → IsSettled b (past b u s).spot
-settled_past b s u here = (here.0, settles b s.spot.body u.at here.0)
+settled_past b s u here = (here.0, settles b s.spot.joins u.at here.0)
 
 -- the first word of a simple command
 pub elements_named : {limit : ℕ} {b : List ℕ} {body : ℕ → Document} {g : Stage} {s v : State} {es : List Element} → IsSettled b s.spot

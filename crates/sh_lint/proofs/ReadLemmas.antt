@@ -30,7 +30,7 @@ use Rattle.sh_tree.specs.language.Reading as r
 use Rattle.sh_tree.specs.language.Reading.{lead_here, parted, ReadsParts, ReadsPart, ReadsWord, ReadsBreaks, ReadsElements, ReadsCommand, ReadsCompound, ReadsPipeline, ReadsCommands, ReadsAndOr, ReadsLinks, ReadsItems, ReadsSequence, ReadsScript, Reads}
 use Rattle.sh_tree.specs.language.States.{Spot, State, Document}
 use Rattle.sh_tree.specs.language.Trees as tree
-use Rattle.sh_tree.proofs.Inversions.{apart, some_one}
+use Rattle.sh_tree.proofs.Inversions.{apart, compound_begins, some_one}
 use Rattle.sh_grammar.proofs.BreakLemmas.{no_documents}
 use Rattle.sh_grammar.proofs.ItemLemmas.{end_lead}
 use Rattle.sh_flow.specs.Profile.{is_variable, is_value, is_flat, is_straight_part, is_straight_element, is_simple, has_none, is_straight, is_plain_name, is_admitted, is_item_admitted, Admitted, gives_name, has_name, HasNames}
@@ -65,8 +65,8 @@ command_placed : {limit : ℕ} {b : List ℕ} {body : ℕ → Document} {s u : S
 unfolding begins_command begins_simple begins_compound is_redirection
 command_placed {b = b} (r.simple_command {s = s} {es = es} h e) =
     subst (λ n. n < length b) (sym (started (s.spot.count + 1) s.spot.at (Simple es) [])) (within_text b s.spot.at (λ end. true≢false (sym h ∙ ap begins_simple end)))
-command_placed {b = b} (r.compound_command {s = s} {k = k} {rs = rs} h e c q) =
-    subst (λ n. n < length b) (sym (started (s.spot.count + 1) s.spot.at k rs)) (within_text b s.spot.at (λ end. true≢false (sym h ∙ ap begins_compound (sym e ∙ end))))
+command_placed {b = b} (r.compound_command {s = s} {k = k} {rs = rs} e c q) =
+    subst (λ n. n < length b) (sym (started (s.spot.count + 1) s.spot.at k rs)) (within_text b s.spot.at (λ end. true≢false (sym (compound_begins c) ∙ ap begins_compound (sym e ∙ end))))
 command_placed {b = b} (r.definition {s = s} h o p k i d) =
     subst (λ n. n < length b) (sym (started (s.spot.count + 1) s.spot.at _ [])) (within_text b s.spot.at (λ end. apart begins_command (sym h ∙ end) refl refl))
 
@@ -172,7 +172,7 @@ breaks_calm : {limit : ℕ} {b : List ℕ} {s v : State} (k : ℕ) → IsCalm b 
 breaks_calm k c (r.no_break h) = c
 breaks_calm {b = b} {s = s} k c (r.more_breaks {u = u} h q d rest) =
     let same = no_documents c.0 d in
-    let outside : u.spot.body ≡ false = ap (λ w. w.spot.body) same ∙ c.2.0 in
+    let outside : u.spot.joins ≡ false = ap (λ w. w.spot.joins) same ∙ c.2.0 in
     breaks_calm k (ap (λ w. w.pending) same, ap (λ w. w.spot.count) same ∙ c.1, settled_next b u.spot.at u outside) rest
 
 parted_calm : (b : List ℕ) (k : ℕ) (s : State) → IsCalm b k s → IsCalm b k (parted b s)
@@ -220,7 +220,7 @@ command_next {b = b} k h c (r.simple_command {s = s} {es = es} g e) =
           ∙ ap (λ xs. gives_name b (words_of xs)) (elements_of_simple es) ∙ elements_named c.2 straight e;
       calm = elements_calm (k + 1) straight (c.0, ap (λ n. n + 1) c.1, c.2) e;
     }
-command_next k h c (r.compound_command {s = s} {k = d} {rs = rs} g e q f) =
+command_next k h c (r.compound_command {s = s} {k = d} {rs = rs} e q f) =
     absurd (true≢false (sym (straight_kind (s.spot.count + 1) s.spot.at d rs h).0 ∙ not_simple q))
 command_next k h c (r.definition {s = s} g o p e i d) = absurd (true≢false (sym (straight_kind (s.spot.count + 1) s.spot.at _ [] h).0))
 

@@ -6,7 +6,7 @@ use Rattle.sh_tree.specs.declared.token.arithmetic.Figure.{Figure}
 use Rattle.std.specs.Prelude.{IfSome, Some, nat_eq}
 use Rattle.std.specs.List.{starts_with}
 use Rattle.sh_tree.specs.language.Bytes.{is_in, is_first, is_digit, is_octal, is_hexadecimal, is_name_start, is_name_byte, run, longest}
-use Rattle.sh_tree.specs.language.Arithmetic.{constant_length, operators}
+use Rattle.sh_tree.specs.language.Arithmetic.{constant_length, operator_table}
 use Rattle.sh_scan.proofs.RunLemmas.{run_yes, run_no, run_some}
 
 -- a run that is not empty begins
@@ -55,8 +55,8 @@ longest_moves (x ∷ xs) cs h = go (starts_with nat_eq cs x.0) (some (length x.0
     go true first rest = first
     go false first rest = rest
 
-pub operator_moves : (cs : List ℕ) → IfSome (longest operators cs) (λ found. 0 < found.1)
-operator_moves cs = longest_moves operators cs refl
+pub operator_moves : (cs : List ℕ) → IfSome (longest operator_table cs) (λ found. 0 < found.1)
+operator_moves cs = longest_moves operator_table cs refl
 
 -- what begins with a text is no shorter
 pub begun_within : (cs t : List ℕ) → starts_with nat_eq cs t ≡ true → length t ≤ length cs

@@ -30,7 +30,7 @@ while_reads =
     r.list (r.no_break refl) refl (r.ended_item list7 refl (r.no_break refl) refl) in
     let compound9 : ReadsCompound 1 while_text no_bodies (lead.Reserved reserved.While) (at_token 0 1 0) (at_token 19 3 0) _ =
     r.while_loop (omega arith) list4 (r.do_group refl list8 refl) in
-    let command10 : ReadsCommand 1 while_text no_bodies (at_token 0 0 0) (at_close 19 3 0) _ = r.compound_command refl refl compound9 (r.no_redirect refl) in
+    let command10 : ReadsCommand 1 while_text no_bodies (at_token 0 0 0) (at_close 19 3 0) _ = r.compound_command refl compound9 (r.no_redirect refl) in
     let list11 : ReadsAndOr 1 while_text no_bodies (at_token 0 0 0) (at_close 19 3 0) _ = alone_reads command10 refl refl refl in
     let list12 : ReadsList 1 while_text no_bodies (at_token 0 0 0) (at_close 19 3 0) _ = r.list (r.no_break refl) refl (r.last_item list11 refl refl) in
     whole while_text 1 (at_close 19 3 0) while_script refl (r.sequence list12) refl refl
@@ -46,7 +46,7 @@ for_ended_reads =
     r.list (r.no_break refl) refl (r.ended_item list3 refl (r.no_break refl) refl) in
     let compound5 : ReadsCompound 1 for_ended_text no_bodies (lead.Reserved reserved.For) (at_token 0 1 0) (at_token 17 2 0) _ =
     r.for_loop (omega arith) refl (r.arguments_ended refl (r.no_break refl)) (r.do_group refl list4 refl) in
-    let command6 : ReadsCommand 1 for_ended_text no_bodies (at_token 0 0 0) (at_close 17 2 0) _ = r.compound_command refl refl compound5 (r.no_redirect refl) in
+    let command6 : ReadsCommand 1 for_ended_text no_bodies (at_token 0 0 0) (at_close 17 2 0) _ = r.compound_command refl compound5 (r.no_redirect refl) in
     let list7 : ReadsAndOr 1 for_ended_text no_bodies (at_token 0 0 0) (at_close 17 2 0) _ = alone_reads command6 refl refl refl in
     let list8 : ReadsList 1 for_ended_text no_bodies (at_token 0 0 0) (at_close 17 2 0) (lone (command 1 0 (kind.For (span 4 5) None (lone (utility 2 10 11))) [])) =
     r.list (r.no_break refl) refl (r.last_item list7 refl refl) in
@@ -67,7 +67,7 @@ for_none_reads =
     r.list line3 refl (r.ended_item list6 refl line7 refl) in
     let compound9 : ReadsCompound 1 for_none_text no_bodies (lead.Reserved reserved.For) (at_token 0 1 0) (at_token 18 2 0) _ =
     r.for_loop (omega arith) refl (r.listed line1 refl (r.no_word refl) refl line2) (r.do_group refl list8 refl) in
-    let command10 : ReadsCommand 1 for_none_text no_bodies (at_token 0 0 0) (at_close 18 2 0) _ = r.compound_command refl refl compound9 (r.no_redirect refl) in
+    let command10 : ReadsCommand 1 for_none_text no_bodies (at_token 0 0 0) (at_close 18 2 0) _ = r.compound_command refl compound9 (r.no_redirect refl) in
     let list11 : ReadsAndOr 1 for_none_text no_bodies (at_token 0 0 0) (at_close 18 2 0) _ = alone_reads command10 refl refl refl in
     let list12 : ReadsList 1 for_none_text no_bodies (at_token 0 0 0) (at_close 18 2 0) _ = r.list (r.no_break refl) refl (r.last_item list11 refl refl) in
     whole for_none_text 1 (at_close 18 2 0) for_none_script refl (r.sequence list12) refl refl
@@ -87,7 +87,7 @@ for_two_reads =
     r.list (r.no_break refl) refl (r.ended_item list6 refl line7 refl) in
     let compound9 : ReadsCompound 1 for_two_text no_bodies (lead.Reserved reserved.For) (at_token 0 1 0) (at_token 22 2 0) _ =
     r.for_loop (omega arith) refl (r.listed (r.no_break refl) refl (r.more_words refl word1 (r.more_words refl word2 (r.no_word refl))) refl line3) (r.do_group refl list8 refl) in
-    let command10 : ReadsCommand 1 for_two_text no_bodies (at_token 0 0 0) (at_close 22 2 0) _ = r.compound_command refl refl compound9 (r.no_redirect refl) in
+    let command10 : ReadsCommand 1 for_two_text no_bodies (at_token 0 0 0) (at_close 22 2 0) _ = r.compound_command refl compound9 (r.no_redirect refl) in
     let list11 : ReadsAndOr 1 for_two_text no_bodies (at_token 0 0 0) (at_close 22 2 0) _ = alone_reads command10 refl refl refl in
     let list12 : ReadsList 1 for_two_text no_bodies (at_token 0 0 0) (at_close 22 2 0) _ = r.list (r.no_break refl) refl (r.last_item list11 refl refl) in
     whole for_two_text 1 (at_close 22 2 0) for_two_script refl (r.sequence list12) refl refl
@@ -110,7 +110,7 @@ case_lines_reads =
     let line11 : ReadsBreaks 1 case_lines_text (at_token 17 2 1) (at_token 18 2 1) = r.more_breaks refl refl r.no_body (r.no_break refl) in
     let compound12 : ReadsCompound 1 case_lines_text no_bodies (lead.Reserved reserved.Case) (at_token 0 1 0) (at_token 22 2 0) _ =
     r.case_of (omega arith) refl word1 line2 refl line3 (r.more_clauses refl (r.last_pattern refl word4 refl) (r.sequence list10) refl line11 (r.esac refl)) in
-    let command13 : ReadsCommand 1 case_lines_text no_bodies (at_token 0 0 0) (at_close 22 2 0) _ = r.compound_command refl refl compound12 (r.no_redirect refl) in
+    let command13 : ReadsCommand 1 case_lines_text no_bodies (at_token 0 0 0) (at_close 22 2 0) _ = r.compound_command refl compound12 (r.no_redirect refl) in
     let list14 : ReadsAndOr 1 case_lines_text no_bodies (at_token 0 0 0) (at_close 22 2 0) _ = alone_reads command13 refl refl refl in
     let list15 : ReadsList 1 case_lines_text no_bodies (at_token 0 0 0) (at_close 22 2 0) _ = r.list (r.no_break refl) refl (r.last_item list14 refl refl) in
     whole case_lines_text 1 (at_close 22 2 0) case_lines_script refl (r.sequence list15) refl refl
@@ -129,7 +129,7 @@ patterns_reads =
     r.list (r.no_break refl) refl (r.last_item list6 refl refl) in
     let compound8 : ReadsCompound 1 patterns_text no_bodies (lead.Reserved reserved.Case) (at_token 0 1 0) (at_token 23 2 0) _ =
     r.case_of (omega arith) refl word1 (r.no_break refl) refl (r.no_break refl) (r.more_clauses refl (r.more_patterns refl word2 refl (r.last_pattern refl word3 refl)) (r.sequence list7) refl (r.no_break refl) (r.esac refl)) in
-    let command9 : ReadsCommand 1 patterns_text no_bodies (at_token 0 0 0) (at_close 23 2 0) _ = r.compound_command refl refl compound8 (r.no_redirect refl) in
+    let command9 : ReadsCommand 1 patterns_text no_bodies (at_token 0 0 0) (at_close 23 2 0) _ = r.compound_command refl compound8 (r.no_redirect refl) in
     let list10 : ReadsAndOr 1 patterns_text no_bodies (at_token 0 0 0) (at_close 23 2 0) _ = alone_reads command9 refl refl refl in
     let list11 : ReadsList 1 patterns_text no_bodies (at_token 0 0 0) (at_close 23 2 0) _ = r.list (r.no_break refl) refl (r.last_item list10 refl refl) in
     whole patterns_text 1 (at_close 23 2 0) patterns_script refl (r.sequence list11) refl refl
@@ -148,7 +148,7 @@ pattern_esac_reads =
     r.list (r.no_break refl) refl (r.last_item list5 refl refl) in
     let compound7 : ReadsCompound 1 pattern_esac_text no_bodies (lead.Reserved reserved.Case) (at_token 0 1 0) (at_token 25 2 0) _ =
     r.case_of (omega arith) refl word1 (r.no_break refl) refl (r.no_break refl) (r.more_clauses refl (r.last_pattern refl word2 refl) (r.sequence list6) refl (r.no_break refl) (r.esac refl)) in
-    let command8 : ReadsCommand 1 pattern_esac_text no_bodies (at_token 0 0 0) (at_close 25 2 0) _ = r.compound_command refl refl compound7 (r.no_redirect refl) in
+    let command8 : ReadsCommand 1 pattern_esac_text no_bodies (at_token 0 0 0) (at_close 25 2 0) _ = r.compound_command refl compound7 (r.no_redirect refl) in
     let list9 : ReadsAndOr 1 pattern_esac_text no_bodies (at_token 0 0 0) (at_close 25 2 0) _ = alone_reads command8 refl refl refl in
     let list10 : ReadsList 1 pattern_esac_text no_bodies (at_token 0 0 0) (at_close 25 2 0) _ = r.list (r.no_break refl) refl (r.last_item list9 refl refl) in
     whole pattern_esac_text 1 (at_close 25 2 0) pattern_esac_script refl (r.sequence list10) refl refl

@@ -114,7 +114,7 @@ mutual
 
   pub command_count : {limit : ℕ} {b : List ℕ} {body : ℕ → Document} {s u : State} {c : Command} → ReadsCommand limit b body s u c → s.spot.count ≤ u.spot.count
   command_count (r.simple_command h es) = from_more (elements_count es)
-  command_count (r.compound_command h l k qs) = from_more (le_trans (compound_count k) (redirects_count qs))
+  command_count (r.compound_command l k qs) = from_more (le_trans (compound_count k) (redirects_count qs))
   command_count (r.definition h o p k i c) = from_more (le_trans (breaks_count k) (command_count c))
 
   pub compound_count : {limit : ℕ} {b : List ℕ} {body : ℕ → Document} {l : Lead} {s u : State} {k : Kind} → ReadsCompound limit b body l s u k → s.spot.count ≤ u.spot.count
@@ -192,7 +192,7 @@ mutual
 
 pub command_count_more : {limit : ℕ} {b : List ℕ} {body : ℕ → Document} {s u : State} {c : Command} → ReadsCommand limit b body s u c → s.spot.count < u.spot.count
 command_count_more (r.simple_command h es) = one_more (elements_count es)
-command_count_more (r.compound_command h l k qs) = one_more (le_trans (compound_count k) (redirects_count qs))
+command_count_more (r.compound_command l k qs) = one_more (le_trans (compound_count k) (redirects_count qs))
 command_count_more (r.definition h o p k i c) = one_more (le_trans (breaks_count k) (command_count c))
 
 pub commands_count_more : {limit : ℕ} {b : List ℕ} {body : ℕ → Document} {s u : State} {cs : List Command} → ReadsCommands limit b body s u cs → s.spot.count < u.spot.count

@@ -81,9 +81,9 @@ two_documents_reads =
     r.simple_command refl (r.redirect_element refl operator2 (r.redirect_element refl operator4 (r.no_element refl))) in
     let list6 : ReadsAndOr 0 two_documents_text two_documents_bodies (at_token 0 0 0) (record (at_token 7 1 0) { pending = two_documents_mark ∷ two_documents_mark1 ∷ [] }) _ =
     alone_reads command5 refl refl refl in
-    let body7 : ReadsParts 0 (take 10 two_documents_text) (in_document_of two_documents_mark) 10 (record (at_word 8 1 0) { body = true }) (record (at_word 10 1 0) { body = true }) (plain 8 10 ∷ []) =
+    let body7 : ReadsParts 0 (take 10 two_documents_text) (in_document_of two_documents_mark) 10 (record (at_word 8 1 0) { joins = true }) (record (at_word 10 1 0) { joins = true }) (plain 8 10 ∷ []) =
     r.more refl r.plain (r.stop refl) in
-    let body8 : ReadsParts 0 (take 14 two_documents_text) (in_document_of two_documents_mark1) 10 (record (at_word 12 1 0) { body = true }) (record (at_word 14 1 0) { body = true }) (plain 12 14 ∷ []) =
+    let body8 : ReadsParts 0 (take 14 two_documents_text) (in_document_of two_documents_mark1) 10 (record (at_word 12 1 0) { joins = true }) (record (at_word 14 1 0) { joins = true }) (plain 12 14 ∷ []) =
     r.more refl r.plain (r.stop refl) in
     let bodies9 : ReadsDocuments 0 two_documents_text (two_documents_mark ∷ two_documents_mark1 ∷ []) (at_token 8 1 0) (record (at_token 16 1 0) { bodies = two_documents_document ∷ two_documents_document1 ∷ [] }) =
     r.more_bodies refl refl refl body7 refl (r.more_bodies refl refl refl body8 refl r.no_body) in
@@ -112,7 +112,7 @@ group_document_reads =
     r.simple_command refl (r.redirect_element refl operator2 (r.no_element refl)) in
     let list4 : ReadsAndOr 1 group_document_text group_document_bodies (at_token 2 1 1) (record (at_token 5 2 1) { pending = group_document_mark ∷ [] }) _ =
     alone_reads command3 refl refl refl in
-    let body5 : ReadsParts 1 (take 8 group_document_text) (in_document_of group_document_mark) 10 (record (at_word 6 2 1) { body = true }) (record (at_word 8 2 1) { body = true }) (plain 6 8 ∷ []) =
+    let body5 : ReadsParts 1 (take 8 group_document_text) (in_document_of group_document_mark) 10 (record (at_word 6 2 1) { joins = true }) (record (at_word 8 2 1) { joins = true }) (plain 6 8 ∷ []) =
     r.more refl r.plain (r.stop refl) in
     let bodies6 : ReadsDocuments 1 group_document_text (group_document_mark ∷ []) (at_token 6 2 1) (record (at_token 10 2 1) { bodies = group_document_document ∷ [] }) =
     r.more_bodies refl refl refl body5 refl r.no_body in
@@ -123,7 +123,7 @@ group_document_reads =
     let compound9 : ReadsCompound 1 group_document_text group_document_bodies (lead.Reserved reserved.LeftBrace) (at_token 0 1 0) (record (at_token 11 2 0) { bodies = group_document_document ∷ [] }) _ =
     r.group (omega arith) list8 refl in
     let command10 : ReadsCommand 1 group_document_text group_document_bodies (at_token 0 0 0) (record (at_close 11 2 0) { bodies = group_document_document ∷ [] }) _ =
-    r.compound_command refl refl compound9 (r.no_redirect refl) in
+    r.compound_command refl compound9 (r.no_redirect refl) in
     let list11 : ReadsAndOr 1 group_document_text group_document_bodies (at_token 0 0 0) (record (at_close 11 2 0) { bodies = group_document_document ∷ [] }) _ =
     alone_reads command10 refl refl refl in
     let list12 : ReadsList 1 group_document_text group_document_bodies (at_token 0 0 0) (record (at_close 11 2 0) { bodies = group_document_document ∷ [] }) _ =
@@ -149,7 +149,7 @@ inner_document_reads =
     r.simple_command refl (r.redirect_element refl operator2 (r.no_element refl)) in
     let list4 : ReadsAndOr 1 inner_document_text inner_document_bodies (at_token 2 1 1) (record (at_token 5 2 1) { pending = inner_document_mark ∷ [] }) _ =
     alone_reads command3 refl refl refl in
-    let body5 : ReadsParts 1 (take 8 inner_document_text) (in_document_of inner_document_mark) 10 (record (at_word 6 2 1) { body = true }) (record (at_word 8 2 1) { body = true }) (plain 6 8 ∷ []) =
+    let body5 : ReadsParts 1 (take 8 inner_document_text) (in_document_of inner_document_mark) 10 (record (at_word 6 2 1) { joins = true }) (record (at_word 8 2 1) { joins = true }) (plain 6 8 ∷ []) =
     r.more refl r.plain (r.stop refl) in
     let bodies6 : ReadsDocuments 1 inner_document_text (inner_document_mark ∷ []) (at_token 6 2 1) (record (at_token 10 2 1) { bodies = inner_document_document ∷ [] }) =
     r.more_bodies refl refl refl body5 refl r.no_body in
@@ -190,7 +190,7 @@ piped_document_reads =
     r.simple_command refl (r.word_element refl word4 (r.no_element refl)) in
     let list6 : ReadsAndOr 0 piped_document_text piped_document_bodies (at_token 0 0 0) (record (at_token 7 2 0) { pending = piped_document_mark ∷ [] }) _ =
     r.linked (r.straight refl (r.more_commands command3 refl (r.no_break refl) (r.last_command command5 refl))) (r.no_link refl) in
-    let body7 : ReadsParts 0 (take 10 piped_document_text) (in_document_of piped_document_mark) 10 (record (at_word 8 2 0) { body = true }) (record (at_word 10 2 0) { body = true }) (plain 8 10 ∷ []) =
+    let body7 : ReadsParts 0 (take 10 piped_document_text) (in_document_of piped_document_mark) 10 (record (at_word 8 2 0) { joins = true }) (record (at_word 10 2 0) { joins = true }) (plain 8 10 ∷ []) =
     r.more refl r.plain (r.stop refl) in
     let bodies8 : ReadsDocuments 0 piped_document_text (piped_document_mark ∷ []) (at_token 8 2 0) (record (at_token 12 2 0) { bodies = piped_document_document ∷ [] }) =
     r.more_bodies refl refl refl body7 refl r.no_body in
@@ -226,17 +226,17 @@ counted_document_reads =
     r.simple_command refl (r.word_element refl word5 (r.no_element refl)) in
     let list7 : ReadsAndOr 1 counted_document_text counted_document_bodies (record (at_token 5 1 0) { pending = counted_document_mark ∷ [] }) (record (at_token 6 2 0) { pending = counted_document_mark ∷ [] }) _ =
     alone_reads command6 refl refl refl in
-    let word8 : ReadsWord 1 (take 12 counted_document_text) (in_word 9) (record (at_word 9 3 1) { body = true }) (record (at_word 10 3 1) { body = true }) (bare 9 10) =
+    let word8 : ReadsWord 1 (take 12 counted_document_text) (in_word 9) (record (at_word 9 3 1) { joins = true }) (record (at_word 10 3 1) { joins = true }) (bare 9 10) =
     r.whole_word (r.more refl r.plain (r.stop refl)) refl refl in
-    let command9 : ReadsCommand 1 (take 12 counted_document_text) no_bodies (record (at_token 9 2 1) { spot = record (at_word 9 2 1) { body = true } }) (record (at_token 10 3 1) { spot = record (at_word 10 3 1) { body = true } }) _ =
+    let command9 : ReadsCommand 1 (take 12 counted_document_text) no_bodies (record (at_token 9 2 1) { spot = record (at_word 9 2 1) { joins = true } }) (record (at_token 10 3 1) { spot = record (at_word 10 3 1) { joins = true } }) _ =
     r.simple_command refl (r.word_element refl word8 (r.no_element refl)) in
-    let list10 : ReadsAndOr 1 (take 12 counted_document_text) no_bodies (record (at_token 9 2 1) { spot = record (at_word 9 2 1) { body = true } }) (record (at_token 10 3 1) { spot = record (at_word 10 3 1) { body = true } }) _ =
+    let list10 : ReadsAndOr 1 (take 12 counted_document_text) no_bodies (record (at_token 9 2 1) { spot = record (at_word 9 2 1) { joins = true } }) (record (at_token 10 3 1) { spot = record (at_word 10 3 1) { joins = true } }) _ =
     alone_reads command9 refl refl refl in
-    let list11 : ReadsList 1 (take 12 counted_document_text) no_bodies (record (at_token 9 2 1) { spot = record (at_word 9 2 1) { body = true } }) (record (at_token 10 3 1) { spot = record (at_word 10 3 1) { body = true } }) _ =
+    let list11 : ReadsList 1 (take 12 counted_document_text) no_bodies (record (at_token 9 2 1) { spot = record (at_word 9 2 1) { joins = true } }) (record (at_token 10 3 1) { spot = record (at_word 10 3 1) { joins = true } }) _ =
     r.list (r.no_break refl) refl (r.last_item list10 refl refl) in
-    let inner12 : ReadsScript 1 (take 12 counted_document_text) (record (at_word 9 2 1) { body = true }) (record (at_word 10 3 1) { body = true }) _ =
-    r.script {u = (record (at_token 10 3 1) { spot = record (at_word 10 3 1) { body = true } })} (r.sequence list11) refl in
-    let body13 : ReadsParts 1 (take 12 counted_document_text) (in_document_of counted_document_mark) 10 (record (at_word 7 2 0) { body = true }) (record (at_word 12 3 0) { body = true }) (part.Command Paren (span 7 11) (lone (utility 3 9 10)) ∷ plain 11 12 ∷ []) =
+    let inner12 : ReadsScript 1 (take 12 counted_document_text) (record (at_word 9 2 1) { joins = true }) (record (at_word 10 3 1) { joins = true }) _ =
+    r.script {u = (record (at_token 10 3 1) { spot = record (at_word 10 3 1) { joins = true } })} (r.sequence list11) refl in
+    let body13 : ReadsParts 1 (take 12 counted_document_text) (in_document_of counted_document_mark) 10 (record (at_word 7 2 0) { joins = true }) (record (at_word 12 3 0) { joins = true }) (part.Command Paren (span 7 11) (lone (utility 3 9 10)) ∷ plain 11 12 ∷ []) =
     r.more refl (r.substitution (omega arith) inner12 refl) (r.more refl r.plain (r.stop refl)) in
     let bodies14 : ReadsDocuments 1 counted_document_text (counted_document_mark ∷ []) (at_token 7 2 0) (record (at_token 14 3 0) { bodies = counted_document_document ∷ [] }) =
     r.more_bodies refl refl refl body13 refl r.no_body in
@@ -265,7 +265,7 @@ joined_end_reads =
     r.simple_command refl (r.redirect_element refl operator2 (r.no_element refl)) in
     let list4 : ReadsAndOr 0 joined_end_text joined_end_bodies (at_token 0 0 0) (record (at_token 4 1 0) { pending = joined_end_mark ∷ [] }) _ =
     alone_reads command3 refl refl refl in
-    let body5 : ReadsParts 0 (take 7 joined_end_text) (in_document_of joined_end_mark) 10 (record (at_word 5 1 0) { body = true }) (record (at_word 7 1 0) { body = true }) (plain 5 7 ∷ []) =
+    let body5 : ReadsParts 0 (take 7 joined_end_text) (in_document_of joined_end_mark) 10 (record (at_word 5 1 0) { joins = true }) (record (at_word 7 1 0) { joins = true }) (plain 5 7 ∷ []) =
     r.more refl r.plain (r.stop refl) in
     let bodies6 : ReadsDocuments 0 joined_end_text (joined_end_mark ∷ []) (at_token 5 1 0) (record (at_token 12 1 0) { bodies = joined_end_document ∷ [] }) =
     r.more_bodies refl refl refl body5 refl r.no_body in
@@ -294,7 +294,7 @@ unended_line_reads =
     r.simple_command refl (r.redirect_element refl operator2 (r.no_element refl)) in
     let list4 : ReadsAndOr 0 unended_line_text unended_line_bodies (at_token 0 0 0) (record (at_token 3 1 0) { pending = unended_line_mark ∷ [] }) _ =
     alone_reads command3 refl refl refl in
-    let body5 : ReadsParts 0 (take 6 unended_line_text) (in_document_of unended_line_mark) 10 (record (at_word 4 1 0) { body = true }) (record (at_word 6 1 0) { body = true }) (plain 4 6 ∷ []) =
+    let body5 : ReadsParts 0 (take 6 unended_line_text) (in_document_of unended_line_mark) 10 (record (at_word 4 1 0) { joins = true }) (record (at_word 6 1 0) { joins = true }) (plain 4 6 ∷ []) =
     r.more refl r.plain (r.stop refl) in
     let bodies6 : ReadsDocuments 0 unended_line_text (unended_line_mark ∷ []) (at_token 4 1 0) (record (at_token 7 1 0) { bodies = unended_line_document ∷ [] }) =
     r.more_bodies refl refl refl body5 refl r.no_body in
@@ -334,7 +334,7 @@ quiet_reads =
     let command9 : ReadsCommand 1 quiet_text quiet_bodies (at_token 0 0 0) (record (at_token 8 2 0) { pending = quiet_mark ∷ [] }) _ =
     r.simple_command refl (r.redirect_element refl operator2 (r.word_element refl word8 (r.no_element refl))) in
     let list10 : ReadsAndOr 1 quiet_text quiet_bodies (at_token 0 0 0) (record (at_token 8 2 0) { pending = quiet_mark ∷ [] }) _ = alone_reads command9 refl refl refl in
-    let body11 : ReadsParts 1 (take 9 quiet_text) (in_document_of quiet_mark) 10 (record (at_word 9 2 0) { body = true }) (record (at_word 9 2 0) { body = true }) [] =
+    let body11 : ReadsParts 1 (take 9 quiet_text) (in_document_of quiet_mark) 10 (record (at_word 9 2 0) { joins = true }) (record (at_word 9 2 0) { joins = true }) [] =
     r.stop refl in
     let bodies12 : ReadsDocuments 1 quiet_text (quiet_mark ∷ []) (at_token 9 2 0) (record (at_token 11 2 0) { bodies = quiet_document ∷ [] }) =
     r.more_bodies refl refl refl body11 refl r.no_body in
@@ -363,19 +363,19 @@ paired_comment_reads =
     r.simple_command refl (r.redirect_element refl operator2 (r.no_element refl)) in
     let list4 : ReadsAndOr 1 paired_comment_text paired_comment_bodies (at_token 0 0 0) (record (at_token 3 1 0) { pending = paired_comment_mark ∷ [] }) _ =
     alone_reads command3 refl refl refl in
-    let word5 : ReadsWord 1 (take 16 paired_comment_text) (in_word 6) (record (at_word 6 2 1) { body = true }) (record (at_word 7 2 1) { body = true }) (bare 6 7) =
+    let word5 : ReadsWord 1 (take 16 paired_comment_text) (in_word 6) (record (at_word 6 2 1) { joins = true }) (record (at_word 7 2 1) { joins = true }) (bare 6 7) =
     r.whole_word (r.more refl r.plain (r.stop refl)) refl refl in
-    let command6 : ReadsCommand 1 (take 16 paired_comment_text) no_bodies (record (at_token 6 1 1) { spot = record (at_word 6 1 1) { body = true } }) (record (at_token 13 2 1) { spot = record (at_word 13 2 1) { body = true } }) _ =
+    let command6 : ReadsCommand 1 (take 16 paired_comment_text) no_bodies (record (at_token 6 1 1) { spot = record (at_word 6 1 1) { joins = true } }) (record (at_token 13 2 1) { spot = record (at_word 13 2 1) { joins = true } }) _ =
     r.simple_command refl (r.word_element refl word5 (r.no_element refl)) in
-    let list7 : ReadsAndOr 1 (take 16 paired_comment_text) no_bodies (record (at_token 6 1 1) { spot = record (at_word 6 1 1) { body = true } }) (record (at_token 13 2 1) { spot = record (at_word 13 2 1) { body = true } }) _ =
+    let list7 : ReadsAndOr 1 (take 16 paired_comment_text) no_bodies (record (at_token 6 1 1) { spot = record (at_word 6 1 1) { joins = true } }) (record (at_token 13 2 1) { spot = record (at_word 13 2 1) { joins = true } }) _ =
     alone_reads command6 refl refl refl in
-    let line8 : ReadsBreaks 1 (take 16 paired_comment_text) (record (at_token 13 2 1) { spot = record (at_word 13 2 1) { body = true } }) (record (at_token 14 2 1) { spot = record (at_word 14 2 1) { body = true } }) =
+    let line8 : ReadsBreaks 1 (take 16 paired_comment_text) (record (at_token 13 2 1) { spot = record (at_word 13 2 1) { joins = true } }) (record (at_token 14 2 1) { spot = record (at_word 14 2 1) { joins = true } }) =
     r.more_breaks refl refl r.no_body (r.no_break refl) in
-    let list9 : ReadsList 1 (take 16 paired_comment_text) no_bodies (record (at_token 6 1 1) { spot = record (at_word 6 1 1) { body = true } }) (record (at_token 14 2 1) { spot = record (at_word 14 2 1) { body = true } }) _ =
+    let list9 : ReadsList 1 (take 16 paired_comment_text) no_bodies (record (at_token 6 1 1) { spot = record (at_word 6 1 1) { joins = true } }) (record (at_token 14 2 1) { spot = record (at_word 14 2 1) { joins = true } }) _ =
     r.list (r.no_break refl) refl (r.ended_item list7 refl line8 refl) in
-    let inner10 : ReadsScript 1 (take 16 paired_comment_text) (record (at_word 6 1 1) { body = true }) (record (at_word 14 2 1) { body = true }) (lone (utility 2 6 7)) =
-    r.script {u = (record (at_token 14 2 1) { spot = record (at_word 14 2 1) { body = true } })} (r.sequence list9) refl in
-    let body11 : ReadsParts 1 (take 16 paired_comment_text) (in_document_of paired_comment_mark) 10 (record (at_word 4 1 0) { body = true }) (record (at_word 16 2 0) { body = true }) (part.Command Paren (span 4 15) (lone (utility 2 6 7)) ∷ plain 15 16 ∷ []) =
+    let inner10 : ReadsScript 1 (take 16 paired_comment_text) (record (at_word 6 1 1) { joins = true }) (record (at_word 14 2 1) { joins = true }) (lone (utility 2 6 7)) =
+    r.script {u = (record (at_token 14 2 1) { spot = record (at_word 14 2 1) { joins = true } })} (r.sequence list9) refl in
+    let body11 : ReadsParts 1 (take 16 paired_comment_text) (in_document_of paired_comment_mark) 10 (record (at_word 4 1 0) { joins = true }) (record (at_word 16 2 0) { joins = true }) (part.Command Paren (span 4 15) (lone (utility 2 6 7)) ∷ plain 15 16 ∷ []) =
     r.more refl (r.substitution (omega arith) inner10 refl) (r.more refl r.plain (r.stop refl)) in
     let bodies12 : ReadsDocuments 1 paired_comment_text (paired_comment_mark ∷ []) (at_token 4 1 0) (record (at_token 18 2 0) { bodies = paired_comment_document ∷ [] }) =
     r.more_bodies refl refl refl body11 refl r.no_body in
@@ -404,19 +404,19 @@ paired_quotes_reads =
     r.simple_command refl (r.redirect_element refl operator2 (r.no_element refl)) in
     let list4 : ReadsAndOr 1 paired_quotes_text paired_quotes_bodies (at_token 0 0 0) (record (at_token 3 1 0) { pending = paired_quotes_mark ∷ [] }) _ =
     alone_reads command3 refl refl refl in
-    let word5 : ReadsWord 1 (take 17 paired_quotes_text) (in_word 6) (record (at_word 6 2 1) { body = true }) (record (at_word 7 2 1) { body = true }) (bare 6 7) =
+    let word5 : ReadsWord 1 (take 17 paired_quotes_text) (in_word 6) (record (at_word 6 2 1) { joins = true }) (record (at_word 7 2 1) { joins = true }) (bare 6 7) =
     r.whole_word (r.more refl r.plain (r.stop refl)) refl refl in
-    let word6 : ReadsWord 1 (take 17 paired_quotes_text) (in_word 8) (record (at_word 8 2 1) { body = true }) (record (at_word 15 2 1) { body = true }) (word 8 15 (part.Single single.Plain (span 8 15) ∷ [])) =
+    let word6 : ReadsWord 1 (take 17 paired_quotes_text) (in_word 8) (record (at_word 8 2 1) { joins = true }) (record (at_word 15 2 1) { joins = true }) (word 8 15 (part.Single single.Plain (span 8 15) ∷ [])) =
     r.whole_word (r.more refl r.single_quoted (r.stop refl)) refl refl in
-    let command7 : ReadsCommand 1 (take 17 paired_quotes_text) no_bodies (record (at_token 6 1 1) { spot = record (at_word 6 1 1) { body = true } }) (record (at_token 15 2 1) { spot = record (at_word 15 2 1) { body = true } }) _ =
+    let command7 : ReadsCommand 1 (take 17 paired_quotes_text) no_bodies (record (at_token 6 1 1) { spot = record (at_word 6 1 1) { joins = true } }) (record (at_token 15 2 1) { spot = record (at_word 15 2 1) { joins = true } }) _ =
     r.simple_command refl (r.word_element refl word5 (r.word_element refl word6 (r.no_element refl))) in
-    let list8 : ReadsAndOr 1 (take 17 paired_quotes_text) no_bodies (record (at_token 6 1 1) { spot = record (at_word 6 1 1) { body = true } }) (record (at_token 15 2 1) { spot = record (at_word 15 2 1) { body = true } }) _ =
+    let list8 : ReadsAndOr 1 (take 17 paired_quotes_text) no_bodies (record (at_token 6 1 1) { spot = record (at_word 6 1 1) { joins = true } }) (record (at_token 15 2 1) { spot = record (at_word 15 2 1) { joins = true } }) _ =
     alone_reads command7 refl refl refl in
-    let list9 : ReadsList 1 (take 17 paired_quotes_text) no_bodies (record (at_token 6 1 1) { spot = record (at_word 6 1 1) { body = true } }) (record (at_token 15 2 1) { spot = record (at_word 15 2 1) { body = true } }) _ =
+    let list9 : ReadsList 1 (take 17 paired_quotes_text) no_bodies (record (at_token 6 1 1) { spot = record (at_word 6 1 1) { joins = true } }) (record (at_token 15 2 1) { spot = record (at_word 15 2 1) { joins = true } }) _ =
     r.list (r.no_break refl) refl (r.last_item list8 refl refl) in
-    let inner10 : ReadsScript 1 (take 17 paired_quotes_text) (record (at_word 6 1 1) { body = true }) (record (at_word 15 2 1) { body = true }) _ =
-    r.script {u = (record (at_token 15 2 1) { spot = record (at_word 15 2 1) { body = true } })} (r.sequence list9) refl in
-    let body11 : ReadsParts 1 (take 17 paired_quotes_text) (in_document_of paired_quotes_mark) 10 (record (at_word 4 1 0) { body = true }) (record (at_word 17 2 0) { body = true }) (part.Command Paren (span 4 16) (lone (simple 2 6 (element.Word (bare 6 7) ∷ element.Word (word 8 15 (part.Single single.Plain (span 8 15) ∷ [])) ∷ []))) ∷ plain 16 17 ∷ []) =
+    let inner10 : ReadsScript 1 (take 17 paired_quotes_text) (record (at_word 6 1 1) { joins = true }) (record (at_word 15 2 1) { joins = true }) _ =
+    r.script {u = (record (at_token 15 2 1) { spot = record (at_word 15 2 1) { joins = true } })} (r.sequence list9) refl in
+    let body11 : ReadsParts 1 (take 17 paired_quotes_text) (in_document_of paired_quotes_mark) 10 (record (at_word 4 1 0) { joins = true }) (record (at_word 17 2 0) { joins = true }) (part.Command Paren (span 4 16) (lone (simple 2 6 (element.Word (bare 6 7) ∷ element.Word (word 8 15 (part.Single single.Plain (span 8 15) ∷ [])) ∷ []))) ∷ plain 16 17 ∷ []) =
     r.more refl (r.substitution (omega arith) inner10 refl) (r.more refl r.plain (r.stop refl)) in
     let bodies12 : ReadsDocuments 1 paired_quotes_text (paired_quotes_mark ∷ []) (at_token 4 1 0) (record (at_token 19 2 0) { bodies = paired_quotes_document ∷ [] }) =
     r.more_bodies refl refl refl body11 refl r.no_body in
@@ -454,25 +454,25 @@ paired_document_reads =
     r.simple_command refl (r.redirect_element refl operator2 (r.no_element refl)) in
     let list4 : ReadsAndOr 1 paired_document_text paired_document_bodies1 (at_token 0 0 0) (record (at_token 3 1 0) { pending = paired_document_mark ∷ [] }) _ =
     alone_reads command3 refl refl refl in
-    let word5 : ReadsWord 1 (take 19 paired_document_text) (in_unsplit 8) (record (at_word 8 2 1) { body = true }) (record (at_word 11 2 1) { body = true }) (word 8 11 (part.Single single.Plain (span 8 11) ∷ [])) =
+    let word5 : ReadsWord 1 (take 19 paired_document_text) (in_unsplit 8) (record (at_word 8 2 1) { joins = true }) (record (at_word 11 2 1) { joins = true }) (word 8 11 (part.Single single.Plain (span 8 11) ∷ [])) =
     r.whole_word (r.more refl r.single_quoted (r.stop refl)) refl refl in
-    let operator6 : ReadsRedirect 1 (take 19 paired_document_text) paired_document_bodies (record (at_token 6 2 1) { spot = record (at_word 6 2 1) { body = true } }) (record (at_token 11 2 1) { spot = record (at_word 11 2 1) { body = true }; pending = paired_document_mark1 ∷ [] }) _ =
+    let operator6 : ReadsRedirect 1 (take 19 paired_document_text) paired_document_bodies (record (at_token 6 2 1) { spot = record (at_word 6 2 1) { joins = true } }) (record (at_token 11 2 1) { spot = record (at_word 11 2 1) { joins = true }; pending = paired_document_mark1 ∷ [] }) _ =
     r.here_document refl refl refl word5 refl in
-    let command7 : ReadsCommand 1 (take 19 paired_document_text) paired_document_bodies (record (at_token 6 1 1) { spot = record (at_word 6 1 1) { body = true } }) (record (at_token 11 2 1) { spot = record (at_word 11 2 1) { body = true }; pending = paired_document_mark1 ∷ [] }) _ =
+    let command7 : ReadsCommand 1 (take 19 paired_document_text) paired_document_bodies (record (at_token 6 1 1) { spot = record (at_word 6 1 1) { joins = true } }) (record (at_token 11 2 1) { spot = record (at_word 11 2 1) { joins = true }; pending = paired_document_mark1 ∷ [] }) _ =
     r.simple_command refl (r.redirect_element refl operator6 (r.no_element refl)) in
-    let list8 : ReadsAndOr 1 (take 19 paired_document_text) paired_document_bodies (record (at_token 6 1 1) { spot = record (at_word 6 1 1) { body = true } }) (record (at_token 11 2 1) { spot = record (at_word 11 2 1) { body = true }; pending = paired_document_mark1 ∷ [] }) _ =
+    let list8 : ReadsAndOr 1 (take 19 paired_document_text) paired_document_bodies (record (at_token 6 1 1) { spot = record (at_word 6 1 1) { joins = true } }) (record (at_token 11 2 1) { spot = record (at_word 11 2 1) { joins = true }; pending = paired_document_mark1 ∷ [] }) _ =
     alone_reads command7 refl refl refl in
     let body9 : ReadsParts 1 (take 15 paired_document_text) (in_document_of paired_document_mark1) 10 (at_word 12 2 1) (at_word 15 2 1) (plain 12 15 ∷ []) =
     r.more refl r.plain (r.stop refl) in
-    let bodies10 : ReadsDocuments 1 (take 19 paired_document_text) (paired_document_mark1 ∷ []) (record (at_token 12 2 1) { spot = record (at_word 12 2 1) { body = true } }) (record (at_token 17 2 1) { spot = record (at_word 17 2 1) { body = true }; bodies = paired_document_document ∷ [] }) =
+    let bodies10 : ReadsDocuments 1 (take 19 paired_document_text) (paired_document_mark1 ∷ []) (record (at_token 12 2 1) { spot = record (at_word 12 2 1) { joins = true } }) (record (at_token 17 2 1) { spot = record (at_word 17 2 1) { joins = true }; bodies = paired_document_document ∷ [] }) =
     r.more_bodies refl refl refl body9 refl r.no_body in
-    let line11 : ReadsBreaks 1 (take 19 paired_document_text) (record (at_token 11 2 1) { spot = record (at_word 11 2 1) { body = true }; pending = paired_document_mark1 ∷ [] }) (record (at_token 17 2 1) { spot = record (at_word 17 2 1) { body = true }; bodies = paired_document_document ∷ [] }) =
+    let line11 : ReadsBreaks 1 (take 19 paired_document_text) (record (at_token 11 2 1) { spot = record (at_word 11 2 1) { joins = true }; pending = paired_document_mark1 ∷ [] }) (record (at_token 17 2 1) { spot = record (at_word 17 2 1) { joins = true }; bodies = paired_document_document ∷ [] }) =
     r.more_breaks refl refl bodies10 (r.no_break refl) in
-    let list12 : ReadsList 1 (take 19 paired_document_text) paired_document_bodies (record (at_token 6 1 1) { spot = record (at_word 6 1 1) { body = true } }) (record (at_token 17 2 1) { spot = record (at_word 17 2 1) { body = true }; bodies = paired_document_document ∷ [] }) _ =
+    let list12 : ReadsList 1 (take 19 paired_document_text) paired_document_bodies (record (at_token 6 1 1) { spot = record (at_word 6 1 1) { joins = true } }) (record (at_token 17 2 1) { spot = record (at_word 17 2 1) { joins = true }; bodies = paired_document_document ∷ [] }) _ =
     r.list (r.no_break refl) refl (r.ended_item list8 refl line11 refl) in
-    let inner13 : ReadsScript 1 (take 19 paired_document_text) (record (at_word 6 1 1) { body = true }) (record (at_word 17 2 1) { body = true }) _ =
-    r.script {u = (record (at_token 17 2 1) { spot = record (at_word 17 2 1) { body = true }; bodies = paired_document_document ∷ [] })} (r.sequence list12) refl in
-    let body14 : ReadsParts 1 (take 19 paired_document_text) (in_document_of paired_document_mark) 10 (record (at_word 4 1 0) { body = true }) (record (at_word 19 2 0) { body = true }) (part.Command Paren (span 4 18) (lone (simple 2 6 (element.Redirection (redirect 6 None (Here (here_doc false (word 8 11 (part.Single single.Plain (span 8 11) ∷ [])) (bare 12 15) (span 15 16)))) ∷ []))) ∷ plain 18 19 ∷ []) =
+    let inner13 : ReadsScript 1 (take 19 paired_document_text) (record (at_word 6 1 1) { joins = true }) (record (at_word 17 2 1) { joins = true }) _ =
+    r.script {u = (record (at_token 17 2 1) { spot = record (at_word 17 2 1) { joins = true }; bodies = paired_document_document ∷ [] })} (r.sequence list12) refl in
+    let body14 : ReadsParts 1 (take 19 paired_document_text) (in_document_of paired_document_mark) 10 (record (at_word 4 1 0) { joins = true }) (record (at_word 19 2 0) { joins = true }) (part.Command Paren (span 4 18) (lone (simple 2 6 (element.Redirection (redirect 6 None (Here (here_doc false (word 8 11 (part.Single single.Plain (span 8 11) ∷ [])) (bare 12 15) (span 15 16)))) ∷ []))) ∷ plain 18 19 ∷ []) =
     r.more refl (r.substitution (omega arith) inner13 refl) (r.more refl r.plain (r.stop refl)) in
     let bodies15 : ReadsDocuments 1 paired_document_text (paired_document_mark ∷ []) (at_token 4 1 0) (record (at_token 21 2 0) { bodies = paired_document_document1 ∷ [] }) =
     r.more_bodies refl refl refl body14 refl r.no_body in
@@ -501,7 +501,7 @@ tabbed_end_reads =
     r.simple_command refl (r.redirect_element refl operator2 (r.no_element refl)) in
     let list4 : ReadsAndOr 0 tabbed_end_text tabbed_end_bodies (at_token 0 0 0) (record (at_token 4 1 0) { pending = tabbed_end_mark ∷ [] }) _ =
     alone_reads command3 refl refl refl in
-    let body5 : ReadsParts 0 (take 7 tabbed_end_text) (in_document_of tabbed_end_mark) 10 (record (at_word 5 1 0) { body = true; tabs = true }) (record (at_word 7 1 0) { body = true; tabs = true }) (plain 5 7 ∷ []) =
+    let body5 : ReadsParts 0 (take 7 tabbed_end_text) (in_document_of tabbed_end_mark) 10 (record (at_word 5 1 0) { joins = true; tabs = true }) (record (at_word 7 1 0) { joins = true; tabs = true }) (plain 5 7 ∷ []) =
     r.more refl r.plain (r.stop refl) in
     let bodies6 : ReadsDocuments 0 tabbed_end_text (tabbed_end_mark ∷ []) (at_token 5 1 0) (record (at_token 12 1 0) { bodies = tabbed_end_document ∷ [] }) =
     r.more_bodies refl refl refl body5 refl r.no_body in
@@ -530,9 +530,9 @@ tabs_in_pattern_reads =
     r.simple_command refl (r.redirect_element refl operator2 (r.no_element refl)) in
     let list4 : ReadsAndOr 1 tabs_in_pattern_text tabs_in_pattern_bodies (at_token 0 0 0) (record (at_token 4 1 0) { pending = tabs_in_pattern_mark ∷ [] }) _ =
     alone_reads command3 refl refl refl in
-    let operand5 : ReadsParts 1 (take 16 tabs_in_pattern_text) (in_removal (in_document_of tabs_in_pattern_mark) 9) 0 (record (at_word 9 1 1) { body = true; tabs = true }) (record (at_word 15 1 1) { body = true; tabs = true }) (part.Single single.Plain (span 9 14) ∷ []) =
+    let operand5 : ReadsParts 1 (take 16 tabs_in_pattern_text) (in_removal (in_document_of tabs_in_pattern_mark) 9) 0 (record (at_word 9 1 1) { joins = true; tabs = true }) (record (at_word 15 1 1) { joins = true; tabs = true }) (part.Single single.Plain (span 9 14) ∷ []) =
     r.more refl r.single_quoted (r.stop refl) in
-    let body6 : ReadsParts 1 (take 16 tabs_in_pattern_text) (in_document_of tabs_in_pattern_mark) 10 (record (at_word 5 1 0) { body = true; tabs = true }) (record (at_word 16 1 0) { body = true; tabs = true }) (param 5 15 (Name (span 7 8)) (operator.Remove removal.ShortSuffix (word 9 14 (part.Single single.Plain (span 9 14) ∷ []))) ∷ plain 15 16 ∷ []) =
+    let body6 : ReadsParts 1 (take 16 tabs_in_pattern_text) (in_document_of tabs_in_pattern_mark) 10 (record (at_word 5 1 0) { joins = true; tabs = true }) (record (at_word 16 1 0) { joins = true; tabs = true }) (param 5 15 (Name (span 7 8)) (operator.Remove removal.ShortSuffix (word 9 14 (part.Single single.Plain (span 9 14) ∷ []))) ∷ plain 15 16 ∷ []) =
     r.more refl (r.removal (omega arith) operand5) (r.more refl r.plain (r.stop refl)) in
     let bodies7 : ReadsDocuments 1 tabs_in_pattern_text (tabs_in_pattern_mark ∷ []) (at_token 5 1 0) (record (at_token 18 1 0) { bodies = tabs_in_pattern_document ∷ [] }) =
     r.more_bodies refl refl refl body6 refl r.no_body in
@@ -561,19 +561,19 @@ tabs_in_quotes_reads =
     r.simple_command refl (r.redirect_element refl operator2 (r.no_element refl)) in
     let list4 : ReadsAndOr 1 tabs_in_quotes_text tabs_in_quotes_bodies (at_token 0 0 0) (record (at_token 4 1 0) { pending = tabs_in_quotes_mark ∷ [] }) _ =
     alone_reads command3 refl refl refl in
-    let word5 : ReadsWord 1 (take 17 tabs_in_quotes_text) (in_word 7) (record (at_word 7 2 1) { body = true; tabs = true }) (record (at_word 8 2 1) { body = true; tabs = true }) (bare 7 8) =
+    let word5 : ReadsWord 1 (take 17 tabs_in_quotes_text) (in_word 7) (record (at_word 7 2 1) { joins = true; tabs = true }) (record (at_word 8 2 1) { joins = true; tabs = true }) (bare 7 8) =
     r.whole_word (r.more refl r.plain (r.stop refl)) refl refl in
-    let word6 : ReadsWord 1 (take 17 tabs_in_quotes_text) (in_word 9) (record (at_word 9 2 1) { body = true; tabs = true }) (record (at_word 15 2 1) { body = true; tabs = true }) (word 9 15 (part.Single single.Plain (span 9 15) ∷ [])) =
+    let word6 : ReadsWord 1 (take 17 tabs_in_quotes_text) (in_word 9) (record (at_word 9 2 1) { joins = true; tabs = true }) (record (at_word 15 2 1) { joins = true; tabs = true }) (word 9 15 (part.Single single.Plain (span 9 15) ∷ [])) =
     r.whole_word (r.more refl r.single_quoted (r.stop refl)) refl refl in
-    let command7 : ReadsCommand 1 (take 17 tabs_in_quotes_text) no_bodies (record (at_token 7 1 1) { spot = record (at_word 7 1 1) { body = true; tabs = true } }) (record (at_token 15 2 1) { spot = record (at_word 15 2 1) { body = true; tabs = true } }) _ =
+    let command7 : ReadsCommand 1 (take 17 tabs_in_quotes_text) no_bodies (record (at_token 7 1 1) { spot = record (at_word 7 1 1) { joins = true; tabs = true } }) (record (at_token 15 2 1) { spot = record (at_word 15 2 1) { joins = true; tabs = true } }) _ =
     r.simple_command refl (r.word_element refl word5 (r.word_element refl word6 (r.no_element refl))) in
-    let list8 : ReadsAndOr 1 (take 17 tabs_in_quotes_text) no_bodies (record (at_token 7 1 1) { spot = record (at_word 7 1 1) { body = true; tabs = true } }) (record (at_token 15 2 1) { spot = record (at_word 15 2 1) { body = true; tabs = true } }) _ =
+    let list8 : ReadsAndOr 1 (take 17 tabs_in_quotes_text) no_bodies (record (at_token 7 1 1) { spot = record (at_word 7 1 1) { joins = true; tabs = true } }) (record (at_token 15 2 1) { spot = record (at_word 15 2 1) { joins = true; tabs = true } }) _ =
     alone_reads command7 refl refl refl in
-    let list9 : ReadsList 1 (take 17 tabs_in_quotes_text) no_bodies (record (at_token 7 1 1) { spot = record (at_word 7 1 1) { body = true; tabs = true } }) (record (at_token 15 2 1) { spot = record (at_word 15 2 1) { body = true; tabs = true } }) _ =
+    let list9 : ReadsList 1 (take 17 tabs_in_quotes_text) no_bodies (record (at_token 7 1 1) { spot = record (at_word 7 1 1) { joins = true; tabs = true } }) (record (at_token 15 2 1) { spot = record (at_word 15 2 1) { joins = true; tabs = true } }) _ =
     r.list (r.no_break refl) refl (r.last_item list8 refl refl) in
-    let inner10 : ReadsScript 1 (take 17 tabs_in_quotes_text) (record (at_word 7 1 1) { body = true; tabs = true }) (record (at_word 15 2 1) { body = true; tabs = true }) _ =
-    r.script {u = (record (at_token 15 2 1) { spot = record (at_word 15 2 1) { body = true; tabs = true } })} (r.sequence list9) refl in
-    let body11 : ReadsParts 1 (take 17 tabs_in_quotes_text) (in_document_of tabs_in_quotes_mark) 10 (record (at_word 5 1 0) { body = true; tabs = true }) (record (at_word 17 2 0) { body = true; tabs = true }) (part.Command Paren (span 5 16) (lone (simple 2 7 (element.Word (bare 7 8) ∷ element.Word (word 9 15 (part.Single single.Plain (span 9 15) ∷ [])) ∷ []))) ∷ plain 16 17 ∷ []) =
+    let inner10 : ReadsScript 1 (take 17 tabs_in_quotes_text) (record (at_word 7 1 1) { joins = true; tabs = true }) (record (at_word 15 2 1) { joins = true; tabs = true }) _ =
+    r.script {u = (record (at_token 15 2 1) { spot = record (at_word 15 2 1) { joins = true; tabs = true } })} (r.sequence list9) refl in
+    let body11 : ReadsParts 1 (take 17 tabs_in_quotes_text) (in_document_of tabs_in_quotes_mark) 10 (record (at_word 5 1 0) { joins = true; tabs = true }) (record (at_word 17 2 0) { joins = true; tabs = true }) (part.Command Paren (span 5 16) (lone (simple 2 7 (element.Word (bare 7 8) ∷ element.Word (word 9 15 (part.Single single.Plain (span 9 15) ∷ [])) ∷ []))) ∷ plain 16 17 ∷ []) =
     r.more refl (r.substitution (omega arith) inner10 refl) (r.more refl r.plain (r.stop refl)) in
     let bodies12 : ReadsDocuments 1 tabs_in_quotes_text (tabs_in_quotes_mark ∷ []) (at_token 5 1 0) (record (at_token 19 2 0) { bodies = tabs_in_quotes_document ∷ [] }) =
     r.more_bodies refl refl refl body11 refl r.no_body in

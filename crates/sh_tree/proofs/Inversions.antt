@@ -35,13 +35,13 @@ use Rattle.sh_tree.specs.language.Words.{in_double, in_use, in_removal, in_arith
 use Rattle.sh_tree.specs.language.Arithmetic.{is_closed, unary_of}
 use Rattle.sh_tree.specs.language.Commands.{blanks, lead_at, redirection, redirects, direction_of, strip_of, is_word, is_redirection, is_reserved, is_bar, is_newline_lead, begins_simple, begins_compound, begins_command, begins_pipeline, separator, link_of}
 use Rattle.sh_tree.specs.language.Contexts.{in_word, in_unsplit, in_stage}
-use Rattle.sh_tree.specs.language.Parts.{is_quoted_word, delimiter_of, keeps_document}
-use Rattle.sh_tree.specs.language.HereDocuments.{Mark, end_line, behind_line, is_ambiguous}
+use Rattle.sh_tree.specs.language.Parts.{is_quoted_word}
+use Rattle.sh_tree.specs.language.HereDocuments.{Mark, behind_line, delimiter_of, end_line, is_ambiguous, keeps_document}
 use Rattle.sh_tree.specs.language.Contexts.{in_document_of}
-use Rattle.sh_tree.specs.language.States.{Spot, State, Document, to, deeper, behind, facing, within, nth, waits, next, past, on_line, in_document, pended, counted, lower, as_deep, closing}
+use Rattle.sh_tree.specs.language.States.{Spot, State, Document, to, deeper, behind, facing, within, nth, waits, next, past, on_line, in_document, pended, begun, lower, as_deep, closing}
 use Rattle.sh_tree.specs.language.Trees.{span, word, param}
 use Rattle.sh_tree.specs.language.Reading as r
-use Rattle.sh_tree.specs.language.Reading.{is_some, sign_at, after, prior_of, figure_at, over, lead_of, lead_here, skip, parted, named, redirected, is_empty, ReadsParts, ReadsPart, ReadsExpression, ReadsConditional, ReadsLevel, ReadsUnary, ReadsWord, ReadsRedirect, ReadsRedirects, ReadsDocuments, ReadsBreaks, ReadsElements, ReadsCommand, ReadsCompound, ReadsPipeline, ReadsCommands, ReadsAndOr, ReadsLinks, ReadsItems, ReadsList, ReadsSequence, ReadsScript}
+use Rattle.sh_tree.specs.language.Reading.{is_some, sign_at, after, prior_of, figure_at, over, lead_of, lead_here, skip, parted, stage_behind, redirected, is_empty, ReadsParts, ReadsPart, ReadsExpression, ReadsConditional, ReadsLevel, ReadsUnary, ReadsWord, ReadsRedirect, ReadsRedirects, ReadsDocuments, ReadsBreaks, ReadsElements, ReadsCommand, ReadsCompound, ReadsPipeline, ReadsCommands, ReadsAndOr, ReadsLinks, ReadsItems, ReadsList, ReadsSequence, ReadsScript}
 
 -- what tells two values apart
 pub apart : {A : Type 0} (f : A → Bool) {x y : A} → x ≡ y → f x ≡ true → f y ≡ false → ⊥
@@ -69,7 +69,7 @@ module _ (limit : ℕ) (b : List ℕ) where
       × ReadsParts limit b (in_removal x e) 0 (deeper e s) u ps
   PartIs x sign.Substitution s e v p =
       (u : Spot) × (t : Script) × (v ≡ behind (u.at + 1) u s) × (p ≡ part.Command Paren (span s.at (u.at + 1)) t) × (s.depth < limit)
-      × ReadsScript limit b (deeper (blanks s.body b e) s) u t × (is_closed b u.at ≡ true)
+      × ReadsScript limit b (deeper (blanks s.joins b e) s) u t × (is_closed b u.at ≡ true)
   PartIs x sign.Arith s e v p =
       (u : Spot) × (a : Expr) × (v ≡ behind ((over b u).at + 1) u s) × (p ≡ part.Arith (span s.at ((over b u).at + 1)) a) × (s.depth < limit)
       × ReadsExpression limit b (in_arithmetic x) (deeper e s) u a × (figure_at b u ≡ figure.Close) × (is_closed b (over b u).at ≡ true)
@@ -234,7 +234,7 @@ module _ (limit : ℕ) (b : List ℕ) (s : State) where
   abbrev pub DocumentIs : Mark → Type 0
   DocumentIs m =
       (l : Span) × (u : Spot) × (ps : List Part) × (end_line m b s.spot.at ≡ Some l) × (is_ambiguous m b s.spot.at l.start ≡ false)
-      × (keeps_document b s.spot.body s.spot.tabs m (span s.spot.at (behind_line b l.end)) ≡ true)
+      × (keeps_document b s.spot.joins s.spot.tabs m (span s.spot.at (behind_line b l.end)) ≡ true)
       × ReadsParts limit (take l.start b) (in_document_of m) 10 (in_document m s) u ps
 
 first_mark : {m n : Mark} {ms ns : List Mark} → m ∷ ms ≡ n ∷ ns → m ≡ n
@@ -348,20 +348,30 @@ redirection_is_simple lead.Word h = refl
 redirection_is_simple lead.Assignment h = refl
 redirection_is_simple _ h = h
 
+pub compound_begins : {limit : ℕ} {b : List ℕ} {body : ℕ → Document} {l : Lead} {s v : State} {k : Kind} → ReadsCompound limit b body l s v k → begins_compound l ≡ true
+unfolding begins_compound
+compound_begins (r.group d h e) = refl
+compound_begins (r.subshell d h e) = refl
+compound_begins (r.cond d h) = refl
+compound_begins (r.while_loop d h g) = refl
+compound_begins (r.until_loop d h g) = refl
+compound_begins (r.for_loop d n h g) = refl
+compound_begins (r.case_of d i w h k g c) = refl
+
 pub simple_is : {limit : ℕ} {b : List ℕ} {body : ℕ → Document} {s v : State} {c : Command} → begins_simple (lead_here b s) ≡ true → ReadsCommand limit b body s v c
-    → (u : State) × (es : List Element) × (v ≡ closing false u) × ReadsElements limit b body First (counted s) u es
+    → (u : State) × (es : List Element) × (v ≡ closing false u) × ReadsElements limit b body First (begun s) u es
 unfolding begins_simple is_redirection
 simple_is some (r.simple_command {u = u} {es = es} h e) = (u, es, refl, e)
-simple_is some (r.compound_command {l = l} k h c q) = absurd (true≢false (sym k ∙ simple_not_compound l (sym (ap begins_simple h) ∙ some)))
+simple_is some (r.compound_command {l = l} h c q) = absurd (true≢false (sym (compound_begins c) ∙ simple_not_compound l (sym (ap begins_simple h) ∙ some)))
 simple_is some (r.definition h o p k i c) = absurd (apart begins_simple h some refl)
 
 pub compound_is : {limit : ℕ} {b : List ℕ} {body : ℕ → Document} {s v : State} {c : Command} (l : Lead) → lead_here b s ≡ l → begins_compound l ≡ true
     → ReadsCommand limit b body s v c
-    → (u : State) × (w : State) × (k : Kind) × (qs : List Redirect) × (v ≡ closing (is_empty qs) w) × ReadsCompound limit b body l (counted s) u k × ReadsRedirects limit b body u w qs
+    → (u : State) × (w : State) × (k : Kind) × (qs : List Redirect) × (v ≡ closing (is_empty qs) w) × ReadsCompound limit b body l (begun s) u k × ReadsRedirects limit b body u w qs
 unfolding begins_compound
 compound_is l is some (r.simple_command h e) = absurd (true≢false (sym some ∙ ap begins_compound (sym is) ∙ simple_not_compound _ h))
-compound_is {limit = limit} {b = b} {body = body} {s = s} l is some (r.compound_command {u = u} {v = w} {l = m} {k = k} {rs = qs} j h c q) =
-    (u, w, k, qs, refl, subst (λ n. ReadsCompound limit b body n (counted s) u k) (sym h ∙ is) c, q)
+compound_is {limit = limit} {b = b} {body = body} {s = s} l is some (r.compound_command {u = u} {v = w} {l = m} {k = k} {rs = qs} h c q) =
+    (u, w, k, qs, refl, subst (λ n. ReadsCompound limit b body n (begun s) u k) (sym h ∙ is) c, q)
 compound_is l is some (r.definition h o p k i c) = absurd (apart begins_compound (sym is ∙ h) some refl)
 
 pub group_is : {limit : ℕ} {b : List ℕ} {body : ℕ → Document} {s v : State} {k : Kind} (l : Lead) → l ≡ lead.Reserved reserved.LeftBrace → ReadsCompound limit b body l s v k
@@ -387,7 +397,7 @@ elements_end {b = b} {g = g} {s = s} none (r.redirect_element h q e) = absurd (t
 pub elements_word : {limit : ℕ} {b : List ℕ} {body : ℕ → Document} {g : Stage} {s v : State} {es : List Element} → lead_of b g s ≡ lead.Word
     → ReadsElements limit b body g s v es
     → (u : Spot) × (w : Word) × (fs : List Element) × ReadsWord limit b (in_stage b g s.spot.at) (facing s) u w
-    × ReadsElements limit b body (named b g s.spot.at) (past b u s) v fs
+    × ReadsElements limit b body (stage_behind b g s.spot.at) (past b u s) v fs
 unfolding begins_simple is_redirection
 elements_word is (r.no_element h) = absurd (apart begins_simple (sym is) refl h)
 elements_word is (r.assigned_element h w e) = absurd (apart is_word (sym is ∙ h) refl refl)
@@ -448,26 +458,26 @@ redirect_document {limit = limit} {b = b} {s = s} at strip is stripped document 
 
 -- a command that is one word of plain bytes, up to e
 pub bare_command_ends : {limit : ℕ} {b : List ℕ} {body : ℕ → Document} {s v : State} {c : Command} (e : ℕ) → lead_here b s ≡ lead.Word
-    → sign_at b (in_word s.spot.at) 0 (facing (counted s)) ≡ sign.Plain → after b (in_word s.spot.at) 0 (facing (counted s)) ≡ e
-    → sign_at b (in_word s.spot.at) (prior_of b sign.Plain e) (to e (facing (counted s))) ≡ sign.Stop
-    → after b (in_word s.spot.at) (prior_of b sign.Plain e) (to e (facing (counted s))) ≡ e
-    → begins_simple (lead_of b (named b First s.spot.at) (past b (to e (facing (counted s))) (counted s))) ≡ false → ReadsCommand limit b body s v c
-    → v ≡ closing false (past b (to e (facing (counted s))) (counted s))
+    → sign_at b (in_word s.spot.at) 0 (facing (begun s)) ≡ sign.Plain → after b (in_word s.spot.at) 0 (facing (begun s)) ≡ e
+    → sign_at b (in_word s.spot.at) (prior_of b sign.Plain e) (to e (facing (begun s))) ≡ sign.Stop
+    → after b (in_word s.spot.at) (prior_of b sign.Plain e) (to e (facing (begun s))) ≡ e
+    → begins_simple (lead_of b (stage_behind b First s.spot.at) (past b (to e (facing (begun s))) (begun s))) ≡ false → ReadsCommand limit b body s v c
+    → v ≡ closing false (past b (to e (facing (begun s))) (begun s))
 unfolding begins_simple in_stage
 bare_command_ends {limit = limit} {b = b} {body = body} {s = s} e is plain so stops there none h =
     let x = in_word s.spot.at in
-    let at = facing (counted s) in
+    let at = facing (begun s) in
     let c = simple_is (ap begins_simple is) h in
     let w = elements_word is c.3 in
     let stop : sign_at b x (prior_of b sign.Plain (after b x 0 at)) (to (after b x 0 at) at) ≡ sign.Stop =
     ap (λ i. sign_at b x (prior_of b sign.Plain i) (to i at)) so ∙ stops in
     let end : w.0 ≡ to e at = bare_word_ends plain stop w.3 ∙ ap (λ i. to (after b x (prior_of b sign.Plain i) (to i at)) at) so ∙ ap (λ i. to i at) there in
-    let rest = subst (λ u. ReadsElements limit b body (named b First s.spot.at) (past b u (counted s)) c.0 w.2) end w.4 in
+    let rest = subst (λ u. ReadsElements limit b body (stage_behind b First s.spot.at) (past b u (begun s)) c.0 w.2) end w.4 in
     c.2 ∙ ap (closing false) (elements_end none rest)
 
 -- a script that begins with a word
 pub opening_word : {limit : ℕ} {b : List ℕ} {s u : Spot} {t : Script} → lead_here b (within s) ≡ lead.Word → ReadsScript limit b s u t
-    → (v : Spot) × (w : Word) × ReadsWord limit b (in_word s.at) (facing (counted (within s))) v w
+    → (v : Spot) × (w : Word) × ReadsWord limit b (in_word s.at) (facing (begun (within s))) v w
 unfolding begins_pipeline begins_command begins_simple in_stage
 opening_word is h =
     let q = script_is h in
@@ -486,13 +496,13 @@ redirection_begins _ h = absurd (true≢false (sym h))
 module _ (limit : ℕ) (b : List ℕ) (s : Spot) where
   -- where a script at s goes on that begins with the operator of a here-document and its delimiter, up to a token at i
   abbrev pub Awaiting : Bool → Word → ℕ → State
-  Awaiting strip w i = pended (mark_of b strip w s.depth) (record (counted (within s)) { spot = to i (counted (within s)).spot })
+  Awaiting strip w i = pended (mark_of b strip w s.depth) (record (begun (within s)) { spot = to i (begun (within s)).spot })
 
   -- the delimiter is w, and the token behind it stands at i
   abbrev pub Delimits : Redirection → Word → ℕ → Type 0
   Delimits at w i =
-      (u : Spot) (y : Word) → ReadsWord limit b (in_unsplit (next b at.end (counted (within s))).spot.at) (facing (next b at.end (counted (within s)))) u y
-      → (past b u (counted (within s)) ≡ record (counted (within s)) { spot = to i (counted (within s)).spot }) × (y ≡ w)
+      (u : Spot) (y : Word) → ReadsWord limit b (in_unsplit (next b at.end (begun (within s))).spot.at) (facing (next b at.end (begun (within s)))) u y
+      → (past b u (begun (within s)) ≡ record (begun (within s)) { spot = to i (begun (within s)).spot }) × (y ≡ w)
 
   -- what such a script goes on with, and what follows its first command where that is the only one of its and-or list
   abbrev pub GoesOn : State → State → Type 0
@@ -502,7 +512,7 @@ module _ (limit : ℕ) (b : List ℕ) (s : Spot) where
 
 -- a script that begins with a redirection
 pub opening_redirect : {limit : ℕ} {b : List ℕ} {s v : Spot} {t : Script} → is_redirection (lead_here b (within s)) ≡ true → ReadsScript limit b s v t
-    → (body : ℕ → Document) × (end u w : State) × (q : Redirect) × (es : List Element) × ReadsRedirect limit b body (counted (within s)) u q
+    → (body : ℕ → Document) × (end u w : State) × (q : Redirect) × (es : List Element) × ReadsRedirect limit b body (begun (within s)) u q
     × ReadsElements limit b body Prefixed u w es
     × (is_bar (lead_here b (closing false w)) ≡ false → link_of (lead_here b (closing false w)) ≡ None → Follows limit b body (closing false w) end)
 opening_redirect {limit = limit} {b = b} {s = s} is h =
@@ -533,14 +543,14 @@ opening_operator {limit = limit} {b = b} {s = s} at strip i w is operator stripp
     let d = redirect_document at strip operator stripped document o.6 in
     let e = only d.0 d.1 d.3 in
     let behind : o.2 ≡ Awaiting limit b s strip w i = d.2 ∙ ap (λ u. pended (mark_of b strip d.1 s.depth) u) e.0
-    ∙ ap (λ y. pended (mark_of b strip y s.depth) (record (counted (within s)) { spot = to i (counted (within s)).spot })) e.1 in
+    ∙ ap (λ y. pended (mark_of b strip y s.depth) (record (begun (within s)) { spot = to i (begun (within s)).spot })) e.1 in
     (o.1, (o.0, o.3, o.5, subst (λ u. ReadsElements limit b o.0 Prefixed u o.3 o.5) behind o.7, o.8))
 
 -- a script that begins with the operator of a here-document, its delimiter and a newline
 pub opening_document : {limit : ℕ} {b : List ℕ} {s v : Spot} {t : Script} (at : Redirection) (strip : Bool) (i : ℕ) (w : Word) → is_redirection (lead_here b (within s)) ≡ true
     → redirection b s.at ≡ Some at → strip_of at.operator ≡ Some strip → direction_of at.operator ≡ None → Delimits limit b s at w i
     → lead_at b Prefixed i ≡ lead.Newline → lead_at b First i ≡ lead.Newline → ReadsScript limit b s v t
-    → (u : State) × ReadsDocuments limit b (mark_of b strip w s.depth ∷ []) (on_line (i + 1) (counted (within s))) u
+    → (u : State) × ReadsDocuments limit b (mark_of b strip w s.depth ∷ []) (on_line (i + 1) (begun (within s))) u
 unfolding begins_simple is_redirection separator link_of
 opening_document {limit = limit} {b = b} {s = s} at strip i w is operator stripped document only line line' h =
     let o = opening_operator at strip i w is operator stripped document only h in

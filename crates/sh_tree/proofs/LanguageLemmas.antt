@@ -12,7 +12,7 @@ use Rattle.sh_tree.specs.language.States as states
 use Rattle.sh_tree.specs.Words.{parts_text, part_text}
 use Rattle.sh_tree.specs.language.States.{Spot, State, Document, within, nth, waits}
 use Rattle.sh_tree.specs.language.Reading as r
-use Rattle.sh_tree.specs.language.Reading.{ReadsParts, ReadsExpression, ReadsConditional, ReadsLevel, ReadsWord, ReadsRedirect, ReadsRedirects, ReadsDocuments, ReadsBreaks, ReadsElements, ReadsCommand, ReadsCompound, ReadsBranches, ReadsForWords, ReadsClauses, ReadsPatterns, ReadsCommands, ReadsAndOr, ReadsLinks, ReadsList, ReadsSequence, ReadsScript, Reads, HasNoNul, start, lead_here, figure_at}
+use Rattle.sh_tree.specs.language.Reading.{ReadsParts, ReadsExpression, ReadsConditional, ReadsLevel, ReadsWord, ReadsRedirect, ReadsRedirects, ReadsDocuments, ReadsBreaks, ReadsElements, ReadsCommand, ReadsCompound, ReadsBranches, ReadsForWords, ReadsClauses, ReadsPatterns, ReadsCommands, ReadsAndOr, ReadsLinks, ReadsList, ReadsSequence, ReadsScript, ReadsTo, Reads, HasNoNul, start, lead_here, figure_at}
 use Rattle.sh_tree.specs.declared.token.word.Context.{Context}
 use Rattle.sh_tree.specs.declared.token.command.Stage.TheVariants.{First}
 use Rattle.sh_tree.specs.declared.tree.Action.TheVariants as action
@@ -44,17 +44,21 @@ use Rattle.sh_tree.specs.language.Examples.{plain, bare, value, simple, quoted_t
 
 -- what a reading of a known text computes
 unfoldable pub computes : Unit {0}
-unfolding bytes.is_first bytes.name_length bytes.decimal bytes.longest bytes.joined_length words.tilde_length words.is_tilde words.special_of words.named words.single_parameter words.parenthesis words.numbered words.parameter words.misfit words.action_of words.removed words.used words.operated words.counted words.unnamed words.braced words.opened words.dollar words.stands words.plain_length words.continued words.backslash words.single words.meant_by words.sign_by words.sign_of words.token arithmetic.space_length arithmetic.constant_length arithmetic.named arithmetic.unknown arithmetic.figure_of arithmetic.lexeme_start arithmetic.lexeme arithmetic.binary_of arithmetic.unary_of arithmetic.assignment_of arithmetic.is_closed commands.gap_length commands.blank_length commands.blanks commands.operator_of commands.operator commands.is_split commands.direction_of commands.strip_of commands.redirects commands.bare_word commands.named commands.is_assignment commands.name_end commands.declares commands.is_location commands.opening commands.whole_operator commands.operator_lead commands.reserved_lead commands.is_definition commands.name_lead commands.first_lead commands.word_lead commands.number_lead commands.other_lead commands.lead_of commands.lead_at commands.redirection commands.is_redirection commands.begins_simple commands.begins_compound commands.begins_command commands.begins_pipeline commands.clause_end_of commands.is_bare_name commands.separator commands.link_of documents.line_length documents.line_end documents.line_text documents.compared documents.end_line_within documents.end_line documents.has_tabbed_line documents.has_joined contexts.in_operand contexts.in_document_of contexts.in_stage parts.is_static parts.is_delimiter parts.delimiter_of parts.is_quotation parts.is_quoted_word parts.singles_in parts.singles parts.keeps_lines parts.keeps_document states.nth states.waits r.is_empty r.is_some parts_text part_text shape-the_row-Part-0 hidden-the_row-Part-0 denote.Hole.Carrier.hidden
+unfolding bytes.is_first bytes.name_length bytes.decimal bytes.longest bytes.joined_length words.tilde_length words.is_tilde words.special_of words.named_value words.single_parameter words.parenthesis words.numbered words.parameter words.misfit words.action_of words.removed words.used words.operated words.parameter_length words.unnamed words.braced words.opened words.dollar words.stands words.plain_length words.continued words.backslash words.single words.meant_by words.sign_by words.sign_of words.token arithmetic.space_length arithmetic.constant_length arithmetic.name_figure arithmetic.unknown arithmetic.figure_of arithmetic.lexeme_start arithmetic.lexeme arithmetic.binary_of arithmetic.unary_of arithmetic.assignment_of arithmetic.is_closed commands.gap_length commands.blank_length commands.blanks commands.operator_of commands.operator commands.is_split commands.direction_of commands.strip_of commands.redirects commands.bare_word commands.entry_of commands.is_assignment commands.name_end commands.declares commands.is_location commands.opening commands.whole_operator commands.operator_lead commands.reserved_lead commands.is_definition commands.name_lead commands.first_lead commands.word_lead commands.number_lead commands.other_lead commands.lead_of commands.lead_at commands.redirection commands.is_redirection commands.begins_simple commands.begins_compound commands.begins_command commands.begins_pipeline commands.clause_end_of commands.is_bare_name commands.separator commands.link_of documents.line_length documents.line_end documents.line_text documents.compared documents.end_line_within documents.end_line documents.has_tabbed_line documents.has_joined contexts.in_operand contexts.in_document_of contexts.in_stage documents.is_static documents.is_delimiter documents.delimiter_of parts.is_quotation parts.is_quoted_word parts.singles_in parts.singles parts.keeps_lines documents.keeps_document states.nth states.waits r.is_empty r.is_some parts_text part_text shape-the_row-Part-0 hidden-the_row-Part-0 denote.Hole.Carrier.hidden
 computes = tt
 
 -- a text with this sequence is its script
+pub read_to : (b : List ℕ) (limit : ℕ) (u : State) (t : Script) → HasNoNul b → ReadsSequence limit b (nth u.bodies) (within (start b)) u t → waits u.pending ≡ false
+    → u.spot.at ≡ length b → ReadsTo b limit u.spot.count t
+read_to b limit u t n h w e = record { no_nul = n; end = u.spot; script = r.script h w; to_end = e; commands = refl }
+
 pub whole : (b : List ℕ) (limit : ℕ) (u : State) (t : Script) → HasNoNul b → ReadsSequence limit b (nth u.bodies) (within (start b)) u t → waits u.pending ≡ false
     → u.spot.at ≡ length b → Reads b t
-whole b limit u t n h w e = (limit, u.spot.count, record { no_nul = n; end = u.spot; script = r.script h w; to_end = e; commands = refl })
+whole b limit u t n h w e = (limit, u.spot.count, read_to b limit u t n h w e)
 
 -- in words and among commands of so many commands and levels, with nothing waiting; behind a compound command too
 abbrev pub at_word : ℕ → ℕ → ℕ → Spot
-at_word i count depth = record { at = i; count = count; depth = depth; quiet = false; body = false; tabs = false }
+at_word i count depth = record { at = i; count = count; depth = depth; quiet = false; joins = false; tabs = false }
 
 abbrev pub at_token : ℕ → ℕ → ℕ → State
 at_token i count depth = record { spot = at_word i count depth; closed = false; pending = []; bodies = [] }
@@ -312,7 +316,7 @@ document_reads =
     let first : ReadsAndOr 0 document_text the_bodies (at_token 0 0 0) (waiting 7 1) _ = alone_reads (r.simple_command refl elements) refl refl refl in
     let second : ReadsCommand 0 document_text the_bodies (waiting 9 1) (waiting 10 2) (utility 2 9 10) =
     r.simple_command refl (r.word_element refl (r.whole_word (r.more refl r.plain (r.stop refl)) refl refl) (r.no_element refl)) in
-    let body : ReadsParts 0 (take 15 document_text) (in_document_of the_mark) 10 (record (at_word 11 2 0) { body = true }) (record (at_word 15 2 0) { body = true }) document_body.parts =
+    let body : ReadsParts 0 (take 15 document_text) (in_document_of the_mark) 10 (record (at_word 11 2 0) { joins = true }) (record (at_word 15 2 0) { joins = true }) document_body.parts =
     r.more refl r.plain (r.more refl r.value (r.more refl r.plain (r.stop refl))) in
     let bodies : ReadsDocuments 0 document_text (the_mark ∷ []) (at_token 11 2 0) (behind_body 17 2) = r.more_bodies refl refl refl body refl r.no_body in
     let line : ReadsBreaks 0 document_text (waiting 10 2) (behind_body 17 2) = r.more_breaks refl refl bodies (r.no_break refl) in
@@ -344,7 +348,7 @@ stripped_reads =
     r.here_document refl refl refl delimiter refl in
     let elements : ReadsElements 0 stripped_text stripped_bodies First (at_token 0 1 0) (stripping_from 4) (element.Redirection (redirect 0 None (Here (here_doc true (bare 3 4) stripped_body (span 8 10)))) ∷ []) =
     r.redirect_element refl operator (r.no_element refl) in
-    let body : ReadsParts 0 (take 8 stripped_text) (in_document_of stripping) 10 (record (at_word 5 1 0) { body = true; tabs = true }) (record (at_word 8 1 0) { body = true; tabs = true })
+    let body : ReadsParts 0 (take 8 stripped_text) (in_document_of stripping) 10 (record (at_word 5 1 0) { joins = true; tabs = true }) (record (at_word 8 1 0) { joins = true; tabs = true })
     stripped_body.parts =
     r.tabs refl (r.more refl r.plain (r.stop refl)) in
     let bodies : ReadsDocuments 0 stripped_text (stripping ∷ []) (at_token 5 1 0) (behind_stripped 11) = r.more_bodies refl refl refl body refl r.no_body in
@@ -372,7 +376,7 @@ branch_reads =
     let branches : ReadsBranches 1 branch_text no_bodies (at_token 3 1 1) (at_token 24 4 1) (branch (lone (utility 2 3 4)) (lone (utility 3 11 12)) ∷ []) (Some (lone (utility 4 19 20))) =
     r.branch condition refl body (r.otherwise refl otherwise refl) in
     let compound : ReadsCompound 1 branch_text no_bodies (lead.Reserved reserved.If) (at_token 0 1 0) (at_token 24 4 0) _ = r.cond (omega arith) branches in
-    let command : ReadsCommand 1 branch_text no_bodies (at_token 0 0 0) (at_close 24 4 0) _ = r.compound_command refl refl compound (r.no_redirect refl) in
+    let command : ReadsCommand 1 branch_text no_bodies (at_token 0 0 0) (at_close 24 4 0) _ = r.compound_command refl compound (r.no_redirect refl) in
     whole branch_text 1 (at_close 24 4 0) branch_script refl (r.sequence (r.list (r.no_break refl) refl (r.last_item (alone_reads command refl refl refl) refl refl))) refl refl
 
 pub elif_reads : Reads elif_text elif_script
@@ -397,7 +401,7 @@ elif_reads =
     let branches : ReadsBranches 1 elif_text no_bodies (at_token 3 1 1) (at_token 32 5 1) elif_branches None =
     r.branch first refl first_body (r.elif refl (r.branch second refl second_body (r.fi refl))) in
     let compound : ReadsCompound 1 elif_text no_bodies (lead.Reserved reserved.If) (at_token 0 1 0) (at_token 32 5 0) _ = r.cond (omega arith) branches in
-    let command : ReadsCommand 1 elif_text no_bodies (at_token 0 0 0) (at_close 32 5 0) _ = r.compound_command refl refl compound (r.no_redirect refl) in
+    let command : ReadsCommand 1 elif_text no_bodies (at_token 0 0 0) (at_close 32 5 0) _ = r.compound_command refl compound (r.no_redirect refl) in
     whole elif_text 1 (at_close 32 5 0) elif_script refl (r.sequence (r.list (r.no_break refl) refl (r.last_item (alone_reads command refl refl refl) refl refl))) refl refl
 
 pub until_reads : Reads until_text until_script
@@ -408,7 +412,7 @@ until_reads =
     let inside : ReadsList 2 until_text no_bodies (at_token 7 2 2) (at_token 8 3 2) (lone (utility 3 7 8)) =
     r.list (r.no_break refl) refl (r.last_item (alone_reads a refl refl refl) refl refl) in
     let inner : ReadsCompound 2 until_text no_bodies (lead.Operator op.LeftParenthesis) (at_token 6 2 1) (at_token 10 3 1) (kind.Subshell (lone (utility 3 7 8))) = r.subshell (omega arith) inside refl in
-    let subshell : ReadsCommand 2 until_text no_bodies (at_token 6 1 1) (at_close 10 3 1) until_subshell = r.compound_command refl refl inner (r.no_redirect refl) in
+    let subshell : ReadsCommand 2 until_text no_bodies (at_token 6 1 1) (at_close 10 3 1) until_subshell = r.compound_command refl inner (r.no_redirect refl) in
     let b : ReadsCommand 2 until_text no_bodies (at_close 13 3 1) (at_token 14 4 1) (utility 4 13 14) =
     r.simple_command refl (r.word_element refl (r.whole_word (r.more refl r.plain (r.stop refl)) refl refl) (r.no_element refl)) in
     let links : ReadsLinks 2 until_text no_bodies (at_close 10 3 1) (at_token 14 4 1) ((link.OrElse, pipe false (utility 4 13 14 ∷ [])) ∷ []) =
@@ -421,7 +425,7 @@ until_reads =
     r.list (r.no_break refl) refl (r.ended_item (alone_reads c refl refl refl) refl (r.no_break refl) refl) in
     let compound : ReadsCompound 2 until_text no_bodies (lead.Reserved reserved.Until) (at_token 0 1 0) (at_token 26 5 0) _ =
     r.until_loop (omega arith) condition (r.do_group refl body refl) in
-    let command : ReadsCommand 2 until_text no_bodies (at_token 0 0 0) (at_close 26 5 0) _ = r.compound_command refl refl compound (r.no_redirect refl) in
+    let command : ReadsCommand 2 until_text no_bodies (at_token 0 0 0) (at_close 26 5 0) _ = r.compound_command refl compound (r.no_redirect refl) in
     whole until_text 2 (at_close 26 5 0) until_script refl (r.sequence (r.list (r.no_break refl) refl (r.last_item (alone_reads command refl refl refl) refl refl))) refl refl
 
 pub every_reads : Reads every_text every_script
@@ -434,7 +438,7 @@ every_reads =
     let words : ReadsForWords 1 every_text (at_token 6 1 1) (at_token 6 1 1) None = r.arguments (r.no_break refl) refl in
     let compound : ReadsCompound 1 every_text no_bodies (lead.Reserved reserved.For) (at_token 0 1 0) (at_token 17 2 0) _ =
     r.for_loop (omega arith) refl words (r.do_group refl body refl) in
-    let command : ReadsCommand 1 every_text no_bodies (at_token 0 0 0) (at_close 17 2 0) _ = r.compound_command refl refl compound (r.no_redirect refl) in
+    let command : ReadsCommand 1 every_text no_bodies (at_token 0 0 0) (at_close 17 2 0) _ = r.compound_command refl compound (r.no_redirect refl) in
     whole every_text 1 (at_close 17 2 0) every_script refl (r.sequence (r.list (r.no_break refl) refl (r.last_item (alone_reads command refl refl refl) refl refl))) refl refl
 
 pub loop_reads : Reads loop_text loop_script
@@ -449,7 +453,7 @@ loop_reads =
     r.list (r.no_break refl) refl (r.ended_item (alone_reads b refl refl refl) refl (r.no_break refl) refl) in
     let compound : ReadsCompound 1 loop_text no_bodies (lead.Reserved reserved.For) (at_token 0 1 0) (at_token 22 2 0) _ =
     r.for_loop (omega arith) refl words (r.do_group refl body refl) in
-    let command : ReadsCommand 1 loop_text no_bodies (at_token 0 0 0) (at_close 22 2 0) _ = r.compound_command refl refl compound (r.no_redirect refl) in
+    let command : ReadsCommand 1 loop_text no_bodies (at_token 0 0 0) (at_close 22 2 0) _ = r.compound_command refl compound (r.no_redirect refl) in
     whole loop_text 1 (at_close 22 2 0) loop_script refl (r.sequence (r.list (r.no_break refl) refl (r.last_item (alone_reads command refl refl refl) refl refl))) refl refl
 
 pub case_reads : Reads case_text case_script
@@ -469,7 +473,7 @@ case_reads =
     let clauses : ReadsClauses 1 case_text no_bodies (at_token 10 1 1) (at_token 27 2 1) case_clauses = r.more_clauses refl patterns body refl (r.no_break refl) last in
     let compound : ReadsCompound 1 case_text no_bodies (lead.Reserved reserved.Case) (at_token 0 1 0) (at_token 27 2 0) _ =
     r.case_of (omega arith) refl subject (r.no_break refl) refl (r.no_break refl) clauses in
-    let command : ReadsCommand 1 case_text no_bodies (at_token 0 0 0) (at_close 27 2 0) _ = r.compound_command refl refl compound (r.no_redirect refl) in
+    let command : ReadsCommand 1 case_text no_bodies (at_token 0 0 0) (at_close 27 2 0) _ = r.compound_command refl compound (r.no_redirect refl) in
     whole case_text 1 (at_close 27 2 0) case_script refl (r.sequence (r.list (r.no_break refl) refl (r.last_item (alone_reads command refl refl refl) refl refl))) refl refl
 
 pub through_reads : Reads through_text through_script
@@ -488,7 +492,7 @@ through_reads =
     r.more_clauses refl (r.last_pattern {s = at_token 10 1 1} refl b refl) body refl (r.no_break refl) last in
     let compound : ReadsCompound 1 through_text no_bodies (lead.Reserved reserved.Case) (at_token 0 1 0) (at_token 27 2 0) _ =
     r.case_of (omega arith) refl subject (r.no_break refl) refl (r.no_break refl) clauses in
-    let command : ReadsCommand 1 through_text no_bodies (at_token 0 0 0) (at_close 27 2 0) _ = r.compound_command refl refl compound (r.no_redirect refl) in
+    let command : ReadsCommand 1 through_text no_bodies (at_token 0 0 0) (at_close 27 2 0) _ = r.compound_command refl compound (r.no_redirect refl) in
     whole through_text 1 (at_close 27 2 0) through_script refl (r.sequence (r.list (r.no_break refl) refl (r.last_item (alone_reads command refl refl refl) refl refl))) refl refl
 
 pub defined_reads : Reads defined_text defined_script
@@ -502,7 +506,7 @@ defined_reads =
     let target : ReadsWord 1 defined_text (in_unsplit 12) (at_word 12 3 0) (at_word 13 3 0) (bare 12 13) = r.whole_word (r.more refl r.plain (r.stop refl)) refl refl in
     let redirects : ReadsRedirects 1 defined_text no_bodies (at_token 11 3 0) (at_token 14 3 0) (redirect 11 None (File direction.Write (bare 12 13)) ∷ []) =
     r.more_redirects refl (r.file refl refl refl target) (r.no_redirect refl) in
-    let function : ReadsCommand 1 defined_text no_bodies (at_token 4 1 0) (at_token 14 3 0) defined_command = r.compound_command refl refl group redirects in
+    let function : ReadsCommand 1 defined_text no_bodies (at_token 4 1 0) (at_token 14 3 0) defined_command = r.compound_command refl group redirects in
     let definition : ReadsCommand 1 defined_text no_bodies (at_token 0 0 0) (at_token 14 3 0) (command 1 0 (kind.Define (span 0 1) defined_command) []) =
     r.definition refl refl refl (r.no_break refl) refl function in
     let c : ReadsCommand 1 defined_text no_bodies (at_token 19 3 0) (at_token 21 4 0) (utility 4 19 20) =
@@ -562,10 +566,10 @@ closed_reads =
     let innermost : ReadsList 2 closed_text no_bodies (at_token 4 2 2) (at_token 7 3 2) (lone (utility 3 4 5)) =
     r.list (r.no_break refl) refl (r.ended_item (alone_reads a refl refl refl) refl (r.no_break refl) refl) in
     let inner : ReadsCompound 2 closed_text no_bodies (lead.Reserved reserved.LeftBrace) (at_token 2 2 1) (at_token 9 3 1) (kind.Group (lone (utility 3 4 5))) = r.group (omega arith) innermost refl in
-    let command : ReadsCommand 2 closed_text no_bodies (at_token 2 1 1) (at_close 9 3 1) _ = r.compound_command refl refl inner (r.no_redirect refl) in
+    let command : ReadsCommand 2 closed_text no_bodies (at_token 2 1 1) (at_close 9 3 1) _ = r.compound_command refl inner (r.no_redirect refl) in
     let list : ReadsList 2 closed_text no_bodies (at_token 2 1 1) (at_close 9 3 1) _ = r.list (r.no_break refl) refl (r.last_item (alone_reads command refl refl refl) refl refl) in
     let outer : ReadsCompound 2 closed_text no_bodies (lead.Reserved reserved.LeftBrace) (at_token 0 1 0) (at_close 10 3 0) _ = r.group (omega arith) list refl in
-    let whole_command : ReadsCommand 2 closed_text no_bodies (at_token 0 0 0) (at_close 10 3 0) _ = r.compound_command refl refl outer (r.no_redirect refl) in
+    let whole_command : ReadsCommand 2 closed_text no_bodies (at_token 0 0 0) (at_close 10 3 0) _ = r.compound_command refl outer (r.no_redirect refl) in
     whole closed_text 2 (at_close 10 3 0) closed_script refl (r.sequence (r.list (r.no_break refl) refl (r.last_item (alone_reads whole_command refl refl refl) refl refl))) refl refl
 
 pub separated_reads : Reads separated_text separated_script
@@ -576,7 +580,7 @@ separated_reads =
     let body : ReadsList 1 separated_text no_bodies (at_token 2 1 1) (at_token 5 2 1) (lone (utility 2 2 3)) =
     r.list (r.no_break refl) refl (r.ended_item (alone_reads a refl refl refl) refl (r.no_break refl) refl) in
     let group : ReadsCompound 1 separated_text no_bodies (lead.Reserved reserved.LeftBrace) (at_token 0 1 0) (at_token 6 2 0) (kind.Group (lone (utility 2 2 3))) = r.group (omega arith) body refl in
-    let command : ReadsCommand 1 separated_text no_bodies (at_token 0 0 0) (at_close 6 2 0) _ = r.compound_command refl refl group (r.no_redirect refl) in
+    let command : ReadsCommand 1 separated_text no_bodies (at_token 0 0 0) (at_close 6 2 0) _ = r.compound_command refl group (r.no_redirect refl) in
     whole separated_text 1 (at_close 7 2 0) separated_script refl
     (r.sequence (r.list (r.no_break refl) refl (r.ended_item (alone_reads command refl refl refl) refl (r.no_break refl) refl))) refl refl
 

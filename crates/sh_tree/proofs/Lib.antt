@@ -10,6 +10,7 @@ pub mod CommandReadings
 pub mod DocumentReadings
 pub mod UnreadLemmas
 pub mod UnreadForms
+pub mod LimitLemmas
 pub mod Counts
 pub mod ListLemmas
 pub mod ResultLemmas

@@ -18,9 +18,9 @@ use Rattle.sh_tree.specs.declared.token.word.Sign.TheVariants as sign
 use Rattle.sh_tree.specs.language.Arithmetic.{is_closed}
 use Rattle.sh_tree.specs.language.Commands.{begins_pipeline, direction_of, is_bar, is_location, is_newline_lead, link_of, redirection, separator, strip_of}
 use Rattle.sh_tree.specs.language.Contexts.{in_document_of, in_unsplit}
-use Rattle.sh_tree.specs.language.HereDocuments.{Mark, behind_line, is_ambiguous}
-use Rattle.sh_tree.specs.language.Parts.{is_delimiter, keeps_document, keeps_lines}
-use Rattle.sh_tree.specs.language.States.{Document, Spot, State, counted, facing, next, nth, past, within}
+use Rattle.sh_tree.specs.language.HereDocuments.{Mark, behind_line, is_ambiguous, is_delimiter, keeps_document}
+use Rattle.sh_tree.specs.language.Parts.{keeps_lines}
+use Rattle.sh_tree.specs.language.States.{Document, Spot, State, begun, facing, next, nth, past, within}
 use Rattle.sh_tree.specs.language.Trees.{param, span, word}
 use Rattle.sh_tree.specs.language.Reading as r
 use Rattle.sh_tree.specs.language.Reading.{ReadsParts, ReadsRedirect, ReadsScript, ReadsSequence, ReadsWord, lead_here, start}
@@ -157,9 +157,9 @@ joined_tab_unread t h =
 
 -- behind the command before the comment
 abbrev before_comment : State
-before_comment = record (at_token 8 2 1) { spot = record (at_word 8 2 1) { body = true } }
+before_comment = record (at_token 8 2 1) { spot = record (at_word 8 2 1) { joins = true } }
 
-comment_unread : (limit : ℕ) (u : Spot) (t : Script) → ReadsScript limit (take 15 split_comment_text) (record (at_word 6 1 1) { body = true }) u t
+comment_unread : (limit : ℕ) (u : Spot) (t : Script) → ReadsScript limit (take 15 split_comment_text) (record (at_word 6 1 1) { joins = true }) u t
     → u ≡ before_comment.spot
 unfolding computes
 comment_unread limit u t h =
@@ -180,13 +180,13 @@ split_comment_unread t h =
     refl refl h.2.script in
     let body = document_is the_mark [] refl d.1 in
     let end : span 15 16 ≡ body.0 = some_one body.3 in
-    let parts = subst (λ l. ReadsParts h.0 (take l.start split_comment_text) (in_document_of the_mark) 10 (record (at_word 4 1 0) { body = true }) body.1 body.2) (sym end) body.6 in
+    let parts = subst (λ l. ReadsParts h.0 (take l.start split_comment_text) (in_document_of the_mark) 10 (record (at_word 4 1 0) { joins = true }) body.1 body.2) (sym end) body.6 in
     let s = first_part sign.Substitution refl refl parts in
     let there : s.4.0 ≡ before_comment.spot = comment_unread h.0 s.4.0 s.4.1 s.4.5 in
     let closes : is_closed (take 15 split_comment_text) s.4.0.at ≡ true = s.4.6 in
     true≢false (sym closes ∙ ap (λ v. is_closed (take 15 split_comment_text) v.at) there)
 
-word_keeps : {limit : ℕ} {b : List ℕ} {x : Context} {s u : Spot} {w : Word} → ReadsWord limit b x s u w → keeps_lines b s.body w.parts ≡ true
+word_keeps : {limit : ℕ} {b : List ℕ} {x : Context} {s u : Spot} {w : Word} → ReadsWord limit b x s u w → keeps_lines b s.joins w.parts ≡ true
 word_keeps (r.whole_word ps free kept) = kept
 
 pub split_quotes_unread : IsUnread split_quotes_text
@@ -198,7 +198,7 @@ split_quotes_unread t h =
     refl refl h.2.script in
     let body = document_is the_mark [] refl d.1 in
     let end : span 14 15 ≡ body.0 = some_one body.3 in
-    let parts = subst (λ l. ReadsParts h.0 (take l.start split_quotes_text) (in_document_of the_mark) 10 (record (at_word 4 1 0) { body = true }) body.1 body.2) (sym end) body.6 in
+    let parts = subst (λ l. ReadsParts h.0 (take l.start split_quotes_text) (in_document_of the_mark) 10 (record (at_word 4 1 0) { joins = true }) body.1 body.2) (sym end) body.6 in
     let s = first_part sign.Substitution refl refl parts in
     let w = opening_word refl s.4.5 in
     let ps = word_parts w.2 in
@@ -218,13 +218,13 @@ split_end_unread t h =
     refl refl h.2.script in
     let body = document_is the_mark [] refl d.1 in
     let end : span 18 19 ≡ body.0 = some_one body.3 in
-    let parts = subst (λ l. ReadsParts h.0 (take l.start split_end_text) (in_document_of the_mark) 10 (record (at_word 4 1 0) { body = true }) body.1 body.2) (sym end) body.6 in
+    let parts = subst (λ l. ReadsParts h.0 (take l.start split_end_text) (in_document_of the_mark) 10 (record (at_word 4 1 0) { joins = true }) body.1 body.2) (sym end) body.6 in
     let s = first_part sign.Substitution refl refl parts in
     let at : Redirection = record { number = None; operator = op.HereDoc; at = 6; end = 8 } in
     let quoted : Part = part.Single single.Plain (span 8 12) in
     let inner = opening_document at false 12 (word 8 12 (quoted ∷ [])) refl refl refl refl
     (λ v y w. let o = one_part_word sign.Single quoted 12 refl refl (λ z p q. q) refl refl w in
-    (ap (λ z. past b z (counted (within (record (at_word 6 1 1) { body = true })))) o.0, o.1))
+    (ap (λ z. past b z (begun (within (record (at_word 6 1 1) { joins = true })))) o.0, o.1))
     refl refl s.4.5 in
     let document = document_is split_mark [] refl inner.1 in
     let line : span 13 15 ≡ document.0 = some_one document.3 in

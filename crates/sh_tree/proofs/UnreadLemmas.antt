@@ -11,14 +11,13 @@ use Rattle.sh_tree.specs.declared.token.command.Reserved.TheVariants as reserved
 use Rattle.sh_tree.specs.declared.token.word.Sign.TheVariants as sign
 use Rattle.sh_tree.specs.declared.token.command.Redirection.{Redirection}
 use Rattle.sh_tree.specs.language.Commands.{is_bar, is_newline_lead, is_reserved, begins_pipeline, link_of, separator}
-use Rattle.sh_tree.specs.language.States.{Spot, State, Document, nth, within, counted, past, as_deep, closing}
+use Rattle.sh_tree.specs.language.States.{Spot, State, Document, nth, within, begun, past, as_deep, closing}
 use Rattle.sh_tree.specs.declared.tree.Part.{Part}
 use Rattle.sh_tree.specs.declared.tree.Part.TheVariants as part
 use Rattle.sh_tree.specs.declared.tree.Script.{Script}
 use Rattle.sh_tree.specs.declared.tree.SingleStyle.TheVariants as single
 use Rattle.sh_tree.specs.language.Contexts.{in_document_of}
-use Rattle.sh_tree.specs.language.HereDocuments.{Mark, behind_line}
-use Rattle.sh_tree.specs.language.Parts.{keeps_document}
+use Rattle.sh_tree.specs.language.HereDocuments.{Mark, behind_line, keeps_document}
 use Rattle.sh_tree.specs.language.Trees.{span, word}
 use Rattle.sh_tree.specs.language.Reading.{ReadsParts, ReadsScript, ReadsCommand, ReadsRedirects, lead_here, parted, skip, is_empty, is_some}
 use Rattle.sh_tree.specs.language.Examples.{IsUnread, open_quote_text, open_braced_text, split_name_text, no_expression_text, lone_bar_text, split_operator_text, clause_end_text, open_document_text, split_document_text, tabbed_document_text, unclosed_text, plain, bare}
@@ -97,7 +96,7 @@ open_document_unread t h =
 
 -- inside the substitution that stands in the body
 abbrev inner_spot : Spot
-inner_spot = record { at = 6; count = 1; depth = 1; quiet = false; body = true; tabs = false }
+inner_spot = record { at = 6; count = 1; depth = 1; quiet = false; joins = true; tabs = false }
 
 abbrev inner_mark : Mark
 inner_mark = record { strip = false; quoted = true; delimiter = codes "F"; depth = 1 }
@@ -109,7 +108,7 @@ inner_unread limit u t h =
     let at : Redirection = record { number = None; operator = op.HereDoc; at = 6; end = 8 } in
     let quoted : Part = part.Single single.Plain (span 8 11) in
     let d = opening_document at false 11 (word 8 11 (quoted ∷ [])) refl refl refl refl
-    (λ v y w. let o = one_part_word sign.Single quoted 11 refl refl (λ z p q. q) refl refl w in (ap (λ z. past b z (counted (within inner_spot))) o.0, o.1))
+    (λ v y w. let o = one_part_word sign.Single quoted 11 refl refl (λ z p q. q) refl refl w in (ap (λ z. past b z (begun (within inner_spot))) o.0, o.1))
     refl refl h in
     let body = document_is inner_mark [] refl d.1 in
     let end : span 14 15 ≡ body.0 = some_one body.3 in
@@ -124,7 +123,7 @@ split_document_unread t h =
     refl refl h.2.script in
     let body = document_is the_mark [] refl d.1 in
     let end : span 18 19 ≡ body.0 = some_one body.3 in
-    let parts = subst (λ l. ReadsParts h.0 (take l.start split_document_text) (in_document_of the_mark) 10 (record (at_word 4 1 0) { body = true }) body.1 body.2) (sym end) body.6 in
+    let parts = subst (λ l. ReadsParts h.0 (take l.start split_document_text) (in_document_of the_mark) 10 (record (at_word 4 1 0) { joins = true }) body.1 body.2) (sym end) body.6 in
     let f = first_part sign.Substitution refl refl parts in
     inner_unread h.0 f.4.0 f.4.1 f.4.5
 
@@ -133,7 +132,7 @@ abbrev pub tabs_mark : Mark
 tabs_mark = record { strip = true; quoted = false; delimiter = codes "E"; depth = 0 }
 
 abbrev tabbed_spot : Spot
-tabbed_spot = record { at = 7; count = 1; depth = 1; quiet = false; body = true; tabs = true }
+tabbed_spot = record { at = 7; count = 1; depth = 1; quiet = false; joins = true; tabs = true }
 
 abbrev tabbed_mark : Mark
 tabbed_mark = record { strip = false; quoted = false; delimiter = codes "F"; depth = 1 }
@@ -144,7 +143,7 @@ tabbed_unread limit u t h =
     let b = take 18 tabbed_document_text in
     let at : Redirection = record { number = None; operator = op.HereDoc; at = 7; end = 9 } in
     let d = opening_document at false 10 (bare 9 10) refl refl refl refl
-    (λ v y w. let o = one_part_word sign.Plain (plain 9 10) 10 refl refl (λ z p q. q) refl refl w in (ap (λ z. past b z (counted (within tabbed_spot))) o.0, o.1))
+    (λ v y w. let o = one_part_word sign.Plain (plain 9 10) 10 refl refl (λ z p q. q) refl refl w in (ap (λ z. past b z (begun (within tabbed_spot))) o.0, o.1))
     refl refl h in
     let body = document_is tabbed_mark [] refl d.1 in
     let end : span 14 15 ≡ body.0 = some_one body.3 in
@@ -159,7 +158,7 @@ tabbed_document_unread t h =
     refl refl h.2.script in
     let body = document_is tabs_mark [] refl d.1 in
     let end : span 18 19 ≡ body.0 = some_one body.3 in
-    let parts = subst (λ l. ReadsParts h.0 (take l.start tabbed_document_text) (in_document_of tabs_mark) 10 (record (at_word 5 1 0) { body = true; tabs = true }) body.1 body.2) (sym end) body.6 in
+    let parts = subst (λ l. ReadsParts h.0 (take l.start tabbed_document_text) (in_document_of tabs_mark) 10 (record (at_word 5 1 0) { joins = true; tabs = true }) body.1 body.2) (sym end) body.6 in
     let f = first_part sign.Substitution refl refl parts in
     tabbed_unread h.0 f.4.0 f.4.1 f.4.5
 

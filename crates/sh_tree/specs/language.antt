@@ -1,3 +1,4 @@
+pub mod Characters
 pub mod Bytes
 pub mod Words
 pub mod Arithmetic
@@ -13,3 +14,4 @@ pub mod WordExamples
 pub mod CommandExamples
 pub mod DocumentExamples
 pub mod UnreadExamples
+pub mod LimitExamples

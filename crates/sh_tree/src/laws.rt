@@ -2,6 +2,7 @@
 ghost use Rattle.sh_tree.specs.language.CommandExamples.{CommandsRead};
 ghost use Rattle.sh_tree.specs.language.DocumentExamples.{DocumentsRead};
 ghost use Rattle.sh_tree.specs.language.Examples.{LanguageRead};
+ghost use Rattle.sh_tree.specs.language.LimitExamples.{LimitsKept};
 ghost use Rattle.sh_tree.specs.language.UnreadExamples.{OthersUnread};
 ghost use Rattle.sh_tree.specs.language.WordExamples.{WordsRead};
 ghost use Rattle.sh_tree.specs.program.Examples.{ProgramsRead};
@@ -14,6 +15,7 @@ pub fn reads_language()
     ensures commands { CommandsRead }
     ensures documents { DocumentsRead }
     ensures nothing { OthersUnread }
+    ensures limits { LimitsKept }
 {}
 
 /// The trees of such texts are the programs that they are meant to be: each kind of part, expansion, arithmetic

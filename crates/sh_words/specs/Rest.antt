@@ -36,11 +36,11 @@ pub record Around : Type 0 where
   pub tabs : Bool
 
 abbrev pub spot : Around → ℕ → ℕ → Spot
-spot g depth i = record { at = i; count = g.count; depth = depth; quiet = g.quiet; body = g.body; tabs = g.tabs }
+spot g depth i = record { at = i; count = g.count; depth = depth; quiet = g.quiet; joins = g.body; tabs = g.tabs }
 
 -- at i, behind what was read up to u
 abbrev pub placed : Around → ℕ → ℕ → Spot → Spot
-placed g depth i u = record { at = i; count = u.count; depth = depth; quiet = g.quiet; body = g.body; tabs = g.tabs }
+placed g depth i u = record { at = i; count = u.count; depth = depth; quiet = g.quiet; joins = g.body; tabs = g.tabs }
 
 -- where the builder stands
 abbrev pub here : Around → WordBuilder → Spot

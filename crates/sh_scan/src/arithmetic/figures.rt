@@ -13,11 +13,11 @@ use sh_tree::name::is_name_start;
 use sh_tree::refusal::Form;
 use sh_tree::token::Figure;
 
-#[tactic(auto, using(crate::proofs::ArithmeticLemmas::name_some), unfolding(sh_tree::specs::language::Arithmetic::named, sh_tree::specs::language::Bytes::name_length))]
+#[tactic(auto, using(crate::proofs::ArithmeticLemmas::name_some), unfolding(sh_tree::specs::language::Arithmetic::name_figure, sh_tree::specs::language::Bytes::name_length))]
 fn name_figure(front: &[u8], rest: &[u8]) -> (Figure, usize)
     requires small { length front.now + length rest.now ≤ MAX_SCRIPT }
     requires begun { bytes.is_first bytes.is_name_start (front.now ++ rest.now) ≡ true }
-    ensures value { result ≡ arithmetic.named (front.now ++ rest.now) }
+    ensures value { result ≡ arithmetic.name_figure (front.now ++ rest.now) }
     ensures within { result.1 ≤ length front.now + length rest.now }
     ensures moves { 0 < result.1 }
     ensures some { result.0 ≢ Figure.End }

@@ -72,7 +72,7 @@ fn longest(mut table: &[(&[u8], Figure)], front: &[u8], rest: &[u8]) -> Option<(
 
 /// The operator at the front of both pieces and its length.
 pub fn operator(front: &[u8], rest: &[u8]) -> Option<(Figure, usize)>
-    ensures value { result ≡ longest arithmetic.operators (front.now ++ rest.now) }
+    ensures value { result ≡ longest arithmetic.operator_table (front.now ++ rest.now) }
     ensures within { IfSome result (λ found. found.1 ≤ length front.now + length rest.now) }
     ensures moves { IfSome result (λ found. 0 < found.1) }
 {

@@ -41,9 +41,9 @@ pub fn bare_word(script: &[u8], at: u32) -> &[u8]
     }
 }
 
-#[tactic(auto, unfolding(sh_tree::specs::language::Commands::named))]
+#[tactic(auto, unfolding(sh_tree::specs::language::Commands::entry_of))]
 pub fn reserved_word(word: &[u8]) -> Option<Reserved>
-    ensures { result ≡ commands.named commands.reserved_words word.now }
+    ensures { result ≡ commands.entry_of commands.reserved_words word.now }
 {
     match word {
         b"!" => Some(Reserved::Bang),
@@ -67,9 +67,9 @@ pub fn reserved_word(word: &[u8]) -> Option<Reserved>
 }
 
 /// The form of other shells that the word begins where a command name stands.
-#[tactic(auto, unfolding(sh_tree::specs::language::Commands::named))]
+#[tactic(auto, unfolding(sh_tree::specs::language::Commands::entry_of))]
 pub fn left_out_name(word: &[u8]) -> Option<Form>
-    ensures { result ≡ commands.named commands.left_out_names word.now }
+    ensures { result ≡ commands.entry_of commands.left_out_names word.now }
 {
     match word {
         b"[[" => Some(Form::LeftBrackets),

@@ -112,7 +112,7 @@ fn name_lead(left_out: Option<Form>) -> Lead
 fn first_lead(script: &[u8], at: u32, word: &[u8]) -> Lead
     requires small { length script.now ≤ MAX_SCRIPT }
     requires inside { at + length word.now ≤ length script.now }
-    ensures { result ≡ commands.first_lead script.now at word.now (commands.named commands.reserved_words word.now) }
+    ensures { result ≡ commands.first_lead script.now at word.now (commands.entry_of commands.reserved_words word.now) }
 {
     match reserved_word(word) {
         Some(reserved) => reserved_lead(&script[at as usize..], reserved),

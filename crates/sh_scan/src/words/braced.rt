@@ -125,10 +125,10 @@ fn operator_sign(subject: Subject, behind: usize, rest: &[u8]) -> (Sign, usize)
 }
 
 /// The length of a parameter, behind `${#` at `at`.
-#[tactic(auto, unfolding(sh_tree::specs::language::Words::counted))]
+#[tactic(auto, unfolding(sh_tree::specs::language::Words::parameter_length))]
 fn length_sign(at: usize, rest: &[u8]) -> (Sign, usize)
     requires small { at + 3 + length rest.now ≤ MAX_SCRIPT }
-    ensures value { result ≡ words.counted at rest.now }
+    ensures value { result ≡ words.parameter_length at rest.now }
     ensures within { result.1 ≤ length rest.now + 3 }
     ensures moves { reads_bytes result.0 ≡ true → 0 < result.1 }
     ensures told { refuses result.0 ≡ true → result.1 < length rest.now + 3 }

@@ -42,10 +42,10 @@ fn begins_name_byte(rest: &[u8]) -> bool
 }
 
 /// A `$` at `at` and the name before which it stands.
-#[tactic(auto, unfolding(sh_tree::specs::language::Words::named))]
+#[tactic(auto, unfolding(sh_tree::specs::language::Words::named_value))]
 fn name_sign(at: usize, rest: &[u8]) -> (Sign, usize)
     requires small { at + 1 + length rest.now ≤ MAX_SCRIPT }
-    ensures value { result ≡ words.named at (bytes.name_length rest.now) (drop (bytes.name_length rest.now) rest.now) }
+    ensures value { result ≡ words.named_value at (bytes.name_length rest.now) (drop (bytes.name_length rest.now) rest.now) }
     ensures within { result.1 ≤ length rest.now + 1 }
     ensures moves { 0 < result.1 }
     ensures told { refuses result.0 ≡ true → result.1 < length rest.now + 1 }

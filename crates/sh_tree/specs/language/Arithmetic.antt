@@ -2,6 +2,7 @@
 -- POSIX.1-2024, XCU 2.6.4 (arithmetic expansion), 1.1.2.1 (arithmetic precision and operations).
 use Rattle.std.specs.Prelude.{ℕ, ◌+◌, Bool, not, ◌&&◌, ◌||◌, if◌then◌else◌, ◌==◌, List, [], ◌∷◌, length, drop, codes, nat_eq, nat_lt, Option, Some, None}
 use Rattle.std.specs.List.{starts_with}
+use Rattle.sh_tree.specs.language.Characters as byte
 use Rattle.sh_tree.specs.declared.tree.Binary.{Binary}
 use Rattle.sh_tree.specs.declared.tree.Binary.TheVariants as op
 use Rattle.sh_tree.specs.declared.tree.Unary.{Unary}
@@ -25,8 +26,8 @@ space_length (c ∷ d ∷ cs) =
 -- Tokens
 
 -- the operators, longer ones first; those that are left out among them
-abbrev pub operators : List (List ℕ × Figure)
-operators =
+abbrev pub operator_table : List (List ℕ × Figure)
+operator_table =
     (codes "<<=", figure.Assign (Some op.ShiftLeft)) ∷ (codes ">>=", figure.Assign (Some op.ShiftRight))
     ∷ (codes "++", figure.LeftOut form.Arithmetic) ∷ (codes "--", figure.LeftOut form.Arithmetic)
     ∷ (codes "<<", figure.Binary op.ShiftLeft) ∷ (codes ">>", figure.Binary op.ShiftRight)
@@ -48,13 +49,13 @@ operators =
 -- how long the constant at the front is: hexadecimal behind `0x` or `0X`, octal behind `0`, else decimal
 unfoldable pub constant_length : List ℕ → ℕ
 constant_length cs =
-    if not (is_first (λ c. c == 48) cs) then run is_digit cs
+    if not (is_first (λ c. c == byte.digit_zero) cs) then run is_digit cs
     else (if is_first (is_in (codes "xX")) (drop 1 cs) && is_first is_hexadecimal (drop 2 cs) then run is_hexadecimal (drop 2 cs) + 2
     else run is_octal (drop 1 cs) + 1)
 
 -- a name; `sizeof` is left out
-unfoldable pub named : List ℕ → Figure × ℕ
-named cs = if name_length cs == 6 && starts_with nat_eq cs (codes "sizeof") then (figure.LeftOut form.Arithmetic, 6) else (figure.Name, name_length cs)
+unfoldable pub name_figure : List ℕ → Figure × ℕ
+name_figure cs = if name_length cs == 6 && starts_with nat_eq cs (codes "sizeof") then (figure.LeftOut form.Arithmetic, 6) else (figure.Name, name_length cs)
 
 -- no token of arithmetic begins so
 unfoldable pub unknown : List ℕ → Figure × ℕ
@@ -68,9 +69,9 @@ figure_by cs None = unknown cs
 unfoldable pub figure_of : List ℕ → Figure × ℕ
 figure_of cs =
     if length cs == 0 then (figure.End, 0)
-    else (if is_first is_name_start cs then named cs
+    else (if is_first is_name_start cs then name_figure cs
     else (if is_first is_digit cs then (figure.Constant, constant_length cs)
-    else figure_by cs (longest operators cs)))
+    else figure_by cs (longest operator_table cs)))
 
 -- line continuations behind the first n bytes keep them from being a longer token
 abbrev pub is_split : List ℕ → ℕ → Bool
@@ -134,4 +135,4 @@ assignment_of _ = None
 
 -- the byte behind a closing parenthesis closes the expansion too
 unfoldable pub is_closed : List ℕ → ℕ → Bool
-is_closed b i = is_first (λ c. c == 41) (drop i b)
+is_closed b i = is_first (λ c. c == byte.right_parenthesis) (drop i b)

@@ -2,6 +2,7 @@
 -- POSIX.1-2024, XBD 3.216 (name), XCU 2.2 (quoting), 2.3 (token recognition).
 use Rattle.std.specs.Prelude.{ℕ, ◌+◌, ◌*◌, ◌-◌, Bool, false, not, ◌&&◌, ◌||◌, if◌then◌else◌, ◌==◌, List, [], ◌∷◌, ◌++◌, length, drop, take, codes, nat_le, nat_eq, Option, Some, None}
 use Rattle.std.specs.List.{take_while, list_any, list_all, starts_with}
+use Rattle.sh_tree.specs.language.Characters as byte
 
 -- whether the byte is one of these
 abbrev pub is_in : List ℕ → ℕ → Bool
@@ -9,29 +10,29 @@ is_in bytes c = list_any (λ d. d == c) bytes
 
 -- a space or a tab
 abbrev pub is_blank : ℕ → Bool
-is_blank c = c == 32 || c == 9
+is_blank c = c == byte.space || c == byte.tab
 
 abbrev pub is_newline : ℕ → Bool
-is_newline c = c == 10
+is_newline c = c == byte.newline
 
 abbrev pub is_tab : ℕ → Bool
-is_tab c = c == 9
+is_tab c = c == byte.tab
 
 abbrev pub is_backslash : ℕ → Bool
-is_backslash c = c == 92
+is_backslash c = c == byte.backslash
 
 -- a letter or an underscore
 abbrev pub is_name_start : ℕ → Bool
-is_name_start c = (nat_le 65 c && nat_le c 90) || (nat_le 97 c && nat_le c 122) || c == 95
+is_name_start c = (nat_le byte.capital_a c && nat_le c byte.capital_z) || (nat_le byte.small_a c && nat_le c byte.small_z) || c == byte.underscore
 
 abbrev pub is_digit : ℕ → Bool
-is_digit c = nat_le 48 c && nat_le c 57
+is_digit c = nat_le byte.digit_zero c && nat_le c byte.digit_nine
 
 abbrev pub is_octal : ℕ → Bool
-is_octal c = nat_le 48 c && nat_le c 55
+is_octal c = nat_le byte.digit_zero c && nat_le c byte.digit_seven
 
 abbrev pub is_hexadecimal : ℕ → Bool
-is_hexadecimal c = is_digit c || (nat_le 65 c && nat_le c 70) || (nat_le 97 c && nat_le c 102)
+is_hexadecimal c = is_digit c || (nat_le byte.capital_a c && nat_le c byte.capital_f) || (nat_le byte.small_a c && nat_le c byte.small_f)
 
 -- a name is a letter or an underscore, and letters, underscores and digits
 abbrev pub is_name_byte : ℕ → Bool
@@ -65,7 +66,7 @@ is_name cs = is_first is_name_start cs && list_all is_name_byte cs
 -- the number of decimal digits
 unfoldable pub decimal : ℕ → List ℕ → ℕ
 decimal n [] = n
-decimal n (c ∷ cs) = decimal (n * 10 + (c - 48)) cs
+decimal n (c ∷ cs) = decimal (n * 10 + (c - byte.digit_zero)) cs
 
 -- The first text of a table that stands at the front, what the table says of it, and its length. Longer texts stand before shorter ones.
 unfoldable pub longest : {A : Type 0} → List (List ℕ × A) → List ℕ → Option (A × ℕ)

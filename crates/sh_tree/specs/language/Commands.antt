@@ -2,6 +2,7 @@
 -- POSIX.1-2024, XCU 2.3 (token recognition), 2.4 (reserved words), 2.7 (redirection), 2.9.1 (simple commands), 2.10 (shell grammar).
 use Rattle.std.specs.Prelude.{ℕ, ◌+◌, ◌-◌, Bool, true, false, not, ◌&&◌, ◌||◌, if◌then◌else◌, ◌==◌, List, [], ◌∷◌, ◌++◌, length, drop, take, codes, nat_lt, nat_le, Option, Some, None}
 use Rattle.std.specs.Str.{bytes_eq}
+use Rattle.sh_tree.specs.language.Characters as byte
 use Rattle.sh_tree.specs.declared.tree.Span.{Span}
 use Rattle.sh_tree.specs.declared.tree.Direction.{Direction}
 use Rattle.sh_tree.specs.declared.tree.Direction.TheVariants as direction
@@ -33,7 +34,7 @@ comment_length cs = run (λ c. not (is_newline c)) cs
 
 -- A comment in a here-document's body ends where its line does once lines are joined, which is before its commands are read (XCU 2.7.4).
 abbrev pub is_comment : Bool → List ℕ → Bool
-is_comment body cs = is_first (λ c. c == 35) cs && (not body || line_length true cs == comment_length cs)
+is_comment joins cs = is_first (λ c. c == byte.number_sign) cs && (not joins || line_length true cs == comment_length cs)
 
 -- how many bytes of blanks and line continuations stand at the front
 unfoldable pub gap_length : List ℕ → ℕ
@@ -45,13 +46,13 @@ gap_length (c ∷ d ∷ cs) =
 
 -- how many bytes of blanks, line continuations and a comment stand at the front
 unfoldable pub blank_length : Bool → List ℕ → ℕ
-blank_length body cs =
+blank_length joins cs =
     let rest = drop (gap_length cs) cs in
-    if is_comment body rest then gap_length cs + comment_length rest else gap_length cs
+    if is_comment joins rest then gap_length cs + comment_length rest else gap_length cs
 
--- where the token at or behind i begins; `body` says whether this is in a here-document's body
+-- where the token at or behind i begins; `joins` says whether this is in a here-document's body whose lines are joined
 unfoldable pub blanks : Bool → List ℕ → ℕ → ℕ
-blanks body b i = i + blank_length body (drop i b)
+blanks joins b i = i + blank_length joins (drop i b)
 
 -- Operators
 
@@ -144,13 +145,13 @@ left_out_names =
     ∷ (codes "time", form.Time) ∷ (codes "namespace", form.Namespace) ∷ []
 
 -- what a table says of a word
-unfoldable pub named : {A : Type 0} → List (List ℕ × A) → List ℕ → Option A
-named [] w = None
-named (x ∷ xs) w = if bytes_eq x.0 w then Some x.1 else named xs w
+unfoldable pub entry_of : {A : Type 0} → List (List ℕ × A) → List ℕ → Option A
+entry_of [] w = None
+entry_of (x ∷ xs) w = if bytes_eq x.0 w then Some x.1 else entry_of xs w
 
 -- a name and `=` (XCU 2.10.2, rule 7)
 unfoldable pub is_assignment : List ℕ → Bool
-is_assignment cs = not (name_length cs == 0) && is_first (λ c. c == 61) (drop (name_length cs) cs)
+is_assignment cs = not (name_length cs == 0) && is_first (λ c. c == byte.equals_sign) (drop (name_length cs) cs)
 
 -- where the name at i ends
 unfoldable pub name_end : List ℕ → ℕ → ℕ
@@ -162,18 +163,18 @@ declares b i = bytes_eq (codes "export") (bare_word b i) || bytes_eq (codes "rea
 
 -- `<` or `>` stands at the front
 abbrev pub is_angle : List ℕ → Bool
-is_angle cs = is_first (λ c. c == 60 || c == 62) cs
+is_angle cs = is_first (λ c. c == byte.less_than_sign || c == byte.greater_than_sign) cs
 
 -- A word of three bytes or more that begins with `{` and ends with `}`, from i to j, before `<` or `>`: a shell may take it as an IO location (XCU 2.7).
 unfoldable pub is_location : List ℕ → ℕ → ℕ → Bool
 is_location b i j =
-    nat_le (i + 3) j && is_first (λ c. c == 123) (drop i b) && is_first (λ c. c == 125) (drop (j - 1) b)
+    nat_le (i + 3) j && is_first (λ c. c == byte.left_brace) (drop i b) && is_first (λ c. c == byte.right_brace) (drop (j - 1) b)
     && is_angle (behind_joined (drop j b))
 
 -- Leads
 
 abbrev pub is_parenthesis : ℕ → Bool
-is_parenthesis c = c == 40
+is_parenthesis c = c == byte.left_parenthesis
 
 -- `(` at a command's first token, before rest: `((` opens no command
 unfoldable pub opening : List ℕ → Lead
@@ -213,12 +214,12 @@ name_lead None = lead.Word
 -- the word w at i at a command's first token
 unfoldable pub first_lead : List ℕ → ℕ → List ℕ → Option Reserved → Lead
 first_lead b i w (Some r) = reserved_lead (drop i b) r
-first_lead b i w None = if is_definition b i w then lead.Definition else name_lead (named left_out_names w)
+first_lead b i w None = if is_definition b i w then lead.Definition else name_lead (entry_of left_out_names w)
 
 -- the word w at i, no assignment
 unfoldable pub word_lead : List ℕ → Stage → ℕ → List ℕ → Lead
-word_lead b First i w = first_lead b i w (named reserved_words w)
-word_lead b Prefixed i w = name_lead (named left_out_names w)
+word_lead b First i w = first_lead b i w (entry_of reserved_words w)
+word_lead b Prefixed i w = name_lead (entry_of left_out_names w)
 word_lead b (Named d) i w = lead.Word
 
 abbrev pub is_named : Stage → Bool
@@ -245,7 +246,7 @@ lead_of b s i (Some found) = operator_lead s (drop i b) found.0 found.1
 lead_of b s i None =
     if nat_le (length b) i then lead.End
     else (if is_first is_newline (drop i b) then lead.Newline
-    else (if is_first (λ c. c == 35) (drop i b) then lead.LeftOut form.Continuation
+    else (if is_first (λ c. c == byte.number_sign) (drop i b) then lead.LeftOut form.Continuation
     else other_lead b s i))
 
 -- What the token at i is. A comment there is one that a here-document must not hold.

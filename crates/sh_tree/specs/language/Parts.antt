@@ -1,36 +1,14 @@
--- What the reading asks of a word's parts: whether they are a here-document's delimiter, and whether a quotation hides a line continuation.
--- POSIX.1-2024, XCU 2.2.2 (single quotes), 2.7.4 (here-document).
-use Rattle.std.specs.Prelude.{ℕ, Bool, true, false, not, ◌&&◌, ◌||◌, List, [], ◌∷◌, ◌++◌, Option, Some, None}
+-- What the reading asks of a word's parts: whether one is quoted, and whether single quotes hold a line continuation.
+-- POSIX.1-2024, XCU 2.2.1 (line continuation), 2.2.2 (single quotes), 2.7.4 (here-document).
+use Rattle.std.specs.Prelude.{ℕ, Bool, true, false, not, ◌||◌, List, [], ◌∷◌, ◌++◌}
 use Rattle.std.specs.List.{list_any, list_all}
 use Rattle.sh_tree.specs.declared.tree.Span.{Span}
 use Rattle.sh_tree.specs.declared.tree.Word.{Word}
 use Rattle.sh_tree.specs.declared.tree.ParameterOperator.{ParameterOperator, Use', Remove'}
 use Rattle.sh_tree.specs.declared.tree.Expr.{Expr, Constant, Variable, Expansion, Parenthesis', Unary', Chain', Choice', Assign', Row_of-Expr, end_of-Expr, more_of-Expr, Row_of-Expr-Chain-1-2, end_of-Expr-Chain-1-2, more_of-Expr-Chain-1-2}
 use Rattle.sh_tree.specs.declared.tree.Part.{Part, Escaped, Single, Double', Param', Arith', Row_of-Part, end_of-Part, more_of-Part}
-use Rattle.sh_tree.specs.language.Bytes.{is_newline}
-use Rattle.sh_tree.specs.language.HereDocuments.{Mark, has_joined, has_tabbed_line}
+use Rattle.sh_tree.specs.language.HereDocuments.{is_split_text}
 use Rattle.sh_tree.specs.Tree.{text_of}
-use Rattle.sh_tree.specs.Words.{parts_text}
-
--- Delimiters
-
-abbrev pub or_none : Option (List ℕ) → List ℕ
-or_none (Some t) = t
-or_none None = []
-
-unfoldable pub is_static : Option (List ℕ) → Bool
-is_static (Some t) = true
-is_static None = false
-
--- no expansion, no tilde-prefix and no newline
-unfoldable pub is_delimiter : List ℕ → Word → Bool
-is_delimiter b w = is_static (parts_text b w.parts) && not (list_any is_newline (text_of b w.span))
-
--- the delimiter: the word without its quoting
-unfoldable pub delimiter_of : List ℕ → Word → List ℕ
-delimiter_of b w = or_none (parts_text b w.parts)
-
--- Quotations
 
 -- quoting
 unfoldable pub is_quotation : Part → Bool
@@ -83,16 +61,6 @@ unfoldable pub singles : List Part → List Span
 singles [] = []
 singles (p ∷ ps) = singles_in p ++ singles ps
 
--- a line continuation stands in the text
-abbrev pub is_split_text : List ℕ → Bool
-is_split_text t = has_joined (λ rest. true) t
-
 -- A here-document's lines are joined before its commands are read, but a reader of quotes keeps them: no single quotes in a body hold a continuation.
 unfoldable pub keeps_lines : List ℕ → Bool → List Part → Bool
-keeps_lines b body ps = not body || list_all (λ s. not (is_split_text (text_of b s))) (singles ps)
-
--- So are those of a here-document in such a body, but a quoted delimiter keeps its lines: they hold no continuation there. And where tabs are stripped around
--- it they are stripped from its lines too, but only `<<-` says so: no other's lines begin with one. The lines are those from the body's first to the end line, whose newline counts too.
-unfoldable pub keeps_document : List ℕ → Bool → Bool → Mark → Span → Bool
-keeps_document b body tabs m s =
-    (not (body && m.quoted) || not (is_split_text (text_of b s))) && (not tabs || m.strip || not (has_tabbed_line true (text_of b s)))
+keeps_lines b joins ps = not joins || list_all (λ s. not (is_split_text (text_of b s))) (singles ps)

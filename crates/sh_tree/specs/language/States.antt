@@ -1,5 +1,11 @@
 -- Where a reader of commands stands: the place, what came before it, and what is open around it.
 -- POSIX.1-2024, XCU 2.3 (token recognition), 2.7.4 (here-documents), 2.10 (shell grammar).
+--
+-- The words of movement. Among the bytes of a word, from spot to spot: `to i` is the same spot at the offset i, `deeper i` is there one level deeper, `behind i u`
+-- is at i again as deep as before, with the commands counted that were read up to u. Among the tokens of commands, from state to state: `next i` is at the token
+-- at or behind i, `past u` at the token behind a word that was read up to u, and `skip n` (in Reading) at the one behind a token of n bytes; `facing` is the spot
+-- from which a word is read, `within` the state from which the commands of a substitution are; `begun` has one command more, `lower` is one level deeper and
+-- `as_deep` as deep as another state; `over` (in Reading) is behind a token of arithmetic.
 use Rattle.std.specs.Prelude.{ℕ, zero, suc, ◌+◌, Bool, true, false, not, ◌||◌, List, [], ◌∷◌, ◌++◌, length}
 use Rattle.sh_tree.specs.declared.tree.Span.{Span}
 use Rattle.sh_tree.specs.declared.tree.Word.{Word}
@@ -14,7 +20,7 @@ pub record Spot : Type 0 where
   pub count : ℕ
   pub depth : ℕ
   pub quiet : Bool
-  pub body : Bool
+  pub joins : Bool
   pub tabs : Bool
 
 -- the spot at i
@@ -52,8 +58,8 @@ nth (d ∷ ds) zero = d
 nth (d ∷ ds) (suc n) = nth ds n
 
 -- how many here-document operators have come in this level
-abbrev pub operators : State → ℕ
-operators s = length s.bodies + length s.pending
+abbrev pub document_count : State → ℕ
+document_count s = length s.bodies + length s.pending
 
 unfoldable pub waits : List Mark → Bool
 waits [] = false
@@ -70,15 +76,15 @@ within s = record { spot = s; closed = false; pending = []; bodies = [] }
 module _ (b : List ℕ) where
   -- at the token at or behind i
   abbrev pub next : ℕ → State → State
-  next i s = record s { spot = to (blanks s.spot.body b i) s.spot }
+  next i s = record s { spot = to (blanks s.spot.joins b i) s.spot }
 
   -- at the token behind what was read inside, up to u
   abbrev pub past : Spot → State → State
-  past u s = record s { spot = behind (blanks s.spot.body b u.at) u s.spot }
+  past u s = record s { spot = behind (blanks s.spot.joins b u.at) u s.spot }
 
 -- behind the first byte of one more command
-abbrev pub counted : State → State
-counted s = record s { spot = record s.spot { count = s.spot.count + 1 } }
+abbrev pub begun : State → State
+begun s = record s { spot = record s.spot { count = s.spot.count + 1 } }
 
 -- one level deeper, and as deep as r
 abbrev pub lower : State → State
@@ -101,7 +107,7 @@ on_line i s = record s { spot = to i s.spot; pending = [] }
 
 -- where the body of a here-document is read
 abbrev pub in_document : Mark → State → Spot
-in_document m s = record s.spot { depth = m.depth; quiet = false; body = not m.quoted; tabs = s.spot.tabs || m.strip }
+in_document m s = record s.spot { depth = m.depth; quiet = false; joins = not m.quoted; tabs = s.spot.tabs || m.strip }
 
 -- behind a body that was read up to u, and its end line, which ends before i
 abbrev pub with_document : ℕ → Document → Spot → State → State

@@ -1,6 +1,7 @@
 -- What begins at each place of a word, each thing the longest.
 -- POSIX.1-2024, XCU 2.2 (quoting), 2.6.1 (tilde expansion), 2.6.2 (parameters), 2.6.3, 2.6.4 (`$(` and `$((`), 2.7.4 (here-documents).
 use Rattle.std.specs.Prelude.{ℕ, ◌+◌, ◌-◌, Bool, true, false, not, ◌&&◌, ◌||◌, if◌then◌else◌, ◌==◌, List, [], ◌∷◌, length, drop, take, codes, nat_lt, nat_le, Option, Some, None}
+use Rattle.sh_tree.specs.language.Characters as byte
 use Rattle.sh_tree.specs.declared.tree.Subject.{Subject}
 use Rattle.sh_tree.specs.declared.tree.Subject.TheVariants.{Name, Positional, Special}
 use Rattle.sh_tree.specs.declared.tree.Special.{Special as SpecialParameter}
@@ -30,9 +31,9 @@ is_quoted _ = true
 -- the byte ends the site
 abbrev pub stops : Site → ℕ → Bool
 stops Word c = ends_token c
-stops Double c = c == 34
-stops Braced c = c == 125
-stops QuotedBraced c = c == 125
+stops Double c = c == byte.quotation_mark
+stops Braced c = c == byte.right_brace
+stops QuotedBraced c = c == byte.right_brace
 stops Body c = false
 stops Verbatim c = false
 
@@ -65,7 +66,7 @@ is_kept _ c = false
 abbrev pub is_escaped : Site → ℕ → Bool
 is_escaped Word c = true
 is_escaped Braced c = true
-is_escaped QuotedBraced c = is_kept QuotedBraced c || is_newline c || c == 125
+is_escaped QuotedBraced c = is_kept QuotedBraced c || is_newline c || c == byte.right_brace
 is_escaped Verbatim c = false
 is_escaped s c = is_kept s c || is_newline c
 
@@ -79,14 +80,14 @@ is_login_byte c = is_name_byte c || is_in (codes ".+-") c
 unfoldable pub tilde_length : Context → List ℕ → ℕ
 tilde_length x cs =
     let rest = drop (run is_login_byte cs) cs in
-    if length rest == 0 || is_first (λ c. c == 47 || (x.colons && c == 58) || stops x.site c) rest || is_joined rest then run is_login_byte cs + 1 else 0
+    if length rest == 0 || is_first (λ c. c == byte.slash || (x.colons && c == byte.colon) || stops x.site c) rest || is_joined rest then run is_login_byte cs + 1 else 0
 
 -- a tilde-prefix is looked for at i, behind the plain byte `prior`
 abbrev pub may_be_tilde : Context → ℕ → ℕ → Bool
-may_be_tilde x prior i = not (is_quoted x.site) && (i == x.origin || (x.colons && prior == 58))
+may_be_tilde x prior i = not (is_quoted x.site) && (i == x.origin || (x.colons && prior == byte.colon))
 
 unfoldable pub is_tilde : Context → ℕ → ℕ → ℕ → List ℕ → Bool
-is_tilde x prior i c cs = c == 126 && may_be_tilde x prior i && not (tilde_length x cs == 0)
+is_tilde x prior i c cs = c == byte.tilde && may_be_tilde x prior i && not (tilde_length x cs == 0)
 
 -- What a `$` begins
 
@@ -100,26 +101,26 @@ is_literal_dollar quoted cs = not (is_first (opens_dollar quoted) (behind_joined
 
 unfoldable pub special_of : ℕ → Option SpecialParameter
 special_of c =
-    if c == 64 then Some special.At
-    else (if c == 42 then Some special.Asterisk
-    else (if c == 35 then Some special.NumberSign
-    else (if c == 63 then Some special.QuestionMark
-    else (if c == 45 then Some special.Hyphen
-    else (if c == 36 then Some special.Dollar
-    else (if c == 33 then Some special.Exclamation
-    else (if c == 48 then Some special.Zero
+    if c == byte.commercial_at then Some special.At
+    else (if c == byte.asterisk then Some special.Asterisk
+    else (if c == byte.number_sign then Some special.NumberSign
+    else (if c == byte.question_mark then Some special.QuestionMark
+    else (if c == byte.hyphen_minus then Some special.Hyphen
+    else (if c == byte.dollar_sign then Some special.Dollar
+    else (if c == byte.exclamation_mark then Some special.Exclamation
+    else (if c == byte.digit_zero then Some special.Zero
     else None)))))))
 
 -- a `$` at i and a name of n bytes, before rest
-unfoldable pub named : ℕ → ℕ → List ℕ → Sign × ℕ
-named i n rest =
+unfoldable pub named_value : ℕ → ℕ → List ℕ → Sign × ℕ
+named_value i n rest =
     if is_joined rest && is_first is_name_byte (behind_joined rest) then (sign.LeftOut form.Continuation, n + 1)
     else (sign.Value (Name (span (i + 1) (i + 1 + n))), n + 1)
 
 -- a special parameter, or else the positional one of the digit c, in the byte at i
 abbrev pub one_byte : ℕ → ℕ → Option SpecialParameter → Subject
 one_byte i c (Some p) = Special p (span i (i + 1))
-one_byte i c None = Positional (c - 48) (span i (i + 1))
+one_byte i c None = Positional (c - byte.digit_zero) (span i (i + 1))
 
 -- a `$` at i and one byte more
 unfoldable pub single_parameter : ℕ → ℕ → Sign × ℕ
@@ -128,8 +129,8 @@ single_parameter i c = (sign.Value (one_byte (i + 1) c (special_of c)), 2)
 -- `$(`, before rest
 unfoldable pub parenthesis : List ℕ → Sign × ℕ
 parenthesis rest =
-    if is_first (λ c. c == 40) rest then (sign.Arith, 3)
-    else (if is_first (λ c. c == 40) (behind_joined rest) then (sign.LeftOut form.Continuation, 2)
+    if is_first (λ c. c == byte.left_parenthesis) rest then (sign.Arith, 3)
+    else (if is_first (λ c. c == byte.left_parenthesis) (behind_joined rest) then (sign.LeftOut form.Continuation, 2)
     else (sign.Substitution, 2))
 
 -- Braced expansions, behind `${`
@@ -138,7 +139,7 @@ parenthesis rest =
 unfoldable pub numbered : ℕ → List ℕ → Option (Subject × ℕ)
 numbered i ds =
     if length ds == 0 then None
-    else (if is_first (λ c. c == 48) ds then (if length ds == 1 then Some (Special special.Zero (span i (i + 1)), 1) else None)
+    else (if is_first (λ c. c == byte.digit_zero) ds then (if length ds == 1 then Some (Special special.Zero (span i (i + 1)), 1) else None)
     else (if nat_le (length ds) 5 && nat_le (decimal 0 ds) 65535 then Some (Positional (decimal 0 ds) (span i (i + length ds)), length ds)
     else None))
 
@@ -153,26 +154,26 @@ unfoldable pub misfit : ℕ → List ℕ → Sign × ℕ
 misfit k rest =
     if length rest == 0 then (sign.Fault fault.OpenBraced, 0)
     else (if is_joined rest then (sign.LeftOut form.Continuation, k)
-    else (if length rest == 1 && is_first (λ c. c == 92) rest then (sign.Fault fault.FinalBackslash, k)
+    else (if length rest == 1 && is_first (λ c. c == byte.backslash) rest then (sign.Fault fault.FinalBackslash, k)
     else (sign.LeftOut form.Braced, 0)))
 
 abbrev pub closes : List ℕ → Bool
-closes rest = is_first (λ c. c == 125) rest
+closes rest = is_first (λ c. c == byte.right_brace) rest
 
 unfoldable pub action_of : ℕ → Option Action
 action_of c =
-    if c == 45 then Some action.Default
-    else (if c == 61 then Some action.Assign
-    else (if c == 63 then Some action.Fault
-    else (if c == 43 then Some action.Alternative
+    if c == byte.hyphen_minus then Some action.Default
+    else (if c == byte.equals_sign then Some action.Assign
+    else (if c == byte.question_mark then Some action.Fault
+    else (if c == byte.plus_sign then Some action.Alternative
     else None)))
 
 -- a pattern removal of the longest or of the shortest
 unfoldable pub removed : Subject → ℕ → List ℕ → Sign × ℕ
 removed p k [] = misfit k []
 removed p k (c ∷ rest) =
-    if c == 37 then (if is_first (λ d. d == 37) rest then (sign.Remove p removal.LongSuffix, k + 2) else (sign.Remove p removal.ShortSuffix, k + 1))
-    else (if c == 35 then (if is_first (λ d. d == 35) rest then (sign.Remove p removal.LongPrefix, k + 2) else (sign.Remove p removal.ShortPrefix, k + 1))
+    if c == byte.percent_sign then (if is_first (λ d. d == byte.percent_sign) rest then (sign.Remove p removal.LongSuffix, k + 2) else (sign.Remove p removal.ShortSuffix, k + 1))
+    else (if c == byte.number_sign then (if is_first (λ d. d == byte.number_sign) rest then (sign.Remove p removal.LongPrefix, k + 2) else (sign.Remove p removal.ShortPrefix, k + 1))
     else misfit k (c ∷ rest))
 
 abbrev pub used_by : Bool → Subject → ℕ → List ℕ → Option Action → Sign × ℕ
@@ -188,16 +189,16 @@ used colon p k (c ∷ rest) = used_by colon p k (c ∷ rest) (action_of c)
 unfoldable pub operated : Subject → ℕ → List ℕ → Sign × ℕ
 operated p k rest =
     if closes rest then (sign.Value p, k + 1)
-    else (if is_first (λ c. c == 58) rest then used true p (k + 1) (drop 1 rest)
+    else (if is_first (λ c. c == byte.colon) rest then used true p (k + 1) (drop 1 rest)
     else used false p k rest)
 
-abbrev pub counted_by : List ℕ → Option (Subject × ℕ) → Sign × ℕ
-counted_by rest (Some p) = if closes (drop p.1 rest) then (sign.Length p.0, p.1 + 4) else misfit (p.1 + 3) (drop p.1 rest)
-counted_by rest None = misfit 3 rest
+abbrev pub length_by : List ℕ → Option (Subject × ℕ) → Sign × ℕ
+length_by rest (Some p) = if closes (drop p.1 rest) then (sign.Length p.0, p.1 + 4) else misfit (p.1 + 3) (drop p.1 rest)
+length_by rest None = misfit 3 rest
 
 -- `${#`, at i, and a parameter
-unfoldable pub counted : ℕ → List ℕ → Sign × ℕ
-counted i rest = counted_by rest (parameter (i + 3) rest)
+unfoldable pub parameter_length : ℕ → List ℕ → Sign × ℕ
+parameter_length i rest = length_by rest (parameter (i + 3) rest)
 
 -- a special parameter in the byte at i, which has no operator; rest begins with it
 abbrev pub specially : ℕ → List ℕ → Option SpecialParameter → Sign × ℕ
@@ -206,7 +207,7 @@ specially i rest None = misfit 2 rest
 
 unfoldable pub unnamed : ℕ → List ℕ → Sign × ℕ
 unnamed i [] = misfit 2 []
-unnamed i (c ∷ rest) = if c == 35 && not (closes rest) then counted i rest else specially (i + 2) (c ∷ rest) (special_of c)
+unnamed i (c ∷ rest) = if c == byte.number_sign && not (closes rest) then parameter_length i rest else specially (i + 2) (c ∷ rest) (special_of c)
 
 abbrev pub braced_by : ℕ → List ℕ → Option (Subject × ℕ) → Sign × ℕ
 braced_by i cs (Some p) = operated p.0 (p.1 + 2) (drop p.1 cs)
@@ -220,12 +221,12 @@ braced i cs = braced_by i cs (parameter (i + 2) cs)
 unfoldable pub opened : ℕ → List ℕ → Sign × ℕ
 opened i [] = (sign.Plain, 1)
 opened i (c ∷ rest) =
-    if is_name_start c then named i (name_length (c ∷ rest)) (drop (name_length (c ∷ rest)) (c ∷ rest))
-    else (if c == 123 then braced i rest
-    else (if c == 40 then parenthesis rest
-    else (if c == 91 then (sign.LeftOut form.DollarBracket, 0)
-    else (if c == 39 then (sign.LeftOut form.DollarSingle, 0)
-    else (if c == 34 then (sign.LeftOut form.DollarDouble, 0)
+    if is_name_start c then named_value i (name_length (c ∷ rest)) (drop (name_length (c ∷ rest)) (c ∷ rest))
+    else (if c == byte.left_brace then braced i rest
+    else (if c == byte.left_parenthesis then parenthesis rest
+    else (if c == byte.left_bracket then (sign.LeftOut form.DollarBracket, 0)
+    else (if c == byte.apostrophe then (sign.LeftOut form.DollarSingle, 0)
+    else (if c == byte.quotation_mark then (sign.LeftOut form.DollarDouble, 0)
     else single_parameter i c)))))
 
 -- the value of `$@`
@@ -244,14 +245,14 @@ dollar x i cs = if is_joined cs then (sign.LeftOut form.Continuation, 1) else ac
 
 -- a tab at the beginning of a line, which is no part of the text
 abbrev pub is_stripped : Context → ℕ → ℕ → Bool
-is_stripped x prior c = x.strip && prior == 10 && c == 9
+is_stripped x prior c = x.strip && prior == byte.newline && c == byte.tab
 
 abbrev pub is_literal_backslash : Site → List ℕ → Bool
 is_literal_backslash s cs = not (length cs == 0) && not (is_first (is_escaped s) cs)
 
 -- the byte c, which may mean more, is a literal one before cs
 abbrev pub is_literal : Site → ℕ → List ℕ → Bool
-is_literal s c cs = if c == 36 then is_literal_dollar (is_quoted s) cs else c == 92 && is_literal_backslash s cs
+is_literal s c cs = if c == byte.dollar_sign then is_literal_dollar (is_quoted s) cs else c == byte.backslash && is_literal_backslash s cs
 
 -- the byte c at i stands for itself, behind the byte `prior` and before cs
 unfoldable pub stands : Context → ℕ → ℕ → ℕ → List ℕ → Bool
@@ -289,13 +290,13 @@ unfoldable pub backslash : Context → List ℕ → Sign × ℕ
 backslash x [] = (sign.Fault fault.FinalBackslash, 0)
 backslash x (c ∷ rest) =
     if is_newline c then continued x rest
-    else (if is_default_site x.site && c == 125 then (sign.LeftOut form.BackslashInDefault, 0)
-    else (if is_default_site x.site && x.body && c == 34 then (sign.LeftOut form.QuotedInDefault, 0)
+    else (if is_default_site x.site && c == byte.right_brace then (sign.LeftOut form.BackslashInDefault, 0)
+    else (if is_default_site x.site && x.body && c == byte.quotation_mark then (sign.LeftOut form.QuotedInDefault, 0)
     else (sign.Escaped, 2)))
 
 -- a single quote, before cs (XCU 2.2.2)
 unfoldable pub single : List ℕ → Sign × ℕ
-single cs = let n = run (λ c. not (c == 39)) cs in if nat_lt n (length cs) then (sign.Single, n + 2) else (sign.Fault fault.OpenSingle, 0)
+single cs = let n = run (λ c. not (c == byte.apostrophe)) cs in if nat_lt n (length cs) then (sign.Single, n + 2) else (sign.Fault fault.OpenSingle, 0)
 
 -- a double quote that ends nothing
 abbrev pub double : Site → Sign × ℕ
@@ -304,10 +305,10 @@ double s = if is_default_site s then (sign.LeftOut form.QuotedInDefault, 0) else
 -- what the byte c at i begins, which does not stand for itself
 unfoldable pub meant_by : Context → ℕ → ℕ → List ℕ → Sign × ℕ
 meant_by x i c cs =
-    if c == 92 then backslash x cs
-    else (if c == 39 then single cs
-    else (if c == 34 then double x.site
-    else (if c == 96 then (sign.LeftOut form.Backquoted, 0)
+    if c == byte.backslash then backslash x cs
+    else (if c == byte.apostrophe then single cs
+    else (if c == byte.quotation_mark then double x.site
+    else (if c == byte.backquote then (sign.LeftOut form.Backquoted, 0)
     else dollar x i cs)))
 
 unfoldable pub sign_by : Context → ℕ → ℕ → ℕ → List ℕ → Sign × ℕ
@@ -315,7 +316,7 @@ sign_by x prior i c cs =
     if stops x.site c then (sign.Stop, stop_length x.site)
     else (if is_stripped x prior c then (sign.Tabs, run is_tab cs + 1)
     else (if stands x prior i c cs then (sign.Plain, plain_length x prior i (c ∷ cs))
-    else (if c == 126 then (sign.Tilde, tilde_length x cs)
+    else (if c == byte.tilde then (sign.Tilde, tilde_length x cs)
     else meant_by x i c cs)))
 
 -- the text ends where a word or a body may, and leaves other things open

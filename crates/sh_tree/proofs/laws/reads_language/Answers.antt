@@ -4,6 +4,7 @@ use Rattle.sh_tree.proofs.WordReadings.{removed_prefix_reads, octal_reads, statu
 use Rattle.sh_tree.proofs.CommandReadings.{while_reads, for_ended_reads, for_none_reads, for_two_reads, case_lines_reads, patterns_reads, pattern_esac_reads, redirected_reads, numbered_reads, behind_assignment_reads}
 use Rattle.sh_tree.proofs.DocumentReadings.{verbatim_reads, two_documents_reads, group_document_reads, inner_document_reads, piped_document_reads, counted_document_reads, joined_end_reads, unended_line_reads, quiet_reads, paired_comment_reads, paired_quotes_reads, paired_document_reads, tabbed_end_reads, tabs_in_pattern_reads, tabs_in_quotes_reads}
 use Rattle.sh_tree.proofs.UnreadForms.{double_parenthesis_unread, negated_parenthesis_unread, double_bracket_unread, location_unread, dollar_single_unread, backquoted_unread, other_braced_unread, unsplit_unread, expanded_delimiter_unread, tilde_delimiter_unread, across_unread, joined_tab_unread, split_comment_unread, split_quotes_unread, split_end_unread}
+use Rattle.sh_tree.proofs.LimitLemmas.{defaults_within, defaults_beyond, complements_within, complements_beyond, body_depth_reads}
 use Rattle.sh_tree.proofs.laws.reads_language.Goals as goal
 
 pub returns-clause-texts : goal.returns-clause-texts
@@ -112,4 +113,13 @@ returns-clause-nothing c = record {
   split_comment = split_comment_unread;
   split_quotes = split_quotes_unread;
   split_end = split_end_unread;
+}
+
+pub returns-clause-limits : goal.returns-clause-limits
+returns-clause-limits c = record {
+  defaults = defaults_within;
+  more_defaults = defaults_beyond;
+  complements = complements_within;
+  more_complements = complements_beyond;
+  body_depth = body_depth_reads;
 }
