@@ -1,1 +1,4 @@
 pub mod AnswerLemmas
+pub mod PolicyLemmas
+pub mod SightLemmas
+pub mod NameLemmas
