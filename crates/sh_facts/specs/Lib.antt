@@ -1,4 +1,8 @@
 pub mod Facts
+pub mod Policy
+pub mod Sights
+pub mod SightWalks
+pub mod Names
 pub mod Gains
 pub mod Operands
 pub mod Views

@@ -1,6 +1,10 @@
-//! What is surely set before and after each command of a script: the rules and the demands that a checker of it has to test.
-//! They are definitions, in `specs/`; `laws` holds them against known scripts.
+//! What is surely set before and after each command of a script: policies, the names of a script, and the rules and the demands
+//! that a checker has to test. The latter are definitions, in `specs/`; `laws` holds them against known scripts.
 #![tactic(auto)]
 
 pub mod laws;
+pub mod names;
+mod operands;
+pub mod policy;
 pub mod rule;
+pub mod sights;

@@ -10,7 +10,7 @@ use std::alloc::{AllocError, Global};
 /// A row as bits: number n is bit n modulo 64 of word n divided by 64, and the bits past the last number are zero.
 ///
 /// Adding takes no memory: the words stand from the start, one for 64 numbers.
-#[derive(Debug, Drop)]
+#[derive(Debug, PartialEq, Eq, Hash, Drop)]
 pub struct BitRow {
     words: Vec<u64>,
     count: u32,
