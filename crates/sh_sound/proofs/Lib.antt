@@ -1,0 +1,3 @@
+pub mod HoldLemmas
+pub mod ExpansionLemmas
+pub mod ListLemmas

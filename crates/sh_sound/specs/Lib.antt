@@ -1,0 +1,3 @@
+pub mod Inclusions
+pub mod Holding
+pub mod Going
