@@ -1,3 +1,6 @@
 pub mod HoldLemmas
 pub mod ExpansionLemmas
 pub mod ListLemmas
+pub mod StepLemmas
+pub mod CaseLemmas
+pub mod CompoundLemmas

@@ -48,12 +48,12 @@ module _ (d : Declared) (c : Certificate) (defined : List Text) (SimpleAt : Arou
   abbrev Front : Around → List Facts → List Work → Work → After → Type 0
   Front base callers ws w q = FrontGood d c defined SimpleAt (around base ws) w (λ r. GoesOn base callers ws r) q
 
-  same_frames : (fs : List Frame) → frames_behind fs (Keeps (front fs)) ≡ fs
+  pub same_frames : (fs : List Frame) → frames_behind fs (Keeps (front fs)) ≡ fs
   unfolding frames_behind front
   same_frames [] = refl
   same_frames (f ∷ fs) = refl
 
-  frame_stays : (fs : List Frame) → FrameStays fs (Keeps (front fs))
+  pub frame_stays : (fs : List Frame) → FrameStays fs (Keeps (front fs))
   unfolding FrameStays front
   frame_stays [] = tt
   frame_stays (f ∷ []) = refl

@@ -163,9 +163,9 @@ module _ (d : Declared) (c : Certificate) (defined : List Text) where
     pub entered : CommandAt (in_function f) (at (Entry f)) body
     pub rules : BodyRules d c f body
 
-  -- each function that the environment has is one of the script's
-  abbrev pub Bodies : Environment → Type 0
-  Bodies e = (f : Text) (body : p.Command) → e.functions f ≡ Some body → BodyOk f body
+  -- each function that is defined is one of the script's
+  abbrev pub Bodies : (Text → Option p.Command) → Type 0
+  Bodies functions = (f : Text) (body : p.Command) → functions f ≡ Some body → BodyOk f body
 
   -- a compound command behind its redirections; K is what has to hold of the work behind it
   unfoldable pub KindAt : Around → ℕ → p.Kind → Seen → (After → Type 0) → Type 0
@@ -257,7 +257,7 @@ module _ (d : Declared) (c : Certificate) (defined : List Text) where
       pub good : Good base callers ws known
       pub holds : AfterHolds d c status known e (front fs)
       pub stays : Stays callers e fs
-      pub bodies : Bodies e
+      pub bodies : Bodies e.functions
 
     -- Steps
 
