@@ -20,9 +20,9 @@ use Rattle.sh_facts.specs.Facts.{Facts, Declared}
 use Rattle.sh_facts.specs.Gains.{Gains, and_gains, no_gains, word_gains, words_gains}
 use Rattle.sh_facts.specs.Rules.{is_last, matches_always}
 use Rattle.sh_facts.specs.Views.{Certificate, AfterZero, Head, Seen, After, Both, if_zero, in_any_case, after_command, at, gaining}
-use Rattle.sh_sound.specs.Holding.{Has, Grows, OneHolds, AfterHolds, Entails, Leads, Expanded}
+use Rattle.sh_sound.specs.Holding.{Stands, Has, Grows, OneHolds, AfterHolds, Entails, Leads, Expanded}
 use Rattle.sh_sound.specs.Inclusions as i
-use Rattle.sh_sound.specs.Inclusions.{EnteredRules, Covers, Leaves}
+use Rattle.sh_sound.specs.Inclusions.{Covers, Leaves}
 use Rattle.sh_sound.specs.Going.{around, front, WordAt, WordsAt, PatternsAt, PatternsOf, ItemsAt, ClausesAt, ClauseAt, ForAt, FallAt, FrontGood, Weaker, Good, ProcessOk, StepOk}
 use Rattle.sh_sound.proofs.HoldLemmas.{each_left, each_right, grows_refl, has_nothing, has_both, one_left, one_right, covers_at, gain_holds, holds_gain, has_gain, any_holds, both_holds, leads_any, leaves_lead}
 use Rattle.sh_sound.proofs.ListLemmas.{good_weaker, step_goes, turns_to, leads_same}
@@ -74,12 +74,12 @@ module _ (d : Declared) (c : Certificate) (defined : List Text) where
       clause_of n s fallen ps body end rest h unmatched =
           let patterns = entries.patterns_entered s ps in
           let list = entries.items_entered F9 x (Both (s ++ fallen)) body in
-          let two = each_left (EnteredRules d c defined) (patterns ++ list) _ h.entered in
+          let two = each_left (Stands d c defined) (patterns ++ list) _ h.entered in
           record {
             patterns = h.patterns.0;
-            entered = (F9, each_right (EnteredRules d c defined) patterns list two);
+            entered = (F9, each_right (Stands d c defined) patterns list two);
             leaves = h.leave.0;
-            behind = record { entered = each_right (EnteredRules d c defined) (patterns ++ list) _ h.entered; leave = h.leave.1; patterns = h.patterns.1 };
+            behind = record { entered = each_right (Stands d c defined) (patterns ++ list) _ h.entered; leave = h.leave.1; patterns = h.patterns.1 };
             unmatched = unmatched;
           }
 
@@ -160,11 +160,11 @@ module _ (d : Declared) (c : Certificate) (defined : List Text) where
           let at_clauses = it.3 in
           let patterns = entries.patterns_entered s ps in
           let list = entries.items_entered F9 x (Both (s ++ fallen)) body in
-          let two = each_left (EnteredRules d c defined) (patterns ++ list) _ at_clauses.entered in
+          let two = each_left (Stands d c defined) (patterns ++ list) _ at_clauses.entered in
           let known = any_holds d c status (Both fallen) e (front fs) (it.2 status e (front fs) (live.good.leads status e (front fs) live.holds)) in
           clause_ok e status n s fallen ps body end rest _ live (grows_refl e) refl (one_right d c s fallen e (front fs) known)
-          (F9, each_right (EnteredRules d c defined) patterns list two) at_clauses.leave.0
-          (record { entered = each_right (EnteredRules d c defined) (patterns ++ list) _ at_clauses.entered; leave = at_clauses.leave.1; patterns = at_clauses.patterns.1 })
+          (F9, each_right (Stands d c defined) patterns list two) at_clauses.leave.0
+          (record { entered = each_right (Stands d c defined) (patterns ++ list) _ at_clauses.entered; leave = at_clauses.leave.1; patterns = at_clauses.patterns.1 })
           live.good.goes.1
 
       pub patterns_ok : (n : ℕ) (left : p.Words) (body : p.Items) (end : ClauseEnd) (rest : p.Clauses) → Well base e fs status (Patterns n left body end rest ∷ ws)

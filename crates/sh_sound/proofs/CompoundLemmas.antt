@@ -17,7 +17,7 @@ use Rattle.sh_facts.specs.Gains.{Gains, job, no_gains, and_gains, word_gains, wo
 use Rattle.sh_facts.specs.Views.{Certificate, Before, AfterZero, AfterNonzero, Head, Lose, Define, Seen, After, Both, if_zero, if_nonzero, in_any_case, after_command, at, gaining, stepped, without_job, kept, where_known, step}
 use Rattle.sh_sound.specs.Holding.{HoldKnown, Holds, Has, Grows, OneHolds, AfterHolds, Entails, Leads, Expanded}
 use Rattle.sh_sound.specs.Inclusions as i
-use Rattle.sh_sound.specs.Inclusions.{EnteredRules, Covers, Leaves}
+use Rattle.sh_sound.specs.Inclusions.{Covers, Leaves}
 use Rattle.sh_sound.specs.Going.{around, front, frames_behind, FrameStays, WordAt, RedirectsAt, ForWordsAt, ItemsAt, BodyOk, Bodies, KindAt, CompoundAt, FrontGood, Weaker, Good, Stays, ProcessOk, StartOk, NextOk, StepOk}
 use Rattle.sh_sound.proofs.HoldLemmas.{grows_refl, has_nothing, one_grows, one_stepped, covers_at, gain_holds, holds_gain, any_holds, both_holds, leaves_lead}
 use Rattle.sh_sound.proofs.ExpansionLemmas.{without_job_holds}

@@ -29,8 +29,8 @@ use Rattle.sh_facts.specs.Gains.{Gains, no_gains, named, and_gains, with_gains, 
 use Rattle.sh_facts.specs.Needs.{wanted, covers, parameter_text, needed as needs, name_needed, target_needed, reads_unmet, operands_read, part_unmet, word_unmet, operator_unmet, expanded_unmet, operands_expanded}
 use Rattle.sh_facts.specs.Operands.{Names}
 use Rattle.sh_facts.specs.Views.{Certificate, Seen, Both, Lose, gaining, without_job, kept, where_known, step}
-use Rattle.sh_sound.specs.Holding.{HoldKnown, Holds, Has, Grows, OneHolds, CopyWell, Expanded}
-use Rattle.sh_sound.specs.Inclusions.{Each, EnteredRules, parameter_formed, part_formed, word_formed, operator_formed, expression_formed, operands_formed}
+use Rattle.sh_sound.specs.Holding.{Stands, HoldKnown, Holds, Has, Grows, OneHolds, CopyWell, Expanded}
+use Rattle.sh_sound.specs.Inclusions.{Each, parameter_formed, part_formed, word_formed, operator_formed, expression_formed, operands_formed}
 use Rattle.sh_sound.proofs.HoldLemmas.{each_left, each_right, each_both, grows_refl, grows_trans, holds_grow, has_nothing, has_grows, has_both, has_first, has_second, holds_with, one_grows, one_stepped, gain_holds}
 
 -- Lists of places
@@ -439,8 +439,8 @@ module _ (d : Declared) (c : Certificate) (defined : List Text) where
     -- the words behind `-`, `=`, `?` and `+`
     used_does : (k : Context) (q : p.Parameter) (g : Given) (act : Action) (colon : Bool) (w : p.Word) (v : Option Text) (s : State) (n : Seen) (y : Facts)
         → parameter_formed q ≡ true → (is_some v ≡ true → Has (sure q) s.environment f) → Here n y s.environment
-        → Each (EnteredRules d c defined) (word_entered (operand_seen act q n) w) → operator_unmet y 0 q (p.Use act colon w) ≡ []
-        → ((j : Context) (m : Seen) (z : Facts) → Here m z s.environment → Each (EnteredRules d c defined) (word_entered m w) → word_unmet z w ≡ [] → Does (word_gains w) s (expand f status j w s).state)
+        → Each (Stands d c defined) (word_entered (operand_seen act q n) w) → operator_unmet y 0 q (p.Use act colon w) ≡ []
+        → ((j : Context) (m : Seen) (z : Facts) → Here m z s.environment → Each (Stands d c defined) (word_entered m w) → word_unmet z w ≡ [] → Does (word_gains w) s (expand f status j w s).state)
         → (b : Bool) → (b ≡ true → is_some v ≡ true)
         → Does (operator_gains q (p.Use act colon w)) s (used f status k q g act v b (expand f status (in_default k) w) (expand f status in_one w) s).state
     unfolding used operator_gains operator_unmet operand_seen
@@ -464,7 +464,7 @@ module _ (d : Declared) (c : Certificate) (defined : List Text) where
       unfolding expand_part expand_operator tilde_pieces computed_pieces part_unmet operator_unmet part_gains operator_gains part_entered operator_entered part_formed operator_formed Each name_needed
 
       pub part_does : (k : Context) (x : p.Part) (s : State) (n : Seen) (y : Facts) → Here n y s.environment
-          → Each (EnteredRules d c defined) (part_entered n x) → part_unmet y x ≡ [] → part_formed x ≡ true → Does (part_gains x) s (expand_part f status k x s).state
+          → Each (Stands d c defined) (part_entered n x) → part_unmet y x ≡ [] → part_formed x ≡ true → Does (part_gains x) s (expand_part f status k x s).state
       part_does k (p.Plain t) s n y h r m i = does_nothing s
       part_does k (p.Escaped t) s n y h r m i = does_nothing s
       part_does k (p.Single single.Plain t) s n y h r m i = does_nothing s
@@ -497,7 +497,7 @@ module _ (d : Declared) (c : Certificate) (defined : List Text) where
       part_does k p.Joined s n y h r m i = does_nothing s
 
       pub word_does : (k : Context) (w : p.Word) (s : State) (n : Seen) (y : Facts) → Here n y s.environment
-          → Each (EnteredRules d c defined) (word_entered n w) → word_unmet y w ≡ [] → word_formed w ≡ true → Does (word_gains w) s (expand f status k w s).state
+          → Each (Stands d c defined) (word_entered n w) → word_unmet y w ≡ [] → word_formed w ≡ true → Does (word_gains w) s (expand f status k w s).state
       word_does k p.no_parts s n y h r m i = does_nothing s
       word_does k (p.more_parts x w) s n y h r m i =
           let met = none_both (part_unmet y x) (word_unmet (with_gains (part_gains x) y) w) m in
@@ -510,7 +510,7 @@ module _ (d : Declared) (c : Certificate) (defined : List Text) where
           (each_right _ (part_entered n x) _ r) met.1 formed.1)
 
       operator_does : (k : Context) (offset : ℕ) (q : p.Parameter) (operator : p.Operator) (g : Given) (s : State) (n : Seen) (y : Facts) → Here n y s.environment
-          → Each (EnteredRules d c defined) (operator_entered n q operator) → operator_unmet y offset q operator ≡ [] → parameter_formed q ≡ true → operator_formed operator ≡ true
+          → Each (Stands d c defined) (operator_entered n q operator) → operator_unmet y offset q operator ≡ [] → parameter_formed q ≡ true → operator_formed operator ≡ true
           → Does (operator_gains q operator) s (expand_operator f status k q operator g (value_of f status q s.environment g) s).state
       operator_does k offset q p.Value g s n y h r m i j =
           pieces_do k q (value_of f status q s.environment g) s (covered_value y q s.environment g i (wanted_met (covers y q) offset U1 (parameter_text q) m) h.facts)
@@ -531,7 +531,7 @@ module _ (d : Declared) (c : Certificate) (defined : List Text) where
           (λ e z u h r m. word_does e w s z u h r m j) (is_some v && not (colon && is_empty_value v)) (λ b. (and_parts (is_some v) _ b).0)
 
       inside_does : (e : p.Expression) (s : State) (n : Seen) (y : Facts) → Here n y s.environment
-          → Each (EnteredRules d c defined) (expression_entered n e) → expanded_unmet y e ≡ [] → expression_formed e ≡ true → Does (expanded_gains e) s (expand_inside f status e s)
+          → Each (Stands d c defined) (expression_entered n e) → expanded_unmet y e ≡ [] → expression_formed e ≡ true → Does (expanded_gains e) s (expand_inside f status e s)
       inside_does (p.Constant t) s n y h r m i = does_nothing s
       inside_does (p.Name offset name) s n y h r m i = does_nothing s
       inside_does (p.Expanded x) s n y h r m i = constant_does s (expand_part f status (in_quotes in_one) x s) (part_does (in_quotes in_one) x s n y h r m i)
@@ -576,7 +576,7 @@ module _ (d : Declared) (c : Certificate) (defined : List Text) where
       inside_does (p.Assigned offset name operator e) s n y h r m i = inside_does e s n y h r m (and_parts (is_name name) (expression_formed e) i).1
 
       operands_do : (rest : p.Operands) (s : State) (n : Seen) (y : Facts) → Here n y s.environment
-          → Each (EnteredRules d c defined) (operands_entered n rest) → operands_expanded y rest ≡ [] → operands_formed rest ≡ true → Does (operands_gains rest) s (expand_operands f status rest s)
+          → Each (Stands d c defined) (operands_entered n rest) → operands_expanded y rest ≡ [] → operands_formed rest ≡ true → Does (operands_gains rest) s (expand_operands f status rest s)
       operands_do p.no_operands s n y h r m i = does_nothing s
       operands_do (p.more_operands operator e rest) s n y h r m i =
           let met = none_both (expanded_unmet y e) (operands_expanded (with_gains (expanded_gains e) y) rest) m in

@@ -4,3 +4,4 @@ pub mod ListLemmas
 pub mod StepLemmas
 pub mod CaseLemmas
 pub mod CompoundLemmas
+pub mod ProcessLemmas

@@ -20,9 +20,9 @@ use Rattle.sh_facts.specs.Entries as entries
 use Rattle.sh_facts.specs.Facts.{Facts, Declared, facts}
 use Rattle.sh_facts.specs.Gains.{named}
 use Rattle.sh_facts.specs.Views.{Certificate, Before, AfterZero, AfterNonzero, Head, Seen, After, Both, Each, if_zero, if_nonzero, in_any_case, swapped, after_command, at, gaining_names}
-use Rattle.sh_sound.specs.Holding.{Holds, Has, Grows, OneHolds, AfterHolds, Entails, Leads}
+use Rattle.sh_sound.specs.Holding.{Stands, Holds, Has, Grows, OneHolds, AfterHolds, Entails, Leads}
 use Rattle.sh_sound.specs.Inclusions as i
-use Rattle.sh_sound.specs.Inclusions.{EnteredRules, Covers, Leaves}
+use Rattle.sh_sound.specs.Inclusions.{Covers, Leaves}
 use Rattle.sh_sound.specs.Going.{around, number_of, OfFirst, ItemsAt, BranchesAt, LoopAt, ForAt, Bodies, FrontGood, Weaker, Good, Stays, front, ProcessOk, frames_behind, NextOk, FrameStays, StepOk}
 use Rattle.sh_sound.proofs.HoldLemmas.{each_left, each_right, grows_refl, holds_grow, one_left, one_right, covers_at, holds_at, at_holds, gain_holds, one_grows, any_holds, both_holds, leads_any, leads_both, leads_each, leaves_lead, leads_trans}
 use Rattle.sh_sound.proofs.ExpansionLemmas.{has_name, assigned_grows, assigned_set}
@@ -132,10 +132,10 @@ module _ (d : Declared) (c : Certificate) (defined : List Text) (SimpleAt : Arou
         let s = in_any_case q in
         let o = pipeline_after s first in
         let all = live.good.goes.0 in
-        let here = each_left (EnteredRules d c defined) (entries.list_entered all.0 x s (p.and_or first rest)) _ all.1 in
-        let then_items = each_right (EnteredRules d c defined) (entries.list_entered all.0 x s (p.and_or first rest)) _ all.1 in
-        let pipe = each_left (EnteredRules d c defined) (entries.pipeline_entered all.0 x s first) _ here in
-        let more = each_right (EnteredRules d c defined) (entries.pipeline_entered all.0 x s first) _ here in
+        let here = each_left (Stands d c defined) (entries.list_entered all.0 x s (p.and_or first rest)) _ all.1 in
+        let then_items = each_right (Stands d c defined) (entries.list_entered all.0 x s (p.and_or first rest)) _ all.1 in
+        let pipe = each_left (Stands d c defined) (entries.pipeline_entered all.0 x s first) _ here in
+        let more = each_right (Stands d c defined) (entries.pipeline_entered all.0 x s first) _ here in
         turns_to base e fs status status _ (Pipeline first ∷ Links rest ∷ Items others ∷ ws) live (Both s)
         (record {
           after = Both s;
@@ -172,11 +172,11 @@ module _ (d : Declared) (c : Certificate) (defined : List Text) (SimpleAt : Arou
         after : Link → After
         after k = linked k q (behind k)
 
-        entered : (k : Link) → l ≡ k → i.Each (EnteredRules d c defined) (entries.pipeline_entered F3 x (link_seen k q) pipe) × i.Each (EnteredRules d c defined) (entries.links_entered x (after k) rest) × GoesOn base live.callers ws (links_after (after k) rest)
+        entered : (k : Link) → l ≡ k → i.Each (Stands d c defined) (entries.pipeline_entered F3 x (link_seen k q) pipe) × i.Each (Stands d c defined) (entries.links_entered x (after k) rest) × GoesOn base live.callers ws (links_after (after k) rest)
         entered k same =
             let all = live.good.goes in
-            subst (λ k. i.Each (EnteredRules d c defined) (entries.pipeline_entered F3 x (link_seen k q) pipe) × i.Each (EnteredRules d c defined) (entries.links_entered x (after k) rest) × GoesOn base live.callers ws (links_after (after k) rest)) same
-            (each_left (EnteredRules d c defined) (entries.pipeline_entered F3 x (link_seen l q) pipe) _ all.0, each_right (EnteredRules d c defined) (entries.pipeline_entered F3 x (link_seen l q) pipe) _ all.0, all.1)
+            subst (λ k. i.Each (Stands d c defined) (entries.pipeline_entered F3 x (link_seen k q) pipe) × i.Each (Stands d c defined) (entries.links_entered x (after k) rest) × GoesOn base live.callers ws (links_after (after k) rest)) same
+            (each_left (Stands d c defined) (entries.pipeline_entered F3 x (link_seen l q) pipe) _ all.0, each_right (Stands d c defined) (entries.pipeline_entered F3 x (link_seen l q) pipe) _ all.0, all.1)
 
         taken : (k : Link) → l ≡ k → OneHolds d c (link_seen k q) e (front fs) → Leads d c (pipeline_after (link_seen k q) pipe) (after k) → Ok base e fs status (goes e (front fs) status (Pipeline pipe ∷ Links rest ∷ ws))
         taken k same h leads =
@@ -252,21 +252,21 @@ module _ (d : Declared) (c : Certificate) (defined : List Text) (SimpleAt : Arou
         let o = items_after (Both s) condition in
         let conditions = entries.items_entered F6 x (Both s) condition in
         let bodies = entries.items_entered F6 x (Both (if_zero o)) body in
-        let two = each_left (EnteredRules d c defined) (conditions ++ bodies) _ at_branches.inside in
+        let two = each_left (Stands d c defined) (conditions ++ bodies) _ at_branches.inside in
         turns_to base e fs status status _ (Items condition ∷ Then n body rest otherwise ∷ ws) live (Both s)
         (record {
           after = Both s;
           leads = leads_same (Both s);
           goes = (
-            (F6, each_left (EnteredRules d c defined) conditions bodies two),
+            (F6, each_left (Stands d c defined) conditions bodies two),
             record {
               after = o;
               leads = leads_same o;
               goes = (
-                (F6, each_right (EnteredRules d c defined) conditions bodies two),
+                (F6, each_right (Stands d c defined) conditions bodies two),
                 at_branches.leave.0,
                 record {
-                  inside = each_right (EnteredRules d c defined) (conditions ++ bodies) _ at_branches.inside;
+                  inside = each_right (Stands d c defined) (conditions ++ bodies) _ at_branches.inside;
                   last = at_branches.last;
                   leave = at_branches.leave.1;
                   leaves = at_branches.leaves;

@@ -22,8 +22,8 @@ use Rattle.sh_facts.specs.Needs.{word_unmet}
 use Rattle.sh_facts.specs.Operands.{Names}
 use Rattle.sh_facts.specs.Rules.{is_last, matches_always}
 use Rattle.sh_facts.specs.Views.{Certificate, Before, AfterZero, AfterNonzero, Head, Entry, Seen, After, Both, if_zero, if_nonzero, in_any_case, swapped, after_command, at, gaining, gaining_names, without_job, stepped, Define}
-use Rattle.sh_sound.specs.Holding.{Holds, Grows, OneHolds, AfterHolds, Entails, Leads}
-use Rattle.sh_sound.specs.Inclusions.{Each, EnteredRules, Covers, Leaves, MayDrop, LoopRules, ForRules, BranchesLeave, OtherwiseLeaves, ClausesLeave, BodyRules, word_formed}
+use Rattle.sh_sound.specs.Holding.{Stands, Holds, Grows, OneHolds, AfterHolds, Entails, Leads}
+use Rattle.sh_sound.specs.Inclusions.{Each, Covers, Leaves, MayDrop, LoopRules, ForRules, BranchesLeave, OtherwiseLeaves, ClausesLeave, BodyRules, word_formed}
 
 -- What stands round the front of the work, of a process that began in `base`: the marks of loops and of calls lie in the work.
 unfoldable pub around : Around → List Work → Around
@@ -80,7 +80,7 @@ module _ (d : Declared) (c : Certificate) (defined : List Text) where
     pub facts : Facts
     pub entails : Entails d c b seen
     pub knows : (e : Environment) (f : Frame) → OneHolds d c b e f → Holds facts e f
-    pub rules : Each (EnteredRules d c defined) (word_entered seen w)
+    pub rules : Each (Stands d c defined) (word_entered seen w)
     pub met : word_unmet facts w ≡ []
     pub formed : word_formed w ≡ true
 
@@ -106,20 +106,20 @@ module _ (d : Declared) (c : Certificate) (defined : List Text) where
 
   -- what may be entered there, by some rule
   abbrev pub ItemsAt : Around → After → p.Items → Type 0
-  ItemsAt x o is = (rule : FlowRule) × Each (EnteredRules d c defined) (items_entered rule x o is)
+  ItemsAt x o is = (rule : FlowRule) × Each (Stands d c defined) (items_entered rule x o is)
 
   abbrev pub PipelineAt : Around → Seen → p.Pipeline → Type 0
-  PipelineAt x s q = (rule : FlowRule) × Each (EnteredRules d c defined) (pipeline_entered rule x s q)
+  PipelineAt x s q = (rule : FlowRule) × Each (Stands d c defined) (pipeline_entered rule x s q)
 
   abbrev pub CommandAt : Around → Seen → p.Command → Type 0
-  CommandAt x s k = (rule : FlowRule) × Each (EnteredRules d c defined) (command_entered rule x s k)
+  CommandAt x s k = (rule : FlowRule) × Each (Stands d c defined) (command_entered rule x s k)
 
   -- Compound commands
 
   -- the branches of `if` that are left
   pub record BranchesAt (x : Around) (n : ℕ) (s : Seen) (branches : p.Branches) (otherwise : p.Otherwise) : Type 0 where
-    pub inside : Each (EnteredRules d c defined) (branches_entered x s branches)
-    pub last : Each (EnteredRules d c defined) (otherwise_entered x (otherwise_seen s branches) otherwise)
+    pub inside : Each (Stands d c defined) (branches_entered x s branches)
+    pub last : Each (Stands d c defined) (otherwise_entered x (otherwise_seen s branches) otherwise)
     pub leave : BranchesLeave d c n s branches
     pub leaves : OtherwiseLeaves d c n (otherwise_seen s branches) otherwise
 
@@ -139,7 +139,7 @@ module _ (d : Declared) (c : Certificate) (defined : List Text) where
 
   -- the clauses of `case` that are left; the list of the first may be entered from the list before it
   pub record ClausesAt (x : Around) (n : ℕ) (s fallen : Seen) (cs : p.Clauses) : Type 0 where
-    pub entered : Each (EnteredRules d c defined) (clauses_entered x s fallen cs)
+    pub entered : Each (Stands d c defined) (clauses_entered x s fallen cs)
     pub leave : ClausesLeave d c n s fallen cs
     pub patterns : PatternsOf s cs
 
@@ -204,7 +204,7 @@ module _ (d : Declared) (c : Certificate) (defined : List Text) where
     -- What a piece of work needs where q is known, with x round it; K says what has to be known behind it. `Return` goes by its caller.
     unfoldable pub FrontGood : Around → Work → (After → Type 0) → After → Type 0
     FrontGood x (Items is) K q = ItemsAt x q is × K (items_after q is)
-    FrontGood x (Links ls) K q = Each (EnteredRules d c defined) (links_entered x q ls) × K (links_after q ls)
+    FrontGood x (Links ls) K q = Each (Stands d c defined) (links_entered x q ls) × K (links_after q ls)
     FrontGood x (Pipeline pipe) K q = PipelineAt x (in_any_case q) pipe × K (pipeline_after (in_any_case q) pipe)
     FrontGood x Negation K q = K (swapped true q)
     FrontGood x (Command k) K q = CommandAt x (in_any_case q) k × K (after_command (number_of k))

@@ -1,14 +1,15 @@
 -- When facts are true of a shell.
 -- POSIX.1-2024, XCU 2.5 (parameters and variables), 2.9.5 (functions), 2.13 (shell execution environment).
-use Rattle.std.specs.Prelude.{◌≡◌, ℕ, ◌≤◌, ◌==◌, Bool, true, false, if◌then◌else◌, List, [], ◌∷◌, length, ◌⊎◌, Option, is_some}
+use Rattle.std.specs.Prelude.{◌≡◌, ℕ, ◌≤◌, ◌==◌, Bool, true, false, if◌then◌else◌, List, [], ◌∷◌, length, ◌⊎◌, Option, Some, is_some}
 use Rattle.sh_tree.specs.language.Bytes.{is_name}
 use Rattle.sh_tree.specs.program.Syntax.{Text, Command}
 use Rattle.sh_table.specs.runs.Environment.{Environment, Frame, is_one_of}
 use Rattle.sh_table.specs.runs.States.{State, Copy}
 use Rattle.sh_facts.specs.declared.rule.FlowRule.{FlowRule}
-use Rattle.sh_facts.specs.Entries.{alone, items_entered}
+use Rattle.sh_facts.specs.Entries.{Entered, alone, items_entered}
 use Rattle.sh_facts.specs.Facts.{Facts, NotReached, Known, Declared}
 use Rattle.sh_facts.specs.Gains.{Gains, job}
+use Rattle.sh_facts.specs.Rules.{defined_by}
 use Rattle.sh_facts.specs.Views.{Certificate, Seen, After, Both, if_zero, if_nonzero, view_facts}
 use Rattle.sh_sound.specs.Inclusions.{Each, EnteredRules}
 
@@ -52,6 +53,11 @@ module _ (d : Declared) (c : Certificate) where
   abbrev pub Leads : After → After → Type 0
   Leads o o' = (status : ℕ) (e : Environment) (f : Frame) → AfterHolds status o e f → AfterHolds status o' e f
 
+-- What every command of the script has: its rules and demands hold, and the function that it defines is one of the script's.
+pub record Stands (d : Declared) (c : Certificate) (defined : List Text) (x : Entered) : Type 0 where
+  pub rules : EnteredRules d c defined x
+  pub listed : (f : Text) → defined_by x.command ≡ Some f → is_one_of defined f ≡ true
+
 -- Words
 
 module _ (d : Declared) (c : Certificate) (defined : List Text) (f : Frame) where
@@ -61,7 +67,7 @@ module _ (d : Declared) (c : Certificate) (defined : List Text) (f : Frame) wher
     pub seen : Seen
     pub holds : OneHolds d c seen x.environment f
     pub rule : FlowRule
-    pub rules : Each (EnteredRules d c defined) (items_entered rule alone (Both seen) x.list)
+    pub rules : Each (Stands d c defined) (items_entered rule alone (Both seen) x.list)
 
   -- What an expansion does with this frame: it meets no parameter that is not set, unsets nothing, and defines nothing; each process that it
   -- starts is entered where it has rules; and unless it ends the process these are gained.
