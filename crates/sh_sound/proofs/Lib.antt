@@ -5,3 +5,4 @@ pub mod StepLemmas
 pub mod CaseLemmas
 pub mod CompoundLemmas
 pub mod ProcessLemmas
+pub mod EnterLemmas
