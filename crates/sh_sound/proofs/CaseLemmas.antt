@@ -1,5 +1,5 @@
 -- Steps of `case` and of the words of `for`.
-use Rattle.std.proofs.Common.{◌≡◌, ℕ, zero, suc, ◌==◌, Bool, true, false, ◌||◌, if◌then◌else◌, List, [], ◌∷◌, ◌++◌, codes, refl, sym, ap, ◌∙◌, subst}
+use Rattle.std.proofs.Common.{◌≡◌, ℕ, zero, suc, Bool, true, false, ◌||◌, if◌then◌else◌, List, [], ◌∷◌, ◌++◌, codes, refl, sym, subst}
 use Rattle.std.specs.List.{list_any}
 use Rattle.std.proofs.lemmas.Bool.{or_parts}
 use Rattle.sh_tree.specs.declared.tree.ClauseEnd.{ClauseEnd}
@@ -20,10 +20,10 @@ use Rattle.sh_facts.specs.Facts.{Facts, Declared}
 use Rattle.sh_facts.specs.Gains.{Gains, and_gains, no_gains, word_gains, words_gains}
 use Rattle.sh_facts.specs.Rules.{is_last, matches_always}
 use Rattle.sh_facts.specs.Views.{Certificate, AfterZero, Head, Seen, After, Both, if_zero, in_any_case, after_command, at, gaining}
-use Rattle.sh_sound.specs.Holding.{Stands, Has, Grows, OneHolds, AfterHolds, Entails, Leads, Expanded}
+use Rattle.sh_sound.specs.Holding.{Stands, Grows, OneHolds, Entails, Expanded}
 use Rattle.sh_sound.specs.Inclusions as i
 use Rattle.sh_sound.specs.Inclusions.{Covers, Leaves}
-use Rattle.sh_sound.specs.Going.{around, front, WordAt, WordsAt, PatternsAt, PatternsOf, ItemsAt, ClausesAt, ClauseAt, ForAt, FallAt, FrontGood, Weaker, Good, ProcessOk, StepOk}
+use Rattle.sh_sound.specs.Going.{around, front, WordAt, WordsAt, PatternsAt, PatternsOf, ItemsAt, ClausesAt, ClauseAt, ForAt, FallAt, FrontGood, Good, ProcessOk, StepOk}
 use Rattle.sh_sound.proofs.HoldLemmas.{each_left, each_right, grows_refl, has_nothing, has_both, one_left, one_right, covers_at, gain_holds, holds_gain, has_gain, any_holds, both_holds, leads_any, leaves_lead}
 use Rattle.sh_sound.proofs.ListLemmas.{good_weaker, step_goes, turns_to, leads_same}
 use Rattle.sh_sound.proofs.StepLemmas.{Plain, goes_plain, word_expands, behind_word, unless_ok, grown, word_step}

@@ -1,5 +1,5 @@
 -- Steps of compound commands: their redirections, and how each of them begins.
-use Rattle.std.proofs.Common.{◌≡◌, ℕ, zero, suc, ◌==◌, Bool, true, false, not, ◌&&◌, ◌||◌, if◌then◌else◌, List, [], ◌∷◌, ◌++◌, Option, Some, None, is_some, bytes_eq, ◌⊎◌, inl, inr, refl, sym, ap, ◌∙◌, subst, arith, ne_eqb}
+use Rattle.std.proofs.Common.{◌≡◌, ℕ, zero, suc, ◌==◌, Bool, true, false, not, if◌then◌else◌, List, [], ◌∷◌, Option, Some, is_some, bytes_eq, ◌⊎◌, inl, inr, refl, sym, subst, arith, ne_eqb}
 use Rattle.std.proofs.lemmas.Bool.{and_parts, or_cases}
 use Rattle.std.proofs.lemmas.Slice.Eq.{bytes_eq-Decides}
 use Rattle.sh_tree.specs.program.Syntax as p
@@ -9,17 +9,17 @@ use Rattle.sh_table.specs.runs.Answers.{Answer}
 use Rattle.sh_table.specs.runs.Builtins.{nonzero}
 use Rattle.sh_table.specs.runs.States.{State, fresh}
 use Rattle.sh_table.specs.runs.Expansion.{in_one, expand}
-use Rattle.sh_table.specs.runs.Steps.{opened, begun, over_words, compound, is_started_first, in_process, redirected_before, failed_before, unless_ended, status_behind, act_on}
-use Rattle.sh_table.specs.runs.Work.{Work, Items, Compound, If, Test, ForWords, Clauses, Keeps, Start, Copies, Effect, goes, ends, after_expansion}
+use Rattle.sh_table.specs.runs.Steps.{opened, begun, over_words, redirected_before, failed_before, unless_ended, status_behind}
+use Rattle.sh_table.specs.runs.Work.{Work, Items, Compound, If, ForWords, Clauses, Start, Effect, goes, ends, after_expansion}
 use Rattle.sh_facts.specs.Entries.{Around, alone, behind_list}
 use Rattle.sh_facts.specs.Facts.{Facts, NotReached, Known, Declared}
-use Rattle.sh_facts.specs.Gains.{Gains, job, no_gains, and_gains, word_gains, words_gains, redirect_gains, redirects_gains}
-use Rattle.sh_facts.specs.Views.{Certificate, Before, AfterZero, AfterNonzero, Head, Lose, Define, Seen, After, Both, if_zero, if_nonzero, in_any_case, after_command, at, gaining, stepped, without_job, kept, where_known, step}
-use Rattle.sh_sound.specs.Holding.{HoldKnown, Holds, Has, Grows, OneHolds, AfterHolds, Entails, Leads, Expanded}
+use Rattle.sh_facts.specs.Gains.{job, and_gains, word_gains, redirect_gains, redirects_gains}
+use Rattle.sh_facts.specs.Views.{Certificate, Before, AfterZero, AfterNonzero, Lose, Define, Seen, After, Both, if_zero, if_nonzero, in_any_case, after_command, at, gaining, stepped, without_job, where_known, step}
+use Rattle.sh_sound.specs.Holding.{Holds, Grows, OneHolds, Entails, Expanded}
 use Rattle.sh_sound.specs.Inclusions as i
 use Rattle.sh_sound.specs.Inclusions.{Covers, Leaves}
-use Rattle.sh_sound.specs.Going.{around, front, frames_behind, FrameStays, WordAt, RedirectsAt, ForWordsAt, ItemsAt, BodyOk, Bodies, KindAt, CompoundAt, FrontGood, Weaker, Good, Stays, ProcessOk, StartOk, NextOk, StepOk}
-use Rattle.sh_sound.proofs.HoldLemmas.{grows_refl, has_nothing, one_grows, one_stepped, covers_at, gain_holds, holds_gain, any_holds, both_holds, leaves_lead}
+use Rattle.sh_sound.specs.Going.{around, front, RedirectsAt, ForWordsAt, ItemsAt, BodyOk, Bodies, KindAt, CompoundAt, FrontGood, Good, Stays, ProcessOk, StartOk, NextOk, StepOk}
+use Rattle.sh_sound.proofs.HoldLemmas.{grows_refl, one_grows, one_stepped, covers_at, holds_gain, both_holds, leaves_lead}
 use Rattle.sh_sound.proofs.ExpansionLemmas.{without_job_holds}
 use Rattle.sh_sound.proofs.ListLemmas.{step_goes, step_ends, turned, turns_to, turn_goes, leads_same, stays_grow, nonzero_holds, frame_stays, same_frames}
 use Rattle.sh_sound.proofs.StepLemmas.{front_same, goes_plain, ends_plain, word_expands, behind_word, unless_ok, grown, word_step}

@@ -1,31 +1,30 @@
 -- What a command that is entered gives to the work that it becomes.
-use Rattle.std.proofs.Common.{◌≡◌, ℕ, zero, suc, ◌==◌, Bool, true, false, not, ◌&&◌, ◌||◌, if◌then◌else◌, List, [], ◌∷◌, ◌++◌, Option, Some, None, is_some, ◌⊎◌, inl, inr, refl, sym, ap, ◌∙◌, subst}
+use Rattle.std.proofs.Common.{◌≡◌, ℕ, Bool, true, false, if◌then◌else◌, List, [], ◌∷◌, ◌++◌, refl, subst}
 use Rattle.std.proofs.lemmas.Bool.{and_parts}
 use Rattle.sh_tree.specs.language.Bytes.{is_name}
 use Rattle.sh_tree.specs.program.Syntax as p
 use Rattle.sh_tree.specs.program.Syntax.{Text}
 use Rattle.sh_table.specs.runs.Environment.{Environment, Frame, is_one_of}
 use Rattle.sh_table.specs.runs.Answers.{Answer}
-use Rattle.sh_table.specs.runs.Steps.{opened, command_work, compound, is_started_first, in_process, act_on}
-use Rattle.sh_table.specs.runs.Work.{Work, Command, Compound, Effect, goes}
-use Rattle.sh_facts.specs.declared.rule.FlowRule.{FlowRule}
+use Rattle.sh_table.specs.runs.Steps.{opened, command_work, compound, is_started_first, in_process, redirected_before, act_on}
+use Rattle.sh_table.specs.runs.Expansion.{in_one, expand}
+use Rattle.sh_table.specs.runs.States.{fresh}
+use Rattle.sh_table.specs.runs.Work.{Work, Compound, Copies, Effect, goes}
 use Rattle.sh_facts.specs.declared.rule.FlowRule.TheVariants.{F7, F8, F9, F10, F11, F13}
 use Rattle.sh_facts.specs.Demands.{kind_unmet, clauses_unmet, for_words_unmet}
 use Rattle.sh_facts.specs.Entries as entries
 use Rattle.sh_facts.specs.Entries.{Around, alone, in_loop, in_function, items_after, turns, behind_list}
-use Rattle.sh_facts.specs.Facts.{Facts, Declared, facts}
-use Rattle.sh_facts.specs.Gains.{Gains, no_gains, with_gains, word_gains, words_gains, redirect_gains, redirects_gains}
+use Rattle.sh_facts.specs.Facts.{Facts, Declared}
+use Rattle.sh_facts.specs.Gains.{Gains, no_gains, with_gains, word_gains, redirect_gains, redirects_gains}
 use Rattle.sh_facts.specs.Needs.{word_unmet, words_unmet, patterns_unmet, redirect_unmet, redirects_unmet}
-use Rattle.sh_facts.specs.Rules.{defined_by}
-use Rattle.sh_facts.specs.Table.{is_redirected}
-use Rattle.sh_facts.specs.Views.{Certificate, Before, AfterZero, AfterNonzero, Head, Entry, Seen, After, Both, in_any_case, after_command, at, gaining, gaining_names, without_job}
-use Rattle.sh_sound.specs.Holding.{Stands, Holds, Has, Grows, OneHolds, AfterHolds, Entails, Leads}
+use Rattle.sh_facts.specs.Views.{Certificate, Before, Head, Seen, After, Both, in_any_case, after_command, at, gaining, without_job}
+use Rattle.sh_sound.specs.Holding.{Stands, Holds, OneHolds, Entails}
 use Rattle.sh_sound.specs.Inclusions as i
 use Rattle.sh_sound.specs.Inclusions.{Covers, Leaves, word_formed, field_formed, fields_formed, words_formed, redirect_formed, redirects_formed, for_words_formed, clauses_formed, kind_formed, command_formed, KindRules, EnteredRules}
-use Rattle.sh_sound.specs.Going.{around, number_of, front, WordAt, WordsAt, PatternsAt, RedirectsAt, ForWordsAt, PatternsOf, CommandAt, KindAt, CompoundAt, FrontGood, Weaker, Good, Stays, ProcessOk, StartOk, StepOk}
-use Rattle.sh_sound.proofs.HoldLemmas.{each_left, each_right, grows_refl, has_nothing, holds_with, covers_at, holds_at, gain_holds, holds_gain, has_gain, any_holds, both_holds, leaves_lead}
+use Rattle.sh_sound.specs.Going.{around, front, Bodies, WordAt, WordsAt, PatternsAt, RedirectsAt, ForWordsAt, PatternsOf, KindAt, CompoundAt, FrontGood, Good, Stays, ProcessOk, StartOk, StepOk}
+use Rattle.sh_sound.proofs.HoldLemmas.{each_left, each_right, has_nothing, holds_with, covers_at, gain_holds, holds_gain, has_gain, any_holds, both_holds, leaves_lead}
 use Rattle.sh_sound.proofs.ExpansionLemmas.{none_both}
-use Rattle.sh_sound.proofs.ListLemmas.{good_weaker, turned, turns_to, leads_same}
+use Rattle.sh_sound.proofs.ListLemmas.{good_weaker, turned, leads_same}
 use Rattle.sh_sound.proofs.CompoundLemmas.{lose_job, starts_ok, begun_ok, redirected_ok}
 
 module _ (d : Declared) (c : Certificate) (defined : List Text) where
@@ -144,3 +143,78 @@ module _ (d : Declared) (c : Certificate) (defined : List Text) where
         )
     kind_at base callers ws n (p.Define name body) rs s y is k rules entered met formed listed goes =
         (rules.0, record { named = formed; listed = listed name body refl; entered = (F13, entered); rules = rules.1 })
+
+    abbrev Well : Around → Environment → List Frame → ℕ → List Work → Type 0
+    Well base e fs status ws = ProcessOk d c defined SimpleAt base e fs status ws
+
+    abbrev Ok : Around → Environment → List Frame → ℕ → Effect → Type 0
+    Ok base e fs status x = StepOk d c defined SimpleAt base e fs status x
+
+    -- where its redirections are done a compound command begins, and otherwise the next one is
+    module _ (base : Around) (e : Environment) (fs : List Frame) (status : ℕ) (ws : List Work) (a : Answer) where
+      -- a subshell expands its redirections in its process, which then does its list
+      process_starts : (n : ℕ) (rs : p.Redirects) (list : p.Items) (s : Seen) (K : After → Type 0) → Bodies d c defined e.functions → CompoundAt d c defined (around base ws) n rs (p.Subshell list) s K
+          → OneHolds d c s e (front fs) → Well alone e (front fs ∷ []) status (Compound n rs (p.Group list) ∷ [])
+      unfolding KindAt Good FrontGood Stays front around in_any_case
+      process_starts n rs list s K bodies needs h = record {
+        known = Both s;
+        callers = [];
+        good = record {
+          after = Both s;
+          leads = leads_same d c defined SimpleAt (Both s);
+          goes = (
+            record {
+              redirects = needs.redirects;
+              failed = needs.failed;
+              first = needs.first;
+              behind = without_job (at (Before n));
+              through = λ e' f' k. lose_job d c defined (at (Before n)) e' f' (needs.first e' f' (holds_gain d c (redirects_gains rs) s e' f' k));
+              needs = (needs.needs.0, refl);
+            },
+            refl,
+          );
+        };
+        holds = both_holds d c status s e (front fs) h;
+        stays = (front fs, refl);
+        bodies = bodies;
+      }
+
+      pub compound_ok : (n : ℕ) (rs : p.Redirects) (kind : p.Kind) → Well base e fs status (Compound n rs kind ∷ ws) → Ok base e fs status (act_on e (front fs) status ws a (Compound n rs kind))
+      unfolding act_on compound Good FrontGood redirects_gains is_started_first in_process KindAt i.Each StartOk
+      compound_ok n p.no_redirects kind live =
+          let q = live.good.after in
+          let s = in_any_case q in
+          let known = any_holds d c status q e (front fs) (live.good.leads status e (front fs) live.holds) in
+          let needs = live.good.goes.0 in
+          begun_ok d c defined SimpleAt base e fs status ws a n kind needs.behind _ live needs.needs
+          (needs.through e (front fs) (gain_holds d c no_gains s e (front fs) (has_nothing e (front fs)) known)) (needs.first e (front fs) known) live.good.goes.1
+      compound_ok n (p.more_redirects r rest) kind live = by_kind kind refl
+        where
+          q : After
+          q = live.good.after
+
+          s : Seen
+          s = in_any_case q
+
+          known : OneHolds d c s e (front fs)
+          known = any_holds d c status q e (front fs) (live.good.leads status e (front fs) live.holds)
+
+          next : Ok base e fs status (redirected_before e (front fs) status ws a (expand (front fs) status in_one (opened r) (fresh e a.given)).state (Compound n rest kind ∷ ws))
+          next = redirected_ok d c defined SimpleAt base e fs status ws a n r rest kind s (Compound n (p.more_redirects r rest) kind ∷ ws) live live.good.goes.0 known live.good.goes.1
+
+          by_kind : (k : p.Kind) → kind ≡ k → Ok base e fs status (if is_started_first e (front fs) status ws a k
+              then record (goes e (front fs) a.status ws) { starts = Copies e (Compound n (p.more_redirects r rest) (in_process e (front fs) status ws a k) ∷ []) ∷ [] }
+              else redirected_before e (front fs) status ws a (expand (front fs) status in_one (opened r) (fresh e a.given)).state (Compound n rest kind ∷ ws))
+          by_kind (p.Subshell list) same = go a.redirections_in_process
+            where
+              go : (b : Bool) → Ok base e fs status (if b
+                  then record (goes e (front fs) a.status ws) { starts = Copies e (Compound n (p.more_redirects r rest) (p.Group list) ∷ []) ∷ [] }
+                  else redirected_before e (front fs) status ws a (expand (front fs) status in_one (opened r) (fresh e a.given)).state (Compound n rest kind ∷ ws))
+              go true =
+                  let needs = subst (λ k. CompoundAt d c defined (around base ws) n (p.more_redirects r rest) k s (λ r. Good d c defined SimpleAt base live.callers ws r)) same live.good.goes.0 in
+                  starts_ok d c defined SimpleAt base e fs status a.status ws _
+                  (turned d c defined SimpleAt base e fs status a.status (Compound n (p.more_redirects r rest) kind ∷ ws) ws live (after_command n) live.good.goes.1
+                  (leaves_lead d c n (Both (at (Before n))) needs.needs.1 a.status e (front fs) (both_holds d c a.status (at (Before n)) e (front fs) (needs.first e (front fs) known))))
+                  ((alone, process_starts n (p.more_redirects r rest) list s (λ r. Good d c defined SimpleAt base live.callers ws r) live.bodies needs known), tt)
+              go false = next
+          by_kind k same = next

@@ -1,16 +1,14 @@
 -- What keeps facts true.
-use Rattle.std.proofs.Common.{◌≡◌, ℕ, ◌+◌, ◌-◌, ◌≤◌, ◌==◌, Bool, true, false, not, ◌&&◌, ◌||◌, nat_le, if◌then◌else◌, min, max, List, [], ◌∷◌, ◌++◌, map, length, bytes_eq, is_some, ◌⊎◌, inl, inr, refl, sym, ap, ◌∙◌, subst, arith, leb-true, true≢false}
-use Rattle.std.specs.List.{list_all, list_any}
+use Rattle.std.proofs.Common.{◌≡◌, ℕ, ◌≤◌, ◌==◌, Bool, true, false, ◌&&◌, ◌||◌, nat_le, if◌then◌else◌, max, List, [], ◌∷◌, ◌++◌, length, bytes_eq, ◌⊎◌, inl, inr, refl, sym, ◌∙◌, subst, arith, leb-true}
+use Rattle.std.specs.List.{list_all}
 use Rattle.std.proofs.lemmas.Bool.{and_parts, or_cases, or_left, or_right}
 use Rattle.std.proofs.lemmas.Slice.Eq.{bytes_eq-Decides}
 use Rattle.std.proofs.lemmas.List.Folds.{list_any-append}
-use Rattle.sh_tree.specs.language.Bytes.{is_name}
 use Rattle.sh_tree.specs.program.Syntax.{Text}
 use Rattle.sh_table.specs.runs.Environment.{Environment, Frame, is_one_of}
 use Rattle.sh_facts.specs.Facts.{Facts, NotReached, Known, Claim, Unreached, Claimed, facts, within, Declared}
-use Rattle.sh_facts.specs.Gains.{Gains, no_gains, named, and_gains, with_gains, job}
-use Rattle.sh_facts.specs.Operands.{Names}
-use Rattle.sh_facts.specs.Views.{Certificate, Slot, AfterZero, AfterNonzero, Step, Gain, Lose, View, Seen, After, Both, Each, if_zero, if_nonzero, in_any_case, at, extended, stepped, gaining, without_job, after_command, kept, step, steps, source_facts, view_facts}
+use Rattle.sh_facts.specs.Gains.{Gains, no_gains, and_gains, with_gains, job}
+use Rattle.sh_facts.specs.Views.{Certificate, Slot, AfterZero, AfterNonzero, Step, Gain, Seen, After, Both, Each, if_zero, if_nonzero, in_any_case, at, stepped, gaining, after_command, step, steps, source_facts, view_facts}
 use Rattle.sh_sound.specs.Holding.{HoldKnown, Holds, Has, Grows, OneHolds, AfterHolds, Entails, Leads}
 use Rattle.sh_sound.specs.Inclusions as i
 use Rattle.sh_sound.specs.Inclusions.{Covers, Leaves}

@@ -1,21 +1,21 @@
 -- Steps that expand a word.
-use Rattle.std.proofs.Common.{◌≡◌, ℕ, ◌==◌, Bool, true, false, if◌then◌else◌, List, [], ◌∷◌, ◌++◌, Option, Some, None, map, refl, sym, ap, ◌∙◌, subst}
+use Rattle.std.proofs.Common.{◌≡◌, ℕ, Bool, true, false, if◌then◌else◌, List, [], ◌∷◌, ◌++◌, Option, refl, sym, ap, ◌∙◌, subst}
 use Rattle.sh_tree.specs.program.Syntax as p
 use Rattle.sh_tree.specs.program.Syntax.{Text}
 use Rattle.sh_table.specs.runs.Environment.{Environment, Frame}
 use Rattle.sh_table.specs.runs.Answers.{Answer}
 use Rattle.sh_table.specs.runs.States.{State, Copy, fresh}
 use Rattle.sh_table.specs.runs.Expansion.{Context, expand}
-use Rattle.sh_table.specs.runs.Steps.{unless_ended, opened}
-use Rattle.sh_table.specs.runs.Work.{Work, Items, Keeps, Start, Copies, Effect, goes, ends, of_copies, after_expansion}
-use Rattle.sh_facts.specs.Entries.{Around, alone, items_after}
-use Rattle.sh_facts.specs.Facts.{Facts, Declared}
+use Rattle.sh_table.specs.runs.Steps.{unless_ended}
+use Rattle.sh_table.specs.runs.Work.{Work, Items, Keeps, Effect, goes, ends, of_copies, after_expansion}
+use Rattle.sh_facts.specs.Entries.{Around, alone}
+use Rattle.sh_facts.specs.Facts.{Declared}
 use Rattle.sh_facts.specs.Gains.{Gains, word_gains}
 use Rattle.sh_facts.specs.Views.{Certificate, Seen, After, Both, gaining}
-use Rattle.sh_sound.specs.Holding.{Has, Grows, OneHolds, AfterHolds, CopyWell, Expanded}
+use Rattle.sh_sound.specs.Holding.{Grows, OneHolds, AfterHolds, CopyWell, Expanded}
 use Rattle.sh_sound.specs.Inclusions as i
-use Rattle.sh_sound.specs.Going.{around, Bodies, front, frames_behind, FrameStays, WordAt, FrontGood, Weaker, Good, Stays, ProcessOk, StartOk, NextOk, StepOk}
-use Rattle.sh_sound.proofs.HoldLemmas.{each_both, grows_refl, one_grows, gain_holds, both_holds}
+use Rattle.sh_sound.specs.Going.{around, Bodies, front, frames_behind, FrameStays, WordAt, FrontGood, Good, Stays, ProcessOk, StartOk, StepOk}
+use Rattle.sh_sound.proofs.HoldLemmas.{each_both, one_grows, gain_holds, both_holds}
 use Rattle.sh_sound.proofs.ExpansionLemmas.{word_does}
 use Rattle.sh_sound.proofs.ListLemmas.{same_frames, frame_stays, step_goes, step_ends, stays_grow, leads_same}
 

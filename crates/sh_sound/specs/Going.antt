@@ -1,7 +1,7 @@
 -- When the work that a process has left meets the rules, from what is known at its front on: what each piece of it needs, and what is known
 -- behind that piece.
 -- POSIX.1-2024, XCU 2.9 (shell commands), 2.13 (shell execution environment), 2.15 (break, continue, return).
-use Rattle.std.specs.Prelude.{◌≡◌, ℕ, ◌≤◌, Bool, true, false, not, ◌||◌, List, [], ◌∷◌, ◌++◌, length, codes, Option, Some, None, is_some, ◌⊎◌}
+use Rattle.std.specs.Prelude.{◌≡◌, ℕ, Bool, true, false, ◌||◌, List, [], ◌∷◌, ◌++◌, codes, Option, Some, None, ◌⊎◌}
 use Rattle.std.specs.List.{list_any}
 use Rattle.sh_tree.specs.declared.tree.ClauseEnd.{ClauseEnd}
 use Rattle.sh_tree.specs.declared.tree.LoopKind.{LoopKind}
@@ -14,7 +14,6 @@ use Rattle.sh_table.specs.runs.Environment.{Environment, Frame, is_one_of}
 use Rattle.sh_table.specs.runs.Steps.{opened}
 use Rattle.sh_table.specs.runs.Work.{Saved, Work, Items, Links, Pipeline, Negation, Command, Words, Prepare, Utility, Call, Return, Compound, If, Then, Test, Again, ForWords, ForFields, Clauses, Patterns, Fall, Start, Shares, Copies, Frames, Keeps, Pushes, Pops, Effect}
 use Rattle.sh_facts.specs.declared.rule.FlowRule.{FlowRule}
-use Rattle.sh_facts.specs.declared.rule.FlowRule.TheVariants.{F13}
 use Rattle.sh_facts.specs.Entries.{Around, alone, in_loop, in_function, items_after, links_after, pipeline_after, behind_list, otherwise_seen, turns, falls, items_entered, links_entered, pipeline_entered, command_entered, branches_entered, otherwise_entered, clauses_entered, word_entered}
 use Rattle.sh_facts.specs.Facts.{Facts, NotReached, Known, Declared}
 use Rattle.sh_facts.specs.Gains.{word_gains, words_gains, redirect_gains, redirects_gains}

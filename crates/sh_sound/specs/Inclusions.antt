@@ -1,13 +1,12 @@
 -- What rules and demands that hold give at each command of a script: a line for each part.
 -- POSIX.1-2024, XCU 2.9 (shell commands), 2.15 (break, continue, return).
-use Rattle.std.specs.Prelude.{◌≡◌, ℕ, nat_lt, ◌==◌, Bool, true, false, not, ◌&&◌, ◌||◌, if◌then◌else◌, List, [], ◌∷◌, ◌++◌, length, codes, Option, Some, None, is_some}
-use Rattle.std.specs.List.{list_all, list_any}
-use Rattle.std.specs.Str.{bytes_eq}
+use Rattle.std.specs.Prelude.{◌≡◌, ℕ, nat_lt, ◌==◌, Bool, true, false, not, ◌&&◌, ◌||◌, if◌then◌else◌, List, [], ◌∷◌, ◌++◌, length, Option, Some, None, is_some}
+use Rattle.std.specs.List.{list_all}
 use Rattle.sh_tree.specs.declared.tree.LoopKind.{LoopKind}
 use Rattle.sh_tree.specs.language.Bytes.{is_name}
 use Rattle.sh_tree.specs.program.Syntax as p
 use Rattle.sh_tree.specs.program.Syntax.{Text, Word}
-use Rattle.sh_tree.specs.program.Words.{word_text, is_plainly, words_in}
+use Rattle.sh_tree.specs.program.Words.{word_text}
 use Rattle.sh_tree.specs.declared.known.KnownName.TheVariants as known
 use Rattle.sh_table.specs.declared.kind.Kind.{Kind}
 use Rattle.sh_table.specs.declared.kind.Kind.TheVariants as kind
@@ -15,7 +14,7 @@ use Rattle.sh_table.specs.Counts.{some_gives_field}
 use Rattle.sh_table.specs.Profile.{command_rule}
 use Rattle.sh_table.specs.Surroundings.{Surroundings}
 use Rattle.sh_table.specs.Admitted.{is_admitted}
-use Rattle.sh_table.specs.runs.Steps.{redirects_in, assignments_in}
+use Rattle.sh_table.specs.runs.Steps.{redirects_in}
 use Rattle.sh_facts.specs.Demands.{kind_unmet, command_moves, is_reached, demands}
 use Rattle.sh_facts.specs.Entries.{Around, Entered, items_after, behind_redirects, otherwise_seen, turns, ends, behind_list, falls, script_entered}
 use Rattle.sh_facts.specs.Facts.{Declared, facts, within}
