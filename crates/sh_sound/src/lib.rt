@@ -1,0 +1,2 @@
+//! What holds of every run of a script whose rules and demands hold.
+#![tactic(auto)]
