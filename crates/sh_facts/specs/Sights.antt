@@ -13,7 +13,7 @@ use Rattle.sh_tree.specs.declared.tree.Clause.{Clause, out-Clause}
 use Rattle.sh_tree.specs.declared.tree.Element.{Element, Assignment', Word', Redirection'}
 use Rattle.sh_tree.specs.declared.tree.Target.{Target, File', Here'}
 use Rattle.sh_tree.specs.declared.tree.Part.{Part, Plain, Double', Param', Arith', Row_of-Part, end_of-Part, more_of-Part, items-the_row-Part}
-use Rattle.sh_tree.specs.declared.tree.Operator.{Operator, Use', Remove'}
+use Rattle.sh_tree.specs.declared.tree.ParameterOperator.{ParameterOperator, Use', Remove'}
 use Rattle.sh_tree.specs.declared.tree.Subject.{Subject}
 use Rattle.sh_tree.specs.declared.tree.Subject.TheVariants.{Name}
 use Rattle.sh_tree.specs.declared.tree.Binary.{Binary}
@@ -50,7 +50,7 @@ unfoldable mutual
   in_part b (Arith' span shape expression) = in_box b expression
   in_part b _ = []
 
-  pub in_operator : List ℕ → Operator → List Sight
+  pub in_operator : List ℕ → ParameterOperator → List Sight
   in_operator b (Use' action colon span shape parts) = in_row b parts
   in_operator b (Remove' removal span shape parts) = in_row b parts
   in_operator b _ = []

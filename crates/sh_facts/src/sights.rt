@@ -10,8 +10,8 @@ use crate::operands::{behind_options, read_behind};
 use sh_tree::name::{is_name, is_name_byte, is_name_start};
 use sh_tree::text::static_text;
 use sh_tree::tree::{
-    Binary, Clause, Command, Element, Expr, Kind, Operator, Part, Redirect, Span, Subject, Target,
-    Word,
+    Binary, Clause, Command, Element, Expr, Kind, ParameterOperator, Part, Redirect, Span, Subject,
+    Target, Word,
 };
 use std::alloc::{AllocError, Global};
 
@@ -251,14 +251,18 @@ fn add_subject(subject: Subject, script: &[u8], found: &mut Vec<Seen>) -> Result
 
 #[cycle(walk)]
 #[tactic(auto, using(crate::proofs::SightLemmas::operators))]
-fn add_operator(operator: &Operator, script: &[u8], found: &mut Vec<Seen>) -> Result<(), AllocError>
+fn add_operator(
+    operator: &ParameterOperator,
+    script: &[u8],
+    found: &mut Vec<Seen>,
+) -> Result<(), AllocError>
     ensures { OnOk result (seen_in found.new.items ≡ seen_in found.old.items ++ spec.in_operator script.now operator.now) }
 {
     match operator {
-        Operator::Value => Ok(()),
-        Operator::Length => Ok(()),
-        Operator::Use { word, .. } => add_word(word, script, found),
-        Operator::Remove { pattern, .. } => add_word(pattern, script, found),
+        ParameterOperator::Value => Ok(()),
+        ParameterOperator::Length => Ok(()),
+        ParameterOperator::Use { word, .. } => add_word(word, script, found),
+        ParameterOperator::Remove { pattern, .. } => add_word(pattern, script, found),
     }
 }
 

@@ -3,8 +3,8 @@ use sh_facts::names::Names;
 use sh_facts::policy::Policy;
 use sh_tree::Items;
 use sh_tree::tree::{
-    AndOr, Command, Element, HereDoc, Item, Kind, Operator, Param, Part, Pipe, Redirect, Script,
-    Span, Subject, Target, Word,
+    AndOr, Command, Element, HereDoc, Item, Kind, Param, ParameterOperator, Part, Pipe, Redirect,
+    Script, Span, Subject, Target, Word,
 };
 use std::alloc::{AllocError, Global};
 use std::test::Fail;
@@ -23,7 +23,7 @@ fn parameter(alloc: Global, start: u32, name: u32, end: u32) -> Result<Word, All
     let param = Param {
         span,
         subject: Subject::Name(Span { start: name, end }),
-        operator: Operator::Value,
+        operator: ParameterOperator::Value,
     };
     let parts = one(alloc, Part::Param(param))?;
     Ok(Word { span, parts })
