@@ -10,3 +10,10 @@ pub mod SteadyLemmas
 pub mod StepRowLemmas
 pub mod WorldLemmas
 pub mod EnvironmentLemmas
+pub mod RuleLemmas
+pub mod AdmitLemmas
+pub mod OperandTests
+pub mod WordTextLemmas
+pub mod KindLemmas
+pub mod OrderLemmas
+pub mod SiteLemmas
