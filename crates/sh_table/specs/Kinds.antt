@@ -1,7 +1,8 @@
 -- What the name of a command means.
 -- POSIX.1-2024, XCU 2.9.1.4 (command search and execution), 2.15 (special built-in utilities): a name that no table here has is a
 -- utility that changes no variable and no function.
-use Rattle.std.specs.Prelude.{Bool, true, false, List, [], ◌∷◌, ◌++◌, map, codes, if◌then◌else◌}
+use Rattle.std.specs.Prelude.{ℕ, ◌==◌, Bool, true, false, length, List, [], ◌∷◌, ◌++◌, map, codes, if◌then◌else◌}
+use Rattle.std.specs.List.{filter}
 use Rattle.std.specs.Str.{bytes_eq}
 use Rattle.sh_tree.specs.Texts.{known_text}
 use Rattle.sh_tree.specs.declared.known.KnownName.{KnownName}
@@ -45,9 +46,31 @@ refused_names =
     ∷ known.Nameref ∷ known.Integer ∷ known.Float ∷ known.Mapfile ∷ known.Readarray ∷ known.Shopt ∷ known.LeftBrackets ∷ known.RightBrackets ∷ known.Function
     ∷ known.Select ∷ known.Time ∷ known.Namespace ∷ [])
 
+abbrev pub all_names : Table
+all_names = special_names ++ known_names ++ refused_names
+
 -- what the name means
 unfoldable pub kind_of : Text → Kind
-kind_of t = look_up (special_names ++ known_names ++ refused_names) t
+kind_of t = look_up all_names t
+
+-- the name that has a kind; of a utility, none
+unfoldable pub name_of : Kind → Text
+name_of (kind.Special n) = known_text n
+name_of (kind.Refused n) = known_text n
+name_of kind.Cd = codes "cd"
+name_of kind.Command = codes "command"
+name_of kind.False = codes "false"
+name_of kind.Getopts = codes "getopts"
+name_of kind.Read = codes "read"
+name_of kind.True = codes "true"
+name_of kind.Utility = []
+
+abbrev pub rows_of : List Kind → Table
+rows_of ks = map (λ k. (name_of k, k)) ks
+
+-- the rows of names of so many bytes
+unfoldable pub of_length : ℕ → Table
+of_length n = filter (λ x. length x.0 == n) all_names
 
 -- a declaration utility: its operands that are assignments in form are not split (XCU 2.9.1.1)
 unfoldable pub is_declaration : Kind → Bool

@@ -3,6 +3,11 @@ pub mod runs
 pub mod Surroundings
 pub mod Profile
 pub mod Admitted
+pub mod Sites
+pub mod Admits
+pub mod Calls
+pub mod Walks
+pub mod WordTexts
 pub mod Counts
 pub mod Quoting
 pub mod Theorem

@@ -1,5 +1,12 @@
 //! What the names of commands mean; beside it, in `specs/`, which commands are analysed, and what a shell does with a script.
 #![tactic(auto)]
 
+pub mod admit;
 pub mod kind;
 pub mod laws;
+mod operands;
+mod rules;
+pub mod site;
+mod sites;
+pub mod table;
+pub mod word_text;

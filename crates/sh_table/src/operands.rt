@@ -1,0 +1,346 @@
+//! What the profile asks of the operands of a command.
+ghost use Rattle.std.specs.Prelude.{◌≡◌, ◌≤◌, ◌<◌, ◌==◌, true, ◌||◌, length, drop, map, is_some, Some, nat_lt, false};
+ghost use Rattle.std.specs.List.{list_all, list_any};
+ghost use Rattle.sh_tree.specs.language.Bytes as bytes;
+ghost use Rattle.sh_table.specs.Profile as profile;
+ghost use Rattle.sh_table.specs.WordTexts.{text_in};
+ghost use Rattle.sh_table.specs.runs.Numbers as numbers;
+ghost use Rattle.sh_table.specs.runs.Operands as operands;
+
+use crate::kind::{Kind, kind_of};
+use crate::word_text::WordText;
+use sh_tree::name::{is_name_byte, is_name_start};
+
+fn is_digit(byte: u8) -> bool
+    ensures { result ≡ bytes.is_digit byte }
+{
+    matches!(byte, b'0'..=b'9')
+}
+
+fn are_digits(text: &[u8]) -> bool
+    ensures { result ≡ list_all bytes.is_digit text.now }
+{
+    text.iter().all(|byte| is_digit(*byte))
+}
+
+/// Whether the text is a decimal numeral.
+#[tactic(auto, unfolding(crate::specs::runs::Numbers::is_number))]
+fn is_number(text: &[u8]) -> bool
+    ensures { result ≡ numbers.is_number text.now }
+{
+    match text {
+        [] => false,
+        _ => are_digits(text),
+    }
+}
+
+fn is_not_zero(text: &[u8]) -> bool
+    ensures { result ≡ list_any (λ c. nat_lt 48 c) text.now }
+{
+    text.iter().any(|byte| *byte > b'0')
+}
+
+/// Whether the text is a decimal numeral from 1, however long.
+#[tactic(auto, using(crate::proofs::OperandTests::count_text))]
+fn is_count(text: &[u8]) -> bool
+    ensures { result ≡ profile.is_count (Some text.now) }
+{
+    is_number(text) && is_not_zero(text)
+}
+
+#[tactic(auto, unfolding(crate::specs::Profile::is_count))]
+fn holds_count(operand: &WordText, script: &[u8]) -> bool
+    ensures { result ≡ profile.is_count (text_in script.now operand.now) }
+{
+    match operand.get(script) {
+        Some(text) => is_count(text),
+        None => false,
+    }
+}
+
+fn each_counts(words: &[WordText], script: &[u8]) -> bool
+    ensures { result ≡ list_all (λ w. profile.is_count (text_in script.now w)) words.now }
+{
+    words.iter().all(|word| holds_count(word, script))
+}
+
+fn is_static(operand: &WordText, script: &[u8]) -> bool
+    ensures { result ≡ is_some (text_in script.now operand.now) }
+{
+    operand.get(script).is_some()
+}
+
+fn each_static(words: &[WordText], script: &[u8]) -> bool
+    ensures { result ≡ list_all (λ w. is_some (text_in script.now w)) words.now }
+{
+    words.iter().all(|word| is_static(word, script))
+}
+
+/// Whether each operand is a static number from 1.
+pub fn are_counts(words: &[WordText], script: &[u8]) -> bool
+    ensures { result ≡ list_all profile.is_count (map (text_in script.now) words.now) }
+{
+    each_counts(words, script)
+}
+
+/// Whether each operand is static.
+pub fn are_static(words: &[WordText], script: &[u8]) -> bool
+    ensures { result ≡ list_all is_some (map (text_in script.now) words.now) }
+{
+    each_static(words, script)
+}
+
+#[tactic(auto, unfolding(crate::specs::Profile::is_no_action, crate::specs::runs::Numbers::number_in))]
+fn is_no_action(words: &[WordText], script: &[u8]) -> bool
+    ensures { result ≡ profile.is_no_action (map (text_in script.now) words.now) }
+{
+    match words {
+        [] => true,
+        [first, ..] => match first.get(script) {
+            None => false,
+            Some(text) => text.is_empty() || matches!(text, b"-") || is_number(text),
+        },
+    }
+}
+
+/// Whether `trap` is given no action (XCU 2.15, trap).
+#[tactic(auto, unfolding(crate::specs::Profile::traps_nothing))]
+pub fn traps_nothing(words: &[WordText], script: &[u8]) -> bool
+    ensures { result ≡ profile.traps_nothing (map (text_in script.now) words.now) }
+{
+    match words {
+        [] => is_no_action(words, script),
+        [first, rest @ ..] => match first.get(script) {
+            Some(b"--") => is_no_action(rest, script),
+            _ => is_no_action(words, script),
+        },
+    }
+}
+
+/// Whether `command` may run what has this kind (XCU 3, command).
+#[tactic(auto, unfolding(crate::specs::Profile::may_run))]
+fn may_run(kind: Kind) -> bool
+    ensures { result ≡ profile.may_run kind }
+{
+    match kind {
+        Kind::True => true,
+        Kind::False => true,
+        Kind::Utility => true,
+        Kind::Special(_) => false,
+        Kind::Cd => false,
+        Kind::Command => false,
+        Kind::Getopts => false,
+        Kind::Read => false,
+        Kind::Refused(_) => false,
+    }
+}
+
+#[tactic(auto, unfolding(crate::specs::Profile::runs_utility))]
+fn runs_utility(words: &[WordText], script: &[u8]) -> bool
+    ensures { result ≡ profile.runs_utility (map (text_in script.now) words.now) }
+{
+    match words {
+        [] => true,
+        [first, ..] => match first.get(script) {
+            None => false,
+            Some(name) => may_run(kind_of(name)),
+        },
+    }
+}
+
+/// Whether the text is `-` and more.
+#[tactic(auto, unfolding(crate::specs::runs::Operands::is_dashed))]
+fn is_dashed(text: &[u8]) -> bool
+    ensures { result ≡ operands.is_dashed text.now }
+{
+    match text {
+        [first, _, ..] => *first == b'-',
+        _ => false,
+    }
+}
+
+fn is_command_letter(byte: u8) -> bool
+    ensures { result ≡ profile.is_command_letter byte }
+{
+    byte == b'p' || byte == b'v' || byte == b'V'
+}
+
+fn are_command_letters(text: &[u8]) -> bool
+    ensures { result ≡ list_all profile.is_command_letter text.now }
+{
+    text.iter().all(|byte| is_command_letter(*byte))
+}
+
+fn has_command_letters(text: &[u8]) -> bool
+    ensures { result ≡ profile.has_command_letters text.now }
+{
+    match text {
+        [] => true,
+        [_, letters @ ..] => are_command_letters(letters),
+    }
+}
+
+/// Whether an option of `command` only describes a name.
+fn describes(text: &[u8]) -> bool
+    ensures { result ≡ profile.describes text.now }
+{
+    text.iter().any(|byte| *byte == b'v' || *byte == b'V')
+}
+
+/// Whether `command` runs what the profile admits (XCU 3, command).
+#[tactic(auto, unfolding(crate::specs::Profile::commands_utility))]
+pub fn commands_utility(words: &[WordText], script: &[u8]) -> bool
+    ensures { result ≡ profile.commands_utility (map (text_in script.now) words.now) }
+{
+    let mut rest = words;
+    while let [first, others @ ..] = rest {
+        let Some(text) = first.get(script) else {
+            return false;
+        };
+        if matches!(text, b"--") {
+            return runs_utility(others, script);
+        }
+        if !is_dashed(text) {
+            return may_run(kind_of(text));
+        }
+        if !has_command_letters(text) {
+            return false;
+        }
+        if describes(text) {
+            return true;
+        }
+        rest = others;
+    }
+    true
+}
+
+/// Whether an `o` stands before the last letter.
+#[tactic(auto, using(crate::proofs::OperandTests::inner_o))]
+fn has_inner_o(text: &[u8]) -> bool
+    ensures { result ≡ profile.has_inner_o text.now }
+{
+    match text {
+        [] => false,
+        [inner @ .., _] => inner.contains(&b'o'),
+    }
+}
+
+#[tactic(auto, using(crate::proofs::OperandTests::last_o))]
+fn ends_in_o(text: &[u8]) -> bool
+    ensures { result ≡ operands.ends_in_o text.now }
+{
+    match text {
+        [] => false,
+        [.., last] => *last == b'o',
+    }
+}
+
+#[tactic(auto, unfolding(sh_tree::specs::language::Bytes::is_first))]
+fn is_signed(text: &[u8]) -> bool
+    ensures { result ≡ profile.is_signed text.now }
+{
+    match text {
+        [] => false,
+        [first, ..] => *first == b'-' || *first == b'+',
+    }
+}
+
+#[tactic(auto, unfolding(crate::specs::runs::Operands::is_set_option))]
+fn is_set_option(text: &[u8]) -> bool
+    ensures { result ≡ operands.is_set_option text.now }
+{
+    match text {
+        [first, _, ..] => *first == b'-' || *first == b'+',
+        _ => false,
+    }
+}
+
+fn has_inner_letter_o(text: &[u8]) -> bool
+    ensures { result ≡ profile.has_inner_o (drop 1 text.now) }
+{
+    match text {
+        [] => has_inner_o(text),
+        [_, letters @ ..] => has_inner_o(letters),
+    }
+}
+
+/// Whether the options of `set` are known, and what stands behind them (XCU 2.15, set).
+#[tactic(auto, unfolding(crate::specs::Profile::sets_known))]
+pub fn sets_known(words: &[WordText], script: &[u8]) -> bool
+    ensures { result ≡ profile.sets_known false (map (text_in script.now) words.now) }
+{
+    let mut rest = words;
+    let mut takes = false;
+    while let [first, others @ ..] = rest {
+        let Some(text) = first.get(script) else {
+            return false;
+        };
+        if takes {
+            if text.is_empty() || is_signed(text) {
+                return false;
+            }
+            takes = false;
+        } else {
+            if matches!(text, b"--") {
+                return true;
+            }
+            if !is_set_option(text) {
+                return !is_signed(text);
+            }
+            if has_inner_letter_o(text) {
+                return false;
+            }
+            takes = ends_in_o(text);
+        }
+        rest = others;
+    }
+    true
+}
+
+#[tactic(auto, unfolding(sh_tree::specs::language::Bytes::is_first))]
+fn begins_name(text: &[u8]) -> bool
+    ensures { result ≡ bytes.is_first bytes.is_name_start text.now }
+{
+    match text {
+        [] => false,
+        [first, ..] => is_name_start(*first),
+    }
+}
+
+fn name_bytes(text: &[u8]) -> usize
+    ensures value { result ≡ bytes.run bytes.is_name_byte text.now }
+    ensures within { result ≤ length text.now }
+{
+    text.iter().take_while(|byte| is_name_byte(**byte)).count()
+}
+
+#[tactic(auto, unfolding(sh_tree::specs::language::Bytes::name_length))]
+fn name_length(text: &[u8]) -> usize
+    ensures value { result ≡ bytes.name_length text.now }
+    ensures within { result ≤ length text.now }
+{
+    if begins_name(text) {
+        name_bytes(text)
+    } else {
+        0
+    }
+}
+
+#[tactic(auto, unfolding(sh_tree::specs::language::Bytes::is_first))]
+fn begins_with(text: &[u8], byte: u8) -> bool
+    ensures value { result ≡ bytes.is_first (λ c. c == byte) text.now }
+    ensures within { result ≡ true → 0 < length text.now }
+{
+    match text {
+        [] => false,
+        [first, ..] => *first == byte,
+    }
+}
+
+/// Whether a name and `+=` stand at the front, which other shells read as an assignment.
+pub fn is_append(text: &[u8]) -> bool
+    ensures { result ≡ profile.is_append text.now }
+{
+    let length = name_length(text);
+    length != 0 && begins_with(&text[length..], b'+') && begins_with(&text[length + 1..], b'=')
+}

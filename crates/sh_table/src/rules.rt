@@ -1,0 +1,189 @@
+//! The rule of the profile that a command breaks.
+ghost use Rattle.std.specs.Prelude.{◌≡◌, Bool, not, map};
+ghost use Rattle.sh_tree.specs.Words.{words_of};
+ghost use Rattle.sh_table.specs.Admits as admits;
+ghost use Rattle.sh_table.specs.Kinds as kinds;
+ghost use Rattle.sh_table.specs.Profile as profile;
+ghost use Rattle.sh_table.specs.Walks as walks;
+ghost use Rattle.sh_table.specs.WordTexts.{text_in};
+ghost use Rattle.sh_table.specs.declared.kind.Kind.TheVariants as kind;
+
+use crate::kind::{Kind, kind_of};
+use crate::operands::{
+    are_counts, are_static, commands_utility, is_append, sets_known, traps_nothing,
+};
+use crate::site::{Around, Form, Site};
+use crate::word_text::WordText;
+use sh_tree::known::{Declaration, KnownName};
+use sh_tree::refusal::Rule;
+use sh_tree::tree::{Element, Part, Word};
+use sh_tree::words::command_name;
+
+/// The rule, unless the test holds.
+#[tactic(auto, unfolding(crate::specs::Profile::unless))]
+fn unless(holds: bool, rule: Rule) -> Option<Rule>
+    ensures { result ≡ profile.unless holds rule }
+{
+    if holds { None } else { Some(rule) }
+}
+
+/// Whether other shells reserve the word, which is a utility where it is quoted.
+#[tactic(auto, unfolding(crate::specs::Profile::is_reserved_elsewhere))]
+fn is_reserved_elsewhere(name: KnownName) -> bool
+    ensures { result ≡ profile.is_reserved_elsewhere name }
+{
+    match name {
+        KnownName::LeftBrackets => true,
+        KnownName::RightBrackets => true,
+        KnownName::Function => true,
+        KnownName::Select => true,
+        KnownName::Time => true,
+        KnownName::Namespace => true,
+        _ => false,
+    }
+}
+
+#[tactic(auto, unfolding(crate::specs::Profile::or_rule))]
+fn count_rule(counts: bool, operand: Rule, inside: bool, outside: Rule) -> Option<Rule>
+    ensures { result ≡ profile.or_rule (profile.unless counts operand) (profile.unless inside outside) }
+{
+    match unless(counts, operand) {
+        Some(rule) => Some(rule),
+        None => unless(inside, outside),
+    }
+}
+
+#[tactic(auto, unfolding(crate::specs::Profile::kind_rule))]
+fn special_rule(
+    around: Around,
+    quoted: bool,
+    name: KnownName,
+    operands: &[WordText],
+    script: &[u8],
+) -> Option<Rule>
+    ensures { result ≡ profile.kind_rule (walks.around around) quoted (kind.Special name) (map (text_in script.now) operands.now) }
+{
+    match name {
+        KnownName::Dot => Some(Rule::Refused(KnownName::Dot)),
+        KnownName::Eval => Some(Rule::Refused(KnownName::Eval)),
+        KnownName::Export => unless(!quoted, Rule::Quoted(Declaration::Export)),
+        KnownName::Readonly => unless(!quoted, Rule::Quoted(Declaration::Readonly)),
+        KnownName::Trap => unless(traps_nothing(operands, script), Rule::TrapAction),
+        KnownName::Unset => unless(are_static(operands, script), Rule::UnsetOperand),
+        KnownName::Set => unless(sets_known(operands, script), Rule::SetOperand),
+        KnownName::Break => count_rule(
+            are_counts(operands, script),
+            Rule::BreakOperand,
+            around.in_loop,
+            Rule::BreakOutside,
+        ),
+        KnownName::Continue => count_rule(
+            are_counts(operands, script),
+            Rule::ContinueOperand,
+            around.in_loop,
+            Rule::ContinueOutside,
+        ),
+        KnownName::Return => unless(around.in_function, Rule::ReturnOutside),
+        _ => None,
+    }
+}
+
+#[tactic(auto, unfolding(crate::specs::Profile::kind_rule))]
+fn kind_rule(
+    around: Around,
+    quoted: bool,
+    kind: Kind,
+    operands: &[WordText],
+    script: &[u8],
+) -> Option<Rule>
+    ensures { result ≡ profile.kind_rule (walks.around around) quoted kind (map (text_in script.now) operands.now) }
+{
+    match kind {
+        Kind::Special(name) => special_rule(around, quoted, name, operands, script),
+        Kind::Refused(name) => unless(is_reserved_elsewhere(name), Rule::Refused(name)),
+        Kind::Command => unless(commands_utility(operands, script), Rule::CommandUse),
+        Kind::Cd => None,
+        Kind::False => None,
+        Kind::Getopts => None,
+        Kind::Read => None,
+        Kind::True => None,
+        Kind::Utility => None,
+    }
+}
+
+#[tactic(auto, unfolding(crate::specs::Profile::or_rule))]
+fn named_rule(
+    around: Around,
+    quoted: bool,
+    name: &[u8],
+    operands: &[WordText],
+    script: &[u8],
+) -> Option<Rule>
+    ensures { result ≡ admits.static_rule (walks.around around) quoted name.now (map (text_in script.now) operands.now) }
+{
+    match kind_rule(around, quoted, kind_of(name), operands, script) {
+        Some(rule) => Some(rule),
+        None => unless(!is_append(name), Rule::Append),
+    }
+}
+
+/// Whether the word is plain bytes alone.
+#[tactic(auto, unfolding(crate::specs::Admits::is_lone_plain))]
+fn is_plain(word: &Word) -> bool
+    ensures { result ≡ admits.is_lone_plain word.now.parts }
+{
+    matches!(word.parts.as_slice(), [Part::Plain(_)])
+}
+
+/// Whether the name of a simple command, if it has one, is more than plain bytes.
+#[tactic(auto, using(crate::proofs::RuleLemmas::quoted_some, crate::proofs::RuleLemmas::quoted_none))]
+fn is_quoted(elements: &[Element]) -> bool
+    ensures { result ≡ admits.is_quoted (words_of elements.now) }
+{
+    match command_name(elements) {
+        Some(word) => !is_plain(word),
+        None => false,
+    }
+}
+
+#[tactic(auto, unfolding(crate::specs::Admits::text_rule))]
+fn text_rule(around: Around, quoted: bool, texts: &[WordText], script: &[u8]) -> Option<Rule>
+    ensures { result ≡ admits.text_rule (walks.around around) quoted (map (text_in script.now) texts.now) }
+{
+    match texts {
+        [] => None,
+        [first, operands @ ..] => match first.get(script) {
+            None => Some(Rule::ComputedName),
+            Some(name) => named_rule(around, quoted, name, operands, script),
+        },
+    }
+}
+
+#[tactic(auto, unfolding(crate::specs::Profile::function_rule, crate::specs::Profile::told_name))]
+fn function_rule(name: &[u8]) -> Option<Rule>
+    ensures { result ≡ profile.function_rule (profile.told_name (kinds.kind_of name.now)) }
+{
+    match kind_of(name) {
+        Kind::Special(known) => Some(Rule::FunctionNamed(known)),
+        Kind::Refused(known) => Some(Rule::FunctionNamed(known)),
+        Kind::Cd => None,
+        Kind::Command => None,
+        Kind::False => None,
+        Kind::Getopts => None,
+        Kind::Read => None,
+        Kind::True => None,
+        Kind::Utility => None,
+    }
+}
+
+/// The first rule that the command breaks, whose words have these texts.
+#[tactic(auto, unfolding(crate::specs::Admits::rule_of))]
+pub fn site_rule(site: &Site, texts: &[WordText], script: &[u8]) -> Option<Rule>
+    ensures { result ≡ admits.rule_of (walks.around site.now.around) site.now.form (map (text_in script.now) texts.now) }
+{
+    match site.form {
+        Form::Simple(elements) => text_rule(site.around, is_quoted(elements), texts, script),
+        Form::Defines(name) => function_rule(name),
+        Form::Other => None,
+    }
+}
