@@ -243,7 +243,6 @@ complements_deep {limit = limit} b x (suc n) i d u e h below t =
 
 -- Whole texts
 
-
 pub defaults_within : IsWithin (defaults_text 64)
 unfolding computes limits.repeated has_defaults opens closes is_default is_stop
 defaults_within =
@@ -257,10 +256,14 @@ defaults_within =
     r.whole_word (r.more refl (r.use_word room operand) (r.stop refl)) refl refl in
     let elements : ReadsElements 64 (defaults_text 64) no_bodies First (at_token 0 1 0) (at_token 320 1 0) (element.Word (word 0 320 parts) ∷ []) =
     r.word_element refl whole_word (r.no_element refl) in
-    let list : ReadsAndOr 64 (defaults_text 64) no_bodies (at_token 0 0 0) (at_token 320 1 0) _ = alone_reads (r.simple_command refl elements) refl refl refl in
-    (lone (simple 1 0 (element.Word (word 0 320 parts) ∷ [])), (1,
-    record { no_nul = refl; end = at_word 320 1 0; script = r.script {u = at_token 320 1 0} (r.sequence (r.list (r.no_break refl) refl (r.last_item list refl refl))) refl; to_end = refl; commands = refl },
-    few))
+    let list : ReadsAndOr 64 (defaults_text 64) no_bodies (at_token 0 0 0) (at_token 320 1 0) _ = alone_reads (r.simple_command refl elements) refl refl refl in (
+      lone (simple 1 0 (element.Word (word 0 320 parts) ∷ [])),
+      (
+        1,
+        record { no_nul = refl; end = at_word 320 1 0; script = r.script {u = at_token 320 1 0} (r.sequence (r.list (r.no_break refl) refl (r.last_item list refl refl))) refl; to_end = refl; commands = refl },
+        few,
+      ),
+    )
 
 more_defaults_read : (t : Script) × Reads (defaults_text 65) t
 unfolding computes limits.repeated has_defaults opens closes is_default is_stop
@@ -274,9 +277,14 @@ more_defaults_read =
     r.whole_word (r.more refl (r.use_word room operand) (r.stop refl)) refl refl in
     let elements : ReadsElements 65 (defaults_text 65) no_bodies First (at_token 0 1 0) (at_token 325 1 0) (element.Word (word 0 325 parts) ∷ []) =
     r.word_element refl whole_word (r.no_element refl) in
-    let list : ReadsAndOr 65 (defaults_text 65) no_bodies (at_token 0 0 0) (at_token 325 1 0) _ = alone_reads (r.simple_command refl elements) refl refl refl in
-    (lone (simple 1 0 (element.Word (word 0 325 parts) ∷ [])), (65, 1,
-    record { no_nul = refl; end = at_word 325 1 0; script = r.script {u = at_token 325 1 0} (r.sequence (r.list (r.no_break refl) refl (r.last_item list refl refl))) refl; to_end = refl; commands = refl }))
+    let list : ReadsAndOr 65 (defaults_text 65) no_bodies (at_token 0 0 0) (at_token 325 1 0) _ = alone_reads (r.simple_command refl elements) refl refl refl in (
+      lone (simple 1 0 (element.Word (word 0 325 parts) ∷ [])),
+      (
+        65,
+        1,
+        record { no_nul = refl; end = at_word 325 1 0; script = r.script {u = at_token 325 1 0} (r.sequence (r.list (r.no_break refl) refl (r.last_item list refl refl))) refl; to_end = refl; commands = refl },
+      ),
+    )
 
 more_defaults_none : (t : Script) → ReadsWithin (defaults_text 65) t → ⊥
 unfolding computes limits.repeated has_openings opens is_default
@@ -305,10 +313,14 @@ complements_within =
     r.whole_word (r.more refl (r.arithmetic room expression refl refl) (r.stop refl)) refl refl in
     let elements : ReadsElements 64 (complements_text 63) no_bodies First (at_token 0 1 0) (at_token 69 1 0) (element.Word (word 0 69 parts) ∷ []) =
     r.word_element refl whole_word (r.no_element refl) in
-    let list : ReadsAndOr 64 (complements_text 63) no_bodies (at_token 0 0 0) (at_token 69 1 0) _ = alone_reads (r.simple_command refl elements) refl refl refl in
-    (lone (simple 1 0 (element.Word (word 0 69 parts) ∷ [])), (1,
-    record { no_nul = refl; end = at_word 69 1 0; script = r.script {u = at_token 69 1 0} (r.sequence (r.list (r.no_break refl) refl (r.last_item list refl refl))) refl; to_end = refl; commands = refl },
-    few))
+    let list : ReadsAndOr 64 (complements_text 63) no_bodies (at_token 0 0 0) (at_token 69 1 0) _ = alone_reads (r.simple_command refl elements) refl refl refl in (
+      lone (simple 1 0 (element.Word (word 0 69 parts) ∷ [])),
+      (
+        1,
+        record { no_nul = refl; end = at_word 69 1 0; script = r.script {u = at_token 69 1 0} (r.sequence (r.list (r.no_break refl) refl (r.last_item list refl refl))) refl; to_end = refl; commands = refl },
+        few,
+      ),
+    )
 
 more_complements_read : (t : Script) × Reads (complements_text 64) t
 unfolding computes limits.repeated has_operand complements is_complement is_constant
@@ -324,9 +336,14 @@ more_complements_read =
     r.whole_word (r.more refl (r.arithmetic room expression refl refl) (r.stop refl)) refl refl in
     let elements : ReadsElements 65 (complements_text 64) no_bodies First (at_token 0 1 0) (at_token 70 1 0) (element.Word (word 0 70 parts) ∷ []) =
     r.word_element refl whole_word (r.no_element refl) in
-    let list : ReadsAndOr 65 (complements_text 64) no_bodies (at_token 0 0 0) (at_token 70 1 0) _ = alone_reads (r.simple_command refl elements) refl refl refl in
-    (lone (simple 1 0 (element.Word (word 0 70 parts) ∷ [])), (65, 1,
-    record { no_nul = refl; end = at_word 70 1 0; script = r.script {u = at_token 70 1 0} (r.sequence (r.list (r.no_break refl) refl (r.last_item list refl refl))) refl; to_end = refl; commands = refl }))
+    let list : ReadsAndOr 65 (complements_text 64) no_bodies (at_token 0 0 0) (at_token 70 1 0) _ = alone_reads (r.simple_command refl elements) refl refl refl in (
+      lone (simple 1 0 (element.Word (word 0 70 parts) ∷ [])),
+      (
+        65,
+        1,
+        record { no_nul = refl; end = at_word 70 1 0; script = r.script {u = at_token 70 1 0} (r.sequence (r.list (r.no_break refl) refl (r.last_item list refl refl))) refl; to_end = refl; commands = refl },
+      ),
+    )
 
 more_complements_none : (t : Script) → ReadsWithin (complements_text 64) t → ⊥
 unfolding computes limits.repeated has_signs complements is_complement
