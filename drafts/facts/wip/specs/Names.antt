@@ -1,0 +1,65 @@
+-- The names of a script, each with a number from 0.
+-- POSIX.1-2024, XCU 2.5.3 (shell variables): the names that every script has, those that are declared, and those in the text.
+use Rattle.std.specs.Prelude.{◌≡◌, ◌≤◌, ◌<◌, ℕ, List, [], ◌∷◌, ◌++◌, if◌then◌else◌, length, map, fold, codes, Option, Result, Ok, Err}
+use Rattle.std.specs.List.{flat_map, position_from}
+use Rattle.std.specs.List.Sorted.{IsPermutation, IsNonDecreasingBy}
+use Rattle.std.specs.Str.{bytes_eq}
+use Rattle.sh_tree.specs.declared.limits.TheConstants.{MAX_NAMES}
+use Rattle.sh_tree.specs.declared.tree.Script.{Script}
+use Rattle.sh_tree.specs.declared.tree.Command.{Command}
+use Rattle.sh_tree.specs.declared.refusal.Refusal.{Refusal}
+use Rattle.sh_tree.specs.declared.refusal.Refusal.TheVariants.{TooMany, Memory}
+use Rattle.sh_tree.specs.program.Syntax.{Text}
+use Rattle.sh_commands.specs.Commands.{commands_of}
+use Rattle.sh_table.specs.runs.Environment.{is_one_of}
+use Rattle.sh_table.specs.runs.Worlds.{start_names}
+use Rattle.sh_facts.specs.Facts.{Declared}
+use Rattle.sh_facts.specs.Sights.{Sight, in_command}
+
+-- numbered first, whether a script has them or not
+abbrev pub first_names : List Text
+first_names = start_names ++ codes "OPTARG" ∷ codes "!" ∷ []
+
+-- the names with one more at the end, unless it is there
+abbrev pub with_text : List Text → Text → List Text
+with_text names t = if is_one_of names t then names else names ++ t ∷ []
+
+-- the names in the text, those of its commands, whatever the order in which these are taken, by their offsets
+pub record IsInTextOrder (b : List ℕ) (t : Script) (seen : List Sight) : Type 0 where
+  pub commands : List Command
+  pub all_commands : IsPermutation (commands_of t) commands
+  pub all : IsPermutation (flat_map (in_command b) commands) seen
+  pub ordered : IsNonDecreasingBy (λ x. x.at) seen
+
+-- each name once, by first sight: the first names, the declared ones, those in the text
+abbrev pub numbering : Declared → List Sight → List Text
+numbering d seen = fold with_text [] (first_names ++ d.names ++ map (λ x. x.name) seen)
+
+-- the number of a name
+abbrev pub number_of : List Text → Text → Option ℕ
+number_of names t = position_from (λ n. bytes_eq n t) 0 names
+
+-- the names of a text, each once
+pub record IsNumbering (b : List ℕ) (t : Script) (d : Declared) (names : List Text) : Type 0 where
+  pub seen : List Sight
+  pub in_order : IsInTextOrder b t seen
+  pub each_once : names ≡ numbering d seen
+
+-- there are more names than may be
+pub record HasTooMany (b : List ℕ) (t : Script) (d : Declared) : Type 0 where
+  pub names : List Text
+  pub numbered : IsNumbering b t d names
+  pub more : MAX_NAMES < length names
+
+-- The names are numbered unless there are too many.
+abbrev pub Numbers : List ℕ → Script → Declared → Result (List Text) Refusal → Type 0
+Numbers b t d (Ok names) = IsNumbering b t d names × (length names ≤ MAX_NAMES)
+Numbers b t d (Err TooMany) = HasTooMany b t d
+Numbers b t d (Err Memory) = Unit {0}
+Numbers b t d (Err _) = ⊥
+
+-- why these, all of them, are not numbered
+abbrev pub Refuses : List Text → Refusal → Type 0
+Refuses names TooMany = MAX_NAMES < length names
+Refuses names Memory = Unit {0}
+Refuses names _ = ⊥

@@ -1,0 +1,91 @@
+//! The operands of a utility that are names: those behind its options.
+ghost use Rattle.std.specs.Prelude.{◌≡◌, false, option_map};
+ghost use Rattle.sh_table.specs.runs.Operands as o;
+ghost use Rattle.sh_facts.specs.Sights as spec;
+ghost use Rattle.sh_facts.specs.SightWalks.{seen_in};
+
+use crate::sights::Seen;
+
+/// The operands of `unset` behind its options.
+#[tactic(auto, unfolding(crate::specs::Sights::behind_options))]
+pub fn behind_options(mut operands: &[Seen]) -> &[Seen]
+    ensures { seen_in result.now ≡ spec.behind_options (seen_in operands.entry.now) }
+{
+    while let [first, rest @ ..] = operands {
+        let ends = ends_options(&first.name);
+        let dashed = is_dashed(&first.name);
+        if ends {
+            return rest;
+        }
+        if !dashed {
+            return operands;
+        }
+        operands = rest;
+    }
+    operands
+}
+
+/// The operands of `read` behind its options, or nothing where an option is none of the standard's.
+#[tactic(auto, unfolding(crate::specs::Sights::read_behind))]
+pub fn read_behind(mut operands: &[Seen]) -> Option<&[Seen]>
+    ensures { option_map (λ left. seen_in left.now) result ≡ spec.read_behind false (seen_in operands.entry.now) }
+{
+    let mut takes = false;
+    while let [first, rest @ ..] = operands {
+        if takes {
+            takes = false;
+        } else {
+            let ends = ends_options(&first.name);
+            let dashed = is_dashed(&first.name);
+            if ends {
+                return Some(rest);
+            }
+            if dashed {
+                takes = option_takes(&first.name)?;
+            } else {
+                return Some(operands);
+            }
+        }
+        operands = rest;
+    }
+    Some(operands)
+}
+
+#[tactic(auto, unfolding(sh_table::specs::runs::Operands::is_dashed))]
+fn is_dashed(text: &[u8]) -> bool
+    ensures { result ≡ o.is_dashed text.now }
+{
+    matches!(text, [b'-', _, ..])
+}
+
+fn ends_options(text: &[u8]) -> bool
+    ensures { result ≡ o.ends_options text.now }
+{
+    text == b"--".as_slice()
+}
+
+// Whether an option takes the next operand, if it is one of the standard's.
+fn option_takes(text: &[u8]) -> Option<bool>
+    ensures { result ≡ spec.option_takes text.now }
+{
+    match text {
+        [] => letters_take(text),
+        [_, letters @ ..] => letters_take(letters),
+    }
+}
+
+#[tactic(auto, unfolding(sh_table::specs::runs::Operands::read_option, crate::specs::Sights::takes_next))]
+fn letters_take(mut letters: &[u8]) -> Option<bool>
+    ensures { result ≡ spec.takes_next (o.read_option letters.entry.now) }
+{
+    while let [first, rest @ ..] = letters {
+        if *first == b'd' {
+            return Some(rest.is_empty());
+        }
+        if *first != b'r' {
+            return None;
+        }
+        letters = rest;
+    }
+    Some(false)
+}

@@ -1,0 +1,36 @@
+//! The flow rules.
+
+/// A rule of the flow of facts, in the order of their numbers.
+#[derive(Clone, Copy, Debug, PartialEq, Eq, PartialOrd, Ord)]
+pub enum FlowRule {
+    /// The script's list is entered with what is set at the start.
+    F1,
+    /// Each further item of a list is entered with what holds after the one before it.
+    F2,
+    /// The pipeline behind `&&` is entered with what holds after zero, the one behind `||` with what holds after another status.
+    F3,
+    /// What is claimed after a utility is what its row of the table gives.
+    F4,
+    /// What is claimed after a command without a name is what its assignments and redirections give.
+    F5,
+    /// `if`: its conditions, its branches, and what holds after them.
+    F6,
+    /// `while` and `until`: the head, the condition, the body, and what holds when the condition ends the loop.
+    F7,
+    /// `for`: the words, the head, the body, and what holds after the last turn.
+    F8,
+    /// `case`: the word, the clauses, and what holds after them.
+    F9,
+    /// A group, and what holds where a redirection of a compound command fails.
+    F10,
+    /// A subshell, a substitution and an asynchronous list are entered without `!`, and change nothing outside.
+    F11,
+    /// A part of a pipeline is entered without `!`, and nothing that it sets is counted behind the pipeline.
+    F12,
+    /// A definition, the function's body, and what the function may drop.
+    F13,
+    /// A call: what the function is entered with, and what holds after it.
+    F14,
+    /// A jump: what holds at `break`, `continue` or `return` is what the loop or the function goes on with.
+    F15,
+}
