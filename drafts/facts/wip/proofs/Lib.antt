@@ -1,5 +1,0 @@
-pub mod AnswerLemmas
-pub mod PolicyLemmas
-pub mod SightLemmas
-pub mod NameLemmas
-pub mod TextLemmas
