@@ -199,7 +199,7 @@ module _ (d : Declared) (c : Certificate) (defined : List Text) where
           failed : (b : Bool) → Ok base e fs status (after_expansion t false (unless_ended e (front fs) status ws a t (if b then ends t.environment (front fs) else goes t.environment (front fs) (nonzero a.status) ws)))
           failed true =
               unless_ok d c defined SimpleAt base e fs status ws a t false (ends t.environment (front fs)) live.bodies does (ends_plain d c defined SimpleAt fs t.environment)
-              (λ k l. step_ends d c defined SimpleAt base e t.environment fs status does.grows) (λ k l. does.grows)
+              (λ k l. step_ends d c defined SimpleAt base e t.environment fs status does.grows (subst (Bodies d c defined) (sym does.functions) live.bodies)) (λ k l. does.grows)
           failed false =
               unless_ok d c defined SimpleAt base e fs status ws a t false (goes t.environment (front fs) (nonzero a.status) ws) live.bodies does (goes_plain d c defined SimpleAt fs t.environment (nonzero a.status) ws)
               (λ k l. step_goes d c defined SimpleAt base e t.environment fs status (nonzero a.status) ws does.grows

@@ -20,7 +20,7 @@ use Rattle.sh_facts.specs.Views.{Certificate, AfterZero, Head, Seen, After, Both
 use Rattle.sh_sound.specs.Holding.{Stands, Grows, OneHolds, AfterHolds, Leads}
 use Rattle.sh_facts.specs.Inclusions as i
 use Rattle.sh_facts.specs.Inclusions.{Covers, Leaves}
-use Rattle.sh_sound.specs.Going.{around, OfFirst, ItemsAt, LoopAt, FrontGood, Good, Stays, front, ProcessOk, frames_behind, NextOk, FrameStays, StepOk}
+use Rattle.sh_sound.specs.Going.{around, OfFirst, Bodies, ItemsAt, LoopAt, FrontGood, Good, Stays, front, ProcessOk, frames_behind, NextOk, FrameStays, StepOk}
 use Rattle.sh_sound.proofs.HoldLemmas.{each_left, each_right, grows_refl, holds_grow, one_left, one_right, covers_at, gain_holds, one_grows, any_holds, both_holds, leads_any, leads_both, leads_each, leaves_lead, leads_trans}
 use Rattle.sh_sound.proofs.ExpansionLemmas.{has_name, assigned_grows, assigned_set}
 
@@ -67,9 +67,9 @@ module _ (d : Declared) (c : Certificate) (defined : List Text) (SimpleAt : Arou
     frame = λ h. frame_stays fs;
   }
 
-  pub step_ends : (base : Around) (e e' : Environment) (fs : List Frame) (status : ℕ) → Grows e e' → Ok base e fs status (ends e' (front fs))
+  pub step_ends : (base : Around) (e e' : Environment) (fs : List Frame) (status : ℕ) → Grows e e' → Bodies d c defined e'.functions → Ok base e fs status (ends e' (front fs))
   unfolding NextOk i.Each
-  step_ends base e e' fs status g = record { quiet = refl; next = λ h. tt; starts = tt; grows = λ h. g; frame = λ h. frame_stays fs }
+  step_ends base e e' fs status g b = record { quiet = refl; next = λ h. b; starts = tt; grows = λ h. g; frame = λ h. frame_stays fs }
 
   -- other work, in the same environment
   pub turned : (base : Around) (e : Environment) (fs : List Frame) (status now : ℕ) (ws vs : List Work) (live : Well base e fs status ws) (o : After)
@@ -418,5 +418,5 @@ module _ (d : Declared) (c : Certificate) (defined : List Text) (SimpleAt : Arou
         }
 
         go : (b : Bool) → Ok base e fs status (if b then ends e (front fs) else goes now (front fs) status (Items body ∷ ForFields n name ts body ∷ ws))
-        go true = step_ends base e e fs status (grows_refl e)
+        go true = step_ends base e e fs status (grows_refl e) live.bodies
         go false = step_goes base e now fs status status (Items body ∷ ForFields n name ts body ∷ ws) grows well

@@ -101,7 +101,7 @@ module _ (d : Declared) (c : Certificate) (defined : List Text) (SimpleAt : Arou
         go : (b : Bool) → s.ended ≡ b → Ok base e fs status (after_expansion s split (if b then ends s.environment (front fs) else x))
         go true l =
             expanded_ok s split (ends s.environment (front fs)) ok does (ends_plain fs s.environment)
-            (λ h. step_ends d c defined SimpleAt base e s.environment fs status does.grows) (λ h. does.grows)
+            (λ h. step_ends d c defined SimpleAt base e s.environment fs status does.grows (subst (Bodies d c defined) (sym does.functions) ok)) (λ h. does.grows)
         go false l = expanded_ok s split x ok does plain (λ h. next h l) (λ h. grows h l)
 
     -- what is left of a process in a grown environment

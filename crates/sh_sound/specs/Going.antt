@@ -266,11 +266,11 @@ module _ (d : Declared) (c : Certificate) (defined : List Text) where
     StartOk e f status (Copies e' ws) = (base : Around) × ProcessOk base e' (f ∷ []) status ws
 
     unfoldable pub NextOk : Around → Environment → List Frame → Option (ℕ × List Work) → Type 0
-    NextOk base e fs None = Unit {0}
+    NextOk base e fs None = Bodies e.functions
     NextOk base e fs (Some x) = ProcessOk base e fs x.0 x.1
 
-    -- What a step keeps: it meets no parameter that is not set; unless it splits a value, the process stays well and so do those that it
-    -- starts; and in a part of a pipeline nothing is dropped, and the frame stays.
+    -- What a step keeps: it meets no parameter that is not set; unless it splits a value, the process stays well, or ends and leaves functions
+    -- that are well, and so do those that it starts; and in a part of a pipeline nothing is dropped, and the frame stays.
     pub record StepOk (base : Around) (e : Environment) (fs : List Frame) (status : ℕ) (x : Effect) : Type 0 where
       pub quiet : x.unset ≡ false
       pub next : x.split ≡ false → NextOk base x.environment (frames_behind fs x.frames) x.next
