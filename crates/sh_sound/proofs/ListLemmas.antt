@@ -20,7 +20,7 @@ use Rattle.sh_facts.specs.Views.{Certificate, AfterZero, Head, Seen, After, Both
 use Rattle.sh_sound.specs.Holding.{Stands, Grows, OneHolds, AfterHolds, Leads}
 use Rattle.sh_facts.specs.Inclusions as i
 use Rattle.sh_facts.specs.Inclusions.{Covers, Leaves}
-use Rattle.sh_sound.specs.Going.{around, OfFirst, Bodies, ItemsAt, LoopAt, FrontGood, Good, Stays, front, ProcessOk, frames_behind, NextOk, FrameStays, StepOk}
+use Rattle.sh_sound.specs.Going.{around, OfFirst, Bodies, ItemsAt, LoopAt, FrontGood, Good, Stays, front, ProcessOk, frames_behind, NextOk, FrameStays, StartsOk, StepOk}
 use Rattle.sh_sound.proofs.HoldLemmas.{each_left, each_right, grows_refl, holds_grow, one_left, one_right, covers_at, gain_holds, one_grows, any_holds, both_holds, leads_any, leads_both, leads_each, leaves_lead, leads_trans}
 use Rattle.sh_sound.proofs.ExpansionLemmas.{has_name, assigned_grows, assigned_set}
 
@@ -58,7 +58,7 @@ module _ (d : Declared) (c : Certificate) (defined : List Text) (SimpleAt : Arou
 
   -- a step without expansions
   pub step_goes : (base : Around) (e e' : Environment) (fs : List Frame) (status now : ℕ) (ws : List Work) → Grows e e' → Well base e' fs now ws → Ok base e fs status (goes e' (front fs) now ws)
-  unfolding NextOk i.Each
+  unfolding NextOk StartsOk i.Each
   step_goes base e e' fs status now ws g p = record {
     quiet = refl;
     next = λ h. subst (λ gs. Well base e' gs now ws) (sym (same_frames fs)) p;
@@ -68,7 +68,7 @@ module _ (d : Declared) (c : Certificate) (defined : List Text) (SimpleAt : Arou
   }
 
   pub step_ends : (base : Around) (e e' : Environment) (fs : List Frame) (status : ℕ) → Grows e e' → Bodies d c defined e'.functions → Ok base e fs status (ends e' (front fs))
-  unfolding NextOk i.Each
+  unfolding NextOk StartsOk i.Each
   step_ends base e e' fs status g b = record { quiet = refl; next = λ h. b; starts = tt; grows = λ h. g; frame = λ h. frame_stays fs }
 
   -- other work, in the same environment

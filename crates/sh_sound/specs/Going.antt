@@ -1,7 +1,7 @@
 -- When the work that a process has left meets the rules, from what is known at its front on: what each piece of it needs, and what is known
 -- behind that piece.
 -- POSIX.1-2024, XCU 2.9 (shell commands), 2.13 (shell execution environment), 2.15 (break, continue, return).
-use Rattle.std.specs.Prelude.{◌≡◌, ℕ, Bool, true, false, ◌||◌, List, [], ◌∷◌, ◌++◌, codes, Option, Some, None, ◌⊎◌}
+use Rattle.std.specs.Prelude.{◌≡◌, ℕ, Bool, true, false, ◌||◌, List, [], ◌∷◌, ◌++◌, codes, Option, Some, None, is_some, ◌⊎◌}
 use Rattle.std.specs.List.{list_any}
 use Rattle.sh_tree.specs.declared.tree.ClauseEnd.{ClauseEnd}
 use Rattle.sh_tree.specs.declared.tree.LoopKind.{LoopKind}
@@ -260,10 +260,16 @@ module _ (d : Declared) (c : Certificate) (defined : List Text) where
 
     -- Steps
 
-    -- a process that is started with this frame: one that shares drops nothing
-    unfoldable pub StartOk : Environment → Frame → ℕ → Start → Type 0
-    StartOk e f status (Shares ws) = (base : Around) × (base.shares ≡ true) × ProcessOk base e (f ∷ []) status ws
-    StartOk e f status (Copies e' ws) = (base : Around) × ProcessOk base e' (f ∷ []) status ws
+    -- a process that is started with this frame: one that shares drops nothing, and who started it goes on
+    unfoldable pub StartOk : Environment → Frame → ℕ → Option (ℕ × List Work) → Start → Type 0
+    StartOk e f status next (Shares ws) = (is_some next ≡ true) × ((base : Around) × (base.shares ≡ true) × ProcessOk base e (f ∷ []) status ws)
+    StartOk e f status next (Copies e' ws) = (base : Around) × ProcessOk base e' (f ∷ []) status ws
+
+    -- a step that calls or returns starts nothing
+    unfoldable pub StartsOk : Environment → Frames → ℕ → Option (ℕ × List Work) → List Start → Type 0
+    StartsOk e (Keeps f) status next xs = Each (StartOk e f status next) xs
+    StartsOk e (Pushes f) status next xs = xs ≡ []
+    StartsOk e Pops status next xs = xs ≡ []
 
     unfoldable pub NextOk : Around → Environment → List Frame → Option (ℕ × List Work) → Type 0
     NextOk base e fs None = Bodies e.functions
@@ -274,6 +280,6 @@ module _ (d : Declared) (c : Certificate) (defined : List Text) where
     pub record StepOk (base : Around) (e : Environment) (fs : List Frame) (status : ℕ) (x : Effect) : Type 0 where
       pub quiet : x.unset ≡ false
       pub next : x.split ≡ false → NextOk base x.environment (frames_behind fs x.frames) x.next
-      pub starts : Each (StartOk x.environment (front (frames_behind fs x.frames)) status) x.starts
+      pub starts : StartsOk x.environment x.frames status x.next x.starts
       pub grows : base.shares ≡ true → Grows e x.environment
       pub frame : base.shares ≡ true → FrameStays fs x.frames
