@@ -6,3 +6,5 @@ pub mod CaseLemmas
 pub mod CompoundLemmas
 pub mod ProcessLemmas
 pub mod EnterLemmas
+pub mod SharingLemmas
+pub mod WorldLemmas

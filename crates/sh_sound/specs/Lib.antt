@@ -1,2 +1,4 @@
 pub mod Holding
 pub mod Going
+pub mod Sharing
+pub mod Theorem

@@ -1,0 +1,29 @@
+-- What rules and demands are good for: no run expands a parameter that is not set.
+-- POSIX.1-2024, XCU 2.5.2 (special parameters), 2.6.2 (parameter expansion).
+use Rattle.std.specs.Prelude.{◌≡◌, Bool, true, false, ◌||◌, List, [], ◌∷◌, Some, unwrap_or, option_map}
+use Rattle.std.specs.List.{list_all}
+use Rattle.sh_tree.specs.language.Bytes.{is_name}
+use Rattle.sh_tree.specs.program.Syntax.{Items}
+use Rattle.sh_table.specs.Admitted.{is_admitted}
+use Rattle.sh_table.specs.runs.Environment.{Environment, Frame}
+use Rattle.sh_table.specs.runs.Worlds.{World, Move, step, run, has_unset_event, has_split_event, start_world, IsStart}
+use Rattle.sh_facts.specs.Demands.{demands}
+use Rattle.sh_facts.specs.Facts.{Declared}
+use Rattle.sh_facts.specs.Faults.{faults}
+use Rattle.sh_facts.specs.Inclusions.{is_formed}
+use Rattle.sh_facts.specs.Views.{Certificate}
+
+-- one of these moves has a Split event
+unfoldable pub splits : List Move → World → Bool
+splits [] w = false
+splits (m ∷ ms) w = has_split_event w m || unwrap_or (option_map (splits ms) (step w m)) false
+
+-- Where a program is admitted and formed as those that are read, and a certificate breaks no rule and leaves no demand unmet, then in
+-- every run from a start that the policy allows, a step before which nothing was split expands no parameter that is not set.
+abbrev pub RulesSuffice : Type 0
+RulesSuffice =
+    (d : Declared) (c : Certificate) (t : Items) → list_all is_name d.names ≡ true → is_admitted t ≡ true → is_formed t ≡ true
+    → faults d c t ≡ [] → demands d c t ≡ []
+    → (e : Environment) (f : Frame) → IsStart d.names d.args e f
+    → (moves : List Move) (w : World) → run moves (start_world e f t) ≡ Some w → splits moves (start_world e f t) ≡ false
+    → (m : Move) → has_unset_event w m ≡ false
