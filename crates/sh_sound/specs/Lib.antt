@@ -1,2 +1,4 @@
+pub mod Fields
 pub mod Holding
 pub mod Going
+pub mod Doing
