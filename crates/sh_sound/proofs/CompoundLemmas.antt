@@ -21,7 +21,7 @@ use Rattle.sh_facts.specs.Inclusions.{Covers, Leaves}
 use Rattle.sh_sound.specs.Going.{around, front, RedirectsAt, ForWordsAt, ItemsAt, BodyOk, Bodies, KindAt, CompoundAt, FrontGood, Good, GoodIn, Stays, ProcessOk, StartOk, StartsOk, NextOk, StepOk}
 use Rattle.sh_sound.proofs.HoldLemmas.{grows_refl, one_grows, one_stepped, covers_at, holds_gain, both_holds, leaves_lead}
 use Rattle.sh_sound.proofs.ExpansionLemmas.{without_job_holds}
-use Rattle.sh_sound.proofs.ListLemmas.{good_in, step_goes, step_ends, turned, turns_to, turn_goes, leads_same, stays_grow, nonzero_holds, frame_stays, same_frames}
+use Rattle.sh_sound.proofs.ListLemmas.{began_alone, good_in, step_goes, step_ends, turned, turns_to, turn_goes, leads_same, stays_grow, nonzero_holds, frame_stays, same_frames}
 use Rattle.sh_sound.proofs.StepLemmas.{goes_plain, ends_plain, word_expands, behind_word, unless_ok, grown, word_step}
 use Rattle.sh_sound.proofs.CaseLemmas.{gain_two, fields_ok}
 
@@ -115,7 +115,7 @@ module _ (d : Declared) (c : Certificate) (defined : List Text) where
     list_starts e f status b s is bodies h rules = record {
       known = Both (without_job s);
       callers = [];
-      good = record { after = Both (without_job s); leads = leads_same d c defined SimpleAt (Both (without_job s)); goes = (rules, refl) };
+      good = record { after = Both (without_job s); leads = leads_same d c defined SimpleAt (Both (without_job s)); goes = (rules, began_alone) };
       holds = both_holds d c status (without_job s) (copied b e) f (without_job_holds d c defined s b e f h);
       stays = (f, refl);
       bodies = bodies;

@@ -16,10 +16,10 @@ use Rattle.sh_facts.specs.Gains.{named, job}
 use Rattle.sh_facts.specs.Views.{Certificate, Seen, After, Both, if_zero, in_any_case, swapped, after_command, without_job}
 use Rattle.sh_sound.specs.Holding.{Stands, Has, Grows, OneHolds}
 use Rattle.sh_facts.specs.Inclusions as i
-use Rattle.sh_sound.specs.Going.{around, number_of, front, CommandAt, Bodies, FrontGood, Good, GoodIn, Stays, ProcessOk, StartOk, StartsOk, NextOk, StepOk}
+use Rattle.sh_sound.specs.Going.{around, number_of, Began, front, CommandAt, Bodies, FrontGood, Good, GoodIn, Stays, ProcessOk, StartOk, StartsOk, NextOk, StepOk}
 use Rattle.sh_sound.proofs.HoldLemmas.{each_left, each_right, one_grows, gain_holds, any_holds, both_holds}
 use Rattle.sh_sound.proofs.ExpansionLemmas.{job_no_name, one_name, without_job_holds}
-use Rattle.sh_sound.proofs.ListLemmas.{turned, turns_to, leads_same, stays_grow, frame_stays, same_frames}
+use Rattle.sh_sound.proofs.ListLemmas.{began_alone, began_part, turned, turns_to, leads_same, stays_grow, frame_stays, same_frames}
 use Rattle.sh_sound.proofs.CompoundLemmas.{lose_job, starts_ok}
 
 -- `!` is set
@@ -51,7 +51,7 @@ module _ (d : Declared) (c : Certificate) (defined : List Text) (SimpleAt : Arou
           leads = leads_same d c defined SimpleAt (Both t);
           goes = (
             (rule, each_left (Stands d c defined) (entries.pipeline_entered rule alone t first) _ rules),
-            record { after = o; leads = leads_same d c defined SimpleAt o; goes = (each_right (Stands d c defined) (entries.pipeline_entered rule alone t first) _ rules, refl) },
+            record { after = o; leads = leads_same d c defined SimpleAt o; goes = (each_right (Stands d c defined) (entries.pipeline_entered rule alone t first) _ rules, began_alone) },
           );
         };
         holds = both_holds d c status t (copied b e) f (without_job_holds d c defined s b e f h);
@@ -60,13 +60,13 @@ module _ (d : Declared) (c : Certificate) (defined : List Text) (SimpleAt : Arou
       }
 
   -- a part of a pipeline
-  command_starts : (base : Around) (e : Environment) (f : Frame) (status : ℕ) (s : Seen) (rule : FlowRule) (k : p.Command) → Bodies d c defined e.functions → OneHolds d c s e f
+  command_starts : (base : Around) (e : Environment) (f : Frame) (status : ℕ) (s : Seen) (rule : FlowRule) (k : p.Command) → Began base [] → Bodies d c defined e.functions → OneHolds d c s e f
       → i.Each (Stands d c defined) (entries.command_entered rule base s k) → Well base e (f ∷ []) status (Command k ∷ [])
   unfolding GoodIn Good FrontGood Stays front around in_any_case
-  command_starts base e f status s rule k bodies h rules = record {
+  command_starts base e f status s rule k began bodies h rules = record {
     known = Both s;
     callers = [];
-    good = record { after = Both s; leads = leads_same d c defined SimpleAt (Both s); goes = ((rule, rules), refl) };
+    good = record { after = Both s; leads = leads_same d c defined SimpleAt (Both s); goes = ((rule, rules), began) };
     holds = both_holds d c status s e f h;
     stays = (f, refl);
     bodies = bodies;
@@ -123,8 +123,8 @@ module _ (d : Declared) (c : Certificate) (defined : List Text) (SimpleAt : Arou
         here = each_left (Stands d c defined) (entries.command_entered rule (in_part y) (without_job s) k) _ rules
 
         go : (b : Bool) → StartOk d c defined SimpleAt e (front fs) status (Some (now, vs)) (if b then Shares (Command k ∷ []) else Copies (copied (a.carries n) e) (Command k ∷ []))
-        go true = (refl, (in_part y, refl, command_starts (in_part y) e (front fs) status (without_job s) rule k bodies (lose_job d c defined s e (front fs) h) here))
-        go false = (in_part y, command_starts (in_part y) (copied (a.carries n) e) (front fs) status (without_job s) rule k bodies (without_job_holds d c defined s (a.carries n) e (front fs) h) here)
+        go true = (refl, (in_part y, refl, command_starts (in_part y) e (front fs) status (without_job s) rule k (began_part y) bodies (lose_job d c defined s e (front fs) h) here))
+        go false = (in_part y, command_starts (in_part y) (copied (a.carries n) e) (front fs) status (without_job s) rule k (began_part y) bodies (without_job_holds d c defined s (a.carries n) e (front fs) h) here)
 
     negated_good : (callers : List Facts) (b : Bool) (o : After) → Good d c defined SimpleAt base callers ws (swapped b o) → Good d c defined SimpleAt base callers (negated_work e (front fs) status ws a b) o
     unfolding negated_work swapped GoodIn Good FrontGood

@@ -17,7 +17,7 @@ use Rattle.sh_facts.specs.Inclusions as i
 use Rattle.sh_sound.specs.Going.{around, Bodies, front, FrameStays, WordAt, FrontGood, Good, GoodIn, Stays, ProcessOk, StartOk, StartsOk, StepOk}
 use Rattle.sh_sound.proofs.HoldLemmas.{each_both, one_grows, gain_holds, both_holds}
 use Rattle.sh_sound.proofs.ExpansionLemmas.{word_does}
-use Rattle.sh_sound.proofs.ListLemmas.{good_in, frame_stays, step_goes, step_ends, stays_grow, leads_same}
+use Rattle.sh_sound.proofs.ListLemmas.{began_alone, good_in, frame_stays, step_goes, step_ends, stays_grow, leads_same}
 
 module _ (d : Declared) (c : Certificate) (defined : List Text) (SimpleAt : Around → Work → Seen → Type 0) where
   abbrev Well : Around → Environment → List Frame → ℕ → List Work → Type 0
@@ -33,7 +33,7 @@ module _ (d : Declared) (c : Certificate) (defined : List Text) (SimpleAt : Arou
   copy_begins bodies f status x ok h = record {
     known = Both h.seen;
     callers = [];
-    good = record { after = Both h.seen; leads = leads_same d c defined SimpleAt (Both h.seen); goes = ((h.rule, h.rules), refl) };
+    good = record { after = Both h.seen; leads = leads_same d c defined SimpleAt (Both h.seen); goes = ((h.rule, h.rules), began_alone) };
     holds = both_holds d c status h.seen x.environment f h.holds;
     stays = (f, refl);
     bodies = subst (Bodies d c defined) (sym h.functions) ok;

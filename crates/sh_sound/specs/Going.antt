@@ -20,7 +20,8 @@ use Rattle.sh_facts.specs.Gains.{word_gains, words_gains, redirect_gains, redire
 use Rattle.sh_facts.specs.Needs.{word_unmet}
 use Rattle.sh_facts.specs.Operands.{Names}
 use Rattle.sh_facts.specs.Rules.{is_last, matches_always}
-use Rattle.sh_facts.specs.Views.{Certificate, Before, AfterZero, AfterNonzero, Head, Entry, Seen, After, Both, if_zero, if_nonzero, in_any_case, swapped, after_command, at, gaining, gaining_names, without_job, stepped, Define}
+use Rattle.sh_facts.specs.Views as views
+use Rattle.sh_facts.specs.Views.{Certificate, Before, AfterZero, AfterNonzero, Head, Entry, ReturnsZero, ReturnsNonzero, Seen, After, Both, if_zero, if_nonzero, in_any_case, swapped, after_command, at, gaining, gaining_names, without_job, stepped, Define}
 use Rattle.sh_sound.specs.Fields.{FieldsFit}
 use Rattle.sh_sound.specs.Holding.{Stands, Holds, Grows, OneHolds, AfterHolds, Entails, Leads}
 use Rattle.sh_facts.specs.Inclusions.{Each, Covers, Leaves, MayDrop, LoopRules, ForRules, BranchesLeave, OtherwiseLeaves, ClausesLeave, BodyRules, word_formed}
@@ -65,6 +66,16 @@ FrameStays fs x = Unit {0}
 unfoldable pub OfFirst : List Facts → (Facts → List Facts → Type 0) → Type 0
 OfFirst [] P = ⊥
 OfFirst (kept ∷ callers) P = P kept callers
+
+-- a process begins outside loops and functions, and nothing in it waits for a return
+pub record Began (base : Around) (callers : List Facts) : Type 0 where
+  pub none_waits : callers ≡ []
+  pub no_loop : base.loops ≡ []
+  pub no_function : base.function ≡ None
+
+-- where a function returns
+abbrev pub after_function : Text → After
+after_function f = views.Each (at (ReturnsZero f)) (at (ReturnsNonzero f))
 
 -- facts that claim none of these names
 unfoldable pub Apart : Facts → Names → Type 0
@@ -192,9 +203,9 @@ module _ (d : Declared) (c : Certificate) (defined : List Text) where
 
   -- The return mark of a call. The caller keeps these facts, none of which the function drops; with them and with what is known where the
   -- function returns, what is claimed behind the call is true, whichever of the prefix assignments stay.
-  pub record ReturnAt (x : Around) (n : ℕ) (f : Text) (saved : Saved) (kept : Facts) (q : After) : Type 0 where
+  pub record ReturnAt (x : Around) (n : ℕ) (f : Text) (saved : Saved) (kept : Facts) : Type 0 where
     pub comes : (restores : ℕ → Bool) (status : ℕ) (e : Environment) (inner outer : Frame)
-        → AfterHolds d c status q e inner → Holds kept e outer → AfterHolds d c status (after_command n) (restored restores 0 e saved) outer
+        → AfterHolds d c status (after_function f) e inner → Holds kept e outer → AfterHolds d c status (after_command n) (restored restores 0 e saved) outer
     pub apart : Apart kept (c.drops f)
     pub dropped : MayDrop d c x (c.drops f)
     pub unset : MayDrop d c x (record { vars = unset_before saved; functions = [] })
@@ -239,9 +250,9 @@ module _ (d : Declared) (c : Certificate) (defined : List Text) where
     -- The work meets the rules where o is known; each caller that waits for a return keeps the facts of its place in the list, the
     -- innermost first.
     unfoldable pub Good : Around → List Facts → List Work → After → Type 0
-    Good base callers [] o = callers ≡ []
+    Good base callers [] o = Began base callers
     Good base callers (Return n f saved ∷ ws) o =
-        OfFirst callers (λ kept others. Weaker (λ q. ReturnAt (around base ws) n f saved kept q × Good base others ws (after_command n)) o)
+        OfFirst callers (λ kept others. Leads d c o (after_function f) × ReturnAt (around base ws) n f saved kept × Good base others ws (after_command n))
     Good base callers (w ∷ ws) o = Weaker (λ q. FrontGood (around base ws) w (λ r. Good base callers ws r) q) o
 
     -- The work of a process in this frame: where the words of a simple command are expanded, the fields so far are those of this frame.
