@@ -6,3 +6,4 @@ pub mod CaseLemmas
 pub mod CompoundLemmas
 pub mod ProcessLemmas
 pub mod EnterLemmas
+pub mod DropLemmas
