@@ -23,7 +23,7 @@ use Rattle.sh_facts.specs.Views.{Certificate, AfterZero, Head, Seen, After, Both
 use Rattle.sh_sound.specs.Holding.{Stands, Grows, OneHolds, Entails, Expanded}
 use Rattle.sh_facts.specs.Inclusions as i
 use Rattle.sh_facts.specs.Inclusions.{Covers, Leaves}
-use Rattle.sh_sound.specs.Going.{around, front, WordAt, WordsAt, PatternsAt, PatternsOf, ItemsAt, ClausesAt, ClauseAt, ForAt, FallAt, FrontGood, Good, ProcessOk, StepOk}
+use Rattle.sh_sound.specs.Going.{around, front, WordAt, WordsAt, PatternsAt, PatternsOf, ItemsAt, ClausesAt, ClauseAt, ForAt, FallAt, FrontGood, Good, GoodIn, ProcessOk, StepOk}
 use Rattle.sh_sound.proofs.HoldLemmas.{each_left, each_right, grows_refl, has_nothing, has_both, one_left, one_right, covers_at, gain_holds, holds_gain, has_gain, any_holds, both_holds, leads_any, leaves_lead}
 use Rattle.sh_sound.proofs.ListLemmas.{good_weaker, step_goes, turns_to, leads_same}
 use Rattle.sh_sound.proofs.StepLemmas.{Plain, goes_plain, word_expands, behind_word, unless_ok, grown, word_step}
@@ -84,7 +84,7 @@ module _ (d : Declared) (c : Certificate) (defined : List Text) where
           }
 
       pub clauses_ok : (n : ℕ) (cs : p.Clauses) → Well base e fs status (Clauses n cs ∷ ws) → Ok base e fs status (act_on e (front fs) status ws a (Clauses n cs))
-      unfolding act_on clauses Good FrontGood around in_any_case matches_always if_zero
+      unfolding act_on clauses GoodIn Good FrontGood around in_any_case matches_always if_zero
       clauses_ok n p.no_clauses live =
           let q = live.good.after in
           let known = any_holds d c status q e (front fs) (live.good.leads status e (front fs) live.holds) in
@@ -103,7 +103,7 @@ module _ (d : Declared) (c : Certificate) (defined : List Text) where
       -- behind the list of a clause
       fall_good : (callers : List Facts) (n : ℕ) (s : Seen) (o : After) (end : ClauseEnd) (rest : p.Clauses) → (is_last end rest ≡ true → Leaves d c n o)
           → ClausesAt d c defined x n s (entries.falls end o) rest → Behind callers ws (after_command n) → Behind callers (fall e (front fs) status ws a n end rest) o
-      unfolding fall is_last entries.falls Good FrontGood FallAt
+      unfolding fall is_last entries.falls GoodIn Good FrontGood FallAt
       fall_good callers n s o clause.Break rest leaves behind goes = good_weaker d c defined SimpleAt base callers ws o (after_command n) (leaves_lead d c n o (leaves refl)) goes
       fall_good callers n s o clause.FallThrough p.no_clauses leaves behind goes = record { after = o; leads = leads_same d c defined SimpleAt o; goes = (leaves_lead d c n o (leaves refl), goes) }
       fall_good callers n s o clause.FallThrough (p.more_clauses ps body end rest) leaves behind goes =
@@ -117,7 +117,7 @@ module _ (d : Declared) (c : Certificate) (defined : List Text) where
       -- the list of a clause, in a grown environment
       list_good : (callers : List Facts) (n : ℕ) (s fallen : Seen) (body : p.Items) (end : ClauseEnd) (rest : p.Clauses) → ItemsAt d c defined x (Both (s ++ fallen)) body
           → Behind callers (fall e (front fs) status ws a n end rest) (items_after (Both (s ++ fallen)) body) → Behind callers (Items body ∷ fall e (front fs) status ws a n end rest) (Both (s ++ fallen))
-      unfolding Good FrontGood
+      unfolding GoodIn Good FrontGood
       list_good callers n s fallen body end rest entered behind =
           record { after = Both (s ++ fallen); leads = leads_same d c defined SimpleAt (Both (s ++ fallen)); goes = (subst (λ y. ItemsAt d c defined y (Both (s ++ fallen)) body) (sym (fall_around n end rest)) entered, behind) }
 
@@ -149,7 +149,7 @@ module _ (d : Declared) (c : Certificate) (defined : List Text) where
 
       -- `;&`
       pub fall_ok : (n : ℕ) (cs : p.Clauses) → Well base e fs status (Fall n cs ∷ ws) → Ok base e fs status (act_on e (front fs) status ws a (Fall n cs))
-      unfolding act_on falls Good FrontGood FallAt around i.ClausesLeave PatternsOf entries.clauses_entered in_any_case
+      unfolding act_on falls GoodIn Good FrontGood FallAt around i.ClausesLeave PatternsOf entries.clauses_entered in_any_case
       fall_ok n p.no_clauses live =
           turns_to d c defined SimpleAt base e fs status status _ ws live (after_command n) live.good.goes.1
           (live.good.goes.0 status e (front fs) (live.good.leads status e (front fs) live.holds))
@@ -169,7 +169,7 @@ module _ (d : Declared) (c : Certificate) (defined : List Text) where
 
       pub patterns_ok : (n : ℕ) (left : p.Words) (body : p.Items) (end : ClauseEnd) (rest : p.Clauses) → Well base e fs status (Patterns n left body end rest ∷ ws)
           → Ok base e fs status (act_on e (front fs) status ws a (Patterns n left body end rest))
-      unfolding act_on patterns matched Good FrontGood around PatternsAt in_any_case words_in
+      unfolding act_on patterns matched GoodIn Good FrontGood around PatternsAt in_any_case words_in
       patterns_ok n p.no_words body end rest live =
           let s = in_any_case live.good.after in
           let known = any_holds d c status live.good.after e (front fs) (live.good.leads status e (front fs) live.holds) in
@@ -255,7 +255,7 @@ module _ (d : Declared) (c : Certificate) (defined : List Text) where
       -- `for` over these fields
       pub fields_ok : (n : ℕ) (name : Text) (ts : List Text) (body : p.Items) (vs : List Work) (live : Well base e fs status vs) → ForAt d c defined x n name body
           → Behind live.callers ws (after_command n) → OneHolds d c (at (Head n)) e (front fs) → Ok base e fs status (over_fields e (front fs) status ws a n name ts body)
-      unfolding over_fields Good FrontGood
+      unfolding over_fields GoodIn Good FrontGood
       fields_ok n name [] body vs live rules behind h =
           turns_to d c defined SimpleAt base e fs status 0 vs ws live (after_command n) behind
           (leaves_lead d c n (Both (at (Head n))) rules.rules.leaves 0 e (front fs) (both_holds d c 0 (at (Head n)) e (front fs) h))
@@ -266,7 +266,7 @@ module _ (d : Declared) (c : Certificate) (defined : List Text) where
 
       pub for_words_ok : (n : ℕ) (name : Text) (left : p.Words) (ts : List Text) (body : p.Items) → Well base e fs status (ForWords n name left ts body ∷ ws)
           → Ok base e fs status (act_on e (front fs) status ws a (ForWords n name left ts body))
-      unfolding act_on for_words Good FrontGood around WordsAt in_any_case words_gains
+      unfolding act_on for_words GoodIn Good FrontGood around WordsAt in_any_case words_gains
       for_words_ok n name p.no_words ts body live =
           let s = in_any_case live.good.after in
           let known = any_holds d c status live.good.after e (front fs) (live.good.leads status e (front fs) live.holds) in

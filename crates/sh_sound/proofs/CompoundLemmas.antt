@@ -18,10 +18,10 @@ use Rattle.sh_facts.specs.Views.{Certificate, Before, AfterZero, AfterNonzero, L
 use Rattle.sh_sound.specs.Holding.{Holds, Grows, OneHolds, Entails, Expanded}
 use Rattle.sh_facts.specs.Inclusions as i
 use Rattle.sh_facts.specs.Inclusions.{Covers, Leaves}
-use Rattle.sh_sound.specs.Going.{around, front, RedirectsAt, ForWordsAt, ItemsAt, BodyOk, Bodies, KindAt, CompoundAt, FrontGood, Good, Stays, ProcessOk, StartOk, StartsOk, NextOk, StepOk}
+use Rattle.sh_sound.specs.Going.{around, front, RedirectsAt, ForWordsAt, ItemsAt, BodyOk, Bodies, KindAt, CompoundAt, FrontGood, Good, GoodIn, Stays, ProcessOk, StartOk, StartsOk, NextOk, StepOk}
 use Rattle.sh_sound.proofs.HoldLemmas.{grows_refl, one_grows, one_stepped, covers_at, holds_gain, both_holds, leaves_lead}
 use Rattle.sh_sound.proofs.ExpansionLemmas.{without_job_holds}
-use Rattle.sh_sound.proofs.ListLemmas.{step_goes, step_ends, turned, turns_to, turn_goes, leads_same, stays_grow, nonzero_holds, frame_stays, same_frames}
+use Rattle.sh_sound.proofs.ListLemmas.{began_alone, good_in, step_goes, step_ends, turned, turns_to, turn_goes, leads_same, stays_grow, nonzero_holds, frame_stays, same_frames}
 use Rattle.sh_sound.proofs.StepLemmas.{goes_plain, ends_plain, word_expands, behind_word, unless_ok, grown, word_step}
 use Rattle.sh_sound.proofs.CaseLemmas.{gain_two, fields_ok}
 
@@ -111,11 +111,11 @@ module _ (d : Declared) (c : Certificate) (defined : List Text) where
     -- a copy that does a list
     pub list_starts : (e : Environment) (f : Frame) (status : ℕ) (b : Bool) (s : Seen) (is : p.Items) → Bodies d c defined e.functions → OneHolds d c s e f
         → ItemsAt d c defined alone (Both (without_job s)) is → Well alone (copied b e) (f ∷ []) status (Items is ∷ [])
-    unfolding Good FrontGood Stays front around
+    unfolding GoodIn Good FrontGood Stays front around
     list_starts e f status b s is bodies h rules = record {
       known = Both (without_job s);
       callers = [];
-      good = record { after = Both (without_job s); leads = leads_same d c defined SimpleAt (Both (without_job s)); goes = (rules, refl) };
+      good = record { after = Both (without_job s); leads = leads_same d c defined SimpleAt (Both (without_job s)); goes = (rules, began_alone) };
       holds = both_holds d c status (without_job s) (copied b e) f (without_job_holds d c defined s b e f h);
       stays = (f, refl);
       bodies = bodies;
@@ -131,7 +131,7 @@ module _ (d : Declared) (c : Certificate) (defined : List Text) where
       over_words_ok : (n : ℕ) (name : Text) (words : p.ForWords) (body : p.Items) (s : Seen) (vs : List Work) (live : Well base e fs status vs)
           → KindAt d c defined x n (p.For name words body) s (λ r. Behind live.callers r) → OneHolds d c s e (front fs) → Behind live.callers (after_command n)
           → Ok base e fs status (over_words e (front fs) status ws a n name words body)
-      unfolding over_words KindAt ForWordsAt Good FrontGood in_any_case behind_list
+      unfolding over_words KindAt ForWordsAt GoodIn Good FrontGood in_any_case behind_list
       over_words_ok n name p.every_parameter body s vs live needs h behind =
           fields_ok d c defined SimpleAt base e fs status ws a n name (front fs) body vs live needs.2 behind (needs.1 e (front fs) h)
       over_words_ok n name (p.listed words) body s vs live needs h behind =
@@ -141,7 +141,7 @@ module _ (d : Declared) (c : Certificate) (defined : List Text) where
 
       pub begun_ok : (n : ℕ) (kind : p.Kind) (s : Seen) (vs : List Work) (live : Well base e fs status vs) → KindAt d c defined x n kind s (λ r. Behind live.callers r)
           → OneHolds d c s e (front fs) → OneHolds d c (at (Before n)) e (front fs) → Behind live.callers (after_command n) → Ok base e fs status (begun e (front fs) status ws a n kind)
-      unfolding begun KindAt Good FrontGood in_any_case i.Each StartOk if_zero
+      unfolding begun KindAt GoodIn Good FrontGood in_any_case i.Each StartOk if_zero
       begun_ok n (p.Simple es) s vs live needs h first behind = absurd needs
       begun_ok n (p.Group list) s vs live needs h first behind =
           turns_to d c defined SimpleAt base e fs status status vs (Items list ∷ ws) live (Both s)
@@ -170,7 +170,7 @@ module _ (d : Declared) (c : Certificate) (defined : List Text) where
           (record {
             known = after_command n;
             callers = live.callers;
-            good = behind;
+            good = good_in d c defined SimpleAt (front fs) base live.callers ws (after_command n) behind;
             holds = covers_at d c (AfterZero n) (stepped (Define name) (at (Before n))) needs.0 now (front fs)
                 (one_stepped d c (Define name) (at (Before n)) e now (front fs) (front fs) (λ y k. defined_holds c y e (front fs) name body k) first);
             stays = stays_grow d c defined SimpleAt live.callers e now fs grows live.stays;
@@ -181,7 +181,7 @@ module _ (d : Declared) (c : Certificate) (defined : List Text) where
       pub redirected_ok : (n : ℕ) (r : p.Redirect) (rest : p.Redirects) (kind : p.Kind) (s : Seen) (vs : List Work) (live : Well base e fs status vs)
           → CompoundAt d c defined x n (p.more_redirects r rest) kind s (λ r. Behind live.callers r) → OneHolds d c s e (front fs) → Behind live.callers (after_command n)
           → Ok base e fs status (redirected_before e (front fs) status ws a (expand (front fs) status in_one (opened r) (fresh e a.given)).state (Compound n rest kind ∷ ws))
-      unfolding redirected_before failed_before RedirectsAt Good FrontGood in_any_case redirect_gains redirects_gains opened if_nonzero
+      unfolding redirected_before failed_before RedirectsAt GoodIn Good FrontGood in_any_case redirect_gains redirects_gains opened if_nonzero
       redirected_ok n r rest kind s vs live needs h behind = go a.redirection_fails
         where
           t : State

@@ -21,10 +21,10 @@ use Rattle.sh_facts.specs.Views.{Certificate, Before, Head, Seen, After, Both, i
 use Rattle.sh_sound.specs.Holding.{Stands, Holds, OneHolds, Entails}
 use Rattle.sh_facts.specs.Inclusions as i
 use Rattle.sh_facts.specs.Inclusions.{Covers, Leaves, word_formed, field_formed, fields_formed, words_formed, redirect_formed, redirects_formed, for_words_formed, clauses_formed, kind_formed, command_formed, KindRules, EnteredRules}
-use Rattle.sh_sound.specs.Going.{around, front, Bodies, WordAt, WordsAt, PatternsAt, RedirectsAt, ForWordsAt, PatternsOf, KindAt, CompoundAt, FrontGood, Good, Stays, ProcessOk, StartOk, StepOk}
+use Rattle.sh_sound.specs.Going.{around, front, Bodies, WordAt, WordsAt, PatternsAt, RedirectsAt, ForWordsAt, PatternsOf, KindAt, CompoundAt, FrontGood, Good, GoodIn, Stays, ProcessOk, StartOk, StepOk}
 use Rattle.sh_sound.proofs.HoldLemmas.{each_left, each_right, has_nothing, holds_with, covers_at, gain_holds, holds_gain, has_gain, any_holds, both_holds, leaves_lead}
 use Rattle.sh_sound.proofs.ExpansionLemmas.{none_both}
-use Rattle.sh_sound.proofs.ListLemmas.{good_weaker, turned, leads_same}
+use Rattle.sh_sound.proofs.ListLemmas.{began_alone, good_weaker, turned, leads_same}
 use Rattle.sh_sound.proofs.CompoundLemmas.{lose_job, starts_ok, begun_ok, redirected_ok}
 
 module _ (d : Declared) (c : Certificate) (defined : List Text) where
@@ -155,7 +155,7 @@ module _ (d : Declared) (c : Certificate) (defined : List Text) where
       -- a subshell expands its redirections in its process, which then does its list
       process_starts : (n : ℕ) (rs : p.Redirects) (list : p.Items) (s : Seen) (K : After → Type 0) → Bodies d c defined e.functions → CompoundAt d c defined (around base ws) n rs (p.Subshell list) s K
           → OneHolds d c s e (front fs) → Well alone e (front fs ∷ []) status (Compound n rs (p.Group list) ∷ [])
-      unfolding KindAt Good FrontGood Stays front around in_any_case
+      unfolding KindAt GoodIn Good FrontGood Stays front around in_any_case
       process_starts n rs list s K bodies needs h = record {
         known = Both s;
         callers = [];
@@ -169,9 +169,9 @@ module _ (d : Declared) (c : Certificate) (defined : List Text) where
               first = needs.first;
               behind = without_job (at (Before n));
               through = λ e' f' k. lose_job d c defined (at (Before n)) e' f' (needs.first e' f' (holds_gain d c (redirects_gains rs) s e' f' k));
-              needs = (needs.needs.0, refl);
+              needs = (needs.needs.0, began_alone);
             },
-            refl,
+            began_alone,
           );
         };
         holds = both_holds d c status s e (front fs) h;
@@ -180,7 +180,7 @@ module _ (d : Declared) (c : Certificate) (defined : List Text) where
       }
 
       pub compound_ok : (n : ℕ) (rs : p.Redirects) (kind : p.Kind) → Well base e fs status (Compound n rs kind ∷ ws) → Ok base e fs status (act_on e (front fs) status ws a (Compound n rs kind))
-      unfolding act_on compound Good FrontGood redirects_gains is_started_first in_process KindAt i.Each StartOk
+      unfolding act_on compound GoodIn Good FrontGood redirects_gains is_started_first in_process KindAt i.Each StartOk
       compound_ok n p.no_redirects kind live =
           let q = live.good.after in
           let s = in_any_case q in

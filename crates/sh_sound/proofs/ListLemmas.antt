@@ -12,7 +12,7 @@ use Rattle.sh_table.specs.runs.Work.{Work, Items, Links, Pipeline, Negation, If,
 use Rattle.sh_table.specs.runs.Steps.{takes_link, takes_turn, links, branch, test, for_fields, clauses, falls, fall, clause_list, act_on}
 use Rattle.sh_table.specs.runs.Steps as steps
 use Rattle.sh_facts.specs.declared.rule.FlowRule.TheVariants.{F2, F3, F6}
-use Rattle.sh_facts.specs.Entries.{Around, items_after, item_after, links_after, linked, link_seen, list_after, pipeline_after, turns, ends as loop_ends}
+use Rattle.sh_facts.specs.Entries.{Around, alone, in_part, items_after, item_after, links_after, linked, link_seen, list_after, pipeline_after, turns, ends as loop_ends}
 use Rattle.sh_facts.specs.Entries as entries
 use Rattle.sh_facts.specs.Facts.{Facts, Declared}
 use Rattle.sh_facts.specs.Gains.{named}
@@ -20,9 +20,16 @@ use Rattle.sh_facts.specs.Views.{Certificate, AfterZero, Head, Seen, After, Both
 use Rattle.sh_sound.specs.Holding.{Stands, Grows, OneHolds, AfterHolds, Leads}
 use Rattle.sh_facts.specs.Inclusions as i
 use Rattle.sh_facts.specs.Inclusions.{Covers, Leaves}
-use Rattle.sh_sound.specs.Going.{around, OfFirst, Bodies, ItemsAt, LoopAt, FrontGood, Good, Stays, front, ProcessOk, frames_behind, NextOk, FrameStays, StartsOk, StepOk}
+use Rattle.sh_sound.specs.Going.{around, OfFirst, Began, after_function, Bodies, ItemsAt, LoopAt, FrontGood, Good, GoodIn, Stays, front, ProcessOk, frames_behind, NextOk, FrameStays, StartsOk, StepOk}
 use Rattle.sh_sound.proofs.HoldLemmas.{each_left, each_right, grows_refl, holds_grow, one_left, one_right, covers_at, gain_holds, one_grows, any_holds, both_holds, leads_any, leads_both, leads_each, leaves_lead, leads_trans}
 use Rattle.sh_sound.proofs.ExpansionLemmas.{has_name, assigned_grows, assigned_set}
+
+-- the script and a process that is started, and a part of a pipeline
+pub began_alone : Began alone []
+began_alone = record { none_waits = refl; no_loop = refl; no_function = refl }
+
+pub began_part : (x : Around) → Began (in_part x) []
+began_part x = record { none_waits = refl; no_loop = refl; no_function = refl }
 
 module _ (d : Declared) (c : Certificate) (defined : List Text) (SimpleAt : Around → Work → Seen → Type 0) where
   -- more may be known than the work asks
@@ -30,8 +37,15 @@ module _ (d : Declared) (c : Certificate) (defined : List Text) (SimpleAt : Arou
   unfolding Good OfFirst
   good_weaker base callers [] a b l g = g
   good_weaker base [] (Work.Return n f saved ∷ ws) a b l g = absurd g
-  good_weaker base (kept ∷ callers) (Work.Return n f saved ∷ ws) a b l g = record { after = g.after; leads = leads_trans d c a b g.after l g.leads; goes = g.goes }
+  good_weaker base (kept ∷ callers) (Work.Return n f saved ∷ ws) a b l g = (leads_trans d c a b (after_function f) l g.0, g.1, g.2)
   good_weaker base callers (w ∷ ws) a b l g = record { after = g.after; leads = leads_trans d c a b g.after l g.leads; goes = g.goes }
+
+  -- work that may stand behind other work may stand at the front
+  pub good_in : (f : Frame) (base : Around) (callers : List Facts) (ws : List Work) (o : After) → Good d c defined SimpleAt base callers ws o → GoodIn d c defined SimpleAt f base callers ws o
+  unfolding GoodIn Good FrontGood
+  good_in f base callers [] o g = g
+  good_in f base callers (Work.Words k left fields rs xs ∷ ws) o g = absurd g.goes
+  good_in f base callers (w ∷ ws) o g = g
 
   abbrev Well : Around → Environment → List Frame → ℕ → List Work → Type 0
   Well base e fs status ws = ProcessOk d c defined SimpleAt base e fs status ws
@@ -74,7 +88,7 @@ module _ (d : Declared) (c : Certificate) (defined : List Text) (SimpleAt : Arou
   -- other work, in the same environment
   pub turned : (base : Around) (e : Environment) (fs : List Frame) (status now : ℕ) (ws vs : List Work) (live : Well base e fs status ws) (o : After)
       → GoesOn base live.callers vs o → AfterHolds d c now o e (front fs) → Well base e fs now vs
-  turned base e fs status now ws vs live o g h = record { known = o; callers = live.callers; good = g; holds = h; stays = live.stays; bodies = live.bodies }
+  turned base e fs status now ws vs live o g h = record { known = o; callers = live.callers; good = good_in (front fs) base live.callers vs o g; holds = h; stays = live.stays; bodies = live.bodies }
 
   pub turns_to : (base : Around) (e : Environment) (fs : List Frame) (status now : ℕ) (ws vs : List Work) (live : Well base e fs status ws) (o : After)
       → GoesOn base live.callers vs o → AfterHolds d c now o e (front fs) → Ok base e fs status (goes e (front fs) now vs)
@@ -117,13 +131,13 @@ module _ (d : Declared) (c : Certificate) (defined : List Text) (SimpleAt : Arou
 
     -- a list is at its end
     pub items_end_ok : Well base e fs status (Items p.no_items ∷ ws) → Ok base e fs status (act_on e (front fs) status ws a (Items p.no_items))
-    unfolding act_on steps.items Good FrontGood items_after
+    unfolding act_on steps.items GoodIn Good FrontGood items_after
     items_end_ok live = turns_to base e fs status status (Items p.no_items ∷ ws) ws live live.good.after live.good.goes.1 (live.good.leads status e (front fs) live.holds)
 
     -- its next item begins
     pub item_ok : (first : p.Pipeline) (rest : p.Links) (others : p.Items) → Well base e fs status (Items (p.more_items (p.and_or first rest) false others) ∷ ws)
         → Ok base e fs status (act_on e (front fs) status ws a (Items (p.more_items (p.and_or first rest) false others)))
-    unfolding act_on steps.items Good FrontGood items_after item_after list_after entries.items_entered entries.item_rule entries.item_around entries.item_seen around in_any_case
+    unfolding act_on steps.items GoodIn Good FrontGood items_after item_after list_after entries.items_entered entries.item_rule entries.item_around entries.item_seen around in_any_case
     item_ok first rest others live =
         let q = live.good.after in
         let s = in_any_case q in
@@ -153,7 +167,7 @@ module _ (d : Declared) (c : Certificate) (defined : List Text) (SimpleAt : Arou
 
     -- the next pipeline of an and-or list
     pub links_ok : (ls : p.Links) → Well base e fs status (Links ls ∷ ws) → Ok base e fs status (act_on e (front fs) status ws a (Links ls))
-    unfolding act_on links Good FrontGood links_after entries.links_entered around takes_link linked link_seen if_zero if_nonzero in_any_case
+    unfolding act_on links GoodIn Good FrontGood links_after entries.links_entered around takes_link linked link_seen if_zero if_nonzero in_any_case
     links_ok p.no_links live = turns_to base e fs status status (Links p.no_links ∷ ws) ws live live.good.after live.good.goes.1 (live.good.leads status e (front fs) live.holds)
     links_ok (p.more_links l pipe rest) live = go l refl
       where
@@ -207,7 +221,7 @@ module _ (d : Declared) (c : Certificate) (defined : List Text) (SimpleAt : Arou
 
     -- `!`
     pub negation_ok : Well base e fs status (Negation ∷ ws) → Ok base e fs status (act_on e (front fs) status ws a Negation)
-    unfolding act_on Good FrontGood swapped if_zero if_nonzero
+    unfolding act_on GoodIn Good FrontGood swapped if_zero if_nonzero
     negation_ok live = go (status == 0) refl
       where
         q : After
@@ -225,14 +239,14 @@ module _ (d : Declared) (c : Certificate) (defined : List Text) (SimpleAt : Arou
     -- a list, and behind it what the command claims
     pub list_goes : (is : p.Items) (o : After) (n : ℕ) (now : ℕ) (vs : List Work) → (live : Well base e fs status vs) → ItemsAt d c defined x o is → Leaves d c n (items_after o is)
         → GoesOn base live.callers ws (after_command n) → AfterHolds d c now o e (front fs) → Ok base e fs status (goes e (front fs) now (Items is ∷ ws))
-    unfolding Good FrontGood
+    unfolding GoodIn Good FrontGood
     list_goes is o n now vs live entered leaves behind h =
         turns_to base e fs status now vs (Items is ∷ ws) live o
         (record { after = o; leads = leads_same o; goes = (entered, good_weaker base live.callers ws (items_after o is) (after_command n) (leaves_lead d c n (items_after o is) leaves) behind) })
         h
 
     pub if_ok : (n : ℕ) (branches : p.Branches) (otherwise : p.Otherwise) → Well base e fs status (If n branches otherwise ∷ ws) → Ok base e fs status (act_on e (front fs) status ws a (If n branches otherwise))
-    unfolding act_on branch Good FrontGood around in_any_case if_zero if_nonzero i.BranchesLeave i.OtherwiseLeaves entries.otherwise_seen entries.branches_entered entries.otherwise_entered
+    unfolding act_on branch GoodIn Good FrontGood around in_any_case if_zero if_nonzero i.BranchesLeave i.OtherwiseLeaves entries.otherwise_seen entries.branches_entered entries.otherwise_entered
     if_ok n p.no_branches p.no_else live =
         let q = live.good.after in
         let known = any_holds d c status q e (front fs) (live.good.leads status e (front fs) live.holds) in
@@ -277,7 +291,7 @@ module _ (d : Declared) (c : Certificate) (defined : List Text) (SimpleAt : Arou
 
     pub then_ok : (n : ℕ) (body : p.Items) (branches : p.Branches) (otherwise : p.Otherwise) → Well base e fs status (Then n body branches otherwise ∷ ws)
         → Ok base e fs status (act_on e (front fs) status ws a (Then n body branches otherwise))
-    unfolding act_on Good FrontGood around in_any_case
+    unfolding act_on GoodIn Good FrontGood around in_any_case
     then_ok n body branches otherwise live = go (status == 0) refl
       where
         q : After
@@ -298,7 +312,7 @@ module _ (d : Declared) (c : Certificate) (defined : List Text) (SimpleAt : Arou
     -- a loop: the condition, and the mark behind it
     pub turn_goes : (n : ℕ) (kind : LoopKind) (condition body : p.Items) (last now : ℕ) (vs : List Work) → (live : Well base e fs status vs) → LoopAt d c defined x n kind condition body
         → GoesOn base live.callers ws (after_command n) → OneHolds d c (at (Head n)) e (front fs) → Ok base e fs status (goes e (front fs) now (Items condition ∷ Test n kind condition body last ∷ ws))
-    unfolding Good FrontGood around
+    unfolding GoodIn Good FrontGood around
     turn_goes n kind condition body last now vs live rules behind h =
         let o = items_after (Both (at (Head n))) condition in
         turns_to base e fs status now vs (Items condition ∷ Test n kind condition body last ∷ ws) live (Both (at (Head n)))
@@ -311,7 +325,7 @@ module _ (d : Declared) (c : Certificate) (defined : List Text) (SimpleAt : Arou
 
     pub again_ok : (n : ℕ) (kind : LoopKind) (condition body : p.Items) → Well base e fs status (Again n kind condition body ∷ ws)
         → Ok base e fs status (act_on e (front fs) status ws a (Again n kind condition body))
-    unfolding act_on Good FrontGood in_any_case
+    unfolding act_on GoodIn Good FrontGood in_any_case
     again_ok n kind condition body live =
         let known = live.good.goes.0 status e (front fs) (live.good.leads status e (front fs) live.holds) in
         turn_goes n kind condition body status status _ live live.good.goes.1 live.good.goes.2 (any_holds d c status (Both (at (Head n))) e (front fs) known)
@@ -319,7 +333,7 @@ module _ (d : Declared) (c : Certificate) (defined : List Text) (SimpleAt : Arou
     -- the condition says that another turn comes, or that the loop ends
     pub test_ok : (n : ℕ) (kind : LoopKind) (condition body : p.Items) (last : ℕ) → Well base e fs status (Test n kind condition body last ∷ ws)
         → Ok base e fs status (act_on e (front fs) status ws a (Test n kind condition body last))
-    unfolding act_on test Good FrontGood around in_any_case loop_ends if_nonzero takes turns if_zero takes_turn
+    unfolding act_on test GoodIn Good FrontGood around in_any_case loop_ends if_nonzero takes turns if_zero takes_turn
     test_ok n kind condition body last live = go kind refl
       where
         o : After
@@ -368,7 +382,7 @@ module _ (d : Declared) (c : Certificate) (defined : List Text) (SimpleAt : Arou
     -- `for`: the next field is the name's value
     pub for_fields_ok : (n : ℕ) (name : Text) (ts : List Text) (body : p.Items) → Well base e fs status (ForFields n name ts body ∷ ws)
         → Ok base e fs status (act_on e (front fs) status ws a (ForFields n name ts body))
-    unfolding act_on for_fields Good FrontGood around in_any_case
+    unfolding act_on for_fields GoodIn Good FrontGood around in_any_case
     for_fields_ok n name [] body live =
         let known = live.good.goes.0 status e (front fs) (live.good.leads status e (front fs) live.holds) in
         turns_to base e fs status status _ ws live (after_command n) live.good.goes.2 (leaves_lead d c n (Both (at (Head n))) live.good.goes.1.rules.leaves status e (front fs) known)

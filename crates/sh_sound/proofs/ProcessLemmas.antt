@@ -16,10 +16,10 @@ use Rattle.sh_facts.specs.Gains.{named, job}
 use Rattle.sh_facts.specs.Views.{Certificate, Seen, After, Both, if_zero, in_any_case, swapped, after_command, without_job}
 use Rattle.sh_sound.specs.Holding.{Stands, Has, Grows, OneHolds}
 use Rattle.sh_facts.specs.Inclusions as i
-use Rattle.sh_sound.specs.Going.{around, number_of, front, CommandAt, Bodies, FrontGood, Good, Stays, ProcessOk, StartOk, StartsOk, NextOk, StepOk}
+use Rattle.sh_sound.specs.Going.{around, number_of, Began, front, CommandAt, Bodies, FrontGood, Good, GoodIn, Stays, ProcessOk, StartOk, StartsOk, NextOk, StepOk}
 use Rattle.sh_sound.proofs.HoldLemmas.{each_left, each_right, one_grows, gain_holds, any_holds, both_holds}
 use Rattle.sh_sound.proofs.ExpansionLemmas.{job_no_name, one_name, without_job_holds}
-use Rattle.sh_sound.proofs.ListLemmas.{turned, turns_to, leads_same, stays_grow, frame_stays, same_frames}
+use Rattle.sh_sound.proofs.ListLemmas.{began_alone, began_part, turned, turns_to, leads_same, stays_grow, frame_stays, same_frames}
 use Rattle.sh_sound.proofs.CompoundLemmas.{lose_job, starts_ok}
 
 -- `!` is set
@@ -39,7 +39,7 @@ module _ (d : Declared) (c : Certificate) (defined : List Text) (SimpleAt : Arou
   -- an and-or list in a copy
   and_or_starts : (e : Environment) (f : Frame) (status : ℕ) (b : Bool) (s : Seen) (rule : FlowRule) (first : p.Pipeline) (rest : p.Links) → Bodies d c defined e.functions → OneHolds d c s e f
       → i.Each (Stands d c defined) (entries.list_entered rule alone (without_job s) (p.and_or first rest)) → Well alone (copied b e) (f ∷ []) status (and_or_work (p.and_or first rest))
-  unfolding and_or_work entries.list_entered Good FrontGood Stays front around in_any_case
+  unfolding and_or_work entries.list_entered GoodIn Good FrontGood Stays front around in_any_case
   and_or_starts e f status b s rule first rest bodies h rules =
       let t = without_job s in
       let o = pipeline_after t first in
@@ -51,7 +51,7 @@ module _ (d : Declared) (c : Certificate) (defined : List Text) (SimpleAt : Arou
           leads = leads_same d c defined SimpleAt (Both t);
           goes = (
             (rule, each_left (Stands d c defined) (entries.pipeline_entered rule alone t first) _ rules),
-            record { after = o; leads = leads_same d c defined SimpleAt o; goes = (each_right (Stands d c defined) (entries.pipeline_entered rule alone t first) _ rules, refl) },
+            record { after = o; leads = leads_same d c defined SimpleAt o; goes = (each_right (Stands d c defined) (entries.pipeline_entered rule alone t first) _ rules, began_alone) },
           );
         };
         holds = both_holds d c status t (copied b e) f (without_job_holds d c defined s b e f h);
@@ -60,13 +60,13 @@ module _ (d : Declared) (c : Certificate) (defined : List Text) (SimpleAt : Arou
       }
 
   -- a part of a pipeline
-  command_starts : (base : Around) (e : Environment) (f : Frame) (status : ℕ) (s : Seen) (rule : FlowRule) (k : p.Command) → Bodies d c defined e.functions → OneHolds d c s e f
+  command_starts : (base : Around) (e : Environment) (f : Frame) (status : ℕ) (s : Seen) (rule : FlowRule) (k : p.Command) → Began base [] → Bodies d c defined e.functions → OneHolds d c s e f
       → i.Each (Stands d c defined) (entries.command_entered rule base s k) → Well base e (f ∷ []) status (Command k ∷ [])
-  unfolding Good FrontGood Stays front around in_any_case
-  command_starts base e f status s rule k bodies h rules = record {
+  unfolding GoodIn Good FrontGood Stays front around in_any_case
+  command_starts base e f status s rule k began bodies h rules = record {
     known = Both s;
     callers = [];
-    good = record { after = Both s; leads = leads_same d c defined SimpleAt (Both s); goes = ((rule, rules), refl) };
+    good = record { after = Both s; leads = leads_same d c defined SimpleAt (Both s); goes = ((rule, rules), began) };
     holds = both_holds d c status s e f h;
     stays = (f, refl);
     bodies = bodies;
@@ -78,7 +78,7 @@ module _ (d : Declared) (c : Certificate) (defined : List Text) (SimpleAt : Arou
 
     pub item_starts_ok : (first : p.Pipeline) (rest : p.Links) (others : p.Items) → Well base e fs status (Items (p.more_items (p.and_or first rest) true others) ∷ ws)
         → Ok base e fs status (act_on e (front fs) status ws a (Items (p.more_items (p.and_or first rest) true others)))
-    unfolding act_on steps.items Good FrontGood items_after item_after entries.items_entered entries.item_rule entries.item_around entries.item_seen around in_any_case if_zero i.Each StartOk StartsOk NextOk
+    unfolding act_on steps.items GoodIn Good FrontGood items_after item_after entries.items_entered entries.item_rule entries.item_around entries.item_seen around in_any_case if_zero i.Each StartOk StartsOk NextOk
     item_starts_ok first rest others live =
         let q = live.good.after in
         let s = in_any_case q in
@@ -123,11 +123,11 @@ module _ (d : Declared) (c : Certificate) (defined : List Text) (SimpleAt : Arou
         here = each_left (Stands d c defined) (entries.command_entered rule (in_part y) (without_job s) k) _ rules
 
         go : (b : Bool) → StartOk d c defined SimpleAt e (front fs) status (Some (now, vs)) (if b then Shares (Command k ∷ []) else Copies (copied (a.carries n) e) (Command k ∷ []))
-        go true = (refl, (in_part y, refl, command_starts (in_part y) e (front fs) status (without_job s) rule k bodies (lose_job d c defined s e (front fs) h) here))
-        go false = (in_part y, command_starts (in_part y) (copied (a.carries n) e) (front fs) status (without_job s) rule k bodies (without_job_holds d c defined s (a.carries n) e (front fs) h) here)
+        go true = (refl, (in_part y, refl, command_starts (in_part y) e (front fs) status (without_job s) rule k (began_part y) bodies (lose_job d c defined s e (front fs) h) here))
+        go false = (in_part y, command_starts (in_part y) (copied (a.carries n) e) (front fs) status (without_job s) rule k (began_part y) bodies (without_job_holds d c defined s (a.carries n) e (front fs) h) here)
 
     negated_good : (callers : List Facts) (b : Bool) (o : After) → Good d c defined SimpleAt base callers ws (swapped b o) → Good d c defined SimpleAt base callers (negated_work e (front fs) status ws a b) o
-    unfolding negated_work swapped Good FrontGood
+    unfolding negated_work swapped GoodIn Good FrontGood
     negated_good callers true o h = record { after = o; leads = leads_same d c defined SimpleAt o; goes = h }
     negated_good callers false o h = h
 
@@ -137,7 +137,7 @@ module _ (d : Declared) (c : Certificate) (defined : List Text) (SimpleAt : Arou
     negated_around false = refl
 
     pub pipeline_ok : (b : Bool) (cs : p.Commands) → Well base e fs status (Pipeline (p.pipeline b cs) ∷ ws) → Ok base e fs status (act_on e (front fs) status ws a (Pipeline (p.pipeline b cs)))
-    unfolding act_on piped Good FrontGood pipeline_after parts_after entries.pipeline_entered entries.commands_entered entries.part_rule entries.part_around entries.item_seen entries.is_long in_any_case number_of
+    unfolding act_on piped GoodIn Good FrontGood pipeline_after parts_after entries.pipeline_entered entries.commands_entered entries.part_rule entries.part_around entries.item_seen entries.is_long in_any_case number_of
     pipeline_ok b p.no_commands live =
         let q = live.good.after in
         let s = in_any_case q in

@@ -14,10 +14,10 @@ use Rattle.sh_facts.specs.Gains.{Gains, word_gains}
 use Rattle.sh_facts.specs.Views.{Certificate, Seen, After, Both, gaining}
 use Rattle.sh_sound.specs.Holding.{Grows, OneHolds, AfterHolds, CopyWell, Expanded}
 use Rattle.sh_facts.specs.Inclusions as i
-use Rattle.sh_sound.specs.Going.{around, Bodies, front, FrameStays, WordAt, FrontGood, Good, Stays, ProcessOk, StartOk, StartsOk, StepOk}
+use Rattle.sh_sound.specs.Going.{around, Bodies, front, FrameStays, WordAt, FrontGood, Good, GoodIn, Stays, ProcessOk, StartOk, StartsOk, StepOk}
 use Rattle.sh_sound.proofs.HoldLemmas.{each_both, one_grows, gain_holds, both_holds}
 use Rattle.sh_sound.proofs.ExpansionLemmas.{word_does}
-use Rattle.sh_sound.proofs.ListLemmas.{frame_stays, step_goes, step_ends, stays_grow, leads_same}
+use Rattle.sh_sound.proofs.ListLemmas.{began_alone, good_in, frame_stays, step_goes, step_ends, stays_grow, leads_same}
 
 module _ (d : Declared) (c : Certificate) (defined : List Text) (SimpleAt : Around → Work → Seen → Type 0) where
   abbrev Well : Around → Environment → List Frame → ℕ → List Work → Type 0
@@ -29,11 +29,11 @@ module _ (d : Declared) (c : Certificate) (defined : List Text) (SimpleAt : Arou
   -- the process of a substitution is well
   pub copy_begins : (bodies : Text → Option p.Command) (f : Frame) (status : ℕ) (x : Copy) → Bodies d c defined bodies
       → CopyWell d c defined f bodies x → Well alone x.environment (f ∷ []) status (Items x.list ∷ [])
-  unfolding Good FrontGood Stays front around
+  unfolding GoodIn Good FrontGood Stays front around
   copy_begins bodies f status x ok h = record {
     known = Both h.seen;
     callers = [];
-    good = record { after = Both h.seen; leads = leads_same d c defined SimpleAt (Both h.seen); goes = ((h.rule, h.rules), refl) };
+    good = record { after = Both h.seen; leads = leads_same d c defined SimpleAt (Both h.seen); goes = ((h.rule, h.rules), began_alone) };
     holds = both_holds d c status h.seen x.environment f h.holds;
     stays = (f, refl);
     bodies = subst (Bodies d c defined) (sym h.functions) ok;
@@ -107,7 +107,7 @@ module _ (d : Declared) (c : Certificate) (defined : List Text) (SimpleAt : Arou
     grown e' now vs us live o g same good h = record {
       known = o;
       callers = live.callers;
-      good = good;
+      good = good_in d c defined SimpleAt (front fs) base live.callers us o good;
       holds = h;
       stays = stays_grow d c defined SimpleAt live.callers e e' fs g live.stays;
       bodies = subst (Bodies d c defined) (sym same) live.bodies;

@@ -1,7 +1,7 @@
 -- When the work that a process has left meets the rules, from what is known at its front on: what each piece of it needs, and what is known
 -- behind that piece.
 -- POSIX.1-2024, XCU 2.9 (shell commands), 2.13 (shell execution environment), 2.15 (break, continue, return).
-use Rattle.std.specs.Prelude.{◌≡◌, ℕ, Bool, true, false, ◌||◌, List, [], ◌∷◌, ◌++◌, codes, Option, Some, None, is_some, ◌⊎◌}
+use Rattle.std.specs.Prelude.{◌≡◌, ℕ, Bool, true, false, ◌||◌, List, [], ◌∷◌, ◌++◌, length, codes, Option, Some, None, is_some, ◌⊎◌}
 use Rattle.std.specs.List.{list_any}
 use Rattle.sh_tree.specs.declared.tree.ClauseEnd.{ClauseEnd}
 use Rattle.sh_tree.specs.declared.tree.LoopKind.{LoopKind}
@@ -20,7 +20,9 @@ use Rattle.sh_facts.specs.Gains.{word_gains, words_gains, redirect_gains, redire
 use Rattle.sh_facts.specs.Needs.{word_unmet}
 use Rattle.sh_facts.specs.Operands.{Names}
 use Rattle.sh_facts.specs.Rules.{is_last, matches_always}
-use Rattle.sh_facts.specs.Views.{Certificate, Before, AfterZero, AfterNonzero, Head, Entry, Seen, After, Both, if_zero, if_nonzero, in_any_case, swapped, after_command, at, gaining, gaining_names, without_job, stepped, Define}
+use Rattle.sh_facts.specs.Views as views
+use Rattle.sh_facts.specs.Views.{Certificate, Before, AfterZero, AfterNonzero, Head, Entry, ReturnsZero, ReturnsNonzero, Seen, After, Both, if_zero, if_nonzero, in_any_case, swapped, after_command, at, gaining, gaining_names, without_job, stepped, Define}
+use Rattle.sh_sound.specs.Fields.{FieldsFit}
 use Rattle.sh_sound.specs.Holding.{Stands, Holds, Grows, OneHolds, AfterHolds, Entails, Leads}
 use Rattle.sh_facts.specs.Inclusions.{Each, Covers, Leaves, MayDrop, LoopRules, ForRules, BranchesLeave, OtherwiseLeaves, ClausesLeave, BodyRules, word_formed}
 
@@ -64,6 +66,16 @@ FrameStays fs x = Unit {0}
 unfoldable pub OfFirst : List Facts → (Facts → List Facts → Type 0) → Type 0
 OfFirst [] P = ⊥
 OfFirst (kept ∷ callers) P = P kept callers
+
+-- a process begins outside loops and functions, and nothing in it waits for a return
+pub record Began (base : Around) (callers : List Facts) : Type 0 where
+  pub none_waits : callers ≡ []
+  pub no_loop : base.loops ≡ []
+  pub no_function : base.function ≡ None
+
+-- where a function returns
+abbrev pub after_function : Text → After
+after_function f = views.Each (at (ReturnsZero f)) (at (ReturnsNonzero f))
 
 -- facts that claim none of these names
 unfoldable pub Apart : Facts → Names → Type 0
@@ -191,23 +203,24 @@ module _ (d : Declared) (c : Certificate) (defined : List Text) where
 
   -- The return mark of a call. The caller keeps these facts, none of which the function drops; with them and with what is known where the
   -- function returns, what is claimed behind the call is true, whichever of the prefix assignments stay.
-  pub record ReturnAt (x : Around) (n : ℕ) (f : Text) (saved : Saved) (kept : Facts) (q : After) : Type 0 where
+  pub record ReturnAt (x : Around) (n : ℕ) (f : Text) (saved : Saved) (kept : Facts) : Type 0 where
     pub comes : (restores : ℕ → Bool) (status : ℕ) (e : Environment) (inner outer : Frame)
-        → AfterHolds d c status q e inner → Holds kept e outer → AfterHolds d c status (after_command n) (restored restores 0 e saved) outer
+        → AfterHolds d c status (after_function f) e inner → Holds kept e outer → AfterHolds d c status (after_command n) (restored restores 0 e saved) outer
     pub apart : Apart kept (c.drops f)
     pub dropped : MayDrop d c x (c.drops f)
     pub unset : MayDrop d c x (record { vars = unset_before saved; functions = [] })
 
   -- The simple command that is done, and what it needs (`Doing` says so of each of its four stages).
   module _ (SimpleAt : Around → Work → Seen → Type 0) where
-    -- What a piece of work needs where q is known, with x round it; K says what has to be known behind it. `Return` goes by its caller.
+    -- What a piece of work needs where q is known, with x round it; K says what has to be known behind it. `Return` goes by its caller; while the
+    -- words of a simple command are expanded it stands behind no other work.
     unfoldable pub FrontGood : Around → Work → (After → Type 0) → After → Type 0
     FrontGood x (Items is) K q = ItemsAt x q is × K (items_after q is)
     FrontGood x (Links ls) K q = Each (Stands d c defined) (links_entered x q ls) × K (links_after q ls)
     FrontGood x (Pipeline pipe) K q = PipelineAt x (in_any_case q) pipe × K (pipeline_after (in_any_case q) pipe)
     FrontGood x Negation K q = K (swapped true q)
     FrontGood x (Command k) K q = CommandAt x (in_any_case q) k × K (after_command (number_of k))
-    FrontGood x (Words k left fields rs xs) K q = SimpleAt x (Words k left fields rs xs) (in_any_case q) × K (after_command k.number)
+    FrontGood x (Words k left fields rs xs) K q = ⊥
     FrontGood x (Prepare k fields rs xs failed) K q = SimpleAt x (Prepare k fields rs xs failed) (in_any_case q) × K (after_command k.number)
     FrontGood x (Utility k name operands rs xs prefixes values) K q =
         SimpleAt x (Utility k name operands rs xs prefixes values) (in_any_case q) × K (after_command k.number)
@@ -237,10 +250,17 @@ module _ (d : Declared) (c : Certificate) (defined : List Text) where
     -- The work meets the rules where o is known; each caller that waits for a return keeps the facts of its place in the list, the
     -- innermost first.
     unfoldable pub Good : Around → List Facts → List Work → After → Type 0
-    Good base callers [] o = callers ≡ []
+    Good base callers [] o = Began base callers
     Good base callers (Return n f saved ∷ ws) o =
-        OfFirst callers (λ kept others. Weaker (λ q. ReturnAt (around base ws) n f saved kept q × Good base others ws (after_command n)) o)
+        OfFirst callers (λ kept others. Leads d c o (after_function f) × ReturnAt (around base ws) n f saved kept × Good base others ws (after_command n))
     Good base callers (w ∷ ws) o = Weaker (λ q. FrontGood (around base ws) w (λ r. Good base callers ws r) q) o
+
+    -- The work of a process in this frame: where the words of a simple command are expanded, the fields so far are those of this frame.
+    unfoldable pub GoodIn : Frame → Around → List Facts → List Work → After → Type 0
+    GoodIn f base callers (Words k left fields rs xs ∷ ws) o =
+        FieldsFit (length f) k.elements (words_in left) fields
+        × Weaker (λ q. SimpleAt (around base ws) (Words k left fields rs xs) (in_any_case q) × Good base callers ws (after_command k.number)) o
+    GoodIn f base callers ws o = Good base callers ws o
 
     -- what callers keep is true in the environment and in their frames
     unfoldable pub Stays : List Facts → Environment → List Frame → Type 0
@@ -253,7 +273,7 @@ module _ (d : Declared) (c : Certificate) (defined : List Text) where
     pub record ProcessOk (base : Around) (e : Environment) (fs : List Frame) (status : ℕ) (ws : List Work) : Type 0 where
       pub known : After
       pub callers : List Facts
-      pub good : Good base callers ws known
+      pub good : GoodIn (front fs) base callers ws known
       pub holds : AfterHolds d c status known e (front fs)
       pub stays : Stays callers e fs
       pub bodies : Bodies e.functions

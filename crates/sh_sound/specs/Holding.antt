@@ -53,10 +53,11 @@ module _ (d : Declared) (c : Certificate) where
   abbrev pub Leads : After → After → Type 0
   Leads o o' = (status : ℕ) (e : Environment) (f : Frame) → AfterHolds status o e f → AfterHolds status o' e f
 
--- What every command of the script has: its rules and demands hold, and the function that it defines is one of the script's.
+-- What every command of the script has: its rules and demands hold, the function that it defines is one of the script's, and these have names.
 pub record Stands (d : Declared) (c : Certificate) (defined : List Text) (x : Entered) : Type 0 where
   pub rules : EnteredRules d c defined x
   pub listed : (f : Text) → defined_by x.command ≡ Some f → is_one_of defined f ≡ true
+  pub named : (f : Text) → is_one_of defined f ≡ true → is_name f ≡ true
 
 -- Words
 
