@@ -1,5 +1,5 @@
 -- What holds of all live processes at once, up to the first event.
-use Rattle.std.proofs.Common.{◌≡◌, ◌≢◌, ℕ, suc, ◌<◌, ◌≤◌, ◌==◌, ◌||◌, Bool, true, false, Option, Some, None, is_some, if◌then◌else◌, List, [], ◌∷◌, map, ◌⊎◌, inl, inr, refl, sym, ◌∙◌, ap, subst, arith, eqb-true, unwrap_or, option_map}
+use Rattle.std.proofs.Common.{◌≡◌, ◌≢◌, ℕ, suc, ◌<◌, ◌≤◌, ◌==◌, ◌||◌, Bool, true, false, Option, Some, None, is_some, if◌then◌else◌, List, [], ◌∷◌, map, ◌⊎◌, inl, inr, refl, sym, ◌∙◌, ap, subst, arith, eqb-true, unwrap_or, option_map, option_and_then}
 use Rattle.std.proofs.lemmas.Option.{same_Some, none-some}
 use Rattle.sh_tree.specs.program.Syntax.{Text}
 use Rattle.sh_table.specs.runs.Answers.{Answer}
@@ -18,7 +18,7 @@ use Rattle.sh_sound.specs.Sharing.{Among, Distinct, innermost_of, but_outermost,
 use Rattle.sh_sound.specs.Theorem.{splits}
 use Rattle.sh_sound.proofs.HoldLemmas.{after_grows}
 use Rattle.sh_sound.proofs.ListLemmas.{stays_grow}
-use Rattle.sh_sound.proofs.SharingLemmas.{SharingOf, environment_alone, frame_alone, moves_shares, ends_shares, part_shares, copy_shares, put_apart}
+use Rattle.sh_sound.proofs.SharingLemmas.{SharingOf, environment_alone, frame_alone, moves_shares, ends_shares, part_shares, copy_shares, put_apart, or_none}
 
 -- Frames
 
@@ -364,3 +364,118 @@ module _ (d : Declared) (c : Certificate) (defined : List Text) (SimpleAt : Arou
   starts_well w p r e f next [] ok by h = ok
   starts_well w p r e f next (x ∷ xs) ok by h =
       starts_well (start w p r x) p r e f next xs (start_well w p r e f next x ok by h.0) (starter_stays w p r e f next x by) h.1
+
+  -- A step
+
+  kept_frame : (w : World) (ns : List ℕ) (f : Frame) → is_some (innermost_of ns) ≡ true → innermost (with_frames w ns (Keeps f)).frames ns ≡ f
+  unfolding with_frames innermost innermost_of
+  kept_frame w [] f h = cc
+  kept_frame w (n ∷ ns) f h = put_same w.frames n f
+
+  effect_well : (w : World) (ok : WorldWell w) (p : ℕ) (r : Process) (lives : w.processes p ≡ Some r) → waits w p ≡ false → (x : Effect)
+      → Ok (ok.lives p r lives).base (w.environments r.environment) (map w.frames r.frames) r.status x → x.split ≡ false → WorldWell (apply w p r x)
+  unfolding apply start_all stepped frames_after StartsOk
+  effect_well w ok p r lives awake x steps split =
+      let all : WorldWell (start_all behind p r x.starts) = go x.frames refl steps.starts in
+      record { sharing = all.sharing; lives = all.lives }
+    where
+      changed : World
+      changed = with_environment w r.environment x.environment
+
+      now : World
+      now = with_frames changed r.frames x.frames
+
+      behind : World
+      behind = with_process now p (stepped w r x.frames x.next)
+
+      well : WorldWell behind
+      well = moved_well w ok p r lives awake x steps x.next (steps.next split)
+
+      placed : IsPlaced w.processes w.next_environment w.next_frame w.next_process p r
+      placed = ok.sharing.placed p r lives
+
+      none : x.starts ≡ [] → WorldWell (start_all behind p r x.starts)
+      none h = subst (λ xs. WorldWell (start_all behind p r xs)) (sym h) well
+
+      starter : (f : Frame) → x.frames ≡ Keeps f → Starter behind p r x.environment f x.next
+      starter f same = record {
+        lives = λ h. goes_on x.next refl h;
+        process = subst (λ n. p < n) (sym (numbers_apart changed r.frames x.frames).1) placed.process;
+        environment = subst (λ n. r.environment < n) (sym (numbers_apart changed r.frames x.frames).0) placed.environment;
+        frames = λ k a. let l : k < w.next_frame = placed.frames k a in let m : w.next_frame ≤ now.next_frame = frames_more changed r.frames x.frames in omega arith;
+        framed = placed.framed;
+        in_environment = now_environments w ok p r lives awake x r.environment ∙ put_same w.environments r.environment x.environment;
+        in_frame = ap (λ k. innermost (with_frames changed r.frames k).frames r.frames) same ∙ kept_frame changed r.frames f placed.framed;
+      }
+        where
+          goes_on : (next : Option (ℕ × List Work)) → x.next ≡ next → is_some x.next ≡ true → (s : Process) × (behind.processes p ≡ Some s) × (s.environment ≡ r.environment) × (s.frames ≡ r.frames)
+          goes_on None e h = cc
+          goes_on (Some y) e h = (
+            record r { frames = frames_after w r.frames x.frames; status = y.0; work = y.1 },
+            put_same now.processes p (stepped w r x.frames x.next) ∙ ap (stepped w r x.frames) e,
+            refl,
+            ap (frames_after w r.frames) same,
+          )
+
+      go : (fs : Frames) → x.frames ≡ fs → StartsOk d c defined SimpleAt x.environment fs r.status x.next x.starts → WorldWell (start_all behind p r x.starts)
+      go (Keeps f) same h = starts_well behind p r x.environment f x.next x.starts well (starter f same) h
+      go (Pushes f) same h = none h
+      go Pops same h = none h
+
+  -- Runs, where every step of a process keeps what `StepOk` says
+
+  abbrev pub Kept : Type 0
+  Kept = (base : Around) (e : Environment) (fs : List Frame) (status : ℕ) (ws : List Work) (a : Answer) → Well base e fs status ws → Ok base e fs status (act e (front fs) status ws a)
+
+  module _ (kept : Kept) where
+    effect_ok : (w : World) (ok : WorldWell w) (m : Move) (r : Process) (lives : w.processes m.process ≡ Some r)
+        → Ok (ok.lives m.process r lives).base (w.environments r.environment) (map w.frames r.frames) r.status (effect_of w m r)
+    unfolding effect_of
+    effect_ok w ok m r lives =
+        let it = ok.lives m.process r lives in
+        subst (λ f. Ok it.base (w.environments r.environment) (map w.frames r.frames) r.status (act (w.environments r.environment) f r.status r.work m.answer)) (sym (front_innermost w.frames r.frames))
+        (kept it.base (w.environments r.environment) (map w.frames r.frames) r.status r.work m.answer it.well)
+
+    -- a step that is made and has no Split event
+    whole_move : (w w' : World) (m : Move) (made : Made w m w') → has_split_event w m ≡ false → (effect_of w m made.process).split ≡ false
+    unfolding has_split_event may_step
+    whole_move w w' m made h = go (w.processes m.process) made.lives h
+      where
+        go : (o : Option Process) → o ≡ Some made.process → unwrap_or (option_map (λ r. (effect_of w m r).split) (may_step w m o)) false ≡ false → (effect_of w m made.process).split ≡ false
+        go None e k = absurd (none-some made.process e)
+        go (Some r) e k = let same : r ≡ made.process = same_Some r made.process e in on_move r same (w.over || waits w m.process) (rw (made.awake, made.on) refl) k
+          where
+            on_move : (r : Process) → r ≡ made.process → (b : Bool) → b ≡ false → unwrap_or (option_map (λ r. (effect_of w m r).split) (if b then None else Some r)) false ≡ false
+                → (effect_of w m made.process).split ≡ false
+            on_move r same true l k = cc
+            on_move r same false l k = ap (λ s. (effect_of w m s).split) (sym same) ∙ k
+
+    step_well : (w w' : World) (m : Move) → WorldWell w → has_split_event w m ≡ false → step w m ≡ Some w' → WorldWell w'
+    step_well w w' m ok whole h =
+        let made : Made w m w' = step_made w w' m h in
+        subst WorldWell (sym made.after)
+        (effect_well w ok m.process made.process made.lives made.awake (effect_of w m made.process) (effect_ok w ok m made.process made.lives) (whole_move w w' m made whole))
+
+    pub run_well : (moves : List Move) (w w' : World) → WorldWell w → splits moves w ≡ false → run moves w ≡ Some w' → WorldWell w'
+    unfolding run splits
+    run_well [] w w' ok whole h = subst WorldWell (same_Some w w' h) ok
+    run_well (m ∷ ms) w w' ok whole h = go (step w m) refl whole h (λ v good rest gone. run_well ms v w' good rest gone)
+      where
+        go : (o : Option World) → step w m ≡ o → (has_split_event w m || unwrap_or (option_map (splits ms) o) false) ≡ false → option_and_then (run ms) o ≡ Some w'
+            → ((v : World) → WorldWell v → splits ms v ≡ false → run ms v ≡ Some w' → WorldWell w') → WorldWell w'
+        go None e k g later = absurd (none-some w' g)
+        go (Some v) e k g later =
+            let parts = or_none (has_split_event w m) (splits ms v) k in
+            later v (step_well w v m ok parts.0 e) parts.1 g
+
+    pub no_unset_event : (w : World) (m : Move) → WorldWell w → has_unset_event w m ≡ false
+    unfolding has_unset_event may_step
+    no_unset_event w m ok = go (w.processes m.process) refl
+      where
+        on_move : (r : Process) → w.processes m.process ≡ Some r → (b : Bool) → unwrap_or (option_map (λ r. (effect_of w m r).unset) (if b then None else Some r)) false ≡ false
+        on_move r e true = refl
+        on_move r e false = (effect_ok w ok m r e).quiet
+
+        go : (o : Option Process) → w.processes m.process ≡ o → unwrap_or (option_map (λ r. (effect_of w m r).unset) (may_step w m o)) false ≡ false
+        go None e = refl
+        go (Some r) e = on_move r e (w.over || waits w m.process)
