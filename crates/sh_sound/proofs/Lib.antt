@@ -9,3 +9,4 @@ pub mod EnterLemmas
 pub mod SharingLemmas
 pub mod WorldLemmas
 pub mod DropLemmas
+pub mod TheoremLemmas

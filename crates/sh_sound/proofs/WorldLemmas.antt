@@ -283,7 +283,7 @@ module _ (d : Declared) (c : Certificate) (defined : List Text) (SimpleAt : Arou
   innermost_same f g (n ∷ ns) h = h n (inl refl)
 
   -- a process comes
-  put_lives : (processes : ℕ → Option Process) (environments : ℕ → Environment) (frames : ℕ → Frame) (n : ℕ) (new : Process) → LivesWell environments frames new
+  pub put_lives : (processes : ℕ → Option Process) (environments : ℕ → Environment) (frames : ℕ → Frame) (n : ℕ) (new : Process) → LivesWell environments frames new
       → ((q : ℕ) (s : Process) → processes q ≡ Some s → LivesWell environments frames s) → (q : ℕ) (s : Process) → put processes n (Some new) q ≡ Some s → LivesWell environments frames s
   put_lives processes environments frames n new own others q s h = go (put_cases processes n (Some new) q (Some s) h)
     where
