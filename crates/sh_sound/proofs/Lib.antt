@@ -7,3 +7,5 @@ pub mod CompoundLemmas
 pub mod ProcessLemmas
 pub mod EnterLemmas
 pub mod DropLemmas
+pub mod JumpLemmas
+pub mod ReturnLemmas
