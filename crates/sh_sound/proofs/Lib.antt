@@ -10,3 +10,5 @@ pub mod SharingLemmas
 pub mod WorldLemmas
 pub mod DropLemmas
 pub mod TheoremLemmas
+pub mod JumpLemmas
+pub mod ReturnLemmas
