@@ -18,11 +18,11 @@ use Rattle.sh_facts.specs.Views.{Certificate, Before, AfterZero, AfterNonzero, L
 use Rattle.sh_sound.specs.Holding.{Holds, Grows, OneHolds, Entails, Expanded}
 use Rattle.sh_facts.specs.Inclusions as i
 use Rattle.sh_facts.specs.Inclusions.{Covers, Leaves}
-use Rattle.sh_sound.specs.Going.{around, front, RedirectsAt, ForWordsAt, ItemsAt, BodyOk, Bodies, KindAt, CompoundAt, FrontGood, Good, GoodIn, Stays, ProcessOk, StartOk, NextOk, StepOk}
+use Rattle.sh_sound.specs.Going.{around, front, RedirectsAt, ForWordsAt, ItemsAt, BodyOk, Bodies, KindAt, CompoundAt, FrontGood, Good, GoodIn, Stays, ProcessOk, StartOk, StartsOk, NextOk, StepOk}
 use Rattle.sh_sound.proofs.HoldLemmas.{grows_refl, one_grows, one_stepped, covers_at, holds_gain, both_holds, leaves_lead}
 use Rattle.sh_sound.proofs.ExpansionLemmas.{without_job_holds}
-use Rattle.sh_sound.proofs.ListLemmas.{good_in, step_goes, step_ends, turned, turns_to, turn_goes, leads_same, stays_grow, nonzero_holds, frame_stays, same_frames}
-use Rattle.sh_sound.proofs.StepLemmas.{front_same, goes_plain, ends_plain, word_expands, behind_word, unless_ok, grown, word_step}
+use Rattle.sh_sound.proofs.ListLemmas.{began_alone, good_in, step_goes, step_ends, turned, turns_to, turn_goes, leads_same, stays_grow, nonzero_holds, frame_stays, same_frames}
+use Rattle.sh_sound.proofs.StepLemmas.{goes_plain, ends_plain, word_expands, behind_word, unless_ok, grown, word_step}
 use Rattle.sh_sound.proofs.CaseLemmas.{gain_two, fields_ok}
 
 is_nonzero : (n : ℕ) → (nonzero n == 0) ≡ false
@@ -98,12 +98,12 @@ module _ (d : Declared) (c : Certificate) (defined : List Text) where
 
     -- a process that is started with other work
     pub starts_ok : (base : Around) (e : Environment) (fs : List Frame) (status now : ℕ) (ws : List Work) (xs : List Start) → Well base e fs now ws
-        → i.Each (StartOk d c defined SimpleAt e (front fs) status) xs → Ok base e fs status (record (goes e (front fs) now ws) { starts = xs })
-    unfolding NextOk
+        → i.Each (StartOk d c defined SimpleAt e (front fs) status (Some (now, ws))) xs → Ok base e fs status (record (goes e (front fs) now ws) { starts = xs })
+    unfolding NextOk StartsOk
     starts_ok base e fs status now ws xs live h = record {
       quiet = refl;
       next = λ k. subst (λ gs. Well base e gs now ws) (sym (same_frames d c defined SimpleAt fs)) live;
-      starts = subst (λ f. i.Each (StartOk d c defined SimpleAt e f status) xs) (sym (front_same d c defined SimpleAt fs)) h;
+      starts = h;
       grows = λ k. grows_refl e;
       frame = λ k. frame_stays d c defined SimpleAt fs;
     }
@@ -115,7 +115,7 @@ module _ (d : Declared) (c : Certificate) (defined : List Text) where
     list_starts e f status b s is bodies h rules = record {
       known = Both (without_job s);
       callers = [];
-      good = record { after = Both (without_job s); leads = leads_same d c defined SimpleAt (Both (without_job s)); goes = (rules, refl) };
+      good = record { after = Both (without_job s); leads = leads_same d c defined SimpleAt (Both (without_job s)); goes = (rules, began_alone) };
       holds = both_holds d c status (without_job s) (copied b e) f (without_job_holds d c defined s b e f h);
       stays = (f, refl);
       bodies = bodies;

@@ -24,7 +24,7 @@ use Rattle.sh_facts.specs.Inclusions.{Covers, Leaves, word_formed, field_formed,
 use Rattle.sh_sound.specs.Going.{around, front, Bodies, WordAt, WordsAt, PatternsAt, RedirectsAt, ForWordsAt, PatternsOf, KindAt, CompoundAt, FrontGood, Good, GoodIn, Stays, ProcessOk, StartOk, StepOk}
 use Rattle.sh_sound.proofs.HoldLemmas.{each_left, each_right, has_nothing, holds_with, covers_at, gain_holds, holds_gain, has_gain, any_holds, both_holds, leaves_lead}
 use Rattle.sh_sound.proofs.ExpansionLemmas.{none_both}
-use Rattle.sh_sound.proofs.ListLemmas.{good_weaker, turned, leads_same}
+use Rattle.sh_sound.proofs.ListLemmas.{began_alone, good_weaker, turned, leads_same}
 use Rattle.sh_sound.proofs.CompoundLemmas.{lose_job, starts_ok, begun_ok, redirected_ok}
 
 module _ (d : Declared) (c : Certificate) (defined : List Text) where
@@ -169,9 +169,9 @@ module _ (d : Declared) (c : Certificate) (defined : List Text) where
               first = needs.first;
               behind = without_job (at (Before n));
               through = λ e' f' k. lose_job d c defined (at (Before n)) e' f' (needs.first e' f' (holds_gain d c (redirects_gains rs) s e' f' k));
-              needs = (needs.needs.0, refl);
+              needs = (needs.needs.0, began_alone);
             },
-            refl,
+            began_alone,
           );
         };
         holds = both_holds d c status s e (front fs) h;

@@ -9,3 +9,6 @@ pub mod ProcessLemmas
 pub mod CommandLemmas
 pub mod WordsLemmas
 pub mod EnterLemmas
+pub mod DropLemmas
+pub mod JumpLemmas
+pub mod ReturnLemmas

@@ -12,7 +12,7 @@ use Rattle.sh_table.specs.runs.Work.{Work, Items, Links, Pipeline, Negation, If,
 use Rattle.sh_table.specs.runs.Steps.{takes_link, takes_turn, links, branch, test, for_fields, clauses, falls, fall, clause_list, act_on}
 use Rattle.sh_table.specs.runs.Steps as steps
 use Rattle.sh_facts.specs.declared.rule.FlowRule.TheVariants.{F2, F3, F6}
-use Rattle.sh_facts.specs.Entries.{Around, items_after, item_after, links_after, linked, link_seen, list_after, pipeline_after, turns, ends as loop_ends}
+use Rattle.sh_facts.specs.Entries.{Around, alone, in_part, items_after, item_after, links_after, linked, link_seen, list_after, pipeline_after, turns, ends as loop_ends}
 use Rattle.sh_facts.specs.Entries as entries
 use Rattle.sh_facts.specs.Facts.{Facts, Declared}
 use Rattle.sh_facts.specs.Gains.{named}
@@ -20,9 +20,16 @@ use Rattle.sh_facts.specs.Views.{Certificate, AfterZero, Head, Seen, After, Both
 use Rattle.sh_sound.specs.Holding.{Stands, Grows, OneHolds, AfterHolds, Leads}
 use Rattle.sh_facts.specs.Inclusions as i
 use Rattle.sh_facts.specs.Inclusions.{Covers, Leaves}
-use Rattle.sh_sound.specs.Going.{around, OfFirst, Bodies, ItemsAt, LoopAt, FrontGood, Good, GoodIn, Stays, front, ProcessOk, frames_behind, NextOk, FrameStays, StepOk}
+use Rattle.sh_sound.specs.Going.{around, OfFirst, Began, after_function, Bodies, ItemsAt, LoopAt, FrontGood, Good, GoodIn, Stays, front, ProcessOk, frames_behind, NextOk, FrameStays, StartsOk, StepOk}
 use Rattle.sh_sound.proofs.HoldLemmas.{each_left, each_right, grows_refl, holds_grow, one_left, one_right, covers_at, gain_holds, one_grows, any_holds, both_holds, leads_any, leads_both, leads_each, leaves_lead, leads_trans}
 use Rattle.sh_sound.proofs.ExpansionLemmas.{has_name, assigned_grows, assigned_set}
+
+-- the script and a process that is started, and a part of a pipeline
+pub began_alone : Began alone []
+began_alone = record { none_waits = refl; no_loop = refl; no_function = refl }
+
+pub began_part : (x : Around) → Began (in_part x) []
+began_part x = record { none_waits = refl; no_loop = refl; no_function = refl }
 
 module _ (d : Declared) (c : Certificate) (defined : List Text) (SimpleAt : Around → Work → Seen → Type 0) where
   -- more may be known than the work asks
@@ -30,7 +37,7 @@ module _ (d : Declared) (c : Certificate) (defined : List Text) (SimpleAt : Arou
   unfolding Good OfFirst
   good_weaker base callers [] a b l g = g
   good_weaker base [] (Work.Return n f saved ∷ ws) a b l g = absurd g
-  good_weaker base (kept ∷ callers) (Work.Return n f saved ∷ ws) a b l g = record { after = g.after; leads = leads_trans d c a b g.after l g.leads; goes = g.goes }
+  good_weaker base (kept ∷ callers) (Work.Return n f saved ∷ ws) a b l g = (leads_trans d c a b (after_function f) l g.0, g.1, g.2)
   good_weaker base callers (w ∷ ws) a b l g = record { after = g.after; leads = leads_trans d c a b g.after l g.leads; goes = g.goes }
 
   -- work that may stand behind other work may stand at the front
@@ -65,7 +72,7 @@ module _ (d : Declared) (c : Certificate) (defined : List Text) (SimpleAt : Arou
 
   -- a step without expansions
   pub step_goes : (base : Around) (e e' : Environment) (fs : List Frame) (status now : ℕ) (ws : List Work) → Grows e e' → Well base e' fs now ws → Ok base e fs status (goes e' (front fs) now ws)
-  unfolding NextOk i.Each
+  unfolding NextOk StartsOk i.Each
   step_goes base e e' fs status now ws g p = record {
     quiet = refl;
     next = λ h. subst (λ gs. Well base e' gs now ws) (sym (same_frames fs)) p;
@@ -75,7 +82,7 @@ module _ (d : Declared) (c : Certificate) (defined : List Text) (SimpleAt : Arou
   }
 
   pub step_ends : (base : Around) (e e' : Environment) (fs : List Frame) (status : ℕ) → Grows e e' → Bodies d c defined e'.functions → Ok base e fs status (ends e' (front fs))
-  unfolding NextOk i.Each
+  unfolding NextOk StartsOk i.Each
   step_ends base e e' fs status g b = record { quiet = refl; next = λ h. b; starts = tt; grows = λ h. g; frame = λ h. frame_stays fs }
 
   -- other work, in the same environment

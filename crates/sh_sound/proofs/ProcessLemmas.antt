@@ -1,5 +1,5 @@
 -- Steps of pipelines and of asynchronous items.
-use Rattle.std.proofs.Common.{◌≡◌, ℕ, suc, Bool, true, false, if◌then◌else◌, List, [], ◌∷◌, refl, sym, subst, arith}
+use Rattle.std.proofs.Common.{◌≡◌, ℕ, suc, Bool, true, false, if◌then◌else◌, List, [], ◌∷◌, Some, refl, sym, subst, arith}
 use Rattle.sh_tree.specs.program.Syntax as p
 use Rattle.sh_tree.specs.program.Syntax.{Text}
 use Rattle.sh_table.specs.runs.Environment.{Environment, Frame, copied}
@@ -16,11 +16,10 @@ use Rattle.sh_facts.specs.Gains.{named, job}
 use Rattle.sh_facts.specs.Views.{Certificate, Seen, After, Both, if_zero, in_any_case, swapped, after_command, without_job}
 use Rattle.sh_sound.specs.Holding.{Stands, Has, Grows, OneHolds}
 use Rattle.sh_facts.specs.Inclusions as i
-use Rattle.sh_sound.specs.Going.{around, number_of, front, CommandAt, Bodies, FrontGood, Good, GoodIn, Stays, ProcessOk, StartOk, NextOk, StepOk}
+use Rattle.sh_sound.specs.Going.{around, number_of, Began, front, CommandAt, Bodies, FrontGood, Good, GoodIn, Stays, ProcessOk, StartOk, StartsOk, NextOk, StepOk}
 use Rattle.sh_sound.proofs.HoldLemmas.{each_left, each_right, one_grows, gain_holds, any_holds, both_holds}
 use Rattle.sh_sound.proofs.ExpansionLemmas.{job_no_name, one_name, without_job_holds}
-use Rattle.sh_sound.proofs.ListLemmas.{turned, turns_to, leads_same, stays_grow, frame_stays, same_frames}
-use Rattle.sh_sound.proofs.StepLemmas.{front_same}
+use Rattle.sh_sound.proofs.ListLemmas.{began_alone, began_part, turned, turns_to, leads_same, stays_grow, frame_stays, same_frames}
 use Rattle.sh_sound.proofs.CompoundLemmas.{lose_job, starts_ok}
 
 -- `!` is set
@@ -52,7 +51,7 @@ module _ (d : Declared) (c : Certificate) (defined : List Text) (SimpleAt : Arou
           leads = leads_same d c defined SimpleAt (Both t);
           goes = (
             (rule, each_left (Stands d c defined) (entries.pipeline_entered rule alone t first) _ rules),
-            record { after = o; leads = leads_same d c defined SimpleAt o; goes = (each_right (Stands d c defined) (entries.pipeline_entered rule alone t first) _ rules, refl) },
+            record { after = o; leads = leads_same d c defined SimpleAt o; goes = (each_right (Stands d c defined) (entries.pipeline_entered rule alone t first) _ rules, began_alone) },
           );
         };
         holds = both_holds d c status t (copied b e) f (without_job_holds d c defined s b e f h);
@@ -61,13 +60,13 @@ module _ (d : Declared) (c : Certificate) (defined : List Text) (SimpleAt : Arou
       }
 
   -- a part of a pipeline
-  command_starts : (base : Around) (e : Environment) (f : Frame) (status : ℕ) (s : Seen) (rule : FlowRule) (k : p.Command) → Bodies d c defined e.functions → OneHolds d c s e f
+  command_starts : (base : Around) (e : Environment) (f : Frame) (status : ℕ) (s : Seen) (rule : FlowRule) (k : p.Command) → Began base [] → Bodies d c defined e.functions → OneHolds d c s e f
       → i.Each (Stands d c defined) (entries.command_entered rule base s k) → Well base e (f ∷ []) status (Command k ∷ [])
   unfolding GoodIn Good FrontGood Stays front around in_any_case
-  command_starts base e f status s rule k bodies h rules = record {
+  command_starts base e f status s rule k began bodies h rules = record {
     known = Both s;
     callers = [];
-    good = record { after = Both s; leads = leads_same d c defined SimpleAt (Both s); goes = ((rule, rules), refl) };
+    good = record { after = Both s; leads = leads_same d c defined SimpleAt (Both s); goes = ((rule, rules), began) };
     holds = both_holds d c status s e f h;
     stays = (f, refl);
     bodies = bodies;
@@ -79,7 +78,7 @@ module _ (d : Declared) (c : Certificate) (defined : List Text) (SimpleAt : Arou
 
     pub item_starts_ok : (first : p.Pipeline) (rest : p.Links) (others : p.Items) → Well base e fs status (Items (p.more_items (p.and_or first rest) true others) ∷ ws)
         → Ok base e fs status (act_on e (front fs) status ws a (Items (p.more_items (p.and_or first rest) true others)))
-    unfolding act_on steps.items GoodIn Good FrontGood items_after item_after entries.items_entered entries.item_rule entries.item_around entries.item_seen around in_any_case if_zero i.Each StartOk NextOk
+    unfolding act_on steps.items GoodIn Good FrontGood items_after item_after entries.items_entered entries.item_rule entries.item_around entries.item_seen around in_any_case if_zero i.Each StartOk StartsOk NextOk
     item_starts_ok first rest others live =
         let q = live.good.after in
         let s = in_any_case q in
@@ -104,8 +103,7 @@ module _ (d : Declared) (c : Certificate) (defined : List Text) (SimpleAt : Arou
           starts = (
             (
               alone,
-              subst (λ f. Well alone (copied (a.carries 0) e) (f ∷ []) status (and_or_work list)) (sym (front_same d c defined SimpleAt fs))
-                  (and_or_starts e (front fs) status (a.carries 0) s F11 first rest live.bodies known here),
+              and_or_starts e (front fs) status (a.carries 0) s F11 first rest live.bodies known here,
             ),
             tt,
           );
@@ -114,19 +112,19 @@ module _ (d : Declared) (c : Certificate) (defined : List Text) (SimpleAt : Arou
         }
 
     -- each part shares, or has copies
-    parts_ok : (n : ℕ) (cs : p.Commands) (s : Seen) (rule : FlowRule) (y : Around) → Bodies d c defined e.functions → OneHolds d c s e (front fs)
-        → i.Each (Stands d c defined) (entries.commands_entered rule (in_part y) (without_job s) cs) → i.Each (StartOk d c defined SimpleAt e (front fs) status) (parts e (front fs) status ws a n cs)
+    parts_ok : (n now : ℕ) (vs : List Work) (cs : p.Commands) (s : Seen) (rule : FlowRule) (y : Around) → Bodies d c defined e.functions → OneHolds d c s e (front fs)
+        → i.Each (Stands d c defined) (entries.commands_entered rule (in_part y) (without_job s) cs) → i.Each (StartOk d c defined SimpleAt e (front fs) status (Some (now, vs))) (parts e (front fs) status ws a n cs)
     unfolding parts i.Each StartOk entries.commands_entered
-    parts_ok n p.no_commands s rule y bodies h rules = tt
-    parts_ok n (p.more_commands k cs) s rule y bodies h rules =
-        (go (a.shares n), parts_ok (suc n) cs s rule y bodies h (each_right (Stands d c defined) (entries.command_entered rule (in_part y) (without_job s) k) _ rules))
+    parts_ok n now vs p.no_commands s rule y bodies h rules = tt
+    parts_ok n now vs (p.more_commands k cs) s rule y bodies h rules =
+        (go (a.shares n), parts_ok (suc n) now vs cs s rule y bodies h (each_right (Stands d c defined) (entries.command_entered rule (in_part y) (without_job s) k) _ rules))
       where
         here : i.Each (Stands d c defined) (entries.command_entered rule (in_part y) (without_job s) k)
         here = each_left (Stands d c defined) (entries.command_entered rule (in_part y) (without_job s) k) _ rules
 
-        go : (b : Bool) → StartOk d c defined SimpleAt e (front fs) status (if b then Shares (Command k ∷ []) else Copies (copied (a.carries n) e) (Command k ∷ []))
-        go true = (in_part y, refl, command_starts (in_part y) e (front fs) status (without_job s) rule k bodies (lose_job d c defined s e (front fs) h) here)
-        go false = (in_part y, command_starts (in_part y) (copied (a.carries n) e) (front fs) status (without_job s) rule k bodies (without_job_holds d c defined s (a.carries n) e (front fs) h) here)
+        go : (b : Bool) → StartOk d c defined SimpleAt e (front fs) status (Some (now, vs)) (if b then Shares (Command k ∷ []) else Copies (copied (a.carries n) e) (Command k ∷ []))
+        go true = (refl, (in_part y, refl, command_starts (in_part y) e (front fs) status (without_job s) rule k (began_part y) bodies (lose_job d c defined s e (front fs) h) here))
+        go false = (in_part y, command_starts (in_part y) (copied (a.carries n) e) (front fs) status (without_job s) rule k (began_part y) bodies (without_job_holds d c defined s (a.carries n) e (front fs) h) here)
 
     negated_good : (callers : List Facts) (b : Bool) (o : After) → Good d c defined SimpleAt base callers ws (swapped b o) → Good d c defined SimpleAt base callers (negated_work e (front fs) status ws a b) o
     unfolding negated_work swapped GoodIn Good FrontGood
@@ -171,4 +169,4 @@ module _ (d : Declared) (c : Certificate) (defined : List Text) (SimpleAt : Arou
         starts_ok d c defined SimpleAt base e fs status a.status (negated_work e (front fs) status ws a b) _
         (turned d c defined SimpleAt base e fs status a.status _ (negated_work e (front fs) status ws a b) live (Both s) (negated_good live.callers b (Both s) live.good.goes.1)
         (both_holds d c a.status s e (front fs) known))
-        (parts_ok 0 (p.more_commands k (p.more_commands k' cs)) s F12 x live.bodies known live.good.goes.0.1)
+        (parts_ok 0 a.status (negated_work e (front fs) status ws a b) (p.more_commands k (p.more_commands k' cs)) s F12 x live.bodies known live.good.goes.0.1)

@@ -1,5 +1,5 @@
 -- Steps that expand a word.
-use Rattle.std.proofs.Common.{◌≡◌, ℕ, Bool, true, false, if◌then◌else◌, List, [], ◌∷◌, ◌++◌, Option, refl, sym, ap, ◌∙◌, subst}
+use Rattle.std.proofs.Common.{◌≡◌, ℕ, Bool, true, false, if◌then◌else◌, List, [], ◌∷◌, ◌++◌, Option, refl, sym, subst}
 use Rattle.sh_tree.specs.program.Syntax as p
 use Rattle.sh_tree.specs.program.Syntax.{Text}
 use Rattle.sh_table.specs.runs.Environment.{Environment, Frame}
@@ -14,10 +14,10 @@ use Rattle.sh_facts.specs.Gains.{Gains, word_gains}
 use Rattle.sh_facts.specs.Views.{Certificate, Seen, After, Both, gaining}
 use Rattle.sh_sound.specs.Holding.{Grows, OneHolds, AfterHolds, CopyWell, Expanded}
 use Rattle.sh_facts.specs.Inclusions as i
-use Rattle.sh_sound.specs.Going.{around, Bodies, front, frames_behind, FrameStays, WordAt, FrontGood, Good, GoodIn, Stays, ProcessOk, StartOk, StepOk}
+use Rattle.sh_sound.specs.Going.{around, Bodies, front, FrameStays, WordAt, FrontGood, Good, GoodIn, Stays, ProcessOk, StartOk, StartsOk, StepOk}
 use Rattle.sh_sound.proofs.HoldLemmas.{each_both, one_grows, gain_holds, both_holds}
 use Rattle.sh_sound.proofs.ExpansionLemmas.{word_does}
-use Rattle.sh_sound.proofs.ListLemmas.{good_in, same_frames, frame_stays, step_goes, step_ends, stays_grow, leads_same}
+use Rattle.sh_sound.proofs.ListLemmas.{began_alone, good_in, frame_stays, step_goes, step_ends, stays_grow, leads_same}
 
 module _ (d : Declared) (c : Certificate) (defined : List Text) (SimpleAt : Around → Work → Seen → Type 0) where
   abbrev Well : Around → Environment → List Frame → ℕ → List Work → Type 0
@@ -26,9 +26,6 @@ module _ (d : Declared) (c : Certificate) (defined : List Text) (SimpleAt : Arou
   abbrev Ok : Around → Environment → List Frame → ℕ → Effect → Type 0
   Ok base e fs status x = StepOk d c defined SimpleAt base e fs status x
 
-  pub front_same : (fs : List Frame) → front (frames_behind fs (Keeps (front fs))) ≡ front fs
-  front_same fs = ap front (same_frames d c defined SimpleAt fs)
-
   -- the process of a substitution is well
   pub copy_begins : (bodies : Text → Option p.Command) (f : Frame) (status : ℕ) (x : Copy) → Bodies d c defined bodies
       → CopyWell d c defined f bodies x → Well alone x.environment (f ∷ []) status (Items x.list ∷ [])
@@ -36,17 +33,17 @@ module _ (d : Declared) (c : Certificate) (defined : List Text) (SimpleAt : Arou
   copy_begins bodies f status x ok h = record {
     known = Both h.seen;
     callers = [];
-    good = record { after = Both h.seen; leads = leads_same d c defined SimpleAt (Both h.seen); goes = ((h.rule, h.rules), refl) };
+    good = record { after = Both h.seen; leads = leads_same d c defined SimpleAt (Both h.seen); goes = ((h.rule, h.rules), began_alone) };
     holds = both_holds d c status h.seen x.environment f h.holds;
     stays = (f, refl);
     bodies = subst (Bodies d c defined) (sym h.functions) ok;
   }
 
-  pub copies_begin : (bodies : Text → Option p.Command) (e : Environment) (f : Frame) (status : ℕ) (xs : List Copy) → Bodies d c defined bodies
-      → i.Each (CopyWell d c defined f bodies) xs → i.Each (StartOk d c defined SimpleAt e f status) (of_copies xs)
+  pub copies_begin : (bodies : Text → Option p.Command) (e : Environment) (f : Frame) (status : ℕ) (next : Option (ℕ × List Work)) (xs : List Copy) → Bodies d c defined bodies
+      → i.Each (CopyWell d c defined f bodies) xs → i.Each (StartOk d c defined SimpleAt e f status next) (of_copies xs)
   unfolding i.Each StartOk
-  copies_begin bodies e f status [] ok h = tt
-  copies_begin bodies e f status (x ∷ xs) ok h = ((alone, copy_begins bodies f status x ok h.0), copies_begin bodies e f status xs ok h.1)
+  copies_begin bodies e f status next [] ok h = tt
+  copies_begin bodies e f status next (x ∷ xs) ok h = ((alone, copy_begins bodies f status x ok h.0), copies_begin bodies e f status next xs ok h.1)
 
   -- a step that starts nothing, keeps the frame and splits nothing by itself
   pub record Plain (fs : List Frame) (x : Effect) : Type 0 where
@@ -77,16 +74,16 @@ module _ (d : Declared) (c : Certificate) (defined : List Text) (SimpleAt : Arou
     -- a step behind an expansion
     pub expanded_ok : {g : Gains} (s : State) (split : Bool) (x : Effect) → Bodies d c defined e.functions → Does g s → Plain fs x
         → (split ≡ false → Ok base e fs status x) → (base.shares ≡ true → Grows e x.environment) → Ok base e fs status (after_expansion s split x)
-    unfolding i.Each
+    unfolding i.Each StartsOk
     expanded_ok s split x ok does plain next grows = record {
       quiet = does.unset;
       next = λ h. (next h).next plain.split;
       starts =
-          subst (λ ys. i.Each (StartOk d c defined SimpleAt x.environment (front (frames_behind fs x.frames)) status) (of_copies s.copies ++ ys)) (sym plain.starts)
-          (each_both (StartOk d c defined SimpleAt x.environment (front (frames_behind fs x.frames)) status) (of_copies s.copies) []
-          (subst (λ f. i.Each (StartOk d c defined SimpleAt x.environment f status) (of_copies s.copies)) (sym (ap (λ k. front (frames_behind fs k)) plain.frames ∙ front_same fs))
-          (copies_begin e.functions x.environment (front fs) status s.copies ok (does.copies e.functions refl tt)))
-          tt);
+          subst (λ ys. StartsOk d c defined SimpleAt x.environment x.frames status x.next (of_copies s.copies ++ ys)) (sym plain.starts)
+          (subst (λ k. StartsOk d c defined SimpleAt x.environment k status x.next (of_copies s.copies ++ [])) (sym plain.frames)
+          (each_both (StartOk d c defined SimpleAt x.environment (front fs) status x.next) (of_copies s.copies) []
+          (copies_begin e.functions x.environment (front fs) status x.next s.copies ok (does.copies e.functions refl tt))
+          tt));
       grows = grows;
       frame = λ h. subst (FrameStays fs) (sym plain.frames) (frame_stays d c defined SimpleAt fs);
     }

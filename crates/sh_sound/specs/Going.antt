@@ -1,7 +1,7 @@
 -- When the work that a process has left meets the rules, from what is known at its front on: what each piece of it needs, and what is known
 -- behind that piece.
 -- POSIX.1-2024, XCU 2.9 (shell commands), 2.13 (shell execution environment), 2.15 (break, continue, return).
-use Rattle.std.specs.Prelude.{◌≡◌, ℕ, Bool, true, false, ◌||◌, List, [], ◌∷◌, ◌++◌, length, codes, Option, Some, None, ◌⊎◌}
+use Rattle.std.specs.Prelude.{◌≡◌, ℕ, Bool, true, false, ◌||◌, List, [], ◌∷◌, ◌++◌, length, codes, Option, Some, None, is_some, ◌⊎◌}
 use Rattle.std.specs.List.{list_any}
 use Rattle.sh_tree.specs.declared.tree.ClauseEnd.{ClauseEnd}
 use Rattle.sh_tree.specs.declared.tree.LoopKind.{LoopKind}
@@ -20,7 +20,8 @@ use Rattle.sh_facts.specs.Gains.{word_gains, words_gains, redirect_gains, redire
 use Rattle.sh_facts.specs.Needs.{word_unmet}
 use Rattle.sh_facts.specs.Operands.{Names}
 use Rattle.sh_facts.specs.Rules.{is_last, matches_always}
-use Rattle.sh_facts.specs.Views.{Certificate, Before, AfterZero, AfterNonzero, Head, Entry, Seen, After, Both, if_zero, if_nonzero, in_any_case, swapped, after_command, at, gaining, gaining_names, without_job, stepped, Define}
+use Rattle.sh_facts.specs.Views as views
+use Rattle.sh_facts.specs.Views.{Certificate, Before, AfterZero, AfterNonzero, Head, Entry, ReturnsZero, ReturnsNonzero, Seen, After, Both, if_zero, if_nonzero, in_any_case, swapped, after_command, at, gaining, gaining_names, without_job, stepped, Define}
 use Rattle.sh_sound.specs.Fields.{FieldsFit}
 use Rattle.sh_sound.specs.Holding.{Stands, Holds, Grows, OneHolds, AfterHolds, Entails, Leads}
 use Rattle.sh_facts.specs.Inclusions.{Each, Covers, Leaves, MayDrop, LoopRules, ForRules, BranchesLeave, OtherwiseLeaves, ClausesLeave, BodyRules, word_formed}
@@ -65,6 +66,16 @@ FrameStays fs x = Unit {0}
 unfoldable pub OfFirst : List Facts → (Facts → List Facts → Type 0) → Type 0
 OfFirst [] P = ⊥
 OfFirst (kept ∷ callers) P = P kept callers
+
+-- a process begins outside loops and functions, and nothing in it waits for a return
+pub record Began (base : Around) (callers : List Facts) : Type 0 where
+  pub none_waits : callers ≡ []
+  pub no_loop : base.loops ≡ []
+  pub no_function : base.function ≡ None
+
+-- where a function returns
+abbrev pub after_function : Text → After
+after_function f = views.Each (at (ReturnsZero f)) (at (ReturnsNonzero f))
 
 -- facts that claim none of these names
 unfoldable pub Apart : Facts → Names → Type 0
@@ -192,9 +203,9 @@ module _ (d : Declared) (c : Certificate) (defined : List Text) where
 
   -- The return mark of a call. The caller keeps these facts, none of which the function drops; with them and with what is known where the
   -- function returns, what is claimed behind the call is true, whichever of the prefix assignments stay.
-  pub record ReturnAt (x : Around) (n : ℕ) (f : Text) (saved : Saved) (kept : Facts) (q : After) : Type 0 where
+  pub record ReturnAt (x : Around) (n : ℕ) (f : Text) (saved : Saved) (kept : Facts) : Type 0 where
     pub comes : (restores : ℕ → Bool) (status : ℕ) (e : Environment) (inner outer : Frame)
-        → AfterHolds d c status q e inner → Holds kept e outer → AfterHolds d c status (after_command n) (restored restores 0 e saved) outer
+        → AfterHolds d c status (after_function f) e inner → Holds kept e outer → AfterHolds d c status (after_command n) (restored restores 0 e saved) outer
     pub apart : Apart kept (c.drops f)
     pub dropped : MayDrop d c x (c.drops f)
     pub unset : MayDrop d c x (record { vars = unset_before saved; functions = [] })
@@ -239,9 +250,9 @@ module _ (d : Declared) (c : Certificate) (defined : List Text) where
     -- The work meets the rules where o is known; each caller that waits for a return keeps the facts of its place in the list, the
     -- innermost first.
     unfoldable pub Good : Around → List Facts → List Work → After → Type 0
-    Good base callers [] o = callers ≡ []
+    Good base callers [] o = Began base callers
     Good base callers (Return n f saved ∷ ws) o =
-        OfFirst callers (λ kept others. Weaker (λ q. ReturnAt (around base ws) n f saved kept q × Good base others ws (after_command n)) o)
+        OfFirst callers (λ kept others. Leads d c o (after_function f) × ReturnAt (around base ws) n f saved kept × Good base others ws (after_command n))
     Good base callers (w ∷ ws) o = Weaker (λ q. FrontGood (around base ws) w (λ r. Good base callers ws r) q) o
 
     -- The work of a process in this frame: where the words of a simple command are expanded, the fields so far are those of this frame.
@@ -269,10 +280,16 @@ module _ (d : Declared) (c : Certificate) (defined : List Text) where
 
     -- Steps
 
-    -- a process that is started with this frame: one that shares drops nothing
-    unfoldable pub StartOk : Environment → Frame → ℕ → Start → Type 0
-    StartOk e f status (Shares ws) = (base : Around) × (base.shares ≡ true) × ProcessOk base e (f ∷ []) status ws
-    StartOk e f status (Copies e' ws) = (base : Around) × ProcessOk base e' (f ∷ []) status ws
+    -- a process that is started with this frame: one that shares drops nothing, and who started it goes on
+    unfoldable pub StartOk : Environment → Frame → ℕ → Option (ℕ × List Work) → Start → Type 0
+    StartOk e f status next (Shares ws) = (is_some next ≡ true) × ((base : Around) × (base.shares ≡ true) × ProcessOk base e (f ∷ []) status ws)
+    StartOk e f status next (Copies e' ws) = (base : Around) × ProcessOk base e' (f ∷ []) status ws
+
+    -- a step that calls or returns starts nothing
+    unfoldable pub StartsOk : Environment → Frames → ℕ → Option (ℕ × List Work) → List Start → Type 0
+    StartsOk e (Keeps f) status next xs = Each (StartOk e f status next) xs
+    StartsOk e (Pushes f) status next xs = xs ≡ []
+    StartsOk e Pops status next xs = xs ≡ []
 
     unfoldable pub NextOk : Around → Environment → List Frame → Option (ℕ × List Work) → Type 0
     NextOk base e fs None = Bodies e.functions
@@ -283,6 +300,6 @@ module _ (d : Declared) (c : Certificate) (defined : List Text) where
     pub record StepOk (base : Around) (e : Environment) (fs : List Frame) (status : ℕ) (x : Effect) : Type 0 where
       pub quiet : x.unset ≡ false
       pub next : x.split ≡ false → NextOk base x.environment (frames_behind fs x.frames) x.next
-      pub starts : Each (StartOk x.environment (front (frames_behind fs x.frames)) status) x.starts
+      pub starts : StartsOk x.environment x.frames status x.next x.starts
       pub grows : base.shares ≡ true → Grows e x.environment
       pub frame : base.shares ≡ true → FrameStays fs x.frames
