@@ -96,7 +96,7 @@ least_is [] f e = cc
 least_is (x ∷ xs) f e =
     let r = found x f xs e in
     record {
-      told = elim r.one_of [ inl s ↦ subst (Contains (x ∷ xs)) (sym s) (here x xs) | inr h ↦ there x f xs h ];
+      member = elim r.one_of [ inl s ↦ subst (Contains (x ∷ xs)) (sym s) (here x xs) | inr h ↦ there x f xs h ];
       least = λ g h. elim (cases x g xs h) [ inl s ↦ subst (λ y. precedes y f ≡ false) s r.first | inr k ↦ r.others g k ];
     }
 

@@ -17,7 +17,7 @@ use Rattle.sh_tree.specs.declared.tree.Part.TheVariants as part
 use Rattle.sh_tree.specs.Words.{lone_command, form_of_assignment, form_of_word, form_of_redirection, expansions, expansions_in, expansions_in-Double, subject_text}
 use Rattle.sh_tree.specs.program.Syntax.{Text}
 use Rattle.sh_flow.specs.Facts.{Facts}
-use Rattle.sh_flow.specs.Demands.{wanted, covers, uncovered, form_unmet, element_unmet}
+use Rattle.sh_flow.specs.Demands.{place_unless, covers, uncovered, form_unmet, element_unmet}
 use Rattle.sh_flow.specs.Walks.{on_lone, part_unmet}
 
 -- the places of parts are those of each part
@@ -52,7 +52,7 @@ part_unmet-Plain b names f s = refl
 pub part_unmet-Double : (b : List ℕ) (names : List Text) (f : Facts) (s : Span) (ps : List Part) → part_unmet b names f (Double s ps) ≡ flat_map (part_unmet b names f) ps
 part_unmet-Double b names f s ps = ap (uncovered b names f) (expansions_in-Double true s ps) ∙ part_unmet-all b names f ps
 
-pub part_unmet-Param : (b : List ℕ) (names : List Text) (f : Facts) (p : Param) → part_unmet b names f (part.Param p) ≡ wanted (covers names f (subject_text b p.subject)) p.span.start (subject_text b p.subject)
+pub part_unmet-Param : (b : List ℕ) (names : List Text) (f : Facts) (p : Param) → part_unmet b names f (part.Param p) ≡ place_unless (covers names f (subject_text b p.subject)) p.span.start (subject_text b p.subject)
 unfolding expansions_in
 part_unmet-Param b names f p = append-nil _
 

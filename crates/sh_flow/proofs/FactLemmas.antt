@@ -12,7 +12,7 @@ use Rattle.sh_table.specs.runs.Environment.{Environment, Frame, is_one_of}
 use Rattle.sh_rows.specs.Numbers.{has_number}
 use Rattle.sh_table.proofs.EnvironmentLemmas.{AreSet}
 use Rattle.sh_flow.specs.Facts.{Facts, NotReached, Known, Claim, Unreached, Claimed, facts, within, within_out, meet, with_vars, Satisfies, Out, both, enter}
-use Rattle.sh_flow.specs.Rules.{told, start_facts, is_set_at_start}
+use Rattle.sh_flow.specs.Rules.{fault_unless, start_facts, is_set_at_start}
 
 -- Tests and lists
 
@@ -160,7 +160,7 @@ claimed_after names zero z n g e f h s = claimed_holds names z g e f (and_parts 
 claimed_after names (suc m) z n g e f h s = claimed_holds names n g e f (and_parts (within z g) (within n g) h).1 s
 
 -- nothing is told where the test holds
-pub untold : (b : Bool) (k : ℕ) (r : _) → told b k r ≡ [] → b ≡ true
-unfolding told
+pub untold : (b : Bool) (k : ℕ) (r : _) → fault_unless b k r ≡ [] → b ≡ true
+unfolding fault_unless
 untold true k r h = refl
 untold false k r h = cc

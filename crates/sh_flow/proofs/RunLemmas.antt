@@ -14,8 +14,8 @@ use Rattle.sh_table.specs.runs.Expansion.{in_fields, in_one}
 use Rattle.sh_flow.specs.Names.{number_of}
 use Rattle.sh_flow.specs.Expansions.{is_unset, names_unset}
 use Rattle.sh_flow.specs.Facts.{Facts, NotReached, Known, Claims, Satisfies, Out, both, enter, facts, out_at, within, within_out}
-use Rattle.sh_flow.specs.Rules.{told, leaves, faults, item_faults, rule_behind, out_behind, list_faults}
-use Rattle.sh_flow.specs.Demands.{wanted, knows, covers, uncovered, form_unmet, element_unmet, command_unmet}
+use Rattle.sh_flow.specs.Rules.{fault_unless, leaves, faults, item_faults, rule_behind, out_behind, list_faults}
+use Rattle.sh_flow.specs.Demands.{place_unless, knows, covers, uncovered, form_unmet, element_unmet, command_unmet}
 use Rattle.sh_flow.specs.declared.rule.FlowRule.{FlowRule}
 use Rattle.sh_flow.specs.declared.rule.FlowRule.TheVariants.{F2}
 use Rattle.sh_flow.proofs.FactLemmas.{append_nil_left, append_nil_right, number_finds, claimed_holds, with_vars_holds, HoldsAfter, holds_enter, claimed_after, untold}
@@ -69,10 +69,10 @@ module _ (b : List ℕ) where
 module _ (b : List ℕ) (names : List Text) where
   -- Demands
 
-  wanted_none : (s : Bool) (at : ℕ) (t : Text) → wanted s at t ≡ [] → s ≡ true
-  unfolding wanted
-  wanted_none true at t h = refl
-  wanted_none false at t h = cc
+  place_unless_none : (s : Bool) (at : ℕ) (t : Text) → place_unless s at t ≡ [] → s ≡ true
+  unfolding place_unless
+  place_unless_none true at t h = refl
+  place_unless_none false at t h = cc
 
   covered_is_set : (g : Facts) (e : Environment) (f : Frame) (t : Text) → covers names g t ≡ true → Satisfies names g e f → is_some (e.variables t) ≡ true
   unfolding covers Satisfies knows
@@ -88,8 +88,8 @@ module _ (b : List ℕ) (names : List Text) where
   covered_quiet g e f [] h s = refl
   covered_quiet g e f (x ∷ xs) h s =
       let t : Text = subject_text b x.param.subject in
-      let own : covers names g t ≡ true = wanted_none (covers names g t) x.param.span.start t (append_nil_left _ _ h) in
-      rw (covered_is_set g e f t own s) (covered_quiet g e f xs (append_nil_right (wanted (covers names g t) x.param.span.start t) _ h) s)
+      let own : covers names g t ≡ true = place_unless_none (covers names g t) x.param.span.start t (append_nil_left _ _ h) in
+      rw (covered_is_set g e f t own s) (covered_quiet g e f xs (append_nil_right (place_unless (covers names g t) x.param.span.start t) _ h) s)
 
   -- where no demand of the elements is unmet, their words and values name nothing unset
   words_quiet : (g : Facts) (e : Environment) (f : Frame) (es : List Element) → flat_map (element_unmet b names g) es ≡ [] → Satisfies names g e f
@@ -142,7 +142,7 @@ module _ (b : List ℕ) (names : List Text) where
         let own : command_unmet b names c x ≡ [] = append_nil_left _ _ d in
         let true_before : Satisfies names before e f = claimed_holds names (c.before k) (enter o) e f (untold _ _ _ (append_nil_left _ _ r)) (holds_enter names status o e f s) in
         let after : within_out (c.zero_at k) (c.nonzero_at k) (both (leaves b names (words_of es) es before)) ≡ true =
-        untold _ _ _ (append_nil_right (told (within (c.before k) (enter o)) k rule) _ r) in
+        untold _ _ _ (append_nil_right (fault_unless (within (c.before k) (enter o)) k rule) _ r) in
         record {
           words = words_quiet before e f es own true_before;
           values = values_quiet before e f es own true_before;

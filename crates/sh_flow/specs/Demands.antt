@@ -13,9 +13,9 @@ use Rattle.sh_flow.specs.Names.{number_of}
 use Rattle.sh_flow.specs.Facts.{Facts, NotReached, Known, Claims, facts}
 
 -- a parameter, where it is not surely set: the offset of its `$`
-unfoldable pub wanted : Bool → ℕ → Text → List Place
-wanted true at t = []
-wanted false at t = record { at = at; code = U1; subject = t } ∷ []
+unfoldable pub place_unless : Bool → ℕ → Text → List Place
+place_unless true at t = []
+place_unless false at t = record { at = at; code = U1; subject = t } ∷ []
 
 unfoldable pub knows : (ℕ → Bool) → Option ℕ → Bool
 knows v None = false
@@ -29,7 +29,7 @@ covers names (Known v f a) t = knows v (number_of names t)
 module _ (b : List ℕ) (names : List Text) where
   -- the places of the expansions whose parameter is not surely set
   abbrev pub uncovered : Facts → List Expansion → List Place
-  uncovered f xs = flat_map (λ x. wanted (covers names f (subject_text b x.param.subject)) x.param.span.start (subject_text b x.param.subject)) xs
+  uncovered f xs = flat_map (λ x. place_unless (covers names f (subject_text b x.param.subject)) x.param.span.start (subject_text b x.param.subject)) xs
 
   unfoldable pub form_unmet : Facts → Form → List Place
   form_unmet f (Assigns s w) = uncovered f (expansions false w.parts)

@@ -23,9 +23,9 @@ pub record Fault : Type 0 where
   pub rule : FlowRule
 
 -- a command and a rule, where the rule's test fails there
-unfoldable pub told : Bool → ℕ → FlowRule → List Fault
-told true k r = []
-told false k r = record { number = k; rule = r } ∷ []
+unfoldable pub fault_unless : Bool → ℕ → FlowRule → List Fault
+fault_unless true k r = []
+fault_unless false k r = record { number = k; rule = r } ∷ []
 
 -- the name of this number is set at the start
 unfoldable pub is_set_at_start : List Text → Declared → ℕ → Bool
@@ -53,8 +53,8 @@ module _ (b : List ℕ) (names : List Text) where
   -- the faults of a command that the rule enters with these facts
   unfoldable pub faults : Claims → Command → FlowRule → Facts → List Fault
   faults c x by f =
-      told (within (c.before (out-Command x).number) f) (out-Command x).number by
-      ++ told
+      fault_unless (within (c.before (out-Command x).number) f) (out-Command x).number by
+      ++ fault_unless
       (within_out (c.zero_at (out-Command x).number) (c.nonzero_at (out-Command x).number) (both (leaves (words_of (elements_of (out-Command x).kind)) (elements_of (out-Command x).kind) (facts (c.before (out-Command x).number)))))
       (out-Command x).number
       (exit_rule (words_of (elements_of (out-Command x).kind)))
@@ -105,5 +105,5 @@ least_from found (f ∷ fs) = least_from (Some (lesser found f)) fs
 
 -- the fault stands in the list, and none there precedes it
 pub record IsLeast (f : Fault) (fs : List Fault) : Type 0 where
-  pub told : Contains fs f
+  pub member : Contains fs f
   pub least : (g : Fault) → Contains fs g → precedes g f ≡ false

@@ -59,23 +59,23 @@ misfit_goes : (k : ℕ) (rest : List ℕ) → ends (words.misfit k rest) ≡ fal
 unfolding words.misfit
 misfit_goes k rest = grind (arith, nat_tests)
 
-removed_goes : (p : Subject) (k : ℕ) (rest : List ℕ) → ends (words.removed p k rest) ≡ false
-unfolding words.removed
-removed_goes p k [] = misfit_goes k []
-removed_goes p k (c ∷ rest) = grind (arith, nat_tests, misfit_goes k (c ∷ rest))
+pattern_removal_goes : (p : Subject) (k : ℕ) (rest : List ℕ) → ends (words.pattern_removal p k rest) ≡ false
+unfolding words.pattern_removal
+pattern_removal_goes p k [] = misfit_goes k []
+pattern_removal_goes p k (c ∷ rest) = grind (arith, nat_tests, misfit_goes k (c ∷ rest))
 
-used_by_goes : (colon : Bool) (p : Subject) (k : ℕ) (rest : List ℕ) (a : Option Action) → ends (words.used_by colon p k rest a) ≡ false
-used_by_goes colon p k rest (Some a) = refl
-used_by_goes colon p k rest None = grind (arith, nat_tests, misfit_goes k rest, removed_goes p k rest)
+action_by_goes : (colon : Bool) (p : Subject) (k : ℕ) (rest : List ℕ) (a : Option Action) → ends (words.action_by colon p k rest a) ≡ false
+action_by_goes colon p k rest (Some a) = refl
+action_by_goes colon p k rest None = grind (arith, nat_tests, misfit_goes k rest, pattern_removal_goes p k rest)
 
-used_goes : (colon : Bool) (p : Subject) (k : ℕ) (rest : List ℕ) → ends (words.used colon p k rest) ≡ false
-unfolding words.used
-used_goes colon p k [] = misfit_goes k []
-used_goes colon p k (c ∷ rest) = used_by_goes colon p k (c ∷ rest) (words.action_of c)
+parameter_action_goes : (colon : Bool) (p : Subject) (k : ℕ) (rest : List ℕ) → ends (words.parameter_action colon p k rest) ≡ false
+unfolding words.parameter_action
+parameter_action_goes colon p k [] = misfit_goes k []
+parameter_action_goes colon p k (c ∷ rest) = action_by_goes colon p k (c ∷ rest) (words.action_of c)
 
-operated_goes : (p : Subject) (k : ℕ) (rest : List ℕ) → ends (words.operated p k rest) ≡ false
-unfolding words.operated
-operated_goes p k rest = grind (arith, nat_tests, used_goes true p (k + 1) (drop 1 rest), used_goes false p k rest)
+parameter_operator_goes : (p : Subject) (k : ℕ) (rest : List ℕ) → ends (words.parameter_operator p k rest) ≡ false
+unfolding words.parameter_operator
+parameter_operator_goes p k rest = grind (arith, nat_tests, parameter_action_goes true p (k + 1) (drop 1 rest), parameter_action_goes false p k rest)
 
 counted_goes : (rest : List ℕ) (p : Option (Subject × ℕ)) → ends (words.length_by rest p) ≡ false
 counted_goes rest (Some p) = grind (arith, nat_tests, misfit_goes (p.1 + 3) (drop p.1 rest))
@@ -85,23 +85,23 @@ specially_goes : (i : ℕ) (rest : List ℕ) (p : Option SpecialParameter) → e
 specially_goes i rest (Some p) = grind (arith, nat_tests, misfit_goes 3 (drop 1 rest))
 specially_goes i rest None = misfit_goes 2 rest
 
-unnamed_goes : (i : ℕ) (rest : List ℕ) → ends (words.unnamed i rest) ≡ false
-unfolding words.unnamed words.parameter_length
-unnamed_goes i [] = misfit_goes 2 []
-unnamed_goes i (c ∷ rest) = grind (arith, nat_tests, counted_goes rest (words.parameter (i + 3) rest), specially_goes (i + 2) (c ∷ rest) (words.special_of c))
+special_or_length_goes : (i : ℕ) (rest : List ℕ) → ends (words.special_or_length i rest) ≡ false
+unfolding words.special_or_length words.parameter_length
+special_or_length_goes i [] = misfit_goes 2 []
+special_or_length_goes i (c ∷ rest) = grind (arith, nat_tests, counted_goes rest (words.parameter (i + 3) rest), specially_goes (i + 2) (c ∷ rest) (words.special_of c))
 
-braced_goes : (i : ℕ) (cs : List ℕ) (p : Option (Subject × ℕ)) → ends (words.braced_by i cs p) ≡ false
-braced_goes i cs (Some p) = operated_goes p.0 (p.1 + 2) (drop p.1 cs)
-braced_goes i cs None = unnamed_goes i cs
+braced_expansion_goes : (i : ℕ) (cs : List ℕ) (p : Option (Subject × ℕ)) → ends (words.braced_expansion_by i cs p) ≡ false
+braced_expansion_goes i cs (Some p) = parameter_operator_goes p.0 (p.1 + 2) (drop p.1 cs)
+braced_expansion_goes i cs None = special_or_length_goes i cs
 
-opened_goes : (i : ℕ) (cs : List ℕ) → ends (words.opened i cs) ≡ false
-unfolding words.opened words.named_value words.braced words.parenthesis words.single_parameter
-opened_goes i [] = refl
-opened_goes i (c ∷ rest) = grind (arith, nat_tests, braced_goes i rest (words.parameter (i + 2) rest))
+dollar_expansion_goes : (i : ℕ) (cs : List ℕ) → ends (words.dollar_expansion i cs) ≡ false
+unfolding words.dollar_expansion words.named_value words.braced_expansion words.parenthesis words.single_parameter
+dollar_expansion_goes i [] = refl
+dollar_expansion_goes i (c ∷ rest) = grind (arith, nat_tests, braced_expansion_goes i rest (words.parameter (i + 2) rest))
 
 dollar_goes : (x : Context) (i : ℕ) (cs : List ℕ) → ends (words.dollar x i cs) ≡ false
 unfolding words.dollar
-dollar_goes x i cs = grind (arith, nat_tests, opened_goes i cs)
+dollar_goes x i cs = grind (arith, nat_tests, dollar_expansion_goes i cs)
 
 single_goes : (cs : List ℕ) → ends (words.single cs) ≡ false
 unfolding words.single

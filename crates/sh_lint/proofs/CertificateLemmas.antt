@@ -23,8 +23,8 @@ use Rattle.sh_flow.specs.Names.{number_of, subjects, form_names, names_in, scrip
 use Rattle.sh_rows.specs.Numbers.{has_number}
 use Rattle.sh_flow.specs.Facts.{Facts, Known, Claim, Claimed, facts, within, meet, with_vars, Out, both, enter, out_at, Claims}
 use Rattle.sh_flow.specs.Certificates.{Table, row_at, claim_of, claim_in, entry_of, claims_of}
-use Rattle.sh_flow.specs.Rules.{told, is_set_at_start, start_facts, assigned_numbers, leaves, faults, item_faults, rule_behind, out_behind, list_faults, script_faults}
-use Rattle.sh_flow.specs.Demands.{wanted, knows, covers, uncovered, form_unmet, element_unmet, command_unmet, script_unmet}
+use Rattle.sh_flow.specs.Rules.{fault_unless, is_set_at_start, start_facts, assigned_numbers, leaves, faults, item_faults, rule_behind, out_behind, list_faults, script_faults}
+use Rattle.sh_flow.specs.Demands.{place_unless, knows, covers, uncovered, form_unmet, element_unmet, command_unmet, script_unmet}
 use Rattle.sh_flow.specs.declared.certificate.Facts as shown
 use Rattle.sh_flow.specs.declared.certificate.Entry.{Entry}
 use Rattle.sh_flow.specs.declared.rule.FlowRule.{FlowRule}
@@ -137,7 +137,7 @@ leaves_known b names args (w ∷ ws) es before sure known = λ c claim.
 
 command_clean : (b : List ℕ) (names : List Text) (c : Claims) (args : ℕ) (x : Command) (by : FlowRule) (f : Facts) (sure : List Text)
     → Enters names args f sure → ClaimsAt names c args (out-Command x).number sure (sure ++ command_gains b x) → faults b names c x by f ≡ []
-unfolding faults told
+unfolding faults fault_unless
 command_clean b names c args x by f sure enters said =
     let entered : within (c.before (out-Command x).number) f ≡ true = enters (c.before (out-Command x).number) said.before in
     let left = leaves_known b names args (words_of (elements_of (out-Command x).kind)) (elements_of (out-Command x).kind) (c.before (out-Command x).number) sure said.before in
@@ -184,8 +184,8 @@ uncovered_unsure b names args c sure (x ∷ xs) claim e =
     let test = λ (s : Text). is_some (number_of names s) in
     let here = covers_known names args c sure (subject_text b x.param.subject) claim (and_parts (test (subject_text b x.param.subject)) (list_all test (subjects b xs)) e).0 in
     let there = uncovered_unsure b names args c sure xs claim (and_parts (test (subject_text b x.param.subject)) (list_all test (subjects b xs)) e).1 in
-    ap (λ q. wanted q x.param.span.start (subject_text b x.param.subject) ++ uncovered b names (facts c) xs) here
-    ∙ ap (λ ps. wanted (is_one_of sure (subject_text b x.param.subject)) x.param.span.start (subject_text b x.param.subject) ++ ps) there
+    ap (λ q. place_unless q x.param.span.start (subject_text b x.param.subject) ++ uncovered b names (facts c) xs) here
+    ∙ ap (λ ps. place_unless (is_one_of sure (subject_text b x.param.subject)) x.param.span.start (subject_text b x.param.subject) ++ ps) there
 
 element_same : (b : List ℕ) (names : List Text) (args : ℕ) (c : Claim) (sure : List Text) (e : Element) → ClaimOf names args c sure
     → list_all (λ s. is_some (number_of names s)) (names_in b e) ≡ true → element_unmet b names (facts c) e ≡ element_unset b sure e

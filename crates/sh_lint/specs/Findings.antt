@@ -20,7 +20,7 @@ use Rattle.sh_table.specs.runs.Environment.{is_one_of}
 use Rattle.sh_table.specs.runs.Worlds.{start_names}
 use Rattle.sh_flow.specs.Policy.{Declared}
 use Rattle.sh_flow.specs.Profile.{is_item_admitted}
-use Rattle.sh_flow.specs.Demands.{wanted}
+use Rattle.sh_flow.specs.Demands.{place_unless}
 
 -- Quoting: each unquoted expansion in a command's words
 
@@ -46,7 +46,7 @@ module _ (b : List ℕ) where
 
   -- the expansions of names that are not sure
   abbrev pub unsure : List Text → List Expansion → List Place
-  unsure sure xs = flat_map (λ x. wanted (is_one_of sure (subject_text b x.param.subject)) x.param.span.start (subject_text b x.param.subject)) xs
+  unsure sure xs = flat_map (λ x. place_unless (is_one_of sure (subject_text b x.param.subject)) x.param.span.start (subject_text b x.param.subject)) xs
 
   unfoldable pub form_unset : List Text → Form → List Place
   form_unset sure (Assigns s w) = unsure sure (expansions false w.parts)

@@ -5,7 +5,7 @@ use Rattle.std.proofs.lemmas.List.Concat.{flat_map-append}
 use Rattle.std.proofs.lemmas.List.Folds.{list_any-append, list_all-append}
 use Rattle.std.proofs.lemmas.Option.{same_Some, none-some}
 use Rattle.std.proofs.lemmas.Slice.Eq.{bytes_eq-Decides}
-use Rattle.sh_tree.specs.Words.{joined, is_wildcard}
+use Rattle.sh_tree.specs.Words.{both_texts, is_wildcard}
 use Rattle.sh_tree.specs.declared.tree.SingleStyle.TheVariants as single
 use Rattle.sh_tree.specs.program.Syntax as p
 use Rattle.sh_tree.specs.program.Words as words
@@ -166,7 +166,7 @@ quotes_spell false s l = record { ended = l; standing = refl; text = refl; class
 abbrev pub Joins : Option (List ℕ) → Option (List ℕ) → List ℕ → Type 0
 Joins v w t = (a : List ℕ) × (b : List ℕ) × (v ≡ Some a) × (w ≡ Some b) × (a ++ b ≡ t)
 
-pub joined_some : (v w : Option (List ℕ)) (t : List ℕ) → joined v w ≡ Some t → Joins v w t
+pub joined_some : (v w : Option (List ℕ)) (t : List ℕ) → both_texts v w ≡ Some t → Joins v w t
 joined_some None w t h = absurd (none-some t h)
 joined_some (Some a) None t h = absurd (none-some t h)
 joined_some (Some a) (Some b) t h = (a, b, refl, refl, same_Some (a ++ b) t h)

@@ -38,7 +38,7 @@ use Rattle.sh_tree.specs.language.Contexts.{in_word, in_unsplit, in_stage}
 use Rattle.sh_tree.specs.language.Parts.{is_quoted_word}
 use Rattle.sh_tree.specs.language.HereDocuments.{Mark, behind_line, delimiter_of, end_line, is_ambiguous, keeps_document}
 use Rattle.sh_tree.specs.language.Contexts.{in_document_of}
-use Rattle.sh_tree.specs.language.States.{Spot, State, Document, to, deeper, behind, facing, within, nth, waits, next, past, on_line, in_document, pended, begun, lower, as_deep, closing}
+use Rattle.sh_tree.specs.language.States.{Spot, State, Document, to, deeper, behind, facing, within, nth, waits, next, past, on_line, in_document, with_mark, begun, lower, as_deep, closing}
 use Rattle.sh_tree.specs.language.Trees.{span, word, param}
 use Rattle.sh_tree.specs.language.Reading as r
 use Rattle.sh_tree.specs.language.Reading.{is_some, sign_at, after, prior_of, figure_at, over, lead_of, lead_here, skip, parted, stage_behind, redirected, is_empty, ReadsParts, ReadsPart, ReadsExpression, ReadsConditional, ReadsLevel, ReadsUnary, ReadsWord, ReadsRedirect, ReadsRedirects, ReadsDocuments, ReadsBreaks, ReadsElements, ReadsCommand, ReadsCompound, ReadsPipeline, ReadsCommands, ReadsAndOr, ReadsLinks, ReadsItems, ReadsList, ReadsSequence, ReadsScript}
@@ -444,7 +444,7 @@ mark_of b strip w depth = record { strip = strip; quoted = is_quoted_word w; del
 
 pub redirect_document : {limit : ℕ} {b : List ℕ} {body : ℕ → Document} {s v : State} {q : Redirect} (at : Redirection) (strip : Bool) → redirection b s.spot.at ≡ Some at
     → strip_of at.operator ≡ Some strip → direction_of at.operator ≡ None → ReadsRedirect limit b body s v q
-    → (u : Spot) × (w : Word) × (v ≡ pended (mark_of b strip w s.spot.depth) (past b u s))
+    → (u : Spot) × (w : Word) × (v ≡ with_mark (mark_of b strip w s.spot.depth) (past b u s))
     × ReadsWord limit b (in_unsplit (next b at.end s).spot.at) (facing (next b at.end s)) u w
 redirect_document at strip is stripped document (r.file {r = f} {d = d} h o l read) =
     let same : f ≡ at = some_one (sym h ∙ is) in
@@ -454,7 +454,7 @@ redirect_document {limit = limit} {b = b} {s = s} at strip is stripped document 
     let same : f ≡ at = some_one (sym h ∙ is) in
     let strips : found ≡ strip = some_one (sym d ∙ ap (λ o. strip_of o.operator) same ∙ stripped) in
     let word_read = subst (λ o. ReadsWord limit b (in_unsplit (next b o.end s).spot.at) (facing (next b o.end s)) u w) same read in
-    (u, w, ap (λ v. pended (mark_of b v w s.spot.depth) (past b u s)) strips, word_read)
+    (u, w, ap (λ v. with_mark (mark_of b v w s.spot.depth) (past b u s)) strips, word_read)
 
 -- a command that is one word of plain bytes, up to e
 pub bare_command_ends : {limit : ℕ} {b : List ℕ} {body : ℕ → Document} {s v : State} {c : Command} (e : ℕ) → lead_here b s ≡ lead.Word
@@ -496,7 +496,7 @@ redirection_begins _ h = absurd (true≢false (sym h))
 module _ (limit : ℕ) (b : List ℕ) (s : Spot) where
   -- where a script at s goes on that begins with the operator of a here-document and its delimiter, up to a token at i
   abbrev pub Awaiting : Bool → Word → ℕ → State
-  Awaiting strip w i = pended (mark_of b strip w s.depth) (record (begun (within s)) { spot = to i (begun (within s)).spot })
+  Awaiting strip w i = with_mark (mark_of b strip w s.depth) (record (begun (within s)) { spot = to i (begun (within s)).spot })
 
   -- the delimiter is w, and the token behind it stands at i
   abbrev pub Delimits : Redirection → Word → ℕ → Type 0
@@ -542,8 +542,8 @@ opening_operator {limit = limit} {b = b} {s = s} at strip i w is operator stripp
     let o = opening_redirect is h in
     let d = redirect_document at strip operator stripped document o.6 in
     let e = only d.0 d.1 d.3 in
-    let behind : o.2 ≡ Awaiting limit b s strip w i = d.2 ∙ ap (λ u. pended (mark_of b strip d.1 s.depth) u) e.0
-    ∙ ap (λ y. pended (mark_of b strip y s.depth) (record (begun (within s)) { spot = to i (begun (within s)).spot })) e.1 in
+    let behind : o.2 ≡ Awaiting limit b s strip w i = d.2 ∙ ap (λ u. with_mark (mark_of b strip d.1 s.depth) u) e.0
+    ∙ ap (λ y. with_mark (mark_of b strip y s.depth) (record (begun (within s)) { spot = to i (begun (within s)).spot })) e.1 in
     (o.1, (o.0, o.3, o.5, subst (λ u. ReadsElements limit b o.0 Prefixed u o.3 o.5) behind o.7, o.8))
 
 -- a script that begins with the operator of a here-document, its delimiter and a newline

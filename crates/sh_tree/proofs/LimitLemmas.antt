@@ -244,7 +244,7 @@ complements_deep {limit = limit} b x (suc n) i d u e h below t =
 -- Whole texts
 
 pub defaults_within : IsWithin (defaults_text 64)
-unfolding computes limits.repeated has_defaults opens closes is_default is_stop
+unfolding computes limits.copies has_defaults opens closes is_default is_stop
 defaults_within =
     let below : 1 + 63 ≤ 64 = omega arith in
     let room : 0 < 64 = omega arith in
@@ -266,7 +266,7 @@ defaults_within =
     )
 
 more_defaults_read : (t : Script) × Reads (defaults_text 65) t
-unfolding computes limits.repeated has_defaults opens closes is_default is_stop
+unfolding computes limits.copies has_defaults opens closes is_default is_stop
 more_defaults_read =
     let below : 1 + 64 ≤ 65 = omega arith in
     let room : 0 < 65 = omega arith in
@@ -287,7 +287,7 @@ more_defaults_read =
     )
 
 more_defaults_none : (t : Script) → ReadsWithin (defaults_text 65) t → ⊥
-unfolding computes limits.repeated has_openings opens is_default
+unfolding computes limits.copies has_openings opens is_default
 more_defaults_none t h =
     let w = opening_word refl h.1.script in
     let f = first_part (sign.Use (Name (span 2 3)) action.Default false) refl refl (word_parts w.2).2 in
@@ -299,7 +299,7 @@ pub defaults_beyond : IsBeyond (defaults_text 65)
 defaults_beyond = record { read = more_defaults_read; none = more_defaults_none }
 
 pub complements_within : IsWithin (complements_text 63)
-unfolding computes limits.repeated has_operand complements is_complement is_constant
+unfolding computes limits.copies has_operand complements is_complement is_constant
 complements_within =
     let below : 1 + 63 ≤ 64 = omega arith in
     let room : 0 < 64 = omega arith in
@@ -323,7 +323,7 @@ complements_within =
     )
 
 more_complements_read : (t : Script) × Reads (complements_text 64) t
-unfolding computes limits.repeated has_operand complements is_complement is_constant
+unfolding computes limits.copies has_operand complements is_complement is_constant
 more_complements_read =
     let below : 1 + 64 ≤ 65 = omega arith in
     let room : 0 < 65 = omega arith in
@@ -346,7 +346,7 @@ more_complements_read =
     )
 
 more_complements_none : (t : Script) → ReadsWithin (complements_text 64) t → ⊥
-unfolding computes limits.repeated has_signs complements is_complement
+unfolding computes limits.copies has_signs complements is_complement
 more_complements_none t h =
     let w = opening_word refl h.1.script in
     let f = first_part sign.Arith refl refl (word_parts w.2).2 in

@@ -144,10 +144,10 @@ expansions_in-Double q s ps = row_expansions-items _ true (hidden-the_row-Part-0
 -- Static text
 
 -- two texts one after the other, if both are static
-abbrev pub joined : Option (List ℕ) → Option (List ℕ) → Option (List ℕ)
-joined None b = None
-joined (Some a) None = None
-joined (Some a) (Some b) = Some (a ++ b)
+abbrev pub both_texts : Option (List ℕ) → Option (List ℕ) → Option (List ℕ)
+both_texts None b = None
+both_texts (Some a) None = None
+both_texts (Some a) (Some b) = Some (a ++ b)
 
 abbrev pub behind_first : List ℕ → List ℕ
 behind_first t = drop 1 t
@@ -172,12 +172,12 @@ unfoldable mutual
 
   pub row_text : {m : _} → List ℕ → Row_of-Part m → Option (List ℕ)
   row_text b end_of-Part = Some []
-  row_text b (more_of-Part x rest) = joined (part_text b x) (row_text b rest)
+  row_text b (more_of-Part x rest) = both_texts (part_text b x) (row_text b rest)
 
 -- the text of parts, if each is static
 unfoldable pub parts_text : List ℕ → List Part → Option (List ℕ)
 parts_text b [] = Some []
-parts_text b (x ∷ xs) = joined (part_text b x) (parts_text b xs)
+parts_text b (x ∷ xs) = both_texts (part_text b x) (parts_text b xs)
 
 -- `*` and `?`
 abbrev pub is_wildcard : ℕ → Bool
@@ -209,7 +209,7 @@ static_text b ps = if is_pattern b ps then None else parts_text b ps
 row_text-items : (m : _) (b : List ℕ) (row : Row_of-Part m) → row_text b row ≡ parts_text b (items-the_row-Part m row)
 unfolding row_text parts_text
 row_text-items m b end_of-Part = refl
-row_text-items m b (more_of-Part x rest) = ap (joined (part_text b x)) (row_text-items _ b rest)
+row_text-items m b (more_of-Part x rest) = ap (both_texts (part_text b x)) (row_text-items _ b rest)
 
 pub part_text-Double : (b : List ℕ) (s : Span) (ps : List Part) → part_text b (Double s ps) ≡ parts_text b ps
 unfolding part_text

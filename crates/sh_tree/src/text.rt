@@ -2,7 +2,7 @@
 ghost use Rattle.std.specs.Prelude.{◌≡◌, if◌then◌else◌, Some, None, IfOk, option_map};
 ghost use Rattle.std.specs.List.{list_any};
 ghost use Rattle.sh_tree.specs.Words as words;
-ghost use Rattle.sh_tree.specs.Words.{joined};
+ghost use Rattle.sh_tree.specs.Words.{both_texts};
 
 use crate::tree::{Part, SingleStyle, Word};
 use std::alloc::{AllocError, Global};
@@ -13,7 +13,7 @@ use std::alloc::{AllocError, Global};
 /// # Errors
 ///
 /// `AllocError` where a growth was refused.
-#[tactic(auto, using(crate::proofs::TextLemmas::joined_none), unfolding(crate::specs::Words::static_text))]
+#[tactic(auto, using(crate::proofs::TextLemmas::both_texts_none), unfolding(crate::specs::Words::static_text))]
 pub fn static_text(alloc: Global, word: &Word, script: &[u8]) -> Result<Option<Vec<u8>>, AllocError>
     ensures { IfOk result (λ found. option_map (λ v. v.items) found ≡ words.static_text script.now word.now.parts) }
 {
@@ -30,7 +30,7 @@ pub fn static_text(alloc: Global, word: &Word, script: &[u8]) -> Result<Option<V
 /// Adds the text of the parts, as far as they are static, and tells whether they all are.
 #[cycle(text)]
 fn push_parts(parts: &[Part], script: &[u8], text: &mut Vec<u8>) -> Result<bool, AllocError>
-    ensures { IfOk result (λ all. (if all then Some text.new.items else None) ≡ joined (Some text.old.items) (words.parts_text script.now parts.now)) }
+    ensures { IfOk result (λ all. (if all then Some text.new.items else None) ≡ both_texts (Some text.old.items) (words.parts_text script.now parts.now)) }
 {
     for part in parts {
         let is_static = push_part(part, script, &mut *text)?;
@@ -45,7 +45,7 @@ fn push_parts(parts: &[Part], script: &[u8], text: &mut Vec<u8>) -> Result<bool,
 #[cycle(text)]
 #[tactic(auto, unfolding(crate::specs::Words::part_text))]
 fn push_part(part: &Part, script: &[u8], text: &mut Vec<u8>) -> Result<bool, AllocError>
-    ensures { IfOk result (λ all. (if all then Some text.new.items else None) ≡ joined (Some text.old.items) (words.part_text script.now part.now)) }
+    ensures { IfOk result (λ all. (if all then Some text.new.items else None) ≡ both_texts (Some text.old.items) (words.part_text script.now part.now)) }
 {
     match part {
         Part::Plain(span) => {

@@ -21,7 +21,7 @@ use Rattle.sh_tree.specs.language.Reading as r
 use Rattle.sh_tree.specs.language.Reading.{ReadsPart, ReadsExpression, ReadsConditional, ReadsLevel, ReadsOperands, ReadsUnary}
 use Rattle.sh_tree.specs.language.Reading.{sign_at, after, prior_of, figure_at, figure_span, over, is_some, is_expansion, is_figure_name}
 use Rattle.sh_tree.specs.language.States.{Spot, to, deeper, behind}
-use Rattle.sh_tree.specs.language.Trees.{chained}
+use Rattle.sh_tree.specs.language.Trees.{chain_of}
 use Rattle.sh_tree.specs.language.Words.{token}
 use Rattle.sh_scan.specs.Moves.{reads_figure}
 use Rattle.sh_tree.proofs.Inversions.{apart, some_one}
@@ -75,7 +75,7 @@ assignment_is {b = b} {s = s} o is (r.no_assignment other h) =
 -- Levels
 
 level_is : {limit : ℕ} {b : List ℕ} {x : Context} {l : ℕ} {s u : Spot} {e : Expr} → l < unary_level → ReadsLevel limit b x l s u e
-    → (v : Spot) × (y : Expr) × (es : List (Binary × Expr)) × (e ≡ chained y es) × ReadsLevel limit b x (l + 1) s v y × ReadsOperands limit b x l v u es
+    → (v : Spot) × (y : Expr) × (es : List (Binary × Expr)) × (e ≡ chain_of y es) × ReadsLevel limit b x (l + 1) s v y × ReadsOperands limit b x l v u es
 level_is lower (r.chain {u = v} {e = y} {es = es} l h others) = (v, y, es, refl, h, others)
 level_is lower (r.operand same is h) = absurd (omega arith)
 
@@ -331,7 +331,7 @@ module _ (b : List ℕ) (w : WordBuilder) where
   unfolding Left
   level_keeps n lower = record {
     forth = λ limit g u ps l. let q = level_is lower l.3 in (l.0, q.0, q.1, q.4, (l.1, q.2, q.5, moved (Wanted limit g u ps) refl q.3 l.4));
-    back = λ g u ps l. (l.0, l.4.0, chained l.2 l.4.1, r.chain {e = l.2} {es = l.4.1} lower l.3 l.4.2, l.4.3);
+    back = λ g u ps l. (l.0, l.4.0, chain_of l.2 l.4.1, r.chain {e = l.2} {es = l.4.1} lower l.3 l.4.2, l.4.3);
   }
 
   -- what is left where an operand begins

@@ -19,7 +19,7 @@ use Rattle.sh_tree.specs.language.Arithmetic.{lexeme, binary_of, is_closed, unar
 use Rattle.sh_tree.specs.language.Reading as r
 use Rattle.sh_tree.specs.language.Reading.{ReadsLevel, ReadsOperands, figure_at, over, is_question}
 use Rattle.sh_tree.specs.language.States.{Spot}
-use Rattle.sh_tree.specs.language.Trees.{span, chained}
+use Rattle.sh_tree.specs.language.Trees.{span, chain_of}
 use Rattle.sh_words.specs.declared.frames.Holder.{Holder}
 use Rattle.sh_words.specs.declared.frames.Opening.{Opening}
 use Rattle.sh_words.specs.declared.frames.Operation.{Operation}
@@ -95,14 +95,14 @@ module _ (b : List ℕ) (w : WordBuilder) (e : Expr) where
   first_keeps level None is = record {
     forth = λ limit g u ps l.
         let q = operands_end is l.1.2 in
-        let k = subst (λ es. Then b limit g (context_in w.holder) w.frames (one (chained e es)) l.1.0 u ps) q.1 l.1.3 in
+        let k = subst (λ es. Then b limit g (context_in w.holder) w.frames (one (chain_of e es)) l.1.0 u ps) q.1 l.1.3 in
         (l.0, subst (λ v. Then b limit g (context_in w.holder) w.frames (one e) v u ps) q.0 k);
     back = λ g u ps l. (l.0, (here g w, [], r.no_operand is, l.1));
   }
   first_keeps level (Some o) is = record {
     forth = λ limit g u ps l.
         let q = operands_go_on o is l.1.2 in
-        let k = subst (λ es. Then b limit g (context_in w.holder) w.frames (one (chained e es)) l.1.0 u ps) q.3 l.1.3 in
+        let k = subst (λ es. Then b limit g (context_in w.holder) w.frames (one (chain_of e es)) l.1.0 u ps) q.3 l.1.3 in
         (l.0, q.0, q.1, q.4, (l.1.0, q.2, q.5, k));
     back = λ g u ps l. (l.0, (l.4.0, (o, l.2) ∷ l.4.1, r.more_operands is l.3 l.4.2, l.4.3));
   }
@@ -278,7 +278,7 @@ module _ (b : List ℕ) (limit : ℕ) (g : Around) where
   unfollowed x (frame.Operation (operation.Unary depth o) ∷ fs) e j u ps none l = unfollowed x fs (expr.Unary o e) _ u ps none l
   unfollowed x (frame.Operation (operation.First level) ∷ fs) e j u ps none l =
       let q = operands_end (unfollowed_by level (figure_at b j) none) l.2 in
-      unfollowed x fs (chained e l.1) l.0 u ps (ap (λ v. follows (figure_at b v)) q.0 ∙ none) l.3
+      unfollowed x fs (chain_of e l.1) l.0 u ps (ap (λ v. follows (figure_at b v)) q.0 ∙ none) l.3
   unfollowed x (frame.Operation (operation.More level first rest o) ∷ fs) e j u ps none l =
       let q = operands_end (unfollowed_by level (figure_at b j) none) l.2 in
       unfollowed x fs (expr.Chain first (rest ++ (o, e) ∷ l.1)) l.0 u ps (ap (λ v. follows (figure_at b v)) q.0 ∙ none) l.3

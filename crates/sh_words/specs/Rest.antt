@@ -12,7 +12,7 @@ use Rattle.sh_tree.specs.declared.token.arithmetic.Figure.TheVariants as figure
 use Rattle.sh_tree.specs.language.Arithmetic.{is_closed}
 use Rattle.sh_tree.specs.language.Reading.{ReadsParts, ReadsPart, ReadsExpression, ReadsConditional, ReadsLevel, ReadsOperands, prior_of, figure_at, over, is_question}
 use Rattle.sh_tree.specs.language.States.{Spot, deeper}
-use Rattle.sh_tree.specs.language.Trees.{span, chained}
+use Rattle.sh_tree.specs.language.Trees.{span, chain_of}
 use Rattle.sh_words.specs.declared.mode.Mode.{Mode}
 use Rattle.sh_words.specs.declared.frames.Holder.{Holder}
 use Rattle.sh_words.specs.declared.frames.Holder.TheVariants as holder
@@ -75,7 +75,7 @@ module _ (b : List ℕ) (limit : ℕ) (g : Around) where
   abbrev pub Operates : Context → Operation → Expr → Spot → (Read → Spot → Type 0) → Type 0
   Operates x (operation.Parenthesis depth) e j K = (figure_at b j ≡ figure.Close) × K (one (expr.Parenthesis e)) (placed g depth (over b j).at j)
   Operates x (operation.Unary depth o) e j K = K (one (expr.Unary o e)) (placed g depth j.at j)
-  Operates x (operation.First level) e j K = (v : Spot) × (es : List (Binary × Expr)) × ReadsOperands limit b x level j v es × K (one (chained e es)) v
+  Operates x (operation.First level) e j K = (v : Spot) × (es : List (Binary × Expr)) × ReadsOperands limit b x level j v es × K (one (chain_of e es)) v
   Operates x (operation.More level first rest o) e j K =
       (v : Spot) × (es : List (Binary × Expr)) × ReadsOperands limit b x level j v es × K (one (expr.Chain first (rest ++ (o, e) ∷ es))) v
   Operates x operation.Condition e j K = ((is_question (figure_at b j) ≡ false) × K (one e) j) ⊎ Chooses x e j K

@@ -1,6 +1,6 @@
 //! The least breach of a flow rule.
 ghost use Rattle.std.specs.Prelude.{◌≡◌};
-ghost use Rattle.sh_flow.specs.Rules.{rank, told, precedes, least_from};
+ghost use Rattle.sh_flow.specs.Rules.{rank, fault_unless, precedes, least_from};
 ghost use Rattle.sh_flow.specs.Breaches.{fault_of, fault_found};
 
 use crate::rule::FlowRule;
@@ -36,9 +36,9 @@ fn is_before(first: Breach, second: Breach) -> bool
 }
 
 /// The least of what is found so far and of a breach here, where the rule does not hold.
-#[tactic(auto, unfolding(crate::specs::Rules::told, crate::specs::Rules::least_from, crate::specs::Rules::lesser, crate::specs::Breaches::fault_of, crate::specs::Breaches::fault_found))]
+#[tactic(auto, unfolding(crate::specs::Rules::fault_unless, crate::specs::Rules::least_from, crate::specs::Rules::lesser, crate::specs::Breaches::fault_of, crate::specs::Breaches::fault_found))]
 pub fn least_with(found: Option<Breach>, holds: bool, number: u32, rule: FlowRule) -> Option<Breach>
-    ensures { fault_found result ≡ least_from (fault_found found) (told holds number rule) }
+    ensures { fault_found result ≡ least_from (fault_found found) (fault_unless holds number rule) }
 {
     if holds {
         return found;

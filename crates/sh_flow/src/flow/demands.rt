@@ -1,6 +1,6 @@
 //! The unmet demands of a script.
 ghost use Rattle.std.specs.Prelude.{◌≡◌, ◌<◌, ◌++◌, length, flat_map, IfOk, OnOk, OnErr};
-ghost use Rattle.sh_flow.specs.Demands.{wanted, covers};
+ghost use Rattle.sh_flow.specs.Demands.{place_unless, covers};
 ghost use Rattle.sh_flow.specs.Checked.{facts_in, part_places, element_places, command_places, item_places};
 
 use crate::certificate::Facts;
@@ -12,10 +12,10 @@ use sh_tree::tree::{Command, Element, Item, Part};
 use std::alloc::{AllocError, Global};
 
 // Notes a place, where the parameter is not surely set there.
-#[tactic(auto, unfolding(crate::specs::Demands::wanted))]
+#[tactic(auto, unfolding(crate::specs::Demands::place_unless))]
 fn want(covered: bool, at: u32, name: &[u8], places: &mut Vec<Place>) -> Result<(), AllocError>
-    ensures noted { OnOk result (places.new.items ≡ places.old.items ++ wanted covered at name.now) }
-    ensures some { OnErr result (0 < length (wanted covered at name.now)) }
+    ensures noted { OnOk result (places.new.items ≡ places.old.items ++ place_unless covered at name.now) }
+    ensures some { OnErr result (0 < length (place_unless covered at name.now)) }
 {
     if !covered {
         let subject = Items::from_slice(*places.allocator(), name)?;

@@ -7,7 +7,7 @@ ghost use Rattle.sh_rows.specs.Numbers.{has_number};
 ghost use Rattle.sh_flow.specs.Facts.{facts, within, within_out, enter, both, with_vars};
 ghost use Rattle.sh_table.specs.runs.Environment.{is_one_of};
 ghost use Rattle.sh_table.specs.runs.Worlds.{start_names};
-ghost use Rattle.sh_flow.specs.Rules.{is_set_at_start, leaves, exit_rule, faults, item_faults, rule_behind, out_behind, list_faults, told, least_from};
+ghost use Rattle.sh_flow.specs.Rules.{is_set_at_start, leaves, exit_rule, faults, item_faults, rule_behind, out_behind, list_faults, fault_unless, least_from};
 ghost use Rattle.sh_flow.specs.Breaches.{fault_found, rule_of};
 ghost use Rattle.sh_flow.specs.Checked.{claims, row_numbers, claim, facts_in, at_start, out_behind_of, assigned_by, is_assigner};
 ghost use Rattle.sh_flow.specs.declared.rule.FlowRule.TheVariants.{F1};
@@ -232,7 +232,7 @@ impl Checker<'_> {
             let known = leaves self.now.script.now self.now.names.now words elements.now (facts (claimed.before number)) in
             let holds = within_out (claimed.zero_at number) (claimed.nonzero_at number) (both known) in
             let rule = exit_rule self.now.script.now self.now.names.now words in
-            fault_found result ≡ least_from (fault_found found) (told holds number rule) }
+            fault_found result ≡ least_from (fault_found found) (fault_unless holds number rule) }
     {
         let entry = entry_at(self.certificate, number);
         if has_name(elements) {

@@ -46,11 +46,11 @@ fn action_of(byte: u8) -> Option<Action>
 }
 
 /// A pattern removal of the longest or of the shortest.
-#[tactic(auto, unfolding(sh_tree::specs::language::Words::removed))]
+#[tactic(auto, unfolding(sh_tree::specs::language::Words::pattern_removal))]
 fn removal_sign(subject: Subject, behind: usize, rest: &[u8]) -> (Sign, usize)
     requires some { 0 < behind }
     requires small { behind + length rest.now ≤ MAX_SCRIPT }
-    ensures value { result ≡ words.removed subject behind rest.now }
+    ensures value { result ≡ words.pattern_removal subject behind rest.now }
     ensures within { result.1 ≤ behind + length rest.now }
     ensures moves { reads_bytes result.0 ≡ true → 0 < result.1 }
     ensures told { refuses result.0 ≡ true → result.1 < behind + length rest.now }
@@ -79,11 +79,11 @@ fn removal_sign(subject: Subject, behind: usize, rest: &[u8]) -> (Sign, usize)
 }
 
 /// `-`, `=`, `?` or `+`, behind a colon or not.
-#[tactic(auto, unfolding(sh_tree::specs::language::Words::used))]
+#[tactic(auto, unfolding(sh_tree::specs::language::Words::parameter_action))]
 fn use_sign(colon: bool, subject: Subject, behind: usize, rest: &[u8]) -> (Sign, usize)
     requires some { 0 < behind }
     requires small { behind + length rest.now ≤ MAX_SCRIPT }
-    ensures value { result ≡ words.used colon subject behind rest.now }
+    ensures value { result ≡ words.parameter_action colon subject behind rest.now }
     ensures within { result.1 ≤ behind + length rest.now }
     ensures moves { reads_bytes result.0 ≡ true → 0 < result.1 }
     ensures told { refuses result.0 ≡ true → result.1 < behind + length rest.now }
@@ -105,11 +105,11 @@ fn use_sign(colon: bool, subject: Subject, behind: usize, rest: &[u8]) -> (Sign,
 }
 
 /// What stands behind the parameter.
-#[tactic(auto, unfolding(sh_tree::specs::language::Words::operated))]
+#[tactic(auto, unfolding(sh_tree::specs::language::Words::parameter_operator))]
 fn operator_sign(subject: Subject, behind: usize, rest: &[u8]) -> (Sign, usize)
     requires some { 0 < behind }
     requires small { behind + length rest.now ≤ MAX_SCRIPT }
-    ensures value { result ≡ words.operated subject behind rest.now }
+    ensures value { result ≡ words.parameter_operator subject behind rest.now }
     ensures within { result.1 ≤ behind + length rest.now }
     ensures moves { reads_bytes result.0 ≡ true → 0 < result.1 }
     ensures told { refuses result.0 ≡ true → result.1 < behind + length rest.now }
@@ -168,10 +168,10 @@ fn special_sign(at: usize, rest: &[u8], special: Option<Special>) -> (Sign, usiz
     }
 }
 
-#[tactic(auto, unfolding(sh_tree::specs::language::Words::unnamed))]
+#[tactic(auto, unfolding(sh_tree::specs::language::Words::special_or_length))]
 fn nameless_sign(at: usize, rest: &[u8]) -> (Sign, usize)
     requires small { at + 2 + length rest.now ≤ MAX_SCRIPT }
-    ensures value { result ≡ words.unnamed at rest.now }
+    ensures value { result ≡ words.special_or_length at rest.now }
     ensures within { result.1 ≤ length rest.now + 2 }
     ensures moves { reads_bytes result.0 ≡ true → 0 < result.1 }
     ensures told { refuses result.0 ≡ true → result.1 < length rest.now + 2 }
@@ -191,10 +191,10 @@ fn nameless_sign(at: usize, rest: &[u8]) -> (Sign, usize)
 }
 
 /// The expansion that `${` at `at` begins.
-#[tactic(auto, unfolding(sh_tree::specs::language::Words::braced))]
+#[tactic(auto, unfolding(sh_tree::specs::language::Words::braced_expansion))]
 pub fn braced_sign(at: usize, rest: &[u8]) -> (Sign, usize)
     requires small { at + 2 + length rest.now ≤ MAX_SCRIPT }
-    ensures value { result ≡ words.braced at rest.now }
+    ensures value { result ≡ words.braced_expansion at rest.now }
     ensures within { result.1 ≤ length rest.now + 2 }
     ensures moves { reads_bytes result.0 ≡ true → 0 < result.1 }
     ensures told { refuses result.0 ≡ true → result.1 < length rest.now + 2 }

@@ -92,10 +92,10 @@ fn parenthesis(rest: &[u8]) -> (Sign, usize)
 }
 
 /// A `$` at `at` that opens something, before `rest`.
-#[tactic(auto, unfolding(sh_tree::specs::language::Words::opened, sh_tree::specs::language::Words::single_parameter))]
+#[tactic(auto, unfolding(sh_tree::specs::language::Words::dollar_expansion, sh_tree::specs::language::Words::single_parameter))]
 fn opening_sign(at: usize, rest: &[u8]) -> (Sign, usize)
     requires small { at + 1 + length rest.now ≤ MAX_SCRIPT }
-    ensures value { result ≡ words.opened at rest.now }
+    ensures value { result ≡ words.dollar_expansion at rest.now }
     ensures within { result.1 ≤ length rest.now + 1 }
     ensures moves { reads_bytes result.0 ≡ true → 0 < result.1 }
     ensures told { refuses result.0 ≡ true → result.1 < length rest.now + 1 }

@@ -54,10 +54,10 @@ fn number_of(digits: &[u8]) -> Option<u16>
 }
 
 /// The parameter whose digits stand at `at`.
-#[tactic(auto, unfolding(sh_tree::specs::language::Words::numbered))]
+#[tactic(auto, unfolding(sh_tree::specs::language::Words::numeric_parameter))]
 fn positional(at: usize, digits: &[u8]) -> Option<(Subject, usize)>
     requires small { at + length digits.now ≤ MAX_SCRIPT }
-    ensures value { result ≡ words.numbered at digits.now }
+    ensures value { result ≡ words.numeric_parameter at digits.now }
     ensures within { IfSome result (λ found. found.1 ≤ length digits.now) }
 {
     let count = digits.len();

@@ -15,9 +15,9 @@ use sh_tree::refusal::{Fault, Form};
 use sh_tree::token::{Context, Sign, Site, Token};
 
 /// A backslash and a newline, before `rest`.
-#[tactic(auto, unfolding(sh_tree::specs::language::Words::continued))]
+#[tactic(auto, unfolding(sh_tree::specs::language::Words::continuation))]
 fn continuation_sign(context: Context, rest: &[u8]) -> (Sign, usize)
-    ensures value { result ≡ words.continued context rest.now }
+    ensures value { result ≡ words.continuation context rest.now }
     ensures within { result.1 ≤ 2 }
     ensures moves { reads_bytes result.0 ≡ true → 0 < result.1 }
     ensures told { refuses result.0 ≡ true → result.1 < length rest.now + 2 }

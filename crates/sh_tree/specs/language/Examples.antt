@@ -313,8 +313,8 @@ abbrev pub defined_script : Script
 defined_script = script (item defined_list true ∷ [])
 
 -- pipelines of two utilities, one that removes a variable and one that has its value, in both orders
-abbrev pub piped : Command → Command → Script
-piped c d = script (item (and_or (pipe false (c ∷ d ∷ [])) []) false ∷ [])
+abbrev pub pipe_script : Command → Command → Script
+pipe_script c d = script (item (and_or (pipe false (c ∷ d ∷ [])) []) false ∷ [])
 
 abbrev pub unset_first_text : List ℕ
 unset_first_text = codes "unset x | echo \"$x\""
@@ -326,7 +326,7 @@ abbrev pub unset_first_value : List Element
 unset_first_value = element.Word (bare 10 14) ∷ element.Word (word 15 19 (part.Double (span 15 19) (value 16 18 ∷ []) ∷ [])) ∷ []
 
 abbrev pub unset_first_script : Script
-unset_first_script = piped (simple 1 0 unset_first_words) (simple 2 10 unset_first_value)
+unset_first_script = pipe_script (simple 1 0 unset_first_words) (simple 2 10 unset_first_value)
 
 abbrev pub unset_last_text : List ℕ
 unset_last_text = codes "echo \"$x\" | unset x"
@@ -335,7 +335,7 @@ abbrev pub unset_last_words : List Element
 unset_last_words = element.Word (bare 12 17) ∷ element.Word (bare 18 19) ∷ []
 
 abbrev pub unset_last_script : Script
-unset_last_script = piped (simple 1 0 double_words) (simple 2 12 unset_last_words)
+unset_last_script = pipe_script (simple 1 0 double_words) (simple 2 12 unset_last_words)
 
 -- a closing word directly behind a compound command
 abbrev pub closed_text : List ℕ

@@ -58,8 +58,8 @@ line_text joins (c ∷ d ∷ cs) =
     else c ∷ line_text joins (d ∷ cs)
 
 -- what is compared with the delimiter: the line at i, joined where the delimiter is unquoted, without the tabs that `<<-` strips
-unfoldable pub compared : Mark → List ℕ → ℕ → List ℕ
-compared m b i =
+unfoldable pub end_candidate : Mark → List ℕ → ℕ → List ℕ
+end_candidate m b i =
     let text = line_text (not m.quoted) (slice_range b i (line_end (not m.quoted) b i)) in
     if m.strip then drop (run is_tab text) text else text
 
@@ -72,7 +72,7 @@ unfoldable pub end_line_within : ℕ → Mark → List ℕ → ℕ → Option Sp
 end_line_within zero m b i = None
 end_line_within (suc n) m b i =
     if not (nat_lt i (length b)) then None
-    else (if bytes_eq (compared m b i) m.delimiter then Some (span i (line_end (not m.quoted) b i))
+    else (if bytes_eq (end_candidate m b i) m.delimiter then Some (span i (line_end (not m.quoted) b i))
     else end_line_within n m b (behind_line b (line_end (not m.quoted) b i)))
 
 -- the line that ends the body that begins at i

@@ -12,17 +12,17 @@ use Rattle.sh_tree.specs.language.Reading.{Reads, ReadsTo, ReadsWithin}
 use Rattle.sh_tree.specs.language.Trees.{command, here_doc, item_of, redirect, script, span, word}
 
 -- the text so many times
-unfoldable pub repeated : ℕ → List ℕ → List ℕ
-repeated zero t = []
-repeated (suc n) t = t ++ repeated n t
+unfoldable pub copies : ℕ → List ℕ → List ℕ
+copies zero t = []
+copies (suc n) t = t ++ copies n t
 
 -- so many braced expansions, each the word of the one before it
 abbrev pub defaults_text : ℕ → List ℕ
-defaults_text n = repeated n (codes "${x-") ++ repeated n (codes "}")
+defaults_text n = copies n (codes "${x-") ++ copies n (codes "}")
 
 -- so many unary operators in an arithmetic expansion, which is a level too
 abbrev pub complements_text : ℕ → List ℕ
-complements_text n = codes "$((" ++ repeated n (codes "~") ++ codes "1))"
+complements_text n = codes "$((" ++ copies n (codes "~") ++ codes "1))"
 
 -- the body is read in the group, and lies outside it as its operator does
 abbrev pub body_depth_text : List ℕ

@@ -53,7 +53,7 @@ use Rattle.sh_tree.specs.language.Commands.{lead_at, blanks, name_end, declares,
 use Rattle.sh_tree.specs.language.Contexts.{in_word, in_unsplit, in_value, in_stage, in_document_of}
 use Rattle.sh_tree.specs.language.Parts.{is_quoted_word, keeps_lines}
 use Rattle.sh_tree.specs.language.HereDocuments.{Mark, is_delimiter, delimiter_of, end_line, behind_line, is_ambiguous, keeps_document}
-use Rattle.sh_tree.specs.language.States.{Spot, to, deeper, behind, Document, State, nth, document_count, waits, facing, within, next, past, begun, lower, as_deep, pended, on_line, in_document, with_document, closing}
+use Rattle.sh_tree.specs.language.States.{Spot, to, deeper, behind, Document, State, nth, document_count, waits, facing, within, next, past, begun, lower, as_deep, with_mark, on_line, in_document, with_document, closing}
 use Rattle.sh_tree.specs.language.Trees as tree
 use Rattle.sh_tree.specs.language.Trees.{span}
 
@@ -243,7 +243,7 @@ module _ (limit : ℕ) where
       -- level l+1 {OPERATOR level l+1}, the operators of level l
       chain : {b : List ℕ} {x : Context} {l : ℕ} {s u v : Spot} {e : Expr} {es : List (Binary × Expr)}
           → l < unary_level → ReadsLevel b x (l + 1) s u e → ReadsOperands b x l u v es
-          → ReadsLevel b x l s v (tree.chained e es)
+          → ReadsLevel b x l s v (tree.chain_of e es)
       -- unary, behind the tightest level
       operand : {b : List ℕ} {x : Context} {l : ℕ} {s u : Spot} {g : Figure} {e : Expr}
           → l ≡ unary_level → figure_at b s ≡ g → ReadsUnary b x g s u e
@@ -303,7 +303,7 @@ module _ (limit : ℕ) where
           → redirection b s.spot.at ≡ Some r → strip_of r.operator ≡ Some strip
           → is_word (lead_of b (Named false) (next b r.end s)) ≡ true
           → ReadsWord b (in_unsplit (next b r.end s).spot.at) (facing (next b r.end s)) u w → is_delimiter b w ≡ true
-          → ReadsRedirect b body s (pended (record { strip = strip; quoted = is_quoted_word w; delimiter = delimiter_of b w; depth = s.spot.depth }) (past b u s))
+          → ReadsRedirect b body s (with_mark (record { strip = strip; quoted = is_quoted_word w; delimiter = delimiter_of b w; depth = s.spot.depth }) (past b u s))
           (tree.redirect r.at r.number (Here (tree.here_doc strip w (body (document_count s)).text (body (document_count s)).end)))
 
     pub data ReadsRedirects : List ℕ → (ℕ → Document) → State → State → List Redirect → Type 0 where

@@ -98,8 +98,8 @@ abbrev pub closing : Bool → State → State
 closing closed s = record s { closed = closed }
 
 -- behind a here-document's operator and delimiter
-abbrev pub pended : Mark → State → State
-pended m s = record s { pending = s.pending ++ m ∷ [] }
+abbrev pub with_mark : Mark → State → State
+with_mark m s = record s { pending = s.pending ++ m ∷ [] }
 
 -- behind a newline, at i
 abbrev pub on_line : ℕ → State → State

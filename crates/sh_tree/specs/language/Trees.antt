@@ -35,9 +35,9 @@ abbrev pub param : ℕ → ℕ → Subject → ParameterOperator → Part
 param i j subject operator = part.Param (record { span = span i j; subject = subject; operator = operator })
 
 -- an operand, and the operators of one level with theirs
-abbrev pub chained : Expr → List (Binary × Expr) → Expr
-chained e [] = e
-chained e (x ∷ xs) = expr.Chain e (x ∷ xs)
+abbrev pub chain_of : Expr → List (Binary × Expr) → Expr
+chain_of e [] = e
+chain_of e (x ∷ xs) = expr.Chain e (x ∷ xs)
 
 abbrev pub redirect : ℕ → Option Span → Target → Redirect
 redirect at number target = record { at = at; number = number; target = target }

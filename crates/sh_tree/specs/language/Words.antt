@@ -136,8 +136,8 @@ parenthesis rest =
 -- Braced expansions, behind `${`
 
 -- the digits of a parameter at i: `0`, or a number from 1 to 65535 without a leading zero
-unfoldable pub numbered : ℕ → List ℕ → Option (Subject × ℕ)
-numbered i ds =
+unfoldable pub numeric_parameter : ℕ → List ℕ → Option (Subject × ℕ)
+numeric_parameter i ds =
     if length ds == 0 then None
     else (if is_first (λ c. c == byte.digit_zero) ds then (if length ds == 1 then Some (Special special.Zero (span i (i + 1)), 1) else None)
     else (if nat_le (length ds) 5 && nat_le (decimal 0 ds) 65535 then Some (Positional (decimal 0 ds) (span i (i + length ds)), length ds)
@@ -146,7 +146,7 @@ numbered i ds =
 -- the parameter at i that may have an operator, and its length
 unfoldable pub parameter : ℕ → List ℕ → Option (Subject × ℕ)
 parameter i cs =
-    if name_length cs == 0 then numbered i (take (run is_digit cs) cs)
+    if name_length cs == 0 then numeric_parameter i (take (run is_digit cs) cs)
     else Some (Name (span i (i + name_length cs)), name_length cs)
 
 -- no braced expansion goes on with rest, k bytes behind the `$`
@@ -169,28 +169,28 @@ action_of c =
     else None)))
 
 -- a pattern removal of the longest or of the shortest
-unfoldable pub removed : Subject → ℕ → List ℕ → Sign × ℕ
-removed p k [] = misfit k []
-removed p k (c ∷ rest) =
+unfoldable pub pattern_removal : Subject → ℕ → List ℕ → Sign × ℕ
+pattern_removal p k [] = misfit k []
+pattern_removal p k (c ∷ rest) =
     if c == byte.percent_sign then (if is_first (λ d. d == byte.percent_sign) rest then (sign.Remove p removal.LongSuffix, k + 2) else (sign.Remove p removal.ShortSuffix, k + 1))
     else (if c == byte.number_sign then (if is_first (λ d. d == byte.number_sign) rest then (sign.Remove p removal.LongPrefix, k + 2) else (sign.Remove p removal.ShortPrefix, k + 1))
     else misfit k (c ∷ rest))
 
-abbrev pub used_by : Bool → Subject → ℕ → List ℕ → Option Action → Sign × ℕ
-used_by colon p k rest (Some a) = (sign.Use p a colon, k + 1)
-used_by colon p k rest None = if colon then misfit k rest else removed p k rest
+abbrev pub action_by : Bool → Subject → ℕ → List ℕ → Option Action → Sign × ℕ
+action_by colon p k rest (Some a) = (sign.Use p a colon, k + 1)
+action_by colon p k rest None = if colon then misfit k rest else pattern_removal p k rest
 
 -- `-`, `=`, `?` or `+`, behind a colon or not
-unfoldable pub used : Bool → Subject → ℕ → List ℕ → Sign × ℕ
-used colon p k [] = misfit k []
-used colon p k (c ∷ rest) = used_by colon p k (c ∷ rest) (action_of c)
+unfoldable pub parameter_action : Bool → Subject → ℕ → List ℕ → Sign × ℕ
+parameter_action colon p k [] = misfit k []
+parameter_action colon p k (c ∷ rest) = action_by colon p k (c ∷ rest) (action_of c)
 
 -- what stands behind the parameter, k bytes behind the `$`
-unfoldable pub operated : Subject → ℕ → List ℕ → Sign × ℕ
-operated p k rest =
+unfoldable pub parameter_operator : Subject → ℕ → List ℕ → Sign × ℕ
+parameter_operator p k rest =
     if closes rest then (sign.Value p, k + 1)
-    else (if is_first (λ c. c == byte.colon) rest then used true p (k + 1) (drop 1 rest)
-    else used false p k rest)
+    else (if is_first (λ c. c == byte.colon) rest then parameter_action true p (k + 1) (drop 1 rest)
+    else parameter_action false p k rest)
 
 abbrev pub length_by : List ℕ → Option (Subject × ℕ) → Sign × ℕ
 length_by rest (Some p) = if closes (drop p.1 rest) then (sign.Length p.0, p.1 + 4) else misfit (p.1 + 3) (drop p.1 rest)
@@ -205,24 +205,24 @@ abbrev pub specially : ℕ → List ℕ → Option SpecialParameter → Sign × 
 specially i rest (Some p) = if closes (drop 1 rest) then (sign.Value (Special p (span i (i + 1))), 4) else misfit 3 (drop 1 rest)
 specially i rest None = misfit 2 rest
 
-unfoldable pub unnamed : ℕ → List ℕ → Sign × ℕ
-unnamed i [] = misfit 2 []
-unnamed i (c ∷ rest) = if c == byte.number_sign && not (closes rest) then parameter_length i rest else specially (i + 2) (c ∷ rest) (special_of c)
+unfoldable pub special_or_length : ℕ → List ℕ → Sign × ℕ
+special_or_length i [] = misfit 2 []
+special_or_length i (c ∷ rest) = if c == byte.number_sign && not (closes rest) then parameter_length i rest else specially (i + 2) (c ∷ rest) (special_of c)
 
-abbrev pub braced_by : ℕ → List ℕ → Option (Subject × ℕ) → Sign × ℕ
-braced_by i cs (Some p) = operated p.0 (p.1 + 2) (drop p.1 cs)
-braced_by i cs None = unnamed i cs
+abbrev pub braced_expansion_by : ℕ → List ℕ → Option (Subject × ℕ) → Sign × ℕ
+braced_expansion_by i cs (Some p) = parameter_operator p.0 (p.1 + 2) (drop p.1 cs)
+braced_expansion_by i cs None = special_or_length i cs
 
 -- `${`, at i
-unfoldable pub braced : ℕ → List ℕ → Sign × ℕ
-braced i cs = braced_by i cs (parameter (i + 2) cs)
+unfoldable pub braced_expansion : ℕ → List ℕ → Sign × ℕ
+braced_expansion i cs = braced_expansion_by i cs (parameter (i + 2) cs)
 
 -- a `$` at i that opens something, before cs
-unfoldable pub opened : ℕ → List ℕ → Sign × ℕ
-opened i [] = (sign.Plain, 1)
-opened i (c ∷ rest) =
+unfoldable pub dollar_expansion : ℕ → List ℕ → Sign × ℕ
+dollar_expansion i [] = (sign.Plain, 1)
+dollar_expansion i (c ∷ rest) =
     if is_name_start c then named_value i (name_length (c ∷ rest)) (drop (name_length (c ∷ rest)) (c ∷ rest))
-    else (if c == byte.left_brace then braced i rest
+    else (if c == byte.left_brace then braced_expansion i rest
     else (if c == byte.left_parenthesis then parenthesis rest
     else (if c == byte.left_bracket then (sign.LeftOut form.DollarBracket, 0)
     else (if c == byte.apostrophe then (sign.LeftOut form.DollarSingle, 0)
@@ -234,12 +234,12 @@ abbrev pub is_all : Sign → Bool
 is_all (sign.Value (Special special.At s)) = true
 is_all _ = false
 
--- `$@` only where fields are split
-abbrev pub accepted : Context → Sign × ℕ → Sign × ℕ
-accepted x found = if is_all found.0 && not x.fields then (sign.LeftOut form.AllParameters, 0) else found
+-- the sign in this context: `$@` only where fields are split
+abbrev pub sign_in : Context → Sign × ℕ → Sign × ℕ
+sign_in x found = if is_all found.0 && not x.fields then (sign.LeftOut form.AllParameters, 0) else found
 
 unfoldable pub dollar : Context → ℕ → List ℕ → Sign × ℕ
-dollar x i cs = if is_joined cs then (sign.LeftOut form.Continuation, 1) else accepted x (opened i cs)
+dollar x i cs = if is_joined cs then (sign.LeftOut form.Continuation, 1) else sign_in x (dollar_expansion i cs)
 
 -- Plain bytes
 
@@ -280,8 +280,8 @@ is_default_site QuotedBraced = true
 is_default_site _ = false
 
 -- a backslash and a newline, before rest
-unfoldable pub continued : Context → List ℕ → Sign × ℕ
-continued x rest =
+unfoldable pub continuation : Context → List ℕ → Sign × ℕ
+continuation x rest =
     if is_quoted x.site then (if x.strip && is_first is_tab rest then (sign.LeftOut form.HereTab, 2) else (sign.Joined, 2))
     else (if is_word_site x.site && ends_joined rest then (sign.Stop, 0) else (sign.LeftOut form.Continuation, 0))
 
@@ -289,7 +289,7 @@ continued x rest =
 unfoldable pub backslash : Context → List ℕ → Sign × ℕ
 backslash x [] = (sign.Fault fault.FinalBackslash, 0)
 backslash x (c ∷ rest) =
-    if is_newline c then continued x rest
+    if is_newline c then continuation x rest
     else (if is_default_site x.site && c == byte.right_brace then (sign.LeftOut form.BackslashInDefault, 0)
     else (if is_default_site x.site && x.body && c == byte.quotation_mark then (sign.LeftOut form.QuotedInDefault, 0)
     else (sign.Escaped, 2)))

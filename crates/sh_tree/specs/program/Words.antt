@@ -5,7 +5,7 @@ use Rattle.std.specs.List.{list_any}
 use Rattle.std.specs.Str.{bytes_eq}
 use Rattle.sh_tree.specs.declared.tree.SingleStyle.{SingleStyle}
 use Rattle.sh_tree.specs.declared.tree.SingleStyle.TheVariants as single
-use Rattle.sh_tree.specs.Words.{joined, is_wildcard}
+use Rattle.sh_tree.specs.Words.{both_texts, is_wildcard}
 use Rattle.sh_tree.specs.language.Bytes.{name_length}
 use Rattle.sh_tree.specs.language.Commands.{is_assignment}
 use Rattle.sh_tree.specs.program.Syntax.{Text, Part, Plain, Escaped, Single, Double, Joined, Word, no_parts, more_parts, Words, no_words, more_words, Elements, no_elements, assignment, operand, redirection, Redirects, no_redirects, more_redirects}
@@ -27,7 +27,7 @@ unfoldable mutual
 
   pub word_text : Word → Option Text
   word_text no_parts = Some []
-  word_text (more_parts x w) = joined (part_text x) (word_text w)
+  word_text (more_parts x w) = both_texts (part_text x) (word_text w)
 
 -- an unquoted byte of a class
 unfoldable pub part_has : (ℕ → Bool) → Part → Bool

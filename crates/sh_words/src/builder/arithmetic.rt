@@ -9,12 +9,13 @@ ghost use Rattle.sh_words.specs.Sound.{IsSound, StepMoves, StepSound, StepWorks}
 ghost use Rattle.sh_words.specs.States.{focused, operating};
 
 use super::signs::is_expansion;
-use super::tokens::{assigned, is_dollar, is_open, lexeme, operand_of, span_of};
+use super::tokens::{assigned, lexeme, operand_of, span_of};
 use super::{Next, WordBuilder};
 use crate::frames::{Focus, Holder, Operation};
 use sh_scan::{token_at, unary_of};
 use sh_tree::limits::MAX_SCRIPT;
 use sh_tree::refusal::{Fault, Refusal};
+use sh_tree::token::Figure;
 
 /// The level of unary operators and operands, behind those of binary operators.
 const UNARY_LEVEL: u8 = 10;
@@ -96,11 +97,11 @@ impl WordBuilder {
             self.have(self.depth, expr, token.end);
             return Ok(None);
         }
-        if is_open(token.figure) {
+        if token.figure == Figure::Open {
             let operation = Operation::Parenthesis { depth: self.depth };
             return self.enter(operation, Focus::Expression, token.end, token.start);
         }
-        if is_dollar(token.figure) {
+        if token.figure == Figure::Dollar {
             return self.expansion_step(script, token.start);
         }
         Err(self.bad(token))

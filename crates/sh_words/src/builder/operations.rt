@@ -14,13 +14,13 @@ ghost use Rattle.sh_words.specs.Sound.{Began, Deep, IsSound, StepMoves, StepSoun
 ghost use Rattle.sh_words.specs.States.{focused, framed, had, operating};
 
 use super::signs::is_expansion;
-use super::tokens::{begins_operand, follows, is_close, is_colon, is_dollar, is_question, lexeme};
+use super::tokens::{begins_operand, follows, lexeme};
 use super::{Next, WordBuilder};
 use crate::frames::{Focus, Frame, Holder, Opening, Operation};
 use sh_scan::{behind_joined, binary_of, is_closed, token_at};
 use sh_tree::limits::MAX_SCRIPT;
 use sh_tree::refusal::{Fault, Form, Refusal};
-use sh_tree::token::Lexeme;
+use sh_tree::token::{Figure, Lexeme};
 use sh_tree::tree::{Binary, Expr, Part, Span, Unary};
 use sh_tree::{Boxed, Items};
 
@@ -72,7 +72,7 @@ impl WordBuilder {
             return self.bad(token);
         };
         let place = start.min(token.start);
-        if is_dollar(token.figure) {
+        if token.figure == Figure::Dollar {
             return self.touching(script, token.start, place);
         }
         if is_number_or_name(expr) {
@@ -125,7 +125,7 @@ impl WordBuilder {
                 operator,
             } => self.more_read(level, first, rest, operator, expr, token)?,
             Operation::Condition => {
-                if is_question(token.figure) {
+                if token.figure == Figure::Question {
                     return self.enter_choice(script, expr, token);
                 }
                 self.have(self.depth, expr, self.at);
@@ -149,7 +149,7 @@ impl WordBuilder {
     fn parenthesis_read(&mut self, depth: u8, inner: Expr, token: Lexeme) -> Result<(), Refusal>
         ensures { Reaches (lexemes.is_close token.figure) (faults.bad self.old.holder token.figure token.start) (had self.old depth (Expr.Parenthesis inner) token.end) self.new result }
     {
-        if !is_close(token.figure) {
+        if token.figure != Figure::Close {
             return Err(self.bad(token));
         }
         let whole = Expr::Parenthesis(Boxed::new(self.alloc, inner)?);
@@ -247,7 +247,7 @@ impl WordBuilder {
     ) -> Result<(), Refusal>
         ensures { Reaches (lexemes.is_colon token.figure) (faults.bad self.old.holder token.figure token.start) (operating self.old (Operation.No depth condition yes) self.old.depth Focus.Conditional token.end) self.new result }
     {
-        if !is_colon(token.figure) {
+        if token.figure != Figure::Colon {
             return Err(self.bad(token));
         }
         let operation = Operation::No {
@@ -310,7 +310,7 @@ impl WordBuilder {
         requires began { Began script.now self.old.holder }
         ensures { ClosesArithmetic script.now self.old holder depth start opening expr token self.new result }
     {
-        if !opening.is_arithmetic() || !is_close(token.figure) {
+        if !opening.is_arithmetic() || token.figure != Figure::Close {
             return Err(self.bad(token));
         }
         if !is_closed(script, token.end) {

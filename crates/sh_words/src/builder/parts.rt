@@ -10,14 +10,14 @@ ghost use Rattle.sh_words.specs.States.{context_in, ended, focused, found_in, pr
 ghost use Rattle.sh_words.specs.Steps.{Closes};
 ghost use Rattle.sh_tree.specs.language.Trees.{word};
 
-use super::signs::{is_part, is_stop, is_substitution, made, opening_of, prior_after, whole_part};
+use super::signs::{is_part, made, opening_of, prior_after, whole_part};
 use super::{Next, WordBuilder};
 use crate::frames::{Focus, Frame, Holder, Opening};
 use sh_scan::token_at;
 use sh_tree::Items;
 use sh_tree::limits::MAX_SCRIPT;
 use sh_tree::refusal::{Fault, Refusal};
-use sh_tree::token::Token;
+use sh_tree::token::{Sign, Token};
 use sh_tree::tree::{Part, Span, Word};
 use std::alloc::Global;
 use std::mem;
@@ -59,7 +59,7 @@ impl WordBuilder {
         let token = token_at(script, *context, *prior, self.at);
         if is_part(token.sign) {
             self.part_step(script, token, self.at)
-        } else if is_stop(token.sign) {
+        } else if token.sign == Sign::Stop {
             self.stop(script, token.end)
         } else {
             self.skip_tabs(token.end);
@@ -97,7 +97,7 @@ impl WordBuilder {
         if let Some((opening, context)) = opening_of(self.holder.context(), token.sign, token.end) {
             return self.open_part(opening, context, start, token.end);
         }
-        if is_substitution(token.sign) {
+        if token.sign == Sign::Substitution {
             return self.ask(start, token.end);
         }
         Err(self.no_part(token, start))

@@ -111,18 +111,6 @@ pub fn is_part(sign: Sign) -> bool
     !matches!(sign, Sign::Stop | Sign::Tabs)
 }
 
-pub fn is_stop(sign: Sign) -> bool
-    ensures { result ≡ signs.is_stop sign }
-{
-    matches!(sign, Sign::Stop)
-}
-
-pub fn is_substitution(sign: Sign) -> bool
-    ensures { result ≡ signs.is_substitution sign }
-{
-    matches!(sign, Sign::Substitution)
-}
-
 /// Whether the sign begins an expansion.
 pub fn is_expansion(sign: Sign) -> bool
     ensures { result ≡ reading.is_expansion sign }

@@ -2,7 +2,6 @@
 ghost use Rattle.std.specs.Prelude.{◌≡◌, ◌≤◌, length};
 ghost use Rattle.sh_words.specs.Lexemes.{IsLexeme};
 ghost use Rattle.sh_words.specs.Lexemes as lexemes;
-ghost use Rattle.sh_tree.specs.language.Reading as reading;
 
 use sh_scan::{assignment_of, lexeme_at};
 use sh_tree::limits::MAX_SCRIPT;
@@ -48,36 +47,6 @@ pub fn operand_of(lexeme: Lexeme) -> Option<Expr>
         Figure::Name => Some(Expr::Variable(span_of(lexeme))),
         _ => None,
     }
-}
-
-pub fn is_open(figure: Figure) -> bool
-    ensures { result ≡ lexemes.is_open figure }
-{
-    matches!(figure, Figure::Open)
-}
-
-pub fn is_dollar(figure: Figure) -> bool
-    ensures { result ≡ lexemes.is_dollar figure }
-{
-    matches!(figure, Figure::Dollar)
-}
-
-pub fn is_question(figure: Figure) -> bool
-    ensures { result ≡ reading.is_question figure }
-{
-    matches!(figure, Figure::Question)
-}
-
-pub fn is_colon(figure: Figure) -> bool
-    ensures { result ≡ lexemes.is_colon figure }
-{
-    matches!(figure, Figure::Colon)
-}
-
-pub fn is_close(figure: Figure) -> bool
-    ensures { result ≡ lexemes.is_close figure }
-{
-    matches!(figure, Figure::Close)
 }
 
 /// Whether such a token may stand behind an expression.

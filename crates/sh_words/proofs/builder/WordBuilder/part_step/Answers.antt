@@ -1,4 +1,5 @@
-use Rattle.std.proofs.Common.{sym, ap, ◌∙◌}
+use Rattle.std.proofs.Common.{◌≡◌, rules, true, false, sym, ap, ◌∙◌}
+use Rattle.sh_words.specs.Signs.{is_substitution}
 use Rattle.sh_words.specs.States.{opening_of}
 use Rattle.sh_words.specs.Rest.{LeftPart}
 use Rattle.sh_words.specs.Faults.{no_part}
@@ -31,22 +32,24 @@ returns-in-Some-opening_of-clause-works c =
     c.requires.after c.requires.token.1 c.requires.token.2 (ap (λ x. opening_of x t.sign t.end) (sym c.context.ensures) ∙ sym c.opening_of.ensures ∙ c.in-Some-opening_of.is)
     c.open_part.ensures
 
-pub returns-then-is_substitution-clause-keeps : goal.returns-then-is_substitution-clause-keeps
-returns-then-is_substitution-clause-keeps c =
-    substitution_steps c.args.script.now c.args.self.now c.ask.new.self c.args.token.sign c.args.start c.args.token.end c.ask.result
-    (sym c.is_substitution.ensures ∙ c.if-is_substitution.true) c.requires.inside c.ask.ensures
+pub returns-then-eq-clause-keeps : goal.returns-then-eq-clause-keeps
+returns-then-eq-clause-keeps c =
+    let is : is_substitution c.args.token.sign ≡ true = search rules in
+    substitution_steps c.args.script.now c.args.self.now c.ask.new.self c.args.token.sign c.args.start c.args.token.end c.ask.result is
+    c.requires.inside c.ask.ensures
 
 pub returns-clause-keeps : goal.returns-clause-keeps
 returns-clause-keeps c =
     let b = c.args.script.now in
     let w = c.args.self.now in
     let t = c.args.token in
+    let other : is_substitution t.sign ≡ false = search rules in
     rw (c.no_part.ensures)
     (fault_refuses b (LeftPart b w t.sign c.args.start t.end) (no_part w.frames t.sign c.args.start t.end)
     (no_part_is_fault b w.base c.args.start t.end w.frames t.sign c.requires.inside c.requires.token.1 c.requires.token.3 c.requires.sound.4)
     (no_part_left b w t.sign c.args.start t.end (sym c.whole_part.ensures ∙ c.in_default.is)
     (ap (λ x. opening_of x t.sign t.end) (sym c.context.ensures) ∙ sym c.opening_of.ensures ∙ c.in_default-opening_of.is)
-    (sym c.is_substitution.ensures ∙ c.if-is_substitution.false)))
+    other))
 
 pub returns-in-Some-clause-takes : goal.returns-in-Some-clause-takes
 returns-in-Some-clause-takes c =
