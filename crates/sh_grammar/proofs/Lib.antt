@@ -11,3 +11,5 @@ pub mod RedirectLemmas
 pub mod ScriptLemmas
 pub mod WidthLemmas
 pub mod WordLemmas
+pub mod ReservedLemmas
+pub mod LoopLemmas

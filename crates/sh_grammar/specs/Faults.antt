@@ -1,11 +1,13 @@
 -- What is told of a token that has no place.
 -- POSIX.1-2024, XCU 2.10 (shell grammar).
-use Rattle.std.specs.Prelude.{◌≡◌, ℕ, ◌<◌, ◌≤◌, List, length}
+use Rattle.std.specs.Prelude.{◌≡◌, ℕ, ◌<◌, ◌≤◌, Bool, true, false, List, length}
 use Rattle.sh_tree.specs.declared.refusal.Fault.TheVariants as fault
 use Rattle.sh_tree.specs.declared.refusal.Form.{Form}
 use Rattle.sh_tree.specs.declared.refusal.Form.TheVariants as form
 use Rattle.sh_tree.specs.declared.refusal.Refusal.{Refusal}
 use Rattle.sh_tree.specs.declared.refusal.Refusal.TheVariants.{Syntax, LeftOut}
+use Rattle.sh_tree.specs.declared.token.command.Stage.{Stage}
+use Rattle.sh_tree.specs.declared.token.command.Stage.TheVariants.{First, Prefixed}
 use Rattle.sh_tree.specs.declared.token.command.Lead.{Lead}
 use Rattle.sh_tree.specs.declared.token.command.Lead.TheVariants as lead
 
@@ -25,3 +27,8 @@ abbrev pub Tells : List ℕ → Lead → ℕ → Refusal → Type 0
 Tells b (lead.LeftOut f) i e = (at : ℕ) × (e ≡ LeftOut f at) × IsPlace b f i at
 Tells b lead.End i e = e ≡ Syntax fault.UnexpectedEnd i
 Tells b _ i e = e ≡ Syntax fault.UnexpectedToken i
+
+-- how the token is read where nothing goes on: as a command's first token where a command could begin
+unfoldable pub stage_at : Bool → Stage
+stage_at true = First
+stage_at false = Prefixed

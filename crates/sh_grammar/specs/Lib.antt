@@ -6,3 +6,4 @@ pub mod Breaks
 pub mod Faults
 pub mod Items
 pub mod Brackets
+pub mod Phrases

@@ -1,5 +1,7 @@
 //! Groups and subshells (XCU 2.9.4.1).
 ghost use Rattle.std.specs.Prelude.{◌-◌, ◌≡◌, ◌≢◌, ◌+◌, ◌<◌, ◌≤◌, true, false, length};
+ghost use Rattle.sh_tree.specs.declared.token.command.Stage.TheVariants.{First};
+ghost use Rattle.sh_tree.specs.language.Commands as tokens;
 ghost use Rattle.sh_grammar.specs.Brackets.{BracketFrom, inner, outer};
 ghost use Rattle.sh_grammar.specs.Nests.{Nests};
 ghost use Rattle.sh_grammar.specs.States.{Stands};
@@ -12,10 +14,11 @@ use sh_scan::lead_at;
 use sh_tree::limits::{MAX_NESTING, MAX_SCRIPT};
 use sh_tree::refusal::{Form, Refusal};
 use sh_tree::token::{Lead, Operator, Reserved, Stage};
-use sh_tree::tree::{Kind, Script};
+use sh_tree::tree::{Kind, LoopKind, Script};
 use std::alloc::Global;
 
-fn is_same(lead: Lead, other: Lead) -> bool
+/// Whether the tokens are the same.
+pub fn is_same(lead: Lead, other: Lead) -> bool
     ensures yes { result ≡ true → lead ≡ other }
     ensures no { result ≡ false → lead ≡ other → ⊥ }
 {
@@ -96,11 +99,12 @@ impl<F: Fn(Global, &[u8], State) -> Result<(Script, State), Refusal>> Grammar<F>
         Ok((Kind::Subshell(list), end))
     }
 
-    /// The compound command that begins with the token. Loops, conditions and `case` are not read yet.
+    /// The compound command that begins with the token. `if`, `for` and `case` are not read yet.
     pub fn compound(&self, script: &[u8], lead: Lead, from: State) -> Result<(Kind, State), Refusal>
         requires small { length script.now ≤ MAX_SCRIPT }
         requires stands { Stands script.now from }
         requires some { from.at < length script.now }
+        requires token { lead ≡ tokens.lead_at script.now First from.at }
         requires shallow { from.depth < MAX_NESTING }
         requires further { length script.now - from.at ≤ self.now.left }
         requires nests { Nests self.now.left (F.pre self.now.nested) (F.post self.now.nested) }
@@ -109,6 +113,8 @@ impl<F: Fn(Global, &[u8], State) -> Result<(Script, State), Refusal>> Grammar<F>
         match lead {
             Lead::Operator(Operator::LeftParenthesis) => self.subshell(script, from),
             Lead::Reserved(Reserved::LeftBrace) => self.group(script, from),
+            Lead::Reserved(Reserved::While) => self.loop_of(script, LoopKind::While, from),
+            Lead::Reserved(Reserved::Until) => self.loop_of(script, LoopKind::Until, from),
             _ => Err(Refusal::LeftOut(Form::Later, from.at)),
         }
     }

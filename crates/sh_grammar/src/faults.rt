@@ -1,7 +1,7 @@
 //! What is told of a token that has no place (XCU 2.10).
 ghost use Rattle.std.specs.Prelude.{◌≡◌, ◌<◌, ◌≤◌, length};
 ghost use Rattle.sh_tree.specs.language.Commands as commands;
-ghost use Rattle.sh_grammar.specs.Faults.{IsFault, IsPlace, Tells};
+ghost use Rattle.sh_grammar.specs.Faults.{IsFault, IsPlace, Tells, stage_at};
 
 use super::state::State;
 use memchr::memchr;
@@ -41,7 +41,10 @@ pub fn unexpected_at(script: &[u8], stage: Stage, at: u32) -> Refusal
 }
 
 /// How the token is told of where nothing goes on.
-fn stage_of(here: State) -> Stage {
+#[tactic(auto, unfolding(crate::specs::Faults::stage_at))]
+fn stage_of(here: State) -> Stage
+    ensures { result ≡ stage_at here.fresh }
+{
     if here.fresh {
         Stage::First
     } else {
@@ -53,6 +56,7 @@ fn stage_of(here: State) -> Stage {
 pub fn unexpected(script: &[u8], here: State) -> Refusal
     requires small { length script.now ≤ MAX_SCRIPT }
     requires inside { here.at ≤ length script.now }
+    ensures which { Tells script.now (commands.lead_at script.now (stage_at here.fresh) here.at) here.at result }
     ensures fault { IsFault script.now result }
 {
     unexpected_at(script, stage_of(here), here.at)
