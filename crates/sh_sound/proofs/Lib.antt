@@ -15,3 +15,4 @@ pub mod DropLemmas
 pub mod TheoremLemmas
 pub mod JumpLemmas
 pub mod ReturnLemmas
+pub mod EventLemmas

@@ -1,10 +1,11 @@
--- What rules and demands are good for: no run expands a parameter that is not set.
--- POSIX.1-2024, XCU 2.5.2 (special parameters), 2.6.2 (parameter expansion).
+-- What rules, demands and quoting are good for: no run expands a parameter that is not set, or splits a value.
+-- POSIX.1-2024, XCU 2.6.2 (parameter expansion), 2.6.5 (field splitting), 2.6.6 (pathname expansion).
 use Rattle.std.specs.Prelude.{◌≡◌, Bool, true, false, ◌||◌, List, [], ◌∷◌, Some, unwrap_or, option_map}
 use Rattle.std.specs.List.{list_all}
 use Rattle.sh_tree.specs.language.Bytes.{is_name}
 use Rattle.sh_tree.specs.program.Syntax.{Items}
 use Rattle.sh_table.specs.Admitted.{is_admitted}
+use Rattle.sh_table.specs.Rows.{gives_fields}
 use Rattle.sh_table.specs.runs.Environment.{Environment, Frame}
 use Rattle.sh_table.specs.runs.Worlds.{World, Move, step, run, has_unset_event, has_split_event, start_world, IsStart}
 use Rattle.sh_facts.specs.Demands.{demands}
@@ -12,6 +13,7 @@ use Rattle.sh_facts.specs.Facts.{Declared}
 use Rattle.sh_facts.specs.Faults.{faults}
 use Rattle.sh_facts.specs.Inclusions.{is_formed}
 use Rattle.sh_facts.specs.Views.{Certificate}
+use Rattle.sh_quote.specs.Places.{unquoted}
 
 -- one of these moves has a Split event
 unfoldable pub splits : List Move → World → Bool
@@ -27,3 +29,13 @@ RulesSuffice =
     → (e : Environment) (f : Frame) → IsStart d.names d.args e f
     → (moves : List Move) (w : World) → run moves (start_world e f t) ≡ Some w → splits moves (start_world e f t) ≡ false
     → (m : Move) → has_unset_event w m ≡ false
+
+-- Where moreover no place is told by the rules of quoting, no step of any run has an event: it expands no parameter that is not set, and
+-- gives no value of an expansion to splitting or pathname expansion that could change it.
+abbrev pub HaveNoEvents : Type 0
+HaveNoEvents =
+    (d : Declared) (c : Certificate) (t : Items) → list_all is_name d.names ≡ true → is_admitted t ≡ true → is_formed t ≡ true → gives_fields t ≡ true
+    → faults d c t ≡ [] → demands d c t ≡ [] → unquoted t ≡ []
+    → (e : Environment) (f : Frame) → IsStart d.names d.args e f
+    → (moves : List Move) (w : World) → run moves (start_world e f t) ≡ Some w
+    → (m : Move) → (has_unset_event w m ≡ false) × (has_split_event w m ≡ false)
