@@ -9,3 +9,4 @@ pub mod EnterLemmas
 pub mod DropLemmas
 pub mod JumpLemmas
 pub mod ReturnLemmas
+pub mod CallLemmas
