@@ -37,7 +37,7 @@ put_stays false v o (inr h) = h
 
 defined_grows : (e : Environment) (name : Text) (body : p.Command) → Grows e (with_function e name (Some body))
 unfolding put_text
-defined_grows e name body = record { variables = λ t h. h; functions = λ t h. put_stays (bytes_eq t name) body (e.functions t) (inr h); job = λ h. h }
+defined_grows e name body = record { variables = λ t i h. h; functions = λ t i h. put_stays (bytes_eq t name) body (e.functions t) (inr h); job = λ h. h }
 
 defined_holds : (c : Certificate) (x : Facts) (e : Environment) (f : Frame) (name : Text) (body : p.Command) → Holds x e f → Holds (step c (Define name) x) (with_function e name (Some body)) f
 unfolding Holds step where_known put_text

@@ -2,6 +2,7 @@
 use Rattle.std.proofs.Common.{◌≡◌, ℕ, ◌+◌, Bool, true, false, if◌then◌else◌, List, [], ◌∷◌, Option, Some, None, is_some, bytes_eq, refl, sym, ◌∙◌, subst, true≢false}
 use Rattle.std.specs.List.{list_all}
 use Rattle.std.proofs.lemmas.Bool.{and_from, and_parts, or_parts}
+use Rattle.sh_tree.specs.language.Bytes.{is_name}
 use Rattle.sh_tree.specs.program.Syntax.{Text}
 use Rattle.sh_table.specs.runs.Builtins.{restored}
 use Rattle.sh_table.specs.runs.Environment.{Environment, Frame, is_one_of, put_text, with_variable}
@@ -52,10 +53,10 @@ not_more xs ys t h k = go (is_one_of xs t) refl
     go true e = absurd (true≢false (sym (all_one (is_one_of ys) xs t h e) ∙ k))
     go false e = e
 
--- Every variable that was set still is, every function is still defined, and so `!`, but for these names.
+-- Every variable with a name that was set still is, every function with one is still defined, and so `!`, but for these names.
 pub record Spares (names : Names) (e e' : Environment) : Type 0 where
-  pub variables : (t : Text) → is_one_of names.vars t ≡ false → is_some (e.variables t) ≡ true → is_some (e'.variables t) ≡ true
-  pub functions : (t : Text) → is_one_of names.functions t ≡ false → is_some (e.functions t) ≡ true → is_some (e'.functions t) ≡ true
+  pub variables : (t : Text) → is_name t ≡ true → is_one_of names.vars t ≡ false → is_some (e.variables t) ≡ true → is_some (e'.variables t) ≡ true
+  pub functions : (t : Text) → is_name t ≡ true → is_one_of names.functions t ≡ false → is_some (e.functions t) ≡ true → is_some (e'.functions t) ≡ true
   pub job : e.job ≡ true → e'.job ≡ true
 
 pub spares_more : (a b : Names) (e e' : Environment) → are_among a b ≡ true → Spares a e e' → Spares b e e'
@@ -63,16 +64,16 @@ unfolding are_among
 spares_more a b e e' h k =
     let both = and_parts (list_all (is_one_of b.vars) a.vars) (list_all (is_one_of b.functions) a.functions) h in
     record {
-      variables = λ t n s. k.variables t (not_more a.vars b.vars t both.0 n) s;
-      functions = λ t n s. k.functions t (not_more a.functions b.functions t both.1 n) s;
+      variables = λ t i n s. k.variables t i (not_more a.vars b.vars t both.0 n) s;
+      functions = λ t i n s. k.functions t i (not_more a.functions b.functions t both.1 n) s;
       job = k.job;
     }
 
 -- where nothing is named everything stays
 pub spares_grow : (names : Names) (e e' : Environment) → names.vars ≡ [] → names.functions ≡ [] → Spares names e e' → Grows e e'
 spares_grow names e e' v g k = record {
-  variables = λ t s. k.variables t (subst (λ xs. is_one_of xs t ≡ false) (sym v) refl) s;
-  functions = λ t s. k.functions t (subst (λ xs. is_one_of xs t ≡ false) (sym g) refl) s;
+  variables = λ t i s. k.variables t i (subst (λ xs. is_one_of xs t ≡ false) (sym v) refl) s;
+  functions = λ t i s. k.functions t i (subst (λ xs. is_one_of xs t ≡ false) (sym g) refl) s;
   job = k.job;
 }
 
@@ -81,9 +82,9 @@ pub apart_holds : (x : Facts) (names : Names) (e e' : Environment) (f : Frame) �
 unfolding Apart Holds
 apart_holds NotReached names e e' f a k h = h
 apart_holds (Known v g n) names e e' f a k h = record {
-  variables = λ t i s. k.variables t (unclaimed (is_one_of names.vars) v t a.0 s) (h.variables t i s);
+  variables = λ t i s. k.variables t i (unclaimed (is_one_of names.vars) v t a.0 s) (h.variables t i s);
   job = λ s. k.job (h.job s);
-  functions = λ t i s. k.functions t (unclaimed (is_one_of names.functions) g t a.1 s) (h.functions t i s);
+  functions = λ t i s. k.functions t i (unclaimed (is_one_of names.functions) g t a.1 s) (h.functions t i s);
   parameters = h.parameters;
 }
   where
@@ -107,14 +108,14 @@ put_apart e name t v h s = rw (bytes_eq-swap t name ∙ h) s
 -- whichever of the names are put back, only those are gone that were not set before
 pub restored_spares : (restores : ℕ → Bool) (n : ℕ) (e : Environment) (saved : Saved) → Spares (unset_names saved) e (restored restores n e saved)
 unfolding restored unset_before
-restored_spares restores n e [] = record { variables = λ t i s. s; functions = λ t i s. s; job = λ s. s }
+restored_spares restores n e [] = record { variables = λ t i n s. s; functions = λ t i n s. s; job = λ s. s }
 restored_spares restores n e ((name, Some v) ∷ xs) = go (restores n) (λ x. restored_spares restores (n + 1) x xs)
   where
     go : (b : Bool) → ((x : Environment) → Spares (unset_names xs) x (restored restores (n + 1) x xs))
         → Spares (unset_names xs) e (restored restores (n + 1) (if b then with_variable e name (Some v) else e) xs)
     go true rest =
         let k = rest (with_variable e name (Some v)) in
-        record { variables = λ t i s. k.variables t i ((assigned_grows e name v).variables t s); functions = k.functions; job = k.job }
+        record { variables = λ t i n s. k.variables t i n ((assigned_grows e name v).variables t i s); functions = k.functions; job = k.job }
     go false rest = rest e
 restored_spares restores n e ((name, None) ∷ xs) = go (restores n) (λ x. restored_spares restores (n + 1) x xs)
   where
@@ -123,13 +124,13 @@ restored_spares restores n e ((name, None) ∷ xs) = go (restores n) (λ x. rest
     go true rest =
         let k = rest (with_variable e name None) in
         record {
-          variables = λ t i s. let both = or_parts (bytes_eq name t) (is_one_of (unset_before xs) t) i in k.variables t both.1 (put_apart e name t None both.0 s);
+          variables = λ t i n s. let both = or_parts (bytes_eq name t) (is_one_of (unset_before xs) t) n in k.variables t i both.1 (put_apart e name t None both.0 s);
           functions = k.functions;
           job = k.job;
         }
     go false rest =
         let k = rest e in
-        record { variables = λ t i s. k.variables t (or_parts (bytes_eq name t) (is_one_of (unset_before xs) t) i).1 s; functions = k.functions; job = k.job }
+        record { variables = λ t i n s. k.variables t i (or_parts (bytes_eq name t) (is_one_of (unset_before xs) t) n).1 s; functions = k.functions; job = k.job }
 
 pub restored_functions : (restores : ℕ → Bool) (n : ℕ) (e : Environment) (saved : Saved) → (restored restores n e saved).functions ≡ e.functions
 restored_functions restores n e saved = restored_kept (λ (x : Environment). x.functions ≡ e.functions) (λ x name v h. h) restores n e saved refl

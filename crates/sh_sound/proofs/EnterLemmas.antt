@@ -29,17 +29,17 @@ use Rattle.sh_sound.proofs.CompoundLemmas.{lose_job, starts_ok, begun_ok, redire
 
 module _ (d : Declared) (c : Certificate) (defined : List Text) where
   -- where b is seen, this is seen and these facts are known
-  record Known (b seen : Seen) (x : Facts) : Type 0 where
-    entails : Entails d c b seen
-    knows : (e : Environment) (f : Frame) → OneHolds d c b e f → Holds x e f
+  pub record Known (b seen : Seen) (x : Facts) : Type 0 where
+    pub entails : Entails d c b seen
+    pub knows : (e : Environment) (f : Frame) → OneHolds d c b e f → Holds x e f
 
-  known_gain : (g : Gains) (b seen : Seen) (x : Facts) → Known b seen x → Known (gaining g b) (gaining g seen) (with_gains g x)
+  pub known_gain : (g : Gains) (b seen : Seen) (x : Facts) → Known b seen x → Known (gaining g b) (gaining g seen) (with_gains g x)
   known_gain g b seen x k = record {
     entails = λ e f h. gain_holds d c g seen e f (has_gain d c g b e f h) (k.entails e f (holds_gain d c g b e f h));
     knows = λ e f h. holds_with g x e f (has_gain d c g b e f h) (k.knows e f (holds_gain d c g b e f h));
   }
 
-  word_at : (b seen : Seen) (x : Facts) (w : p.Word) → Known b seen x → i.Each (Stands d c defined) (entries.word_entered seen w) → word_unmet x w ≡ [] → word_formed w ≡ true → WordAt d c defined b w
+  pub word_at : (b seen : Seen) (x : Facts) (w : p.Word) → Known b seen x → i.Each (Stands d c defined) (entries.word_entered seen w) → word_unmet x w ≡ [] → word_formed w ≡ true → WordAt d c defined b w
   word_at b seen x w k r m formed = record { seen = seen; facts = x; entails = k.entails; knows = k.knows; rules = r; met = m; formed = formed }
 
   words_at : (b seen : Seen) (x : Facts) (ws : p.Words) → Known b seen x → i.Each (Stands d c defined) (entries.words_entered seen ws) → words_unmet x ws ≡ [] → fields_formed ws ≡ true → WordsAt d c defined b ws
@@ -63,12 +63,12 @@ module _ (d : Declared) (c : Certificate) (defined : List Text) where
         patterns_at b seen x ws k (each_right (Stands d c defined) (entries.word_entered seen w) _ r) met.1 both.1,
       )
 
-  redirect_at : (b seen : Seen) (x : Facts) (r : p.Redirect) → Known b seen x → i.Each (Stands d c defined) (entries.redirect_entered seen r) → redirect_unmet x r ≡ [] → redirect_formed r ≡ true → WordAt d c defined b (opened r)
+  pub redirect_at : (b seen : Seen) (x : Facts) (r : p.Redirect) → Known b seen x → i.Each (Stands d c defined) (entries.redirect_entered seen r) → redirect_unmet x r ≡ [] → redirect_formed r ≡ true → WordAt d c defined b (opened r)
   unfolding opened redirect_unmet redirect_formed entries.redirect_entered
   redirect_at b seen x (p.File w) k r m formed = word_at b seen x w k r m formed
   redirect_at b seen x (p.Here w) k r m formed = word_at b seen x w k r m formed
 
-  redirects_at : (b seen : Seen) (x : Facts) (rs : p.Redirects) → Known b seen x → i.Each (Stands d c defined) (entries.redirects_entered seen rs) → redirects_unmet x rs ≡ [] → redirects_formed rs ≡ true → RedirectsAt d c defined b rs
+  pub redirects_at : (b seen : Seen) (x : Facts) (rs : p.Redirects) → Known b seen x → i.Each (Stands d c defined) (entries.redirects_entered seen rs) → redirects_unmet x rs ≡ [] → redirects_formed rs ≡ true → RedirectsAt d c defined b rs
   unfolding RedirectsAt redirects_unmet redirects_formed entries.redirects_entered
   redirects_at b seen x p.no_redirects k r m formed = tt
   redirects_at b seen x (p.more_redirects q rs) k r m formed =
@@ -98,17 +98,17 @@ module _ (d : Declared) (c : Certificate) (defined : List Text) where
         patterns_of y b (entries.falls end (items_after (Both (b ++ fallen)) body)) x rest k (each_right (Stands d c defined) (patterns ++ list) _ r) met.1 both.1,
       )
 
-  is_compound : p.Kind → Bool
+  unfoldable pub is_compound : p.Kind → Bool
   is_compound (p.Simple es) = false
   is_compound _ = true
 
-  work_compound : (n offset : ℕ) (kind : p.Kind) (rs : p.Redirects) → is_compound kind ≡ true → command_work (p.command n offset kind rs) ≡ Compound n rs kind
+  pub work_compound : (n offset : ℕ) (kind : p.Kind) (rs : p.Redirects) → is_compound kind ≡ true → command_work (p.command n offset kind rs) ≡ Compound n rs kind
   unfolding is_compound command_work
   work_compound n offset (p.Simple es) rs h = cc
   work_compound n offset kind rs h = refl
 
   module _ (SimpleAt : Around → Work → Seen → Type 0) where
-    kind_at : (base : Around) (callers : List Facts) (ws : List Work) (n : ℕ) (kind : p.Kind) (rs : p.Redirects) (s : Seen) (y : Facts) → is_compound kind ≡ true → Known s s y
+    pub kind_at : (base : Around) (callers : List Facts) (ws : List Work) (n : ℕ) (kind : p.Kind) (rs : p.Redirects) (s : Seen) (y : Facts) → is_compound kind ≡ true → Known s s y
         → KindRules d c defined (around base ws) n s kind → i.Each (Stands d c defined) (entries.kind_entered (around base ws) n s kind) → kind_unmet y kind ≡ [] → kind_formed kind rs ≡ true
         → ((name : Text) (body : p.Command) → kind ≡ p.Define name body → is_one_of defined name ≡ true)
         → Good d c defined SimpleAt base callers ws (after_command n) → KindAt d c defined (around base ws) n kind s (λ r. Good d c defined SimpleAt base callers ws r)

@@ -72,7 +72,7 @@ put_some false v o (inr h) = h
 -- an assignment unsets nothing, and sets its name
 pub assigned_grows : (e : Environment) (name v : Text) → Grows e (with_variable e name (Some v))
 unfolding put_text
-assigned_grows e name v = record { variables = λ t h. put_some (bytes_eq t name) v (e.variables t) (inr h); functions = λ t h. h; job = λ h. h }
+assigned_grows e name v = record { variables = λ t i h. put_some (bytes_eq t name) v (e.variables t) (inr h); functions = λ t i h. h; job = λ h. h }
 
 pub assigned_set : (e : Environment) (name v : Text) → is_some ((with_variable e name (Some v)).variables name) ≡ true
 unfolding put_text

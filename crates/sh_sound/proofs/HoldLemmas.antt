@@ -33,16 +33,16 @@ each_both P (x ∷ xs) ys h k = (h.0, each_both P xs ys h.1 k)
 -- Growth
 
 pub grows_refl : (e : Environment) → Grows e e
-grows_refl e = record { variables = λ t h. h; functions = λ t h. h; job = λ h. h }
+grows_refl e = record { variables = λ t i h. h; functions = λ t i h. h; job = λ h. h }
 
 pub grows_trans : (a b c : Environment) → Grows a b → Grows b c → Grows a c
-grows_trans a b c h k = record { variables = λ t s. k.variables t (h.variables t s); functions = λ t s. k.functions t (h.functions t s); job = λ s. k.job (h.job s) }
+grows_trans a b c h k = record { variables = λ t i s. k.variables t i (h.variables t i s); functions = λ t i s. k.functions t i (h.functions t i s); job = λ s. k.job (h.job s) }
 
 pub known_grows : (v g : Text → Bool) (a : ℕ) (e e' : Environment) (f : Frame) → Grows e e' → HoldKnown v g a e f → HoldKnown v g a e' f
 known_grows v g a e e' f grows h = record {
-  variables = λ t n k. grows.variables t (h.variables t n k);
+  variables = λ t n k. grows.variables t n (h.variables t n k);
   job = λ k. grows.job (h.job k);
-  functions = λ t n k. grows.functions t (h.functions t n k);
+  functions = λ t n k. grows.functions t n (h.functions t n k);
   parameters = h.parameters;
 }
 

@@ -1,3 +1,4 @@
+pub mod FieldsLemmas
 pub mod HoldLemmas
 pub mod ExpansionLemmas
 pub mod ListLemmas
@@ -5,6 +6,8 @@ pub mod StepLemmas
 pub mod CaseLemmas
 pub mod CompoundLemmas
 pub mod ProcessLemmas
+pub mod CommandLemmas
+pub mod WordsLemmas
 pub mod EnterLemmas
 pub mod DropLemmas
 pub mod JumpLemmas

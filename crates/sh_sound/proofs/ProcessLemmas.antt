@@ -24,7 +24,7 @@ use Rattle.sh_sound.proofs.CompoundLemmas.{lose_job, starts_ok}
 
 -- `!` is set
 job_grows : (e : Environment) → Grows e (record e { job = true })
-job_grows e = record { variables = λ t h. h; functions = λ t h. h; job = λ h. refl }
+job_grows e = record { variables = λ t i h. h; functions = λ t i h. h; job = λ h. refl }
 
 job_has : (e : Environment) (f : Frame) → Has (named (job ∷ [])) (record e { job = true }) f
 job_has e f = record { variables = λ t i s. absurd (job_no_name t i (sym (one_name job t s))); job = λ s. refl; functions = λ t i s. cc; parameters = omega arith }

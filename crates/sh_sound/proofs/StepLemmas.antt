@@ -102,27 +102,39 @@ module _ (d : Declared) (c : Certificate) (defined : List Text) (SimpleAt : Arou
         go false l = expanded_ok s split x ok does plain (λ h. next h l) (λ h. grows h l)
 
     -- what is left of a process in a grown environment
-    pub grown : (e' : Environment) (now : ℕ) (vs us : List Work) (live : Well base e fs status vs) (o : After) → Grows e e' → e'.functions ≡ e.functions
-        → Good d c defined SimpleAt base live.callers us o → AfterHolds d c now o e' (front fs) → Well base e' fs now us
-    grown e' now vs us live o g same good h = record {
+    pub grown_in : (e' : Environment) (now : ℕ) (vs us : List Work) (live : Well base e fs status vs) (o : After) → Grows e e' → e'.functions ≡ e.functions
+        → GoodIn d c defined SimpleAt (front fs) base live.callers us o → AfterHolds d c now o e' (front fs) → Well base e' fs now us
+    grown_in e' now vs us live o g same good h = record {
       known = o;
       callers = live.callers;
-      good = good_in d c defined SimpleAt (front fs) base live.callers us o good;
+      good = good;
       holds = h;
       stays = stays_grow d c defined SimpleAt live.callers e e' fs g live.stays;
       bodies = subst (Bodies d c defined) (sym same) live.bodies;
     }
 
+    pub grown : (e' : Environment) (now : ℕ) (vs us : List Work) (live : Well base e fs status vs) (o : After) → Grows e e' → e'.functions ≡ e.functions
+        → Good d c defined SimpleAt base live.callers us o → AfterHolds d c now o e' (front fs) → Well base e' fs now us
+    grown e' now vs us live o g same good h = grown_in e' now vs us live o g same (good_in d c defined SimpleAt (front fs) base live.callers us o good) h
+
     -- a word is expanded, and other work comes
+    pub word_step_in : (b : Seen) (k : Context) (w : p.Word) (split : Bool) (now : State → ℕ) (vs us : List Work) (live : Well base e fs status vs) → WordAt d c defined b w → OneHolds d c b e (front fs)
+        → (o : After) → let s = (expand (front fs) status k w (fresh e a.given)).state in
+        (split ≡ false → s.ended ≡ false → GoodIn d c defined SimpleAt (front fs) base live.callers us o)
+        → ((e' : Environment) (n : ℕ) → OneHolds d c (gaining (word_gains w) b) e' (front fs) → AfterHolds d c n o e' (front fs))
+        → Ok base e fs status (after_expansion s split (unless_ended e (front fs) status ws a s (goes s.environment (front fs) (now s) us)))
+    word_step_in b k w split now vs us live at h o good lead =
+        let s = (expand (front fs) status k w (fresh e a.given)).state in
+        let does : Does (word_gains w) s = word_expands b k w at h in
+        unless_ok s split (goes s.environment (front fs) (now s) us) live.bodies does (goes_plain fs s.environment (now s) us)
+        (λ n l. step_goes d c defined SimpleAt base e s.environment fs status (now s) us does.grows
+        (grown_in s.environment (now s) vs us live o does.grows does.functions (good n l) (lead s.environment (now s) (behind_word b w s h does l))))
+        (λ n l. does.grows)
+
     pub word_step : (b : Seen) (k : Context) (w : p.Word) (split : Bool) (now : State → ℕ) (vs us : List Work) (live : Well base e fs status vs) → WordAt d c defined b w → OneHolds d c b e (front fs)
         → (o : After) → (split ≡ false → Good d c defined SimpleAt base live.callers us o)
         → ((e' : Environment) (n : ℕ) → OneHolds d c (gaining (word_gains w) b) e' (front fs) → AfterHolds d c n o e' (front fs))
         → let s = (expand (front fs) status k w (fresh e a.given)).state in
         Ok base e fs status (after_expansion s split (unless_ended e (front fs) status ws a s (goes s.environment (front fs) (now s) us)))
     word_step b k w split now vs us live at h o good lead =
-        let s = (expand (front fs) status k w (fresh e a.given)).state in
-        let does : Does (word_gains w) s = word_expands b k w at h in
-        unless_ok s split (goes s.environment (front fs) (now s) us) live.bodies does (goes_plain fs s.environment (now s) us)
-        (λ n l. step_goes d c defined SimpleAt base e s.environment fs status (now s) us does.grows
-        (grown s.environment (now s) vs us live o does.grows does.functions (good n) (lead s.environment (now s) (behind_word b w s h does l))))
-        (λ n l. does.grows)
+        word_step_in b k w split now vs us live at h o (λ n l. good_in d c defined SimpleAt (front fs) base live.callers us o (good n)) lead

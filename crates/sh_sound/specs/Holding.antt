@@ -30,10 +30,10 @@ Holds (Known vars functions args) e f = HoldKnown vars functions args e f
 abbrev pub Has : Gains → Environment → Frame → Type 0
 Has g e f = HoldKnown (is_one_of g.names) (λ t. false) g.args e f
 
--- Every variable that was set still is, every function is still defined, and so `!`.
+-- Every variable with a name that was set still is, every function with one is still defined, and so `!`.
 pub record Grows (e e' : Environment) : Type 0 where
-  pub variables : (t : Text) → is_some (e.variables t) ≡ true → is_some (e'.variables t) ≡ true
-  pub functions : (t : Text) → is_some (e.functions t) ≡ true → is_some (e'.functions t) ≡ true
+  pub variables : (t : Text) → is_name t ≡ true → is_some (e.variables t) ≡ true → is_some (e'.variables t) ≡ true
+  pub functions : (t : Text) → is_name t ≡ true → is_some (e.functions t) ≡ true → is_some (e'.functions t) ≡ true
   pub job : e.job ≡ true → e'.job ≡ true
 
 module _ (d : Declared) (c : Certificate) where
