@@ -16,3 +16,4 @@ pub mod TheoremLemmas
 pub mod JumpLemmas
 pub mod ReturnLemmas
 pub mod EventLemmas
+pub mod CallLemmas
