@@ -20,7 +20,7 @@ use Rattle.sh_facts.specs.Operands.{Names}
 use Rattle.sh_facts.specs.Rules.{Constraint, Within, Counted, bound, leaves, breaks, continues, returns_with, returns, jumps, losses, counted, where_redirected, call_bounds, simple_bounds, branches_bounds, otherwise_bounds, is_last, clauses_bounds, body_bounds, matches_always, kind_bounds, redirects_bounds, bounds, script_bounds, functions_of}
 use Rattle.sh_facts.specs.Table.{Manner, Nameless, Utility, Call, manner, is_redirected}
 use Rattle.sh_facts.specs.Views.{Certificate, Slot, Before, AfterZero, AfterNonzero, ReturnsZero, ReturnsNonzero, Seen, After, Both, if_zero, if_nonzero, Loss, view_facts, lost}
-use Rattle.sh_facts.proofs.AdmittedWalk.{Admits, script_admits}
+use Rattle.sh_facts.proofs.EnteredWalk.{AdmitsAt, Admits, script_admits, script_formed}
 use Rattle.sh_facts.proofs.EachLemmas.{none_both, each_parts, each_none, each_inside, each_mapped, each_of_all, each_weaker, each_with, each_passes, each_under, each_where, each_unless}
 use Rattle.sh_facts.proofs.MonotoneLemmas.{told_none}
 
@@ -177,7 +177,7 @@ module _ (d : Declared) (c : Certificate) where
   entered_rules : (functions : List Text) (t : p.Command) (rule : FlowRule) (x : Around) (s : Seen)
       → let e : Entered = record { command = t; rule = rule; around = x; seen = s } in
       Each Holds (bounds functions e) → unmet d c functions e ≡ [] → Admits e → command_formed t ≡ true → EnteredRules d c functions e
-  unfolding bounds redirects_bounds unmet shared_unmet Admits EnteredRules
+  unfolding bounds redirects_bounds unmet shared_unmet AdmitsAt EnteredRules
   entered_rules functions (p.command n offset k rs) rule x s h e admits formed =
       let last = each_parts Holds _ _ h in
       let third = each_parts Holds _ _ last.0 in
@@ -208,5 +208,5 @@ rules_give d c t admitted formed rules met =
     let needs = each_none (unmet d c functions) entered met in
     let stated : Each (λ e. Each (Holds d c) (bounds functions e) × (unmet d c functions e ≡ [])) entered = each_with entered held needs (λ e a b. (a, b)) in
     let asked : Each (λ e. Admits e × (command_formed e.command ≡ true)) entered =
-    each_with entered (script_admits t admitted) (each_passes (λ e. command_formed e.command) entered formed) (λ e a b. (a, b)) in
+    each_with entered (script_admits t admitted) (each_passes (λ e. command_formed e.command) entered (script_formed t formed)) (λ e a b. (a, b)) in
     each_with entered stated asked (λ e a b. entered_rules d c functions e.command e.rule e.around e.seen a.0 a.1 b.0 b.1)

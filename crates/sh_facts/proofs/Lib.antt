@@ -1,4 +1,4 @@
-pub mod AdmittedWalk
+pub mod EnteredWalk
 pub mod AnswerLemmas
 pub mod CountLemmas
 pub mod EachLemmas

@@ -12,7 +12,7 @@ use Rattle.sh_table.specs.declared.kind.Kind.{Kind}
 use Rattle.sh_table.specs.declared.kind.Kind.TheVariants as kind
 use Rattle.sh_table.specs.Counts.{some_gives_field}
 use Rattle.sh_table.specs.Profile.{command_rule}
-use Rattle.sh_table.specs.Surroundings.{Surroundings}
+use Rattle.sh_table.specs.Surroundings.{Surroundings, Located, outside, items_located}
 use Rattle.sh_table.specs.Admitted.{is_admitted}
 use Rattle.sh_facts.specs.Demands.{kind_unmet, command_moves, is_reached, demands}
 use Rattle.sh_facts.specs.Entries.{Around, Entered, items_after, behind_redirects, otherwise_seen, turns, ends, behind_list, falls, script_entered}
@@ -117,7 +117,7 @@ command_formed (p.command n offset kind rs) = kind_formed kind rs && redirects_f
 
 -- each command of the program is formed
 abbrev pub is_formed : p.Items → Bool
-is_formed t = list_all (λ e. command_formed e.command) (script_entered t)
+is_formed t = list_all (λ (l : Located). command_formed l.command) (items_located outside t)
 
 -- what may be left from within: as the profile asks it
 abbrev pub surroundings_of : Around → Surroundings

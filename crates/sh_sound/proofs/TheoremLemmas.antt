@@ -17,6 +17,7 @@ use Rattle.sh_facts.specs.Gains.{job}
 use Rattle.sh_facts.specs.Inclusions.{Each, EnteredRules, is_formed, command_formed, kind_formed, redirects_formed}
 use Rattle.sh_facts.specs.Rules.{defined_by, functions_of}
 use Rattle.sh_facts.specs.Views.{Certificate, Seen, Both, at_start, steps, source_facts}
+use Rattle.sh_facts.proofs.EnteredWalk.{script_formed}
 use Rattle.sh_facts.proofs.InclusionLemmas.{rules_give}
 use Rattle.sh_sound.specs.Going.{around, front, FrontGood, Good, GoodIn, Stays, ProcessOk}
 use Rattle.sh_sound.specs.Holding.{Stands, Holds, OneHolds}
@@ -84,7 +85,7 @@ module _ (d : Declared) (c : Certificate) where
       → Each (Stands d c (functions_of (script_entered t))) (script_entered t)
   all_stand t formed rules =
       let es : List Entered = script_entered t in
-      stand_each (functions_of es) es (names_named es formed) rules (all_listed es (functions_of es) (λ f k. k))
+      stand_each (functions_of es) es (names_named es (script_formed t formed)) rules (all_listed es (functions_of es) (λ f k. k))
 
   -- The start
 

@@ -5,7 +5,6 @@ use Rattle.std.specs.List.{list_all}
 use Rattle.sh_tree.specs.language.Bytes.{is_name}
 use Rattle.sh_tree.specs.program.Syntax.{Items}
 use Rattle.sh_table.specs.Admitted.{is_admitted}
-use Rattle.sh_table.specs.Rows.{gives_fields}
 use Rattle.sh_table.specs.runs.Environment.{Environment, Frame}
 use Rattle.sh_table.specs.runs.Worlds.{World, Move, step, run, has_unset_event, has_split_event, start_world, IsStart}
 use Rattle.sh_facts.specs.Demands.{demands}
@@ -34,7 +33,7 @@ RulesSuffice =
 -- gives no value of an expansion to splitting or pathname expansion that could change it.
 abbrev pub HaveNoEvents : Type 0
 HaveNoEvents =
-    (d : Declared) (c : Certificate) (t : Items) → list_all is_name d.names ≡ true → is_admitted t ≡ true → is_formed t ≡ true → gives_fields t ≡ true
+    (d : Declared) (c : Certificate) (t : Items) → list_all is_name d.names ≡ true → is_admitted t ≡ true → is_formed t ≡ true
     → faults d c t ≡ [] → demands d c t ≡ [] → unquoted t ≡ []
     → (e : Environment) (f : Frame) → IsStart d.names d.args e f
     → (moves : List Move) (w : World) → run moves (start_world e f t) ≡ Some w
