@@ -13,3 +13,4 @@ pub mod DropLemmas
 pub mod JumpLemmas
 pub mod ReturnLemmas
 pub mod CallLemmas
+pub mod CallStepLemmas
