@@ -14,3 +14,4 @@ pub mod JumpLemmas
 pub mod ReturnLemmas
 pub mod CallLemmas
 pub mod CallStepLemmas
+pub mod LeaveLemmas
