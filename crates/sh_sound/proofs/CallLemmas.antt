@@ -46,7 +46,7 @@ passing_one test xs t h k =
 abbrev pub kept_facts : Certificate → Text → Facts → Facts
 kept_facts c f x = step c (Lose (c.drops f)) x
 
-lose_holds : (c : Certificate) (names : Names) (x : Facts) (e : Environment) (f : Frame) → Holds x e f → Holds (step c (Lose names) x) e f
+pub lose_holds : (c : Certificate) (names : Names) (x : Facts) (e : Environment) (f : Frame) → Holds x e f → Holds (step c (Lose names) x) e f
 unfolding Holds step where_known
 lose_holds c names NotReached e f h = h
 lose_holds c names (Known v g n) e f h = record {
@@ -107,19 +107,19 @@ called_holds drops names f (Known v g n) r saved among unclaimed restores e inne
     go true (Known w q m) h = record {
       variables = λ t i s.
           let both = and_parts (views.kept drops.vars v t || w t) (v t || not (is_one_of names t)) s in
-          spares.variables t (stays t both.1) (elim (or_cases (views.kept drops.vars v t) (w t) both.0) [ inl l ↦ k.variables t i l | inr r ↦ h.variables t i r ]);
+          spares.variables t i (stays t both.1) (elim (or_cases (views.kept drops.vars v t) (w t) both.0) [ inl l ↦ k.variables t i l | inr r ↦ h.variables t i r ]);
       job = λ s.
           let both = and_parts (views.kept drops.vars v job || w job) (v job || not (is_one_of names job)) s in
           spares.job (elim (or_cases (views.kept drops.vars v job) (w job) both.0) [ inl l ↦ k.job l | inr r ↦ h.job r ]);
-      functions = λ t i s. spares.functions t refl (elim (or_cases (views.kept drops.functions g t) (q t) s) [ inl l ↦ k.functions t i l | inr r ↦ h.functions t i r ]);
+      functions = λ t i s. spares.functions t i refl (elim (or_cases (views.kept drops.functions g t) (q t) s) [ inl l ↦ k.functions t i l | inr r ↦ h.functions t i r ]);
       parameters = k.parameters;
     }
     go false r h = record {
       variables = λ t i s.
           let l = (and_parts (views.kept drops.vars v t) (passes f t) s).0 in
-          spares.variables t (stays t (or_left (v t) (not (is_one_of names t)) (and_parts (v t) (not (is_one_of drops.vars t)) l).0)) (k.variables t i l);
+          spares.variables t i (stays t (or_left (v t) (not (is_one_of names t)) (and_parts (v t) (not (is_one_of drops.vars t)) l).0)) (k.variables t i l);
       job = λ s. spares.job (k.job (and_parts (views.kept drops.vars v job) (passes f job) s).0);
-      functions = λ t i s. spares.functions t refl (k.functions t i s);
+      functions = λ t i s. spares.functions t i refl (k.functions t i s);
       parameters = k.parameters;
     }
 

@@ -25,7 +25,7 @@ use Rattle.sh_sound.proofs.ListLemmas.{began_alone, good_in, step_goes, step_end
 use Rattle.sh_sound.proofs.StepLemmas.{goes_plain, ends_plain, word_expands, behind_word, unless_ok, grown, word_step}
 use Rattle.sh_sound.proofs.CaseLemmas.{gain_two, fields_ok}
 
-is_nonzero : (n : ℕ) → (nonzero n == 0) ≡ false
+pub is_nonzero : (n : ℕ) → (nonzero n == 0) ≡ false
 unfolding nonzero
 is_nonzero zero = refl
 is_nonzero (suc n) = ne_eqb (suc n) 0 (λ h. omega arith)

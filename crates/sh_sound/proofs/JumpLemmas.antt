@@ -14,6 +14,16 @@ use Rattle.sh_sound.proofs.HoldLemmas.{covers_at, both_holds, leaves_lead}
 use Rattle.sh_sound.proofs.ListLemmas.{leads_same, turns_to}
 use Rattle.sh_sound.proofs.DropLemmas.{front_goes}
 
+-- in loops a jump has a loop
+pub loop_found : (n l : ℕ) (ls : List ℕ) → is_some (loop_at n (l ∷ ls)) ≡ true
+unfolding loop_at
+loop_found n l [] = refl
+loop_found n l (m ∷ ls) = go (nat_le n 1) (loop_found (n - 1) m ls)
+  where
+    go : (b : Bool) → is_some (loop_at (n - 1) (m ∷ ls)) ≡ true → is_some (if b then Some l else loop_at (n - 1) (m ∷ ls)) ≡ true
+    go true ih = refl
+    go false ih = ih
+
 module _ (d : Declared) (c : Certificate) (defined : List Text) (SimpleAt : Around → Work → Seen → Type 0) where
   abbrev Well : Around → Environment → List Frame → ℕ → List Work → Type 0
   Well base e fs status ws = ProcessOk d c defined SimpleAt base e fs status ws
@@ -30,16 +40,6 @@ module _ (d : Declared) (c : Certificate) (defined : List Text) (SimpleAt : Arou
   MarkGood base callers (marked turn behind) None = ⊥
   MarkGood base callers (marked turn behind) (Some l) =
       Good d c defined SimpleAt base callers behind (after_command l) × Good d c defined SimpleAt base callers (turn ∷ behind) (Both (at (Head l)))
-
-  -- in loops a jump has a loop
-  loop_found : (n l : ℕ) (ls : List ℕ) → is_some (loop_at n (l ∷ ls)) ≡ true
-  unfolding loop_at
-  loop_found n l [] = refl
-  loop_found n l (m ∷ ls) = go (nat_le n 1) (loop_found (n - 1) m ls)
-    where
-      go : (b : Bool) → is_some (loop_at (n - 1) (m ∷ ls)) ≡ true → is_some (if b then Some l else loop_at (n - 1) (m ∷ ls)) ≡ true
-      go true ih = refl
-      go false ih = ih
 
   nth_good : (base : Around) (callers : List Facts) (n l : ℕ) (ls : List ℕ) (further : Mark) (turn : Work) (behind : List Work) → MarkGood base callers further (loop_at (n - 1) ls)
       → MarkGood base callers (marked turn behind) (Some l) → MarkGood base callers (nth_mark n further turn behind) (loop_at n (l ∷ ls))

@@ -17,3 +17,5 @@ pub mod JumpLemmas
 pub mod ReturnLemmas
 pub mod EventLemmas
 pub mod CallLemmas
+pub mod CallStepLemmas
+pub mod LeaveLemmas
