@@ -1,87 +1,25 @@
 //! Which scripts are analysed.
 ghost use Rattle.std.specs.Prelude.{◌≡◌, IfOk};
-ghost use Rattle.std.specs.List.{list_any};
 ghost use Rattle.std.specs.Option.{option_copied};
-ghost use Rattle.std.specs.Str.{bytes_eq};
 ghost use Rattle.sh_tree.specs.Words.{words_of, lone_command};
-ghost use Rattle.sh_table.specs.Kinds.{kind_of};
 ghost use Rattle.sh_flow.specs.Profile as profile;
 ghost use Rattle.sh_lint.specs.Findings.{Admits, first_refused, item_start};
 
 use crate::straight::is_straight;
+use sh_table::kind::{Kind, kind_of};
 use sh_tree::refusal::{Refusal, Rule};
 use sh_tree::text::static_text;
 use sh_tree::tree::{Command, Element, Item, Script};
 use sh_tree::words::command_name;
 use std::alloc::{AllocError, Global};
 
-/// The names of commands that are more than a utility: the special built-in utilities (XCU 2.15); others that change what is
-/// set, run a command by its name, or have a known status; those that change how commands are read, names to which the standard
-/// gives no meaning (XCU 2.9.1.4), and words that other shells reserve.
-const KNOWN_NAMES: [&[u8]; 42] = [
-    b"break",
-    b":",
-    b"continue",
-    b".",
-    b"eval",
-    b"exec",
-    b"exit",
-    b"export",
-    b"readonly",
-    b"return",
-    b"set",
-    b"shift",
-    b"times",
-    b"trap",
-    b"unset",
-    b"cd",
-    b"command",
-    b"false",
-    b"getopts",
-    b"read",
-    b"true",
-    b"alias",
-    b"unalias",
-    b"fc",
-    b"local",
-    b"typeset",
-    b"declare",
-    b"source",
-    b"let",
-    b"builtin",
-    b"nameref",
-    b"integer",
-    b"float",
-    b"mapfile",
-    b"readarray",
-    b"shopt",
-    b"[[",
-    b"]]",
-    b"function",
-    b"select",
-    b"time",
-    b"namespace",
-];
-
-fn is_utility_name(name: &[u8]) -> bool
-    ensures { result ≡ profile.is_utility_kind (kind_of name.now) }
-{
-    !is_known(&KNOWN_NAMES, name)
-}
-
-fn is_known(names: &[&[u8]], name: &[u8]) -> bool
-    ensures { result ≡ list_any (λ t. bytes_eq t.now name.now) names.now }
-{
-    names.iter().any(|known| *known == name)
-}
-
 /// Whether the name is that of a utility that changes no variable and no function. A `=` in it may be an assignment of another
 /// shell.
-#[tactic(auto, unfolding(sh_flow::specs::Profile::is_utility))]
+#[tactic(auto, unfolding(sh_flow::specs::Profile::is_utility, sh_flow::specs::Profile::is_utility_kind))]
 fn is_utility(name: &[u8]) -> bool
     ensures { result ≡ profile.is_utility name.now }
 {
-    let utility = is_utility_name(name);
+    let utility = matches!(kind_of(name), Kind::Utility);
     let equals = name.contains(&b'=');
     utility && !equals
 }

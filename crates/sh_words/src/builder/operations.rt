@@ -75,7 +75,7 @@ impl WordBuilder {
         if token.figure == Figure::Dollar {
             return self.touching(script, token.start, place);
         }
-        if is_number_or_name(expr) {
+        if matches!(expr, Expr::Constant(_) | Expr::Variable(_)) {
             return self.bad(token);
         }
         Refusal::LeftOut(Form::Arithmetic, place)
@@ -124,12 +124,7 @@ impl WordBuilder {
                 rest,
                 operator,
             } => self.more_read(level, first, rest, operator, expr, token)?,
-            Operation::Condition => {
-                if token.figure == Figure::Question {
-                    return self.enter_choice(script, expr, token);
-                }
-                self.have(self.depth, expr, self.at);
-            }
+            Operation::Condition => return self.condition_read(script, expr, token),
             Operation::Yes { depth, condition } => self.yes_read(depth, condition, expr, token)?,
             Operation::No {
                 depth,
@@ -142,6 +137,29 @@ impl WordBuilder {
                 operator,
             } => self.value_read(depth, name, operator, expr)?,
         }
+        Ok(None)
+    }
+
+    /// What may be a condition was read, before the token.
+    fn condition_read(
+        &mut self,
+        script: &[u8],
+        expr: Expr,
+        token: Lexeme,
+    ) -> Result<Option<Next>, Refusal>
+        requires small { length script.now ≤ MAX_SCRIPT }
+        requires inside { self.old.at ≤ length script.now }
+        requires token { IsLexeme script.now self.old.at token }
+        requires sound { IsSound script.now (framed self.old (Frame.Operation Operation.Condition) (Focus.Have expr)) }
+        ensures keeps { Steps script.now (Left script.now (framed self.old (Frame.Operation Operation.Condition) (Focus.Have expr))) self.new result }
+        ensures moves { StepMoves script.now self.old self.new result }
+        ensures sound { StepSound script.now result self.new }
+        ensures works { StepWorks script.now (framed self.old (Frame.Operation Operation.Condition) (Focus.Have expr)) self.new result }
+    {
+        if token.figure == Figure::Question {
+            return self.enter_choice(script, expr, token);
+        }
+        self.have(self.depth, expr, self.at);
         Ok(None)
     }
 
@@ -352,8 +370,4 @@ fn operand_start(expr: &Expr, at: u32) -> Option<u32> {
         Expr::Expansion(Part::Arith(span, _) | Part::Command(_, span, _)) => Some(span.start),
         _ => None,
     }
-}
-
-fn is_number_or_name(expr: &Expr) -> bool {
-    matches!(expr, Expr::Constant(_) | Expr::Variable(_))
 }

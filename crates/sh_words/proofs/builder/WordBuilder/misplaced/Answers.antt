@@ -8,6 +8,6 @@ pub returns-in_default : goal.returns-in_default
 returns-in_default c =
     rw c.bad-in_default.ensures (bad_is_fault c.args.script.now c.args.self.now.at c.args.token c.args.self.now.holder c.requires.token c.requires.began)
 
-pub returns-then-is_number_or_name : goal.returns-then-is_number_or_name
-returns-then-is_number_or_name c =
-    rw c.bad-then-is_number_or_name.ensures (bad_is_fault c.args.script.now c.args.self.now.at c.args.token c.args.self.now.holder c.requires.token c.requires.began)
+pub returns-then-matches : goal.returns-then-matches
+returns-then-matches c =
+    rw c.bad-then-matches.ensures (bad_is_fault c.args.script.now c.args.self.now.at c.args.token c.args.self.now.holder c.requires.token c.requires.began)
