@@ -14,7 +14,7 @@ use Rattle.sh_tree.specs.program.Syntax.{Text}
 use Rattle.sh_table.specs.runs.Environment.{is_one_of}
 use Rattle.sh_facts.specs.declared.sights.Seen.{Seen}
 use Rattle.sh_facts.specs.Facts.{Declared}
-use Rattle.sh_facts.specs.Names.{with_text, number_of, first_names, numbering, Numbers, IsNumbering, HasTooMany, IsInTextOrder, Refuses}
+use Rattle.sh_facts.specs.Names.{with_text, number_of, first_names, numbering, Numbers, IsInTextOrder, Refuses}
 use Rattle.sh_facts.specs.Sights.{Sight}
 use Rattle.sh_facts.specs.SightWalks.{seen_in, texts_seen}
 

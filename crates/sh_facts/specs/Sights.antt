@@ -4,15 +4,14 @@ use Rattle.std.specs.Prelude.{ℕ, nat_lt, ◌==◌, Bool, true, false, not, ◌
 use Rattle.std.specs.List.{flat_map}
 use Rattle.std.specs.Str.{bytes_eq}
 use Rattle.sh_tree.specs.declared.tree.Span.{Span}
-use Rattle.sh_tree.specs.declared.tree.Script.{Script}
-use Rattle.sh_tree.specs.declared.tree.Command.{Command, Command', out-Command, Row_of-Redirect, end_of-Redirect, more_of-Redirect}
+use Rattle.sh_tree.specs.declared.tree.Command.{Command, out-Command}
 use Rattle.sh_tree.specs.declared.tree.Kind.{Kind, Simple', For', Branches', Define', items-the_row-Element, Held-Kind-For-1, Kind-For-1-None', Kind-For-1-Some', items-the_row-Word, items-the_row-Clause}
 use Rattle.sh_tree.specs.declared.tree.Redirect.{Redirect}
 use Rattle.sh_tree.specs.declared.tree.Word.{Word}
 use Rattle.sh_tree.specs.declared.tree.Clause.{Clause, out-Clause}
 use Rattle.sh_tree.specs.declared.tree.Element.{Element, Assignment', Word', Redirection'}
 use Rattle.sh_tree.specs.declared.tree.Target.{Target, File', Here'}
-use Rattle.sh_tree.specs.declared.tree.Part.{Part, Plain, Double', Param', Arith', Row_of-Part, end_of-Part, more_of-Part, items-the_row-Part}
+use Rattle.sh_tree.specs.declared.tree.Part.{Part, Plain, Double', Param', Arith', Row_of-Part, end_of-Part, more_of-Part}
 use Rattle.sh_tree.specs.declared.tree.ParameterOperator.{ParameterOperator, Use', Remove'}
 use Rattle.sh_tree.specs.declared.tree.Subject.{Subject}
 use Rattle.sh_tree.specs.declared.tree.Subject.TheVariants.{Name}

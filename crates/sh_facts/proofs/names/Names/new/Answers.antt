@@ -1,8 +1,7 @@
-use Rattle.std.proofs.Common.{◌≡◌, ◌≤◌, List, ℕ, Vec, Global, [], map, fold, length, sym, ◌∙◌, ap, subst, rules}
+use Rattle.std.proofs.Common.{◌≡◌, ◌≤◌, List, ℕ, Vec, Global, [], map, fold, length, sym, ◌∙◌, ap, subst}
 use Rattle.std.proofs.lemmas.List.{length-map}
 use Rattle.std.proofs.lemmas.Result.{err_from_is_err_and}
-use Rattle.sh_facts.specs.Names.{with_text, first_names}
-use Rattle.sh_facts.specs.SightWalks.{texts_seen}
+use Rattle.sh_facts.specs.Names.{with_text}
 use Rattle.sh_facts.proofs.NameLemmas.{numbered, refused_seen, refused_declared, refused_first}
 use Rattle.sh_facts.proofs.names.Names.new.Goals as goal
 
