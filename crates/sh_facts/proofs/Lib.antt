@@ -14,3 +14,4 @@ pub mod SightLemmas
 pub mod SpotExampleLemmas
 pub mod SpotLemmas
 pub mod TextLemmas
+pub mod SpellingLemmas

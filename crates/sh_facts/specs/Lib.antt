@@ -9,6 +9,7 @@ pub mod Operands
 pub mod Views
 pub mod Sheets
 pub mod Forms
+pub mod Spelling
 pub mod Certificates
 pub mod Table
 pub mod Entries

@@ -4,6 +4,7 @@ ghost use Rattle.sh_facts.specs.Inclusions.{RulesGive};
 ghost use Rattle.sh_facts.specs.LeastFault.{LeastIsTold};
 ghost use Rattle.sh_facts.specs.Meets.{SeenIsMeet};
 ghost use Rattle.sh_facts.specs.Order.{Monotone, Ordered};
+ghost use Rattle.sh_facts.specs.Spelling.{HasOneText};
 ghost use Rattle.sh_facts.specs.SpotExamples.{SpotsAsExpected};
 ghost use Rattle.sh_facts.specs.Spots.{PlacesStandOnce};
 ghost use Rattle.sh_facts.specs.TextExamples.{TextsAsExpected};
@@ -53,4 +54,9 @@ pub fn once()
 /// form is told.
 pub fn certificate_texts()
     ensures { TextsAsExpected }
+{}
+
+/// Of a certificate's claims there is one text, and it reads as these claims.
+pub fn spelling()
+    ensures { HasOneText }
 {}
