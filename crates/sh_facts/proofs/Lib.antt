@@ -8,7 +8,10 @@ pub mod MeetLemmas
 pub mod MonotoneLemmas
 pub mod NameLemmas
 pub mod OrderLemmas
+pub mod RowLemmas
 pub mod PolicyLemmas
 pub mod SightLemmas
 pub mod SpotExampleLemmas
 pub mod SpotLemmas
+pub mod TextLemmas
+pub mod SpellingLemmas

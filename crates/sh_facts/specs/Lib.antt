@@ -3,9 +3,14 @@ pub mod Policy
 pub mod Sights
 pub mod SightWalks
 pub mod Names
+pub mod KeptRows
 pub mod Gains
 pub mod Operands
 pub mod Views
+pub mod Sheets
+pub mod Forms
+pub mod Spelling
+pub mod Certificates
 pub mod Table
 pub mod Entries
 pub mod Rules
@@ -19,6 +24,7 @@ pub mod Scripts
 pub mod LongerScripts
 pub mod ForgedScripts
 pub mod AnswerExamples
+pub mod TextExamples
 pub mod Order
 pub mod LeastFault
 pub mod Inclusions

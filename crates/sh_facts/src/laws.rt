@@ -4,8 +4,10 @@ ghost use Rattle.sh_facts.specs.Inclusions.{RulesGive};
 ghost use Rattle.sh_facts.specs.LeastFault.{LeastIsTold};
 ghost use Rattle.sh_facts.specs.Meets.{SeenIsMeet};
 ghost use Rattle.sh_facts.specs.Order.{Monotone, Ordered};
+ghost use Rattle.sh_facts.specs.Spelling.{HasOneText};
 ghost use Rattle.sh_facts.specs.SpotExamples.{SpotsAsExpected};
 ghost use Rattle.sh_facts.specs.Spots.{PlacesStandOnce};
+ghost use Rattle.sh_facts.specs.TextExamples.{TextsAsExpected};
 
 /// Known certificates of known scripts are answered as they should be: the first rule that one breaks, or the places of the demands
 /// that are unmet.
@@ -46,4 +48,15 @@ pub fn inclusions()
 pub fn once()
     ensures law { PlacesStandOnce }
     ensures examples { SpotsAsExpected }
+{}
+
+/// Known certificates have the texts that they should have, these texts claim what they should, and of others the first line that has not the
+/// form is told.
+pub fn certificate_texts()
+    ensures { TextsAsExpected }
+{}
+
+/// Of a certificate's claims there is one text, and it reads as these claims.
+pub fn spelling()
+    ensures { HasOneText }
 {}

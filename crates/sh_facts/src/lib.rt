@@ -2,9 +2,11 @@
 //! that a checker has to test. The latter are definitions, in `specs/`; `laws` holds them against known scripts.
 #![tactic(auto)]
 
+pub mod certificate;
 pub mod laws;
 pub mod names;
 mod operands;
 pub mod policy;
+pub mod rows;
 pub mod rule;
 pub mod sights;

@@ -1,0 +1,5 @@
+use Rattle.sh_facts.proofs.SpellingLemmas.{spelled}
+use Rattle.sh_facts.proofs.laws.spelling.Goals as goal
+
+pub returns : goal.returns
+returns c = record { spelled = spelled }
