@@ -13,3 +13,4 @@ pub mod WidthLemmas
 pub mod WordLemmas
 pub mod ReservedLemmas
 pub mod LoopLemmas
+pub mod BranchLemmas

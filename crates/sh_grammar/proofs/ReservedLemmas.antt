@@ -138,6 +138,3 @@ reserved_inside b i r h inside =
     let spelled : length (bare_word b i) ≡ length (reserved_text r) = entry_length reserved_words (bare_word b i) r words_spelled found in
     let within = bare_within b i in
     omega (arith, length-drop i b)
-
-pub word_inside : (b : List ℕ) (i : ℕ) (r : Reserved) → lead.Reserved r ≡ lead_at b First i → i ≤ length b → i + length (reserved_text r) ≤ length b
-word_inside b i r h inside = reserved_inside b i r (sym h) inside

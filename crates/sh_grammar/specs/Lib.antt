@@ -7,3 +7,4 @@ pub mod Faults
 pub mod Items
 pub mod Brackets
 pub mod Phrases
+pub mod Branches

@@ -1,6 +1,7 @@
 //! Reads the bytes of a script as its tree, or refuses them.
 #![tactic(auto)]
 
+mod branches;
 mod breaks;
 mod commands;
 mod compounds;

@@ -1,4 +1,4 @@
-//! `while` and `until` (XCU 2.9.4.4, 2.9.4.5).
+//! `while` and `until` (XCU 2.9.4.5, 2.9.4.6).
 ghost use Rattle.std.specs.Prelude.{◌-◌, ◌≡◌, ◌+◌, ◌<◌, ◌≤◌, length};
 ghost use Rattle.sh_grammar.specs.Nests.{Nests};
 ghost use Rattle.sh_grammar.specs.Phrases.{DoFrom, loop_word};

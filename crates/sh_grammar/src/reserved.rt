@@ -1,7 +1,7 @@
 //! Reserved words where one is wanted (XCU 2.4).
 ghost use Rattle.std.specs.Prelude.{◌-◌, ◌≡◌, ◌<◌, ◌≤◌, length};
 ghost use Rattle.sh_grammar.specs.Nests.{Nests};
-ghost use Rattle.sh_grammar.specs.Phrases.{Expects, ListBefore, entered, reserved_text};
+ghost use Rattle.sh_grammar.specs.Phrases.{Expects, ListBefore, behind_reserved, entered, reserved_text};
 ghost use Rattle.sh_grammar.specs.States.{Stands};
 ghost use Rattle.sh_grammar.specs.Readers.{Answers};
 ghost use Rattle.sh_tree.specs.declared.token.command.Stage.TheVariants.{First};
@@ -38,8 +38,20 @@ fn width(reserved: Reserved) -> u32
     }
 }
 
+/// Behind the reserved word that stands here.
+#[tactic(auto, using(crate::proofs::ReservedLemmas::reserved_inside))]
+pub fn skip(script: &[u8], reserved: Reserved, from: State) -> State
+    requires small { length script.now ≤ MAX_SCRIPT }
+    requires stands { Stands script.now from }
+    requires word { tokens.lead_at script.now First from.at ≡ Lead.Reserved reserved }
+    ensures value { result ≡ behind_reserved script.now reserved from }
+    ensures further { from.at < result.at }
+    ensures stands { Stands script.now result }
+{
+    from.next(script, from.at + width(reserved))
+}
+
 /// One level inside, behind the reserved word that stands here.
-#[tactic(auto, using(crate::proofs::ReservedLemmas::word_inside))]
 pub fn enter(script: &[u8], reserved: Reserved, from: State) -> State
     requires small { length script.now ≤ MAX_SCRIPT }
     requires stands { Stands script.now from }
@@ -49,11 +61,10 @@ pub fn enter(script: &[u8], reserved: Reserved, from: State) -> State
     ensures further { from.at < result.at }
     ensures stands { Stands script.now result }
 {
-    from.next(script, from.at + width(reserved)).lower()
+    skip(script, reserved, from).lower()
 }
 
 /// Behind the reserved word, which is wanted here.
-#[tactic(auto, using(crate::proofs::ReservedLemmas::reserved_inside))]
 pub fn expect(script: &[u8], reserved: Reserved, from: State) -> Result<State, Refusal>
     requires small { length script.now ≤ MAX_SCRIPT }
     requires stands { Stands script.now from }
@@ -61,7 +72,7 @@ pub fn expect(script: &[u8], reserved: Reserved, from: State) -> Result<State, R
 {
     let lead = lead_at(script, Stage::First, from.at);
     if is_same(lead, Lead::Reserved(reserved)) {
-        return Ok(from.next(script, from.at + width(reserved)));
+        return Ok(skip(script, reserved, from));
     }
     Err(unexpected(script, from))
 }
