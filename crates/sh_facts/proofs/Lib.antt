@@ -15,3 +15,4 @@ pub mod SpotExampleLemmas
 pub mod SpotLemmas
 pub mod TextLemmas
 pub mod SpellingLemmas
+pub mod ReadBackLemmas

@@ -1,18 +1,17 @@
 -- A text that reads as a certificate is that certificate's text.
-use Rattle.std.proofs.Common.{◌≡◌, ℕ, zero, suc, ◌+◌, ◌*◌, ◌-◌, ◌<◌, ◌≤◌, ◌==◌, nat_le, Bool, true, false, ◌&&◌, if◌then◌else◌, List, [], ◌∷◌, ◌++◌, length, get_or, fold, append_assoc, Option, Some, None, option_map, Result, Ok, Err, refl, sym, ap, ap₂, ◌∙◌, subst, arith, rules, codes, append-nil}
+use Rattle.std.proofs.Common.{◌≡◌, ℕ, zero, suc, ◌+◌, ◌*◌, ◌-◌, ◌<◌, ◌≤◌, ◌==◌, nat_le, Bool, true, false, ◌&&◌, if◌then◌else◌, List, [], ◌∷◌, ◌++◌, length, get_or, fold, append_assoc, Option, Some, None, option_map, Result, Ok, Err, refl, sym, ap, ap₂, ◌∙◌, arith, codes, append-nil}
 use Rattle.std.specs.Fmt.{decimal}
 use Rattle.std.specs.Str.{bytes_eq, all_ascii_digits}
 use Rattle.std.proofs.lemmas.Bool.{and_parts}
 use Rattle.std.proofs.lemmas.Bool.Decides.{nat_tests}
 use Rattle.std.proofs.lemmas.Slice.Eq.{bytes_eq-Decides}
 use Rattle.std.proofs.lemmas.Fmt.{decimal-digits_value}
-use Rattle.std.proofs.lemmas.Grind.{common_steps}
 use Rattle.std.proofs.lemmas.Str.Parse.{IsNumeralModel, FoldsDigits, tells_all_ascii_digits, numerals_by_fold}
 use Rattle.sh_tree.specs.language.Bytes.{is_name}
 use Rattle.sh_tree.specs.program.Syntax.{Text}
 use Rattle.sh_facts.specs.Facts.{Claim, Unreached, Claimed}
 use Rattle.sh_facts.specs.Operands.{Names}
-use Rattle.sh_facts.specs.Sheets.{Sheet, CommandClaims, FunctionClaims, joined, names_text, claim_text, drops_text, head_fields, command_fields, function_fields, numbered_lines, first_line, count_fields, line, certificate_text}
+use Rattle.sh_facts.specs.Sheets.{Sheet, CommandClaims, FunctionClaims, joined, names_text, claim_text, drops_text, head_fields, command_fields, function_fields, numbered_lines, first_line, count_fields, certificate_text}
 use Rattle.sh_facts.specs.Forms as form
 use Rattle.sh_facts.specs.Forms.{onto_first, pieces, value, leads_no_zero, number_in, is_rising, are_rising, both, drops_of, known_of, claim_in, drops_in, claims_of, head_of, command_of, function_claims_of, function_of, counts_of, onto_line, cut_line, formed, whole_line, behind, read_line, read_lines, is_first, counts_in, command_in, function_in, ended, read_sheet}
 
@@ -99,7 +98,7 @@ joined_pieces c (d ∷ t) = joined_step c d t (d == c) refl (joined_pieces c t)
 folds : FoldsDigits (λ n t. fold (λ m c. m * 10 + (c - 48)) n t)
 folds = record { empty = λ n. refl; more = λ n c cs h. refl }
 
-numerals : IsNumeralModel (λ t. all_ascii_digits t ≡ true) value
+pub numerals : IsNumeralModel (λ t. all_ascii_digits t ≡ true) value
 numerals = numerals_by_fold (λ t. all_ascii_digits t ≡ true) tells_all_ascii_digits (λ n t. fold (λ m c. m * 10 + (c - 48)) n t) folds
 
 leads : (t : Text) → leads_no_zero t ≡ true → (0 < length t) × (get_or t 0 0 ≡ 48 → length t ≡ 1)
@@ -290,7 +289,7 @@ whole_some f k t (Some y) x h e = let p = formed_some k y.1 (f y.0) x e in (y.0,
 line_spelled : {A : Type 0} (f : Text → Option A) (k : ℕ) (t : Text) (x : A × Text) → read_line f k t ≡ Ok x → (l : Text) × (f l ≡ Some x.0) × (l ++ 10 ∷ x.1 ≡ t)
 line_spelled f k t x e = whole_some f k t (cut_line t) x (cut_spelled t) e
 
-glued : (j n z : Text) → ((j ++ 10 ∷ []) ++ n) ++ z ≡ j ++ 10 ∷ (n ++ z)
+pub glued : (j n z : Text) → ((j ++ 10 ∷ []) ++ n) ++ z ≡ j ++ 10 ∷ (n ++ z)
 glued j n z = simp append_assoc
 
 lines_spelled : {A : Type 0} (f : ℕ → Text → Option A) (fields : ℕ → A → List Text) → ((i : ℕ) (l : Text) (a : A) → f i l ≡ Some a → joined 32 (fields i a) ≡ l)
@@ -332,7 +331,7 @@ ended_some k x y (c ∷ t) e = absurd (err_ok e)
 all_glued : (f c n m : Text) → (((f ++ 10 ∷ []) ++ (c ++ 10 ∷ [])) ++ n) ++ m ≡ f ++ 10 ∷ (c ++ 10 ∷ (n ++ m))
 all_glued f c n m = simp append_assoc
 
-text_of : (commands : List CommandClaims) (functions : List FunctionClaims) (n m : ℕ) → length commands ≡ n → length functions ≡ m
+pub text_of : (commands : List CommandClaims) (functions : List FunctionClaims) (n m : ℕ) → length commands ≡ n → length functions ≡ m
     → certificate_text (record { commands = commands; functions = functions })
     ≡ first_line ++ 10 ∷ (joined 32 (count_fields n m) ++ 10 ∷ (numbered_lines command_fields 1 commands ++ numbered_lines function_fields 1 functions))
 unfolding certificate_text joined
