@@ -10,10 +10,9 @@ use Rattle.sh_tree.specs.program.Trees.{script_of}
 use Rattle.sh_table.specs.declared.site.Form as declared
 use Rattle.sh_table.specs.declared.site.Form.TheVariants as form
 use Rattle.sh_table.specs.declared.site.Site as site
-use Rattle.sh_table.specs.declared.table.CallTable.{CallTable}
 use Rattle.sh_table.specs.declared.table.Row as row
 use Rattle.sh_table.specs.Admits.{Admits, text_rule, is_quoted, form_rule, rule_of, refused_site, or_refused, first_of, refusal_of, told_from}
-use Rattle.sh_table.specs.Calls.{Row, row_of, row_in, table_in, table_of}
+use Rattle.sh_table.specs.Calls.{Table, Row, row_of, row_in, table_of}
 use Rattle.sh_table.specs.Profile.{Static, Refused, first_refused}
 use Rattle.sh_table.specs.Sites.{statics, sites_of}
 use Rattle.sh_table.specs.Surroundings.{Surroundings}
@@ -44,12 +43,12 @@ told_kept b (s ∷ ss) (r ∷ rs) e =
     (ap (option_map (λ (y : Rule). record { number = s.number; at = s.at; rule = y })) (rule_kept b (around s.around) s.form (map (text_in b) r.texts.items) (ap first_texts e)))
     (told_kept b ss rs (ap later_rows e))
 
-pub told_whole : (b : List ℕ) (t : Script) (table : CallTable) (rs : List row.Row) (ss : List site.Site) → table_in table ≡ table_of b t → map (row_in table.script.now) rs ≡ (table_in table).1
+pub told_whole : (b : List ℕ) (t : Script) (table : Table) (rs : List row.Row) (ss : List site.Site) → table ≡ table_of b t → map (row_in table.script) rs ≡ table.rows
     → map (seen b) ss ≡ sites_of (script_of b t) → first_refused (script_of b t) ≡ told_from b ss rs
-unfolding table_in table_of
+unfolding table_of
 told_whole b t table rs ss e r h =
-    let same : table.script.now ≡ b = ap (λ x. x.0) e in
-    let rows : map (row_in b) rs ≡ map row_of (sites_of (script_of b t)) = ap (λ c. map (row_in c) rs) (sym same) ∙ r ∙ ap (λ x. x.1) e in
+    let same : table.script ≡ b = ap (λ (x : Table). x.script) e in
+    let rows : map (row_in b) rs ≡ map row_of (sites_of (script_of b t)) = ap (λ c. map (row_in c) rs) (sym same) ∙ r ∙ ap (λ (x : Table). x.rows) e in
     first_by_number (script_of b t) ∙ ap first_of (sym h) ∙ sym (told_kept b ss rs (rows ∙ ap (map row_of) (sym h)))
 
 -- the refusal that is told

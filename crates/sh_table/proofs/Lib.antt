@@ -7,6 +7,7 @@ pub mod ExpansionLemmas
 pub mod FieldLemmas
 pub mod FieldRowLemmas
 pub mod FormLemmas
+pub mod FunctionLemmas
 pub mod KindLemmas
 pub mod LeftLemmas
 pub mod MarkLemmas
@@ -23,6 +24,7 @@ pub mod SiteLemmas
 pub mod StaticLemmas
 pub mod SteadyLemmas
 pub mod StepRowLemmas
+pub mod TableLemmas
 pub mod TextLemmas
 pub mod UnsplitLemmas
 pub mod WordTextLemmas

@@ -1,33 +1,145 @@
--- The call table of a program: the static texts of the words of each command, by the commands' numbers.
--- POSIX.1-2024, XCU 2.2 (quoting), 2.9.1 (simple commands).
-use Rattle.std.specs.Prelude.{ℕ, List, map}
+-- The call table of a program: its functions with the commands that define them, and the static texts of the words of each command.
+-- POSIX.1-2024, XCU 2.2 (quoting), 2.9.1 (simple commands), 2.9.1.4 (command search and execution), 2.9.5 (function definitions).
+use Rattle.std.specs.Prelude.{◌≡◌, ◌≤◌, ◌<◌, ◌-◌, ℕ, zero, suc, ◌==◌, Bool, false, if◌then◌else◌, List, [], ◌∷◌, ◌++◌, length, map, fold, Option, Some, None, Result, Ok, Err, slice_get}
+use Rattle.std.specs.List.{filter, filter_map, position_from}
+use Rattle.std.specs.List.Sorted.{IsNonDecreasingBy}
+use Rattle.std.specs.Str.{bytes_eq}
+use Rattle.std.specs.Global.{Vec}
+use Rattle.sh_tree.specs.declared.limits.TheConstants.{MAX_COMMANDS}
+use Rattle.sh_tree.specs.declared.refusal.Refusal.{Refusal}
+use Rattle.sh_tree.specs.declared.refusal.Refusal.TheVariants.{TooMany, Memory}
 use Rattle.sh_tree.specs.declared.tree.Script.{Script}
 use Rattle.sh_tree.specs.program.Syntax.{Text}
 use Rattle.sh_tree.specs.program.Trees.{script_of}
+use Rattle.sh_table.specs.Kinds.{kind_of, is_special}
 use Rattle.sh_table.specs.Profile.{Static}
-use Rattle.sh_table.specs.Sites.{Site, statics, sites_of}
+use Rattle.sh_table.specs.Sites.{Form, Defines, Site, statics, sites_of}
 use Rattle.sh_table.specs.WordTexts.{text_in}
-use Rattle.sh_table.specs.declared.table.CallTable.{CallTable}
 use Rattle.sh_table.specs.declared.table.Row as declared
+use Rattle.sh_table.specs.runs.Environment.{is_one_of}
 
 -- a command's number, and the static texts of its words
 abbrev pub Row : Type 0
 Row = ℕ × List Static
 
--- the bytes of the script, and its commands by their numbers
-abbrev pub Table : Type 0
-Table = Text × List Row
+-- the names of functions, each once, and for each the numbers of the commands that define it
+pub record Functions : Type 0 where
+  pub names : List Text
+  pub definitions : List (List ℕ)
+
+-- the bytes of the script, its functions, and its commands by their numbers
+pub record Table : Type 0 where
+  pub script : Text
+  pub functions : Functions
+  pub rows : List Row
+
+-- Functions
+
+-- the name that a command defines
+unfoldable pub defined : Form → Option Text
+defined (Defines t) = Some t
+defined _ = None
+
+unfoldable pub defines : Text → Form → Bool
+defines t (Defines u) = bytes_eq t u
+defines t _ = false
+
+-- the names with one more at the end, unless it is there
+unfoldable pub with_name : List Text → Text → List Text
+with_name names t = if is_one_of names t then names else names ++ t ∷ []
+
+-- the names that commands define, in the order of their first definitions
+unfoldable pub names_of : List Site → List Text
+names_of ss = fold with_name [] (filter_map (λ s. defined s.form) ss)
+
+-- the commands that define a name
+unfoldable pub definitions_of : List Site → Text → List ℕ
+definitions_of ss t = map (λ s. s.number) (filter (λ s. defines t s.form) ss)
+
+unfoldable pub functions_of : List Site → Functions
+functions_of ss = record { names = names_of ss; definitions = map (definitions_of ss) (names_of ss) }
+
+-- The table of a tree
 
 unfoldable pub row_of : Site → Row
 row_of s = (s.number, statics s.form)
 
--- the table of a tree
 unfoldable pub table_of : List ℕ → Script → Table
-table_of b t = (b, map row_of (sites_of (script_of b t)))
+table_of b t = record { script = b; functions = functions_of (sites_of (script_of b t)); rows = map row_of (sites_of (script_of b t)) }
 
--- the table that is kept
+-- The table, or a refusal where there are more functions than a script has commands; or want of memory.
+abbrev pub Tables : List ℕ → Script → Result Table Refusal → Type 0
+Tables b t (Ok x) = x ≡ table_of b t
+Tables b t (Err TooMany) = MAX_COMMANDS < length (table_of b t).functions.names
+Tables b t (Err Memory) = Unit {0}
+Tables b t (Err _) = ⊥
+
+-- What is looked up
+
+-- the texts of the command with this number
+unfoldable pub texts_with : ℕ → List Row → List Static
+texts_with n [] = []
+texts_with n (r ∷ rs) = if r.0 == n then r.1 else texts_with n rs
+
+unfoldable pub static_at : List Static → ℕ → Static
+static_at [] k = None
+static_at (t ∷ ts) zero = t
+static_at (t ∷ ts) (suc k) = static_at ts k
+
+-- the static text of a word of a command, the name being word 0
+unfoldable pub text_at : Table → ℕ → ℕ → Static
+text_at x n k = static_at (texts_with n x.rows) k
+
+-- The function that a name calls, by its place from 1: special built-in utilities are found before functions (XCU 2.9.1.4).
+unfoldable pub called : List Text → Static → Option ℕ
+called names None = None
+called names (Some t) = if is_special (kind_of t) then None else position_from (λ name. bytes_eq name t) 1 names
+
+-- the function that a command calls
+unfoldable pub callee_at : Table → ℕ → Option ℕ
+callee_at x n = called x.functions.names (text_at x n 0)
+
+-- Clauses of private functions
+
+-- what is kept of a command
 abbrev pub row_in : List ℕ → declared.Row → Row
 row_in b r = (r.number, map (text_in b) r.texts.items)
 
-unfoldable pub table_in : CallTable → Table
-table_in t = (t.script.now, map (row_in t.script.now) t.rows.items)
+-- the first row, if it has this number
+unfoldable pub first_row : ℕ → List declared.Row → Option declared.Row
+first_row n [] = None
+first_row n (r ∷ rs) = if r.number == n then Some r else None
+
+unfoldable pub found_texts : List ℕ → Option declared.Row → List Static
+found_texts b None = []
+found_texts b (Some r) = map (text_in b) r.texts.items
+
+-- the functions that are kept
+abbrev pub functions_in : List (Vec ℕ) → List (Vec ℕ) → Functions
+functions_in names definitions = record { names = map (λ v. v.items) names; definitions = map (λ v. v.items) definitions }
+
+-- what is kept of a script
+abbrev pub table_in : Text → Functions → List declared.Row → Table
+table_in b f rs = record { script = b; functions = f; rows = map (row_in b) rs }
+
+-- that no more functions are kept than may be, and the rows by their numbers
+pub record IsKept (f : Functions) (rs : List declared.Row) : Type 0 where
+  pub few : length f.names ≤ MAX_COMMANDS
+  pub ordered : IsNonDecreasingBy (λ r. r.number) rs
+
+-- the numbers for each name, with one more for a name, which may be a new one
+unfoldable pub with_number : List Text → List (List ℕ) → Text → ℕ → List (List ℕ)
+with_number [] ds t n = ds ++ (n ∷ []) ∷ []
+with_number (u ∷ us) [] t n = []
+with_number (u ∷ us) (d ∷ ds) t n = if bytes_eq u t then (d ++ n ∷ []) ∷ ds else d ∷ with_number us ds t n
+
+unfoldable pub with_definition : Functions → Text → ℕ → Functions
+with_definition f t n = record { names = with_name f.names t; definitions = with_number f.names f.definitions t n }
+
+-- with what a command defines
+unfoldable pub with_form : Functions → ℕ → Form → Functions
+with_form f n (Defines t) = with_definition f t n
+with_form f n _ = f
+
+abbrev pub with_site : Functions → Site → Functions
+with_site f s = with_form f s.number s.form

@@ -77,3 +77,8 @@ unfoldable pub is_declaration : Kind → Bool
 is_declaration (kind.Special known.Export) = true
 is_declaration (kind.Special known.Readonly) = true
 is_declaration _ = false
+
+-- a special built-in utility
+unfoldable pub is_special : Kind → Bool
+is_special (kind.Special name) = true
+is_special _ = false

@@ -39,7 +39,7 @@ fn first_refusal(sites: &[Site], rows: &[Row], script: &[u8]) -> Option<Refusal>
 /// `Profile` with the first rule that the command with the least number breaks among those that break one, and the offset at
 /// which it starts; `Memory` where a growth was refused.
 pub fn admit(alloc: Global, tree: &Script, table: &CallTable, script: &[u8]) -> Result<(), Refusal>
-    requires { calls.table_in table.now ≡ calls.table_of script.now tree.now }
+    requires { table.now ≡ calls.table_of script.now tree.now }
     ensures { admits.Admits (script_of script.now tree.now) result }
 {
     let sites = sites(alloc, tree, script)?;

@@ -42,6 +42,14 @@ impl Kind {
             Kind::Utility => "",
         }
     }
+
+    /// Whether it is a special built-in utility's.
+    #[tactic(auto, unfolding(crate::specs::Kinds::is_special))]
+    pub fn is_special(self) -> bool
+        ensures { result ≡ kinds.is_special self }
+    {
+        matches!(self, Kind::Special(_))
+    }
 }
 
 // The kinds that names of so many bytes have.

@@ -1,17 +1,21 @@
 //! The call table of a script.
-ghost use Rattle.std.specs.Prelude.{◌≡◌, ◌++◌, [], ◌∷◌, map, IfOk, IfErr, OnOk};
-ghost use Rattle.sh_tree.specs.declared.refusal.Refusal.TheVariants.{Memory};
+ghost use Rattle.std.specs.Prelude.{◌≡◌, ◌<◌, ◌≤◌, ◌-◌, ◌++◌, [], ◌∷◌, length, map, option_map, slice_get, Some, IfOk, OnOk};
+ghost use Rattle.std.specs.Option.{option_copied};
 ghost use Rattle.sh_table.specs.Calls as calls;
 ghost use Rattle.sh_table.specs.Sites as sites;
 ghost use Rattle.sh_table.specs.Walks as walks;
 ghost use Rattle.sh_table.specs.WordTexts.{text_in};
 
+use crate::functions::Functions;
+use crate::kind::kind_of;
 use crate::site::{Form, Site};
 use crate::sites::sites;
 use crate::word_text::{WordText, texts_of};
+use sh_tree::limits::MAX_COMMANDS;
 use sh_tree::refusal::Refusal;
 use sh_tree::tree::Script;
 use std::alloc::{AllocError, Global};
+use std::marker::Model;
 
 /// A command, by its number, and the texts of its words.
 #[derive(Drop)]
@@ -20,11 +24,25 @@ pub struct Row {
     pub texts: Vec<WordText>,
 }
 
-/// The static text of each word of each simple command of a script, by the numbers of commands.
+/// The functions of a script with the commands that define them, and the static text of each word of each simple command.
 #[derive(Drop)]
 pub struct CallTable<'s> {
     script: &'s [u8],
+    functions: Functions,
     rows: Vec<Row>,
+}
+
+impl<'s> Model for CallTable<'s> {
+    ghost use Rattle.std.specs.Prelude.{◌≤◌, length, map};
+    ghost use Rattle.std.specs.List.Sorted.{IsNonDecreasingBy};
+    ghost use Rattle.sh_tree.specs.declared.limits.TheConstants.{MAX_COMMANDS};
+    ghost use Rattle.sh_table.specs.Calls as calls;
+
+    ghost Value = { calls.Table };
+
+    ghost view = { λ t. calls.table_in t.script.now t.functions t.rows.items };
+
+    ghost invariant = { λ t. calls.IsKept t.functions t.rows.items };
 }
 
 #[tactic(auto, unfolding(crate::specs::Walks::seen_form, crate::specs::Sites::statics))]
@@ -60,27 +78,106 @@ fn rows_of(alloc: Global, sites: &[Site], script: &[u8]) -> Result<Vec<Row>, All
     Ok(rows)
 }
 
+#[tactic(auto, unfolding(crate::specs::Calls::first_row))]
+fn first_with(rows: &[Row], command: u32) -> Option<&Row>
+    ensures { option_copied result ≡ calls.first_row command rows.entry.now }
+{
+    match rows {
+        [] => None,
+        [first, ..] => {
+            if first.number == command {
+                Some(first)
+            } else {
+                None
+            }
+        }
+    }
+}
+
+#[tactic(auto, unfolding(crate::specs::Calls::static_at))]
+fn text_in_row<'a>(row: &'a Row, word: usize, script: &'a [u8]) -> Option<&'a [u8]>
+    ensures { option_map (λ s. s.now) result ≡ calls.static_at (map (text_in script.entry.now) row.entry.now.texts.items) word }
+{
+    match row.texts.get(word) {
+        Some(text) => text.get(script),
+        None => None,
+    }
+}
+
 impl<'s> CallTable<'s> {
     /// The table of a script.
     ///
     /// # Errors
     ///
-    /// `Memory` where a growth was refused.
-    #[tactic(auto, unfolding(crate::specs::Calls::table_in, crate::specs::Calls::table_of))]
+    /// `TooMany` where there are more functions than a script may have commands, as no script has that was read; `Memory` where a
+    /// growth was refused.
     pub fn new(alloc: Global, tree: &Script, script: &'s [u8]) -> Result<CallTable<'s>, Refusal>
-        ensures table { IfOk result (λ table. calls.table_in table ≡ calls.table_of script.entry.now tree.now) }
-        ensures memory { IfErr result (λ e. e ≡ Memory) }
+        ensures { calls.Tables script.entry.now tree.now result }
     {
         let sites = sites(alloc, tree, script)?;
+        let functions = Functions::new(alloc, sites.as_slice(), script)?;
+        if functions.len() > MAX_COMMANDS as usize {
+            return Err(Refusal::TooMany);
+        }
         let rows = rows_of(alloc, sites.as_slice(), script)?;
-        Ok(CallTable { script, rows })
+        Ok(CallTable {
+            script,
+            functions,
+            rows,
+        })
     }
 
     /// The commands by their numbers.
-    #[tactic(auto, unfolding(crate::specs::Calls::table_in))]
     pub fn rows(&self) -> &[Row]
-        ensures { map (calls.row_in self.now.script.now) result.now ≡ (calls.table_in self.now).1 }
+        ensures { map (calls.row_in self.now.script) result.now ≡ self.now.rows }
     {
         self.rows.as_slice()
+    }
+
+    /// The first command with this number.
+    fn row(&self, command: u32) -> Option<&Row>
+        ensures { calls.found_texts self.now.script (option_copied result) ≡ calls.texts_with command self.now.rows }
+    {
+        let at = self.rows.partition_point(|row| row.number < command);
+        first_with(&self.rows[at..], command)
+    }
+
+    /// The static text of a word of a command, the command name being word 0 (XCU 2.2); nothing where the word has none, or no
+    /// such word or simple command is there.
+    pub fn text(&self, command: u32, word: u32) -> Option<&[u8]>
+        ensures { option_map (λ s. s.now) result ≡ calls.text_at self.now command word }
+    {
+        let row = self.row(command)?;
+        text_in_row(row, word as usize, self.script)
+    }
+
+    /// The names of the functions, in the order of their first definitions, which is that of their numbers from 1 (XCU 2.9.5).
+    pub fn functions(&self) -> &[Vec<u8>]
+        ensures names { map (λ name. name.items) result.now ≡ self.now.functions.names }
+        ensures few { length result.now ≤ MAX_COMMANDS }
+    {
+        self.functions.names()
+    }
+
+    /// The numbers of the commands that define a function.
+    pub fn definitions(&self, function: u32) -> &[u32]
+        requires some { 0 < function }
+        requires within { function ≤ length self.now.functions.names }
+        ensures { slice_get self.now.functions.definitions (function - 1) ≡ Some result.now }
+    {
+        self.functions.definitions(function as usize - 1)
+    }
+
+    /// The function that a command calls, if it is a simple command whose name is static and a function's, and no special
+    /// built-in utility's (XCU 2.9.1.4).
+    pub fn callee(&self, command: u32) -> Option<u32>
+        ensures { result ≡ calls.callee_at self.now command }
+    {
+        let name = self.text(command, 0)?;
+        if kind_of(name).is_special() {
+            return None;
+        }
+        let place = self.functions.place(name)?;
+        Some(place as u32 + 1)
     }
 }

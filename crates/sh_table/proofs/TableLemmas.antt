@@ -1,0 +1,161 @@
+-- What is kept of a script, and the row with a number.
+use Rattle.std.proofs.Common.{◌≡◌, ℕ, zero, suc, ◌+◌, ◌<◌, ◌≤◌, ◌==◌, Bool, true, false, cond, if◌then◌else◌, List, [], ◌∷◌, length, take, drop, get_or, map, Option, Some, None, option_map, slice_get, refl, sym, ap, ap₂, ◌∙◌, arith, ◌-◌, take_all, length-drop}
+use Rattle.std.proofs.Math.Dec.{ltb}
+use Rattle.std.proofs.lemmas.Bool.Decides.{nat_tests}
+use Rattle.std.specs.List.{AllWithin, position_from}
+use Rattle.std.specs.Str.{bytes_eq}
+use Rattle.std.specs.List.Sorted.{IsNonDecreasingBy}
+use Rattle.sh_tree.specs.declared.limits.TheConstants.{MAX_COMMANDS}
+use Rattle.sh_tree.specs.declared.tree.Script.{Script}
+use Rattle.sh_tree.specs.program.Syntax as p
+use Rattle.sh_tree.specs.program.Trees.{script_of}
+use Rattle.sh_table.specs.declared.site.Site as site
+use Rattle.sh_table.specs.declared.table.Row as declared
+use Rattle.sh_table.specs.declared.word_text.WordText.{WordText}
+use Rattle.sh_table.specs.Calls.{Functions, Table, Row, IsKept, functions_of, row_of, row_in, table_in, table_of, texts_with, static_at, text_at, called, callee_at, first_row, found_texts}
+use Rattle.sh_table.specs.Kinds.{kind_of, is_special}
+use Rattle.sh_table.specs.Profile.{Static}
+use Rattle.sh_table.specs.Sites.{Site, sites_of}
+use Rattle.sh_table.specs.Walks.{seen}
+use Rattle.sh_table.specs.WordTexts.{text_in}
+use Rattle.sh_table.proofs.FunctionLemmas.{place_later}
+use Rattle.sh_table.proofs.OrderLemmas.{Above, Rises, rises_by_number}
+
+-- the numbers of rows rise as those of the commands
+
+abbrev RowsAbove : ℕ → List declared.Row → Type 0
+RowsAbove n [] = Unit {0}
+RowsAbove n (r ∷ rs) = (n ≤ r.number) × RowsAbove n rs
+
+abbrev RowsRise : List declared.Row → Type 0
+RowsRise [] = Unit {0}
+RowsRise (r ∷ rs) = RowsAbove r.number rs × RowsRise rs
+
+abbrev first_number : List Row → ℕ
+first_number [] = 0
+first_number (r ∷ rs) = r.0
+
+abbrev later_rows : List Row → List Row
+later_rows [] = []
+later_rows (r ∷ rs) = rs
+
+rows_above : (b : List ℕ) (n : ℕ) (rs : List declared.Row) (ss : List Site) → map (row_in b) rs ≡ map row_of ss → Above n ss → RowsAbove n rs
+unfolding row_of
+rows_above b n [] ss e a = tt
+rows_above b n (r ∷ rs) [] e a = cc
+rows_above b n (r ∷ rs) (s ∷ ss) e a =
+    let same : r.number ≡ s.number = ap first_number e in
+    let least = a.0 in
+    (omega (arith, same, least), rows_above b n rs ss (ap later_rows e) a.1)
+
+rows_rise : (b : List ℕ) (rs : List declared.Row) (ss : List Site) → map (row_in b) rs ≡ map row_of ss → Rises ss → RowsRise rs
+unfolding row_of
+rows_rise b [] ss e r = tt
+rows_rise b (x ∷ xs) [] e r = cc
+rows_rise b (x ∷ xs) (s ∷ ss) e r =
+    let same : x.number ≡ s.number = ap first_number e in
+    (rows_above b x.number xs ss (ap later_rows e) (rw same r.0), rows_rise b xs ss (ap later_rows e) r.1)
+
+above_at : (n : ℕ) (rs : List declared.Row) → RowsAbove n rs → (j : ℕ) (d : declared.Row) → j < length rs → n ≤ (get_or rs j d).number
+above_at n [] a j d h = absurd (omega (arith, h))
+above_at n (r ∷ rs) a zero d h = a.0
+above_at n (r ∷ rs) a (suc j) d h = above_at n rs a.1 j d (omega (arith, h))
+
+never_falls : (rs : List declared.Row) → RowsRise rs → IsNonDecreasingBy (λ (r : declared.Row). r.number) rs
+never_falls [] a i j d k h = absurd (omega (arith, h))
+never_falls (r ∷ rs) a zero zero d k h = omega arith
+never_falls (r ∷ rs) a zero (suc j) d k h = above_at r.number rs a.0 j d (omega (arith, h))
+never_falls (r ∷ rs) a (suc i) zero d k h = absurd (omega (arith, k))
+never_falls (r ∷ rs) a (suc i) (suc j) d k h = never_falls rs a.1 i j d (omega (arith, k)) (omega (arith, h))
+
+pub numbers_rise : (b : List ℕ) (t : p.Items) (rs : List declared.Row) → map (row_in b) rs ≡ map row_of (sites_of t) → IsNonDecreasingBy (λ (r : declared.Row). r.number) rs
+unfolding sites_of
+numbers_rise b t rs e = never_falls rs (rows_rise b rs _ e (rises_by_number _))
+
+-- the table of a tree
+
+pub functions_whole : (b : List ℕ) (t : Script) (ss : List site.Site) (f : Functions) → f ≡ functions_of (map (seen b) ss) → map (seen b) ss ≡ sites_of (script_of b t) → f ≡ (table_of b t).functions
+unfolding table_of
+functions_whole b t ss f e h = e ∙ ap functions_of h
+
+pub table_whole : (b : List ℕ) (t : Script) (ss : List site.Site) (f : Functions) (rs : List declared.Row) → f ≡ functions_of (map (seen b) ss) → map (row_in b) rs ≡ map row_of (map (seen b) ss)
+    → map (seen b) ss ≡ sites_of (script_of b t) → table_in b f rs ≡ table_of b t
+unfolding table_of
+table_whole b t ss f rs e r h = ap₂ (λ x y. record { script = b; functions = x; rows = y }) (e ∙ ap functions_of h) (r ∙ ap (map row_of) h)
+
+pub kept : (b : List ℕ) (t : Script) (ss : List site.Site) (f : Functions) (rs : List declared.Row) → length f.names ≤ MAX_COMMANDS → map (row_in b) rs ≡ map row_of (map (seen b) ss)
+    → map (seen b) ss ≡ sites_of (script_of b t) → IsKept f rs
+kept b t ss f rs few r h = record { few = few; ordered = numbers_rise b (script_of b t) rs (r ∙ ap (map row_of) h) }
+
+-- the row behind those with lesser numbers
+
+none_with : (b : List ℕ) (n : ℕ) (rs : List declared.Row) → ((k : ℕ) (d : declared.Row) → k < length rs → n < (get_or rs k d).number) → [] ≡ texts_with n (map (row_in b) rs)
+unfolding texts_with
+none_with b n [] h = refl
+none_with b n (r ∷ rs) h =
+    let more : n < r.number = h 0 r (omega arith) in
+    let other : (r.number == n) ≡ false = grind (arith, nat_tests) in
+    rw other (none_with b n rs (λ k d l. h (suc k) d (omega (arith, l))))
+
+pub row_found : (b : List ℕ) (n at : ℕ) (rs : List declared.Row) → at ≤ length rs → IsNonDecreasingBy (λ (r : declared.Row). r.number) rs
+    → AllWithin (λ (r : declared.Row). ltb r.number n ≡ true) rs 0 at → AllWithin (λ (r : declared.Row). ltb r.number n ≡ false) rs at (length rs)
+    → found_texts b (first_row n (drop at rs)) ≡ texts_with n (map (row_in b) rs)
+unfolding first_row found_texts texts_with
+row_found b n zero [] l up low high = refl
+row_found b n (suc a) [] l up low high = refl
+row_found b n zero (r ∷ rs) l up low high = go (r.number == n) refl
+  where
+    go : (t : Bool) → (r.number == n) ≡ t → found_texts b (cond t (Some r) None) ≡ cond t (map (text_in b) r.texts.items) (texts_with n (map (row_in b) rs))
+    go true e = refl
+    go false e =
+        let least : ltb r.number n ≡ false = high 0 r (omega arith) (omega arith) in
+        let more : n < r.number = grind (arith, nat_tests) in
+        none_with b n rs (λ k d h. let above : r.number ≤ (get_or rs k d).number = up 0 (suc k) d (omega arith) (omega (arith, h)) in omega (arith, more, above))
+row_found b n (suc a) (r ∷ rs) l up low high =
+    let below : ltb r.number n ≡ true = low 0 r (omega arith) (omega arith) in
+    let other : (r.number == n) ≡ false = grind (arith, nat_tests) in
+    rw other (row_found b n a rs (omega (arith, l)) (λ i j d k h. up (suc i) (suc j) d (omega (arith, k)) (omega (arith, h)))
+    (λ k d m h. low (suc k) d (omega arith) (omega (arith, h))) (λ k d m h. high (suc k) d (omega (arith, m)) (omega (arith, h))))
+
+pub take_rest : (at : ℕ) (rs : List declared.Row) → at ≤ length rs → take (length rs - at) (drop at rs) ≡ drop at rs
+take_rest at rs l = let left : length (drop at rs) ≡ length rs - at = length-drop at rs in take_all (length rs - at) (drop at rs) (omega (arith, left))
+
+-- the text of a word of a row
+
+pub static_here : (b : List ℕ) (ts : List WordText) (k : ℕ) (t : WordText) → k < length ts → t ≡ get_or ts k t → text_in b t ≡ static_at (map (text_in b) ts) k
+unfolding static_at
+static_here b [] k t h e = absurd (omega (arith, h))
+static_here b (x ∷ xs) zero t h e = ap (text_in b) e
+static_here b (x ∷ xs) (suc k) t h e = static_here b xs k t (omega (arith, h)) e
+
+pub no_static : (b : List ℕ) (ts : List WordText) (k : ℕ) → length ts ≤ k → None ≡ static_at (map (text_in b) ts) k
+unfolding static_at
+no_static b [] k h = refl
+no_static b (x ∷ xs) zero h = absurd (omega (arith, h))
+no_static b (x ∷ xs) (suc k) h = no_static b xs k (omega (arith, h))
+
+-- What is looked up
+
+pub no_text : (x : Table) (n k : ℕ) → found_texts x.script None ≡ texts_with n x.rows → None ≡ text_at x n k
+unfolding found_texts text_at static_at
+no_text x n k e = ap (λ ts. static_at ts k) e
+
+pub text_found : (x : Table) (b : List ℕ) (n k : ℕ) (r : declared.Row) (t : Static) → b ≡ x.script → found_texts x.script (Some r) ≡ texts_with n x.rows
+    → t ≡ static_at (map (text_in b) r.texts.items) k → t ≡ text_at x n k
+unfolding found_texts text_at
+text_found x b n k r t same e h = h ∙ ap (λ c. static_at (map (text_in c) r.texts.items) k) same ∙ ap (λ ts. static_at ts k) e
+
+pub not_named : (x : Table) (n : ℕ) → None ≡ text_at x n 0 → None ≡ callee_at x n
+unfolding callee_at called
+not_named x n e = ap (called x.functions.names) e
+
+pub special_named : (x : Table) (n : ℕ) (t : List ℕ) → Some t ≡ text_at x n 0 → is_special (kind_of t) ≡ true → None ≡ callee_at x n
+unfolding callee_at called
+special_named x n t e h = let here : None ≡ called x.functions.names (Some t) = rw h refl in here ∙ ap (called x.functions.names) e
+
+pub place_named : (x : Table) (n : ℕ) (t : List ℕ) (o : Option ℕ) → Some t ≡ text_at x n 0 → is_special (kind_of t) ≡ false → o ≡ position_from (λ name. bytes_eq name t) 0 x.functions.names
+    → option_map suc o ≡ callee_at x n
+unfolding callee_at called
+place_named x n t o e h at =
+    let here : option_map suc o ≡ called x.functions.names (Some t) = rw h (ap (option_map suc) at ∙ sym (place_later t 0 x.functions.names)) in
+    here ∙ ap (called x.functions.names) e

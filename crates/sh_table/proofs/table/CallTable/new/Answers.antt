@@ -1,0 +1,31 @@
+use Rattle.std.proofs.Common.{◌≡◌, ◌<◌, ◌≤◌, length, map, ap, ◌∙◌, arith, sym}
+use Rattle.sh_tree.specs.declared.limits.TheConstants.{MAX_COMMANDS}
+use Rattle.sh_tree.specs.program.Trees.{script_of}
+use Rattle.sh_table.specs.Calls.{Functions, functions_of, table_of, row_in, row_of}
+use Rattle.sh_table.specs.Walks.{seen}
+use Rattle.sh_table.proofs.TableLemmas.{functions_whole, table_whole, kept}
+use Rattle.sh_table.proofs.table.CallTable.new.Goals as goal
+
+pub returns-then-len : goal.returns-then-len
+returns-then-len c =
+    let b = c.args.script.now in
+    let own = rw c.as_slice.ensures.value at c.in_ok-functions.ensures in
+    let whole = functions_whole b c.args.tree.now c.in_ok-sites.sites.items c.in_ok-functions.functions own c.in_ok-sites.ensures in
+    let size = c.len.ensures ∙ ap (λ (f : Functions). length f.names) whole in
+    let more = c.if-len.true in
+    rw (← size) (omega (arith, more))
+
+pub invariant_of-result : goal.invariant_of-result
+invariant_of-result c =
+    let b = c.args.script.now in
+    let rows = rw c.as_slice-2.ensures.value at c.in_ok-rows.ensures in
+    let size = c.len.ensures in
+    let few = c.if-len.false in
+    kept b c.args.tree.now c.in_ok-sites.sites.items c.in_ok-functions.functions c.in_ok-rows.rows.items (rw size at few) rows c.in_ok-sites.ensures
+
+pub returns : goal.returns
+returns c =
+    let b = c.args.script.now in
+    let own = rw c.as_slice.ensures.value at c.in_ok-functions.ensures in
+    let rows = rw c.as_slice-2.ensures.value at c.in_ok-rows.ensures in
+    table_whole b c.args.tree.now c.in_ok-sites.sites.items c.in_ok-functions.functions c.in_ok-rows.rows.items own rows c.in_ok-sites.ensures
