@@ -9,5 +9,6 @@ pub mod Nul
 pub mod ReaderLemmas
 pub mod RedirectLemmas
 pub mod ScriptLemmas
+pub mod SubstitutionLemmas
 pub mod WidthLemmas
 pub mod WordLemmas

@@ -11,6 +11,7 @@ mod lists;
 mod redirects;
 mod script;
 mod state;
+mod substitutions;
 mod words;
 
 pub use script::parse;
