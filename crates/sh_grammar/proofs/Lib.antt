@@ -9,6 +9,7 @@ pub mod Nul
 pub mod ReaderLemmas
 pub mod RedirectLemmas
 pub mod ScriptLemmas
+pub mod SubstitutionLemmas
 pub mod WidthLemmas
 pub mod WordLemmas
 pub mod ReservedLemmas

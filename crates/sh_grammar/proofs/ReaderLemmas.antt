@@ -8,21 +8,28 @@ use Rattle.sh_tree.specs.language.States.{Document}
 use Rattle.sh_grammar.specs.Faults.{IsFault}
 use Rattle.sh_grammar.specs.Readers.{Reading, One, Nothing, Refused}
 
--- A refusal of one thing is one of another, where the first is read in each reading of the other and ends behind no more commands.
+-- A refusal of one thing is one of another, where the first is read in each reading of the other, with any here-documents, and ends behind no more commands.
+pub refused_inside : {A B : Type 0} (b : List ℕ) (R : Reading A) (Q : Reading B) (e : Refusal)
+    → ((limit : ℕ) (body : ℕ → Document) (k : states.State) (y : B) → Q limit body k y
+    → (other : ℕ → Document) × (j : states.State) × (x : A) × R limit other j x × (j.spot.count ≤ k.spot.count))
+    → Refused b R e → Refused b Q e
+refused_inside b R Q (Syntax f at) inside h = (h.0, λ limit body k y l. let t = inside limit body k y l in h.1 limit t.0 t.1 t.2 t.3)
+refused_inside b R Q (LeftOut f at) inside h = (h.0, λ told limit body k y l. let t = inside limit body k y l in h.1 told limit t.0 t.1 t.2 t.3)
+refused_inside b R Q (TooDeep at) inside h = (h.0, λ body k y l. let t = inside 64 body k y l in h.1 t.0 t.1 t.2 t.3)
+refused_inside b R Q TooMany inside h = λ limit body k y l. let t = inside limit body k y l in let more = h limit t.0 t.1 t.2 t.3 in let no_more = t.4 in omega arith
+refused_inside b R Q Memory inside h = tt
+refused_inside b R Q TooLong inside h = h
+refused_inside b R Q (NulByte at) inside h = h
+refused_inside b R Q (Profile f at) inside h = h
+refused_inside b R Q (CertSyntax n) inside h = h
+refused_inside b R Q CertShape inside h = h
+
+-- the same where it is read with the same here-documents
 pub refused_by : {A B : Type 0} (b : List ℕ) (R : Reading A) (Q : Reading B) (e : Refusal)
     → ((limit : ℕ) (body : ℕ → Document) (k : states.State) (y : B) → Q limit body k y
     → (j : states.State) × (x : A) × R limit body j x × (j.spot.count ≤ k.spot.count))
     → Refused b R e → Refused b Q e
-refused_by b R Q (Syntax f at) inside h = (h.0, λ limit body k y l. let t = inside limit body k y l in h.1 limit body t.0 t.1 t.2)
-refused_by b R Q (LeftOut f at) inside h = (h.0, λ told limit body k y l. let t = inside limit body k y l in h.1 told limit body t.0 t.1 t.2)
-refused_by b R Q (TooDeep at) inside h = (h.0, λ body k y l. let t = inside 64 body k y l in h.1 body t.0 t.1 t.2)
-refused_by b R Q TooMany inside h = λ limit body k y l. let t = inside limit body k y l in let more = h limit body t.0 t.1 t.2 in let no_more = t.3 in omega arith
-refused_by b R Q Memory inside h = tt
-refused_by b R Q TooLong inside h = h
-refused_by b R Q (NulByte at) inside h = h
-refused_by b R Q (Profile f at) inside h = h
-refused_by b R Q (CertSyntax n) inside h = h
-refused_by b R Q CertShape inside h = h
+refused_by b R Q e inside h = refused_inside b R Q e (λ limit body k y l. let t = inside limit body k y l in (body, t.0, t.1, t.2, t.3)) h
 
 -- a fault where nothing is read
 pub refused_none : {A : Type 0} (b : List ℕ) (R : Reading A) (e : Refusal) → IsFault b e → Nothing R → Refused b R e

@@ -1,40 +1,46 @@
 -- A whole word, by what a builder answers.
-use Rattle.std.proofs.Common.{◌≡◌, ℕ, ◌+◌, ◌<◌, ◌≤◌, true, false, not, ◌&&◌, List, length, nat_le, None, Result, Ok, Err, refl, sym, ap, ◌∙◌, subst, arith}
+use Rattle.std.proofs.Common.{◌≡◌, ℕ, ◌+◌, ◌-◌, ◌<◌, ◌≤◌, ◌⊎◌, inl, inr, true, false, not, ◌&&◌, List, [], length, nat_le, Ok, Err, refl, sym, ap, ◌∙◌, subst, le_refl, le_trans, lt_of_lt_of_le, arith}
 use Rattle.std.proofs.lemmas.Bool.{true≢false, and_parts}
 use Rattle.std.proofs.lemmas.Bool.Decides.{nat_tests}
-use Rattle.sh_tree.specs.declared.limits.TheConstants.{MAX_COMMANDS, MAX_NESTING}
 use Rattle.sh_tree.specs.declared.tree.Part.{Part}
+use Rattle.sh_tree.specs.declared.tree.Script.{Script}
 use Rattle.sh_tree.specs.declared.tree.Word.{Word}
 use Rattle.sh_tree.specs.declared.refusal.Refusal.{Refusal}
 use Rattle.sh_tree.specs.declared.refusal.Refusal.TheVariants.{TooLong, NulByte, Syntax, LeftOut, TooDeep, TooMany, Memory, Profile, CertSyntax, CertShape}
 use Rattle.sh_tree.specs.declared.token.word.Context.{Context}
 use Rattle.sh_tree.specs.declared.token.word.Sign.{Sign}
 use Rattle.sh_tree.specs.declared.token.word.Sign.TheVariants as sign
-use Rattle.sh_tree.specs.language.Commands.{is_location}
+use Rattle.sh_tree.specs.language.Arithmetic.{is_closed}
+use Rattle.sh_tree.specs.language.Commands.{blanks, is_location}
 use Rattle.sh_tree.specs.language.Parts.{keeps_lines}
 use Rattle.sh_tree.specs.language.Reading as r
-use Rattle.sh_tree.specs.language.Reading.{ReadsParts, ReadsPart, ReadsWord}
+use Rattle.sh_tree.specs.language.Reading.{ReadsParts, ReadsPart, ReadsScript, ReadsWord}
 use Rattle.sh_tree.specs.language.States as states
-use Rattle.sh_tree.specs.language.States.{Spot, Document, past}
+use Rattle.sh_tree.specs.language.States.{Spot, Document, nth, past, waits}
 use Rattle.sh_tree.specs.language.Trees.{word}
 use Rattle.sh_tree.specs.language.Words.{token}
-use Rattle.sh_tree.proofs.Inversions.{word_parts}
+use Rattle.sh_tree.proofs.Inversions.{script_is, word_parts}
 use Rattle.sh_words.specs.declared.mode.Mode.{Mode}
 use Rattle.sh_words.specs.declared.mode.Mode.TheVariants as mode
 use Rattle.sh_words.specs.declared.builder.WordBuilder.{WordBuilder}
-use Rattle.sh_words.specs.declared.builder.Next.{Next}
 use Rattle.sh_words.specs.declared.builder.Next.TheVariants.{Done, Inner}
 use Rattle.sh_words.specs.declared.frames.Focus.TheVariants as focus
-use Rattle.sh_words.specs.Clauses.{Ends, Refuses, Runs}
+use Rattle.sh_words.specs.Builders.{Goes, IsInside, IsNew, IsSoundIn, begin_of, mode_of, position}
+use Rattle.sh_words.specs.Clauses.{Answers, Asks, Ends, Refuses, Runs, Waits, after_commands}
 use Rattle.sh_words.specs.Modes.{context_of, first_prior, seen}
 use Rattle.sh_words.specs.Rest.{Around, Rest, Left, spot}
-use Rattle.sh_words.specs.Sound.{RunMoves, TakesWord}
+use Rattle.sh_words.specs.Sound.{IsSound, RunMoves, TakesWord}
 use Rattle.sh_words.specs.Sound as sound
 use Rattle.sh_words.specs.Starts.{IsStart}
+use Rattle.sh_words.specs.States.{fed}
+use Rattle.sh_words.proofs.CountLemmas.{left_count}
+use Rattle.sh_words.proofs.OperationLemmas.{closed_inside}
 use Rattle.sh_grammar.specs.declared.state.State.{State}
-use Rattle.sh_grammar.specs.States.{spot_of, here, moved, Stands}
-use Rattle.sh_grammar.specs.Readers.{Reading, One, To, Answers, Nothing, Refused, WordAt}
-use Rattle.sh_grammar.specs.Modes.{Begins, Builds, IsWhole, PartsTo}
+use Rattle.sh_grammar.specs.States.{spot_of, here, moved, substituted, Stands}
+use Rattle.sh_grammar.specs.Readers.{One, Nothing, Refused, WordAt}
+use Rattle.sh_grammar.specs.Modes.{Begins, IsWhole, Whole}
+use Rattle.sh_grammar.specs.Substitutions.{ClosedFrom, Counted}
+use Rattle.sh_grammar.proofs.ReaderLemmas.{refused_inside}
 
 -- Where a word is read, the depth is the one around it
 
@@ -64,118 +70,241 @@ whole_seen b mode.Word h = refl
 whole_seen b mode.Unsplit h = refl
 whole_seen b mode.Value h = refl
 whole_seen b mode.Operand h = refl
-whole_seen b (mode.Body end strip) h = absurd h
+whole_seen b (mode.Body end strip quoted) h = absurd h
 
 whole_prior : (m : Mode) → IsWhole m → first_prior m ≡ 0
 whole_prior mode.Word h = refl
 whole_prior mode.Unsplit h = refl
 whole_prior mode.Value h = refl
 whole_prior mode.Operand h = refl
-whole_prior (mode.Body end strip) h = absurd h
+whole_prior (mode.Body end strip quoted) h = absurd h
 
 -- what is around a word: no here-document
 abbrev around : State → Around
-around s = record { count = s.count; quiet = false; body = false; tabs = false }
+around v = record { count = v.count; quiet = false; body = false; tabs = false }
+
+-- what is left for the builder w, behind as many commands as v, is what is left of the word at i
+pub record Begun (b : List ℕ) (m : Mode) (i : ℕ) (s : State) (w : WordBuilder) (v : State) : Type 0 where
+  pub forth : (limit : ℕ) (u : Spot) (ps : List Part) → ReadsParts limit b (context_of b m i) 0 (spot_of i s) u ps → Left b w limit (around v) u ps
+  pub back : (u : Spot) (ps : List Part) → Left b w 64 (around v) u ps → ReadsParts 64 b (context_of b m i) 0 (spot_of i s) u ps
+
+-- nothing is read yet, or bytes are
+abbrev pub Moved : Mode → ℕ → WordBuilder → Type 0
+Moved m i w = (i < position w) ⊎ (IsNew w × (position w ≡ i))
+
+-- the driver of a builder: how the builder stands, and the state that counts the commands handed back
+pub record Driven (b : List ℕ) (m : Mode) (i : ℕ) (s : State) (w : WordBuilder) (v : State) : Type 0 where
+  pub begun : Begun b m i s w v
+  pub goes : Goes w
+  pub mode : mode_of w ≡ m
+  pub begin : begin_of w ≡ i
+  pub from : i ≤ position w
+  pub inside : IsInside b w
+  pub sound : IsSoundIn b w
+  pub moved : Moved m i w
+  pub counted : Counted b s v
 
 module _ (b : List ℕ) (m : Mode) (whole : IsWhole m) (i : ℕ) (s : State) (w : WordBuilder) (start : IsStart w m s.depth i) where
   -- what is left for a builder that has read nothing is the word
-  parts_left : (limit : ℕ) (u : Spot) (ps : List Part) → ReadsParts limit b (context_of b m i) 0 (spot_of i s) u ps → Left b w limit (around s) u ps
+  begun_new : Begun b m i s w s
   unfolding Left
-  parts_left limit u ps h =
-      let first : Rest b limit (around s) m focus.Start w.holder w.frames (spot (around s) s.depth i) u ps =
-      subst (λ v. ReadsParts limit b (context_of b m i) v (spot_of i s) u ps) (sym (whole_prior m whole)) h in
-      rw (start.mode, start.focus, start.depth, start.at) first
+  begun_new = record {
+    forth = λ limit u ps h.
+        let first : Rest b limit (around s) m focus.Start w.holder w.frames (spot (around s) s.depth i) u ps =
+        subst (λ v. ReadsParts limit b (context_of b m i) v (spot_of i s) u ps) (sym (whole_prior m whole)) h in
+        rw (start.mode, start.focus, start.depth, start.at) first;
+    back = λ u ps l.
+        let first : Rest b 64 (around s) m focus.Start w.holder w.frames (spot (around s) s.depth i) u ps = rw (start.mode, start.focus, start.depth, start.at) at l in
+        subst (λ v. ReadsParts 64 b (context_of b m i) v (spot_of i s) u ps) (whole_prior m whole) first;
+  }
 
-  left_parts : (limit : ℕ) (u : Spot) (ps : List Part) → Left b w limit (around s) u ps → ReadsParts limit b (context_of b m i) 0 (spot_of i s) u ps
-  unfolding Left
-  left_parts limit u ps l =
-      let first : Rest b limit (around s) m focus.Start w.holder w.frames (spot (around s) s.depth i) u ps = rw (start.mode, start.focus, start.depth, start.at) at l in
-      subst (λ v. ReadsParts limit b (context_of b m i) v (spot_of i s) u ps) (whole_prior m whole) first
-
-  -- the context does not end where the word begins
-  word_begins : Begins b (context_of b m i) i s → sound.Begins b w
-  word_begins none stop =
-      let there : (token b (context_of b m i) (first_prior m) i).sign ≡ sign.Stop = rw (start.mode, start.at) at stop in
-      none (subst (λ v. (token b (context_of b m i) v i).sign ≡ sign.Stop) (whole_prior m whole) there)
-
-  -- what a builder has read is the word's parts, which are the only ones
-  parts_read : (d end : ℕ) (ps : List Part) → Ends (Left b w) d end ps → i ≤ end → end ≤ length b → (sound.Begins b w → i < end)
-      → PartsTo b (context_of b m i) i s ps end
-  parts_read d end ps ends from within takes =
-      let reads : ReadsParts 64 b (context_of b m i) 0 (spot_of i s) (spot (around s) d end) ps = left_parts 64 (spot (around s) d end) ps (ends.back (around s)) in
-      let same : d ≡ s.depth = parts_depth reads in
+  pub driven_new : Stands b s → i ≤ length b → Driven b m i s w s
+  driven_new stands inside =
+      let all : seen b w.mode ≡ b = ap (λ v. seen b v) start.mode ∙ whole_seen b m whole in
       record {
-        reads = subst (λ v. ReadsParts 64 b (context_of b m i) 0 (spot_of i s) (spot (around s) v end) ps) same reads;
-        only = λ limit u qs h.
-            let e = ends.forth limit (around s) u qs (parts_left limit u qs h) in
-            (e.0 ∙ ap (λ v. spot (around s) v end) same, e.1);
-        from = from;
-        within = within;
-        moves = λ none. takes (word_begins none);
+        begun = begun_new;
+        goes = start.failed;
+        mode = start.mode;
+        begin = start.begin;
+        from = subst (λ v. i ≤ v) (sym start.at) (le_refl i);
+        inside = subst (λ v. w.at ≤ length v) (sym all) (subst (λ v. v ≤ length b) (sym start.at) inside);
+        sound = start.sound (seen b w.mode) stands.shallow;
+        moved = inr (start.focus, start.at);
+        counted = record { same = refl; stands = stands };
       }
+
+module _ (b : List ℕ) (m : Mode) (whole : IsWhole m) (i : ℕ) (s v : State) (w : WordBuilder) (d : Driven b m i s w v) where
+  sees : seen b w.mode ≡ b
+  sees = ap (λ x. seen b x) d.mode ∙ whole_seen b m whole
 
   nothing_left : (limit : ℕ) → ((g : Around) (u : Spot) (ps : List Part) → Left b w limit g u ps → ⊥)
       → (body : ℕ → Document) (k : states.State) (y : Word) → WordAt b (context_of b m i) i s limit body k y → ⊥
-  nothing_left limit none body k y h = let is = word_parts h.1 in none (around s) h.0 is.0 (parts_left limit h.0 is.0 is.2)
+  nothing_left limit none body k y h = let is = word_parts h.1 in none (around v) h.0 is.0 (d.begun.forth limit h.0 is.0 is.2)
 
-  word_refused : (e : Refusal) → Refuses b (Left b w) e → Refused b (WordAt b (context_of b m i) i s) e
-  word_refused Memory h = tt
-  word_refused (Syntax f at) h = (h.0, λ limit. nothing_left limit (h.1 limit))
-  word_refused (LeftOut f at) h = (h.0, λ other limit. nothing_left limit (h.1 limit))
-  word_refused (TooDeep at) h = (h.0, nothing_left 64 h.1)
-  word_refused TooLong h = absurd h
-  word_refused (NulByte at) h = absurd h
-  word_refused TooMany h = absurd h
-  word_refused (Profile f at) h = absurd h
-  word_refused (CertSyntax k) h = absurd h
-  word_refused CertShape h = absurd h
+  refuses : (e : Refusal) → Refuses b (Left b w) e → Refused b (WordAt b (context_of b m i) i s) e
+  refuses Memory h = tt
+  refuses (Syntax f at) h = (h.0, λ limit. nothing_left limit (h.1 limit))
+  refuses (LeftOut f at) h = (h.0, λ other limit. nothing_left limit (h.1 limit))
+  refuses (TooDeep at) h = (h.0, nothing_left 64 h.1)
+  refuses TooLong h = absurd h
+  refuses (NulByte at) h = absurd h
+  refuses TooMany h = absurd h
+  refuses (Profile f at) h = absurd h
+  refuses (CertSyntax k) h = absurd h
+  refuses CertShape h = absurd h
 
-  -- what the builder answers
-  answers_build : (new : WordBuilder) (res : Result Next Refusal) → Runs b (Left b w) new res → RunMoves b w new res → TakesWord b w new res → Builds b m i s res
-  answers_build new (Ok (Done t)) runs moves takes =
-      let begin : new.begin ≡ i = moves.2.1 ∙ start.begin in
-      let is : t ≡ word i new.at runs.0 = runs.1 ∙ ap (λ v. word v new.at runs.0) begin in
-      let from : i ≤ new.at = subst (λ v. v ≤ new.at) start.at moves.0 in
-      let further : sound.Begins b w → i < new.at = λ begins. subst (λ v. v < new.at) start.at (takes start.focus begins) in
-      rw is (refl, parts_read new.depth new.at runs.0 runs.2 from moves.1 further)
-  answers_build new (Ok (Inner at depth)) runs moves takes = (subst (λ v. v < at) start.at (subst (λ v. w.at < v) moves.2 moves.0), subst (λ v. v ≤ length b) moves.2 moves.1)
-  answers_build new (Err e) runs moves takes = word_refused e runs
+  -- a refusal of the builder is one of the word
+  pub word_refused : (new : WordBuilder) (e : Refusal) → Runs (seen b w.mode) (Left (seen b w.mode) w) new (Err e) → Refused b (WordAt b (context_of b m i) i s) e
+  word_refused new e h = refuses e (subst (λ x. Refuses x (Left x w) e) sees h)
 
--- The builder sees the whole text
-pub word_built : (b : List ℕ) (m : Mode) (whole : IsWhole m) (i : ℕ) (s : State) (w new : WordBuilder) (res : Result Next Refusal) → IsStart w m s.depth i
-    → (w.failed ≡ None → Runs (seen b w.mode) (Left (seen b w.mode) w) new res) → RunMoves (seen b w.mode) w new res → TakesWord (seen b w.mode) w new res
-    → Builds b m i s res
-word_built b m whole i s w new res start runs moves takes =
-    let all : seen b w.mode ≡ b = ap (λ v. seen b v) start.mode ∙ whole_seen b m whole in
-    answers_build b m whole i s w start new res (subst (λ v. Runs v (Left v w) new res) all (runs start.failed)) (subst (λ v. RunMoves v w new res) all moves)
-    (subst (λ v. TakesWord v w new res) all takes)
+  -- the context does not end where a word begins of which nothing is read
+  begins : IsNew w → position w ≡ i → Begins b (context_of b m i) i s → sound.Begins (seen b w.mode) w
+  begins new at none stop =
+      let there : (token b (context_of b m i) (first_prior m) i).sign ≡ sign.Stop =
+      rw (d.mode, at) at (subst (λ x. (token x (context_of x w.mode w.at) (first_prior w.mode) w.at).sign ≡ sign.Stop) sees stop) in
+      none (subst (λ x. (token b (context_of b m i) x i).sign ≡ sign.Stop) (whole_prior m whole) there)
+
+  module _ (new : WordBuilder) where
+    -- what a builder has read is the word
+    pub word_done : (t : Word) → Answers (seen b w.mode) (Left (seen b w.mode) w) new (Done t) → RunMoves (seen b w.mode) w new (Ok (Done t))
+        → TakesWord (seen b w.mode) w new (Ok (Done t)) → Whole b (context_of b m i) i s t v
+    word_done t answers moves takes =
+        let ps = answers.0 in
+        let begin : new.begin ≡ i = moves.2.1 ∙ d.begin in
+        let is : t ≡ word i new.at ps = answers.1 ∙ ap (λ x. word x new.at ps) begin in
+        let ends : Ends (Left b w) new.depth new.at ps = subst (λ x. Ends (Left x w) new.depth new.at ps) sees answers.2 in
+        let reads : ReadsParts 64 b (context_of b m i) 0 (spot_of i s) (spot (around v) new.depth new.at) ps = d.begun.back (spot (around v) new.depth new.at) ps (ends.back (around v)) in
+        let deep : new.depth ≡ s.depth = parts_depth reads in
+        let same : new.depth ≡ v.depth = deep ∙ sym (ap (λ (x : State). x.depth) d.counted.same) in
+        let within : new.at ≤ length b = subst (λ x. new.at ≤ length x) sees moves.1 in
+        let from : i ≤ new.at = le_trans d.from moves.0 in
+        rw is (record {
+          is = refl;
+          reads = subst (λ x. ReadsParts 64 b (context_of b m i) 0 (spot_of i s) (spot (around v) x new.at) ps) same reads;
+          only = λ limit u qs h.
+              let e = ends.forth limit (around v) u qs (d.begun.forth limit u qs h) in
+              (e.0 ∙ ap (λ x. spot (around v) x new.at) same, e.1);
+          from = from;
+          within = within;
+          moves = λ none. further none d.moved;
+          counted = d.counted;
+        })
+      where
+        further : Begins b (context_of b m i) i s → Moved m i w → i < new.at
+        further none (inl below) = lt_of_lt_of_le below moves.0
+        further none (inr at) = subst (λ x. x < new.at) at.1 (takes at.0 (begins at.0 at.1 none))
+
+    -- a refusal of the commands that it asks for is one of the word
+    pub inner_refused : (start at depth : ℕ) (e : Refusal) → Asks (seen b w.mode) (Left (seen b w.mode) w) new start at depth
+        → Refused b (ClosedFrom b (substituted b at depth v)) e → Refused b (WordAt b (context_of b m i) i s) e
+    inner_refused start at depth e asks h = refused_inside b (ClosedFrom b (substituted b at depth v)) (WordAt b (context_of b m i) i s) e inside h
+      where
+        inside : (limit : ℕ) (body : ℕ → Document) (k : states.State) (y : Word) → WordAt b (context_of b m i) i s limit body k y
+            → (other : ℕ → Document) × (j : states.State) × (x : Script) × ClosedFrom b (substituted b at depth v) limit other j x × (j.spot.count ≤ k.spot.count)
+        inside limit body k y q =
+            let is = word_parts q.1 in
+            let asked : Asks b (Left b w) new start at depth = subst (λ x. Asks x (Left x w) new start at depth) sees asks in
+            let l = asked.forth limit (around v) q.0 is.0 (d.begun.forth limit q.0 is.0 is.2) in
+            let z = script_is l.3 in
+            let some : l.0.count ≤ q.0.count = left_count b limit (after_commands (around v) l.0) q.0 is.0 (fed new start l.1 (l.0.at + 1)) l.5 in
+            let less : z.0.spot.count ≤ q.0.count = subst (λ x. x.count ≤ q.0.count) z.1 some in
+            let shut : is_closed b z.0.spot.at ≡ true = subst (λ x. is_closed b x.at ≡ true) z.1 l.4 in
+            (nth z.0.bodies, z.0, l.1, (z.3, shut), subst (λ x. z.0.spot.count ≤ x.spot.count) (sym q.2) less)
+
+    -- and the builder goes on behind them
+    pub begun_fed : (start at depth : ℕ) (t : Script) (end : State) → Asks (seen b w.mode) (Left (seen b w.mode) w) new start at depth
+        → One (ClosedFrom b (substituted b at depth v)) (here end) t → Begun b m i s (fed new start t (end.at + 1)) (record v { count = end.count })
+    unfolding nth waits
+    begun_fed start at depth t end asks one =
+        let asked : Asks b (Left b w) new start at depth = subst (λ x. Asks x (Left x w) new start at depth) sees asks in
+        record {
+          forth = λ limit u ps h.
+              let l = asked.forth limit (around v) u ps (d.begun.forth limit u ps h) in
+              let z = script_is l.3 in
+              let shut : is_closed b z.0.spot.at ≡ true = subst (λ x. is_closed b x.at ≡ true) z.1 l.4 in
+              let o = one.only limit (nth z.0.bodies) z.0 l.1 (z.3, shut) in
+              let spot_is : l.0 ≡ (here end).spot = z.1 ∙ ap (λ x. x.spot) o.0 in
+              let there : Left b (fed new start t (l.0.at + 1)) limit (after_commands (around v) l.0) u ps =
+              subst (λ x. Left b (fed new start x (l.0.at + 1)) limit (after_commands (around v) l.0) u ps) o.1 l.5 in
+              subst (λ x. Left b (fed new start t (x.at + 1)) limit (after_commands (around v) x) u ps) spot_is there;
+          back = λ u ps l.
+              let read = one.reads (nth []) in
+              let script : ReadsScript 64 b (here (substituted b at depth v)).spot (here end).spot t = r.script {u = here end} read.0 refl in
+              d.begun.back u ps (asked.back (around v) u ps (here end).spot t script read.1 l);
+        }
+
+    -- the builder goes on once the commands are handed back
+    pub driven_fed : (back : WordBuilder) (at depth : ℕ) (t : Script) (end : State) → Answers (seen b w.mode) (Left (seen b w.mode) w) new (Inner at depth)
+        → RunMoves (seen b w.mode) w new (Ok (Inner at depth)) → One (ClosedFrom b (substituted b at depth v)) (here end) t → at ≤ end.at → Stands b end
+        → ((start : ℕ) → Waits new start → Goes new → back ≡ fed new start t (end.at + 1)) → ((x : List ℕ) → end.at + 1 ≤ length x → IsSound x new → IsSound x back)
+        → Driven b m i s back (record v { count = end.count })
+    unfolding nth
+    driven_fed back at depth t end answers moves one after stands gives keeps =
+        let start = answers.0 in
+        let same = moves.5 in
+        let is : back ≡ fed new start t (end.at + 1) = gives start answers.1 (same.3 ∙ d.goes) in
+        let mode : back.mode ≡ m = ap (λ (x : WordBuilder). x.mode) is ∙ same.0 ∙ d.mode in
+        let all : seen b back.mode ≡ b = ap (λ x. seen b x) mode ∙ whole_seen b m whole in
+        let below : end.at < length b = closed_inside b end.at (one.reads (nth [])).1 in
+        let sound : IsSound b new = subst (λ x. IsSound x new) sees moves.6 in
+        let stands_at : back.at ≡ end.at + 1 = ap (λ (x : WordBuilder). x.at) is in
+        let further : w.at < at = subst (λ x. w.at < x) moves.2 moves.0 in
+        let from = d.from in
+        let more : i < end.at + 1 = omega arith in
+        record {
+          begun = subst (λ x. Begun b m i s x (record v { count = end.count })) (sym is) (begun_fed start at depth t end answers.2 one);
+          goes = ap (λ (x : WordBuilder). x.failed) is ∙ same.3 ∙ d.goes;
+          mode = mode;
+          begin = ap (λ (x : WordBuilder). x.begin) is ∙ same.1 ∙ d.begin;
+          from = subst (λ x. i ≤ x) (sym stands_at) (omega arith);
+          inside = subst (λ x. back.at ≤ length x) (sym all) (subst (λ x. x ≤ length b) (sym stands_at) (omega arith));
+          sound = subst (λ x. IsSound x back) (sym all) (keeps b (omega arith) sound);
+          moved = inl (subst (λ x. i < x) (sym stands_at) more);
+          counted = record {
+            same = ap (λ (x : State). record x { count = end.count }) d.counted.same;
+            stands = record { inside = d.counted.stands.inside; settled = d.counted.stands.settled; few = stands.few; shallow = d.counted.stands.shallow };
+          };
+        }
+
+    -- nearer to the end of the text
+    pub fed_moves : (back : WordBuilder) (at depth : ℕ) (t : Script) (end : State) → Answers (seen b w.mode) (Left (seen b w.mode) w) new (Inner at depth)
+        → RunMoves (seen b w.mode) w new (Ok (Inner at depth)) → One (ClosedFrom b (substituted b at depth v)) (here end) t → at ≤ end.at
+        → ((start : ℕ) → Waits new start → Goes new → back ≡ fed new start t (end.at + 1)) → length b - position back < length b - position w
+    unfolding nth
+    fed_moves back at depth t end answers moves one after gives =
+        let is : back ≡ fed new answers.0 t (end.at + 1) = gives answers.0 answers.1 (moves.5.3 ∙ d.goes) in
+        let below : end.at < length b = closed_inside b end.at (one.reads (nth [])).1 in
+        let stands_at : back.at ≡ end.at + 1 = ap (λ (x : WordBuilder). x.at) is in
+        let further : w.at < at = subst (λ x. w.at < x) moves.2 moves.0 in
+        omega arith
 
 -- Whole words
 
-pub word_read : (b : List ℕ) (m : Mode) (i : ℕ) (s : State) (w : Word) → Builds b m i s (Ok (Done w)) → not (context_of b m i).colons && is_location b i w.span.end ≡ false
-    → One (WordAt b (context_of b m i) i s) (here (moved b w.span.end s)) w
+pub word_read : (b : List ℕ) (m : Mode) (i : ℕ) (s v : State) (w : Word) → Whole b (context_of b m i) i s w v → not (context_of b m i).colons && is_location b i w.span.end ≡ false
+    → One (WordAt b (context_of b m i) i s) (here (moved b w.span.end v)) w
 unfolding keeps_lines
-word_read b m i s w h free =
+word_read b m i s v w h free =
     let x = context_of b m i in
     let ps = w.parts in
     let end = w.span.end in
+    let behind : here (moved b end v) ≡ past b (spot_of end v) (here s) = ap (λ (z : State). here (record z { at = blanks false b end; count = v.count; fresh = true })) h.counted.same in
     record {
-      reads = λ body. (spot_of end s, subst (λ v. ReadsWord 64 b x (spot_of i s) (spot_of end s) v) (sym h.0) (r.whole_word (h.1.reads) free refl), refl);
+      reads = λ body. (spot_of end v, subst (λ z. ReadsWord 64 b x (spot_of i s) (spot_of end v) z) (sym h.is) (r.whole_word (h.reads) free refl), behind);
       only = λ limit body k y q.
           let is = word_parts q.1 in
-          let e = h.1.only limit q.0 is.0 is.2 in
-          (q.2 ∙ ap (λ v. past b v (here s)) e.0, is.1 ∙ ap (λ v. word i v.at is.0) e.0 ∙ ap (λ v. word i end v) e.1 ∙ sym h.0);
+          let e = h.only limit q.0 is.0 is.2 in
+          (q.2 ∙ ap (λ z. past b z (here s)) e.0 ∙ sym behind, is.1 ∙ ap (λ z. word i z.at is.0) e.0 ∙ ap (λ z. word i end z) e.1 ∙ sym h.is);
     }
 
 -- an IO location is no word
-pub word_located : (b : List ℕ) (m : Mode) (i : ℕ) (s : State) (w : Word) → Builds b m i s (Ok (Done w)) → not (context_of b m i).colons && is_location b i w.span.end ≡ true
-    → Nothing (WordAt b (context_of b m i) i s)
-word_located b m i s w h located = λ limit body k y q. none limit q.0 y q.1
+pub word_located : (b : List ℕ) (m : Mode) (i : ℕ) (s v : State) (w : Word) → Whole b (context_of b m i) i s w v
+    → not (context_of b m i).colons && is_location b i w.span.end ≡ true → Nothing (WordAt b (context_of b m i) i s)
+word_located b m i s v w h located = λ limit body k y q. none limit q.0 y q.1
   where
     none : (limit : ℕ) (k : Spot) (y : Word) → ReadsWord limit b (context_of b m i) (spot_of i s) k y → ⊥
     none limit k y (r.whole_word {ps = qs} q free l) =
-        let e = h.1.only limit k qs q in
-        let there : not (context_of b m i).colons && is_location b i w.span.end ≡ false = subst (λ v. not (context_of b m i).colons && is_location b i v.at ≡ false) e.0 free in
+        let e = h.only limit k qs q in
+        let there : not (context_of b m i).colons && is_location b i w.span.end ≡ false = subst (λ z. not (context_of b m i).colons && is_location b i z.at ≡ false) e.0 free in
         true≢false (sym located ∙ there)
 
 -- an IO location has bytes

@@ -1,6 +1,7 @@
 pub mod States
 pub mod Readers
 pub mod Nests
+pub mod Substitutions
 pub mod Modes
 pub mod Breaks
 pub mod Faults

@@ -28,3 +28,7 @@ pub record Stands (b : List ℕ) (s : State) : Type 0 where
 -- at the first token of a text
 abbrev pub first_of : List ℕ → State
 first_of b = record { at = blanks false b 0; count = 0; depth = 0; closed = false; fresh = true }
+
+-- at the first token of the commands of a substitution, which begin at or behind i where n levels are open, in a word behind as many commands as s
+abbrev pub substituted : List ℕ → ℕ → ℕ → State → State
+substituted b i n s = record { at = blanks false b i; count = s.count; depth = n; closed = false; fresh = true }

@@ -7,10 +7,8 @@ ghost use Rattle.sh_tree.specs.declared.token.command.Stage.TheVariants.{First};
 ghost use Rattle.sh_tree.specs.language.Commands as tokens;
 ghost use Rattle.sh_tree.specs.language.Reading as reading;
 
-use super::elements::elements_at;
 use super::faults::unexpected_at;
 use super::grammar::Grammar;
-use super::redirects::redirects_at;
 use super::state::State;
 use sh_scan::{begins_command, begins_compound, begins_simple, lead_at};
 use sh_tree::Items;
@@ -31,28 +29,30 @@ fn is_bare(redirects: &Items<Redirect>) -> bool
     }
 }
 
-/// A simple command.
-#[tactic(auto, using(crate::proofs::CommandLemmas::command_crowded, crate::proofs::CommandLemmas::simple_read, crate::proofs::CommandLemmas::simple_refused))]
-fn simple(alloc: Global, script: &[u8], from: State) -> Result<(Command, State), Refusal>
-    requires small { length script.now ≤ MAX_SCRIPT }
-    requires stands { Stands script.now from }
-    requires begins { tokens.begins_simple (tokens.lead_at script.now First from.at) ≡ true }
-    ensures { Answers script.now (CommandFrom script.now from) (from.at + 1) result }
-{
-    if from.count == MAX_COMMANDS {
-        return Err(Refusal::TooMany);
-    }
-    let (elements, behind) = elements_at(alloc, script, from.counted())?;
-    let command = Command {
-        number: from.count + 1,
-        at: from.at,
-        kind: Kind::Simple(elements),
-        redirects: Items::new(alloc),
-    };
-    Ok((command, behind.closing(false)))
-}
-
 impl<F: Fn(Global, &[u8], State) -> Result<(Script, State), Refusal>> Grammar<F> {
+    /// A simple command.
+    #[tactic(auto, using(crate::proofs::CommandLemmas::command_crowded, crate::proofs::CommandLemmas::simple_read, crate::proofs::CommandLemmas::simple_refused))]
+    fn simple(&self, script: &[u8], from: State) -> Result<(Command, State), Refusal>
+        requires small { length script.now ≤ MAX_SCRIPT }
+        requires stands { Stands script.now from }
+        requires begins { tokens.begins_simple (tokens.lead_at script.now First from.at) ≡ true }
+        requires further { length script.now - from.at ≤ self.now.left }
+        requires nests { Nests self.now.left (F.pre self.now.nested) (F.post self.now.nested) }
+        ensures { Answers script.now (CommandFrom script.now from) (from.at + 1) result }
+    {
+        if from.count == MAX_COMMANDS {
+            return Err(Refusal::TooMany);
+        }
+        let (elements, behind) = self.elements_at(script, from.counted())?;
+        let command = Command {
+            number: from.count + 1,
+            at: from.at,
+            kind: Kind::Simple(elements),
+            redirects: Items::new(self.alloc),
+        };
+        Ok((command, behind.closing(false)))
+    }
+
     /// A command. Definitions are not read yet.
     #[tactic(auto, using(crate::proofs::CommandLemmas::command_none, crate::proofs::ReaderLemmas::refused_none))]
     pub fn command(&self, script: &[u8], from: State) -> Result<(Command, State), Refusal>
@@ -67,7 +67,7 @@ impl<F: Fn(Global, &[u8], State) -> Result<(Script, State), Refusal>> Grammar<F>
             return Err(unexpected_at(script, Stage::First, from.at));
         }
         if begins_simple(lead) {
-            return simple(self.alloc, script, from);
+            return self.simple(script, from);
         }
         if begins_compound(lead) {
             return self.compound_command(script, lead, from);
@@ -99,7 +99,7 @@ impl<F: Fn(Global, &[u8], State) -> Result<(Script, State), Refusal>> Grammar<F>
             return Err(Refusal::TooMany);
         }
         let (kind, behind) = self.compound(script, lead, from.counted())?;
-        let (redirects, behind) = redirects_at(self.alloc, script, behind)?;
+        let (redirects, behind) = self.redirects_at(script, behind)?;
         let closed = is_bare(&redirects);
         let command = Command {
             number: from.count + 1,

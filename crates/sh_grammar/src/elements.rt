@@ -1,20 +1,21 @@
 //! The elements of simple commands (XCU 2.9.1).
-ghost use Rattle.std.specs.Prelude.{◌≡◌, ◌+◌, ◌≤◌, true, length};
+ghost use Rattle.std.specs.Prelude.{◌-◌, ◌≡◌, ◌+◌, ◌≤◌, true, length};
+ghost use Rattle.sh_grammar.specs.Nests.{Nests};
 ghost use Rattle.sh_grammar.specs.States.{Stands};
 ghost use Rattle.sh_grammar.specs.Readers.{Answers, ElementsFrom};
 ghost use Rattle.sh_tree.specs.declared.token.command.Stage.TheVariants.{First};
 ghost use Rattle.sh_tree.specs.language.Commands as commands;
 ghost use Rattle.sh_tree.specs.language.Reading as reading;
 
-use super::redirects::redirect_at;
+use super::grammar::Grammar;
 use super::state::State;
-use super::words::{mode_of, word_at};
+use super::words::mode_of;
 use sh_scan::{begins_simple, declares_at, lead_at, name_at};
 use sh_tree::Items;
 use sh_tree::limits::MAX_SCRIPT;
 use sh_tree::refusal::Refusal;
 use sh_tree::token::{Lead, Stage};
-use sh_tree::tree::{Element, Span};
+use sh_tree::tree::{Element, Script, Span};
 use sh_words::Mode;
 use std::alloc::Global;
 
@@ -41,49 +42,53 @@ fn redirected(stage: Stage) -> Stage
     }
 }
 
-/// The elements of the simple command at a token.
-#[tactic(auto, using(crate::proofs::ElementLemmas::found_none, crate::proofs::ElementLemmas::not_moved, crate::proofs::ElementLemmas::moved_on, crate::proofs::ElementLemmas::elements_end, crate::proofs::BeginningLemmas::name_within))]
-pub fn elements_at(
-    alloc: Global,
-    script: &[u8],
-    from: State,
-) -> Result<(Items<Element>, State), Refusal>
-    requires small { length script.now ≤ MAX_SCRIPT }
-    requires stands { Stands script.now from }
-    requires begins { commands.begins_simple (commands.lead_at script.now First from.at) ≡ true }
-    ensures { Answers script.now (ElementsFrom script.now (First, from)) (from.at + 1) result }
-{
-    let mut elements = Items::new(alloc);
-    let mut stage = Stage::First;
-    let mut next = from;
-    loop {
-        let lead = lead_at(script, stage, next.at);
-        if !begins_simple(lead) {
-            return Ok((elements, next));
-        }
-        match lead {
-            Lead::Assignment => {
-                let equals = name_at(script, next.at);
-                let name = Span {
-                    start: next.at,
-                    end: equals,
-                };
-                let (value, behind) = word_at(alloc, script, Mode::Value, equals + 1, next)?;
-                stage = Stage::Prefixed;
-                next = behind;
-                elements.push(Element::Assignment { name, value })?;
+impl<F: Fn(Global, &[u8], State) -> Result<(Script, State), Refusal>> Grammar<F> {
+    /// The elements of the simple command at a token.
+    #[tactic(auto, using(crate::proofs::ElementLemmas::found_none, crate::proofs::ElementLemmas::not_moved, crate::proofs::ElementLemmas::moved_on, crate::proofs::ElementLemmas::elements_end, crate::proofs::BeginningLemmas::name_within))]
+    pub fn elements_at(
+        &self,
+        script: &[u8],
+        from: State,
+    ) -> Result<(Items<Element>, State), Refusal>
+        requires small { length script.now ≤ MAX_SCRIPT }
+        requires stands { Stands script.now from }
+        requires begins { commands.begins_simple (commands.lead_at script.now First from.at) ≡ true }
+        requires further { length script.now - from.at ≤ self.now.left }
+        requires nests { Nests self.now.left (F.pre self.now.nested) (F.post self.now.nested) }
+        ensures { Answers script.now (ElementsFrom script.now (First, from)) (from.at + 1) result }
+    {
+        let mut elements = Items::new(self.alloc);
+        let mut stage = Stage::First;
+        let mut next = from;
+        loop {
+            let lead = lead_at(script, stage, next.at);
+            if !begins_simple(lead) {
+                return Ok((elements, next));
             }
-            Lead::Word => {
-                let (word, behind) = word_at(alloc, script, mode_of(stage), next.at, next)?;
-                stage = stage_behind(script, stage, next.at);
-                next = behind;
-                elements.push(Element::Word(word))?;
-            }
-            _ => {
-                let (redirect, behind) = redirect_at(alloc, script, next)?;
-                stage = redirected(stage);
-                next = behind;
-                elements.push(Element::Redirection(redirect))?;
+            match lead {
+                Lead::Assignment => {
+                    let equals = name_at(script, next.at);
+                    let name = Span {
+                        start: next.at,
+                        end: equals,
+                    };
+                    let (value, behind) = self.word_at(script, Mode::Value, equals + 1, next)?;
+                    stage = Stage::Prefixed;
+                    next = behind;
+                    elements.push(Element::Assignment { name, value })?;
+                }
+                Lead::Word => {
+                    let (word, behind) = self.word_at(script, mode_of(stage), next.at, next)?;
+                    stage = stage_behind(script, stage, next.at);
+                    next = behind;
+                    elements.push(Element::Word(word))?;
+                }
+                _ => {
+                    let (redirect, behind) = self.redirect_at(script, next)?;
+                    stage = redirected(stage);
+                    next = behind;
+                    elements.push(Element::Redirection(redirect))?;
+                }
             }
         }
     }

@@ -14,6 +14,7 @@ mod redirects;
 mod reserved;
 mod script;
 mod state;
+mod substitutions;
 mod words;
 
 pub use script::parse;

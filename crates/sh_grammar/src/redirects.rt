@@ -1,18 +1,19 @@
 //! Redirections (XCU 2.7).
-ghost use Rattle.std.specs.Prelude.{◌≡◌, ◌+◌, ◌≤◌, ◌<◌, length, Some};
+ghost use Rattle.std.specs.Prelude.{◌-◌, ◌≡◌, ◌+◌, ◌≤◌, ◌<◌, length, Some};
 ghost use Rattle.sh_tree.specs.language.Commands as commands;
+ghost use Rattle.sh_grammar.specs.Nests.{Nests};
 ghost use Rattle.sh_grammar.specs.States.{Stands};
 ghost use Rattle.sh_grammar.specs.Readers.{Answers, RedirectFrom, RedirectsFrom};
 
 use super::faults::unexpected_at;
+use super::grammar::Grammar;
 use super::state::State;
-use super::words::word_at;
 use sh_scan::{direction_of, is_redirection, lead_at, redirection_at};
 use sh_tree::Items;
 use sh_tree::limits::MAX_SCRIPT;
 use sh_tree::refusal::{Form, Refusal};
 use sh_tree::token::{Lead, Redirection, Stage};
-use sh_tree::tree::{Direction, Redirect, Target};
+use sh_tree::tree::{Direction, Redirect, Script, Target};
 use sh_words::Mode;
 use std::alloc::Global;
 
@@ -22,70 +23,78 @@ pub fn is_word(lead: Lead) -> bool
     matches!(lead, Lead::Word)
 }
 
-/// The redirection of a file, of which the operator is read.
-#[tactic(auto, using(crate::proofs::RedirectLemmas::redirect_untargeted, crate::proofs::RedirectLemmas::redirect_refused, crate::proofs::RedirectLemmas::redirect_read, crate::proofs::ReaderLemmas::refused_none))]
-fn file(
-    alloc: Global,
-    script: &[u8],
-    front: Redirection,
-    direction: Direction,
-    from: State,
-) -> Result<(Redirect, State), Refusal>
-    requires small { length script.now ≤ MAX_SCRIPT }
-    requires stands { Stands script.now from }
-    requires begins { commands.redirection script.now from.at ≡ Some front }
-    requires way { commands.direction_of front.operator ≡ Some direction }
-    requires moves { from.at < front.end }
-    requires within { front.end ≤ length script.now }
-    ensures { Answers script.now (RedirectFrom script.now from) (from.at + 1) result }
-{
-    let target = from.next(script, front.end);
-    let stage = Stage::Named(false);
-    if !is_word(lead_at(script, stage, target.at)) {
-        return Err(unexpected_at(script, stage, target.at));
+impl<F: Fn(Global, &[u8], State) -> Result<(Script, State), Refusal>> Grammar<F> {
+    /// The redirection of a file, of which the operator is read.
+    #[tactic(auto, using(crate::proofs::RedirectLemmas::redirect_untargeted, crate::proofs::RedirectLemmas::redirect_refused, crate::proofs::RedirectLemmas::redirect_read, crate::proofs::ReaderLemmas::refused_none))]
+    fn file(
+        &self,
+        script: &[u8],
+        front: Redirection,
+        direction: Direction,
+        from: State,
+    ) -> Result<(Redirect, State), Refusal>
+        requires small { length script.now ≤ MAX_SCRIPT }
+        requires stands { Stands script.now from }
+        requires begins { commands.redirection script.now from.at ≡ Some front }
+        requires way { commands.direction_of front.operator ≡ Some direction }
+        requires moves { from.at < front.end }
+        requires within { front.end ≤ length script.now }
+        requires further { length script.now - from.at ≤ self.now.left }
+        requires nests { Nests self.now.left (F.pre self.now.nested) (F.post self.now.nested) }
+        ensures { Answers script.now (RedirectFrom script.now from) (from.at + 1) result }
+    {
+        let target = from.next(script, front.end);
+        let stage = Stage::Named(false);
+        if !is_word(lead_at(script, stage, target.at)) {
+            return Err(unexpected_at(script, stage, target.at));
+        }
+        let (word, behind) = self.word_at(script, Mode::Unsplit, target.at, from)?;
+        let redirect = Redirect {
+            at: front.at,
+            number: front.number,
+            target: Target::File(direction, word),
+        };
+        Ok((redirect, behind))
     }
-    let (word, behind) = word_at(alloc, script, Mode::Unsplit, target.at, from)?;
-    let redirect = Redirect {
-        at: front.at,
-        number: front.number,
-        target: Target::File(direction, word),
-    };
-    Ok((redirect, behind))
-}
 
-/// The redirection at a token that begins one. Here-documents are not read yet.
-#[tactic(auto, using(crate::proofs::RedirectLemmas::no_redirect, crate::proofs::ReaderLemmas::refused_none))]
-pub fn redirect_at(alloc: Global, script: &[u8], from: State) -> Result<(Redirect, State), Refusal>
-    requires small { length script.now ≤ MAX_SCRIPT }
-    requires stands { Stands script.now from }
-    ensures { Answers script.now (RedirectFrom script.now from) (from.at + 1) result }
-{
-    let Some(front) = redirection_at(script, from.at) else {
-        return Err(unexpected_at(script, Stage::Named(false), from.at));
-    };
-    match direction_of(front.operator) {
-        Some(direction) => file(alloc, script, front, direction, from),
-        None => Err(Refusal::LeftOut(Form::Later, from.at)),
+    /// The redirection at a token that begins one. Here-documents are not read yet.
+    #[tactic(auto, using(crate::proofs::RedirectLemmas::no_redirect, crate::proofs::ReaderLemmas::refused_none))]
+    pub fn redirect_at(&self, script: &[u8], from: State) -> Result<(Redirect, State), Refusal>
+        requires small { length script.now ≤ MAX_SCRIPT }
+        requires stands { Stands script.now from }
+        requires further { length script.now - from.at ≤ self.now.left }
+        requires nests { Nests self.now.left (F.pre self.now.nested) (F.post self.now.nested) }
+        ensures { Answers script.now (RedirectFrom script.now from) (from.at + 1) result }
+    {
+        let Some(front) = redirection_at(script, from.at) else {
+            return Err(unexpected_at(script, Stage::Named(false), from.at));
+        };
+        match direction_of(front.operator) {
+            Some(direction) => self.file(script, front, direction, from),
+            None => Err(Refusal::LeftOut(Form::Later, from.at)),
+        }
     }
-}
 
-/// The redirections behind a compound command.
-#[tactic(auto, using(crate::proofs::RedirectLemmas::redirects_none, crate::proofs::RedirectLemmas::redirects_more, crate::proofs::RedirectLemmas::redirects_refused, crate::proofs::RedirectLemmas::redirects_all))]
-pub fn redirects_at(
-    alloc: Global,
-    script: &[u8],
-    from: State,
-) -> Result<(Items<Redirect>, State), Refusal>
-    requires small { length script.now ≤ MAX_SCRIPT }
-    requires stands { Stands script.now from }
-    ensures { Answers script.now (RedirectsFrom script.now from) from.at result }
-{
-    let mut redirects = Items::new(alloc);
-    let mut next = from;
-    while is_redirection(lead_at(script, Stage::Named(false), next.at)) {
-        let (redirect, behind) = redirect_at(alloc, script, next)?;
-        redirects.push(redirect)?;
-        next = behind;
+    /// The redirections behind a compound command.
+    #[tactic(auto, using(crate::proofs::RedirectLemmas::redirects_none, crate::proofs::RedirectLemmas::redirects_more, crate::proofs::RedirectLemmas::redirects_refused, crate::proofs::RedirectLemmas::redirects_all))]
+    pub fn redirects_at(
+        &self,
+        script: &[u8],
+        from: State,
+    ) -> Result<(Items<Redirect>, State), Refusal>
+        requires small { length script.now ≤ MAX_SCRIPT }
+        requires stands { Stands script.now from }
+        requires further { length script.now - from.at ≤ self.now.left }
+        requires nests { Nests self.now.left (F.pre self.now.nested) (F.post self.now.nested) }
+        ensures { Answers script.now (RedirectsFrom script.now from) from.at result }
+    {
+        let mut redirects = Items::new(self.alloc);
+        let mut next = from;
+        while is_redirection(lead_at(script, Stage::Named(false), next.at)) {
+            let (redirect, behind) = self.redirect_at(script, next)?;
+            redirects.push(redirect)?;
+            next = behind;
+        }
+        Ok((redirects, next))
     }
-    Ok((redirects, next))
 }

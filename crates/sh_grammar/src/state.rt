@@ -1,6 +1,6 @@
 //! Where a reader of commands stands (XCU 2.10).
 ghost use Rattle.std.specs.Prelude.{◌≡◌, ◌≤◌, ◌<◌, ◌+◌, length, false};
-ghost use Rattle.sh_grammar.specs.States.{Stands, moved};
+ghost use Rattle.sh_grammar.specs.States.{Stands, moved, substituted};
 ghost use Rattle.sh_tree.specs.language.Commands as commands;
 
 use sh_scan::blanks_at;
@@ -45,6 +45,33 @@ impl State {
     {
         State {
             count: self.count + 1,
+            ..self
+        }
+    }
+
+    /// At the first token of commands that begin at or behind `at`, where so many levels are open and what came before is as here.
+    pub fn within(self, script: &[u8], at: u32, depth: u8) -> State
+        requires small { length script.now ≤ MAX_SCRIPT }
+        requires inside { at ≤ length script.now }
+        requires stands { Stands script.now self }
+        requires shallow { depth ≤ MAX_NESTING }
+        ensures value { result ≡ substituted script.now at depth self }
+        ensures after { at ≤ result.at }
+        ensures stands { Stands script.now result }
+    {
+        State {
+            depth,
+            closed: false,
+            ..self.next(script, at)
+        }
+    }
+
+    /// Behind as many commands as another.
+    pub fn counting(self, other: State) -> State
+        ensures { result ≡ record self { count = other.count } }
+    {
+        State {
+            count: other.count,
             ..self
         }
     }

@@ -1,18 +1,20 @@
 //! Words (XCU 2.2, 2.6).
-ghost use Rattle.std.specs.Prelude.{◌≡◌, ◌≤◌, ◌<◌, ℕ, not, ◌&&◌, true, List, length, IfOk};
+ghost use Rattle.std.specs.Prelude.{◌-◌, ◌≡◌, ◌≤◌, ◌<◌, ℕ, not, ◌&&◌, true, List, length, IfOk};
 ghost use Rattle.sh_tree.specs.language.Contexts as contexts;
 ghost use Rattle.sh_tree.specs.language.Commands as commands;
 ghost use Rattle.sh_words.specs.Modes as modes;
 ghost use Rattle.sh_grammar.specs.Modes.{Begins, Builds, IsWhole};
+ghost use Rattle.sh_grammar.specs.Nests.{Nests};
 ghost use Rattle.sh_grammar.specs.States.{Stands};
 ghost use Rattle.sh_grammar.specs.Readers.{Answers, WordAt};
 
+use super::grammar::Grammar;
 use super::state::State;
 use sh_scan::is_location_at;
 use sh_tree::limits::MAX_SCRIPT;
 use sh_tree::refusal::{Form, Refusal};
 use sh_tree::token::Stage;
-use sh_tree::tree::Word;
+use sh_tree::tree::{Script, Word};
 use sh_words::{Mode, Next, WordBuilder};
 use std::alloc::Global;
 
@@ -28,19 +30,6 @@ pub fn mode_of(stage: Stage) -> Mode
     }
 }
 
-/// The word of a mode at `at`, or the commands that come first in it.
-#[tactic(auto, using(crate::proofs::WordLemmas::word_built))]
-fn built(alloc: Global, script: &[u8], mode: Mode, at: u32, from: State) -> Result<Next, Refusal>
-    requires small { length script.now ≤ MAX_SCRIPT }
-    requires inside { at ≤ length script.now }
-    requires whole { IsWhole mode }
-    requires stands { Stands script.now from }
-    ensures { Builds script.now mode at from result }
-{
-    let mut builder = WordBuilder::start(alloc, mode, from.depth, at)?;
-    builder.run(script)
-}
-
 /// Whether the word from `start` to `end` may be an IO location. The value of an assignment is none.
 fn is_location(script: &[u8], mode: Mode, start: u32, end: u32) -> bool
     requires small { length script.now ≤ MAX_SCRIPT }
@@ -53,30 +42,64 @@ fn is_location(script: &[u8], mode: Mode, start: u32, end: u32) -> bool
     !value && is_location_at(script, start, end)
 }
 
-/// The word of a mode at `at`, and where the token behind it begins. Commands in it are not read yet.
-#[tactic(auto, using(crate::proofs::WordLemmas::word_read, crate::proofs::WordLemmas::word_located))]
-pub fn word_at(
-    alloc: Global,
-    script: &[u8],
-    mode: Mode,
-    at: u32,
-    from: State,
-) -> Result<(Word, State), Refusal>
-    requires small { length script.now ≤ MAX_SCRIPT }
-    requires inside { at ≤ length script.now }
-    requires whole { IsWhole mode }
-    requires stands { Stands script.now from }
-    ensures reads { Answers script.now (WordAt script.now (modes.context_of script.now mode at) at from) at result }
-    ensures moves { IfOk result (λ r. Begins script.now (modes.context_of script.now mode at) at from → at < r.1.at) }
-{
-    match built(alloc, script, mode, at, from)? {
-        Next::Done(word) => {
-            if is_location(script, mode, at, word.span.end) {
-                return Err(Refusal::LeftOut(Form::IoLocation, at));
+impl<F: Fn(Global, &[u8], State) -> Result<(Script, State), Refusal>> Grammar<F> {
+    /// The word of a mode at `at`, and the state behind as many commands as stand in it.
+    #[tactic(auto, using(crate::proofs::WordLemmas::driven_new, crate::proofs::WordLemmas::word_refused, crate::proofs::WordLemmas::word_done))]
+    fn built(
+        &self,
+        script: &[u8],
+        mode: Mode,
+        at: u32,
+        from: State,
+    ) -> Result<(Word, State), Refusal>
+        requires small { length script.now ≤ MAX_SCRIPT }
+        requires inside { at ≤ length script.now }
+        requires ordered { from.at ≤ at }
+        requires whole { IsWhole mode }
+        requires stands { Stands script.now from }
+        requires further { length script.now - from.at ≤ self.now.left }
+        requires nests { Nests self.now.left (F.pre self.now.nested) (F.post self.now.nested) }
+        ensures { Builds script.now mode at from result }
+    {
+        let mut builder = WordBuilder::start(self.alloc, mode, from.depth, at)?;
+        let mut last = from;
+        loop {
+            match builder.run(script)? {
+                Next::Done(word) => return Ok((word, last)),
+                Next::Inner { at, depth } => {
+                    let first = last.within(script, at, depth);
+                    let (commands, end) = self.substitution(script, at.saturating_sub(2), first)?;
+                    builder.resume(commands, end.at + 1)?;
+                    last = last.counting(end);
+                }
             }
-            let behind = from.next(script, word.span.end);
-            Ok((word, behind))
         }
-        Next::Inner { at, .. } => Err(Refusal::LeftOut(Form::Later, at.saturating_sub(2))),
+    }
+
+    /// The word of a mode at `at`, and where the token behind it begins.
+    #[tactic(auto, using(crate::proofs::WordLemmas::word_read, crate::proofs::WordLemmas::word_located))]
+    pub fn word_at(
+        &self,
+        script: &[u8],
+        mode: Mode,
+        at: u32,
+        from: State,
+    ) -> Result<(Word, State), Refusal>
+        requires small { length script.now ≤ MAX_SCRIPT }
+        requires inside { at ≤ length script.now }
+        requires ordered { from.at ≤ at }
+        requires whole { IsWhole mode }
+        requires stands { Stands script.now from }
+        requires further { length script.now - from.at ≤ self.now.left }
+        requires nests { Nests self.now.left (F.pre self.now.nested) (F.post self.now.nested) }
+        ensures reads { Answers script.now (WordAt script.now (modes.context_of script.now mode at) at from) at result }
+        ensures moves { IfOk result (λ r. Begins script.now (modes.context_of script.now mode at) at from → at < r.1.at) }
+    {
+        let (word, last) = self.built(script, mode, at, from)?;
+        if is_location(script, mode, at, word.span.end) {
+            return Err(Refusal::LeftOut(Form::IoLocation, at));
+        }
+        let behind = last.next(script, word.span.end);
+        Ok((word, behind))
     }
 }

@@ -5,3 +5,4 @@ pub mod PartLemmas
 pub mod OperandLemmas
 pub mod OperationLemmas
 pub mod RunLemmas
+pub mod CountLemmas

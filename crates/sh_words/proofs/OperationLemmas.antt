@@ -309,7 +309,7 @@ unfolding is_first
 first_some p [] h = absurd (true≢false (sym h))
 first_some p (c ∷ cs) h = omega arith
 
-closed_inside : (b : List ℕ) (i : ℕ) → is_closed b i ≡ true → i < length b
+pub closed_inside : (b : List ℕ) (i : ℕ) → is_closed b i ≡ true → i < length b
 unfolding is_closed
 closed_inside b i closed = let some = first_some (λ c. c == 41) (drop i b) closed in omega (arith, length-drop i b, some)
 

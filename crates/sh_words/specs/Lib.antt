@@ -3,6 +3,7 @@ pub mod States
 pub mod Rest
 pub mod Clauses
 pub mod Sound
+pub mod Builders
 pub mod Faults
 pub mod Starts
 pub mod Steps

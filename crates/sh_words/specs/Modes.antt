@@ -12,14 +12,14 @@ context_of b mode.Word i = in_word i
 context_of b mode.Unsplit i = in_unsplit i
 context_of b mode.Value i = in_value i
 context_of b mode.Operand i = in_operand b i
-context_of b (mode.Body end strip) i = in_body false strip
+context_of b (mode.Body end strip quoted) i = in_body quoted strip
 
 -- the byte before the first one: a body begins a line
 abbrev pub first_prior : Mode → ℕ
-first_prior (mode.Body end strip) = 10
+first_prior (mode.Body end strip quoted) = 10
 first_prior _ = 0
 
 -- the text that a word of the mode can see
 abbrev pub seen : List ℕ → Mode → List ℕ
-seen b (mode.Body end strip) = take end b
+seen b (mode.Body end strip quoted) = take end b
 seen b _ = b

@@ -9,8 +9,8 @@ mod tokens;
 
 ghost use Rattle.std.specs.Prelude.{◌≡◌, ◌≤◌, ℕ, List, None, Some, Ok, Err, length, IfErr, OnOk, MatchResult};
 ghost use Rattle.sh_tree.specs.declared.refusal.Refusal as refusal;
-ghost use Rattle.sh_words.specs.Clauses.{Runs, Steps};
-ghost use Rattle.sh_words.specs.Modes.{seen};
+ghost use Rattle.sh_words.specs.Builders.{Goes, IsInside, IsSoundIn, refused, text_of};
+ghost use Rattle.sh_words.specs.Clauses.{Runs, Steps, Waits};
 ghost use Rattle.sh_words.specs.Rest.{Left};
 ghost use Rattle.sh_words.specs.Sound.{IsSound, RunMoves, StepMoves, StepSound, StepWorks, TakesParts, TakesWord};
 ghost use Rattle.sh_words.specs.Starts.{IsStart};
@@ -89,13 +89,13 @@ impl WordBuilder {
     /// within the limit; `Memory` where a growth was refused. After a refusal it answers the same one again.
     pub fn run(&mut self, script: &[u8]) -> Result<Next, Refusal>
         requires small { length script.now ≤ MAX_SCRIPT }
-        requires inside { self.old.failed ≡ None → self.old.at ≤ length (seen script.now self.old.mode) }
-        requires sound { self.old.failed ≡ None → IsSound (seen script.now self.old.mode) self.old }
-        ensures runs { self.old.failed ≡ None → Runs (seen script.now self.old.mode) (Left (seen script.now self.old.mode) self.old) self.new result }
-        ensures moves { RunMoves (seen script.now self.old.mode) self.old self.new result }
-        ensures takes { TakesWord (seen script.now self.old.mode) self.old self.new result }
-        ensures again { (e : refusal.Refusal) → self.old.failed ≡ Some e → (result ≡ Err e) × (self.new ≡ self.old) }
-        ensures fails { IfErr result (λ e. self.new.failed ≡ Some e) }
+        requires inside { Goes self.old → IsInside script.now self.old }
+        requires sound { Goes self.old → IsSoundIn script.now self.old }
+        ensures runs { Goes self.old → Runs (text_of script.now self.old) (Left (text_of script.now self.old) self.old) self.new result }
+        ensures moves { RunMoves (text_of script.now self.old) self.old self.new result }
+        ensures takes { TakesWord (text_of script.now self.old) self.old self.new result }
+        ensures again { (e : refusal.Refusal) → refused self.old ≡ Some e → (result ≡ Err e) × (self.new ≡ self.old) }
+        ensures fails { IfErr result (λ e. refused self.new ≡ Some e) }
     {
         if let Some(refusal) = self.failed {
             return Err(refusal);
@@ -110,24 +110,23 @@ impl WordBuilder {
         }
     }
 
-    /// Takes the commands that were asked for, which end before the `)` that ends at `end`. A builder that asked for none is left
-    /// as it is.
+    /// Takes the commands that were asked for, which end before the `)` that ends at `end`.
     ///
     /// # Errors
     ///
     /// `Memory` where a growth was refused, and what was refused before.
     pub fn resume(&mut self, inner: Script, end: u32) -> Result<(), Refusal>
-        ensures gives { (start : ℕ) → self.old.focus ≡ Focus.Commands start → self.old.failed ≡ None → MatchResult result (λ _. self.new ≡ fed self.old start inner end) (λ e. e ≡ Refusal.Memory) }
-        ensures leaves { ((start : ℕ) → self.old.focus ≡ Focus.Commands start → ⊥) → self.old.failed ≡ None → MatchResult result (λ _. self.new ≡ self.old) (λ _. ⊥) }
-        ensures again { (e : refusal.Refusal) → self.old.failed ≡ Some e → (result ≡ Err e) × (self.new ≡ self.old) }
+        requires asked { Goes self.old → (start : ℕ) × Waits self.old start }
+        ensures gives { (start : ℕ) → Waits self.old start → Goes self.old → MatchResult result (λ _. self.new ≡ fed self.old start inner end) (λ e. e ≡ Refusal.Memory) }
+        ensures again { (e : refusal.Refusal) → refused self.old ≡ Some e → (result ≡ Err e) × (self.new ≡ self.old) }
         ensures sound { (b : List ℕ) → end ≤ length b → IsSound b self.old → OnOk result (IsSound b self.new) }
-        ensures fails { IfErr result (λ e. self.new.failed ≡ Some e) }
+        ensures fails { IfErr result (λ e. refused self.new ≡ Some e) }
     {
         if let Some(refusal) = self.failed {
             return Err(refusal);
         }
         let Focus::Commands(start) = &self.focus else {
-            return Ok(());
+            unreachable!()
         };
         let span = Span { start: *start, end };
         let part = Part::Command(CommandStyle::Paren, span, inner);

@@ -17,8 +17,14 @@ pub enum Mode {
     Value,
     /// An operand of `export` or `readonly`, where an assignment is read as one (XCU 2.9.1.1).
     Operand,
-    /// The body of a here-document, up to the offset `end`, and whether tabs are stripped, as with `<<-` (XCU 2.7.4).
-    Body { end: u32, strip: bool },
+    /// The body of a here-document, up to the offset `end` (XCU 2.7.4).
+    Body {
+        end: u32,
+        /// Whether tabs are stripped, as with `<<-`.
+        strip: bool,
+        /// Whether the delimiter is quoted, so that nothing is special in the body.
+        quoted: bool,
+    },
 }
 
 impl Mode {
@@ -44,7 +50,7 @@ impl Mode {
             Mode::Unsplit => in_unsplit(at),
             Mode::Value => in_value(at),
             Mode::Operand => in_operand(script, at),
-            Mode::Body { strip, .. } => in_body(false, strip),
+            Mode::Body { strip, quoted, .. } => in_body(quoted, strip),
         }
     }
 

@@ -107,14 +107,20 @@ fn in_operators(rt: HostRuntime) -> Result<(), Fail> {
     check(&rt, rt.alloc(), IN_OPERATORS)
 }
 
-const IN_EXPANSIONS: &[Row] = &[("$(\\\na)", "LeftOut(Later, 0)")];
+const IN_EXPANSIONS: &[Row] = &[
+    ("$(\\\na)", "1@0[w0-6(c0-6{2@4[w4-5(p4-5)]})]"),
+    ("$(\\\n(a))", "LeftOut(Continuation, 2)"),
+];
 
 #[test]
 fn in_expansions(rt: HostRuntime) -> Result<(), Fail> {
     check(&rt, rt.alloc(), IN_EXPANSIONS)
 }
 
-const IN_EXPANSIONS_IN_DOUBLE_QUOTES: &[Row] = &[("\"$(\\\na)\"", "LeftOut(Later, 1)")];
+const IN_EXPANSIONS_IN_DOUBLE_QUOTES: &[Row] = &[(
+    "\"$(\\\na)\"",
+    "1@0[w0-8(d0-8(c1-7{2@5[w5-6(p5-6)]}))]",
+)];
 
 #[test]
 fn in_expansions_in_double_quotes(rt: HostRuntime) -> Result<(), Fail> {

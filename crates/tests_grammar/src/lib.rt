@@ -22,6 +22,8 @@ mod reserved;
 #[cfg(test)]
 mod rows;
 #[cfg(test)]
+mod substitutions;
+#[cfg(test)]
 mod tildes;
 #[cfg(test)]
 mod trees;

@@ -51,6 +51,18 @@ const IN_MANY_COMMANDS: Pieces = ("", "a ${x-b};", "", "", "");
 
 const AROUND_COMMANDS: Pieces = ("", "${x-", "$(a)", "}", "");
 
+const SUBSTITUTIONS: Pieces = ("", "$(", "a", ")", "");
+
+const IN_DOUBLE_QUOTES: Pieces = ("", "\"$(", "a", ")\"", "");
+
+const AROUND_GROUPS: Pieces = ("", "$({ ", "a", "; })", "");
+
+const IN_ARITHMETIC: Pieces = ("", "$(($(", "a", ")))", "");
+
+const IN_DEFAULTS: Pieces = ("", "${x-$(", "a", ")}", "");
+
+const IN_GROUPS: Pieces = ("", "{ ", "$(a)", "; }", "");
+
 const GROUPS: Pieces = ("", "{ ", "a", "; }", "");
 
 const SUBSHELLS: Pieces = ("", "( ", "a", ")", "");
@@ -69,12 +81,20 @@ const TOWERS: &[Tower] = &[
     (64, IN_VALUES, None),
     (65, IN_VALUES, Some(Refusal::TooDeep(262))),
     (100, IN_MANY_COMMANDS, None),
-    (
-        63,
-        AROUND_COMMANDS,
-        Some(Refusal::LeftOut(Form::Later, 252)),
-    ),
+    (63, AROUND_COMMANDS, None),
     (64, AROUND_COMMANDS, Some(Refusal::TooDeep(256))),
+    (64, SUBSTITUTIONS, None),
+    (65, SUBSTITUTIONS, Some(Refusal::TooDeep(128))),
+    (64, IN_DOUBLE_QUOTES, None),
+    (65, IN_DOUBLE_QUOTES, Some(Refusal::TooDeep(193))),
+    (32, AROUND_GROUPS, None),
+    (33, AROUND_GROUPS, Some(Refusal::TooDeep(128))),
+    (32, IN_ARITHMETIC, None),
+    (33, IN_ARITHMETIC, Some(Refusal::TooDeep(160))),
+    (32, IN_DEFAULTS, None),
+    (33, IN_DEFAULTS, Some(Refusal::TooDeep(196))),
+    (63, IN_GROUPS, None),
+    (64, IN_GROUPS, Some(Refusal::TooDeep(128))),
 ];
 
 #[test]
@@ -142,4 +162,30 @@ const FAULT: &[Last] = &[(";", Err(Refusal::Syntax(Fault::UnexpectedToken, 131_0
 #[test]
 fn a_fault_behind_as_many_commands_as_may_be(rt: HostRuntime) -> Result<(), Fail> {
     check_last(&rt, rt.alloc(), FAULT)
+}
+
+/// How many items a script has whose first word is a substitution of so many commands, or what is refused of it.
+fn substituted(alloc: Global, count: u32) -> Result<usize, Refusal> {
+    let mut text = Vec::new(alloc);
+    text.extend_from_slice(b"$(")?;
+    for _ in 0..count {
+        text.extend_from_slice(b"a;")?;
+    }
+    text.extend_from_slice(b")")?;
+    items(alloc, &text)
+}
+
+#[test]
+fn as_many_commands_as_may_be_in_a_word(rt: HostRuntime) -> Result<(), Fail> {
+    assert_eq!(rt; substituted(rt.alloc(), MAX_COMMANDS - 1), Ok(1));
+    Ok(())
+}
+
+#[test]
+fn one_command_more_in_a_word(rt: HostRuntime) -> Result<(), Fail> {
+    assert_eq!(rt;
+        substituted(rt.alloc(), MAX_COMMANDS),
+        Err(Refusal::TooMany)
+    );
+    Ok(())
 }

@@ -135,23 +135,3 @@ const COMMANDS_THAT_ARE_NOT_SIMPLE: &[Row] = &[
 fn commands_that_are_not_simple(rt: HostRuntime) -> Result<(), Fail> {
     check(&rt, rt.alloc(), COMMANDS_THAT_ARE_NOT_SIMPLE)
 }
-
-const SUBSTITUTIONS: &[Row] = &[
-    ("$(a)", "LeftOut(Later, 0)"),
-    ("a $(b)", "LeftOut(Later, 2)"),
-    ("a\"$(b)\"", "LeftOut(Later, 2)"),
-    ("${x-$(a)}", "LeftOut(Later, 4)"),
-    ("\"${x-$(a)}\"", "LeftOut(Later, 5)"),
-    ("x=$(a)", "LeftOut(Later, 2)"),
-    ("$(", "LeftOut(Later, 0)"),
-    ("$( (a))", "LeftOut(Later, 0)"),
-    ("$((1+$(a)))", "LeftOut(Later, 5)"),
-    ("a 'b' $(c", "LeftOut(Later, 6)"),
-    ("$(a) 'b", "LeftOut(Later, 0)"),
-    ("\\$(a)", "Syntax(UnexpectedToken, 2)"),
-];
-
-#[test]
-fn substitutions(rt: HostRuntime) -> Result<(), Fail> {
-    check(&rt, rt.alloc(), SUBSTITUTIONS)
-}

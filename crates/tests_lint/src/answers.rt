@@ -308,6 +308,12 @@ const OPEN: &[Row] = &[
         2,
     ),
     (
+        b"'a' $(b",
+        &[],
+        b"refused 1:5: a command substitution is not closed\n",
+        2,
+    ),
+    (
         b"echo $((1",
         &[],
         b"refused 1:6: an arithmetic expansion is not closed\n",
@@ -576,24 +582,6 @@ const UNREAD: &[Row] = &[
         b"refused 1:1: this form is outside the profile\n",
         2,
     ),
-    (
-        b"echo \"$(a)\"",
-        &[],
-        b"refused 1:7: this form is outside the profile\n",
-        2,
-    ),
-    (
-        b"echo ${x-$(a)}",
-        &[],
-        b"refused 1:10: this form is outside the profile\n",
-        2,
-    ),
-    (
-        b"'a' $(b",
-        &[],
-        b"refused 1:5: this form is outside the profile\n",
-        2,
-    ),
 ];
 
 #[test]
@@ -620,6 +608,14 @@ const UNANALYSED: &[Row] = &[
     (b"echo $#", &[], OUTSIDE, 2),
     (b"[ $# -gt 0 ]", &[], OUTSIDE, 2),
     (b"echo $((a+1))", &[], OUTSIDE, 2),
+    (b"echo \"$(a)\"", &[], OUTSIDE, 2),
+    (b"echo ${x-$(a)}", &[], OUTSIDE, 2),
+    (
+        b"a\nb $(c)",
+        &[],
+        b"refused 2:1: this command is outside the profile\n",
+        2,
+    ),
     (b"echo ${x+\"$x\"}", &[], OUTSIDE, 2),
     (b"echo ${x-a}", &[], OUTSIDE, 2),
     (b"echo ${#x}", &[], OUTSIDE, 2),

@@ -6,11 +6,17 @@ use std::process::Abort;
 use std::test::Fail;
 
 /// Rows of bodies. Behind each one stands what no body sees.
-fn check(rt: &impl Abort, alloc: Global, strip: bool, rows: &[Row]) -> Result<(), Fail> {
+fn check(
+    rt: &impl Abort,
+    alloc: Global,
+    strip: bool,
+    quoted: bool,
+    rows: &[Row],
+) -> Result<(), Fail> {
     for (text, want) in rows {
         let whole = format!(in alloc; "{text}y}}\"")?;
         let end = text.len().min(MAX_SCRIPT) as u32;
-        let found = told(alloc, Mode::Body { end, strip }, &whole)?;
+        let found = told(alloc, Mode::Body { end, strip, quoted }, &whole)?;
         assert_eq!(rt; found.as_str(), *want, "{text:?}");
     }
     Ok(())
@@ -41,7 +47,7 @@ const TEXTS: &[Row] = &[
 
 #[test]
 fn texts(rt: HostRuntime) -> Result<(), Fail> {
-    check(&rt, rt.alloc(), false, TEXTS)
+    check(&rt, rt.alloc(), false, false, TEXTS)
 }
 
 const EXPANSIONS: &[Row] = &[
@@ -63,7 +69,7 @@ const EXPANSIONS: &[Row] = &[
 
 #[test]
 fn expansions(rt: HostRuntime) -> Result<(), Fail> {
-    check(&rt, rt.alloc(), false, EXPANSIONS)
+    check(&rt, rt.alloc(), false, false, EXPANSIONS)
 }
 
 const REFUSALS: &[Row] = &[
@@ -84,7 +90,7 @@ const REFUSALS: &[Row] = &[
 
 #[test]
 fn refusals(rt: HostRuntime) -> Result<(), Fail> {
-    check(&rt, rt.alloc(), false, REFUSALS)
+    check(&rt, rt.alloc(), false, false, REFUSALS)
 }
 
 const STRIPPED: &[Row] = &[
@@ -116,5 +122,38 @@ const STRIPPED: &[Row] = &[
 
 #[test]
 fn stripped(rt: HostRuntime) -> Result<(), Fail> {
-    check(&rt, rt.alloc(), true, STRIPPED)
+    check(&rt, rt.alloc(), true, false, STRIPPED)
+}
+
+const QUOTED: &[Row] = &[
+    ("", "0-0()"),
+    ("a\n", "0-2(p0-2)"),
+    ("$x\n", "0-3(p0-3)"),
+    ("${x\n", "0-4(p0-4)"),
+    ("$(a\n", "0-4(p0-4)"),
+    ("$((1\n", "0-5(p0-5)"),
+    ("`a\n", "0-3(p0-3)"),
+    ("\\$x\n", "0-4(p0-4)"),
+    ("a\\\nb\n", "0-5(p0-5)"),
+    ("\"a'\n", "0-4(p0-4)"),
+    ("\\", "0-1(p0-1)"),
+    ("$@\n", "0-3(p0-3)"),
+    ("\ta\n", "0-3(p0-3)"),
+];
+
+#[test]
+fn quoted(rt: HostRuntime) -> Result<(), Fail> {
+    check(&rt, rt.alloc(), false, true, QUOTED)
+}
+
+const QUOTED_STRIPPED: &[Row] = &[
+    ("\t$x\n\t`\n", "0-7(p1-4 p5-7)"),
+    ("a\tb\n", "0-4(p0-4)"),
+    ("a\\\n\tb\n", "0-6(p0-3 p4-6)"),
+    ("\t\t", "0-2()"),
+];
+
+#[test]
+fn quoted_and_stripped(rt: HostRuntime) -> Result<(), Fail> {
+    check(&rt, rt.alloc(), true, true, QUOTED_STRIPPED)
 }

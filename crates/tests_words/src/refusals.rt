@@ -1,10 +1,9 @@
 //! What a builder answers out of turn.
-ghost use Rattle.std.specs.Prelude.{◌≡◌, ◌≤◌, None, Some, length, IfSome};
+ghost use Rattle.std.specs.Prelude.{◌≡◌, ◌≤◌, Some, length, IfSome};
 ghost use Rattle.sh_tree.specs.declared.refusal.Refusal as refusal;
-ghost use Rattle.sh_words.specs.Modes.{seen};
-ghost use Rattle.sh_words.specs.Sound.{IsSound};
+ghost use Rattle.sh_words.specs.Builders.{Goes, IsInside, IsSoundIn, refused};
 
-use crate::rows::{no_commands, read_on};
+use crate::rows::no_commands;
 use sh_tree::limits::MAX_SCRIPT;
 use sh_tree::refusal::{Fault, Form, Refusal};
 use sh_words::{Mode, Next, WordBuilder};
@@ -13,12 +12,12 @@ use std::process::Abort;
 use std::test::Fail;
 
 /// What is refused of the word, where it is.
-fn refused(builder: &mut WordBuilder, text: &[u8]) -> Option<Refusal>
+fn refusal_of(builder: &mut WordBuilder, text: &[u8]) -> Option<Refusal>
     requires small { length text.now ≤ MAX_SCRIPT }
-    requires inside { builder.old.failed ≡ None → builder.old.at ≤ length (seen text.now builder.old.mode) }
-    requires sound { builder.old.failed ≡ None → IsSound (seen text.now builder.old.mode) builder.old }
-    ensures fails { IfSome result (λ e. builder.new.failed ≡ Some e) }
-    ensures again { (e : refusal.Refusal) → builder.old.failed ≡ Some e → builder.new.failed ≡ Some e }
+    requires inside { Goes builder.old → IsInside text.now builder.old }
+    requires sound { Goes builder.old → IsSoundIn text.now builder.old }
+    ensures fails { IfSome result (λ e. refused builder.new ≡ Some e) }
+    ensures again { (e : refusal.Refusal) → refused builder.old ≡ Some e → refused builder.new ≡ Some e }
 {
     builder.run(text).err()
 }
@@ -32,10 +31,10 @@ fn refused_again(
         return Ok(None);
     }
     let mut builder = WordBuilder::start(alloc, Mode::Word, 0, 0)?;
-    match refused(&mut builder, text) {
+    match refusal_of(&mut builder, text) {
         Some(first) => {
-            let second = refused(&mut builder, b"a\"");
-            let third = refused(&mut builder, b"a");
+            let second = refusal_of(&mut builder, b"a\"");
+            let third = refusal_of(&mut builder, b"a");
             let fed = builder.resume(no_commands(alloc), 1).err();
             Ok(Some((first, [second, third, fed])))
         }
@@ -68,25 +67,13 @@ fn the_same_refusal_again(rt: HostRuntime) -> Result<(), Fail> {
 }
 
 #[test]
-fn commands_that_were_not_asked_for(rt: HostRuntime) -> Result<(), Fail> {
-    let alloc = rt.alloc();
-    let mut told = String::new(alloc);
-    let mut builder = WordBuilder::start(alloc, Mode::Word, 0, 0)?;
-    if builder.resume(no_commands(alloc), 1).is_ok() {
-        read_on(alloc, &mut builder, Mode::Word, b"a\"b\"", &mut told)?;
-    }
-    assert_eq!(rt; told.as_str(), "0-4(p0-1 d1-4(p2-3))");
-    Ok(())
-}
-
-#[test]
 fn commands_that_never_came(rt: HostRuntime) -> Result<(), Fail> {
     let mut builder = WordBuilder::start(rt.alloc(), Mode::Word, 0, 0)?;
     let text = b"a$(b)";
     let Ok(Next::Inner { at: 3, depth: 1 }) = builder.run(text) else {
         panic!(rt; "no commands");
     };
-    let told = refused(&mut builder, text);
+    let told = refusal_of(&mut builder, text);
     assert_eq!(rt; told, Some(Refusal::Syntax(Fault::OpenSubstitution, 1)));
     Ok(())
 }

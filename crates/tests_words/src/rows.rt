@@ -1,5 +1,6 @@
 //! Whole words, driven from their begin to their end. Commands in them are not read: each substitution goes up to its first `)`.
-ghost use Rattle.std.specs.Prelude.{◌≡◌, ◌≤◌, true, None, length, IfOk};
+ghost use Rattle.std.specs.Prelude.{◌≡◌, ◌≤◌, true, length, IfOk};
+ghost use Rattle.sh_words.specs.Builders.{Goes, mode_of, position};
 ghost use Rattle.sh_words.specs.Modes.{seen};
 ghost use Rattle.sh_words.specs.Sound.{IsSound};
 
@@ -40,13 +41,13 @@ pub fn read_on(
     told: &mut String,
 ) -> Result<bool, AllocError>
     requires small { length text.now ≤ MAX_SCRIPT }
-    requires mode { builder.old.mode ≡ mode }
-    requires reads { builder.old.failed ≡ None }
-    requires inside { builder.old.at ≤ length (seen text.now mode) }
+    requires mode { mode_of builder.old ≡ mode }
+    requires reads { Goes builder.old }
+    requires inside { position builder.old ≤ length (seen text.now mode) }
     requires sound { IsSound (seen text.now mode) builder.old }
-    ensures mode { IfOk result (λ more. more ≡ true → builder.new.mode ≡ mode) }
-    ensures reads { IfOk result (λ more. more ≡ true → builder.new.failed ≡ None) }
-    ensures inside { IfOk result (λ more. more ≡ true → builder.new.at ≤ length (seen text.now mode)) }
+    ensures mode { IfOk result (λ more. more ≡ true → mode_of builder.new ≡ mode) }
+    ensures reads { IfOk result (λ more. more ≡ true → Goes builder.new) }
+    ensures inside { IfOk result (λ more. more ≡ true → position builder.new ≤ length (seen text.now mode)) }
     ensures sound { IfOk result (λ more. more ≡ true → IsSound (seen text.now mode) builder.new) }
 {
     match builder.run(text) {

@@ -138,6 +138,7 @@ const BEHIND_OTHERS: &[Behind] = &[
         Mode::Body {
             end: 6,
             strip: true,
+            quoted: false,
         },
         4,
         "<<E\n\ta\nE",

@@ -6,18 +6,18 @@ use Rattle.sh_grammar.specs.Modes.{Begins}
 use Rattle.sh_grammar.specs.Readers.{One, Refused, WordAt}
 use Rattle.sh_grammar.specs.States.{here}
 use Rattle.sh_grammar.proofs.ElementLemmas.{begins_word, moved_on, elements_assignment, elements_assignment_none, elements_word, elements_word_none, elements_redirect, elements_redirect_none, rest_redirects}
-use Rattle.sh_grammar.proofs.elements.elements_at.Goals as goal
+use Rattle.sh_grammar.proofs.grammar.Grammar.elements_at.Goals as goal
 
 pub returns-in_err-value-in-Assignment : goal.returns-in_err-value-in-Assignment
-returns-in_err-value-in-Assignment c =
-    let at = c.loop-alloc in
+returns-in_err-value-in-Assignment g c =
+    let at = c.loop-stage in
     let p = err_from_is_err_and c.from_residual.result c.from_residual.ensures.1 in
     rw (p.1, p.2) (elements_assignment_none c.args.script.now c.args.from at.next at.stage at.elements at.invariant.found c.in-Assignment.ensures.value c.name_at-equals.result
     c.name_at-equals.ensures.value _ c.in_err-value-in-Assignment.ensures.reads)
 
-pub loop-alloc-preserved-in-Continue-branch-2 : goal.loop-alloc-preserved-in-Continue-branch-2
-loop-alloc-preserved-in-Continue-branch-2 c =
-    let at = c.loop-alloc in
+pub loop-stage-preserved-in-Continue-branch-2 : goal.loop-stage-preserved-in-Continue-branch-2
+loop-stage-preserved-in-Continue-branch-2 g c =
+    let at = c.loop-stage in
     let found = c.in_ok-value-in-Assignment in
     let reads = found.ensures.reads in
     let name = c.name_at-equals in
@@ -33,17 +33,17 @@ loop-alloc-preserved-in-Continue-branch-2 c =
     }
 
 pub returns-in_err-word-in-Word : goal.returns-in_err-word-in-Word
-returns-in_err-word-in-Word c =
-    let at = c.loop-alloc in
+returns-in_err-word-in-Word g c =
+    let at = c.loop-stage in
     let b = c.args.script.now in
     let residual = c.from_residual-in_err-word-in-Word in
     let p = err_from_is_err_and residual.result residual.ensures.1 in
     rw (p.1, p.2) (elements_word_none b c.args.from at.next at.stage at.elements at.invariant.found c.in-Word.ensures.value _
     (subst (λ x. Refused b (WordAt b x at.next.at at.next) c.in_err-word-in-Word.field-0.0) (c.mode_of.ensures.value b at.next.at) c.in_err-word-in-Word.ensures.reads))
 
-pub loop-alloc-smaller-in-Continue-branch-4 : goal.loop-alloc-smaller-in-Continue-branch-4
-loop-alloc-smaller-in-Continue-branch-4 c =
-    let at = c.loop-alloc in
+pub loop-stage-smaller-in-Continue-branch-4 : goal.loop-stage-smaller-in-Continue-branch-4
+loop-stage-smaller-in-Continue-branch-4 g c =
+    let at = c.loop-stage in
     let b = c.args.script.now in
     let found = c.in_ok-word-in-Word in
     let moves = found.ensures.moves (subst (λ x. Begins b x at.next.at at.next) (sym (c.mode_of.ensures.value b at.next.at))
@@ -51,9 +51,9 @@ loop-alloc-smaller-in-Continue-branch-4 c =
     let inside = found.ensures.reads.stands.inside in
     omega arith
 
-pub loop-alloc-preserved-in-Continue-branch-4 : goal.loop-alloc-preserved-in-Continue-branch-4
-loop-alloc-preserved-in-Continue-branch-4 c =
-    let at = c.loop-alloc in
+pub loop-stage-preserved-in-Continue-branch-4 : goal.loop-stage-preserved-in-Continue-branch-4
+loop-stage-preserved-in-Continue-branch-4 g c =
+    let at = c.loop-stage in
     let b = c.args.script.now in
     let found = c.in_ok-word-in-Word in
     let mode = c.mode_of.ensures.value b at.next.at in
@@ -70,17 +70,17 @@ loop-alloc-preserved-in-Continue-branch-4 c =
     }
 
 pub returns-in_err-redirect-in_default : goal.returns-in_err-redirect-in_default
-returns-in_err-redirect-in_default c =
-    let at = c.loop-alloc in
+returns-in_err-redirect-in_default g c =
+    let at = c.loop-stage in
     let some = sym c.begins_simple.ensures ∙ c.if-not-begins_simple.false in
     let is = ap is_redirection (sym c.lead_at-lead.ensures.value) ∙ rest_redirects c.lead_at-lead.result some c.in_default.not-Word c.in_default.not-Assignment in
     let residual = c.from_residual-in_err-redirect-in_default in
     let p = err_from_is_err_and residual.result residual.ensures.1 in
     rw (p.1, p.2) (elements_redirect_none c.args.script.now c.args.from at.next at.stage at.elements at.invariant.found is _ c.in_err-redirect-in_default.ensures)
 
-pub loop-alloc-preserved : goal.loop-alloc-preserved
-loop-alloc-preserved c =
-    let at = c.loop-alloc in
+pub loop-stage-preserved : goal.loop-stage-preserved
+loop-stage-preserved g c =
+    let at = c.loop-stage in
     let found = c.in_ok-redirect-in_default in
     let some = sym c.begins_simple.ensures ∙ c.if-not-begins_simple.false in
     let is = ap is_redirection (sym c.lead_at-lead.ensures.value) ∙ rest_redirects c.lead_at-lead.result some c.in_default.not-Word c.in_default.not-Assignment in

@@ -1,0 +1,25 @@
+-- Words that have commands in them.
+-- POSIX.1-2024, XCU 2.6.3 (command substitution).
+use Rattle.std.specs.Prelude.{◌≡◌, ℕ, ◌≤◌, true, List, length}
+use Rattle.sh_tree.specs.declared.refusal.Fault.TheVariants.{OpenSubstitution}
+use Rattle.sh_tree.specs.declared.refusal.Refusal.{Refusal}
+use Rattle.sh_tree.specs.declared.refusal.Refusal.TheVariants.{Syntax}
+use Rattle.sh_tree.specs.declared.tree.Script.{Script}
+use Rattle.sh_tree.specs.language.Arithmetic.{is_closed}
+use Rattle.sh_tree.specs.language.Reading.{ReadsSequence}
+use Rattle.sh_grammar.specs.declared.state.State.{State}
+use Rattle.sh_grammar.specs.States.{here, Stands}
+use Rattle.sh_grammar.specs.Readers.{Reading}
+
+-- the commands of a substitution from s on, up to the `)` that closes it
+abbrev pub ClosedFrom : List ℕ → State → Reading Script
+ClosedFrom b s limit body v t = ReadsSequence limit b body (here s) v t × (is_closed b v.spot.at ≡ true)
+
+-- v is s behind the commands that stand in a word
+pub record Counted (b : List ℕ) (s v : State) : Type 0 where
+  pub same : v ≡ record s { count = v.count }
+  pub stands : Stands b v
+
+-- what is told at the end of the text of a substitution at `start` that is open
+abbrev pub TellsOpen : List ℕ → ℕ → State → Refusal → Type 0
+TellsOpen b start v e = v.at ≡ length b → e ≡ Syntax OpenSubstitution start
