@@ -570,12 +570,7 @@ const UNREAD: &[Row] = &[
         b"refused 1:3: this form is outside the profile\n",
         2,
     ),
-    (
-        b"f() { a; }",
-        &[],
-        b"refused 1:1: this form is outside the profile\n",
-        2,
-    ),
+    (b"f() { a; }", &[], OUTSIDE, 2),
     (
         b"echo \"$(a)\"",
         &[],
