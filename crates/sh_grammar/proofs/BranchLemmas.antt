@@ -1,5 +1,5 @@
 -- The branches of `if`.
-use Rattle.std.proofs.Common.{◌≡◌, ℕ, ◌<◌, ◌≤◌, List, [], ◌∷◌, ◌++◌, codes, Option, Some, None, refl, sym, ap, subst, ◌∙◌, arith}
+use Rattle.std.proofs.Common.{◌≡◌, ℕ, ◌<◌, List, [], ◌∷◌, ◌++◌, codes, Option, Some, None, refl, sym, ap, subst, ◌∙◌, arith}
 use Rattle.std.proofs.lemmas.List.{append_assoc}
 use Rattle.sh_tree.specs.declared.token.command.Stage.TheVariants.{First}
 use Rattle.sh_tree.specs.declared.token.command.Lead.{Lead}
@@ -22,7 +22,6 @@ use Rattle.sh_grammar.specs.States.{here}
 use Rattle.sh_grammar.specs.Phrases.{behind_reserved, entered, ListBefore}
 use Rattle.sh_grammar.specs.Branches.{BranchFrom, BranchesFrom, OtherwiseFrom}
 use Rattle.sh_grammar.specs.Readers.{One, Nothing, Refused, ListFrom, CompoundFrom}
-use Rattle.sh_grammar.proofs.CompoundLemmas.{nonempty}
 use Rattle.sh_grammar.proofs.ReaderLemmas.{refused_by}
 
 -- One branch

@@ -1,5 +1,5 @@
 -- Commands, by the token at their first byte.
-use Rattle.std.proofs.Common.{◌≡◌, ℕ, ◌+◌, ◌<◌, ◌≤◌, ◌⊎◌, Bool, true, false, List, [], Err, refl, sym, ap, subst, ◌∙◌, arith}
+use Rattle.std.proofs.Common.{◌≡◌, ℕ, ◌+◌, ◌<◌, ◌≤◌, Bool, ◌||◌, true, false, List, [], refl, sym, ap, subst, ◌∙◌, arith}
 use Rattle.std.proofs.lemmas.Bool.{true≢false, or_left, or_right}
 use Rattle.sh_tree.specs.declared.limits.TheConstants.{MAX_COMMANDS}
 use Rattle.sh_tree.specs.declared.token.command.Stage.TheVariants.{First}
@@ -59,6 +59,18 @@ command_begins (r.definition h o p k i c) = ap begins_command h
 pub not_ended : (l : Lead) → begins_command l ≡ true → l ≡ lead.End → ⊥
 unfolding begins_command begins_simple is_redirection begins_compound
 not_ended l some is = true≢false (sym some ∙ ap begins_command is)
+
+pub compound_some : (l : Lead) → begins_compound l ≡ true → l ≡ lead.End → ⊥
+compound_some l some = not_ended l (compound_command_begins l some)
+
+-- what begins a command and is neither simple nor compound
+pub rest_defines : (l : Lead) → begins_command l ≡ true → begins_simple l ≡ false → begins_compound l ≡ false → l ≡ lead.Definition
+unfolding begins_command
+rest_defines lead.Definition h k m = refl
+rest_defines l h k m = absurd (true≢false (sym h ∙ or_false (begins_simple l) (begins_compound l) k m))
+  where
+    or_false : (s t : Bool) → s ≡ false → t ≡ false → (s || t) ≡ false
+    or_false s t k m = rw (k, m) refl
 
 -- a token that begins no command
 pub command_none : (b : List ℕ) (s : State) → begins_command (lead_at b First s.at) ≡ false → Nothing (CommandFrom b s)

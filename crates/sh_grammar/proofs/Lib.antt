@@ -2,6 +2,7 @@ pub mod BeginningLemmas
 pub mod BreakLemmas
 pub mod CommandLemmas
 pub mod CompoundLemmas
+pub mod DefinitionLemmas
 pub mod ElementLemmas
 pub mod ItemLemmas
 pub mod ListLemmas
@@ -14,4 +15,5 @@ pub mod WidthLemmas
 pub mod WordLemmas
 pub mod ReservedLemmas
 pub mod LoopLemmas
+pub mod ForLemmas
 pub mod BranchLemmas

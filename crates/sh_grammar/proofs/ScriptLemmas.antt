@@ -1,20 +1,20 @@
 -- The whole text.
-use Rattle.std.proofs.Common.{◌≡◌, ℕ, ◌<◌, ◌≤◌, false, List, [], length, Ok, Err, refl, sym, ap, subst, ◌∙◌, arith}
-use Rattle.sh_tree.specs.declared.limits.TheConstants.{MAX_COMMANDS, MAX_NESTING}
+use Rattle.std.proofs.Common.{◌≡◌, ℕ, ◌<◌, ◌≤◌, false, List, [], length, Some, Ok, Err, refl, sym, ap, subst, ◌∙◌, arith}
+use Rattle.sh_tree.specs.declared.limits.TheConstants.{MAX_COMMANDS, MAX_NESTING, MAX_SCRIPT}
 use Rattle.sh_tree.specs.declared.refusal.Refusal.{Refusal}
-use Rattle.sh_tree.specs.declared.refusal.Refusal.TheVariants.{Syntax, LeftOut, TooDeep, TooMany, Memory}
+use Rattle.sh_tree.specs.declared.refusal.Refusal.TheVariants.{TooLong, NulByte, Syntax, LeftOut, TooDeep, TooMany, Memory}
 use Rattle.sh_tree.specs.declared.tree.Script.{Script}
-use Rattle.sh_tree.specs.Answers.{IsText, Parses}
-use Rattle.sh_tree.specs.language.Commands.{blanks}
+use Rattle.sh_tree.specs.Answers.{IsText, Parses, first_nul}
+use Rattle.sh_tree.specs.language.Commands.{blanks, lead_at}
 use Rattle.sh_tree.specs.language.Reading as r
-use Rattle.sh_tree.specs.language.Reading.{ReadsSequence, ReadsTo, Reads, ReadsWithin}
+use Rattle.sh_tree.specs.language.Reading.{is_some, ReadsSequence, ReadsTo, Reads, ReadsWithin}
 use Rattle.sh_tree.specs.language.States as states
 use Rattle.sh_tree.specs.language.States.{Document, nth, waits}
-use Rattle.sh_tree.proofs.Inversions.{script_is}
+use Rattle.sh_tree.proofs.Inversions.{apart, script_is}
 use Rattle.sh_grammar.specs.declared.state.State.{State}
 use Rattle.sh_grammar.specs.States.{here, first_of, Stands}
-use Rattle.sh_grammar.specs.Faults.{IsFault}
-use Rattle.sh_grammar.specs.Readers.{One, Nothing, Refused, SequenceFrom}
+use Rattle.sh_grammar.specs.Faults.{IsFault, Tells, Misplaced, TellsBehind, TellsMisplaced, stage_at}
+use Rattle.sh_grammar.specs.Readers.{One, Refused, SequenceFrom}
 use Rattle.sh_grammar.proofs.BreakLemmas.{blanks_settle}
 use Rattle.sh_grammar.proofs.Nul.{has_no_nul}
 
@@ -79,3 +79,38 @@ module _ (b : List ℕ) (text : IsText b) where
   )
   text_refused Memory h = text
   text_refused _ h = absurd h
+
+-- What is told behind a sequence at the front
+
+module _ (b : List ℕ) where
+  module _ (t : Script) (v : State) (one : One (SequenceFrom b (first_of b)) (here v) t) where
+    pub none_behind : length b ≤ v.at → TellsMisplaced b (Ok t)
+    none_behind over body u s l inside =
+        let o = one.only MAX_NESTING body u s l in
+        let same : u.spot.at ≡ v.at = ap (λ w. w.spot.at) o.0 in
+        omega arith
+
+    pub told_behind : (e : Refusal) → IsFault b e → Tells b (lead_at b (stage_at v.fresh) v.at) v.at e → TellsMisplaced b (Err e)
+    told_behind e is told body u s l inside =
+        let o = one.only MAX_NESTING body u s l in
+        go e is (subst (λ i. Misplaced b i e) (sym (ap (λ w. w.spot.at) o.0)) (v.fresh, told))
+      where
+        go : (e : Refusal) → IsFault b e → Misplaced b u.spot.at e → TellsBehind b u (Err e)
+        go (Syntax f at) is m = m
+        go (LeftOut f at) is m = λ other. m
+        go _ is m = absurd is
+
+  pub refused_behind_none : (e : Refusal) → Refused b (SequenceFrom b (first_of b)) e → TellsMisplaced b (Err e)
+  refused_behind_none (Syntax f at) h body u s l inside = absurd (h.1 MAX_NESTING body u s l)
+  refused_behind_none (LeftOut f at) h body u s l inside = λ other. absurd (h.1 other MAX_NESTING body u s l)
+  refused_behind_none (TooDeep at) h body u s l inside = absurd (h.1 body u s l)
+  refused_behind_none TooMany h body u s l inside = h MAX_NESTING body u s l
+  refused_behind_none Memory h body u s l inside = tt
+  refused_behind_none _ h body u s l inside = absurd h
+
+  pub long_is_none : MAX_SCRIPT < length b → IsText b → TellsMisplaced b (Err TooLong)
+  long_is_none long text = let short = text.0 in absurd (omega arith)
+
+  pub nul_is_none : (at : ℕ) → first_nul b ≡ Some at → IsText b → TellsMisplaced b (Err (NulByte at))
+  unfolding is_some
+  nul_is_none at is text = absurd (apart is_some (sym is ∙ text.1) refl refl)

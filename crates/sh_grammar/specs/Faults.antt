@@ -1,15 +1,21 @@
 -- What is told of a token that has no place.
 -- POSIX.1-2024, XCU 2.10 (shell grammar).
-use Rattle.std.specs.Prelude.{◌≡◌, ℕ, ◌<◌, ◌≤◌, Bool, true, false, List, length}
+use Rattle.std.specs.Prelude.{◌≡◌, ℕ, ◌<◌, ◌≤◌, Bool, true, false, List, length, Result, Ok, Err}
+use Rattle.sh_tree.specs.declared.limits.TheConstants.{MAX_COMMANDS, MAX_NESTING}
 use Rattle.sh_tree.specs.declared.refusal.Fault.TheVariants as fault
 use Rattle.sh_tree.specs.declared.refusal.Form.{Form}
 use Rattle.sh_tree.specs.declared.refusal.Form.TheVariants as form
 use Rattle.sh_tree.specs.declared.refusal.Refusal.{Refusal}
-use Rattle.sh_tree.specs.declared.refusal.Refusal.TheVariants.{Syntax, LeftOut}
+use Rattle.sh_tree.specs.declared.refusal.Refusal.TheVariants.{Syntax, LeftOut, TooMany, Memory}
 use Rattle.sh_tree.specs.declared.token.command.Stage.{Stage}
 use Rattle.sh_tree.specs.declared.token.command.Stage.TheVariants.{First, Prefixed}
 use Rattle.sh_tree.specs.declared.token.command.Lead.{Lead}
 use Rattle.sh_tree.specs.declared.token.command.Lead.TheVariants as lead
+use Rattle.sh_tree.specs.declared.tree.Script.{Script}
+use Rattle.sh_tree.specs.language.Commands.{lead_at}
+use Rattle.sh_tree.specs.language.States.{State, Document}
+use Rattle.sh_grammar.specs.States.{first_of}
+use Rattle.sh_grammar.specs.Readers.{SequenceFrom}
 
 -- a fault of syntax or a form that is left out, at its place in the text
 abbrev pub IsFault : List ℕ → Refusal → Type 0
@@ -32,3 +38,21 @@ Tells b _ i e = e ≡ Syntax fault.UnexpectedToken i
 unfoldable pub stage_at : Bool → Stage
 stage_at true = First
 stage_at false = Prefixed
+
+-- what is told of the token at i where nothing goes on
+abbrev pub Misplaced : List ℕ → ℕ → Refusal → Type 0
+Misplaced b i e = (fresh : Bool) × Tells b (lead_at b (stage_at fresh) i) i e
+
+-- What is told where a sequence is read up to v and the text goes on there: the token at v. One command too many comes before it where there are that many, and
+-- of a form that is not read yet nothing is said.
+abbrev pub TellsBehind : List ℕ → State → Result Script Refusal → Type 0
+TellsBehind b v (Ok t) = ⊥
+TellsBehind b v (Err Memory) = Unit {0}
+TellsBehind b v (Err TooMany) = MAX_COMMANDS < v.spot.count
+TellsBehind b v (Err (LeftOut f at)) = (f ≡ form.Later → ⊥) → Misplaced b v.spot.at (LeftOut f at)
+TellsBehind b v (Err e) = Misplaced b v.spot.at e
+
+-- the same of each sequence at the front of the text
+abbrev pub TellsMisplaced : List ℕ → Result Script Refusal → Type 0
+TellsMisplaced b r =
+    (body : ℕ → Document) (v : State) (t : Script) → SequenceFrom b (first_of b) MAX_NESTING body v t → v.spot.at < length b → TellsBehind b v r

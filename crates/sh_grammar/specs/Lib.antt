@@ -8,4 +8,6 @@ pub mod Faults
 pub mod Items
 pub mod Brackets
 pub mod Phrases
+pub mod Definitions
+pub mod Fors
 pub mod Branches

@@ -14,7 +14,7 @@ use Rattle.sh_tree.specs.language.Reading.{ReadsList, ReadsDo, lead_here, behind
 use Rattle.sh_tree.specs.language.States as states
 use Rattle.sh_grammar.specs.declared.state.State.{State}
 use Rattle.sh_grammar.specs.States.{here, moved, Stands}
-use Rattle.sh_grammar.specs.Faults.{IsFault}
+use Rattle.sh_grammar.specs.Faults.{IsFault, Tells, stage_at}
 use Rattle.sh_grammar.specs.Readers.{Reading}
 
 -- how a reserved word is written
@@ -44,10 +44,10 @@ behind_reserved b r s = moved b (s.at + length (reserved_text r)) s
 abbrev pub entered : List ℕ → Reserved → State → State
 entered b r s = record (behind_reserved b r s) { depth = s.depth + 1 }
 
--- behind the reserved word r, which stands at s, or not
+-- behind the reserved word r, which stands at s; or what is told of the token there
 abbrev pub Expects : List ℕ → Reserved → State → Result State Refusal → Type 0
 Expects b r s (Ok v) = (lead_at b First s.at ≡ lead.Reserved r) × (v ≡ behind_reserved b r s) × (s.at < v.at) × Stands b v
-Expects b r s (Err e) = IsFault b e × (lead_at b First s.at ≡ lead.Reserved r → ⊥)
+Expects b r s (Err e) = IsFault b e × (lead_at b First s.at ≡ lead.Reserved r → ⊥) × Tells b (lead_at b (stage_at s.fresh) s.at) s.at e
 
 -- a list and the reserved word behind it
 abbrev pub ListBefore : List ℕ → Reserved → State → Reading Script

@@ -13,7 +13,7 @@ use super::state::State;
 use sh_scan::{begins_command, begins_compound, begins_simple, lead_at};
 use sh_tree::Items;
 use sh_tree::limits::{MAX_COMMANDS, MAX_NESTING, MAX_SCRIPT};
-use sh_tree::refusal::{Form, Refusal};
+use sh_tree::refusal::Refusal;
 use sh_tree::token::{Lead, Stage};
 use sh_tree::tree::{Command, Kind, Redirect, Script};
 use std::alloc::Global;
@@ -53,8 +53,8 @@ impl<F: Fn(Global, &[u8], State) -> Result<(Script, State), Refusal>> Grammar<F>
         Ok((command, behind.closing(false)))
     }
 
-    /// A command. Definitions are not read yet.
-    #[tactic(auto, using(crate::proofs::CommandLemmas::command_none, crate::proofs::ReaderLemmas::refused_none))]
+    /// A command.
+    #[tactic(auto, using(crate::proofs::CommandLemmas::command_none, crate::proofs::CommandLemmas::rest_defines, crate::proofs::ReaderLemmas::refused_none))]
     pub fn command(&self, script: &[u8], from: State) -> Result<(Command, State), Refusal>
         requires small { length script.now ≤ MAX_SCRIPT }
         requires stands { Stands script.now from }
@@ -72,12 +72,12 @@ impl<F: Fn(Global, &[u8], State) -> Result<(Script, State), Refusal>> Grammar<F>
         if begins_compound(lead) {
             return self.compound_command(script, lead, from);
         }
-        Err(Refusal::LeftOut(Form::Later, from.at))
+        self.definition(script, from)
     }
 
     /// A compound command and its redirections.
     #[tactic(auto, using(crate::proofs::CommandLemmas::command_crowded, crate::proofs::CommandLemmas::compound_deep, crate::proofs::CommandLemmas::compound_refused, crate::proofs::CommandLemmas::redirected_refused, crate::proofs::CommandLemmas::redirected_read))]
-    fn compound_command(
+    pub fn compound_command(
         &self,
         script: &[u8],
         lead: Lead,

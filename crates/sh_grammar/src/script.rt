@@ -1,6 +1,7 @@
 //! Scripts (XCU 2.10).
 ghost use Rattle.std.specs.Prelude.{◌≡◌, ◌≤◌, length};
 ghost use Rattle.sh_tree.specs.Answers.{IsText, Parses};
+ghost use Rattle.sh_grammar.specs.Faults.{TellsMisplaced};
 ghost use Rattle.sh_grammar.specs.States.{Stands, first_of};
 ghost use Rattle.sh_grammar.specs.Readers.{Answers, SequenceFrom};
 
@@ -45,10 +46,11 @@ fn first_state(script: &[u8]) -> State
 }
 
 /// The script that a text is which is no longer than it may be and has no NUL byte.
-#[tactic(auto, using(crate::proofs::ScriptLemmas::text_read, crate::proofs::ScriptLemmas::text_unended, crate::proofs::ScriptLemmas::text_refused))]
+#[tactic(auto, using(crate::proofs::ScriptLemmas::text_read, crate::proofs::ScriptLemmas::text_unended, crate::proofs::ScriptLemmas::text_refused, crate::proofs::ScriptLemmas::none_behind, crate::proofs::ScriptLemmas::told_behind, crate::proofs::ScriptLemmas::refused_behind_none))]
 fn read(alloc: Global, script: &[u8]) -> Result<Script, Refusal>
     requires { IsText script.now }
-    ensures { Parses script.now result }
+    ensures reads { Parses script.now result }
+    ensures behind { TellsMisplaced script.now result }
 {
     let (found, end) = sequence_at(alloc, script, first_state(script))?;
     if (end.at as usize) < script.len() {
@@ -65,9 +67,10 @@ fn read(alloc: Global, script: &[u8]) -> Result<Script, Refusal>
 /// the front, `Syntax` at what the grammar has no place for, `LeftOut` at the first byte of a form that is left out or not read
 /// yet, `TooDeep` at what would be one level more than there may be, and `TooMany` at one command more. `Memory` where a growth
 /// was refused.
-#[tactic(auto, using(crate::proofs::Nul::no_nul, crate::proofs::Nul::nul_at))]
+#[tactic(auto, using(crate::proofs::Nul::no_nul, crate::proofs::Nul::nul_at, crate::proofs::ScriptLemmas::long_is_none, crate::proofs::ScriptLemmas::nul_is_none))]
 pub fn parse(alloc: Global, script: &[u8]) -> Result<Script, Refusal>
-    ensures { Parses script.now result }
+    ensures reads { Parses script.now result }
+    ensures behind { IsText script.now → TellsMisplaced script.now result }
 {
     if script.len() > MAX_SCRIPT {
         return Err(Refusal::TooLong);

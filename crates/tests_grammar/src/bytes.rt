@@ -49,7 +49,7 @@ const BYTES_THAT_MEAN_MORE: &[Row] = &[
     ("a&", "1@0[w0-1(p0-1)] &"),
     ("a<", "Syntax(UnexpectedEnd, 2)"),
     ("a>", "Syntax(UnexpectedEnd, 2)"),
-    ("a(", "LeftOut(Later, 0)"),
+    ("a(", "Syntax(UnexpectedEnd, 2)"),
     ("a)", "Syntax(UnexpectedToken, 1)"),
     ("a`", "LeftOut(Backquoted, 1)"),
     ("a\\", "Syntax(FinalBackslash, 1)"),

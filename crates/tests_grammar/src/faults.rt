@@ -16,7 +16,7 @@ const THE_FIRST_IS_TOLD: &[Row] = &[
     ("a\n\n\"b\nc", "Syntax(OpenDouble, 3)"),
     ("if 'a", "LeftOut(Later, 0)"),
     ("'a' | 'b", "Syntax(OpenSingle, 6)"),
-    ("a (", "LeftOut(Later, 0)"),
+    ("a (", "Syntax(UnexpectedEnd, 3)"),
 ];
 
 #[test]

@@ -12,6 +12,8 @@ mod comments;
 #[cfg(test)]
 mod continuations;
 #[cfg(test)]
+mod definitions;
+#[cfg(test)]
 mod faults;
 #[cfg(test)]
 mod limits;

@@ -114,10 +114,7 @@ const COMMANDS_THAT_ARE_NOT_SIMPLE: &[Row] = &[
     ("if a", "LeftOut(Later, 0)"),
     ("a\nwhile b", "LeftOut(Later, 2)"),
     ("until a", "LeftOut(Later, 0)"),
-    ("for a", "LeftOut(Later, 0)"),
     ("case a", "LeftOut(Later, 0)"),
-    ("f()", "LeftOut(Later, 0)"),
-    ("f () { a; }", "LeftOut(Later, 0)"),
     ("f #\n()", "Syntax(UnexpectedToken, 5)"),
     ("a b()", "Syntax(UnexpectedToken, 3)"),
     ("'f'()", "Syntax(UnexpectedToken, 3)"),
@@ -128,7 +125,7 @@ const COMMANDS_THAT_ARE_NOT_SIMPLE: &[Row] = &[
     ("echo !(a)", "Syntax(UnexpectedToken, 6)"),
     ("x=1 ((a))", "Syntax(UnexpectedToken, 4)"),
     ("a b (\\\n(c))", "Syntax(UnexpectedToken, 4)"),
-    ("a ((b))", "LeftOut(Later, 0)"),
+    ("a ((b))", "Syntax(UnexpectedToken, 3)"),
 ];
 
 #[test]

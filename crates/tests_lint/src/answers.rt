@@ -576,12 +576,6 @@ const UNREAD: &[Row] = &[
         b"refused 1:3: this form is outside the profile\n",
         2,
     ),
-    (
-        b"f() { a; }",
-        &[],
-        b"refused 1:1: this form is outside the profile\n",
-        2,
-    ),
 ];
 
 #[test]
@@ -590,6 +584,7 @@ fn forms_that_are_not_read_yet(rt: HostRuntime) -> Result<(), Fail> {
 }
 
 const UNANALYSED: &[Row] = &[
+    (b"f() { a; }", &[], OUTSIDE, 2),
     (b"a 'b' | c", &[], OUTSIDE, 2),
     (b"a && b", &[], OUTSIDE, 2),
     (b"a &", &[], OUTSIDE, 2),
