@@ -1,7 +1,9 @@
-//! Tests of policies and of the names of scripts.
+//! Tests of policies, of the names of scripts and of what certificates keep.
 #![tactic(auto)]
 
 #[cfg(test)]
 mod bodies;
 #[cfg(test)]
 mod names;
+#[cfg(test)]
+mod rows;
