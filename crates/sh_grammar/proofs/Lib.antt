@@ -16,3 +16,4 @@ pub mod ReservedLemmas
 pub mod LoopLemmas
 pub mod ForLemmas
 pub mod BranchLemmas
+pub mod CaseLemmas

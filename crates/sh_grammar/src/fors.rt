@@ -12,7 +12,7 @@ use super::compounds::is_same;
 use super::faults::unexpected_at;
 use super::grammar::Grammar;
 use super::redirects::is_word;
-use super::reserved::enter;
+use super::reserved::{enter, skip};
 use super::state::State;
 use super::words::word_at;
 use sh_scan::{is_bare_name_at, lead_at, name_at, separator};
@@ -65,7 +65,7 @@ fn listed(alloc: Global, script: &[u8], from: State) -> Result<(Items<Word>, Sta
 }
 
 /// What stands between the name and `do`.
-#[tactic(auto, using(crate::proofs::ForLemmas::arguments_ended, crate::proofs::ForLemmas::arguments_read, crate::proofs::ForLemmas::for_words_none, crate::proofs::ForLemmas::for_words_refused, crate::proofs::ForLemmas::for_words_read, crate::proofs::ReservedLemmas::reserved_inside, crate::proofs::ReaderLemmas::refused_none))]
+#[tactic(auto, using(crate::proofs::ForLemmas::arguments_ended, crate::proofs::ForLemmas::arguments_read, crate::proofs::ForLemmas::for_words_none, crate::proofs::ForLemmas::for_words_refused, crate::proofs::ForLemmas::for_words_read, crate::proofs::ReaderLemmas::refused_none))]
 fn for_words(
     alloc: Global,
     script: &[u8],
@@ -87,7 +87,7 @@ fn for_words(
     if !is_same(lead, Lead::Reserved(Reserved::In)) {
         return Err(unexpected_at(script, Stage::Named(false), next.at));
     }
-    let (words, behind) = listed(alloc, script, next.next(script, next.at + 2))?;
+    let (words, behind) = listed(alloc, script, skip(script, Reserved::In, next))?;
     Ok((Some(words), behind))
 }
 
