@@ -6,6 +6,8 @@ mod assignments;
 #[cfg(test)]
 mod bytes;
 #[cfg(test)]
+mod cases;
+#[cfg(test)]
 mod commands;
 #[cfg(test)]
 mod comments;
@@ -15,6 +17,8 @@ mod continuations;
 mod definitions;
 #[cfg(test)]
 mod faults;
+#[cfg(test)]
+mod fors;
 #[cfg(test)]
 mod limits;
 #[cfg(test)]

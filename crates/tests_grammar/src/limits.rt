@@ -55,6 +55,12 @@ const GROUPS: Pieces = ("", "{ ", "a", "; }", "");
 
 const SUBSHELLS: Pieces = ("", "( ", "a", ")", "");
 
+const DEFINITIONS: Pieces = ("", "f() { ", "a", "; }", "");
+
+const FORS: Pieces = ("", "for x; do ", "a", "; done", "");
+
+const CASES: Pieces = ("", "case a in b) ", "c", ";; esac", "");
+
 const WORDS_IN_GROUPS: Pieces = ("", "{ ", "a ${x-b}", "; }", "");
 
 const TOWERS: &[Tower] = &[
@@ -62,6 +68,12 @@ const TOWERS: &[Tower] = &[
     (65, GROUPS, Some(Refusal::TooDeep(128))),
     (64, SUBSHELLS, None),
     (65, SUBSHELLS, Some(Refusal::TooDeep(128))),
+    (64, DEFINITIONS, None),
+    (65, DEFINITIONS, Some(Refusal::TooDeep(388))),
+    (64, FORS, None),
+    (65, FORS, Some(Refusal::TooDeep(640))),
+    (64, CASES, None),
+    (65, CASES, Some(Refusal::TooDeep(832))),
     (63, WORDS_IN_GROUPS, None),
     (64, WORDS_IN_GROUPS, Some(Refusal::TooDeep(134))),
     (64, IN_OPERANDS, None),
