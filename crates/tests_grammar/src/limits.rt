@@ -55,6 +55,10 @@ const GROUPS: Pieces = ("", "{ ", "a", "; }", "");
 
 const SUBSHELLS: Pieces = ("", "( ", "a", ")", "");
 
+const LOOPS: Pieces = ("", "while a; do ", "b", "; done", "");
+
+const CONDITIONS: Pieces = ("", "if a; then ", "b", "; fi", "");
+
 const WORDS_IN_GROUPS: Pieces = ("", "{ ", "a ${x-b}", "; }", "");
 
 const TOWERS: &[Tower] = &[
@@ -62,6 +66,10 @@ const TOWERS: &[Tower] = &[
     (65, GROUPS, Some(Refusal::TooDeep(128))),
     (64, SUBSHELLS, None),
     (65, SUBSHELLS, Some(Refusal::TooDeep(128))),
+    (64, LOOPS, None),
+    (65, LOOPS, Some(Refusal::TooDeep(768))),
+    (64, CONDITIONS, None),
+    (65, CONDITIONS, Some(Refusal::TooDeep(704))),
     (63, WORDS_IN_GROUPS, None),
     (64, WORDS_IN_GROUPS, Some(Refusal::TooDeep(134))),
     (64, IN_OPERANDS, None),
