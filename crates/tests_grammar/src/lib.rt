@@ -24,6 +24,8 @@ mod limits;
 #[cfg(test)]
 mod lists;
 #[cfg(test)]
+mod loops;
+#[cfg(test)]
 mod reserved;
 #[cfg(test)]
 mod rows;
