@@ -19,3 +19,4 @@ pub mod EventLemmas
 pub mod CallLemmas
 pub mod CallStepLemmas
 pub mod LeaveLemmas
+pub mod KeptLemmas
