@@ -131,7 +131,7 @@ counted_holds c n NotReached e f g h l = absurd h
 counted_holds c n (Known v q a) e f g h l = record { variables = h.variables; job = h.job; functions = h.functions; parameters = l }
 
 -- a run comes there
-reached_same : (g : Gains) (x : Facts) (names : Names) (e : Environment) (f : Frame) → Holds (with_gains g x) e f → where_reached x names ≡ names
+pub reached_same : (g : Gains) (x : Facts) (names : Names) (e : Environment) (f : Frame) → Holds (with_gains g x) e f → where_reached x names ≡ names
 unfolding Holds with_gains where_reached
 reached_same g NotReached names e f h = absurd h
 reached_same g (Known v q a) names e f h = refl
@@ -147,7 +147,7 @@ module _ (d : Declared) (c : Certificate) (defined : List Text) where
   unfolding OneHolds steps step source_facts
   known_behind n es e f h = inl h
 
-  known_stepped : (x : views.Step) (n : ℕ) (es : p.Elements) (e : Environment) (f : Frame) → Holds (step c x (behind_facts c n es)) e f → OneHolds d c (stepped x (behind d c n es)) e f
+  pub known_stepped : (x : views.Step) (n : ℕ) (es : p.Elements) (e : Environment) (f : Frame) → Holds (step c x (behind_facts c n es)) e f → OneHolds d c (stepped x (behind d c n es)) e f
   unfolding OneHolds steps step source_facts
   known_stepped x n es e f h = inl h
 
