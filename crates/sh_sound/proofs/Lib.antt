@@ -8,6 +8,9 @@ pub mod CompoundLemmas
 pub mod ProcessLemmas
 pub mod CommandLemmas
 pub mod WordsLemmas
+pub mod MannerLemmas
+pub mod RedirectLemmas
+pub mod PrepareLemmas
 pub mod EnterLemmas
 pub mod DropLemmas
 pub mod JumpLemmas
@@ -15,3 +18,4 @@ pub mod ReturnLemmas
 pub mod CallLemmas
 pub mod CallStepLemmas
 pub mod LeaveLemmas
+pub mod ChangeLemmas
