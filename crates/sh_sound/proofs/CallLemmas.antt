@@ -36,7 +36,7 @@ all_of test (x ∷ xs) h =
     and_from (test x) (list_all test xs) (h x (or_left (bytes_eq x x) (is_one_of xs x) (text_same x))) (all_of test xs (λ t k. h t (or_right (bytes_eq x t) (is_one_of xs t) k)))
 
 -- one of these that passes a test is one of those that pass it
-passing_one : (test : Text → Bool) (xs : List Text) (t : Text) → is_one_of xs t ≡ true → test t ≡ true → is_one_of (filter test xs) t ≡ true
+pub passing_one : (test : Text → Bool) (xs : List Text) (t : Text) → is_one_of xs t ≡ true → test t ≡ true → is_one_of (filter test xs) t ≡ true
 passing_one test xs t h k =
     any-filter_same (λ n. bytes_eq n t) test (test t) (λ n same. ap test ((bytes_eq-Decides n t).0 same)) xs ∙ and_from (test t) (is_one_of xs t) k h
 
@@ -125,7 +125,7 @@ called_holds drops names f (Known v g n) r saved among unclaimed restores e inne
 
 -- Where the function is entered
 
-counted_holds : (c : Certificate) (n : Total) (x : Facts) (e : Environment) (f g : Frame) → Holds x e f → counted_by n (parameters x) ≤ length g → Holds (step c (Count n) x) e g
+pub counted_holds : (c : Certificate) (n : Total) (x : Facts) (e : Environment) (f g : Frame) → Holds x e f → counted_by n (parameters x) ≤ length g → Holds (step c (Count n) x) e g
 unfolding Holds step where_known parameters
 counted_holds c n NotReached e f g h l = absurd h
 counted_holds c n (Known v q a) e f g h l = record { variables = h.variables; job = h.job; functions = h.functions; parameters = l }

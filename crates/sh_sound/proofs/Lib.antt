@@ -10,6 +10,7 @@ pub mod CommandLemmas
 pub mod WordsLemmas
 pub mod MannerLemmas
 pub mod RedirectLemmas
+pub mod PrepareLemmas
 pub mod EnterLemmas
 pub mod DropLemmas
 pub mod JumpLemmas
@@ -17,6 +18,7 @@ pub mod ReturnLemmas
 pub mod CallLemmas
 pub mod CallStepLemmas
 pub mod LeaveLemmas
+pub mod ChangeLemmas
 pub mod UtilityRowLemmas
 pub mod UtilityLemmas
 pub mod UtilityStepLemmas
