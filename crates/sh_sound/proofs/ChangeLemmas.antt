@@ -54,8 +54,8 @@ unfolding showing
 showing_sets e [] t i h = cc
 showing_sets e (x ∷ xs) t i h = elim (or_cases (bytes_eq x.0 t) (is_one_of (map (λ x. x.0) xs) t) h) [
   | inl same ↦
-    let d : Environment = with_variable e x.0 (Some x.1) in
-    (showing_grows d xs).variables t i (subst (λ u. is_some (d.variables u) ≡ true) ((bytes_eq-Decides x.0 t).0 same) (assigned_set e x.0 x.1))
+      let d : Environment = with_variable e x.0 (Some x.1) in
+      (showing_grows d xs).variables t i (subst (λ u. is_some (d.variables u) ≡ true) ((bytes_eq-Decides x.0 t).0 same) (assigned_set e x.0 x.1))
   | inr more ↦ showing_sets (with_variable e x.0 (Some x.1)) xs t i more
 ]
 
@@ -98,12 +98,12 @@ unfolding read_into
 read_sets prefixes a n e [] t z i free h = cc
 read_sets prefixes a n e (name ∷ names) t z i free h = elim (or_cases (bytes_eq name t) (is_one_of names t) h) [
   | inl same ↦
-    let one : name ≡ t = (bytes_eq-Decides name t).0 same in
-    let set : is_some ((given_to false e t (a.values n)).variables t) ≡ true = given_set e t (a.values n) in
-    (read_grows prefixes a (n + 1) (given_to (not (a.status == 0) || is_one_of prefixes name) e name (a.values n)) names).variables t i
-    (subst (λ u. is_some ((given_to (not (a.status == 0) || is_one_of prefixes u) e u (a.values n)).variables t) ≡ true) (sym one)
-    (subst (λ b. is_some ((given_to (not (a.status == 0) || b) e t (a.values n)).variables t) ≡ true) (sym free)
-    (subst (λ b. is_some ((given_to (not b || false) e t (a.values n)).variables t) ≡ true) (sym z) set)))
+      let one : name ≡ t = (bytes_eq-Decides name t).0 same in
+      let set : is_some ((given_to false e t (a.values n)).variables t) ≡ true = given_set e t (a.values n) in
+      (read_grows prefixes a (n + 1) (given_to (not (a.status == 0) || is_one_of prefixes name) e name (a.values n)) names).variables t i
+      (subst (λ u. is_some ((given_to (not (a.status == 0) || is_one_of prefixes u) e u (a.values n)).variables t) ≡ true) (sym one)
+      (subst (λ b. is_some ((given_to (not (a.status == 0) || b) e t (a.values n)).variables t) ≡ true) (sym free)
+      (subst (λ b. is_some ((given_to (not b || false) e t (a.values n)).variables t) ≡ true) (sym z) set)))
   | inr more ↦ read_sets prefixes a (n + 1) (given_to (not (a.status == 0) || is_one_of prefixes name) e name (a.values n)) names t z i free more
 ]
 

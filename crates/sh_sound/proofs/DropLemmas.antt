@@ -6,21 +6,19 @@ use Rattle.sh_tree.specs.language.Bytes.{is_name}
 use Rattle.sh_tree.specs.program.Syntax.{Text}
 use Rattle.sh_table.specs.runs.Builtins.{restored}
 use Rattle.sh_table.specs.runs.Environment.{Environment, Frame, is_one_of, put_text, with_variable}
-use Rattle.sh_table.specs.runs.Work.{Saved, Work, Items, Links, Pipeline, Negation, Command, Words, Prepare, Utility, Call, Return, Compound, If, Then, Test, Again, ForWords, ForFields, Clauses, Patterns, Fall, goes, ends}
+use Rattle.sh_table.specs.runs.Work.{Saved, Work, Items, Links, Pipeline, Negation, Command, Words, Prepare, Utility, Call, Return, Compound, If, Then, Test, Again, ForWords, ForFields, Clauses, Patterns, Fall}
 use Rattle.sh_table.proofs.EnvironmentLemmas.{restored_kept}
 use Rattle.sh_facts.specs.Entries.{Around, in_loop, items_after, links_after, pipeline_after}
 use Rattle.sh_facts.specs.Facts.{Facts, NotReached, Known, Declared}
 use Rattle.sh_facts.specs.Faults.{are_among}
-use Rattle.sh_facts.specs.Inclusions as i
 use Rattle.sh_facts.specs.Inclusions.{MayDrop}
 use Rattle.sh_facts.specs.Operands.{Names}
 use Rattle.sh_facts.specs.Views.{Certificate, Seen, After, in_any_case, swapped, after_command}
 use Rattle.sh_facts.proofs.NameLemmas.{bytes_eq-swap}
-use Rattle.sh_sound.specs.Holding.{Holds, Grows, AfterHolds}
-use Rattle.sh_sound.specs.Going.{around, number_of, front, unset_before, OfFirst, Apart, Bodies, FrontGood, Good, Stays, ProcessOk, NextOk, StartsOk, StepOk}
+use Rattle.sh_sound.specs.Holding.{Holds, Grows}
+use Rattle.sh_sound.specs.Going.{around, number_of, unset_before, OfFirst, Apart, FrontGood, Good, Stays}
 use Rattle.sh_sound.proofs.HoldLemmas.{all_one}
 use Rattle.sh_sound.proofs.ExpansionLemmas.{assigned_grows}
-use Rattle.sh_sound.proofs.ListLemmas.{good_in, same_frames, frame_stays}
 
 -- Names among others
 
@@ -77,16 +75,6 @@ spares_grow names e e' v g k = record {
   variables = λ t i s. k.variables t i (subst (λ xs. is_one_of xs t ≡ false) (sym v) refl) s;
   functions = λ t i s. k.functions t i (subst (λ xs. is_one_of xs t ≡ false) (sym g) refl) s;
   job = k.job;
-}
-
-pub spares_same : (names : Names) (e : Environment) → Spares names e e
-spares_same names e = record { variables = λ t i n s. s; functions = λ t i n s. s; job = λ s. s }
-
-pub grows_spares : (names : Names) (e x y : Environment) → Grows e x → Spares names x y → Spares names e y
-grows_spares names e x y g k = record {
-  variables = λ t i n s. k.variables t i n (g.variables t i s);
-  functions = λ t i n s. k.functions t i n (g.functions t i s);
-  job = λ s. k.job (g.job s);
 }
 
 -- facts that claim none of the names stay true
@@ -236,34 +224,3 @@ module _ (d : Declared) (c : Certificate) where
     drop_stays base callers (w ∷ ws) o good names may e e' fs spares h =
         let next = front_goes (around base ws) w (λ r. Good d c defined SimpleAt base callers ws r) good.after good.goes in
         drop_stays base callers ws next.0 next.1 names may e e' fs spares h
-
-    -- A step that may drop these.
-    module _ (base : Around) (e e' : Environment) (fs : List Frame) (status : ℕ) (ws vs : List Work) (live : ProcessOk d c defined SimpleAt base e fs status vs) (o : After) (names : Names) where
-      quiet_grows : Good d c defined SimpleAt base live.callers ws o → MayDrop d c (around base ws) names → Spares names e e' → base.shares ≡ true → Grows e e'
-      quiet_grows good may spares shares = let none = quiet_drop base live.callers ws o good shares names may in spares_grow names e e' none.0 none.1 spares
-
-      pub loses_ok : (now : ℕ) → Good d c defined SimpleAt base live.callers ws o → MayDrop d c (around base ws) names → Spares names e e' → e'.functions ≡ e.functions
-          → AfterHolds d c now o e' (front fs) → StepOk d c defined SimpleAt base e fs status (goes e' (front fs) now ws)
-      unfolding NextOk StartsOk i.Each
-      loses_ok now good may spares same h =
-          let well : ProcessOk d c defined SimpleAt base e' fs now ws = record {
-            known = o;
-            callers = live.callers;
-            good = good_in d c defined SimpleAt (front fs) base live.callers ws o good;
-            holds = h;
-            stays = drop_stays base live.callers ws o good names may e e' fs spares live.stays;
-            bodies = subst (Bodies d c defined) (sym same) live.bodies;
-          } in
-          record {
-            quiet = refl;
-            next = λ k. subst (λ gs. ProcessOk d c defined SimpleAt base e' gs now ws) (sym (same_frames d c defined SimpleAt fs)) well;
-            starts = tt;
-            grows = quiet_grows good may spares;
-            frame = λ k. frame_stays d c defined SimpleAt fs;
-          }
-
-      pub loses_ends : Good d c defined SimpleAt base live.callers ws o → MayDrop d c (around base ws) names → Spares names e e' → e'.functions ≡ e.functions
-          → StepOk d c defined SimpleAt base e fs status (ends e' (front fs))
-      unfolding NextOk StartsOk i.Each
-      loses_ends good may spares same =
-          record { quiet = refl; next = λ k. subst (Bodies d c defined) (sym same) live.bodies; starts = tt; grows = quiet_grows good may spares; frame = λ k. frame_stays d c defined SimpleAt fs }

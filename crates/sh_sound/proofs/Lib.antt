@@ -11,6 +11,7 @@ pub mod WordsLemmas
 pub mod MannerLemmas
 pub mod RedirectLemmas
 pub mod PrepareLemmas
+pub mod OperandsLemmas
 pub mod EnterLemmas
 pub mod DropLemmas
 pub mod JumpLemmas
@@ -19,6 +20,9 @@ pub mod CallLemmas
 pub mod CallStepLemmas
 pub mod LeaveLemmas
 pub mod ChangeLemmas
-pub mod UtilityRowLemmas
+pub mod SpecialLemmas
+pub mod SpecialRowLemmas
 pub mod UtilityLemmas
 pub mod UtilityStepLemmas
+pub mod PrepareStepLemmas
+pub mod ActLemmas

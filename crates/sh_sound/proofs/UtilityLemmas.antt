@@ -1,375 +1,288 @@
--- Steps of utilities that are no special built-in ones: the rows of what they do.
-use Rattle.std.proofs.Common.{◌≡◌, ℕ, ◌+◌, ◌==◌, Bool, true, false, not, ◌&&◌, ◌||◌, if◌then◌else◌, List, [], ◌∷◌, ◌++◌, map, filter, codes, Option, Some, None, is_some, unwrap_or, bytes_eq, ◌⊎◌, inl, inr, refl, sym, ap, ◌∙◌, subst, arith, true≢false}
-use Rattle.std.specs.List.{list_all, filter_map}
-use Rattle.std.proofs.lemmas.Bool.{and_parts, or_cases}
-use Rattle.std.proofs.lemmas.Map.Views.{any-filter_same}
-use Rattle.std.proofs.lemmas.Option.{same_Some, none-some}
+-- Utilities that are not special built-ins: their redirections and prefix assignments, and what the table says of each.
+use Rattle.std.proofs.Common.{◌≡◌, ℕ, ◌==◌, Bool, true, false, not, ◌&&◌, ◌||◌, if◌then◌else◌, Option, Some, None, is_some, unwrap_or, List, [], ◌∷◌, ◌++◌, map, filter, codes, bytes_eq, ◌⊎◌, inl, inr, refl, sym, ap, subst, ◌∙◌, arith}
+use Rattle.std.specs.List.{list_all}
+use Rattle.std.proofs.lemmas.Bool.{and_parts, or_cases, false≢true, true≢false, not-true}
 use Rattle.std.proofs.lemmas.Slice.Eq.{bytes_eq-Decides}
-use Rattle.sh_tree.specs.language.Bytes.{is_first, is_name}
+use Rattle.sh_tree.specs.language.Bytes.{is_name}
 use Rattle.sh_tree.specs.program.Syntax as p
 use Rattle.sh_tree.specs.program.Syntax.{Text, Word}
-use Rattle.sh_tree.specs.program.Words.{redirects_in, static_of}
-use Rattle.sh_table.specs.Kinds.{kind_of, is_declaration}
+use Rattle.sh_tree.specs.program.Words.{Assignments, operands_in, redirects_in}
 use Rattle.sh_table.specs.declared.kind.Kind.{Kind}
 use Rattle.sh_table.specs.declared.kind.Kind.TheVariants as kind
+use Rattle.sh_table.specs.Kinds.{Table, look_up, all_names, kind_of}
+use Rattle.sh_table.specs.runs.Environment.{Environment, Frame, is_one_of, with_variable, showing, hiding}
 use Rattle.sh_table.specs.runs.Answers.{Answer}
-use Rattle.sh_table.specs.runs.Builtins.{nonzero, reads, read_into, gets_option, changes_directory, utility}
-use Rattle.sh_table.specs.runs.Environment.{Environment, Frame, is_one_of}
+use Rattle.sh_table.specs.runs.Builtins.{nonzero, read_into, reads, gets_option, changes_directory, utility}
 use Rattle.sh_table.specs.runs.Operands as o
-use Rattle.sh_table.specs.runs.Work.{Simple, Work, Effect, goes}
-use Rattle.sh_table.proofs.EnvironmentLemmas.{read_kept, option_kept, directory_kept}
+use Rattle.sh_table.specs.runs.Operands.{getopts_name}
+use Rattle.sh_table.specs.runs.Work.{Work, Effect, goes}
 use Rattle.sh_facts.specs.Entries.{Around}
 use Rattle.sh_facts.specs.Facts.{Facts, NotReached, Known, Function, claims, facts, Declared}
-use Rattle.sh_facts.specs.Faults.{are_among}
-use Rattle.sh_facts.specs.Gains.{named, and_gains, words_gains, job}
+use Rattle.sh_facts.specs.Gains.{Gains, job, named, words_gains}
 use Rattle.sh_facts.specs.Inclusions as i
-use Rattle.sh_facts.specs.Inclusions.{MayDrop, UtilityRules, CallRules, behind}
-use Rattle.sh_facts.specs.Operands.{Names, no_names, statics, read_names, getopts_names}
-use Rattle.sh_facts.specs.Rules.{utility_losses, builtin_losses, losses_by}
+use Rattle.sh_facts.specs.Inclusions.{Leaves, MayDrop, CallRules, behind}
+use Rattle.sh_facts.specs.Operands.{Names, no_names, read_names, getopts_names}
+use Rattle.sh_facts.specs.Rules.{utility_losses, losses_by}
 use Rattle.sh_facts.specs.Table as table
-use Rattle.sh_facts.specs.Table.{is_special, prefixes, assignments_gains, redirections_gains, is_redirected, after_utility}
+use Rattle.sh_facts.specs.Table.{is_special, prefixes, after_utility}
 use Rattle.sh_facts.specs.Views as views
-use Rattle.sh_facts.specs.Views.{Certificate, Slot, Before, AfterZero, AfterNonzero, ReturnsZero, ReturnsNonzero, Lose, Call, Seen, After, Both, if_zero, if_nonzero, after_command, gaining, gaining_names, stepped, passes, returned, called, where_known, step, lost}
-use Rattle.sh_sound.specs.Fields.{Split, Operand, Fields}
+use Rattle.sh_facts.specs.Views.{Certificate, Slot, Before, AfterZero, AfterNonzero, ReturnsZero, ReturnsNonzero, Seen, After, Each, Both, if_zero, if_nonzero, after_command, gaining_names, stepped, Lose, OfNames, OfUnseen, lost, where_known, passes, called, step}
+use Rattle.sh_sound.specs.Fields.{Fields}
 use Rattle.sh_sound.specs.Holding.{Holds, Has, Grows, OneHolds, AfterHolds}
 use Rattle.sh_sound.specs.Going.{around, front, Bodies, Good, ProcessOk, StepOk}
-use Rattle.sh_sound.specs.Doing.{behind_facts, parameters, RulesAt, UtilityStage, SimpleAt}
-use Rattle.sh_sound.proofs.HoldLemmas.{each_left, grows_refl, one_grows, covers_at, gain_holds, both_holds, leaves_lead}
+use Rattle.sh_sound.specs.Doing.{behind_facts, parameters}
+use Rattle.sh_sound.proofs.HoldLemmas.{grows_refl, each_left, covers_at, gain_holds, one_grows, both_holds, leaves_lead}
 use Rattle.sh_sound.proofs.ExpansionLemmas.{job_no_name, one_name}
-use Rattle.sh_sound.proofs.ListLemmas.{zero_holds, nonzero_holds}
+use Rattle.sh_sound.proofs.ListLemmas.{step_goes, turns_to, zero_holds, nonzero_holds}
+use Rattle.sh_sound.proofs.StepLemmas.{grown}
 use Rattle.sh_sound.proofs.CompoundLemmas.{is_nonzero}
-use Rattle.sh_sound.proofs.DropLemmas.{Spares, spares_same, grows_spares, loses_ok}
-use Rattle.sh_sound.proofs.CallLemmas.{reached_same, known_stepped}
+use Rattle.sh_sound.proofs.DropLemmas.{Spares}
+use Rattle.sh_sound.proofs.CallLemmas.{reached_same}
+use Rattle.sh_sound.proofs.OperandsLemmas.{read_fits, getopts_fits}
+use Rattle.sh_sound.proofs.ChangeLemmas.{read_grows, read_functions, read_sets, directory_grows, directory_functions, option_begun, option_is, option_grows, option_functions, optarg, put_spares, grows_spares, passes_one}
+use Rattle.sh_sound.proofs.MannerLemmas.{lose_holds}
 use Rattle.sh_sound.proofs.WordsLemmas.{behind_holds}
-use Rattle.sh_sound.proofs.MannerLemmas.{BehindName, behind_name, utility_manner, call_manner, lose_holds, rules_by, losses_at}
-use Rattle.sh_sound.proofs.UtilityRowLemmas.{getopts_name_of, optarg, optarg_passes, read_grows, read_sets, directory_grows, option_spares, put_spares}
+use Rattle.sh_sound.proofs.SpecialLemmas.{drops_ok, stepped_behind}
 
--- Names of operands
-
--- what passes a test is one of those that were tested
-filter_of : (test : Text → Bool) (xs : List Text) (t : Text) → is_one_of (filter test xs) t ≡ true → (test t ≡ true) × (is_one_of xs t ≡ true)
-filter_of test xs t h = and_parts (test t) (is_one_of xs t) (sym (any-filter_same (λ n. bytes_eq n t) test (test t) (λ n same. ap test ((bytes_eq-Decides n t).0 same)) xs) ∙ h)
-
--- static operands are the fields
-static_fields : (m : ℕ) (ws : List Word) (ts : List Text) → Fields false m ws ts → list_all (λ w. is_some (static_of w)) ws ≡ true → statics ws ≡ ts
-unfolding Fields Operand
-static_fields m [] ts h k = sym h
-static_fields m (w ∷ ws) ts h k =
-    let both = and_parts (is_some (static_of w)) (list_all (λ w. is_some (static_of w)) ws) k in
-    go (static_of w) refl both.0 (static_fields m ws h.1 h.4 both.1)
+-- what `read` gives a value has a name
+read_named : (ts : List Text) (t : Text) → is_one_of (unwrap_or (o.read_names ts) []) t ≡ true → is_name t ≡ true
+read_named ts t h = go (o.read_from false ts) refl
   where
-    go : (x : Option Text) → static_of w ≡ x → is_some x ≡ true → statics ws ≡ h.1 → statics (w ∷ ws) ≡ ts
-    go None e s rest = cc
-    go (Some t) e s rest = rw e (ap (λ us. t ∷ us) rest ∙ sym (h.2 ∙ ap (λ us. us ++ h.1) (h.3.static t e)))
+    go : (q : Option (List Text)) → o.read_from false ts ≡ q → is_name t ≡ true
+    go None q = absurd (false≢true (rw q at h))
+    go (Some names) q = let k : is_one_of (filter is_name names) t ≡ true = rw q at h in (passes_one is_name names t k).1
 
--- `read` sets names
-read_named : (ts names : List Text) → o.read_names ts ≡ Some names → (t : Text) → is_one_of names t ≡ true → is_name t ≡ true
-read_named ts names h t k = go (o.read_from false ts) refl
+-- `getopts` is the one name of its kind
+
+is_getopts : Kind → Bool
+is_getopts kind.Getopts = true
+is_getopts _ = false
+
+alone_named : Text × Kind → Bool
+alone_named r = not (is_getopts r.1) || bytes_eq (codes "getopts") r.0
+
+getopts_row : (x : Table) (t : Text) → list_all alone_named x ≡ true → is_getopts (look_up x t) ≡ true → bytes_eq (codes "getopts") t ≡ true
+unfolding look_up is_getopts alone_named
+getopts_row [] t h k = absurd (false≢true k)
+getopts_row (r ∷ x) t h k = go (bytes_eq r.0 t) refl k (λ l. getopts_row x t (and_parts (alone_named r) (list_all alone_named x) h).1 l)
   where
-    go : (x : Option (List Text)) → o.read_from false ts ≡ x → is_name t ≡ true
-    go None e = let none : o.read_names ts ≡ None = rw e refl in absurd (none-some names (sym none ∙ h))
-    go (Some operands) e =
-        let some : o.read_names ts ≡ Some (filter is_name operands) = rw e refl in
-        let same : filter is_name operands ≡ names = same_Some (filter is_name operands) names (sym some ∙ h) in
-        (filter_of is_name operands t (subst (λ ns. is_one_of ns t ≡ true) (sym same) k)).0
+    go : (b : Bool) → bytes_eq r.0 t ≡ b → is_getopts (if b then r.1 else look_up x t) ≡ true → (is_getopts (look_up x t) ≡ true → bytes_eq (codes "getopts") t ≡ true) → bytes_eq (codes "getopts") t ≡ true
+    go true e l more =
+        let first : (not (is_getopts r.1) || bytes_eq (codes "getopts") r.0) ≡ true = (and_parts (alone_named r) (list_all alone_named x) h).0 in
+        let named : bytes_eq (codes "getopts") r.0 ≡ true = subst (λ v. (not v || bytes_eq (codes "getopts") r.0) ≡ true) l first in
+        subst (λ u. bytes_eq (codes "getopts") u ≡ true) ((bytes_eq-Decides r.0 t).0 e) named
+    go false e l more = more l
 
--- the names that the rules read are those that the utility does
-read_ruled : (m : ℕ) (ws : List Word) (ts names : List Text) → Fields false m ws ts → o.read_names ts ≡ Some names → (t : Text) → is_one_of (read_names ws) t ≡ true → is_one_of names t ≡ true
-unfolding read_names
-read_ruled m ws ts names given h t k = go (list_all (λ w. is_some (static_of w)) ws) refl k
-  where
-    go : (b : Bool) → list_all (λ w. is_some (static_of w)) ws ≡ b → is_one_of (if b then unwrap_or (o.read_names (statics ws)) [] else []) t ≡ true → is_one_of names t ≡ true
-    go true e l = subst (λ x. is_one_of (unwrap_or x []) t ≡ true) (ap o.read_names (static_fields m ws ts given e) ∙ h) l
-    go false e l = cc
+getopts_text : (t : Text) → kind_of t ≡ kind.Getopts → bytes_eq t (codes "getopts") ≡ true
+unfolding kind_of look_up is_getopts alone_named
+getopts_text t h =
+    let named = getopts_row all_names t refl (ap is_getopts h) in
+    (bytes_eq-Decides t (codes "getopts")).1 (sym ((bytes_eq-Decides (codes "getopts") t).0 named))
 
-untrue : (b : Bool) → not b ≡ true → b ≡ false
-untrue true h = cc
-untrue false h = refl
+-- where the function is not defined, what the utility leaves is what the rules of a call allow
+uncalled_holds : (drops : Names) (r y : Facts) (t : Text) (ns : List Text) (names : Names) (e e' : Environment) (f : Frame) → Spares names e e' → ((u : Text) → passes t u ≡ true → is_one_of names.vars u ≡ false)
+    → ((u : Text) → is_one_of names.functions u ≡ false) → claims y (Function t) ≡ false → Holds y e f → Holds (called drops r t ns y) e' f
+unfolding Holds called where_known claims
+uncalled_holds drops r NotReached t ns names e e' f k v g u h = absurd h
+uncalled_holds drops r (Known w q m) t ns names e e' f k v g u h = subst (λ b. Holds (if b then views.returned drops ns r w q m else Known (λ x. views.kept drops.vars w x && passes t x) (λ x. views.kept drops.functions q x) m) e' f) (sym u) record {
+  variables = λ x i s.
+      let both = and_parts (views.kept drops.vars w x) (passes t x) s in
+      k.variables x i (v x both.1) (h.variables x i (and_parts (w x) (not (is_one_of drops.vars x)) both.0).0);
+  job = λ s. k.job (h.job (and_parts (w job) (not (is_one_of drops.vars job)) (and_parts (views.kept drops.vars w job) (passes t job) s).0).0);
+  functions = λ x i s. k.functions x i (g x) (h.functions x i (and_parts (q x) (not (is_one_of drops.functions x)) s).0);
+  parameters = h.parameters;
+}
 
--- `getopts` sets its second operand and OPTIND
-record Option' (ts : List Text) (t : Text) : Type 0 where
-  name : Text
-  read : o.getopts_name ts ≡ Some name
-  named : is_name name ≡ true
-  among : is_one_of (name ∷ codes "OPTIND" ∷ []) t ≡ true
+module _ (d : Declared) (c : Certificate) (defined : List Text) (SimpleAt : Around → Work → Seen → Type 0) (base : Around) (e : Environment) (fs : List Frame) (status : ℕ) (ws : List Work) (a : Answer) where
+  abbrev Well : List Work → Type 0
+  Well us = ProcessOk d c defined SimpleAt base e fs status us
 
-not_dashed : (u : Text) → is_first (λ c. c == 45) u ≡ false → bytes_eq u (codes "--") ≡ false
-unfolding is_first
-not_dashed u h = go (bytes_eq u (codes "--")) refl
-  where
-    go : (b : Bool) → bytes_eq u (codes "--") ≡ b → bytes_eq u (codes "--") ≡ false
-    go true e = absurd (true≢false (sym (subst (λ v. is_first (λ c. c == 45) v ≡ true) (sym ((bytes_eq-Decides u (codes "--")).0 e)) refl) ∙ h))
-    go false e = e
+  abbrev Ok : Effect → Type 0
+  Ok y = StepOk d c defined SimpleAt base e fs status y
 
-option_read : (u v : Text) (ts : List Text) → is_name v ≡ true → is_first (λ c. c == 45) u ≡ false → o.getopts_name (u ∷ v ∷ ts) ≡ Some v
-unfolding o.getopts_name o.second_name
-option_read u v ts h k = rw (not_dashed u k, h) refl
+  abbrev f : Frame
+  f = front fs
 
-getopts_ruled : (m : ℕ) (ws : List Word) (ts : List Text) → Fields false m ws ts → (t : Text) → is_one_of (getopts_names ws) t ≡ true → Option' ts t
-unfolding Fields Operand getopts_names
-getopts_ruled m [] ts given t k = cc
-getopts_ruled m (w ∷ []) ts given t k = cc
-getopts_ruled m (w ∷ v ∷ ws) ts given t k = go (static_of w) refl (static_of v) refl
-  where
-    none_first : static_of w ≡ None → getopts_names (w ∷ v ∷ ws) ≡ []
-    none_first e = rw e refl
+  abbrev x : Around
+  x = around base ws
 
-    none_second : (u : Text) → static_of w ≡ Some u → static_of v ≡ None → getopts_names (w ∷ v ∷ ws) ≡ []
-    none_second u e d = rw (e, d) refl
+  module _ (n : ℕ) (es : p.Elements) (ts : List Text) (us : List Work) (live : Well us) (goes_on : Good d c defined SimpleAt base live.callers ws (after_command n)) (all : List Text) where
+    abbrev b : Seen
+    b = behind d c n es
 
-    both_read : (u name : Text) → static_of w ≡ Some u → static_of v ≡ Some name
-        → getopts_names (w ∷ v ∷ ws) ≡ (if is_name name && not (is_first (λ c. c == 45) u) then name ∷ codes "OPTIND" ∷ [] else [])
-    both_read u name e d = rw (e, d) refl
+    abbrev began : Environment
+    began = option_begun all e a (getopts_name ts)
 
-    nothing : getopts_names (w ∷ v ∷ ws) ≡ [] → ⊥
-    nothing e = true≢false (sym k ∙ ap (λ ns. is_one_of ns t) e)
+    abbrev got : Environment
+    got = with_variable began (codes "OPTARG") (a.values 2)
 
-    fields : (u name : Text) → static_of w ≡ Some u → static_of v ≡ Some name → ts ≡ u ∷ name ∷ given.4.1
-    fields u name e d = given.2 ∙ ap (λ us. us ++ given.1) (given.3.static u e) ∙ ap (λ us. u ∷ us) (given.4.2 ∙ ap (λ us. us ++ given.4.1) (given.4.3.static name d))
+    got_spares : Spares optarg e got
+    got_spares = grows_spares optarg e began got (option_grows all e a (getopts_name ts)) (put_spares began (codes "OPTARG") (a.values 2))
 
-    go : (x : Option Text) → static_of w ≡ x → (y : Option Text) → static_of v ≡ y → Option' ts t
-    go None e y d = absurd (nothing (none_first e))
-    go (Some u) e None d = absurd (nothing (none_second u e d))
-    go (Some u) e (Some name) d = by (is_name name && not (is_first (λ c. c == 45) u)) refl (subst (λ ns. is_one_of ns t ≡ true) (both_read u name e d) k)
+    -- a step of a utility that unsets nothing
+    grows_to : (o : After) (e' : Environment) (now : ℕ) → Leaves d c n o → Grows e e' → e'.functions ≡ e.functions → AfterHolds d c now o e' f → Ok (goes e' f now ws)
+    grows_to o e' now rules g same h =
+        step_goes d c defined SimpleAt base e e' fs status now ws g
+        (grown d c defined SimpleAt base e fs status ws a e' now us ws live (after_command n) g same goes_on (leaves_lead d c n o rules now e' f h))
+
+    -- `getopts` may unset OPTARG
+    gets_to : MayDrop d c x optarg → AfterHolds d c a.status (after_command n) got f → Ok (goes (gets_option all e a (getopts_name ts)) f a.status ws)
+    gets_to may h =
+        subst (λ y. Ok (goes y f a.status ws)) (sym (option_is all e a (getopts_name ts)))
+        (drops_ok d c defined SimpleAt base e fs status ws optarg (after_command n) a.status got us live goes_on may got_spares
+        (subst (Bodies d c defined) (sym (option_functions all e a (getopts_name ts))) live.bodies) h)
+
+    reached_optarg : OneHolds d c b e f → MayDrop d c x (lost d c n (OfNames optarg)) → MayDrop d c x optarg
+    unfolding lost
+    reached_optarg h k = subst (MayDrop d c x) (reached_same (words_gains (operands_in es)) (facts (c.claim (Before n))) optarg e f (behind_holds d c defined n es e f h)) k
+
+    -- whatever a utility does, but for `getopts`, grows
+    by_kind : (k : Kind) → (k ≡ kind.Getopts → Ok (goes (gets_option all e a (getopts_name ts)) f a.status ws))
+        → ((e' : Environment) (now : ℕ) → Grows e e' → e'.functions ≡ e.functions → Ok (goes e' f now ws)) → Ok (utility all e f ws a k ts)
+    unfolding utility reads
+    by_kind kind.True gets grows = grows e 0 (grows_refl e) refl
+    by_kind kind.False gets grows = grows e (nonzero a.status) (grows_refl e) refl
+    by_kind kind.Read gets grows = go (o.read_names ts)
       where
-        by : (b : Bool) → (is_name name && not (is_first (λ c. c == 45) u)) ≡ b → is_one_of (if b then name ∷ codes "OPTIND" ∷ [] else []) t ≡ true → Option' ts t
-        by true q l =
-            let both = and_parts (is_name name) (not (is_first (λ c. c == 45) u)) q in
-            record {
-              name = name;
-              read = ap o.getopts_name (fields u name e d) ∙ option_read u name given.4.1 both.0 (untrue (is_first (λ c. c == 45) u) both.1);
-              named = both.0;
-              among = l;
-            }
-        by false q l = cc
+        go : (q : Option (List Text)) → Ok (reads all e f ws a q)
+        go None = grows e (nonzero a.status) (grows_refl e) refl
+        go (Some names) = grows (read_into all a 0 e names) a.status (read_grows all a 0 e names) (read_functions all a 0 e names)
+    by_kind kind.Getopts gets grows = gets refl
+    by_kind kind.Cd gets grows = grows (changes_directory e a) a.status (directory_grows e a) (directory_functions e a)
+    by_kind k gets grows = grows e a.status (grows_refl e) refl
 
--- its names are names
-option_named : (name t : Text) → is_name name ≡ true → is_one_of (name ∷ codes "OPTIND" ∷ []) t ≡ true → is_name t ≡ true
-unfolding is_first
-option_named name t h k = elim (or_cases (bytes_eq name t) (is_one_of (codes "OPTIND" ∷ []) t) k) [
-  | inl same ↦ subst (λ u. is_name u ≡ true) ((bytes_eq-Decides name t).0 same) h
-  | inr same ↦ subst (λ u. is_name u ≡ true) (one_name (codes "OPTIND") t same) refl
-]
-
--- names that are set are gained
-gained_has : (names : List Text) (e : Environment) (f : Frame) → ((t : Text) → is_one_of names t ≡ true → is_name t ≡ true) → ((t : Text) → is_name t ≡ true → is_one_of names t ≡ true → is_some (e.variables t) ≡ true)
-    → Has (named names) e f
-gained_has names e f h k = record { variables = λ t i s. k t i s; job = λ s. absurd (job_no_name job (h job s) refl); functions = λ t i s. cc; parameters = omega arith }
-
--- Behind a utility whose name is that of a function of the script, which is not claimed to be defined
-unclaimed_call : (drops : Names) (r : Facts) (t : Text) (names : List Text) (b : Facts) (gone : Names) (e e' : Environment) (f : Frame) → claims b (Function t) ≡ false → Spares gone e e' → gone.functions ≡ []
-    → ((u : Text) → is_one_of gone.vars u ≡ true → passes t u ≡ false) → Holds b e f → Holds (called drops r t names b) e' f
-unfolding Holds claims called where_known
-unclaimed_call drops r t names NotReached gone e e' f apart spares none passing h = absurd h
-unclaimed_call drops r t names (Known v g a) gone e e' f apart spares none passing h = go (g t) apart
-  where
-    stays : (u : Text) → passes t u ≡ true → is_one_of gone.vars u ≡ false
-    stays u s = by (is_one_of gone.vars u) refl
+    -- a function of the name may be called elsewhere: here none is defined
+    pub uncalled_ok : (t : Text) (others : List Word) → CallRules d c n es t others → i.Each (λ l. MayDrop d c x (lost d c n l)) (losses_by defined es b (table.Call t others))
+        → claims (behind_facts c n es) (Function t) ≡ false → OneHolds d c b e f → Ok (utility all e f ws a (kind_of t) ts)
+    unfolding losses_by i.Each if_zero if_nonzero passes step
+    uncalled_ok t others rules losses unclaimed h =
+        by_kind (kind_of t)
+        (λ k. let text = getopts_text t k in
+        gets_to (reached_optarg h (optarg_lost text)) (after a.status got optarg got_spares (λ u l. passing u text l) (λ u. refl)))
+        (λ e' now g same.
+        step_goes d c defined SimpleAt base e e' fs status now ws g
+        (grown d c defined SimpleAt base e fs status ws a e' now us ws live (after_command n) g same goes_on (after now e' no_names (nothing_spared e' g) (λ u l. refl) (λ u. refl))))
       where
-        by : (x : Bool) → is_one_of gone.vars u ≡ x → is_one_of gone.vars u ≡ false
-        by true q = absurd (true≢false (sym s ∙ passing u q))
-        by false q = q
+        nothing_spared : (e' : Environment) → Grows e e' → Spares no_names e e'
+        nothing_spared e' g = record { variables = λ u i n s. g.variables u i s; functions = λ u i n s. g.functions u i s; job = g.job }
 
-    go : (x : Bool) → x ≡ false → Holds (if x then returned drops names r v g a else Known (λ u. views.kept drops.vars v u && passes t u) (λ u. views.kept drops.functions g u) a) e' f
-    go true q = cc
-    go false q = record {
-      variables = λ u i s.
-          let both = and_parts (views.kept drops.vars v u) (passes t u) s in
-          spares.variables u i (stays u both.1) (h.variables u i (and_parts (v u) (not (is_one_of drops.vars u)) both.0).0);
-      job = λ s. spares.job (h.job (and_parts (v job) (not (is_one_of drops.vars job)) (and_parts (views.kept drops.vars v job) (passes t job) s).0).0);
-      functions = λ u i s.
-          spares.functions u i (subst (λ ns. is_one_of ns u ≡ false) (sym none) refl) (h.functions u i (and_parts (g u) (not (is_one_of drops.functions u)) s).0);
-      parameters = h.parameters;
+        optarg_lost : bytes_eq t (codes "getopts") ≡ true → MayDrop d c x (lost d c n (OfNames optarg))
+        optarg_lost text =
+            (each_left (λ l. MayDrop d c x (lost d c n l)) (OfNames optarg ∷ []) (map (OfUnseen (prefixes es)) b)
+            (subst (λ v. i.Each (λ l. MayDrop d c x (lost d c n l)) ((if v then OfNames optarg ∷ [] else []) ++ map (OfUnseen (prefixes es)) b)) text losses.1)).0
+
+        passing : (u : Text) → bytes_eq t (codes "getopts") ≡ true → passes t u ≡ true → is_one_of (codes "OPTARG" ∷ []) u ≡ false
+        passing u text l = go (is_one_of (codes "OPTARG" ∷ []) u) refl
+          where
+            go : (v : Bool) → is_one_of (codes "OPTARG" ∷ []) u ≡ v → is_one_of (codes "OPTARG" ∷ []) u ≡ false
+            go false q = q
+            go true q =
+                let same : codes "OPTARG" ≡ u = one_name (codes "OPTARG") u q in
+                let here : bytes_eq u (codes "OPTARG") ≡ true = (bytes_eq-Decides u (codes "OPTARG")).1 (sym same) in
+                absurd (true≢false (sym l ∙ rw (text, here) refl))
+
+        after : (now : ℕ) (e' : Environment) (names : Names) → Spares names e e' → ((u : Text) → passes t u ≡ true → is_one_of names.vars u ≡ false) → ((u : Text) → is_one_of names.functions u ≡ false)
+            → AfterHolds d c now (after_command n) e' f
+        after now e' names k v g = go (now == 0) refl
+          where
+            holds : (slot : Slot) → Holds (called (c.drops t) (facts (c.claim slot)) t (prefixes es) (behind_facts c n es)) e' f
+            holds slot = uncalled_holds (c.drops t) (facts (c.claim slot)) (behind_facts c n es) t (prefixes es) names e e' f k v g unclaimed (behind_holds d c defined n es e f h)
+
+            go : (z : Bool) → (now == 0) ≡ z → AfterHolds d c now (after_command n) e' f
+            go true z =
+                zero_holds d c defined SimpleAt now (after_command n) e' f z
+                (covers_at d c (AfterZero n) _ rules.zero e' f (stepped_behind d c (views.Call t (ReturnsZero t) (prefixes es)) n es e' f (holds (ReturnsZero t))))
+            go false z =
+                nonzero_holds d c defined SimpleAt now (after_command n) e' f z
+                (covers_at d c (AfterNonzero n) _ rules.nonzero e' f (stepped_behind d c (views.Call t (ReturnsNonzero t) (prefixes es)) n es e' f (holds (ReturnsNonzero t))))
+
+    -- The table
+
+    abbrev unprefixed : List Text → List Text
+    unprefixed xs = filter (λ y. not (is_one_of all y)) xs
+
+    -- on zero `read` sets its names
+    read_has : (others : List Word) (m : ℕ) (names : List Text) → Fields false m others ts → (a.status == 0) ≡ true → o.read_names ts ≡ Some names → Has (named (unprefixed (read_names others))) (read_into all a 0 e names) f
+    read_has others m names given z q = record {
+      variables = λ t i h.
+          let both = passes_one (λ y. not (is_one_of all y)) (read_names others) t h in
+          read_sets all a 0 e names t z i (not-true (is_one_of all t) both.1) (subst (λ p. is_one_of (unwrap_or p []) t ≡ true) q (read_fits m others ts t both.0 given));
+      job = λ h. absurd (job_no_name job (read_named ts job (read_fits m others ts job (passes_one (λ y. not (is_one_of all y)) (read_names others) job h).0 given)) refl);
+      functions = λ t i h. cc;
+      parameters = omega arith;
     }
 
--- what a kind of utility may drop
-unfoldable Dropped : Kind → Names → Type 0
-Dropped k names = (names ≡ no_names) ⊎ ((names ≡ optarg) × (k ≡ kind.Getopts))
+    read_ok : (others : List Word) (m : ℕ) → Fields false m others ts → Leaves d c n (Each (gaining_names (unprefixed (read_names others)) b) b) → OneHolds d c b e f → Ok (reads all e f ws a (o.read_names ts))
+    unfolding reads if_zero if_nonzero
+    read_ok others m given rules h = go (o.read_names ts) refl
+      where
+        p : After
+        p = Each (gaining_names (unprefixed (read_names others)) b) b
 
-module _ (d : Declared) (c : Certificate) (defined : List Text) where
-  module _ (base : Around) (e : Environment) (fs : List Frame) (status : ℕ) (ws : List Work) (a : Answer) where
-    abbrev x : Around
-    x = around base ws
+        go : (q : Option (List Text)) → o.read_names ts ≡ q → Ok (reads all e f ws a q)
+        go None q = grows_to p e (nonzero a.status) rules (grows_refl e) refl (nonzero_holds d c defined SimpleAt (nonzero a.status) p e f (is_nonzero a.status) h)
+        go (Some names) q = grows_to p now a.status rules grows (read_functions all a 0 e names) (by (a.status == 0) refl)
+          where
+            now : Environment
+            now = read_into all a 0 e names
 
-    abbrev f : Frame
-    f = front fs
+            grows : Grows e now
+            grows = read_grows all a 0 e names
 
-    abbrev Well : List Work → Type 0
-    Well vs = ProcessOk d c defined (SimpleAt d c defined) base e fs status vs
+            by : (z : Bool) → (a.status == 0) ≡ z → AfterHolds d c a.status p now f
+            by true z = zero_holds d c defined SimpleAt a.status p now f z
+                (gain_holds d c (named (unprefixed (read_names others))) b now f (read_has others m names given z q) (one_grows d c b e now f grows h))
+            by false z = nonzero_holds d c defined SimpleAt a.status p now f z (one_grows d c b e now f grows h)
 
-    abbrev Ok : Effect → Type 0
-    Ok y = StepOk d c defined (SimpleAt d c defined) base e fs status y
+    -- on zero `getopts` sets its name and OPTIND
+    option_has : (others : List Word) (m : ℕ) → Fields false m others ts → (a.status == 0) ≡ true → Has (named (unprefixed (getopts_names others))) began f
+    unfolding option_begun
+    option_has others m given z = record {
+      variables = λ t i h.
+          let both = passes_one (λ y. not (is_one_of all y)) (getopts_names others) t h in
+          let g = getopts_fits m others ts t both.0 given in
+          subst (λ q. is_some ((option_begun all e a q).variables t) ≡ true) (sym g.1) (read_sets all a 0 e (g.0 ∷ codes "OPTIND" ∷ []) t z i (not-true (is_one_of all t) both.1) g.2);
+      job = λ h.
+          let both = passes_one (λ y. not (is_one_of all y)) (getopts_names others) job h in
+          let g = getopts_fits m others ts job both.0 given in
+          elim (or_cases (bytes_eq g.0 job) false g.2) [
+            | inl same ↦ absurd (job_no_name g.0 g.3 ((bytes_eq-Decides g.0 job).0 same))
+            | inr other ↦ absurd (false≢true other)
+          ];
+      functions = λ t i h. cc;
+      parameters = omega arith;
+    }
 
-    module _ (k : Simple) (t : Text) (ts : List Text) (all : List Text) (s : Seen) (vs : List Work) (live : Well vs) (stage : UtilityStage d c defined x k t ts p.no_redirects [] all s)
-        (h : OneHolds d c s e f) (goes_on : Good d c defined (SimpleAt d c defined) base live.callers ws (after_command k.number)) where
-      abbrev n : ℕ
-      n = k.number
+    getopts_ok : (others : List Word) (m : ℕ) → Fields false m others ts → Leaves d c n (Each (stepped (Lose optarg) (gaining_names (unprefixed (getopts_names others)) b)) (stepped (Lose optarg) b))
+        → MayDrop d c x optarg → OneHolds d c b e f → Ok (goes (gets_option all e a (getopts_name ts)) f a.status ws)
+    unfolding if_zero if_nonzero
+    getopts_ok others m given rules may h = gets_to may (leaves_lead d c n p rules a.status got f (by (a.status == 0) refl))
+      where
+        p : After
+        p = Each (stepped (Lose optarg) (gaining_names (unprefixed (getopts_names others)) b)) (stepped (Lose optarg) b)
 
-      abbrev es : p.Elements
-      es = k.elements
+        known : OneHolds d c b began f
+        known = one_grows d c b e began f (option_grows all e a (getopts_name ts)) h
 
-      abbrev b : Seen
-      b = behind d c n es
+        spares : Spares optarg began got
+        spares = put_spares began (codes "OPTARG") (a.values 2)
 
-      abbrev m : ℕ
-      m = parameters (behind_facts c n es)
+        by : (z : Bool) → (a.status == 0) ≡ z → AfterHolds d c a.status p got f
+        by true z = zero_holds d c defined SimpleAt a.status p got f z
+            (lose_holds d c optarg (gaining_names (unprefixed (getopts_names others)) b) began got f spares
+            (gain_holds d c (named (unprefixed (getopts_names others))) b began f (option_has others m given z) known))
+        by false z = nonzero_holds d c defined SimpleAt a.status p got f z (lose_holds d c optarg b began got f spares known)
 
-      one : OneHolds d c b e f
-      one = stage.left.behind_words e f h
-
-      known : Holds (behind_facts c n es) e f
-      known = behind_holds d c defined n es e f one
-
-      name : BehindName m es t ts
-      name = behind_name m es t ts stage.begun
-
-      abbrev after : Kind → After
-      after q = after_utility b name.others (and_gains (assignments_gains es) (redirections_gains es)) (prefixes es) (is_redirected (redirects_in es)) q
-
-      -- a utility, or a function that is not claimed to be defined
-      abbrev Manners : Type 0
-      Manners = (table.manner defined es ≡ table.Utility (kind_of t) name.others) ⊎ ((table.manner defined es ≡ table.Call t name.others) × (claims (behind_facts c n es) (Function t) ≡ false))
-
-      manner_of : Manners
-      manner_of = elim stage.unclaimed [ inl u ↦ inl (utility_manner defined m es t ts name u) | inr u ↦ go (is_one_of defined t) refl u ]
-        where
-          go : (y : Bool) → is_one_of defined t ≡ y → claims (behind_facts c n es) (Function t) ≡ false → Manners
-          go true q u = inr (call_manner defined m es t ts name q stage.ordinary, u)
-          go false q u = inl (utility_manner defined m es t ts name q)
-
-      abbrev May : views.Loss → Type 0
-      May l = MayDrop d c x (lost d c n l)
-
-      optarg_drops : kind_of t ≡ kind.Getopts → MayDrop d c x optarg
-      unfolding lost losses_by utility_losses i.Each
-      optarg_drops q = subst (MayDrop d c x) (reached_same (words_gains _) (facts (c.claim (Before n))) optarg e f known) (elim manner_of [
-        | inl u ↦ (subst (λ y. i.Each May (utility_losses defined y name.others)) q (losses_at d c defined x n es (table.Utility (kind_of t) name.others) stage.rules u)).0
-        | inr u ↦ (subst (λ y. i.Each May (if y then views.OfNames optarg ∷ [] else [])) (getopts_name_of t q)
-            (each_left May (builtin_losses t) _ (losses_at d c defined x n es (table.Call t name.others) stage.rules u.0).1)).0
-      ])
-
-      drops : (q : Kind) (names : Names) → kind_of t ≡ q → Dropped q names → MayDrop d c x names
-      unfolding Dropped are_among
-      drops q names is (inl u) = subst (MayDrop d c x) (sym u) (record { shared_vars = λ l. refl; shared_functions = λ l. refl; counted = λ g l. refl })
-      drops q names is (inr u) = subst (MayDrop d c x) (sym u.0) (optarg_drops (is ∙ u.1))
-
-      passing : (q : Kind) (names : Names) → kind_of t ≡ q → Dropped q names → (u : Text) → is_one_of names.vars u ≡ true → passes t u ≡ false
-      unfolding Dropped
-      passing q names is (inl v) u l = absurd (true≢false (sym (subst (λ ns. is_one_of ns.vars u ≡ true) v l)))
-      passing q names is (inr v) u l = optarg_passes t u (getopts_name_of t (is ∙ v.1)) (subst (λ ns. is_one_of ns.vars u ≡ true) v.0 l)
-
-      no_functions : (q : Kind) (names : Names) → Dropped q names → names.functions ≡ []
-      unfolding Dropped
-      no_functions q names (inl v) = ap (λ (ns : Names). ns.functions) v
-      no_functions q names (inr v) = ap (λ (ns : Names). ns.functions) v.0
-
-      -- what is claimed behind the command is true
-      claimed : (q : Kind) (names : Names) (e' : Environment) (now : ℕ) → kind_of t ≡ q → Dropped q names → Spares names e e' → AfterHolds d c now (after q) e' f → AfterHolds d c now (after_command n) e' f
-      unfolding i.SimpleRules if_zero if_nonzero step
-      claimed q names e' now is dropped spares holds = elim manner_of [
-        | inl u ↦ leaves_lead d c n (after (kind_of t)) (rules_by d c defined x n es (table.Utility (kind_of t) name.others) stage.rules u).leaves now e' f
-            (subst (λ y. AfterHolds d c now (after y) e' f) (sym is) holds)
-        | inr u ↦ by (rules_by d c defined x n es (table.Call t name.others) stage.rules u.0) u.1 (now == 0) refl
-      ]
-        where
-          at_slot : claims (behind_facts c n es) (Function t) ≡ false → (slot : Slot) → OneHolds d c (stepped (Call t slot (prefixes es)) b) e' f
-          at_slot apart slot =
-              known_stepped d c defined (Call t slot (prefixes es)) n es e' f
-              (unclaimed_call (c.drops t) (facts (c.claim slot)) t (prefixes es) (behind_facts c n es) names e e' f apart spares (no_functions q names dropped) (passing q names is dropped) known)
-
-          by : CallRules d c n es t name.others → claims (behind_facts c n es) (Function t) ≡ false → (y : Bool) → (now == 0) ≡ y → AfterHolds d c now (after_command n) e' f
-          by rules apart true z = zero_holds d c defined (SimpleAt d c defined) now (after_command n) e' f z (covers_at d c (AfterZero n) _ rules.zero e' f (at_slot apart (ReturnsZero t)))
-          by rules apart false z = nonzero_holds d c defined (SimpleAt d c defined) now (after_command n) e' f z (covers_at d c (AfterNonzero n) _ rules.nonzero e' f (at_slot apart (ReturnsNonzero t)))
-
-      row_ok : (q : Kind) (names : Names) (e' : Environment) (now : ℕ) → kind_of t ≡ q → Dropped q names → Spares names e e' → e'.functions ≡ e.functions → AfterHolds d c now (after q) e' f → Ok (goes e' f now ws)
-      row_ok q names e' now is dropped spares same holds =
-          loses_ok d c defined (SimpleAt d c defined) base e e' fs status ws vs live (after_command n) names now goes_on (drops q names is dropped) spares same (claimed q names e' now is dropped spares holds)
-
-      -- a row that changes what it names only by giving values
-      grown_ok : (q : Kind) (e' : Environment) (now : ℕ) → kind_of t ≡ q → Grows e e' → e'.functions ≡ e.functions → AfterHolds d c now (after q) e' f → Ok (goes e' f now ws)
-      unfolding Dropped
-      grown_ok q e' now is grows same holds = row_ok q no_names e' now is (inl refl) (grows_spares no_names e e' e' grows (spares_same no_names e')) same holds
-
-      given : is_declaration (kind_of t) ≡ false → Fields false m name.others ts
-      given plain = subst (λ y. Fields y m name.others ts) plain name.given
-
-      -- a name that the rules count has no prefix assignment
-      unprefixed : (names : List Text) (u : Text) → is_one_of (filter (λ v. not (is_one_of (prefixes es) v)) names) u ≡ true → (is_one_of names u ≡ true) × (is_one_of all u ≡ false)
-      unprefixed names u l =
-          let both = filter_of (λ v. not (is_one_of (prefixes es) v)) names u l in
-          (both.1, subst (λ ns. is_one_of ns u ≡ false) (sym stage.prefixed) (untrue (is_one_of (prefixes es) u) both.0))
-
-      read_row : kind_of t ≡ kind.Read → Ok (reads all e f ws a (o.read_names ts))
-      unfolding reads after_utility if_zero if_nonzero is_declaration
-      read_row is = go (o.read_names ts) refl
-        where
-          go : (v : Option (List Text)) → o.read_names ts ≡ v → Ok (reads all e f ws a v)
-          go None q = grown_ok kind.Read e (nonzero a.status) is (grows_refl e) refl (nonzero_holds d c defined (SimpleAt d c defined) (nonzero a.status) (after kind.Read) e f (is_nonzero a.status) one)
-          go (Some names) q =
-              grown_ok kind.Read e' a.status is grows (read_kept (λ (y : Environment). y.functions ≡ e.functions) (λ y u v l. l) all a 0 e names refl) (by (a.status == 0) refl)
-            where
-              e' : Environment
-              e' = read_into all a 0 e names
-
-              grows : Grows e e'
-              grows = read_grows all a 0 e names
-
-              ruled : (u : Text) → is_one_of (filter (λ v. not (is_one_of (prefixes es) v)) (read_names name.others)) u ≡ true → is_one_of names u ≡ true
-              ruled u l = read_ruled m name.others ts names (given (rw is refl)) q u (unprefixed (read_names name.others) u l).0
-
-              by : (y : Bool) → (a.status == 0) ≡ y → AfterHolds d c a.status (after kind.Read) e' f
-              by true z =
-                  zero_holds d c defined (SimpleAt d c defined) a.status (after kind.Read) e' f z
-                  (gain_holds d c (named (filter (λ v. not (is_one_of (prefixes es) v)) (read_names name.others))) b e' f
-                  (gained_has _ e' f (λ u l. read_named ts names q u (ruled u l)) (λ u i l. read_sets all a 0 e names z u i (ruled u l) (unprefixed (read_names name.others) u l).1))
-                  (one_grows d c b e e' f grows one))
-              by false z = nonzero_holds d c defined (SimpleAt d c defined) a.status (after kind.Read) e' f z (one_grows d c b e e' f grows one)
-
-      option_row : kind_of t ≡ kind.Getopts → Ok (goes (gets_option all e a (o.getopts_name ts)) f a.status ws)
-      unfolding after_utility if_zero if_nonzero is_declaration Dropped gets_option
-      option_row is = go (o.getopts_name ts) refl
-        where
-          gained : List Text
-          gained = filter (λ v. not (is_one_of (prefixes es) v)) (getopts_names name.others)
-
-          ruled : (u : Text) → is_one_of gained u ≡ true → Option' ts u
-          ruled u l = getopts_ruled m name.others ts (given (rw is refl)) u (unprefixed (getopts_names name.others) u l).0
-
-          go : (v : Option Text) → o.getopts_name ts ≡ v → Ok (goes (gets_option all e a v) f a.status ws)
-          go v q =
-              row_ok kind.Getopts optarg (gets_option all e a v) a.status is (inr (refl, refl)) (option_spares all e a v)
-              (option_kept (λ (y : Environment). y.functions ≡ e.functions) (λ y u w l. l) all e a v refl) (by (a.status == 0) refl)
-            where
-              zero : (a.status == 0) ≡ true → (w : Option Text) → o.getopts_name ts ≡ w → OneHolds d c (stepped (Lose optarg) (gaining_names gained b)) (gets_option all e a w) f
-              zero z None r =
-                  let none : (u : Text) → is_one_of gained u ≡ true → ⊥ = λ u l. none-some (ruled u l).name (sym r ∙ (ruled u l).read) in
-                  lose_holds d c optarg (gaining_names gained b) e _ f (option_spares all e a None)
-                  (gain_holds d c (named gained) b e f (gained_has gained e f (λ u l. absurd (none u l)) (λ u i l. absurd (none u l))) one)
-              zero z (Some word) r =
-                  let now = read_into all a 0 e (word ∷ codes "OPTIND" ∷ []) in
-                  let among : (u : Text) → is_one_of gained u ≡ true → is_one_of (word ∷ codes "OPTIND" ∷ []) u ≡ true =
-                  λ u l. subst (λ v. is_one_of (v ∷ codes "OPTIND" ∷ []) u ≡ true) (same_Some (ruled u l).name word (sym (ruled u l).read ∙ r)) (ruled u l).among in
-                  lose_holds d c optarg (gaining_names gained b) now _ f (put_spares now (codes "OPTARG") (a.values 2))
-                  (gain_holds d c (named gained) b now f
-                  (gained_has gained now f (λ u l. option_named (ruled u l).name u (ruled u l).named (ruled u l).among)
-                  (λ u i l. read_sets all a 0 e (word ∷ codes "OPTIND" ∷ []) z u i (among u l) (unprefixed (getopts_names name.others) u l).1))
-                  (one_grows d c b e now f (read_grows all a 0 e (word ∷ codes "OPTIND" ∷ [])) one))
-
-              by : (y : Bool) → (a.status == 0) ≡ y → AfterHolds d c a.status (after kind.Getopts) (gets_option all e a v) f
-              by true z = zero_holds d c defined (SimpleAt d c defined) a.status (after kind.Getopts) (gets_option all e a v) f z (zero z v q)
-              by false z = nonzero_holds d c defined (SimpleAt d c defined) a.status (after kind.Getopts) (gets_option all e a v) f z (lose_holds d c optarg b e (gets_option all e a v) f (option_spares all e a v) one)
-
-      pub utility_row : Ok (utility all e f ws a (kind_of t) ts)
-      unfolding utility after_utility if_zero if_nonzero is_special
-      utility_row = go (kind_of t) refl
-        where
-          go : (q : Kind) → kind_of t ≡ q → Ok (utility all e f ws a q ts)
-          go kind.True is = grown_ok kind.True e 0 is (grows_refl e) refl (zero_holds d c defined (SimpleAt d c defined) 0 (after kind.True) e f refl one)
-          go kind.False is = grown_ok kind.False e (nonzero a.status) is (grows_refl e) refl (nonzero_holds d c defined (SimpleAt d c defined) (nonzero a.status) (after kind.False) e f (is_nonzero a.status) one)
-          go kind.Read is = read_row is
-          go kind.Getopts is = option_row is
-          go kind.Cd is =
-              grown_ok kind.Cd (changes_directory e a) a.status is (directory_grows e a) (directory_kept (λ (y : Environment). y.functions ≡ e.functions) (λ y u v l. l) e a refl)
-              (both_holds d c a.status b (changes_directory e a) f (one_grows d c b e (changes_directory e a) f (directory_grows e a) one))
-          go (kind.Special special) is = absurd (true≢false (sym (ap is_special is) ∙ stage.ordinary))
-          go q is = grown_ok q e a.status is (grows_refl e) refl (both_holds d c a.status b e f one)
+    pub table_ok : (k : Kind) (others : List Word) (m : ℕ) (left : Gains) (redirected : Bool) → is_special k ≡ false → Fields false m others ts → Leaves d c n (after_utility b others left all redirected k)
+        → i.Each (λ l. MayDrop d c x (lost d c n l)) (utility_losses defined k others) → OneHolds d c b e f → Ok (utility all e f ws a k ts)
+    unfolding utility after_utility utility_losses is_special i.Each if_zero if_nonzero
+    table_ok (kind.Special name) others m left redirected plain given rules losses h = absurd (true≢false plain)
+    table_ok kind.True others m left redirected plain given rules losses h = grows_to (after_utility b others left all redirected kind.True) e 0 rules (grows_refl e) refl h
+    table_ok kind.False others m left redirected plain given rules losses h =
+        grows_to (after_utility b others left all redirected kind.False) e (nonzero a.status) rules (grows_refl e) refl
+        (nonzero_holds d c defined SimpleAt (nonzero a.status) (after_utility b others left all redirected kind.False) e f (is_nonzero a.status) h)
+    table_ok kind.Read others m left redirected plain given rules losses h = read_ok others m given rules h
+    table_ok kind.Getopts others m left redirected plain given rules losses h = getopts_ok others m given rules (reached_optarg h losses.0) h
+    table_ok kind.Cd others m left redirected plain given rules losses h =
+        grows_to (Both b) (changes_directory e a) a.status rules (directory_grows e a) (directory_functions e a) (both_holds d c a.status b (changes_directory e a) f (one_grows d c b e (changes_directory e a) f (directory_grows e a) h))
+    table_ok k others m left redirected plain given rules losses h = grows_to (Both b) e a.status rules (grows_refl e) refl (both_holds d c a.status b e f h)

@@ -1,0 +1,145 @@
+-- Special built-in utilities, by what the table says of each.
+use Rattle.std.proofs.Common.{◌≡◌, ℕ, ◌-◌, ◌==◌, ◌≤◌, nat_le, Bool, true, false, not, ◌&&◌, ◌||◌, if◌then◌else◌, Option, Some, None, is_some, unwrap_or, List, [], ◌∷◌, ◌++◌, map, length, drop, filter, bytes_eq, inl, inr, refl, sym, ap, subst, ◌∙◌, arith, length-drop}
+use Rattle.std.specs.List.{list_all}
+use Rattle.std.proofs.lemmas.Bool.{and_parts, and_from, false≢true, true≢false}
+use Rattle.sh_tree.specs.language.Bytes.{is_name}
+use Rattle.sh_tree.specs.program.Syntax as p
+use Rattle.sh_tree.specs.program.Syntax.{Text, Word}
+use Rattle.sh_tree.specs.program.Words.{operands_in, redirects_in, static_of}
+use Rattle.sh_tree.specs.declared.known.KnownName.{KnownName}
+use Rattle.sh_tree.specs.declared.known.KnownName.TheVariants as known
+use Rattle.sh_table.specs.declared.kind.Kind.TheVariants as kind
+use Rattle.sh_table.specs.Kinds.{is_declaration}
+use Rattle.sh_table.specs.Profile.{unless, sets_known, kind_rule}
+use Rattle.sh_table.specs.runs.Environment.{Environment, Frame, is_one_of, showing}
+use Rattle.sh_table.specs.runs.Answers.{Answer}
+use Rattle.sh_table.specs.runs.Builtins.{nonzero, set_frame, shifted, special, special_or_end}
+use Rattle.sh_table.specs.runs.Operands.{definitions_in, has_command, set_words, count_operand}
+use Rattle.sh_table.specs.runs.Work.{Work, Return, Test, Again, ForFields, Keeps, Effect, goes, ends}
+use Rattle.sh_facts.specs.Demands.{command_moves, moves, kind_moves, is_reached}
+use Rattle.sh_facts.specs.Entries.{Around}
+use Rattle.sh_facts.specs.Facts.{Facts, NotReached, Known, Nowhere, claims, facts, Declared}
+use Rattle.sh_facts.specs.Gains.{Gains, named, and_gains, words_gains}
+use Rattle.sh_facts.specs.Inclusions as i
+use Rattle.sh_facts.specs.Inclusions.{Leaves, MayDrop, UtilityRules, behind, surroundings_of}
+use Rattle.sh_facts.specs.Operands.{Names, total, positional_words, first_number, runs_command}
+use Rattle.sh_facts.specs.Table as table
+use Rattle.sh_facts.specs.Table.{Utility, prefixes, assignments_gains, redirections_gains, is_redirected, after_utility, after_set, after_shift}
+use Rattle.sh_facts.specs.Views.{Certificate, Before, Count, Shift, Step, Seen, After, Both, if_zero, if_nonzero, after_command, at, gaining, gaining_names, stepped, counted_by, where_known, step, steps, source_facts}
+use Rattle.sh_sound.specs.Fields.{Fields}
+use Rattle.sh_sound.specs.Holding.{Holds, Has, Grows, OneHolds, AfterHolds}
+use Rattle.sh_sound.specs.Going.{around, front, frames_behind, FrameStays, OfFirst, Bodies, Good, Stays, NextOk, StartsOk, ProcessOk, StepOk}
+use Rattle.sh_sound.specs.Doing.{behind_facts, parameters, RulesAt}
+use Rattle.sh_sound.proofs.HoldLemmas.{grows_refl, gain_holds, holds_gain, has_gain, one_left, one_right, one_stepped, both_holds, leaves_lead}
+use Rattle.sh_sound.proofs.ListLemmas.{good_in, step_ends, turns_to, same_frames, frame_stays, zero_holds, nonzero_holds}
+use Rattle.sh_sound.proofs.CompoundLemmas.{is_nonzero}
+use Rattle.sh_sound.proofs.DropLemmas.{Spares, spares_grow, front_goes, quiet_drop, drop_stays}
+use Rattle.sh_sound.proofs.CallLemmas.{counted_holds}
+use Rattle.sh_sound.proofs.FieldsLemmas.{counted_fits}
+use Rattle.sh_sound.proofs.OperandsLemmas.{SetFits, set_fits, first_number_fits, runs_fit}
+use Rattle.sh_sound.proofs.WordsLemmas.{behind_holds}
+
+-- the frame of the caller is not looked at
+stays_front : (d : Declared) (c : Certificate) (defined : List Text) (SimpleAt : Around → Work → Seen → Type 0) (callers : List Facts) (e : Environment) (fs : List Frame) (g : Frame)
+    → Stays d c defined SimpleAt callers e fs → Stays d c defined SimpleAt callers e (frames_behind fs (Keeps g))
+unfolding Stays frames_behind
+stays_front d c defined SimpleAt [] e [] g h = cc
+stays_front d c defined SimpleAt [] e (f ∷ []) g h = (g, refl)
+stays_front d c defined SimpleAt [] e (f ∷ k ∷ fs) g h = cc
+stays_front d c defined SimpleAt (kept ∷ callers) e [] g h = h
+stays_front d c defined SimpleAt (kept ∷ callers) e (f ∷ []) g h = h
+stays_front d c defined SimpleAt (kept ∷ callers) e (f ∷ k ∷ fs) g h = h
+
+front_moved : (d : Declared) (c : Certificate) (defined : List Text) (SimpleAt : Around → Work → Seen → Type 0) (callers : List Facts) (e : Environment) (fs : List Frame) (g : Frame)
+    → Stays d c defined SimpleAt callers e fs → front (frames_behind fs (Keeps g)) ≡ g
+unfolding Stays frames_behind front
+front_moved d c defined SimpleAt [] e [] g h = cc
+front_moved d c defined SimpleAt (kept ∷ callers) e [] g h = absurd h
+front_moved d c defined SimpleAt callers e (f ∷ fs) g h = refl
+
+-- the frame that the process began with is at the front where nobody waits
+frame_of : (d : Declared) (c : Certificate) (defined : List Text) (SimpleAt : Around → Work → Seen → Type 0) (callers : List Facts) (e : Environment) (fs : List Frame) (g : Frame)
+    → Stays d c defined SimpleAt callers e fs → (callers ≡ [] → ⊥) → FrameStays fs (Keeps g)
+unfolding Stays FrameStays
+frame_of d c defined SimpleAt [] e fs g h k = absurd (k refl)
+frame_of d c defined SimpleAt (kept ∷ callers) e [] g h k = tt
+frame_of d c defined SimpleAt (kept ∷ callers) e (f ∷ []) g h k = absurd h
+frame_of d c defined SimpleAt (kept ∷ callers) e (f ∷ j ∷ fs) g h k = tt
+
+-- where nobody waits, the place shares what its process does
+module _ (d : Declared) (c : Certificate) (defined : List Text) (SimpleAt : Around → Work → Seen → Type 0) where
+  same_shares : (base : Around) (callers : List Facts) (ws : List Work) (o : After) → callers ≡ [] → Good d c defined SimpleAt base callers ws o → (around base ws).shares ≡ base.shares
+  unfolding Good around OfFirst
+  same_shares base callers [] o none good = refl
+  same_shares base [] (Return n f saved ∷ ws) o none good = absurd good
+  same_shares base (kept ∷ callers) (Return n f saved ∷ ws) o none good = cc
+  same_shares base callers (w ∷ ws) o none good =
+      let next = front_goes d c defined SimpleAt (around base ws) w (λ r. Good d c defined SimpleAt base callers ws r) good.after good.goes in
+      same_shares base callers ws next.0 none next.1
+
+  abbrev Well : Around → Environment → List Frame → ℕ → List Work → Type 0
+  Well base e fs status ws = ProcessOk d c defined SimpleAt base e fs status ws
+
+  abbrev Ok : Around → Environment → List Frame → ℕ → Effect → Type 0
+  Ok base e fs status x = StepOk d c defined SimpleAt base e fs status x
+
+  module _ (base : Around) (e : Environment) (fs : List Frame) (status : ℕ) (ws : List Work) where
+    -- what may be dropped is gone
+    pub drops_ok : (names : Names) (o : After) (now : ℕ) (e' : Environment) (vs : List Work) (live : Well base e fs status vs) → Good d c defined SimpleAt base live.callers ws o
+        → MayDrop d c (around base ws) names → Spares names e e' → Bodies d c defined e'.functions → AfterHolds d c now o e' (front fs) → Ok base e fs status (goes e' (front fs) now ws)
+    unfolding NextOk StartsOk i.Each
+    drops_ok names o now e' vs live good may spares bodies h = record {
+      quiet = refl;
+      next = λ k. subst (λ gs. Well base e' gs now ws) (sym (same_frames d c defined SimpleAt fs)) (record {
+        known = o;
+        callers = live.callers;
+        good = good_in d c defined SimpleAt (front fs) base live.callers ws o good;
+        holds = h;
+        stays = drop_stays d c defined SimpleAt base live.callers ws o good names may e e' fs spares live.stays;
+        bodies = bodies;
+      });
+      starts = tt;
+      grows = λ shares. let none = quiet_drop d c defined SimpleAt base live.callers ws o good shares names may in spares_grow names e e' none.0 none.1 spares;
+      frame = λ shares. frame_stays d c defined SimpleAt fs;
+    }
+
+    -- other parameters: not in a part of a pipeline
+    pub moves_ok : (g : Frame) (o : After) (now : ℕ) (vs : List Work) (live : Well base e fs status vs) → Good d c defined SimpleAt base live.callers ws o
+        → ((around base ws).shares ≡ true → ⊥) → AfterHolds d c now o e g → Ok base e fs status (goes e g now ws)
+    unfolding NextOk StartsOk i.Each
+    moves_ok g o now vs live good alone h = record {
+      quiet = refl;
+      next = λ k. record {
+        known = o;
+        callers = live.callers;
+        good = good_in d c defined SimpleAt (front (frames_behind fs (Keeps g))) base live.callers ws o good;
+        holds = subst (λ k. AfterHolds d c now o e k) (sym (front_moved d c defined SimpleAt live.callers e fs g live.stays)) h;
+        stays = stays_front d c defined SimpleAt live.callers e fs g live.stays;
+        bodies = live.bodies;
+      };
+      starts = tt;
+      grows = λ shares. grows_refl e;
+      frame = λ shares. frame_of d c defined SimpleAt live.callers e fs g live.stays (λ none. alone (same_shares base live.callers ws o none good ∙ shares));
+    }
+
+-- Steps over what is known behind the words
+
+module _ (d : Declared) (c : Certificate) where
+  pub stepped_behind : (x : Step) (n : ℕ) (es : p.Elements) (e : Environment) (f : Frame) → Holds (step c x (behind_facts c n es)) e f → OneHolds d c (stepped x (behind d c n es)) e f
+  unfolding OneHolds steps step source_facts
+  stepped_behind x n es e f h = inl h
+
+  pub shift_holds : (n : ℕ) (s : Seen) (e : Environment) (f g : Frame) → length f - n ≤ length g → OneHolds d c s e f → OneHolds d c (stepped (Shift n) s) e g
+  unfolding Holds step where_known
+  shift_holds n s e f g l h = one_stepped d c (Shift n) s e e f g go h
+    where
+      go : (y : Facts) → Holds y e f → Holds (step c (Shift n) y) e g
+      go NotReached h = h
+      go (Known v q m) h = record { variables = h.variables; job = h.job; functions = h.functions; parameters = let k : m ≤ length f = h.parameters in omega (arith, k, l) }
+
+  pub none_counted : (s : Seen) (e : Environment) (f g : Frame) → OneHolds d c s e f → OneHolds d c (stepped (Count (total [])) s) e g
+  unfolding total
+  none_counted s e f g h = one_stepped d c (Count (total [])) s e e f g (λ y k. counted_holds c (total []) y e f g k (omega arith)) h
+
+  pub has_names : (g : Gains) (e : Environment) (f k : Frame) → Has g e f → Has (named g.names) e k
+  has_names g e f k h = record { variables = h.variables; job = h.job; functions = λ t i s. cc; parameters = omega arith }
