@@ -1,13 +1,12 @@
 -- What built-in utilities and prefix assignments leave of what was set, and what they set.
-use Rattle.std.proofs.Common.{◌≡◌, ℕ, ◌+◌, ◌==◌, Bool, true, false, not, ◌&&◌, ◌||◌, if◌then◌else◌, Option, Some, None, is_some, List, [], ◌∷◌, ◌++◌, map, filter, take, codes, bytes_eq, inl, inr, refl, sym, ap, subst, ◌∙◌}
-use Rattle.std.specs.List.{list_all, filter_map}
-use Rattle.std.proofs.lemmas.Bool.{and_parts, or_cases, or_left, or_right, or_parts, false≢true, true≢false}
+use Rattle.std.proofs.Common.{◌≡◌, ℕ, ◌+◌, ◌==◌, Bool, true, false, not, ◌||◌, if◌then◌else◌, Option, Some, None, is_some, List, [], ◌∷◌, map, filter, codes, bytes_eq, inl, inr, refl, sym, ap, subst, ◌∙◌}
+use Rattle.std.proofs.lemmas.Bool.{and_parts, or_cases, or_parts, true≢false}
 use Rattle.std.proofs.lemmas.Slice.Eq.{bytes_eq-Decides}
 use Rattle.sh_tree.specs.language.Bytes.{is_name}
 use Rattle.sh_tree.specs.program.Syntax.{Text}
 use Rattle.sh_table.specs.runs.Environment.{Environment, is_one_of, put_text, with_variable, with_function, showing, hiding}
 use Rattle.sh_table.specs.runs.Answers.{Answer}
-use Rattle.sh_table.specs.runs.Builtins.{is_removed, removed_either, removed_any, removed, removed_all, unset_names, given_to, read_into, gets_option, changes_directory}
+use Rattle.sh_table.specs.runs.Builtins.{is_removed, removed_either, removed_any, removed, removed_all, given_to, read_into, gets_option, changes_directory}
 use Rattle.sh_table.specs.runs.Operands.{Removal, OfVariables, OfFunctions, OfEither, OfAny}
 use Rattle.sh_table.proofs.EnvironmentLemmas.{if_either, showing_kept, hiding_kept}
 use Rattle.sh_facts.specs.Operands as operands

@@ -1,12 +1,12 @@
 -- What built-in utilities read off their fields is what the rules read off the words.
-use Rattle.std.proofs.Common.{◌≡◌, ℕ, zero, suc, ◌+◌, ◌==◌, ◌||◌, take, bytes_eq, inl, inr, Bool, true, false, not, ◌&&◌, if◌then◌else◌, Option, Some, None, is_some, unwrap_or, option_map, option_and_then, List, [], ◌∷◌, ◌++◌, map, length, filter, drop, codes, refl, sym, ap, subst, ◌∙◌}
+use Rattle.std.proofs.Common.{◌≡◌, ℕ, zero, suc, ◌+◌, ◌==◌, ◌||◌, take, bytes_eq, inl, inr, Bool, true, false, not, ◌&&◌, if◌then◌else◌, Option, Some, None, is_some, unwrap_or, option_map, option_and_then, List, [], ◌∷◌, ◌++◌, map, drop, codes, refl, sym, ap, subst, ◌∙◌}
 use Rattle.std.specs.List.{list_all, filter_map, cons_option}
 use Rattle.std.proofs.lemmas.Bool.{and_parts, or_cases, or_left, or_right, false≢true, true≢false}
 use Rattle.std.proofs.lemmas.Slice.Eq.{bytes_eq-Decides}
 use Rattle.std.proofs.lemmas.List.Elements.{filter_map-append}
 use Rattle.std.proofs.lemmas.List.{map-append}
 use Rattle.std.proofs.lemmas.List.Folds.{list_any-append}
-use Rattle.std.proofs.lemmas.Option.{none-some, same_Some}
+use Rattle.std.proofs.lemmas.Option.{none-some}
 use Rattle.sh_tree.specs.language.Bytes.{is_first, is_name, is_name_start, is_name_byte, run, name_length}
 use Rattle.sh_tree.specs.language.Commands.{is_assignment}
 use Rattle.sh_tree.specs.program.Syntax.{Text, Plain, Word, no_parts, more_parts}

@@ -1,10 +1,10 @@
 -- Steps of the redirections and assignments of simple commands.
-use Rattle.std.proofs.Common.{◌≡◌, ℕ, ◌==◌, Bool, true, false, not, ◌&&◌, ◌||◌, if◌then◌else◌, Option, Some, None, is_some, List, [], ◌∷◌, ◌++◌, map, refl, sym, ap, subst, ◌∙◌, ◌⊎◌, inl, inr}
+use Rattle.std.proofs.Common.{◌≡◌, ℕ, ◌==◌, Bool, true, false, ◌&&◌, if◌then◌else◌, Option, Some, None, is_some, List, [], ◌∷◌, map, refl, sym, ap, subst, ◌∙◌, ◌⊎◌, inl, inr}
 use Rattle.std.proofs.lemmas.Bool.{and_parts, false≢true}
 use Rattle.sh_tree.specs.language.Bytes.{is_name}
 use Rattle.sh_tree.specs.program.Syntax as p
 use Rattle.sh_tree.specs.program.Syntax.{Text}
-use Rattle.sh_tree.specs.program.Words.{Assignments, operands_in, redirects_in, assignments_in}
+use Rattle.sh_tree.specs.program.Words.{Assignments, redirects_in, assignments_in}
 use Rattle.sh_table.specs.Kinds.{kind_of, is_declaration}
 use Rattle.sh_table.specs.declared.kind.Kind.{Kind}
 use Rattle.sh_table.specs.declared.kind.Kind.TheVariants as kind
@@ -14,19 +14,19 @@ use Rattle.sh_table.specs.runs.Builtins.{nonzero}
 use Rattle.sh_table.specs.runs.Expansion.{in_one, Outcome, pieces_text, expand}
 use Rattle.sh_table.specs.runs.States.{State, fresh}
 use Rattle.sh_table.specs.runs.Steps.{opened, Manner, Nameless, Special, Named, named_manner, manner, status_behind, may_copy, invoked, unless_ended, failed_in, redirected, assignment}
-use Rattle.sh_table.specs.runs.Work.{Simple, Work, Prepare, Utility, Call, Effect, goes, ends, after_expansion}
+use Rattle.sh_table.specs.runs.Work.{Simple, Work, Prepare, Utility, Call, Effect, goes, after_expansion}
 use Rattle.sh_facts.specs.Entries.{Around}
 use Rattle.sh_facts.specs.Facts.{Facts, NotReached, Known, Function, claims, Declared}
-use Rattle.sh_facts.specs.Gains.{Gains, no_gains, named, and_gains, word_gains, redirect_gains, redirects_gains}
+use Rattle.sh_facts.specs.Gains.{Gains, named, and_gains, word_gains, redirect_gains, redirects_gains}
 use Rattle.sh_facts.specs.Inclusions.{Leaves, SimpleRules, behind}
 use Rattle.sh_facts.specs.Table as table
 use Rattle.sh_facts.specs.Table.{after_nameless, prefixes, is_special, values_gains, is_redirected, assignments_gains, redirections_gains}
-use Rattle.sh_facts.specs.Views.{Certificate, AfterNonzero, Seen, After, Both, in_any_case, if_zero, if_nonzero, after_command, at, gaining, gaining_names}
+use Rattle.sh_facts.specs.Views.{Certificate, Seen, Both, in_any_case, if_zero, if_nonzero, after_command, gaining, gaining_names}
 use Rattle.sh_sound.specs.Holding.{Holds, Has, Grows, OneHolds, Entails, Expanded}
-use Rattle.sh_sound.specs.Going.{around, front, unset_before, Bodies, WordAt, FrontGood, Good, GoodIn, ProcessOk, StepOk}
+use Rattle.sh_sound.specs.Going.{around, front, unset_before, Bodies, FrontGood, Good, GoodIn, ProcessOk, StepOk}
 use Rattle.sh_sound.specs.Fields.{Fields, FieldsFit}
 use Rattle.sh_sound.specs.Doing.{RulesAt, names_of, left_gains, behind_facts, parameters, EachOpened, EachValue, LeftAt, Settles, PrepareStage, UtilityStage, CallStage, SimpleAt}
-use Rattle.sh_sound.proofs.HoldLemmas.{has_nothing, leaves_lead, grows_refl, grows_trans, has_grows, has_both, has_first, has_second, gain_holds, holds_gain, has_gain, both_holds, one_grows, any_holds}
+use Rattle.sh_sound.proofs.HoldLemmas.{has_nothing, leaves_lead, grows_refl, grows_trans, has_both, has_first, has_second, gain_holds, holds_gain, has_gain, both_holds, one_grows}
 use Rattle.sh_sound.proofs.ExpansionLemmas.{has_name, assigned_grows, assigned_set}
 use Rattle.sh_sound.proofs.ListLemmas.{leads_same, step_goes, turns_to}
 use Rattle.sh_sound.proofs.StepLemmas.{word_expands, behind_word, grown, grown_in}

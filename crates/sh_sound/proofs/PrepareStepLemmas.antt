@@ -9,13 +9,13 @@ use Rattle.sh_tree.specs.program.Words.{Assignments, operands_in, static_of, wor
 use Rattle.sh_table.specs.declared.kind.Kind.{Kind}
 use Rattle.sh_table.specs.declared.kind.Kind.TheVariants as kind
 use Rattle.sh_table.specs.Kinds.{kind_of, is_declaration}
-use Rattle.sh_table.specs.Profile.{Static, unless, or_rule, kind_rule, named_rule, words_rule, command_rule}
+use Rattle.sh_table.specs.Profile.{Static, or_rule, kind_rule, named_rule, words_rule, command_rule}
 use Rattle.sh_table.specs.Surroundings.{Surroundings}
 use Rattle.sh_table.specs.runs.Environment.{Environment, Frame}
 use Rattle.sh_table.specs.runs.Answers.{Answer}
 use Rattle.sh_table.specs.runs.Builtins.{special, special_or_end}
-use Rattle.sh_table.specs.runs.Steps.{Manner, Nameless, Special, Named, named_manner, manner, in_order, in_any_order, next_preparation, invoked, prepared, prepare, act_on}
-use Rattle.sh_table.specs.runs.Work.{Simple, Work, Prepare, Effect, goes, ends}
+use Rattle.sh_table.specs.runs.Steps.{Manner, Special, Named, named_manner, manner, in_order, in_any_order, next_preparation, prepared, prepare, act_on}
+use Rattle.sh_table.specs.runs.Work.{Simple, Work, Prepare, Effect, ends}
 use Rattle.sh_facts.specs.Demands.{command_moves, moves, kind_moves, is_reached}
 use Rattle.sh_facts.specs.Entries.{Around}
 use Rattle.sh_facts.specs.Facts.{Facts, NotReached, Known, claims, facts, Declared}
@@ -25,16 +25,16 @@ use Rattle.sh_facts.specs.Inclusions.{MayDrop, SimpleRules, UtilityRules, behind
 use Rattle.sh_facts.specs.Rules.{utility_losses, losses_by}
 use Rattle.sh_facts.specs.Table as table
 use Rattle.sh_facts.specs.Table.{is_special, values_gains}
-use Rattle.sh_facts.specs.Views.{Certificate, Before, Seen, in_any_case, after_command, gaining, lost}
+use Rattle.sh_facts.specs.Views.{Certificate, Before, Seen, in_any_case, after_command, lost}
 use Rattle.sh_sound.specs.Fields.{Fields, FieldsFit}
 use Rattle.sh_sound.specs.Holding.{Holds, OneHolds}
 use Rattle.sh_sound.specs.Going.{around, front, FrontGood, Good, GoodIn, ProcessOk, StepOk}
-use Rattle.sh_sound.specs.Doing.{left_gains, behind_facts, parameters, RulesAt, Settles, PrepareStage, SimpleAt}
+use Rattle.sh_sound.specs.Doing.{left_gains, behind_facts, parameters, Settles, PrepareStage, SimpleAt}
 use Rattle.sh_sound.proofs.HoldLemmas.{has_nothing, grows_refl, gain_holds, any_holds}
 use Rattle.sh_sound.proofs.ListLemmas.{step_ends}
 use Rattle.sh_sound.proofs.MannerLemmas.{BehindName, behind_name, special_manner, rules_by, losses_at}
 use Rattle.sh_sound.proofs.PrepareLemmas.{may_prefix, redirect_ok, assign_ok, nameless_ok, invoked_ok}
-use Rattle.sh_sound.proofs.SpecialRowLemmas.{Ready, left_set, special_ok}
+use Rattle.sh_sound.proofs.SpecialRowLemmas.{Ready, special_ok}
 use Rattle.sh_sound.proofs.WordsLemmas.{behind_holds}
 
 -- what an admitted command's name admits

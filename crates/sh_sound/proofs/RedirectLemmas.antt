@@ -1,6 +1,5 @@
 -- Steps of the redirections of simple commands, of utilities and of functions.
-use Rattle.std.proofs.Common.{◌≡◌, ℕ, ◌==◌, Bool, true, false, ◌&&◌, ◌||◌, if◌then◌else◌, Option, is_some, List, [], ◌∷◌, refl, sym, subst}
-use Rattle.sh_tree.specs.program.Syntax as p
+use Rattle.std.proofs.Common.{◌≡◌, ℕ, Bool, true, false, ◌&&◌, ◌||◌, if◌then◌else◌, is_some, List, refl, sym, subst}
 use Rattle.sh_tree.specs.program.Syntax.{Text}
 use Rattle.sh_table.specs.runs.Environment.{Environment, Frame}
 use Rattle.sh_table.specs.runs.Answers.{Answer}

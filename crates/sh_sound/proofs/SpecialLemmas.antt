@@ -1,43 +1,23 @@
 -- Special built-in utilities, by what the table says of each.
-use Rattle.std.proofs.Common.{◌≡◌, ℕ, ◌-◌, ◌==◌, ◌≤◌, nat_le, Bool, true, false, not, ◌&&◌, ◌||◌, if◌then◌else◌, Option, Some, None, is_some, unwrap_or, List, [], ◌∷◌, ◌++◌, map, length, drop, filter, bytes_eq, inl, inr, refl, sym, ap, subst, ◌∙◌, arith, length-drop}
-use Rattle.std.specs.List.{list_all}
-use Rattle.std.proofs.lemmas.Bool.{and_parts, and_from, false≢true, true≢false}
-use Rattle.sh_tree.specs.language.Bytes.{is_name}
+use Rattle.std.proofs.Common.{◌≡◌, ℕ, ◌-◌, ◌≤◌, true, List, [], ◌∷◌, length, inl, refl, sym, subst, ◌∙◌, arith}
 use Rattle.sh_tree.specs.program.Syntax as p
 use Rattle.sh_tree.specs.program.Syntax.{Text, Word}
-use Rattle.sh_tree.specs.program.Words.{operands_in, redirects_in, static_of}
-use Rattle.sh_tree.specs.declared.known.KnownName.{KnownName}
-use Rattle.sh_tree.specs.declared.known.KnownName.TheVariants as known
-use Rattle.sh_table.specs.declared.kind.Kind.TheVariants as kind
-use Rattle.sh_table.specs.Kinds.{is_declaration}
-use Rattle.sh_table.specs.Profile.{unless, sets_known, kind_rule}
-use Rattle.sh_table.specs.runs.Environment.{Environment, Frame, is_one_of, showing}
-use Rattle.sh_table.specs.runs.Answers.{Answer}
-use Rattle.sh_table.specs.runs.Builtins.{nonzero, set_frame, shifted, special, special_or_end}
-use Rattle.sh_table.specs.runs.Operands.{definitions_in, has_command, set_words, count_operand}
-use Rattle.sh_table.specs.runs.Work.{Work, Return, Test, Again, ForFields, Keeps, Effect, goes, ends}
-use Rattle.sh_facts.specs.Demands.{command_moves, moves, kind_moves, is_reached}
+use Rattle.sh_table.specs.runs.Environment.{Environment, Frame}
+use Rattle.sh_table.specs.runs.Work.{Work, Return, Keeps, Effect, goes}
 use Rattle.sh_facts.specs.Entries.{Around}
-use Rattle.sh_facts.specs.Facts.{Facts, NotReached, Known, Nowhere, claims, facts, Declared}
-use Rattle.sh_facts.specs.Gains.{Gains, named, and_gains, words_gains}
+use Rattle.sh_facts.specs.Facts.{Facts, NotReached, Known, Declared}
+use Rattle.sh_facts.specs.Gains.{Gains, named}
 use Rattle.sh_facts.specs.Inclusions as i
 use Rattle.sh_facts.specs.Inclusions.{Leaves, MayDrop, UtilityRules, behind, surroundings_of}
-use Rattle.sh_facts.specs.Operands.{Names, total, positional_words, first_number, runs_command}
-use Rattle.sh_facts.specs.Table as table
-use Rattle.sh_facts.specs.Table.{Utility, prefixes, assignments_gains, redirections_gains, is_redirected, after_utility, after_set, after_shift}
-use Rattle.sh_facts.specs.Views.{Certificate, Before, Count, Shift, Step, Seen, After, Both, if_zero, if_nonzero, after_command, at, gaining, gaining_names, stepped, counted_by, where_known, step, steps, source_facts}
-use Rattle.sh_sound.specs.Fields.{Fields}
-use Rattle.sh_sound.specs.Holding.{Holds, Has, Grows, OneHolds, AfterHolds}
+use Rattle.sh_facts.specs.Operands.{Names, total}
+use Rattle.sh_facts.specs.Views.{Certificate, Count, Shift, Step, Seen, After, stepped, where_known, step, steps, source_facts}
+use Rattle.sh_sound.specs.Holding.{Holds, Has, OneHolds, AfterHolds}
 use Rattle.sh_sound.specs.Going.{around, front, frames_behind, FrameStays, OfFirst, Bodies, Good, Stays, NextOk, StartsOk, ProcessOk, StepOk}
-use Rattle.sh_sound.specs.Doing.{behind_facts, parameters, RulesAt}
-use Rattle.sh_sound.proofs.HoldLemmas.{grows_refl, gain_holds, holds_gain, has_gain, one_left, one_right, one_stepped, both_holds, leaves_lead}
-use Rattle.sh_sound.proofs.ListLemmas.{good_in, step_ends, turns_to, same_frames, frame_stays, zero_holds, nonzero_holds}
-use Rattle.sh_sound.proofs.CompoundLemmas.{is_nonzero}
+use Rattle.sh_sound.specs.Doing.{behind_facts}
+use Rattle.sh_sound.proofs.HoldLemmas.{grows_refl, one_stepped}
+use Rattle.sh_sound.proofs.ListLemmas.{good_in, same_frames, frame_stays}
 use Rattle.sh_sound.proofs.DropLemmas.{Spares, spares_grow, front_goes, quiet_drop, drop_stays}
 use Rattle.sh_sound.proofs.CallLemmas.{counted_holds}
-use Rattle.sh_sound.proofs.FieldsLemmas.{counted_fits}
-use Rattle.sh_sound.proofs.OperandsLemmas.{SetFits, set_fits, first_number_fits, runs_fit}
-use Rattle.sh_sound.proofs.WordsLemmas.{behind_holds}
 
 -- the frame of the caller is not looked at
 stays_front : (d : Declared) (c : Certificate) (defined : List Text) (SimpleAt : Around → Work → Seen → Type 0) (callers : List Facts) (e : Environment) (fs : List Frame) (g : Frame)

@@ -1,8 +1,7 @@
 -- What each special built-in utility leaves is what the table says.
-use Rattle.std.proofs.Common.{◌≡◌, ℕ, ◌-◌, ◌==◌, ◌≤◌, nat_le, Bool, true, false, not, ◌&&◌, ◌||◌, if◌then◌else◌, Option, Some, None, is_some, unwrap_or, List, [], ◌∷◌, ◌++◌, map, length, drop, filter, bytes_eq, refl, sym, ap, subst, ◌∙◌, arith, length-drop}
+use Rattle.std.proofs.Common.{◌≡◌, ℕ, ◌-◌, ◌==◌, ◌≤◌, nat_le, Bool, true, false, ◌||◌, if◌then◌else◌, Option, Some, None, is_some, List, [], ◌∷◌, map, length, drop, filter, bytes_eq, refl, sym, ap, subst, ◌∙◌, arith, length-drop}
 use Rattle.std.specs.List.{list_all}
-use Rattle.std.proofs.lemmas.Bool.{and_parts, false≢true, true≢false}
-use Rattle.sh_tree.specs.language.Bytes.{is_name}
+use Rattle.std.proofs.lemmas.Bool.{false≢true, true≢false}
 use Rattle.sh_tree.specs.program.Syntax as p
 use Rattle.sh_tree.specs.program.Syntax.{Text, Word}
 use Rattle.sh_tree.specs.program.Words.{operands_in, redirects_in, static_of, words_in}
@@ -20,20 +19,19 @@ use Rattle.sh_table.proofs.EnvironmentLemmas.{all_removed_kept}
 use Rattle.sh_facts.specs.Demands.{kind_moves}
 use Rattle.sh_facts.specs.Entries.{Around}
 use Rattle.sh_facts.specs.Facts.{facts, Declared}
-use Rattle.sh_facts.specs.Gains.{Gains, job, named, and_gains, words_gains}
+use Rattle.sh_facts.specs.Gains.{Gains, named, and_gains, words_gains}
 use Rattle.sh_facts.specs.Inclusions as i
 use Rattle.sh_facts.specs.Inclusions.{Leaves, MayDrop, UtilityRules, behind, surroundings_of}
 use Rattle.sh_facts.specs.Operands as operands
 use Rattle.sh_facts.specs.Operands.{Names, statics, total, positional_words, first_number, runs_command, declared_names}
 use Rattle.sh_facts.specs.Rules.{utility_losses}
 use Rattle.sh_facts.specs.Table.{prefixes, assignments_gains, redirections_gains, is_redirected, after_utility, after_set, after_shift}
-use Rattle.sh_facts.specs.Views.{Certificate, Before, Count, Shift, Seen, After, Both, if_zero, if_nonzero, after_command, gaining, gaining_names, stepped, Lose, counted_by, lost}
-use Rattle.sh_facts.specs.Views as views
+use Rattle.sh_facts.specs.Views.{Certificate, Before, Count, Shift, Seen, After, Both, if_zero, if_nonzero, after_command, gaining, gaining_names, stepped, Lose, lost}
 use Rattle.sh_sound.specs.Fields.{Fields}
-use Rattle.sh_sound.specs.Holding.{Has, Grows, OneHolds, AfterHolds}
+use Rattle.sh_sound.specs.Holding.{Has, OneHolds, AfterHolds}
 use Rattle.sh_sound.specs.Going.{around, front, Bodies, BodyOk, Good, ProcessOk, StepOk}
 use Rattle.sh_sound.specs.Doing.{behind_facts, parameters}
-use Rattle.sh_sound.proofs.HoldLemmas.{grows_refl, gain_holds, holds_gain, has_gain, one_grows, one_left, one_right, both_holds, leaves_lead}
+use Rattle.sh_sound.proofs.HoldLemmas.{grows_refl, gain_holds, has_gain, one_grows, one_left, one_right, both_holds, leaves_lead}
 use Rattle.sh_sound.proofs.ListLemmas.{step_goes, step_ends, turns_to, zero_holds, nonzero_holds}
 use Rattle.sh_sound.proofs.StepLemmas.{grown}
 use Rattle.sh_sound.proofs.CompoundLemmas.{is_nonzero}

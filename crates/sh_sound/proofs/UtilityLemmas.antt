@@ -1,16 +1,16 @@
 -- Utilities that are not special built-ins: their redirections and prefix assignments, and what the table says of each.
-use Rattle.std.proofs.Common.{◌≡◌, ℕ, ◌==◌, Bool, true, false, not, ◌&&◌, ◌||◌, if◌then◌else◌, Option, Some, None, is_some, unwrap_or, List, [], ◌∷◌, ◌++◌, map, filter, codes, bytes_eq, ◌⊎◌, inl, inr, refl, sym, ap, subst, ◌∙◌, arith}
+use Rattle.std.proofs.Common.{◌≡◌, ℕ, ◌==◌, Bool, true, false, not, ◌&&◌, ◌||◌, if◌then◌else◌, Option, Some, None, is_some, unwrap_or, List, [], ◌∷◌, ◌++◌, map, filter, codes, bytes_eq, inl, inr, refl, sym, ap, subst, ◌∙◌, arith}
 use Rattle.std.specs.List.{list_all}
 use Rattle.std.proofs.lemmas.Bool.{and_parts, or_cases, false≢true, true≢false, not-true}
 use Rattle.std.proofs.lemmas.Slice.Eq.{bytes_eq-Decides}
 use Rattle.sh_tree.specs.language.Bytes.{is_name}
 use Rattle.sh_tree.specs.program.Syntax as p
 use Rattle.sh_tree.specs.program.Syntax.{Text, Word}
-use Rattle.sh_tree.specs.program.Words.{Assignments, operands_in, redirects_in}
+use Rattle.sh_tree.specs.program.Words.{operands_in}
 use Rattle.sh_table.specs.declared.kind.Kind.{Kind}
 use Rattle.sh_table.specs.declared.kind.Kind.TheVariants as kind
 use Rattle.sh_table.specs.Kinds.{Table, look_up, all_names, kind_of}
-use Rattle.sh_table.specs.runs.Environment.{Environment, Frame, is_one_of, with_variable, showing, hiding}
+use Rattle.sh_table.specs.runs.Environment.{Environment, Frame, is_one_of, with_variable}
 use Rattle.sh_table.specs.runs.Answers.{Answer}
 use Rattle.sh_table.specs.runs.Builtins.{nonzero, read_into, reads, gets_option, changes_directory, utility}
 use Rattle.sh_table.specs.runs.Operands as o
@@ -30,10 +30,10 @@ use Rattle.sh_facts.specs.Views.{Certificate, Slot, Before, AfterZero, AfterNonz
 use Rattle.sh_sound.specs.Fields.{Fields}
 use Rattle.sh_sound.specs.Holding.{Holds, Has, Grows, OneHolds, AfterHolds}
 use Rattle.sh_sound.specs.Going.{around, front, Bodies, Good, ProcessOk, StepOk}
-use Rattle.sh_sound.specs.Doing.{behind_facts, parameters}
+use Rattle.sh_sound.specs.Doing.{behind_facts}
 use Rattle.sh_sound.proofs.HoldLemmas.{grows_refl, each_left, covers_at, gain_holds, one_grows, both_holds, leaves_lead}
 use Rattle.sh_sound.proofs.ExpansionLemmas.{job_no_name, one_name}
-use Rattle.sh_sound.proofs.ListLemmas.{step_goes, turns_to, zero_holds, nonzero_holds}
+use Rattle.sh_sound.proofs.ListLemmas.{step_goes, zero_holds, nonzero_holds}
 use Rattle.sh_sound.proofs.StepLemmas.{grown}
 use Rattle.sh_sound.proofs.CompoundLemmas.{is_nonzero}
 use Rattle.sh_sound.proofs.DropLemmas.{Spares}

@@ -1,5 +1,5 @@
 -- Steps of utilities that are not special built-ins.
-use Rattle.std.proofs.Common.{◌≡◌, ℕ, Bool, true, false, if◌then◌else◌, List, [], ◌∷◌, ◌++◌, ◌⊎◌, inl, inr, refl, sym, ap, subst, ◌∙◌}
+use Rattle.std.proofs.Common.{◌≡◌, ℕ, Bool, true, false, if◌then◌else◌, List, [], ◌∷◌, ◌++◌, inl, inr, refl, sym, subst, ◌∙◌}
 use Rattle.std.proofs.lemmas.Bool.{true≢false}
 use Rattle.sh_tree.specs.program.Syntax as p
 use Rattle.sh_tree.specs.program.Syntax.{Text}
@@ -13,19 +13,19 @@ use Rattle.sh_table.specs.runs.States.{State, fresh}
 use Rattle.sh_table.specs.runs.Steps.{opened, Named, status_behind, unless_ended, failed_in, redirected, kept, seen, utility_step, act_on}
 use Rattle.sh_table.specs.runs.Work.{Simple, Work, Utility, Effect, goes, ends, after_expansion}
 use Rattle.sh_facts.specs.Entries.{Around}
-use Rattle.sh_facts.specs.Facts.{Facts, Function, claims, Declared}
+use Rattle.sh_facts.specs.Facts.{Facts, Declared}
 use Rattle.sh_facts.specs.Gains.{no_gains, and_gains, word_gains}
 use Rattle.sh_facts.specs.Inclusions as i
 use Rattle.sh_facts.specs.Inclusions.{MayDrop, SimpleRules, behind}
 use Rattle.sh_facts.specs.Rules.{losses_by}
 use Rattle.sh_facts.specs.Table as table
 use Rattle.sh_facts.specs.Table.{is_redirected, prefixes, assignments_gains, redirections_gains}
-use Rattle.sh_facts.specs.Views.{Certificate, Seen, After, Both, in_any_case, after_command, lost}
+use Rattle.sh_facts.specs.Views.{Certificate, Seen, Both, in_any_case, after_command}
 use Rattle.sh_sound.specs.Fields.{Fields}
 use Rattle.sh_sound.specs.Holding.{Grows, OneHolds, Expanded}
 use Rattle.sh_sound.specs.Going.{around, front, Bodies, WordAt, FrontGood, Good, GoodIn, ProcessOk, StepOk}
 use Rattle.sh_sound.specs.Doing.{behind_facts, parameters, EachOpened, EachValue, LeftAt, UtilityStage, SimpleAt}
-use Rattle.sh_sound.proofs.HoldLemmas.{has_nothing, holds_grow, grows_refl, grows_trans, one_grows, any_holds, both_holds}
+use Rattle.sh_sound.proofs.HoldLemmas.{has_nothing, grows_refl, grows_trans, one_grows, any_holds, both_holds}
 use Rattle.sh_sound.proofs.ExpansionLemmas.{word_does}
 use Rattle.sh_sound.proofs.ListLemmas.{leads_same}
 use Rattle.sh_sound.proofs.StepLemmas.{word_expands, grown}
