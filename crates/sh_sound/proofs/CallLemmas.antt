@@ -147,7 +147,7 @@ module _ (d : Declared) (c : Certificate) (defined : List Text) where
   unfolding OneHolds steps step source_facts
   known_behind n es e f h = inl h
 
-  known_stepped : (x : views.Step) (n : ℕ) (es : p.Elements) (e : Environment) (f : Frame) → Holds (step c x (behind_facts c n es)) e f → OneHolds d c (stepped x (behind d c n es)) e f
+  pub known_stepped : (x : views.Step) (n : ℕ) (es : p.Elements) (e : Environment) (f : Frame) → Holds (step c x (behind_facts c n es)) e f → OneHolds d c (stepped x (behind d c n es)) e f
   unfolding OneHolds steps step source_facts
   known_stepped x n es e f h = inl h
 

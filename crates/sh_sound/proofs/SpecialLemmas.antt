@@ -1,7 +1,6 @@
 -- Special built-in utilities, by what the table says of each.
-use Rattle.std.proofs.Common.{◌≡◌, ℕ, ◌-◌, ◌≤◌, true, List, [], ◌∷◌, length, inl, refl, sym, subst, ◌∙◌, arith}
-use Rattle.sh_tree.specs.program.Syntax as p
-use Rattle.sh_tree.specs.program.Syntax.{Text, Word}
+use Rattle.std.proofs.Common.{◌≡◌, ℕ, ◌-◌, ◌≤◌, true, List, [], ◌∷◌, length, refl, sym, subst, ◌∙◌, arith}
+use Rattle.sh_tree.specs.program.Syntax.{Text}
 use Rattle.sh_table.specs.runs.Environment.{Environment, Frame}
 use Rattle.sh_table.specs.runs.Work.{Work, Return, Keeps, Effect, goes}
 use Rattle.sh_facts.specs.Entries.{Around}
@@ -10,10 +9,9 @@ use Rattle.sh_facts.specs.Gains.{Gains, named}
 use Rattle.sh_facts.specs.Inclusions as i
 use Rattle.sh_facts.specs.Inclusions.{Leaves, MayDrop, UtilityRules, behind, surroundings_of}
 use Rattle.sh_facts.specs.Operands.{Names, total}
-use Rattle.sh_facts.specs.Views.{Certificate, Count, Shift, Step, Seen, After, stepped, where_known, step, steps, source_facts}
+use Rattle.sh_facts.specs.Views.{Certificate, Count, Shift, Seen, After, stepped, where_known, step}
 use Rattle.sh_sound.specs.Holding.{Holds, Has, OneHolds, AfterHolds}
 use Rattle.sh_sound.specs.Going.{around, front, frames_behind, FrameStays, OfFirst, Bodies, Good, Stays, NextOk, StartsOk, ProcessOk, StepOk}
-use Rattle.sh_sound.specs.Doing.{behind_facts}
 use Rattle.sh_sound.proofs.HoldLemmas.{grows_refl, one_stepped}
 use Rattle.sh_sound.proofs.ListLemmas.{good_in, same_frames, frame_stays}
 use Rattle.sh_sound.proofs.DropLemmas.{Spares, spares_grow, front_goes, quiet_drop, drop_stays}
@@ -105,10 +103,6 @@ module _ (d : Declared) (c : Certificate) (defined : List Text) (SimpleAt : Arou
 -- Steps over what is known behind the words
 
 module _ (d : Declared) (c : Certificate) where
-  pub stepped_behind : (x : Step) (n : ℕ) (es : p.Elements) (e : Environment) (f : Frame) → Holds (step c x (behind_facts c n es)) e f → OneHolds d c (stepped x (behind d c n es)) e f
-  unfolding OneHolds steps step source_facts
-  stepped_behind x n es e f h = inl h
-
   pub shift_holds : (n : ℕ) (s : Seen) (e : Environment) (f g : Frame) → length f - n ≤ length g → OneHolds d c s e f → OneHolds d c (stepped (Shift n) s) e g
   unfolding Holds step where_known
   shift_holds n s e f g l h = one_stepped d c (Shift n) s e e f g go h
