@@ -27,8 +27,6 @@ use Rattle.sh_sound.specs.Holding.{Holds, Has, OneHolds, Leads}
 use Rattle.sh_sound.specs.Going.{number_of, unset_before, Apart, after_function, ReturnAt}
 use Rattle.sh_sound.specs.Doing.{behind_facts, parameters, RulesAt}
 use Rattle.sh_sound.proofs.HoldLemmas.{each_right, covers_at, holds_at, gain_holds, holds_gain, has_gain, leads_each}
-use Rattle.sh_sound.proofs.MannerLemmas.{rules_by, losses_at}
-use Rattle.sh_sound.proofs.WordsLemmas.{behind_holds}
 use Rattle.sh_sound.proofs.DropLemmas.{Spares, unset_names, restored_spares, drops_fewer}
 
 -- a test that holds at each of these holds of all
@@ -138,20 +136,28 @@ unfolding Holds with_gains where_reached
 reached_same g NotReached names e f h = absurd h
 reached_same g (Known v q a) names e f h = refl
 
-module _ (d : Declared) (c : Certificate) where
-  -- what is known behind the words, and a step more
-  pub stepped_behind : (x : views.Step) (n : ℕ) (es : p.Elements) (e : Environment) (f : Frame) → Holds (step c x (behind_facts c n es)) e f → OneHolds d c (stepped x (behind d c n es)) e f
-  unfolding OneHolds steps step source_facts
-  stepped_behind x n es e f h = inl h
-
 module _ (d : Declared) (c : Certificate) (defined : List Text) where
+  -- behind the words one view is seen
+  pub behind_known : (n : ℕ) (es : p.Elements) (e : Environment) (f : Frame) → OneHolds d c (behind d c n es) e f → Holds (behind_facts c n es) e f
+  unfolding OneHolds steps step source_facts
+  behind_known n es e f (inl h) = h
+  behind_known n es e f (inr h) = absurd h
+
+  pub known_behind : (n : ℕ) (es : p.Elements) (e : Environment) (f : Frame) → Holds (behind_facts c n es) e f → OneHolds d c (behind d c n es) e f
+  unfolding OneHolds steps step source_facts
+  known_behind n es e f h = inl h
+
+  pub known_stepped : (x : views.Step) (n : ℕ) (es : p.Elements) (e : Environment) (f : Frame) → Holds (step c x (behind_facts c n es)) e f → OneHolds d c (stepped x (behind d c n es)) e f
+  unfolding OneHolds steps step source_facts
+  known_stepped x n es e f h = inl h
+
   module _ (x : Around) (n : ℕ) (es : p.Elements) (t : Text) (words : List Word) (rules : RulesAt d c defined x n es) (calls : table.manner defined es ≡ table.Call t words) where
     pub call_rules : CallRules d c n es t words
-    unfolding i.SimpleRules
-    call_rules = rules_by d c defined x n es (table.Call t words) rules calls
+    unfolding i.KindRules i.SimpleRules
+    call_rules = subst (i.SimpleRules d c x n es) calls rules.rules.kind
 
     losses : i.Each (λ l. MayDrop d c x (lost d c n l)) (losses_by defined es (behind d c n es) (table.Call t words))
-    losses = losses_at d c defined x n es (table.Call t words) rules calls
+    losses = subst (λ m. i.Each (λ l. MayDrop d c x (lost d c n l)) (losses_by defined es (behind d c n es) m)) calls rules.rules.losses
 
     -- what the function drops
     function_drops : (e : Environment) (f : Frame) → Holds (behind_facts c n es) e f → MayDrop d c x (c.drops t)
@@ -191,7 +197,7 @@ module _ (d : Declared) (c : Certificate) (defined : List Text) where
         holds : (restores : ℕ → Bool) (now : Environment) (inner outer : Frame) → Holds (kept_facts c t (behind_facts c n es)) now outer → (slot : Slot) → OneHolds d c (at slot) now inner
             → OneHolds d c (stepped (Call t slot (prefixes es)) (behind d c n es)) (restored restores 0 now saved) outer
         holds restores now inner outer l slot k =
-            stepped_behind d c (Call t slot (prefixes es)) n es (restored restores 0 now saved) outer
+            known_stepped (Call t slot (prefixes es)) n es (restored restores 0 now saved) outer
             (called_holds (c.drops t) (prefixes es) t (behind_facts c n es) (facts (c.claim slot)) saved among unclaimed restores now inner outer c (holds_at d c slot now inner k) l)
 
         comes : (restores : ℕ → Bool) (now : Environment) (inner outer : Frame) → Holds (kept_facts c t (behind_facts c n es)) now outer → (b : Bool)
@@ -203,11 +209,11 @@ module _ (d : Declared) (c : Certificate) (defined : List Text) where
     pub call_enters : (e : Environment) (f ts : Frame) → OneHolds d c (gaining_names (prefixes es) (behind d c n es)) e f → counted_by (total words) (parameters (behind_facts c n es)) ≤ length ts → OneHolds d c (at (Entry t)) e ts
     call_enters e f ts h l =
         let has : Has (named (prefixes es)) e f = has_gain d c (named (prefixes es)) (behind d c n es) e f h in
-        let known = behind_holds d c defined n es e f (holds_gain d c (named (prefixes es)) (behind d c n es) e f h) in
+        let known = behind_known n es e f (holds_gain d c (named (prefixes es)) (behind d c n es) e f h) in
         covers_at d c (Entry t) _ call_rules.entry e ts
         (gain_holds d c (named (prefixes es)) (stepped (Count (total words)) (behind d c n es)) e ts
         (record { variables = has.variables; job = has.job; functions = λ u i s. cc; parameters = omega arith })
-        (stepped_behind d c (Count (total words)) n es e ts (counted_holds c (total words) (behind_facts c n es) e f ts known l)))
+        (known_stepped (Count (total words)) n es e ts (counted_holds c (total words) (behind_facts c n es) e f ts known l)))
 
   -- the body of a function is where it returns
   pub body_returns : (t : Text) (body : p.Command) → BodyRules d c t body → Leads d c (after_command (number_of body)) (after_function t)

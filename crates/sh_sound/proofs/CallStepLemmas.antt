@@ -24,20 +24,17 @@ use Rattle.sh_facts.specs.Inclusions as i
 use Rattle.sh_facts.specs.Inclusions.{MayDrop, behind}
 use Rattle.sh_facts.specs.Table.{is_redirected, prefixes}
 use Rattle.sh_facts.specs.Views.{Certificate, AfterNonzero, Entry, Seen, After, Both, if_nonzero, in_any_case, after_command, at, gaining_names}
-use Rattle.sh_sound.specs.Holding.{Holds, Grows, OneHolds, Expanded, AfterHolds}
+use Rattle.sh_sound.specs.Holding.{Holds, Grows, OneHolds, Expanded}
 use Rattle.sh_sound.specs.Going.{around, unset_before, front, frames_behind, FrameStays, OfFirst, Bodies, FrontGood, Good, GoodIn, Stays, ProcessOk, NextOk, StartsOk, StepOk}
 use Rattle.sh_sound.specs.Doing.{names_of, behind_facts, EachOpened, EachValue, CallStage, SimpleAt}
 use Rattle.sh_sound.proofs.HoldLemmas.{grows_refl, grows_trans, holds_grow, has_nothing, one_grows, covers_at, gain_holds, holds_gain, any_holds, both_holds}
 use Rattle.sh_sound.proofs.ExpansionLemmas.{has_name, assigned_grows, assigned_set}
-use Rattle.sh_sound.proofs.ListLemmas.{frame_stays, step_goes, step_ends, leads_same, nonzero_holds}
+use Rattle.sh_sound.proofs.ListLemmas.{good_in, same_frames, frame_stays, step_goes, step_ends, stays_grow, leads_same, nonzero_holds}
 use Rattle.sh_sound.proofs.StepLemmas.{Plain, goes_plain, ends_plain, word_expands, expanded_ok, unless_ok, grown}
 use Rattle.sh_sound.proofs.CompoundLemmas.{is_nonzero}
 use Rattle.sh_sound.proofs.CaseLemmas.{gain_two}
-use Rattle.sh_sound.proofs.WordsLemmas.{behind_holds, holds_behind}
-use Rattle.sh_sound.proofs.ChangeLemmas.{grows_spares}
-use Rattle.sh_sound.proofs.SpecialLemmas.{drops_ok}
-use Rattle.sh_sound.proofs.DropLemmas.{Spares, unset_names, spares_grow, apart_holds, restored_spares, restored_functions, quiet_drop}
-use Rattle.sh_sound.proofs.CallLemmas.{kept_facts, lose_holds, unclaimed_apart, call_rules, unset_drop, call_returns, call_enters, body_returns}
+use Rattle.sh_sound.proofs.DropLemmas.{Spares, unset_names, spares_grow, apart_holds, restored_spares, restored_functions, quiet_drop, drop_stays}
+use Rattle.sh_sound.proofs.CallLemmas.{kept_facts, lose_holds, unclaimed_apart, behind_known, known_behind, call_rules, unset_drop, call_returns, call_enters, body_returns}
 
 -- Environments
 
@@ -135,7 +132,7 @@ module _ (d : Declared) (c : Certificate) (defined : List Text) where
     unfolding NextOk StartsOk GoodIn Good FrontGood OfFirst around in_any_case front
     enter_ok saved s vs live stage h behind_it =
         let es = stage.elements in
-        let known = behind_holds d c defined n es e (front fs) (stage.left.behind_words e (front fs) h) in
+        let known = behind_known d c defined n es e (front fs) (stage.left.behind_words e (front fs) h) in
         let kept = kept_facts c t (behind_facts c n es) in
         let entry : OneHolds d c (at (Entry t)) e ts =
         call_enters d c defined x n es t stage.words stage.rules stage.calls e (front fs) ts
@@ -177,8 +174,8 @@ module _ (d : Declared) (c : Certificate) (defined : List Text) where
         z : Environment
         z = restored a.restores 0 y saved
 
-        spares : Spares (unset_names saved) e z
-        spares = grows_spares (unset_names saved) e y z grows (restored_spares a.restores 0 y saved)
+        spares : Spares (unset_names saved) y z
+        spares = restored_spares a.restores 0 y saved
 
         bodies : Bodies d c defined z.functions
         bodies = subst (Bodies d c defined) (sym (restored_functions a.restores 0 y saved ∙ same)) live.bodies
@@ -189,22 +186,35 @@ module _ (d : Declared) (c : Certificate) (defined : List Text) where
         quiet : base.shares ≡ true → Grows e z
         quiet shares =
             let none = quiet_drop d c defined (SimpleAt d c defined) base live.callers ws (after_command n) behind_it shares (unset_names saved) may in
-            spares_grow (unset_names saved) e z none.0 none.1 spares
+            grows_trans e y z grows (spares_grow (unset_names saved) y z none.0 none.1 spares)
 
         known : OneHolds d c (behind d c n stage.elements) z (front fs)
         known =
-            holds_behind d c defined n stage.elements z (front fs)
-            (apart_holds (behind_facts c n stage.elements) (unset_names saved) e z (front fs) (unclaimed_apart (behind_facts c n stage.elements) saved stage.unclaimed) spares
-            (behind_holds d c defined n stage.elements e (front fs) (stage.left.behind_words e (front fs) h)))
+            known_behind d c defined n stage.elements z (front fs)
+            (apart_holds (behind_facts c n stage.elements) (unset_names saved) y z (front fs) (unclaimed_apart (behind_facts c n stage.elements) saved stage.unclaimed) spares
+            (holds_grow (behind_facts c n stage.elements) e y (front fs) grows (behind_known d c defined n stage.elements e (front fs) (stage.left.behind_words e (front fs) h))))
 
-        after : AfterHolds d c (nonzero a.status) (after_command n) z (front fs)
-        after =
-            nonzero_holds d c defined (SimpleAt d c defined) (nonzero a.status) (after_command n) z (front fs) (is_nonzero a.status)
-            (covers_at d c (AfterNonzero n) (behind d c n stage.elements) ((call_rules d c defined x n stage.elements t stage.words stage.rules stage.calls).redirected (stage.left.redirected was)) z (front fs) known)
+        well : Well base z fs (nonzero a.status) ws
+        well = record {
+          known = after_command n;
+          callers = live.callers;
+          good = good_in d c defined (SimpleAt d c defined) (front fs) base live.callers ws (after_command n) behind_it;
+          holds = nonzero_holds d c defined (SimpleAt d c defined) (nonzero a.status) (after_command n) z (front fs) (is_nonzero a.status)
+              (covers_at d c (AfterNonzero n) (behind d c n stage.elements) ((call_rules d c defined x n stage.elements t stage.words stage.rules stage.calls).redirected (stage.left.redirected was)) z (front fs) known);
+          stays = drop_stays d c defined (SimpleAt d c defined) base live.callers ws (after_command n) behind_it (unset_names saved) may y z fs spares
+              (stays_grow d c defined (SimpleAt d c defined) live.callers e y fs grows live.stays);
+          bodies = bodies;
+        }
 
         go : (b : Bool) → Ok base e fs status (if b then ends z (front fs) else goes z (front fs) (nonzero a.status) ws)
         go true = record { quiet = refl; next = λ k. bodies; starts = tt; grows = quiet; frame = λ k. frame_stays d c defined (SimpleAt d c defined) fs }
-        go false = drops_ok d c defined (SimpleAt d c defined) base e fs status ws (unset_names saved) (after_command n) (nonzero a.status) z vs live behind_it may spares bodies after
+        go false = record {
+          quiet = refl;
+          next = λ k. subst (λ gs. Well base z gs (nonzero a.status) ws) (sym (same_frames d c defined (SimpleAt d c defined) fs)) well;
+          starts = tt;
+          grows = quiet;
+          frame = λ k. frame_stays d c defined (SimpleAt d c defined) fs;
+        }
 
     failed_plain : (z : Environment) → Plain d c defined (SimpleAt d c defined) fs (failed_in e (front fs) status ws a (Named t ts) z ws)
     unfolding failed_in
@@ -235,12 +245,12 @@ module _ (d : Declared) (c : Certificate) (defined : List Text) where
         known : Holds (behind_facts c n stage.elements) before (front fs)
         known =
             apart_holds (behind_facts c n stage.elements) (unset_names saved) e before (front fs) (unclaimed_apart (behind_facts c n stage.elements) saved stage.unclaimed) (restored_spares (λ n. true) 0 e saved)
-            (behind_holds d c defined n stage.elements e (front fs) (stage.left.behind_words e (front fs) h))
+            (behind_known d c defined n stage.elements e (front fs) (stage.left.behind_words e (front fs) h))
 
         did : Expanded d c defined (front fs) (word_gains (opened r)) (fresh before a.given) first
         did =
             word_expands d c defined (SimpleAt d c defined) base before fs status ws a (behind d c n stage.elements) in_one (opened r) stage.left.opened.0
-            (holds_behind d c defined n stage.elements before (front fs) known)
+            (known_behind d c defined n stage.elements before (front fs) known)
 
         does : Expanded d c defined (front fs) no_gains (fresh e a.given) state
         does = record {
@@ -342,7 +352,7 @@ module _ (d : Declared) (c : Certificate) (defined : List Text) where
         next = Call n t ts body rs xs left ∷ ws
 
         known : Holds (behind_facts c n stage.elements) k.environment (front fs)
-        known = holds_grow (behind_facts c n stage.elements) e k.environment (front fs) does.grows (behind_holds d c defined n stage.elements e (front fs) (stage.left.behind_words e (front fs) h))
+        known = holds_grow (behind_facts c n stage.elements) e k.environment (front fs) does.grows (behind_known d c defined n stage.elements e (front fs) (stage.left.behind_words e (front fs) h))
 
         among : (u : Text) → is_one_of (unset_before left) u ≡ true → is_one_of (prefixes stage.elements) u ≡ true
         among u l = elim (one_more v.0 (k.environment.variables v.0) saved u l) [

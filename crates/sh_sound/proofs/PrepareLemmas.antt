@@ -26,12 +26,13 @@ use Rattle.sh_sound.specs.Holding.{Holds, Has, Grows, OneHolds, Entails, Expande
 use Rattle.sh_sound.specs.Going.{around, front, unset_before, Bodies, FrontGood, Good, GoodIn, ProcessOk, StepOk}
 use Rattle.sh_sound.specs.Fields.{Fields, FieldsFit}
 use Rattle.sh_sound.specs.Doing.{RulesAt, names_of, left_gains, behind_facts, parameters, EachOpened, EachValue, LeftAt, Settles, PrepareStage, UtilityStage, CallStage, SimpleAt}
+use Rattle.sh_sound.proofs.CallLemmas.{behind_known}
 use Rattle.sh_sound.proofs.HoldLemmas.{has_nothing, leaves_lead, grows_refl, grows_trans, has_both, has_first, has_second, gain_holds, holds_gain, has_gain, both_holds, one_grows}
 use Rattle.sh_sound.proofs.ExpansionLemmas.{has_name, assigned_grows, assigned_set}
 use Rattle.sh_sound.proofs.ListLemmas.{leads_same, step_goes, turns_to}
 use Rattle.sh_sound.proofs.StepLemmas.{word_expands, behind_word, grown, grown_in}
 use Rattle.sh_sound.proofs.FieldsLemmas.{counted_fits}
-use Rattle.sh_sound.proofs.WordsLemmas.{behind_holds, gaining_entails}
+use Rattle.sh_sound.proofs.WordsLemmas.{gaining_entails}
 use Rattle.sh_sound.proofs.MannerLemmas.{BehindName, behind_name, nameless_manner, call_manner, rules_by, ordinary_nonzero, nameless_nonzero, word_from}
 use Rattle.sh_sound.proofs.RedirectLemmas.{Fine, either_fine, ends_fine, goes_fine, behind_fine, unless_fine, redirected_fine, fails_fine, Fails, failed_fine}
 
@@ -315,7 +316,7 @@ module _ (d : Declared) (c : Certificate) (defined : List Text) where
     -- none of what is claimed is a function that is not defined
     unclaimed : (n : ℕ) (es : p.Elements) (t : Text) → is_name t ≡ true → e.functions t ≡ None → OneHolds d c (behind d c n es) e f → claims (behind_facts c n es) (Function t) ≡ false
     unfolding claims Holds
-    unclaimed n es t named none h = go (behind_facts c n es) (behind_holds d c defined n es e f h)
+    unclaimed n es t named none h = go (behind_facts c n es) (behind_known d c defined n es e f h)
       where
         go : (y : Facts) → Holds y e f → claims y (Function t) ≡ false
         go NotReached k = absurd k

@@ -30,12 +30,12 @@ use Rattle.sh_sound.specs.Fields.{Fields, FieldsFit}
 use Rattle.sh_sound.specs.Holding.{Holds, OneHolds}
 use Rattle.sh_sound.specs.Going.{around, front, FrontGood, Good, GoodIn, ProcessOk, StepOk}
 use Rattle.sh_sound.specs.Doing.{left_gains, behind_facts, parameters, Settles, PrepareStage, SimpleAt}
+use Rattle.sh_sound.proofs.CallLemmas.{behind_known}
 use Rattle.sh_sound.proofs.HoldLemmas.{has_nothing, grows_refl, gain_holds, any_holds}
 use Rattle.sh_sound.proofs.ListLemmas.{step_ends}
 use Rattle.sh_sound.proofs.MannerLemmas.{BehindName, behind_name, special_manner, rules_by, losses_at}
 use Rattle.sh_sound.proofs.PrepareLemmas.{may_prefix, redirect_ok, assign_ok, nameless_ok, invoked_ok}
 use Rattle.sh_sound.proofs.SpecialRowLemmas.{Ready, special_ok}
-use Rattle.sh_sound.proofs.WordsLemmas.{behind_holds}
 
 -- what an admitted command's name admits
 
@@ -105,7 +105,7 @@ module _ (d : Declared) (c : Certificate) (defined : List Text) where
       losses = subst (λ v. i.Each (λ l. MayDrop d c x (lost d c n l)) (utility_losses defined v named.others)) q (losses_at d c defined x n es (table.Utility (kind_of t) named.others) stage.rules way);
       still = λ shares.
           subst (λ v. kind_moves v named.others ≡ false) q
-          (and_then (kind_moves (kind_of t) named.others) (is_reached (facts (c.claim (Before n)))) (reached (words_gains (operands_in es)) (facts (c.claim (Before n))) e f (behind_holds d c defined n es e f known))
+          (and_then (kind_moves (kind_of t) named.others) (is_reached (facts (c.claim (Before n)))) (reached (words_gains (operands_in es)) (facts (c.claim (Before n))) e f (behind_known d c defined n es e f known))
           (subst (λ w. (moves w && is_reached (facts (c.claim (Before n)))) ≡ false) way (stage.rules.rules.stays shares)));
       known = known;
       settled = settles e f (gain_holds d c (and_gains (left_gains []) (redirects_gains p.no_redirects)) s e f (has_nothing e f) h);

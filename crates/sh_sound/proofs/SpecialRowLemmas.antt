@@ -36,12 +36,11 @@ use Rattle.sh_sound.proofs.ListLemmas.{step_goes, step_ends, turns_to, zero_hold
 use Rattle.sh_sound.proofs.StepLemmas.{grown}
 use Rattle.sh_sound.proofs.CompoundLemmas.{is_nonzero}
 use Rattle.sh_sound.proofs.DropLemmas.{Spares}
-use Rattle.sh_sound.proofs.CallLemmas.{counted_holds, reached_same, stepped_behind}
+use Rattle.sh_sound.proofs.CallLemmas.{known_stepped, behind_known, counted_holds, reached_same}
 use Rattle.sh_sound.proofs.FieldsLemmas.{counted_fits}
 use Rattle.sh_sound.proofs.OperandsLemmas.{statics_fit, all_static, SetFits, set_fits, first_number_fits, runs_fit, declares_fit, declared_no_job}
 use Rattle.sh_sound.proofs.ChangeLemmas.{showing_grows, showing_functions, showing_sets, removed_spares, spares_fewer, none_passes, named_vars, named_functions}
 use Rattle.sh_sound.proofs.MannerLemmas.{lose_holds}
-use Rattle.sh_sound.proofs.WordsLemmas.{behind_holds}
 use Rattle.sh_sound.proofs.SpecialLemmas.{drops_ok, moves_ok, shift_holds, none_counted, has_names}
 use Rattle.sh_sound.proofs.LeaveLemmas.{passed, break_leaves, continue_leaves, return_leaves}
 
@@ -190,7 +189,7 @@ module _ (d : Declared) (c : Certificate) (defined : List Text) (SimpleAt : Arou
             counts : OneHolds d c t e qs
             counts =
                 gain_holds d c (named (left_set es).names) (stepped (Count (total vs)) b) e qs (has_names d c (left_set es) e f qs (has_gain d c (left_set es) b e f r.settled))
-                (stepped_behind d c (Count (total vs)) n es e qs (counted_holds c (total vs) (behind_facts c n es) e f qs (behind_holds d c defined n es e f r.known) (counted_fits (parameters (behind_facts c n es)) vs qs fit)))
+                (known_stepped d c defined (Count (total vs)) n es e qs (counted_holds c (total vs) (behind_facts c n es) e f qs (behind_known d c defined n es e f r.known) (counted_fits (parameters (behind_facts c n es)) vs qs fit)))
 
             moved : AfterHolds d c a.status o e qs → Ok (goes e qs a.status ws)
             moved h = moves_ok d c defined SimpleAt base e fs status ws qs (after_command n) a.status us r.live r.goes_on alone (leaves_lead d c n o rules a.status e qs h)
@@ -239,7 +238,7 @@ module _ (d : Declared) (c : Certificate) (defined : List Text) (SimpleAt : Arou
         spares_counted = spares_fewer names counted e e' (λ t i h. h) (λ t i k h. none_passes (is_one_of defined) names.functions t (listed t k) h) spares
 
         may : MayDrop d c x counted
-        may = subst (MayDrop d c x) (reached_same (words_gains (operands_in es)) (facts (c.claim (Before n))) counted e f (behind_holds d c defined n es e f r.known)) r.losses.0
+        may = subst (MayDrop d c x) (reached_same (words_gains (operands_in es)) (facts (c.claim (Before n))) counted e f (behind_known d c defined n es e f r.known)) r.losses.0
 
         bodies : Bodies d c defined e'.functions
         bodies = all_removed_kept (λ (y : Environment). Bodies d c defined y.functions) (λ y name k. k) (λ y name k. undefined_bodies d c defined y name k) (unset_operands (statics r.others)).0 a 0 e named r.live.bodies

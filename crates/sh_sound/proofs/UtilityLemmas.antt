@@ -37,11 +37,10 @@ use Rattle.sh_sound.proofs.ListLemmas.{step_goes, zero_holds, nonzero_holds}
 use Rattle.sh_sound.proofs.StepLemmas.{grown}
 use Rattle.sh_sound.proofs.CompoundLemmas.{is_nonzero}
 use Rattle.sh_sound.proofs.DropLemmas.{Spares}
-use Rattle.sh_sound.proofs.CallLemmas.{reached_same, stepped_behind}
+use Rattle.sh_sound.proofs.CallLemmas.{known_stepped, behind_known, reached_same}
 use Rattle.sh_sound.proofs.OperandsLemmas.{read_fits, getopts_fits}
 use Rattle.sh_sound.proofs.ChangeLemmas.{read_grows, read_functions, read_sets, directory_grows, directory_functions, option_begun, option_is, option_grows, option_functions, optarg, put_spares, grows_spares, passes_one}
 use Rattle.sh_sound.proofs.MannerLemmas.{lose_holds}
-use Rattle.sh_sound.proofs.WordsLemmas.{behind_holds}
 use Rattle.sh_sound.proofs.SpecialLemmas.{drops_ok}
 
 -- what `read` gives a value has a name
@@ -134,7 +133,7 @@ module _ (d : Declared) (c : Certificate) (defined : List Text) (SimpleAt : Arou
 
     reached_optarg : OneHolds d c b e f → MayDrop d c x (lost d c n (OfNames optarg)) → MayDrop d c x optarg
     unfolding lost
-    reached_optarg h k = subst (MayDrop d c x) (reached_same (words_gains (operands_in es)) (facts (c.claim (Before n))) optarg e f (behind_holds d c defined n es e f h)) k
+    reached_optarg h k = subst (MayDrop d c x) (reached_same (words_gains (operands_in es)) (facts (c.claim (Before n))) optarg e f (behind_known d c defined n es e f h)) k
 
     -- whatever a utility does, but for `getopts`, grows
     by_kind : (k : Kind) → (k ≡ kind.Getopts → Ok (goes (gets_option all e a (getopts_name ts)) f a.status ws))
@@ -186,15 +185,15 @@ module _ (d : Declared) (c : Certificate) (defined : List Text) (SimpleAt : Arou
         after now e' names k v g = go (now == 0) refl
           where
             holds : (slot : Slot) → Holds (called (c.drops t) (facts (c.claim slot)) t (prefixes es) (behind_facts c n es)) e' f
-            holds slot = uncalled_holds (c.drops t) (facts (c.claim slot)) (behind_facts c n es) t (prefixes es) names e e' f k v g unclaimed (behind_holds d c defined n es e f h)
+            holds slot = uncalled_holds (c.drops t) (facts (c.claim slot)) (behind_facts c n es) t (prefixes es) names e e' f k v g unclaimed (behind_known d c defined n es e f h)
 
             go : (z : Bool) → (now == 0) ≡ z → AfterHolds d c now (after_command n) e' f
             go true z =
                 zero_holds d c defined SimpleAt now (after_command n) e' f z
-                (covers_at d c (AfterZero n) _ rules.zero e' f (stepped_behind d c (views.Call t (ReturnsZero t) (prefixes es)) n es e' f (holds (ReturnsZero t))))
+                (covers_at d c (AfterZero n) _ rules.zero e' f (known_stepped d c defined (views.Call t (ReturnsZero t) (prefixes es)) n es e' f (holds (ReturnsZero t))))
             go false z =
                 nonzero_holds d c defined SimpleAt now (after_command n) e' f z
-                (covers_at d c (AfterNonzero n) _ rules.nonzero e' f (stepped_behind d c (views.Call t (ReturnsNonzero t) (prefixes es)) n es e' f (holds (ReturnsNonzero t))))
+                (covers_at d c (AfterNonzero n) _ rules.nonzero e' f (known_stepped d c defined (views.Call t (ReturnsNonzero t) (prefixes es)) n es e' f (holds (ReturnsNonzero t))))
 
     -- The table
 
