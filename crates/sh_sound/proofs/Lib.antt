@@ -8,6 +8,10 @@ pub mod CompoundLemmas
 pub mod ProcessLemmas
 pub mod CommandLemmas
 pub mod WordsLemmas
+pub mod MannerLemmas
+pub mod RedirectLemmas
+pub mod PrepareLemmas
+pub mod OperandsLemmas
 pub mod EnterLemmas
 pub mod SharingLemmas
 pub mod WorldLemmas
@@ -20,3 +24,10 @@ pub mod CallLemmas
 pub mod CallStepLemmas
 pub mod LeaveLemmas
 pub mod KeptLemmas
+pub mod ChangeLemmas
+pub mod SpecialLemmas
+pub mod SpecialRowLemmas
+pub mod UtilityLemmas
+pub mod UtilityStepLemmas
+pub mod PrepareStepLemmas
+pub mod ActLemmas
