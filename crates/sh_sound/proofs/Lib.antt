@@ -23,7 +23,6 @@ pub mod EventLemmas
 pub mod CallLemmas
 pub mod CallStepLemmas
 pub mod LeaveLemmas
-pub mod KeptLemmas
 pub mod ChangeLemmas
 pub mod SpecialLemmas
 pub mod SpecialRowLemmas
