@@ -27,6 +27,7 @@ use Rattle.sh_sound.specs.Holding.{Holds, Has, OneHolds, Leads}
 use Rattle.sh_sound.specs.Going.{number_of, unset_before, Apart, after_function, ReturnAt}
 use Rattle.sh_sound.specs.Doing.{behind_facts, parameters, RulesAt}
 use Rattle.sh_sound.proofs.HoldLemmas.{each_right, covers_at, holds_at, gain_holds, holds_gain, has_gain, leads_each}
+use Rattle.sh_sound.proofs.MannerLemmas.{rules_by, losses_at}
 use Rattle.sh_sound.proofs.DropLemmas.{Spares, unset_names, restored_spares, drops_fewer}
 
 -- a test that holds at each of these holds of all
@@ -153,11 +154,11 @@ module _ (d : Declared) (c : Certificate) (defined : List Text) where
 
   module _ (x : Around) (n : ℕ) (es : p.Elements) (t : Text) (words : List Word) (rules : RulesAt d c defined x n es) (calls : table.manner defined es ≡ table.Call t words) where
     pub call_rules : CallRules d c n es t words
-    unfolding i.KindRules i.SimpleRules
-    call_rules = subst (i.SimpleRules d c x n es) calls rules.rules.kind
+    unfolding i.SimpleRules
+    call_rules = rules_by d c defined x n es (table.Call t words) rules calls
 
     losses : i.Each (λ l. MayDrop d c x (lost d c n l)) (losses_by defined es (behind d c n es) (table.Call t words))
-    losses = subst (λ m. i.Each (λ l. MayDrop d c x (lost d c n l)) (losses_by defined es (behind d c n es) m)) calls rules.rules.losses
+    losses = losses_at d c defined x n es (table.Call t words) rules calls
 
     -- what the function drops
     function_drops : (e : Environment) (f : Frame) → Holds (behind_facts c n es) e f → MayDrop d c x (c.drops t)

@@ -24,16 +24,18 @@ use Rattle.sh_facts.specs.Inclusions as i
 use Rattle.sh_facts.specs.Inclusions.{MayDrop, behind}
 use Rattle.sh_facts.specs.Table.{is_redirected, prefixes}
 use Rattle.sh_facts.specs.Views.{Certificate, AfterNonzero, Entry, Seen, After, Both, if_nonzero, in_any_case, after_command, at, gaining_names}
-use Rattle.sh_sound.specs.Holding.{Holds, Grows, OneHolds, Expanded}
+use Rattle.sh_sound.specs.Holding.{Holds, Grows, OneHolds, Expanded, AfterHolds}
 use Rattle.sh_sound.specs.Going.{around, unset_before, front, frames_behind, FrameStays, OfFirst, Bodies, FrontGood, Good, GoodIn, Stays, ProcessOk, NextOk, StartsOk, StepOk}
 use Rattle.sh_sound.specs.Doing.{names_of, behind_facts, EachOpened, EachValue, CallStage, SimpleAt}
 use Rattle.sh_sound.proofs.HoldLemmas.{grows_refl, grows_trans, holds_grow, has_nothing, one_grows, covers_at, gain_holds, holds_gain, any_holds, both_holds}
 use Rattle.sh_sound.proofs.ExpansionLemmas.{has_name, assigned_grows, assigned_set}
-use Rattle.sh_sound.proofs.ListLemmas.{good_in, same_frames, frame_stays, step_goes, step_ends, stays_grow, leads_same, nonzero_holds}
+use Rattle.sh_sound.proofs.ListLemmas.{frame_stays, step_goes, step_ends, leads_same, nonzero_holds}
 use Rattle.sh_sound.proofs.StepLemmas.{Plain, goes_plain, ends_plain, word_expands, expanded_ok, unless_ok, grown}
 use Rattle.sh_sound.proofs.CompoundLemmas.{is_nonzero}
 use Rattle.sh_sound.proofs.CaseLemmas.{gain_two}
-use Rattle.sh_sound.proofs.DropLemmas.{Spares, unset_names, spares_grow, apart_holds, restored_spares, restored_functions, quiet_drop, drop_stays}
+use Rattle.sh_sound.proofs.ChangeLemmas.{grows_spares}
+use Rattle.sh_sound.proofs.SpecialLemmas.{drops_ok}
+use Rattle.sh_sound.proofs.DropLemmas.{Spares, unset_names, spares_grow, apart_holds, restored_spares, restored_functions, quiet_drop}
 use Rattle.sh_sound.proofs.CallLemmas.{kept_facts, lose_holds, unclaimed_apart, behind_known, known_behind, call_rules, unset_drop, call_returns, call_enters, body_returns}
 
 -- Environments
@@ -174,8 +176,8 @@ module _ (d : Declared) (c : Certificate) (defined : List Text) where
         z : Environment
         z = restored a.restores 0 y saved
 
-        spares : Spares (unset_names saved) y z
-        spares = restored_spares a.restores 0 y saved
+        spares : Spares (unset_names saved) e z
+        spares = grows_spares (unset_names saved) e y z grows (restored_spares a.restores 0 y saved)
 
         bodies : Bodies d c defined z.functions
         bodies = subst (Bodies d c defined) (sym (restored_functions a.restores 0 y saved ∙ same)) live.bodies
@@ -186,35 +188,22 @@ module _ (d : Declared) (c : Certificate) (defined : List Text) where
         quiet : base.shares ≡ true → Grows e z
         quiet shares =
             let none = quiet_drop d c defined (SimpleAt d c defined) base live.callers ws (after_command n) behind_it shares (unset_names saved) may in
-            grows_trans e y z grows (spares_grow (unset_names saved) y z none.0 none.1 spares)
+            spares_grow (unset_names saved) e z none.0 none.1 spares
 
         known : OneHolds d c (behind d c n stage.elements) z (front fs)
         known =
             known_behind d c defined n stage.elements z (front fs)
-            (apart_holds (behind_facts c n stage.elements) (unset_names saved) y z (front fs) (unclaimed_apart (behind_facts c n stage.elements) saved stage.unclaimed) spares
-            (holds_grow (behind_facts c n stage.elements) e y (front fs) grows (behind_known d c defined n stage.elements e (front fs) (stage.left.behind_words e (front fs) h))))
+            (apart_holds (behind_facts c n stage.elements) (unset_names saved) e z (front fs) (unclaimed_apart (behind_facts c n stage.elements) saved stage.unclaimed) spares
+            (behind_known d c defined n stage.elements e (front fs) (stage.left.behind_words e (front fs) h)))
 
-        well : Well base z fs (nonzero a.status) ws
-        well = record {
-          known = after_command n;
-          callers = live.callers;
-          good = good_in d c defined (SimpleAt d c defined) (front fs) base live.callers ws (after_command n) behind_it;
-          holds = nonzero_holds d c defined (SimpleAt d c defined) (nonzero a.status) (after_command n) z (front fs) (is_nonzero a.status)
-              (covers_at d c (AfterNonzero n) (behind d c n stage.elements) ((call_rules d c defined x n stage.elements t stage.words stage.rules stage.calls).redirected (stage.left.redirected was)) z (front fs) known);
-          stays = drop_stays d c defined (SimpleAt d c defined) base live.callers ws (after_command n) behind_it (unset_names saved) may y z fs spares
-              (stays_grow d c defined (SimpleAt d c defined) live.callers e y fs grows live.stays);
-          bodies = bodies;
-        }
+        after : AfterHolds d c (nonzero a.status) (after_command n) z (front fs)
+        after =
+            nonzero_holds d c defined (SimpleAt d c defined) (nonzero a.status) (after_command n) z (front fs) (is_nonzero a.status)
+            (covers_at d c (AfterNonzero n) (behind d c n stage.elements) ((call_rules d c defined x n stage.elements t stage.words stage.rules stage.calls).redirected (stage.left.redirected was)) z (front fs) known)
 
         go : (b : Bool) → Ok base e fs status (if b then ends z (front fs) else goes z (front fs) (nonzero a.status) ws)
         go true = record { quiet = refl; next = λ k. bodies; starts = tt; grows = quiet; frame = λ k. frame_stays d c defined (SimpleAt d c defined) fs }
-        go false = record {
-          quiet = refl;
-          next = λ k. subst (λ gs. Well base z gs (nonzero a.status) ws) (sym (same_frames d c defined (SimpleAt d c defined) fs)) well;
-          starts = tt;
-          grows = quiet;
-          frame = λ k. frame_stays d c defined (SimpleAt d c defined) fs;
-        }
+        go false = drops_ok d c defined (SimpleAt d c defined) base e fs status ws (unset_names saved) (after_command n) (nonzero a.status) z vs live behind_it may spares bodies after
 
     failed_plain : (z : Environment) → Plain d c defined (SimpleAt d c defined) fs (failed_in e (front fs) status ws a (Named t ts) z ws)
     unfolding failed_in
