@@ -17,3 +17,4 @@ pub mod ReservedLemmas
 pub mod LoopLemmas
 pub mod ForLemmas
 pub mod BranchLemmas
+pub mod CaseLemmas

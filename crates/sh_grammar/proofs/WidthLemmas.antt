@@ -1,4 +1,4 @@
--- How long the operators are that join pipelines.
+-- How long the operators are that join pipelines or end clauses.
 use Rattle.std.proofs.Common.{◌≡◌, ℕ, ◌+◌, ◌-◌, ◌<◌, ◌≤◌, ◌&&◌, Bool, true, false, List, [], ◌∷◌, ◌++◌, length, drop, take, codes, nat_le, nat_eq, Option, Some, None, cond, refl, sym, ap, subst, ◌∙◌, ⊎_elim, arith}
 use Rattle.std.proofs.lemmas.Bool.{cases_Bool, cond-true, cond-false, true≢false}
 use Rattle.std.proofs.lemmas.Bool.Decides.{nat_tests}
@@ -13,9 +13,10 @@ use Rattle.sh_tree.specs.declared.token.command.Operator.TheVariants as op
 use Rattle.sh_tree.specs.declared.token.command.Reserved.{Reserved}
 use Rattle.sh_tree.specs.declared.token.command.Reserved.TheVariants as word
 use Rattle.sh_tree.specs.declared.refusal.Form.{Form}
+use Rattle.sh_tree.specs.declared.tree.ClauseEnd.{ClauseEnd}
 use Rattle.sh_tree.specs.declared.tree.Link.{Link}
 use Rattle.sh_tree.specs.language.Bytes.{longest, is_first, is_digit, run}
-use Rattle.sh_tree.specs.language.Commands.{long_operators, short_operators, operator_of, operator_lead, whole_operator, opening, other_lead, lead_of, lead_at, link_of, number_lead, word_lead, first_lead, reserved_lead, name_lead, entry_of, reserved_words, left_out_names, bare_word}
+use Rattle.sh_tree.specs.language.Commands.{long_operators, short_operators, operator_of, operator_lead, whole_operator, opening, other_lead, lead_of, lead_at, link_of, clause_end_of, number_lead, word_lead, first_lead, reserved_lead, name_lead, entry_of, reserved_words, left_out_names, bare_word}
 
 -- the texts of a table are as long as `width` says
 abbrev Wide : (Operator → ℕ) → List (List ℕ × Operator) → Type 0
@@ -68,10 +69,12 @@ pub operator_width : (cs : List ℕ) (o : Operator) (n : ℕ) → operator_of cs
 unfolding operator_of
 operator_width cs o n h = longest_wide width_of (long_operators ++ short_operators) cs o n operators_wide h
 
--- only an operator joins pipelines
+-- only an operator joins pipelines or ends a clause
 abbrev joins : Lead → Bool
 joins (lead.Operator op.AndIf) = true
 joins (lead.Operator op.OrIf) = true
+joins (lead.Operator op.DoubleSemicolon) = true
+joins (lead.Operator op.SemicolonAnd) = true
 joins _ = false
 
 joins_link : (l : Lead) (k : Link) → link_of l ≡ Some k → joins l ≡ true
@@ -80,10 +83,18 @@ joins_link (lead.Operator op.AndIf) k h = refl
 joins_link (lead.Operator op.OrIf) k h = refl
 joins_link _ k h = cc
 
+ends_clause : (l : Lead) (e : ClauseEnd) → clause_end_of l ≡ Some e → joins l ≡ true
+unfolding clause_end_of
+ends_clause (lead.Operator op.DoubleSemicolon) e h = refl
+ends_clause (lead.Operator op.SemicolonAnd) e h = refl
+ends_clause _ e h = cc
+
 whole_joins : (rest : List ℕ) (o : Operator) → joins (whole_operator First rest o) ≡ true → width_of o ≡ 2
 unfolding whole_operator opening
 whole_joins rest op.AndIf h = refl
 whole_joins rest op.OrIf h = refl
+whole_joins rest op.DoubleSemicolon h = refl
+whole_joins rest op.SemicolonAnd h = refl
 whole_joins rest op.LeftParenthesis h = absurd (true≢false (sym h ∙ grind (arith, nat_tests)))
 whole_joins rest _ h = absurd (true≢false (sym h))
 
@@ -133,4 +144,11 @@ pub link_inside : (b : List ℕ) (i : ℕ) (k : Link) → link_of (lead_at b Fir
 unfolding lead_at
 link_inside b i k h inside =
     let two = lead_joins b i (operator_of (drop i b)) refl (joins_link (lead_at b First i) k h) in
+    omega (arith, length-drop i b)
+
+-- what ends a clause has two bytes
+pub clause_end_inside : (b : List ℕ) (i : ℕ) (e : ClauseEnd) → clause_end_of (lead_at b First i) ≡ Some e → i ≤ length b → i + 2 ≤ length b
+unfolding lead_at
+clause_end_inside b i e h inside =
+    let two = lead_joins b i (operator_of (drop i b)) refl (ends_clause (lead_at b First i) e h) in
     omega (arith, length-drop i b)

@@ -11,3 +11,4 @@ pub mod Phrases
 pub mod Definitions
 pub mod Fors
 pub mod Branches
+pub mod Cases

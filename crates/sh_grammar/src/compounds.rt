@@ -99,7 +99,7 @@ impl<F: Fn(Global, &[u8], State) -> Result<(Script, State), Refusal>> Grammar<F>
         Ok((Kind::Subshell(list), end))
     }
 
-    /// The compound command that begins with the token. `case` is not read yet.
+    /// The compound command that begins with the token.
     pub fn compound(&self, script: &[u8], lead: Lead, from: State) -> Result<(Kind, State), Refusal>
         requires small { length script.now ≤ MAX_SCRIPT }
         requires stands { Stands script.now from }
@@ -113,6 +113,7 @@ impl<F: Fn(Global, &[u8], State) -> Result<(Script, State), Refusal>> Grammar<F>
         match lead {
             Lead::Operator(Operator::LeftParenthesis) => self.subshell(script, from),
             Lead::Reserved(Reserved::LeftBrace) => self.group(script, from),
+            Lead::Reserved(Reserved::Case) => self.case_of(script, from),
             Lead::Reserved(Reserved::For) => self.for_loop(script, from),
             Lead::Reserved(Reserved::If) => self.cond(script, from),
             Lead::Reserved(Reserved::While) => self.loop_of(script, LoopKind::While, from),

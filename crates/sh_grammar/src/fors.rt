@@ -12,9 +12,8 @@ use super::compounds::is_same;
 use super::faults::unexpected_at;
 use super::grammar::Grammar;
 use super::redirects::is_word;
-use super::reserved::enter;
+use super::reserved::{enter, skip};
 use super::state::State;
-use super::words::word_at;
 use sh_scan::{is_bare_name_at, lead_at, name_at, separator};
 use sh_tree::Items;
 use sh_tree::limits::{MAX_NESTING, MAX_SCRIPT};
@@ -32,66 +31,68 @@ fn ends_words(lead: Lead) -> bool
     matches!(separator(lead), Some(false))
 }
 
-/// The words at a token, whose fields are split.
-#[tactic(auto, using(crate::proofs::ForLemmas::word_begins, crate::proofs::ForLemmas::words_none, crate::proofs::ForLemmas::words_more, crate::proofs::ForLemmas::words_refused, crate::proofs::ForLemmas::words_all))]
-fn words_at(alloc: Global, script: &[u8], from: State) -> Result<(Items<Word>, State), Refusal>
-    requires small { length script.now ≤ MAX_SCRIPT }
-    requires stands { Stands script.now from }
-    ensures { Answers script.now (WordsFrom script.now from) from.at result }
-{
-    let mut words = Items::new(alloc);
-    let mut next = from;
-    while is_word(lead_at(script, Stage::Named(false), next.at)) {
-        let (word, behind) = word_at(alloc, script, Mode::Word, next.at, next)?;
-        words.push(word)?;
-        next = behind;
-    }
-    Ok((words, next))
-}
-
-/// The words behind `in`, and what separates them from `do`.
-#[tactic(auto, using(crate::proofs::ForLemmas::listed_refused, crate::proofs::ForLemmas::listed_unended, crate::proofs::ForLemmas::listed_read, crate::proofs::ReaderLemmas::refused_none))]
-fn listed(alloc: Global, script: &[u8], from: State) -> Result<(Items<Word>, State), Refusal>
-    requires small { length script.now ≤ MAX_SCRIPT }
-    requires stands { Stands script.now from }
-    ensures { Answers script.now (ListedFrom script.now from) from.at result }
-{
-    let (words, behind) = words_at(alloc, script, from)?;
-    let lead = lead_at(script, Stage::First, behind.at);
-    if !ends_words(lead) {
-        return Err(unexpected_at(script, Stage::Named(false), behind.at));
-    }
-    Ok((words, breaks(script, parted(script, lead, behind))))
-}
-
-/// What stands between the name and `do`.
-#[tactic(auto, using(crate::proofs::ForLemmas::arguments_ended, crate::proofs::ForLemmas::arguments_read, crate::proofs::ForLemmas::for_words_none, crate::proofs::ForLemmas::for_words_refused, crate::proofs::ForLemmas::for_words_read, crate::proofs::ReservedLemmas::reserved_inside, crate::proofs::ReaderLemmas::refused_none))]
-fn for_words(
-    alloc: Global,
-    script: &[u8],
-    from: State,
-) -> Result<(Option<Items<Word>>, State), Refusal>
-    requires small { length script.now ≤ MAX_SCRIPT }
-    requires stands { Stands script.now from }
-    ensures { Answers script.now (ForWordsFrom script.now from) from.at result }
-{
-    let first = lead_at(script, Stage::First, from.at);
-    if is_same(first, Lead::Operator(Operator::Semicolon)) {
-        return Ok((None, breaks(script, from.next(script, from.at + 1))));
-    }
-    let next = breaks(script, from);
-    let lead = lead_at(script, Stage::First, next.at);
-    if is_same(lead, Lead::Reserved(Reserved::Do)) {
-        return Ok((None, next));
-    }
-    if !is_same(lead, Lead::Reserved(Reserved::In)) {
-        return Err(unexpected_at(script, Stage::Named(false), next.at));
-    }
-    let (words, behind) = listed(alloc, script, next.next(script, next.at + 2))?;
-    Ok((Some(words), behind))
-}
-
 impl<F: Fn(Global, &[u8], State) -> Result<(Script, State), Refusal>> Grammar<F> {
+    /// The words at a token, whose fields are split.
+    #[tactic(auto, using(crate::proofs::ForLemmas::word_begins, crate::proofs::ForLemmas::words_none, crate::proofs::ForLemmas::words_more, crate::proofs::ForLemmas::words_refused, crate::proofs::ForLemmas::words_all))]
+    fn words_at(&self, script: &[u8], from: State) -> Result<(Items<Word>, State), Refusal>
+        requires small { length script.now ≤ MAX_SCRIPT }
+        requires stands { Stands script.now from }
+        requires further { length script.now - from.at ≤ self.now.left }
+        requires nests { Nests self.now.left (F.pre self.now.nested) (F.post self.now.nested) }
+        ensures { Answers script.now (WordsFrom script.now from) from.at result }
+    {
+        let mut words = Items::new(self.alloc);
+        let mut next = from;
+        while is_word(lead_at(script, Stage::Named(false), next.at)) {
+            let (word, behind) = self.word_at(script, Mode::Word, next.at, next)?;
+            words.push(word)?;
+            next = behind;
+        }
+        Ok((words, next))
+    }
+
+    /// The words behind `in`, and what separates them from `do`.
+    #[tactic(auto, using(crate::proofs::ForLemmas::listed_refused, crate::proofs::ForLemmas::listed_unended, crate::proofs::ForLemmas::listed_read, crate::proofs::ReaderLemmas::refused_none))]
+    fn listed(&self, script: &[u8], from: State) -> Result<(Items<Word>, State), Refusal>
+        requires small { length script.now ≤ MAX_SCRIPT }
+        requires stands { Stands script.now from }
+        requires further { length script.now - from.at ≤ self.now.left }
+        requires nests { Nests self.now.left (F.pre self.now.nested) (F.post self.now.nested) }
+        ensures { Answers script.now (ListedFrom script.now from) from.at result }
+    {
+        let (words, behind) = self.words_at(script, from)?;
+        let lead = lead_at(script, Stage::First, behind.at);
+        if !ends_words(lead) {
+            return Err(unexpected_at(script, Stage::Named(false), behind.at));
+        }
+        Ok((words, breaks(script, parted(script, lead, behind))))
+    }
+
+    /// What stands between the name and `do`.
+    #[tactic(auto, using(crate::proofs::ForLemmas::arguments_ended, crate::proofs::ForLemmas::arguments_read, crate::proofs::ForLemmas::for_words_none, crate::proofs::ForLemmas::for_words_refused, crate::proofs::ForLemmas::for_words_read, crate::proofs::ReaderLemmas::refused_none))]
+    fn for_words(&self, script: &[u8], from: State) -> Result<(Option<Items<Word>>, State), Refusal>
+        requires small { length script.now ≤ MAX_SCRIPT }
+        requires stands { Stands script.now from }
+        requires further { length script.now - from.at ≤ self.now.left }
+        requires nests { Nests self.now.left (F.pre self.now.nested) (F.post self.now.nested) }
+        ensures { Answers script.now (ForWordsFrom script.now from) from.at result }
+    {
+        let first = lead_at(script, Stage::First, from.at);
+        if is_same(first, Lead::Operator(Operator::Semicolon)) {
+            return Ok((None, breaks(script, from.next(script, from.at + 1))));
+        }
+        let next = breaks(script, from);
+        let lead = lead_at(script, Stage::First, next.at);
+        if is_same(lead, Lead::Reserved(Reserved::Do)) {
+            return Ok((None, next));
+        }
+        if !is_same(lead, Lead::Reserved(Reserved::In)) {
+            return Err(unexpected_at(script, Stage::Named(false), next.at));
+        }
+        let (words, behind) = self.listed(script, skip(script, Reserved::In, next))?;
+        Ok((Some(words), behind))
+    }
+
     /// `for`, a name, its words and what it does.
     #[tactic(auto, using(crate::proofs::ForLemmas::for_unnamed, crate::proofs::ForLemmas::for_refused, crate::proofs::ForLemmas::for_body_refused, crate::proofs::ForLemmas::for_read, crate::proofs::ReaderLemmas::refused_none))]
     pub fn for_loop(&self, script: &[u8], from: State) -> Result<(Kind, State), Refusal>
@@ -111,7 +112,7 @@ impl<F: Fn(Global, &[u8], State) -> Result<(Script, State), Refusal>> Grammar<F>
             start: first.at,
             end: name_at(script, first.at),
         };
-        let (words, behind) = for_words(self.alloc, script, first.next(script, name.end))?;
+        let (words, behind) = self.for_words(script, first.next(script, name.end))?;
         let (body, end) = self.do_group(script, behind)?;
         Ok((Kind::For { name, words, body }, end.as_deep(from)))
     }

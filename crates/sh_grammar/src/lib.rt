@@ -3,6 +3,7 @@
 
 mod branches;
 mod breaks;
+mod cases;
 mod commands;
 mod compounds;
 mod definitions;

@@ -114,7 +114,6 @@ const COMMANDS_THAT_ARE_NOT_SIMPLE: &[Row] = &[
     ("if a", "LeftOut(Later, 0)"),
     ("a\nwhile b", "LeftOut(Later, 2)"),
     ("until a", "LeftOut(Later, 0)"),
-    ("case a", "LeftOut(Later, 0)"),
     ("f #\n()", "Syntax(UnexpectedToken, 5)"),
     ("a b()", "Syntax(UnexpectedToken, 3)"),
     ("'f'()", "Syntax(UnexpectedToken, 3)"),

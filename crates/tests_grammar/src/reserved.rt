@@ -150,7 +150,7 @@ fn is_read(alloc: Global, text: &str) -> bool {
 
 /// Words that are reserved where a command begins, and are not behind an assignment or in quotes.
 const RESERVED: &[Row] = &[
-    ("case", "LeftOut(Later, 1)"),
+    ("case", "Syntax(UnexpectedEnd, 7)"),
     ("do", "Syntax(UnexpectedToken, 1)"),
     ("done", "Syntax(UnexpectedToken, 1)"),
     ("elif", "Syntax(UnexpectedToken, 1)"),

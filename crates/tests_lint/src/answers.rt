@@ -589,6 +589,9 @@ const UNANALYSED: &[Row] = &[
     (b"a && b", &[], OUTSIDE, 2),
     (b"a &", &[], OUTSIDE, 2),
     (b"a 2>b", &[], OUTSIDE, 2),
+    (b"f() { a; }", &[], OUTSIDE, 2),
+    (b"for x in y; do a; done", &[], OUTSIDE, 2),
+    (b"case a in b) c;; esac", &[], OUTSIDE, 2),
     (
         b"a\n{ b; }",
         &[],

@@ -4,20 +4,20 @@ use Rattle.sh_grammar.specs.Fors.{ListedFrom}
 use Rattle.sh_grammar.proofs.ForLemmas.{listed_unended, listed_read}
 use Rattle.sh_grammar.proofs.ListLemmas.{separates}
 use Rattle.sh_grammar.proofs.ReaderLemmas.{refused_none}
-use Rattle.sh_grammar.proofs.fors.listed.Goals as goal
+use Rattle.sh_grammar.proofs.grammar.Grammar.listed.Goals as goal
 
 pub returns-then-not-ends_words : goal.returns-then-not-ends_words
-returns-then-not-ends_words c =
+returns-then-not-ends_words g c =
     let b = c.args.script.now in
     let words = c.in_ok-words in
     refused_none b (ListedFrom b c.args.from) c.unexpected_at.result c.unexpected_at.ensures.fault (listed_unended b c.args.from words.words words.behind words.ensures.one
     (λ ends. c.ends_words.ensures.no c.if-not-ends_words.true (ap separator c.lead_at-lead.ensures.value ∙ ends)))
 
 pub parted-requires-clause-inside : goal.parted-requires-clause-inside
-parted-requires-clause-inside c = c.lead_at-lead.ensures.within (separates c.lead_at-lead.result false (sym (c.ends_words.ensures.yes c.if-not-ends_words.false)))
+parted-requires-clause-inside g c = c.lead_at-lead.ensures.within (separates c.lead_at-lead.result false (sym (c.ends_words.ensures.yes c.if-not-ends_words.false)))
 
 pub returns : goal.returns
-returns c =
+returns g c =
     let b = c.args.script.now in
     let words = c.in_ok-words in
     let ends = sym (ap separator c.lead_at-lead.ensures.value) ∙ c.ends_words.ensures.yes c.if-not-ends_words.false in
