@@ -34,7 +34,7 @@ items_some (r.more_items h n k e i) = (_, _, refl)
 held : (is : List Item) → (out-Script (tree.script is)).items ≡ is
 held is = ap (λ t. t.items) (out-roll-Script (record { items = is }))
 
-pub nonempty : {A : Type 0} {xs ys : List A} {x : A} → xs ≡ x ∷ ys → xs ≡ [] → ⊥
+nonempty : {A : Type 0} {xs ys : List A} {x : A} → xs ≡ x ∷ ys → xs ≡ [] → ⊥
 nonempty {ys = ys} {x = x} some none = go (sym some ∙ none)
   where
     is_none : {A : Type 0} → List A → Type 0

@@ -36,7 +36,7 @@ const BEFORE_TOKENS_OF_COMMANDS: &[Row] = &[
     ("a\\\n>b", "1@0[w0-1(p0-1) o3>4-5(p4-5)]"),
     ("a >\\\nb", "1@0[w0-1(p0-1) o2>5-6(p5-6)]"),
     ("a b\\\n>c", "1@0[w0-1(p0-1) w2-3(p2-3) o5>6-7(p6-7)]"),
-    ("if\\\n a", "LeftOut(Later, 0)"),
+    ("if\\\n a", "Syntax(UnexpectedEnd, 6)"),
     ("!\\\n a", "! 1@4[w4-5(p4-5)]"),
     ("( \\\n(a))", "1@0(2@4(3@5[w5-6(p5-6)]))"),
     ("{\\\n a", "Syntax(UnexpectedEnd, 5)"),

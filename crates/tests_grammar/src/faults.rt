@@ -14,7 +14,7 @@ const THE_FIRST_IS_TOLD: &[Row] = &[
     ("x='a time b", "Syntax(OpenSingle, 2)"),
     ("$((1 2)) 'a", "Syntax(BadArith, 5)"),
     ("a\n\n\"b\nc", "Syntax(OpenDouble, 3)"),
-    ("if 'a", "LeftOut(Later, 0)"),
+    ("if 'a", "Syntax(OpenSingle, 3)"),
     ("'a' | 'b", "Syntax(OpenSingle, 6)"),
     ("a (", "Syntax(UnexpectedEnd, 3)"),
 ];

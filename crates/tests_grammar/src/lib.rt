@@ -6,6 +6,8 @@ mod assignments;
 #[cfg(test)]
 mod bytes;
 #[cfg(test)]
+mod cases;
+#[cfg(test)]
 mod commands;
 #[cfg(test)]
 mod comments;
@@ -16,9 +18,13 @@ mod definitions;
 #[cfg(test)]
 mod faults;
 #[cfg(test)]
+mod fors;
+#[cfg(test)]
 mod limits;
 #[cfg(test)]
 mod lists;
+#[cfg(test)]
+mod loops;
 #[cfg(test)]
 mod reserved;
 #[cfg(test)]

@@ -67,6 +67,16 @@ const GROUPS: Pieces = ("", "{ ", "a", "; }", "");
 
 const SUBSHELLS: Pieces = ("", "( ", "a", ")", "");
 
+const DEFINITIONS: Pieces = ("", "f() { ", "a", "; }", "");
+
+const FORS: Pieces = ("", "for x; do ", "a", "; done", "");
+
+const CASES: Pieces = ("", "case a in b) ", "c", ";; esac", "");
+
+const LOOPS: Pieces = ("", "while a; do ", "b", "; done", "");
+
+const CONDITIONS: Pieces = ("", "if a; then ", "b", "; fi", "");
+
 const WORDS_IN_GROUPS: Pieces = ("", "{ ", "a ${x-b}", "; }", "");
 
 const TOWERS: &[Tower] = &[
@@ -74,6 +84,16 @@ const TOWERS: &[Tower] = &[
     (65, GROUPS, Some(Refusal::TooDeep(128))),
     (64, SUBSHELLS, None),
     (65, SUBSHELLS, Some(Refusal::TooDeep(128))),
+    (64, DEFINITIONS, None),
+    (65, DEFINITIONS, Some(Refusal::TooDeep(388))),
+    (64, FORS, None),
+    (65, FORS, Some(Refusal::TooDeep(640))),
+    (64, CASES, None),
+    (65, CASES, Some(Refusal::TooDeep(832))),
+    (64, LOOPS, None),
+    (65, LOOPS, Some(Refusal::TooDeep(768))),
+    (64, CONDITIONS, None),
+    (65, CONDITIONS, Some(Refusal::TooDeep(704))),
     (63, WORDS_IN_GROUPS, None),
     (64, WORDS_IN_GROUPS, Some(Refusal::TooDeep(134))),
     (64, IN_OPERANDS, None),

@@ -6,8 +6,8 @@ use std::process::Abort;
 use std::test::Fail;
 
 const RESERVED_WORDS: &[Row] = &[
-    ("if(a)", "LeftOut(Later, 0)"),
-    ("if|a", "LeftOut(Later, 0)"),
+    ("if(a)", "Syntax(UnexpectedEnd, 5)"),
+    ("if|a", "Syntax(UnexpectedToken, 2)"),
     ("if#", "1@0[w0-3(p0-3)]"),
     ("if*", "1@0[w0-3(p0-3)]"),
     ("ifx", "1@0[w0-3(p0-3)]"),
@@ -158,11 +158,11 @@ const RESERVED: &[Row] = &[
     ("esac", "Syntax(UnexpectedToken, 1)"),
     ("fi", "Syntax(UnexpectedToken, 1)"),
     ("for", "Syntax(UnexpectedEnd, 6)"),
-    ("if", "LeftOut(Later, 1)"),
+    ("if", "Syntax(UnexpectedEnd, 5)"),
     ("in", "Syntax(UnexpectedToken, 1)"),
     ("then", "Syntax(UnexpectedToken, 1)"),
-    ("until", "LeftOut(Later, 1)"),
-    ("while", "LeftOut(Later, 1)"),
+    ("until", "Syntax(UnexpectedEnd, 8)"),
+    ("while", "Syntax(UnexpectedEnd, 8)"),
     ("!", "! 1@3[w3-4(p3-4)]"),
     ("{", "Syntax(UnexpectedEnd, 4)"),
     ("}", "Syntax(UnexpectedToken, 1)"),

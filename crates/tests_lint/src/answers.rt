@@ -556,6 +556,13 @@ const PLACES: &[Row] = &[
         2,
     ),
     (b"$((\n1\n2))", &[], b"refused 3:1: bad arithmetic\n", 2),
+    (b"if a\nb", &[], b"refused 2:2: unexpected end\n", 2),
+    (
+        b"while a\n do\n  fi",
+        &[],
+        b"refused 3:3: unexpected token\n",
+        2,
+    ),
 ];
 
 #[test]
@@ -565,9 +572,9 @@ fn places_on_further_lines(rt: HostRuntime) -> Result<(), Fail> {
 
 const UNREAD: &[Row] = &[
     (
-        b"if a",
+        b"if a; then b <<c; fi",
         &[],
-        b"refused 1:1: this form is outside the profile\n",
+        b"refused 1:14: this form is outside the profile\n",
         2,
     ),
     (
@@ -591,7 +598,11 @@ const UNANALYSED: &[Row] = &[
     (b"a 2>b", &[], OUTSIDE, 2),
     (b"f() { a; }", &[], OUTSIDE, 2),
     (b"for x in y; do a; done", &[], OUTSIDE, 2),
+    (b"if a; then for b; do c; done; fi", &[], OUTSIDE, 2),
     (b"case a in b) c;; esac", &[], OUTSIDE, 2),
+    (b"if a; then b; fi", &[], OUTSIDE, 2),
+    (b"while a; do b; done", &[], OUTSIDE, 2),
+    (b"until a; do b; done >f", &[], OUTSIDE, 2),
     (
         b"a\n{ b; }",
         &[],

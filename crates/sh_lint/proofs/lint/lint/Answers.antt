@@ -7,6 +7,6 @@ use Rattle.sh_lint.proofs.lint.lint.Goals as goal
 
 pub returns : goal.returns
 returns c =
-    fails c.args.script.now c.args.policy.now c.in_ok-tree.tree c.in_ok-places.places c.in_ok-findings.findings c.in_ok-tree.ensures c.in_ok-places.ensures
+    fails c.args.script.now c.args.policy.now c.in_ok-tree.tree c.in_ok-places.places c.in_ok-findings.findings c.in_ok-tree.ensures.reads c.in_ok-places.ensures
     (λ e. let none_left : length c.in_ok-places.places.items ≡ 0 = ap length e in grind (arith, common_steps, none_left))
     (subst (λ (ps : List Place). AreFindings c.args.script.now ps c.in_ok-findings.findings.items) c.deref.ensures.value c.in_ok-findings.ensures)
