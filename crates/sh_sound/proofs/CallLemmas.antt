@@ -36,7 +36,7 @@ all_of test (x ∷ xs) h =
     and_from (test x) (list_all test xs) (h x (or_left (bytes_eq x x) (is_one_of xs x) (text_same x))) (all_of test xs (λ t k. h t (or_right (bytes_eq x t) (is_one_of xs t) k)))
 
 -- one of these that passes a test is one of those that pass it
-passing_one : (test : Text → Bool) (xs : List Text) (t : Text) → is_one_of xs t ≡ true → test t ≡ true → is_one_of (filter test xs) t ≡ true
+pub passing_one : (test : Text → Bool) (xs : List Text) (t : Text) → is_one_of xs t ≡ true → test t ≡ true → is_one_of (filter test xs) t ≡ true
 passing_one test xs t h k =
     any-filter_same (λ n. bytes_eq n t) test (test t) (λ n same. ap test ((bytes_eq-Decides n t).0 same)) xs ∙ and_from (test t) (is_one_of xs t) k h
 
@@ -125,13 +125,13 @@ called_holds drops names f (Known v g n) r saved among unclaimed restores e inne
 
 -- Where the function is entered
 
-counted_holds : (c : Certificate) (n : Total) (x : Facts) (e : Environment) (f g : Frame) → Holds x e f → counted_by n (parameters x) ≤ length g → Holds (step c (Count n) x) e g
+pub counted_holds : (c : Certificate) (n : Total) (x : Facts) (e : Environment) (f g : Frame) → Holds x e f → counted_by n (parameters x) ≤ length g → Holds (step c (Count n) x) e g
 unfolding Holds step where_known parameters
 counted_holds c n NotReached e f g h l = absurd h
 counted_holds c n (Known v q a) e f g h l = record { variables = h.variables; job = h.job; functions = h.functions; parameters = l }
 
 -- a run comes there
-reached_same : (g : Gains) (x : Facts) (names : Names) (e : Environment) (f : Frame) → Holds (with_gains g x) e f → where_reached x names ≡ names
+pub reached_same : (g : Gains) (x : Facts) (names : Names) (e : Environment) (f : Frame) → Holds (with_gains g x) e f → where_reached x names ≡ names
 unfolding Holds with_gains where_reached
 reached_same g NotReached names e f h = absurd h
 reached_same g (Known v q a) names e f h = refl
@@ -147,7 +147,7 @@ module _ (d : Declared) (c : Certificate) (defined : List Text) where
   unfolding OneHolds steps step source_facts
   known_behind n es e f h = inl h
 
-  known_stepped : (x : views.Step) (n : ℕ) (es : p.Elements) (e : Environment) (f : Frame) → Holds (step c x (behind_facts c n es)) e f → OneHolds d c (stepped x (behind d c n es)) e f
+  pub known_stepped : (x : views.Step) (n : ℕ) (es : p.Elements) (e : Environment) (f : Frame) → Holds (step c x (behind_facts c n es)) e f → OneHolds d c (stepped x (behind d c n es)) e f
   unfolding OneHolds steps step source_facts
   known_stepped x n es e f h = inl h
 

@@ -101,7 +101,7 @@ abbrev pub unset_names : Saved → Names
 unset_names saved = record { vars = unset_before saved; functions = [] }
 
 -- a variable that is not named stays
-put_apart : (e : Environment) (name t : Text) (v : Option Text) → bytes_eq name t ≡ false → is_some (e.variables t) ≡ true → is_some ((with_variable e name v).variables t) ≡ true
+pub put_apart : (e : Environment) (name t : Text) (v : Option Text) → bytes_eq name t ≡ false → is_some (e.variables t) ≡ true → is_some ((with_variable e name v).variables t) ≡ true
 unfolding put_text
 put_apart e name t v h s = rw (bytes_eq-swap t name ∙ h) s
 

@@ -1,5 +1,5 @@
 -- Where rules, demands and quoting hold, no run has an event.
-use Rattle.std.proofs.Common.{◌≡◌, Bool, true, false, not, ◌&&◌, ◌||◌, if◌then◌else◌, Option, Some, None, is_some, List, [], ◌∷◌, ◌++◌, refl, sym, ◌∙◌, ap, subst, unwrap_or, option_map, option_and_then}
+use Rattle.std.proofs.Common.{◌≡◌, Bool, true, false, not, ◌&&◌, ◌||◌, if◌then◌else◌, Option, Some, None, is_some, List, [], ◌∷◌, ◌++◌, refl, ◌∙◌, unwrap_or, option_map, option_and_then}
 use Rattle.std.specs.List.{list_all}
 use Rattle.std.proofs.lemmas.Bool.{and_parts, and_from}
 use Rattle.std.proofs.lemmas.Option.{same_Some, none-some}
@@ -12,8 +12,9 @@ use Rattle.sh_table.specs.Surroundings.{Located, outside, items_located}
 use Rattle.sh_table.specs.runs.Worlds.{World, Move, step, run, has_unset_event, has_split_event, start_world}
 use Rattle.sh_facts.specs.Inclusions.{word_formed, field_formed, elements_formed, redirect_formed, redirects_formed, kind_formed, command_formed}
 use Rattle.sh_facts.specs.Table.{is_redirected}
-use Rattle.sh_quote.specs.Theorem.{QuotingSuffices}
-use Rattle.sh_sound.specs.Theorem.{splits, RulesSuffice, HaveNoEvents}
+use Rattle.sh_quote.proofs.SplitLemmas.{quoting_suffices}
+use Rattle.sh_sound.specs.Theorem.{splits, HaveNoEvents}
+use Rattle.sh_sound.proofs.TheoremLemmas.{rules_suffice}
 
 -- One move more
 
@@ -109,6 +110,7 @@ all_given (l ∷ ls) h =
 
 -- The headline
 
-pub have_no_events : RulesSuffice → QuotingSuffices → HaveNoEvents
-have_no_events rules quoting d c t named admitted formed holds met quoted e f begin moves w runs m =
-    no_event (start_world e f t) (λ ms v h k n. rules d c t named admitted formed holds met e f begin ms v h k n) (λ ms v h n k. quoting t admitted (all_given (items_located outside t) formed) quoted d.names d.args e f begin ms v h n k) moves w runs m
+pub have_no_events : HaveNoEvents
+have_no_events d c t named admitted formed rules met quoted e f begin moves w runs m =
+    no_event (start_world e f t) (λ ms v h k n. rules_suffice d c t named admitted formed rules met e f begin ms v h k n)
+    (λ ms v h n k. quoting_suffices t admitted (all_given (items_located outside t) formed) quoted d.names d.args e f begin ms v h n k) moves w runs m

@@ -1,5 +1,5 @@
 -- What the words of a simple command give as fields.
-use Rattle.std.proofs.Common.{◌≡◌, ℕ, ◌+◌, ◌≤◌, Bool, true, false, not, ◌&&◌, ◌||◌, if◌then◌else◌, Option, Some, None, is_some, List, [], ◌∷◌, ◌++◌, length, take, drop, append_assoc, refl, sym, ap, ◌∙◌, subst, arith}
+use Rattle.std.proofs.Common.{◌≡◌, ℕ, ◌+◌, ◌≤◌, Bool, true, false, not, ◌&&◌, ◌||◌, if◌then◌else◌, Option, Some, None, is_some, List, [], ◌∷◌, ◌++◌, length, take, drop, append_assoc, refl, sym, ap, ◌∙◌, subst, arith, length-append, ◌*◌}
 use Rattle.std.specs.List.{list_all}
 use Rattle.std.proofs.lemmas.Bool.{and_parts, and_from, false≢true}
 use Rattle.std.proofs.lemmas.List.Folds.{list_all-append}
@@ -23,6 +23,9 @@ use Rattle.sh_table.proofs.StaticLemmas.{static_fields, unless}
 use Rattle.sh_table.proofs.TextLemmas.{Assigns, assignment_front}
 use Rattle.sh_facts.specs.Inclusions.{field_formed, elements_formed, word_formed, redirect_formed}
 use Rattle.sh_tree.specs.language.Bytes.{is_name}
+use Rattle.sh_facts.specs.Operands.{Total, total}
+use Rattle.sh_facts.specs.Views.{counted_by}
+use Rattle.std.proofs.Math.Nat.{add-mul}
 use Rattle.sh_sound.specs.Fields.{least, Split, Operand, Fields, FieldsFit}
 
 -- Counts
@@ -111,7 +114,7 @@ module _ (f : Frame) (status : ℕ) (a : Answer) (e : Environment) where
     counted = subst (λ n. n ≤ length (word_fields in_fields a (expand f status in_fields w (fresh e a.given)))) (least_is f (count_of w)) (operands_count f status w (fresh e a.given) a.directory l k);
   }
 
-is_form : (b : Bool) (x y : Text × p.Word) → (if b then Some x else None) ≡ Some y → (b ≡ true) × (x ≡ y)
+pub is_form : (b : Bool) (x y : Text × p.Word) → (if b then Some x else None) ≡ Some y → (b ≡ true) × (x ≡ y)
 is_form true x y h = (refl, same_Some x y h)
 is_form false x y h = absurd (none-some y h)
 
@@ -183,3 +186,27 @@ left_formed m es w left (t ∷ ts) h k =
     let behind = (and_parts (field_formed k.word) (list_all field_formed (k.done ++ w ∷ left)) all).1 in
     let joined : (list_all field_formed k.done && list_all field_formed (w ∷ left)) ≡ true = sym (list_all-append field_formed k.done (w ∷ left)) ∙ behind in
     (and_parts (field_formed w) (list_all field_formed left) (and_parts (list_all field_formed k.done) (list_all field_formed (w ∷ left)) joined).1).0
+
+-- Operands are at least as many as the rules count
+
+pub total_count : (m : ℕ) (ws : List p.Word) (ts : List Text) → Fields false m ws ts → (total ws).ones + (total ws).parameters * m ≤ length ts
+unfolding Fields Operand total least
+total_count m [] ts h = omega arith
+total_count m (w ∷ ws) ts h = go (count_of w) refl (total_count m ws h.1 h.4)
+  where
+    n : Total
+    n = total ws
+
+    long : length ts ≡ length h.0 + length h.1
+    long = ap length h.2 ∙ length-append h.0 h.1
+
+    more : (k : Count) → count_of w ≡ k → least m k ≤ length h.0
+    more k e = subst (λ k. least m k ≤ length h.0) e h.3.counted
+
+    go : (k : Count) → count_of w ≡ k → n.ones + n.parameters * m ≤ length h.1 → (total (w ∷ ws)).ones + (total (w ∷ ws)).parameters * m ≤ length ts
+    go Parameters e rest = let some : m ≤ length h.0 = more Parameters e in rw (e, add-mul n.parameters 1 m) (omega (arith, rest, long, some))
+    go One e rest = let some : 1 ≤ length h.0 = more One e in rw e (omega (arith, rest, long, some))
+    go Nothing e rest = rw e (omega (arith, rest, long))
+
+pub counted_fits : (m : ℕ) (ws : List p.Word) (ts : List Text) → Fields false m ws ts → counted_by (total ws) m ≤ length ts
+counted_fits m ws ts h = omega (arith, total_count m ws ts h)

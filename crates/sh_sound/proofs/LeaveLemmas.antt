@@ -54,7 +54,7 @@ counts m (w ∷ ws) ts h k = by (static_of w) refl (and_parts (is_count (static_
         go None e c = absurd (true≢false (sym c ∙ uncounted t e))
         go (Some n) e c = record { count = n; ruled = ap (option_and_then number_in) s ∙ e; done = ap count_operand first ∙ e }
 
-passed : (b : Bool) (r : Rule) → unless b r ≡ None → b ≡ true
+pub passed : (b : Bool) (r : Rule) → unless b r ≡ None → b ≡ true
 unfolding unless
 passed true r h = refl
 passed false r h = cc

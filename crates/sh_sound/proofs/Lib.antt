@@ -8,6 +8,10 @@ pub mod CompoundLemmas
 pub mod ProcessLemmas
 pub mod CommandLemmas
 pub mod WordsLemmas
+pub mod MannerLemmas
+pub mod RedirectLemmas
+pub mod PrepareLemmas
+pub mod OperandsLemmas
 pub mod EnterLemmas
 pub mod SharingLemmas
 pub mod WorldLemmas
@@ -19,3 +23,10 @@ pub mod EventLemmas
 pub mod CallLemmas
 pub mod CallStepLemmas
 pub mod LeaveLemmas
+pub mod ChangeLemmas
+pub mod SpecialLemmas
+pub mod SpecialRowLemmas
+pub mod UtilityLemmas
+pub mod UtilityStepLemmas
+pub mod PrepareStepLemmas
+pub mod ActLemmas

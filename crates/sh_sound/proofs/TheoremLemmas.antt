@@ -19,14 +19,16 @@ use Rattle.sh_facts.specs.Rules.{defined_by, functions_of}
 use Rattle.sh_facts.specs.Views.{Certificate, Seen, Both, at_start, steps, source_facts}
 use Rattle.sh_facts.proofs.EnteredWalk.{script_formed}
 use Rattle.sh_facts.proofs.InclusionLemmas.{rules_give}
+use Rattle.sh_sound.specs.Doing.{SimpleAt}
 use Rattle.sh_sound.specs.Going.{around, front, FrontGood, Good, GoodIn, Stays, ProcessOk}
 use Rattle.sh_sound.specs.Holding.{Stands, Holds, OneHolds}
+use Rattle.sh_sound.proofs.ActLemmas.{act_ok}
 use Rattle.sh_sound.proofs.ExpansionLemmas.{job_no_name}
 use Rattle.sh_sound.proofs.HoldLemmas.{all_one, both_holds}
 use Rattle.sh_sound.proofs.ListLemmas.{leads_same}
 use Rattle.sh_sound.proofs.SharingLemmas.{SharingOf, copy_shares}
 use Rattle.sh_sound.specs.Theorem.{RulesSuffice}
-use Rattle.sh_sound.proofs.WorldLemmas.{WorldWell, put_lives, Kept, run_well, no_unset_event}
+use Rattle.sh_sound.proofs.WorldLemmas.{WorldWell, put_lives, run_well, no_unset_event}
 
 -- The functions of the script
 
@@ -134,12 +136,11 @@ module _ (d : Declared) (c : Certificate) where
         bodies = λ g body h. absurd (none-some body (sym (begin.functions g) ∙ h));
       }
 
--- The theorem, where every step of a process keeps what holds of one
-pub rules_suffice : (SimpleAt : Declared → Certificate → List Text → Around → Work → Seen → Type 0)
-    → ((d : Declared) (c : Certificate) (defined : List Text) → Kept d c defined (SimpleAt d c defined)) → RulesSuffice
-rules_suffice SimpleAt kept d c t named admitted formed rules met e f begin moves w runs whole m =
+-- The theorem
+pub rules_suffice : RulesSuffice
+rules_suffice d c t named admitted formed rules met e f begin moves w runs whole m =
     let defined : List Text = functions_of (script_entered t) in
     let stand = all_stand d c t formed (rules_give d c t admitted formed rules met) in
     let start : WorldWell d c defined (SimpleAt d c defined) (start_world e f t) = start_well d c (SimpleAt d c defined) defined e f t named begin stand in
-    no_unset_event d c defined (SimpleAt d c defined) (kept d c defined) w m
-    (run_well d c defined (SimpleAt d c defined) (kept d c defined) moves (start_world e f t) w start whole runs)
+    no_unset_event d c defined (SimpleAt d c defined) (act_ok d c defined) w m
+    (run_well d c defined (SimpleAt d c defined) (act_ok d c defined) moves (start_world e f t) w start whole runs)

@@ -1,5 +1,5 @@
 -- Steps of the words of a simple command.
-use Rattle.std.proofs.Common.{◌≡◌, ℕ, ◌≤◌, true, false, Some, None, List, [], ◌∷◌, ◌++◌, map, length, refl, sym, subst, inl, inr}
+use Rattle.std.proofs.Common.{◌≡◌, ℕ, ◌≤◌, true, false, Some, None, List, [], ◌∷◌, ◌++◌, map, length, refl, sym, subst}
 use Rattle.std.proofs.lemmas.Option.{none-some}
 use Rattle.std.proofs.lemmas.Bool.{and_parts}
 use Rattle.sh_tree.specs.program.Syntax as p
@@ -19,11 +19,12 @@ use Rattle.sh_facts.specs.Facts.{Facts, NotReached, Known, Declared}
 use Rattle.sh_facts.specs.Gains.{Gains, no_gains, word_gains, words_gains}
 use Rattle.sh_facts.specs.Inclusions.{behind, elements_formed, kind_formed, command_formed, redirects_formed, surroundings_of}
 use Rattle.sh_facts.specs.Table.{is_redirected}
-use Rattle.sh_facts.specs.Views.{Certificate, Seen, Both, in_any_case, gaining, step, steps, source_facts}
+use Rattle.sh_facts.specs.Views.{Certificate, Seen, Both, in_any_case, gaining}
 use Rattle.sh_sound.specs.Holding.{Holds, OneHolds, Entails}
 use Rattle.sh_sound.specs.Fields.{FieldsFit}
 use Rattle.sh_sound.specs.Going.{around, front, WordsAt, FrontGood, Good, GoodIn, ProcessOk, StepOk}
 use Rattle.sh_sound.specs.Doing.{behind_facts, parameters, RulesAt, Settles, WordsStage, PrepareStage, SimpleAt}
+use Rattle.sh_sound.proofs.CallLemmas.{behind_known}
 use Rattle.sh_sound.proofs.FieldsLemmas.{fit_less, name_fits, operand_fits, static_one, operand_gives, left_formed}
 use Rattle.sh_sound.proofs.HoldLemmas.{has_nothing, gain_holds, holds_gain, has_gain, any_holds, both_holds}
 use Rattle.sh_sound.proofs.CaseLemmas.{gain_two}
@@ -43,16 +44,6 @@ name_static x p.no_words w left h k = cc
 name_static x (p.more_words v vs) w left h k = let same : v ≡ w = cc in subst (λ v. (t : Text) × (static_of v ≡ Some t)) same (named_static x v (static_of v) (map static_of (words_in vs)) k)
 
 module _ (d : Declared) (c : Certificate) (defined : List Text) where
-  -- what is seen behind the words is one view
-  pub behind_holds : (n : ℕ) (es : p.Elements) (e : Environment) (f : Frame) → OneHolds d c (behind d c n es) e f → Holds (behind_facts c n es) e f
-  unfolding OneHolds steps step source_facts
-  behind_holds n es e f (inl h) = h
-  behind_holds n es e f (inr h) = absurd h
-
-  pub holds_behind : (n : ℕ) (es : p.Elements) (e : Environment) (f : Frame) → Holds (behind_facts c n es) e f → OneHolds d c (behind d c n es) e f
-  unfolding OneHolds steps step source_facts
-  holds_behind n es e f h = inl h
-
   pub enough : (y : Facts) (e : Environment) (f : Frame) → Holds y e f → parameters y ≤ length f
   unfolding Holds parameters
   enough NotReached e f h = absurd h
@@ -96,7 +87,7 @@ module _ (d : Declared) (c : Certificate) (defined : List Text) where
           rules = needs.rules;
           fits =
               fit_less (parameters (behind_facts c k.number k.elements)) (length f) k.elements [] fields
-              (enough (behind_facts c k.number k.elements) e f (behind_holds k.number k.elements e f (through e f known)))
+              (enough (behind_facts c k.number k.elements) e f (behind_known d c defined k.number k.elements e f (through e f known)))
               live.good.0;
           left = record { behind_words = through; opened = needs.opened; values = needs.values; redirected = λ h. subst (λ r. is_redirected r ≡ true) needs.redirects h };
           settles =

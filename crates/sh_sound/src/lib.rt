@@ -1,2 +1,4 @@
-//! What holds of every run of a script whose rules and demands hold.
+//! Why no run of a script whose rules and demands hold expands a parameter that is not set: definitions in `specs/`, and the `laws`.
 #![tactic(auto)]
+
+pub mod laws;

@@ -1,5 +1,5 @@
 -- The functions of commands, a command at a time.
-use Rattle.std.proofs.Common.{◌≡◌, ℕ, zero, suc, ◌+◌, ◌<◌, ◌≤◌, Bool, true, false, not, cond, ◌||◌, if◌then◌else◌, List, [], ◌∷◌, ◌++◌, length, drop, get_or, map, fold, Option, Some, None, option_map, refl, sym, ap, ap₂, ◌∙◌, subst, arith, eqb, position, Vec, Global, length-append}
+use Rattle.std.proofs.Common.{◌≡◌, ℕ, suc, ◌+◌, ◌<◌, ◌≤◌, Bool, true, false, cond, ◌||◌, if◌then◌else◌, List, [], ◌∷◌, ◌++◌, length, drop, get_or, map, fold, Option, Some, None, option_map, refl, sym, ap, ap₂, ◌∙◌, subst, arith, eqb, position, Vec, Global}
 use Rattle.std.proofs.Math.ListN.{set}
 use Rattle.std.proofs.Math.Path.{fun_ext}
 use Rattle.std.specs.List.{cons_option, filter, filter_map, list_any, position_from}

@@ -1,5 +1,5 @@
 -- What is kept of a script, and the row with a number.
-use Rattle.std.proofs.Common.{◌≡◌, ℕ, zero, suc, ◌+◌, ◌<◌, ◌≤◌, ◌==◌, Bool, true, false, cond, if◌then◌else◌, List, [], ◌∷◌, length, take, drop, get_or, map, Option, Some, None, option_map, slice_get, refl, sym, ap, ap₂, ◌∙◌, arith, ◌-◌, take_all, length-drop}
+use Rattle.std.proofs.Common.{◌≡◌, ℕ, zero, suc, ◌<◌, ◌≤◌, ◌==◌, Bool, true, false, cond, List, [], ◌∷◌, length, drop, get_or, map, Option, Some, None, option_map, refl, sym, ap, ap₂, ◌∙◌, arith}
 use Rattle.std.proofs.Math.Dec.{ltb}
 use Rattle.std.proofs.lemmas.Bool.Decides.{nat_tests}
 use Rattle.std.specs.List.{AllWithin, position_from}
@@ -116,9 +116,6 @@ row_found b n (suc a) (r ∷ rs) l up low high =
     let other : (r.number == n) ≡ false = grind (arith, nat_tests) in
     rw other (row_found b n a rs (omega (arith, l)) (λ i j d k h. up (suc i) (suc j) d (omega (arith, k)) (omega (arith, h)))
     (λ k d m h. low (suc k) d (omega arith) (omega (arith, h))) (λ k d m h. high (suc k) d (omega (arith, m)) (omega (arith, h))))
-
-pub take_rest : (at : ℕ) (rs : List declared.Row) → at ≤ length rs → take (length rs - at) (drop at rs) ≡ drop at rs
-take_rest at rs l = let left : length (drop at rs) ≡ length rs - at = length-drop at rs in take_all (length rs - at) (drop at rs) (omega (arith, left))
 
 -- the text of a word of a row
 

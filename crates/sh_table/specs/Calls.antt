@@ -1,6 +1,6 @@
 -- The call table of a program: its functions with the commands that define them, and the static texts of the words of each command.
 -- POSIX.1-2024, XCU 2.2 (quoting), 2.9.1 (simple commands), 2.9.1.4 (command search and execution), 2.9.5 (function definitions).
-use Rattle.std.specs.Prelude.{◌≡◌, ◌≤◌, ◌<◌, ◌-◌, ℕ, zero, suc, ◌==◌, Bool, false, if◌then◌else◌, List, [], ◌∷◌, ◌++◌, length, map, fold, Option, Some, None, Result, Ok, Err, slice_get}
+use Rattle.std.specs.Prelude.{◌≡◌, ◌≤◌, ◌<◌, ℕ, zero, suc, ◌==◌, Bool, false, if◌then◌else◌, List, [], ◌∷◌, ◌++◌, length, map, fold, Option, Some, None, Result, Ok, Err}
 use Rattle.std.specs.List.{filter, filter_map, position_from}
 use Rattle.std.specs.List.Sorted.{IsNonDecreasingBy}
 use Rattle.std.specs.Str.{bytes_eq}

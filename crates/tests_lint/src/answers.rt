@@ -591,7 +591,6 @@ fn forms_that_are_not_read_yet(rt: HostRuntime) -> Result<(), Fail> {
 }
 
 const UNANALYSED: &[Row] = &[
-    (b"f() { a; }", &[], OUTSIDE, 2),
     (b"a 'b' | c", &[], OUTSIDE, 2),
     (b"a && b", &[], OUTSIDE, 2),
     (b"a &", &[], OUTSIDE, 2),

@@ -1,5 +1,4 @@
-use Rattle.std.proofs.Common.{rules, ◌≡◌, None, sym, ap, ◌∙◌}
-use Rattle.sh_table.specs.Calls.{Functions}
+use Rattle.std.proofs.Common.{rules, sym, ◌∙◌}
 use Rattle.sh_table.proofs.FunctionLemmas.{place_of_key, put_more}
 use Rattle.sh_table.proofs.functions.Functions.add.Goals as goal
 

@@ -1,5 +1,4 @@
-use Rattle.std.proofs.Common.{◌≡◌, [], rules}
-use Rattle.sh_table.specs.Calls.{functions_in}
+use Rattle.std.proofs.Common.{rules}
 use Rattle.sh_table.proofs.FunctionLemmas.{functions_end}
 use Rattle.sh_table.proofs.functions.Functions.new.Goals as goal
 

@@ -1,8 +1,5 @@
-use Rattle.std.proofs.Common.{◌≡◌, ◌<◌, ◌≤◌, length, map, ap, ◌∙◌, arith, sym}
-use Rattle.sh_tree.specs.declared.limits.TheConstants.{MAX_COMMANDS}
-use Rattle.sh_tree.specs.program.Trees.{script_of}
-use Rattle.sh_table.specs.Calls.{Functions, functions_of, table_of, row_in, row_of}
-use Rattle.sh_table.specs.Walks.{seen}
+use Rattle.std.proofs.Common.{length, ap, ◌∙◌, arith}
+use Rattle.sh_table.specs.Calls.{Functions}
 use Rattle.sh_table.proofs.TableLemmas.{functions_whole, table_whole, kept}
 use Rattle.sh_table.proofs.table.CallTable.new.Goals as goal
 
