@@ -1,10 +1,11 @@
 //! Command substitutions (XCU 2.6.3).
 ghost use Rattle.std.specs.Prelude.{◌-◌, ◌≡◌, ◌<◌, ◌≤◌, length};
-ghost use Rattle.sh_grammar.specs.Faults.{IsFault};
+ghost use Rattle.sh_grammar.specs.Faults.{IsFault, Tells, stage_at};
 ghost use Rattle.sh_grammar.specs.Nests.{Nests};
 ghost use Rattle.sh_grammar.specs.States.{Stands};
 ghost use Rattle.sh_grammar.specs.Substitutions.{ClosedFrom, TellsOpen};
 ghost use Rattle.sh_grammar.specs.Readers.{Answers};
+ghost use Rattle.sh_tree.specs.language.Commands as tokens;
 
 use super::faults::unexpected;
 use super::grammar::Grammar;
@@ -21,6 +22,7 @@ fn unclosed(script: &[u8], start: u32, here: State) -> Refusal
     requires inside { here.at ≤ length script.now }
     requires begins { start ≤ length script.now }
     ensures open { TellsOpen script.now start here result }
+    ensures which { here.at < length script.now → Tells script.now (tokens.lead_at script.now (stage_at here.fresh) here.at) here.at result }
     ensures fault { IsFault script.now result }
 {
     if here.at as usize == script.len() {
