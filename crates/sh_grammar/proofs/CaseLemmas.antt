@@ -21,7 +21,7 @@ use Rattle.sh_tree.specs.language.Reading.{ReadsWord, ReadsPatterns, ReadsSequen
 use Rattle.sh_tree.specs.language.States as states
 use Rattle.sh_tree.specs.language.States.{Spot, Document, facing, past, waits, lower, as_deep}
 use Rattle.sh_tree.specs.language.Trees.{clause}
-use Rattle.sh_tree.proofs.Counts.{word_count, patterns_count, sequence_count, breaks_count, clauses_count}
+use Rattle.sh_tree.proofs.Counts.{patterns_count, sequence_count, breaks_count, clauses_count}
 use Rattle.sh_grammar.specs.Breaks.{BreaksTo}
 use Rattle.sh_grammar.specs.Cases.{UnsplitFrom, PatternsFrom, ReadsClause, ClauseFrom, ClausesFrom, ReadsClauseTail}
 use Rattle.sh_grammar.specs.declared.state.State.{State}
