@@ -40,7 +40,7 @@ parameters NotReached = 0
 parameters (Known v f a) = a
 
 module _ (d : Declared) (c : Certificate) (defined : List Text) where
-  -- the rules of the command
+  -- what rules and demands give of the command, and that functions of the script have names
   pub record RulesAt (x : Around) (n : ℕ) (es : p.Elements) : Type 0 where
     pub seen : Seen
     pub offset : ℕ
@@ -87,6 +87,8 @@ module _ (d : Declared) (c : Certificate) (defined : List Text) where
       Entails d c (gaining (and_gains (left_gains xs) (redirects_gains rs)) s) (gaining (and_gains (assignments_gains es) (redirections_gains es)) (behind d c n es))
   Settles (Named name ts) n es rs xs s = xs ≡ assignments_in es
 
+  -- The words are expanded, and have given these fields; what is left of the redirections and assignments may be expanded; a redirection has
+  -- failed only where there is one.
   pub record PrepareStage (x : Around) (k : Simple) (fields : List Text) (rs : p.Redirects) (xs : Assignments) (failed : Bool) (s : Seen) : Type 0 where
     pub rules : RulesAt x k.number k.elements
     pub fits : FieldsFit (parameters (behind_facts c k.number k.elements)) k.elements [] fields
@@ -96,7 +98,8 @@ module _ (d : Declared) (c : Certificate) (defined : List Text) where
 
   -- A utility
 
-  -- no function of the script has its name, or none is known to be defined
+  -- The name is none of a special built-in utility, and no function of the script has it, or none that is known to be defined; all names of
+  -- prefix assignments are told.
   pub record UtilityStage (x : Around) (k : Simple) (name : Text) (operands : List Text) (rs : p.Redirects) (xs : Assignments) (all : List Text) (s : Seen) : Type 0 where
     pub rules : RulesAt x k.number k.elements
     pub begun : Begun (parameters (behind_facts c k.number k.elements)) k.elements [] name operands
@@ -107,7 +110,8 @@ module _ (d : Declared) (c : Certificate) (defined : List Text) where
 
   -- A call
 
-  -- the operands are as many as the rules count, and the names that were not set before the assignments that are done are not claimed
+  -- The rules take the command for a call of this function. There are as many operands as they count; when the assignments that are left are
+  -- done, all of their names are set; and those names that were not set before them nobody claims.
   pub record CallStage (x : Around) (n : ℕ) (function : Text) (operands : List Text) (body : p.Command) (rs : p.Redirects) (xs : Assignments) (saved : Saved) (s : Seen) : Type 0 where
     pub elements : p.Elements
     pub words : List Word
