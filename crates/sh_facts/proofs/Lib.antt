@@ -16,3 +16,4 @@ pub mod SpotLemmas
 pub mod TextLemmas
 pub mod SpellingLemmas
 pub mod ReadBackLemmas
+pub mod WritingLemmas

@@ -11,6 +11,7 @@ pub mod Sheets
 pub mod Forms
 pub mod Spelling
 pub mod Certificates
+pub mod Numbered
 pub mod Table
 pub mod Entries
 pub mod Rules

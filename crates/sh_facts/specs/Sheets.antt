@@ -64,15 +64,6 @@ certificate_of functions s = record { claim = claim_at functions s; drops = λ f
 abbrev pub precedes : Text → Text → Bool
 precedes t u = is_lt (slice_cmp nat_cmp t u)
 
--- the text put before the first that it precedes
-unfoldable pub placed : Text → List Text → List Text
-placed t [] = t ∷ []
-placed t (u ∷ us) = if precedes t u then t ∷ u ∷ us else u ∷ placed t us
-
-unfoldable pub in_byte_order : List Text → List Text
-in_byte_order [] = []
-in_byte_order (t ∷ ts) = placed t (in_byte_order ts)
-
 -- Texts
 
 -- texts one after the other, with a byte between two

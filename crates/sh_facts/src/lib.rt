@@ -5,8 +5,10 @@
 pub mod certificate;
 pub mod laws;
 pub mod names;
+mod numbered;
 mod operands;
 pub mod policy;
 pub mod rows;
 pub mod rule;
 pub mod sights;
+pub mod texts;

@@ -1,0 +1,23 @@
+use Rattle.std.proofs.Common.{◌≡◌, ◌+◌, get_or, map, refl, ap, rules}
+use Rattle.sh_facts.specs.declared.certificate.FunctionEntry.{FunctionEntry}
+use Rattle.sh_facts.specs.declared.certificate.Facts.TheVariants.{NotReached}
+use Rattle.sh_facts.specs.Numbered.{pair_of}
+use Rattle.sh_facts.specs.Sheets.{numbered_lines}
+use Rattle.sh_facts.proofs.WritingLemmas.{functions_written}
+use Rattle.sh_facts.proofs.texts.push_functions.Goals as goal
+
+pub loop-entry-init : goal.loop-entry-init
+unfolding numbered_lines
+loop-entry-init c = record { number = refl; written = search rules }
+
+pub loop-entry-preserved : goal.loop-entry-preserved
+loop-entry-preserved c =
+    let es = c.args.functions.now in
+    let i = c.loop-entry.entry-index in
+    let d : FunctionEntry = record { before = NotReached; drops = record { vars = record { index = 0 }; functions = record { index = 0 } }; zero = NotReached; nonzero = NotReached } in
+    let m : c.loop-entry.number + 1 ≡ i + 1 = ap (λ n. n + 1) c.loop-entry.invariant.number in
+    record {
+      number = m;
+      written = functions_written (map pair_of c.args.order.now) c.args.rows.now es i (c.loop-entry.number + 1) (get_or es i d) d c.args.out.now.items c.loop-entry.out.items c.push_function.new.out.items c.loop-entry-test.true refl m
+          c.loop-entry.invariant.written c.in_ok-push_function.ensures;
+    }

@@ -1,0 +1,47 @@
+//! Names with their numbers, in rising byte order.
+ghost use Rattle.std.specs.Prelude.{◌≡◌, map, position, IfOk};
+ghost use Rattle.sh_facts.specs.Sheets as text;
+ghost use Rattle.sh_facts.specs.Certificates as claims;
+ghost use Rattle.sh_facts.specs.Numbered.{pair_of};
+
+use crate::names::Names;
+use std::alloc::{AllocError, Global};
+use std::cmp::Ord;
+
+/// A name and its number.
+#[derive(Clone, Copy, Debug)]
+pub struct Numbered<'a> {
+    pub name: &'a [u8],
+    pub number: u32,
+}
+
+/// The names with their numbers, in rising byte order.
+///
+/// # Errors
+///
+/// Where a growth was refused.
+pub fn in_byte_order(alloc: Global, names: &Names) -> Result<Vec<Numbered<'_>>, AllocError>
+    ensures { IfOk result (λ order. map pair_of order.items ≡ claims.in_byte_order names.now) }
+{
+    let mut order: Vec<Numbered<'_>> = Vec::new(alloc);
+    for number in 0..names.count() {
+        let name = names.name(number);
+        let at = first_behind(&order, name).unwrap_or(order.len());
+        order.insert(at, Numbered { name, number })?;
+    }
+    Ok(order)
+}
+
+// The index of the first name that this one precedes.
+fn first_behind(order: &[Numbered<'_>], name: &[u8]) -> Option<usize>
+    ensures { result ≡ position (λ other. text.precedes name.now other.name.now) order.now }
+{
+    order.iter().position(|other| precedes(name, other.name))
+}
+
+// Whether the first text comes before the second by their bytes.
+fn precedes(first: &[u8], second: &[u8]) -> bool
+    ensures { result ≡ text.precedes first.now second.now }
+{
+    first.cmp(second).is_lt()
+}
