@@ -1,8 +1,10 @@
 -- The static text of a word of plain bytes.
-use Rattle.std.proofs.Common.{◌≡◌, ℕ, false, not, ◌&&◌, ◌||◌, ◌==◌, cond, map, List, [], ◌∷◌, ◌++◌, Some, None, refl, sym, ap, ◌∙◌, length, drop, ◌≤◌}
+use Rattle.std.proofs.Common.{◌≡◌, ℕ, false, not, ◌&&◌, ◌||◌, ◌==◌, cond, map, List, [], ◌∷◌, ◌++◌, Option, Some, None, IfSome, refl, sym, ap, ◌∙◌, length, take, drop, zero, suc, ◌+◌, ◌-◌, ◌≤◌, arith, length-drop, length-take-le}
 use Rattle.std.proofs.Math.Bool.{or-false}
 use Rattle.std.proofs.lemmas.List.{append-nil, map-append, drop_all}
-use Rattle.sh_tree.specs.declared.tree.Part.{Part, Plain}
+use Rattle.sh_tree.specs.declared.tree.Part.{Part, Plain, Escaped, Single, Double}
+use Rattle.sh_tree.specs.declared.tree.SingleStyle.{SingleStyle}
+use Rattle.sh_tree.specs.declared.tree.SingleStyle.TheVariants as single
 use Rattle.sh_tree.specs.declared.tree.Span.{Span}
 use Rattle.sh_tree.specs.Tree.{text_of}
 use Rattle.std.specs.List.{list_any, flat_map}
@@ -18,8 +20,8 @@ use Rattle.sh_tree.specs.program.Words.{operands_in, static_of, words_in}
 use Rattle.sh_tree.proofs.ProgramRules as rules
 use Rattle.sh_tree.proofs.ProgramWords.{static_of_parts}
 use Rattle.sh_table.specs.Sites.{Simple, statics}
-use Rattle.sh_tree.specs.Words.{static_text, is_wildcard, is_pattern, has_wildcard, has_bracket, is_bracket, parts_text, part_text}
-use Rattle.sh_table.specs.WordTexts.{has_pattern, plain_text, plain_span, text_in, texts_of}
+use Rattle.sh_tree.specs.Words.{static_text, is_wildcard, is_pattern, has_wildcard, has_bracket, is_bracket, parts_text, part_text, part_text-Double, single_text, behind_first, between_ends}
+use Rattle.sh_table.specs.WordTexts.{has_pattern, plain_text, plain_span, lone_part, text_in, texts_of}
 use Rattle.sh_table.specs.Profile.{Static}
 use Rattle.sh_table.specs.declared.word_text.WordText.{WordText}
 
@@ -82,3 +84,83 @@ plain_in b [] s e = cc
 plain_in b (Plain t ∷ []) s e = let same : s ≡ t = cc in rw same (sym (plain_static b t))
 plain_in b (Plain t ∷ y ∷ ys) s e = cc
 plain_in b (x ∷ xs) s e = cc
+
+-- a word that is one quotation
+
+drop_one_more : (s : ℕ) (b : List ℕ) → drop 1 (drop s b) ≡ drop (s + 1) b
+drop_one_more zero b = refl
+drop_one_more (suc s) [] = let e : suc s + 1 ≡ suc (s + 1) = omega arith in rw e refl
+drop_one_more (suc s) (x ∷ xs) = let e : suc s + 1 ≡ suc (s + 1) = omega arith in rw e (drop_one_more s xs)
+
+take_none : (n : ℕ) → take {A = ℕ} n [] ≡ []
+take_none zero = refl
+take_none (suc n) = refl
+
+behind_taken : (n : ℕ) (xs : List ℕ) → drop 1 (take n xs) ≡ take (n - 1) (drop 1 xs)
+behind_taken zero xs = refl
+behind_taken (suc n) [] = let e : suc n - 1 ≡ n = omega arith in rw e (sym (take_none n))
+behind_taken (suc n) (x ∷ xs) = let e : suc n - 1 ≡ n = omega arith in rw e refl
+
+take_less : (m n : ℕ) (xs : List ℕ) → m ≤ n → take m (take n xs) ≡ take m xs
+take_less zero n xs h = refl
+take_less (suc m) zero xs h = absurd (omega (arith, h))
+take_less (suc m) (suc n) [] h = refl
+take_less (suc m) (suc n) (x ∷ xs) h = ap (λ ys. x ∷ ys) (take_less m n xs (omega (arith, h)))
+
+range_behind : (b : List ℕ) (s e : ℕ) → take (e - (s + 1)) (drop (s + 1) b) ≡ drop 1 (take (e - s) (drop s b))
+range_behind b s e =
+    let less : e - s - 1 ≡ e - (s + 1) = omega arith in
+    sym (behind_taken (e - s) (drop s b) ∙ rw less (ap (take (e - (s + 1))) (drop_one_more s b)))
+
+pub text_behind_first : (b : List ℕ) (s t : Span) → t.start ≡ s.start + 1 → t.end ≡ s.end → text_of b t ≡ behind_first (text_of b s)
+text_behind_first b s t k e = rw (k, e) (range_behind b s.start s.end)
+
+pub text_between_ends : (b : List ℕ) (s t : Span) → s.end ≤ length b → t.start ≡ s.start + 1 → s.end ≡ t.end + 1 → text_of b t ≡ between_ends (text_of b s)
+text_between_ends b s t l k e =
+    let behind : length (drop s.start b) ≡ length b - s.start = length-drop s.start b in
+    let size : length (text_of b s) ≡ s.end - s.start = length-take-le (s.end - s.start) (drop s.start b) (omega (arith, behind, l)) in
+    let less : t.end - t.start ≡ s.end - s.start - 2 = omega (arith, k, e) in
+    let fewer : s.end - s.start - 2 ≤ s.end - (s.start + 1) = omega arith in
+    rw (less, k, size)
+    (sym (take_less (s.end - s.start - 2) (s.end - (s.start + 1)) (drop (s.start + 1) b) fewer) ∙ ap (take (s.end - s.start - 2)) (range_behind b s.start s.end))
+
+pub escaped_static : (b : List ℕ) (s : Span) → static_text b (Escaped s ∷ []) ≡ Some (behind_first (text_of b s))
+unfolding static_text is_pattern has_wildcard has_bracket is_bracket parts_text part_text
+escaped_static b s = ap (λ t. Some t) (append-nil (behind_first (text_of b s)))
+
+plain_text_of : (b : List ℕ) (ps : List Part) (t : Span) → Some t ≡ plain_span ps → parts_text b ps ≡ Some (text_of b t)
+unfolding plain_span parts_text part_text
+plain_text_of b [] t e = cc
+plain_text_of b (Plain s ∷ []) t e = let same : t ≡ s = cc in rw same (ap (λ u. Some u) (append-nil (text_of b s)))
+plain_text_of b (Plain s ∷ y ∷ ys) t e = cc
+plain_text_of b (x ∷ xs) t e = cc
+
+pub double_static : (b : List ℕ) (s t : Span) (ps : List Part) → Some t ≡ plain_span ps → static_text b (Double s ps ∷ []) ≡ Some (text_of b t)
+unfolding static_text is_pattern has_wildcard has_bracket is_bracket parts_text
+double_static b s t ps e = rw (part_text-Double b s ps, plain_text_of b ps t e) (ap (λ u. Some u) (append-nil (text_of b t)))
+
+-- where the script has the text, if it has
+
+pub double_some : (b : List ℕ) (s : Span) (ps : List Part) (o : Option Span) → o ≡ plain_span ps → IfSome o (λ t. static_text b (Double s ps ∷ []) ≡ Some (text_of b t))
+double_some b s ps None e = tt
+double_some b s ps (Some t) e = double_static b s t ps e
+
+pub escaped_some : (b : List ℕ) (s : Span) (o : Option Span) → IfSome o (λ t. text_of b t ≡ behind_first (text_of b s)) → IfSome o (λ t. static_text b (Escaped s ∷ []) ≡ Some (text_of b t))
+escaped_some b s None h = tt
+escaped_some b s (Some t) h = escaped_static b s ∙ ap (λ u. Some u) (sym h)
+
+pub between_some : (b : List ℕ) (s : Span) (o : Option Span) → IfSome o (λ t. text_of b t ≡ between_ends (text_of b s)) → IfSome o (λ t. single_text single.Plain (text_of b s) ≡ Some (text_of b t))
+between_some b s None h = tt
+between_some b s (Some t) h = ap (λ u. Some u) (sym h)
+
+pub single_some : (b : List ℕ) (style : SingleStyle) (s : Span) (o : Option Span) → IfSome o (λ t. single_text style (text_of b s) ≡ Some (text_of b t))
+    → IfSome o (λ t. static_text b (Single style s ∷ []) ≡ Some (text_of b t))
+unfolding static_text is_pattern has_wildcard has_bracket is_bracket parts_text part_text
+single_some b style s None h = tt
+single_some b style s (Some t) h = rw h (ap (λ u. Some u) (append-nil (text_of b t)))
+
+pub lone_whole : (ps : List Part) (x : Part) → Some x ≡ lone_part ps → ps ≡ x ∷ []
+unfolding lone_part
+lone_whole [] x e = cc
+lone_whole (y ∷ []) x e = let same : x ≡ y = cc in rw same refl
+lone_whole (y ∷ z ∷ zs) x e = cc

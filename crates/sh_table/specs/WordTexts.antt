@@ -15,7 +15,7 @@ use Rattle.sh_tree.specs.program.Syntax.{Text}
 use Rattle.sh_tree.specs.program.Words.{operands_in, static_of, words_in}
 use Rattle.sh_table.specs.Profile.{Static}
 use Rattle.sh_table.specs.declared.word_text.WordText.{WordText}
-use Rattle.sh_table.specs.declared.word_text.WordText.TheVariants.{Computed, Plain, Made}
+use Rattle.sh_table.specs.declared.word_text.WordText.TheVariants.{Computed, Verbatim, Made}
 
 -- plain bytes hold a byte of a pattern
 unfoldable pub has_pattern : Text → Bool
@@ -30,10 +30,16 @@ unfoldable pub plain_span : List Part → Option Span
 plain_span (part.Plain s ∷ []) = Some s
 plain_span _ = None
 
+-- the part of a word that has one
+unfoldable pub lone_part : List Part → Option Part
+lone_part [] = None
+lone_part (x ∷ []) = Some x
+lone_part (x ∷ y ∷ ys) = None
+
 -- the text that is kept
 unfoldable pub text_in : List ℕ → WordText → Option Text
 text_in b Computed = None
-text_in b (Plain s) = Some (text_of b s)
+text_in b (Verbatim s) = Some (text_of b s)
 text_in b (Made v) = Some v.items
 
 -- those of an element

@@ -1,7 +1,10 @@
 //! The static texts of words, each made once.
-ghost use Rattle.std.specs.Prelude.{◌≡◌, ◌++◌, ◌∷◌, [], map, IfOk, OnOk, option_map};
+ghost use Rattle.std.specs.Prelude.{◌≡◌, ◌++◌, ◌∷◌, [], ℕ, List, map, IfOk, IfSome, OnOk, Some, option_map};
 ghost use Rattle.std.specs.List.{list_any, flat_map};
+ghost use Rattle.std.specs.Option.{option_copied};
 ghost use Rattle.std.specs.Str.{bytes_eq};
+ghost use Rattle.sh_tree.specs.Tree.{text_of};
+ghost use Rattle.sh_tree.specs.Words as words;
 ghost use Rattle.sh_tree.specs.Words.{is_wildcard, static_text};
 ghost use Rattle.sh_tree.specs.program.Lists.{elements_from};
 ghost use Rattle.sh_table.specs.Sites as sites;
@@ -9,7 +12,7 @@ ghost use Rattle.sh_tree.specs.program.Words.{operands_in};
 ghost use Rattle.sh_table.specs.WordTexts as spec;
 
 use sh_tree::text::static_text;
-use sh_tree::tree::{Element, Part, Span, Word};
+use sh_tree::tree::{Element, Part, SingleStyle, Span, Word};
 use std::alloc::{AllocError, Global};
 
 /// The text of a word without its quoting, if it is static (XCU 2.2).
@@ -17,8 +20,8 @@ use std::alloc::{AllocError, Global};
 pub enum WordText {
     /// The word holds an expansion, a tilde-prefix or an unquoted byte of a pattern.
     Computed,
-    /// The word is plain bytes of the script.
-    Plain(Span),
+    /// The script has the text in one piece.
+    Verbatim(Span),
     /// What quoting leaves of the word.
     Made(Vec<u8>),
 }
@@ -46,15 +49,77 @@ fn has_pattern(text: &[u8]) -> bool
     wildcard || bracket && !alone
 }
 
-/// The bytes of a word that is plain bytes alone.
+/// The bytes of parts that are plain bytes alone.
 #[tactic(auto, unfolding(crate::specs::WordTexts::plain_span))]
-fn plain_span(word: &Word) -> Option<Span>
-    ensures { result ≡ spec.plain_span word.now.parts }
+fn plain_span(parts: &[Part]) -> Option<Span>
+    ensures { result ≡ spec.plain_span parts.now }
 {
-    match word.parts.as_slice() {
+    match parts {
         [Part::Plain(span)] => Some(*span),
         _ => None,
     }
+}
+
+/// The bytes behind a backslash.
+fn behind_first(span: Span) -> Option<Span>
+    ensures { (b : List ℕ) → IfSome result (λ inner. text_of b inner ≡ words.behind_first (text_of b span)) }
+{
+    let start = span.start.checked_add(1)?;
+    Some(Span {
+        start,
+        end: span.end,
+    })
+}
+
+/// The bytes between single quotes.
+fn between_ends(span: Span, script: &[u8]) -> Option<Span>
+    ensures { IfSome result (λ inner. text_of script.now inner ≡ words.between_ends (text_of script.now span)) }
+{
+    if span.end as usize > script.len() {
+        return None;
+    }
+    let start = span.start.checked_add(1)?;
+    let end = span.end.checked_sub(1)?;
+    Some(Span { start, end })
+}
+
+/// Where the script has the bytes of a quotation in single quotes.
+fn single_span(style: SingleStyle, span: Span, script: &[u8]) -> Option<Span>
+    ensures { IfSome result (λ inner. words.single_text style (text_of script.now span) ≡ Some (text_of script.now inner)) }
+{
+    match style {
+        SingleStyle::Plain => between_ends(span, script),
+        SingleStyle::Dollar => None,
+    }
+}
+
+/// Where the script has what a quotation leaves, if it is in one piece there.
+fn part_span(part: &Part, script: &[u8]) -> Option<Span>
+    ensures { IfSome result (λ span. static_text script.now (part.now ∷ []) ≡ Some (text_of script.now span)) }
+{
+    match part {
+        Part::Double(_, parts) => plain_span(parts.as_slice()),
+        Part::Escaped(span) => behind_first(*span),
+        Part::Single(style, span) => single_span(*style, *span, script),
+        _ => None,
+    }
+}
+
+#[tactic(auto, unfolding(crate::specs::WordTexts::lone_part))]
+fn lone_part(parts: &[Part]) -> Option<&Part>
+    ensures { option_copied result ≡ spec.lone_part parts.entry.now }
+{
+    match parts {
+        [part] => Some(part),
+        _ => None,
+    }
+}
+
+/// Where the script has the text of a word that is one quotation.
+fn quoted_span(word: &Word, script: &[u8]) -> Option<Span>
+    ensures { IfSome result (λ span. static_text script.now word.now.parts ≡ Some (text_of script.now span)) }
+{
+    part_span(lone_part(word.parts.as_slice())?, script)
 }
 
 impl WordText {
@@ -63,11 +128,15 @@ impl WordText {
     /// # Errors
     ///
     /// `AllocError` where a growth was refused.
+    #[tactic(auto, unfolding(crate::specs::WordTexts::text_in))]
     fn new(alloc: Global, word: &Word, script: &[u8]) -> Result<WordText, AllocError>
         ensures { IfOk result (λ text. spec.text_in script.now text ≡ static_text script.now word.now.parts) }
     {
-        match plain_span(word) {
-            Some(span) => Ok(WordText::plain(span, script)),
+        if let Some(span) = plain_span(word.parts.as_slice()) {
+            return Ok(WordText::plain(span, script));
+        }
+        match quoted_span(word, script) {
+            Some(span) => Ok(WordText::Verbatim(span)),
             None => WordText::made(alloc, word, script),
         }
     }
@@ -79,7 +148,7 @@ impl WordText {
         if has_pattern(span.text(script)) {
             WordText::Computed
         } else {
-            WordText::Plain(span)
+            WordText::Verbatim(span)
         }
     }
 
@@ -100,7 +169,7 @@ impl WordText {
     {
         match self {
             WordText::Computed => None,
-            WordText::Plain(span) => Some(span.text(script)),
+            WordText::Verbatim(span) => Some(span.text(script)),
             WordText::Made(text) => Some(text.as_slice()),
         }
     }
