@@ -7,3 +7,5 @@ mod bodies;
 mod names;
 #[cfg(test)]
 mod rows;
+#[cfg(test)]
+mod texts;

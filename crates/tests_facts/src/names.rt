@@ -15,7 +15,8 @@ struct Row {
 
 const FIRST: &[&[u8]] = &[b"IFS", b"OPTIND", b"PPID", b"OPTARG", b"!"];
 
-fn names_of(alloc: Global, script: &[u8], policy: &Policy) -> Result<Names, Refusal> {
+/// The names of a script under a policy.
+pub fn names_of(alloc: Global, script: &[u8], policy: &Policy) -> Result<Names, Refusal> {
     let tree = parse(alloc, script)?;
     Names::new(alloc, &tree, script, policy)
 }

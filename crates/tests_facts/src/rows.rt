@@ -21,12 +21,13 @@ const ROWS: &[Kept] = &[
     (&[0, 64], 3),
 ];
 
-fn row_of(alloc: Global, numbers: &[u32]) -> Result<BitRow, AllocError>
-    ensures { IfOk result (λ r. r.count ≡ COUNT) }
+/// A row of these numbers, where they are below the count.
+pub fn row_of(alloc: Global, count: u32, numbers: &[u32]) -> Result<BitRow, AllocError>
+    ensures { IfOk result (λ r. r.count ≡ count) }
 {
-    let mut row = BitRow::empty(alloc, COUNT)?;
+    let mut row = BitRow::empty(alloc, count)?;
     for number in numbers {
-        if *number < COUNT {
+        if *number < count {
             row.add(*number)?;
         }
     }
@@ -38,7 +39,7 @@ fn place_of(alloc: Global, rows: &mut Rows, numbers: &[u32]) -> Result<Option<Ro
     if rows.count() != COUNT || rows.len() > 100 {
         return Ok(None);
     }
-    let row = row_of(alloc, numbers)?;
+    let row = row_of(alloc, COUNT, numbers)?;
     let id = rows.intern(&row)?;
     Ok(Some(id))
 }
