@@ -3,10 +3,14 @@
 
 Makes scripts of 10 KB, 100 KB and 1 MB, straight ones and ones of each kind of words, and prints for each the processor time and
 the peak memory of `shset lint`, `dash -n`, `shfmt` and, of straight ones, `shellcheck`, their ratios to shset's, and how they grew
-from the script a tenth as long: by 10 at most where they are linear in the text. All of them read a script of words whole, whether
-shset goes on to analyse it or not. Kinds can be given as arguments. A tool that is not installed is left out; one that takes longer
-than the limit is stopped and shown as more than that, and is not run on the larger scripts of that kind. The peak memory is that of
-GNU time (Debian's package time). Run it once the program is built.
+from the script a tenth as long: by 10 at most where they are linear in the text. All of them read a script whole, whether shset goes
+on to analyse it or not. A script of short lines is 130 KB long in place of 1 MB, since there may be no more commands. Kinds can be
+given as arguments. A tool that is not installed is left out; one that takes longer than the limit is stopped and shown as more than
+that, and is not run on the larger scripts of that kind. The peak memory is that of GNU time (Debian's package time). Run it once the
+program is built.
+
+The kind `kernels` is another: what rows of 4,096 bits do to each other, by `sh_rows` and by plain loops in C at -O3, in seconds for as
+many rounds, and how many times as long the former take. It wants the program of crates/rows_timer built, and `cc`.
 """
 import os
 import shutil
@@ -16,9 +20,14 @@ import sys
 import tempfile
 
 SIZES = (10_000, 100_000, 1_000_000)
+# The longest script of short lines, which has nearly as many commands as there may be.
+SHORT_LINES = 130_000
 LIMIT_SECONDS = 60
 RUNS = 3
-PROGRAM = os.path.join(os.path.dirname(os.path.abspath(__file__)), "..", "crates", "shset", "out", "shset")
+HERE = os.path.dirname(os.path.abspath(__file__))
+PROGRAM = os.path.join(HERE, "..", "crates", "shset", "out", "shset")
+TIMER = os.path.join(HERE, "..", "crates", "rows_timer", "out", "rows_timer")
+ROUNDS = "10000000"
 
 
 def straight_lines():
@@ -65,6 +74,27 @@ PLAIN = "echo " + "plain_word-" * 40 + " " + "a.b/c" * 40
 QUOTES = "echo 'a b;c'\"d e $x f\"\\g \"it's \\$y\" 'more of it'\\'''"
 EXPANSIONS = "echo $x${y}$1${10}${#x}${x%%/*}\"$@\" $# ~/a ${y:+$x}"
 SUM = "echo $((a = b ? 1 + 2 * (3 - $x) << 4 : ~c && d || e))"
+PARENTHESES = "echo $((" + "(" * 60 + "1 + 2 * x" + ")" * 60 + "))"
+CASES_AND_LOOPS = (
+    "case \"$x\" in (a | b*) echo \"some words $y\" plain_word other_word ;; c) log more words >>file ;; *) : ;; esac",
+    'while read -r line; do echo "$line and more words here" && log plain_word; done <file',
+    'for item in one two three "$@"; do if [ "$item" = one ]; then echo plain words here; else log other words; fi; done',
+)
+SUBSTITUTIONS = 'echo "$(echo some words $(log more_words "deep $(cat file)") and plain)" $(cat other_file) plain_word'
+
+
+def tower(opening, middle, closing, depth):
+    """A line of so many levels."""
+    return opening * depth + middle + closing * depth
+
+
+# Towers whose commands are long enough for 1 MB of them to be no more than there may be.
+TOWERS = (
+    tower("for x in a b c d; do ", "echo plain_word", "; done", 60),
+    tower("{ ", "echo " + "plain_word-" * 90, "; }", 60),
+    tower("echo $(", "log " + "plain-word " * 60, " and words)", 60),
+    tower('if [ "$x" = a ]; then ', "echo word", "; fi", 30),
+)
 
 # How a script of a size is made, by what is in it.
 KINDS = {
@@ -78,8 +108,13 @@ KINDS = {
     "deep braces": lambda size: script_of(repeated_lines("echo " + nested(60)), size),
     "long default": lambda size: word_of("${x-", "a b 'c' ", "}", size),
     "arithmetic": lambda size: script_of(repeated_lines(SUM), size),
+    "parentheses": lambda size: script_of(repeated_lines(PARENTHESES), size),
     "long sum": lambda size: word_of("$((1", " + 1", "))", size),
     "continuations": lambda size: word_of('"', "ab\\\n", '"', size),
+    "short lines": lambda size: script_of(repeated_lines("a"), min(size, SHORT_LINES)),
+    "towers": lambda size: script_of(repeated_lines(*TOWERS), size),
+    "case and loops": lambda size: script_of(repeated_lines(*CASES_AND_LOOPS), size),
+    "substitutions": lambda size: script_of(repeated_lines(SUBSTITUTIONS), size),
     "comments": lambda size: script_of(repeated_lines("# a comment 'of $(some) \"words", "a \\", "b # more"), size),
 }
 
@@ -158,14 +193,37 @@ def measure(kind, folder):
             print(f"{kind:<14} {size:>9}  {name:<11} {seconds:>9.3f} {kilobytes / 1024:>8.1f}  {ratios}  {grown}")
 
 
+def measure_kernels(folder):
+    if not os.access(TIMER, os.X_OK) or not shutil.which("cc"):
+        sys.exit("build crates/rows_timer first, by `rt run` there; and install cc")
+    loops = os.path.join(folder, "loops")
+    parts = []
+    # apart, so that no loop is taken into the rounds
+    for name in ("kernels", "kernels_main"):
+        parts.append(os.path.join(folder, name + ".o"))
+        subprocess.run(["cc", "-O3", "-c", os.path.join(HERE, name + ".c"), "-o", parts[-1]], check=True)
+    subprocess.run(["cc", *parts, "-o", loops], check=True)
+    print(f"{'kernel':<14} {'rounds':>9}  {'sh_rows':>9} {'C':>9}  {'ratio':>5}")
+    for kernel in ("meet", "remove", "within"):
+        answers = {subprocess.run([at, kernel, "1000"], stdout=subprocess.PIPE, check=True).stdout for at in (TIMER, loops)}
+        if len(answers) > 1:
+            sys.exit(f"{kernel}: the two do not give the same")
+        (own, _), (other, _) = best([TIMER, kernel, ROUNDS]), best([loops, kernel, ROUNDS])
+        print(f"{kernel:<14} {ROUNDS:>9}  {own:>9.3f} {other:>9.3f}  {own / other:>5.2f}")
+
+
 def main():
+    if sys.argv[1:] == ["kernels"]:
+        with tempfile.TemporaryDirectory() as folder:
+            measure_kernels(folder)
+        return
     if not os.access(PROGRAM, os.X_OK):
         sys.exit("build the program first: ./shset --help")
     if not os.access("/usr/bin/time", os.X_OK):
         sys.exit("install GNU time first: Debian's package time")
     kinds = sys.argv[1:] or list(KINDS)
     if not set(kinds) <= set(KINDS):
-        sys.exit("kinds: " + ", ".join(KINDS))
+        sys.exit("kinds: " + ", ".join(KINDS) + "; or kernels alone")
     print(f"{'kind':<14} {'bytes':>9}  {'tool':<11} {'seconds':>9} {'MB':>8}  {'time ratio':>10} {'memory ratio':>12}  {'time growth':>11} {'memory growth':>13}")
     with tempfile.TemporaryDirectory() as folder:
         for kind in kinds:

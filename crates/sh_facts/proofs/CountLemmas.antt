@@ -1,8 +1,9 @@
 -- How often a place stands in a list, and that it stands once.
-use Rattle.std.proofs.Common.{◌≡◌, ℕ, zero, suc, ◌+◌, ◌<◌, ◌≤◌, ◌==◌, Bool, true, false, ◌&&◌, if◌then◌else◌, cond, List, [], ◌∷◌, ◌++◌, map, length, get_or, ◌⊎◌, inl, inr, refl, sym, ◌∙◌, ap, subst, arith, eqb-true, eq-eqb, true≢false}
+use Rattle.std.proofs.Common.{◌≡◌, ℕ, zero, suc, ◌+◌, ◌<◌, ◌≤◌, ◌==◌, Bool, true, false, not, ◌&&◌, if◌then◌else◌, cond, List, [], ◌∷◌, ◌++◌, map, length, get_or, ◌⊎◌, inl, inr, refl, sym, ◌∙◌, ap, subst, arith, eqb-true, eq-eqb, true≢false}
 use Rattle.std.specs.List.{Contains, flat_map, fold}
 use Rattle.std.specs.Str.{bytes_eq}
 use Rattle.std.proofs.lemmas.Bool.{and_parts, and_from, or_parts, cases_Bool}
+use Rattle.std.proofs.lemmas.Bool.Decides.{nat_tests}
 use Rattle.std.proofs.lemmas.Slice.Eq.{bytes_eq-Decides}
 use Rattle.sh_tree.specs.declared.place.Code.{Code}
 use Rattle.sh_tree.specs.declared.place.Code.TheVariants.{P1, P2, Q1, U1, U2, U3}
@@ -114,6 +115,53 @@ hits_join q (x ∷ xs) ys = let rest = hits_join q xs ys in omega arith
 pub hits_cons : (q : Place) (s : Spot) (ss : List Spot) → hits q (s ∷ ss) ≡ hits q (s ∷ []) + hits q ss
 unfolding hits
 hits_cons q s ss = omega arith
+
+pub hits_none : (q : Place) → hits q [] ≡ 0
+unfolding hits
+hits_none q = refl
+
+pub hits_of_word : (q : Place) (i : ℕ) → hits q (OfWord i ∷ []) ≡ one ((q.at == i) && not (is_of_command q.code))
+unfolding hits is_there
+hits_of_word q i = go (is_of_command q.code) (q.at == i)
+  where
+    go : (b t : Bool) → one (is_there q.at b (OfWord i)) + 0 ≡ one ((q.at == i) && not b)
+    go true t = grind (arith, nat_tests)
+    go false t = grind (arith, nat_tests)
+
+pub hits_of_command : (q : Place) (i : ℕ) → hits q (OfCommand i ∷ []) ≡ one ((q.at == i) && is_of_command q.code)
+unfolding hits is_there
+hits_of_command q i = omega arith
+
+-- a place that would be told at the spot
+place_at : Spot → Place
+place_at (OfCommand i) = record { at = i; code = P1; subject = [] }
+place_at (OfWord i) = record { at = i; code = U1; subject = [] }
+
+spot_itself : (s : Spot) → one (is_there (place_at s).at (is_of_command (place_at s).code) s) ≡ 1
+unfolding place_at is_there is_of_command
+spot_itself (OfCommand i) = rw (eq-eqb i i refl) refl
+spot_itself (OfWord i) = rw (eq-eqb i i refl) refl
+
+hits_some : (s : Spot) (ss : List Spot) → Contains ss s → 0 < hits (place_at s) ss
+unfolding hits
+hits_some s ss h = go ss h.0 h.1 h.2
+  where
+    go : (ss : List Spot) (k : ℕ) → k < length ss → get_or ss k s ≡ s → 0 < hits (place_at s) ss
+    go [] k l e = absurd (omega arith)
+    go (z ∷ zs) zero l e =
+        let here : one (is_there (place_at s).at (is_of_command (place_at s).code) z) ≡ 1 =
+        ap (λ y. one (is_there (place_at s).at (is_of_command (place_at s).code) y)) e ∙ spot_itself s in
+        omega arith
+    go (z ∷ zs) (suc k) l e = let there = go zs k (omega arith) e in omega arith
+
+-- where no spot is counted twice, each stands once
+pub spots_from_hits : (ss : List Spot) → ((q : Place) → hits q ss ≤ 1) → EachOnce ss
+unfolding EachOnce hits
+spots_from_hits [] h = tt
+spots_from_hits (s ∷ ss) h = (
+  (λ k. let here = spot_itself s in let more = hits_some s ss k in let most = h (place_at s) in absurd (omega arith)),
+  spots_from_hits ss (λ q. let most = h q in omega arith),
+)
 
 there_is : (at : ℕ) (b : Bool) (s : Spot) → is_there at b s ≡ true → s ≡ spot_of_place at b
 unfolding is_there spot_of_place

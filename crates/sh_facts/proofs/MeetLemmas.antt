@@ -37,7 +37,7 @@ meet_over f g h =
 
 -- Steps behind a meet
 
-known_same : (v w f g : Text → Bool) (a b : ℕ) → ((x : Text) → v x ≡ w x) → ((x : Text) → f x ≡ g x) → a ≡ b → Known v f a ≡ Known w g b
+pub known_same : (v w f g : Text → Bool) (a b : ℕ) → ((x : Text) → v x ≡ w x) → ((x : Text) → f x ≡ g x) → a ≡ b → Known v f a ≡ Known w g b
 known_same v w f g a b p q e = let vars = fun_ext p in let functions = fun_ext q in cc
 
 -- a step that is known by its parts

@@ -14,7 +14,7 @@ use Rattle.sh_tree.specs.language.Bytes.{is_name, is_name_byte, is_name_start}
 use Rattle.sh_tree.specs.program.Syntax.{Text}
 use Rattle.sh_facts.specs.Facts.{Claim, Unreached, Claimed}
 use Rattle.sh_facts.specs.Forms as form
-use Rattle.sh_facts.specs.Forms.{onto_first, pieces, value, leads_no_zero, number_in, is_rising, is_variable, are_rising, both, drops_of, known_of, claim_in, drops_in, claims_of, head_of, command_of, function_claims_of, function_of, counts_of, onto_line, cut_line, formed, whole_line, behind, read_line, read_lines, is_first, counts_in, command_in, function_in, ended, read_sheet}
+use Rattle.sh_facts.specs.Forms.{onto_first, pieces, value, leads_no_zero, number_in, is_rising, is_variable, are_rising, both, drops_of, known_of, claim_in, drops_in, claims_of, head_of, command_of, function_claims_of, function_of, counts_of, onto_front, cut_at, formed, whole_line, behind, read_line, read_lines, is_first, counts_in, command_in, function_in, ended, read_sheet}
 use Rattle.sh_facts.specs.Operands.{Names}
 use Rattle.sh_facts.specs.Sheets.{Sheet, CommandClaims, FunctionClaims, joined, names_text, claim_text, drops_text, head_fields, command_fields, function_fields, numbered_lines, first_line, count_fields, certificate_text}
 use Rattle.sh_facts.specs.Spelling.{is_writable, is_writable_head, are_writable, is_command, is_function, IsSheet}
@@ -26,7 +26,7 @@ not_true : (b : Bool) → not b ≡ true → b ≡ false
 not_true true h = cc
 not_true false h = refl
 
-or_left : (a b : Bool) → a ≡ true → (a || b) ≡ true
+pub or_left : (a b : Bool) → a ≡ true → (a || b) ≡ true
 or_left a b h = rw h refl
 
 or_right : (a b : Bool) → b ≡ true → (a || b) ≡ true
@@ -36,15 +36,15 @@ or_right false b h = h
 itself : (c : ℕ) → (c == c) ≡ true
 itself c = grind (arith, nat_tests)
 
-same_bytes : (t : Text) → bytes_eq t t ≡ true
+pub same_bytes : (t : Text) → bytes_eq t t ≡ true
 same_bytes t = (bytes_eq-Decides t t).1 refl
 
 -- Pieces of texts without the byte
 
-abbrev lacks : ℕ → Text → Bool
+abbrev pub lacks : ℕ → Text → Bool
 lacks c t = list_all (λ d. not (d == c)) t
 
-piece_last : (c : ℕ) (t : Text) → lacks c t ≡ true → pieces c t ≡ t ∷ []
+pub piece_last : (c : ℕ) (t : Text) → lacks c t ≡ true → pieces c t ≡ t ∷ []
 unfolding pieces onto_first
 piece_last c [] h = refl
 piece_last c (d ∷ t) h =
@@ -77,10 +77,10 @@ lacks_joined c d (t ∷ u ∷ ts) o h =
 
 -- A byte that is in no name and no number
 
-record Apart (c : ℕ) : Type 0 where
-  no_name : is_name_byte c ≡ false
-  no_job : (33 == c) ≡ false
-  no_dash : (45 == c) ≡ false
+pub record Apart (c : ℕ) : Type 0 where
+  pub no_name : is_name_byte c ≡ false
+  pub no_job : (33 == c) ≡ false
+  pub no_dash : (45 == c) ≡ false
 
 byte_apart : (c d : ℕ) → is_name_byte c ≡ false → is_name_byte d ≡ true → (d == c) ≡ false
 byte_apart c d n y = go (d == c) refl
@@ -111,29 +111,29 @@ digits_are_names (d ∷ t) h =
     let p = and_parts (is_ascii_digit d) (all_ascii_digits t) h in
     rw (or_right (is_name_start d) (bytes.is_digit d) p.0) (digits_are_names t p.1)
 
-decimal_lacks : (c : ℕ) → Apart c → (n : ℕ) → n ≤ 65535 → lacks c (decimal n) ≡ true
+pub decimal_lacks : (c : ℕ) → Apart c → (n : ℕ) → n ≤ 65535 → lacks c (decimal n) ≡ true
 decimal_lacks c a n l = bytes_lack c a (decimal n) (digits_are_names (decimal n) (digits_decimal numerals n (omega arith)))
 
 all_lack : (c : ℕ) → Apart c → (is_one : Text → Bool) → ((t : Text) → is_one t ≡ true → is_variable t ≡ true) → (ts : List Text) → list_all is_one ts ≡ true → list_all (lacks c) ts ≡ true
 all_lack c a is_one v [] h = refl
 all_lack c a is_one v (t ∷ ts) h = let p = and_parts (is_one t) (list_all is_one ts) h in rw (variable_lacks c a t (v t p.0)) (all_lack c a is_one v ts p.1)
 
-as_variable : (t : Text) → is_variable t ≡ true → is_variable t ≡ true
+pub as_variable : (t : Text) → is_variable t ≡ true → is_variable t ≡ true
 as_variable t h = h
 
-name_is_variable : (t : Text) → is_name t ≡ true → is_variable t ≡ true
+pub name_is_variable : (t : Text) → is_name t ≡ true → is_variable t ≡ true
 name_is_variable t h = or_left (is_name t) (bytes_eq (codes "!") t) h
 
-names_lack : (c : ℕ) → Apart c → (44 == c) ≡ false → (is_one : Text → Bool) → ((t : Text) → is_one t ≡ true → is_variable t ≡ true) → (ts : List Text) → are_rising is_one ts ≡ true → lacks c (names_text ts) ≡ true
+pub names_lack : (c : ℕ) → Apart c → (44 == c) ≡ false → (is_one : Text → Bool) → ((t : Text) → is_one t ≡ true → is_variable t ≡ true) → (ts : List Text) → are_rising is_one ts ≡ true → lacks c (names_text ts) ≡ true
 names_lack c a o is_one v ts h = lacks_joined c 44 ts o (all_lack c a is_one v ts (and_parts (list_all is_one ts) (is_rising ts) h).0)
 
-comma : Apart 44
+pub comma : Apart 44
 comma = record { no_name = refl; no_job = refl; no_dash = refl }
 
-colon : Apart 58
+pub colon : Apart 58
 colon = record { no_name = refl; no_job = refl; no_dash = refl }
 
-blank : Apart 32
+pub blank : Apart 32
 blank = record { no_name = refl; no_job = refl; no_dash = refl }
 
 newline : Apart 10
@@ -152,7 +152,7 @@ unfolding leads_no_zero digits
 leads_decimal zero l = refl
 leads_decimal (suc n) l = leads_some (decimal (suc n)) (first_decimal (suc n) (omega arith) (omega arith)) (decimal_nonempty (suc n) (omega arith))
 
-number_read : (n : ℕ) → n ≤ 65535 → number_in (decimal n) ≡ Some n
+pub number_read : (n : ℕ) → n ≤ 65535 → number_in (decimal n) ≡ Some n
 unfolding number_in
 number_read n l =
     let small : n < 2 ^ 64 = omega arith in
@@ -186,11 +186,11 @@ names_read is_one n v (t ∷ ts) h =
     names_of is_one (joined 44 (t ∷ ts)) (some_names is_one t ts n first.0)
     ∙ ap (λ us. if are_rising is_one us then Some us else None) split ∙ ap (λ b. if b then Some (t ∷ ts) else None) h
 
-no_variable : is_variable [] ≡ false
+pub no_variable : is_variable [] ≡ false
 unfolding bytes.is_first
 no_variable = refl
 
-no_name_empty : is_name [] ≡ false
+pub no_name_empty : is_name [] ≡ false
 unfolding bytes.is_first
 no_name_empty = refl
 
@@ -218,7 +218,7 @@ no_dash_first (d ∷ t) u h l =
     let other : (45 == d) ≡ false = grind (arith, nat_tests) in
     rw other refl
 
-claim_lacks : (c : ℕ) → Apart c → (44 == c) ≡ false → (58 == c) ≡ false → (x : Claim) → is_writable x ≡ true → lacks c (claim_text x) ≡ true
+pub claim_lacks : (c : ℕ) → Apart c → (44 == c) ≡ false → (58 == c) ≡ false → (x : Claim) → is_writable x ≡ true → lacks c (claim_text x) ≡ true
 unfolding claim_text is_writable
 claim_lacks c a o p Unreached h = rw a.no_dash refl
 claim_lacks c a o p (Claimed v f n) h =
@@ -316,8 +316,8 @@ counts_read n m l o = ap counts_of (pieces_joined 32 (codes "commands") _ (count
 
 -- The text
 
-cut_read : (l r : Text) → lacks 10 l ≡ true → cut_line (l ++ 10 ∷ r) ≡ Some (l, r)
-unfolding cut_line onto_line
+cut_read : (l r : Text) → lacks 10 l ≡ true → cut_at 10 (l ++ 10 ∷ r) ≡ Some (l, r)
+unfolding cut_at onto_front
 cut_read [] r h = refl
 cut_read (c ∷ l) r h =
     let p = and_parts (not (c == 10)) (lacks 10 l) h in

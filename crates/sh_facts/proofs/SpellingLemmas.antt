@@ -13,7 +13,7 @@ use Rattle.sh_facts.specs.Facts.{Claim, Unreached, Claimed}
 use Rattle.sh_facts.specs.Operands.{Names}
 use Rattle.sh_facts.specs.Sheets.{Sheet, CommandClaims, FunctionClaims, joined, names_text, claim_text, drops_text, head_fields, command_fields, function_fields, numbered_lines, first_line, count_fields, certificate_text}
 use Rattle.sh_facts.specs.Forms as form
-use Rattle.sh_facts.specs.Forms.{onto_first, pieces, value, leads_no_zero, number_in, is_rising, are_rising, both, drops_of, known_of, claim_in, drops_in, claims_of, head_of, command_of, function_claims_of, function_of, counts_of, onto_line, cut_line, formed, whole_line, behind, read_line, read_lines, is_first, counts_in, command_in, function_in, ended, read_sheet}
+use Rattle.sh_facts.specs.Forms.{onto_first, pieces, value, leads_no_zero, number_in, is_rising, are_rising, both, drops_of, known_of, claim_in, drops_in, claims_of, head_of, command_of, function_claims_of, function_of, counts_of, onto_front, cut_at, formed, whole_line, behind, read_line, read_lines, is_first, counts_in, command_in, function_in, ended, read_sheet}
 
 abbrev dash : Text
 dash = codes "-"
@@ -32,32 +32,32 @@ functions_word = codes "functions"
 
 -- What an answer is made of
 
-none_some : {A : Type 0} {x : A} → None ≡ Some x → ⊥
+pub none_some : {A : Type 0} {x : A} → None ≡ Some x → ⊥
 none_some e = cc
 
-err_ok : {A : Type 0} {x : A} {k : ℕ} → Err k ≡ Ok x → ⊥
+pub err_ok : {A : Type 0} {x : A} {k : ℕ} → Err k ≡ Ok x → ⊥
 err_ok e = cc
 
-if_some : {A : Type 0} (b : Bool) (o : Option A) (y : A) → (if b then o else None) ≡ Some y → (b ≡ true) × (o ≡ Some y)
+pub if_some : {A : Type 0} (b : Bool) (o : Option A) (y : A) → (if b then o else None) ≡ Some y → (b ≡ true) × (o ≡ Some y)
 if_some true o y e = (refl, e)
 if_some false o y e = absurd (none_some e)
 
-both_some : {A B C : Type 0} (f : A → B → C) (o : Option A) (p : Option B) (z : C) → both f o p ≡ Some z → (x : A) × (y : B) × (o ≡ Some x) × (p ≡ Some y) × (f x y ≡ z)
+pub both_some : {A B C : Type 0} (f : A → B → C) (o : Option A) (p : Option B) (z : C) → both f o p ≡ Some z → (x : A) × (y : B) × (o ≡ Some x) × (p ≡ Some y) × (f x y ≡ z)
 unfolding both
 both_some f (Some x) (Some y) z e = (x, y, refl, refl, cc)
 both_some f (Some x) None z e = absurd (none_some e)
 both_some f None p z e = absurd (none_some e)
 
-map_some : {A B : Type 0} (f : A → B) (o : Option A) (y : B) → option_map f o ≡ Some y → (x : A) × (o ≡ Some x) × (f x ≡ y)
+pub map_some : {A B : Type 0} (f : A → B) (o : Option A) (y : B) → option_map f o ≡ Some y → (x : A) × (o ≡ Some x) × (f x ≡ y)
 map_some f None y e = absurd (none_some e)
 map_some f (Some x) y e = (x, refl, cc)
 
-behind_ok : {A B : Type 0} (r : Result A ℕ) (f : A → Result B ℕ) (y : B) → behind r f ≡ Ok y → (x : A) × (r ≡ Ok x) × (f x ≡ Ok y)
+pub behind_ok : {A B : Type 0} (r : Result A ℕ) (f : A → Result B ℕ) (y : B) → behind r f ≡ Ok y → (x : A) × (r ≡ Ok x) × (f x ≡ Ok y)
 unfolding behind
 behind_ok (Ok x) f y e = (x, refl, e)
 behind_ok (Err k) f y e = absurd (err_ok e)
 
-same_text : (s t : Text) → bytes_eq s t ≡ true → s ≡ t
+pub same_text : (s t : Text) → bytes_eq s t ≡ true → s ≡ t
 same_text s t e = (bytes_eq-Decides s t).0 e
 
 -- Pieces
@@ -74,7 +74,7 @@ some_onto true d ts = omega arith
 some_onto false d [] = omega arith
 some_onto false d (t ∷ ts) = omega arith
 
-some_pieces : (c : ℕ) (t : Text) → 0 < length (pieces c t)
+pub some_pieces : (c : ℕ) (t : Text) → 0 < length (pieces c t)
 unfolding pieces
 some_pieces c [] = omega arith
 some_pieces c (d ∷ t) = some_onto (d == c) d (pieces c t)
@@ -126,7 +126,7 @@ number_spelled t n e =
 
 -- Names, drops, facts
 
-names_spelled : (is_one : Text → Bool) (t : Text) (ns : List Text) → form.names_in is_one t ≡ Some ns → names_text ns ≡ t
+pub names_spelled : (is_one : Text → Bool) (t : Text) (ns : List Text) → form.names_in is_one t ≡ Some ns → names_text ns ≡ t
 unfolding form.names_in joined
 names_spelled is_one [] ns e = let same : [] ≡ ns = cc in ap names_text (sym same)
 names_spelled is_one (c ∷ t) ns e =
@@ -163,7 +163,7 @@ claim_spelled t c e = go (bytes_eq dash t) refl e
 
 -- Lines
 
-claims_some : (b z n : Option Claim) (h : Option (Option Claim)) (c : CommandClaims) → claims_of b z n h ≡ Some c
+pub claims_some : (b z n : Option Claim) (h : Option (Option Claim)) (c : CommandClaims) → claims_of b z n h ≡ Some c
     → (b ≡ Some c.before) × (z ≡ Some c.zero) × (n ≡ Some c.nonzero) × (h ≡ Some c.head)
 unfolding claims_of
 claims_some (Some b) (Some z) (Some n) (Some h) c e =
@@ -174,7 +174,7 @@ claims_some (Some b) None n h c e = absurd (none_some e)
 claims_some (Some b) (Some z) None h c e = absurd (none_some e)
 claims_some (Some b) (Some z) (Some n) None c e = absurd (none_some e)
 
-function_some : (b : Option Claim) (d : Option Names) (z n : Option Claim) (c : FunctionClaims) → function_claims_of b d z n ≡ Some c
+pub function_some : (b : Option Claim) (d : Option Names) (z n : Option Claim) (c : FunctionClaims) → function_claims_of b d z n ≡ Some c
     → (b ≡ Some c.before) × (d ≡ Some c.drops) × (z ≡ Some c.zero) × (n ≡ Some c.nonzero)
 unfolding function_claims_of
 function_some (Some b) (Some d) (Some z) (Some n) c e =
@@ -258,8 +258,8 @@ count_fields_spelled (c ∷ n ∷ f ∷ m ∷ []) x e =
 -- The text
 
 cut_step : (c : ℕ) (t : Text) (b : Bool) (o : Option (Text × Text)) (x : Text × Text) → (c == 10) ≡ b → ((y : Text × Text) → o ≡ Some y → y.0 ++ 10 ∷ y.1 ≡ t)
-    → (if b then Some ([], t) else onto_line c o) ≡ Some x → x.0 ++ 10 ∷ x.1 ≡ c ∷ t
-unfolding onto_line
+    → (if b then Some ([], t) else onto_front c o) ≡ Some x → x.0 ++ 10 ∷ x.1 ≡ c ∷ t
+unfolding onto_front
 cut_step c t true o x s h e =
     let same : ([], t) ≡ x = cc in
     let ten : 10 ≡ c = grind (arith, nat_tests) in
@@ -269,10 +269,10 @@ cut_step c t false (Some y) x s h e =
     let same : (c ∷ y.0, y.1) ≡ x = cc in
     ap (λ (y : Text × Text). y.0 ++ 10 ∷ y.1) (sym same) ∙ ap (λ u. c ∷ u) (h y refl)
 
-cut_spelled : (t : Text) (x : Text × Text) → cut_line t ≡ Some x → x.0 ++ 10 ∷ x.1 ≡ t
-unfolding cut_line
+cut_spelled : (t : Text) (x : Text × Text) → cut_at 10 t ≡ Some x → x.0 ++ 10 ∷ x.1 ≡ t
+unfolding cut_at
 cut_spelled [] x e = absurd (none_some e)
-cut_spelled (c ∷ t) x e = cut_step c t (c == 10) (cut_line t) x refl (cut_spelled t) e
+cut_spelled (c ∷ t) x e = cut_step c t (c == 10) (cut_at 10 t) x refl (cut_spelled t) e
 
 formed_some : {A : Type 0} (k : ℕ) (rest : Text) (o : Option A) (x : A × Text) → formed k rest o ≡ Ok x → (o ≡ Some x.0) × (rest ≡ x.1)
 unfolding formed
@@ -287,12 +287,12 @@ whole_some f k t (Some y) x h e = let p = formed_some k y.1 (f y.0) x e in (y.0,
 
 -- a line that is read, and what is behind it
 line_spelled : {A : Type 0} (f : Text → Option A) (k : ℕ) (t : Text) (x : A × Text) → read_line f k t ≡ Ok x → (l : Text) × (f l ≡ Some x.0) × (l ++ 10 ∷ x.1 ≡ t)
-line_spelled f k t x e = whole_some f k t (cut_line t) x (cut_spelled t) e
+line_spelled f k t x e = whole_some f k t (cut_at 10 t) x (cut_spelled t) e
 
 pub glued : (j n z : Text) → ((j ++ 10 ∷ []) ++ n) ++ z ≡ j ++ 10 ∷ (n ++ z)
 glued j n z = simp append_assoc
 
-lines_spelled : {A : Type 0} (f : ℕ → Text → Option A) (fields : ℕ → A → List Text) → ((i : ℕ) (l : Text) (a : A) → f i l ≡ Some a → joined 32 (fields i a) ≡ l)
+pub lines_spelled : {A : Type 0} (f : ℕ → Text → Option A) (fields : ℕ → A → List Text) → ((i : ℕ) (l : Text) (a : A) → f i l ≡ Some a → joined 32 (fields i a) ≡ l)
     → (k i n : ℕ) (t : Text) (y : List A × Text) → read_lines f k i n t ≡ Ok y → (numbered_lines fields i y.0 ++ y.1 ≡ t) × (length y.0 ≡ n)
 unfolding read_lines numbered_lines
 lines_spelled {A} f fields s k i zero t y e =
@@ -311,10 +311,10 @@ lines_spelled {A} f fields s k i (suc n) t y e =
       ap (λ (z : List A × Text). length z.0) (sym same) ∙ ap suc rest.1,
     )
 
-command_spelled : (i : ℕ) (l : Text) (c : CommandClaims) → command_in i l ≡ Some c → joined 32 (command_fields i c) ≡ l
+pub command_spelled : (i : ℕ) (l : Text) (c : CommandClaims) → command_in i l ≡ Some c → joined 32 (command_fields i c) ≡ l
 command_spelled i l c e = ap (joined 32) (command_fields_spelled i (pieces 32 l) c e) ∙ joined_pieces 32 l
 
-function_spelled : (i : ℕ) (l : Text) (c : FunctionClaims) → function_in i l ≡ Some c → joined 32 (function_fields i c) ≡ l
+pub function_spelled : (i : ℕ) (l : Text) (c : FunctionClaims) → function_in i l ≡ Some c → joined 32 (function_fields i c) ≡ l
 function_spelled i l c e = ap (joined 32) (function_fields_spelled i (pieces 32 l) c e) ∙ joined_pieces 32 l
 
 counts_spelled : (l : Text) (x : ℕ × ℕ) → counts_in l ≡ Some x → joined 32 (count_fields x.0 x.1) ≡ l
@@ -323,7 +323,7 @@ counts_spelled l x e = ap (joined 32) (count_fields_spelled (pieces 32 l) x e) �
 first_spelled : (l : Text) (u : Unit {0}) → is_first l ≡ Some u → first_line ≡ l
 first_spelled l u e = same_text first_line l (if_some (bytes_eq first_line l) (Some tt) u e).0
 
-ended_some : {A : Type 0} (k : ℕ) (x y : A) (t : Text) → ended k x t ≡ Ok y → (x ≡ y) × (t ≡ [])
+pub ended_some : {A : Type 0} (k : ℕ) (x y : A) (t : Text) → ended k x t ≡ Ok y → (x ≡ y) × (t ≡ [])
 unfolding ended
 ended_some k x y [] e = (cc, refl)
 ended_some k x y (c ∷ t) e = absurd (err_ok e)

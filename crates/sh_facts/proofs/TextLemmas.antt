@@ -3,14 +3,14 @@ use Rattle.std.proofs.Common.{refl}
 use Rattle.std.specs.Fmt.{digits}
 use Rattle.sh_facts.specs.Examples.{names_from, names_in}
 use Rattle.sh_facts.specs.Forms as form
-use Rattle.sh_facts.specs.Forms.{onto_first, pieces, leads_no_zero, number_in, is_rising, both, drops_of, known_of, claim_in, claims_of, head_of, command_of, function_claims_of, function_of, counts_of, onto_line, cut_line, formed, whole_line, behind, read_lines, ended, read_sheet}
+use Rattle.sh_facts.specs.Forms.{onto_first, pieces, leads_no_zero, number_in, is_rising, both, drops_of, known_of, claim_in, claims_of, head_of, command_of, function_claims_of, function_of, counts_of, onto_front, cut_at, formed, whole_line, behind, read_lines, ended, read_sheet}
 use Rattle.sh_facts.specs.Sheets.{joined, claim_text, head_fields, numbered_lines, certificate_text}
 use Rattle.sh_facts.specs.TextExamples.{WrittenAsExpected, ReadAsExpected, FaultsAsExpected}
 use Rattle.sh_tree.specs.language.Bytes.{is_first}
 
 -- what these texts compute
 unfoldable pub computes : Unit {0}
-unfolding digits names_from names_in onto_first pieces leads_no_zero number_in is_rising form.names_in both drops_of known_of claim_in claims_of head_of command_of function_claims_of function_of counts_of onto_line cut_line formed whole_line behind read_lines ended read_sheet joined claim_text head_fields numbered_lines certificate_text is_first
+unfolding digits names_from names_in onto_first pieces leads_no_zero number_in is_rising form.names_in both drops_of known_of claim_in claims_of head_of command_of function_claims_of function_of counts_of onto_front cut_at formed whole_line behind read_lines ended read_sheet joined claim_text head_fields numbered_lines certificate_text is_first
 computes = tt
 
 pub written_as_expected : WrittenAsExpected

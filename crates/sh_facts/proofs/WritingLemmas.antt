@@ -124,7 +124,7 @@ lines_append fields k n [] x e = let same : k ≡ n = omega arith in append-nil 
 lines_append fields k n (y ∷ ys) x e =
     ap (λ u. line (fields k y) ++ u) (lines_append fields (k + 1) n ys x (omega arith)) ∙ sym (append_assoc (line (fields k y)) (numbered_lines fields (k + 1) ys) (line (fields n x)))
 
-commands_append : (order : List (ℕ × Text)) (c : Certificate) (k n : ℕ) (es : List Entry) (e : Entry) → n ≡ k + length es
+pub commands_append : (order : List (ℕ × Text)) (c : Certificate) (k n : ℕ) (es : List Entry) (e : Entry) → n ≡ k + length es
     → commands_from order c k (es ++ e ∷ []) ≡ commands_from order c k es ++ command_claims order c.rows e (get nat_eq c.heads n) ∷ []
 unfolding commands_from
 commands_append order c k n [] e h = let same : k ≡ n = omega arith in ap (λ j. command_claims order c.rows e (get nat_eq c.heads j) ∷ []) same

@@ -1,11 +1,12 @@
 -- The form of a certificate's text: which lines are those of a certificate, and what they claim.
 -- The standard has no such thing: each line ends with a newline, and single blanks stand between its fields.
-use Rattle.std.specs.Prelude.{ℕ, zero, suc, ◌+◌, ◌*◌, ◌-◌, ◌==◌, nat_le, Bool, true, false, not, ◌&&◌, ◌||◌, if◌then◌else◌, List, [], ◌∷◌, codes, Option, Some, None, option_map, Result, Ok, Err, fold}
+use Rattle.std.specs.Prelude.{ℕ, zero, suc, ◌+◌, ◌*◌, ◌-◌, ◌==◌, nat_le, Bool, true, false, not, ◌&&◌, ◌||◌, if◌then◌else◌, List, [], ◌∷◌, length, codes, Option, Some, None, option_map, Result, Ok, Err, fold}
 use Rattle.std.specs.List.{list_all}
 use Rattle.std.specs.Str.{bytes_eq, all_ascii_digits}
 use Rattle.std.specs.Fmt.{decimal}
 use Rattle.sh_tree.specs.language.Bytes.{is_name}
 use Rattle.sh_tree.specs.program.Syntax.{Text}
+use Rattle.sh_facts.specs.declared.limits.TheConstants.{MAX_CERTIFICATE}
 use Rattle.sh_facts.specs.Facts.{Claim, Unreached, Claimed}
 use Rattle.sh_facts.specs.Operands.{Names}
 use Rattle.sh_facts.specs.Sheets.{Sheet, CommandClaims, FunctionClaims, first_line, precedes}
@@ -20,6 +21,15 @@ onto_first d (t ∷ ts) = (d ∷ t) ∷ ts
 unfoldable pub pieces : ℕ → Text → List Text
 pieces c [] = [] ∷ []
 pieces c (d ∷ t) = if d == c then [] ∷ pieces c t else onto_first d (pieces c t)
+
+-- what stands before the first byte c, and what behind it
+unfoldable pub onto_front : ℕ → Option (Text × Text) → Option (Text × Text)
+onto_front d None = None
+onto_front d (Some x) = Some (d ∷ x.0, x.1)
+
+unfoldable pub cut_at : ℕ → Text → Option (Text × Text)
+cut_at c [] = None
+cut_at c (d ∷ t) = if d == c then Some ([], t) else onto_front d (cut_at c t)
 
 -- Numbers: decimal digits without a leading zero, at most 65,535
 
@@ -109,15 +119,6 @@ counts_of _ = None
 
 -- The text: what is left of it, and the number of the line that comes next
 
--- the first line without its newline, and what is behind it
-unfoldable pub onto_line : ℕ → Option (Text × Text) → Option (Text × Text)
-onto_line c None = None
-onto_line c (Some x) = Some (c ∷ x.0, x.1)
-
-unfoldable pub cut_line : Text → Option (Text × Text)
-cut_line [] = None
-cut_line (c ∷ t) = if c == 10 then Some ([], t) else onto_line c (cut_line t)
-
 -- what is read of a text, and what is left; or the number of the first line that has not the form
 abbrev pub Reading : Type 0 → Type 0
 Reading A = Result (A × Text) ℕ
@@ -130,9 +131,9 @@ unfoldable pub whole_line : {A : Type 0} → (Text → Option A) → ℕ → Opt
 whole_line form k None = Err k
 whole_line form k (Some x) = formed k x.1 (form x.0)
 
--- the line of the number k
+-- the line of the number k, and what is behind its newline
 abbrev pub read_line : {A : Type 0} → (Text → Option A) → ℕ → Text → Reading A
-read_line form k t = whole_line form k (cut_line t)
+read_line form k t = whole_line form k (cut_at 10 t)
 
 unfoldable pub behind : {A B : Type 0} → Result A ℕ → (A → Result B ℕ) → Result B ℕ
 behind (Err k) f = Err k
@@ -169,3 +170,7 @@ read_sheet t =
     behind (read_lines command_in 3 1 b.0.0 b.1) (λ c.
     behind (read_lines function_in (3 + b.0.0) 1 b.0.1 c.1) (λ d.
     ended (3 + b.0.0 + b.0.1) (record { commands = c.0; functions = d.0 }) d.1))))
+
+-- a text of more bytes than a certificate's may have is read no further, and has no faulty line
+unfoldable pub read_text : Text → Result Sheet ℕ
+read_text t = if nat_le (length t) MAX_CERTIFICATE then read_sheet t else Err 0

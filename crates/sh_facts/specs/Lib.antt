@@ -4,14 +4,20 @@ pub mod Sights
 pub mod SightWalks
 pub mod Names
 pub mod KeptRows
+pub mod Knowledge
+pub mod KnowledgeExamples
 pub mod Gains
 pub mod Operands
 pub mod Views
 pub mod Sheets
 pub mod Forms
 pub mod Spelling
+pub mod Fields
+pub mod Reading
+pub mod ReadParts
 pub mod Certificates
 pub mod Numbered
+pub mod Slots
 pub mod Table
 pub mod Entries
 pub mod Rules
@@ -30,5 +36,6 @@ pub mod Order
 pub mod LeastFault
 pub mod Inclusions
 pub mod Spots
+pub mod Readings
 pub mod SpotExamples
 pub mod Meets

@@ -1,6 +1,6 @@
 -- The names of a script, each with a number from 0.
 -- POSIX.1-2024, XCU 2.5.3 (shell variables): the names that every script has, those that are declared, and those in the text.
-use Rattle.std.specs.Prelude.{◌≡◌, ◌≤◌, ◌<◌, ℕ, List, [], ◌∷◌, ◌++◌, if◌then◌else◌, length, map, fold, codes, Option, Result, Ok, Err}
+use Rattle.std.specs.Prelude.{◌≡◌, ◌≤◌, ◌<◌, ℕ, Bool, true, not, ◌&&◌, List, [], ◌∷◌, ◌++◌, if◌then◌else◌, length, map, fold, codes, Option, Result, Ok, Err}
 use Rattle.std.specs.List.{flat_map, position_from}
 use Rattle.std.specs.List.Sorted.{IsPermutation, IsNonDecreasingBy}
 use Rattle.std.specs.Str.{bytes_eq}
@@ -23,6 +23,11 @@ first_names = start_names ++ codes "OPTARG" ∷ codes "!" ∷ []
 -- the names with one more at the end, unless it is there
 abbrev pub with_text : List Text → Text → List Text
 with_text names t = if is_one_of names t then names else names ++ t ∷ []
+
+-- no name is there twice
+unfoldable pub are_distinct : List Text → Bool
+are_distinct [] = true
+are_distinct (t ∷ ts) = not (is_one_of ts t) && are_distinct ts
 
 -- the names in the text, those of its commands, whatever the order in which these are taken, by their offsets
 pub record IsInTextOrder (b : List ℕ) (t : Script) (seen : List Sight) : Type 0 where

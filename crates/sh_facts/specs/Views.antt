@@ -133,14 +133,13 @@ returned d prefixes NotReached v f a = NotReached
 returned d prefixes (Known w g b) v f a =
     Known (λ x. (kept d.vars v x || w x) && (v x || not (is_one_of prefixes x))) (λ x. kept d.functions f x || g x) a
 
+-- where it may not be defined: what was known and is not dropped
+abbrev pub left : Names → Text → (Text → Bool) → (Text → Bool) → ℕ → Facts
+left d function v f a = Known (λ x. kept d.vars v x && passes function x) (λ x. kept d.functions f x) a
+
 -- a call: where the function is surely defined it returns, and otherwise what was known and is not dropped is known
 unfoldable pub called : Names → Facts → Text → List Text → Facts → Facts
-called d r function prefixes g =
-    where_known
-    (λ v f a.
-    if f function then returned d prefixes r v f a
-    else Known (λ x. kept d.vars v x && passes function x) (λ x. kept d.functions f x) a)
-    g
+called d r function prefixes g = where_known (λ v f a. if f function then returned d prefixes r v f a else left d function v f a) g
 
 -- what is known behind a step
 unfoldable pub step : Certificate → Step → Facts → Facts

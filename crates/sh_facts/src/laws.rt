@@ -1,10 +1,14 @@
 //! What holds of the rules and the demands that `specs/` defines.
 ghost use Rattle.sh_facts.specs.AnswerExamples.{AnswersAsExpected};
 ghost use Rattle.sh_facts.specs.Inclusions.{RulesGive};
+ghost use Rattle.sh_facts.specs.Knowledge.{LostOneByOne, NamesSuffice};
+ghost use Rattle.sh_facts.specs.KnowledgeExamples.{KnowledgeAsExpected};
 ghost use Rattle.sh_facts.specs.LeastFault.{LeastIsTold};
 ghost use Rattle.sh_facts.specs.Meets.{SeenIsMeet};
 ghost use Rattle.sh_facts.specs.Order.{Monotone, Ordered};
+ghost use Rattle.sh_facts.specs.Slots.{EveryCertificateClaims};
 ghost use Rattle.sh_facts.specs.Spelling.{HasOneText};
+ghost use Rattle.sh_facts.specs.Readings.{ReadIsFormed, ReadIsNumbered, ReadNumbersDiffer, ReadPlacesStandOnce, ReadSpotsStandOnce};
 ghost use Rattle.sh_facts.specs.SpotExamples.{SpotsAsExpected};
 ghost use Rattle.sh_facts.specs.Spots.{PlacesStandOnce};
 ghost use Rattle.sh_facts.specs.TextExamples.{TextsAsExpected};
@@ -43,10 +47,24 @@ pub fn inclusions()
     ensures { RulesGive }
 {}
 
+/// The program of every script that is read is formed: a name stands wherever one has to, a positional parameter has a number from 1, plain
+/// text is not empty, an operand whose text is static gives a field, and behind a simple command stand no redirections (XCU 2.10).
+pub fn formed()
+    ensures { ReadIsFormed }
+{}
+
+/// No two commands of a script that is read have one number, those of its here-documents included.
+pub fn numbered()
+    ensures once { ReadNumbersDiffer }
+    ensures test { ReadIsNumbered }
+{}
+
 /// Of a program in which no two commands start at one offset, and no two expansions, tildes or names of arithmetic stand at one, no
-/// place is told twice. The offsets of known programs are such.
+/// place is told twice. The program of every script that is read is such, wherever the bodies of its here-documents stand.
 pub fn once()
     ensures law { PlacesStandOnce }
+    ensures spots { ReadSpotsStandOnce }
+    ensures scripts { ReadPlacesStandOnce }
     ensures examples { SpotsAsExpected }
 {}
 
@@ -59,4 +77,18 @@ pub fn certificate_texts()
 /// Of a certificate's claims there is one text, and it reads as these claims.
 pub fn spelling()
     ensures { HasOneText }
+{}
+
+/// The names that are numbered of a script are enough: each has a number of its own, those of the start have one, and what is known
+/// of them stays known of them alone where one of them is set or defined. Names that are lost together may be lost one by one.
+pub fn names()
+    ensures law { NamesSuffice }
+    ensures losses { LostOneByOne }
+    ensures examples { KnowledgeAsExpected }
+{}
+
+/// The certificate that the rules are asked of claims, before and after each command, at each turn of a loop and round each
+/// function, what the kept certificate has under that number; where there is none, that no run comes there.
+pub fn entries()
+    ensures { EveryCertificateClaims }
 {}

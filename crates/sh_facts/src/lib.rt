@@ -3,12 +3,19 @@
 #![tactic(auto)]
 
 pub mod certificate;
+mod forms;
+pub mod knowledge;
 pub mod laws;
+pub mod limits;
+mod lines;
 pub mod names;
 mod numbered;
 mod operands;
+pub mod options;
 pub mod policy;
+pub mod reading;
 pub mod rows;
 pub mod rule;
 pub mod sights;
+mod splits;
 pub mod texts;

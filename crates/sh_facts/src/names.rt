@@ -1,6 +1,6 @@
 //! The names of a script, each with a number.
-ghost use Rattle.std.specs.Prelude.{◌≡◌, ◌<◌, ◌∷◌, [], length, map, fold, Some, slice_get, OnOk, IfOk, IfErr};
-ghost use Rattle.sh_facts.specs.Names.{Numbers, IsInTextOrder, Refuses, with_text, number_of};
+ghost use Rattle.std.specs.Prelude.{◌≡◌, ◌<◌, ◌∷◌, true, [], length, map, fold, Some, slice_get, OnOk, IfOk, IfErr, IfSome};
+ghost use Rattle.sh_facts.specs.Names.{are_distinct, Numbers, IsInTextOrder, Refuses, with_text, number_of};
 ghost use Rattle.sh_facts.specs.SightWalks.{seen_in, texts_seen};
 
 use crate::policy::Policy;
@@ -57,9 +57,10 @@ impl Names {
         Ok(names)
     }
 
-    /// How many names there are.
+    /// How many names there are. No name is there twice.
     pub fn count(&self) -> u32
-        ensures { result ≡ length self.now }
+        ensures count { result ≡ length self.now }
+        ensures distinct { are_distinct self.now ≡ true }
     {
         self.set.len() as u32
     }
@@ -74,7 +75,8 @@ impl Names {
 
     /// The number of a name, if it is one of these.
     pub fn number(&self, name: &[u8]) -> Option<u32>
-        ensures { result ≡ number_of self.now name.now }
+        ensures number { result ≡ number_of self.now name.now }
+        ensures below { IfSome result (λ n. n < MAX_NAMES) }
     {
         let index = self.set.get_index_of(name)?;
         Some(index as u32)

@@ -40,7 +40,7 @@ fn first_behind(order: &[Numbered<'_>], name: &[u8]) -> Option<usize>
 }
 
 // Whether the first text comes before the second by their bytes.
-fn precedes(first: &[u8], second: &[u8]) -> bool
+pub fn precedes(first: &[u8], second: &[u8]) -> bool
     ensures { result ≡ text.precedes first.now second.now }
 {
     first.cmp(second).is_lt()

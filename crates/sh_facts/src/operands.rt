@@ -1,9 +1,9 @@
 //! The operands of a utility that are names: those behind its options.
 ghost use Rattle.std.specs.Prelude.{◌≡◌, false, option_map};
-ghost use Rattle.sh_table.specs.runs.Operands as o;
 ghost use Rattle.sh_facts.specs.Sights as spec;
 ghost use Rattle.sh_facts.specs.SightWalks.{seen_in};
 
+use crate::options::{ends_options, is_dashed, option_takes};
 use crate::sights::Seen;
 
 /// The operands of `unset` behind its options.
@@ -49,43 +49,4 @@ pub fn read_behind(mut operands: &[Seen]) -> Option<&[Seen]>
         operands = rest;
     }
     Some(operands)
-}
-
-#[tactic(auto, unfolding(sh_table::specs::runs::Operands::is_dashed))]
-fn is_dashed(text: &[u8]) -> bool
-    ensures { result ≡ o.is_dashed text.now }
-{
-    matches!(text, [b'-', _, ..])
-}
-
-fn ends_options(text: &[u8]) -> bool
-    ensures { result ≡ o.ends_options text.now }
-{
-    text == b"--".as_slice()
-}
-
-// Whether an option takes the next operand, if it is one of the standard's.
-fn option_takes(text: &[u8]) -> Option<bool>
-    ensures { result ≡ spec.option_takes text.now }
-{
-    match text {
-        [] => letters_take(text),
-        [_, letters @ ..] => letters_take(letters),
-    }
-}
-
-#[tactic(auto, unfolding(sh_table::specs::runs::Operands::read_option, crate::specs::Sights::takes_next))]
-fn letters_take(mut letters: &[u8]) -> Option<bool>
-    ensures { result ≡ spec.takes_next (o.read_option letters.entry.now) }
-{
-    while let [first, rest @ ..] = letters {
-        if *first == b'd' {
-            return Some(rest.is_empty());
-        }
-        if *first != b'r' {
-            return None;
-        }
-        letters = rest;
-    }
-    Some(false)
 }

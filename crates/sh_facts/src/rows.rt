@@ -1,5 +1,5 @@
 //! Rows that are kept once.
-ghost use Rattle.std.specs.Prelude.{◌≡◌, ◌<◌, ◌≤◌, ◌+◌, ◌-◌, ◌^◌, ◌↔◌, ℕ, true, [], Some, length, slice_get, IfOk, OnErr, IsOk, IsTrue};
+ghost use Rattle.std.specs.Prelude.{◌≡◌, ◌<◌, ◌≤◌, ◌+◌, ◌-◌, ◌^◌, ◌↔◌, ℕ, true, [], Some, length, slice_get, IfOk, IfSome, OnErr, IsOk, IsTrue};
 ghost use Rattle.std.specs.Option.{option_copied};
 ghost use Rattle.sh_facts.specs.KeptRows.{Stay, bits_of, holds_at};
 
@@ -101,7 +101,8 @@ impl Rows {
 
     /// The row of a place.
     pub fn row(&self, id: RowId) -> Option<&BitRow>
-        ensures { option_copied result ≡ slice_get self.now.rows id.index }
+        ensures row { option_copied result ≡ slice_get self.now.rows id.index }
+        ensures sized { IfSome result (λ r. r.now.count ≡ self.now.count) }
     {
         self.set.get_index(id.index as usize)
     }

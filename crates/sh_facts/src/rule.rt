@@ -1,4 +1,6 @@
 //! The flow rules.
+ghost use Rattle.std.specs.Prelude.{◌≡◌};
+ghost use Rattle.sh_facts.specs.Faults.{rank};
 
 /// A rule of the flow of facts, in the order of their numbers.
 #[derive(Clone, Copy, Debug, PartialEq, Eq, PartialOrd, Ord)]
@@ -33,4 +35,30 @@ pub enum FlowRule {
     F14,
     /// A jump: what holds at `break`, `continue` or `return` is what the loop or the function goes on with.
     F15,
+}
+
+impl FlowRule {
+    /// The place of the rule in their order, from 1: where a command breaks several rules, the one with the least is told.
+    #[tactic(auto, unfolding(crate::specs::Faults::rank))]
+    pub fn rank(self) -> u8
+        ensures { result ≡ rank self }
+    {
+        match self {
+            FlowRule::F1 => 1,
+            FlowRule::F2 => 2,
+            FlowRule::F3 => 3,
+            FlowRule::F4 => 4,
+            FlowRule::F5 => 5,
+            FlowRule::F6 => 6,
+            FlowRule::F7 => 7,
+            FlowRule::F8 => 8,
+            FlowRule::F9 => 9,
+            FlowRule::F10 => 10,
+            FlowRule::F11 => 11,
+            FlowRule::F12 => 12,
+            FlowRule::F13 => 13,
+            FlowRule::F14 => 14,
+            FlowRule::F15 => 15,
+        }
+    }
 }

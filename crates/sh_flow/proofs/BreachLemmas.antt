@@ -7,9 +7,10 @@ use Rattle.sh_tree.specs.declared.tree.Item.{Item}
 use Rattle.sh_tree.specs.Words.{lone_command}
 use Rattle.sh_tree.specs.program.Syntax.{Text}
 use Rattle.sh_flow.specs.Facts.{Out, Claims, enter}
-use Rattle.sh_flow.specs.declared.rule.FlowRule.{FlowRule}
+use Rattle.sh_facts.specs.declared.rule.FlowRule.{FlowRule}
 use Rattle.sh_flow.specs.declared.flow.breach.Breach.{Breach}
-use Rattle.sh_flow.specs.Rules.{Fault, rank, precedes, lesser, least_from, IsLeast, item_faults, rule_behind, out_behind, list_faults}
+use Rattle.sh_facts.specs.Faults.{rank}
+use Rattle.sh_flow.specs.Rules.{Fault, precedes, lesser, least_from, IsLeast, item_faults, rule_behind, out_behind, list_faults}
 use Rattle.sh_flow.specs.Breaches.{fault_of, fault_found}
 
 -- the fold over two lists, one after the other

@@ -19,7 +19,7 @@ use Rattle.sh_flow.specs.Names.{number_of}
 use Rattle.sh_rows.specs.Numbers.{has_number}
 use Rattle.sh_flow.specs.Facts.{Facts, NotReached, Known, Claim, Unreached, Claimed, within, meet, enter, both, with_vars}
 use Rattle.sh_flow.specs.Rules.{assigned_numbers, leaves, exit_rule}
-use Rattle.sh_flow.specs.declared.rule.FlowRule.TheVariants.{F4, F5}
+use Rattle.sh_facts.specs.declared.rule.FlowRule.TheVariants.{F4, F5}
 use Rattle.sh_flow.specs.Breaches.{number_is, form_assigns, assigns}
 
 -- Each number of a list is one of it

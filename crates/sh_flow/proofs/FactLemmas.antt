@@ -5,7 +5,7 @@ use Rattle.std.proofs.lemmas.Bool.{and_parts, or_cases}
 use Rattle.std.proofs.lemmas.Option.{same_Some, none-some}
 use Rattle.std.proofs.lemmas.Slice.Eq.{bytes_eq-Decides}
 use Rattle.sh_tree.specs.program.Syntax.{Text}
-use Rattle.sh_flow.specs.Policy.{Declared}
+use Rattle.sh_facts.specs.Facts.{Declared}
 use Rattle.sh_table.specs.runs.Worlds.{start_names, IsStart}
 use Rattle.sh_flow.specs.Names.{number_of}
 use Rattle.sh_table.specs.runs.Environment.{Environment, Frame, is_one_of}

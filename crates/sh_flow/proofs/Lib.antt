@@ -1,4 +1,3 @@
-pub mod PolicyLemmas
 pub mod FactLemmas
 pub mod StraightLemmas
 pub mod UtilityLemmas

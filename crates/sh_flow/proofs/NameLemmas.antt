@@ -23,7 +23,7 @@ use Rattle.sh_tree.specs.declared.tree.Part.TheVariants as part
 use Rattle.sh_tree.specs.Tree.{text_of}
 use Rattle.sh_tree.specs.Words.{lone_command, form_of_assignment, form_of_word, form_of_redirection, expansions, expansions_in, expansions_in-Double, subject_text}
 use Rattle.sh_tree.specs.program.Syntax.{Text}
-use Rattle.sh_flow.specs.Policy.{Declared}
+use Rattle.sh_facts.specs.Facts.{Declared}
 use Rattle.sh_table.specs.runs.Environment.{is_one_of}
 use Rattle.sh_flow.specs.Names.{with_text, number_of, subjects, form_names, names_in, script_names, first_names, numbering, Numbers}
 use Rattle.sh_flow.specs.Walks.{Refuses, on_lone, command_names, part_names}

@@ -16,8 +16,8 @@ use Rattle.sh_flow.specs.Expansions.{is_unset, names_unset}
 use Rattle.sh_flow.specs.Facts.{Facts, NotReached, Known, Claims, Satisfies, Out, both, enter, facts, out_at, within, within_out}
 use Rattle.sh_flow.specs.Rules.{fault_unless, leaves, faults, item_faults, rule_behind, out_behind, list_faults}
 use Rattle.sh_flow.specs.Demands.{place_unless, knows, covers, uncovered, form_unmet, element_unmet, command_unmet}
-use Rattle.sh_flow.specs.declared.rule.FlowRule.{FlowRule}
-use Rattle.sh_flow.specs.declared.rule.FlowRule.TheVariants.{F2}
+use Rattle.sh_facts.specs.declared.rule.FlowRule.{FlowRule}
+use Rattle.sh_facts.specs.declared.rule.FlowRule.TheVariants.{F2}
 use Rattle.sh_flow.proofs.FactLemmas.{append_nil_left, append_nil_right, number_finds, claimed_holds, with_vars_holds, HoldsAfter, holds_enter, claimed_after, untold}
 use Rattle.sh_flow.proofs.StraightLemmas.{straight_expands}
 use Rattle.sh_flow.proofs.WorkLemmas.{Grows}

@@ -5,12 +5,12 @@ use Rattle.sh_tree.specs.declared.tree.Element.{Element}
 use Rattle.sh_tree.specs.Tree.{text_of}
 use Rattle.sh_tree.specs.Words.{Form, Assigns, form_of}
 use Rattle.sh_tree.specs.program.Syntax.{Text}
-use Rattle.sh_flow.specs.Policy.{Declared}
+use Rattle.sh_facts.specs.Facts.{Declared}
 use Rattle.sh_flow.specs.Names.{number_of}
 use Rattle.sh_flow.specs.Facts.{Out, Claims, both, out_at}
 use Rattle.sh_flow.specs.Rules.{Fault, start_facts}
-use Rattle.sh_flow.specs.declared.rule.FlowRule.{FlowRule}
-use Rattle.sh_flow.specs.declared.rule.FlowRule.TheVariants.{F1, F2}
+use Rattle.sh_facts.specs.declared.rule.FlowRule.{FlowRule}
+use Rattle.sh_facts.specs.declared.rule.FlowRule.TheVariants.{F1, F2}
 use Rattle.sh_flow.specs.declared.flow.breach.Breach.{Breach}
 use Rattle.sh_flow.specs.declared.flow.rules.Predecessor.{Predecessor}
 use Rattle.sh_flow.specs.declared.flow.rules.Predecessor.TheVariants.{Start, Command}

@@ -1,4 +1,3 @@
-pub mod Policy
 pub mod Names
 pub mod Expansions
 pub mod Profile

@@ -14,7 +14,7 @@ use Rattle.sh_tree.specs.Words.{lone_commands, elements_of, Form, Assigns, Opera
 use Rattle.sh_tree.specs.program.Syntax.{Text}
 use Rattle.sh_table.specs.runs.Environment.{is_one_of}
 use Rattle.sh_table.specs.runs.Worlds.{start_names}
-use Rattle.sh_flow.specs.Policy.{Declared}
+use Rattle.sh_facts.specs.Facts.{Declared}
 
 -- numbered first, whether a script has them or not
 abbrev pub first_names : List Text

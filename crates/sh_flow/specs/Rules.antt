@@ -9,13 +9,14 @@ use Rattle.sh_tree.specs.declared.tree.Element.{Element}
 use Rattle.sh_tree.specs.declared.tree.Word.{Word}
 use Rattle.sh_tree.specs.Words.{lone_command, elements_of, words_of, assignments_of}
 use Rattle.sh_tree.specs.program.Syntax.{Text}
-use Rattle.sh_flow.specs.Policy.{Declared}
+use Rattle.sh_facts.specs.Facts.{Declared}
 use Rattle.sh_table.specs.runs.Environment.{is_one_of}
 use Rattle.sh_table.specs.runs.Worlds.{start_names}
 use Rattle.sh_flow.specs.Names.{number_of}
 use Rattle.sh_flow.specs.Facts.{Facts, Known, Out, Claims, facts, within, within_out, both, enter, out_at, with_vars}
-use Rattle.sh_flow.specs.declared.rule.FlowRule.{FlowRule}
-use Rattle.sh_flow.specs.declared.rule.FlowRule.TheVariants.{F1, F2, F4, F5}
+use Rattle.sh_facts.specs.Faults.{rank}
+use Rattle.sh_facts.specs.declared.rule.FlowRule.{FlowRule}
+use Rattle.sh_facts.specs.declared.rule.FlowRule.TheVariants.{F1, F2, F4, F5}
 
 -- a command, by its number, and a rule that it breaks
 pub record Fault : Type 0 where
@@ -81,13 +82,6 @@ module _ (b : List ℕ) (names : List Text) where
   -- the faults of a script that starts under the policy
   abbrev pub script_faults : Claims → Declared → Script → List Fault
   script_faults c d t = list_faults c (out-Script t).items F1 (both (start_facts names d))
-
--- the place of a rule in their order
-unfoldable pub rank : FlowRule → ℕ
-rank F1 = 1
-rank F2 = 2
-rank F4 = 4
-rank F5 = 5
 
 -- by command, then by rule
 unfoldable pub precedes : Fault → Fault → Bool

@@ -6,6 +6,4 @@ pub mod certificate;
 pub mod flow;
 pub mod laws;
 pub mod names;
-pub mod policy;
 pub mod row;
-pub mod rule;

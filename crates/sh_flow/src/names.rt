@@ -3,8 +3,8 @@ ghost use Rattle.std.specs.Prelude.{◌≡◌, ◌<◌, [], ◌∷◌, length, m
 ghost use Rattle.sh_flow.specs.Names.{Numbers, with_text, number_of, names_in};
 ghost use Rattle.sh_flow.specs.Walks.{Refuses, part_names, command_names, on_lone};
 
-use crate::policy::Policy;
 use indexmap::IndexSet;
+use sh_facts::policy::Policy;
 use sh_tree::limits::MAX_NAMES;
 use sh_tree::refusal::Refusal;
 use sh_tree::tree::{Command, Element, Item, Part, Script};

@@ -23,7 +23,7 @@ use Rattle.sh_tree.proofs.Inversions.{apart, compound_begins}
 use Rattle.sh_tree.proofs.Counts.{command_count_more, redirects_count}
 use Rattle.sh_grammar.specs.declared.state.State.{State}
 use Rattle.sh_grammar.specs.States.{here}
-use Rattle.sh_grammar.specs.Readers.{One, Nothing, NothingWithin, Crowded, Refused, ElementsFrom, RedirectsFrom, CompoundFrom, CommandFrom}
+use Rattle.sh_grammar.specs.Readers.{One, Nothing, NothingWithin, Crowded, Refused, ElementsFrom, RedirectsFrom, CompoundFrom, CommandFrom, unread}
 use Rattle.sh_grammar.proofs.ReaderLemmas.{refused_by}
 
 -- What begins a command
@@ -74,11 +74,11 @@ rest_defines l h k m = absurd (true≢false (sym h ∙ or_false (begins_simple l
 
 -- a token that begins no command
 pub command_none : (b : List ℕ) (s : State) → begins_command (lead_at b First s.at) ≡ false → Nothing (CommandFrom b s)
-command_none b s none limit body v c l = true≢false (sym (command_begins l) ∙ none)
+command_none b s none limit v c l = true≢false (sym (command_begins l) ∙ none)
 
 -- no more commands may begin
 pub command_crowded : (b : List ℕ) (s : State) → s.count ≡ MAX_COMMANDS → Crowded (CommandFrom b s)
-command_crowded b s many limit body v c l = let more = command_count_more l in omega arith
+command_crowded b s many limit v c l = let more = command_count_more l in omega arith
 
 -- Simple commands, from their elements
 
@@ -91,7 +91,7 @@ simple_of some (r.compound_command {l = l} is k q) = absurd (true≢false (sym s
 simple_of some (r.definition h o p k i c) = absurd (apart begins_simple h some refl)
 
 -- behind one more command
-abbrev one_more_command : State → State
+abbrev pub one_more_command : State → State
 one_more_command s = record s { count = s.count + 1 }
 
 same_count : (u v : states.State) (closed : Bool) → v ≡ closing closed u → u.spot.count ≤ v.spot.count
@@ -101,16 +101,16 @@ module _ (b : List ℕ) (s : State) (some : begins_simple (lead_at b First s.at)
   pub simple_read : (es : List Element) (u : State) → One (ElementsFrom b (First, one_more_command s)) (here u) es
       → One (CommandFrom b s) (closing false (here u)) (tree.command (s.count + 1) s.at (kind.Simple es) [])
   simple_read es u h = record {
-    reads = λ body. r.simple_command {s = here s} some (h.reads body);
-    only = λ limit body v c l.
+    reads = r.simple_command {s = here s} some h.reads;
+    only = λ limit v c l.
         let f = simple_of {s = here s} some l in
-        let o = h.only limit body f.0 f.1 f.4 in
+        let o = h.only limit f.0 f.1 f.4 in
         (f.2 ∙ ap (closing false) o.0, f.3 ∙ ap (λ fs. tree.command (s.count + 1) s.at (kind.Simple fs) []) o.1);
   }
 
   pub simple_refused : (e : Refusal) → Refused b (ElementsFrom b (First, one_more_command s)) e → Refused b (CommandFrom b s) e
   simple_refused e h = refused_by b (ElementsFrom b (First, one_more_command s)) (CommandFrom b s) e
-      (λ limit body v c l. let f = simple_of {s = here s} some l in (f.0, f.1, f.4, same_count f.0 v false f.2)) h
+      (λ limit v c l. let f = simple_of {s = here s} some l in (f.0, f.1, f.4, same_count f.0 v false f.2)) h
 
 -- Compound commands and their redirections
 
@@ -132,13 +132,17 @@ compound_deeper (r.until_loop d h g) = d
 compound_deeper (r.for_loop d n h g) = d
 compound_deeper (r.case_of d i w h k g c) = d
 
+pub compound_with : (b : List ℕ) (s : State) (l : Lead) → l ≡ lead_at b First s.at → (k : Kind) (u : State) → One (CompoundFrom b l (one_more_command s)) (here u) k
+    → One (CompoundFrom b (lead_at b First s.at) (one_more_command s)) (here u) k
+compound_with b s l is k u one = subst (λ m. One (CompoundFrom b m (one_more_command s)) (here u) k) is one
+
 module _ (b : List ℕ) (s : State) (some : begins_compound (lead_at b First s.at) ≡ true) where
   pub compound_deep : 64 ≤ s.depth → NothingWithin (CommandFrom b s)
-  compound_deep deep body v c l = let f = compound_of {s = here s} some l in let d = compound_deeper f.6 in omega arith
+  compound_deep deep v c l = let f = compound_of {s = here s} some l in let d = compound_deeper f.6 in omega arith
 
   pub compound_refused : (e : Refusal) → Refused b (CompoundFrom b (lead_at b First s.at) (one_more_command s)) e → Refused b (CommandFrom b s) e
   compound_refused e h = refused_by b (CompoundFrom b (lead_at b First s.at) (one_more_command s)) (CommandFrom b s) e
-      (λ limit body v c l.
+      (λ limit v c l.
       let f = compound_of {s = here s} some l in
       let more = redirects_count f.7 in
       let same = same_count f.1 v (is_empty f.3) f.4 in
@@ -147,19 +151,19 @@ module _ (b : List ℕ) (s : State) (some : begins_compound (lead_at b First s.a
   module _ (k : Kind) (u : State) (one : One (CompoundFrom b (lead_at b First s.at) (one_more_command s)) (here u) k) where
     pub redirected_refused : (e : Refusal) → Refused b (RedirectsFrom b u) e → Refused b (CommandFrom b s) e
     redirected_refused e h = refused_by b (RedirectsFrom b u) (CommandFrom b s) e
-        (λ limit body v c l.
+        (λ limit v c l.
         let f = compound_of {s = here s} some l in
-        let o = one.only limit body f.0 f.2 f.6 in
-        (f.1, f.3, subst (λ w. ReadsRedirects limit b body w f.1 f.3) o.0 f.7, same_count f.1 v (is_empty f.3) f.4)) h
+        let o = one.only limit f.0 f.2 f.6 in
+        (f.1, f.3, subst (λ w. ReadsRedirects limit b unread w f.1 f.3) o.0 f.7, same_count f.1 v (is_empty f.3) f.4)) h
 
     pub redirected_read : (qs : List Redirect) (v : State) → One (RedirectsFrom b u) (here v) qs
         → One (CommandFrom b s) (closing (is_empty qs) (here v)) (tree.command (s.count + 1) s.at k qs)
     redirected_read qs v h = record {
-      reads = λ body. r.compound_command {s = here s} refl (one.reads body) (h.reads body);
-      only = λ limit body w c l.
+      reads = r.compound_command {s = here s} refl one.reads h.reads;
+      only = λ limit w c l.
           let f = compound_of {s = here s} some l in
-          let o = one.only limit body f.0 f.2 f.6 in
-          let p = h.only limit body f.1 f.3 (subst (λ t. ReadsRedirects limit b body t f.1 f.3) o.0 f.7) in (
+          let o = one.only limit f.0 f.2 f.6 in
+          let p = h.only limit f.1 f.3 (subst (λ t. ReadsRedirects limit b unread t f.1 f.3) o.0 f.7) in (
             f.4 ∙ ap (λ t. closing (is_empty f.3) t) p.0 ∙ ap (λ xs. closing (is_empty xs) (here v)) p.1,
             f.5 ∙ ap (λ j. tree.command (s.count + 1) s.at j f.3) o.1 ∙ ap (λ xs. tree.command (s.count + 1) s.at k xs) p.1,
           );

@@ -1,6 +1,5 @@
 -- Compound commands.
-use Rattle.std.proofs.Common.{◌≡◌, ℕ, ◌+◌, ◌<◌, ◌≤◌, true, false, List, [], ◌∷◌, Err, refl, sym, ap, subst, ◌∙◌, arith}
-use Rattle.std.proofs.lemmas.Bool.{true≢false}
+use Rattle.std.proofs.Common.{◌≡◌, ℕ, ◌<◌, List, [], ◌∷◌, refl, sym, ap, subst, ◌∙◌, arith}
 use Rattle.sh_tree.specs.declared.token.command.Stage.TheVariants.{First}
 use Rattle.sh_tree.specs.declared.token.command.Lead.{Lead}
 use Rattle.sh_tree.specs.declared.token.command.Lead.TheVariants as lead
@@ -18,8 +17,8 @@ use Rattle.sh_tree.specs.language.States as states
 use Rattle.sh_tree.specs.language.States.{Document, lower, as_deep}
 use Rattle.sh_tree.specs.language.Trees as tree
 use Rattle.sh_grammar.specs.declared.state.State.{State}
-use Rattle.sh_grammar.specs.States.{here, moved, Stands}
-use Rattle.sh_grammar.specs.Readers.{One, Nothing, Refused, SequenceFrom, ListFrom, CompoundFrom}
+use Rattle.sh_grammar.specs.States.{here}
+use Rattle.sh_grammar.specs.Readers.{One, Nothing, Refused, SequenceFrom, ListFrom, CompoundFrom, unread}
 use Rattle.sh_grammar.specs.Brackets.{BracketFrom, inner, outer}
 use Rattle.sh_grammar.proofs.ReaderLemmas.{refused_by}
 
@@ -53,35 +52,29 @@ sequence_list some (r.nothing k h) = absurd (some (held []))
 sequence_list some (r.sequence l) = l
 
 pub list_refused : (b : List ℕ) (s : State) (e : Refusal) → Refused b (SequenceFrom b s) e → Refused b (ListFrom b s) e
-list_refused b s e h = refused_by b (SequenceFrom b s) (ListFrom b s) e (λ limit body v t l. (v, t, r.sequence l, omega arith)) h
+list_refused b s e h = refused_by b (SequenceFrom b s) (ListFrom b s) e (λ limit v t l. (v, t, r.sequence l, omega arith)) h
 
 pub list_empty : (b : List ℕ) (s : State) (t : Script) (v : State) → One (SequenceFrom b s) (here v) t → (out-Script t).items ≡ [] → Nothing (ListFrom b s)
-list_empty b s t v h empty limit body k y l = let o = h.only limit body k y (r.sequence l) in list_some l (ap (λ x. (out-Script x).items) o.1 ∙ empty)
+list_empty b s t v h empty limit k y l = let o = h.only limit k y (r.sequence l) in list_some l (ap (λ x. (out-Script x).items) o.1 ∙ empty)
 
 pub list_read : (b : List ℕ) (s : State) (t : Script) (v : State) → One (SequenceFrom b s) (here v) t → ((out-Script t).items ≡ [] → ⊥) → One (ListFrom b s) (here v) t
-list_read b s t v h some = record { reads = λ body. sequence_list some (h.reads body); only = λ limit body k y l. h.only limit body k y (r.sequence l) }
+list_read b s t v h some = record { reads = sequence_list some h.reads; only = λ limit k y l. h.only limit k y (r.sequence l) }
 
 -- Groups and subshells
-
-pub inner_stands : (b : List ℕ) (s t : State) → Stands b t → t.depth ≡ s.depth → s.depth < 64 → Stands b (record t { depth = t.depth + 1 })
-inner_stands b s t h same below = record { inside = h.inside; settled = h.settled; few = h.few; shallow = omega arith }
-
-pub outer_stands : (b : List ℕ) (s t : State) → Stands b s → Stands b t → Stands b (record t { depth = s.depth })
-outer_stands b s t g h = record { inside = h.inside; settled = h.settled; few = h.few; shallow = g.shallow }
 
 module _ (b : List ℕ) (close : Lead) (s : State) where
   pub bracket_refused : (e : Refusal) → Refused b (ListFrom b (inner b s)) e → Refused b (BracketFrom b close s) e
   bracket_refused e h = refused_by b (ListFrom b (inner b s)) (BracketFrom b close s) e
-      (λ limit body v t l. let same = ap (λ w. w.spot.count) l.3 in (l.0, t, l.1, omega arith)) h
+      (λ limit v t l. let same = ap (λ w. w.spot.count) l.3 in (l.0, t, l.1, omega arith)) h
 
   module _ (t : Script) (u : State) (one : One (ListFrom b (inner b s)) (here u) t) where
     pub bracket_open : (lead_at b First u.at ≡ close → ⊥) → Nothing (BracketFrom b close s)
-    bracket_open none limit body v y l = let o = one.only limit body l.0 y l.1 in none (sym (ap (λ w. lead_here b w) o.0) ∙ l.2)
+    bracket_open none limit v y l = let o = one.only limit l.0 y l.1 in none (sym (ap (λ w. lead_here b w) o.0) ∙ l.2)
 
-    pub bracket_read : lead_at b First u.at ≡ close → One (BracketFrom b close s) (here (outer b s u)) t
+    pub bracket_read : lead_at b First u.at ≡ close → One (BracketFrom b close s) (here (outer b s.depth u)) t
     bracket_read closed = record {
-      reads = λ body. (here u, one.reads body, closed, refl);
-      only = λ limit body v y l. let o = one.only limit body l.0 y l.1 in (l.3 ∙ ap (λ w. as_deep (here s) (skip b 1 w)) o.0, o.1);
+      reads = (here u, one.reads, closed, refl);
+      only = λ limit v y l. let o = one.only limit l.0 y l.1 in (l.3 ∙ ap (λ w. as_deep (here s) (skip b 1 w)) o.0, o.1);
     }
 
 abbrev Bracketed : ℕ → List ℕ → (ℕ → Document) → Lead → (Script → Kind) → states.State → states.State → Kind → Type 0
@@ -111,32 +104,32 @@ subshell_of l is (r.case_of d i w h k g c) = cc
 module _ (b : List ℕ) (s : State) (below : s.depth < 64) where
   pub group_refused : (e : Refusal) → Refused b (BracketFrom b (lead.Reserved word.RightBrace) s) e → Refused b (CompoundFrom b (lead.Reserved word.LeftBrace) s) e
   group_refused e h = refused_by b (BracketFrom b (lead.Reserved word.RightBrace) s) (CompoundFrom b (lead.Reserved word.LeftBrace) s) e
-      (λ limit body v k l. let f = group_of _ refl l in (v, f.1, (f.0, f.2, f.3, f.4), omega arith)) h
+      (λ limit v k l. let f = group_of _ refl l in (v, f.1, (f.0, f.2, f.3, f.4), omega arith)) h
 
   pub group_read : (t : Script) (v : State) → One (BracketFrom b (lead.Reserved word.RightBrace) s) (here v) t
       → One (CompoundFrom b (lead.Reserved word.LeftBrace) s) (here v) (kind.Group t)
   group_read t v h = record {
-    reads = λ body.
-        let l = h.reads body in
-        subst (λ w. ReadsCompound 64 b body (lead.Reserved word.LeftBrace) (here s) w (kind.Group t)) (sym l.3) (r.group {s = here s} below l.1 l.2);
-    only = λ limit body w k l.
+    reads =
+        let l = h.reads in
+        subst (λ w. ReadsCompound 64 b unread (lead.Reserved word.LeftBrace) (here s) w (kind.Group t)) (sym l.3) (r.group {s = here s} below l.1 l.2);
+    only = λ limit w k l.
         let f = group_of _ refl l in
-        let o = h.only limit body w f.1 (f.0, f.2, f.3, f.4) in
+        let o = h.only limit w f.1 (f.0, f.2, f.3, f.4) in
         (o.0, f.5 ∙ ap kind.Group o.1);
   }
 
   pub subshell_refused : (e : Refusal) → Refused b (BracketFrom b (lead.Operator op.RightParenthesis) s) e → Refused b (CompoundFrom b (lead.Operator op.LeftParenthesis) s) e
   subshell_refused e h = refused_by b (BracketFrom b (lead.Operator op.RightParenthesis) s) (CompoundFrom b (lead.Operator op.LeftParenthesis) s) e
-      (λ limit body v k l. let f = subshell_of _ refl l in (v, f.1, (f.0, f.2, f.3, f.4), omega arith)) h
+      (λ limit v k l. let f = subshell_of _ refl l in (v, f.1, (f.0, f.2, f.3, f.4), omega arith)) h
 
   pub subshell_read : (t : Script) (v : State) → One (BracketFrom b (lead.Operator op.RightParenthesis) s) (here v) t
       → One (CompoundFrom b (lead.Operator op.LeftParenthesis) s) (here v) (kind.Subshell t)
   subshell_read t v h = record {
-    reads = λ body.
-        let l = h.reads body in
-        subst (λ w. ReadsCompound 64 b body (lead.Operator op.LeftParenthesis) (here s) w (kind.Subshell t)) (sym l.3) (r.subshell {s = here s} below l.1 l.2);
-    only = λ limit body w k l.
+    reads =
+        let l = h.reads in
+        subst (λ w. ReadsCompound 64 b unread (lead.Operator op.LeftParenthesis) (here s) w (kind.Subshell t)) (sym l.3) (r.subshell {s = here s} below l.1 l.2);
+    only = λ limit w k l.
         let f = subshell_of _ refl l in
-        let o = h.only limit body w f.1 (f.0, f.2, f.3, f.4) in
+        let o = h.only limit w f.1 (f.0, f.2, f.3, f.4) in
         (o.0, f.5 ∙ ap kind.Subshell o.1);
   }

@@ -15,11 +15,12 @@ use Rattle.sh_tree.specs.language.States.{Document, begun}
 use Rattle.sh_tree.specs.language.Trees as tree
 use Rattle.sh_tree.specs.language.Trees.{span}
 use Rattle.sh_tree.proofs.Inversions.{apart, compound_begins}
-use Rattle.sh_grammar.specs.Breaks.{BreaksTo}
+use Rattle.sh_tree.proofs.Counts.{command_count}
+use Rattle.sh_grammar.specs.Breaks.{BreaksTo, BreaksFrom}
 use Rattle.sh_grammar.specs.declared.state.State.{State}
 use Rattle.sh_grammar.specs.States.{here}
 use Rattle.sh_grammar.specs.Definitions.{named, over, HasParentheses}
-use Rattle.sh_grammar.specs.Readers.{One, Nothing, Refused, CommandFrom}
+use Rattle.sh_grammar.specs.Readers.{One, Nothing, Refused, CommandFrom, unread}
 use Rattle.sh_grammar.proofs.ReaderLemmas.{refused_by}
 
 -- a definition of the command d
@@ -41,27 +42,31 @@ definition_of is (r.definition {u = u} {c = d} h o p k i l) = (u, d, refl, o, p,
 
 module _ (b : List ℕ) (s : State) (is : lead_at b First s.at ≡ lead.Definition) where
   pub definition_bare : (HasParentheses b (named b s) → ⊥) → Nothing (CommandFrom b s)
-  definition_bare none limit body v c l = let f = definition_of {s = here s} is l in none (record { begins = f.3; ends = f.4 })
+  definition_bare none limit v c l = let f = definition_of {s = here s} is l in none (record { begins = f.3; ends = f.4 })
+
+  pub definition_stopped : (e : Refusal) → Refused b (BreaksFrom b (over b (over b (named b s)))) e → Refused b (CommandFrom b s) e
+  definition_stopped e none = refused_by b (BreaksFrom b (over b (over b (named b s)))) (CommandFrom b s) e
+      (λ limit v c l. let f = definition_of {s = here s} is l in (f.0, tt, f.5, command_count f.7)) none
 
   module _ (u : State) (breaks : BreaksTo b (over b (over b (named b s))) u) where
     pub definition_empty : begins_compound (lead_at b First u.at) ≡ false → Nothing (CommandFrom b s)
-    definition_empty none limit body v c l =
+    definition_empty none limit v c l =
         let f = definition_of {s = here s} is l in
         let same : f.0 ≡ here u = breaks.forth limit f.0 f.5 in
         true≢false (sym f.6 ∙ ap (λ w. begins_compound (lead_here b w)) same ∙ none)
 
     pub definition_refused : (e : Refusal) → Refused b (CommandFrom b u) e → Refused b (CommandFrom b s) e
     definition_refused e h = refused_by b (CommandFrom b u) (CommandFrom b s) e
-        (λ limit body v c l.
+        (λ limit v c l.
         let f = definition_of {s = here s} is l in
-        (v, f.1, subst (λ w. ReadsCommand limit b body w v f.1) (breaks.forth limit f.0 f.5) f.7, omega arith)) h
+        (v, f.1, subst (λ w. ReadsCommand limit b unread w v f.1) (breaks.forth limit f.0 f.5) f.7, omega arith)) h
 
     pub definition_read : HasParentheses b (named b s) → begins_compound (lead_at b First u.at) ≡ true → (d : Command) (v : State) → One (CommandFrom b u) (here v) d
         → One (CommandFrom b s) (here v) (tree.command (s.count + 1) s.at (kind.Define (span s.at (name_end b s.at)) d) [])
     definition_read two begins d v one = record {
-      reads = λ body. r.definition {s = here s} is two.begins two.ends (breaks.back 64) begins (one.reads body);
-      only = λ limit body w c l.
+      reads = r.definition {s = here s} is two.begins two.ends (breaks.back) begins one.reads;
+      only = λ limit w c l.
           let f = definition_of {s = here s} is l in
-          let o = one.only limit body w f.1 (subst (λ k. ReadsCommand limit b body k w f.1) (breaks.forth limit f.0 f.5) f.7) in
+          let o = one.only limit w f.1 (subst (λ k. ReadsCommand limit b unread k w f.1) (breaks.forth limit f.0 f.5) f.7) in
           (o.0, f.2 ∙ ap (λ x. defined b (here s) x) o.1);
     }

@@ -1,5 +1,5 @@
 -- Elements of simple commands, by what each begins with.
-use Rattle.std.proofs.Common.{◌≡◌, ℕ, ◌+◌, ◌≤◌, ◌<◌, ◌⊎◌, inl, inr, true, false, List, [], ◌∷◌, ◌++◌, length, Err, refl, sym, ap, subst, ◌∙◌, arith}
+use Rattle.std.proofs.Common.{◌≡◌, ℕ, ◌+◌, ◌<◌, ◌⊎◌, inl, inr, true, false, List, [], ◌∷◌, ◌++◌, refl, sym, ap, subst, ◌∙◌}
 use Rattle.std.proofs.lemmas.Bool.{true≢false}
 use Rattle.sh_tree.specs.declared.token.command.Stage.{Stage}
 use Rattle.sh_tree.specs.declared.token.command.Stage.TheVariants.{First, Prefixed}
@@ -10,7 +10,7 @@ use Rattle.sh_tree.specs.declared.tree.Redirect.{Redirect}
 use Rattle.sh_tree.specs.declared.tree.Element.{Element}
 use Rattle.sh_tree.specs.declared.tree.Element.TheVariants as element
 use Rattle.sh_tree.specs.declared.refusal.Refusal.{Refusal}
-use Rattle.sh_tree.specs.language.Commands.{blanks, lead_at, begins_simple, is_redirection, name_end}
+use Rattle.sh_tree.specs.language.Commands.{lead_at, begins_simple, is_redirection, name_end}
 use Rattle.sh_tree.specs.language.Contexts.{in_value, in_stage}
 use Rattle.sh_tree.specs.language.Reading as r
 use Rattle.sh_tree.specs.language.Reading.{ReadsWord, ReadsElements, ReadsRedirect, lead_of, stage_behind, redirected}
@@ -20,11 +20,11 @@ use Rattle.sh_tree.specs.language.Trees.{span}
 use Rattle.sh_tree.proofs.Inversions.{apart}
 use Rattle.sh_tree.proofs.Counts.{elements_count}
 use Rattle.sh_grammar.specs.declared.state.State.{State}
-use Rattle.sh_grammar.specs.States.{spot_of, here, moved, Stands}
+use Rattle.sh_grammar.specs.States.{here, Stands}
 use Rattle.sh_grammar.specs.Modes.{Begins}
-use Rattle.sh_grammar.specs.Readers.{Reading, One, Refused, WordAt, RedirectFrom, ElementsFrom}
+use Rattle.sh_grammar.specs.Readers.{One, Refused, WordAt, RedirectFrom, ElementsFrom, unread}
 use Rattle.sh_grammar.proofs.BeginningLemmas.{word_goes}
-use Rattle.sh_grammar.proofs.ReaderLemmas.{refused_by, Behind, Steps, nothing_yet, one_more, all_found, refused_behind}
+use Rattle.sh_grammar.proofs.ReaderLemmas.{refused_by, Behind, nothing_yet, one_more, all_found, refused_behind}
 
 -- What elements begin with
 
@@ -113,7 +113,7 @@ moved_on s g next below = record { so = inr below }
 module _ (b : List ℕ) (s next : State) (g : Stage) (found : List Element) (h : Found b s found g next) where
   pub elements_end : begins_simple (lead_at b g next.at) ≡ false → One (ElementsFrom b (First, s)) (here next) found
   elements_end none = all_found (ElementsFrom b) (First, s) (g, next) found (here next) h.behind
-      (record { reads = λ body. r.no_element {s = here next} none; only = λ limit body k es l. no_elements {s = here next} none l })
+      (record { reads = r.no_element {s = here next} none; only = λ limit k es l. no_elements {s = here next} none l })
 
   pub elements_moved : begins_simple (lead_at b First s.at) ≡ true → begins_simple (lead_at b g next.at) ≡ false → Moved s g next → s.at < next.at
   elements_moved some none m = go m.so
@@ -128,13 +128,13 @@ module _ (b : List ℕ) (s next : State) (g : Stage) (found : List Element) (h :
     unfolding waits
     elements_word w after j stage one = subst (λ t. Found b s (found ++ element.Word w ∷ []) t after) (sym stage) (record {
       behind = one_more (ElementsFrom b) (First, s) (g, next) (stage_behind b g next.at, after) found (element.Word w) h.behind (record {
-        forth = λ limit body k es l.
+        forth = λ limit k es l.
             let f = first_word {s = here next} (sym is) l in
-            let o = one.only limit body (past b f.0 (here next)) f.1 (f.0, f.4, refl) in
-            (f.2, f.3 ∙ ap (λ v. element.Word v ∷ f.2) o.1, subst (λ u. ReadsElements limit b body (stage_behind b g next.at) u k f.2) o.0 f.5);
-        back = λ body k es l.
-            let t = one.reads body in
-            r.word_element {s = here next} {u = t.0} (sym is) t.1 (subst (λ u. ReadsElements 64 b body (stage_behind b g next.at) u k es) t.2 l);
+            let o = one.only limit (past b f.0 (here next)) f.1 (f.0, f.4, refl) in
+            (f.2, f.3 ∙ ap (λ v. element.Word v ∷ f.2) o.1, subst (λ u. ReadsElements limit b unread (stage_behind b g next.at) u k f.2) o.0 f.5);
+        back = λ k es l.
+            let t = one.reads in
+            r.word_element {s = here next} {u = t.0} (sym is) t.1 (subst (λ u. ReadsElements 64 b unread (stage_behind b g next.at) u k es) t.2 l);
       });
     })
 
@@ -142,7 +142,7 @@ module _ (b : List ℕ) (s next : State) (g : Stage) (found : List Element) (h :
     unfolding waits
     elements_word_none e none =
         refused_behind (ElementsFrom b) b (First, s) (g, next) found e h.behind
-        (refused_by b (WordAt b (in_stage b g next.at) next.at next) (ElementsFrom b (g, next)) e (λ limit body k es l.
+        (refused_by b (WordAt b (in_stage b g next.at) next.at next) (ElementsFrom b (g, next)) e (λ limit k es l.
         let f = first_word {s = here next} (sym is) l in
         (past b f.0 (here next), f.1, (f.0, f.4, refl), elements_count f.5)) none)
 
@@ -154,16 +154,16 @@ module _ (b : List ℕ) (s next : State) (g : Stage) (found : List Element) (h :
         let one = subst (λ v. One (WordAt b (in_value (v + 1)) (v + 1) next) (here after) w) name read in
         subst (λ v. Found b s (found ++ element.Assignment (span next.at v) w ∷ []) Prefixed after) (sym name) (record {
           behind = one_more (ElementsFrom b) (First, s) (g, next) (Prefixed, after) found (element.Assignment (span next.at (name_end b next.at)) w) h.behind (record {
-            forth = λ limit body k es l.
+            forth = λ limit k es l.
                 let f = first_assignment {s = here next} (sym is) l in
-                let o = one.only limit body (past b f.0 (here next)) f.1 (f.0, f.4, refl) in (
+                let o = one.only limit (past b f.0 (here next)) f.1 (f.0, f.4, refl) in (
                   f.2,
                   f.3 ∙ ap (λ v. element.Assignment (span next.at (name_end b next.at)) v ∷ f.2) o.1,
-                  subst (λ u. ReadsElements limit b body Prefixed u k f.2) o.0 f.5,
+                  subst (λ u. ReadsElements limit b unread Prefixed u k f.2) o.0 f.5,
                 );
-            back = λ body k es l.
-                let t = one.reads body in
-                r.assigned_element {s = here next} {u = t.0} (sym is) t.1 (subst (λ u. ReadsElements 64 b body Prefixed u k es) t.2 l);
+            back = λ k es l.
+                let t = one.reads in
+                r.assigned_element {s = here next} {u = t.0} (sym is) t.1 (subst (λ u. ReadsElements 64 b unread Prefixed u k es) t.2 l);
           });
         })
 
@@ -171,7 +171,7 @@ module _ (b : List ℕ) (s next : State) (g : Stage) (found : List Element) (h :
     unfolding waits
     elements_assignment_none f none =
         refused_behind (ElementsFrom b) b (First, s) (g, next) found f h.behind
-        (refused_by b (WordAt b (in_value (name_end b next.at + 1)) (name_end b next.at + 1) next) (ElementsFrom b (g, next)) f (λ limit body k es l.
+        (refused_by b (WordAt b (in_value (name_end b next.at + 1)) (name_end b next.at + 1) next) (ElementsFrom b (g, next)) f (λ limit k es l.
         let t = first_assignment {s = here next} (sym is) l in
         (past b t.0 (here next), t.1, (t.0, t.4, refl), elements_count t.5)) (subst (λ v. Refused b (WordAt b (in_value (v + 1)) (v + 1) next) f) name none))
 
@@ -180,18 +180,18 @@ module _ (b : List ℕ) (s next : State) (g : Stage) (found : List Element) (h :
         → Found b s (found ++ element.Redirection q ∷ []) j after
     elements_redirect q after j stage one = subst (λ t. Found b s (found ++ element.Redirection q ∷ []) t after) (sym stage) (record {
       behind = one_more (ElementsFrom b) (First, s) (g, next) (redirected g, after) found (element.Redirection q) h.behind (record {
-        forth = λ limit body k es l.
+        forth = λ limit k es l.
             let f = first_redirect {s = here next} is l in
-            let o = one.only limit body f.0 f.1 f.4 in
-            (f.2, f.3 ∙ ap (λ v. element.Redirection v ∷ f.2) o.1, subst (λ u. ReadsElements limit b body (redirected g) u k f.2) o.0 f.5);
-        back = λ body k es l. r.redirect_element {s = here next} is (one.reads body) l;
+            let o = one.only limit f.0 f.1 f.4 in
+            (f.2, f.3 ∙ ap (λ v. element.Redirection v ∷ f.2) o.1, subst (λ u. ReadsElements limit b unread (redirected g) u k f.2) o.0 f.5);
+        back = λ k es l. r.redirect_element {s = here next} is one.reads l;
       });
     })
 
     pub elements_redirect_none : (e : Refusal) → Refused b (RedirectFrom b next) e → Refused b (ElementsFrom b (First, s)) e
     elements_redirect_none e none =
         refused_behind (ElementsFrom b) b (First, s) (g, next) found e h.behind
-        (refused_by b (RedirectFrom b next) (ElementsFrom b (g, next)) e (λ limit body k es l.
+        (refused_by b (RedirectFrom b next) (ElementsFrom b (g, next)) e (λ limit k es l.
         let f = first_redirect {s = here next} is l in
         (f.0, f.1, f.4, elements_count f.5)) none)
 

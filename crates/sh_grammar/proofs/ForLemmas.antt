@@ -1,5 +1,5 @@
 -- `for`, its words and what separates them from `do`.
-use Rattle.std.proofs.Common.{◌≡◌, ℕ, ◌+◌, ◌<◌, ◌⊎◌, inl, inr, Bool, true, false, List, [], ◌∷◌, ◌++◌, codes, cond, Option, Some, None, refl, sym, ap, subst, ◌∙◌, arith}
+use Rattle.std.proofs.Common.{◌≡◌, ℕ, ◌+◌, ◌<◌, ◌≤◌, ◌⊎◌, inl, inr, Bool, true, false, List, [], ◌∷◌, ◌++◌, codes, cond, Option, Some, None, refl, sym, ap, subst, ◌∙◌, arith}
 use Rattle.std.proofs.lemmas.Bool.{true≢false}
 use Rattle.sh_tree.specs.declared.token.command.Stage.TheVariants.{First, Named}
 use Rattle.sh_tree.specs.declared.token.command.Lead.{Lead}
@@ -20,13 +20,13 @@ use Rattle.sh_tree.specs.language.States.{Spot, Document, facing, past, waits, l
 use Rattle.sh_tree.specs.language.Trees.{span}
 use Rattle.sh_tree.proofs.Inversions.{no_breaks}
 use Rattle.sh_tree.proofs.Counts.{words_count, breaks_count, do_count}
-use Rattle.sh_grammar.specs.Breaks.{BreaksTo}
+use Rattle.sh_grammar.specs.Breaks.{BreaksTo, BreaksFrom}
 use Rattle.sh_grammar.specs.declared.state.State.{State}
 use Rattle.sh_grammar.specs.States.{here, moved, Stands}
 use Rattle.sh_grammar.specs.Fors.{WordsFrom, ListedFrom, ForWordsFrom, for_named}
 use Rattle.sh_grammar.specs.Modes.{Begins}
 use Rattle.sh_grammar.specs.Phrases.{behind_reserved, entered, DoFrom}
-use Rattle.sh_grammar.specs.Readers.{One, Nothing, Refused, WordAt, CompoundFrom}
+use Rattle.sh_grammar.specs.Readers.{One, Nothing, Refused, WordAt, CompoundFrom, unread}
 use Rattle.sh_grammar.proofs.BeginningLemmas.{word_goes}
 use Rattle.sh_grammar.proofs.ReaderLemmas.{refused_by, Behind, nothing_yet, one_more, all_found, refused_behind}
 
@@ -61,12 +61,12 @@ module _ (b : List ℕ) (s v : State) (found : List Word) (h : WordsFound b s fo
   unfolding waits
   words_more x w some one = record {
     behind = one_more (WordsFrom b) s v w found x h.behind (record {
-      forth = λ limit body k ws l.
+      forth = λ limit k ws l.
           let f = words_first {s = here v} some l in
-          let o = one.only limit body (past b f.0 (here v)) f.1 (f.0, f.4, refl) in
+          let o = one.only limit (past b f.0 (here v)) f.1 (f.0, f.4, refl) in
           (f.2, f.3 ∙ ap (λ y. y ∷ f.2) o.1, subst (λ u. ReadsWords limit b u k f.2) o.0 f.5);
-      back = λ body k ws l.
-          let t = one.reads body in
+      back = λ k ws l.
+          let t = one.reads in
           r.more_words {s = here v} {u = t.0} some t.1 (subst (λ u. ReadsWords 64 b u k ws) t.2 l);
     });
   }
@@ -74,13 +74,13 @@ module _ (b : List ℕ) (s v : State) (found : List Word) (h : WordsFound b s fo
   pub words_refused : (e : Refusal) → is_word (lead_at b (Named false) v.at) ≡ true → Refused b (WordAt b (in_word v.at) v.at v) e → Refused b (WordsFrom b s) e
   unfolding waits
   words_refused e some none =
-      refused_behind (WordsFrom b) b s v found e h.behind (refused_by b (WordAt b (in_word v.at) v.at v) (WordsFrom b v) e (λ limit body k ws l.
+      refused_behind (WordsFrom b) b s v found e h.behind (refused_by b (WordAt b (in_word v.at) v.at v) (WordsFrom b v) e (λ limit k ws l.
       let f = words_first {s = here v} some l in
       (past b f.0 (here v), f.1, (f.0, f.4, refl), words_count f.5)) none)
 
   pub words_all : is_word (lead_at b (Named false) v.at) ≡ false → One (WordsFrom b s) (here v) found
   words_all none = all_found (WordsFrom b) s v found (here v) h.behind
-      (record { reads = λ body. r.no_word {s = here v} none; only = λ limit body k ws l. words_end {s = here v} none l })
+      (record { reads = r.no_word {s = here v} none; only = λ limit k ws l. words_end {s = here v} none l })
 
 -- Words and what ends them
 
@@ -94,20 +94,26 @@ parted_count b s = go _
 module _ (b : List ℕ) (s : State) where
   pub listed_refused : (e : Refusal) → Refused b (WordsFrom b s) e → Refused b (ListedFrom b s) e
   listed_refused e h = refused_by b (WordsFrom b s) (ListedFrom b s) e
-      (λ limit body v ws l.
+      (λ limit v ws l.
       let same = parted_count b l.0 in
       let more = breaks_count l.3 in
       (l.0, ws, l.1, omega arith)) h
 
   module _ (ws : List Word) (u : State) (one : One (WordsFrom b s) (here u) ws) where
     pub listed_unended : (separator (lead_at b First u.at) ≡ Some false → ⊥) → Nothing (ListedFrom b s)
-    listed_unended none limit body v xs l = let o = one.only limit body l.0 xs l.1 in none (sym (ap (λ w. separator (lead_here b w)) o.0) ∙ l.2)
+    listed_unended none limit v xs l = let o = one.only limit l.0 xs l.1 in none (sym (ap (λ w. separator (lead_here b w)) o.0) ∙ l.2)
+
+    pub listed_stopped : separator (lead_at b First u.at) ≡ Some false → (p : State) → here p ≡ parted b (here u) → (e : Refusal) → Refused b (BreaksFrom b p) e → Refused b (ListedFrom b s) e
+    listed_stopped ends p at e none = refused_by b (BreaksFrom b p) (ListedFrom b s) e
+        (λ limit w xs l.
+        let o = one.only limit l.0 xs l.1 in
+        (w, tt, subst (λ x. ReadsBreaks limit b x w) (ap (λ x. parted b x) o.0 ∙ sym at) l.3, omega arith)) none
 
     pub listed_read : separator (lead_at b First u.at) ≡ Some false → (p v : State) → here p ≡ parted b (here u) → BreaksTo b p v → One (ListedFrom b s) (here v) ws
     listed_read ends p v at breaks = record {
-      reads = λ body. (here u, one.reads body, ends, subst (λ w. ReadsBreaks 64 b w (here v)) at (breaks.back 64));
-      only = λ limit body w xs l.
-          let o = one.only limit body l.0 xs l.1 in
+      reads = (here u, one.reads, ends, subst (λ w. ReadsBreaks 64 b w (here v)) at (breaks.back));
+      only = λ limit w xs l.
+          let o = one.only limit l.0 xs l.1 in
           (breaks.forth limit w (subst (λ x. ReadsBreaks limit b x w) (ap (λ x. parted b x) o.0 ∙ sym at) l.3), o.1);
     }
 
@@ -138,12 +144,24 @@ words_of none (r.arguments_ended h k) = absurd (none h)
 words_of none (r.arguments {u = u} k h) = (u, k, inl (h, refl, refl))
 words_of none (r.listed {u = u} {v = v} {ws = ws} k h words e l) = (u, k, inr (h, ws, refl, v, words, e, l))
 
+words_of_count : {limit : ℕ} {b : List ℕ} {w u : states.State} {o : Option (List Word)} → WordsOf limit b w u o → w.spot.count ≤ u.spot.count
+words_of_count (inl f) = let same = ap (λ z. z.spot.count) f.2 in omega arith
+words_of_count {b = b} (inr f) = let first = words_count f.4 in let same = parted_count b f.3 in let second = breaks_count f.6 in omega arith
+
 module _ (b : List ℕ) (s : State) where
   pub arguments_ended : lead_at b First s.at ≡ lead.Operator op.Semicolon → (w : State) → BreaksTo b (moved b (s.at + 1) s) w → One (ForWordsFrom b s) (here w) None
   arguments_ended is w breaks = record {
-    reads = λ body. r.arguments_ended {s = here s} is (breaks.back 64);
-    only = λ limit body u o l. let f = ended_of {s = here s} is l in (breaks.forth limit u f.1, f.0);
+    reads = r.arguments_ended {s = here s} is (breaks.back);
+    only = λ limit u o l. let f = ended_of {s = here s} is l in (breaks.forth limit u f.1, f.0);
   }
+
+  pub arguments_stopped : lead_at b First s.at ≡ lead.Operator op.Semicolon → (e : Refusal) → Refused b (BreaksFrom b (moved b (s.at + 1) s)) e → Refused b (ForWordsFrom b s) e
+  arguments_stopped is e none = refused_by b (BreaksFrom b (moved b (s.at + 1) s)) (ForWordsFrom b s) e
+      (λ limit u o l. let f = ended_of {s = here s} is l in (u, tt, f.1, omega arith)) none
+
+  pub for_words_stopped : (lead_at b First s.at ≡ lead.Operator op.Semicolon → ⊥) → (e : Refusal) → Refused b (BreaksFrom b s) e → Refused b (ForWordsFrom b s) e
+  for_words_stopped other e none = refused_by b (BreaksFrom b s) (ForWordsFrom b s) e
+      (λ limit u o l. let f = words_of {s = here s} other l in (f.0, tt, f.1, words_of_count f.2)) none
 
   module _ (none : lead_at b First s.at ≡ lead.Operator op.Semicolon → ⊥) (w : State) (breaks : BreaksTo b s w) where
     for_words_of : {limit : ℕ} {u : states.State} {o : Option (List Word)} → ReadsForWords limit b (here s) u o → WordsOf limit b (here w) u o
@@ -151,34 +169,34 @@ module _ (b : List ℕ) (s : State) where
 
     pub arguments_read : lead_at b First w.at ≡ lead.Reserved word.Do → One (ForWordsFrom b s) (here w) None
     arguments_read is = record {
-      reads = λ body. r.arguments {s = here s} (breaks.back 64) is;
-      only = λ limit body u o l. elim (for_words_of l) [
+      reads = r.arguments {s = here s} (breaks.back) is;
+      only = λ limit u o l. elim (for_words_of l) [
         | inl f ↦ (f.2, f.1)
         | inr f ↦ let no : lead.Reserved word.Do ≡ lead.Reserved word.In = sym is ∙ f.0 in absurd cc
       ];
     }
 
     pub for_words_none : (lead_at b First w.at ≡ lead.Reserved word.Do → ⊥) → (lead_at b First w.at ≡ lead.Reserved word.In → ⊥) → Nothing (ForWordsFrom b s)
-    for_words_none bare listed limit body u o l = elim (for_words_of l) [ inl f ↦ bare f.0 | inr f ↦ listed f.0 ]
+    for_words_none bare listed limit u o l = elim (for_words_of l) [ inl f ↦ bare f.0 | inr f ↦ listed f.0 ]
 
     module _ (is : lead_at b First w.at ≡ lead.Reserved word.In) where
-      listed_of : {limit : ℕ} {u : states.State} {o : Option (List Word)} (body : ℕ → Document) → ReadsForWords limit b (here s) u o
-          → (ws : List Word) × (o ≡ Some ws) × ListedFrom b (behind_reserved b word.In w) limit body u ws
-      listed_of body l = elim (for_words_of l) [
+      listed_of : {limit : ℕ} {u : states.State} {o : Option (List Word)} → ReadsForWords limit b (here s) u o
+          → (ws : List Word) × (o ≡ Some ws) × ListedFrom b (behind_reserved b word.In w) limit u ws
+      listed_of l = elim (for_words_of l) [
         | inl f ↦ let no : lead.Reserved word.In ≡ lead.Reserved word.Do = sym is ∙ f.0 in absurd cc
         | inr f ↦ (f.1, f.2, (f.3, f.4, f.5, f.6))
       ]
 
       pub for_words_refused : (e : Refusal) → Refused b (ListedFrom b (behind_reserved b word.In w)) e → Refused b (ForWordsFrom b s) e
       for_words_refused e h = refused_by b (ListedFrom b (behind_reserved b word.In w)) (ForWordsFrom b s) e
-          (λ limit body u o l. let f = listed_of body l in (u, f.0, f.2, omega arith)) h
+          (λ limit u o l. let f = listed_of l in (u, f.0, f.2, omega arith)) h
 
       pub for_words_read : (ws : List Word) (v : State) → One (ListedFrom b (behind_reserved b word.In w)) (here v) ws → One (ForWordsFrom b s) (here v) (Some ws)
       for_words_read ws v one = record {
-        reads = λ body. let l = one.reads body in r.listed {s = here s} (breaks.back 64) is l.1 l.2 l.3;
-        only = λ limit body u o l.
-            let f = listed_of body l in
-            let x = one.only limit body u f.0 f.2 in
+        reads = let l = one.reads in r.listed {s = here s} (breaks.back) is l.1 l.2 l.3;
+        only = λ limit u o l.
+            let f = listed_of l in
+            let x = one.only limit u f.0 f.2 in
             (x.0, f.1 ∙ ap Some x.1);
       }
 
@@ -201,16 +219,16 @@ for_of l is (r.for_loop {u = u} {v = w} {o = o} {t = t} d n h g) = (u, w, o, t, 
 for_of l is (r.case_of d i w h k g c) = cc
 
 -- the name of the `for` at s
-abbrev for_name : List ℕ → State → ℕ
+abbrev pub for_name : List ℕ → State → ℕ
 for_name b s = (entered b word.For s).at
 
 module _ (b : List ℕ) (s : State) where
   pub for_unnamed : is_bare_name b (for_name b s) ≡ false → Nothing (CompoundFrom b (lead.Reserved word.For) s)
-  for_unnamed none limit body v k l = let f = for_of {s = here s} _ refl l in true≢false (sym f.4 ∙ none)
+  for_unnamed none limit v k l = let f = for_of {s = here s} _ refl l in true≢false (sym f.4 ∙ none)
 
   pub for_refused : (e : Refusal) → Refused b (ForWordsFrom b (for_named b s)) e → Refused b (CompoundFrom b (lead.Reserved word.For) s) e
   for_refused e h = refused_by b (ForWordsFrom b (for_named b s)) (CompoundFrom b (lead.Reserved word.For) s) e
-      (λ limit body v k l.
+      (λ limit v k l.
       let f = for_of {s = here s} _ refl l in
       let more = do_count f.6 in
       let same = ap (λ z. z.spot.count) f.7 in
@@ -219,20 +237,20 @@ module _ (b : List ℕ) (s : State) where
   module _ (o : Option (List Word)) (u : State) (one : One (ForWordsFrom b (for_named b s)) (here u) o) where
     pub for_body_refused : (e : Refusal) → Refused b (DoFrom b u) e → Refused b (CompoundFrom b (lead.Reserved word.For) s) e
     for_body_refused e h = refused_by b (DoFrom b u) (CompoundFrom b (lead.Reserved word.For) s) e
-        (λ limit body v k l.
+        (λ limit v k l.
         let f = for_of {s = here s} _ refl l in
-        let x = one.only limit body f.0 f.2 f.5 in
+        let x = one.only limit f.0 f.2 f.5 in
         let same = ap (λ z. z.spot.count) f.7 in
-        (f.1, f.3, subst (λ z. ReadsDo limit b body z f.1 f.3) x.0 f.6, omega arith)) h
+        (f.1, f.3, subst (λ z. ReadsDo limit b unread z f.1 f.3) x.0 f.6, omega arith)) h
 
     pub for_read : s.depth < 64 → is_bare_name b (for_name b s) ≡ true → (t : Script) (v : State) → One (DoFrom b u) (here v) t
         → One (CompoundFrom b (lead.Reserved word.For) s) (as_deep (here s) (here v)) (kind.For (span (for_name b s) (name_end b (for_name b s))) o t)
     for_read below some t v done = record {
-      reads = λ body. r.for_loop {s = here s} below some (one.reads body) (done.reads body);
-      only = λ limit body w k l.
+      reads = r.for_loop {s = here s} below some one.reads done.reads;
+      only = λ limit w k l.
           let f = for_of {s = here s} _ refl l in
-          let x = one.only limit body f.0 f.2 f.5 in
-          let y = done.only limit body f.1 f.3 (subst (λ z. ReadsDo limit b body z f.1 f.3) x.0 f.6) in
+          let x = one.only limit f.0 f.2 f.5 in
+          let y = done.only limit f.1 f.3 (subst (λ z. ReadsDo limit b unread z f.1 f.3) x.0 f.6) in
           let name = span (for_name b s) (name_end b (for_name b s)) in
           (f.7 ∙ ap (λ z. as_deep (here s) z) y.0, f.8 ∙ ap (λ z. kind.For name z f.3) x.1 ∙ ap (λ z. kind.For name o z) y.1);
     }

@@ -1,4 +1,5 @@
 pub mod BeginningLemmas
+pub mod BodyLemmas
 pub mod BreakLemmas
 pub mod CommandLemmas
 pub mod CompoundLemmas
@@ -10,11 +11,13 @@ pub mod Nul
 pub mod ReaderLemmas
 pub mod RedirectLemmas
 pub mod ScriptLemmas
+pub mod StateLemmas
 pub mod SubstitutionLemmas
 pub mod WidthLemmas
 pub mod WordLemmas
 pub mod ReservedLemmas
 pub mod LoopLemmas
 pub mod ForLemmas
+pub mod FaultLemmas
 pub mod BranchLemmas
 pub mod CaseLemmas

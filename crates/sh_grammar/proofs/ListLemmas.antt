@@ -1,5 +1,5 @@
 -- Pipelines and lists.
-use Rattle.std.proofs.Common.{◌≡◌, ℕ, ◌+◌, ◌<◌, ◌≤◌, ◌⊎◌, inl, inr, Bool, true, false, not, ◌||◌, List, [], ◌∷◌, ◌++◌, length, Some, None, cond, refl, sym, ap, subst, ◌∙◌, arith}
+use Rattle.std.proofs.Common.{◌≡◌, ℕ, ◌+◌, ◌≤◌, ◌⊎◌, inl, inr, Bool, true, false, not, ◌||◌, List, [], ◌∷◌, ◌++◌, Some, None, cond, refl, sym, ap, subst, ◌∙◌, le_trans, arith}
 use Rattle.std.proofs.lemmas.Bool.{true≢false}
 use Rattle.sh_tree.specs.declared.token.command.Stage.TheVariants.{First}
 use Rattle.sh_tree.specs.declared.token.command.Lead.{Lead}
@@ -18,15 +18,14 @@ use Rattle.sh_tree.specs.language.Reading.{ReadsBreaks, ReadsCommand, ReadsComma
 use Rattle.sh_tree.specs.language.States as states
 use Rattle.sh_tree.specs.language.States.{Document}
 use Rattle.sh_tree.specs.language.Trees.{script, item, and_or, pipe}
-use Rattle.sh_tree.proofs.Inversions.{apart}
-use Rattle.sh_tree.proofs.Counts.{commands_count, breaks_count, links_count, items_count}
+use Rattle.sh_tree.proofs.Counts.{commands_count, breaks_count, links_count, items_count, pipeline_count}
 use Rattle.sh_grammar.specs.declared.state.State.{State}
 use Rattle.sh_grammar.specs.States.{here, moved}
-use Rattle.sh_grammar.specs.Breaks.{BreaksTo}
+use Rattle.sh_grammar.specs.Breaks.{BreaksTo, BreaksFrom}
 use Rattle.sh_grammar.specs.Items.{ReadsRest, ReadsTail, RestFrom}
-use Rattle.sh_grammar.specs.Readers.{One, Nothing, Refused, CommandFrom, CommandsFrom, PipelineFrom, LinksFrom, AndOrFrom, SequenceFrom}
+use Rattle.sh_grammar.specs.Readers.{One, Nothing, Refused, CommandFrom, CommandsFrom, PipelineFrom, LinksFrom, AndOrFrom, SequenceFrom, unread}
 use Rattle.sh_grammar.proofs.CommandLemmas.{command_begins}
-use Rattle.sh_grammar.proofs.ReaderLemmas.{refused_by, Behind, Steps, nothing_yet, one_more, found_with, all_found, refused_behind}
+use Rattle.sh_grammar.proofs.ReaderLemmas.{refused_by, Behind, nothing_yet, one_more, found_with, all_found, refused_behind}
 
 -- Commands between bars
 
@@ -53,34 +52,45 @@ module _ (b : List ℕ) (s next : State) (found : List Command) (h : CommandsFou
   pub commands_refused : (e : Refusal) → Refused b (CommandFrom b next) e → Refused b (CommandsFrom b s) e
   commands_refused e none =
       refused_behind (CommandsFrom b) b s next found e h.behind
-      (refused_by b (CommandFrom b next) (CommandsFrom b next) e (λ limit body k cs l. let f = commands_are l in (f.0, f.1, f.4, f.5)) none)
+      (refused_by b (CommandFrom b next) (CommandsFrom b next) e (λ limit k cs l. let f = commands_are l in (f.0, f.1, f.4, f.5)) none)
 
   module _ (c : Command) (u : State) (one : One (CommandFrom b next) (here u) c) where
     pub commands_last : is_bar (lead_at b First u.at) ≡ false → One (CommandsFrom b s) (here u) (found ++ c ∷ [])
     commands_last bar = found_with (CommandsFrom b) s next found (c ∷ []) (here u) h.behind (record {
-      reads = λ body. r.last_command {u = here u} (one.reads body) bar;
-      only = λ limit body k cs l.
+      reads = r.last_command {u = here u} one.reads bar;
+      only = λ limit k cs l.
           let f = commands_are l in
-          let o = one.only limit body f.0 f.1 f.4 in
+          let o = one.only limit f.0 f.1 f.4 in
           elim f.6 [
             | inl e ↦ (e.1 ∙ o.0, f.3 ∙ ap (λ d. d ∷ f.2) o.1 ∙ ap (λ ds. c ∷ ds) e.2)
             | inr m ↦ absurd (true≢false (sym m.0 ∙ ap (λ w. is_bar (lead_here b w)) o.0 ∙ bar))
           ];
     })
 
+    pub commands_stopped : (e : Refusal) → is_bar (lead_at b First u.at) ≡ true → Refused b (BreaksFrom b (moved b (u.at + 1) u)) e → Refused b (CommandsFrom b s) e
+    commands_stopped e bar none =
+        refused_behind (CommandsFrom b) b s next found e h.behind
+        (refused_by b (BreaksFrom b (moved b (u.at + 1) u)) (CommandsFrom b next) e (λ limit k cs l.
+        let f = commands_are l in
+        let o = one.only limit f.0 f.1 f.4 in
+        elim f.6 [
+          | inl e ↦ absurd (true≢false (sym bar ∙ sym (ap (λ w. is_bar (lead_here b w)) o.0) ∙ e.0))
+          | inr m ↦ (m.1, tt, subst (λ x. ReadsBreaks limit b (skip b 1 x) m.1) o.0 m.2, commands_count m.3)
+        ]) none)
+
     pub commands_more : is_bar (lead_at b First u.at) ≡ true → (w : State) → BreaksTo b (moved b (u.at + 1) u) w → CommandsFound b s (found ++ c ∷ []) w
     commands_more bar w breaks = record {
       behind = one_more (CommandsFrom b) s next w found c h.behind (record {
-        forth = λ limit body k cs l.
+        forth = λ limit k cs l.
             let f = commands_are l in
-            let o = one.only limit body f.0 f.1 f.4 in
+            let o = one.only limit f.0 f.1 f.4 in
             elim f.6 [
               | inl e ↦ absurd (true≢false (sym bar ∙ sym (ap (λ w. is_bar (lead_here b w)) o.0) ∙ e.0))
               | inr m ↦
                   let same : m.1 ≡ here w = breaks.forth limit m.1 (subst (λ x. ReadsBreaks limit b (skip b 1 x) m.1) o.0 m.2) in
-                  (f.2, f.3 ∙ ap (λ d. d ∷ f.2) o.1, subst (λ x. ReadsCommands limit b body x k f.2) same m.3)
+                  (f.2, f.3 ∙ ap (λ d. d ∷ f.2) o.1, subst (λ x. ReadsCommands limit b unread x k f.2) same m.3)
             ];
-        back = λ body k cs l. r.more_commands {u = here u} (one.reads body) bar (breaks.back 64) l;
+        back = λ k cs l. r.more_commands {u = here u} one.reads bar (breaks.back) l;
       });
     }
 
@@ -104,23 +114,23 @@ module _ (b : List ℕ) (s : State) where
   module _ (bang : lead_at b First s.at ≡ lead.Reserved word.Bang) where
     pub negated_refused : (e : Refusal) → Refused b (CommandsFrom b (moved b (s.at + 1) s)) e → Refused b (PipelineFrom b s) e
     negated_refused e none = refused_by b (CommandsFrom b (moved b (s.at + 1) s)) (PipelineFrom b s) e
-        (λ limit body v p l. let f = negated_of {s = here s} bang l in (v, f.0, f.2, omega arith)) none
+        (λ limit v p l. let f = negated_of {s = here s} bang l in (v, f.0, f.2, omega arith)) none
 
     pub negated_read : (cs : List Command) (v : State) → One (CommandsFrom b (moved b (s.at + 1) s)) (here v) cs → One (PipelineFrom b s) (here v) (pipe true cs)
     negated_read cs v one = record {
-      reads = λ body. r.negated {s = here s} bang (one.reads body);
-      only = λ limit body k p l. let f = negated_of {s = here s} bang l in let o = one.only limit body k f.0 f.2 in (o.0, f.1 ∙ ap (λ ds. pipe true ds) o.1);
+      reads = r.negated {s = here s} bang one.reads;
+      only = λ limit k p l. let f = negated_of {s = here s} bang l in let o = one.only limit k f.0 f.2 in (o.0, f.1 ∙ ap (λ ds. pipe true ds) o.1);
     }
 
   module _ (straight : lead_at b First s.at ≡ lead.Reserved word.Bang → ⊥) where
     pub straight_refused : (e : Refusal) → Refused b (CommandsFrom b s) e → Refused b (PipelineFrom b s) e
     straight_refused e none = refused_by b (CommandsFrom b s) (PipelineFrom b s) e
-        (λ limit body v p l. let f = straight_of {s = here s} straight l in (v, f.0, f.2, omega arith)) none
+        (λ limit v p l. let f = straight_of {s = here s} straight l in (v, f.0, f.2, omega arith)) none
 
     pub straight_read : (cs : List Command) (v : State) → One (CommandsFrom b s) (here v) cs → One (PipelineFrom b s) (here v) (pipe false cs)
     straight_read cs v one = record {
-      reads = λ body. let l = one.reads body in r.straight (commands_begin l) l;
-      only = λ limit body k p l. let f = straight_of {s = here s} straight l in let o = one.only limit body k f.0 f.2 in (o.0, f.1 ∙ ap (λ ds. pipe false ds) o.1);
+      reads = let l = one.reads in r.straight (commands_begin l) l;
+      only = λ limit k p l. let f = straight_of {s = here s} straight l in let o = one.only limit k f.0 f.2 in (o.0, f.1 ∙ ap (λ ds. pipe false ds) o.1);
     }
 
 -- And-or lists
@@ -150,24 +160,31 @@ links_none b s = record { behind = nothing_yet (LinksFrom b) s }
 module _ (b : List ℕ) (s next : State) (found : List (Link × Pipe)) (h : LinksFound b s found next) where
   pub links_all : link_of (lead_at b First next.at) ≡ None → One (LinksFrom b s) (here next) found
   links_all none = all_found (LinksFrom b) s next found (here next) h.behind
-      (record { reads = λ body. r.no_link {s = here next} none; only = λ limit body k ps l. no_links {s = here next} none l })
+      (record { reads = r.no_link {s = here next} none; only = λ limit k ps l. no_links {s = here next} none l })
+
+  pub links_stopped : (l : Link) → link_of (lead_at b First next.at) ≡ Some l → (e : Refusal) → Refused b (BreaksFrom b (moved b (next.at + 2) next)) e → Refused b (LinksFrom b s) e
+  links_stopped l some e none =
+      refused_behind (LinksFrom b) b s next found e h.behind
+      (refused_by b (BreaksFrom b (moved b (next.at + 2) next)) (LinksFrom b next) e (λ limit k ps q.
+      let f = first_link {s = here next} l some q in
+      (f.0, tt, f.5, le_trans (pipeline_count f.6) (links_count f.7))) none)
 
   module _ (l : Link) (some : link_of (lead_at b First next.at) ≡ Some l) (w : State) (breaks : BreaksTo b (moved b (next.at + 2) next) w) where
     pub links_refused : (e : Refusal) → Refused b (PipelineFrom b w) e → Refused b (LinksFrom b s) e
     links_refused e none =
         refused_behind (LinksFrom b) b s next found e h.behind
-        (refused_by b (PipelineFrom b w) (LinksFrom b next) e (λ limit body k ps q.
+        (refused_by b (PipelineFrom b w) (LinksFrom b next) e (λ limit k ps q.
         let f = first_link {s = here next} l some q in
-        (f.1, f.2, subst (λ x. ReadsPipeline limit b body x f.1 f.2) (breaks.forth limit f.0 f.5) f.6, links_count f.7)) none)
+        (f.1, f.2, subst (λ x. ReadsPipeline limit b unread x f.1 f.2) (breaks.forth limit f.0 f.5) f.6, links_count f.7)) none)
 
     pub links_more : (p : Pipe) (v : State) → One (PipelineFrom b w) (here v) p → LinksFound b s (found ++ (l, p) ∷ []) v
     links_more p v one = record {
       behind = one_more (LinksFrom b) s next v found (l, p) h.behind (record {
-        forth = λ limit body k ps q.
+        forth = λ limit k ps q.
             let f = first_link {s = here next} l some q in
-            let o = one.only limit body f.1 f.2 (subst (λ x. ReadsPipeline limit b body x f.1 f.2) (breaks.forth limit f.0 f.5) f.6) in
-            (f.3, f.4 ∙ ap (λ x. (l, x) ∷ f.3) o.1, subst (λ x. ReadsLinks limit b body x k f.3) o.0 f.7);
-        back = λ body k ps q. r.more_links {s = here next} some (breaks.back 64) (one.reads body) q;
+            let o = one.only limit f.1 f.2 (subst (λ x. ReadsPipeline limit b unread x f.1 f.2) (breaks.forth limit f.0 f.5) f.6) in
+            (f.3, f.4 ∙ ap (λ x. (l, x) ∷ f.3) o.1, subst (λ x. ReadsLinks limit b unread x k f.3) o.0 f.7);
+        back = λ k ps q. r.more_links {s = here next} some (breaks.back) one.reads q;
       });
     }
 
@@ -176,22 +193,22 @@ list_of : {limit : ℕ} {b : List ℕ} {body : ℕ → Document} {s v : states.S
 list_of (r.linked {u = u} {p = p} {ps = ps} q k) = (u, p, ps, refl, q, k)
 
 pub first_refused : (b : List ℕ) (s : State) (e : Refusal) → Refused b (PipelineFrom b s) e → Refused b (AndOrFrom b s) e
-first_refused b s e none = refused_by b (PipelineFrom b s) (AndOrFrom b s) e (λ limit body v l q. let f = list_of q in (f.0, f.1, f.4, links_count f.5)) none
+first_refused b s e none = refused_by b (PipelineFrom b s) (AndOrFrom b s) e (λ limit v l q. let f = list_of q in (f.0, f.1, f.4, links_count f.5)) none
 
 module _ (b : List ℕ) (s : State) (p : Pipe) (u : State) (one : One (PipelineFrom b s) (here u) p) where
   pub rest_refused : (e : Refusal) → Refused b (LinksFrom b u) e → Refused b (AndOrFrom b s) e
-  rest_refused e none = refused_by b (LinksFrom b u) (AndOrFrom b s) e (λ limit body v l q.
+  rest_refused e none = refused_by b (LinksFrom b u) (AndOrFrom b s) e (λ limit v l q.
       let f = list_of q in
-      let o = one.only limit body f.0 f.1 f.4 in
-      (v, f.2, subst (λ x. ReadsLinks limit b body x v f.2) o.0 f.5, omega arith)) none
+      let o = one.only limit f.0 f.1 f.4 in
+      (v, f.2, subst (λ x. ReadsLinks limit b unread x v f.2) o.0 f.5, omega arith)) none
 
   pub list_linked : (ps : List (Link × Pipe)) (v : State) → One (LinksFrom b u) (here v) ps → One (AndOrFrom b s) (here v) (and_or p ps)
   list_linked ps v rest = record {
-    reads = λ body. r.linked (one.reads body) (rest.reads body);
-    only = λ limit body k l q.
+    reads = r.linked one.reads rest.reads;
+    only = λ limit k l q.
         let f = list_of q in
-        let o = one.only limit body f.0 f.1 f.4 in
-        let t = rest.only limit body k f.2 (subst (λ x. ReadsLinks limit b body x k f.2) o.0 f.5) in
+        let o = one.only limit f.0 f.1 f.4 in
+        let t = rest.only limit k f.2 (subst (λ x. ReadsLinks limit b unread x k f.2) o.0 f.5) in
         (t.0, f.3 ∙ ap (λ x. and_or x f.2) o.1 ∙ ap (λ xs. and_or p xs) t.1);
   }
 
@@ -244,36 +261,36 @@ module _ (b : List ℕ) (s next : State) (found : List Item) (h : ItemsFound b s
   -- no pipeline begins
   pub items_all : begins_pipeline (lead_at b First next.at) ≡ false → One (RestFrom b s) (here next) found
   items_all none = all_found (RestFrom b) s next found (here next) h.behind (record {
-    reads = λ body. inl (none, refl, refl);
-    only = λ limit body k xs l. elim l [
+    reads = inl (none, refl, refl);
+    only = λ limit k xs l. elim l [
       | inl e ↦ (e.1, e.2)
       | inr i ↦ absurd (true≢false (sym i.0 ∙ none))
     ];
   })
 
   module _ (some : begins_pipeline (lead_at b First next.at) ≡ true) where
-    items_here : {limit : ℕ} {body : ℕ → Document} {k : states.State} {xs : List Item} → RestFrom b next limit body k xs → ReadsItems limit b body (here next) k xs
+    items_here : {limit : ℕ} {k : states.State} {xs : List Item} → RestFrom b next limit k xs → ReadsItems limit b unread (here next) k xs
     items_here (inl e) = absurd (true≢false (sym some ∙ e.0))
     items_here (inr i) = i.1
 
     pub items_refused : (e : Refusal) → Refused b (AndOrFrom b next) e → Refused b (RestFrom b s) e
     items_refused e none =
         refused_behind (RestFrom b) b s next found e h.behind
-        (refused_by b (AndOrFrom b next) (RestFrom b next) e (λ limit body k xs l. let f = items_tail (items_here l) in (f.0, f.1, f.2, tail_count f.1 f.3)) none)
+        (refused_by b (AndOrFrom b next) (RestFrom b next) e (λ limit k xs l. let f = items_tail (items_here l) in (f.0, f.1, f.2, tail_count f.1 f.3)) none)
 
     module _ (l : AndOr) (u : State) (one : One (AndOrFrom b next) (here u) l) where
-      tail_here : {limit : ℕ} {body : ℕ → Document} {k : states.State} {xs : List Item} → RestFrom b next limit body k xs → ReadsTail limit b body l (here u) k xs
-      tail_here {limit = limit} {body = body} {k = k} {xs = xs} q =
+      tail_here : {limit : ℕ} {k : states.State} {xs : List Item} → RestFrom b next limit k xs → ReadsTail limit b unread l (here u) k xs
+      tail_here {limit = limit} {k = k} {xs = xs} q =
           let f = items_tail (items_here q) in
-          let o = one.only limit body f.0 f.1 f.2 in
-          subst (λ m. ReadsTail limit b body m (here u) k xs) o.1 (subst (λ w. ReadsTail limit b body f.1 w k xs) o.0 f.3)
+          let o = one.only limit f.0 f.1 f.2 in
+          subst (λ m. ReadsTail limit b unread m (here u) k xs) o.1 (subst (λ w. ReadsTail limit b unread f.1 w k xs) o.0 f.3)
 
       -- the last item, behind which no separator stands
       pub items_last : separator (lead_at b First u.at) ≡ None → not (is_reserved (lead_at b First u.at)) || u.closed ≡ true
           → One (RestFrom b s) (here u) (found ++ item l false ∷ [])
       items_last none closes = found_with (RestFrom b) s next found (item l false ∷ []) (here u) h.behind (record {
-        reads = λ body. inr (some, r.last_item {u = here u} (one.reads body) none closes);
-        only = λ limit body k xs q. elim (tail_here q) [
+        reads = inr (some, r.last_item {u = here u} one.reads none closes);
+        only = λ limit k xs q. elim (tail_here q) [
           | inl e ↦ (e.2, e.3)
           | inr m ↦ let no : Some m.0 ≡ None = sym m.3 ∙ none in absurd cc
         ];
@@ -281,26 +298,35 @@ module _ (b : List ℕ) (s next : State) (found : List Item) (h : ItemsFound b s
 
       -- a reserved word that closes nothing
       pub items_wrong : separator (lead_at b First u.at) ≡ None → not (is_reserved (lead_at b First u.at)) || u.closed ≡ false → Nothing (RestFrom b s)
-      items_wrong none wrong limit body k xs q =
-          let t = h.behind.forth limit body k xs q in
+      items_wrong none wrong limit k xs q =
+          let t = h.behind.forth limit k xs q in
           elim (tail_here t.2) [
             | inl e ↦ true≢false (sym e.1 ∙ wrong)
             | inr m ↦ let no : Some m.0 ≡ None = sym m.3 ∙ none in cc
           ]
 
+      pub items_stopped : (g : Bool) → separator (lead_at b First u.at) ≡ Some g → (p : State) → here p ≡ parted b (here u) → (e : Refusal) → Refused b (BreaksFrom b p) e
+          → Refused b (RestFrom b s) e
+      items_stopped g ends p parts e none =
+          refused_behind (RestFrom b) b s next found e h.behind
+          (refused_by b (BreaksFrom b p) (RestFrom b next) e (λ limit k xs q. elim (tail_here q) [
+            | inl t ↦ let no : Some g ≡ None = sym ends ∙ t.0 in absurd cc
+            | inr m ↦ (m.1, tt, subst (λ x. ReadsBreaks limit b x m.1) (sym parts) m.4, rest_count m.5)
+          ]) none)
+
       pub items_more : (g : Bool) → separator (lead_at b First u.at) ≡ Some g → (p w : State) → here p ≡ parted b (here u) → BreaksTo b p w
           → ItemsFound b s (found ++ item l g ∷ []) w
       items_more g ends p w parts breaks = record {
         behind = one_more (RestFrom b) s next w found (item l g) h.behind (record {
-          forth = λ limit body k xs q. elim (tail_here q) [
+          forth = λ limit k xs q. elim (tail_here q) [
             | inl e ↦ let no : Some g ≡ None = sym ends ∙ e.0 in absurd cc
             | inr m ↦
                 let same : m.0 ≡ g = some_bool (sym m.3 ∙ ends) in
                 let there : m.1 ≡ here w = breaks.forth limit m.1 (subst (λ x. ReadsBreaks limit b x m.1) (sym parts) m.4) in
-                (m.2, m.6 ∙ ap (λ x. item l x ∷ m.2) same, subst (λ x. ReadsRest limit b body x k m.2) there m.5)
+                (m.2, m.6 ∙ ap (λ x. item l x ∷ m.2) same, subst (λ x. ReadsRest limit b unread x k m.2) there m.5)
           ];
-          back = λ body k xs q.
-              inr (some, tail_items (one.reads body) (inr (g, here w, xs, ends, subst (λ x. ReadsBreaks 64 b x (here w)) parts (breaks.back 64), q, refl)));
+          back = λ k xs q.
+              inr (some, tail_items one.reads (inr (g, here w, xs, ends, subst (λ x. ReadsBreaks 64 b x (here w)) parts (breaks.back), q, refl)));
         });
       }
 
@@ -316,17 +342,20 @@ rest_sequence : {limit : ℕ} {b : List ℕ} {body : ℕ → Document} {s u v : 
 rest_sequence k (inl e) = rw (e.1, e.2) (r.nothing k e.0)
 rest_sequence k (inr i) = r.sequence (r.list k i.0 i.1)
 
+pub sequence_stopped : (b : List ℕ) (s : State) (e : Refusal) → Refused b (BreaksFrom b s) e → Refused b (SequenceFrom b s) e
+sequence_stopped b s e none = refused_by b (BreaksFrom b s) (SequenceFrom b s) e (λ limit v t l. let f = sequence_rest l in (f.0, tt, f.3, rest_count f.4)) none
+
 module _ (b : List ℕ) (s u : State) (breaks : BreaksTo b s u) where
   pub sequence_refused : (e : Refusal) → Refused b (RestFrom b u) e → Refused b (SequenceFrom b s) e
-  sequence_refused e none = refused_by b (RestFrom b u) (SequenceFrom b s) e (λ limit body v t l.
+  sequence_refused e none = refused_by b (RestFrom b u) (SequenceFrom b s) e (λ limit v t l.
       let f = sequence_rest l in
-      (v, f.1, subst (λ x. ReadsRest limit b body x v f.1) (breaks.forth limit f.0 f.3) f.4, omega arith)) none
+      (v, f.1, subst (λ x. ReadsRest limit b unread x v f.1) (breaks.forth limit f.0 f.3) f.4, omega arith)) none
 
   pub sequence_read : (xs : List Item) (v : State) → One (RestFrom b u) (here v) xs → One (SequenceFrom b s) (here v) (script xs)
   sequence_read xs v one = record {
-    reads = λ body. rest_sequence (breaks.back 64) (one.reads body);
-    only = λ limit body k t l.
+    reads = rest_sequence (breaks.back) one.reads;
+    only = λ limit k t l.
         let f = sequence_rest l in
-        let o = one.only limit body k f.1 (subst (λ x. ReadsRest limit b body x k f.1) (breaks.forth limit f.0 f.3) f.4) in
+        let o = one.only limit k f.1 (subst (λ x. ReadsRest limit b unread x k f.1) (breaks.forth limit f.0 f.3) f.4) in
         (o.0, f.2 ∙ ap (λ ys. script ys) o.1);
   }

@@ -1,5 +1,5 @@
 -- Redirections, by their operators.
-use Rattle.std.proofs.Common.{◌≡◌, ℕ, ◌≤◌, ◌<◌, true, false, List, [], ◌∷◌, ◌++◌, length, Option, Some, None, Err, refl, sym, ap, subst, ◌∙◌, arith}
+use Rattle.std.proofs.Common.{◌≡◌, ℕ, true, false, List, [], ◌∷◌, ◌++◌, Some, None, refl, sym, ap, subst, ◌∙◌, arith}
 use Rattle.std.proofs.lemmas.Bool.{true≢false}
 use Rattle.sh_tree.specs.declared.token.command.Stage.TheVariants.{Named}
 use Rattle.sh_tree.specs.declared.token.command.Redirection.{Redirection}
@@ -18,11 +18,11 @@ use Rattle.sh_tree.specs.language.States as states
 use Rattle.sh_tree.specs.language.States.{Spot, Document, facing, past, next, waits}
 use Rattle.sh_tree.specs.language.Trees as tree
 use Rattle.sh_tree.proofs.Inversions.{some_one}
-use Rattle.sh_tree.proofs.Counts.{word_count, redirect_count, redirects_count}
+use Rattle.sh_tree.proofs.Counts.{redirects_count}
 use Rattle.sh_grammar.specs.declared.state.State.{State}
-use Rattle.sh_grammar.specs.States.{here, moved, Stands}
-use Rattle.sh_grammar.specs.Readers.{Reading, One, To, Nothing, Refused, WordAt, RedirectFrom, RedirectsFrom}
-use Rattle.sh_grammar.proofs.ReaderLemmas.{refused_by, Behind, Steps, nothing_yet, one_more, all_found, refused_behind}
+use Rattle.sh_grammar.specs.States.{here}
+use Rattle.sh_grammar.specs.Readers.{One, Nothing, Refused, WordAt, RedirectFrom, RedirectsFrom, unread}
+use Rattle.sh_grammar.proofs.ReaderLemmas.{refused_by, Behind, nothing_yet, one_more, all_found, refused_behind}
 
 not_both : (o : Operator) (d : Direction) → direction_of o ≡ Some d → strip_of o ≡ None
 unfolding direction_of strip_of
@@ -60,28 +60,28 @@ begins_redirect (r.file {r = f} h o l read) = (f, h)
 begins_redirect (r.here_document {r = f} h o l read k) = (f, h)
 
 pub no_redirect : (b : List ℕ) (s : State) → redirection b s.at ≡ None → Nothing (RedirectFrom b s)
-no_redirect b s none limit body v q l = let f = begins_redirect l in let no : Some f.0 ≡ None = sym f.1 ∙ none in cc
+no_redirect b s none limit v q l = let f = begins_redirect l in let no : Some f.0 ≡ None = sym f.1 ∙ none in cc
 
 module _ (b : List ℕ) (s : State) (at : Redirection) (d : Direction) (is : redirection b s.at ≡ Some at) (file : direction_of at.operator ≡ Some d) where
   pub redirect_untargeted : is_word (lead_at b (Named false) (blanks false b at.end)) ≡ false → Nothing (RedirectFrom b s)
-  redirect_untargeted none limit body v q l = let f = file_is {s = here s} at d is file l in true≢false (sym f.4 ∙ none)
+  redirect_untargeted none limit v q l = let f = file_is {s = here s} at d is file l in true≢false (sym f.4 ∙ none)
 
   pub redirect_refused : (e : Refusal) → Refused b (WordAt b (in_unsplit (blanks false b at.end)) (blanks false b at.end) s) e → Refused b (RedirectFrom b s) e
   unfolding waits
   redirect_refused e h = refused_by b (WordAt b (in_unsplit (blanks false b at.end)) (blanks false b at.end) s) (RedirectFrom b s) e
-      (λ limit body v q l. let f = file_is {s = here s} at d is file l in (v, f.1, (f.0, f.5, f.2), omega arith)) h
+      (λ limit v q l. let f = file_is {s = here s} at d is file l in (v, f.1, (f.0, f.5, f.2), omega arith)) h
 
   pub redirect_read : (w : Word) (v : State) → is_word (lead_at b (Named false) (blanks false b at.end)) ≡ true
       → One (WordAt b (in_unsplit (blanks false b at.end)) (blanks false b at.end) s) (here v) w
       → One (RedirectFrom b s) (here v) (tree.redirect at.at at.number (File d w))
   unfolding waits
   redirect_read w v word h = record {
-    reads = λ body.
-        let t = h.reads body in
-        subst (λ k. ReadsRedirect 64 b body (here s) k (tree.redirect at.at at.number (File d w))) (sym t.2) (r.file {s = here s} {u = t.0} is file word t.1);
-    only = λ limit body k q l.
+    reads =
+        let t = h.reads in
+        subst (λ k. ReadsRedirect 64 b unread (here s) k (tree.redirect at.at at.number (File d w))) (sym t.2) (r.file {s = here s} {u = t.0} is file word t.1);
+    only = λ limit k q l.
         let f = file_is {s = here s} at d is file l in
-        let o = h.only limit body k f.1 (f.0, f.5, f.2) in
+        let o = h.only limit k f.1 (f.0, f.5, f.2) in
         (o.0, f.3 ∙ ap (λ y. tree.redirect at.at at.number (File d y)) o.1);
   }
 
@@ -109,20 +109,20 @@ module _ (b : List ℕ) (s v : State) (found : List Redirect) (h : RedirectsFoun
       → RedirectsFound b s (found ++ q ∷ []) w
   redirects_more q w some one = record {
     behind = one_more (RedirectsFrom b) s v w found q h.behind (record {
-      forth = λ limit body k qs l.
+      forth = λ limit k qs l.
           let f = redirects_first {s = here v} some l in
-          let o = one.only limit body f.0 f.1 f.4 in
-          (f.2, f.3 ∙ ap (λ x. x ∷ f.2) o.1, subst (λ u. ReadsRedirects limit b body u k f.2) o.0 f.5);
-      back = λ body k qs l. r.more_redirects {s = here v} some (one.reads body) l;
+          let o = one.only limit f.0 f.1 f.4 in
+          (f.2, f.3 ∙ ap (λ x. x ∷ f.2) o.1, subst (λ u. ReadsRedirects limit b unread u k f.2) o.0 f.5);
+      back = λ k qs l. r.more_redirects {s = here v} some one.reads l;
     });
   }
 
   pub redirects_refused : (e : Refusal) → is_redirection (lead_at b (Named false) v.at) ≡ true → Refused b (RedirectFrom b v) e → Refused b (RedirectsFrom b s) e
   redirects_refused e some none =
-      refused_behind (RedirectsFrom b) b s v found e h.behind (refused_by b (RedirectFrom b v) (RedirectsFrom b v) e (λ limit body k qs l.
+      refused_behind (RedirectsFrom b) b s v found e h.behind (refused_by b (RedirectFrom b v) (RedirectsFrom b v) e (λ limit k qs l.
       let f = redirects_first {s = here v} some l in
       (f.0, f.1, f.4, redirects_count f.5)) none)
 
   pub redirects_all : is_redirection (lead_at b (Named false) v.at) ≡ false → One (RedirectsFrom b s) (here v) found
   redirects_all none = all_found (RedirectsFrom b) s v found (here v) h.behind
-      (record { reads = λ body. r.no_redirect {s = here v} none; only = λ limit body k qs l. redirects_end {s = here v} none l })
+      (record { reads = r.no_redirect {s = here v} none; only = λ limit k qs l. redirects_end {s = here v} none l })

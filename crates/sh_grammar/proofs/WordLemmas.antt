@@ -1,5 +1,5 @@
 -- A whole word, by what a builder answers.
-use Rattle.std.proofs.Common.{◌≡◌, ℕ, ◌+◌, ◌-◌, ◌<◌, ◌≤◌, ◌⊎◌, inl, inr, true, false, not, ◌&&◌, List, [], length, nat_le, Ok, Err, refl, sym, ap, ◌∙◌, subst, le_refl, le_trans, lt_of_lt_of_le, arith}
+use Rattle.std.proofs.Common.{◌≡◌, ℕ, ◌+◌, ◌-◌, ◌<◌, ◌≤◌, ◌⊎◌, inl, inr, true, false, not, ◌&&◌, ◌||◌, List, [], ◌∷◌, length, map, Option, Some, None, nat_le, Ok, Err, refl, sym, ap, ◌∙◌, subst, le_refl, le_trans, lt_of_lt_of_le, arith}
 use Rattle.std.proofs.lemmas.Bool.{true≢false, and_parts}
 use Rattle.std.proofs.lemmas.Bool.Decides.{nat_tests}
 use Rattle.sh_tree.specs.declared.tree.Part.{Part}
@@ -14,12 +14,12 @@ use Rattle.sh_tree.specs.language.Arithmetic.{is_closed}
 use Rattle.sh_tree.specs.language.Commands.{blanks, is_location}
 use Rattle.sh_tree.specs.language.Parts.{keeps_lines}
 use Rattle.sh_tree.specs.language.Reading as r
-use Rattle.sh_tree.specs.language.Reading.{ReadsParts, ReadsPart, ReadsScript, ReadsWord}
+use Rattle.sh_tree.specs.language.Reading.{ReadsParts, ReadsPart, ReadsScript, ReadsSequence, ReadsWord, is_some}
 use Rattle.sh_tree.specs.language.States as states
-use Rattle.sh_tree.specs.language.States.{Spot, Document, nth, past, waits}
+use Rattle.sh_tree.specs.language.States.{Spot, past, waits, within}
 use Rattle.sh_tree.specs.language.Trees.{word}
 use Rattle.sh_tree.specs.language.Words.{token}
-use Rattle.sh_tree.proofs.Inversions.{script_is, word_parts}
+use Rattle.sh_tree.proofs.Inversions.{word_parts}
 use Rattle.sh_words.specs.declared.mode.Mode.{Mode}
 use Rattle.sh_words.specs.declared.mode.Mode.TheVariants as mode
 use Rattle.sh_words.specs.declared.builder.WordBuilder.{WordBuilder}
@@ -36,11 +36,13 @@ use Rattle.sh_words.specs.States.{fed}
 use Rattle.sh_words.proofs.CountLemmas.{left_count}
 use Rattle.sh_words.proofs.OperationLemmas.{closed_inside}
 use Rattle.sh_grammar.specs.declared.state.State.{State}
-use Rattle.sh_grammar.specs.States.{spot_of, here, moved, substituted, Stands}
-use Rattle.sh_grammar.specs.Readers.{One, Nothing, Refused, WordAt}
+use Rattle.sh_grammar.specs.declared.mark.Mark.{Mark}
+use Rattle.sh_grammar.specs.States.{spot_of, here, mark_of, moved, pending_of, substituted, Stands, waiting}
+use Rattle.sh_grammar.specs.Readers.{One, Nothing, Refused, SequenceFrom, WordAt, unread}
 use Rattle.sh_grammar.specs.Modes.{Begins, IsWhole, Whole}
 use Rattle.sh_grammar.specs.Substitutions.{ClosedFrom, Counted}
-use Rattle.sh_grammar.proofs.ReaderLemmas.{refused_inside}
+use Rattle.sh_grammar.proofs.BodyLemmas.{Level, level_of}
+use Rattle.sh_grammar.proofs.ReaderLemmas.{refused_by}
 
 -- Where a word is read, the depth is the one around it
 
@@ -79,9 +81,16 @@ whole_prior mode.Value h = refl
 whole_prior mode.Operand h = refl
 whole_prior (mode.Body end strip quoted) h = absurd h
 
--- what is around a word: no here-document
+-- what is around a word: no body of a here-document
 abbrev around : State → Around
-around v = record { count = v.count; quiet = false; body = false; tabs = false }
+around v = record { count = v.count; quiet = is_some v.outer || waits (pending_of v); body = false; tabs = false }
+
+-- one waits there or here
+waiting_is : (o : Option ℕ) (ms : List Mark) → is_some (waiting o ms) ≡ (is_some o || waits (map mark_of ms))
+unfolding is_some waits
+waiting_is (Some i) ms = refl
+waiting_is None [] = refl
+waiting_is None (m ∷ ms) = refl
 
 -- what is left for the builder w, behind as many commands as v, is what is left of the word at i
 pub record Begun (b : List ℕ) (m : Mode) (i : ℕ) (s : State) (w : WordBuilder) (v : State) : Type 0 where
@@ -138,8 +147,8 @@ module _ (b : List ℕ) (m : Mode) (whole : IsWhole m) (i : ℕ) (s v : State) (
   sees = ap (λ x. seen b x) d.mode ∙ whole_seen b m whole
 
   nothing_left : (limit : ℕ) → ((g : Around) (u : Spot) (ps : List Part) → Left b w limit g u ps → ⊥)
-      → (body : ℕ → Document) (k : states.State) (y : Word) → WordAt b (context_of b m i) i s limit body k y → ⊥
-  nothing_left limit none body k y h = let is = word_parts h.1 in none (around v) h.0 is.0 (d.begun.forth limit h.0 is.0 is.2)
+      → (k : states.State) (y : Word) → WordAt b (context_of b m i) i s limit k y → ⊥
+  nothing_left limit none k y h = let is = word_parts h.1 in none (around v) h.0 is.0 (d.begun.forth limit h.0 is.0 is.2)
 
   refuses : (e : Refusal) → Refuses b (Left b w) e → Refused b (WordAt b (context_of b m i) i s) e
   refuses Memory h = tt
@@ -194,42 +203,54 @@ module _ (b : List ℕ) (m : Mode) (whole : IsWhole m) (i : ℕ) (s v : State) (
         further none (inl below) = lt_of_lt_of_le below moves.0
         further none (inr at) = subst (λ x. x < new.at) at.1 (takes at.0 (begins at.0 at.1 none))
 
+    -- where the commands that it asks for are read
+    asked_at : (at depth : ℕ) → within (spot (around v) depth (blanks false b at)) ≡ here (substituted b at depth v)
+    unfolding is_some waits
+    asked_at at depth = ap (λ q. within (record (spot (around v) depth (blanks false b at)) { quiet = q })) (sym (waiting_is v.outer v.pending))
+
+    level_here : {limit : ℕ} {u : Spot} {t : Script} (at depth : ℕ) → ReadsScript limit b (spot (around v) depth (blanks false b at)) u t
+        → (l : Level limit b (spot (around v) depth (blanks false b at)) u t) × SequenceFrom b (substituted b at depth v) limit l.end l.tree
+    level_here {limit = limit} at depth h = let l = level_of h in (l, subst (λ s. ReadsSequence limit b unread s l.end l.tree) (asked_at at depth) l.reads)
+
     -- a refusal of the commands that it asks for is one of the word
     pub inner_refused : (start at depth : ℕ) (e : Refusal) → Asks (seen b w.mode) (Left (seen b w.mode) w) new start at depth
         → Refused b (ClosedFrom b (substituted b at depth v)) e → Refused b (WordAt b (context_of b m i) i s) e
-    inner_refused start at depth e asks h = refused_inside b (ClosedFrom b (substituted b at depth v)) (WordAt b (context_of b m i) i s) e inside h
+    inner_refused start at depth e asks h = refused_by b (ClosedFrom b (substituted b at depth v)) (WordAt b (context_of b m i) i s) e inside h
       where
-        inside : (limit : ℕ) (body : ℕ → Document) (k : states.State) (y : Word) → WordAt b (context_of b m i) i s limit body k y
-            → (other : ℕ → Document) × (j : states.State) × (x : Script) × ClosedFrom b (substituted b at depth v) limit other j x × (j.spot.count ≤ k.spot.count)
-        inside limit body k y q =
+        inside : (limit : ℕ) (k : states.State) (y : Word) → WordAt b (context_of b m i) i s limit k y
+            → (j : states.State) × (x : Script) × ClosedFrom b (substituted b at depth v) limit j x × (j.spot.count ≤ k.spot.count)
+        inside limit k y q =
             let is = word_parts q.1 in
             let asked : Asks b (Left b w) new start at depth = subst (λ x. Asks x (Left x w) new start at depth) sees asks in
             let l = asked.forth limit (around v) q.0 is.0 (d.begun.forth limit q.0 is.0 is.2) in
-            let z = script_is l.3 in
+            let z = level_here at depth l.3 in
             let some : l.0.count ≤ q.0.count = left_count b limit (after_commands (around v) l.0) q.0 is.0 (fed new start l.1 (l.0.at + 1)) l.5 in
-            let less : z.0.spot.count ≤ q.0.count = subst (λ x. x.count ≤ q.0.count) z.1 some in
-            let shut : is_closed b z.0.spot.at ≡ true = subst (λ x. is_closed b x.at ≡ true) z.1 l.4 in
-            (nth z.0.bodies, z.0, l.1, (z.3, shut), subst (λ x. z.0.spot.count ≤ x.spot.count) (sym q.2) less)
+            let less : z.0.end.spot.count ≤ q.0.count = subst (λ x. x.count ≤ q.0.count) z.0.is some in
+            let shut : is_closed b z.0.end.spot.at ≡ true = subst (λ x. is_closed b x.at ≡ true) z.0.is l.4 in
+            (z.0.end, z.0.tree, (z.1, shut, z.0.over), subst (λ x. z.0.end.spot.count ≤ x.spot.count) (sym q.2) less)
 
     -- and the builder goes on behind them
     pub begun_fed : (start at depth : ℕ) (t : Script) (end : State) → Asks (seen b w.mode) (Left (seen b w.mode) w) new start at depth
         → One (ClosedFrom b (substituted b at depth v)) (here end) t → Begun b m i s (fed new start t (end.at + 1)) (record v { count = end.count })
-    unfolding nth waits
     begun_fed start at depth t end asks one =
         let asked : Asks b (Left b w) new start at depth = subst (λ x. Asks x (Left x w) new start at depth) sees asks in
         record {
           forth = λ limit u ps h.
               let l = asked.forth limit (around v) u ps (d.begun.forth limit u ps h) in
-              let z = script_is l.3 in
-              let shut : is_closed b z.0.spot.at ≡ true = subst (λ x. is_closed b x.at ≡ true) z.1 l.4 in
-              let o = one.only limit (nth z.0.bodies) z.0 l.1 (z.3, shut) in
-              let spot_is : l.0 ≡ (here end).spot = z.1 ∙ ap (λ x. x.spot) o.0 in
+              let z = level_here at depth l.3 in
+              let shut : is_closed b z.0.end.spot.at ≡ true = subst (λ x. is_closed b x.at ≡ true) z.0.is l.4 in
+              let o = one.only limit z.0.end z.0.tree (z.1, shut, z.0.over) in
+              let bare : SequenceFrom b (substituted b at depth v) limit z.0.end l.1 =
+              subst (λ s. ReadsSequence limit b unread s z.0.end l.1) (asked_at at depth) (z.0.bare (ap (λ (x : states.State). x.bodies) o.0)) in
+              let p = one.only limit z.0.end l.1 (bare, shut, z.0.over) in
+              let spot_is : l.0 ≡ (here end).spot = z.0.is ∙ ap (λ x. x.spot) o.0 in
               let there : Left b (fed new start t (l.0.at + 1)) limit (after_commands (around v) l.0) u ps =
-              subst (λ x. Left b (fed new start x (l.0.at + 1)) limit (after_commands (around v) l.0) u ps) o.1 l.5 in
+              subst (λ x. Left b (fed new start x (l.0.at + 1)) limit (after_commands (around v) l.0) u ps) p.1 l.5 in
               subst (λ x. Left b (fed new start t (x.at + 1)) limit (after_commands (around v) x) u ps) spot_is there;
           back = λ u ps l.
-              let read = one.reads (nth []) in
-              let script : ReadsScript 64 b (here (substituted b at depth v)).spot (here end).spot t = r.script {u = here end} read.0 refl in
+              let read = one.reads in
+              let script : ReadsScript 64 b (spot (around v) depth (blanks false b at)) (here end).spot t =
+              r.script {u = here end} (subst (λ s. ReadsSequence 64 b unread s (here end) t) (sym (asked_at at depth)) read.0) read.2 in
               d.begun.back u ps (asked.back (around v) u ps (here end).spot t script read.1 l);
         }
 
@@ -238,14 +259,13 @@ module _ (b : List ℕ) (m : Mode) (whole : IsWhole m) (i : ℕ) (s v : State) (
         → RunMoves (seen b w.mode) w new (Ok (Inner at depth)) → One (ClosedFrom b (substituted b at depth v)) (here end) t → at ≤ end.at → Stands b end
         → ((start : ℕ) → Waits new start → Goes new → back ≡ fed new start t (end.at + 1)) → ((x : List ℕ) → end.at + 1 ≤ length x → IsSound x new → IsSound x back)
         → Driven b m i s back (record v { count = end.count })
-    unfolding nth
     driven_fed back at depth t end answers moves one after stands gives keeps =
         let start = answers.0 in
         let same = moves.5 in
         let is : back ≡ fed new start t (end.at + 1) = gives start answers.1 (same.3 ∙ d.goes) in
         let mode : back.mode ≡ m = ap (λ (x : WordBuilder). x.mode) is ∙ same.0 ∙ d.mode in
         let all : seen b back.mode ≡ b = ap (λ x. seen b x) mode ∙ whole_seen b m whole in
-        let below : end.at < length b = closed_inside b end.at (one.reads (nth [])).1 in
+        let below : end.at < length b = closed_inside b end.at one.reads.1 in
         let sound : IsSound b new = subst (λ x. IsSound x new) sees moves.6 in
         let stands_at : back.at ≡ end.at + 1 = ap (λ (x : WordBuilder). x.at) is in
         let further : w.at < at = subst (λ x. w.at < x) moves.2 moves.0 in
@@ -262,7 +282,14 @@ module _ (b : List ℕ) (m : Mode) (whole : IsWhole m) (i : ℕ) (s v : State) (
           moved = inl (subst (λ x. i < x) (sym stands_at) more);
           counted = record {
             same = ap (λ (x : State). record x { count = end.count }) d.counted.same;
-            stands = record { inside = d.counted.stands.inside; settled = d.counted.stands.settled; few = stands.few; shallow = d.counted.stands.shallow };
+            stands = record {
+              inside = d.counted.stands.inside;
+              settled = d.counted.stands.settled;
+              few = stands.few;
+              shallow = d.counted.stands.shallow;
+              around = d.counted.stands.around;
+              behind = d.counted.stands.behind;
+            };
           };
         }
 
@@ -270,10 +297,9 @@ module _ (b : List ℕ) (m : Mode) (whole : IsWhole m) (i : ℕ) (s v : State) (
     pub fed_moves : (back : WordBuilder) (at depth : ℕ) (t : Script) (end : State) → Answers (seen b w.mode) (Left (seen b w.mode) w) new (Inner at depth)
         → RunMoves (seen b w.mode) w new (Ok (Inner at depth)) → One (ClosedFrom b (substituted b at depth v)) (here end) t → at ≤ end.at
         → ((start : ℕ) → Waits new start → Goes new → back ≡ fed new start t (end.at + 1)) → length b - position back < length b - position w
-    unfolding nth
     fed_moves back at depth t end answers moves one after gives =
         let is : back ≡ fed new answers.0 t (end.at + 1) = gives answers.0 answers.1 (moves.5.3 ∙ d.goes) in
-        let below : end.at < length b = closed_inside b end.at (one.reads (nth [])).1 in
+        let below : end.at < length b = closed_inside b end.at one.reads.1 in
         let stands_at : back.at ≡ end.at + 1 = ap (λ (x : WordBuilder). x.at) is in
         let further : w.at < at = subst (λ x. w.at < x) moves.2 moves.0 in
         omega arith
@@ -289,8 +315,8 @@ word_read b m i s v w h free =
     let end = w.span.end in
     let behind : here (moved b end v) ≡ past b (spot_of end v) (here s) = ap (λ (z : State). here (record z { at = blanks false b end; count = v.count; fresh = true })) h.counted.same in
     record {
-      reads = λ body. (spot_of end v, subst (λ z. ReadsWord 64 b x (spot_of i s) (spot_of end v) z) (sym h.is) (r.whole_word (h.reads) free refl), behind);
-      only = λ limit body k y q.
+      reads = (spot_of end v, subst (λ z. ReadsWord 64 b x (spot_of i s) (spot_of end v) z) (sym h.is) (r.whole_word (h.reads) free refl), behind);
+      only = λ limit k y q.
           let is = word_parts q.1 in
           let e = h.only limit q.0 is.0 is.2 in
           (q.2 ∙ ap (λ z. past b z (here s)) e.0 ∙ sym behind, is.1 ∙ ap (λ z. word i z.at is.0) e.0 ∙ ap (λ z. word i end z) e.1 ∙ sym h.is);
@@ -299,7 +325,7 @@ word_read b m i s v w h free =
 -- an IO location is no word
 pub word_located : (b : List ℕ) (m : Mode) (i : ℕ) (s v : State) (w : Word) → Whole b (context_of b m i) i s w v
     → not (context_of b m i).colons && is_location b i w.span.end ≡ true → Nothing (WordAt b (context_of b m i) i s)
-word_located b m i s v w h located = λ limit body k y q. none limit q.0 y q.1
+word_located b m i s v w h located = λ limit k y q. none limit q.0 y q.1
   where
     none : (limit : ℕ) (k : Spot) (y : Word) → ReadsWord limit b (context_of b m i) (spot_of i s) k y → ⊥
     none limit k y (r.whole_word {ps = qs} q free l) =

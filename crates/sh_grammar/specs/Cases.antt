@@ -17,23 +17,23 @@ use Rattle.sh_tree.specs.language.States as states
 use Rattle.sh_tree.specs.language.States.{Document}
 use Rattle.sh_tree.specs.language.Trees.{clause}
 use Rattle.sh_grammar.specs.declared.state.State.{State}
-use Rattle.sh_grammar.specs.Faults.{IsFault, Tells}
+use Rattle.sh_grammar.specs.Faults.{IsFault, TellsAt}
 use Rattle.sh_grammar.specs.Phrases.{behind_reserved}
 use Rattle.sh_grammar.specs.States.{here, Stands}
-use Rattle.sh_grammar.specs.Readers.{Reading, WordAt}
+use Rattle.sh_grammar.specs.Readers.{Reading, WordAt, unread}
 
 -- behind the `in` at s, or what is told of another token there, where no command can begin
 abbrev pub ExpectsIn : List ℕ → State → Result State Refusal → Type 0
 ExpectsIn b s (Ok v) = (lead_at b First s.at ≡ lead.Reserved word.In) × (v ≡ behind_reserved b word.In s) × (s.at < v.at) × Stands b v
-ExpectsIn b s (Err e) = IsFault b e × (lead_at b First s.at ≡ lead.Reserved word.In → ⊥) × Tells b (lead_at b (Named false) s.at) s.at e
+ExpectsIn b s (Err e) = IsFault b e × (lead_at b First s.at ≡ lead.Reserved word.In → ⊥) × TellsAt b (lead_at b (Named false) s.at) s e
 
 -- the word at s, whose fields are not split
 abbrev pub UnsplitFrom : List ℕ → State → Reading Word
-UnsplitFrom b s limit body v w = (is_word (lead_at b (Named false) s.at) ≡ true) × WordAt b (in_unsplit s.at) s.at s limit body v w
+UnsplitFrom b s limit v w = (is_word (lead_at b (Named false) s.at) ≡ true) × WordAt b (in_unsplit s.at) s.at s limit v w
 
 -- patterns between bars, and the `)` behind them
 abbrev pub PatternsFrom : List ℕ → State → Reading (List Word)
-PatternsFrom b s limit body v ws = (u : states.State) × ReadsPatterns limit b (here s) u ws × (v ≡ behind_token b (codes ")") u)
+PatternsFrom b s limit v ws = (u : states.State) × ReadsPatterns limit b (here s) u ws × (v ≡ behind_token b (codes ")") u)
 
 -- the patterns of a clause and its list, up to what ends it
 abbrev pub ReadsClause : ℕ → List ℕ → (ℕ → Document) → states.State → states.State → List Word × Script → Type 0
@@ -41,10 +41,10 @@ ReadsClause limit b body s v c =
     (u : states.State) × ReadsPatterns limit b (unopened b s) u c.0 × ReadsSequence limit b body (behind_token b (codes ")") u) v c.1
 
 abbrev pub ClauseFrom : List ℕ → State → Reading (List Word × Script)
-ClauseFrom b s limit body v c = ReadsClause limit b body (here s) v c
+ClauseFrom b s limit v c = ReadsClause limit b unread (here s) v c
 
 abbrev pub ClausesFrom : List ℕ → State → Reading (List Clause)
-ClausesFrom b s limit body v cs = ReadsClauses limit b body (here s) v cs
+ClausesFrom b s limit v cs = ReadsClauses limit b unread (here s) v cs
 
 -- what is left of the clauses behind the patterns and the list of one, which end at u
 abbrev pub ReadsClauseTail : ℕ → List ℕ → (ℕ → Document) → List Word × Script → states.State → states.State → List Clause → Type 0

@@ -1,6 +1,6 @@
 -- What is told of a token that has no place.
 -- POSIX.1-2024, XCU 2.10 (shell grammar).
-use Rattle.std.specs.Prelude.{◌≡◌, ℕ, ◌<◌, ◌≤◌, Bool, true, false, List, length, Result, Ok, Err}
+use Rattle.std.specs.Prelude.{◌≡◌, ℕ, ◌<◌, ◌≤◌, Bool, true, false, List, [], ◌∷◌, length, Result, Ok, Err}
 use Rattle.sh_tree.specs.declared.limits.TheConstants.{MAX_COMMANDS, MAX_NESTING}
 use Rattle.sh_tree.specs.declared.refusal.Fault.TheVariants as fault
 use Rattle.sh_tree.specs.declared.refusal.Form.{Form}
@@ -13,9 +13,12 @@ use Rattle.sh_tree.specs.declared.token.command.Lead.{Lead}
 use Rattle.sh_tree.specs.declared.token.command.Lead.TheVariants as lead
 use Rattle.sh_tree.specs.declared.tree.Script.{Script}
 use Rattle.sh_tree.specs.language.Commands.{lead_at}
-use Rattle.sh_tree.specs.language.States.{State, Document}
-use Rattle.sh_grammar.specs.States.{first_of}
-use Rattle.sh_grammar.specs.Readers.{SequenceFrom}
+use Rattle.sh_tree.specs.language.Reading.{ReadsSequence}
+use Rattle.sh_tree.specs.language.States as states
+use Rattle.sh_tree.specs.language.States.{Document}
+use Rattle.sh_grammar.specs.declared.mark.Mark.{Mark}
+use Rattle.sh_grammar.specs.declared.state.State.{State}
+use Rattle.sh_grammar.specs.States.{here, first_of}
 
 -- a fault of syntax or a form that is left out, at its place in the text
 abbrev pub IsFault : List ℕ → Refusal → Type 0
@@ -34,6 +37,16 @@ Tells b (lead.LeftOut f) i e = (at : ℕ) × (e ≡ LeftOut f at) × IsPlace b f
 Tells b lead.End i e = e ≡ Syntax fault.UnexpectedEnd i
 Tells b _ i e = e ≡ Syntax fault.UnexpectedToken i
 
+-- what is told at the end of the text, where these here-documents wait for their bodies
+abbrev pub ended : List Mark → ℕ → Refusal
+ended [] i = Syntax fault.UnexpectedEnd i
+ended (m ∷ ms) i = Syntax fault.OpenHereDoc m.at
+
+-- what is told of the token at s, which has no place there
+abbrev pub TellsAt : List ℕ → Lead → State → Refusal → Type 0
+TellsAt b lead.End s e = e ≡ ended s.pending s.at
+TellsAt b l s e = Tells b l s.at e
+
 -- how the token is read where nothing goes on: as a command's first token where a command could begin
 unfoldable pub stage_at : Bool → Stage
 stage_at true = First
@@ -45,7 +58,7 @@ Misplaced b i e = (fresh : Bool) × Tells b (lead_at b (stage_at fresh) i) i e
 
 -- What is told where a sequence is read up to v and the text goes on there: the token at v. One command too many comes before it where there are that many, and
 -- of a form that is not read yet nothing is said.
-abbrev pub TellsBehind : List ℕ → State → Result Script Refusal → Type 0
+abbrev pub TellsBehind : List ℕ → states.State → Result Script Refusal → Type 0
 TellsBehind b v (Ok t) = ⊥
 TellsBehind b v (Err Memory) = Unit {0}
 TellsBehind b v (Err TooMany) = MAX_COMMANDS < v.spot.count
@@ -55,4 +68,4 @@ TellsBehind b v (Err e) = Misplaced b v.spot.at e
 -- the same of each sequence at the front of the text
 abbrev pub TellsMisplaced : List ℕ → Result Script Refusal → Type 0
 TellsMisplaced b r =
-    (body : ℕ → Document) (v : State) (t : Script) → SequenceFrom b (first_of b) MAX_NESTING body v t → v.spot.at < length b → TellsBehind b v r
+    (body : ℕ → Document) (v : states.State) (t : Script) → ReadsSequence MAX_NESTING b body (here (first_of b)) v t → v.spot.at < length b → TellsBehind b v r

@@ -12,15 +12,15 @@ use Rattle.sh_grammar.specs.Phrases.{entered}
 use Rattle.sh_grammar.specs.Readers.{Reading}
 
 abbrev pub WordsFrom : List ℕ → State → Reading (List Word)
-WordsFrom b s limit body v ws = ReadsWords limit b (here s) v ws
+WordsFrom b s limit v ws = ReadsWords limit b (here s) v ws
 
 -- words, and the `;` or the newlines behind them
 abbrev pub ListedFrom : List ℕ → State → Reading (List Word)
-ListedFrom b s limit body v ws =
+ListedFrom b s limit v ws =
     (u : states.State) × ReadsWords limit b (here s) u ws × (separator (lead_here b u) ≡ Some false) × ReadsBreaks limit b (parted b u) v
 
 abbrev pub ForWordsFrom : List ℕ → State → Reading (Option (List Word))
-ForWordsFrom b s limit body v o = ReadsForWords limit b (here s) v o
+ForWordsFrom b s limit v o = ReadsForWords limit b (here s) v o
 
 -- one level inside, behind the name of the `for` at s
 abbrev pub for_named : List ℕ → State → State

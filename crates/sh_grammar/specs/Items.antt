@@ -10,7 +10,7 @@ use Rattle.sh_tree.specs.language.States.{Document}
 use Rattle.sh_tree.specs.language.Trees.{item}
 use Rattle.sh_grammar.specs.declared.state.State.{State}
 use Rattle.sh_grammar.specs.States.{here}
-use Rattle.sh_grammar.specs.Readers.{Reading}
+use Rattle.sh_grammar.specs.Readers.{Reading, unread}
 
 -- what is left of a sequence where no newline stands: items that begin here, or none
 abbrev pub ReadsRest : ℕ → List ℕ → (ℕ → Document) → states.State → states.State → List Item → Type 0
@@ -25,4 +25,4 @@ ReadsTail limit b body l u v is =
     × (is ≡ item l g ∷ js))
 
 abbrev pub RestFrom : List ℕ → State → Reading (List Item)
-RestFrom b s limit body v is = ReadsRest limit b body (here s) v is
+RestFrom b s limit v is = ReadsRest limit b unread (here s) v is

@@ -14,8 +14,8 @@ use Rattle.sh_tree.specs.language.Reading.{ReadsList, ReadsDo, lead_here, behind
 use Rattle.sh_tree.specs.language.States as states
 use Rattle.sh_grammar.specs.declared.state.State.{State}
 use Rattle.sh_grammar.specs.States.{here, moved, Stands}
-use Rattle.sh_grammar.specs.Faults.{IsFault, Tells, stage_at}
-use Rattle.sh_grammar.specs.Readers.{Reading}
+use Rattle.sh_grammar.specs.Faults.{IsFault, TellsAt, stage_at}
+use Rattle.sh_grammar.specs.Readers.{Reading, unread}
 
 -- how a reserved word is written
 abbrev pub reserved_text : Reserved → List ℕ
@@ -47,15 +47,15 @@ entered b r s = record (behind_reserved b r s) { depth = s.depth + 1 }
 -- behind the reserved word r, which stands at s; or what is told of the token there
 abbrev pub Expects : List ℕ → Reserved → State → Result State Refusal → Type 0
 Expects b r s (Ok v) = (lead_at b First s.at ≡ lead.Reserved r) × (v ≡ behind_reserved b r s) × (s.at < v.at) × Stands b v
-Expects b r s (Err e) = IsFault b e × (lead_at b First s.at ≡ lead.Reserved r → ⊥) × Tells b (lead_at b (stage_at s.fresh) s.at) s.at e
+Expects b r s (Err e) = IsFault b e × (lead_at b First s.at ≡ lead.Reserved r → ⊥) × TellsAt b (lead_at b (stage_at s.fresh) s.at) s e
 
 -- a list and the reserved word behind it
 abbrev pub ListBefore : List ℕ → Reserved → State → Reading Script
-ListBefore b r s limit body v t =
-    (u : states.State) × ReadsList limit b body (here s) u t × (lead_here b u ≡ lead.Reserved r) × (v ≡ behind_token b (reserved_text r) u)
+ListBefore b r s limit v t =
+    (u : states.State) × ReadsList limit b unread (here s) u t × (lead_here b u ≡ lead.Reserved r) × (v ≡ behind_token b (reserved_text r) u)
 
 abbrev pub DoFrom : List ℕ → State → Reading Script
-DoFrom b s limit body v t = ReadsDo limit b body (here s) v t
+DoFrom b s limit v t = ReadsDo limit b unread (here s) v t
 
 -- the word with which a loop begins
 abbrev pub loop_word : LoopKind → Reserved

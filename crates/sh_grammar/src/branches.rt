@@ -92,12 +92,13 @@ impl<F: Fn(Global, &[u8], State) -> Result<(Script, State), Refusal>> Grammar<F>
         requires nests { Nests self.now.left (F.pre self.now.nested) (F.post self.now.nested) }
         ensures { Answers script.now (CompoundFrom script.now (Lead.Reserved Reserved.If) from) (from.at + 1) result }
     {
+        let depth = from.depth;
         let first = enter(script, Reserved::If, from);
         let ((branches, otherwise), end) = self.branches(script, first)?;
         let found = Kind::Cond {
             branches,
             otherwise,
         };
-        Ok((found, end.as_deep(from)))
+        Ok((found, end.at_depth(depth)))
     }
 }

@@ -1,14 +1,15 @@
-//! Newlines between commands (XCU 2.10), where no here-document waits for its body.
+//! Newlines between commands (XCU 2.10).
 ghost use Rattle.std.specs.Prelude.{◌≡◌, ◌≤◌, ◌<◌, length};
 ghost use Rattle.sh_tree.specs.language.Commands as commands;
 ghost use Rattle.sh_tree.specs.language.Reading as reading;
 ghost use Rattle.sh_tree.specs.declared.token.command.Stage.TheVariants.{First};
 ghost use Rattle.sh_grammar.specs.States.{Stands, here};
-ghost use Rattle.sh_grammar.specs.Breaks.{BreaksTo};
+ghost use Rattle.sh_grammar.specs.Breaks.{Breaks, Line};
 
 use super::state::State;
 use sh_scan::lead_at;
 use sh_tree::limits::MAX_SCRIPT;
+use sh_tree::refusal::{Form, Refusal};
 use sh_tree::token::{Lead, Stage};
 
 pub fn is_newline(lead: Lead) -> bool
@@ -17,17 +18,40 @@ pub fn is_newline(lead: Lead) -> bool
     matches!(lead, Lead::Newline)
 }
 
-/// The first token at or behind this one that is no newline.
-pub fn breaks(script: &[u8], from: State) -> State
+/// Behind a newline, and the bodies of the here-documents before it. Bodies are not read yet.
+#[tactic(auto, using(crate::proofs::BreakLemmas::line_across, crate::proofs::BreakLemmas::line_later, crate::proofs::BreakLemmas::line_over))]
+fn line(script: &[u8], from: State) -> Result<State, Refusal>
     requires small { length script.now ≤ MAX_SCRIPT }
     requires stands { Stands script.now from }
-    ensures { BreaksTo script.now from result }
+    requires inside { from.at < length script.now }
+    ensures { Line script.now from result }
+{
+    if let Some(at) = from.outer {
+        return Err(Refusal::LeftOut(Form::HereAcross, at));
+    }
+    if let Some(at) = from.first_pending() {
+        return Err(Refusal::LeftOut(Form::Later, at));
+    }
+    let at = from.at + 1;
+    Ok(from.next(script, at))
+}
+
+/// The first token at or behind this one that is no newline.
+///
+/// # Errors
+///
+/// `LeftOut` at the operator of a here-document outside that waits for its body.
+#[tactic(auto, using(crate::proofs::BreakLemmas::skips_none, crate::proofs::BreakLemmas::skips_refused))]
+pub fn breaks(script: &[u8], from: State) -> Result<State, Refusal>
+    requires small { length script.now ≤ MAX_SCRIPT }
+    requires stands { Stands script.now from }
+    ensures { Breaks script.now from result }
 {
     let mut next = from;
     while is_newline(lead_at(script, Stage::First, next.at)) {
-        next = next.next(script, next.at + 1);
+        next = line(script, next)?;
     }
-    next
+    Ok(next)
 }
 
 /// Where the newlines behind a separator begin: a newline is one of them.
@@ -43,6 +67,7 @@ pub fn parted(script: &[u8], lead: Lead, from: State) -> State
     if is_newline(lead) {
         from
     } else {
-        from.next(script, from.at + 1)
+        let behind = from.at + 1;
+        from.next(script, behind)
     }
 }

@@ -34,7 +34,7 @@ fn expect_in(script: &[u8], from: State) -> Result<State, Refusal>
     if is_same(lead, Lead::Reserved(Reserved::In)) {
         return Ok(skip(script, Reserved::In, from));
     }
-    Err(unexpected_at(script, Stage::Named(false), from.at))
+    Err(unexpected_at(script, Stage::Named(false), &from))
 }
 
 /// Behind the parenthesis with which a clause may begin.
@@ -48,7 +48,8 @@ fn unopened(script: &[u8], from: State) -> State
 {
     let lead = lead_at(script, Stage::Named(false), from.at);
     if is_same(lead, Lead::Operator(Operator::LeftParenthesis)) {
-        return from.next(script, from.at + 1);
+        let at = from.at + 1;
+        return from.next(script, at);
     }
     from
 }
@@ -65,9 +66,10 @@ impl<F: Fn(Global, &[u8], State) -> Result<(Script, State), Refusal>> Grammar<F>
     {
         let stage = Stage::Named(false);
         if !is_word(lead_at(script, stage, from.at)) {
-            return Err(unexpected_at(script, stage, from.at));
+            return Err(unexpected_at(script, stage, &from));
         }
-        let (word, behind) = self.word_at(script, Mode::Unsplit, from.at, from)?;
+        let at = from.at;
+        let (word, behind) = self.word_at(script, Mode::Unsplit, at, from)?;
         Ok((word, behind))
     }
 
@@ -86,13 +88,14 @@ impl<F: Fn(Global, &[u8], State) -> Result<(Script, State), Refusal>> Grammar<F>
             let (word, behind) = self.unsplit(script, next)?;
             found.push(word)?;
             let lead = lead_at(script, Stage::Named(false), behind.at);
+            let at = behind.at + 1;
             if is_same(lead, Lead::Operator(Operator::RightParenthesis)) {
-                return Ok((found, behind.next(script, behind.at + 1)));
+                return Ok((found, behind.next(script, at)));
             }
             if !is_same(lead, Lead::Operator(Operator::Bar)) {
-                return Err(unexpected_at(script, Stage::Named(false), behind.at));
+                return Err(unexpected_at(script, Stage::Named(false), &behind));
             }
-            next = behind.next(script, behind.at + 1);
+            next = behind.next(script, at);
         }
     }
 
@@ -111,7 +114,7 @@ impl<F: Fn(Global, &[u8], State) -> Result<(Script, State), Refusal>> Grammar<F>
     }
 
     /// The clauses at a token, and `esac`.
-    #[tactic(auto, using(crate::proofs::CaseLemmas::clauses_none, crate::proofs::CaseLemmas::clauses_all, crate::proofs::CaseLemmas::clauses_refused, crate::proofs::CaseLemmas::clauses_wrong, crate::proofs::CaseLemmas::clauses_last, crate::proofs::CaseLemmas::clauses_more, crate::proofs::WidthLemmas::clause_end_inside, crate::proofs::ReaderLemmas::refused_none))]
+    #[tactic(auto, using(crate::proofs::CaseLemmas::clauses_none, crate::proofs::CaseLemmas::clauses_all, crate::proofs::CaseLemmas::clauses_refused, crate::proofs::CaseLemmas::clauses_wrong, crate::proofs::CaseLemmas::clauses_stopped, crate::proofs::CaseLemmas::clauses_last, crate::proofs::CaseLemmas::clauses_more, crate::proofs::WidthLemmas::clause_end_inside, crate::proofs::ReaderLemmas::refused_none))]
     fn clauses(&self, script: &[u8], from: State) -> Result<(Items<Clause>, State), Refusal>
         requires small { length script.now ≤ MAX_SCRIPT }
         requires stands { Stands script.now from }
@@ -141,13 +144,14 @@ impl<F: Fn(Global, &[u8], State) -> Result<(Script, State), Refusal>> Grammar<F>
                 body,
                 end,
             })?;
-            next = breaks(script, behind.next(script, behind.at + 2));
+            let at = behind.at + 2;
+            next = breaks(script, behind.next(script, at))?;
         }
         Ok((clauses, skip(script, Reserved::Esac, next)))
     }
 
     /// `case`, a word, `in` and clauses.
-    #[tactic(auto, using(crate::proofs::CaseLemmas::case_word_refused, crate::proofs::CaseLemmas::case_none, crate::proofs::CaseLemmas::case_refused, crate::proofs::CaseLemmas::case_read, crate::proofs::ReaderLemmas::refused_none))]
+    #[tactic(auto, using(crate::proofs::CaseLemmas::case_word_refused, crate::proofs::CaseLemmas::case_stopped, crate::proofs::CaseLemmas::case_in_stopped, crate::proofs::CaseLemmas::case_none, crate::proofs::CaseLemmas::case_refused, crate::proofs::CaseLemmas::case_read, crate::proofs::ReaderLemmas::refused_none))]
     pub fn case_of(&self, script: &[u8], from: State) -> Result<(Kind, State), Refusal>
         requires small { length script.now ≤ MAX_SCRIPT }
         requires stands { Stands script.now from }
@@ -157,9 +161,12 @@ impl<F: Fn(Global, &[u8], State) -> Result<(Script, State), Refusal>> Grammar<F>
         requires nests { Nests self.now.left (F.pre self.now.nested) (F.post self.now.nested) }
         ensures { Answers script.now (CompoundFrom script.now (Lead.Reserved Reserved.Case) from) (from.at + 1) result }
     {
+        let depth = from.depth;
         let (word, behind) = self.unsplit(script, enter(script, Reserved::Case, from))?;
-        let first = expect_in(script, breaks(script, behind))?;
-        let (clauses, end) = self.clauses(script, breaks(script, first))?;
-        Ok((Kind::Branches { word, clauses }, end.as_deep(from)))
+        let wanted = breaks(script, behind)?;
+        let inside = expect_in(script, wanted)?;
+        let first = breaks(script, inside)?;
+        let (clauses, end) = self.clauses(script, first)?;
+        Ok((Kind::Branches { word, clauses }, end.at_depth(depth)))
     }
 }

@@ -43,10 +43,11 @@ impl<F: Fn(Global, &[u8], State) -> Result<(Script, State), Refusal>> Grammar<F>
         if from.count == MAX_COMMANDS {
             return Err(Refusal::TooMany);
         }
+        let (number, at) = (from.count + 1, from.at);
         let (elements, behind) = self.elements_at(script, from.counted())?;
         let command = Command {
-            number: from.count + 1,
-            at: from.at,
+            number,
+            at,
             kind: Kind::Simple(elements),
             redirects: Items::new(self.alloc),
         };
@@ -64,7 +65,7 @@ impl<F: Fn(Global, &[u8], State) -> Result<(Script, State), Refusal>> Grammar<F>
     {
         let lead = lead_at(script, Stage::First, from.at);
         if !begins_command(lead) {
-            return Err(unexpected_at(script, Stage::First, from.at));
+            return Err(unexpected_at(script, Stage::First, &from));
         }
         if begins_simple(lead) {
             return self.simple(script, from);
@@ -98,12 +99,13 @@ impl<F: Fn(Global, &[u8], State) -> Result<(Script, State), Refusal>> Grammar<F>
         if from.count == MAX_COMMANDS {
             return Err(Refusal::TooMany);
         }
+        let (number, at) = (from.count + 1, from.at);
         let (kind, behind) = self.compound(script, lead, from.counted())?;
         let (redirects, behind) = self.redirects_at(script, behind)?;
         let closed = is_bare(&redirects);
         let command = Command {
-            number: from.count + 1,
-            at: from.at,
+            number,
+            at,
             kind,
             redirects,
         };

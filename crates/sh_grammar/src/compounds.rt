@@ -35,20 +35,22 @@ fn inside(script: &[u8], from: State) -> State
     ensures further { from.at < result.at }
     ensures stands { Stands script.now result }
 {
-    from.next(script, from.at + 1).lower()
+    let at = from.at + 1;
+    from.next(script, at).lower()
 }
 
-/// Behind the token of one byte that closes what began at `opening`.
-fn outside(script: &[u8], opening: State, close: State) -> State
+/// Behind the token of one byte that closes what began where so many levels were open.
+fn outside(script: &[u8], depth: u8, close: State) -> State
     requires small { length script.now ≤ MAX_SCRIPT }
-    requires opens { Stands script.now opening }
+    requires shallow { depth ≤ MAX_NESTING }
     requires stands { Stands script.now close }
     requires some { close.at < length script.now }
-    ensures value { result ≡ outer script.now opening close }
+    ensures value { result ≡ outer script.now depth close }
     ensures further { close.at < result.at }
     ensures stands { Stands script.now result }
 {
-    close.next(script, close.at + 1).as_deep(opening)
+    let at = close.at + 1;
+    close.next(script, at).at_depth(depth)
 }
 
 impl<F: Fn(Global, &[u8], State) -> Result<(Script, State), Refusal>> Grammar<F> {
@@ -64,11 +66,12 @@ impl<F: Fn(Global, &[u8], State) -> Result<(Script, State), Refusal>> Grammar<F>
         requires nests { Nests self.now.left (F.pre self.now.nested) (F.post self.now.nested) }
         ensures { Answers script.now (BracketFrom script.now close from) (from.at + 1) result }
     {
+        let depth = from.depth;
         let (list, behind) = self.list(script, inside(script, from))?;
         if !is_same(lead_at(script, Stage::First, behind.at), close) {
-            return Err(unexpected(script, behind));
+            return Err(unexpected(script, &behind));
         }
-        Ok((list, outside(script, from, behind)))
+        Ok((list, outside(script, depth, behind)))
     }
 
     #[tactic(auto, using(crate::proofs::CompoundLemmas::group_refused, crate::proofs::CompoundLemmas::group_read))]

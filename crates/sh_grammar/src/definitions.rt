@@ -32,21 +32,23 @@ fn parentheses(script: &[u8], from: State) -> Result<State, Refusal>
         lead_at(script, stage, from.at),
         Lead::Operator(Operator::LeftParenthesis),
     ) {
-        return Err(unexpected_at(script, stage, from.at));
+        return Err(unexpected_at(script, stage, &from));
     }
-    let close = from.next(script, from.at + 1);
+    let at = from.at + 1;
+    let close = from.next(script, at);
     if !is_same(
         lead_at(script, stage, close.at),
         Lead::Operator(Operator::RightParenthesis),
     ) {
-        return Err(unexpected_at(script, stage, close.at));
+        return Err(unexpected_at(script, stage, &close));
     }
-    Ok(close.next(script, close.at + 1))
+    let behind = close.at + 1;
+    Ok(close.next(script, behind))
 }
 
 impl<F: Fn(Global, &[u8], State) -> Result<(Script, State), Refusal>> Grammar<F> {
     /// A definition: a name, two parentheses and a compound command.
-    #[tactic(auto, using(crate::proofs::CommandLemmas::command_crowded, crate::proofs::DefinitionLemmas::definition_bare, crate::proofs::DefinitionLemmas::definition_empty, crate::proofs::DefinitionLemmas::definition_refused, crate::proofs::DefinitionLemmas::definition_read, crate::proofs::ReaderLemmas::refused_none))]
+    #[tactic(auto, using(crate::proofs::CommandLemmas::command_crowded, crate::proofs::DefinitionLemmas::definition_bare, crate::proofs::DefinitionLemmas::definition_stopped, crate::proofs::DefinitionLemmas::definition_empty, crate::proofs::DefinitionLemmas::definition_refused, crate::proofs::DefinitionLemmas::definition_read, crate::proofs::ReaderLemmas::refused_none))]
     pub fn definition(&self, script: &[u8], from: State) -> Result<(Command, State), Refusal>
         requires small { length script.now ≤ MAX_SCRIPT }
         requires stands { Stands script.now from }
@@ -62,16 +64,17 @@ impl<F: Fn(Global, &[u8], State) -> Result<(Script, State), Refusal>> Grammar<F>
             start: from.at,
             end: name_at(script, from.at),
         };
+        let (number, at) = (from.count + 1, from.at);
         let behind = parentheses(script, from.counted().next(script, name.end))?;
-        let first = breaks(script, behind);
+        let first = breaks(script, behind)?;
         let lead = lead_at(script, Stage::First, first.at);
         if !begins_compound(lead) {
-            return Err(unexpected(script, first));
+            return Err(unexpected(script, &first));
         }
         let (body, end) = self.compound_command(script, lead, first)?;
         let command = Command {
-            number: from.count + 1,
-            at: from.at,
+            number,
+            at,
             kind: Kind::Define {
                 name,
                 body: Boxed::new(self.alloc, body)?,

@@ -78,8 +78,9 @@ impl<F: Fn(Global, &[u8], State) -> Result<(Script, State), Refusal>> Grammar<F>
                     elements.push(Element::Assignment { name, value })?;
                 }
                 Lead::Word => {
-                    let (word, behind) = self.word_at(script, mode_of(stage), next.at, next)?;
-                    stage = stage_behind(script, stage, next.at);
+                    let at = next.at;
+                    let (word, behind) = self.word_at(script, mode_of(stage), at, next)?;
+                    stage = stage_behind(script, stage, at);
                     next = behind;
                     elements.push(Element::Word(word))?;
                 }

@@ -44,7 +44,8 @@ impl<F: Fn(Global, &[u8], State) -> Result<(Script, State), Refusal>> Grammar<F>
         let mut words = Items::new(self.alloc);
         let mut next = from;
         while is_word(lead_at(script, Stage::Named(false), next.at)) {
-            let (word, behind) = self.word_at(script, Mode::Word, next.at, next)?;
+            let at = next.at;
+            let (word, behind) = self.word_at(script, Mode::Word, at, next)?;
             words.push(word)?;
             next = behind;
         }
@@ -52,7 +53,7 @@ impl<F: Fn(Global, &[u8], State) -> Result<(Script, State), Refusal>> Grammar<F>
     }
 
     /// The words behind `in`, and what separates them from `do`.
-    #[tactic(auto, using(crate::proofs::ForLemmas::listed_refused, crate::proofs::ForLemmas::listed_unended, crate::proofs::ForLemmas::listed_read, crate::proofs::ReaderLemmas::refused_none))]
+    #[tactic(auto, using(crate::proofs::ForLemmas::listed_refused, crate::proofs::ForLemmas::listed_unended, crate::proofs::ForLemmas::listed_stopped, crate::proofs::ForLemmas::listed_read, crate::proofs::ReaderLemmas::refused_none))]
     fn listed(&self, script: &[u8], from: State) -> Result<(Items<Word>, State), Refusal>
         requires small { length script.now ≤ MAX_SCRIPT }
         requires stands { Stands script.now from }
@@ -63,13 +64,14 @@ impl<F: Fn(Global, &[u8], State) -> Result<(Script, State), Refusal>> Grammar<F>
         let (words, behind) = self.words_at(script, from)?;
         let lead = lead_at(script, Stage::First, behind.at);
         if !ends_words(lead) {
-            return Err(unexpected_at(script, Stage::Named(false), behind.at));
+            return Err(unexpected_at(script, Stage::Named(false), &behind));
         }
-        Ok((words, breaks(script, parted(script, lead, behind))))
+        let end = breaks(script, parted(script, lead, behind))?;
+        Ok((words, end))
     }
 
     /// What stands between the name and `do`.
-    #[tactic(auto, using(crate::proofs::ForLemmas::arguments_ended, crate::proofs::ForLemmas::arguments_read, crate::proofs::ForLemmas::for_words_none, crate::proofs::ForLemmas::for_words_refused, crate::proofs::ForLemmas::for_words_read, crate::proofs::ReaderLemmas::refused_none))]
+    #[tactic(auto, using(crate::proofs::ForLemmas::arguments_ended, crate::proofs::ForLemmas::arguments_stopped, crate::proofs::ForLemmas::for_words_stopped, crate::proofs::ForLemmas::arguments_read, crate::proofs::ForLemmas::for_words_none, crate::proofs::ForLemmas::for_words_refused, crate::proofs::ForLemmas::for_words_read, crate::proofs::ReaderLemmas::refused_none))]
     fn for_words(&self, script: &[u8], from: State) -> Result<(Option<Items<Word>>, State), Refusal>
         requires small { length script.now ≤ MAX_SCRIPT }
         requires stands { Stands script.now from }
@@ -79,15 +81,17 @@ impl<F: Fn(Global, &[u8], State) -> Result<(Script, State), Refusal>> Grammar<F>
     {
         let first = lead_at(script, Stage::First, from.at);
         if is_same(first, Lead::Operator(Operator::Semicolon)) {
-            return Ok((None, breaks(script, from.next(script, from.at + 1))));
+            let at = from.at + 1;
+            let end = breaks(script, from.next(script, at))?;
+            return Ok((None, end));
         }
-        let next = breaks(script, from);
+        let next = breaks(script, from)?;
         let lead = lead_at(script, Stage::First, next.at);
         if is_same(lead, Lead::Reserved(Reserved::Do)) {
             return Ok((None, next));
         }
         if !is_same(lead, Lead::Reserved(Reserved::In)) {
-            return Err(unexpected_at(script, Stage::Named(false), next.at));
+            return Err(unexpected_at(script, Stage::Named(false), &next));
         }
         let (words, behind) = self.listed(script, skip(script, Reserved::In, next))?;
         Ok((Some(words), behind))
@@ -104,9 +108,10 @@ impl<F: Fn(Global, &[u8], State) -> Result<(Script, State), Refusal>> Grammar<F>
         requires nests { Nests self.now.left (F.pre self.now.nested) (F.post self.now.nested) }
         ensures { Answers script.now (CompoundFrom script.now (Lead.Reserved Reserved.For) from) (from.at + 1) result }
     {
+        let depth = from.depth;
         let first = enter(script, Reserved::For, from);
         if !is_bare_name_at(script, first.at) {
-            return Err(unexpected_at(script, Stage::Named(false), first.at));
+            return Err(unexpected_at(script, Stage::Named(false), &first));
         }
         let name = Span {
             start: first.at,
@@ -114,6 +119,6 @@ impl<F: Fn(Global, &[u8], State) -> Result<(Script, State), Refusal>> Grammar<F>
         };
         let (words, behind) = self.for_words(script, first.next(script, name.end))?;
         let (body, end) = self.do_group(script, behind)?;
-        Ok((Kind::For { name, words, body }, end.as_deep(from)))
+        Ok((Kind::For { name, words, body }, end.at_depth(depth)))
     }
 }

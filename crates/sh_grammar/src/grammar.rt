@@ -44,7 +44,7 @@ impl<F: Fn(Global, &[u8], State) -> Result<(Script, State), Refusal>> Grammar<F>
     {
         let (list, behind) = self.inner(script, from)?;
         if list.items.is_empty() {
-            return Err(unexpected(script, behind));
+            return Err(unexpected(script, &behind));
         }
         Ok((list, behind))
     }

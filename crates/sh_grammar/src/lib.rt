@@ -13,6 +13,7 @@ mod fors;
 mod grammar;
 mod lists;
 mod loops;
+mod mark;
 mod redirects;
 mod reserved;
 mod script;

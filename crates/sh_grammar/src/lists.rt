@@ -39,15 +39,15 @@ fn is_reserved(lead: Lead) -> bool
 }
 
 /// Whether an item ends before a token that separates nothing: a reserved word has to be one that may close something.
-fn closes(lead: Lead, behind: State) -> bool
-    ensures { result ≡ (not (tokens.is_reserved lead) || behind.closed) }
+fn closes(lead: Lead, closed: bool) -> bool
+    ensures { result ≡ (not (tokens.is_reserved lead) || closed) }
 {
-    !is_reserved(lead) || behind.closed
+    !is_reserved(lead) || closed
 }
 
 impl<F: Fn(Global, &[u8], State) -> Result<(Script, State), Refusal>> Grammar<F> {
     /// Commands with bars between them.
-    #[tactic(auto, using(crate::proofs::ListLemmas::commands_none, crate::proofs::ListLemmas::commands_refused, crate::proofs::ListLemmas::commands_last, crate::proofs::ListLemmas::commands_more))]
+    #[tactic(auto, using(crate::proofs::ListLemmas::commands_none, crate::proofs::ListLemmas::commands_refused, crate::proofs::ListLemmas::commands_last, crate::proofs::ListLemmas::commands_stopped, crate::proofs::ListLemmas::commands_more))]
     fn commands(&self, script: &[u8], from: State) -> Result<(Items<Command>, State), Refusal>
         requires small { length script.now ≤ MAX_SCRIPT }
         requires stands { Stands script.now from }
@@ -63,7 +63,8 @@ impl<F: Fn(Global, &[u8], State) -> Result<(Script, State), Refusal>> Grammar<F>
             if !is_bar(lead_at(script, Stage::First, behind.at)) {
                 return Ok((parts, behind));
             }
-            next = breaks(script, behind.next(script, behind.at + 1));
+            let at = behind.at + 1;
+            next = breaks(script, behind.next(script, at))?;
         }
     }
 
@@ -76,7 +77,8 @@ impl<F: Fn(Global, &[u8], State) -> Result<(Script, State), Refusal>> Grammar<F>
         ensures { Answers script.now (PipelineFrom script.now from) (from.at + 1) result }
     {
         if is_bang(lead_at(script, Stage::First, from.at)) {
-            let (parts, behind) = self.commands(script, from.next(script, from.at + 1))?;
+            let at = from.at + 1;
+            let (parts, behind) = self.commands(script, from.next(script, at))?;
             let negated = true;
             return Ok((Pipe { negated, parts }, behind));
         }
@@ -86,7 +88,7 @@ impl<F: Fn(Global, &[u8], State) -> Result<(Script, State), Refusal>> Grammar<F>
     }
 
     /// The pipelines behind the first one of an and-or list.
-    #[tactic(auto, using(crate::proofs::ListLemmas::links_none, crate::proofs::ListLemmas::links_refused, crate::proofs::ListLemmas::links_more, crate::proofs::ListLemmas::links_all, crate::proofs::WidthLemmas::link_inside))]
+    #[tactic(auto, using(crate::proofs::ListLemmas::links_none, crate::proofs::ListLemmas::links_refused, crate::proofs::ListLemmas::links_stopped, crate::proofs::ListLemmas::links_more, crate::proofs::ListLemmas::links_all, crate::proofs::WidthLemmas::link_inside))]
     fn links(&self, script: &[u8], from: State) -> Result<(Items<(Link, Pipe)>, State), Refusal>
         requires small { length script.now ≤ MAX_SCRIPT }
         requires stands { Stands script.now from }
@@ -97,7 +99,8 @@ impl<F: Fn(Global, &[u8], State) -> Result<(Script, State), Refusal>> Grammar<F>
         let mut rest = Items::new(self.alloc);
         let mut next = from;
         while let Some(link) = link_of(lead_at(script, Stage::First, next.at)) {
-            let first = breaks(script, next.next(script, next.at + 2));
+            let at = next.at + 2;
+            let first = breaks(script, next.next(script, at))?;
             let (pipe, behind) = self.pipeline(script, first)?;
             rest.push((link, pipe))?;
             next = behind;
@@ -119,7 +122,7 @@ impl<F: Fn(Global, &[u8], State) -> Result<(Script, State), Refusal>> Grammar<F>
     }
 
     /// The items from a token on that is no newline. There are none where no pipeline begins.
-    #[tactic(auto, using(crate::proofs::ListLemmas::items_none, crate::proofs::ListLemmas::items_all, crate::proofs::ListLemmas::items_refused, crate::proofs::ListLemmas::items_last, crate::proofs::ListLemmas::items_wrong, crate::proofs::ListLemmas::items_more, crate::proofs::ReaderLemmas::refused_none))]
+    #[tactic(auto, using(crate::proofs::ListLemmas::items_none, crate::proofs::ListLemmas::items_all, crate::proofs::ListLemmas::items_refused, crate::proofs::ListLemmas::items_stopped, crate::proofs::ListLemmas::items_last, crate::proofs::ListLemmas::items_wrong, crate::proofs::ListLemmas::items_more, crate::proofs::ReaderLemmas::refused_none))]
     fn items(&self, script: &[u8], from: State) -> Result<(Items<Item>, State), Refusal>
         requires small { length script.now ≤ MAX_SCRIPT }
         requires stands { Stands script.now from }
@@ -133,21 +136,21 @@ impl<F: Fn(Global, &[u8], State) -> Result<(Script, State), Refusal>> Grammar<F>
             let (list, behind) = self.and_or(script, next)?;
             let lead = lead_at(script, Stage::First, behind.at);
             let Some(background) = separator(lead) else {
-                if !closes(lead, behind) {
-                    return Err(unexpected(script, behind));
+                if !closes(lead, behind.closed) {
+                    return Err(unexpected(script, &behind));
                 }
                 let background = false;
                 items.push(Item { list, background })?;
                 return Ok((items, behind));
             };
             items.push(Item { list, background })?;
-            next = breaks(script, parted(script, lead, behind));
+            next = breaks(script, parted(script, lead, behind))?;
         }
         Ok((items, next))
     }
 
     /// A list, or newlines alone.
-    #[tactic(auto, using(crate::proofs::ListLemmas::sequence_refused, crate::proofs::ListLemmas::sequence_read))]
+    #[tactic(auto, using(crate::proofs::ListLemmas::sequence_stopped, crate::proofs::ListLemmas::sequence_refused, crate::proofs::ListLemmas::sequence_read))]
     pub fn sequence(&self, script: &[u8], from: State) -> Result<(Script, State), Refusal>
         requires small { length script.now ≤ MAX_SCRIPT }
         requires stands { Stands script.now from }
@@ -155,7 +158,7 @@ impl<F: Fn(Global, &[u8], State) -> Result<(Script, State), Refusal>> Grammar<F>
         requires nests { Nests self.now.left (F.pre self.now.nested) (F.post self.now.nested) }
         ensures { Answers script.now (SequenceFrom script.now from) from.at result }
     {
-        let first = breaks(script, from);
+        let first = breaks(script, from)?;
         let (items, behind) = self.items(script, first)?;
         Ok((Script { items }, behind))
     }

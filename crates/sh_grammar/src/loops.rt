@@ -56,6 +56,7 @@ impl<F: Fn(Global, &[u8], State) -> Result<(Script, State), Refusal>> Grammar<F>
         requires nests { Nests self.now.left (F.pre self.now.nested) (F.post self.now.nested) }
         ensures { Answers script.now (CompoundFrom script.now (Lead.Reserved (loop_word kind)) from) (from.at + 1) result }
     {
+        let depth = from.depth;
         let (condition, behind) = self.list(script, enter(script, word_of(kind), from))?;
         let (body, end) = self.do_group(script, behind)?;
         let found = Kind::Loop {
@@ -63,6 +64,6 @@ impl<F: Fn(Global, &[u8], State) -> Result<(Script, State), Refusal>> Grammar<F>
             condition,
             body,
         };
-        Ok((found, end.as_deep(from)))
+        Ok((found, end.at_depth(depth)))
     }
 }

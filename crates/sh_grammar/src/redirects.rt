@@ -46,9 +46,10 @@ impl<F: Fn(Global, &[u8], State) -> Result<(Script, State), Refusal>> Grammar<F>
         let target = from.next(script, front.end);
         let stage = Stage::Named(false);
         if !is_word(lead_at(script, stage, target.at)) {
-            return Err(unexpected_at(script, stage, target.at));
+            return Err(unexpected_at(script, stage, &target));
         }
-        let (word, behind) = self.word_at(script, Mode::Unsplit, target.at, from)?;
+        let at = target.at;
+        let (word, behind) = self.word_at(script, Mode::Unsplit, at, target)?;
         let redirect = Redirect {
             at: front.at,
             number: front.number,
@@ -67,7 +68,7 @@ impl<F: Fn(Global, &[u8], State) -> Result<(Script, State), Refusal>> Grammar<F>
         ensures { Answers script.now (RedirectFrom script.now from) (from.at + 1) result }
     {
         let Some(front) = redirection_at(script, from.at) else {
-            return Err(unexpected_at(script, Stage::Named(false), from.at));
+            return Err(unexpected_at(script, Stage::Named(false), &from));
         };
         match direction_of(front.operator) {
             Some(direction) => self.file(script, front, direction, from),

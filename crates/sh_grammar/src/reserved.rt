@@ -48,7 +48,8 @@ pub fn skip(script: &[u8], reserved: Reserved, from: State) -> State
     ensures further { from.at < result.at }
     ensures stands { Stands script.now result }
 {
-    from.next(script, from.at + width(reserved))
+    let at = from.at + width(reserved);
+    from.next(script, at)
 }
 
 /// One level inside, behind the reserved word that stands here.
@@ -74,7 +75,7 @@ pub fn expect(script: &[u8], reserved: Reserved, from: State) -> Result<State, R
     if is_same(lead, Lead::Reserved(reserved)) {
         return Ok(skip(script, reserved, from));
     }
-    Err(unexpected(script, from))
+    Err(unexpected(script, &from))
 }
 
 impl<F: Fn(Global, &[u8], State) -> Result<(Script, State), Refusal>> Grammar<F> {

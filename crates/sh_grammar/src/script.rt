@@ -10,8 +10,9 @@ use super::grammar::Grammar;
 use super::state::State;
 use memchr::memchr;
 use sh_scan::blanks_at;
+use sh_tree::Items;
 use sh_tree::limits::MAX_SCRIPT;
-use sh_tree::refusal::Refusal;
+use sh_tree::refusal::{Fault, Refusal};
 use sh_tree::tree::Script;
 use std::alloc::Global;
 
@@ -31,7 +32,7 @@ fn sequence_at(alloc: Global, script: &[u8], from: State) -> Result<(Script, Sta
 
 /// At the first token of a text.
 #[tactic(auto, using(crate::proofs::ScriptLemmas::first_stands))]
-fn first_state(script: &[u8]) -> State
+fn first_state(alloc: Global, script: &[u8]) -> State
     requires small { length script.now ≤ MAX_SCRIPT }
     ensures value { result ≡ first_of script.now }
     ensures stands { Stands script.now (first_of script.now) }
@@ -42,19 +43,24 @@ fn first_state(script: &[u8]) -> State
         depth: 0,
         closed: false,
         fresh: true,
+        outer: None,
+        pending: Items::new(alloc),
     }
 }
 
 /// The script that a text is which is no longer than it may be and has no NUL byte.
-#[tactic(auto, using(crate::proofs::ScriptLemmas::text_read, crate::proofs::ScriptLemmas::text_unended, crate::proofs::ScriptLemmas::text_refused, crate::proofs::ScriptLemmas::none_behind, crate::proofs::ScriptLemmas::told_behind, crate::proofs::ScriptLemmas::refused_behind_none))]
+#[tactic(auto, using(crate::proofs::ScriptLemmas::text_read, crate::proofs::ScriptLemmas::text_unended, crate::proofs::ScriptLemmas::text_waits, crate::proofs::ScriptLemmas::text_refused, crate::proofs::ScriptLemmas::none_behind, crate::proofs::ScriptLemmas::told_behind, crate::proofs::ScriptLemmas::refused_behind_none))]
 fn read(alloc: Global, script: &[u8]) -> Result<Script, Refusal>
     requires { IsText script.now }
     ensures reads { Parses script.now result }
     ensures behind { TellsMisplaced script.now result }
 {
-    let (found, end) = sequence_at(alloc, script, first_state(script))?;
+    let (found, end) = sequence_at(alloc, script, first_state(alloc, script))?;
     if (end.at as usize) < script.len() {
-        return Err(unexpected(script, end));
+        return Err(unexpected(script, &end));
+    }
+    if let Some(at) = end.first_pending() {
+        return Err(Refusal::Syntax(Fault::OpenHereDoc, at));
     }
     Ok(found)
 }

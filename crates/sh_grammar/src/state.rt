@@ -1,13 +1,17 @@
 //! Where a reader of commands stands (XCU 2.10).
-ghost use Rattle.std.specs.Prelude.{◌≡◌, ◌≤◌, ◌<◌, ◌+◌, length, false};
-ghost use Rattle.sh_grammar.specs.States.{Stands, moved, substituted};
+ghost use Rattle.std.specs.Prelude.{◌≡◌, ◌≤◌, ◌<◌, ◌+◌, length, false, None};
+ghost use Rattle.std.specs.Option.{option_copied};
+ghost use Rattle.sh_grammar.specs.States.{Stands, moved, substituted, waiting};
 ghost use Rattle.sh_tree.specs.language.Commands as commands;
 
+use super::mark::Mark;
 use sh_scan::blanks_at;
+use sh_tree::Items;
 use sh_tree::limits::{MAX_COMMANDS, MAX_NESTING, MAX_SCRIPT};
+use std::alloc::Global;
 
 /// A token's first byte, and what came before it.
-#[derive(Clone, Copy, Debug, PartialEq, Eq)]
+#[derive(Debug, Drop)]
 pub struct State {
     pub at: u32,
     /// How many commands began before.
@@ -18,6 +22,10 @@ pub struct State {
     pub closed: bool,
     /// Whether what stands before lets a command begin here.
     pub fresh: bool,
+    /// The operator of the first here-document outside that waits for its body, so that no newline may come.
+    pub outer: Option<u32>,
+    /// The here-documents of this level that wait for their bodies.
+    pub pending: Items<Mark>,
 }
 
 impl State {
@@ -49,31 +57,54 @@ impl State {
         }
     }
 
-    /// At the first token of commands that begin at or behind `at`, where so many levels are open and what came before is as here.
-    pub fn within(self, script: &[u8], at: u32, depth: u8) -> State
-        requires small { length script.now ≤ MAX_SCRIPT }
-        requires inside { at ≤ length script.now }
-        requires stands { Stands script.now self }
-        requires shallow { depth ≤ MAX_NESTING }
-        ensures value { result ≡ substituted script.now at depth self }
-        ensures after { at ≤ result.at }
-        ensures stands { Stands script.now result }
+    /// The operator of the first here-document of this level that waits.
+    pub fn first_pending(&self) -> Option<u32>
+        ensures { result ≡ waiting None self.now.pending }
     {
-        State {
-            depth,
-            closed: false,
-            ..self.next(script, at)
+        match self.pending.as_slice() {
+            [] => None,
+            [mark, ..] => Some(mark.at),
         }
     }
 
-    /// Behind as many commands as another.
-    pub fn counting(self, other: State) -> State
-        ensures { result ≡ record self { count = other.count } }
+    /// The operator of the first here-document that waits, those outside first.
+    pub fn first_waiting(&self) -> Option<u32>
+        ensures { result ≡ waiting self.now.outer self.now.pending }
     {
-        State {
-            count: other.count,
-            ..self
+        match self.outer {
+            Some(at) => Some(at),
+            None => self.first_pending(),
         }
+    }
+
+    /// At the first token of commands that begin at or behind `at`, where so many levels are open and what came before is as here.
+    #[tactic(auto, using(crate::proofs::SubstitutionLemmas::substituted_stands))]
+    pub fn within(&self, alloc: Global, script: &[u8], at: u32, depth: u8) -> State
+        requires small { length script.now ≤ MAX_SCRIPT }
+        requires inside { at ≤ length script.now }
+        requires stands { Stands script.now self.now }
+        requires shallow { depth ≤ MAX_NESTING }
+        ensures value { result ≡ substituted script.now at depth self.now }
+        ensures after { at ≤ result.at }
+        ensures stands { Stands script.now result }
+    {
+        let first = blanks_at(script, at, false);
+        State {
+            at: first,
+            count: self.count,
+            depth,
+            closed: false,
+            fresh: true,
+            outer: self.first_waiting(),
+            pending: Items::new(alloc),
+        }
+    }
+
+    /// Behind so many commands.
+    pub fn counting(self, count: u32) -> State
+        ensures { result ≡ record self { count = count } }
+    {
+        State { count, ..self }
     }
 
     /// One level deeper.
@@ -87,14 +118,11 @@ impl State {
         }
     }
 
-    /// As deep as another.
-    pub fn as_deep(self, other: State) -> State
-        ensures { result ≡ record self { depth = other.depth } }
+    /// Where so many levels are open.
+    pub fn at_depth(self, depth: u8) -> State
+        ensures { result ≡ record self { depth = depth } }
     {
-        State {
-            depth: other.depth,
-            ..self
-        }
+        State { depth, ..self }
     }
 
     /// Behind a command.

@@ -67,10 +67,10 @@ impl<F: Fn(Global, &[u8], State) -> Result<(Script, State), Refusal>> Grammar<F>
             match builder.run(script)? {
                 Next::Done(word) => return Ok((word, last)),
                 Next::Inner { at, depth } => {
-                    let first = last.within(script, at, depth);
+                    let first = last.within(self.alloc, script, at, depth);
                     let (commands, end) = self.substitution(script, at.saturating_sub(2), first)?;
                     builder.resume(commands, end.at + 1)?;
-                    last = last.counting(end);
+                    last = last.counting(end.count);
                 }
             }
         }

@@ -8,9 +8,9 @@ use Rattle.clap.specs.Values.{IsSignedIn}
 use Rattle.clap.specs.Words.{IsAmong, Row, Text, all_of, fault_of, first_of, one_of, subcommand_of}
 use Rattle.clap.specs.declared.error.kind.ErrorKind.{ErrorKind}
 use Rattle.clap.specs.declared.error.kind.ErrorKind.TheVariants.{DisplayHelp, OutOfMemory}
-use Rattle.sh_flow.specs.Policy.{first_bad}
-use Rattle.sh_flow.specs.declared.policy.PolicyFault.{PolicyFault}
-use Rattle.sh_flow.specs.declared.policy.PolicyFault.TheVariants as fault
+use Rattle.sh_facts.specs.Policy.{first_bad}
+use Rattle.sh_facts.specs.declared.policy.PolicyFault.{PolicyFault}
+use Rattle.sh_facts.specs.declared.policy.PolicyFault.TheVariants as fault
 use Rattle.sh_line.specs.App.{shset_app}
 use Rattle.sh_line.specs.declared.line.Line.{Line}
 use Rattle.sh_line.specs.declared.line.Source.{Source}

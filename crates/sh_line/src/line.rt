@@ -7,7 +7,7 @@ ghost use Rattle.sh_line.specs.Line.{IsLineOf, IsSourceOf, IsWhole, StopsAs, Sto
 
 use clap::error::ErrorKind;
 use clap::{Arg, ArgAction, ArgMatches, Command, Error};
-use sh_flow::policy::{Policy, PolicyFault};
+use sh_facts::policy::{Policy, PolicyFault};
 use sh_report::task::{Action, Task};
 use std::alloc::{AllocError, Global};
 use std::convert::AsStr;

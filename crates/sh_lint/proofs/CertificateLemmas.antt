@@ -18,7 +18,7 @@ use Rattle.sh_tree.specs.Words.{lone_command, lone_commands, elements_of, form_o
 use Rattle.sh_tree.specs.program.Syntax.{Text}
 use Rattle.sh_table.specs.runs.Environment.{is_one_of}
 use Rattle.sh_table.specs.runs.Worlds.{start_names}
-use Rattle.sh_flow.specs.Policy.{Declared}
+use Rattle.sh_facts.specs.Facts.{Declared}
 use Rattle.sh_flow.specs.Names.{number_of, subjects, form_names, names_in, script_names}
 use Rattle.sh_rows.specs.Numbers.{has_number}
 use Rattle.sh_flow.specs.Facts.{Facts, Known, Claim, Claimed, facts, within, meet, with_vars, Out, both, enter, out_at, Claims}
@@ -27,8 +27,8 @@ use Rattle.sh_flow.specs.Rules.{fault_unless, is_set_at_start, start_facts, assi
 use Rattle.sh_flow.specs.Demands.{place_unless, knows, covers, uncovered, form_unmet, element_unmet, command_unmet, script_unmet}
 use Rattle.sh_flow.specs.declared.certificate.Facts as shown
 use Rattle.sh_flow.specs.declared.certificate.Entry.{Entry}
-use Rattle.sh_flow.specs.declared.rule.FlowRule.{FlowRule}
-use Rattle.sh_flow.specs.declared.rule.FlowRule.TheVariants.{F1, F2}
+use Rattle.sh_facts.specs.declared.rule.FlowRule.{FlowRule}
+use Rattle.sh_facts.specs.declared.rule.FlowRule.TheVariants.{F1, F2}
 use Rattle.sh_lint.specs.Findings.{gains, command_gains, unsure, form_unset, element_unset, command_unset, unset_from, unset_places}
 use Rattle.sh_lint.specs.Certifies.{numbers_of, HoldsNames, Says, Round, Follows, Found}
 use Rattle.sh_lint.specs.declared.find.Finder.{Finder}

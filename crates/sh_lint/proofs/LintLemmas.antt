@@ -13,7 +13,7 @@ use Rattle.sh_tree.specs.declared.limits.TheConstants.{MAX_NESTING}
 use Rattle.sh_tree.specs.language.Reading.{Reads}
 use Rattle.sh_tree.specs.Words.{lone_command}
 use Rattle.sh_tree.specs.Answers.{Parses}
-use Rattle.sh_flow.specs.Policy.{Declared}
+use Rattle.sh_facts.specs.Facts.{Declared}
 use Rattle.sh_flow.specs.Names.{Numbers}
 use Rattle.sh_flow.specs.Profile.{is_item_admitted, Admitted}
 use Rattle.sh_report.specs.declared.verdict.Finding.{Finding}

@@ -9,7 +9,7 @@ use Rattle.std.proofs.lemmas.List.Folds.{list_any-append, list_all-append}
 use Rattle.sh_tree.specs.declared.tree.Script.{Script}
 use Rattle.sh_tree.specs.program.Syntax.{Text}
 use Rattle.sh_table.specs.runs.Environment.{is_one_of}
-use Rattle.sh_flow.specs.Policy.{Declared}
+use Rattle.sh_facts.specs.Facts.{Declared}
 use Rattle.sh_flow.specs.Names.{number_of, with_text, first_names, script_names, numbering}
 use Rattle.sh_rows.specs.Numbers.{has_number}
 use Rattle.sh_tree.proofs.ListLemmas.{text_same, all_weaker}

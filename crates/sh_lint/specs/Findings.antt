@@ -18,7 +18,7 @@ use Rattle.sh_tree.specs.Words.{lone_command, lone_commands, elements_of, Form, 
 use Rattle.sh_tree.specs.program.Syntax.{Text}
 use Rattle.sh_table.specs.runs.Environment.{is_one_of}
 use Rattle.sh_table.specs.runs.Worlds.{start_names}
-use Rattle.sh_flow.specs.Policy.{Declared}
+use Rattle.sh_facts.specs.Facts.{Declared}
 use Rattle.sh_flow.specs.Profile.{is_item_admitted}
 use Rattle.sh_flow.specs.Demands.{place_unless}
 

@@ -12,7 +12,7 @@ use Rattle.sh_tree.specs.declared.refusal.Refusal.TheVariants.{TooLong, NulByte,
 use Rattle.sh_tree.specs.language.Reading.{Reads, ReadsWithin}
 use Rattle.sh_tree.specs.Answers.{IsText, Parses}
 use Rattle.sh_scan.specs.Places.{place_of}
-use Rattle.sh_flow.specs.Policy.{Declared}
+use Rattle.sh_facts.specs.Facts.{Declared}
 use Rattle.sh_flow.specs.Names.{numbering}
 use Rattle.sh_flow.specs.Profile.{Admitted}
 use Rattle.sh_flow.specs.Theorem.{NoUnsetEvent, NoSplitEvent}

@@ -17,7 +17,7 @@ ghost use Rattle.sh_lint.specs.Certifies.{Gains, HoldsNames, numbers_of, Begins,
 
 use sh_flow::certificate::{Certificate, Entry, Facts, RowId};
 use sh_flow::names::Names;
-use sh_flow::policy::Policy;
+use sh_facts::policy::Policy;
 use sh_flow::row::Row;
 use sh_tree::tree::{Command, Element, Item, Script};
 use sh_tree::words::command_name;

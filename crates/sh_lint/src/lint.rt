@@ -13,7 +13,7 @@ use crate::quotes::unquoted_places;
 use sh_flow::flow::{Flow, check_flow};
 use sh_flow::laws::{no_split, no_unset};
 use sh_flow::names::Names;
-use sh_flow::policy::Policy;
+use sh_facts::policy::Policy;
 use sh_grammar::parse;
 use sh_report::verdict::{Finding, Report, Verdict, in_order};
 use sh_scan::Lines;

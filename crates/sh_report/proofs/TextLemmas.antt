@@ -3,7 +3,7 @@ use Rattle.std.proofs.Common.{◌≡◌, ℕ, List, [], ◌∷◌, ◌++◌, len
 use Rattle.std.specs.List.{flat_map}
 use Rattle.std.proofs.lemmas.List.{length-map}
 use Rattle.std.proofs.lemmas.List.Folds.{flat_map-map}
-use Rattle.sh_flow.specs.declared.rule.FlowRule.{FlowRule}
+use Rattle.sh_facts.specs.declared.rule.FlowRule.{FlowRule}
 use Rattle.sh_report.specs.declared.verdict.Finding.{Finding}
 use Rattle.sh_report.specs.Verdicts.{contents_of}
 use Rattle.sh_report.specs.Texts.{finding_text, report_text, last_line, rule_name_text, command_text, forged_text}

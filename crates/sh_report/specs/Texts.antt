@@ -9,8 +9,8 @@ use Rattle.sh_tree.specs.declared.refusal.Refusal.{Refusal}
 use Rattle.sh_tree.specs.declared.refusal.Refusal.TheVariants.{TooLong, NulByte, Syntax, LeftOut, TooDeep, TooMany, Memory, Profile, CertSyntax, CertShape}
 use Rattle.sh_tree.specs.Texts as tree_text
 use Rattle.sh_scan.specs.Places.{place_of}
-use Rattle.sh_flow.specs.declared.rule.FlowRule.{FlowRule}
-use Rattle.sh_flow.specs.declared.rule.FlowRule.TheVariants.{F1, F2, F4, F5}
+use Rattle.sh_facts.specs.declared.rule.FlowRule.{FlowRule}
+use Rattle.sh_facts.specs.declared.rule.FlowRule.TheVariants.{F1, F2, F3, F4, F5, F6, F7, F8, F9, F10, F11, F12, F13, F14, F15}
 use Rattle.sh_report.specs.declared.verdict.Verdict.{Verdict}
 use Rattle.sh_report.specs.declared.verdict.Verdict.TheVariants.{Pass, Fail, Forged}
 use Rattle.sh_report.specs.Verdicts.{Contents, contents_of}
@@ -55,8 +55,19 @@ report_text fs = flat_map finding_text fs ++ last_line (length fs)
 abbrev pub rule_name_text : FlowRule → List ℕ
 rule_name_text F1 = codes "F1"
 rule_name_text F2 = codes "F2"
+rule_name_text F3 = codes "F3"
 rule_name_text F4 = codes "F4"
 rule_name_text F5 = codes "F5"
+rule_name_text F6 = codes "F6"
+rule_name_text F7 = codes "F7"
+rule_name_text F8 = codes "F8"
+rule_name_text F9 = codes "F9"
+rule_name_text F10 = codes "F10"
+rule_name_text F11 = codes "F11"
+rule_name_text F12 = codes "F12"
+rule_name_text F13 = codes "F13"
+rule_name_text F14 = codes "F14"
+rule_name_text F15 = codes "F15"
 
 abbrev pub command_text : ℕ → List ℕ
 command_text command = codes "forged: command " ++ decimal command ++ codes " breaks "

@@ -1,5 +1,5 @@
 //! What the program is asked to do.
-use sh_flow::policy::Policy;
+use sh_facts::policy::Policy;
 
 /// What is done with a script.
 #[derive(Clone, Copy, Debug, PartialEq, Eq)]

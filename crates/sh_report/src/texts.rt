@@ -7,7 +7,7 @@ ghost use Rattle.sh_report.specs.Verdicts.{contents_of};
 ghost use Rattle.sh_report.specs.Texts as text;
 
 use crate::verdict::{Finding, Verdict};
-use sh_flow::rule::FlowRule;
+use sh_facts::rule::FlowRule;
 use sh_scan::Lines;
 use sh_tree::place::Code;
 use sh_tree::refusal::{Refusal, Rule};
@@ -160,8 +160,19 @@ fn rule_name(rule: FlowRule) -> &'static str
     match rule {
         FlowRule::F1 => "F1",
         FlowRule::F2 => "F2",
+        FlowRule::F3 => "F3",
         FlowRule::F4 => "F4",
         FlowRule::F5 => "F5",
+        FlowRule::F6 => "F6",
+        FlowRule::F7 => "F7",
+        FlowRule::F8 => "F8",
+        FlowRule::F9 => "F9",
+        FlowRule::F10 => "F10",
+        FlowRule::F11 => "F11",
+        FlowRule::F12 => "F12",
+        FlowRule::F13 => "F13",
+        FlowRule::F14 => "F14",
+        FlowRule::F15 => "F15",
     }
 }
 

@@ -3,7 +3,7 @@ ghost use Rattle.std.specs.Prelude.{IfOk};
 ghost use Rattle.std.specs.List.Sorted.{IsPermutation, IsSortedByKey};
 ghost use Rattle.sh_report.specs.Verdicts.{contents_of, contents_cmp};
 
-use sh_flow::rule::FlowRule;
+use sh_facts::rule::FlowRule;
 use sh_tree::place::Code;
 use std::alloc::AllocError;
 

@@ -1,14 +1,15 @@
 -- Words in blocks, and bits in words.
-use Rattle.std.proofs.Common.{◌≡◌, ◌≢◌, ℕ, zero, suc, ◌+◌, ◌-◌, ◌*◌, ◌/◌, ◌%◌, ◌^◌, ◌<◌, ◌≤◌, Bool, true, false, not, ◌&&◌, ◌||◌, List, [], ◌∷◌, length, get_or, take, drop, set, map, replicate, eqb, eq-eqb, eqb-true, refl, sym, ap, ap₂, ◌∙◌, subst, arith, bit_and, bit_or, min, ⊎_elim, get_or-set_same, get_or-set_other}
+use Rattle.std.proofs.Common.{◌≡◌, ◌≢◌, ℕ, zero, suc, ◌+◌, ◌-◌, ◌*◌, ◌/◌, ◌%◌, ◌^◌, ◌<◌, ◌≤◌, Bool, true, false, not, ◌&&◌, ◌||◌, List, [], ◌∷◌, length, get_or, take, drop, set, map, replicate, eqb, eq-eqb, eqb-true, refl, sym, ap, ap₂, ◌∙◌, subst, arith, bit_and, bit_or, min, max, ⊎_elim, get_or-set_same, get_or-set_other}
 use Rattle.std.specs.Prelude.{◌↔◌}
 use Rattle.std.proofs.lemmas.Bool.{cases_lt, cases_eq, ne_eqb}
 use Rattle.std.proofs.lemmas.List.{get_or-take, get_or-drop, get_or_past, get_or-map, length-map, length-set, length-take-le}
 use Rattle.std.proofs.lemmas.Nat.{and_le_l, and_comm, and-not, le_or_l, le_or_r}
-use Rattle.std.proofs.lemmas.Nat.Bits.{bit_at-zero, shr_and_one, bit_at_and, bit_at_not, bit_at_set_same, bit_at_set_other, bit_at_clear_same, bit_at_clear_other, same_from_bits_below, bit_at-lt}
+use Rattle.std.proofs.lemmas.Nat.Bits.{bit_at-zero, shr_and_one, bit_at_and, bit_at_or, bit_at_not, bit_at_set_same, bit_at_set_other, bit_at_clear_same, bit_at_clear_other, same_from_bits_below, bit_at-lt}
 use Rattle.std.proofs.lemmas.Simd.{get_or-zip2, get_or-put_chunk_at, get_or-put_chunk_below, get_or-put_chunk_above, get_or-chunk, length-zip2, length-chunk}
 use Rattle.std.specs.Simd.{first_chunks}
 use Rattle.std.specs.Simd.Lanes.{zip2, put_chunk, fold_l}
 use Rattle.std.specs.Int.{bit_at, bit_not, w64}
+use Rattle.std.specs.Int.Bits.{or_zero_r}
 use Rattle.sh_rows.specs.Numbers.{has_bit}
 use Rattle.sh_rows.specs.Words.{without, IsMixed, AllWithin}
 
@@ -230,6 +231,20 @@ removed_whole old new other front shared is met small k =
     (cases_lt k (length old)))
     (cases_lt k shared)
 
+-- where they were joined, each word that there is was
+pub joined_whole : (old new other front : List ℕ) (shared : ℕ) → IsBeside old other front shared
+    → IsMixed bit_or old new (λ k. get_or front k 0) 0 (length front)
+    → (k : ℕ) → k < length old → get_or new k 0 ≡ bit_or (get_or old k 0) (get_or other k 0)
+joined_whole old new other front shared is joined k lt =
+    let count = is.count in
+    let long = is.long in
+    ⊎_elim
+    (λ (h : k < shared). joined.inside k (omega arith) (omega arith) ∙ ap (bit_or (get_or old k 0)) (is.same k h))
+    (λ (h : shared ≤ k).
+    let past : get_or other k 0 ≡ 0 = get_or_past other k 0 (omega arith) in
+    joined.above k (omega arith) ∙ sym (ap (bit_or (get_or old k 0)) past ∙ or_zero_r (get_or old k 0)))
+    (cases_lt k shared)
+
 -- words of which the front is within: the test of the others tests them all
 pub within_whole : (words other front : List ℕ) (shared at : ℕ) (b : Bool) → IsBeside words other front shared → at ≤ shared
     → AllWithin words (λ k. get_or front k 0) 0 at → (b ≡ true) ↔ AllWithin words (λ k. get_or other k 0) at (length words)
@@ -356,6 +371,26 @@ has_bit-met old new other met k =
     ap (λ w. eqb (bit_at w (k % 64)) 1) (met (k / 64))
     ∙ ap (λ v. eqb v 1) (bit_at_and a b (k % 64))
     ∙ bit_min (bit_at a (k % 64)) (bit_at b (k % 64)) (bit_at-lt a (k % 64)) (bit_at-lt b (k % 64))
+
+bit_max : (a b : ℕ) → a < 2 → b < 2 → eqb (max a b) 1 ≡ (eqb b 1 || eqb a 1)
+bit_max zero zero p q = refl
+bit_max zero (suc zero) p q = refl
+bit_max (suc zero) zero p q = refl
+bit_max (suc zero) (suc zero) p q = refl
+bit_max (suc (suc a)) b p q = absurd (omega arith)
+bit_max zero (suc (suc b)) p q = absurd (omega arith)
+bit_max (suc zero) (suc (suc b)) p q = absurd (omega arith)
+
+-- of words that were joined
+pub has_bit-joined : (old new other : List ℕ) → ((k : ℕ) → k < length old → get_or new k 0 ≡ bit_or (get_or old k 0) (get_or other k 0))
+    → (k : ℕ) → k / 64 < length old → has_bit k new ≡ (has_bit k other || has_bit k old)
+unfolding has_bit
+has_bit-joined old new other joined k lt =
+    let a = get_or old (k / 64) 0 in
+    let b = get_or other (k / 64) 0 in
+    ap (λ w. eqb (bit_at w (k % 64)) 1) (joined (k / 64) lt)
+    ∙ ap (λ v. eqb v 1) (bit_at_or a b (k % 64))
+    ∙ bit_max (bit_at a (k % 64)) (bit_at b (k % 64)) (bit_at-lt a (k % 64)) (bit_at-lt b (k % 64))
 
 bit_at_without : (a b i : ℕ) → b < 2 ^ 64 → i < 64 → bit_at (without a b) i ≡ min (bit_at a i) (1 - bit_at b i)
 bit_at_without a b i small lt = bit_at_and a (bit_not w64 b) i ∙ ap (min (bit_at a i)) (bit_at_not w64 b i small lt)

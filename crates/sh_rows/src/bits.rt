@@ -18,6 +18,15 @@ pub struct BitRow {
     ghost below: { (k : ℕ) → has_bit k words.items ≡ true → k < count },
 }
 
+impl BitRow {
+    /// The words: number n is bit n modulo 64 of word n divided by 64.
+    pub fn words(&self) -> &[u64]
+        ensures { result.now ≡ self.now.words.items }
+    {
+        &self.words
+    }
+}
+
 impl Row for BitRow {
     ghost holds = { λ r k. has_bit k r.words.items };
 

@@ -1,6 +1,6 @@
 //! Sets of bits in words, four words at a time: what a row of bits does to another. Each kernel does to each word what its
 //! first clause says, whatever the lengths: past its end a slice has words of zeros. The second clause says it of the bits.
-ghost use Rattle.std.specs.Prelude.{◌≡◌, ◌+◌, ◌-◌, ◌/◌, ◌<◌, ◌≤◌, ◌&&◌, ◌||◌, ◌==◌, ◌↔◌, ℕ, true, not, length, bit_and, slice_index, IsTrue, IfSome, IfNone, IfOk, replicate};
+ghost use Rattle.std.specs.Prelude.{◌≡◌, ◌+◌, ◌-◌, ◌/◌, ◌<◌, ◌≤◌, ◌&&◌, ◌||◌, ◌==◌, ◌↔◌, ℕ, true, not, length, bit_and, bit_or, slice_index, IsTrue, IfSome, IfNone, IfOk, replicate};
 ghost use Rattle.sh_rows.specs.Numbers.{has_bit};
 ghost use Rattle.sh_rows.specs.Words.{without, IsMixed, AllWithin};
 
@@ -142,6 +142,25 @@ fn remove_rest(words: &mut [u64], from: usize, other: &[u64])
 {
     for at in from..other.len() {
         words[at] &= !other[at];
+    }
+}
+
+/// Sets each bit that is set in `other`, in the words that there are.
+pub fn join_words(words: &mut [u64], other: &[u64])
+    ensures words { (k : ℕ) → k < length words.old → slice_index words.new k ≡ bit_or (slice_index words.old k) (slice_index other.now k) }
+    ensures bits { (k : ℕ) → k / 64 < length words.old → has_bit k words.new ≡ (has_bit k other.now || has_bit k words.old) }
+{
+    let shared = words.len().min(other.len());
+    join_front(words, &other[..shared]);
+}
+
+// The words that others stand beside.
+fn join_front(words: &mut [u64], other: &[u64])
+    requires { length other.now ≤ length words.old }
+    ensures { IsMixed bit_or words.old words.new (λ k. slice_index other.now k) 0 (length other.now) }
+{
+    for at in 0..other.len() {
+        words[at] |= other[at];
     }
 }
 

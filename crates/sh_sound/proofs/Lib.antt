@@ -30,3 +30,4 @@ pub mod UtilityLemmas
 pub mod UtilityStepLemmas
 pub mod PrepareStepLemmas
 pub mod ActLemmas
+pub mod ScriptLemmas

@@ -1,9 +1,12 @@
 -- What rules, demands and quoting are good for: no run expands a parameter that is not set, or splits a value.
 -- POSIX.1-2024, XCU 2.6.2 (parameter expansion), 2.6.5 (field splitting), 2.6.6 (pathname expansion).
-use Rattle.std.specs.Prelude.{◌≡◌, Bool, true, false, ◌||◌, List, [], ◌∷◌, Some, unwrap_or, option_map}
+use Rattle.std.specs.Prelude.{◌≡◌, ℕ, Bool, true, false, ◌||◌, List, [], ◌∷◌, Some, unwrap_or, option_map}
 use Rattle.std.specs.List.{list_all}
+use Rattle.sh_tree.specs.declared.tree.Script.{Script}
 use Rattle.sh_tree.specs.language.Bytes.{is_name}
+use Rattle.sh_tree.specs.language.Reading.{Reads}
 use Rattle.sh_tree.specs.program.Syntax.{Items}
+use Rattle.sh_tree.specs.program.Trees.{script_of}
 use Rattle.sh_table.specs.Admitted.{is_admitted}
 use Rattle.sh_table.specs.runs.Environment.{Environment, Frame}
 use Rattle.sh_table.specs.runs.Worlds.{World, Move, step, run, has_unset_event, has_split_event, start_world, IsStart}
@@ -37,4 +40,22 @@ HaveNoEvents =
     → faults d c t ≡ [] → demands d c t ≡ [] → unquoted t ≡ []
     → (e : Environment) (f : Frame) → IsStart d.names d.args e f
     → (moves : List Move) (w : World) → run moves (start_world e f t) ≡ Some w
+    → (m : Move) → (has_unset_event w m ≡ false) × (has_split_event w m ≡ false)
+
+-- Both of every text that is read as a script: nothing is asked of its program but that it is admitted.
+
+abbrev pub ScriptsExpandNothingUnset : Type 0
+ScriptsExpandNothingUnset =
+    (d : Declared) (c : Certificate) (b : List ℕ) (t : Script) → list_all is_name d.names ≡ true → Reads b t → is_admitted (script_of b t) ≡ true
+    → faults d c (script_of b t) ≡ [] → demands d c (script_of b t) ≡ []
+    → (e : Environment) (f : Frame) → IsStart d.names d.args e f
+    → (moves : List Move) (w : World) → run moves (start_world e f (script_of b t)) ≡ Some w → splits moves (start_world e f (script_of b t)) ≡ false
+    → (m : Move) → has_unset_event w m ≡ false
+
+abbrev pub ScriptsHaveNoEvents : Type 0
+ScriptsHaveNoEvents =
+    (d : Declared) (c : Certificate) (b : List ℕ) (t : Script) → list_all is_name d.names ≡ true → Reads b t → is_admitted (script_of b t) ≡ true
+    → faults d c (script_of b t) ≡ [] → demands d c (script_of b t) ≡ [] → unquoted (script_of b t) ≡ []
+    → (e : Environment) (f : Frame) → IsStart d.names d.args e f
+    → (moves : List Move) (w : World) → run moves (start_world e f (script_of b t)) ≡ Some w
     → (m : Move) → (has_unset_event w m ≡ false) × (has_split_event w m ≡ false)

@@ -21,10 +21,12 @@ pub mod RowExampleLemmas
 pub mod RowLemmas
 pub mod RuleLemmas
 pub mod SiteLemmas
+pub mod WalkLemmas
 pub mod StaticLemmas
 pub mod SteadyLemmas
 pub mod StepRowLemmas
 pub mod TableLemmas
+pub mod NumberLemmas
 pub mod TextLemmas
 pub mod UnsplitLemmas
 pub mod WordTextLemmas

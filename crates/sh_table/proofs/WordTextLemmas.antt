@@ -1,6 +1,7 @@
 -- The static text of a word of plain bytes.
-use Rattle.std.proofs.Common.{◌≡◌, ℕ, false, not, ◌&&◌, ◌||◌, ◌==◌, cond, map, List, [], ◌∷◌, ◌++◌, Option, Some, None, IfSome, refl, sym, ap, ◌∙◌, length, take, drop, zero, suc, ◌+◌, ◌-◌, ◌≤◌, arith, length-drop, length-take-le}
-use Rattle.std.proofs.Math.Bool.{or-false}
+use Rattle.std.proofs.Common.{◌≡◌, ℕ, Bool, true, false, not, ◌&&◌, ◌||◌, ◌==◌, cond, map, List, [], ◌∷◌, ◌++◌, Option, Some, None, IfSome, refl, sym, ap, ◌∙◌, length, take, drop, zero, suc, ◌+◌, ◌-◌, ◌≤◌, arith, length-drop, length-take-le}
+use Rattle.std.proofs.Math.Bool.{and-true, or-false}
+use Rattle.std.proofs.lemmas.Slice.Eq.{bytes_eq-Decides}
 use Rattle.std.proofs.lemmas.List.{append-nil, map-append, drop_all}
 use Rattle.sh_tree.specs.declared.tree.Part.{Part, Plain, Escaped, Single, Double}
 use Rattle.sh_tree.specs.declared.tree.SingleStyle.{SingleStyle}
@@ -21,13 +22,35 @@ use Rattle.sh_tree.proofs.ProgramRules as rules
 use Rattle.sh_tree.proofs.ProgramWords.{static_of_parts}
 use Rattle.sh_table.specs.Sites.{Simple, statics}
 use Rattle.sh_tree.specs.Words.{static_text, is_wildcard, is_pattern, has_wildcard, has_bracket, is_bracket, parts_text, part_text, part_text-Double, single_text, behind_first, between_ends}
-use Rattle.sh_table.specs.WordTexts.{has_pattern, plain_text, plain_span, lone_part, text_in, texts_of}
+use Rattle.sh_table.specs.WordTexts.{may_match, has_pattern, plain_text, plain_span, lone_part, text_in, texts_of}
 use Rattle.sh_table.specs.Profile.{Static}
 use Rattle.sh_table.specs.declared.word_text.WordText.{WordText}
 
+-- a byte is a wildcard or a bracket
+
+crossed : (a b c d : Bool) → ((a || b) || (c || d)) ≡ ((a || c) || (b || d))
+crossed true b c d = refl
+crossed false true true d = refl
+crossed false true false d = refl
+crossed false false c d = refl
+
+some_may_match : (t : Text) → list_any may_match t ≡ (list_any is_wildcard t || list_any (λ c. c == 91) t)
+unfolding may_match
+some_may_match [] = refl
+some_may_match (c ∷ cs) = rw (some_may_match cs) (crossed (is_wildcard c) (c == 91) (list_any is_wildcard cs) (list_any (λ d. d == 91) cs))
+
+-- the two tests agree on a text that is no bracket alone, and on that one
+has_pattern_is : (t : Text) → (list_any is_wildcard t || (list_any (λ c. c == 91) t && not (bytes_eq t (91 ∷ [])))) ≡ has_pattern t
+unfolding has_pattern may_match
+has_pattern_is t = go (bytes_eq t (91 ∷ [])) refl
+  where
+    go : (alone : Bool) → bytes_eq t (91 ∷ []) ≡ alone
+        → (list_any is_wildcard t || (list_any (λ c. c == 91) t && not (bytes_eq t (91 ∷ [])))) ≡ (list_any may_match t && not (bytes_eq t (91 ∷ [])))
+    go true e = let same : t ≡ 91 ∷ [] = (bytes_eq-Decides t (91 ∷ [])).0 e in rw same refl
+    go false e = rw (e, some_may_match t, and-true (list_any (λ c. c == 91) t)) (sym (and-true (list_any is_wildcard t || list_any (λ c. c == 91) t)))
+
 plain_alone : (t : Text) → cond ((list_any is_wildcard t || false) || ((list_any (λ c. c == 91) t || false) && not (bytes_eq t (91 ∷ [])))) None (Some (t ++ [])) ≡ cond (has_pattern t) None (Some t)
-unfolding has_pattern
-plain_alone t = rw (or-false (list_any is_wildcard t), or-false (list_any (λ c. c == 91) t), append-nil t) refl
+plain_alone t = rw (or-false (list_any is_wildcard t), or-false (list_any (λ c. c == 91) t), append-nil t, has_pattern_is t) refl
 
 pub plain_static : (b : List ℕ) (s : Span) → static_text b (Plain s ∷ []) ≡ plain_text b s
 unfolding static_text is_pattern has_wildcard has_bracket is_bracket parts_text part_text

@@ -6,6 +6,7 @@ pub mod Admitted
 pub mod Sites
 pub mod Admits
 pub mod Calls
+pub mod Numbering
 pub mod Walks
 pub mod WordTexts
 pub mod Counts

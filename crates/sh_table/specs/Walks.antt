@@ -1,6 +1,6 @@
 -- Clauses of private functions: the commands in each piece of a tree, in the order of the walk.
 -- POSIX.1-2024, XCU 2.9 (shell commands), 2.6.3 (command substitution), 2.7.4 (here-documents).
-use Rattle.std.specs.Prelude.{ℕ, nat_lt, Bool, true, false, if◌then◌else◌, List, [], ◌++◌, map, Option, Some, None}
+use Rattle.std.specs.Prelude.{ℕ, nat_lt, Bool, true, false, if◌then◌else◌, List, [], ◌∷◌, ◌++◌, Option, Some, None}
 use Rattle.std.specs.List.{flat_map}
 use Rattle.sh_tree.specs.declared.tree.AndOr.{AndOr}
 use Rattle.sh_tree.specs.declared.tree.Binary.{Binary}
@@ -27,7 +27,7 @@ use Rattle.sh_table.specs.declared.site.Around.{Around}
 use Rattle.sh_table.specs.declared.site.Form as declared
 use Rattle.sh_table.specs.declared.site.Site as site
 use Rattle.sh_table.specs.Sites.{Form, Simple, Defines, Other, Site, site_of, form_of}
-use Rattle.sh_table.specs.Surroundings.{Surroundings, items_located, list_located, pipeline_located, command_located, kind_located, elements_located, redirect_located, part_located, operator_located, expression_located}
+use Rattle.sh_table.specs.Surroundings.{Surroundings, Located, items_located, list_located, pipeline_located, command_located, kind_located, elements_located, redirect_located, part_located, operator_located, expression_located}
 
 abbrev pub around : Around → Surroundings
 around x = record { loop = x.in_loop; function = x.in_function }
@@ -59,60 +59,64 @@ round_item x background = if background then outer else x
 
 -- the commands in each piece
 
-unfoldable pub of_script : List ℕ → Around → Script → List Site
-of_script b x t = map site_of (items_located (around x) (trees.script_of b t))
+unfoldable pub of_script : List ℕ → Around → Script → List Located
+of_script b x t = items_located (around x) (trees.script_of b t)
 
-unfoldable pub of_and_or : List ℕ → Around → AndOr → List Site
-of_and_or b x l = map site_of (list_located (around x) (trees.and_or_of b l))
+unfoldable pub of_and_or : List ℕ → Around → AndOr → List Located
+of_and_or b x l = list_located (around x) (trees.and_or_of b l)
 
-unfoldable pub of_item : List ℕ → Around → Item → List Site
+unfoldable pub of_item : List ℕ → Around → Item → List Located
 of_item b x i = of_and_or b (round_item x (out-Item i).background) (out-Item i).list
 
-unfoldable pub of_pipe : List ℕ → Around → Pipe → List Site
-of_pipe b x q = map site_of (pipeline_located (around x) (trees.pipeline_of b q))
+unfoldable pub of_pipe : List ℕ → Around → Pipe → List Located
+of_pipe b x q = pipeline_located (around x) (trees.pipeline_of b q)
 
-abbrev pub of_link : List ℕ → Around → Link × Pipe → List Site
+abbrev pub of_link : List ℕ → Around → Link × Pipe → List Located
 of_link b x l = of_pipe b x l.1
 
-unfoldable pub of_command : List ℕ → Around → Command → List Site
-of_command b x c = map site_of (command_located (around x) (trees.command_of b c))
+unfoldable pub of_command : List ℕ → Around → Command → List Located
+of_command b x c = command_located (around x) (trees.command_of b c)
 
-unfoldable pub of_kind : List ℕ → Around → Kind → List Site
-of_kind b x k = map site_of (kind_located (around x) (trees.kind_of b k))
+unfoldable pub of_kind : List ℕ → Around → Kind → List Located
+of_kind b x k = kind_located (around x) (trees.kind_of b k)
 
-unfoldable pub of_element : List ℕ → Element → List Site
-of_element b e = map site_of (elements_located (element_from b e p.no_elements))
+unfoldable pub of_element : List ℕ → Element → List Located
+of_element b e = elements_located (element_from b e p.no_elements)
 
-unfoldable pub of_target : List ℕ → Target → List Site
-of_target b t = map site_of (redirect_located (trees.target_of b t))
+unfoldable pub of_target : List ℕ → Target → List Located
+of_target b t = redirect_located (trees.target_of b t)
 
-abbrev pub of_redirect : List ℕ → Redirect → List Site
+abbrev pub of_redirect : List ℕ → Redirect → List Located
 of_redirect b r = of_target b r.target
 
-unfoldable pub of_part : List ℕ → Part → List Site
-of_part b y = map site_of (part_located (trees.part_of b y))
+unfoldable pub of_part : List ℕ → Part → List Located
+of_part b y = part_located (trees.part_of b y)
 
-abbrev pub of_word : List ℕ → Word → List Site
+abbrev pub of_word : List ℕ → Word → List Located
 of_word b w = flat_map (of_part b) w.parts
 
-unfoldable pub of_operator : List ℕ → ParameterOperator → List Site
-of_operator b o = map site_of (operator_located (trees.operator_of b o))
+unfoldable pub of_operator : List ℕ → ParameterOperator → List Located
+of_operator b o = operator_located (trees.operator_of b o)
 
-unfoldable pub of_expression : List ℕ → Expr → List Site
-of_expression b e = map site_of (expression_located (trees.expression_of b e))
+unfoldable pub of_expression : List ℕ → Expr → List Located
+of_expression b e = expression_located (trees.expression_of b e)
 
-abbrev pub of_step : List ℕ → Binary × Expr → List Site
+abbrev pub of_step : List ℕ → Binary × Expr → List Located
 of_step b x = of_expression b x.1
 
-unfoldable pub of_branch : List ℕ → Around → Branch → List Site
+unfoldable pub of_branch : List ℕ → Around → Branch → List Located
 of_branch b x c = of_script b x (out-Branch c).condition ++ of_script b x (out-Branch c).body
 
-unfoldable pub of_clause : List ℕ → Around → Clause → List Site
+unfoldable pub of_clause : List ℕ → Around → Clause → List Located
 of_clause b x c = flat_map (of_word b) (out-Clause c).patterns ++ of_script b x (out-Clause c).body
 
-abbrev pub of_option : {A : Type 0} → (A → List Site) → Option A → List Site
+abbrev pub of_option : {A : Type 0} → (A → List Located) → Option A → List Located
 of_option f None = []
 of_option f (Some x) = f x
+
+-- the command itself
+abbrev pub located : List ℕ → Around → Command → Located
+located b x c = record { command = trees.command_of b c; surroundings = around x }
 
 -- what is read off one command
 unfoldable pub form_in : List ℕ → Kind → Form
@@ -120,3 +124,7 @@ form_in b k = form_of (trees.kind_of b k)
 
 unfoldable pub site_in : List ℕ → Around → Command → Site
 site_in b x c = record { number = (out-Command c).number; at = (out-Command c).at; surroundings = around x; form = form_in b (out-Command c).kind }
+
+-- the sites of commands, with one more
+abbrev pub with_site : List Site → Located → List Site
+with_site ss l = ss ++ site_of l ∷ []

@@ -17,9 +17,13 @@ use Rattle.sh_table.specs.Profile.{Static}
 use Rattle.sh_table.specs.declared.word_text.WordText.{WordText}
 use Rattle.sh_table.specs.declared.word_text.WordText.TheVariants.{Computed, Verbatim, Made}
 
--- plain bytes hold a byte of a pattern
+-- a byte that may be one of a pattern
+unfoldable pub may_match : ℕ → Bool
+may_match c = is_wildcard c || c == 91
+
+-- plain bytes hold a byte of a pattern; a `[` alone is none
 unfoldable pub has_pattern : Text → Bool
-has_pattern t = list_any is_wildcard t || (list_any (λ c. c == 91) t && not (bytes_eq t (91 ∷ [])))
+has_pattern t = list_any may_match t && not (bytes_eq t (91 ∷ []))
 
 -- the static text of a word of plain bytes
 abbrev pub plain_text : List ℕ → Span → Option Text

@@ -314,8 +314,9 @@ fn name_bytes(text: &[u8]) -> usize
     text.iter().take_while(|byte| is_name_byte(**byte)).count()
 }
 
+/// How long the name at the front is (XBD 3.216); 0 where none is.
 #[tactic(auto, unfolding(sh_tree::specs::language::Bytes::name_length))]
-fn name_length(text: &[u8]) -> usize
+pub fn name_length(text: &[u8]) -> usize
     ensures value { result ≡ bytes.name_length text.now }
     ensures within { result ≤ length text.now }
 {

@@ -1,54 +1,17 @@
 //! The commands of a script by their numbers, those in its words included, each with what stands round it.
-ghost use Rattle.std.specs.Prelude.{◌≡◌, ◌++◌, ℕ, List, map, flat_map, OnOk, IfOk};
+ghost use Rattle.std.specs.Prelude.{◌≡◌, ℕ, List, fold, map, flat_map, OnOk, IfOk};
 ghost use Rattle.sh_tree.specs.declared.tree.Command.{out-Command};
 ghost use Rattle.sh_tree.specs.program.Trees.{script_of};
 ghost use Rattle.sh_table.specs.Sites as sites;
 ghost use Rattle.sh_table.specs.Walks as walks;
 
 use crate::site::{Around, Form, Site};
+use crate::walk::{IN_FUNCTION, OUTSIDE};
 use sh_tree::tree::{
     AndOr, Binary, Branch, Clause, Command, Element, Expr, Item, Kind, Link, ParameterOperator,
     Part, Pipe, Redirect, Script, Target, Word,
 };
 use std::alloc::{AllocError, Global};
-
-/// Round the list of a started process, and round the script.
-const OUTSIDE: Around = Around {
-    in_loop: false,
-    in_function: false,
-};
-
-/// Round the body of a function.
-const IN_FUNCTION: Around = Around {
-    in_loop: false,
-    in_function: true,
-};
-
-impl Around {
-    /// Round the condition and the body of a loop.
-    fn inside_loop(self) -> Around
-        ensures { result ≡ walks.inside_loop self }
-    {
-        Around {
-            in_loop: true,
-            in_function: self.in_function,
-        }
-    }
-
-    /// Round the parts of a pipeline, of which two or more are processes of their own.
-    fn round_parts(self, count: usize) -> Around
-        ensures { result ≡ walks.round_parts self count }
-    {
-        if count > 1 { OUTSIDE } else { self }
-    }
-
-    /// Round an item, of which an asynchronous one is a process of its own.
-    fn round_item(self, background: bool) -> Around
-        ensures { result ≡ walks.round_item self background }
-    {
-        if background { OUTSIDE } else { self }
-    }
-}
 
 #[tactic(auto, using(crate::proofs::SiteLemmas::forms), unfolding(crate::specs::Walks::seen_form))]
 fn form_of<'a>(kind: &'a Kind, script: &'a [u8]) -> Form<'a>
@@ -79,14 +42,14 @@ fn site_of<'a>(around: Around, command: &'a Command, script: &'a [u8]) -> Site<'
 }
 
 #[cycle(walk)]
-#[tactic(auto, using(crate::proofs::SiteLemmas::script_out))]
+#[tactic(auto, using(crate::proofs::WalkLemmas::script_out))]
 fn add_script<'a>(
     around: Around,
     list: &'a Script,
     script: &'a [u8],
     found: &mut Vec<Site<'a>>,
 ) -> Result<(), AllocError>
-    ensures { OnOk result (map (walks.seen script.now) found.new.items ≡ map (walks.seen script.now) found.old.items ++ walks.of_script script.now around list.now) }
+    ensures { OnOk result (map (walks.seen script.now) found.new.items ≡ fold walks.with_site (map (walks.seen script.now) found.old.items) (walks.of_script script.now around list.now)) }
 {
     add_items(around, list.items.as_slice(), script, found)
 }
@@ -98,7 +61,7 @@ fn add_items<'a>(
     script: &'a [u8],
     found: &mut Vec<Site<'a>>,
 ) -> Result<(), AllocError>
-    ensures { OnOk result (map (walks.seen script.now) found.new.items ≡ map (walks.seen script.now) found.old.items ++ flat_map (walks.of_item script.now around) items.now) }
+    ensures { OnOk result (map (walks.seen script.now) found.new.items ≡ fold walks.with_site (map (walks.seen script.now) found.old.items) (flat_map (walks.of_item script.now around) items.now)) }
 {
     for item in items {
         add_item(around, item, script, found)?;
@@ -107,14 +70,14 @@ fn add_items<'a>(
 }
 
 #[cycle(walk)]
-#[tactic(auto, using(crate::proofs::SiteLemmas::item_out))]
+#[tactic(auto, using(crate::proofs::WalkLemmas::item_out))]
 fn add_item<'a>(
     around: Around,
     item: &'a Item,
     script: &'a [u8],
     found: &mut Vec<Site<'a>>,
 ) -> Result<(), AllocError>
-    ensures { OnOk result (map (walks.seen script.now) found.new.items ≡ map (walks.seen script.now) found.old.items ++ walks.of_item script.now around item.now) }
+    ensures { OnOk result (map (walks.seen script.now) found.new.items ≡ fold walks.with_site (map (walks.seen script.now) found.old.items) (walks.of_item script.now around item.now)) }
 {
     add_and_or(
         around.round_item(item.background),
@@ -125,14 +88,14 @@ fn add_item<'a>(
 }
 
 #[cycle(walk)]
-#[tactic(auto, using(crate::proofs::SiteLemmas::and_or_out))]
+#[tactic(auto, using(crate::proofs::WalkLemmas::and_or_out))]
 fn add_and_or<'a>(
     around: Around,
     list: &'a AndOr,
     script: &'a [u8],
     found: &mut Vec<Site<'a>>,
 ) -> Result<(), AllocError>
-    ensures { OnOk result (map (walks.seen script.now) found.new.items ≡ map (walks.seen script.now) found.old.items ++ walks.of_and_or script.now around list.now) }
+    ensures { OnOk result (map (walks.seen script.now) found.new.items ≡ fold walks.with_site (map (walks.seen script.now) found.old.items) (walks.of_and_or script.now around list.now)) }
 {
     add_pipe(around, &list.first, script, found)?;
     add_links(around, list.rest.as_slice(), script, found)
@@ -145,7 +108,7 @@ fn add_links<'a>(
     script: &'a [u8],
     found: &mut Vec<Site<'a>>,
 ) -> Result<(), AllocError>
-    ensures { OnOk result (map (walks.seen script.now) found.new.items ≡ map (walks.seen script.now) found.old.items ++ flat_map (walks.of_link script.now around) links.now) }
+    ensures { OnOk result (map (walks.seen script.now) found.new.items ≡ fold walks.with_site (map (walks.seen script.now) found.old.items) (flat_map (walks.of_link script.now around) links.now)) }
 {
     for link in links {
         add_pipe(around, &link.1, script, found)?;
@@ -154,14 +117,14 @@ fn add_links<'a>(
 }
 
 #[cycle(walk)]
-#[tactic(auto, using(crate::proofs::SiteLemmas::pipe_out))]
+#[tactic(auto, using(crate::proofs::WalkLemmas::pipe_out))]
 fn add_pipe<'a>(
     around: Around,
     pipe: &'a Pipe,
     script: &'a [u8],
     found: &mut Vec<Site<'a>>,
 ) -> Result<(), AllocError>
-    ensures { OnOk result (map (walks.seen script.now) found.new.items ≡ map (walks.seen script.now) found.old.items ++ walks.of_pipe script.now around pipe.now) }
+    ensures { OnOk result (map (walks.seen script.now) found.new.items ≡ fold walks.with_site (map (walks.seen script.now) found.old.items) (walks.of_pipe script.now around pipe.now)) }
 {
     let parts = pipe.parts.as_slice();
     add_commands(around.round_parts(parts.len()), parts, script, found)
@@ -174,7 +137,7 @@ fn add_commands<'a>(
     script: &'a [u8],
     found: &mut Vec<Site<'a>>,
 ) -> Result<(), AllocError>
-    ensures { OnOk result (map (walks.seen script.now) found.new.items ≡ map (walks.seen script.now) found.old.items ++ flat_map (walks.of_command script.now around) commands.now) }
+    ensures { OnOk result (map (walks.seen script.now) found.new.items ≡ fold walks.with_site (map (walks.seen script.now) found.old.items) (flat_map (walks.of_command script.now around) commands.now)) }
 {
     for command in commands {
         add_command(around, command, script, found)?;
@@ -183,14 +146,14 @@ fn add_commands<'a>(
 }
 
 #[cycle(walk)]
-#[tactic(auto, using(crate::proofs::SiteLemmas::command_out))]
+#[tactic(auto, using(crate::proofs::WalkLemmas::command_out))]
 fn add_command<'a>(
     around: Around,
     command: &'a Command,
     script: &'a [u8],
     found: &mut Vec<Site<'a>>,
 ) -> Result<(), AllocError>
-    ensures { OnOk result (map (walks.seen script.now) found.new.items ≡ map (walks.seen script.now) found.old.items ++ walks.of_command script.now around command.now) }
+    ensures { OnOk result (map (walks.seen script.now) found.new.items ≡ fold walks.with_site (map (walks.seen script.now) found.old.items) (walks.of_command script.now around command.now)) }
 {
     found.push(site_of(around, command, script))?;
     add_kind(around, &command.kind, script, found)?;
@@ -203,7 +166,7 @@ fn add_redirects<'a>(
     script: &'a [u8],
     found: &mut Vec<Site<'a>>,
 ) -> Result<(), AllocError>
-    ensures { OnOk result (map (walks.seen script.now) found.new.items ≡ map (walks.seen script.now) found.old.items ++ flat_map (walks.of_redirect script.now) redirects.now) }
+    ensures { OnOk result (map (walks.seen script.now) found.new.items ≡ fold walks.with_site (map (walks.seen script.now) found.old.items) (flat_map (walks.of_redirect script.now) redirects.now)) }
 {
     for redirect in redirects {
         add_target(&redirect.target, script, found)?;
@@ -212,14 +175,14 @@ fn add_redirects<'a>(
 }
 
 #[cycle(walk)]
-#[tactic(auto, using(crate::proofs::SiteLemmas::kinds))]
+#[tactic(auto, using(crate::proofs::WalkLemmas::kinds))]
 fn add_kind<'a>(
     around: Around,
     kind: &'a Kind,
     script: &'a [u8],
     found: &mut Vec<Site<'a>>,
 ) -> Result<(), AllocError>
-    ensures { OnOk result (map (walks.seen script.now) found.new.items ≡ map (walks.seen script.now) found.old.items ++ walks.of_kind script.now around kind.now) }
+    ensures { OnOk result (map (walks.seen script.now) found.new.items ≡ fold walks.with_site (map (walks.seen script.now) found.old.items) (walks.of_kind script.now around kind.now)) }
 {
     match kind {
         Kind::Simple(elements) => add_elements(elements.as_slice(), script, found),
@@ -262,7 +225,7 @@ fn add_otherwise<'a>(
     script: &'a [u8],
     found: &mut Vec<Site<'a>>,
 ) -> Result<(), AllocError>
-    ensures { OnOk result (map (walks.seen script.now) found.new.items ≡ map (walks.seen script.now) found.old.items ++ walks.of_option (walks.of_script script.now around) otherwise.now) }
+    ensures { OnOk result (map (walks.seen script.now) found.new.items ≡ fold walks.with_site (map (walks.seen script.now) found.old.items) (walks.of_option (walks.of_script script.now around) otherwise.now)) }
 {
     match otherwise {
         Some(list) => add_script(around, list, script, found),
@@ -276,7 +239,7 @@ fn add_elements<'a>(
     script: &'a [u8],
     found: &mut Vec<Site<'a>>,
 ) -> Result<(), AllocError>
-    ensures { OnOk result (map (walks.seen script.now) found.new.items ≡ map (walks.seen script.now) found.old.items ++ flat_map (walks.of_element script.now) elements.now) }
+    ensures { OnOk result (map (walks.seen script.now) found.new.items ≡ fold walks.with_site (map (walks.seen script.now) found.old.items) (flat_map (walks.of_element script.now) elements.now)) }
 {
     for element in elements {
         add_element(element, script, found)?;
@@ -285,13 +248,13 @@ fn add_elements<'a>(
 }
 
 #[cycle(walk)]
-#[tactic(auto, using(crate::proofs::SiteLemmas::elements))]
+#[tactic(auto, using(crate::proofs::WalkLemmas::elements))]
 fn add_element<'a>(
     element: &'a Element,
     script: &'a [u8],
     found: &mut Vec<Site<'a>>,
 ) -> Result<(), AllocError>
-    ensures { OnOk result (map (walks.seen script.now) found.new.items ≡ map (walks.seen script.now) found.old.items ++ walks.of_element script.now element.now) }
+    ensures { OnOk result (map (walks.seen script.now) found.new.items ≡ fold walks.with_site (map (walks.seen script.now) found.old.items) (walks.of_element script.now element.now)) }
 {
     match element {
         Element::Assignment { value, .. } => add_word(value, script, found),
@@ -307,7 +270,7 @@ fn add_branches<'a>(
     script: &'a [u8],
     found: &mut Vec<Site<'a>>,
 ) -> Result<(), AllocError>
-    ensures { OnOk result (map (walks.seen script.now) found.new.items ≡ map (walks.seen script.now) found.old.items ++ flat_map (walks.of_branch script.now around) branches.now) }
+    ensures { OnOk result (map (walks.seen script.now) found.new.items ≡ fold walks.with_site (map (walks.seen script.now) found.old.items) (flat_map (walks.of_branch script.now around) branches.now)) }
 {
     for branch in branches {
         add_branch(around, branch, script, found)?;
@@ -316,14 +279,14 @@ fn add_branches<'a>(
 }
 
 #[cycle(walk)]
-#[tactic(auto, using(crate::proofs::SiteLemmas::branch_out))]
+#[tactic(auto, using(crate::proofs::WalkLemmas::branch_out))]
 fn add_branch<'a>(
     around: Around,
     branch: &'a Branch,
     script: &'a [u8],
     found: &mut Vec<Site<'a>>,
 ) -> Result<(), AllocError>
-    ensures { OnOk result (map (walks.seen script.now) found.new.items ≡ map (walks.seen script.now) found.old.items ++ walks.of_branch script.now around branch.now) }
+    ensures { OnOk result (map (walks.seen script.now) found.new.items ≡ fold walks.with_site (map (walks.seen script.now) found.old.items) (walks.of_branch script.now around branch.now)) }
 {
     add_script(around, &branch.condition, script, found)?;
     add_script(around, &branch.body, script, found)
@@ -335,7 +298,7 @@ fn add_words<'a>(
     script: &'a [u8],
     found: &mut Vec<Site<'a>>,
 ) -> Result<(), AllocError>
-    ensures { OnOk result (map (walks.seen script.now) found.new.items ≡ map (walks.seen script.now) found.old.items ++ flat_map (walks.of_word script.now) words.now) }
+    ensures { OnOk result (map (walks.seen script.now) found.new.items ≡ fold walks.with_site (map (walks.seen script.now) found.old.items) (flat_map (walks.of_word script.now) words.now)) }
 {
     for word in words {
         add_word(word, script, found)?;
@@ -349,7 +312,7 @@ fn add_word<'a>(
     script: &'a [u8],
     found: &mut Vec<Site<'a>>,
 ) -> Result<(), AllocError>
-    ensures { OnOk result (map (walks.seen script.now) found.new.items ≡ map (walks.seen script.now) found.old.items ++ walks.of_word script.now word.now) }
+    ensures { OnOk result (map (walks.seen script.now) found.new.items ≡ fold walks.with_site (map (walks.seen script.now) found.old.items) (walks.of_word script.now word.now)) }
 {
     add_parts(word.parts.as_slice(), script, found)
 }
@@ -361,7 +324,7 @@ fn add_clauses<'a>(
     script: &'a [u8],
     found: &mut Vec<Site<'a>>,
 ) -> Result<(), AllocError>
-    ensures { OnOk result (map (walks.seen script.now) found.new.items ≡ map (walks.seen script.now) found.old.items ++ flat_map (walks.of_clause script.now around) clauses.now) }
+    ensures { OnOk result (map (walks.seen script.now) found.new.items ≡ fold walks.with_site (map (walks.seen script.now) found.old.items) (flat_map (walks.of_clause script.now around) clauses.now)) }
 {
     for clause in clauses {
         add_clause(around, clause, script, found)?;
@@ -370,27 +333,27 @@ fn add_clauses<'a>(
 }
 
 #[cycle(walk)]
-#[tactic(auto, using(crate::proofs::SiteLemmas::clause_out))]
+#[tactic(auto, using(crate::proofs::WalkLemmas::clause_out))]
 fn add_clause<'a>(
     around: Around,
     clause: &'a Clause,
     script: &'a [u8],
     found: &mut Vec<Site<'a>>,
 ) -> Result<(), AllocError>
-    ensures { OnOk result (map (walks.seen script.now) found.new.items ≡ map (walks.seen script.now) found.old.items ++ walks.of_clause script.now around clause.now) }
+    ensures { OnOk result (map (walks.seen script.now) found.new.items ≡ fold walks.with_site (map (walks.seen script.now) found.old.items) (walks.of_clause script.now around clause.now)) }
 {
     add_words(clause.patterns.as_slice(), script, found)?;
     add_script(around, &clause.body, script, found)
 }
 
 #[cycle(walk)]
-#[tactic(auto, using(crate::proofs::SiteLemmas::targets))]
+#[tactic(auto, using(crate::proofs::WalkLemmas::targets))]
 fn add_target<'a>(
     target: &'a Target,
     script: &'a [u8],
     found: &mut Vec<Site<'a>>,
 ) -> Result<(), AllocError>
-    ensures { OnOk result (map (walks.seen script.now) found.new.items ≡ map (walks.seen script.now) found.old.items ++ walks.of_target script.now target.now) }
+    ensures { OnOk result (map (walks.seen script.now) found.new.items ≡ fold walks.with_site (map (walks.seen script.now) found.old.items) (walks.of_target script.now target.now)) }
 {
     match target {
         Target::File(_, word) => add_word(word, script, found),
@@ -404,7 +367,7 @@ fn add_parts<'a>(
     script: &'a [u8],
     found: &mut Vec<Site<'a>>,
 ) -> Result<(), AllocError>
-    ensures { OnOk result (map (walks.seen script.now) found.new.items ≡ map (walks.seen script.now) found.old.items ++ flat_map (walks.of_part script.now) parts.now) }
+    ensures { OnOk result (map (walks.seen script.now) found.new.items ≡ fold walks.with_site (map (walks.seen script.now) found.old.items) (flat_map (walks.of_part script.now) parts.now)) }
 {
     for part in parts {
         add_part(part, script, found)?;
@@ -413,13 +376,13 @@ fn add_parts<'a>(
 }
 
 #[cycle(walk)]
-#[tactic(auto, using(crate::proofs::SiteLemmas::parts))]
+#[tactic(auto, using(crate::proofs::WalkLemmas::parts))]
 fn add_part<'a>(
     part: &'a Part,
     script: &'a [u8],
     found: &mut Vec<Site<'a>>,
 ) -> Result<(), AllocError>
-    ensures { OnOk result (map (walks.seen script.now) found.new.items ≡ map (walks.seen script.now) found.old.items ++ walks.of_part script.now part.now) }
+    ensures { OnOk result (map (walks.seen script.now) found.new.items ≡ fold walks.with_site (map (walks.seen script.now) found.old.items) (walks.of_part script.now part.now)) }
 {
     match part {
         Part::Double(_, parts) => add_parts(parts.as_slice(), script, found),
@@ -435,13 +398,13 @@ fn add_part<'a>(
 }
 
 #[cycle(walk)]
-#[tactic(auto, using(crate::proofs::SiteLemmas::operators))]
+#[tactic(auto, using(crate::proofs::WalkLemmas::operators))]
 fn add_operator<'a>(
     operator: &'a ParameterOperator,
     script: &'a [u8],
     found: &mut Vec<Site<'a>>,
 ) -> Result<(), AllocError>
-    ensures { OnOk result (map (walks.seen script.now) found.new.items ≡ map (walks.seen script.now) found.old.items ++ walks.of_operator script.now operator.now) }
+    ensures { OnOk result (map (walks.seen script.now) found.new.items ≡ fold walks.with_site (map (walks.seen script.now) found.old.items) (walks.of_operator script.now operator.now)) }
 {
     match operator {
         ParameterOperator::Value => Ok(()),
@@ -457,7 +420,7 @@ fn add_chain<'a>(
     script: &'a [u8],
     found: &mut Vec<Site<'a>>,
 ) -> Result<(), AllocError>
-    ensures { OnOk result (map (walks.seen script.now) found.new.items ≡ map (walks.seen script.now) found.old.items ++ flat_map (walks.of_step script.now) rest.now) }
+    ensures { OnOk result (map (walks.seen script.now) found.new.items ≡ fold walks.with_site (map (walks.seen script.now) found.old.items) (flat_map (walks.of_step script.now) rest.now)) }
 {
     for link in rest {
         add_expression(&link.1, script, found)?;
@@ -466,13 +429,13 @@ fn add_chain<'a>(
 }
 
 #[cycle(walk)]
-#[tactic(auto, using(crate::proofs::SiteLemmas::expressions))]
+#[tactic(auto, using(crate::proofs::WalkLemmas::expressions))]
 fn add_expression<'a>(
     expression: &'a Expr,
     script: &'a [u8],
     found: &mut Vec<Site<'a>>,
 ) -> Result<(), AllocError>
-    ensures { OnOk result (map (walks.seen script.now) found.new.items ≡ map (walks.seen script.now) found.old.items ++ walks.of_expression script.now expression.now) }
+    ensures { OnOk result (map (walks.seen script.now) found.new.items ≡ fold walks.with_site (map (walks.seen script.now) found.old.items) (walks.of_expression script.now expression.now)) }
 {
     match expression {
         Expr::Constant(_) => Ok(()),

@@ -1,7 +1,10 @@
 //! The call table of a script.
-ghost use Rattle.std.specs.Prelude.{◌≡◌, ◌<◌, ◌≤◌, ◌-◌, ◌++◌, [], ◌∷◌, length, map, option_map, slice_get, Some, IfOk, OnOk};
+ghost use Rattle.std.specs.Prelude.{◌≡◌, ℕ, List, true, ◌<◌, ◌≤◌, ◌-◌, ◌++◌, [], ◌∷◌, length, map, option_map, slice_get, Some, IfOk, OnOk};
 ghost use Rattle.std.specs.Option.{option_copied};
 ghost use Rattle.sh_table.specs.Calls as calls;
+ghost use Rattle.sh_tree.specs.declared.tree.Script.{Script};
+ghost use Rattle.sh_tree.specs.program.Trees.{script_of};
+ghost use Rattle.sh_table.specs.Numbering as numbering;
 ghost use Rattle.sh_table.specs.Sites as sites;
 ghost use Rattle.sh_table.specs.Walks as walks;
 ghost use Rattle.sh_table.specs.WordTexts.{text_in};
@@ -104,6 +107,32 @@ fn text_in_row<'a>(row: &'a Row, word: usize, script: &'a [u8]) -> Option<&'a [u
     }
 }
 
+// Whether the row has a lesser number than the first of these.
+#[tactic(auto, unfolding(crate::specs::Numbering::precedes))]
+fn precedes(row: &Row, rows: &[Row]) -> bool
+    ensures { result ≡ numbering.precedes row.now.number (map (λ r. r.number) rows.now) }
+{
+    match rows {
+        [] => true,
+        [next, ..] => row.number < next.number,
+    }
+}
+
+// Whether each row has a lesser number than the next.
+#[tactic(auto, unfolding(crate::specs::Numbering::numbers_rise))]
+fn numbers_rise(rows: &[Row]) -> bool
+    ensures { result ≡ numbering.numbers_rise (map (λ r. r.number) rows.now) }
+{
+    let mut left = rows;
+    while let [first, rest @ ..] = left {
+        if !precedes(first, rest) {
+            return false;
+        }
+        left = rest;
+    }
+    true
+}
+
 impl<'s> CallTable<'s> {
     /// The table of a script.
     ///
@@ -140,6 +169,24 @@ impl<'s> CallTable<'s> {
     {
         let at = self.rows.partition_point(|row| row.number < command);
         first_with(&self.rows[at..], command)
+    }
+
+    /// Whether each command of the script has a number of its own, as those have of a script that was read.
+    pub fn is_numbered(&self) -> bool
+        ensures { (b : List ℕ) (t : Script) → self.now ≡ calls.table_of b t → result ≡ true → numbering.is_numbered (script_of b t) ≡ true }
+    {
+        numbers_rise(self.rows.as_slice())
+    }
+
+    /// The static texts of the words of a command, the command name's first; none where no simple command has this number.
+    #[tactic(auto, unfolding(crate::specs::Calls::found_texts))]
+    pub fn texts(&self, command: u32) -> &[WordText]
+        ensures { map (text_in self.now.script) result.now ≡ calls.texts_with command self.now.rows }
+    {
+        match self.row(command) {
+            Some(row) => row.texts.as_slice(),
+            None => &[],
+        }
     }
 
     /// The static text of a word of a command, the command name being word 0 (XCU 2.2); nothing where the word has none, or no

@@ -5,7 +5,7 @@ ghost use Rattle.std.specs.Option.{option_copied};
 ghost use Rattle.std.specs.Str.{bytes_eq};
 ghost use Rattle.sh_tree.specs.Tree.{text_of};
 ghost use Rattle.sh_tree.specs.Words as words;
-ghost use Rattle.sh_tree.specs.Words.{is_wildcard, static_text};
+ghost use Rattle.sh_tree.specs.Words.{static_text};
 ghost use Rattle.sh_tree.specs.program.Lists.{elements_from};
 ghost use Rattle.sh_table.specs.Sites as sites;
 ghost use Rattle.sh_tree.specs.program.Words.{operands_in};
@@ -26,10 +26,12 @@ pub enum WordText {
     Made(Vec<u8>),
 }
 
-fn has_wildcard(text: &[u8]) -> bool
-    ensures { result ≡ list_any is_wildcard text.now }
+/// Whether some byte may be one of a pattern (XCU 2.14): a `*`, a `?` or a `[`.
+#[tactic(auto, unfolding(crate::specs::WordTexts::may_match))]
+fn has_special(text: &[u8]) -> bool
+    ensures { result ≡ list_any spec.may_match text.now }
 {
-    text.iter().any(|byte| matches!(*byte, b'*' | b'?'))
+    text.iter().any(|byte| matches!(*byte, b'*' | b'?' | b'['))
 }
 
 fn is_bracket(text: &[u8]) -> bool
@@ -43,10 +45,7 @@ fn is_bracket(text: &[u8]) -> bool
 fn has_pattern(text: &[u8]) -> bool
     ensures { result ≡ spec.has_pattern text.now }
 {
-    let wildcard = has_wildcard(text);
-    let bracket = text.contains(&b'[');
-    let alone = is_bracket(text);
-    wildcard || bracket && !alone
+    has_special(text) && !is_bracket(text)
 }
 
 /// The bytes of parts that are plain bytes alone.

@@ -4,6 +4,8 @@
 #[cfg(test)]
 mod bodies;
 #[cfg(test)]
+mod certificates;
+#[cfg(test)]
 mod names;
 #[cfg(test)]
 mod rows;

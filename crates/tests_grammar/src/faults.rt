@@ -24,22 +24,9 @@ fn the_first_is_told(rt: HostRuntime) -> Result<(), Fail> {
     check(&rt, rt.alloc(), THE_FIRST_IS_TOLD)
 }
 
-const TEXTS_OF_EXAMPLES: &[Row] = &[
-    ("echo \"abc", "Syntax(OpenDouble, 5)"),
-    ("echo \"${x-\"y\"}\"", "LeftOut(QuotedInDefault, 10)"),
-    ("echo ${x/a/b}", "LeftOut(Braced, 5)"),
-    ("echo a\\", "Syntax(FinalBackslash, 6)"),
+const TREES_OF_EXAMPLES: &[Row] = &[
     ("echo 'a'", "1@0[w0-4(p0-4) w5-8(s5-8)]"),
     ("unset x", "1@0[w0-5(p0-5) w6-7(p6-7)]"),
-    ("echo \"$x", "Syntax(OpenDouble, 5)"),
-];
-
-#[test]
-fn texts_of_examples(rt: HostRuntime) -> Result<(), Fail> {
-    check(&rt, rt.alloc(), TEXTS_OF_EXAMPLES)
-}
-
-const TREES_OF_EXAMPLES: &[Row] = &[
     (
         "[ $# -gt 0 ]",
         "1@0[w0-1(p0-1) w2-4(v2-4/#:3-4) w5-8(p5-8) w9-10(p9-10) w11-12(p11-12)]",

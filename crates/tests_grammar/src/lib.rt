@@ -14,6 +14,8 @@ mod comments;
 #[cfg(test)]
 mod continuations;
 #[cfg(test)]
+mod cuts;
+#[cfg(test)]
 mod definitions;
 #[cfg(test)]
 mod faults;
@@ -25,6 +27,8 @@ mod limits;
 mod lists;
 #[cfg(test)]
 mod loops;
+#[cfg(test)]
+mod refusals;
 #[cfg(test)]
 mod reserved;
 #[cfg(test)]

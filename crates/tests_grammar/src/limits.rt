@@ -63,6 +63,10 @@ const IN_DEFAULTS: Pieces = ("", "${x-$(", "a", ")}", "");
 
 const IN_GROUPS: Pieces = ("", "{ ", "$(a)", "; }", "");
 
+const LINES_OF_GROUPS: Pieces = ("", "{\n", ":\n", "}\n", "");
+
+const LINES: Pieces = ("", ":\n", "", "", "");
+
 const GROUPS: Pieces = ("", "{ ", "a", "; }", "");
 
 const SUBSHELLS: Pieces = ("", "( ", "a", ")", "");
@@ -82,6 +86,8 @@ const WORDS_IN_GROUPS: Pieces = ("", "{ ", "a ${x-b}", "; }", "");
 const TOWERS: &[Tower] = &[
     (64, GROUPS, None),
     (65, GROUPS, Some(Refusal::TooDeep(128))),
+    (64, LINES_OF_GROUPS, None),
+    (65, LINES_OF_GROUPS, Some(Refusal::TooDeep(128))),
     (64, SUBSHELLS, None),
     (65, SUBSHELLS, Some(Refusal::TooDeep(128))),
     (64, DEFINITIONS, None),
@@ -116,6 +122,20 @@ const TOWERS: &[Tower] = &[
     (63, IN_GROUPS, None),
     (64, IN_GROUPS, Some(Refusal::TooDeep(128))),
 ];
+
+const AS_MANY_LINES_AS_MAY_BE: &[Tower] = &[(65_535, LINES, None)];
+
+#[test]
+fn as_many_lines_as_may_be(rt: HostRuntime) -> Result<(), Fail> {
+    check_towers(&rt, rt.alloc(), AS_MANY_LINES_AS_MAY_BE)
+}
+
+const ONE_LINE_MORE: &[Tower] = &[(65_536, LINES, Some(Refusal::TooMany))];
+
+#[test]
+fn one_line_more(rt: HostRuntime) -> Result<(), Fail> {
+    check_towers(&rt, rt.alloc(), ONE_LINE_MORE)
+}
 
 #[test]
 fn towers(rt: HostRuntime) -> Result<(), Fail> {

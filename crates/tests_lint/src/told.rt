@@ -1,4 +1,4 @@
-use sh_flow::policy::Policy;
+use sh_facts::policy::Policy;
 use sh_lint::engine::run;
 use sh_report::counted::Counted;
 use sh_report::task::{Action, Task};

@@ -1,6 +1,6 @@
 //! The lines of every kind of answer.
 
-use sh_flow::rule::FlowRule;
+use sh_facts::rule::FlowRule;
 use sh_report::texts::{answer, status};
 use sh_report::verdict::{Finding, Report, Verdict, in_order};
 use sh_tree::place::Code;
@@ -72,8 +72,19 @@ fn findings_are_shown_in_order(rt: HostRuntime) -> Result<(), Fail> {
 const FORGED: &[(FlowRule, &[u8])] = &[
     (FlowRule::F1, b"forged: command 12 breaks F1\n"),
     (FlowRule::F2, b"forged: command 12 breaks F2\n"),
+    (FlowRule::F3, b"forged: command 12 breaks F3\n"),
     (FlowRule::F4, b"forged: command 12 breaks F4\n"),
     (FlowRule::F5, b"forged: command 12 breaks F5\n"),
+    (FlowRule::F6, b"forged: command 12 breaks F6\n"),
+    (FlowRule::F7, b"forged: command 12 breaks F7\n"),
+    (FlowRule::F8, b"forged: command 12 breaks F8\n"),
+    (FlowRule::F9, b"forged: command 12 breaks F9\n"),
+    (FlowRule::F10, b"forged: command 12 breaks F10\n"),
+    (FlowRule::F11, b"forged: command 12 breaks F11\n"),
+    (FlowRule::F12, b"forged: command 12 breaks F12\n"),
+    (FlowRule::F13, b"forged: command 12 breaks F13\n"),
+    (FlowRule::F14, b"forged: command 12 breaks F14\n"),
+    (FlowRule::F15, b"forged: command 12 breaks F15\n"),
 ];
 
 #[test]

@@ -1,5 +1,5 @@
 //! Each kernel beside the plain loop over single words, at lengths round a block of four words.
-use sh_rows::kernels::{meet_words, remove_words, within_words};
+use sh_rows::kernels::{join_words, meet_words, remove_words, within_words};
 use std::alloc::{AllocError, Global};
 use std::process::Abort;
 use std::test::Fail;
@@ -77,6 +77,14 @@ fn wrong_left(alloc: Global, lengths: Lengths) -> Result<Option<usize>, AllocErr
     Ok((0..lengths.0).find(|at| word(&left, *at) != word(&old, *at) & !word(&other, *at)))
 }
 
+fn wrong_joined(alloc: Global, lengths: Lengths) -> Result<Option<usize>, AllocError> {
+    let old = words(alloc, 3, lengths.0)?;
+    let other = words(alloc, 5, lengths.1)?;
+    let mut joined = words(alloc, 3, lengths.0)?;
+    join_words(&mut joined, &other);
+    Ok((0..lengths.0).find(|at| word(&joined, *at) != word(&old, *at) | word(&other, *at)))
+}
+
 // Whether the words are still within the others with one more bit at each place, which they are not.
 fn is_one_more_within(part: &mut [u64], other: &[u64], at: usize) -> bool {
     if at >= part.len() || word(other, at) == u64::MAX {
@@ -120,6 +128,14 @@ fn check_remove(rt: &impl Abort, alloc: Global, rows: &[Lengths]) -> Result<(), 
     Ok(())
 }
 
+fn check_join(rt: &impl Abort, alloc: Global, rows: &[Lengths]) -> Result<(), Fail> {
+    for lengths in rows {
+        let wrong = wrong_joined(alloc, *lengths)?;
+        assert_eq!(rt; wrong, None, "{lengths:?}");
+    }
+    Ok(())
+}
+
 fn check_within(rt: &impl Abort, alloc: Global, rows: &[Lengths]) -> Result<(), Fail> {
     for lengths in rows {
         let wrong = wrong_within(alloc, *lengths)?;
@@ -136,6 +152,16 @@ fn meet_of_equal_lengths(rt: HostRuntime) -> Result<(), Fail> {
 #[test]
 fn meet_of_unequal_lengths(rt: HostRuntime) -> Result<(), Fail> {
     check_meet(&rt, rt.alloc(), UNEQUAL)
+}
+
+#[test]
+fn join_of_equal_lengths(rt: HostRuntime) -> Result<(), Fail> {
+    check_join(&rt, rt.alloc(), EQUAL)
+}
+
+#[test]
+fn join_of_unequal_lengths(rt: HostRuntime) -> Result<(), Fail> {
+    check_join(&rt, rt.alloc(), UNEQUAL)
 }
 
 #[test]

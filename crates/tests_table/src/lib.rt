@@ -4,8 +4,6 @@
 #[cfg(test)]
 mod kinds;
 #[cfg(test)]
-mod made;
-#[cfg(test)]
 mod profile;
 #[cfg(test)]
 mod tables;

@@ -1,4 +1,4 @@
-//! Which simple commands are admitted, as they are read.
+//! Which scripts are admitted.
 use sh_grammar::parse;
 use sh_table::admit::admit;
 use sh_table::table::CallTable;
@@ -12,7 +12,7 @@ use std::test::Fail;
 /// A script, and the rule and the offset that are told of it.
 type Row = (&'static [u8], Option<(Rule, u32)>);
 
-fn told(alloc: Global, script: &[u8]) -> Result<(), Refusal> {
+pub fn told(alloc: Global, script: &[u8]) -> Result<(), Refusal> {
     let tree = parse(alloc, script)?;
     let table = CallTable::new(alloc, &tree, script)?;
     admit(alloc, &tree, &table, script)
@@ -76,6 +76,78 @@ const OPERANDS: &[Row] = &[
 #[test]
 fn operands(rt: HostRuntime) -> Result<(), Fail> {
     check(&rt, rt.alloc(), OPERANDS)
+}
+
+const SURROUNDINGS: &[Row] = &[
+    (b"while break; do continue; done", None),
+    (b"until a; do if b; then break; fi; done", None),
+    (b"for x in a; do case b in c) continue;; esac; done", None),
+    (b"while a; do ! b && break || continue; done", None),
+    (b"while a; do { break; } >b; done | c", None),
+    (b"while :; do (break); done", Some((Rule::BreakOutside, 13))),
+    (
+        b"while a; do b | break; done",
+        Some((Rule::BreakOutside, 16)),
+    ),
+    (b"while a; do break & done", Some((Rule::BreakOutside, 12))),
+    (
+        b"while a; do x=$(continue); done",
+        Some((Rule::ContinueOutside, 16)),
+    ),
+    (
+        b"while a; do f() { continue; }; done",
+        Some((Rule::ContinueOutside, 18)),
+    ),
+    (
+        b"for x in $(break); do a; done",
+        Some((Rule::BreakOutside, 11)),
+    ),
+    (b"for x do a; done; break", Some((Rule::BreakOutside, 18))),
+    (b"f() { while a; do return; done; g() { return; }; }", None),
+    (b"f() (return)", Some((Rule::ReturnOutside, 5))),
+    (b"f() { a | return; }", Some((Rule::ReturnOutside, 10))),
+    (b"f() { return & }", Some((Rule::ReturnOutside, 6))),
+    (
+        b"case a in b) return;; esac",
+        Some((Rule::ReturnOutside, 13)),
+    ),
+];
+
+#[test]
+fn surroundings(rt: HostRuntime) -> Result<(), Fail> {
+    check(&rt, rt.alloc(), SURROUNDINGS)
+}
+
+const THE_FIRST_IS_TOLD: &[Row] = &[
+    (
+        b"eval() { :; }; eval",
+        Some((Rule::FunctionNamed(KnownName::Eval), 0)),
+    ),
+    (
+        b"f() { time() { :; }; }",
+        Some((Rule::FunctionNamed(KnownName::Time), 6)),
+    ),
+    (b"x=$(eval) $y", Some((Rule::ComputedName, 0))),
+    (
+        b"a $(eval); break",
+        Some((Rule::Refused(KnownName::Eval), 4)),
+    ),
+    (b"if $x; then eval; fi", Some((Rule::ComputedName, 3))),
+    (b"{ a; } >\"$(trap b INT)\"", Some((Rule::TrapAction, 11))),
+    (b"unset x | unset \"$y\"", Some((Rule::UnsetOperand, 10))),
+    (
+        b"break; exit& case do in a|\"$y\") y=1 x a;\n! exec a; ;& *)  esac; ",
+        Some((Rule::BreakOutside, 0)),
+    ),
+    (
+        b": ::;\n! while true;\necho \"in\" w;\ngetopts ab y | exit || : | break | set -e;\ndo read -r g && continue 2>&1;\ndone;\nexport y=${f+\\z\\z};\nf() { set a \"$@\"; };\n",
+        Some((Rule::BreakOutside, 60)),
+    ),
+];
+
+#[test]
+fn the_first_is_told(rt: HostRuntime) -> Result<(), Fail> {
+    check(&rt, rt.alloc(), THE_FIRST_IS_TOLD)
 }
 
 /// `:` on so many lines, and a last line.

@@ -1,72 +1,12 @@
 //! The call table of a script with functions.
-use crate::made::{Range, command, define, group, item, lone, one, plain, word};
+use sh_grammar::parse;
 use sh_table::admit::admit;
 use sh_table::table::CallTable;
-use sh_tree::Items;
 use sh_tree::refusal::{Refusal, Rule};
-use sh_tree::tree::{
-    Command, Element, Item, Kind, Param, ParameterOperator, Part, Script, SingleStyle, Span,
-    Subject, Word,
-};
-use std::alloc::{AllocError, Global};
 use std::process::Abort;
 use std::test::Fail;
 
 const SCRIPT: &[u8] = b"f() { g a; }; g() { :; }; f 'b'; f() { x$y; }; set; set() { :; }; a";
-
-/// A simple command of two words.
-fn pair(
-    alloc: Global,
-    number: u32,
-    at: u32,
-    name: Element,
-    operand: Element,
-) -> Result<Command, AllocError> {
-    let mut elements = one(alloc, name)?;
-    elements.push(operand)?;
-    Ok(command(alloc, number, at, Kind::Simple(elements)))
-}
-
-/// The definition of a function by a command in braces.
-fn function(
-    alloc: Global,
-    number: u32,
-    name: Range,
-    brace: u32,
-    inner: Command,
-) -> Result<Item, AllocError> {
-    let body = group(alloc, number.saturating_add(1), brace, inner)?;
-    item(alloc, define(alloc, number, name, body)?)
-}
-
-/// `x$y`
-fn computed(alloc: Global) -> Result<Command, AllocError> {
-    let mut parts = one(alloc, Part::Plain(Span { start: 39, end: 40 }))?;
-    parts.push(Part::Param(Param {
-        span: Span { start: 40, end: 42 },
-        subject: Subject::Name(Span { start: 41, end: 42 }),
-        operator: ParameterOperator::Value,
-    }))?;
-    let span = Span { start: 39, end: 42 };
-    let elements = one(alloc, Element::Word(Word { span, parts }))?;
-    Ok(command(alloc, 10, 39, Kind::Simple(elements)))
-}
-
-fn tree_of(alloc: Global) -> Result<Script, AllocError> {
-    let mut items = Items::new(alloc);
-    let call = pair(alloc, 3, 6, plain(alloc, (6, 7))?, plain(alloc, (8, 9))?)?;
-    items.push(function(alloc, 1, (0, 1), 4, call)?)?;
-    items.push(function(alloc, 4, (14, 15), 18, lone(alloc, 6, (20, 21))?)?)?;
-    let quoted = Part::Single(SingleStyle::Plain, Span { start: 28, end: 31 });
-    let operand = word(alloc, (28, 31), quoted)?;
-    let call = pair(alloc, 7, 26, plain(alloc, (26, 27))?, operand)?;
-    items.push(item(alloc, call)?)?;
-    items.push(function(alloc, 8, (33, 34), 37, computed(alloc)?)?)?;
-    items.push(item(alloc, lone(alloc, 11, (47, 50))?)?)?;
-    items.push(function(alloc, 12, (52, 55), 58, lone(alloc, 14, (60, 61))?)?)?;
-    items.push(item(alloc, lone(alloc, 15, (66, 67))?)?)?;
-    Ok(Script { items })
-}
 
 /// Whether the function of a number has the name, and these commands define it.
 fn has_function(table: &CallTable, number: u32, name: &[u8], definitions: &[u32]) -> bool {
@@ -82,7 +22,7 @@ fn has_function(table: &CallTable, number: u32, name: &[u8], definitions: &[u32]
 #[test]
 fn functions(rt: HostRuntime) -> Result<(), Fail> {
     let alloc = rt.alloc();
-    let tree = tree_of(alloc)?;
+    let tree = parse(alloc, SCRIPT)?;
     let table = CallTable::new(alloc, &tree, SCRIPT)?;
     assert_eq!(rt; table.functions().len(), 3);
     assert!(rt; has_function(&table, 1, b"f", &[1, 8]));
@@ -108,7 +48,7 @@ const CALLEES: &[(u32, Option<u32>)] = &[
 #[test]
 fn callees(rt: HostRuntime) -> Result<(), Fail> {
     let alloc = rt.alloc();
-    let tree = tree_of(alloc)?;
+    let tree = parse(alloc, SCRIPT)?;
     let table = CallTable::new(alloc, &tree, SCRIPT)?;
     for (command, function) in CALLEES {
         assert_eq!(rt; table.callee(*command), *function, "{command}");
@@ -144,7 +84,7 @@ fn check_texts(rt: &impl Abort, table: &CallTable, rows: &[Text]) {
 #[test]
 fn texts(rt: HostRuntime) -> Result<(), Fail> {
     let alloc = rt.alloc();
-    let tree = tree_of(alloc)?;
+    let tree = parse(alloc, SCRIPT)?;
     let table = CallTable::new(alloc, &tree, SCRIPT)?;
     check_texts(&rt, &table, TEXTS);
     Ok(())
@@ -154,7 +94,7 @@ fn texts(rt: HostRuntime) -> Result<(), Fail> {
 #[test]
 fn least(rt: HostRuntime) -> Result<(), Fail> {
     let alloc = rt.alloc();
-    let tree = tree_of(alloc)?;
+    let tree = parse(alloc, SCRIPT)?;
     let table = CallTable::new(alloc, &tree, SCRIPT)?;
     let refusal = Refusal::Profile(Rule::ComputedName, 39);
     assert_eq!(rt; admit(alloc, &tree, &table, SCRIPT), Err(refusal));

@@ -1,9 +1,9 @@
 //! The least breach of a flow rule.
 ghost use Rattle.std.specs.Prelude.{◌≡◌};
-ghost use Rattle.sh_flow.specs.Rules.{rank, fault_unless, precedes, least_from};
+ghost use Rattle.sh_flow.specs.Rules.{fault_unless, precedes, least_from};
 ghost use Rattle.sh_flow.specs.Breaches.{fault_of, fault_found};
 
-use crate::rule::FlowRule;
+use sh_facts::rule::FlowRule;
 
 /// A command, by its number, and a rule that it breaks.
 #[derive(Clone, Copy, Debug, PartialEq, Eq)]
@@ -12,26 +12,13 @@ pub struct Breach {
     pub rule: FlowRule,
 }
 
-// The place of a rule in their order.
-#[tactic(auto, unfolding(crate::specs::Rules::rank))]
-fn rank_of(rule: FlowRule) -> u8
-    ensures { result ≡ rank rule }
-{
-    match rule {
-        FlowRule::F1 => 1,
-        FlowRule::F2 => 2,
-        FlowRule::F4 => 4,
-        FlowRule::F5 => 5,
-    }
-}
-
 // Whether the first is of a lower command, or of the same and of a lower rule.
 #[tactic(auto, unfolding(crate::specs::Rules::precedes, crate::specs::Breaches::fault_of))]
 fn is_before(first: Breach, second: Breach) -> bool
     ensures { result ≡ precedes (fault_of first) (fault_of second) }
 {
-    let own = rank_of(first.rule);
-    let other = rank_of(second.rule);
+    let own = first.rule.rank();
+    let other = second.rule.rank();
     first.number < second.number || first.number == second.number && own < other
 }
 

@@ -10,7 +10,7 @@ ghost use Rattle.sh_table.specs.runs.Worlds.{start_names};
 ghost use Rattle.sh_flow.specs.Rules.{is_set_at_start, leaves, exit_rule, faults, item_faults, rule_behind, out_behind, list_faults, fault_unless, least_from};
 ghost use Rattle.sh_flow.specs.Breaches.{fault_found, rule_of};
 ghost use Rattle.sh_flow.specs.Checked.{claims, row_numbers, claim, facts_in, at_start, out_behind_of, assigned_by, is_assigner};
-ghost use Rattle.sh_flow.specs.declared.rule.FlowRule.TheVariants.{F1};
+ghost use Rattle.sh_facts.specs.declared.rule.FlowRule.TheVariants.{F1};
 
 use crate::certificate::{Certificate, Facts, RowId};
 use crate::flow::breach::{Breach, least_with};
@@ -18,8 +18,8 @@ use crate::flow::claims::{
     entry_at, has_in_row, is_row_within, is_within, numbers_of, shared_front,
 };
 use crate::names::Names;
-use crate::policy::Policy;
-use crate::rule::FlowRule;
+use sh_facts::policy::Policy;
+use sh_facts::rule::FlowRule;
 use sh_tree::tree::{Command, Element, Item};
 use sh_tree::words::command_name;
 

@@ -22,4 +22,4 @@ loop-number-preserved c =
     (at ∙ ap (λ ys. unwrap_or (position (λ (other : Numbered). precedes c.name-name.result.now other.name.now) ys) (length ys)) c.deref.ensures.value) c.in_ok-insert.ensures.items
 
 pub returns : goal.returns
-returns c = whole_order c.args.names.now c.loop-number.number c.loop-number.order.items (omega (arith, c.count-number-end.ensures)) c.loop-number.invariant
+returns c = whole_order c.args.names.now c.loop-number.number c.loop-number.order.items (omega (arith, c.count-number-end.ensures.count)) c.loop-number.invariant

@@ -2,7 +2,7 @@ use Rattle.std.proofs.Common.{refl}
 use Rattle.sh_table.specs.runs.Worlds.{has_unset_event}
 use Rattle.sh_flow.specs.Facts.{both}
 use Rattle.sh_flow.specs.Rules.{start_facts}
-use Rattle.sh_flow.specs.declared.rule.FlowRule.TheVariants.{F1}
+use Rattle.sh_facts.specs.declared.rule.FlowRule.TheVariants.{F1}
 use Rattle.sh_flow.proofs.FactLemmas.{holds_both, start_holds}
 use Rattle.sh_flow.proofs.CommandLemmas.{no_step_has}
 use Rattle.sh_flow.proofs.RunLemmas.{IsQuiet, unset_event, ListOk, quiet_suits, ok_first}

@@ -1,19 +1,19 @@
-use Rattle.std.proofs.Common.{sym, ap, subst, ◌∙◌, arith}
+use Rattle.std.proofs.Common.{sym, ap, ◌∙◌, arith}
 use Rattle.sh_tree.specs.language.Commands.{is_newline_lead}
-use Rattle.sh_grammar.proofs.BreakLemmas.{Skips, skips_one, skips_all}
+use Rattle.sh_grammar.proofs.BreakLemmas.{skips_one, skips_all}
 use Rattle.sh_grammar.proofs.breaks.breaks.Goals as goal
 
 pub loop-next-preserved : goal.loop-next-preserved
 loop-next-preserved c =
     let at = c.loop-next in
-    let b = c.args.script.now in
     let line = sym (c.is_newline.ensures ∙ ap is_newline_lead c.lead_at.ensures.value) ∙ c.loop-next-test.true in
+    let to = c.in_ok-next.ensures in
     let from = at.invariant.from in
-    let after = c.next-next.ensures.after in
+    let after = to.from in
     record {
-      skips = subst (λ v. Skips b c.args.from v) (sym c.next-next.ensures.value) (skips_one b c.args.from at.next at.invariant.skips line);
+      skips = skips_one c.args.script.now c.args.from at.next at.invariant.skips c.in_ok-next.next line to;
       from = omega arith;
-      stands = c.next-next.ensures.stands;
+      stands = to.stands;
     }
 
 pub returns : goal.returns

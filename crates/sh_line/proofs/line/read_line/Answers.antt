@@ -5,7 +5,8 @@ use Rattle.clap.specs.Lexer.{without_minus}
 use Rattle.clap.specs.Words.{found_of}
 use Rattle.clap.proofs.CallerReads.{signed_reads}
 use Rattle.clap.proofs.WalkLemmas.{first_value-rows, one_text-rows}
-use Rattle.sh_flow.specs.Policy.{Declared, first_bad}
+use Rattle.sh_facts.specs.Facts.{Declared}
+use Rattle.sh_facts.specs.Policy.{first_bad}
 use Rattle.sh_line.proofs.LineLemmas.{no_file}
 use Rattle.sh_line.proofs.line.read_line.Goals as goal
 

@@ -1,6 +1,5 @@
 use Rattle.std.proofs.Common.{Ok, le_trans, sym, subst}
 use Rattle.std.proofs.lemmas.Result.{err_from_is_err_and}
-use Rattle.sh_words.specs.declared.builder.Next.TheVariants.{Inner}
 use Rattle.sh_words.specs.Clauses.{Answers}
 use Rattle.sh_words.specs.Modes.{seen}
 use Rattle.sh_words.specs.Rest.{Left}
@@ -13,7 +12,7 @@ use Rattle.sh_grammar.proofs.grammar.Grammar.built.Goals as goal
 
 pub returns-in_err-word : goal.returns-in_err-word
 returns-in_err-word g c =
-    let at = c.loop-builder in
+    let at = c.loop-last in
     let d = at.invariant.driven in
     let residual = c.from_residual-in_err-word in
     let p = err_from_is_err_and residual.result residual.ensures.1 in
@@ -21,7 +20,7 @@ returns-in_err-word g c =
 
 pub returns-in-Done : goal.returns-in-Done
 returns-in-Done g c =
-    let at = c.loop-builder in
+    let at = c.loop-last in
     let d = at.invariant.driven in
     let b = c.args.script.now in
     let w = at.builder in
@@ -34,7 +33,7 @@ returns-in-Done g c =
 
 pub returns-in_err-commands-in-Inner : goal.returns-in_err-commands-in-Inner
 returns-in_err-commands-in-Inner g c =
-    let at = c.loop-builder in
+    let at = c.loop-last in
     let d = at.invariant.driven in
     let b = c.args.script.now in
     let w = at.builder in
@@ -46,9 +45,9 @@ returns-in_err-commands-in-Inner g c =
     rw (p.1, p.2) (inner_refused b c.args.mode c.requires.whole c.args.at c.args.from at.last w d new asked.0 c.in-Inner.at c.in-Inner.depth _ asked.2
     (subst (λ s. Refused b (ClosedFrom b s) c.in_err-commands-in-Inner.field-0.0) c.within-first.ensures.value c.in_err-commands-in-Inner.ensures))
 
-pub loop-builder-smaller : goal.loop-builder-smaller
-loop-builder-smaller g c =
-    let at = c.loop-builder in
+pub loop-last-smaller : goal.loop-last-smaller
+loop-last-smaller g c =
+    let at = c.loop-last in
     let d = at.invariant.driven in
     let b = c.args.script.now in
     let w = at.builder in
@@ -60,9 +59,9 @@ loop-builder-smaller g c =
     (subst (λ s. One (ClosedFrom b s) (here found.end) found.commands) c.within-first.ensures.value found.ensures.one) (le_trans c.within-first.ensures.after found.ensures.from)
     c.in_ok-resume-in-Inner.ensures.gives
 
-pub loop-builder-preserved : goal.loop-builder-preserved
-loop-builder-preserved g c =
-    let at = c.loop-builder in
+pub loop-last-preserved : goal.loop-last-preserved
+loop-last-preserved g c =
+    let at = c.loop-last in
     let d = at.invariant.driven in
     let b = c.args.script.now in
     let w = at.builder in

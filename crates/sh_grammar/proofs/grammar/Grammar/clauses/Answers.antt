@@ -6,11 +6,11 @@ use Rattle.sh_tree.specs.declared.token.command.Reserved.TheVariants as word
 use Rattle.sh_tree.specs.declared.tree.ClauseEnd.TheVariants.{Break}
 use Rattle.sh_tree.specs.language.Commands.{lead_at, clause_end_of}
 use Rattle.sh_tree.specs.language.Trees as tree
-use Rattle.sh_grammar.specs.Breaks.{BreaksTo}
+use Rattle.sh_grammar.specs.Breaks.{BreaksTo, BreaksFrom}
 use Rattle.sh_grammar.specs.Cases.{ClausesFrom}
-use Rattle.sh_grammar.specs.Readers.{One}
+use Rattle.sh_grammar.specs.Readers.{One, Refused}
 use Rattle.sh_grammar.specs.States.{here}
-use Rattle.sh_grammar.proofs.CaseLemmas.{clauses_wrong, clauses_last, clauses_more}
+use Rattle.sh_grammar.proofs.CaseLemmas.{clauses_wrong, clauses_last, clauses_more, clauses_all, clauses_stopped}
 use Rattle.sh_grammar.proofs.ReaderLemmas.{refused_none}
 use Rattle.sh_grammar.proofs.grammar.Grammar.clauses.Goals as goal
 
@@ -51,14 +51,40 @@ loop-next-preserved g c =
     let clause = c.in_ok-patterns in
     let some : lead_at b First at.next.at ≡ lead.Reserved word.Esac → ⊥ = λ esac. c.is_same.ensures.no c.loop-next-test.true (c.lead_at.ensures.value ∙ esac) in
     let ends = sym (c.in-Some.ensures ∙ ap clause_end_of c.lead_at-in-loop-next.ensures.value) in
-    let breaks = subst (λ v. BreaksTo b v c.breaks-next.result) c.next.ensures.value c.breaks-next.ensures in
+    let breaks = subst (λ v. BreaksTo b v c.in_ok-next.next) c.next.ensures.value c.in_ok-next.ensures in
     let from = at.invariant.from in
     let further = clause.ensures.from in
     let after = c.next.ensures.after in
-    let behind = c.breaks-next.ensures.from in
+    let behind = c.in_ok-next.ensures.from in
     record {
       found = rw c.in_ok-push-2.ensures.ok (clauses_more b c.args.from at.next at.clauses at.invariant.found some clause.patterns clause.body clause.behind clause.ensures.one
-          c.in-Some.end ends c.breaks-next.result breaks);
+          c.in-Some.end ends c.in_ok-next.next breaks);
       from = omega arith;
-      stands = c.breaks-next.ensures.stands;
+      stands = c.in_ok-next.ensures.stands;
+    }
+
+pub returns-in_err-next : goal.returns-in_err-next
+returns-in_err-next g c =
+    let at = c.loop-next in
+    let b = c.args.script.now in
+    let clause = c.in_ok-patterns in
+    let residual = c.from_residual-in_err-next in
+    let p = err_from_is_err_and residual.result residual.ensures.1 in
+    let some : lead_at b First at.next.at ≡ lead.Reserved word.Esac → ⊥ = λ esac. c.is_same.ensures.no c.loop-next-test.true (c.lead_at.ensures.value ∙ esac) in
+    let ends = sym (c.in-Some.ensures ∙ ap clause_end_of c.lead_at-in-loop-next.ensures.value) in
+    let none = subst (λ v. Refused b (BreaksFrom b v) c.in_err-next.field-0.0) c.next.ensures.value c.in_err-next.ensures in
+    rw (p.1, p.2) (clauses_stopped b c.args.from at.next at.clauses at.invariant.found some clause.patterns clause.body clause.behind clause.ensures.one c.in-Some.end ends _ none)
+
+pub returns : goal.returns
+returns g c =
+    let at = c.loop-next in
+    let b = c.args.script.now in
+    let is = sym c.lead_at.ensures.value ∙ c.is_same.ensures.yes c.loop-next-test.false in
+    let one = clauses_all b c.args.from at.next at.clauses at.invariant.found is in
+    let from = at.invariant.from in
+    let further = c.skip.ensures.further in
+    record {
+      one = subst (λ v. One (ClausesFrom b c.args.from) (here v) at.clauses) (sym c.skip.ensures.value) one;
+      from = omega arith;
+      stands = c.skip.ensures.stands;
     }

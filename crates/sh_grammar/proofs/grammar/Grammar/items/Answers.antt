@@ -1,8 +1,9 @@
 use Rattle.std.proofs.Common.{not, ◌||◌, sym, ap, ◌∙◌, arith}
 use Rattle.sh_tree.specs.language.Commands.{begins_pipeline, separator, is_reserved}
 use Rattle.sh_grammar.specs.Items.{RestFrom}
-use Rattle.sh_grammar.proofs.ListLemmas.{items_wrong, items_more, separates}
+use Rattle.sh_grammar.proofs.ListLemmas.{items_wrong, items_more, separates, items_stopped, items_all}
 use Rattle.sh_grammar.proofs.ReaderLemmas.{refused_none}
+use Rattle.std.proofs.lemmas.Result.{err_from_is_err_and}
 use Rattle.sh_grammar.proofs.grammar.Grammar.items.Goals as goal
 
 pub returns-then-not-closes : goal.returns-then-not-closes
@@ -29,10 +30,33 @@ loop-next-preserved g c =
     let from = at.invariant.from in
     let further = list.ensures.from in
     let after = c.parted.ensures.after in
-    let behind = c.breaks-next.ensures.from in
+    let behind = c.in_ok-next.ensures.from in
     record {
       found = rw c.in_ok-push-2.ensures.ok (items_more b c.args.from at.next at.items at.invariant.found some list.list list.behind list.ensures.one c.in-Some.background ends
-          c.parted.result c.breaks-next.result c.parted.ensures.value c.breaks-next.ensures);
+          c.parted.result c.in_ok-next.next c.parted.ensures.value c.in_ok-next.ensures);
       from = omega arith;
-      stands = c.breaks-next.ensures.stands;
+      stands = c.in_ok-next.ensures.stands;
+    }
+
+pub returns-in_err-next : goal.returns-in_err-next
+returns-in_err-next g c =
+    let at = c.loop-next in
+    let b = c.args.script.now in
+    let residual = c.from_residual-in_err-next in
+    let p = err_from_is_err_and residual.result residual.ensures.1 in
+    let list = c.in_ok-list in
+    let some = sym (c.begins_pipeline.ensures ∙ ap begins_pipeline c.lead_at.ensures.value) ∙ c.loop-next-test.true in
+    let ends = sym (c.in-Some.ensures ∙ ap separator c.lead_at-lead.ensures.value) in
+    rw (p.1, p.2) (items_stopped b c.args.from at.next at.items at.invariant.found some list.list list.behind list.ensures.one c.in-Some.background ends c.parted.result
+    c.parted.ensures.value _ c.in_err-next.ensures)
+
+pub returns : goal.returns
+returns g c =
+    let at = c.loop-next in
+    let b = c.args.script.now in
+    let none = sym (c.begins_pipeline.ensures ∙ ap begins_pipeline c.lead_at.ensures.value) ∙ c.loop-next-test.false in
+    record {
+      one = items_all b c.args.from at.next at.items at.invariant.found none;
+      from = at.invariant.from;
+      stands = at.invariant.stands;
     }

@@ -3,7 +3,7 @@ use Rattle.sh_flow.specs.Facts.{both}
 use Rattle.sh_flow.specs.Certificates.{claims_of}
 use Rattle.sh_flow.specs.Rules.{start_facts, list_faults, least_from}
 use Rattle.sh_flow.specs.Breaches.{fault_found, rule_of, out_of}
-use Rattle.sh_flow.specs.declared.rule.FlowRule.TheVariants.{F1}
+use Rattle.sh_facts.specs.declared.rule.FlowRule.TheVariants.{F1}
 use Rattle.sh_flow.proofs.flow.rules.Checker.least_breach.Given as goal
 
 -- what is found and the faults of what is left are those of the whole

@@ -1,0 +1,5 @@
+pub mod KnowingLemmas
+pub mod GainLemmas
+pub mod DigitLemmas
+pub mod NeedLemmas
+pub mod JudgeLemmas

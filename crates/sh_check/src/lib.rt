@@ -1,0 +1,6 @@
+//! The check of a certificate: whether the rules and the demands of a script hold of what it claims.
+#![tactic(auto)]
+
+pub mod gains;
+pub mod known;
+pub mod needs;

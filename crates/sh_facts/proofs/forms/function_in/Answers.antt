@@ -1,0 +1,15 @@
+use Rattle.std.proofs.Common.{sym, ap, ◌∙◌}
+use Rattle.sh_facts.specs.Fields.{function_behind}
+use Rattle.sh_facts.specs.Forms.{pieces}
+use Rattle.sh_facts.proofs.FormLemmas.{then_behind, function_by_parts}
+use Rattle.sh_facts.proofs.forms.function_in.Goals as goal
+
+pub returns-in_err-behind_number : goal.returns-in_err-behind_number
+unfolding then_behind
+returns-in_err-behind_number c =
+    rw c.from_residual.ensures (sym (function_by_parts c.args.number (pieces 32 c.args.line.now) ∙ ap (λ o. then_behind o function_behind) (sym c.in_err-behind_number.ensures)))
+
+pub returns : goal.returns
+unfolding then_behind
+returns c =
+    c.function_facts.ensures ∙ sym (function_by_parts c.args.number (pieces 32 c.args.line.now) ∙ ap (λ o. then_behind o function_behind) (sym c.in_ok-behind_number.ensures))

@@ -1,0 +1,12 @@
+use Rattle.sh_facts.proofs.KnowledgeExampleLemmas.{knowledge_as_expected}
+use Rattle.sh_facts.proofs.KnownNameLemmas.{lost_one_by_one, names_suffice}
+use Rattle.sh_facts.proofs.laws.names.Goals as goal
+
+pub returns-clause-law : goal.returns-clause-law
+returns-clause-law c = names_suffice
+
+pub returns-clause-losses : goal.returns-clause-losses
+returns-clause-losses c = lost_one_by_one
+
+pub returns-clause-examples : goal.returns-clause-examples
+returns-clause-examples c = knowledge_as_expected

@@ -1,0 +1,9 @@
+use Rattle.sh_facts.proofs.DifferLemmas.{read_is_numbered}
+use Rattle.sh_facts.proofs.NumberLemmas.{read_numbers_differ}
+use Rattle.sh_facts.proofs.laws.numbered.Goals as goal
+
+pub returns-clause-once : goal.returns-clause-once
+returns-clause-once c = read_numbers_differ
+
+pub returns-clause-test : goal.returns-clause-test
+returns-clause-test c = read_is_numbered

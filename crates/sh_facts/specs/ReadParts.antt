@@ -1,0 +1,119 @@
+-- Clauses of private functions: what is read of a part of a text, and which rows stand then.
+-- The standard has no such thing: parts of the text of a certificate, and rows of the numbers of names.
+use Rattle.std.specs.Prelude.{◌≡◌, ℕ, ◌+◌, ◌*◌, ◌≤◌, nat_eq, Bool, true, false, List, length, map, Ok, Option, Some, None, option_map, slice_get}
+use Rattle.std.specs.Borrow.{Bor}
+use Rattle.std.specs.List.{list_all, list_any}
+use Rattle.std.specs.Str.{bytes_eq}
+use Rattle.indexmap.specs.IndexMap.{get}
+use Rattle.sh_rows.specs.declared.bits.BitRow.{BitRow}
+use Rattle.sh_tree.specs.declared.refusal.Refusal.{Refusal}
+use Rattle.sh_tree.specs.declared.refusal.Refusal.TheVariants.{Memory, CertShape}
+use Rattle.sh_tree.specs.declared.tree.Command.{Command}
+use Rattle.sh_tree.specs.program.Syntax.{Text}
+use Rattle.sh_facts.specs.declared.certificate.Certificate.{Certificate}
+use Rattle.sh_facts.specs.declared.certificate.Facts as value
+use Rattle.sh_facts.specs.declared.certificate.Drops.{Drops}
+use Rattle.sh_facts.specs.declared.certificate.Entry.{Entry}
+use Rattle.sh_facts.specs.declared.certificate.FunctionEntry.{FunctionEntry}
+use Rattle.sh_facts.specs.declared.rows.RowId.{RowId}
+use Rattle.sh_facts.specs.declared.forms.SetTexts.{SetTexts}
+use Rattle.sh_facts.specs.declared.forms.FactText.{FactText}
+use Rattle.sh_facts.specs.declared.forms.CommandTexts.{CommandTexts}
+use Rattle.sh_facts.specs.declared.forms.FunctionTexts.{FunctionTexts}
+use Rattle.sh_facts.specs.Certificates as claims
+use Rattle.sh_facts.specs.Certificates.{in_byte_order, names_at, commands_from}
+use Rattle.sh_facts.specs.Fields.{split, sets_of, claim_of, command_of, function_of}
+use Rattle.sh_facts.specs.Forms.{is_rising, read_lines, command_in, function_in}
+use Rattle.sh_facts.specs.KeptRows.{KeptRows, Stay, bits_of}
+use Rattle.sh_facts.specs.Names.{are_distinct}
+use Rattle.sh_facts.specs.Reading.{are_known, sets_fit, claim_fits, is_loop, head_fits, command_fits, commands_fit, function_fits}
+use Rattle.sh_facts.specs.Sheets.{CommandClaims, FunctionClaims}
+use Rattle.sh_facts.specs.Spelling.{is_writable, is_writable_head, are_writable, is_command, is_function}
+
+-- What is read
+
+-- the number is that of the name
+unfoldable pub is_name_of : Option Text → Text → Bool
+is_name_of None t = false
+is_name_of (Some n) t = bytes_eq t n
+
+-- the number is that of one of these
+abbrev pub is_among : List Text → List Text → ℕ → Bool
+is_among names ts k = list_any (λ t. is_name_of (slice_get names k) t) ts
+
+-- the row of the names of a text
+pub record IsRowOf (names : List Text) (t : Text) (row : BitRow) : Type 0 where
+  pub distinct : are_distinct names ≡ true
+  pub count : row.count ≡ length names
+  pub fit : are_known names (split t) ≡ true
+  pub numbers : (k : ℕ) → bits_of row k ≡ is_among names (split t) k
+
+-- n rows more at most, and what is read fits; what is said of these rows is so of all rows that have them in their places
+pub record IsRead (n : ℕ) (old new : KeptRows) (fits : Bool) (Says : KeptRows → Type 0) : Type 0 where
+  pub few : length new.rows ≤ length old.rows + n
+  pub count : new.count ≡ old.count
+  pub stay : Stay old.rows new.rows
+  pub fit : fits ≡ true
+  pub lasting : (later : KeptRows) → Stay new.rows later.rows → Says later
+
+module _ (names : List Text) where
+  abbrev pub ReadsRow : Text → KeptRows → RowId → KeptRows → Type 0
+  ReadsRow t old id new = IsRead 1 old new (are_known names (split t)) (λ rows. is_rising (split t) ≡ true → names_at (in_byte_order names) rows id ≡ split t)
+
+  abbrev pub ReadsSets : SetTexts → KeptRows → Drops → KeptRows → Type 0
+  ReadsSets t old d new = IsRead 2 old new (sets_fit names (sets_of t)) (λ rows. are_writable (sets_of t) ≡ true → claims.drops_of (in_byte_order names) rows d ≡ sets_of t)
+
+  abbrev pub ReadsFacts : FactText → KeptRows → value.Facts → KeptRows → Type 0
+  ReadsFacts t old f new = IsRead 2 old new (claim_fits names (claim_of t)) (λ rows. is_writable (claim_of t) ≡ true → claims.claim_of (in_byte_order names) rows f ≡ claim_of t)
+
+  abbrev pub ReadsHead : Option FactText → Bool → KeptRows → Option value.Facts → KeptRows → Type 0
+  ReadsHead t l old f new =
+      IsRead 2 old new (head_fits names l (option_map claim_of t)) (λ rows. is_writable_head (option_map claim_of t) ≡ true → option_map (claims.claim_of (in_byte_order names) rows) f ≡ option_map claim_of t)
+
+  abbrev pub ReadsCommand : CommandTexts → Bool → KeptRows → Entry → Option value.Facts → KeptRows → Type 0
+  ReadsCommand t l old e head new =
+      IsRead 8 old new (command_fits names l (command_of t)) (λ rows. is_command (command_of t) ≡ true → claims.command_claims (in_byte_order names) rows e head ≡ command_of t)
+
+  abbrev pub ReadsFunction : FunctionTexts → KeptRows → FunctionEntry → KeptRows → Type 0
+  ReadsFunction t old e new =
+      IsRead 8 old new (function_fits names (function_of t)) (λ rows. is_function (function_of t) ≡ true → claims.function_claims (in_byte_order names) rows e ≡ function_of t)
+
+-- what is read does not fit
+abbrev pub Misfits : Bool → Refusal → Type 0
+Misfits fits CertShape = fits ≡ false
+Misfits fits Memory = Unit {0}
+Misfits fits _ = ⊥
+
+-- it does not fit, of which P is a proof
+abbrev pub Misses : Type 0 → Refusal → Type 0
+Misses P CertShape = P
+Misses P Memory = Unit {0}
+Misses P _ = ⊥
+
+abbrev pub loops_of : List (Bor Command) → List Bool
+loops_of cs = map (λ (c : Bor Command). is_loop c.now) cs
+
+-- the lines of the commands, told whether each is a loop, and what is behind them
+pub record ReadsCommands (names : List Text) (loops : List Bool) (t : Text) (entries : List Entry) (heads : ℕ → Option value.Facts) (left : Text) (rows : KeptRows) : Type 0 where
+  pub claims : List CommandClaims
+  pub reading : read_lines command_in 3 1 (length loops) t ≡ Ok (claims, left)
+  pub fit : commands_fit names loops claims ≡ true
+  pub few : length rows.rows ≤ 8 * length loops
+  pub count : rows.count ≡ length names
+  pub lasting : (c : Certificate) → Stay rows.rows c.rows.rows → ((k : ℕ) → get nat_eq c.heads k ≡ heads k) → commands_from (in_byte_order names) c 1 entries ≡ claims
+
+-- the lines of the functions
+pub record ReadsFunctions (names : List Text) (first count : ℕ) (t : Text) (old : KeptRows) (entries : List FunctionEntry) (new : KeptRows) : Type 0 where
+  pub read : List FunctionClaims
+  pub left : Text
+  pub reading : read_lines function_in first 1 count t ≡ Ok (read, left)
+  pub fit : list_all (function_fits names) read ≡ true
+  pub stay : Stay old.rows new.rows
+  pub lasting : (later : KeptRows) → Stay new.rows later.rows → map (claims.function_claims (in_byte_order names) later) entries ≡ read
+
+-- no lines of commands that are read here fit
+abbrev pub NoneFit : List Text → List Bool → Text → Type 0
+NoneFit names loops t = (x : List CommandClaims × Text) → read_lines command_in 3 1 (length loops) t ≡ Ok x → commands_fit names loops x.0 ≡ false
+
+abbrev pub NoFunctionsFit : List Text → (first count : ℕ) → Text → Type 0
+NoFunctionsFit names first count t = (x : List FunctionClaims × Text) → read_lines function_in first 1 count t ≡ Ok x → list_all (function_fits names) x.0 ≡ false

@@ -1,0 +1,507 @@
+//! What is known at a place of a script: sets of names that stand on the stack and take no memory.
+ghost use Rattle.std.specs.Prelude.{◌≡◌, ◌&&◌, ◌||◌, ◌<◌, ◌-◌, ℕ, List, [], ◌∷◌, true, false, not, length, map, codes};
+ghost use Rattle.std.specs.List.{list_all};
+ghost use Rattle.std.specs.Str.{bytes_eq};
+ghost use Rattle.sh_rows.specs.Numbers.{has_bit};
+ghost use Rattle.sh_tree.specs.program.Syntax.{Text};
+ghost use Rattle.sh_table.specs.runs.Environment.{is_one_of};
+ghost use Rattle.sh_table.specs.runs.Worlds.{start_names};
+ghost use Rattle.sh_facts.specs.Facts as spec;
+ghost use Rattle.sh_facts.specs.Faults.{are_among};
+ghost use Rattle.sh_facts.specs.Gains.{with_gains, named};
+ghost use Rattle.sh_facts.specs.Views as views;
+ghost use Rattle.sh_facts.specs.KeptRows.{holds_at};
+ghost use Rattle.sh_facts.specs.Certificates.{claim_of, drops_of, in_byte_order, names_at};
+ghost use Rattle.sh_facts.specs.Knowledge.{AreNumbered, among, assured_facts, contains, knowledge_facts};
+
+use crate::certificate::{Drops, Facts};
+use crate::names::Names;
+use crate::policy::Policy;
+use crate::rows::{RowId, Rows};
+use sh_rows::kernels::{is_set, join_words, meet_words, remove_words, set, unset, within_words};
+use sh_tree::limits::MAX_NAMES;
+
+/// Names of a script, as the set of their numbers.
+#[derive(Clone, Copy, Debug, PartialEq, Eq)]
+pub struct NameSet {
+    words: [u64; 64],
+}
+
+/// What is surely there: variables that are set, functions that are defined, and so many positional parameters at least.
+#[derive(Clone, Copy, Debug, PartialEq, Eq)]
+pub struct Assured {
+    vars: NameSet,
+    functions: NameSet,
+    args: u16,
+}
+
+/// What is known at a place of a script.
+#[derive(Clone, Copy, Debug, PartialEq, Eq)]
+pub enum Knowledge {
+    /// No run comes there, so anything may be claimed.
+    NotReached,
+    /// What each run has that comes there.
+    Known(Assured),
+}
+
+/// What a certificate claims of a call: the names that it may drop, and what is known where the function returns.
+#[derive(Clone, Copy, Debug, PartialEq, Eq)]
+pub struct Return {
+    pub drops: Drops,
+    pub facts: Facts,
+}
+
+impl NameSet {
+    /// No names.
+    pub fn new() -> NameSet
+        ensures names { (names : List Text) (t : Text) → contains names result t ≡ false }
+        ensures numbers { (k : ℕ) → has_bit k result.words ≡ false }
+    {
+        NameSet { words: [0; 64] }
+    }
+
+    /// Whether a name is in the set, which a name without a number never is.
+    pub fn has(&self, names: &Names, name: &[u8]) -> bool
+        ensures { result ≡ contains names.now self.now name.now }
+    {
+        match names.number(name) {
+            Some(number) => is_set(&self.words, number),
+            None => false,
+        }
+    }
+
+    /// Adds a name, if it has a number.
+    pub fn add(&mut self, names: &Names, name: &[u8])
+        ensures { (t : Text) → contains names.now self.new t ≡ (is_one_of names.now t && (bytes_eq name.now t || contains names.now self.old t)) }
+    {
+        if let Some(number) = names.number(name) {
+            set(&mut self.words, number);
+        }
+    }
+
+    /// Takes a name out.
+    pub fn remove(&mut self, names: &Names, name: &[u8])
+        ensures { (t : Text) → contains names.now self.new t ≡ (contains names.now self.old t && not (bytes_eq name.now t)) }
+    {
+        if let Some(number) = names.number(name) {
+            unset(&mut self.words, number);
+        }
+    }
+}
+
+impl NameSet {
+    // Adds those of the texts that have numbers.
+    fn add_all(&mut self, names: &Names, texts: &[Vec<u8>])
+        ensures { (t : Text) → contains names.now self.new t ≡ (is_one_of names.now t && (is_one_of (map (λ v. v.items) texts.now) t || contains names.now self.old t)) }
+    {
+        for text in texts {
+            self.add(names, text);
+        }
+    }
+
+    // The numbers that are in both.
+    fn meet(&mut self, other: &NameSet)
+        ensures { (k : ℕ) → has_bit k self.new.words ≡ (has_bit k other.now.words && has_bit k self.old.words) }
+    {
+        meet_words(&mut self.words, &other.words);
+    }
+
+    // The numbers that are not in the other.
+    fn without(mut self, other: &NameSet) -> NameSet
+        ensures { (k : ℕ) → has_bit k result.words ≡ (not (has_bit k other.now.words) && has_bit k self.words) }
+    {
+        remove_words(&mut self.words, &other.words);
+        self
+    }
+
+    // The numbers that are not in the row of a place.
+    fn without_row(mut self, rows: &Rows, id: RowId) -> NameSet
+        ensures { (k : ℕ) → has_bit k result.words ≡ (not (holds_at rows.now.rows id.index k) && has_bit k self.words) }
+    {
+        if let Some(row) = rows.row(id) {
+            remove_words(&mut self.words, row.words());
+        }
+        self
+    }
+
+    // The numbers that are here or in the row of a place.
+    fn with_row(mut self, rows: &Rows, id: RowId) -> NameSet
+        ensures { (k : ℕ) → k < MAX_NAMES → has_bit k result.words ≡ (holds_at rows.now.rows id.index k || has_bit k self.words) }
+    {
+        if let Some(row) = rows.row(id) {
+            join_words(&mut self.words, row.words());
+        }
+        self
+    }
+
+    // Whether each name of the row of a place is here.
+    fn includes(&self, rows: &Rows, id: RowId) -> bool
+        ensures { (names : List Text) → AreNumbered names → rows.now.count ≡ length names
+            → result ≡ list_all (contains names self.now) (names_at (in_byte_order names) rows.now id) }
+    {
+        match rows.row(id) {
+            Some(row) => within_words(row.words(), &self.words),
+            None => true,
+        }
+    }
+}
+
+impl Assured {
+    // Whether all that a certificate claims by a fact is assured.
+    fn includes(&self, rows: &Rows, facts: &Facts) -> bool
+        ensures { (names : List Text) → AreNumbered names → rows.now.count ≡ length names
+            → result ≡ spec.within (claim_of (in_byte_order names) rows.now facts.now) (assured_facts names self.now) }
+    {
+        match facts {
+            Facts::NotReached => false,
+            Facts::Known {
+                vars,
+                functions,
+                args,
+            } => {
+                self.vars.includes(rows, *vars)
+                    && self.functions.includes(rows, *functions)
+                    && *args <= self.args
+            }
+        }
+    }
+
+    // What is there with both.
+    fn meet(&mut self, other: &Assured)
+        ensures { (names : List Text) → assured_facts names self.new ≡ spec.meet (assured_facts names self.old) (assured_facts names other.now) }
+    {
+        self.vars.meet(&other.vars);
+        self.functions.meet(&other.functions);
+        self.args = self.args.min(other.args);
+    }
+
+    // What a function leaves that was surely called: what it does not drop, and what is claimed of its return, without the
+    // prefix names that were not set before.
+    fn after_return(&self, rows: &Rows, returned: &Return, prefixes: &NameSet) -> Knowledge
+        ensures { (names before : List Text) → AreNumbered names
+            → ((t : Text) → is_one_of names t ≡ true → contains names prefixes.now t ≡ is_one_of before t)
+            → knowledge_facts names result
+            ≡ views.returned (drops_of (in_byte_order names) rows.now returned.now.drops) before
+            (spec.facts (claim_of (in_byte_order names) rows.now returned.now.facts))
+            (contains names self.now.vars) (contains names self.now.functions) self.now.args }
+    {
+        match returned.facts {
+            Facts::NotReached => Knowledge::NotReached,
+            Facts::Known {
+                vars,
+                functions,
+                ..
+            } => Knowledge::Known(Assured {
+                vars: self
+                    .vars
+                    .without_row(rows, returned.drops.vars)
+                    .with_row(rows, vars)
+                    .without(&prefixes.without(&self.vars)),
+                functions: self
+                    .functions
+                    .without_row(rows, returned.drops.functions)
+                    .with_row(rows, functions),
+                args: self.args,
+            }),
+        }
+    }
+
+    // What is left where a function or a utility of its name was called: what the function does not drop, and where it is
+    // `getopts`, not OPTARG.
+    fn after_either(&self, names: &Names, function: &[u8], rows: &Rows, drops: &Drops) -> Assured
+        ensures { AreNumbered names.now
+            → assured_facts names.now result
+            ≡ views.left (drops_of (in_byte_order names.now) rows.now drops.now) function.now
+            (contains names.now self.now.vars) (contains names.now self.now.functions) self.now.args }
+    {
+        let mut vars = self.vars.without_row(rows, drops.vars);
+        if is_getopts(function) {
+            vars.remove(names, b"OPTARG");
+        }
+        Assured {
+            vars,
+            functions: self.functions.without_row(rows, drops.functions),
+            args: self.args,
+        }
+    }
+}
+
+impl Knowledge {
+    /// What is known where a script starts, of its names.
+    pub fn start(names: &Names, policy: &Policy) -> Knowledge
+        ensures { knowledge_facts names.now result ≡ among names.now (spec.start_facts policy.now) }
+    {
+        let mut vars = NameSet::new();
+        vars.add(names, b"IFS");
+        vars.add(names, b"OPTIND");
+        vars.add(names, b"PPID");
+        vars.add_all(names, policy.names());
+        Knowledge::Known(Assured {
+            vars,
+            functions: NameSet::new(),
+            args: policy.args(),
+        })
+    }
+
+    /// What a certificate claims by a fact.
+    pub fn claimed(rows: &Rows, facts: &Facts) -> Knowledge
+        ensures { (names : List Text) → AreNumbered names → knowledge_facts names result ≡ spec.facts (claim_of (in_byte_order names) rows.now facts.now) }
+    {
+        match facts {
+            Facts::NotReached => Knowledge::NotReached,
+            Facts::Known {
+                vars,
+                functions,
+                args,
+            } => Knowledge::Known(Assured {
+                vars: NameSet::new().with_row(rows, *vars),
+                functions: NameSet::new().with_row(rows, *functions),
+                args: *args,
+            }),
+        }
+    }
+
+    /// Whether all that a certificate claims by a fact is known.
+    #[tactic(auto, unfolding(crate::specs::Knowledge::knowledge_facts, crate::specs::Facts::within))]
+    pub fn includes(&self, rows: &Rows, facts: &Facts) -> bool
+        ensures { (names : List Text) → AreNumbered names → rows.now.count ≡ length names
+            → result ≡ spec.within (claim_of (in_byte_order names) rows.now facts.now) (knowledge_facts names self.now) }
+    {
+        match self {
+            Knowledge::NotReached => true,
+            Knowledge::Known(assured) => assured.includes(rows, facts),
+        }
+    }
+
+    /// Whether some run comes here.
+    #[tactic(auto, unfolding(crate::specs::Knowledge::knowledge_facts, crate::specs::Facts::claims))]
+    pub fn is_reached(&self) -> bool
+        ensures { (names : List Text) → result ≡ not (spec.claims (knowledge_facts names self.now) spec.Nowhere) }
+    {
+        match self {
+            Knowledge::NotReached => false,
+            Knowledge::Known(_) => true,
+        }
+    }
+
+    /// Whether a variable is surely set. Where no run comes, each is.
+    #[tactic(auto, unfolding(crate::specs::Knowledge::knowledge_facts, crate::specs::Facts::claims))]
+    pub fn has_variable(&self, names: &Names, name: &[u8]) -> bool
+        ensures { result ≡ spec.claims (knowledge_facts names.now self.now) (spec.Variable name.now) }
+    {
+        match self {
+            Knowledge::NotReached => true,
+            Knowledge::Known(assured) => assured.vars.has(names, name),
+        }
+    }
+
+    /// Whether a function is surely defined.
+    #[tactic(auto, unfolding(crate::specs::Knowledge::knowledge_facts, crate::specs::Facts::claims))]
+    pub fn has_function(&self, names: &Names, name: &[u8]) -> bool
+        ensures { result ≡ spec.claims (knowledge_facts names.now self.now) (spec.Function name.now) }
+    {
+        match self {
+            Knowledge::NotReached => true,
+            Knowledge::Known(assured) => assured.functions.has(names, name),
+        }
+    }
+
+    /// Whether there are so many positional parameters.
+    #[tactic(auto, unfolding(crate::specs::Knowledge::knowledge_facts, crate::specs::Facts::claims))]
+    pub fn has_args(&self, count: u16) -> bool
+        ensures { (names : List Text) → result ≡ spec.claims (knowledge_facts names self.now) (spec.Parameters count) }
+    {
+        match self {
+            Knowledge::NotReached => true,
+            Knowledge::Known(assured) => count <= assured.args,
+        }
+    }
+
+    /// A variable was set.
+    #[tactic(auto, unfolding(crate::specs::Knowledge::knowledge_facts, crate::specs::Knowledge::among, crate::specs::Gains::with_gains))]
+    pub fn gain(&mut self, names: &Names, name: &[u8])
+        ensures { knowledge_facts names.now self.new ≡ among names.now (with_gains (named (name.now ∷ [])) (knowledge_facts names.now self.old)) }
+    {
+        match self {
+            Knowledge::NotReached => {}
+            Knowledge::Known(assured) => assured.vars.add(names, name),
+        }
+    }
+
+    /// There are so many positional parameters at least.
+    #[tactic(auto, unfolding(crate::specs::Knowledge::knowledge_facts, crate::specs::Gains::with_gains))]
+    pub fn gain_args(&mut self, count: u16)
+        ensures { (names : List Text) → knowledge_facts names self.new ≡ with_gains (record { names = []; args = count }) (knowledge_facts names self.old) }
+    {
+        match self {
+            Knowledge::NotReached => {}
+            Knowledge::Known(assured) => assured.args = assured.args.max(count),
+        }
+    }
+
+    /// A function was defined.
+    #[tactic(auto, unfolding(crate::specs::Knowledge::knowledge_facts, crate::specs::Knowledge::among, crate::specs::Views::step, crate::specs::Views::where_known))]
+    pub fn define(&mut self, names: &Names, function: &[u8])
+        ensures { (c : views.Certificate) → knowledge_facts names.now self.new ≡ among names.now (views.step c (views.Define function.now) (knowledge_facts names.now self.old)) }
+    {
+        match self {
+            Knowledge::NotReached => {}
+            Knowledge::Known(assured) => assured.functions.add(names, function),
+        }
+    }
+
+    /// A variable may be gone.
+    #[tactic(auto, unfolding(crate::specs::Knowledge::knowledge_facts, crate::specs::Views::step, crate::specs::Views::where_known))]
+    pub fn lose_variable(&mut self, names: &Names, name: &[u8])
+        ensures { (c : views.Certificate) → knowledge_facts names.now self.new
+            ≡ views.step c (views.Lose (record { vars = name.now ∷ []; functions = [] })) (knowledge_facts names.now self.old) }
+    {
+        match self {
+            Knowledge::NotReached => {}
+            Knowledge::Known(assured) => assured.vars.remove(names, name),
+        }
+    }
+
+    /// A function may be gone.
+    #[tactic(auto, unfolding(crate::specs::Knowledge::knowledge_facts, crate::specs::Views::step, crate::specs::Views::where_known))]
+    pub fn lose_function(&mut self, names: &Names, name: &[u8])
+        ensures { (c : views.Certificate) → knowledge_facts names.now self.new
+            ≡ views.step c (views.Lose (record { vars = []; functions = name.now ∷ [] })) (knowledge_facts names.now self.old) }
+    {
+        match self {
+            Knowledge::NotReached => {}
+            Knowledge::Known(assured) => assured.functions.remove(names, name),
+        }
+    }
+
+    /// The positional parameters are now these words: so many that each give one field, and so many that give each of the
+    /// parameters so far. Up to 65,535 are counted.
+    #[tactic(auto, unfolding(crate::specs::Knowledge::knowledge_facts, crate::specs::Views::step, crate::specs::Views::where_known))]
+    pub fn count(&mut self, ones: u32, parameters: u32)
+        ensures { (c : views.Certificate) (names : List Text) → knowledge_facts names self.new
+            ≡ views.step c (views.Count (record { ones = ones; parameters = parameters })) (knowledge_facts names self.old) }
+    {
+        match self {
+            Knowledge::NotReached => {}
+            Knowledge::Known(assured) => assured.args = counted(ones, parameters, assured.args),
+        }
+    }
+
+    /// So many positional parameters are gone.
+    #[tactic(auto, unfolding(crate::specs::Knowledge::knowledge_facts, crate::specs::Views::step, crate::specs::Views::where_known))]
+    pub fn shift(&mut self, count: u32)
+        ensures { (c : views.Certificate) (names : List Text) → knowledge_facts names self.new ≡ views.step c (views.Shift count) (knowledge_facts names self.old) }
+    {
+        match self {
+            Knowledge::NotReached => {}
+            Knowledge::Known(assured) => assured.args = shifted(assured.args, count),
+        }
+    }
+
+    /// A function was called, with prefix assignments of these names, and has returned. Where it is surely defined it leaves what
+    /// the certificate says of its return; otherwise a utility may have run.
+    #[tactic(auto, unfolding(crate::specs::Knowledge::knowledge_facts, crate::specs::Views::step, crate::specs::Views::called, crate::specs::Views::where_known))]
+    pub fn call(
+        &mut self,
+        names: &Names,
+        function: &[u8],
+        rows: &Rows,
+        returned: &Return,
+        prefixes: &NameSet,
+    )
+        ensures { (c : views.Certificate) (r : views.Slot) (before : List Text) → AreNumbered names.now
+            → c.drops function.now ≡ drops_of (in_byte_order names.now) rows.now returned.now.drops
+            → c.claim r ≡ claim_of (in_byte_order names.now) rows.now returned.now.facts
+            → ((t : Text) → is_one_of names.now t ≡ true → contains names.now prefixes.now t ≡ is_one_of before t)
+            → knowledge_facts names.now self.new ≡ views.step c (views.Call function.now r before) (knowledge_facts names.now self.old) }
+    {
+        if let Knowledge::Known(assured) = self {
+            *self = if assured.functions.has(names, function) {
+                assured.after_return(rows, returned, prefixes)
+            } else {
+                Knowledge::Known(assured.after_either(names, function, rows, &returned.drops))
+            };
+        }
+    }
+
+    /// What is known where runs come from here and from there.
+    #[tactic(auto, unfolding(crate::specs::Knowledge::knowledge_facts, crate::specs::Facts::meet))]
+    pub fn meet(&mut self, other: &Knowledge)
+        ensures { (names : List Text) → knowledge_facts names self.new ≡ spec.meet (knowledge_facts names self.old) (knowledge_facts names other.now) }
+    {
+        match self {
+            Knowledge::NotReached => *self = *other,
+            Knowledge::Known(assured) => {
+                if let Knowledge::Known(others) = other {
+                    assured.meet(others);
+                }
+            }
+        }
+    }
+}
+
+impl Drops {
+    /// Whether a function that may drop these may drop all that the other may.
+    #[tactic(auto, unfolding(crate::specs::Faults::are_among))]
+    pub fn includes(&self, rows: &Rows, other: &Drops) -> bool
+        ensures { (names : List Text) → AreNumbered names → rows.now.count ≡ length names
+            → result ≡ are_among (drops_of (in_byte_order names) rows.now other.now) (drops_of (in_byte_order names) rows.now self.now) }
+    {
+        is_row_within(rows, other.vars, self.vars)
+            && is_row_within(rows, other.functions, self.functions)
+    }
+
+    /// Whether a variable may be dropped.
+    pub fn has_variable(&self, names: &Names, rows: &Rows, name: &[u8]) -> bool
+        ensures { AreNumbered names.now → result ≡ is_one_of (drops_of (in_byte_order names.now) rows.now self.now).vars name.now }
+    {
+        is_in_row(names, rows, self.vars, name)
+    }
+
+    /// Whether a function may be dropped.
+    pub fn has_function(&self, names: &Names, rows: &Rows, name: &[u8]) -> bool
+        ensures { AreNumbered names.now → result ≡ is_one_of (drops_of (in_byte_order names.now) rows.now self.now).functions name.now }
+    {
+        is_in_row(names, rows, self.functions, name)
+    }
+}
+
+// Whether each name of a row is in another one.
+fn is_row_within(rows: &Rows, part: RowId, whole: RowId) -> bool
+    ensures { (names : List Text) → AreNumbered names → rows.now.count ≡ length names
+        → result ≡ list_all (is_one_of (names_at (in_byte_order names) rows.now whole)) (names_at (in_byte_order names) rows.now part) }
+{
+    if part.index == whole.index {
+        return true;
+    }
+    NameSet::new().with_row(rows, whole).includes(rows, part)
+}
+
+fn is_in_row(names: &Names, rows: &Rows, id: RowId, name: &[u8]) -> bool
+    ensures { AreNumbered names.now → result ≡ is_one_of (names_at (in_byte_order names.now) rows.now id) name.now }
+{
+    match names.number(name) {
+        Some(number) => rows.has(id, number),
+        None => false,
+    }
+}
+
+// Up to 65,535 positional parameters, from words of which so many give one and so many give each that there is.
+fn counted(ones: u32, parameters: u32, args: u16) -> u16
+    ensures { result ≡ views.counted_by (record { ones = ones; parameters = parameters }) args }
+{
+    let total = u64::from(ones) + u64::from(parameters) * u64::from(args);
+    total.min(65_535) as u16
+}
+
+fn shifted(args: u16, count: u32) -> u16
+    ensures { result ≡ args - count }
+{
+    u32::from(args).saturating_sub(count) as u16
+}
+
+fn is_getopts(function: &[u8]) -> bool
+    ensures { result ≡ bytes_eq function.now (codes "getopts") }
+{
+    function == b"getopts".as_slice()
+}

@@ -1,0 +1,29 @@
+//! Pieces of a text between bytes.
+ghost use Rattle.std.specs.Prelude.{◌≡◌, ◌<◌, ◌∷◌, [], length, option_map, IfSome, IfNone};
+ghost use Rattle.sh_facts.specs.Fields.{sides_of, pieces_left};
+ghost use Rattle.sh_facts.specs.Forms as form;
+
+use bstr::ByteSlice;
+
+/// What stands before the first such byte, and what behind it.
+pub fn cut(text: &[u8], byte: u8) -> Option<(&[u8], &[u8])>
+    ensures at { option_map sides_of result ≡ form.cut_at byte text.now }
+    ensures two { IfSome result (λ x. form.pieces byte text.now ≡ x.0.now ∷ form.pieces byte x.1.now) }
+    ensures one { IfNone result (form.pieces byte text.now ≡ text.now ∷ []) }
+    ensures less { IfSome result (λ x. length x.1.now < length text.now) }
+{
+    let at = text.find_byte(byte)?;
+    Some((&text[..at], &text[at + 1..]))
+}
+
+/// The piece before the first such byte, and what is behind that byte, if it is there.
+#[tactic(auto, unfolding(crate::specs::Fields::pieces_left))]
+pub fn first_piece(text: &[u8], byte: u8) -> (&[u8], Option<&[u8]>)
+    ensures pieces { form.pieces byte text.now ≡ result.0.now ∷ pieces_left byte result.1 }
+    ensures less { IfSome result.1 (λ x. length x.now < length text.now) }
+{
+    match cut(text, byte) {
+        None => (text, None),
+        Some((piece, left)) => (piece, Some(left)),
+    }
+}

@@ -1,0 +1,9 @@
+pub mod OrderLemmas
+pub mod HeightLemmas
+pub mod RowSetLemmas
+pub mod SolutionLemmas
+pub mod SeenLemmas
+pub mod LowerLemmas
+pub mod ProblemLemmas
+pub mod ExampleLemmas
+pub mod JoinLemmas

@@ -1,0 +1,33 @@
+use Rattle.std.proofs.Common.{◌≡◌, get_or, sym, ◌∙◌, ap, subst, arith, true≢false}
+use Rattle.sh_facts.specs.declared.certificate.Facts.TheVariants.{NotReached}
+use Rattle.sh_find.specs.Facts.{IsWithin, meet}
+use Rattle.sh_find.specs.Kept.{sight_facts, fact_of}
+use Rattle.sh_find.proofs.SolutionLemmas.{at_slot, put_sinks, put_kept, sight_numbered}
+use Rattle.sh_find.proofs.solution.sink.Goals as goal
+
+pub keep-requires : goal.keep-requires
+keep-requires c = record {
+  vars = c.meet_facts.ensures.vars ∙ c.requires.sized.vars;
+  functions = c.meet_facts.ensures.functions ∙ c.requires.sized.functions;
+  args = omega (arith, c.meet_facts.ensures.args, c.requires.sized.args);
+}
+
+pub returns-clause-sinks : goal.returns-clause-sinks
+returns-clause-sinks c =
+    let rows = c.args.solution.now.rows in
+    let fs = c.args.solution.now.facts.items in
+    let seen = sight_facts c.args.sight in
+    let e : c.index-fact.result.now ≡ get_or fs c.args.slot NotReached = at_slot fs c.args.slot c.index-fact.result.now c.requires.slot c.index-fact.ensures in
+    put_sinks c.args.solution.now.rows.count rows c.keep.new.rows fs c.args.slot c.in_ok-kept.kept seen c.requires.kept c.in_ok-kept.ensures.stay c.requires.slot
+    (c.in_ok-kept.ensures.facts ∙ c.meet_facts.ensures.facts ∙ ap (λ g. meet (fact_of rows.rows g) seen) e)
+    (λ h. true≢false (sym (c.is_within.ensures.1 (subst (λ g. IsWithin (fact_of rows.rows g) seen) (sym e) h)) ∙ c.if-is_within.false))
+
+pub returns-clause-kept : goal.returns-clause-kept
+returns-clause-kept c =
+    let rows = c.args.solution.now.rows in
+    let fs = c.args.solution.now.facts.items in
+    let seen = sight_facts c.args.sight in
+    let e : c.index-fact.result.now ≡ get_or fs c.args.slot NotReached = at_slot fs c.args.slot c.index-fact.result.now c.requires.slot c.index-fact.ensures in
+    put_kept c.args.solution.now.rows.count rows c.keep.new.rows fs c.args.slot c.in_ok-kept.kept seen c.requires.kept c.in_ok-kept.ensures.stay c.requires.slot
+    (c.in_ok-kept.ensures.facts ∙ c.meet_facts.ensures.facts ∙ ap (λ g. meet (fact_of rows.rows g) seen) e)
+    c.in_ok-kept.ensures.count c.in_ok-kept.ensures.placed (sight_numbered _ c.args.sight c.requires.sized)

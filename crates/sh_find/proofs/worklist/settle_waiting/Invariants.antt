@@ -1,0 +1,17 @@
+use Rattle.std.proofs.Common.{◌≡◌, ◌+◌, length, cond}
+use Rattle.sh_find.specs.Facts.{Claims, IsBelow}
+use Rattle.sh_find.specs.Greatest.{Satisfies}
+use Rattle.sh_find.specs.Lowers.{height}
+use Rattle.sh_find.specs.Kept.{sight_facts, claims_in, IsKept}
+use Rattle.sh_find.proofs.worklist.settle_waiting.Given as goal
+
+abbrev pub invariant-passes : goal.invariant-passes
+invariant-passes l = record {
+  kept : IsKept l.setting.names l.solution.rows l.solution.facts.items;
+  slots : length l.solution.facts.items ≡ length l.initial.solution.facts.items;
+  above : (d : Claims) → Satisfies l.setting.names (sight_facts l.setting.start) d l.constraints
+      → IsBelow d (claims_in l.initial.solution.rows.rows l.initial.solution.facts.items) → IsBelow d (claims_in l.solution.rows.rows l.solution.facts.items);
+}
+
+abbrev pub decreases-passes : goal.decreases-passes
+decreases-passes l = height l.setting.names (length l.solution.facts.items) (claims_in l.solution.rows.rows l.solution.facts.items) + cond l.changed 1 0

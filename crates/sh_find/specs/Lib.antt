@@ -1,0 +1,7 @@
+pub mod Facts
+pub mod Steps
+pub mod Greatest
+pub mod Lowers
+pub mod Kept
+pub mod Examples
+pub mod Joins

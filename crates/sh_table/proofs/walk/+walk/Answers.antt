@@ -1,0 +1,91 @@
+use Rattle.std.proofs.Common.{ap, ◌∙◌}
+use Rattle.std.specs.List.{flat_map}
+use Rattle.sh_tree.specs.declared.tree.AndOr.{out-AndOr}
+use Rattle.sh_tree.specs.declared.tree.Branch.{out-Branch}
+use Rattle.sh_tree.specs.declared.tree.Clause.{out-Clause}
+use Rattle.sh_tree.specs.declared.tree.Command.{out-Command}
+use Rattle.sh_table.proofs.WalkLemmas.{and_or_out, branch_out, clause_out, command_out, of_kind-Cond, of_kind-Loop, of_kind-For-None, of_kind-For-Some, of_kind-Branches, of_operator-Value, of_operator-Length, of_expression-Constant, of_expression-Variable, of_expression-Chain, of_expression-Choice, of_part-Plain, of_part-Escaped, of_part-Single, of_part-Tilde, of_part-Joined, both, visited, thrice, nothing_visited}
+use Rattle.sh_table.specs.Walks as spec
+use Rattle.sh_table.proofs.walk.+walk.Goals as goal
+
+pub walk_and_or-returns : goal.walk_and_or-returns
+walk_and_or-returns g t c =
+    both c.walk_links.result _ _ _ _ (spec.of_pipe c.args.script.now c.args.around (out-AndOr c.args.list.now).first) (flat_map (spec.of_link c.args.script.now c.args.around) (out-AndOr c.args.list.now).rest) _ c.in_ok-walk_pipe.ensures (and_or_out c.args.script.now c.args.around c.args.list.now) (rw c.as_slice.ensures at c.walk_links.ensures)
+
+pub walk_branch-returns : goal.walk_branch-returns
+walk_branch-returns g t c =
+    both c.walk_script-2.result _ _ _ _ (spec.of_script c.args.script.now c.args.around (out-Branch c.args.branch.now).condition) (spec.of_script c.args.script.now c.args.around (out-Branch c.args.branch.now).body) _ c.in_ok-walk_script.ensures (branch_out c.args.script.now c.args.around c.args.branch.now) c.walk_script-2.ensures
+
+pub walk_clause-returns : goal.walk_clause-returns
+walk_clause-returns g t c =
+    both c.walk_script.result _ _ _ _ (flat_map (spec.of_word c.args.script.now) (out-Clause c.args.clause.now).patterns) (spec.of_script c.args.script.now c.args.around (out-Clause c.args.clause.now).body) _ (rw c.as_slice.ensures at c.in_ok-walk_words.ensures) (clause_out c.args.script.now c.args.around c.args.clause.now) c.walk_script.ensures
+
+pub walk_operator-returns-in-Value : goal.walk_operator-returns-in-Value
+walk_operator-returns-in-Value g t c = nothing_visited _ _ _ (ap (spec.of_operator c.args.script.now) c.in-Value.is ∙ of_operator-Value c.args.script.now)
+
+pub walk_operator-returns-in-Length : goal.walk_operator-returns-in-Length
+walk_operator-returns-in-Length g t c = nothing_visited _ _ _ (ap (spec.of_operator c.args.script.now) c.in-Length.is ∙ of_operator-Length c.args.script.now)
+
+pub walk_command-returns : goal.walk_command-returns
+walk_command-returns g t c =
+    visited c.walk_redirects.result _ _ _ _ _ _ (spec.of_kind c.args.script.now c.args.around (out-Command c.args.command.now).kind) (flat_map (spec.of_redirect c.args.script.now) (out-Command c.args.command.now).redirects) _ c.in_ok-visit.ensures c.in_ok-walk_kind.ensures
+    (command_out c.args.script.now c.args.around c.args.command.now) (rw c.as_slice.ensures at c.walk_redirects.ensures)
+
+pub walk_kind-returns-in_ok-walk_branches-in-Cond : goal.walk_kind-returns-in_ok-walk_branches-in-Cond
+walk_kind-returns-in_ok-walk_branches-in-Cond g t c =
+    both c.walk_otherwise.result _ _ _ _ (flat_map (spec.of_branch c.args.script.now c.args.around) c.in-Cond.branches) (spec.of_option (spec.of_script c.args.script.now c.args.around) c.in-Cond.otherwise) _ (rw c.as_slice-in-Cond.ensures at c.in_ok-walk_branches-in-Cond.ensures)
+    (ap (spec.of_kind c.args.script.now c.args.around) c.in-Cond.is ∙ of_kind-Cond c.args.script.now c.args.around c.in-Cond.branches c.in-Cond.otherwise) c.walk_otherwise.ensures
+
+pub walk_kind-returns-in_ok-walk_word-in-Branches : goal.walk_kind-returns-in_ok-walk_word-in-Branches
+walk_kind-returns-in_ok-walk_word-in-Branches g t c =
+    both c.walk_clauses.result _ _ _ _ (spec.of_word c.args.script.now c.in-Branches.word) (flat_map (spec.of_clause c.args.script.now c.args.around) c.in-Branches.clauses) _ c.in_ok-walk_word-in-Branches.ensures
+    (ap (spec.of_kind c.args.script.now c.args.around) c.in-Branches.is ∙ of_kind-Branches c.args.script.now c.args.around c.in-Branches.word c.in-Branches.clauses)
+    (rw c.as_slice-in-Branches.ensures at c.walk_clauses.ensures)
+
+pub walk_expression-returns-in-Constant : goal.walk_expression-returns-in-Constant
+walk_expression-returns-in-Constant g t c = nothing_visited _ _ _ (ap (spec.of_expression c.args.script.now) c.in-Constant.is ∙ of_expression-Constant c.args.script.now _)
+
+pub walk_expression-returns-in-Variable : goal.walk_expression-returns-in-Variable
+walk_expression-returns-in-Variable g t c = nothing_visited _ _ _ (ap (spec.of_expression c.args.script.now) c.in-Variable.is ∙ of_expression-Variable c.args.script.now _)
+
+pub walk_expression-returns-in_ok-walk_expression-in-Chain : goal.walk_expression-returns-in_ok-walk_expression-in-Chain
+walk_expression-returns-in_ok-walk_expression-in-Chain g t c =
+    both c.walk_chain.result _ _ _ _ (spec.of_expression c.args.script.now c.in-Chain.first) (flat_map (spec.of_step c.args.script.now) c.in-Chain.rest) _ (rw c.get-in-Chain.ensures at c.in_ok-walk_expression-in-Chain.ensures)
+    (ap (spec.of_expression c.args.script.now) c.in-Chain.is ∙ of_expression-Chain c.args.script.now c.in-Chain.first c.in-Chain.rest) (rw c.as_slice.ensures at c.walk_chain.ensures)
+
+pub walk_expression-returns-in_ok-walk_expression-in-Choice-2 : goal.walk_expression-returns-in_ok-walk_expression-in-Choice-2
+walk_expression-returns-in_ok-walk_expression-in-Choice-2 g t c =
+    thrice c.walk_expression-in-Choice-3.result _ _ _ _ _ (spec.of_expression c.args.script.now c.in-Choice.condition) (spec.of_expression c.args.script.now c.in-Choice.yes) (spec.of_expression c.args.script.now c.in-Choice.no) _ (rw c.get-in-Choice.ensures at c.in_ok-walk_expression-in-Choice.ensures) (rw c.get-in-Choice-2.ensures at c.in_ok-walk_expression-in-Choice-2.ensures)
+    (ap (spec.of_expression c.args.script.now) c.in-Choice.is ∙ of_expression-Choice c.args.script.now c.in-Choice.condition c.in-Choice.yes c.in-Choice.no) (rw c.get-in-Choice-3.ensures at c.walk_expression-in-Choice-3.ensures)
+
+pub walk_part-returns-in-Plain : goal.walk_part-returns-in-Plain
+walk_part-returns-in-Plain g t c = nothing_visited _ _ _ (ap (spec.of_part c.args.script.now) c.in-Plain.is ∙ of_part-Plain c.args.script.now _)
+
+pub walk_part-returns-in-Escaped : goal.walk_part-returns-in-Escaped
+walk_part-returns-in-Escaped g t c = nothing_visited _ _ _ (ap (spec.of_part c.args.script.now) c.in-Escaped.is ∙ of_part-Escaped c.args.script.now _)
+
+pub walk_part-returns-in-Single : goal.walk_part-returns-in-Single
+walk_part-returns-in-Single g t c = nothing_visited _ _ _ (ap (spec.of_part c.args.script.now) c.in-Single.is ∙ of_part-Single c.args.script.now _ _)
+
+pub walk_part-returns-in-Tilde : goal.walk_part-returns-in-Tilde
+walk_part-returns-in-Tilde g t c = nothing_visited _ _ _ (ap (spec.of_part c.args.script.now) c.in-Tilde.is ∙ of_part-Tilde c.args.script.now _)
+
+pub walk_part-returns-in-Joined : goal.walk_part-returns-in-Joined
+walk_part-returns-in-Joined g t c = nothing_visited _ _ _ (ap (spec.of_part c.args.script.now) c.in-Joined.is ∙ of_part-Joined c.args.script.now _)
+
+pub walk_kind-returns-in_ok-walk_script-in-Loop : goal.walk_kind-returns-in_ok-walk_script-in-Loop
+walk_kind-returns-in_ok-walk_script-in-Loop g t c =
+    both c.walk_script-in-Loop-2.result _ _ _ _ (spec.of_script c.args.script.now (spec.inside_loop c.args.around) c.in-Loop.condition) (spec.of_script c.args.script.now (spec.inside_loop c.args.around) c.in-Loop.body) _ (rw c.inside_loop.ensures at c.in_ok-walk_script-in-Loop.ensures)
+    (ap (spec.of_kind c.args.script.now c.args.around) c.in-Loop.is ∙ of_kind-Loop c.args.script.now c.args.around c.in-Loop.kind c.in-Loop.condition c.in-Loop.body)
+    (rw c.inside_loop-in-Loop.ensures at c.walk_script-in-Loop-2.ensures)
+
+pub walk_kind-returns-in_ok-walk_words-in-Some : goal.walk_kind-returns-in_ok-walk_words-in-Some
+walk_kind-returns-in_ok-walk_words-in-Some g t c =
+    both c.walk_script-in-Some.result _ _ _ _ (flat_map (spec.of_word c.args.script.now) c.in-Some.words) (spec.of_script c.args.script.now (spec.inside_loop c.args.around) c.in-For.body) _ (rw c.as_slice-in-Some.ensures at c.in_ok-walk_words-in-Some.ensures)
+    (of_kind-For-Some c.args.script.now c.args.around c.args.kind.now c.in-For.name c.in-For.words c.in-Some.words c.in-For.body c.in-For.is c.in-Some.is)
+    (rw c.inside_loop-in-Some.ensures at c.walk_script-in-Some.ensures)
+
+pub walk_kind-returns-in-None : goal.walk_kind-returns-in-None
+walk_kind-returns-in-None g t c =
+    rw (of_kind-For-None c.args.script.now c.args.around c.args.kind.now c.in-For.name c.in-For.words c.in-For.body c.in-For.is c.in-None.is)
+    (rw c.inside_loop-in-None.ensures at c.walk_script-in-None.ensures)

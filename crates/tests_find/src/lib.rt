@@ -1,0 +1,7 @@
+//! Tests of the search: both ways find the same facts.
+#![tactic(auto)]
+
+#[cfg(test)]
+mod lists;
+#[cfg(test)]
+mod searches;

@@ -1,0 +1,5 @@
+//! Tests of the rules of quoting.
+#![tactic(auto)]
+
+#[cfg(test)]
+mod places;
