@@ -15,9 +15,9 @@ ghost use Rattle.sh_tree.specs.declared.tree.Command.{Command};
 ghost use Rattle.sh_lint.specs.Findings.{gains, command_gains, unset_places};
 ghost use Rattle.sh_lint.specs.Certifies.{Gains, HoldsNames, numbers_of, Begins, Learns, Found};
 
+use sh_facts::policy::Policy;
 use sh_flow::certificate::{Certificate, Entry, Facts, RowId};
 use sh_flow::names::Names;
-use sh_facts::policy::Policy;
 use sh_flow::row::Row;
 use sh_tree::tree::{Command, Element, Item, Script};
 use sh_tree::words::command_name;

@@ -10,10 +10,10 @@ ghost use Rattle.sh_lint.specs.Lint.{Accepts, AreFindings, IsSafe, Lints, places
 use crate::admit::admit;
 use crate::find::find;
 use crate::quotes::unquoted_places;
+use sh_facts::policy::Policy;
 use sh_flow::flow::{Flow, check_flow};
 use sh_flow::laws::{no_split, no_unset};
 use sh_flow::names::Names;
-use sh_facts::policy::Policy;
 use sh_grammar::parse;
 use sh_report::verdict::{Finding, Report, Verdict, in_order};
 use sh_scan::Lines;

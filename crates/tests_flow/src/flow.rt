@@ -1,9 +1,9 @@
+use sh_facts::policy::Policy;
+use sh_facts::rule::FlowRule;
 use sh_flow::certificate::{Certificate, Entry, Facts, RowId};
 use sh_flow::flow::{Flow, check_flow};
 use sh_flow::names::Names;
-use sh_facts::policy::Policy;
 use sh_flow::row::Row;
-use sh_facts::rule::FlowRule;
 use sh_grammar::parse;
 use sh_tree::place::{Code, Place};
 use sh_tree::tree::Script;

@@ -1,5 +1,5 @@
-use sh_flow::names::Names;
 use sh_facts::policy::{Policy, PolicyFault};
+use sh_flow::names::Names;
 use sh_grammar::parse;
 use sh_tree::refusal::Refusal;
 use std::alloc::{AllocError, Global};
