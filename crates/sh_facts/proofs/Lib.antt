@@ -25,17 +25,6 @@ pub mod FormedLemmas
 pub mod SignLemmas
 pub mod FieldLemmas
 pub mod ReadLemmas
-pub mod FrontLemmas
-pub mod FigureLemmas
-pub mod GapLemmas
-pub mod SettledLemmas
-pub mod BeginningLemmas
-pub mod ProgramTrees
-pub mod TakeLemmas
-pub mod BelowLemmas
-pub mod MoveLemmas
-pub mod SpotCounts
-pub mod OnceLemmas
 pub mod NumberCounts
 pub mod NumberLemmas
 pub mod DifferLemmas

@@ -46,14 +46,14 @@ use Rattle.sh_tree.specs.Tree.{text_of}
 use Rattle.sh_tree.proofs.ProgramRules.{parts_from-empty, parts_from-more, words_from-empty, words_from-more, operands_from-empty, operands_from-more, items_from-empty, links_from-empty, links_from-more, commands_from-empty, commands_from-more, elements_from-empty, redirects_from-empty, redirects_from-more, branches_from-empty, clauses_from-empty, otherwise_from-None, otherwise_from-Some, for_words_from-None, for_words_from-Some, kind_of-Simple, kind_of-Group, kind_of-Subshell, kind_of-Cond, kind_of-Loop, kind_of-For, kind_of-Branches, kind_of-Define, elements_from-Assignment, elements_from-Word, elements_from-Redirection, target_of-File, target_of-Here, part_of-Plain, part_of-Escaped, part_of-Single, part_of-Double, part_of-Param, part_of-Arith, part_of-Command, part_of-Tilde, part_of-Joined, operator_of-Value, operator_of-Length, operator_of-Use, operator_of-Remove, expression_of-Constant, expression_of-Variable, expression_of-Expansion, expression_of-Parenthesis, expression_of-Unary, expression_of-Chain, expression_of-Choice, expression_of-Assign}
 use Rattle.sh_table.specs.Surroundings.{outside}
 use Rattle.sh_facts.specs.Inclusions.{part_formed, field_formed, is_formed}
-use Rattle.sh_facts.proofs.BeginningLemmas.{bare_begins, assignment_begins, definition_begins}
+use Rattle.sh_reads.proofs.BeginningLemmas.{bare_begins, assignment_begins, definition_begins}
 use Rattle.sh_facts.proofs.FieldLemmas.{GivesField, word_gives, item_gives}
-use Rattle.sh_facts.proofs.FigureLemmas.{figure_is_name}
+use Rattle.sh_reads.proofs.FigureLemmas.{figure_is_name}
 use Rattle.sh_facts.proofs.FormedLemmas.{GoodPart, GoodWord, GoodExpression, GoodOperands, GoodItems, GoodList, GoodLinks, GoodPipeline, GoodCommands, GoodCommand, GoodKind, GoodElements, GoodRedirect, GoodRedirects, GoodBranches, GoodOtherwise, GoodForWords, GoodFields, GoodWords, GoodClauses, good_plain, good_escaped, good_single, good_joined, good_tilde, good_double, good_expansion, good_arithmetic, good_substitution, good_empty, good_parts, good_value, good_length, good_use, good_remove, good_constant, good_name, good_expanded, good_parenthesis, good_signed, good_chain, good_choice, good_assigned, good_no_operands, good_operands, good_no_words, good_words, good_no_fields, good_fields, good_every, good_listed, good_file, good_here, good_no_redirects, good_redirects, good_no_elements, good_assignment, good_operand, good_redirection, good_simple, good_command, good_group, good_subshell, good_conditional, good_loop, good_for, good_case, good_define, good_no_branches, good_branches, good_no_else, good_else, good_no_clauses, good_clauses, good_no_commands, good_commands, good_pipeline, good_no_links, good_links, good_list, good_no_items, good_items}
-use Rattle.sh_facts.proofs.FrontLemmas.{Front, front_whole, front_less, stands_at, name_stands}
-use Rattle.sh_facts.proofs.GapLemmas.{blanks_gap}
-use Rattle.sh_facts.proofs.ProgramTrees.{script_made, items_made, and_or_made, pipe_made, command_made, branches_made, clauses_made}
-use Rattle.sh_facts.proofs.SettledLemmas.{IsSettled, settled_next, settled_past, settled_parted, redirect_settled, breaks_settled, for_words_settled, pipeline_settled, and_or_settled, list_settled}
+use Rattle.sh_reads.proofs.FrontLemmas.{Front, front_whole, front_less, stands_at, name_stands}
+use Rattle.sh_reads.proofs.GapLemmas.{blanks_gap}
+use Rattle.sh_reads.proofs.ProgramTrees.{script_made, items_made, and_or_made, pipe_made, command_made, branches_made, clauses_made}
+use Rattle.sh_reads.proofs.SettledLemmas.{IsSettled, settled_next, settled_past, settled_parted, redirect_settled, breaks_settled, for_words_settled, pipeline_settled, and_or_settled, list_settled}
 use Rattle.sh_facts.proofs.SignLemmas.{token_formed, token_is_formed}
 
 module _ (whole : List ℕ) where

@@ -18,8 +18,8 @@ use Rattle.sh_tree.specs.language.Trees.{span}
 use Rattle.sh_tree.specs.language.Words as words
 use Rattle.sh_tree.specs.program.Trees.{parameter_of}
 use Rattle.sh_tree.specs.Tree.{text_of}
-use Rattle.sh_facts.proofs.BeginningLemmas.{takes_none, dollar_goes, single_goes, stands_some}
-use Rattle.sh_facts.proofs.FrontLemmas.{Front, Stands, stands_at, stands_past, run_taken, run_passes, name_stands}
+use Rattle.sh_reads.proofs.BeginningLemmas.{takes_none, dollar_goes, single_goes, stands_some}
+use Rattle.sh_reads.proofs.FrontLemmas.{Front, Stands, stands_at, stands_past, run_taken, run_passes, name_stands}
 use Rattle.sh_facts.specs.Inclusions.{parameter_formed}
 
 -- Plain bytes

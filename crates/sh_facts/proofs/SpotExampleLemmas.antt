@@ -1,7 +1,7 @@
 -- The spots of known programs, computed.
 use Rattle.std.proofs.Common.{refl}
 use Rattle.sh_facts.specs.SpotExamples.{SpotsAsExpected}
-use Rattle.sh_facts.specs.Spots.{items_spots}
+use Rattle.sh_reads.specs.Spots.{items_spots}
 use Rattle.sh_facts.proofs.AnswerLemmas.{computes}
 
 pub spots_as_expected : SpotsAsExpected

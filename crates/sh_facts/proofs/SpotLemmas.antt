@@ -8,6 +8,7 @@ use Rattle.sh_tree.specs.declared.place.Place.{Place}
 use Rattle.sh_tree.specs.declared.tree.Action.TheVariants as action
 use Rattle.sh_tree.specs.program.Syntax as p
 use Rattle.sh_tree.specs.program.Syntax.{Text}
+use Rattle.sh_tree.specs.program.Trees.{script_of}
 use Rattle.sh_facts.specs.declared.rule.FlowRule.{FlowRule}
 use Rattle.sh_facts.specs.Demands.{elements_unmet, clauses_unmet, for_words_unmet, kind_unmet, dropped, command_moves, drop_at, move_at, is_reached, shared_unmet, unmet, demands}
 use Rattle.sh_facts.specs.Entries.{Around, Entered, items_entered, list_entered, links_entered, pipeline_entered, commands_entered, command_entered, kind_entered, elements_entered, redirect_entered, redirects_entered, branches_entered, otherwise_entered, for_words_entered, words_entered, clauses_entered, patterns_entered, word_entered, part_entered, operator_entered, expression_entered, operands_entered, script_entered}
@@ -15,9 +16,12 @@ use Rattle.sh_facts.specs.Facts.{Facts, Declared, facts, claims, Variable}
 use Rattle.sh_facts.specs.Gains.{with_gains, redirects_gains}
 use Rattle.sh_facts.specs.Needs.{wanted, covers, parameter_text, needed, name_needed, target_needed, reads_unmet, operands_read, part_unmet, word_unmet, operator_unmet, expanded_unmet, operands_expanded, words_unmet, patterns_unmet, redirect_unmet, redirects_unmet}
 use Rattle.sh_facts.specs.Rules.{functions_of, losses}
-use Rattle.sh_facts.specs.Spots.{Spot, OfCommand, OfWord, items_spots, list_spots, links_spots, pipeline_spots, commands_spots, command_spots, kind_spots, elements_spots, redirect_spots, redirects_spots, branches_spots, otherwise_spots, for_words_spots, words_spots, clauses_spots, word_spots, part_spots, operator_spots, expression_spots, operands_spots, PlacesStandOnce}
+use Rattle.sh_reads.specs.Spots.{Spot, OfCommand, OfWord, items_spots, list_spots, links_spots, pipeline_spots, commands_spots, command_spots, kind_spots, elements_spots, redirect_spots, redirects_spots, branches_spots, otherwise_spots, for_words_spots, words_spots, clauses_spots, word_spots, part_spots, operator_spots, expression_spots, operands_spots}
+use Rattle.sh_facts.specs.Places.{PlacesStandOnce, ReadPlacesStandOnce}
 use Rattle.sh_facts.specs.Views.{Certificate, Before, Seen, After, lost}
-use Rattle.sh_facts.proofs.CountLemmas.{times, times_join, times_none, places_once, hits, hits_join, hits_cons, spots_once, word_place, is_word_U1, is_word_U2, is_word_U3, names_once, shared_once}
+use Rattle.sh_facts.proofs.CountLemmas.{times, times_join, times_none, places_once, word_place, is_word_U1, is_word_U2, is_word_U3, names_once, shared_once}
+use Rattle.sh_reads.proofs.HitLemmas.{hits, hits_join, hits_cons, spots_once}
+use Rattle.sh_reads.proofs.OnceLemmas.{read_spots_once}
 
 -- A place that is wanted
 
@@ -258,3 +262,6 @@ script_counted d c q t =
 
 pub places_stand_once : PlacesStandOnce
 places_stand_once d c t h = places_once (demands d c t) (λ q. let all = script_counted d c q t in let most = spots_once q (items_spots t) h in omega arith)
+
+pub read_places_once : ReadPlacesStandOnce
+read_places_once d c b t reads = places_stand_once d c (script_of b t) (read_spots_once b t reads)

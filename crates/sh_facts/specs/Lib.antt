@@ -35,7 +35,7 @@ pub mod TextExamples
 pub mod Order
 pub mod LeastFault
 pub mod Inclusions
-pub mod Spots
 pub mod Readings
+pub mod Places
 pub mod SpotExamples
 pub mod Meets

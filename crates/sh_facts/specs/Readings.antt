@@ -1,29 +1,18 @@
--- What every script that is read has: its program is formed, and each spot and each number of it stands once.
+-- What every script that is read has: its program is formed, and each number of it stands once.
 -- POSIX.1-2024, XCU 2.10 (shell grammar).
 use Rattle.std.specs.Prelude.{◌≡◌, ℕ, true, List, map}
 use Rattle.sh_tree.specs.declared.tree.Script.{Script}
 use Rattle.sh_tree.specs.language.Reading.{Reads}
 use Rattle.sh_tree.specs.program.Trees.{script_of}
+use Rattle.sh_reads.specs.Spots.{EachOnce}
 use Rattle.sh_table.specs.Numbering.{is_numbered}
 use Rattle.sh_table.specs.Sites.{site_of}
 use Rattle.sh_table.specs.Surroundings.{Located, outside, items_located}
-use Rattle.sh_facts.specs.Demands.{demands}
-use Rattle.sh_facts.specs.Facts.{Declared}
 use Rattle.sh_facts.specs.Inclusions.{is_formed}
-use Rattle.sh_facts.specs.Spots.{EachOnce, items_spots}
-use Rattle.sh_facts.specs.Views.{Certificate}
 
 -- whatever text is read as whatever tree
 abbrev pub ReadIsFormed : Type 0
 ReadIsFormed = (b : List ℕ) (t : Script) → Reads b t → is_formed (script_of b t) ≡ true
-
--- no two of its commands start at one offset, and no two expansions, tildes or names of arithmetic stand at one
-abbrev pub ReadSpotsStandOnce : Type 0
-ReadSpotsStandOnce = (b : List ℕ) (t : Script) → Reads b t → EachOnce (items_spots (script_of b t))
-
--- so no place of an unmet demand is told twice
-abbrev pub ReadPlacesStandOnce : Type 0
-ReadPlacesStandOnce = (d : Declared) (c : Certificate) (b : List ℕ) (t : Script) → Reads b t → EachOnce (demands d c (script_of b t))
 
 abbrev pub command_number : Located → ℕ
 command_number l = (site_of l).number

@@ -8,7 +8,7 @@ use Rattle.sh_facts.specs.Demands.{demands}
 use Rattle.sh_facts.specs.Examples.{text, certificate, declared, place}
 use Rattle.sh_facts.specs.LongerScripts.{script_44_program, script_49_program}
 use Rattle.sh_facts.specs.ShortScripts.{script_4_sheet}
-use Rattle.sh_facts.specs.Spots.{OfCommand, OfWord, items_spots}
+use Rattle.sh_reads.specs.Spots.{OfCommand, OfWord, items_spots}
 
 -- `echo $x$x`, were both expansions at one offset
 abbrev pub doubled : Items

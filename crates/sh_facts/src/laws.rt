@@ -8,9 +8,9 @@ ghost use Rattle.sh_facts.specs.Meets.{SeenIsMeet};
 ghost use Rattle.sh_facts.specs.Order.{Monotone, Ordered};
 ghost use Rattle.sh_facts.specs.Slots.{EveryCertificateClaims};
 ghost use Rattle.sh_facts.specs.Spelling.{HasOneText};
-ghost use Rattle.sh_facts.specs.Readings.{ReadIsFormed, ReadIsNumbered, ReadNumbersDiffer, ReadPlacesStandOnce, ReadSpotsStandOnce};
+ghost use Rattle.sh_facts.specs.Places.{PlacesStandOnce, ReadPlacesStandOnce};
+ghost use Rattle.sh_facts.specs.Readings.{ReadIsFormed, ReadIsNumbered, ReadNumbersDiffer};
 ghost use Rattle.sh_facts.specs.SpotExamples.{SpotsAsExpected};
-ghost use Rattle.sh_facts.specs.Spots.{PlacesStandOnce};
 ghost use Rattle.sh_facts.specs.TextExamples.{TextsAsExpected};
 
 /// Known certificates of known scripts are answered as they should be: the first rule that one breaks, or the places of the demands
@@ -60,10 +60,9 @@ pub fn numbered()
 {}
 
 /// Of a program in which no two commands start at one offset, and no two expansions, tildes or names of arithmetic stand at one, no
-/// place is told twice. The program of every script that is read is such, wherever the bodies of its here-documents stand.
+/// place is told twice. The program of every script that is read is such (`sh_reads::laws::once`).
 pub fn once()
     ensures law { PlacesStandOnce }
-    ensures spots { ReadSpotsStandOnce }
     ensures scripts { ReadPlacesStandOnce }
     ensures examples { SpotsAsExpected }
 {}

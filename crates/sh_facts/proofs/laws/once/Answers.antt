@@ -1,13 +1,9 @@
-use Rattle.sh_facts.proofs.OnceLemmas.{read_places_once, read_spots_once}
 use Rattle.sh_facts.proofs.SpotExampleLemmas.{spots_as_expected}
-use Rattle.sh_facts.proofs.SpotLemmas.{places_stand_once}
+use Rattle.sh_facts.proofs.SpotLemmas.{places_stand_once, read_places_once}
 use Rattle.sh_facts.proofs.laws.once.Goals as goal
 
 pub returns-clause-law : goal.returns-clause-law
 returns-clause-law c = places_stand_once
-
-pub returns-clause-spots : goal.returns-clause-spots
-returns-clause-spots c = read_spots_once
 
 pub returns-clause-scripts : goal.returns-clause-scripts
 returns-clause-scripts c = read_places_once

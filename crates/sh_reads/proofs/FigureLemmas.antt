@@ -12,8 +12,8 @@ use Rattle.sh_tree.specs.language.Reading.{figure_at, figure_span, over, is_figu
 use Rattle.sh_tree.specs.language.States.{Spot}
 use Rattle.sh_tree.specs.language.Trees.{span}
 use Rattle.sh_tree.specs.Tree.{text_of}
-use Rattle.sh_facts.proofs.FrontLemmas.{Front, Stands, stands_at, name_run, name_takes, name_stands}
-use Rattle.sh_facts.proofs.BeginningLemmas.{first_some}
+use Rattle.sh_reads.proofs.FrontLemmas.{Front, Stands, stands_at, name_run, name_takes, name_stands}
+use Rattle.sh_reads.proofs.BeginningLemmas.{first_some}
 
 -- no operator is a name
 longest_other : (table : List (List ℕ × Figure)) (cs : List ℕ) → list_all (λ x. not (is_figure_name x.1)) table ≡ true → is_figure_name (figure_by cs (longest table cs)).0 ≡ false

@@ -19,7 +19,7 @@ use Rattle.sh_tree.specs.language.Commands.{gap_length, is_newline_lead, is_open
 use Rattle.sh_tree.specs.language.States.{Spot, State, Document, next, past, begun}
 use Rattle.sh_tree.specs.language.Reading as r
 use Rattle.sh_tree.specs.language.Reading.{lead_of, lead_here, skip, behind_name, parted, unopened, ReadsRedirect, ReadsRedirects, ReadsBreaks, ReadsElements, ReadsCommand, ReadsCompound, ReadsDo, ReadsBranches, ReadsElse, ReadsForWords, ReadsWords, ReadsClauses, ReadsPipeline, ReadsCommands, ReadsAndOr, ReadsLinks, ReadsItems, ReadsList, ReadsSequence}
-use Rattle.sh_facts.proofs.GapLemmas.{blanks_gap}
+use Rattle.sh_reads.proofs.GapLemmas.{blanks_gap}
 
 -- neither a blank nor a line continuation stands there
 abbrev pub IsSettled : List ℕ → Spot → Type 0

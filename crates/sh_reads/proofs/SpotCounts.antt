@@ -11,8 +11,8 @@ use Rattle.sh_tree.specs.declared.tree.SingleStyle.{SingleStyle}
 use Rattle.sh_tree.specs.declared.tree.Unary.{Unary}
 use Rattle.sh_tree.specs.program.Syntax as p
 use Rattle.sh_tree.specs.program.Syntax.{Text}
-use Rattle.sh_facts.specs.Spots.{Spot, OfCommand, OfWord, branches_spots, clauses_spots, command_spots, commands_spots, elements_spots, expression_spots, for_words_spots, items_spots, kind_spots, links_spots, list_spots, operands_spots, operator_spots, otherwise_spots, part_spots, pipeline_spots, redirect_spots, redirects_spots, word_spots, words_spots}
-use Rattle.sh_facts.proofs.CountLemmas.{hits, hits_none, hits_join, hits_cons}
+use Rattle.sh_reads.specs.Spots.{Spot, OfCommand, OfWord, branches_spots, clauses_spots, command_spots, commands_spots, elements_spots, expression_spots, for_words_spots, items_spots, kind_spots, links_spots, list_spots, operands_spots, operator_spots, otherwise_spots, part_spots, pipeline_spots, redirect_spots, redirects_spots, word_spots, words_spots}
+use Rattle.sh_reads.proofs.HitLemmas.{hits, hits_none, hits_join, hits_cons}
 
 module _ (q : Place) where
   three : (xs ys zs : List Spot) → hits q (xs ++ ys ++ zs) ≡ hits q xs + hits q ys + hits q zs

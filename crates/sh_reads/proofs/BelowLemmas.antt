@@ -2,8 +2,8 @@
 use Rattle.std.proofs.Common.{◌≡◌, ℕ, ◌+◌, ◌<◌, ◌≤◌, ◌==◌, Bool, true, false, ◌&&◌, min, max, [], ◌∷◌, nat_lt, refl, ◌∙◌, ⊎_elim, arith}
 use Rattle.std.proofs.lemmas.Bool.{cases_Bool, ltb-true, lt-ltb, eqb-true, le-ltb}
 use Rattle.sh_tree.specs.declared.place.Place.{Place}
-use Rattle.sh_facts.specs.Spots.{OfCommand, OfWord}
-use Rattle.sh_facts.proofs.CountLemmas.{one, is_of_command, hits, hits_of_word, hits_of_command}
+use Rattle.sh_reads.specs.Spots.{OfCommand, OfWord}
+use Rattle.sh_reads.proofs.HitLemmas.{one, is_of_command, hits, hits_of_word, hits_of_command}
 
 module _ (q : Place) where
   -- one where the place stands before the offset n in so many bytes

@@ -1,11 +1,11 @@
--- That each unmet place is told once.
--- POSIX.1-2024, XCU 2.6 (word expansions), 2.9 (shell commands).
+-- Where something may be told in a program, and that each such spot of what is read stands once.
+-- POSIX.1-2024, XCU 2.6 (word expansions), 2.9 (shell commands), 2.10 (shell grammar).
 use Rattle.std.specs.Prelude.{ℕ, List, [], ◌∷◌, ◌++◌}
 use Rattle.std.specs.List.{Contains}
+use Rattle.sh_tree.specs.declared.tree.Script.{Script}
+use Rattle.sh_tree.specs.language.Reading.{Reads}
 use Rattle.sh_tree.specs.program.Syntax as p
-use Rattle.sh_facts.specs.Facts.{Declared}
-use Rattle.sh_facts.specs.Demands.{demands}
-use Rattle.sh_facts.specs.Views.{Certificate}
+use Rattle.sh_tree.specs.program.Trees.{script_of}
 
 -- where something may be told: at the start of a command, or in a word, of an expansion, a tilde or a name in arithmetic
 pub data Spot : Type 0 where
@@ -116,6 +116,6 @@ unfoldable mutual
   operands_spots p.no_operands = []
   operands_spots (p.more_operands operator e rest) = expression_spots e ++ operands_spots rest
 
--- Where each spot stands once, so does each unmet place.
-abbrev pub PlacesStandOnce : Type 0
-PlacesStandOnce = (d : Declared) (c : Certificate) (t : p.Items) → EachOnce (items_spots t) → EachOnce (demands d c t)
+-- no two commands of what is read start at one offset, and no two expansions, tildes or names of arithmetic stand at one
+abbrev pub ReadSpotsStandOnce : Type 0
+ReadSpotsStandOnce = (b : List ℕ) (t : Script) → Reads b t → EachOnce (items_spots (script_of b t))

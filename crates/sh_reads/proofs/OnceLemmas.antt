@@ -46,23 +46,21 @@ use Rattle.sh_tree.specs.program.Syntax as p
 use Rattle.sh_tree.specs.program.Trees.{part_of, expression_of, script_of, and_or_of, pipeline_of, command_of, kind_of, target_of}
 use Rattle.sh_tree.specs.Tree.{text_of}
 use Rattle.sh_tree.proofs.ProgramRules.{parts_from-empty, parts_from-more, words_from-empty, words_from-more, operands_from-empty, operands_from-more, items_from-empty, links_from-empty, links_from-more, commands_from-empty, commands_from-more, elements_from-empty, redirects_from-empty, redirects_from-more, branches_from-empty, clauses_from-empty, otherwise_from-None, otherwise_from-Some, for_words_from-None, for_words_from-Some, kind_of-Simple, kind_of-Group, kind_of-Subshell, kind_of-Cond, kind_of-Loop, kind_of-For, kind_of-Branches, kind_of-Define, elements_from-Assignment, elements_from-Word, elements_from-Redirection, target_of-File, target_of-Here, part_of-Plain, part_of-Escaped, part_of-Single, part_of-Double, part_of-Param, part_of-Arith, part_of-Command, part_of-Tilde, part_of-Joined, operator_of-Value, operator_of-Length, operator_of-Use, operator_of-Remove, expression_of-Constant, expression_of-Variable, expression_of-Expansion, expression_of-Parenthesis, expression_of-Unary, expression_of-Chain, expression_of-Choice, expression_of-Assign}
-use Rattle.sh_facts.proofs.GapLemmas.{blanks_gap}
-use Rattle.sh_facts.proofs.ProgramTrees.{script_made, items_made, and_or_made, pipe_made, command_made, branches_made, clauses_made}
-use Rattle.sh_facts.proofs.SettledLemmas.{IsSettled, settled_next, settled_past, settled_parted, redirect_settled, breaks_settled, for_words_settled, pipeline_settled, and_or_settled, list_settled}
+use Rattle.sh_reads.proofs.GapLemmas.{blanks_gap}
+use Rattle.sh_reads.proofs.ProgramTrees.{script_made, items_made, and_or_made, pipe_made, command_made, branches_made, clauses_made}
+use Rattle.sh_reads.proofs.SettledLemmas.{IsSettled, settled_next, settled_past, settled_parted, redirect_settled, breaks_settled, for_words_settled, pipeline_settled, and_or_settled, list_settled}
 use Rattle.std.proofs.lemmas.Bool.{true≢false}
 use Rattle.sh_tree.specs.declared.place.Place.{Place}
 use Rattle.sh_tree.specs.language.Parts.{is_quoted_word}
 use Rattle.sh_tree.specs.language.Words.{token}
-use Rattle.sh_facts.specs.Spots.{word_spots, part_spots, expression_spots, operands_spots, words_spots, for_words_spots, redirect_spots, redirects_spots, elements_spots, kind_spots, command_spots, commands_spots, pipeline_spots, links_spots, list_spots, items_spots, branches_spots, otherwise_spots, clauses_spots}
-use Rattle.sh_facts.proofs.BeginningLemmas.{takes_none, word_takes}
-use Rattle.sh_facts.proofs.CountLemmas.{hits, spots_from_hits}
-use Rattle.sh_facts.proofs.SpotLemmas.{places_stand_once}
-use Rattle.sh_facts.specs.Readings.{ReadSpotsStandOnce, ReadPlacesStandOnce}
-use Rattle.sh_facts.proofs.FigureLemmas.{figure_takes, figure_moves}
-use Rattle.sh_facts.proofs.MoveLemmas.{blanks_move, name_moves, redirection_moves, is_end, lead_inside, simple_inside, compound_inside, line_behind, end_line_moves}
-use Rattle.sh_facts.proofs.TakeLemmas.{is_part, token_takes, token_moves, part_begins}
-use Rattle.sh_facts.proofs.BelowLemmas.{below, Spans, spans_is, spans_none, spans_wider, spans_then, spans_own, spans_inner, Step, step_is, step_none, step_wider, step_then, step_spans, step_own, step_simple, below_grows, below_front, below_same, below_most}
-use Rattle.sh_facts.proofs.SpotCounts.{count_no_parts, count_parts, count_plain, count_escaped, count_single, count_joined, count_tilde, count_double, count_expansion, count_arithmetic, count_substitution, count_value, count_length, count_use, count_remove, count_constant, count_name, count_expanded, count_parenthesis, count_signed, count_chain, count_choice, count_assigned, count_no_operands, count_operands, count_no_words, count_words, count_every, count_listed, count_file, count_here, count_no_redirects, count_redirects, count_no_elements, count_assignment, count_operand, count_redirection, count_simple, count_group, count_subshell, count_conditional, count_loop, count_for, count_case, count_define, count_no_branches, count_branches, count_no_else, count_else, count_no_clauses, count_clauses, count_no_commands, count_commands, count_command, count_pipeline, count_no_links, count_links, count_list, count_no_items, count_items}
+use Rattle.sh_reads.specs.Spots.{ReadSpotsStandOnce, word_spots, part_spots, expression_spots, operands_spots, words_spots, for_words_spots, redirect_spots, redirects_spots, elements_spots, kind_spots, command_spots, commands_spots, pipeline_spots, links_spots, list_spots, items_spots, branches_spots, otherwise_spots, clauses_spots}
+use Rattle.sh_reads.proofs.BeginningLemmas.{takes_none, word_takes}
+use Rattle.sh_reads.proofs.HitLemmas.{hits, spots_from_hits}
+use Rattle.sh_reads.proofs.FigureLemmas.{figure_takes, figure_moves}
+use Rattle.sh_reads.proofs.MoveLemmas.{blanks_move, name_moves, redirection_moves, is_end, lead_inside, simple_inside, compound_inside, line_behind, end_line_moves}
+use Rattle.sh_reads.proofs.TakeLemmas.{is_part, token_takes, token_moves, part_begins}
+use Rattle.sh_reads.proofs.BelowLemmas.{below, Spans, spans_is, spans_none, spans_wider, spans_then, spans_own, spans_inner, Step, step_is, step_none, step_wider, step_then, step_spans, step_own, step_simple, below_grows, below_front, below_same, below_most}
+use Rattle.sh_reads.proofs.SpotCounts.{count_no_parts, count_parts, count_plain, count_escaped, count_single, count_joined, count_tilde, count_double, count_expansion, count_arithmetic, count_substitution, count_value, count_length, count_use, count_remove, count_constant, count_name, count_expanded, count_parenthesis, count_signed, count_chain, count_choice, count_assigned, count_no_operands, count_operands, count_no_words, count_words, count_every, count_listed, count_file, count_here, count_no_redirects, count_redirects, count_no_elements, count_assignment, count_operand, count_redirection, count_simple, count_group, count_subshell, count_conditional, count_loop, count_for, count_case, count_define, count_no_branches, count_branches, count_no_else, count_else, count_no_clauses, count_clauses, count_no_commands, count_commands, count_command, count_pipeline, count_no_links, count_links, count_list, count_no_items, count_items}
 
 -- What reads no body
 
@@ -724,6 +722,3 @@ read_hits b t reads q =
 
 pub read_spots_once : ReadSpotsStandOnce
 read_spots_once b t reads = spots_from_hits (items_spots (script_of b t)) (read_hits b t reads)
-
-pub read_places_once : ReadPlacesStandOnce
-read_places_once d c b t reads = places_stand_once d c (script_of b t) (read_spots_once b t reads)

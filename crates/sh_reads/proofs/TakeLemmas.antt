@@ -15,7 +15,7 @@ use Rattle.sh_tree.specs.language.Reading as r
 use Rattle.sh_tree.specs.language.Reading.{ReadsPart}
 use Rattle.sh_tree.specs.language.States.{Spot}
 use Rattle.sh_tree.specs.language.Words as words
-use Rattle.sh_facts.proofs.BeginningLemmas.{stands_some}
+use Rattle.sh_reads.proofs.BeginningLemmas.{stands_some}
 
 -- a sign that begins a part
 abbrev pub is_part : Sign → Bool

@@ -1,0 +1,12 @@
+pub mod FrontLemmas
+pub mod BeginningLemmas
+pub mod GapLemmas
+pub mod SettledLemmas
+pub mod TakeLemmas
+pub mod FigureLemmas
+pub mod MoveLemmas
+pub mod ProgramTrees
+pub mod HitLemmas
+pub mod SpotCounts
+pub mod BelowLemmas
+pub mod OnceLemmas
