@@ -1,7 +1,7 @@
 -- Where each number stands once, the test that numbers differ holds.
-use Rattle.std.proofs.Common.{◌≡◌, ℕ, zero, suc, ◌<◌, ◌==◌, Bool, true, false, not, ◌&&◌, List, [], ◌∷◌, map, length, get_or, refl, arith}
+use Rattle.std.proofs.Common.{◌≡◌, ℕ, suc, ◌==◌, Bool, true, false, not, List, [], ◌∷◌, map, refl, arith}
 use Rattle.std.specs.List.{Contains, list_all}
-use Rattle.std.proofs.lemmas.Bool.{and_from, eqb-true, cases_Bool}
+use Rattle.std.proofs.lemmas.Bool.{and_from, eqb-true}
 use Rattle.sh_tree.specs.declared.tree.Script.{Script}
 use Rattle.sh_tree.specs.language.Reading.{Reads}
 use Rattle.sh_tree.specs.program.Trees.{script_of}
