@@ -11,6 +11,7 @@ pub mod MeetLemmas
 pub mod MonotoneLemmas
 pub mod NameLemmas
 pub mod OrderLemmas
+pub mod RoundTripLemmas
 pub mod RowLemmas
 pub mod PolicyLemmas
 pub mod SightLemmas

@@ -190,10 +190,10 @@ merged (u ∷ us) (t ∷ ts) p a b all test =
 
 -- Names in their order
 
-abbrev IsAt : List Text → ℕ × Text → Type 0
+abbrev pub IsAt : List Text → ℕ × Text → Type 0
 IsAt names x = slice_get names x.0 ≡ Some x.1
 
-abbrev names_of : List (ℕ × Text) → List Text
+abbrev pub names_of : List (ℕ × Text) → List Text
 names_of xs = map (λ (x : ℕ × Text). x.1) xs
 
 placed_each : (P : ℕ × Text → Type 0) (ys : List (ℕ × Text)) (x : ℕ × Text) → P x → AllByRecursion P ys → AllByRecursion P (placed ys x)
@@ -216,7 +216,7 @@ numbered_each names k (t ∷ ts) h =
     let here : k + 0 ≡ k = omega arith in
     (ap (slice_get names) (sym here) ∙ sym (h 0), numbered_each names (k + 1) ts (λ i. let next : k + suc i ≡ k + 1 + i = omega arith in h (suc i) ∙ ap (slice_get names) next))
 
-order_at : (names : List Text) → AllByRecursion (IsAt names) (in_byte_order names)
+pub order_at : (names : List Text) → AllByRecursion (IsAt names) (in_byte_order names)
 order_at names = folded_each (IsAt names) [] (numbered 0 names) tt (numbered_each names 0 names (λ i. let same : 0 + i ≡ i = omega arith in ap (slice_get names) (sym same)))
 
 placed_all : (q : Text → Bool) (ys : List (ℕ × Text)) (x : ℕ × Text) → q x.1 ≡ true → list_all q (names_of ys) ≡ true → list_all q (names_of (placed ys x)) ≡ true

@@ -33,10 +33,10 @@ and_false : (a : Bool) → (a && false) ≡ false
 and_false true = refl
 and_false false = refl
 
-ok_same : {A : Type 0} {x y : A} → ◌≡◌ {A = Result A ℕ} (Ok x) (Ok y) → x ≡ y
+pub ok_same : {A : Type 0} {x y : A} → ◌≡◌ {A = Result A ℕ} (Ok x) (Ok y) → x ≡ y
 ok_same h = cc
 
-ok_err : {A B : Type 0} {x : A} {y : B} → Ok x ≡ Err y → ⊥
+pub ok_err : {A B : Type 0} {x : A} {y : B} → Ok x ≡ Err y → ⊥
 ok_err e = cc
 
 has_sheet : (r : Result Sheet ℕ) → outcome r ≡ Ok (tt {0}) → (s : Sheet) × (r ≡ Ok s)
@@ -49,7 +49,7 @@ unfolding outcome
 refused_so (Ok s) k e = absurd (ok_err e)
 refused_so (Err j) k e = let same : j ≡ k = cc in ap Err same
 
-short : (t : Text) → length t ≤ MAX_CERTIFICATE → read_text t ≡ read_sheet t
+pub short : (t : Text) → length t ≤ MAX_CERTIFICATE → read_text t ≡ read_sheet t
 unfolding read_text
 short t l = let small : nat_le (length t) MAX_CERTIFICATE ≡ true = grind (arith, nat_tests) in rw small refl
 
@@ -63,7 +63,7 @@ faulty t k l e = short t l ∙ refused_so (read_sheet t) k (sym e)
 pub has_form : (t : Text) → length t ≤ MAX_CERTIFICATE → Ok (tt {0}) ≡ outcome (read_sheet t) → outcome (read_text t) ≡ Ok (tt {0})
 has_form t l e = ap outcome (short t l) ∙ sym e
 
-within : (t : Text) (s : Sheet) → read_text t ≡ Ok s → read_sheet t ≡ Ok s
+pub within : (t : Text) (s : Sheet) → read_text t ≡ Ok s → read_sheet t ≡ Ok s
 unfolding read_text
 within t s e = by (nat_le (length t) MAX_CERTIFICATE) e
   where

@@ -1,5 +1,6 @@
 pub mod Facts
 pub mod Policy
+pub mod RoundTrips
 pub mod Sights
 pub mod SightWalks
 pub mod Names

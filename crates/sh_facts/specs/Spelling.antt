@@ -34,7 +34,11 @@ pub record IsSheet (s : Sheet) : Type 0 where
   pub few_commands : nat_le (length s.commands) 65535 ≡ true
   pub few_functions : nat_le (length s.functions) 65535 ≡ true
 
--- Whatever reads as claims is their text, to the byte, so no certificate has two texts; and what is written reads as what was written.
+-- Whatever reads as claims is their text, to the byte, so no certificate has two texts, and they may be written; what is written reads as what was
+-- written, so no text is that of two certificates.
 pub record HasOneText : Type 0 where
   pub spelled : (t : Text) (s : Sheet) → read_sheet t ≡ Ok s → certificate_text s ≡ t
+  pub one : (t u : Text) (s : Sheet) → read_sheet t ≡ Ok s → read_sheet u ≡ Ok s → t ≡ u
+  pub may_be_written : (t : Text) (s : Sheet) → read_sheet t ≡ Ok s → IsSheet s
   pub read_back : (s : Sheet) → IsSheet s → read_sheet (certificate_text s) ≡ Ok s
+  pub apart : (s z : Sheet) → IsSheet s → IsSheet z → certificate_text s ≡ certificate_text z → s ≡ z

@@ -7,6 +7,7 @@ ghost use Rattle.sh_facts.specs.LeastFault.{LeastIsTold};
 ghost use Rattle.sh_facts.specs.Meets.{SeenIsMeet};
 ghost use Rattle.sh_facts.specs.Order.{Monotone, Ordered};
 ghost use Rattle.sh_facts.specs.Slots.{EveryCertificateClaims};
+ghost use Rattle.sh_facts.specs.RoundTrips.{ReadIsWritten, WrittenReadsBack};
 ghost use Rattle.sh_facts.specs.Spelling.{HasOneText};
 ghost use Rattle.sh_facts.specs.Places.{PlacesStandOnce, ReadPlacesStandOnce};
 ghost use Rattle.sh_facts.specs.Readings.{ReadIsFormed, ReadIsNumbered, ReadNumbersDiffer};
@@ -76,6 +77,13 @@ pub fn certificate_texts()
 /// Of a certificate's claims there is one text, and it reads as these claims.
 pub fn spelling()
     ensures { HasOneText }
+{}
+
+/// A kept certificate whose rows name variables and functions, and that has no more of anything than a text may have, is written with
+/// rising names, and what is written is read as a certificate that claims the same. What is read is what is written again.
+pub fn round_trips()
+    ensures written { WrittenReadsBack }
+    ensures read { ReadIsWritten }
 {}
 
 /// The names that are numbered of a script are enough: each has a number of its own, those of the start have one, and what is known

@@ -1,10 +1,12 @@
 //! The text of a certificate.
-ghost use Rattle.std.specs.Prelude.{◌≡◌, ◌++◌, ◌^◌, ◌<◌, ◌∷◌, ◌&&◌, [], length, map, not, OnOk, IfOk};
+ghost use Rattle.std.specs.Prelude.{◌≡◌, ◌++◌, ◌^◌, ◌<◌, ◌∷◌, ◌&&◌, [], length, map, not, Ok, OnOk, IfOk};
 ghost use Rattle.std.specs.Option.{option_copied};
 ghost use Rattle.sh_facts.specs.Sheets as text;
 ghost use Rattle.sh_facts.specs.Certificates as claims;
 ghost use Rattle.sh_facts.specs.KeptRows.{holds_at};
+ghost use Rattle.sh_facts.specs.Forms.{read_sheet};
 ghost use Rattle.sh_facts.specs.Numbered.{pair_of, next_if, next_name};
+ghost use Rattle.sh_facts.specs.RoundTrips.{HasText, claimed};
 
 use crate::certificate::{Certificate, Drops, Entry, Facts, FunctionEntry};
 use crate::names::Names;
@@ -14,7 +16,8 @@ use std::alloc::{AllocError, Global};
 use std::io::Write;
 
 /// The one text of a certificate, version 1, for the names of its numbers: a line for each command and each function, the names of each
-/// set in rising byte order.
+/// set in rising byte order. Where the rows name variables and functions, and there is no more of anything than a text may have, it reads
+/// as what the certificate claims.
 ///
 /// # Errors
 ///
@@ -26,7 +29,8 @@ pub fn write_certificate(
 ) -> Result<Vec<u8>, AllocError>
     requires commands { length certificate.now.entries.items < 2 ^ 32 }
     requires functions { length certificate.now.functions.items < 2 ^ 32 }
-    ensures { IfOk result (λ t. t.items ≡ text.certificate_text (claims.sheet_of (claims.in_byte_order names.now) certificate.now)) }
+    ensures text { IfOk result (λ t. t.items ≡ text.certificate_text (claims.sheet_of (claims.in_byte_order names.now) certificate.now)) }
+    ensures back { IfOk result (λ t. HasText names.now certificate.now → read_sheet t.items ≡ Ok (claimed names.now certificate.now)) }
 {
     let order = in_byte_order(alloc, names)?;
     let mut out = Vec::new(alloc);

@@ -2,13 +2,15 @@ use Rattle.std.proofs.Common.{◌≡◌, ◌++◌, List, length, map, ap, ap₂,
 use Rattle.sh_facts.specs.declared.numbered.Numbered.{Numbered}
 use Rattle.sh_facts.specs.declared.certificate.FunctionEntry.{FunctionEntry}
 use Rattle.sh_facts.specs.Certificates.{commands_from, function_claims}
+use Rattle.sh_facts.specs.Forms.{read_sheet}
 use Rattle.sh_facts.specs.Numbered.{pair_of}
 use Rattle.sh_facts.specs.Sheets.{numbered_lines, line, command_fields, function_fields, count_fields}
+use Rattle.sh_facts.proofs.RoundTripLemmas.{written_reads_back}
 use Rattle.sh_facts.proofs.WritingLemmas.{all_written}
 use Rattle.sh_facts.proofs.texts.write_certificate.Goals as goal
 
-pub returns : goal.returns
-returns c =
+pub returns-clause-text : goal.returns-clause-text
+returns-clause-text c =
     let certificate = c.args.certificate.now in
     let order = c.in_ok-order.order.items in
     let commands : c.len.result ≡ length certificate.entries.items = search rules in
@@ -19,3 +21,6 @@ returns c =
     (c.in_ok-push_entries.ensures ∙ ap (λ (o : List Numbered). c.push_counts.new.out.items ++ numbered_lines command_fields 1 (commands_from (map pair_of o) certificate 1 certificate.entries.items)) c.deref.ensures.value)
     (c.in_ok-push_functions.ensures
     ∙ ap₂ (λ (o : List Numbered) (fs : List FunctionEntry). c.push_entries.new.out.items ++ numbered_lines function_fields 1 (map (function_claims (map pair_of o) certificate.rows) fs)) c.deref-2.ensures.value c.deref-3.ensures.value)
+
+pub returns-clause-back : goal.returns-clause-back
+returns-clause-back c = λ h. ap read_sheet (returns-clause-text c) ∙ written_reads_back.back c.args.names.now c.args.certificate.now h
