@@ -1,4 +1,5 @@
 pub mod EnteredWalk
+pub mod GivenLemmas
 pub mod AnswerLemmas
 pub mod CountLemmas
 pub mod EachLemmas

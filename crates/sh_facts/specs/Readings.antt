@@ -1,18 +1,35 @@
--- What every script that is read has: its program is formed, and each number of it stands once.
+-- What every script that is read has: its program is formed, its words give fields, its runs have rows, and each number of it stands once.
 -- POSIX.1-2024, XCU 2.10 (shell grammar).
-use Rattle.std.specs.Prelude.{◌≡◌, ℕ, true, List, map}
+use Rattle.std.specs.Prelude.{◌≡◌, ℕ, true, List, Some, None, map}
 use Rattle.sh_tree.specs.declared.tree.Script.{Script}
 use Rattle.sh_tree.specs.language.Reading.{Reads}
+use Rattle.sh_tree.specs.program.Syntax.{Text}
 use Rattle.sh_tree.specs.program.Trees.{script_of}
 use Rattle.sh_reads.specs.Spots.{EachOnce}
+use Rattle.sh_table.specs.Admitted.{is_admitted}
 use Rattle.sh_table.specs.Numbering.{is_numbered}
+use Rattle.sh_table.specs.Rows.{has_row, gives_fields}
 use Rattle.sh_table.specs.Sites.{site_of}
 use Rattle.sh_table.specs.Surroundings.{Located, outside, items_located}
+use Rattle.sh_table.specs.runs.Environment.{Environment, Frame}
+use Rattle.sh_table.specs.runs.Worlds.{Process, World, Move, run, start_world}
 use Rattle.sh_facts.specs.Inclusions.{is_formed}
 
 -- whatever text is read as whatever tree
 abbrev pub ReadIsFormed : Type 0
 ReadIsFormed = (b : List ℕ) (t : Script) → Reads b t → is_formed (script_of b t) ≡ true
+
+-- so each word of a simple command that has a static text gives a field
+abbrev pub ReadGivesFields : Type 0
+ReadGivesFields = (b : List ℕ) (t : Script) → Reads b t → gives_fields (script_of b t) ≡ true
+
+-- and where it is admitted, no run of it, from a start without functions, comes to a utility without a row
+abbrev pub ReadHasRows : Type 0
+ReadHasRows =
+    (b : List ℕ) (t : Script) → Reads b t → is_admitted (script_of b t) ≡ true
+    → (e : Environment) (f : Frame) (moves : List Move) (w : World)
+    → ((name : Text) → e.functions name ≡ None) → run moves (start_world e f (script_of b t)) ≡ Some w
+    → (n : ℕ) (r : Process) → w.processes n ≡ Some r → has_row r.work ≡ true
 
 abbrev pub command_number : Located → ℕ
 command_number l = (site_of l).number

@@ -10,7 +10,7 @@ ghost use Rattle.sh_facts.specs.Slots.{EveryCertificateClaims};
 ghost use Rattle.sh_facts.specs.RoundTrips.{ReadIsWritten, WrittenReadsBack};
 ghost use Rattle.sh_facts.specs.Spelling.{HasOneText};
 ghost use Rattle.sh_facts.specs.Places.{PlacesStandOnce, ReadPlacesStandOnce};
-ghost use Rattle.sh_facts.specs.Readings.{ReadIsFormed, ReadIsNumbered, ReadNumbersDiffer};
+ghost use Rattle.sh_facts.specs.Readings.{ReadGivesFields, ReadHasRows, ReadIsFormed, ReadIsNumbered, ReadNumbersDiffer};
 ghost use Rattle.sh_facts.specs.SpotExamples.{SpotsAsExpected};
 ghost use Rattle.sh_facts.specs.TextExamples.{TextsAsExpected};
 
@@ -49,9 +49,12 @@ pub fn inclusions()
 {}
 
 /// The program of every script that is read is formed: a name stands wherever one has to, a positional parameter has a number from 1, plain
-/// text is not empty, an operand whose text is static gives a field, and behind a simple command stand no redirections (XCU 2.10).
+/// text is not empty, an operand whose text is static gives a field, and behind a simple command stand no redirections (XCU 2.10). So its words
+/// give fields, and where it is admitted no run of it comes to a utility that no row speaks of.
 pub fn formed()
-    ensures { ReadIsFormed }
+    ensures programs { ReadIsFormed }
+    ensures fields { ReadGivesFields }
+    ensures rows { ReadHasRows }
 {}
 
 /// No two commands of a script that is read have one number, those of its here-documents included.

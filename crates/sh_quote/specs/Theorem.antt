@@ -1,7 +1,10 @@
 -- What the rules of quoting are good for: no run gives an expansion's value to splitting or pathname expansion that could change it.
 -- POSIX.1-2024, XCU 2.6.5 (field splitting), 2.6.6 (pathname expansion).
 use Rattle.std.specs.Prelude.{◌≡◌, ℕ, true, false, List, [], Some}
+use Rattle.sh_tree.specs.declared.tree.Script.{Script}
+use Rattle.sh_tree.specs.language.Reading.{Reads}
 use Rattle.sh_tree.specs.program.Syntax.{Text, Items}
+use Rattle.sh_tree.specs.program.Trees.{script_of}
 use Rattle.sh_table.specs.Admitted.{is_admitted}
 use Rattle.sh_table.specs.Rows.{gives_fields}
 use Rattle.sh_table.specs.runs.Environment.{Environment, Frame}
@@ -15,4 +18,12 @@ QuotingSuffices =
     (t : Items) → is_admitted t ≡ true → gives_fields t ≡ true → unquoted t ≡ []
     → (names : List Text) (args : ℕ) (e : Environment) (f : Frame) → IsStart names args e f
     → (moves : List Move) (w : World) → run moves (start_world e f t) ≡ Some w
+    → (m : Move) → has_unset_event w m ≡ false → has_split_event w m ≡ false
+
+-- So it is of every script that is read and admitted.
+abbrev pub QuotingSufficesForScripts : Type 0
+QuotingSufficesForScripts =
+    (b : List ℕ) (t : Script) → Reads b t → is_admitted (script_of b t) ≡ true → unquoted (script_of b t) ≡ []
+    → (names : List Text) (args : ℕ) (e : Environment) (f : Frame) → IsStart names args e f
+    → (moves : List Move) (w : World) → run moves (start_world e f (script_of b t)) ≡ Some w
     → (m : Move) → has_unset_event w m ≡ false → has_split_event w m ≡ false

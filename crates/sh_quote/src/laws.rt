@@ -1,7 +1,7 @@
 //! What holds of the rules of quoting that `specs/` defines, and what they are good for in the runs that `sh_table` defines.
 ghost use Rattle.sh_table.specs.Theorem.{FieldsStandWhole, FieldsStandSteady};
 ghost use Rattle.sh_quote.specs.QuoteExamples.{QuotesAsExpected};
-ghost use Rattle.sh_quote.specs.Theorem.{QuotingSuffices};
+ghost use Rattle.sh_quote.specs.Theorem.{QuotingSuffices, QuotingSufficesForScripts};
 
 /// In known scripts the known places are told.
 pub fn examples()
@@ -10,9 +10,11 @@ pub fn examples()
 
 /// Where a program is admitted and no place of it is told, no step of a run that expands no unset parameter gives an expansion's
 /// value to field splitting or pathname expansion that could change it: from any start that a policy allows, with any results of
-/// the commands, any choice and any order of the processes (XCU 2.6.5, 2.6.6).
+/// the commands, any choice and any order of the processes (XCU 2.6.5, 2.6.6). Of the words of the program it wants what those of every script
+/// that is read have.
 pub fn no_split()
-    ensures { QuotingSuffices }
+    ensures programs { QuotingSuffices }
+    ensures scripts { QuotingSufficesForScripts }
 {}
 
 /// The fields of a word without a Split event are those without splitting; and they hang on IFS and on the directory only

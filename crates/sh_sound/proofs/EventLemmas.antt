@@ -1,17 +1,8 @@
 -- Where rules, demands and quoting hold, no run has an event.
-use Rattle.std.proofs.Common.{◌≡◌, Bool, true, false, not, ◌&&◌, ◌||◌, if◌then◌else◌, Option, Some, None, is_some, List, [], ◌∷◌, ◌++◌, refl, ◌∙◌, unwrap_or, option_map, option_and_then}
-use Rattle.std.specs.List.{list_all}
-use Rattle.std.proofs.lemmas.Bool.{and_parts, and_from}
+use Rattle.std.proofs.Common.{◌≡◌, Bool, true, false, ◌||◌, Option, Some, None, List, [], ◌∷◌, ◌++◌, refl, ◌∙◌, unwrap_or, option_map, option_and_then}
 use Rattle.std.proofs.lemmas.Option.{same_Some, none-some}
-use Rattle.sh_tree.specs.language.Bytes.{is_name}
-use Rattle.sh_tree.specs.program.Syntax as p
-use Rattle.sh_tree.specs.program.Words.{is_pattern, word_text, static_of, words_in, operands_in}
-use Rattle.sh_table.specs.Counts.{some_gives_field}
-use Rattle.sh_table.specs.Rows.{text_gives_field, kind_gives_fields, command_gives_fields}
-use Rattle.sh_table.specs.Surroundings.{Located, outside, items_located}
 use Rattle.sh_table.specs.runs.Worlds.{World, Move, step, run, has_unset_event, has_split_event, start_world}
-use Rattle.sh_facts.specs.Inclusions.{word_formed, field_formed, elements_formed, redirect_formed, redirects_formed, kind_formed, command_formed}
-use Rattle.sh_facts.specs.Table.{is_redirected}
+use Rattle.sh_facts.proofs.GivenLemmas.{formed_gives_fields}
 use Rattle.sh_quote.proofs.SplitLemmas.{quoting_suffices}
 use Rattle.sh_sound.specs.Theorem.{splits, HaveNoEvents}
 use Rattle.sh_sound.proofs.TheoremLemmas.{rules_suffice}
@@ -71,46 +62,9 @@ module _ (s : World) (quiet : (moves : List Move) (w : World) → run moves s �
       let unset = quiet one.0 w one.1 one.2 m in
       (unset, whole moves w h m unset)
 
--- Words of a program that is formed give fields
-
-field_given : (w : p.Word) → field_formed w ≡ true → text_gives_field w ≡ true
-unfolding text_gives_field static_of
-field_given w h = go (is_pattern w) (and_parts (word_formed w) (not (is_some (word_text w)) || some_gives_field w) h).1
-  where
-    go : (b : Bool) → (not (is_some (word_text w)) || some_gives_field w) ≡ true → (not (is_some (if b then None else word_text w)) || some_gives_field w) ≡ true
-    go true k = refl
-    go false k = k
-
-elements_given : (es : p.Elements) → elements_formed es ≡ true → list_all text_gives_field (words_in (operands_in es)) ≡ true
-unfolding elements_formed operands_in words_in
-elements_given p.no_elements h = refl
-elements_given (p.assignment name value es) h = elements_given es (and_parts (is_name name && word_formed value) (elements_formed es) h).1
-elements_given (p.operand w es) h =
-    let parts = and_parts (field_formed w) (elements_formed es) h in
-    and_from (text_gives_field w) (list_all text_gives_field (words_in (operands_in es))) (field_given w parts.0) (elements_given es parts.1)
-elements_given (p.redirection r es) h = elements_given es (and_parts (redirect_formed r) (elements_formed es) h).1
-
-command_given : (c : p.Command) → command_formed c ≡ true → command_gives_fields c ≡ true
-unfolding command_formed kind_formed command_gives_fields kind_gives_fields
-command_given (p.command n offset (p.Simple es) rs) h =
-    elements_given es (and_parts (elements_formed es) (not (is_redirected rs)) (and_parts (elements_formed es && not (is_redirected rs)) (redirects_formed rs) h).0).0
-command_given (p.command n offset (p.Group list) rs) h = refl
-command_given (p.command n offset (p.Subshell list) rs) h = refl
-command_given (p.command n offset (p.Conditional parts otherwise) rs) h = refl
-command_given (p.command n offset (p.Loop kind condition body) rs) h = refl
-command_given (p.command n offset (p.For name ws body) rs) h = refl
-command_given (p.command n offset (p.Case w cs) rs) h = refl
-command_given (p.command n offset (p.Define name body) rs) h = refl
-
-all_given : (ls : List Located) → list_all (λ (l : Located). command_formed l.command) ls ≡ true → list_all (λ (l : Located). command_gives_fields l.command) ls ≡ true
-all_given [] h = refl
-all_given (l ∷ ls) h =
-    let parts = and_parts (command_formed l.command) (list_all (λ (l : Located). command_formed l.command) ls) h in
-    and_from (command_gives_fields l.command) (list_all (λ (l : Located). command_gives_fields l.command) ls) (command_given l.command parts.0) (all_given ls parts.1)
-
 -- The headline
 
 pub have_no_events : HaveNoEvents
 have_no_events d c t named admitted formed rules met quoted e f begin moves w runs m =
     no_event (start_world e f t) (λ ms v h k n. rules_suffice d c t named admitted formed rules met e f begin ms v h k n)
-    (λ ms v h n k. quoting_suffices t admitted (all_given (items_located outside t) formed) quoted d.names d.args e f begin ms v h n k) moves w runs m
+    (λ ms v h n k. quoting_suffices t admitted (formed_gives_fields t formed) quoted d.names d.args e f begin ms v h n k) moves w runs m
