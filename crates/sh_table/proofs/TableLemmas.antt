@@ -1,23 +1,26 @@
 -- What is kept of a script, and the row with a number.
-use Rattle.std.proofs.Common.{◌≡◌, ℕ, zero, suc, ◌<◌, ◌≤◌, ◌==◌, Bool, true, false, cond, List, [], ◌∷◌, length, drop, get_or, map, Option, Some, None, option_map, refl, sym, ap, ap₂, ◌∙◌, arith}
+use Rattle.std.proofs.Common.{◌≡◌, ℕ, zero, suc, ◌<◌, ◌≤◌, ◌==◌, Bool, true, false, cond, List, [], ◌∷◌, length, drop, get_or, map, Option, Some, None, option_map, refl, sym, ap, ap₂, ◌∙◌, arith, ◌+◌, ◌++◌, fold}
+use Rattle.std.proofs.lemmas.List.{length-append, length-map}
 use Rattle.std.proofs.Math.Dec.{ltb}
 use Rattle.std.proofs.lemmas.Bool.Decides.{nat_tests}
-use Rattle.std.specs.List.{AllWithin, position_from}
+use Rattle.std.specs.List.{AllWithin, cons_option, filter_map, position_from}
 use Rattle.std.specs.Str.{bytes_eq}
 use Rattle.std.specs.List.Sorted.{IsNonDecreasingBy}
 use Rattle.sh_tree.specs.declared.limits.TheConstants.{MAX_COMMANDS}
 use Rattle.sh_tree.specs.declared.tree.Script.{Script}
 use Rattle.sh_tree.specs.program.Syntax as p
+use Rattle.sh_tree.specs.program.Syntax.{Text}
 use Rattle.sh_tree.specs.program.Trees.{script_of}
 use Rattle.sh_table.specs.declared.site.Site as site
 use Rattle.sh_table.specs.declared.table.Row as declared
 use Rattle.sh_table.specs.declared.word_text.WordText.{WordText}
-use Rattle.sh_table.specs.Calls.{Functions, Table, Row, IsKept, functions_of, row_of, row_in, table_in, table_of, texts_with, static_at, text_at, called, callee_at, first_row, found_texts}
+use Rattle.sh_table.specs.Calls.{Functions, Table, Row, IsKept, defined, with_name, names_of, functions_of, row_of, row_in, table_in, table_of, texts_with, static_at, text_at, called, callee_at, first_row, found_texts}
 use Rattle.sh_table.specs.Kinds.{kind_of, is_special}
 use Rattle.sh_table.specs.Profile.{Static}
 use Rattle.sh_table.specs.Sites.{Site, sites_of}
 use Rattle.sh_table.specs.Walks.{seen}
 use Rattle.sh_table.specs.WordTexts.{text_in}
+use Rattle.sh_table.specs.runs.Environment.{is_one_of}
 use Rattle.sh_table.proofs.FunctionLemmas.{place_later}
 use Rattle.sh_table.proofs.OrderLemmas.{Above, Rises, rises_by_number}
 
@@ -82,6 +85,40 @@ pub table_whole : (b : List ℕ) (t : Script) (ss : List site.Site) (f : Functio
     → map (seen b) ss ≡ sites_of (script_of b t) → table_in b f rs ≡ table_of b t
 unfolding table_of
 table_whole b t ss f rs e r h = ap₂ (λ x y. record { script = b; functions = x; rows = y }) (e ∙ ap functions_of h) (r ∙ ap (map row_of) h)
+
+-- no more functions than commands
+
+one_more_name : (names : List Text) (t : Text) → length (with_name names t) ≤ length names + 1
+unfolding with_name
+one_more_name names t = go (is_one_of names t)
+  where
+    go : (found : Bool) → length (cond found names (names ++ t ∷ [])) ≤ length names + 1
+    go true = omega arith
+    go false = let both = length-append names (t ∷ []) in omega (arith, both)
+
+all_named : (names ts : List Text) → length (fold with_name names ts) ≤ length names + length ts
+all_named names [] = omega arith
+all_named names (t ∷ ts) =
+    let first = one_more_name names t in
+    let others = all_named (with_name names t) ts in
+    omega (arith, first, others)
+
+some_define : (ss : List Site) → length (filter_map (λ s. defined s.form) ss) ≤ length ss
+some_define [] = omega arith
+some_define (s ∷ ss) = go (some_define ss) (defined s.form)
+  where
+    go : length (filter_map (λ s. defined s.form) ss) ≤ length ss → (o : Option Text) → length (cons_option o (filter_map (λ s. defined s.form) ss)) ≤ suc (length ss)
+    go others None = omega (arith, others)
+    go others (Some t) = omega (arith, others)
+
+pub names_few : (b : List ℕ) (t : Script) → length (table_of b t).functions.names ≤ length (table_of b t).rows
+unfolding table_of functions_of names_of
+names_few b t =
+    let ss = sites_of (script_of b t) in
+    let named = all_named [] (filter_map (λ s. defined s.form) ss) in
+    let some = some_define ss in
+    let rows = length-map ss row_of in
+    omega (arith, named, some, rows)
 
 pub kept : (b : List ℕ) (t : Script) (ss : List site.Site) (f : Functions) (rs : List declared.Row) → length f.names ≤ MAX_COMMANDS → map (row_in b) rs ≡ map row_of (map (seen b) ss)
     → map (seen b) ss ≡ sites_of (script_of b t) → IsKept f rs

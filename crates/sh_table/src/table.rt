@@ -1,5 +1,5 @@
 //! The call table of a script.
-ghost use Rattle.std.specs.Prelude.{◌≡◌, ℕ, List, true, ◌<◌, ◌≤◌, ◌-◌, ◌++◌, [], ◌∷◌, length, map, option_map, slice_get, Some, IfOk, OnOk};
+ghost use Rattle.std.specs.Prelude.{◌≡◌, ℕ, List, true, ◌<◌, ◌≤◌, ◌-◌, ◌++◌, [], ◌∷◌, length, map, option_map, slice_get, Some, IfErr, IfOk, OnOk};
 ghost use Rattle.std.specs.Option.{option_copied};
 ghost use Rattle.sh_table.specs.Calls as calls;
 ghost use Rattle.sh_tree.specs.declared.tree.Script.{Script};
@@ -138,10 +138,11 @@ impl<'s> CallTable<'s> {
     ///
     /// # Errors
     ///
-    /// `TooMany` where there are more functions than a script may have commands, as no script has that was read; `Memory` where a
-    /// growth was refused.
+    /// `TooMany` where there are more functions than a script may have commands, so never of a script that has no more of these
+    /// than it may, as each has that was read; `Memory` where a growth was refused.
     pub fn new(alloc: Global, tree: &Script, script: &'s [u8]) -> Result<CallTable<'s>, Refusal>
-        ensures { calls.Tables script.entry.now tree.now result }
+        ensures tables { calls.Tables script.entry.now tree.now result }
+        ensures counted { length (calls.table_of script.entry.now tree.now).rows ≤ MAX_COMMANDS → IfErr result (λ refusal. refusal ≡ Refusal.Memory) }
     {
         let sites = sites(alloc, tree, script)?;
         let functions = Functions::new(alloc, sites.as_slice(), script)?;

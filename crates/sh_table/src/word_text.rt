@@ -11,6 +11,7 @@ ghost use Rattle.sh_table.specs.Sites as sites;
 ghost use Rattle.sh_tree.specs.program.Words.{operands_in};
 ghost use Rattle.sh_table.specs.WordTexts as spec;
 
+use sh_tree::Boxed;
 use sh_tree::text::static_text;
 use sh_tree::tree::{Element, Part, SingleStyle, Span, Word};
 use std::alloc::{AllocError, Global};
@@ -23,7 +24,7 @@ pub enum WordText {
     /// The script has the text in one piece.
     Verbatim(Span),
     /// What quoting leaves of the word.
-    Made(Vec<u8>),
+    Made(Boxed<Vec<u8>>),
 }
 
 /// Whether some byte may be one of a pattern (XCU 2.14): a `*`, a `?` or a `[`.
@@ -156,7 +157,7 @@ impl WordText {
         ensures { IfOk result (λ text. spec.text_in script.now text ≡ static_text script.now word.now.parts) }
     {
         match static_text(alloc, word, script)? {
-            Some(text) => Ok(WordText::Made(text)),
+            Some(text) => Ok(WordText::Made(Boxed::new(alloc, text)?)),
             None => Ok(WordText::Computed),
         }
     }
@@ -169,7 +170,7 @@ impl WordText {
         match self {
             WordText::Computed => None,
             WordText::Verbatim(span) => Some(span.text(script)),
-            WordText::Made(text) => Some(text.as_slice()),
+            WordText::Made(text) => Some(text.get().as_slice()),
         }
     }
 }

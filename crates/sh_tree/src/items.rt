@@ -67,7 +67,7 @@ impl<T: Copy> Items<T> {
 }
 
 impl<T: Drop> Items<T> {
-    /// Adds an item at the end.
+    /// Adds an item at the end. Most lists have one, so the first takes no room for more.
     ///
     /// # Errors
     ///
@@ -76,6 +76,9 @@ impl<T: Drop> Items<T> {
         ensures ok { OnOk result (self.new ≡ self.old ++ item ∷ []) }
         ensures err { OnErr result (self.new ≡ self.old) }
     {
+        if self.items.is_empty() {
+            self.items.reserve_exact(1)?;
+        }
         self.items.push(item)?;
         Ok(())
     }

@@ -1,16 +1,26 @@
 use Rattle.std.proofs.Common.{length, ap, ◌∙◌, arith}
 use Rattle.sh_table.specs.Calls.{Functions}
-use Rattle.sh_table.proofs.TableLemmas.{functions_whole, table_whole, kept}
+use Rattle.sh_table.proofs.TableLemmas.{functions_whole, table_whole, names_few, kept}
 use Rattle.sh_table.proofs.table.CallTable.new.Goals as goal
 
-pub returns-then-len : goal.returns-then-len
-returns-then-len c =
+pub returns-then-len-clause-tables : goal.returns-then-len-clause-tables
+returns-then-len-clause-tables c =
     let b = c.args.script.now in
     let own = rw c.as_slice.ensures.value at c.in_ok-functions.ensures in
     let whole = functions_whole b c.args.tree.now c.in_ok-sites.sites.items c.in_ok-functions.functions own c.in_ok-sites.ensures in
     let size = c.len.ensures ∙ ap (λ (f : Functions). length f.names) whole in
     let more = c.if-len.true in
     rw (← size) (omega (arith, more))
+
+pub returns-then-len-clause-counted : goal.returns-then-len-clause-counted
+returns-then-len-clause-counted c counted =
+    let b = c.args.script.now in
+    let own = rw c.as_slice.ensures.value at c.in_ok-functions.ensures in
+    let whole = functions_whole b c.args.tree.now c.in_ok-sites.sites.items c.in_ok-functions.functions own c.in_ok-sites.ensures in
+    let size = c.len.ensures ∙ ap (λ (f : Functions). length f.names) whole in
+    let more = c.if-len.true in
+    let few = names_few b c.args.tree.now in
+    absurd (omega (arith, size, more, few, counted))
 
 pub invariant_of-result : goal.invariant_of-result
 invariant_of-result c =
@@ -20,8 +30,8 @@ invariant_of-result c =
     let few = c.if-len.false in
     kept b c.args.tree.now c.in_ok-sites.sites.items c.in_ok-functions.functions c.in_ok-rows.rows.items (rw size at few) rows c.in_ok-sites.ensures
 
-pub returns : goal.returns
-returns c =
+pub returns-clause-tables : goal.returns-clause-tables
+returns-clause-tables c =
     let b = c.args.script.now in
     let own = rw c.as_slice.ensures.value at c.in_ok-functions.ensures in
     let rows = rw c.as_slice-2.ensures.value at c.in_ok-rows.ensures in
