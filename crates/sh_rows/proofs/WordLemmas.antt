@@ -1,8 +1,8 @@
 -- Words in blocks, and bits in words.
-use Rattle.std.proofs.Common.{◌≡◌, ◌≢◌, ℕ, zero, suc, ◌+◌, ◌-◌, ◌*◌, ◌/◌, ◌%◌, ◌^◌, ◌<◌, ◌≤◌, Bool, true, false, not, ◌&&◌, ◌||◌, List, [], ◌∷◌, length, get_or, take, drop, set, map, replicate, eqb, eq-eqb, eqb-true, refl, sym, ap, ap₂, ◌∙◌, subst, arith, bit_and, bit_or, min, max, ⊎_elim, get_or-set_same, get_or-set_other}
-use Rattle.std.specs.Prelude.{◌↔◌}
+use Rattle.std.proofs.Common.{◌≡◌, ◌≢◌, ℕ, zero, suc, ◌+◌, ◌-◌, ◌*◌, ◌/◌, ◌%◌, ◌^◌, ◌<◌, ◌≤◌, Bool, true, false, not, ◌&&◌, ◌||◌, List, [], ◌∷◌, ◌++◌, length, get_or, take, drop, set, map, replicate, eqb, eq-eqb, eqb-true, refl, sym, ap, ap₂, ◌∙◌, subst, arith, lt-ltb, le-ltb, bit_and, bit_or, min, max, ⊎_elim, get_or-set_same, get_or-set_other}
+use Rattle.std.specs.Prelude.{◌↔◌, nat_lt}
 use Rattle.std.proofs.lemmas.Bool.{cases_lt, cases_eq, ne_eqb}
-use Rattle.std.proofs.lemmas.List.{get_or-take, get_or-drop, get_or_past, get_or-map, length-map, length-set, length-take-le}
+use Rattle.std.proofs.lemmas.List.{get_or-take, get_or-drop, get_or_past, get_or-map, get_or_append_left, length-map, length-set, length-take-le, length-drop, length-append}
 use Rattle.std.proofs.lemmas.Nat.{and_le_l, and_comm, and-not, le_or_l, le_or_r}
 use Rattle.std.proofs.lemmas.Nat.Bits.{bit_at-zero, shr_and_one, bit_at_and, bit_at_or, bit_at_not, bit_at_set_same, bit_at_set_other, bit_at_clear_same, bit_at_clear_other, same_from_bits_below, bit_at-lt}
 use Rattle.std.proofs.lemmas.Simd.{get_or-zip2, get_or-put_chunk_at, get_or-put_chunk_below, get_or-put_chunk_above, get_or-chunk, length-zip2, length-chunk}
@@ -244,6 +244,42 @@ joined_whole old new other front shared is joined k lt =
     let past : get_or other k 0 ≡ 0 = get_or_past other k 0 (omega arith) in
     joined.above k (omega arith) ∙ sym (ap (bit_or (get_or old k 0)) past ∙ or_zero_r (get_or old k 0)))
     (cases_lt k shared)
+
+-- where the front was copied and the rest are zeros, each word that there is was
+pub copied_whole : (old new other : List ℕ) (shared : ℕ) → shared ≡ min (length old) (length other)
+    → IsMixed bit_and (take shared other ++ drop shared old) new (λ _. 0) shared (length (take shared other ++ drop shared old))
+    → (k : ℕ) → k < length old → get_or new k 0 ≡ get_or other k 0
+copied_whole old new other shared e zeroed k lt =
+    let front : length (take shared other) ≡ shared = length-take-le shared other (omega arith) in
+    let long = length-append (take shared other) (drop shared old) in
+    let rest = length-drop shared old in
+    ⊎_elim
+    (λ (h : k < shared). zeroed.below k h ∙ get_or_append_left (take shared other) (drop shared old) 0 k (omega arith) ∙ get_or-take shared other k 0 h)
+    (λ (h : shared ≤ k). zeroed.inside k h (omega arith) ∙ and_zero (get_or (take shared other ++ drop shared old) k 0) ∙ sym (get_or_past other k 0 (omega arith)))
+    (cases_lt k shared)
+
+-- and there are no more
+pub copied_past : (old new other : List ℕ) (shared : ℕ) → shared ≡ min (length old) (length other)
+    → IsMixed bit_and (take shared other ++ drop shared old) new (λ _. 0) shared (length (take shared other ++ drop shared old))
+    → (k : ℕ) → length old ≤ k → get_or new k 0 ≡ 0
+copied_past old new other shared e zeroed k le =
+    let front : length (take shared other) ≡ shared = length-take-le shared other (omega arith) in
+    let long = length-append (take shared other) (drop shared old) in
+    let rest = length-drop shared old in
+    zeroed.above k (omega arith) ∙ get_or_past (take shared other ++ drop shared old) k 0 (omega arith)
+
+pub has_bit-copied : (old new other : List ℕ) → ((k : ℕ) → k < length old → get_or new k 0 ≡ get_or other k 0) → ((k : ℕ) → length old ≤ k → get_or new k 0 ≡ 0)
+    → (k : ℕ) → has_bit k new ≡ (nat_lt (k / 64) (length old) && has_bit k other)
+unfolding has_bit
+has_bit-copied old new other same none k =
+    ⊎_elim
+    (λ (h : k / 64 < length old).
+    let test : nat_lt (k / 64) (length old) ≡ true = lt-ltb (k / 64) (length old) h in
+    rw test (ap (λ w. eqb (bit_at w (k % 64)) 1) (same (k / 64) h)))
+    (λ (h : length old ≤ k / 64).
+    let test : nat_lt (k / 64) (length old) ≡ false = le-ltb (k / 64) (length old) h in
+    rw test (ap (λ w. eqb (bit_at w (k % 64)) 1) (none (k / 64) h) ∙ ap (λ b. eqb b 1) (bit_at-zero (k % 64))))
+    (cases_lt (k / 64) (length old))
 
 -- words of which the front is within: the test of the others tests them all
 pub within_whole : (words other front : List ℕ) (shared at : ℕ) (b : Bool) → IsBeside words other front shared → at ≤ shared

@@ -3,7 +3,9 @@ ghost use Rattle.std.specs.Prelude.{◌≡◌, ◌<◌, ℕ, true, length};
 ghost use Rattle.std.specs.Int.{div_ceil};
 ghost use Rattle.sh_rows.specs.Numbers.{has_bit};
 
-use crate::kernels::{is_set, meet_words, remove_words, set, unset, within_words, zeros};
+use crate::kernels::{
+    copy_words, is_set, meet_words, remove_words, set, unset, within_words, zeros,
+};
 use crate::row::Row;
 use std::alloc::{AllocError, Global};
 
@@ -24,6 +26,15 @@ impl BitRow {
         ensures { result.now ≡ self.now.words.items }
     {
         &self.words
+    }
+
+    /// Makes the numbers those of these words. It takes no memory.
+    pub fn copy_from(&mut self, words: &[u64])
+        requires { (k : ℕ) → has_bit k words.now ≡ true → k < self.old.count }
+        ensures numbers { (k : ℕ) → has_bit k self.new.words.items ≡ has_bit k words.now }
+        ensures count { self.new.count ≡ self.old.count }
+    {
+        copy_words(&mut self.words, words);
     }
 }
 

@@ -1,6 +1,6 @@
 //! Sets of bits in words, four words at a time: what a row of bits does to another. Each kernel does to each word what its
 //! first clause says, whatever the lengths: past its end a slice has words of zeros. The second clause says it of the bits.
-ghost use Rattle.std.specs.Prelude.{◌≡◌, ◌+◌, ◌-◌, ◌/◌, ◌<◌, ◌≤◌, ◌&&◌, ◌||◌, ◌==◌, ◌↔◌, ℕ, true, not, length, bit_and, bit_or, slice_index, IsTrue, IfSome, IfNone, IfOk, replicate};
+ghost use Rattle.std.specs.Prelude.{◌≡◌, ◌+◌, ◌-◌, ◌/◌, ◌<◌, ◌≤◌, ◌&&◌, ◌||◌, ◌==◌, ◌↔◌, ℕ, true, not, nat_lt, length, bit_and, bit_or, slice_index, IsTrue, IfSome, IfNone, IfOk, replicate};
 ghost use Rattle.sh_rows.specs.Numbers.{has_bit};
 ghost use Rattle.sh_rows.specs.Words.{without, IsMixed, AllWithin};
 
@@ -162,6 +162,16 @@ fn join_front(words: &mut [u64], other: &[u64])
     for at in 0..other.len() {
         words[at] |= other[at];
     }
+}
+
+/// Makes the words those of `other`, and zeros past its end.
+pub fn copy_words(words: &mut [u64], other: &[u64])
+    ensures words { (k : ℕ) → k < length words.old → slice_index words.new k ≡ slice_index other.now k }
+    ensures bits { (k : ℕ) → has_bit k words.new ≡ (nat_lt (k / 64) (length words.old) && has_bit k other.now) }
+{
+    let shared = words.len().min(other.len());
+    words[..shared].copy_from_slice(&other[..shared]);
+    zero_rest(words, shared);
 }
 
 /// Whether each set bit is set in `other`.
