@@ -3,7 +3,7 @@ ghost use Rattle.std.specs.Prelude.{◌≡◌, ◌<◌, ◌∷◌, [], length, o
 ghost use Rattle.sh_facts.specs.Fields.{sides_of, pieces_left};
 ghost use Rattle.sh_facts.specs.Forms as form;
 
-use bstr::ByteSlice;
+use memchr::memchr;
 
 /// What stands before the first such byte, and what behind it.
 pub fn cut(text: &[u8], byte: u8) -> Option<(&[u8], &[u8])>
@@ -12,7 +12,7 @@ pub fn cut(text: &[u8], byte: u8) -> Option<(&[u8], &[u8])>
     ensures one { IfNone result (form.pieces byte text.now ≡ text.now ∷ []) }
     ensures less { IfSome result (λ x. length x.1.now < length text.now) }
 {
-    let at = text.find_byte(byte)?;
+    let at = memchr(byte, text)?;
     Some((&text[..at], &text[at + 1..]))
 }
 
