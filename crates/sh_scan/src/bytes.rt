@@ -19,6 +19,14 @@ pub fn is_digit(byte: u8) -> bool
     matches!(classify(byte), Class::Digit)
 }
 
+/// Whether an operator begins with the byte (XCU 2.10.2).
+#[tactic(auto, unfolding(crate::specs::Classes::class_of))]
+pub fn is_operator_byte(byte: u8) -> bool
+    ensures { result ≡ bytes.is_operator_byte byte }
+{
+    matches!(classify(byte), Class::Operator)
+}
+
 /// Whether the byte delimits the token before it (XCU 2.3).
 #[tactic(auto, unfolding(crate::specs::Classes::class_of))]
 pub fn ends_token(byte: u8) -> bool

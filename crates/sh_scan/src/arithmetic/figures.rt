@@ -62,7 +62,7 @@ pub fn figure_of(front: &[u8], rest: &[u8]) -> (Figure, usize)
             } else if is_digit(*first) {
                 (Figure::Constant, constant_length(*first, others, rest))
             } else {
-                match operator(front, rest) {
+                match operator(*first, others, rest) {
                     Some(found) => found,
                     None => unknown_figure(*first, others, rest),
                 }

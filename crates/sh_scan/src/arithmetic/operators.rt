@@ -1,5 +1,6 @@
 //! Operators of arithmetic.
-ghost use Rattle.std.specs.Prelude.{◌≡◌, ◌≤◌, ◌<◌, ◌+◌, ◌++◌, length, IfSome};
+ghost use Rattle.std.specs.Prelude.{◌≡◌, ◌≤◌, ◌<◌, ◌+◌, ◌++◌, ◌∷◌, length, nat_eq, IfSome};
+ghost use Rattle.std.specs.List.{starts_with};
 ghost use Rattle.sh_tree.specs.language.Bytes.{longest};
 ghost use Rattle.sh_tree.specs.language.Arithmetic as arithmetic;
 ghost use Rattle.sh_scan.specs.Tables.{texts_of};
@@ -55,28 +56,43 @@ const OPERATORS: [(&[u8], Figure); 42] = [
     (b"`", Figure::LeftOut(Form::Backquoted)),
 ];
 
-/// The first text of a table with which the text of both pieces begins.
-#[tactic(auto, using(crate::proofs::ArithmeticLemmas::begun_within), unfolding(sh_tree::specs::language::Bytes::longest))]
-fn longest(mut table: &[(&[u8], Figure)], front: &[u8], rest: &[u8]) -> Option<(Figure, usize)>
-    ensures value { result ≡ longest (texts_of table.entry.now) (front.now ++ rest.now) }
-    ensures within { IfSome result (λ found. found.1 ≤ length front.now + length rest.now) }
+/// Whether the text of the byte and both pieces begins so.
+fn begins(first: u8, others: &[u8], rest: &[u8], text: &[u8]) -> bool
+    ensures { result ≡ starts_with nat_eq (first ∷ (others.now ++ rest.now)) text.now }
 {
-    while let [row, others @ ..] = table {
-        if begins_so(front, rest, row.0) {
+    match text {
+        [] => true,
+        [own, behind @ ..] => *own == first && begins_so(others, rest, behind),
+    }
+}
+
+/// The first text of a table with which the text of the byte and both pieces begins.
+#[tactic(auto, using(crate::proofs::ArithmeticLemmas::begun_within), unfolding(sh_tree::specs::language::Bytes::longest))]
+fn longest(
+    mut table: &[(&[u8], Figure)],
+    first: u8,
+    others: &[u8],
+    rest: &[u8],
+) -> Option<(Figure, usize)>
+    ensures value { result ≡ longest (texts_of table.entry.now) (first ∷ (others.now ++ rest.now)) }
+    ensures within { IfSome result (λ found. found.1 ≤ length others.now + length rest.now + 1) }
+{
+    while let [row, later @ ..] = table {
+        if begins(first, others, rest, row.0) {
             return Some((row.1, row.0.len()));
         }
-        table = others;
+        table = later;
     }
     None
 }
 
-/// The operator at the front of both pieces and its length.
-pub fn operator(front: &[u8], rest: &[u8]) -> Option<(Figure, usize)>
-    ensures value { result ≡ longest arithmetic.operator_table (front.now ++ rest.now) }
-    ensures within { IfSome result (λ found. found.1 ≤ length front.now + length rest.now) }
+/// The operator that begins with the byte, before the text of both pieces, and its length.
+pub fn operator(first: u8, others: &[u8], rest: &[u8]) -> Option<(Figure, usize)>
+    ensures value { result ≡ longest arithmetic.operator_table (first ∷ (others.now ++ rest.now)) }
+    ensures within { IfSome result (λ found. found.1 ≤ length others.now + length rest.now + 1) }
     ensures moves { IfSome result (λ found. 0 < found.1) }
 {
-    longest(&OPERATORS, front, rest)
+    longest(&OPERATORS, first, others, rest)
 }
 
 /// The binary operator of a level, if the token is one.

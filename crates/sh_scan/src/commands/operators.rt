@@ -1,8 +1,10 @@
 //! Operators (XCU 2.10.2).
 ghost use Rattle.std.specs.Prelude.{◌≡◌, ◌≤◌, ◌<◌, ◌++◌, length, IfSome};
+ghost use Rattle.sh_tree.specs.language.Bytes as bytes;
 ghost use Rattle.sh_tree.specs.language.Bytes.{longest};
 ghost use Rattle.sh_tree.specs.language.Commands as commands;
 
+use crate::bytes::is_operator_byte;
 use crate::front::{behind_joined, is_joined};
 use crate::pieces::begins_so;
 use sh_tree::limits::MAX_SCRIPT;
@@ -77,12 +79,25 @@ fn operator_over(front: &[u8], rest: &[u8]) -> Option<(Operator, usize)>
     }
 }
 
+#[tactic(auto, unfolding(sh_tree::specs::language::Bytes::is_first))]
+fn begins_operator(rest: &[u8]) -> bool
+    ensures { result ≡ bytes.is_first bytes.is_operator_byte rest.now }
+{
+    match rest {
+        [] => false,
+        [first, ..] => is_operator_byte(*first),
+    }
+}
+
 /// The operator at the front and its length.
 pub fn operator_of(rest: &[u8]) -> Option<(Operator, usize)>
     ensures value { result ≡ commands.operator_of rest.now }
     ensures within { IfSome result (λ found. found.1 ≤ length rest.now) }
     ensures moves { IfSome result (λ found. 0 < found.1) }
 {
+    if !begins_operator(rest) {
+        return None;
+    }
     operator_over(rest, &[])
 }
 
