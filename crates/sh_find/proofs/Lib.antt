@@ -1,6 +1,7 @@
 pub mod OrderLemmas
 pub mod HeightLemmas
-pub mod RowSetLemmas
+pub mod NumberSetLemmas
+pub mod NamedLemmas
 pub mod SolutionLemmas
 pub mod SeenLemmas
 pub mod LowerLemmas

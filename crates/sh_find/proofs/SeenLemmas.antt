@@ -5,7 +5,7 @@ use Rattle.sh_find.specs.declared.constraint.Step.TheVariants.{Gain, Define, Los
 use Rattle.sh_find.specs.declared.sight.Sight.{Sight}
 use Rattle.sh_find.specs.Facts.{Facts, NotReached, Claims, IsWithin}
 use Rattle.sh_find.specs.Steps.{where_known, called, step, steps}
-use Rattle.sh_find.specs.Kept.{sight_facts, seen_of, IsSized, AreSized, IsFormed, AreFormed}
+use Rattle.sh_find.specs.Kept.{sight_facts, seen_of, IsFormed, AreFormed}
 use Rattle.sh_find.proofs.OrderLemmas.{within_nowhere}
 
 -- where nothing is seen, nothing is behind a step
@@ -53,10 +53,6 @@ nothing_seen (Some s) f g e n = absurd (some_none n)
   where
     some_none : Some s ≡ None → ⊥
     some_none n = cc
-
-pub sight_sized : (names n : ℕ) (s : Option Sight) (t : Sight) → AreSized names s → s ≡ Some t → n ≡ names → IsSized n t
-unfolding AreSized
-sight_sized names n s t z e f = rw f (rw e at z)
 
 -- what is seen is a sight
 pub sight_seen : (s : Option Sight) (t : Sight) (f : Facts) → seen_of s ≡ f → s ≡ Some t → sight_facts t ≡ f

@@ -1,5 +1,5 @@
 -- Facts that name rows.
-use Rattle.std.proofs.Common.{◌≡◌, ◌≢◌, ◌⊎◌, [], ◌∷◌, ℕ, zero, suc, ◌<◌, ◌≤◌, Bool, true, false, inl, inr, List, Some, length, get_or, slice_get, refl, sym, ◌∙◌, ap, subst, arith, true≢false, IsTrue, ◌↔◌, le-leb, leb-true, replicate}
+use Rattle.std.proofs.Common.{◌≡◌, ◌≢◌, ◌⊎◌, [], ◌∷◌, ℕ, zero, suc, ◌<◌, ◌≤◌, Bool, true, false, inl, inr, List, length, get_or, slice_get, refl, sym, ◌∙◌, ap, subst, arith, true≢false, IsTrue, ◌↔◌, le-leb, leb-true, replicate}
 use Rattle.std.specs.Prelude.{nat_le}
 use Rattle.std.proofs.Math.ListN.{set}
 use Rattle.std.proofs.Math.Path.{fun_ext}
@@ -10,20 +10,14 @@ use Rattle.sh_rows.specs.declared.bits.BitRow.{BitRow}
 use Rattle.sh_facts.specs.declared.rows.RowId.{RowId}
 use Rattle.sh_facts.specs.declared.certificate.Facts as value
 use Rattle.sh_facts.specs.declared.certificate.Facts.TheVariants as value_kind
-use Rattle.sh_facts.specs.KeptRows.{KeptRows, Stay, bits_of, bits_in, holds_at}
+use Rattle.sh_facts.specs.KeptRows.{KeptRows, Stay, bits_in, holds_at}
 use Rattle.sh_find.specs.declared.sight.Sight.{Sight}
 use Rattle.sh_find.specs.Facts.{Facts, NotReached, Known, IsWithin, meet}
 use Rattle.sh_find.specs.Lowers.{IsNumbered, Sinks}
-use Rattle.sh_find.specs.Kept.{sight_facts, IsSized, fact_of, claims_in, IsPlaced, IsKept}
+use Rattle.sh_find.specs.Kept.{numbers_of, sight_facts, fact_of, claims_in, IsPlaced, IsKept}
 use Rattle.sh_find.proofs.OrderLemmas.{known_within, known_parts, nowhere_known}
 
 -- Rows
-
--- a row within another, by its place
-pub row_within : (rows : List BitRow) (i : ℕ) (own row : BitRow) (t : Bool) → Some own ≡ slice_get rows i → (IsTrue t ↔ ((k : ℕ) → bits_of own k ≡ true → bits_of row k ≡ true))
-    → (IsTrue t ↔ ((k : ℕ) → holds_at rows i k ≡ true → bits_of row k ≡ true))
-unfolding bits_in
-row_within rows i own row t e w = rw (← e) w
 
 -- a row that was there is there
 pub stays_there : (old new : List BitRow) (i : ℕ) → Stay old new → i < length old → i < length new
@@ -56,12 +50,12 @@ pub placed_both : (mid new : List BitRow) (v f : RowId) (a : ℕ) → Stay mid n
 unfolding IsPlaced
 placed_both mid new v f a s l m = (stays_there mid new v.index s l, m)
 
-pub facts_both : (mid new : List BitRow) (v f : RowId) (s : Sight) → Stay mid new → v.index < length mid → ((k : ℕ) → holds_at mid v.index k ≡ bits_of s.vars k)
-    → ((k : ℕ) → holds_at new f.index k ≡ bits_of s.functions k) → fact_of new (value_kind.Known v f s.args) ≡ sight_facts s
+pub facts_both : (mid new : List BitRow) (v f : RowId) (s : Sight) → Stay mid new → v.index < length mid → ((k : ℕ) → holds_at mid v.index k ≡ numbers_of s.vars k)
+    → ((k : ℕ) → holds_at new f.index k ≡ numbers_of s.functions k) → fact_of new (value_kind.Known v f s.args) ≡ sight_facts s
 unfolding fact_of
 facts_both mid new v f s t l h k =
-    let vars : holds_at new v.index ≡ bits_of s.vars = ap bits_in (t v.index l) ∙ fun_ext h in
-    let functions : holds_at new f.index ≡ bits_of s.functions = fun_ext k in
+    let vars : holds_at new v.index ≡ numbers_of s.vars = ap bits_in (t v.index l) ∙ fun_ext h in
+    let functions : holds_at new f.index ≡ numbers_of s.functions = fun_ext k in
     cc
 
 -- Facts
@@ -71,27 +65,18 @@ nowhere_within s = (λ e. absurd (true≢false (sym e)), λ h. absurd (nowhere_k
 
 -- the test of facts, one part after the other
 module _ (rows : List BitRow) (fact : value.Facts) (v f : RowId) (a : ℕ) (s : Sight) (is : fact ≡ value_kind.Known v f a) where
-  pub vars_fail : (x : Bool) → (IsTrue x ↔ ((k : ℕ) → holds_at rows v.index k ≡ true → bits_of s.vars k ≡ true)) → x ≡ false → (IsTrue false ↔ IsWithin (fact_of rows fact) (sight_facts s))
+  pub vars_fail : (x : Bool) → (IsTrue x ↔ ((k : ℕ) → holds_at rows v.index k ≡ true → numbers_of s.vars k ≡ true)) → x ≡ false → (IsTrue false ↔ IsWithin (fact_of rows fact) (sight_facts s))
   unfolding fact_of
   vars_fail x t e = rw is (λ z. absurd (true≢false (sym z)), λ h. rw e at (t.1 (known_parts _ _ _ _ _ _ h).vars))
 
-  pub functions_fail : (x : Bool) → (IsTrue x ↔ ((k : ℕ) → holds_at rows f.index k ≡ true → bits_of s.functions k ≡ true)) → x ≡ false → (IsTrue false ↔ IsWithin (fact_of rows fact) (sight_facts s))
+  pub functions_fail : (x : Bool) → (IsTrue x ↔ ((k : ℕ) → holds_at rows f.index k ≡ true → numbers_of s.functions k ≡ true)) → x ≡ false → (IsTrue false ↔ IsWithin (fact_of rows fact) (sight_facts s))
   unfolding fact_of
   functions_fail x t e = rw is (λ z. absurd (true≢false (sym z)), λ h. rw e at (t.1 (known_parts _ _ _ _ _ _ h).functions))
 
-  pub args_decide : (x y : Bool) → (IsTrue x ↔ ((k : ℕ) → holds_at rows v.index k ≡ true → bits_of s.vars k ≡ true)) → x ≡ true
-      → (IsTrue y ↔ ((k : ℕ) → holds_at rows f.index k ≡ true → bits_of s.functions k ≡ true)) → y ≡ true → (IsTrue (nat_le a s.args) ↔ IsWithin (fact_of rows fact) (sight_facts s))
+  pub args_decide : (x y : Bool) → (IsTrue x ↔ ((k : ℕ) → holds_at rows v.index k ≡ true → numbers_of s.vars k ≡ true)) → x ≡ true
+      → (IsTrue y ↔ ((k : ℕ) → holds_at rows f.index k ≡ true → numbers_of s.functions k ≡ true)) → y ≡ true → (IsTrue (nat_le a s.args) ↔ IsWithin (fact_of rows fact) (sight_facts s))
   unfolding fact_of
   args_decide x y t e u d = rw is (λ z. known_within _ _ _ _ _ _ (t.0 e) (u.0 d) (leb-true a s.args z), λ h. le-leb a s.args (known_parts _ _ _ _ _ _ h).args)
-
--- what is seen is of so many names
-pub sight_numbered : (names : ℕ) (s : Sight) → IsSized names s → IsNumbered names (sight_facts s)
-unfolding IsNumbered
-sight_numbered names s z = record {
-  vars = λ x e. subst (λ n. x < n) z.vars (s.vars.below x e);
-  functions = λ x e. subst (λ n. x < n) z.functions (s.functions.below x e);
-  args = z.args;
-}
 
 pub meet_numbered : (names : ℕ) (f g : Facts) → IsNumbered names f → IsNumbered names g → IsNumbered names (meet f g)
 unfolding IsNumbered meet

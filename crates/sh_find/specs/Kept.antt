@@ -1,36 +1,40 @@
 -- What rows, and facts that name rows, claim.
 -- The standard has no such thing: facts about names as the code keeps them.
-use Rattle.std.specs.Prelude.{◌≡◌, ℕ, ◌<◌, ◌≤◌, List, [], ◌∷◌, length, slice_index_or, Option, Some, None}
+use Rattle.std.specs.Prelude.{◌≡◌, ℕ, ◌<◌, Bool, true, List, [], ◌∷◌, length, slice_index_or, Option, Some, None}
 use Rattle.std.specs.List.{All}
 use Rattle.sh_rows.specs.declared.bits.BitRow.{BitRow}
-use Rattle.sh_facts.specs.KeptRows.{KeptRows, bits_of, holds_at}
+use Rattle.sh_rows.specs.Numbers.{has_bit}
+use Rattle.sh_facts.specs.KeptRows.{KeptRows, holds_at}
 use Rattle.sh_facts.specs.declared.certificate.Facts as value
 use Rattle.sh_facts.specs.declared.certificate.Facts.TheVariants as value_kind
+use Rattle.sh_find.specs.declared.number_set.NumberSet.{NumberSet}
 use Rattle.sh_find.specs.declared.sight.Sight.{Sight}
 use Rattle.sh_find.specs.declared.constraint.Step.{Step}
 use Rattle.sh_find.specs.declared.constraint.Step.TheVariants.{Gain, Define, Lose, Call, Spare}
 use Rattle.sh_find.specs.declared.constraint.Constraint.{Constraint}
 use Rattle.sh_find.specs.Facts.{Facts, NotReached, Known, Claims}
-use Rattle.sh_find.specs.Steps.{most}
 use Rattle.sh_find.specs.Lowers.{IsNumbered}
 
--- what is seen, by its rows
+-- the number is in the set
+abbrev pub numbers_of : NumberSet → ℕ → Bool
+numbers_of s k = has_bit k s.words
+
+-- what is seen, by its sets
 abbrev pub sight_facts : Sight → Facts
-sight_facts s = Known (bits_of s.vars) (bits_of s.functions) s.args
+sight_facts s = Known (numbers_of s.vars) (numbers_of s.functions) s.args
 
 unfoldable pub seen_of : Option Sight → Facts
 seen_of None = NotReached
 seen_of (Some s) = sight_facts s
 
--- the rows are of numbers below this one, and no more parameters than are counted
-pub record IsSized (names : ℕ) (s : Sight) : Type 0 where
-  pub vars : s.vars.count ≡ names
-  pub functions : s.functions.count ≡ names
-  pub args : s.args ≤ most
+-- only names below a number are known
+pub record AreNamed (names : ℕ) (v f : ℕ → Bool) : Type 0 where
+  pub vars : (x : ℕ) → v x ≡ true → x < names
+  pub functions : (x : ℕ) → f x ≡ true → x < names
 
-unfoldable pub AreSized : ℕ → Option Sight → Type 0
-AreSized names None = Unit {0}
-AreSized names (Some s) = IsSized names s
+unfoldable pub IsNamed : ℕ → Facts → Type 0
+IsNamed names NotReached = Unit {0}
+IsNamed names (Known v f a) = AreNamed names v f
 
 -- facts by the places of their rows
 unfoldable pub fact_of : List BitRow → value.Facts → Facts

@@ -5,11 +5,12 @@
 pub mod constraint;
 pub mod laws;
 pub mod lower;
+pub mod number_set;
 pub mod problem;
 pub mod rounds;
-pub mod row_sets;
 pub mod seen;
 pub mod setting;
 pub mod sight;
 pub mod solution;
+pub mod steps;
 pub mod worklist;

@@ -1,6 +1,8 @@
 //! Turns of the search, and rounds of turns.
-ghost use Rattle.std.specs.Prelude.{◌≡◌, ◌<◌, [], ◌∷◌, length, slice_index_or, IfOk};
+ghost use Rattle.std.specs.Prelude.{◌≡◌, ◌<◌, [], ◌∷◌, length, slice_index_or, IfOk, OnErr};
 ghost use Rattle.sh_facts.specs.declared.certificate.Facts.TheVariants.{NotReached};
+ghost use Rattle.sh_find.specs.Facts.{IsWithin};
+ghost use Rattle.sh_find.specs.Steps.{seen_facts};
 ghost use Rattle.sh_find.specs.Lowers.{Lowers};
 ghost use Rattle.sh_find.specs.Kept.{sight_facts, claims_in, IsKept, AreFormed, IsProblem};
 
@@ -14,7 +16,7 @@ use std::alloc::AllocError;
 ///
 /// # Errors
 ///
-/// Where a growth was refused, or no place for a row is left.
+/// Where it claimed more, and a growth was refused or no place for a row is left: a turn that lowers nothing takes no memory.
 pub fn lower(
     setting: &Setting,
     solution: &mut Solution,
@@ -26,8 +28,9 @@ pub fn lower(
     ensures lowers { IfOk result (λ changed. Lowers setting.now.names (sight_facts setting.now.start) (length solution.old.facts.items) (constraint.now ∷ []) (constraint.now ∷ []) (claims_in solution.old.rows.rows solution.old.facts.items) (claims_in solution.new.rows.rows solution.new.facts.items) changed) }
     ensures kept { IfOk result (λ changed. IsKept setting.now.names solution.new.rows solution.new.facts.items) }
     ensures slots { length solution.new.facts.items ≡ length solution.old.facts.items }
+    ensures err { OnErr result (¬ (IsWithin (claims_in solution.old.rows.rows solution.old.facts.items constraint.now.slot) (seen_facts setting.now.names (sight_facts setting.now.start) (claims_in solution.old.rows.rows solution.old.facts.items) constraint.now))) }
 {
-    match seen(setting, solution, constraint)? {
+    match seen(setting, solution, constraint) {
         None => Ok(false),
         Some(sight) => sink(solution, constraint.slot, sight),
     }

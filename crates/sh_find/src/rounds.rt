@@ -1,35 +1,16 @@
 //! The search by rounds.
-ghost use Rattle.std.specs.Prelude.{◌≡◌, ℕ, length, slice_index_or, IfOk, OnOk};
-ghost use Rattle.sh_facts.specs.declared.certificate.Facts.TheVariants as value;
-ghost use Rattle.sh_find.specs.Facts.{NotReached, Claims, IsBelow};
+ghost use Rattle.std.specs.Prelude.{◌≡◌, ◌≤◌, length, IfOk, OnOk};
+ghost use Rattle.sh_tree.specs.declared.limits.TheConstants.{MAX_NAMES};
+ghost use Rattle.sh_find.specs.Facts.{Claims, IsBelow};
 ghost use Rattle.sh_find.specs.Greatest.{Satisfies, IsGreatest};
-ghost use Rattle.sh_find.specs.Kept.{sight_facts, fact_of, claims_in, IsKept, IsProblem};
+ghost use Rattle.sh_find.specs.Kept.{numbers_of, sight_facts, fact_of, claims_in, AreNamed, IsKept, IsProblem};
 
 use crate::constraint::Constraint;
 use crate::lower::round;
 use crate::setting::Setting;
 use crate::sight::Sight;
 use crate::solution::Solution;
-use sh_facts::certificate::Facts;
-use sh_facts::rows::Rows;
 use std::alloc::{AllocError, Global};
-
-/// So many slots to which no run comes.
-///
-/// # Errors
-///
-/// Where a growth was refused.
-pub fn unreached(alloc: Global, names: u32, slots: usize) -> Result<Solution, AllocError>
-    ensures kept { IfOk result (λ s. IsKept names s.rows s.facts.items) }
-    ensures slots { IfOk result (λ s. length s.facts.items ≡ slots) }
-    ensures facts { IfOk result (λ s. (slot : ℕ) → claims_in s.rows.rows s.facts.items slot ≡ NotReached) }
-{
-    let facts = vec![in alloc; Facts::NotReached; slots]?;
-    Ok(Solution {
-        rows: Rows::new(alloc, names),
-        facts,
-    })
-}
 
 /// Takes rounds until none lowers a fact, and says how often a constraint was looked at.
 ///
@@ -70,15 +51,15 @@ pub fn solve_by_rounds(
     slots: usize,
     constraints: &[Constraint],
 ) -> Result<Solution, AllocError>
-    requires vars { start.vars.count ≡ names }
-    requires functions { start.functions.count ≡ names }
+    requires few { names ≤ MAX_NAMES }
+    requires start { AreNamed names (numbers_of start.vars) (numbers_of start.functions) }
     requires problem { IsProblem names slots constraints.now }
     ensures greatest { IfOk result (λ s. IsGreatest names (sight_facts start) constraints.now (claims_in s.rows.rows s.facts.items)) }
     ensures kept { IfOk result (λ s. IsKept names s.rows s.facts.items) }
     ensures slots { IfOk result (λ s. length s.facts.items ≡ slots) }
 {
-    let setting = Setting::new(alloc, names, start)?;
-    let mut solution = unreached(alloc, names, slots)?;
+    let setting = Setting::new(alloc, names, start);
+    let mut solution = Solution::unreached(alloc, names, slots)?;
     settle(&setting, &mut solution, constraints)?;
     Ok(solution)
 }

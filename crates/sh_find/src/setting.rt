@@ -1,60 +1,38 @@
 //! What a search starts with.
-ghost use Rattle.std.specs.Prelude.{◌≡◌, ◌≤◌, ℕ, nat_lt, IfOk};
-ghost use Rattle.sh_facts.specs.KeptRows.{bits_of};
+ghost use Rattle.std.specs.Prelude.{◌≡◌, ◌<◌, ◌≤◌, ℕ, true, nat_lt};
+ghost use Rattle.sh_tree.specs.declared.limits.TheConstants.{MAX_NAMES};
+ghost use Rattle.sh_find.specs.Kept.{numbers_of, AreNamed};
 
+use crate::number_set::NumberSet;
 use crate::sight::Sight;
-use sh_rows::bits::BitRow;
-use sh_rows::row::Row;
-use std::alloc::{AllocError, Global};
+use std::alloc::Global;
 
-/// What a search starts with: how many names there are, the row of all their numbers, and what is known at the start.
+/// What a search starts with: how many names there are, the set of all their numbers, and what is known at the start.
 #[derive(Debug, Drop)]
 pub struct Setting {
     pub alloc: Global,
     pub names: u32,
-    pub all: BitRow,
+    pub all: NumberSet,
     pub start: Sight,
-    ghost numbers: { (k : ℕ) → bits_of all k ≡ nat_lt k names },
-    ghost count: { all.count ≡ names },
-    ghost vars: { start.vars.count ≡ names },
-    ghost functions: { start.functions.count ≡ names },
-    ghost args: { start.args ≤ 65535 },
-}
-
-/// The row of all numbers below a count.
-///
-/// # Errors
-///
-/// Where a growth was refused.
-fn all_numbers(alloc: Global, names: u32) -> Result<BitRow, AllocError>
-    ensures numbers { IfOk result (λ r. (k : ℕ) → bits_of r k ≡ nat_lt k names) }
-    ensures count { IfOk result (λ r. r.count ≡ names) }
-{
-    let mut all = BitRow::empty(alloc, names)?;
-    for n in 0..names {
-        all.add(n)?;
-    }
-    Ok(all)
+    ghost few: { names ≤ MAX_NAMES },
+    ghost numbers: { (k : ℕ) → numbers_of all k ≡ nat_lt k names },
+    ghost vars: { (k : ℕ) → numbers_of start.vars k ≡ true → k < names },
+    ghost functions: { (k : ℕ) → numbers_of start.functions k ≡ true → k < names },
 }
 
 impl Setting {
     /// With so many names, from what is known at the start.
-    ///
-    /// # Errors
-    ///
-    /// Where a growth was refused.
-    pub fn new(alloc: Global, names: u32, start: Sight) -> Result<Setting, AllocError>
-        requires vars { start.vars.count ≡ names }
-        requires functions { start.functions.count ≡ names }
-        ensures names { IfOk result (λ s. s.names ≡ names) }
-        ensures start { IfOk result (λ s. s.start ≡ start) }
+    pub fn new(alloc: Global, names: u32, start: Sight) -> Setting
+        requires few { names ≤ MAX_NAMES }
+        requires start { AreNamed names (numbers_of start.vars) (numbers_of start.functions) }
+        ensures names { result.names ≡ names }
+        ensures start { result.start ≡ start }
     {
-        let all = all_numbers(alloc, names)?;
-        Ok(Setting {
+        Setting {
             alloc,
             names,
-            all,
+            all: NumberSet::below(names),
             start,
-        })
+        }
     }
 }

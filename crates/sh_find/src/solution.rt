@@ -1,28 +1,54 @@
 //! The facts that were found.
-ghost use Rattle.std.specs.Prelude.{◌≡◌, ◌<◌, ◌≤◌, ◌↔◌, ℕ, true, length, nat_lt, slice_index_or, IfOk, IsTrue};
+ghost use Rattle.std.specs.Prelude.{◌≡◌, ◌<◌, ◌≤◌, ◌+◌, ◌^◌, ◌↔◌, ℕ, true, length, slice_index_or, IfOk, IsOk, IsTrue, OnErr};
+ghost use Rattle.sh_tree.specs.declared.limits.TheConstants.{MAX_NAMES};
 ghost use Rattle.sh_facts.specs.declared.certificate.Facts.TheVariants.{NotReached};
-ghost use Rattle.sh_facts.specs.KeptRows.{Stay, bits_of, holds_at};
+ghost use Rattle.sh_facts.specs.KeptRows.{Stay, holds_at};
+ghost use Rattle.sh_find.specs.Facts as spec;
 ghost use Rattle.sh_find.specs.Facts.{IsWithin, meet};
-ghost use Rattle.sh_find.specs.Lowers.{IsNumbered, Sinks};
-ghost use Rattle.sh_find.specs.Kept.{sight_facts, seen_of, IsSized, AreSized, fact_of, claims_in, IsPlaced, IsKept};
+ghost use Rattle.sh_find.specs.Lowers.{Sinks};
+ghost use Rattle.sh_find.specs.Kept.{numbers_of, sight_facts, seen_of, fact_of, claims_in, IsNamed, IsPlaced, IsKept};
 
-use crate::row_sets::{copied, meet_row};
+use crate::number_set::NumberSet;
 use crate::sight::Sight;
 use sh_facts::certificate::Facts;
 use sh_facts::rows::{RowId, Rows};
 use sh_rows::bits::BitRow;
 use sh_rows::row::Row;
-use std::alloc::AllocError;
+use std::alloc::{AllocError, Global};
 
 /// A fact for each slot, and the rows that they name, of which each set is there once.
 #[derive(Debug, Drop)]
 pub struct Solution {
     pub rows: Rows,
     pub facts: Vec<Facts>,
+    // By this row others are looked up, so that one that is there takes no memory.
+    probe: BitRow,
+    ghost probed: { probe.count ≡ rows.count },
 }
 
 /// The places of rows are 32 bits long, and facts take two.
 const MOST_ROWS: usize = 0xffff_fffe;
+
+impl Solution {
+    /// So many slots to which no run comes.
+    ///
+    /// # Errors
+    ///
+    /// Where a growth was refused.
+    pub fn unreached(alloc: Global, names: u32, slots: usize) -> Result<Solution, AllocError>
+        ensures kept { IfOk result (λ s. IsKept names s.rows s.facts.items) }
+        ensures slots { IfOk result (λ s. length s.facts.items ≡ slots) }
+        ensures facts { IfOk result (λ s. (slot : ℕ) → claims_in s.rows.rows s.facts.items slot ≡ spec.NotReached) }
+    {
+        let facts = vec![in alloc; Facts::NotReached; slots]?;
+        let probe = BitRow::empty(alloc, names)?;
+        Ok(Solution {
+            rows: Rows::new(alloc, names),
+            facts,
+            probe,
+        })
+    }
+}
 
 /// The fact of a slot. Where there is no slot, no run comes.
 pub fn fact_at(facts: &[Facts], slot: usize) -> Facts
@@ -35,54 +61,67 @@ pub fn fact_at(facts: &[Facts], slot: usize) -> Facts
     }
 }
 
-/// What facts claim, by rows of its own.
-///
-/// # Errors
-///
-/// Where a growth was refused.
-#[tactic(auto, unfolding(crate::specs::Kept::fact_of, crate::specs::Kept::IsPlaced, crate::specs::Lowers::IsNumbered, crate::specs::Kept::seen_of, crate::specs::Kept::AreSized))]
-pub fn loaded(all: &BitRow, rows: &Rows, fact: Facts) -> Result<Option<Sight>, AllocError>
-    requires placed { IsPlaced (length rows.now.rows) fact }
-    requires numbered { IsNumbered all.now.count (fact_of rows.now.rows fact) }
-    requires all { (k : ℕ) → bits_of all.now k ≡ nat_lt k all.now.count }
-    ensures facts { IfOk result (λ s. seen_of s ≡ fact_of rows.now.rows fact) }
-    ensures sized { IfOk result (λ s. AreSized all.now.count s) }
+/// What facts claim, by sets of its own.
+#[tactic(auto, unfolding(crate::specs::Kept::fact_of, crate::specs::Kept::seen_of))]
+pub fn loaded(rows: &Rows, fact: Facts) -> Option<Sight>
+    requires { rows.now.count ≤ MAX_NAMES }
+    ensures { seen_of result ≡ fact_of rows.now.rows fact }
 {
     match fact {
-        Facts::NotReached => Ok(None),
+        Facts::NotReached => None,
         Facts::Known {
             vars,
             functions,
             args,
-        } => {
-            let vars = copied(all, rows, vars)?;
-            let functions = copied(all, rows, functions)?;
-            Ok(Some(Sight {
-                vars,
-                functions,
-                args,
-            }))
-        }
+        } => Some(Sight {
+            vars: numbers_at(rows, vars),
+            functions: numbers_at(rows, functions),
+            args,
+        }),
     }
 }
 
-/// The facts that are seen, by the places of their rows, which are added where they are not there.
-///
-/// # Errors
-///
-/// Where a growth was refused, or no place is left.
-pub fn keep(rows: &mut Rows, sight: &Sight) -> Result<Facts, AllocError>
-    requires { IsSized rows.old.count sight.now }
+// The numbers of the row of a place.
+fn numbers_at(rows: &Rows, id: RowId) -> NumberSet
+    requires { rows.now.count ≤ MAX_NAMES }
+    ensures { (k : ℕ) → numbers_of result k ≡ holds_at rows.now.rows id.index k }
+{
+    let mut numbers = NumberSet::new();
+    numbers.join_row(rows, id);
+    numbers
+}
+
+// The place of a row of these numbers, which is added where there is none.
+fn intern(rows: &mut Rows, probe: &mut BitRow, numbers: &NumberSet) -> Result<RowId, AllocError>
+    requires room { length rows.old.rows < 2 ^ 32 }
+    requires probed { probe.old.count ≡ rows.old.count }
+    requires below { (k : ℕ) → numbers_of numbers.now k ≡ true → k < rows.old.count }
+    ensures found { IfOk result (λ id. (k : ℕ) → holds_at rows.new.rows id.index k ≡ numbers_of numbers.now k) }
+    ensures known { IfOk result (λ id. id.index < length rows.new.rows) }
+    ensures stay { Stay rows.old.rows rows.new.rows }
+    ensures more { length rows.new.rows ≤ length rows.old.rows + 1 }
+    ensures count { rows.new.count ≡ rows.old.count }
+    ensures probed { probe.new.count ≡ probe.old.count }
+{
+    probe.copy_from(numbers.words());
+    rows.intern(probe)
+}
+
+// The facts that are seen, by the places of their rows, which are added where they are not there.
+fn keep(rows: &mut Rows, probe: &mut BitRow, sight: &Sight) -> Result<Facts, AllocError>
+    requires probed { probe.old.count ≡ rows.old.count }
+    requires named { IsNamed rows.old.count (sight_facts sight.now) }
     ensures stay { Stay rows.old.rows rows.new.rows }
     ensures count { rows.new.count ≡ rows.old.count }
+    ensures probed { probe.new.count ≡ probe.old.count }
     ensures placed { IfOk result (λ f. IsPlaced (length rows.new.rows) f) }
     ensures facts { IfOk result (λ f. fact_of rows.new.rows f ≡ sight_facts sight.now) }
 {
     if rows.len() > MOST_ROWS {
         return Err(AllocError);
     }
-    let vars = rows.intern(&sight.vars)?;
-    let functions = rows.intern(&sight.functions)?;
+    let vars = intern(rows, probe, &sight.vars)?;
+    let functions = intern(rows, probe, &sight.functions)?;
     Ok(Facts::Known {
         vars,
         functions,
@@ -90,21 +129,9 @@ pub fn keep(rows: &mut Rows, sight: &Sight) -> Result<Facts, AllocError>
     })
 }
 
-// Whether the row of a place is within another.
-fn is_row_within(rows: &Rows, id: RowId, row: &BitRow) -> bool
-    requires { id.index < length rows.now.rows }
-    ensures { IsTrue result ↔ ((k : ℕ) → holds_at rows.now.rows id.index k ≡ true → bits_of row.now k ≡ true) }
-{
-    match rows.row(id) {
-        Some(own) => own.within(row),
-        None => false,
-    }
-}
-
 /// Whether facts claim no more than is seen.
-#[tactic(auto, unfolding(crate::specs::Kept::fact_of, crate::specs::Kept::IsPlaced))]
+#[tactic(auto, unfolding(crate::specs::Kept::fact_of))]
 pub fn is_within(rows: &Rows, fact: Facts, sight: &Sight) -> bool
-    requires { IsPlaced (length rows.now.rows) fact }
     ensures { IsTrue result ↔ IsWithin (fact_of rows.now.rows fact) (sight_facts sight.now) }
 {
     match fact {
@@ -114,10 +141,10 @@ pub fn is_within(rows: &Rows, fact: Facts, sight: &Sight) -> bool
             functions,
             args,
         } => {
-            if !is_row_within(rows, vars, &sight.vars) {
+            if !sight.vars.includes(rows, vars) {
                 return false;
             }
-            if !is_row_within(rows, functions, &sight.functions) {
+            if !sight.functions.includes(rows, functions) {
                 return false;
             }
             args <= sight.args
@@ -126,13 +153,9 @@ pub fn is_within(rows: &Rows, fact: Facts, sight: &Sight) -> bool
 }
 
 /// Leaves of what is seen what facts claim too.
-#[tactic(auto, unfolding(crate::specs::Kept::fact_of, crate::specs::Kept::IsPlaced, crate::specs::Facts::meet))]
+#[tactic(auto, unfolding(crate::specs::Kept::fact_of, crate::specs::Facts::meet))]
 pub fn meet_facts(rows: &Rows, fact: Facts, sight: &mut Sight)
-    requires { IsPlaced (length rows.now.rows) fact }
-    ensures facts { sight_facts sight.new ≡ meet (fact_of rows.now.rows fact) (sight_facts sight.old) }
-    ensures vars { sight.new.vars.count ≡ sight.old.vars.count }
-    ensures functions { sight.new.functions.count ≡ sight.old.functions.count }
-    ensures args { sight.new.args ≤ sight.old.args }
+    ensures { sight_facts sight.new ≡ meet (fact_of rows.now.rows fact) (sight_facts sight.old) }
 {
     if let Facts::Known {
         vars,
@@ -140,8 +163,8 @@ pub fn meet_facts(rows: &Rows, fact: Facts, sight: &mut Sight)
         args,
     } = fact
     {
-        meet_row(rows, vars, &mut sight.vars);
-        meet_row(rows, functions, &mut sight.functions);
+        sight.vars.meet_row(rows, vars);
+        sight.functions.meet_row(rows, functions);
         sight.args = sight.args.min(args);
     }
 }
@@ -150,21 +173,22 @@ pub fn meet_facts(rows: &Rows, fact: Facts, sight: &mut Sight)
 ///
 /// # Errors
 ///
-/// Where a growth was refused, or no place for a row is left.
+/// Where it claimed more, and a growth was refused or no place for a row is left.
 pub fn sink(solution: &mut Solution, slot: usize, mut sight: Sight) -> Result<bool, AllocError>
     requires kept { IsKept solution.old.rows.count solution.old.rows solution.old.facts.items }
     requires slot { slot < length solution.old.facts.items }
-    requires sized { IsSized solution.old.rows.count sight }
+    requires named { IsNamed solution.old.rows.count (sight_facts sight) }
     ensures sinks { IfOk result (λ changed. Sinks (claims_in solution.old.rows.rows solution.old.facts.items) (claims_in solution.new.rows.rows solution.new.facts.items) slot (sight_facts sight) changed) }
     ensures kept { IfOk result (λ changed. IsKept solution.old.rows.count solution.new.rows solution.new.facts.items) }
     ensures slots { length solution.new.facts.items ≡ length solution.old.facts.items }
+    ensures err { OnErr result (¬ (IsWithin (claims_in solution.old.rows.rows solution.old.facts.items slot) (sight_facts sight))) }
 {
     let fact = solution.facts[slot];
     if is_within(&solution.rows, fact, &sight) {
         return Ok(false);
     }
     meet_facts(&solution.rows, fact, &mut sight);
-    let kept = keep(&mut solution.rows, &sight)?;
+    let kept = keep(&mut solution.rows, &mut solution.probe, &sight)?;
     solution.facts[slot] = kept;
     Ok(true)
 }

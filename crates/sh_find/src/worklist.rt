@@ -1,14 +1,15 @@
 //! The search by a list of the constraints that wait.
-ghost use Rattle.std.specs.Prelude.{◌≡◌, ◌<◌, [], ◌∷◌, length, slice_index_or, IfOk, OnOk};
+ghost use Rattle.std.specs.Prelude.{◌≡◌, ◌<◌, ◌≤◌, [], ◌∷◌, length, slice_index_or, IfOk, OnOk};
+ghost use Rattle.sh_tree.specs.declared.limits.TheConstants.{MAX_NAMES};
 ghost use Rattle.sh_facts.specs.declared.certificate.Facts.TheVariants.{NotReached};
 ghost use Rattle.sh_find.specs.Facts.{Claims, IsBelow};
 ghost use Rattle.sh_find.specs.Greatest.{Satisfies, IsGreatest};
 ghost use Rattle.sh_find.specs.Lowers.{Lowers};
-ghost use Rattle.sh_find.specs.Kept.{sight_facts, fact_of, claims_in, IsKept, IsProblem};
+ghost use Rattle.sh_find.specs.Kept.{numbers_of, sight_facts, fact_of, claims_in, AreNamed, IsKept, IsProblem};
 
 use crate::constraint::{Constraint, Source, Step};
 use crate::lower::lower;
-use crate::rounds::{settle, unreached};
+use crate::rounds::settle;
 use crate::setting::Setting;
 use crate::sight::Sight;
 use crate::solution::Solution;
@@ -207,15 +208,15 @@ pub fn solve_counted(
     slots: usize,
     constraints: &[Constraint],
 ) -> Result<Counted, AllocError>
-    requires vars { start.vars.count ≡ names }
-    requires functions { start.functions.count ≡ names }
+    requires few { names ≤ MAX_NAMES }
+    requires start { AreNamed names (numbers_of start.vars) (numbers_of start.functions) }
     requires problem { IsProblem names slots constraints.now }
     ensures greatest { IfOk result (λ s. IsGreatest names (sight_facts start) constraints.now (claims_in s.solution.rows.rows s.solution.facts.items)) }
     ensures kept { IfOk result (λ s. IsKept names s.solution.rows s.solution.facts.items) }
     ensures slots { IfOk result (λ s. length s.solution.facts.items ≡ slots) }
 {
-    let setting = Setting::new(alloc, names, start)?;
-    let mut solution = unreached(alloc, names, slots)?;
+    let setting = Setting::new(alloc, names, start);
+    let mut solution = Solution::unreached(alloc, names, slots)?;
     let users = users_of(alloc, slots, constraints)?;
     let mut waiting = all_waiting(alloc, constraints.len())?;
     let first = settle_waiting(&setting, &mut solution, constraints, &users, &mut waiting)?;
@@ -239,8 +240,8 @@ pub fn solve(
     slots: usize,
     constraints: &[Constraint],
 ) -> Result<Solution, AllocError>
-    requires vars { start.vars.count ≡ names }
-    requires functions { start.functions.count ≡ names }
+    requires few { names ≤ MAX_NAMES }
+    requires start { AreNamed names (numbers_of start.vars) (numbers_of start.functions) }
     requires problem { IsProblem names slots constraints.now }
     ensures greatest { IfOk result (λ s. IsGreatest names (sight_facts start) constraints.now (claims_in s.rows.rows s.facts.items)) }
     ensures kept { IfOk result (λ s. IsKept names s.rows s.facts.items) }

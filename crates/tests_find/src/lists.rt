@@ -1,10 +1,6 @@
 //! Lists of constraints.
-ghost use Rattle.std.specs.Prelude.{◌≡◌, ◌<◌, IfOk};
 
 use sh_find::constraint::{Constraint, FunctionCall, Source, Step};
-use sh_find::sight::Sight;
-use sh_rows::bits::BitRow;
-use sh_rows::row::Row;
 use std::alloc::{AllocError, Global};
 
 pub const NAMES: u32 = 6;
@@ -99,22 +95,6 @@ pub fn list_of(alloc: Global, seed: u32) -> Result<Vec<Constraint>, AllocError> 
         constraints.push(constraint(alloc, &mut state)?)?;
     }
     Ok(constraints)
-}
-
-/// Variables 0 and 1, and so many parameters.
-pub fn start(alloc: Global, args: u16) -> Result<Sight, AllocError>
-    ensures vars { IfOk result (λ s. s.vars.count ≡ 6) }
-    ensures functions { IfOk result (λ s. s.functions.count ≡ 6) }
-{
-    let mut vars = BitRow::empty(alloc, NAMES)?;
-    vars.add(0)?;
-    vars.add(1)?;
-    let functions = BitRow::empty(alloc, NAMES)?;
-    Ok(Sight {
-        vars,
-        functions,
-        args,
-    })
 }
 
 /// A constraint with one step.

@@ -1,12 +1,13 @@
 //! What both ways find.
 
-use crate::lists::{NAMES, SLOTS, behind, list_of, start};
+use crate::lists::{NAMES, SLOTS, behind, list_of};
 use sh_facts::certificate::Facts;
 use sh_facts::rows::{RowId, Rows};
 use sh_find::constraint::{Constraint, Source, Step};
 use sh_find::problem::is_problem;
 use sh_find::rounds::solve_by_rounds;
 use sh_find::solution::{Solution, fact_at};
+use sh_find::steps::set_only;
 use sh_find::worklist::solve_counted;
 use std::alloc::{AllocError, Global};
 use std::test::Fail;
@@ -60,8 +61,20 @@ fn agree(alloc: Global, args: u16, constraints: &[Constraint]) -> Result<Option<
     if !is_problem(NAMES, SLOTS, constraints) {
         return Ok(None);
     }
-    let rounds = solve_by_rounds(alloc, NAMES, start(alloc, args)?, SLOTS, constraints)?;
-    let counted = solve_counted(alloc, NAMES, start(alloc, args)?, SLOTS, constraints)?;
+    let rounds = solve_by_rounds(
+        alloc,
+        NAMES,
+        set_only(NAMES, &[0, 1], args),
+        SLOTS,
+        constraints,
+    )?;
+    let counted = solve_counted(
+        alloc,
+        NAMES,
+        set_only(NAMES, &[0, 1], args),
+        SLOTS,
+        constraints,
+    )?;
     if !same(&rounds, &counted.solution) {
         return Ok(None);
     }

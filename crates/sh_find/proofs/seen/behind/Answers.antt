@@ -2,6 +2,6 @@ use Rattle.sh_find.specs.Kept.{seen_of}
 use Rattle.sh_find.proofs.SeenLemmas.{step_nowhere}
 use Rattle.sh_find.proofs.seen.behind.Goals as goal
 
-pub returns-in-None-clause-facts : goal.returns-in-None-clause-facts
+pub returns-in-None : goal.returns-in-None
 unfolding seen_of
-returns-in-None-clause-facts c = rw c.in-None.is (step_nowhere _ _ c.args.next.now)
+returns-in-None c = rw c.in-None.is (step_nowhere _ _ c.args.next.now)

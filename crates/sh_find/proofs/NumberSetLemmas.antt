@@ -1,0 +1,51 @@
+-- A set and the row of a place.
+use Rattle.std.proofs.Common.{◌≡◌, ℕ, ◌*◌, ◌/◌, ◌%◌, ◌<◌, ◌≤◌, Bool, true, false, ◌&&◌, ◌||◌, List, Some, None, length, refl, sym, ◌∙◌, ap, arith, eqb, true≢false, IsTrue, ◌↔◌, inl, inr, slice_get}
+use Rattle.std.specs.Int.{bit_at}
+use Rattle.std.proofs.lemmas.Bool.{cases_lt, cases_Bool}
+use Rattle.std.proofs.lemmas.List.{get_or_past}
+use Rattle.std.proofs.lemmas.Nat.Bits.{bit_at-zero}
+use Rattle.sh_rows.specs.Numbers.{has_bit}
+use Rattle.sh_rows.specs.declared.bits.BitRow.{BitRow}
+use Rattle.sh_facts.specs.KeptRows.{bits_of, holds_at}
+use Rattle.sh_facts.proofs.RowLemmas.{bits_at, no_bits}
+
+-- past the words is no bit
+past_words : (words : List ℕ) (k : ℕ) → length words ≤ k / 64 → has_bit k words ≡ false
+unfolding has_bit
+past_words words k le = ap (λ w. eqb (bit_at w (k % 64)) 1) (get_or_past words (k / 64) 0 le) ∙ ap (λ b. eqb b 1) (bit_at-zero (k % 64))
+
+module _ (rows : List BitRow) (i : ℕ) (r : BitRow) (there : Some r ≡ slice_get rows i) where
+  at : (k : ℕ) → bits_of r k ≡ holds_at rows i k
+  at k = sym (bits_at rows i r (sym there) k)
+
+  -- what is left
+  pub met_row : (old : ℕ → Bool) (new ws : List ℕ) → ws ≡ r.words.items → ((k : ℕ) → has_bit k new ≡ (has_bit k ws && old k)) → (k : ℕ) → has_bit k new ≡ (holds_at rows i k && old k)
+  met_row old new ws e met k = met k ∙ ap (λ b. b && old k) (ap (has_bit k) e ∙ at k)
+
+  -- what is there besides
+  pub joined_row : (most : ℕ) (old new ws : List ℕ) → ws ≡ r.words.items → r.count ≤ 64 * most → length old ≡ most → length new ≡ most
+      → ((k : ℕ) → k / 64 < length old → has_bit k new ≡ (has_bit k ws || has_bit k old)) → (k : ℕ) → has_bit k new ≡ (holds_at rows i k || has_bit k old)
+  joined_row most old new ws e few long wide joined k = elim (cases_lt (k / 64) most) [
+    | inl l ↦ joined k (omega (arith, l, long)) ∙ ap (λ b. b || has_bit k old) (ap (has_bit k) e ∙ at k)
+    | inr l ↦
+        let none : holds_at rows i k ≡ false = elim (cases_Bool (holds_at rows i k)) [
+          | inl h ↦ let below = r.below k (at k ∙ h) in absurd (omega (arith, below, few, l))
+          | inr h ↦ h
+        ] in
+        let before : has_bit k old ≡ false = past_words old k (omega (arith, l, long)) in
+        past_words new k (omega (arith, l, wide)) ∙ sym (rw (none, before) refl)
+  ]
+
+  -- the test of the row
+  pub row_within : (t : Bool) (set : ℕ → Bool) (ws : List ℕ) → ws ≡ r.words.items → (IsTrue t ↔ ((k : ℕ) → has_bit k ws ≡ true → set k ≡ true)) → (IsTrue t ↔ ((k : ℕ) → holds_at rows i k ≡ true → set k ≡ true))
+  row_within t set ws e test = (λ h k x. test.0 h k (ap (has_bit k) e ∙ at k ∙ x), λ h. test.1 (λ k x. h k (sym (at k) ∙ sym (ap (has_bit k) e) ∙ x)))
+
+module _ (rows : List BitRow) (i : ℕ) (none : None ≡ slice_get rows i) where
+  pub none_met : (old : Bool) (k : ℕ) → false ≡ (holds_at rows i k && old)
+  none_met old k = sym (ap (λ b. b && old) (no_bits rows i (sym none) k))
+
+  pub none_joined : (old : Bool) (k : ℕ) → old ≡ (holds_at rows i k || old)
+  none_joined old k = sym (ap (λ b. b || old) (no_bits rows i (sym none) k))
+
+  pub none_within : (set : ℕ → Bool) → IsTrue true ↔ ((k : ℕ) → holds_at rows i k ≡ true → set k ≡ true)
+  none_within set = (λ h k x. absurd (true≢false (sym x ∙ no_bits rows i (sym none) k)), λ h. refl)

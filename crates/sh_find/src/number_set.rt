@@ -1,0 +1,136 @@
+//! Sets of numbers that stand on the stack and take no memory.
+ghost use Rattle.std.specs.Prelude.{◌≡◌, ◌<◌, ◌≤◌, ◌&&◌, ◌||◌, ◌==◌, ◌↔◌, ℕ, true, false, not, nat_lt, IsTrue};
+ghost use Rattle.std.specs.List.{All};
+ghost use Rattle.sh_rows.specs.Numbers.{has_bit, has_number};
+ghost use Rattle.sh_tree.specs.declared.limits.TheConstants.{MAX_NAMES};
+ghost use Rattle.sh_facts.specs.KeptRows.{holds_at};
+ghost use Rattle.sh_find.specs.Kept.{numbers_of};
+ghost use Rattle.sh_find.specs.Steps.{kept};
+
+use sh_facts::rows::{RowId, Rows};
+use sh_rows::kernels::{is_set, join_words, meet_words, remove_words, set, unset, within_words};
+
+/// Numbers below `MAX_NAMES`: number n is bit n modulo 64 of word n divided by 64.
+#[derive(Clone, Copy, Debug, PartialEq, Eq)]
+pub struct NumberSet {
+    words: [u64; 64],
+}
+
+impl NumberSet {
+    /// No numbers.
+    pub fn new() -> NumberSet
+        ensures { (k : ℕ) → numbers_of result k ≡ false }
+    {
+        NumberSet { words: [0; 64] }
+    }
+
+    /// These numbers.
+    pub fn of(numbers: &[u32]) -> NumberSet
+        requires { All (λ n. n < MAX_NAMES) numbers.now }
+        ensures { (k : ℕ) → numbers_of result k ≡ has_number k numbers.now }
+    {
+        let mut set = NumberSet::new();
+        set.add_all(numbers);
+        set
+    }
+
+    /// All numbers below a count.
+    pub fn below(count: u32) -> NumberSet
+        requires { count ≤ MAX_NAMES }
+        ensures { (k : ℕ) → numbers_of result k ≡ nat_lt k count }
+    {
+        let mut set = NumberSet::new();
+        for n in 0..count {
+            set.add(n);
+        }
+        set
+    }
+
+    /// The words: number n is bit n modulo 64 of word n divided by 64.
+    pub fn words(&self) -> &[u64]
+        ensures { result.now ≡ self.now.words }
+    {
+        &self.words
+    }
+
+    /// Whether a number is in the set.
+    pub fn has(&self, n: u32) -> bool
+        requires { n < MAX_NAMES }
+        ensures { result ≡ numbers_of self.now n }
+    {
+        is_set(&self.words, n)
+    }
+
+    /// Adds a number.
+    pub fn add(&mut self, n: u32)
+        requires { n < MAX_NAMES }
+        ensures { (k : ℕ) → numbers_of self.new k ≡ (k == n || numbers_of self.old k) }
+    {
+        set(&mut self.words, n);
+    }
+
+    /// Takes a number out.
+    pub fn clear(&mut self, n: u32)
+        requires { n < MAX_NAMES }
+        ensures { (k : ℕ) → numbers_of self.new k ≡ (not (k == n) && numbers_of self.old k) }
+    {
+        unset(&mut self.words, n);
+    }
+
+    /// Adds these numbers.
+    pub fn add_all(&mut self, numbers: &[u32])
+        requires { All (λ n. n < MAX_NAMES) numbers.now }
+        ensures { (k : ℕ) → numbers_of self.new k ≡ (has_number k numbers.now || numbers_of self.old k) }
+    {
+        for n in numbers {
+            self.add(*n);
+        }
+    }
+
+    /// Takes these numbers out.
+    pub fn remove_all(&mut self, numbers: &[u32])
+        requires { All (λ n. n < MAX_NAMES) numbers.now }
+        ensures { (k : ℕ) → numbers_of self.new k ≡ kept numbers.now (numbers_of self.old) k }
+    {
+        for n in numbers {
+            self.clear(*n);
+        }
+    }
+
+    /// Takes out the numbers of another set.
+    pub fn remove(&mut self, other: &NumberSet)
+        ensures { (k : ℕ) → numbers_of self.new k ≡ (not (numbers_of other.now k) && numbers_of self.old k) }
+    {
+        remove_words(&mut self.words, &other.words);
+    }
+
+    /// Takes out the numbers that are not in the row of a place.
+    pub fn meet_row(&mut self, rows: &Rows, id: RowId)
+        ensures { (k : ℕ) → numbers_of self.new k ≡ (holds_at rows.now.rows id.index k && numbers_of self.old k) }
+    {
+        match rows.row(id) {
+            Some(row) => meet_words(&mut self.words, row.words()),
+            None => *self = NumberSet::new(),
+        }
+    }
+
+    /// Adds the numbers of the row of a place.
+    pub fn join_row(&mut self, rows: &Rows, id: RowId)
+        requires { rows.now.count ≤ MAX_NAMES }
+        ensures { (k : ℕ) → numbers_of self.new k ≡ (holds_at rows.now.rows id.index k || numbers_of self.old k) }
+    {
+        if let Some(row) = rows.row(id) {
+            join_words(&mut self.words, row.words());
+        }
+    }
+
+    /// Whether each number of the row of a place is in the set.
+    pub fn includes(&self, rows: &Rows, id: RowId) -> bool
+        ensures { IsTrue result ↔ ((k : ℕ) → holds_at rows.now.rows id.index k ≡ true → numbers_of self.now k ≡ true) }
+    {
+        match rows.row(id) {
+            Some(row) => within_words(row.words(), &self.words),
+            None => true,
+        }
+    }
+}
