@@ -3,3 +3,5 @@ pub mod GainLemmas
 pub mod DigitLemmas
 pub mod NeedLemmas
 pub mod JudgeLemmas
+pub mod TellLemmas
+pub mod OwnLemmas

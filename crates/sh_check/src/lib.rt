@@ -3,4 +3,6 @@
 
 pub mod gains;
 pub mod known;
+pub mod laws;
 pub mod needs;
+pub mod own;
