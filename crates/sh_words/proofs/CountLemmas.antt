@@ -1,5 +1,5 @@
 -- However a word goes on, it ends behind no fewer commands than came before.
-use Rattle.std.proofs.Common.{◌≡◌, ℕ, ◌≤◌, ◌⊎◌, inl, inr, List, [], ◌∷◌, ◌++◌, sym, le_refl, le_trans, subst}
+use Rattle.std.proofs.Common.{ℕ, ◌≤◌, inl, inr, List, [], ◌∷◌, ◌++◌, sym, le_refl, le_trans, subst}
 use Rattle.sh_tree.specs.declared.tree.Expr.{Expr}
 use Rattle.sh_tree.specs.declared.tree.Part.{Part}
 use Rattle.sh_tree.specs.declared.token.word.Context.{Context}
@@ -15,7 +15,7 @@ use Rattle.sh_words.specs.declared.frames.Frame.TheVariants as frame
 use Rattle.sh_words.specs.declared.frames.Focus.{Focus}
 use Rattle.sh_words.specs.declared.frames.Focus.TheVariants as focus
 use Rattle.sh_words.specs.declared.builder.WordBuilder.{WordBuilder}
-use Rattle.sh_words.specs.Rest.{Around, Read, parts, one, Holds, Chooses, Operates, After, outer, Then, Rest, Left, placed, here}
+use Rattle.sh_words.specs.Rest.{Around, Read, parts, one, Holds, Operates, After, outer, Then, Rest, Left, placed, here}
 use Rattle.sh_words.specs.States.{context_in, found_in}
 
 module _ (b : List ℕ) (limit : ℕ) (g : Around) (n : ℕ) where

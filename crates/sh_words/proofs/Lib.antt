@@ -4,5 +4,6 @@ pub mod BadLemmas
 pub mod PartLemmas
 pub mod OperandLemmas
 pub mod OperationLemmas
+pub mod LevelLemmas
 pub mod RunLemmas
 pub mod CountLemmas

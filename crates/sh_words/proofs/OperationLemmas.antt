@@ -90,7 +90,7 @@ module _ (b : List ℕ) (w : WordBuilder) (e : Expr) where
   abbrev Read : Operation → WordBuilder → Type 0
   Read f new = Keeps b (Left b (framed w (frame.Operation f) (focus.Have e))) new
 
-  first_keeps : (level : ℕ) (o : Option Binary) → binary_of level (lexeme b w.at).figure ≡ o → Read (operation.First level) (first_by w level e (lexeme b w.at) o)
+  pub first_keeps : (level : ℕ) (o : Option Binary) → binary_of level (lexeme b w.at).figure ≡ o → Read (operation.First level) (first_by w level e (lexeme b w.at) o)
   unfolding Left
   first_keeps level None is = record {
     forth = λ limit g u ps l.

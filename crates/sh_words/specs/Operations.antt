@@ -1,12 +1,13 @@
 -- What a builder does behind an operand of arithmetic.
 -- POSIX.1-2024, XCU 2.6.4 (arithmetic expansion).
-use Rattle.std.specs.Prelude.{◌≡◌, ◌<◌, ◌≤◌, ◌⊎◌, ℕ, ◌+◌, Bool, true, false, List, [], ◌∷◌, ◌++◌, length, Option, Some, None, Result, Ok, Err}
+use Rattle.std.specs.Prelude.{◌≡◌, ◌<◌, ◌≤◌, ◌⊎◌, ℕ, ◌+◌, Bool, true, false, if◌then◌else◌, is_none, List, [], ◌∷◌, ◌++◌, length, Option, Some, None, Result, Ok, Err}
 use Rattle.sh_tree.specs.declared.refusal.Refusal.{Refusal}
 use Rattle.sh_tree.specs.declared.refusal.Refusal.TheVariants.{Syntax, LeftOut, Memory}
 use Rattle.sh_tree.specs.declared.tree.Binary.{Binary}
 use Rattle.sh_tree.specs.declared.tree.Expr.{Expr}
 use Rattle.sh_tree.specs.declared.tree.Expr.TheVariants as expr
 use Rattle.sh_tree.specs.declared.tree.Part.TheVariants as part
+use Rattle.sh_tree.specs.declared.token.arithmetic.Figure.{Figure}
 use Rattle.sh_tree.specs.declared.token.arithmetic.Figure.TheVariants as figure
 use Rattle.sh_tree.specs.declared.token.arithmetic.Lexeme.{Lexeme}
 use Rattle.sh_tree.specs.language.Arithmetic.{binary_of, is_closed}
@@ -14,11 +15,31 @@ use Rattle.sh_tree.specs.language.Trees.{span}
 use Rattle.sh_words.specs.declared.frames.Holder.{Holder}
 use Rattle.sh_words.specs.declared.frames.Opening.{Opening}
 use Rattle.sh_words.specs.declared.frames.Opening.TheVariants as opening
+use Rattle.sh_words.specs.declared.frames.Operation.{Operation}
 use Rattle.sh_words.specs.declared.frames.Operation.TheVariants as operation
+use Rattle.sh_words.specs.declared.frames.Frame.{Frame}
+use Rattle.sh_words.specs.declared.frames.Frame.TheVariants as frame
 use Rattle.sh_words.specs.declared.frames.Focus.TheVariants as focus
 use Rattle.sh_words.specs.declared.builder.WordBuilder.{WordBuilder}
 use Rattle.sh_words.specs.declared.builder.Next.{Next}
 use Rattle.sh_words.specs.States.{given, had, operating}
+
+-- a level of which such a token is no operator
+unfoldable pub is_level_left : Figure → Operation → Bool
+is_level_left f (operation.First level) = is_none (binary_of level f)
+is_level_left f _ = false
+
+unfoldable pub is_left : Figure → Frame → Bool
+is_left f (frame.Operation o) = is_level_left f o
+is_left f _ = false
+
+-- the frames without such levels at their front
+unfoldable pub levels_left : Figure → List Frame → List Frame
+levels_left f [] = []
+levels_left f (x ∷ fs) = if is_left f x then levels_left f fs else x ∷ fs
+
+abbrev pub leaving : WordBuilder → Figure → WordBuilder
+leaving w f = record w { frames = levels_left f w.frames }
 
 -- the first operand of a level was read, before the token
 abbrev pub first_by : WordBuilder → ℕ → Expr → Lexeme → Option Binary → WordBuilder

@@ -1,5 +1,5 @@
 //! Items of which the last one in stands first.
-ghost use Rattle.std.specs.Prelude.{◌≡◌, List, [], ◌∷◌, MatchOption, OnOk, OnErr};
+ghost use Rattle.std.specs.Prelude.{◌≡◌, List, [], ◌∷◌, drop, MatchOption, OnOk, OnErr};
 
 use std::alloc::{AllocError, Global};
 use std::marker::Model;
@@ -44,6 +44,12 @@ impl<T> Stack<T> {
 }
 
 impl<T: Drop> Stack<T> {
+    pub fn drop_top(&mut self)
+        ensures { self.new ≡ drop 1 self.old }
+    {
+        self.pop();
+    }
+
     pub fn push(&mut self, item: T) -> Result<(), AllocError>
         ensures ok { OnOk result (self.new ≡ item ∷ self.old) }
         ensures err { OnErr result (self.new ≡ self.old) }

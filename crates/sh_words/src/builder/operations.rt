@@ -5,7 +5,7 @@ ghost use Rattle.sh_words.specs.Faults as faults;
 ghost use Rattle.sh_words.specs.Faults.{IsFault};
 ghost use Rattle.sh_words.specs.Lexemes as lexemes;
 ghost use Rattle.sh_words.specs.Lexemes.{IsLexeme};
-ghost use Rattle.sh_words.specs.Operations.{ClosesArithmetic, Reaches, first_read, more_read};
+ghost use Rattle.sh_words.specs.Operations.{ClosesArithmetic, Reaches, first_read, is_left, is_level_left, leaving, more_read};
 ghost use Rattle.sh_words.specs.Steps.{Enters};
 ghost use Rattle.sh_tree.specs.language.Arithmetic as arithmetic;
 ghost use Rattle.sh_tree.specs.language.Arithmetic.{unary_level};
@@ -24,6 +24,38 @@ use sh_tree::token::{Figure, Lexeme};
 use sh_tree::tree::{Binary, Expr, Part, Span, Unary};
 use sh_tree::{Boxed, Items};
 
+impl Operation {
+    /// Whether it is a level of which such a token is no operator.
+    #[tactic(auto, unfolding(crate::specs::Operations::is_level_left))]
+    fn is_left(&self, figure: Figure) -> bool
+        ensures { result ≡ is_level_left figure self.now }
+    {
+        match self {
+            Operation::First { level } => binary_of(*level, figure).is_none(),
+            Operation::More { .. }
+            | Operation::Parenthesis { .. }
+            | Operation::Unary { .. }
+            | Operation::Condition
+            | Operation::Yes { .. }
+            | Operation::No { .. }
+            | Operation::Assign { .. } => false,
+        }
+    }
+}
+
+impl Frame {
+    /// Whether it is a level of which such a token is no operator.
+    #[tactic(auto, unfolding(crate::specs::Operations::is_left))]
+    fn is_left(&self, figure: Figure) -> bool
+        ensures { result ≡ is_left figure self.now }
+    {
+        match self {
+            Frame::Operation(operation) => operation.is_left(figure),
+            Frame::Opened { .. } => false,
+        }
+    }
+}
+
 impl WordBuilder {
     /// An expression was read.
     pub fn have_step(&mut self, script: &[u8], expr: Expr) -> Result<Option<Next>, Refusal>
@@ -35,10 +67,43 @@ impl WordBuilder {
         ensures sound { StepSound script.now result self.new }
         ensures works { StepWorks script.now (focused self.old (Focus.Have expr)) self.new result }
     {
+        let token = lexeme(script, self.at);
+        self.leave_levels(token.figure);
+        self.expression_read(script, expr, token)
+    }
+
+    /// Leaves the levels of which the token is no operator: no more operands of theirs follow.
+    #[tactic(auto, unfolding(crate::specs::Operations::levels_left))]
+    fn leave_levels(&mut self, figure: Figure)
+        ensures { self.new ≡ leaving self.old figure }
+    {
+        while let Some(frame) = self.frames.top() {
+            if !frame.is_left(figure) {
+                return;
+            }
+            self.frames.drop_top();
+        }
+    }
+
+    /// An expression was read, before the token.
+    fn expression_read(
+        &mut self,
+        script: &[u8],
+        expr: Expr,
+        token: Lexeme,
+    ) -> Result<Option<Next>, Refusal>
+        requires small { length script.now ≤ MAX_SCRIPT }
+        requires inside { self.old.at ≤ length script.now }
+        requires token { IsLexeme script.now self.old.at token }
+        requires sound { IsSound script.now (focused self.old (Focus.Have expr)) }
+        ensures keeps { Steps script.now (Left script.now (focused self.old (Focus.Have expr))) self.new result }
+        ensures moves { StepMoves script.now self.old self.new result }
+        ensures sound { StepSound script.now result self.new }
+        ensures works { StepWorks script.now (focused self.old (Focus.Have expr)) self.new result }
+    {
         let Holder::Operand { .. } = &self.holder else {
             return Err(Refusal::Syntax(Fault::BadArith, self.at));
         };
-        let token = lexeme(script, self.at);
         if !follows(token.figure) {
             return Err(self.misplaced(script, &expr, token));
         }

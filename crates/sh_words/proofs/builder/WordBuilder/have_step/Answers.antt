@@ -1,41 +1,33 @@
-use Rattle.std.proofs.Common.{◌∷◌, subst, sym, ap, ◌∙◌}
-use Rattle.sh_words.specs.Rest.{Left, IsOperand}
-use Rattle.sh_words.specs.Lexemes.{follows}
-use Rattle.sh_words.specs.States.{focused}
+use Rattle.std.proofs.Common.{sym, ap, subst}
+use Rattle.sh_tree.specs.declared.token.arithmetic.Lexeme.{Lexeme}
+use Rattle.sh_words.specs.declared.builder.WordBuilder.{WordBuilder}
 use Rattle.sh_words.specs.declared.frames.Focus.TheVariants as focus
-use Rattle.sh_words.proofs.BadLemmas.{bad_is_fault}
-use Rattle.sh_words.proofs.Exchange.{fault_refuses}
-use Rattle.sh_words.proofs.OperationLemmas.{unfollowed_ends, nothing_around, no_operand_around, expansion_read, expansion_moves}
+use Rattle.sh_words.specs.Clauses.{Steps}
+use Rattle.sh_words.specs.Rest.{Left}
+use Rattle.sh_words.specs.Sound.{StepMoves, StepWorks, IsSound}
+use Rattle.sh_words.specs.States.{focused}
+use Rattle.sh_words.proofs.LevelLemmas.{left_steps, left_moves, left_works, left_sound}
 use Rattle.sh_words.proofs.builder.WordBuilder.have_step.Goals as goal
 
-pub returns-then-not-follows-clause-keeps : goal.returns-then-not-follows-clause-keeps
-returns-then-not-follows-clause-keeps c =
+pub expression_read-requires-clause-sound : goal.expression_read-requires-clause-sound
+expression_read-requires-clause-sound c =
     let b = c.args.script.now in
-    let w = c.args.self.now in
-    fault_refuses b (Left b (focused w (focus.Have c.args.expr))) c.misplaced.result c.misplaced.ensures
-    (unfollowed_ends b w c.args.expr (ap (λ t. follows t.figure) (sym c.lexeme-token.ensures.0) ∙ sym c.follows.ensures ∙ c.if-not-follows.true))
+    subst (λ (v : WordBuilder). IsSound b (focused v (focus.Have c.args.expr))) (sym c.leave_levels.ensures) (left_sound b c.args.self.now c.args.expr c.lexeme-token.result.figure c.requires.sound)
 
-pub returns-in_default-clause-keeps : goal.returns-in_default-clause-keeps
-returns-in_default-clause-keeps c =
-    (c.requires.inside, no_operand_around c.args.script.now c.args.self.now c.args.expr (subst (λ h. IsOperand h → ⊥) (sym c.in_default.is) (λ x. x)))
-
-pub returns-in-None-clause-keeps : goal.returns-in-None-clause-keeps
-returns-in-None-clause-keeps c =
+pub returns-clause-keeps : goal.returns-clause-keeps
+returns-clause-keeps c =
     let b = c.args.script.now in
-    let w = c.args.self.now in
-    fault_refuses b (Left b (focused w (focus.Have c.args.expr))) c.bad.result
-    (rw c.bad.ensures (bad_is_fault b w.at c.lexeme-token.result w.holder c.lexeme-token.ensures c.requires.sound.3)) (nothing_around b w c.args.expr c.in-None.ensures.0)
+    left_steps b c.args.self.now c.args.expr c.lexeme-token.result.figure c.expression_read.new.self c.expression_read.result (ap (λ (t : Lexeme). t.figure) c.lexeme-token.ensures.0)
+    (subst (λ (v : WordBuilder). Steps b (Left b (focused v (focus.Have c.args.expr))) c.expression_read.new.self c.expression_read.result) c.leave_levels.ensures c.expression_read.ensures.keeps)
 
-pub returns-in-Some-Opened-clause-keeps : goal.returns-in-Some-Opened-clause-keeps
-returns-in-Some-Opened-clause-keeps c =
-    let m = c.in-Some-Opened in
-    let o = c.in-Operand in
-    let operand : IsOperand c.args.self.now.holder = subst IsOperand (sym o.is) tt in
-    expansion_read c.args.script.now c.args.self.now c.pop.new.self m.holder m.depth m.start m.field-0-3 m.opening c.args.expr c.lexeme-token.result
-    c.close_arithmetic.new.self c.close_arithmetic.result (m.ensures ∙ ap (λ f. f ∷ c.pop.new.self) m.field-0-is) operand c.lexeme-token.ensures c.close_arithmetic.ensures
+pub returns-clause-moves : goal.returns-clause-moves
+returns-clause-moves c =
+    let b = c.args.script.now in
+    left_moves b c.args.self.now c.lexeme-token.result.figure c.expression_read.new.self c.expression_read.result
+    (subst (λ (v : WordBuilder). StepMoves b v c.expression_read.new.self c.expression_read.result) c.leave_levels.ensures c.expression_read.ensures.moves)
 
-pub returns-in-Some-Opened-clause-moves : goal.returns-in-Some-Opened-clause-moves
-returns-in-Some-Opened-clause-moves c =
-    let m = c.in-Some-Opened in
-    expansion_moves c.args.script.now c.args.self.now c.pop.new.self m.holder m.depth m.start m.opening c.args.expr c.lexeme-token.result
-    c.close_arithmetic.new.self c.close_arithmetic.result c.lexeme-token.ensures c.close_arithmetic.ensures
+pub returns-clause-works : goal.returns-clause-works
+returns-clause-works c =
+    let b = c.args.script.now in
+    left_works b c.args.self.now c.args.expr c.lexeme-token.result.figure c.expression_read.new.self c.expression_read.result
+    (subst (λ (v : WordBuilder). StepWorks b (focused v (focus.Have c.args.expr)) c.expression_read.new.self c.expression_read.result) c.leave_levels.ensures c.expression_read.ensures.works)
