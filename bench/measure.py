@@ -11,6 +11,9 @@ program is built.
 
 The kind `kernels` is another: what rows of 4,096 bits do to each other, by `sh_rows` and by plain loops in C at -O3, in seconds for as
 many rounds, and how many times as long the former take. It wants the program of crates/rows_timer built, and `cc`.
+
+So is the kind `certificates`: a certificate of so many commands and so many declared names, each command with another set of them, is made;
+then made and read; then written again too. It wants the program of crates/certificate_timer built.
 """
 import os
 import shutil
@@ -27,6 +30,7 @@ RUNS = 3
 HERE = os.path.dirname(os.path.abspath(__file__))
 PROGRAM = os.path.join(HERE, "..", "crates", "shset", "out", "shset")
 TIMER = os.path.join(HERE, "..", "crates", "rows_timer", "out", "rows_timer")
+CERTIFICATE_TIMER = os.path.join(HERE, "..", "crates", "certificate_timer", "out", "certificate_timer")
 ROUNDS = "10000000"
 
 
@@ -212,7 +216,26 @@ def measure_kernels(folder):
         print(f"{kernel:<14} {ROUNDS:>9}  {own:>9.3f} {other:>9.3f}  {own / other:>5.2f}")
 
 
+# Commands and declared names: few names, and 4,000, of which the last is past the limit.
+CERTIFICATES = ((6_553, 3), (65_535, 3), (119, 4_000), (1_190, 4_000), (1_200, 4_000))
+
+
+def measure_certificates():
+    if not os.access(CERTIFICATE_TIMER, os.X_OK):
+        sys.exit("build crates/certificate_timer first, by `rt run` there")
+    print(f"{'commands':>9} {'names':>6}  {'work':<6} {'seconds':>9} {'MB':>8}  answer")
+    for commands, names in CERTIFICATES:
+        for work in ("make", "read", "write"):
+            words = [CERTIFICATE_TIMER, work, str(commands), str(names)]
+            answer = subprocess.run(words, stdout=subprocess.PIPE, text=True, check=True).stdout.rstrip()
+            seconds, kilobytes = best(words)
+            print(f"{commands:>9} {names:>6}  {work:<6} {seconds:>9.3f} {kilobytes / 1024:>8.1f}  {answer}")
+
+
 def main():
+    if sys.argv[1:] == ["certificates"]:
+        measure_certificates()
+        return
     if sys.argv[1:] == ["kernels"]:
         with tempfile.TemporaryDirectory() as folder:
             measure_kernels(folder)
@@ -223,7 +246,7 @@ def main():
         sys.exit("install GNU time first: Debian's package time")
     kinds = sys.argv[1:] or list(KINDS)
     if not set(kinds) <= set(KINDS):
-        sys.exit("kinds: " + ", ".join(KINDS) + "; or kernels alone")
+        sys.exit("kinds: " + ", ".join(KINDS) + "; or kernels or certificates alone")
     print(f"{'kind':<14} {'bytes':>9}  {'tool':<11} {'seconds':>9} {'MB':>8}  {'time ratio':>10} {'memory ratio':>12}  {'time growth':>11} {'memory growth':>13}")
     with tempfile.TemporaryDirectory() as folder:
         for kind in kinds:
