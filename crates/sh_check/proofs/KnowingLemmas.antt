@@ -18,7 +18,7 @@ use Rattle.sh_check.specs.Knowing.{Knowing, among, gained}
 known_same : (v w f : Text → Bool) (a b : ℕ) → ((x : Text) → v x ≡ w x) → a ≡ b → Known v f a ≡ Known w f b
 known_same v w f a b p e = let vars = fun_ext p in cc
 
-knowing_same : (ns : List Text) (f g : Facts) → f ≡ g → (let k : Knowing = record { names = ns; facts = f } in k) ≡ record { names = ns; facts = g }
+pub knowing_same : (ns : List Text) (f g : Facts) → f ≡ g → (let k : Knowing = record { names = ns; facts = f } in k) ≡ record { names = ns; facts = g }
 knowing_same ns f g e = ap (λ (x : Facts). let k : Knowing = record { names = ns; facts = x } in k) e
 
 turned : (a b c : Bool) → ((a || b) || c) ≡ (b || (a || c))

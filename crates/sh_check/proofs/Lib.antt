@@ -5,3 +5,7 @@ pub mod NeedLemmas
 pub mod JudgeLemmas
 pub mod TellLemmas
 pub mod OwnLemmas
+pub mod EnteredLemmas
+pub mod OwnTellLemmas
+pub mod MoveLemmas
+pub mod WholeLemmas

@@ -21,7 +21,7 @@ use Rattle.sh_check.proofs.KnowingLemmas.{gained_none, gained_both}
 
 -- Names that pass
 
-both_pass : (q : Text → Bool) (xs ys : List Text) → list_all q xs ≡ true → list_all q ys ≡ true → list_all q (xs ++ ys) ≡ true
+pub both_pass : (q : Text → Bool) (xs ys : List Text) → list_all q xs ≡ true → list_all q ys ≡ true → list_all q (xs ++ ys) ≡ true
 both_pass q xs ys h k = list_all-append q xs ys ∙ ap₂ (λ a b. a && b) h k
 
 all_kept : (q : Text → Bool) (xs : List Text) → list_all q xs ≡ true → filter q xs ≡ xs
@@ -109,7 +109,7 @@ facts_whole g k h = ap (λ (x : Knowing). x.facts) (gained_whole g k h)
 -- What is judged
 
 -- nothing is gained and nothing told
-still : (k : Knowing) (ps : List Place) → judged k ps ≡ judged (gained no_gains k) (ps ++ [])
+pub still : (k : Knowing) (ps : List Place) → judged k ps ≡ judged (gained no_gains k) (ps ++ [])
 still k ps = ap₂ judged (sym (gained_none k)) (sym (append-nil ps))
 
 -- this is told and nothing gained
@@ -117,7 +117,7 @@ noted_here : (k : Knowing) (ps qs : List Place) → judged k (ps ++ qs) ≡ judg
 noted_here k ps qs = ap (λ x. judged x (ps ++ qs)) (sym (gained_none k))
 
 -- one piece behind another
-in_turn : (g h : Gains) (k : Knowing) (ps : List Place) (one : List Place) (two : Facts → List Place) → list_all (is_one_of k.names) g.names ≡ true
+pub in_turn : (g h : Gains) (k : Knowing) (ps : List Place) (one : List Place) (two : Facts → List Place) → list_all (is_one_of k.names) g.names ≡ true
     → judged (gained h (gained g k)) ((ps ++ one) ++ two (gained g k).facts)
     ≡ judged (gained (and_gains g h) k) (ps ++ (one ++ two (with_gains g k.facts)))
 in_turn g h k ps one two pass =

@@ -5,3 +5,7 @@ pub mod Within
 pub mod Tellings
 pub mod Own
 pub mod OwnWalks
+pub mod Places
+pub mod Told
+pub mod Moves
+pub mod Whole

@@ -34,3 +34,39 @@ unfoldable mutual
   pub operands_within : (Text → Bool) → p.Operands → Bool
   operands_within q p.no_operands = true
   operands_within q (p.more_operands operator e rest) = expression_within q e && operands_within q rest
+
+unfoldable pub words_within : (Text → Bool) → p.Words → Bool
+words_within q p.no_words = true
+words_within q (p.more_words w ws) = word_within q w && words_within q ws
+
+unfoldable pub redirect_within : (Text → Bool) → p.Redirect → Bool
+redirect_within q (p.File w) = word_within q w
+redirect_within q (p.Here w) = word_within q w
+
+unfoldable pub redirects_within : (Text → Bool) → p.Redirects → Bool
+redirects_within q p.no_redirects = true
+redirects_within q (p.more_redirects r rs) = redirect_within q r && redirects_within q rs
+
+unfoldable pub elements_within : (Text → Bool) → p.Elements → Bool
+elements_within q p.no_elements = true
+elements_within q (p.assignment name value es) = word_within q value && elements_within q es
+elements_within q (p.operand w es) = word_within q w && elements_within q es
+elements_within q (p.redirection r es) = redirect_within q r && elements_within q es
+
+unfoldable pub clauses_within : (Text → Bool) → p.Clauses → Bool
+clauses_within q p.no_clauses = true
+clauses_within q (p.more_clauses patterns body end rest) = words_within q patterns && clauses_within q rest
+
+unfoldable pub for_words_within : (Text → Bool) → p.ForWords → Bool
+for_words_within q p.every_parameter = true
+for_words_within q (p.listed ws) = words_within q ws
+
+-- of a command's own words
+unfoldable pub kind_within : (Text → Bool) → p.Kind → Bool
+kind_within q (p.Simple es) = elements_within q es
+kind_within q (p.For name ws body) = for_words_within q ws
+kind_within q (p.Case w cs) = word_within q w && clauses_within q cs
+kind_within q _ = true
+
+unfoldable pub command_within : (Text → Bool) → p.Command → Bool
+command_within q (p.command n at kind rs) = redirects_within q rs && kind_within q kind

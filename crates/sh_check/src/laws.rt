@@ -1,8 +1,23 @@
 //! What holds of the walks that `specs/` defines.
-ghost use Rattle.sh_check.specs.Tellings.{WordsTell};
+ghost use Rattle.sh_check.specs.Moves.{MovesTell};
+ghost use Rattle.sh_check.specs.Tellings.{EachIsTold, OwnTells, WordsTell};
+ghost use Rattle.sh_check.specs.Whole.{ParametersAreTold};
 
 /// What is judged of a word is what the demands say of it, and what is gained is what they say is gained, where each name that may be
-/// set is one of those that are known.
+/// set is one of those that are known. So it is of a command's own words and redirections.
 pub fn words()
-    ensures { WordsTell }
+    ensures words { WordsTell }
+    ensures commands { OwnTells }
+{}
+
+/// The walk over a program tells of each command that the flow rules enter, in their order; so the parameters of a script that it tells
+/// are those that the demands name, where each name that a command may set is numbered.
+pub fn demands()
+    ensures order { EachIsTold }
+    ensures parameters { ParametersAreTold }
+{}
+
+/// A command that changes the positional parameters is told by the static texts of its words.
+pub fn moves()
+    ensures { MovesTell }
 {}

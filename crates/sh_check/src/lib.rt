@@ -4,5 +4,6 @@
 pub mod gains;
 pub mod known;
 pub mod laws;
+pub mod moves;
 pub mod needs;
 pub mod own;

@@ -1,5 +1,9 @@
+use Rattle.sh_check.proofs.OwnTellLemmas.{own_tells}
 use Rattle.sh_check.proofs.TellLemmas.{words_tell}
 use Rattle.sh_check.proofs.laws.words.Goals as goal
 
-pub returns : goal.returns
-returns c = words_tell
+pub returns-clause-words : goal.returns-clause-words
+returns-clause-words c = words_tell
+
+pub returns-clause-commands : goal.returns-clause-commands
+returns-clause-commands c = own_tells

@@ -1,0 +1,66 @@
+-- A command that changes the positional parameters, by the static texts of its words.
+use Rattle.std.proofs.Common.{◌≡◌, Bool, true, false, not, ◌&&◌, if◌then◌else◌, List, [], ◌∷◌, map, Option, Some, None, is_some, refl, sym, ◌∙◌, ap, true≢false}
+use Rattle.sh_tree.specs.declared.known.KnownName.TheVariants as known
+use Rattle.sh_tree.specs.program.Syntax as p
+use Rattle.sh_tree.specs.program.Syntax.{Text, Word}
+use Rattle.sh_tree.specs.program.Words.{static_of}
+use Rattle.sh_table.specs.declared.kind.Kind.{Kind}
+use Rattle.sh_table.specs.declared.kind.Kind.TheVariants as kind
+use Rattle.sh_table.specs.Kinds.{kind_of}
+use Rattle.sh_table.specs.runs.Environment.{is_one_of}
+use Rattle.sh_table.specs.runs.Operands.{ends_options, is_set_option, ends_in_o}
+use Rattle.sh_facts.specs.Demands.{kind_moves, moves, command_moves}
+use Rattle.sh_facts.specs.Operands.{words_from}
+use Rattle.sh_facts.specs.Table.{Utility, Call, operands, is_special, manner_of_name, manner_of_words}
+use Rattle.sh_check.specs.Moves.{MovesTell, positional_by, kind_moves_by, moves_by}
+
+choice : {A : Type 0} (a b r : Bool) (x y : A) (o : Option A) → r ≡ is_some o → (if a then true else (if b then r else true)) ≡ is_some (if a then Some x else (if b then o else Some y))
+choice true b r x y o h = refl
+choice false true r x y o h = h
+choice false false r x y o h = refl
+
+positional : (takes : Bool) (ws : List Word) → positional_by takes (map static_of ws) ≡ is_some (words_from takes ws)
+unfolding positional_by words_from
+positional true [] = refl
+positional false [] = refl
+positional true (w ∷ ws) = positional false ws
+positional false (w ∷ ws) = go (λ takes. positional takes ws) (static_of w) refl
+  where
+    go : ((takes : Bool) → positional_by takes (map static_of ws) ≡ is_some (words_from takes ws)) → (x : Option Text) → static_of w ≡ x
+        → positional_by false (map static_of (w ∷ ws)) ≡ is_some (words_from false (w ∷ ws))
+    go h None e = rw e refl
+    go h (Some t) e = rw e (choice (ends_options t) (is_set_option t) (positional_by (ends_in_o t) (map static_of ws)) ws (w ∷ ws) (words_from (ends_in_o t) ws) (h (ends_in_o t)))
+
+kind_same : (k : Kind) (ws : List Word) → kind_moves_by k (map static_of ws) ≡ kind_moves k ws
+unfolding kind_moves_by kind_moves
+kind_same (kind.Special known.Shift) ws = refl
+kind_same (kind.Special known.Set) ws = positional false ws
+kind_same _ ws = refl
+
+not_special : (k : Kind) (ws : List Word) → is_special k ≡ false → kind_moves_by k (map static_of ws) ≡ false
+unfolding kind_moves_by is_special
+not_special (kind.Special name) ws h = absurd (true≢false h)
+not_special _ ws h = refl
+
+unless_special : (a s : Bool) → (a && not s) ≡ true → s ≡ false
+unless_special true false h = refl
+unless_special true true h = absurd (true≢false (sym h))
+unless_special false s h = absurd (true≢false (sym h))
+
+of_words : (functions : List Text) (ws : List Word) → moves_by (map static_of ws) ≡ moves (manner_of_words functions ws)
+unfolding moves_by moves manner_of_words manner_of_name kind_moves
+of_words functions [] = refl
+of_words functions (w ∷ ws) = go (static_of w) refl
+  where
+    called : (t : Text) (x : Bool) → (is_one_of functions t && not (is_special (kind_of t))) ≡ x
+        → kind_moves_by (kind_of t) (map static_of ws) ≡ moves (if x then Call t ws else Utility (kind_of t) ws)
+    called t true e = not_special (kind_of t) ws (unless_special (is_one_of functions t) (is_special (kind_of t)) e)
+    called t false e = kind_same (kind_of t) ws
+
+    go : (x : Option Text) → static_of w ≡ x → moves_by (map static_of (w ∷ ws)) ≡ moves (manner_of_words functions (w ∷ ws))
+    go None e = rw e refl
+    go (Some t) e = rw e (called t (is_one_of functions t && not (is_special (kind_of t))) refl)
+
+pub moves_tell : MovesTell
+unfolding command_moves
+moves_tell = record { moves = λ functions es. of_words functions (operands es) }
