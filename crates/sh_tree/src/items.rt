@@ -37,6 +37,13 @@ impl<T> Items<T> {
         self.items.as_slice()
     }
 
+    /// The items as a vector.
+    pub fn into_vec(self) -> Vec<T>
+        ensures { result.items ≡ self }
+    {
+        self.items
+    }
+
     /// How many items there are.
     pub fn len(&self) -> usize
         ensures { result ≡ length self.now }

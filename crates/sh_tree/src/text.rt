@@ -13,18 +13,32 @@ use std::alloc::{AllocError, Global};
 /// # Errors
 ///
 /// `AllocError` where a growth was refused.
-#[tactic(auto, using(crate::proofs::TextLemmas::both_texts_none), unfolding(crate::specs::Words::static_text))]
+#[tactic(auto, unfolding(crate::specs::Words::static_text))]
 pub fn static_text(alloc: Global, word: &Word, script: &[u8]) -> Result<Option<Vec<u8>>, AllocError>
     ensures { IfOk result (λ found. option_map (λ v. v.items) found ≡ words.static_text script.now word.now.parts) }
 {
-    let parts = word.parts.as_slice();
+    if is_pattern(word.parts.as_slice(), script) {
+        return Ok(None);
+    }
+    unquoted_text(alloc, word, script)
+}
+
+/// The text of a word without its quoting (XCU 2.2), or nothing where the word holds an expansion or a tilde-prefix.
+///
+/// # Errors
+///
+/// `AllocError` where a growth was refused.
+#[tactic(auto, using(crate::proofs::TextLemmas::both_texts_none))]
+pub fn unquoted_text(
+    alloc: Global,
+    word: &Word,
+    script: &[u8],
+) -> Result<Option<Vec<u8>>, AllocError>
+    ensures { IfOk result (λ found. option_map (λ v. v.items) found ≡ words.parts_text script.now word.now.parts) }
+{
     let mut text = Vec::new(alloc);
-    let is_static = push_parts(parts, script, &mut text)?;
-    Ok(if is_static && !is_pattern(parts, script) {
-        Some(text)
-    } else {
-        None
-    })
+    let is_static = push_parts(word.parts.as_slice(), script, &mut text)?;
+    Ok(if is_static { Some(text) } else { None })
 }
 
 /// Adds the text of the parts, as far as they are static, and tells whether they all are.
