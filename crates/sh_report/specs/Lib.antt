@@ -2,3 +2,4 @@ pub mod Ends
 pub mod Moves
 pub mod Verdicts
 pub mod Texts
+pub mod Findings

@@ -1,0 +1,42 @@
+-- A script of which a certificate is accepted is safe.
+use Rattle.std.proofs.Common.{◌≡◌, ℕ, Bool, true, false, not, Option, None, List, Ok, Some, is_some, refl, ap, ◌∙◌}
+use Rattle.std.specs.List.{list_all}
+use Rattle.sh_tree.specs.declared.limits.TheConstants.{MAX_NESTING}
+use Rattle.sh_tree.specs.declared.tree.Script.{Script}
+use Rattle.sh_tree.specs.language.Bytes.{is_name}
+use Rattle.sh_tree.specs.language.Reading.{Reads, ReadsWithin}
+use Rattle.sh_tree.specs.program.Syntax.{Text, Items}
+use Rattle.sh_tree.specs.program.Trees.{script_of}
+use Rattle.sh_table.specs.Admitted.{is_admitted}
+use Rattle.sh_table.specs.Profile.{first_refused}
+use Rattle.sh_table.proofs.AdmittedLemmas.{admitted_as_listed}
+use Rattle.sh_facts.specs.Facts.{Declared}
+use Rattle.sh_facts.specs.Sheets.{Sheet}
+use Rattle.sh_sound.proofs.ScriptLemmas.{scripts_have_no_events}
+use Rattle.sh_accept.specs.Accepted.{IsAccepted, claims_in}
+use Rattle.sh_accept.specs.Theorem.{IsSafe, Headline}
+
+-- what is read within the limits is read
+reads_within : (b : List ℕ) (t : Script) → ReadsWithin b t → Reads b t
+reads_within b t h = (MAX_NESTING, h.0, h.1)
+
+-- where no command is refused the program is admitted
+admitted : (t : Items) → first_refused t ≡ None → is_admitted t ≡ true
+admitted t h = admitted_as_listed t ∙ ap (λ o. not (is_some o)) h
+
+pub safe : (b : List ℕ) (d : Declared) (c : Sheet) → list_all is_name d.names ≡ true → IsAccepted b d c → IsSafe b d
+safe b d c names a =
+    let read : Reads b a.tree = reads_within b a.tree a.admitted.reading.1 in
+    record {
+      tree = a.tree;
+      reads = read;
+      only = a.admitted.reading.2;
+      runs = scripts_have_no_events d (claims_in b a.tree c) b a.tree names read (admitted (script_of b a.tree) a.admitted.profile) a.rules a.met a.quoted;
+    }
+
+pub headline : Headline
+headline = record {
+  accepted = safe;
+  checked = λ b d text names h. safe b d h.certificate names h.accepted;
+  linted = λ b d names h. safe b d h.0 names h.1;
+}

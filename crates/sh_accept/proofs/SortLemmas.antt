@@ -1,0 +1,116 @@
+-- Of rows with the same elements only one is in order, where the order tells all elements apart.
+use Rattle.std.proofs.Common.{◌≡◌, ℕ, zero, suc, ◌≤◌, ◌<◌, ◌+◌, Bool, true, false, cond, List, [], ◌∷◌, length, map, get_or, refl, sym, ◌∙◌, ap, subst, arith}
+use Rattle.std.specs.List.{sum_by}
+use Rattle.std.specs.List.Sorted.{IsPermutation, IsSortedByKey}
+use Rattle.std.specs.Cmp.{IsTotalOrder}
+use Rattle.std.proofs.lemmas.List.Sorted.{ranks_by, sorted_far, sum_by-IsPermutation}
+use Rattle.std.specs.Ordering.{is_lt, is_eq, ordering_reverse}
+use Rattle.std.specs.declared.cmp.Ordering.{Ordering}
+use Rattle.std.specs.declared.cmp.Ordering.TheVariants.{Less, Equal, Greater}
+use Rattle.std.proofs.lemmas.Bool.{true≢false}
+use Rattle.std.proofs.lemmas.List.Sums.{sum_by-cons}
+use Rattle.std.proofs.lemmas.Map.Lookups.{CmpEqualImpliesEq}
+
+module _ {K : Type 0} (cmp : K → K → Ordering) (order : IsTotalOrder cmp) (exact : CmpEqualImpliesEq cmp) where
+  -- an element is no greater than each of a row
+  unfoldable pub Least : K → List K → Type 0
+  Least x [] = Unit {0}
+  Least x (y ∷ ys) = (is_lt (cmp y x) ≡ false) × Least x ys
+
+  -- each is no greater than those behind it
+  unfoldable pub Rises : List K → Type 0
+  Rises [] = Unit {0}
+  Rises (x ∷ xs) = Least x xs × Rises xs
+
+  -- how often an element stands in a row
+  abbrev pub times : K → List K → ℕ
+  times x xs = sum_by (λ y. cond (is_eq (cmp x y)) 1 0) xs
+
+  not_less : (x : K) → is_lt (cmp x x) ≡ false
+  not_less x = go (cmp x x) (order.antisymm x x)
+    where
+      go : (o : Ordering) → o ≡ ordering_reverse o → is_lt o ≡ false
+      go Less e = absurd (true≢false (ap is_lt e))
+      go Equal e = refl
+      go Greater e = refl
+
+  same_itself : (x : K) → is_eq (cmp x x) ≡ true
+  same_itself x = go (cmp x x) (order.antisymm x x)
+    where
+      go : (o : Ordering) → o ≡ ordering_reverse o → is_eq o ≡ true
+      go Less e = absurd (true≢false (ap is_lt e))
+      go Equal e = refl
+      go Greater e = absurd (true≢false (ap is_lt (sym e)))
+
+  -- a lesser element is none of them
+  absent : (x y : K) (zs : List K) → cmp x y ≡ Less → Least y zs → times x zs ≡ 0
+  unfolding Least
+  absent x y [] e h = refl
+  absent x y (z ∷ zs) e h = sum_by-cons (λ w. cond (is_eq (cmp x w)) 1 0) z zs ∙ go (cmp x z) refl (absent x y zs e h.1)
+    where
+      none : (n : ℕ) → n ≡ 0 → 0 + n ≡ 0
+      none n e = omega arith
+
+      go : (o : Ordering) → cmp x z ≡ o → times x zs ≡ 0 → cond (is_eq (cmp x z)) 1 0 + times x zs ≡ 0
+      go Less k rest = ap (λ o. cond (is_eq o) 1 0 + times x zs) k ∙ none (times x zs) rest
+      go Equal k rest = absurd (true≢false (sym (ap is_lt (sym (order.congr x z y k) ∙ e)) ∙ h.0))
+      go Greater k rest = ap (λ o. cond (is_eq o) 1 0 + times x zs) k ∙ none (times x zs) rest
+
+  present : (x : K) (xs : List K) → times x (x ∷ xs) ≡ 1 + times x xs
+  present x xs = sum_by-cons (λ w. cond (is_eq (cmp x w)) 1 0) x xs ∙ ap (λ b. cond b 1 0 + times x xs) (same_itself x)
+
+  pub one_order : (xs ys : List K) → Rises xs → Rises ys → ((x : K) → times x xs ≡ times x ys) → xs ≡ ys
+  unfolding Rises Least
+  one_order [] [] r s h = refl
+  one_order [] (y ∷ ys) r s h = let e = h y in let p = present y ys in let none : times y [] ≡ 0 = refl in absurd (none_one (times y ys) (sym none ∙ e ∙ p))
+    where
+      none_one : (n : ℕ) → 0 ≡ 1 + n → ⊥
+      none_one n e = omega arith
+  one_order (x ∷ xs) [] r s h = let e = h x in let p = present x xs in let none : times x [] ≡ 0 = refl in absurd (none_one (times x xs) (sym none ∙ sym e ∙ p))
+    where
+      none_one : (n : ℕ) → 0 ≡ 1 + n → ⊥
+      none_one n e = omega arith
+  one_order (x ∷ xs) (y ∷ ys) r s h = go (cmp x y) refl (λ e. one_order xs ys r.1 s.1 (rest e))
+    where
+      none_one : (n : ℕ) → 0 ≡ 1 + n → ⊥
+      none_one n e = omega arith
+
+      less : cmp x y ≡ Less → ⊥
+      less e = none_one (times x xs) (sym (h x ∙ absent x y (y ∷ ys) e (not_less y, s.0)) ∙ present x xs)
+
+      more : cmp y x ≡ Less → ⊥
+      more e = none_one (times y ys) (sym (sym (h y) ∙ absent y x (x ∷ xs) e (not_less x, r.0)) ∙ present y ys)
+
+      rest : x ≡ y → (z : K) → times z xs ≡ times z ys
+      rest e z = fewer (cond (is_eq (cmp z x)) 1 0) (times z xs) (times z ys)
+          (sym (sum_by-cons (λ w. cond (is_eq (cmp z w)) 1 0) x xs) ∙ h z ∙ sum_by-cons (λ w. cond (is_eq (cmp z w)) 1 0) y ys ∙ ap (λ w. cond (is_eq (cmp z w)) 1 0 + times z ys) (sym e))
+        where
+          fewer : (n a b : ℕ) → n + a ≡ n + b → a ≡ b
+          fewer n a b e = omega arith
+
+      go : (o : Ordering) → cmp x y ≡ o → (x ≡ y → xs ≡ ys) → x ∷ xs ≡ y ∷ ys
+      go Less e others = absurd (less e)
+      go Equal e others = let first : x ≡ y = exact x y e in ap (λ z. z ∷ xs) first ∙ ap (λ zs. y ∷ zs) (others first)
+      go Greater e others = absurd (more (order.antisymm y x ∙ ap ordering_reverse e))
+
+  -- Rows by their keys
+
+  module _ {F : Type 0} (key : F → K) where
+    least_by : (d f : F) (fs : List F) → ((j : ℕ) → j < length fs → is_lt (cmp (key (get_or fs j d)) (key f)) ≡ false) → Least (key f) (map key fs)
+    unfolding Least
+    least_by d f [] h = tt
+    least_by d f (g ∷ fs) h = (h 0 (omega arith), least_by d f fs (λ j l. h (suc j) (omega arith)))
+
+    rises_by : (fs : List F) → ((i j : ℕ) (d : F) → i ≤ j → j < length fs → is_lt (cmp (key (get_or fs j d)) (key (get_or fs i d))) ≡ false) → Rises (map key fs)
+    unfolding Rises
+    rises_by [] h = tt
+    rises_by (f ∷ fs) h = (least_by f f fs (λ j l. h 0 (suc j) f (omega arith) (omega arith)), rises_by fs (λ i j d a l. h (suc i) (suc j) d (omega arith) (omega arith)))
+
+    pub rises_sorted : (fs : List F) → IsSortedByKey key cmp fs → Rises (map key fs)
+    rises_sorted fs h = rises_by fs (sorted_far (λ x y. is_lt (cmp (key x) (key y))) (ranks_by order key) fs h)
+
+    -- rows in order, of the same keys
+    pub same_sorted : (ks : List K) (fs gs : List F) → IsPermutation ks (map key fs) → IsPermutation ks (map key gs) → IsSortedByKey key cmp fs → IsSortedByKey key cmp gs → map key fs ≡ map key gs
+    same_sorted ks fs gs p q r s =
+        one_order (map key fs) (map key gs) (rises_sorted fs r) (rises_sorted gs s)
+        (λ x. sum_by-IsPermutation (λ w. cond (is_eq (cmp x w)) 1 0) ks (map key fs) p ∙ sym (sum_by-IsPermutation (λ w. cond (is_eq (cmp x w)) 1 0) ks (map key gs) q))

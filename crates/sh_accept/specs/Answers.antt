@@ -1,0 +1,128 @@
+-- What may be answered of a script: of a certificate of it, of all its certificates, and which certificate is shown.
+-- shset's own; the standard has none.
+use Rattle.std.specs.Prelude.{◌≡◌, ◌≤◌, ◌<◌, ◌⊎◌, ℕ, List, ◌++◌, length, None, Some, Result, Ok, Err, Vec}
+use Rattle.std.specs.declared.alloc.Global.{Global}
+use Rattle.sh_tree.specs.Answers.{IsText, Parses}
+use Rattle.sh_tree.specs.declared.place.Place.{Place}
+use Rattle.sh_tree.specs.declared.refusal.Refusal.{Refusal}
+use Rattle.sh_tree.specs.declared.refusal.Refusal.TheVariants.{TooLong, NulByte, Syntax, LeftOut, TooDeep, TooMany, Memory, Profile, CertSyntax, CertShape}
+use Rattle.sh_tree.specs.declared.tree.Script.{Script}
+use Rattle.sh_tree.specs.program.Syntax.{Text}
+use Rattle.sh_tree.specs.program.Trees.{script_of}
+use Rattle.sh_table.specs.Admits.{Admits}
+use Rattle.sh_table.specs.Profile.{first_refused}
+use Rattle.sh_facts.specs.Demands.{demands}
+use Rattle.sh_facts.specs.Facts.{Declared}
+use Rattle.sh_facts.specs.Faults.{faults, least}
+use Rattle.sh_facts.specs.Forms.{read_text}
+use Rattle.sh_facts.specs.Names.{Numbers}
+use Rattle.sh_facts.specs.Order.{IsBelow}
+use Rattle.sh_facts.specs.Reading.{Reads}
+use Rattle.sh_facts.specs.Sheets.{Sheet, certificate_text}
+use Rattle.sh_facts.specs.Spelling.{IsSheet}
+use Rattle.sh_facts.specs.declared.limits.TheConstants.{MAX_CERTIFICATE}
+use Rattle.sh_facts.specs.declared.rule.FlowRule.{FlowRule}
+use Rattle.sh_quote.specs.Places.{unquoted}
+use Rattle.sh_report.specs.Findings.{AreFindings}
+use Rattle.sh_report.specs.declared.verdict.Finding.{Finding}
+use Rattle.sh_report.specs.declared.verdict.Verdict.{Verdict}
+use Rattle.sh_report.specs.declared.verdict.Verdict.TheVariants.{Pass, Fail, Forged}
+use Rattle.sh_accept.specs.Accepted.{IsAdmitted, Fits, KeepsRules, claims_in, functions_in, IsAccepted, IsAcceptedText}
+
+-- Refusals, in the order script, profile, names, certificate: of the latter P says which come
+
+abbrev pub Refuses : List ℕ → Declared → (Refusal → Type 0) → Refusal → Type 0
+Refuses b d P TooLong = Parses b (Err TooLong)
+Refuses b d P (NulByte at) = Parses b (Err (NulByte at))
+Refuses b d P (Syntax f at) = Parses b (Err (Syntax f at))
+Refuses b d P (LeftOut f at) = Parses b (Err (LeftOut f at))
+Refuses b d P (TooDeep at) = Parses b (Err (TooDeep at))
+Refuses b d P TooMany = Parses b (Err TooMany) ⊎ ((t : Script) × Parses b (Ok t) × (first_refused (script_of b t) ≡ None) × Numbers b t d (Err TooMany))
+Refuses b d P Memory = IsText b
+Refuses b d P (Profile r at) = (t : Script) × Parses b (Ok t) × Admits (script_of b t) (Err (Profile r at))
+Refuses b d P (CertSyntax n) = P (CertSyntax n)
+Refuses b d P CertShape = P CertShape
+
+-- Of one certificate
+
+-- the places of the demands that it leaves unmet, and those that the rules of quoting tell
+abbrev pub places : List ℕ → Declared → Script → Sheet → List Place
+places b d t c = demands d (claims_in b t c) (script_of b t) ++ unquoted (script_of b t)
+
+-- the text claims what fits a script that is admitted
+pub record IsCertified (b : List ℕ) (d : Declared) (text : Text) (t : Script) (c : Sheet) : Type 0 where
+  pub names : List Text
+  pub admitted : IsAdmitted b d t names
+  pub claims : read_text text ≡ Ok c
+  pub fit : Fits b t names c
+
+-- it breaks a flow rule, the least of them at this command
+pub record IsForged (b : List ℕ) (d : Declared) (text : Text) (number : ℕ) (rule : FlowRule) : Type 0 where
+  pub tree : Script
+  pub certificate : Sheet
+  pub certified : IsCertified b d text tree certificate
+  pub told : least (faults d (claims_in b tree certificate) (script_of b tree)) ≡ Some (record { number = number; rule = rule })
+
+-- it breaks none, and these are the findings
+pub record HasFindings (b : List ℕ) (d : Declared) (text : Text) (fs : List Finding) : Type 0 where
+  pub tree : Script
+  pub certificate : Sheet
+  pub certified : IsCertified b d text tree certificate
+  pub rules : KeepsRules b d tree certificate
+  pub some : 0 < length fs
+  pub found : AreFindings b (places b d tree certificate) fs
+
+-- the text is no certificate, or does not fit a script that is admitted
+abbrev pub RefusesText : List ℕ → Declared → Text → Refusal → Type 0
+RefusesText b d text r = (t : Script) × (names : List Text) × IsAdmitted b d t names × Reads text t (length (functions_in b t)) names (Err r)
+
+-- what a check of a certificate's text answers: Pass exactly where it is accepted
+abbrev pub Checks : List ℕ → Declared → Text → Result Verdict Refusal → Type 0
+Checks b d text (Ok Pass) = IsAcceptedText b d text
+Checks b d text (Ok (Fail r)) = HasFindings b d text r.findings.items
+Checks b d text (Ok (Forged k f)) = IsForged b d text k f
+Checks b d text (Err r) = Refuses b d (RefusesText b d text) r
+
+-- Of all certificates of a script
+
+-- The certificate fits, breaks no rule, and claims at each place what any other such one does; no function drops more by it. Its names stand as
+-- its text has them.
+pub record IsGreatest (b : List ℕ) (d : Declared) (t : Script) (names : List Text) (c : Sheet) : Type 0 where
+  pub fit : Fits b t names c
+  pub rules : KeepsRules b d t c
+  pub above : (other : Sheet) → Fits b t names other → KeepsRules b d t other → IsBelow (claims_in b t other) (claims_in b t c)
+  pub spelled : IsSheet c
+
+-- the greatest certificate of a script that is admitted
+pub record IsBest (b : List ℕ) (d : Declared) (t : Script) (c : Sheet) : Type 0 where
+  pub names : List Text
+  pub admitted : IsAdmitted b d t names
+  pub greatest : IsGreatest b d t names c
+
+-- these are the findings of it
+pub record HasLeastFindings (b : List ℕ) (d : Declared) (fs : List Finding) : Type 0 where
+  pub tree : Script
+  pub certificate : Sheet
+  pub best : IsBest b d tree certificate
+  pub some : 0 < length fs
+  pub found : AreFindings b (places b d tree certificate) fs
+
+abbrev pub NoRefusal : Refusal → Type 0
+NoRefusal r = ⊥
+
+-- what is answered of a script without a certificate: Pass exactly where some certificate is accepted
+abbrev pub Lints : List ℕ → Declared → Result Verdict Refusal → Type 0
+Lints b d (Ok Pass) = (c : Sheet) × IsAccepted b d c
+Lints b d (Ok (Fail r)) = HasLeastFindings b d r.findings.items
+Lints b d (Ok (Forged k f)) = ⊥
+Lints b d (Err r) = Refuses b d NoRefusal r
+
+-- the greatest certificate has a longer text than is read
+abbrev pub RefusesLong : List ℕ → Declared → Refusal → Type 0
+RefusesLong b d (CertSyntax n) = (t : Script) × (c : Sheet) × IsBest b d t c × (MAX_CERTIFICATE < length (certificate_text c)) × (n ≡ 0)
+RefusesLong b d _ = ⊥
+
+-- the text of the greatest certificate, whether it passes or not
+abbrev pub Certifies : List ℕ → Declared → Result (Vec ℕ Global) Refusal → Type 0
+Certifies b d (Ok v) = (t : Script) × (c : Sheet) × IsBest b d t c × (v.items ≡ certificate_text c) × (length v.items ≤ MAX_CERTIFICATE)
+Certifies b d (Err r) = Refuses b d (RefusesLong b d) r

@@ -1,0 +1,5 @@
+pub mod Accepted
+pub mod Answers
+pub mod Parts
+pub mod Theorem
+pub mod Computed

@@ -1,0 +1,40 @@
+-- Whatever the parts of a check answer, one after the other, an answer is allowed.
+-- shset's own; the standard has none.
+use Rattle.std.specs.Prelude.{◌≡◌, ◌<◌, ℕ, List, [], length, None, Some, Ok, Err}
+use Rattle.sh_tree.specs.Answers.{Parses}
+use Rattle.sh_tree.specs.declared.refusal.Refusal.{Refusal}
+use Rattle.sh_tree.specs.declared.tree.Script.{Script}
+use Rattle.sh_tree.specs.program.Syntax.{Text}
+use Rattle.sh_tree.specs.program.Trees.{script_of}
+use Rattle.sh_table.specs.Admits.{Admits}
+use Rattle.sh_table.specs.Profile.{first_refused}
+use Rattle.sh_facts.specs.Certificates.{in_byte_order, sheet_of}
+use Rattle.sh_facts.specs.Facts.{Declared}
+use Rattle.sh_facts.specs.Faults.{Fault, faults, least}
+use Rattle.sh_facts.specs.Names.{Numbers}
+use Rattle.sh_facts.specs.Reading.{Reads}
+use Rattle.sh_facts.specs.Sheets.{Sheet}
+use Rattle.sh_facts.specs.declared.certificate.Certificate.{Certificate}
+use Rattle.sh_report.specs.Findings.{AreFindings}
+use Rattle.sh_report.specs.declared.verdict.Report.{Report}
+use Rattle.sh_report.specs.declared.verdict.Verdict.TheVariants.{Pass, Fail, Forged}
+use Rattle.sh_accept.specs.Accepted.{IsAdmitted, KeepsRules, claims_in, functions_in}
+use Rattle.sh_accept.specs.Answers.{Checks, IsCertified, places}
+
+-- The refusal of each part is that of the check; what is read of the text is a certificate's; and of that, no fault and no place pass, the least fault
+-- is told, and otherwise the findings are.
+pub record PartsAnswer (b : List ℕ) (d : Declared) (text : Text) : Type 0 where
+  pub unread : (e : Refusal) → Parses b (Err e) → Checks b d text (Err e)
+  pub refused : (t : Script) (e : Refusal) → Parses b (Ok t) → Admits (script_of b t) (Err e) → Checks b d text (Err e)
+  pub unnumbered : (t : Script) (e : Refusal) → Parses b (Ok t) → first_refused (script_of b t) ≡ None → Numbers b t d (Err e) → Checks b d text (Err e)
+  pub uncertified : (t : Script) (names : List Text) (e : Refusal) → IsAdmitted b d t names → Reads text t (length (functions_in b t)) names (Err e) → Checks b d text (Err e)
+  pub certified : (t : Script) (names : List Text) (c : Certificate) → IsAdmitted b d t names → Reads text t (length (functions_in b t)) names (Ok c)
+      → IsCertified b d text t (sheet_of (in_byte_order names) c)
+  pub passes : (t : Script) (c : Sheet) → IsCertified b d text t c → KeepsRules b d t c → places b d t c ≡ [] → Checks b d text (Ok Pass)
+  pub forged : (t : Script) (c : Sheet) (f : Fault) → IsCertified b d text t c → least (faults d (claims_in b t c) (script_of b t)) ≡ Some f
+      → Checks b d text (Ok (Forged f.number f.rule))
+  pub fails : (t : Script) (c : Sheet) (r : Report) → IsCertified b d text t c → KeepsRules b d t c → 0 < length r.findings.items
+      → AreFindings b (places b d t c) r.findings.items → Checks b d text (Ok (Fail r))
+
+abbrev pub PartsAlwaysAnswer : Type 0
+PartsAlwaysAnswer = (b : List ℕ) (d : Declared) (text : Text) → PartsAnswer b d text

@@ -1,0 +1,37 @@
+-- What an accepted certificate is good for: the script has one reading, and no run of it expands a parameter that is not set or splits a value.
+-- POSIX.1-2024, XCU 2.3 (token recognition), 2.10 (shell grammar), 2.6.2 (parameter expansion), 2.6.5 (field splitting), 2.6.6 (pathname expansion).
+use Rattle.std.specs.Prelude.{◌≡◌, ℕ, true, false, List, Some, Ok}
+use Rattle.std.specs.List.{list_all}
+use Rattle.sh_tree.specs.declared.tree.Script.{Script}
+use Rattle.sh_tree.specs.language.Bytes.{is_name}
+use Rattle.sh_tree.specs.language.Reading.{Reads}
+use Rattle.sh_tree.specs.program.Syntax.{Text}
+use Rattle.sh_tree.specs.program.Trees.{script_of}
+use Rattle.sh_table.specs.runs.Environment.{Environment, Frame}
+use Rattle.sh_table.specs.runs.Worlds.{World, Move, run, has_unset_event, has_split_event, start_world, IsStart}
+use Rattle.sh_facts.specs.Facts.{Declared}
+use Rattle.sh_facts.specs.Sheets.{Sheet}
+use Rattle.sh_report.specs.declared.verdict.Verdict.TheVariants.{Pass}
+use Rattle.sh_accept.specs.Accepted.{IsAccepted}
+use Rattle.sh_accept.specs.Answers.{Checks, Lints}
+
+-- In no run of the script, from any start that the policy allows, whatever the results, the choices and the order of the processes, has a step
+-- an event.
+abbrev pub HasNoEvent : List ℕ → Declared → Script → Type 0
+HasNoEvent b d t =
+    (e : Environment) (f : Frame) → IsStart d.names d.args e f
+    → (moves : List Move) (w : World) → run moves (start_world e f (script_of b t)) ≡ Some w
+    → (m : Move) → (has_unset_event w m ≡ false) × (has_split_event w m ≡ false)
+
+-- the text has one reading, and no run of that has an event
+pub record IsSafe (b : List ℕ) (d : Declared) : Type 0 where
+  pub tree : Script
+  pub reads : Reads b tree
+  pub only : (u : Script) → Reads b u → u ≡ tree
+  pub runs : HasNoEvent b d tree
+
+-- Where a certificate is accepted, of names that are declared as a policy declares them, the script is safe. So it is wherever a check or a lint passes.
+pub record Headline : Type 0 where
+  pub accepted : (b : List ℕ) (d : Declared) (c : Sheet) → list_all is_name d.names ≡ true → IsAccepted b d c → IsSafe b d
+  pub checked : (b : List ℕ) (d : Declared) (text : Text) → list_all is_name d.names ≡ true → Checks b d text (Ok Pass) → IsSafe b d
+  pub linted : (b : List ℕ) (d : Declared) → list_all is_name d.names ≡ true → Lints b d (Ok Pass) → IsSafe b d
