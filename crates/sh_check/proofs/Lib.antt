@@ -5,7 +5,11 @@ pub mod NeedLemmas
 pub mod JudgeLemmas
 pub mod TellLemmas
 pub mod OwnLemmas
+pub mod ToldLemmas
 pub mod EnteredLemmas
 pub mod OwnTellLemmas
 pub mod MoveLemmas
 pub mod WholeLemmas
+pub mod StandLemmas
+pub mod SightLemmas
+pub mod ReachLemmas

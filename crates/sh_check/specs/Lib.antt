@@ -7,5 +7,7 @@ pub mod Own
 pub mod OwnWalks
 pub mod Places
 pub mod Told
+pub mod ToldWalks
 pub mod Moves
 pub mod Whole
+pub mod Numbered

@@ -1,5 +1,6 @@
 //! What holds of the walks that `specs/` defines.
 ghost use Rattle.sh_check.specs.Moves.{MovesTell};
+ghost use Rattle.sh_check.specs.Numbered.{NamesReach};
 ghost use Rattle.sh_check.specs.Tellings.{EachIsTold, OwnTells, WordsTell};
 ghost use Rattle.sh_check.specs.Whole.{ParametersAreTold};
 
@@ -20,4 +21,9 @@ pub fn demands()
 /// A command that changes the positional parameters is told by the static texts of its words.
 pub fn moves()
     ensures { MovesTell }
+{}
+
+/// The names that are numbered of a script are enough for its demands: each name that a command may set in its words is one of them.
+pub fn names()
+    ensures { NamesReach }
 {}

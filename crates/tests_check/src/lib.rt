@@ -1,0 +1,5 @@
+//! Tests of the check of certificates.
+#![tactic(auto)]
+
+#[cfg(test)]
+mod parameters;
