@@ -8,3 +8,5 @@ pub mod LowerLemmas
 pub mod ProblemLemmas
 pub mod ExampleLemmas
 pub mod JoinLemmas
+pub mod WaitLemmas
+pub mod UserLemmas

@@ -5,3 +5,4 @@ pub mod Lowers
 pub mod Kept
 pub mod Examples
 pub mod Joins
+pub mod Waits

@@ -13,4 +13,6 @@ pub mod setting;
 pub mod sight;
 pub mod solution;
 pub mod steps;
+pub mod users;
+pub mod waiting;
 pub mod worklist;

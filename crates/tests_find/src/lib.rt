@@ -2,6 +2,8 @@
 #![tactic(auto)]
 
 #[cfg(test)]
+mod functions;
+#[cfg(test)]
 mod lists;
 #[cfg(test)]
 mod searches;
