@@ -44,13 +44,38 @@ fn names_of(
     Names::new(alloc, tree, script, &policy)
 }
 
+fn places_named(
+    alloc: Global,
+    row: &Row,
+    tree: &Script,
+    table: &CallTable,
+    names: &Names,
+) -> Result<Vec<Place>, Refusal>
+    requires { AreNumbered names.now }
+{
+    let certificate = read_certificate(alloc, row.certificate, tree, table, names)?;
+    let source = Source::new(names, &certificate);
+    Ok(check_parameters(alloc, tree, row.script, &source)?)
+}
+
+fn places_numbered(
+    alloc: Global,
+    row: &Row,
+    tree: &Script,
+    table: &CallTable,
+) -> Result<Vec<Place>, Refusal> {
+    let names = names_of(alloc, tree, row.script, row.names, row.args)?;
+    places_named(alloc, row, tree, table, &names)
+}
+
+fn places_read(alloc: Global, row: &Row, tree: &Script) -> Result<Vec<Place>, Refusal> {
+    let table = CallTable::new(alloc, tree, row.script)?;
+    places_numbered(alloc, row, tree, &table)
+}
+
 fn places_of(alloc: Global, row: &Row) -> Result<Vec<Place>, Refusal> {
     let tree = parse(alloc, row.script)?;
-    let table = CallTable::new(alloc, &tree, row.script)?;
-    let names = names_of(alloc, &tree, row.script, row.names, row.args)?;
-    let certificate = read_certificate(alloc, row.certificate, &tree, &table, &names)?;
-    let source = Source::new(&names, &certificate);
-    Ok(check_parameters(alloc, &tree, row.script, &source)?)
+    places_read(alloc, row, &tree)
 }
 
 fn is_told(places: &[Place], told: &Told) -> bool {
