@@ -1,22 +1,18 @@
 -- Whatever a check may answer of a script that is read is the computed answer.
-use Rattle.std.proofs.Common.{◌≡◌, ℕ, ◌≤◌, ◌<◌, ◌⊎◌, inl, inr, nat_le, Bool, true, false, List, [], ◌∷◌, ◌++◌, map, length, Option, Some, None, Result, Ok, Err, is_some, refl, sym, ◌∙◌, ap, subst, arith}
+use Rattle.std.proofs.Common.{◌≡◌, ℕ, ◌≤◌, ◌<◌, inl, inr, nat_le, Bool, true, false, List, [], ◌∷◌, ◌++◌, map, length, Some, None, Result, Ok, Err, is_some, refl, sym, ◌∙◌, ap, subst, arith}
 use Rattle.std.proofs.lemmas.Bool.{true≢false}
 use Rattle.std.proofs.lemmas.Bool.Decides.{nat_tests}
 use Rattle.sh_tree.specs.Answers.{Parses}
-use Rattle.sh_tree.specs.declared.limits.TheConstants.{MAX_NAMES, MAX_NESTING, MAX_SCRIPT}
+use Rattle.sh_tree.specs.declared.limits.TheConstants.{MAX_NAMES, MAX_NESTING}
 use Rattle.sh_tree.specs.declared.place.Place.{Place}
-use Rattle.sh_tree.specs.declared.refusal.Form.{Form}
-use Rattle.sh_tree.specs.declared.refusal.Form.TheVariants as form
 use Rattle.sh_tree.specs.declared.refusal.Refusal.{Refusal}
 use Rattle.sh_tree.specs.declared.refusal.Refusal.TheVariants.{TooLong, NulByte, Syntax, LeftOut, TooDeep, TooMany, Memory, Profile, CertSyntax, CertShape}
 use Rattle.sh_tree.specs.declared.refusal.Rule.{Rule}
 use Rattle.sh_tree.specs.declared.tree.Script.{Script}
-use Rattle.sh_tree.specs.language.Reading.{Reads, ReadsWithin}
-use Rattle.sh_tree.specs.program.Syntax.{Text, Items}
+use Rattle.sh_tree.specs.program.Syntax.{Text}
 use Rattle.sh_tree.specs.program.Trees.{script_of}
 use Rattle.sh_table.specs.Admits.{Admits}
 use Rattle.sh_table.specs.Profile.{first_refused}
-use Rattle.sh_facts.specs.Demands.{demands}
 use Rattle.sh_facts.specs.Facts.{Declared}
 use Rattle.sh_facts.specs.Faults.{Fault, faults, least}
 use Rattle.sh_facts.specs.Forms.{read_text}
@@ -24,13 +20,12 @@ use Rattle.sh_facts.specs.Names.{IsNumbering, HasTooMany}
 use Rattle.sh_facts.specs.Reading.{AreLoops, IsOther, fits}
 use Rattle.sh_facts.specs.Sheets.{Sheet}
 use Rattle.sh_facts.specs.declared.rule.FlowRule.{FlowRule}
-use Rattle.sh_quote.specs.Places.{unquoted}
 use Rattle.sh_report.specs.Findings.{AreFindings, contents_at}
 use Rattle.sh_report.specs.Verdicts.{Contents, contents_of}
 use Rattle.sh_report.specs.declared.verdict.Finding.{Finding}
 use Rattle.sh_report.specs.declared.verdict.Verdict.{Verdict}
 use Rattle.sh_report.specs.declared.verdict.Verdict.TheVariants.{Pass, Fail, Forged}
-use Rattle.sh_accept.specs.Accepted.{IsAdmitted, Fits, claims_in, functions_in, IsAccepted, IsAcceptedText}
+use Rattle.sh_accept.specs.Accepted.{IsAdmitted, claims_in, functions_in, IsAcceptedText}
 use Rattle.sh_accept.specs.Answers.{Checks, Refuses, IsCertified, IsForged, HasFindings, RefusesText, places}
 use Rattle.sh_accept.specs.Computed.{Answer, Passes, Finds, Breaks, Tells, shown, in_order, of_findings, of_fault, of_certificate, of_fit, of_claims, of_count, of_profile, computed, IsRead, is_settled, is_refusal, is_told, HasOneAnswer}
 use Rattle.sh_accept.proofs.FindingLemmas.{found_in_order}
@@ -38,11 +33,11 @@ use Rattle.sh_accept.proofs.NumberingLemmas.{same_names, same_count, same_fit}
 
 module _ (b : List ℕ) (d : Declared) (t : Script) (names : List Text) (loops : List Bool) (text : Text) (read : IsRead b d t names loops) where
   -- the answer
-  abbrev answer : Answer
+  abbrev pub answer : Answer
   answer = computed b d (script_of b t) (functions_in b t) names loops text
 
   -- what is read is the tree
-  tree_is : (u : Script) → Parses b (Ok u) → u ≡ t
+  pub tree_is : (u : Script) → Parses b (Ok u) → u ≡ t
   tree_is u h = read.reading.2 u (MAX_NESTING, h.1.0, h.1.1)
 
   -- the rest of the answer behind each step
@@ -113,7 +108,7 @@ module _ (b : List ℕ) (d : Declared) (t : Script) (names : List Text) (loops :
   unfolding of_count
   unnumbered p h = admitted p ∙ ap (λ c. of_count c behind_names) (many_names h.names h.numbered h.more)
 
-  malformed : (others : List Text) (n : ℕ) → IsAdmitted b d t others → read_text text ≡ Err n → answer ≡ Tells (CertSyntax n)
+  pub malformed : (others : List Text) (n : ℕ) → IsAdmitted b d t others → read_text text ≡ Err n → answer ≡ Tells (CertSyntax n)
   unfolding of_claims
   malformed others n a h = numbered others a ∙ ap (of_claims (fits names loops (length (functions_in b t))) (of_certificate b d (script_of b t) (functions_in b t))) h
 
@@ -158,7 +153,7 @@ module _ (b : List ℕ) (d : Declared) (t : Script) (names : List Text) (loops :
       let e : q.0 ≡ t = tree_is q.0 q.1 in
       unnumbered (subst (λ u. first_refused (script_of b u) ≡ None) e q.2) (subst (λ u. HasTooMany b u d) e q.3)
 
-  of_refusal : (x : Refusal) → Refuses b d (RefusesText b d text) x → is_refusal x ≡ true → answer ≡ Tells x
+  pub of_refusal : (x : Refusal) → Refuses b d (RefusesText b d text) x → is_refusal x ≡ true → answer ≡ Tells x
   unfolding is_refusal is_settled
   of_refusal TooLong h k = let l = read.reading.0.0 in absurd (omega arith)
   of_refusal (NulByte at) h k = absurd (true≢false (sym (ap is_some (sym read.reading.0.1 ∙ h.1))))

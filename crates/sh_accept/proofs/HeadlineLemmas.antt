@@ -1,11 +1,11 @@
 -- A script of which a certificate is accepted is safe.
-use Rattle.std.proofs.Common.{◌≡◌, ℕ, Bool, true, false, not, Option, None, List, Ok, Some, is_some, refl, ap, ◌∙◌}
+use Rattle.std.proofs.Common.{◌≡◌, ℕ, true, not, None, List, is_some, ap, ◌∙◌}
 use Rattle.std.specs.List.{list_all}
 use Rattle.sh_tree.specs.declared.limits.TheConstants.{MAX_NESTING}
 use Rattle.sh_tree.specs.declared.tree.Script.{Script}
 use Rattle.sh_tree.specs.language.Bytes.{is_name}
 use Rattle.sh_tree.specs.language.Reading.{Reads, ReadsWithin}
-use Rattle.sh_tree.specs.program.Syntax.{Text, Items}
+use Rattle.sh_tree.specs.program.Syntax.{Items}
 use Rattle.sh_tree.specs.program.Trees.{script_of}
 use Rattle.sh_table.specs.Admitted.{is_admitted}
 use Rattle.sh_table.specs.Profile.{first_refused}

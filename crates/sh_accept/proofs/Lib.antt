@@ -5,3 +5,9 @@ pub mod PartLemmas
 pub mod FindingLemmas
 pub mod NumberingLemmas
 pub mod AnswerLemmas
+pub mod ExampleLemmas
+pub mod DemandLemmas
+pub mod GreatestLemmas
+pub mod SheetLemmas
+pub mod OneGreatestLemmas
+pub mod SingleLemmas

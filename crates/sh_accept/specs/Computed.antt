@@ -4,11 +4,10 @@ use Rattle.std.specs.Prelude.{◌≡◌, ℕ, nat_le, Bool, true, false, List, [
 use Rattle.std.specs.Ordering.{is_lt}
 use Rattle.sh_tree.specs.Answers.{Parses}
 use Rattle.sh_tree.specs.declared.limits.TheConstants.{MAX_NAMES}
-use Rattle.sh_tree.specs.declared.place.Place.{Place}
 use Rattle.sh_tree.specs.declared.refusal.Form.{Form}
 use Rattle.sh_tree.specs.declared.refusal.Form.TheVariants as form
 use Rattle.sh_tree.specs.declared.refusal.Refusal.{Refusal}
-use Rattle.sh_tree.specs.declared.refusal.Refusal.TheVariants.{TooLong, NulByte, Syntax, LeftOut, TooDeep, TooMany, Memory, Profile, CertSyntax, CertShape}
+use Rattle.sh_tree.specs.declared.refusal.Refusal.TheVariants.{LeftOut, TooMany, Memory, Profile, CertSyntax, CertShape}
 use Rattle.sh_tree.specs.declared.tree.Script.{Script}
 use Rattle.sh_tree.specs.program.Syntax.{Text, Items}
 use Rattle.sh_tree.specs.program.Trees.{script_of}

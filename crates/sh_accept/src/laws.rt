@@ -1,6 +1,9 @@
 //! What an accepted certificate is good for, and what holds of the answers that `specs/` defines.
 ghost use Rattle.sh_accept.specs.Computed.{HasOneAnswer};
+ghost use Rattle.sh_accept.specs.Examples.{AnswersAsExpected};
+ghost use Rattle.sh_accept.specs.Greatest.{GreatestIsBest};
 ghost use Rattle.sh_accept.specs.Parts.{PartsAlwaysAnswer};
+ghost use Rattle.sh_accept.specs.Single.{HasOneGreatest};
 ghost use Rattle.sh_accept.specs.Theorem.{Headline};
 
 /// Where a certificate is accepted, so where a check or a lint passes, the script has exactly one reading, and no run of that, from any start
@@ -20,4 +23,21 @@ pub fn parts()
 /// refusals come in the order script, profile, names, certificate.
 pub fn answers()
     ensures { HasOneAnswer }
+{}
+
+/// Known texts are answered as they should be: passes, findings in their order, each kind of forgery, and each refusal before the next.
+pub fn examples()
+    ensures { AnswersAsExpected }
+{}
+
+/// The greatest certificate of a script leaves no place unmet that another one meets, so it is accepted wherever one is; and where findings
+/// are told of a script without a certificate, none is accepted.
+pub fn greatest()
+    ensures { GreatestIsBest }
+{}
+
+/// A script that is read has at most one greatest certificate; so there is at most one answer, memory aside, where no certificate is given, and at most one
+/// text of the certificate that is shown.
+pub fn single()
+    ensures { HasOneGreatest }
 {}

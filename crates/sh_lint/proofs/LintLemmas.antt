@@ -19,7 +19,8 @@ use Rattle.sh_flow.specs.Profile.{is_item_admitted, Admitted}
 use Rattle.sh_report.specs.declared.verdict.Finding.{Finding}
 use Rattle.sh_report.specs.declared.verdict.Verdict.TheVariants.{Pass, Fail}
 use Rattle.sh_lint.specs.Findings.{Admits, first_refused, item_start}
-use Rattle.sh_lint.specs.Lint.{IsReading, IsAccepted, Accepts, AreFindings, Lints, contents_at}
+use Rattle.sh_lint.specs.Lint.{IsReading, IsAccepted, Accepts, Lints}
+use Rattle.sh_report.specs.Findings.{AreFindings, contents_at}
 use Rattle.sh_report.specs.Verdicts.{contents_of, contents_cmp}
 use Rattle.sh_lint.proofs.ReadLemmas.{AllPlaced, reads_placed}
 

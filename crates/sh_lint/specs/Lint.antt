@@ -1,9 +1,8 @@
 -- What is told of a script.
 -- POSIX.1-2024, XCU 2.10 (shell grammar), 2.6 (word expansions): a script that is clean has one reading, and no run of it expands a
 -- parameter that is not set or splits an expansion's value.
-use Rattle.std.specs.Prelude.{◌≡◌, ◌≤◌, ◌<◌, ◌⊎◌, ℕ, List, [], ◌++◌, length, map, Result, Ok, Err, Vec}
+use Rattle.std.specs.Prelude.{◌≡◌, ◌≤◌, ◌<◌, ◌⊎◌, ℕ, List, [], ◌++◌, length, Result, Ok, Err, Vec}
 use Rattle.std.specs.declared.alloc.Global.{Global}
-use Rattle.std.specs.List.Sorted.{IsPermutation, IsSortedByKey}
 use Rattle.sh_tree.specs.declared.limits.TheConstants.{MAX_NAMES}
 use Rattle.sh_tree.specs.declared.place.Place.{Place}
 use Rattle.sh_tree.specs.declared.tree.Script.{Script}
@@ -11,16 +10,14 @@ use Rattle.sh_tree.specs.declared.refusal.Refusal.{Refusal}
 use Rattle.sh_tree.specs.declared.refusal.Refusal.TheVariants.{TooLong, NulByte, Syntax, LeftOut, TooDeep, TooMany, Memory, Profile, CertSyntax, CertShape}
 use Rattle.sh_tree.specs.language.Reading.{Reads, ReadsWithin}
 use Rattle.sh_tree.specs.Answers.{IsText, Parses}
-use Rattle.sh_scan.specs.Places.{place_of}
 use Rattle.sh_facts.specs.Facts.{Declared}
 use Rattle.sh_flow.specs.Names.{numbering}
 use Rattle.sh_flow.specs.Profile.{Admitted}
 use Rattle.sh_flow.specs.Theorem.{NoUnsetEvent, NoSplitEvent}
-use Rattle.sh_report.specs.declared.verdict.Finding.{Finding}
+use Rattle.sh_report.specs.Findings.{AreFindings}
 use Rattle.sh_report.specs.declared.verdict.Verdict.{Verdict}
 use Rattle.sh_report.specs.declared.verdict.Verdict.TheVariants.{Pass, Fail, Forged}
 use Rattle.sh_lint.specs.Findings.{Admits, quote_places, unset_places}
-use Rattle.sh_report.specs.Verdicts.{Contents, contents_of, contents_cmp}
 
 -- the tree is the one reading of the text, within the limits
 pub record IsReading (b : List ℕ) (t : Script) : Type 0 where
@@ -37,15 +34,6 @@ pub record IsAccepted (b : List ℕ) (d : Declared) (t : Script) : Type 0 where
 -- where a demand is unmet: unquoted expansions, and parameters that may be unset
 abbrev pub places : List ℕ → Declared → Script → List Place
 places b d t = quote_places t ++ unset_places b d t
-
--- the finding of a place, at its line and column
-abbrev pub contents_at : List ℕ → Place → Contents
-contents_at b p = let q = place_of b p.at in record { line = q.0; column = q.1; code = p.code; subject = p.subject }
-
--- the findings are those of the places, each once, in order
-pub record AreFindings (b : List ℕ) (ps : List Place) (fs : List Finding) : Type 0 where
-  pub same : IsPermutation (map (contents_at b) ps) (map contents_of fs)
-  pub sorted : IsSortedByKey contents_of contents_cmp fs
 
 -- no run has an Unset or a Split event
 pub record IsSafe (b : List ℕ) (d : Declared) (t : Script) : Type 0 where

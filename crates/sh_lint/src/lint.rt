@@ -5,7 +5,8 @@ ghost use Rattle.sh_flow.specs.Names.{numbering};
 ghost use Rattle.sh_flow.specs.Profile.{Admitted};
 ghost use Rattle.sh_flow.specs.Theorem.{NoUnsetEvent};
 ghost use Rattle.sh_lint.specs.Findings.{unset_places};
-ghost use Rattle.sh_lint.specs.Lint.{Accepts, AreFindings, IsSafe, Lints, places};
+ghost use Rattle.sh_lint.specs.Lint.{Accepts, IsSafe, Lints, places};
+ghost use Rattle.sh_report.specs.Findings.{AreFindings};
 
 use crate::admit::admit;
 use crate::find::find;

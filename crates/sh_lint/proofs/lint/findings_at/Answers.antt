@@ -1,6 +1,6 @@
 use Rattle.std.proofs.Common.{◌≡◌, map, take, ap, ◌∙◌, arith}
 use Rattle.std.proofs.lemmas.List.{take_all}
-use Rattle.sh_lint.specs.Lint.{contents_at}
+use Rattle.sh_report.specs.Findings.{contents_at}
 use Rattle.sh_lint.proofs.LintLemmas.{sorted_findings}
 use Rattle.sh_lint.proofs.lint.findings_at.Goals as goal
 

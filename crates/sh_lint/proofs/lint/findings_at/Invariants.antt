@@ -1,5 +1,5 @@
 use Rattle.std.proofs.Common.{◌≡◌, map, take}
-use Rattle.sh_lint.specs.Lint.{contents_at}
+use Rattle.sh_report.specs.Findings.{contents_at}
 use Rattle.sh_report.specs.Verdicts.{contents_of}
 use Rattle.sh_lint.proofs.lint.findings_at.Given as goal
 

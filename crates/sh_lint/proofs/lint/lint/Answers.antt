@@ -1,7 +1,7 @@
 use Rattle.std.proofs.Common.{◌≡◌, subst, ap, arith, length, List}
 use Rattle.std.proofs.lemmas.Grind.{common_steps}
 use Rattle.sh_tree.specs.declared.place.Place.{Place}
-use Rattle.sh_lint.specs.Lint.{AreFindings}
+use Rattle.sh_report.specs.Findings.{AreFindings}
 use Rattle.sh_lint.proofs.LintLemmas.{fails}
 use Rattle.sh_lint.proofs.lint.lint.Goals as goal
 

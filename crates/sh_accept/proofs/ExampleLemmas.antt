@@ -1,0 +1,30 @@
+-- What a check answers to known texts, computed.
+use Rattle.std.proofs.Common.{refl}
+use Rattle.sh_scan.specs.Places.{place_of}
+use Rattle.sh_table.specs.Calls.{defined, with_name, names_of}
+use Rattle.sh_table.specs.Sites.{form_of, site_of, placed as site_placed, by_number, sites_of}
+use Rattle.sh_table.proofs.ProfileLemmas.{computes as profile}
+use Rattle.sh_facts.proofs.AnswerLemmas.{computes as rules}
+use Rattle.sh_facts.proofs.TextLemmas.{computes as texts}
+use Rattle.sh_facts.specs.Forms.{read_text}
+use Rattle.sh_facts.specs.Reading.{claim_fits, head_fits, commands_fit}
+use Rattle.sh_facts.specs.Sheets.{claim_at, function_at}
+use Rattle.sh_quote.proofs.QuoteLemmas.{computes as quoting}
+use Rattle.sh_accept.specs.Computed.{placed, in_order, of_findings, of_fault, of_fit, of_claims, of_count, of_profile}
+use Rattle.sh_accept.specs.Examples.{AnswersAsExpected}
+
+-- what the answer to a known text computes
+unfoldable computes : Unit {0}
+unfolding place_of profile rules texts quoting defined with_name names_of form_of site_of site_placed by_number sites_of read_text claim_fits head_fits commands_fit claim_at function_at placed in_order of_findings of_fault of_fit of_claims of_count of_profile
+computes = tt
+
+pub answers_as_expected : AnswersAsExpected
+unfolding computes
+answers_as_expected = record {
+  passes = refl;
+  findings = refl;
+  forged = refl;
+  malformed = refl;
+  misfits = refl;
+  refused = refl;
+}

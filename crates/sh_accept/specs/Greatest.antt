@@ -1,0 +1,23 @@
+-- What the greatest certificate is good for: it leaves no place unmet that another one meets, so some certificate is accepted only where it is.
+-- shset's own; the standard has none.
+use Rattle.std.specs.Prelude.{◌≡◌, ℕ, Bool, true, List, Ok}
+use Rattle.std.specs.List.{list_any}
+use Rattle.sh_tree.specs.declared.place.Place.{Place}
+use Rattle.sh_tree.specs.declared.tree.Script.{Script}
+use Rattle.sh_tree.specs.program.Syntax.{Text}
+use Rattle.sh_facts.specs.Facts.{Declared}
+use Rattle.sh_facts.specs.Sheets.{Sheet}
+use Rattle.sh_report.specs.declared.verdict.Report.{Report}
+use Rattle.sh_report.specs.declared.verdict.Verdict.TheVariants.{Fail}
+use Rattle.sh_accept.specs.Accepted.{Fits, KeepsRules, IsAccepted}
+use Rattle.sh_accept.specs.Answers.{IsGreatest, IsBest, Lints, places}
+
+-- whatever is told of the first places is told of the second
+abbrev pub AreAmong : List Place → List Place → Type 0
+AreAmong ps qs = (test : Place → Bool) → list_any test ps ≡ true → list_any test qs ≡ true
+
+pub record GreatestIsBest : Type 0 where
+  pub fewest : (b : List ℕ) (d : Declared) (t : Script) (names : List Text) (c other : Sheet)
+      → IsGreatest b d t names c → Fits b t names other → KeepsRules b d t other → AreAmong (places b d t c) (places b d t other)
+  pub accepted : (b : List ℕ) (d : Declared) (t : Script) (c other : Sheet) → IsBest b d t c → IsAccepted b d other → IsAccepted b d c
+  pub failed : (b : List ℕ) (d : Declared) (r : Report) (other : Sheet) → Lints b d (Ok (Fail r)) → IsAccepted b d other → ⊥
