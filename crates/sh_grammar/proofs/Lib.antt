@@ -21,3 +21,4 @@ pub mod ForLemmas
 pub mod FaultLemmas
 pub mod BranchLemmas
 pub mod CaseLemmas
+pub mod DelimiterLemmas

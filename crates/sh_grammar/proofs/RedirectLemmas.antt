@@ -1,6 +1,8 @@
 -- Redirections, by their operators.
-use Rattle.std.proofs.Common.{◌≡◌, ℕ, true, false, List, [], ◌∷◌, ◌++◌, Some, None, refl, sym, ap, subst, ◌∙◌, arith}
-use Rattle.std.proofs.lemmas.Bool.{true≢false}
+use Rattle.std.proofs.Common.{◌≡◌, ℕ, ◌<◌, ◌≤◌, true, false, List, [], ◌∷◌, ◌++◌, length, Some, None, refl, sym, ap, subst, ◌∙◌, le_refl}
+use Rattle.std.proofs.lemmas.Bool.{cond-true, true≢false}
+use Rattle.sh_tree.specs.declared.token.command.Lead.{Lead}
+use Rattle.sh_tree.specs.declared.token.command.Lead.TheVariants as lead
 use Rattle.sh_tree.specs.declared.token.command.Stage.TheVariants.{Named}
 use Rattle.sh_tree.specs.declared.token.command.Redirection.{Redirection}
 use Rattle.sh_tree.specs.declared.tree.Direction.{Direction}
@@ -17,10 +19,15 @@ use Rattle.sh_tree.specs.language.Reading.{ReadsWord, ReadsRedirect, ReadsRedire
 use Rattle.sh_tree.specs.language.States as states
 use Rattle.sh_tree.specs.language.States.{Spot, Document, facing, past, next, waits}
 use Rattle.sh_tree.specs.language.Trees as tree
-use Rattle.sh_tree.proofs.Inversions.{some_one}
+use Rattle.sh_tree.specs.language.HereDocuments.{is_delimiter, delimiter_of}
+use Rattle.sh_tree.proofs.Inversions.{some_one, word_parts}
 use Rattle.sh_tree.proofs.Counts.{redirects_count}
 use Rattle.sh_grammar.specs.declared.state.State.{State}
 use Rattle.sh_grammar.specs.States.{here}
+use Rattle.sh_grammar.specs.Delimiters.{delimiter_in}
+use Rattle.sh_grammar.specs.Targets.{TargetFrom}
+use Rattle.sh_grammar.proofs.BeginningLemmas.{word_takes}
+use Rattle.sh_grammar.proofs.BreakLemmas.{blanks_settle}
 use Rattle.sh_grammar.specs.Readers.{One, Nothing, Refused, WordAt, RedirectFrom, RedirectsFrom, unread}
 use Rattle.sh_grammar.proofs.ReaderLemmas.{refused_by, Behind, nothing_yet, one_more, all_found, refused_behind}
 
@@ -62,28 +69,84 @@ begins_redirect (r.here_document {r = f} h o l read k) = (f, h)
 pub no_redirect : (b : List ℕ) (s : State) → redirection b s.at ≡ None → Nothing (RedirectFrom b s)
 no_redirect b s none limit v q l = let f = begins_redirect l in let no : Some f.0 ≡ None = sym f.1 ∙ none in cc
 
-module _ (b : List ℕ) (s : State) (at : Redirection) (d : Direction) (is : redirection b s.at ≡ Some at) (file : direction_of at.operator ≡ Some d) where
-  pub redirect_untargeted : is_word (lead_at b (Named false) (blanks false b at.end)) ≡ false → Nothing (RedirectFrom b s)
-  redirect_untargeted none limit v q l = let f = file_is {s = here s} at d is file l in true≢false (sym f.4 ∙ none)
+-- the word behind the operator
+abbrev TargetOf : ℕ → List ℕ → states.State → Redirection → Spot → Word → Type 0
+TargetOf limit b s at u w =
+    (is_word (lead_of b (Named false) (next b at.end s)) ≡ true) × ReadsWord limit b (in_unsplit (next b at.end s).spot.at) (facing (next b at.end s)) u w
 
-  pub redirect_refused : (e : Refusal) → Refused b (WordAt b (in_unsplit (blanks false b at.end)) (blanks false b at.end) s) e → Refused b (RedirectFrom b s) e
+-- each redirection has one, and ends behind it
+target_of : {limit : ℕ} {b : List ℕ} {body : ℕ → Document} {s v : states.State} {q : Redirect} (at : Redirection) → redirection b s.spot.at ≡ Some at
+    → ReadsRedirect limit b body s v q → (u : Spot) × (w : Word) × TargetOf limit b s at u w × (v.spot.count ≡ u.count)
+target_of {limit = limit} {b = b} {s = s} at is (r.file {u = u} {r = f} {w = w} h o l read) =
+    (u, w, subst (λ p. TargetOf limit b s p u w) (some_one (sym h ∙ is)) (l, read), refl)
+target_of {limit = limit} {b = b} {s = s} at is (r.here_document {u = u} {r = f} {w = w} h o l read k) =
+    (u, w, subst (λ p. TargetOf limit b s p u w) (some_one (sym h ∙ is)) (l, read), refl)
+
+-- a here-document, where the operator has no direction
+document_is : {limit : ℕ} {b : List ℕ} {body : ℕ → Document} {s v : states.State} {q : Redirect} (at : Redirection) → redirection b s.spot.at ≡ Some at
+    → direction_of at.operator ≡ None → ReadsRedirect limit b body s v q → (u : Spot) × (w : Word) × TargetOf limit b s at u w × (is_delimiter b w ≡ true)
+document_is at is none (r.file {r = f} {d = e} h o l read) =
+    let way : Some e ≡ None = sym o ∙ ap (λ p. direction_of p.operator) (some_one (sym h ∙ is)) ∙ none in
+    cc
+document_is {limit = limit} {b = b} {s = s} at is none (r.here_document {u = u} {r = f} {w = w} h o l read k) =
+    (u, w, subst (λ p. TargetOf limit b s p u w) (some_one (sym h ∙ is)) (l, read), k)
+
+-- The word behind an operator that ends at i
+
+is_lead : (l : Lead) → is_word l ≡ true → l ≡ lead.Word
+is_lead lead.Word h = refl
+is_lead _ h = absurd (true≢false (sym h))
+
+module _ (b : List ℕ) (i : ℕ) (s : State) where
+  pub target_none : is_word (lead_at b (Named false) (blanks false b i)) ≡ false → Nothing (TargetFrom b i s)
+  target_none none limit v w l = true≢false (sym l.0 ∙ none)
+
+  pub target_refused : (e : Refusal) → Refused b (WordAt b (in_unsplit (blanks false b i)) (blanks false b i) s) e → Refused b (TargetFrom b i s) e
+  target_refused e h = refused_by b (WordAt b (in_unsplit (blanks false b i)) (blanks false b i) s) (TargetFrom b i s) e (λ limit v w l. (v, w, l.1, le_refl v.spot.count)) h
+
+  pub target_read : (w : Word) (v : State) → is_word (lead_at b (Named false) (blanks false b i)) ≡ true
+      → One (WordAt b (in_unsplit (blanks false b i)) (blanks false b i) s) (here v) w → One (TargetFrom b i s) (here v) w
+  target_read w v word h = record { reads = (word, h.reads); only = λ limit k y l. h.only limit k y l.1 }
+
+  pub target_begins : (w : Word) (v : states.State) (limit : ℕ) → TargetFrom b i s limit v w → w.span.start < length b
+  target_begins w v limit l =
+      let j = blanks false b i in
+      let parts = word_parts l.1.1 in
+      let inside = (word_takes b (Named false) j (is_lead (lead_at b (Named false) j) l.0) (blanks_settle b i)).0 in
+      subst (λ (x : Word). x.span.start < length b) (sym parts.1) inside
+
+-- Redirections by their operators
+
+module _ (b : List ℕ) (s : State) (at : Redirection) (is : redirection b s.at ≡ Some at) where
+  pub redirect_refused : (e : Refusal) → Refused b (TargetFrom b at.end s) e → Refused b (RedirectFrom b s) e
   unfolding waits
-  redirect_refused e h = refused_by b (WordAt b (in_unsplit (blanks false b at.end)) (blanks false b at.end) s) (RedirectFrom b s) e
-      (λ limit v q l. let f = file_is {s = here s} at d is file l in (v, f.1, (f.0, f.5, f.2), omega arith)) h
+  redirect_refused e h = refused_by b (TargetFrom b at.end s) (RedirectFrom b s) e
+      (λ limit v q l.
+      let t = target_of {s = here s} at is l in
+      (past b t.0 (here s), t.1, (t.2.0, (t.0, t.2.1, refl)), subst (λ n. t.0.count ≤ n) (sym t.3) (le_refl t.0.count))) h
 
-  pub redirect_read : (w : Word) (v : State) → is_word (lead_at b (Named false) (blanks false b at.end)) ≡ true
-      → One (WordAt b (in_unsplit (blanks false b at.end)) (blanks false b at.end) s) (here v) w
+  pub redirect_read : (d : Direction) (w : Word) (v : State) → direction_of at.operator ≡ Some d → One (TargetFrom b at.end s) (here v) w
       → One (RedirectFrom b s) (here v) (tree.redirect at.at at.number (File d w))
   unfolding waits
-  redirect_read w v word h = record {
+  redirect_read d w v file h = record {
     reads =
         let t = h.reads in
-        subst (λ k. ReadsRedirect 64 b unread (here s) k (tree.redirect at.at at.number (File d w))) (sym t.2) (r.file {s = here s} {u = t.0} is file word t.1);
+        subst (λ k. ReadsRedirect 64 b unread (here s) k (tree.redirect at.at at.number (File d w))) (sym t.1.2) (r.file {s = here s} {u = t.1.0} is file t.0 t.1.1);
     only = λ limit k q l.
         let f = file_is {s = here s} at d is file l in
-        let o = h.only limit k f.1 (f.0, f.5, f.2) in
+        let o = h.only limit k f.1 (f.4, (f.0, f.5, f.2)) in
         (o.0, f.3 ∙ ap (λ y. tree.redirect at.at at.number (File d y)) o.1);
   }
+
+  -- its word is no delimiter
+  pub document_none : (w : Word) (v : State) → direction_of at.operator ≡ None → One (TargetFrom b at.end s) (here v) w → None ≡ delimiter_in b w → Nothing (RedirectFrom b s)
+  unfolding waits
+  document_none w v none h other limit k q l =
+      let t = document_is {s = here s} at is none l in
+      let o = h.only limit (past b t.0 (here s)) t.1 (t.2.0, (t.0, t.2.1, refl)) in
+      let whole : delimiter_in b w ≡ Some (delimiter_of b w) = cond-true _ _ _ (subst (λ y. is_delimiter b y ≡ true) o.1 t.3) in
+      let wrong : None ≡ Some (delimiter_of b w) = other ∙ whole in
+      cc
 
 -- Redirections behind a compound command
 

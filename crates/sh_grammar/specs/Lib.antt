@@ -12,3 +12,5 @@ pub mod Definitions
 pub mod Fors
 pub mod Branches
 pub mod Cases
+pub mod Delimiters
+pub mod Targets

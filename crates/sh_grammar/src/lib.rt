@@ -7,6 +7,7 @@ mod cases;
 mod commands;
 mod compounds;
 mod definitions;
+mod delimiters;
 mod elements;
 mod faults;
 mod fors;

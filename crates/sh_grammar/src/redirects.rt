@@ -1,10 +1,12 @@
 //! Redirections (XCU 2.7).
-ghost use Rattle.std.specs.Prelude.{◌-◌, ◌≡◌, ◌+◌, ◌≤◌, ◌<◌, length, Some};
+ghost use Rattle.std.specs.Prelude.{◌-◌, ◌≡◌, ◌+◌, ◌≤◌, ◌<◌, length, Some, None, IfOk};
 ghost use Rattle.sh_tree.specs.language.Commands as commands;
 ghost use Rattle.sh_grammar.specs.Nests.{Nests};
 ghost use Rattle.sh_grammar.specs.States.{Stands};
 ghost use Rattle.sh_grammar.specs.Readers.{Answers, RedirectFrom, RedirectsFrom};
+ghost use Rattle.sh_grammar.specs.Targets.{TargetFrom};
 
+use super::delimiters::delimiter_of;
 use super::faults::unexpected_at;
 use super::grammar::Grammar;
 use super::state::State;
@@ -13,7 +15,7 @@ use sh_tree::Items;
 use sh_tree::limits::MAX_SCRIPT;
 use sh_tree::refusal::{Form, Refusal};
 use sh_tree::token::{Lead, Redirection, Stage};
-use sh_tree::tree::{Direction, Redirect, Script, Target};
+use sh_tree::tree::{Direction, Redirect, Script, Target, Word};
 use sh_words::Mode;
 use std::alloc::Global;
 
@@ -24,8 +26,30 @@ pub fn is_word(lead: Lead) -> bool
 }
 
 impl<F: Fn(Global, &[u8], State) -> Result<(Script, State), Refusal>> Grammar<F> {
+    /// The word behind an operator that ends at `end`.
+    #[tactic(auto, using(crate::proofs::RedirectLemmas::target_none, crate::proofs::RedirectLemmas::target_refused, crate::proofs::RedirectLemmas::target_read, crate::proofs::ReaderLemmas::refused_none))]
+    fn target(&self, script: &[u8], end: u32, from: State) -> Result<(Word, State), Refusal>
+        requires small { length script.now ≤ MAX_SCRIPT }
+        requires stands { Stands script.now from }
+        requires moves { from.at < end }
+        requires within { end ≤ length script.now }
+        requires further { length script.now - from.at ≤ self.now.left }
+        requires nests { Nests self.now.left (F.pre self.now.nested) (F.post self.now.nested) }
+        ensures reads { Answers script.now (TargetFrom script.now end from) (from.at + 1) result }
+        ensures begins { IfOk result (λ r. r.0.span.start < length script.now) }
+    {
+        let target = from.next(script, end);
+        let stage = Stage::Named(false);
+        if !is_word(lead_at(script, stage, target.at)) {
+            return Err(unexpected_at(script, stage, &target));
+        }
+        let at = target.at;
+        let (word, behind) = self.word_at(script, Mode::Unsplit, at, target)?;
+        Ok((word, behind))
+    }
+
     /// The redirection of a file, of which the operator is read.
-    #[tactic(auto, using(crate::proofs::RedirectLemmas::redirect_untargeted, crate::proofs::RedirectLemmas::redirect_refused, crate::proofs::RedirectLemmas::redirect_read, crate::proofs::ReaderLemmas::refused_none))]
+    #[tactic(auto, using(crate::proofs::RedirectLemmas::redirect_refused, crate::proofs::RedirectLemmas::redirect_read))]
     fn file(
         &self,
         script: &[u8],
@@ -43,13 +67,7 @@ impl<F: Fn(Global, &[u8], State) -> Result<(Script, State), Refusal>> Grammar<F>
         requires nests { Nests self.now.left (F.pre self.now.nested) (F.post self.now.nested) }
         ensures { Answers script.now (RedirectFrom script.now from) (from.at + 1) result }
     {
-        let target = from.next(script, front.end);
-        let stage = Stage::Named(false);
-        if !is_word(lead_at(script, stage, target.at)) {
-            return Err(unexpected_at(script, stage, &target));
-        }
-        let at = target.at;
-        let (word, behind) = self.word_at(script, Mode::Unsplit, at, target)?;
+        let (word, behind) = self.target(script, front.end, from)?;
         let redirect = Redirect {
             at: front.at,
             number: front.number,
@@ -58,7 +76,34 @@ impl<F: Fn(Global, &[u8], State) -> Result<(Script, State), Refusal>> Grammar<F>
         Ok((redirect, behind))
     }
 
-    /// The redirection at a token that begins one. Here-documents are not read yet.
+    /// A here-document, of which the operator is read. Its body is not read yet.
+    #[tactic(auto, using(crate::proofs::RedirectLemmas::redirect_refused, crate::proofs::RedirectLemmas::document_none))]
+    fn here_document(
+        &self,
+        script: &[u8],
+        front: Redirection,
+        from: State,
+    ) -> Result<(Redirect, State), Refusal>
+        requires small { length script.now ≤ MAX_SCRIPT }
+        requires stands { Stands script.now from }
+        requires begins { commands.redirection script.now from.at ≡ Some front }
+        requires way { commands.direction_of front.operator ≡ None }
+        requires moves { from.at < front.end }
+        requires within { front.end ≤ length script.now }
+        requires further { length script.now - from.at ≤ self.now.left }
+        requires nests { Nests self.now.left (F.pre self.now.nested) (F.post self.now.nested) }
+        ensures { Answers script.now (RedirectFrom script.now from) (from.at + 1) result }
+    {
+        let later = Refusal::LeftOut(Form::Later, from.at);
+        let (word, _) = self.target(script, front.end, from)?;
+        let delimiter = delimiter_of(self.alloc, script, &word)?;
+        match delimiter {
+            Some(_) => Err(later),
+            None => Err(Refusal::LeftOut(Form::HereWord, word.span.start)),
+        }
+    }
+
+    /// The redirection at a token that begins one. The bodies of here-documents are not read yet.
     #[tactic(auto, using(crate::proofs::RedirectLemmas::no_redirect, crate::proofs::ReaderLemmas::refused_none))]
     pub fn redirect_at(&self, script: &[u8], from: State) -> Result<(Redirect, State), Refusal>
         requires small { length script.now ≤ MAX_SCRIPT }
@@ -72,7 +117,7 @@ impl<F: Fn(Global, &[u8], State) -> Result<(Script, State), Refusal>> Grammar<F>
         };
         match direction_of(front.operator) {
             Some(direction) => self.file(script, front, direction, from),
-            None => Err(Refusal::LeftOut(Form::Later, from.at)),
+            None => self.here_document(script, front, from),
         }
     }
 

@@ -18,6 +18,8 @@ mod cuts;
 #[cfg(test)]
 mod definitions;
 #[cfg(test)]
+mod documents;
+#[cfg(test)]
 mod faults;
 #[cfg(test)]
 mod fors;
