@@ -1,0 +1,6 @@
+pub mod Settings
+pub mod Behind
+pub mod Walked
+pub mod Walks
+pub mod Steps
+pub mod Meaning

@@ -1,0 +1,33 @@
+-- What a check of a certificate goes by: the script, its names, the names of its functions, and the certificate that is kept.
+-- The standard has no such thing: what is known at a place (XCU 2.5), of the names that are numbered.
+use Rattle.std.specs.Prelude.{List, [], ◌∷◌}
+use Rattle.sh_tree.specs.program.Syntax.{Text}
+use Rattle.sh_facts.specs.declared.certificate.Certificate as kept
+use Rattle.sh_facts.specs.Certificates.{in_byte_order, sheet_of}
+use Rattle.sh_facts.specs.Facts.{Facts, facts}
+use Rattle.sh_facts.specs.Gains.{Gains, job, with_gains}
+use Rattle.sh_facts.specs.Sheets.{certificate_of}
+use Rattle.sh_facts.specs.Views.{Certificate, Slot, Lose, step}
+use Rattle.sh_check.specs.Knowing.{among}
+
+pub record Setting : Type 0 where
+  pub script : Text
+  pub names : List Text
+  pub functions : List Text
+  pub kept : kept.Certificate
+
+-- the certificate that the rules are asked of
+abbrev pub certificate : Setting → Certificate
+certificate x = certificate_of x.functions (sheet_of (in_byte_order x.names) x.kept)
+
+-- what the certificate claims at a place
+unfoldable pub known_at : Setting → Slot → Facts
+known_at x s = facts ((certificate x).claim s)
+
+-- with what is gained, of the names that are numbered
+unfoldable pub gained : Setting → Gains → Facts → Facts
+gained x g f = with_gains (among x.names g) f
+
+-- a process that is started may have no `!`
+unfoldable pub without_job : Setting → Facts → Facts
+without_job x f = step (certificate x) (Lose (record { vars = job ∷ []; functions = [] })) f

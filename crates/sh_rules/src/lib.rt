@@ -1,0 +1,10 @@
+//! The flow rules over a tree: what is known behind lists, and how each command of a script is entered, by what a certificate claims.
+#![tactic(auto)]
+
+pub mod around;
+pub mod behind;
+pub mod claims;
+pub mod gains;
+pub mod laws;
+mod slots;
+pub mod walk;

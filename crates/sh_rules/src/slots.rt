@@ -1,0 +1,123 @@
+//! What a certificate claims at each place of a script.
+ghost use Rattle.std.specs.Prelude.{◌≡◌, ◌-◌, slice_get, map, position};
+ghost use Rattle.std.specs.Option.{option_copied};
+ghost use Rattle.std.specs.Str.{bytes_eq};
+ghost use Rattle.sh_tree.specs.Tree.{text_of};
+ghost use Rattle.sh_facts.specs.Names.{number_of};
+ghost use Rattle.sh_facts.specs.Slots as slots;
+ghost use Rattle.sh_facts.specs.Views as views;
+ghost use Rattle.sh_rules.specs.Settings.{known_at};
+ghost use Rattle.sh_rules.specs.Walks.{facts_in, head_of, setting};
+
+use crate::claims::Claims;
+use sh_facts::certificate::{Entry, Facts, FunctionEntry};
+use sh_facts::knowledge::Knowledge;
+use sh_tree::tree::Span;
+
+impl Claims<'_> {
+    /// The bytes of a span of the script.
+    #[tactic(auto, unfolding(crate::specs::Walks::setting))]
+    pub fn text(&self, span: Span) -> &[u8]
+        ensures { result.now ≡ text_of (setting self.now).script span }
+    {
+        span.text(self.script)
+    }
+
+    // The facts round the command of a number.
+    #[tactic(auto, unfolding(crate::specs::Walks::setting))]
+    fn entry(&self, number: u32) -> Option<&Entry>
+        ensures { option_copied result ≡ slice_get (setting self.now).kept.entries.items (number - 1) }
+    {
+        self.certificate
+            .entries
+            .get(number.saturating_sub(1) as usize)
+    }
+
+    /// What is claimed before a command.
+    #[tactic(auto, using(crate::proofs::SlotLemmas::before_known, crate::proofs::SlotLemmas::before_nowhere))]
+    pub fn before(&self, number: u32) -> Knowledge
+        ensures { facts_in (setting self.now) result ≡ known_at (setting self.now) (views.Before number) }
+    {
+        match self.entry(number) {
+            Some(entry) => Knowledge::claimed(&self.certificate.rows, &entry.before),
+            None => Knowledge::NotReached,
+        }
+    }
+
+    /// What is claimed after a command, where its status is zero.
+    #[tactic(auto, using(crate::proofs::SlotLemmas::zero_known, crate::proofs::SlotLemmas::zero_nowhere))]
+    pub fn zero(&self, number: u32) -> Knowledge
+        ensures { facts_in (setting self.now) result ≡ known_at (setting self.now) (views.AfterZero number) }
+    {
+        match self.entry(number) {
+            Some(entry) => Knowledge::claimed(&self.certificate.rows, &entry.zero),
+            None => Knowledge::NotReached,
+        }
+    }
+
+    /// What is claimed after a command, where its status is another one.
+    #[tactic(auto, using(crate::proofs::SlotLemmas::nonzero_known, crate::proofs::SlotLemmas::nonzero_nowhere))]
+    pub fn nonzero(&self, number: u32) -> Knowledge
+        ensures { facts_in (setting self.now) result ≡ known_at (setting self.now) (views.AfterNonzero number) }
+    {
+        match self.entry(number) {
+            Some(entry) => Knowledge::claimed(&self.certificate.rows, &entry.nonzero),
+            None => Knowledge::NotReached,
+        }
+    }
+
+    // The facts at the head of the loop of a number.
+    #[tactic(auto, unfolding(crate::specs::Walks::head_where, crate::specs::Walks::setting))]
+    fn head_facts(&self, number: u32) -> Option<&Facts>
+        ensures { option_copied result ≡ head_of (setting self.now).kept number }
+    {
+        match self.entry(number) {
+            Some(_) => self.certificate.heads.get(&number.max(1)),
+            None => None,
+        }
+    }
+
+    /// What is claimed at each turn of a loop.
+    #[tactic(auto, using(crate::proofs::SlotLemmas::head_known, crate::proofs::SlotLemmas::head_nowhere))]
+    pub fn head(&self, number: u32) -> Knowledge
+        ensures { facts_in (setting self.now) result ≡ known_at (setting self.now) (views.Head number) }
+    {
+        match self.head_facts(number) {
+            Some(facts) => Knowledge::claimed(&self.certificate.rows, facts),
+            None => Knowledge::NotReached,
+        }
+    }
+
+    // The facts round the function of a name.
+    #[tactic(auto, unfolding(crate::specs::Walks::setting))]
+    fn function(&self, name: &[u8]) -> Option<&FunctionEntry>
+        ensures { option_copied result ≡ slots.entry_of (setting self.now).kept (setting self.now).functions name.now }
+    {
+        let place = place_of(name, self.functions)?;
+        self.certificate.functions.get(place)
+    }
+
+    /// What is claimed where a function is entered.
+    #[tactic(auto, using(crate::proofs::SlotLemmas::entry_known, crate::proofs::SlotLemmas::entry_nowhere))]
+    pub fn function_entry(&self, name: &[u8]) -> Knowledge
+        ensures { facts_in (setting self.now) result ≡ known_at (setting self.now) (views.Entry name.now) }
+    {
+        match self.function(name) {
+            Some(entry) => Knowledge::claimed(&self.certificate.rows, &entry.before),
+            None => Knowledge::NotReached,
+        }
+    }
+}
+
+fn position_of(name: &[u8], names: &[Vec<u8>]) -> Option<usize>
+    ensures { result ≡ position (λ v. bytes_eq v.items name.now) names.now }
+{
+    names.iter().position(|other| other.as_slice() == name)
+}
+
+// The place of a name among others, if it is there.
+fn place_of(name: &[u8], names: &[Vec<u8>]) -> Option<usize>
+    ensures { result ≡ number_of (map (λ v. v.items) names.now) name.now }
+{
+    position_of(name, names)
+}
