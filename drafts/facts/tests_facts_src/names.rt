@@ -1,0 +1,179 @@
+use sh_facts::names::Names;
+use sh_facts::policy::{Policy, PolicyFault};
+use sh_grammar::parse;
+use sh_tree::refusal::Refusal;
+use std::alloc::{AllocError, Global};
+use std::process::Abort;
+use std::test::Fail;
+
+/// A script, the names that are declared for it, and its names behind those that every script has, in the order of their numbers.
+struct Row {
+    script: &'static [u8],
+    declared: &'static [&'static [u8]],
+    names: &'static [&'static [u8]],
+}
+
+const FIRST: &[&[u8]] = &[b"IFS", b"OPTIND", b"PPID", b"OPTARG", b"!"];
+
+/// The names of a script under a policy.
+pub fn names_of(alloc: Global, script: &[u8], policy: &Policy) -> Result<Names, Refusal> {
+    let tree = parse(alloc, script)?;
+    Names::new(alloc, &tree, script, policy)
+}
+
+/// Whether the name has this number, and the number this name.
+fn is_numbered(names: &Names, number: u32, name: &[u8]) -> bool {
+    if number >= names.count() {
+        return false;
+    }
+    let found = names.name(number) == name;
+    let back = names.number(name) == Some(number);
+    found && back
+}
+
+/// Holds that the names are those that every script has, and these behind them.
+pub fn check_names(rt: &impl Abort, names: &Names, wanted: &[&[u8]]) {
+    assert_eq!(rt; names.count() as usize, FIRST.len() + wanted.len());
+    let all = FIRST.iter().chain(&*wanted);
+    for (number, name) in (0..names.count()).zip(all) {
+        assert!(rt; is_numbered(names, number, name));
+    }
+}
+
+fn check(rt: &impl Abort, alloc: Global, rows: &[Row]) -> Result<(), Fail> {
+    for row in rows {
+        let policy = Policy::new(alloc, row.declared, 0)?;
+        let names = names_of(alloc, row.script, &policy)?;
+        check_names(rt, &names, row.names);
+    }
+    Ok(())
+}
+
+const BY_FIRST_SIGHT: &[Row] = &[
+    Row {
+        script: b"",
+        declared: &[],
+        names: &[],
+    },
+    Row {
+        script: b"x=1; echo \"$x\"",
+        declared: &[b"HOME", b"x", b"IFS", b"HOME"],
+        names: &[b"HOME", b"x"],
+    },
+    Row {
+        script: b"echo \"$b\" ${a-\"$c\"}; a=1; d=$e $1 $! $# ~",
+        declared: &[],
+        names: &[b"b", b"a", b"c", b"d", b"e"],
+    },
+    Row {
+        script: b"echo $((u = v + ${w%$x} + 1))",
+        declared: &[],
+        names: &[b"u", b"v", b"w", b"x"],
+    },
+];
+
+const BY_UTILITY: &[Row] = &[
+    Row {
+        script: b"unset -v q -- \"z\" a-b; unset -- -f; unset r",
+        declared: &[],
+        names: &[b"q", b"z", b"r"],
+    },
+    Row {
+        script: b"x=$y read -r -- b a; read -d x y x; read -dx k; read -rd",
+        declared: &[],
+        names: &[b"x", b"y", b"b", b"a", b"k"],
+    },
+    Row {
+        script: b"read -p q z; read m $n; read \\o",
+        declared: &[],
+        names: &[b"n", b"o"],
+    },
+    Row {
+        script: b"getopts ab name $w; getopts -x p; getopts $c d; getopts e; getopts f 'g' h",
+        declared: &[],
+        names: &[b"name", b"w", b"c", b"g"],
+    },
+    Row {
+        script: b"export d=1 e; readonly f=$g \"h=1\" i= 1=j; \"export\" k=l; echo m=n",
+        declared: &[],
+        names: &[b"d", b"f", b"g", b"i", b"k"],
+    },
+];
+
+#[test]
+fn by_first_sight(rt: HostRuntime) -> Result<(), Fail> {
+    check(&rt, rt.alloc(), BY_FIRST_SIGHT)
+}
+
+#[test]
+fn by_utility(rt: HostRuntime) -> Result<(), Fail> {
+    check(&rt, rt.alloc(), BY_UTILITY)
+}
+
+/// Texts, and the first that is no name.
+type Declared = (&'static [&'static [u8]], Option<usize>);
+
+const DECLARED: &[Declared] = &[
+    (&[], None),
+    (&[b"a", b"_1"], None),
+    (&[b"a", b"1x", b"-"], Some(1)),
+    (&[b""], Some(0)),
+    (&[b"a", b"!"], Some(1)),
+];
+
+fn first_bad(alloc: Global, texts: &[&[u8]]) -> Result<Option<usize>, PolicyFault> {
+    match Policy::new(alloc, texts, 7) {
+        Ok(_) => Ok(None),
+        Err(PolicyFault::BadName(index)) => Ok(Some(index)),
+        Err(fault) => Err(fault),
+    }
+}
+
+#[test]
+fn declared_names(rt: HostRuntime) -> Result<(), Fail> {
+    for (texts, wanted) in DECLARED {
+        assert_eq!(&rt; first_bad(rt.alloc(), texts)?, *wanted);
+    }
+    Ok(())
+}
+
+/// The policy that declares `n0`, `n1` and so on.
+pub fn declaring(alloc: Global, count: u32) -> Result<Policy, PolicyFault> {
+    let mut texts = Vec::new(alloc);
+    for number in 0..count {
+        texts.push(format!(in alloc; "n{number}")?)?;
+    }
+    let mut declared = Vec::new(alloc);
+    for text in &texts {
+        declared.push(text.as_bytes())?;
+    }
+    Policy::new(alloc, &declared, 0)
+}
+
+/// How many names are declared, and the number of the next one, which the script assigns.
+type Limit = (u32, Result<Option<u32>, Refusal>);
+
+fn last_number(alloc: Global, policy: &Policy) -> Result<Option<u32>, Refusal> {
+    let names = names_of(alloc, b"x=1", policy)?;
+    Ok(names.number(b"x"))
+}
+
+fn check_limits(rt: &impl Abort, alloc: Global, rows: &[Limit]) -> Result<(), PolicyFault> {
+    for (count, wanted) in rows {
+        let policy = declaring(alloc, *count)?;
+        assert_eq!(rt; last_number(alloc, &policy), *wanted, "{count}");
+    }
+    Ok(())
+}
+
+const LIMITS: &[Limit] = &[
+    (0, Ok(Some(5))),
+    (4_090, Ok(Some(4_095))),
+    (4_091, Err(Refusal::TooMany)),
+];
+
+#[test]
+fn to_the_limit(rt: HostRuntime) -> Result<(), Fail> {
+    check_limits(&rt, rt.alloc(), LIMITS)?;
+    Ok(())
+}

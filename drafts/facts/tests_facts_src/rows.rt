@@ -1,0 +1,100 @@
+ghost use Rattle.std.specs.Prelude.{◌≡◌, IfOk};
+
+use sh_facts::certificate::{Certificate, Drops, Entry, Facts, FunctionEntry};
+use sh_facts::rows::{RowId, Rows};
+use sh_rows::bits::BitRow;
+use sh_rows::row::Row;
+use std::alloc::{AllocError, Global};
+use std::test::Fail;
+
+const COUNT: u32 = 70;
+
+/// The numbers of a row, and the place that it has among the rows before it.
+type Kept = (&'static [u32], u32);
+
+const ROWS: &[Kept] = &[
+    (&[], 0),
+    (&[0, 63, 64], 1),
+    (&[69], 2),
+    (&[64, 0, 63], 1),
+    (&[], 0),
+    (&[0, 64], 3),
+];
+
+/// A row of these numbers, where they are below the count.
+pub fn row_of(alloc: Global, count: u32, numbers: &[u32]) -> Result<BitRow, AllocError>
+    ensures { IfOk result (λ r. r.count ≡ count) }
+{
+    let mut row = BitRow::empty(alloc, count)?;
+    for number in numbers {
+        if *number < count {
+            row.add(*number)?;
+        }
+    }
+    Ok(row)
+}
+
+/// Keeps a row of these numbers, and tells its place.
+fn place_of(alloc: Global, rows: &mut Rows, numbers: &[u32]) -> Result<Option<RowId>, AllocError> {
+    if rows.count() != COUNT || rows.len() > 100 {
+        return Ok(None);
+    }
+    let row = row_of(alloc, COUNT, numbers)?;
+    let id = rows.intern(&row)?;
+    Ok(Some(id))
+}
+
+/// Whether the first row is within the second.
+fn is_within(rows: &Rows, part: u32, whole: u32) -> bool {
+    (part as usize) < rows.len()
+        && (whole as usize) < rows.len()
+        && rows.is_within(RowId { index: part }, RowId { index: whole })
+}
+
+#[test]
+fn kept_once(rt: HostRuntime) -> Result<(), Fail> {
+    let mut rows = Rows::new(rt.alloc(), COUNT);
+    for (numbers, index) in ROWS {
+        let place = place_of(rt.alloc(), &mut rows, numbers)?;
+        assert!(rt; place == Some(RowId { index: *index }));
+    }
+    assert!(rt; rows.len() == 4);
+    assert!(rt; is_within(&rows, 3, 1) && is_within(&rows, 0, 2) && is_within(&rows, 2, 2));
+    assert!(rt; !is_within(&rows, 1, 3) && !is_within(&rows, 2, 1));
+    assert!(rt; rows.has(RowId { index: 1 }, 63) && !rows.has(RowId { index: 1 }, 62));
+    assert!(rt; !rows.has(RowId { index: 4 }, 0) && !rows.has(RowId { index: 0 }, COUNT));
+    Ok(())
+}
+
+/// A certificate of 65,535 commands has to fit 4 MiB: three facts of a command in 48 bytes, and the rows beside.
+const _: () = prove!(65_535 * size_of::<Entry>() <= 4 << 20);
+
+#[test]
+fn read_by_numbers(rt: HostRuntime) -> Result<(), Fail> {
+    let mut certificate = Certificate::new(rt.alloc(), COUNT);
+    let empty = RowId { index: 0 };
+    let known = Facts::Known {
+        vars: empty,
+        functions: empty,
+        args: 2,
+    };
+    certificate.entries.push(Entry {
+        before: known,
+        zero: known,
+        nonzero: Facts::NotReached,
+    })?;
+    certificate.heads.insert(1, known)?;
+    certificate.functions.push(FunctionEntry {
+        before: known,
+        drops: Drops {
+            vars: empty,
+            functions: empty,
+        },
+        zero: Facts::NotReached,
+        nonzero: known,
+    })?;
+    assert!(rt; certificate.entry(1).is_some() && certificate.entry(2).is_none());
+    assert!(rt; certificate.head(1) == Some(&known) && certificate.head(2).is_none());
+    assert!(rt; certificate.function(1).is_some() && certificate.function(2).is_none());
+    Ok(())
+}
