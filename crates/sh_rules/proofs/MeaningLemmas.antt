@@ -115,7 +115,7 @@ module _ (x : Setting) (h : AreNumbered x.names) where
   by_option : {E : Type 0} (part : E → value.Facts) (o : Option E) (f : Facts) → f ≡ facts (unwrap_or (option_map (λ e. claim (part e)) o) Unreached) → among x.names f ≡ f
   by_option part o f e = ap (among x.names) e ∙ option_named part o ∙ sym e
 
-  slot_named : (s : Slot) → among x.names (known_at x s) ≡ known_at x s
+  pub slot_named : (s : Slot) → among x.names (known_at x s) ≡ known_at x s
   unfolding known_at
   slot_named (Before n) = by_option (λ (e : Entry). e.before) _ _ (ap facts ((entries x).before n))
   slot_named (AfterZero n) = by_option (λ (e : Entry). e.zero) _ _ (ap facts ((entries x).zero n))
@@ -152,7 +152,7 @@ module _ (x : Setting) (h : AreNumbered x.names) where
     unfolding knows seen_facts among
     nothing_seen = refl
 
-    interprets : Interprets x (knows x d)
+    pub interprets : Interprets x (knows x d)
     interprets = record { slot = slot_seen; gain = gain_seen; job = job_seen; joined = joined_seen; nothing = nothing_seen; twice = λ s. meet_twice (knows x d s) }
 
 listed : {A B : Type 0} (f : A → B) (ms : List B) (es : List A) → fold (λ ns m. ns ++ m ∷ []) ms (map f es) ≡ ms ++ map f es

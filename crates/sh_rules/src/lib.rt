@@ -4,6 +4,7 @@
 pub mod around;
 pub mod behind;
 pub mod claims;
+pub mod fault;
 pub mod gains;
 pub mod laws;
 mod slots;
