@@ -38,6 +38,7 @@ use Rattle.sh_tree.specs.program.Syntax as p
 use Rattle.sh_tree.specs.program.Trees as trees
 use Rattle.sh_tree.proofs.ProgramRules as rules
 use Rattle.sh_facts.specs.Entries.{is_long}
+use Rattle.sh_check.specs.DropWalks.{shared_step}
 use Rattle.sh_check.specs.Own.{own_places}
 use Rattle.sh_check.specs.Places.{Source, known_before, command_places}
 use Rattle.sh_check.specs.Told.{Teller, item_shares, part_shares, items_told, list_told, links_told, pipeline_told, commands_told, command_told, kind_told, elements_told, redirect_told, redirects_told, branches_told, otherwise_told, for_words_told, words_told, clauses_told, word_told, part_told, operator_told, expression_told, operands_told}
@@ -146,8 +147,10 @@ command_out f b s ps c =
 
 pub own_out : (b : List ℕ) (x : Source) (s : Bool) (ps : List Place) (c : Command)
     → command_places x s ps (trees.command_of b c)
-    ≡ own_places (known_before x (out-Command c).number) ps (trees.kind_of b (out-Command c).kind) (redirects_from b (out-Command c).redirects)
-unfolding command_places
+    ≡ shared_step b x s (out-Command c).number (out-Command c).at
+    (own_places (known_before x (out-Command c).number) ps (trees.kind_of b (out-Command c).kind) (redirects_from b (out-Command c).redirects))
+    (out-Command c).kind
+unfolding command_places shared_step
 own_out b x s ps c = ap (command_places x s ps) (rules.command_of-out b c)
 
 -- kinds
