@@ -1,7 +1,6 @@
 -- What the flow rules ask of a compound command over views is what they ask over facts.
-use Rattle.std.proofs.Common.{◌≡◌, ℕ, Bool, true, false, ◌&&◌, ◌||◌, Option, List, [], ◌∷◌, ◌++◌, if◌then◌else◌, refl, sym, ap, ap₂, ◌∙◌}
+use Rattle.std.proofs.Common.{true≢false, ◌≡◌, ℕ, Bool, true, false, ◌&&◌, ◌||◌, Option, List, [], ◌∷◌, ◌++◌, if◌then◌else◌, refl, sym, ap, ap₂, ◌∙◌}
 use Rattle.std.specs.Str.{bytes_eq}
-use Rattle.sh_tree.specs.declared.tree.ClauseEnd.{ClauseEnd}
 use Rattle.sh_tree.specs.declared.tree.LoopKind.{LoopKind}
 use Rattle.sh_tree.specs.declared.tree.LoopKind.TheVariants as loop
 use Rattle.sh_tree.specs.program.Syntax as p
@@ -24,9 +23,10 @@ use Rattle.sh_facts.specs.Views.{Certificate, Slot, Before, AfterZero, AfterNonz
 use Rattle.sh_facts.specs.Views as views
 use Rattle.sh_facts.proofs.MeetLemmas.{known_same, seen_is_meet}
 use Rattle.sh_rules.specs.Settings.{Setting, certificate, known_at, gained}
-use Rattle.sh_rules.specs.Behind.{Behind, both, either, in_any_case, turns, falls}
-use Rattle.sh_rules.specs.Walked.{Trail, trail}
+use Rattle.sh_rules.specs.Behind.{Behind, both, in_any_case, turns, falls}
+use Rattle.sh_rules.specs.Walked.{trail}
 use Rattle.sh_rules.specs.Meaning.{knows}
+use Rattle.sh_rules.specs.Asked.{is_compound, AskedOfFacts}
 use Rattle.sh_rules.specs.Bounds.{fault, ends, behind_list, defined, list_left, told_within, leaves_told, branches_told, otherwise_told, loop_told, for_told, clause_told, clauses_told, unmatched_told, body_told, compound_told, redirects_told}
 use Rattle.sh_rules.proofs.EnteredLemmas.{Interprets, behind_of, zero_same, nonzero_same, any_same, items_same, turns_same, falls_same}
 use Rattle.sh_rules.proofs.MeaningLemmas.{interprets}
@@ -239,3 +239,22 @@ module _ (x : Setting) (h : AreNumbered x.names) (d : Declared) where
   unfolding compound_told r.kind_bounds
   subshell_same functions y n s list best =
       leaves_at n F11 (Both (at (Before n))) (both (known_at x (Before n))) best (both_at (at (Before n)) (known_at x (Before n)) (slot_at (Before n)))
+
+  kind_same : (functions : List Text) (y : e.Around) (n : ℕ) (s : Seen) (k : p.Kind) (best : Option Fault) → is_compound k ≡ true
+      → all best (r.kind_bounds functions y n s k) ≡ compound_told x n (known s) k best
+  unfolding is_compound
+  kind_same functions y n s (p.Simple es) best it = absurd (true≢false (sym it))
+  kind_same functions y n s (p.Group list) best it = group_same functions y n s list best
+  kind_same functions y n s (p.Subshell list) best it = subshell_same functions y n s list best
+  kind_same functions y n s (p.Conditional bs t) best it = conditional_same functions y n s bs t best
+  kind_same functions y n s (p.Loop kind condition body) best it = loop_same functions y n s kind condition body best
+  kind_same functions y n s (p.For name ws body) best it = for_same functions y n s name ws body best
+  kind_same functions y n s (p.Case w cs) best it = case_same functions y n s w cs best
+  kind_same functions y n s (p.Define name body) best it = define_same functions y n s name body best
+
+pub asked_of_facts : AskedOfFacts
+asked_of_facts = record {
+  place = λ x d slot n rule s best h. bound_told x h d slot n rule s best;
+  compound = λ x d functions y n s k best h. kind_same x h d functions y n s k best;
+  redirects = λ x d n rs best h. redirects_same x h d n rs best;
+}

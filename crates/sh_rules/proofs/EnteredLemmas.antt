@@ -1,6 +1,6 @@
 -- The walk over facts keeps what is kept of the commands as they are entered.
-use Rattle.std.proofs.Common.{◌≡◌, ℕ, min, Bool, true, false, not, ◌&&◌, ◌||◌, List, [], ◌∷◌, ◌++◌, map, fold, refl, sym, ap, ap₂, ◌∙◌, arith}
-use Rattle.std.proofs.lemmas.List.{append-nil, map-append}
+use Rattle.std.proofs.Common.{◌≡◌, ℕ, Bool, true, false, List, [], ◌∷◌, ◌++◌, map, fold, refl, sym, ap, ap₂, ◌∙◌}
+use Rattle.std.proofs.lemmas.List.{map-append}
 use Rattle.std.proofs.lemmas.List.Sums.{fold-append}
 use Rattle.sh_tree.specs.declared.tree.ClauseEnd.{ClauseEnd}
 use Rattle.sh_tree.specs.declared.tree.ClauseEnd.TheVariants as clause
@@ -16,7 +16,7 @@ use Rattle.sh_facts.specs.declared.rule.FlowRule.{FlowRule}
 use Rattle.sh_facts.specs.declared.rule.FlowRule.TheVariants.{F1, F2, F3, F6, F7, F8, F9, F10, F11, F13}
 use Rattle.sh_facts.specs.Entries as e
 use Rattle.sh_facts.specs.Entries.{Around, Entered}
-use Rattle.sh_facts.specs.Facts.{Facts, NotReached, Known, meet}
+use Rattle.sh_facts.specs.Facts.{Facts, NotReached, meet}
 use Rattle.sh_facts.specs.Gains.{Gains, no_gains, and_gains, named, job, sure, operator_gains, assigned_in, part_gains, word_gains, words_gains, expanded_gains, operands_gains, redirect_gains, redirects_gains}
 use Rattle.sh_facts.specs.Views.{Slot, Before, AfterZero, AfterNonzero, Head, Entry, Seen, After, Both, Each, if_zero, if_nonzero, at, gaining}
 use Rattle.sh_facts.specs.Views as views

@@ -15,7 +15,7 @@ use Rattle.sh_facts.specs.declared.knowledge.Knowledge.{Knowledge}
 use Rattle.sh_facts.specs.declared.knowledge.Knowledge.TheVariants as knowledge
 use Rattle.sh_facts.specs.Knowledge.{AreNumbered, knowledge_facts}
 use Rattle.sh_facts.specs.Names.{number_of}
-use Rattle.sh_facts.specs.Facts.{Facts, NotReached, Claim, Unreached, facts}
+use Rattle.sh_facts.specs.Facts.{NotReached, Claim, Unreached, facts}
 use Rattle.sh_facts.specs.Sheets.{claim_at, nowhere}
 use Rattle.sh_facts.specs.Slots.{ClaimsAreEntries, entry_of}
 use Rattle.sh_facts.specs.Views.{Before, AfterZero, AfterNonzero, Head, Entry as Entered}

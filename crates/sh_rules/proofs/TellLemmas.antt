@@ -1,10 +1,9 @@
 -- What is told of a compound command of a tree, by the pieces one level below it.
-use Rattle.std.proofs.Common.{◌≡◌, ℕ, Bool, true, false, Option, Some, None, List, [], ◌∷◌, fold, refl, sym, ap, ap₂, ◌∙◌, ◌||◌, codes}
+use Rattle.std.proofs.Common.{◌≡◌, ℕ, Bool, true, false, Option, Some, None, List, [], ◌∷◌, fold, refl, sym, ap, ap₂, ◌∙◌, ◌≤◌, ◌<◌, ◌-◌, length, get_or, take, drop, arith, ◌||◌, codes}
+use Rattle.std.proofs.lemmas.List.{take_all}
 use Rattle.std.specs.List.{list_any}
-use Rattle.std.specs.Str.{bytes_eq}
-use Rattle.sh_tree.specs.declared.tree.Branch.{Branch, out-Branch}
+use Rattle.sh_tree.specs.declared.tree.Branch.{Branch}
 use Rattle.sh_tree.specs.declared.tree.Clause.{Clause, out-Clause}
-use Rattle.sh_tree.specs.declared.tree.ClauseEnd.{ClauseEnd}
 use Rattle.sh_tree.specs.declared.tree.ClauseEnd.TheVariants as clause
 use Rattle.sh_tree.specs.declared.tree.Command.{Command, out-Command}
 use Rattle.sh_tree.specs.declared.tree.Element.{Element}
@@ -15,22 +14,25 @@ use Rattle.sh_tree.specs.declared.tree.Script.{Script}
 use Rattle.sh_tree.specs.declared.tree.Span.{Span}
 use Rattle.sh_tree.specs.declared.tree.Word.{Word}
 use Rattle.sh_tree.specs.Tree.{text_of}
-use Rattle.sh_tree.specs.program.Lists.{parts_from, words_from, elements_from, branches_from, otherwise_from, for_words_from, clauses_from}
-use Rattle.sh_tree.specs.program.Syntax as p
+use Rattle.sh_tree.specs.program.Lists.{parts_from, words_from, branches_from, otherwise_from, for_words_from, clauses_from}
+use Rattle.sh_tree.specs.program.Syntax.{Text}
 use Rattle.sh_tree.specs.program.Trees as trees
 use Rattle.sh_tree.specs.program.Trees.{part_of}
 use Rattle.sh_tree.specs.program.Words.{is_plainly, words_in}
 use Rattle.sh_tree.proofs.ProgramRules as rules
-use Rattle.sh_facts.specs.declared.rule.FlowRule.TheVariants.{F6, F10, F11}
-use Rattle.sh_facts.specs.Facts.{Facts, NotReached, meet}
+use Rattle.sh_facts.specs.declared.rule.FlowRule.TheVariants.{F10, F11}
+use Rattle.sh_facts.specs.Facts.{Facts, NotReached}
 use Rattle.sh_facts.specs.Faults.{Fault}
 use Rattle.sh_facts.specs.Gains.{word_gains, words_gains}
 use Rattle.sh_facts.specs.Rules.{is_last, matches_always}
-use Rattle.sh_facts.specs.Views.{Before}
-use Rattle.sh_rules.specs.Settings.{Setting, known_at, gained}
+use Rattle.sh_facts.specs.Knowledge.{among, knowledge_facts}
+use Rattle.sh_facts.specs.declared.knowledge.Knowledge.{Knowledge}
+use Rattle.sh_facts.specs.Views.{Certificate, Before, Define, step}
+use Rattle.sh_rules.specs.declared.claims.Claims.{Claims}
+use Rattle.sh_rules.specs.Settings.{Setting, certificate, known_at, gained}
 use Rattle.sh_rules.specs.Behind.{both}
 use Rattle.sh_rules.specs.Walked.{Trail, trail}
-use Rattle.sh_rules.specs.Walks.{script_behind}
+use Rattle.sh_rules.specs.Walks.{script_behind, facts_in, setting}
 use Rattle.sh_rules.specs.Bounds.{fault, behind_list, told_within, leaves_told, clauses_told, compound_told, body_told, unmatched_told}
 use Rattle.sh_rules.specs.Bounds as b
 use Rattle.sh_rules.specs.Tells.{script_left, branch_told, otherwise_told, ends_case, is_star, has_star, clauses_left, clause_left, word_gained, for_words_gained, loop_left, for_left, case_left, returns_told, define_left, kind_told}
@@ -108,7 +110,7 @@ for_words_same x k (Some ws) = words_folded x k ws
 
 -- each kind
 
-body_out : (x : Setting) (f : p.Text) (c : Command) (best : Option Fault) → body_told x f (trees.command_of x.script c) best ≡ returns_told x f (out-Command c).number best
+body_out : (x : Setting) (f : Text) (c : Command) (best : Option Fault) → body_told x f (trees.command_of x.script c) best ≡ returns_told x f (out-Command c).number best
 unfolding body_told
 body_out x f c best = ap (λ d. body_told x f d best) (rules.command_of-out x.script c)
 
@@ -153,3 +155,43 @@ kind_told-Branches x n k v cs best =
     ap (λ q. compound_told x n k q best) (rules.kind_of-Branches x.script v cs) ∙ case_same x n (word_gained x k v) cs best
 
 pub ruleset told_kinds = (kind_told-Simple, kind_told-Group, kind_told-Subshell, kind_told-Cond, kind_told-Loop, kind_told-For, kind_told-Branches, kind_told-Define)
+
+pub ruleset ends = (ends_case-Break, ends_case-empty, ends_case-more)
+
+-- a definition, by what a set of names becomes
+
+pub defined_known : (c : Claims) (name : Text) (k l : Knowledge)
+    → ((d : Certificate) → knowledge_facts c.names.now l ≡ among c.names.now (step d (Define name) (knowledge_facts c.names.now k)))
+    → facts_in (setting c) l ≡ b.defined (setting c) name (facts_in (setting c) k)
+unfolding b.defined facts_in setting
+defined_known c name k l h = h (certificate (setting c))
+
+-- the clauses of `case`, one after the other
+
+pub none_left : (s : List ℕ) (cs : List Clause) → length cs < 1 → true ≡ ends_case s clause.FallThrough cs
+none_left s [] h = sym (ends_case-empty s)
+none_left s (c ∷ cs) h = absurd (omega (arith, h))
+
+pub some_left : (s : List ℕ) (cs : List Clause) → 1 ≤ length cs → false ≡ ends_case s clause.FallThrough cs
+some_left s [] h = absurd (omega (arith, h))
+some_left s (c ∷ cs) h = sym (ends_case-more s c cs)
+
+pub clause_through : (x : Setting) (n : ℕ) (k : Facts) (t u : Trail (Option Fault)) (last : Bool) (cs : List Clause) (c : Clause) → 1 ≤ length cs → c ≡ get_or cs 0 c
+    → ((s : List ℕ) → last ≡ ends_case s (out-Clause c).end (take (length cs - 1) (drop 1 cs))) → u ≡ clause_left x n k t last c
+    → clauses_left x n k u (take (length cs - 1) (drop 1 cs)) ≡ clauses_left x n k t cs
+clause_through x n k t u last [] c l at e m = absurd (omega (arith, l))
+clause_through x n k t u last (d ∷ ds) c l at e m =
+    let all : take (length (d ∷ ds) - 1) ds ≡ ds = take_all (length (d ∷ ds) - 1) ds (omega arith) in
+    let same : c ≡ d = at in
+    ap₂ (clauses_left x n k) (m ∙ ap₂ (clause_left x n k t) (e x.script ∙ ap₂ (λ y xs. ends_case x.script (out-Clause y).end xs) same all) same) all
+    ∙ sym (clauses_left-more x n k t d ds)
+
+pub clauses_done : (x : Setting) (n : ℕ) (k : Facts) (t : Trail (Option Fault)) (cs : List Clause) → length cs < 1 → t ≡ clauses_left x n k t cs
+clauses_done x n k t [] h = sym (clauses_left-empty x n k t)
+clauses_done x n k t (c ∷ cs) h = absurd (omega (arith, h))
+
+pub case_told : (x : Setting) (n : ℕ) (k : Facts) (cs : List Clause) (best mid new : Option Fault) (always : Bool) (f g : Facts)
+    → new ≡ unmatched_told x n always k mid → always ≡ list_any (has_star x.script) cs → trail f mid ≡ clauses_left x n k (trail g best) cs → g ≡ NotReached
+    → new ≡ case_left x n k cs best
+case_told x n k cs best mid new always f g h a e same =
+    h ∙ ap₂ (λ b m. unmatched_told x n b k m) a (ap (λ (t : Trail (Option Fault)). t.kept) e ∙ ap (λ g. (clauses_left x n k (trail g best) cs).kept) same)

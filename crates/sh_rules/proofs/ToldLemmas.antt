@@ -1,5 +1,5 @@
 -- What several views are asked is what their meet is asked.
-use Rattle.std.proofs.Common.{◌≡◌, ℕ, Bool, true, false, ◌&&◌, if◌then◌else◌, Option, Some, None, List, [], ◌∷◌, ◌++◌, flat_map, map, fold, refl, sym, ap, ap₂, ◌∙◌, subst, arith}
+use Rattle.std.proofs.Common.{◌≡◌, ℕ, Bool, true, false, ◌&&◌, if◌then◌else◌, Option, Some, None, List, [], ◌∷◌, ◌++◌, flat_map, fold, refl, sym, ap, ◌∙◌, subst, arith}
 use Rattle.std.proofs.lemmas.Bool.{and_parts, and_from}
 use Rattle.std.proofs.lemmas.Grind.{flat_map-append}
 use Rattle.std.proofs.lemmas.List.Sums.{fold-append}
@@ -10,7 +10,7 @@ use Rattle.sh_facts.specs.Facts.{Facts, NotReached, Known, Claim, facts, meet, w
 use Rattle.sh_facts.specs.Faults.{Fault, precedes, lesser, told, broken}
 use Rattle.sh_facts.specs.Knowledge.{AreNumbered, among}
 use Rattle.sh_facts.specs.Order.{IsWithin, seen_facts}
-use Rattle.sh_facts.specs.Rules.{Constraint, Within, bound}
+use Rattle.sh_facts.specs.Rules.{Constraint, bound}
 use Rattle.sh_facts.specs.Views.{Slot, Seen, view_facts}
 use Rattle.sh_facts.proofs.KnowledgeLemmas.{same_tests}
 use Rattle.sh_facts.proofs.OrderLemmas.{known_within, known_parts, within_nowhere, nowhere_known, within_itself, within_through, within_test, meet_first, meet_second, meet_greatest}

@@ -5,4 +5,5 @@ pub mod Walks
 pub mod Steps
 pub mod Meaning
 pub mod Bounds
+pub mod Asked
 pub mod Tells

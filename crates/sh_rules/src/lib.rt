@@ -3,6 +3,7 @@
 
 pub mod around;
 pub mod behind;
+pub mod bounds;
 pub mod claims;
 pub mod fault;
 pub mod gains;
