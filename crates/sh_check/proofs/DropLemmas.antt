@@ -1,6 +1,6 @@
 -- The places of the names that a command may drop, by the pieces that name them.
-use Rattle.std.proofs.Common.{◌≡◌, ℕ, Bool, true, false, not, ◌&&◌, ◌||◌, cond, if◌then◌else◌, List, [], ◌∷◌, ◌++◌, drop, filter, fold, length, map, Option, Some, None, is_some, refl, sym, ap, ap₂, ◌∙◌, Result, Ok, Err, OnOk, ◌==◌, ◌<◌, arith, Vec, Global}
-use Rattle.std.specs.List.{cons_option, filter_map, list_all, list_any}
+use Rattle.std.proofs.Common.{◌≡◌, ℕ, Bool, true, false, not, ◌&&◌, ◌||◌, cond, if◌then◌else◌, List, [], ◌∷◌, ◌++◌, drop, filter, fold, length, map, Option, Some, None, refl, sym, ap, ap₂, ◌∙◌, ◌==◌, ◌<◌, arith, Vec, Global}
+use Rattle.std.specs.List.{cons_option, list_all, list_any}
 use Rattle.std.specs.Str.{bytes_eq}
 use Rattle.std.proofs.lemmas.List.Sums.{fold-append}
 use Rattle.sh_tree.specs.declared.place.Place.{Place}
@@ -9,7 +9,6 @@ use Rattle.sh_tree.specs.declared.tree.Clause.{Clause}
 use Rattle.sh_tree.specs.declared.tree.Command.{Command}
 use Rattle.sh_tree.specs.declared.tree.Element.{Element, Assignment', Word', Redirection'}
 use Rattle.sh_tree.specs.declared.tree.Element.TheVariants as element
-use Rattle.sh_tree.specs.declared.tree.Kind.{Kind}
 use Rattle.sh_tree.specs.declared.tree.Kind.TheVariants as kind
 use Rattle.sh_tree.specs.declared.tree.LoopKind.{LoopKind}
 use Rattle.sh_tree.specs.declared.tree.Redirect.{Redirect}
@@ -21,14 +20,13 @@ use Rattle.sh_tree.specs.language.Bytes.{is_name}
 use Rattle.sh_tree.specs.program.Lists.{element_from, elements_from}
 use Rattle.sh_tree.specs.program.Syntax as p
 use Rattle.sh_tree.specs.program.Syntax.{Text}
-use Rattle.sh_tree.specs.program.Trees as trees
 use Rattle.sh_tree.specs.program.Words.{assignments_in}
 use Rattle.sh_tree.proofs.ProgramRules as rules
 use Rattle.sh_table.specs.Profile.{Static}
 use Rattle.sh_table.specs.WordTexts.{text_in}
 use Rattle.sh_table.specs.declared.word_text.WordText.{WordText}
 use Rattle.sh_table.specs.runs.Environment.{is_one_of}
-use Rattle.sh_table.specs.runs.Operands.{Removal, OfVariables, OfFunctions, OfEither, OfAny, removal_of, unset_from, unset_operands, ends_options, is_dashed}
+use Rattle.sh_table.specs.runs.Operands.{Removal, OfVariables, OfFunctions, OfEither, OfAny, removal_of, unset_from, ends_options, is_dashed}
 use Rattle.sh_facts.specs.declared.numbered.Numbered.{Numbered}
 use Rattle.sh_facts.specs.declared.rows.RowId.{RowId}
 use Rattle.sh_facts.specs.Certificates.{names_at}

@@ -1,6 +1,6 @@
 -- What a simple command may drop, by the static texts of its words, is what the demands say.
-use Rattle.std.proofs.Common.{◌≡◌, ℕ, suc, ◌-◌, ◌+◌, Bool, true, false, not, ◌&&◌, ◌||◌, cond, if◌then◌else◌, List, [], ◌∷◌, ◌++◌, append-nil, codes, filter, flat_map, map, Option, Some, None, is_some, refl, sym, ap, ap₂, ◌∙◌, true≢false}
-use Rattle.std.specs.List.{cons_option, filter_map, position_from}
+use Rattle.std.proofs.Common.{◌≡◌, ℕ, ◌+◌, Bool, true, false, not, ◌&&◌, ◌||◌, cond, if◌then◌else◌, List, [], ◌∷◌, ◌++◌, append-nil, codes, filter, flat_map, map, Option, Some, None, is_some, refl, sym, ap, ap₂, ◌∙◌}
+use Rattle.std.specs.List.{cons_option, position_from}
 use Rattle.std.specs.Str.{bytes_eq}
 use Rattle.std.proofs.lemmas.List.Elements.{filter_agree}
 use Rattle.sh_tree.specs.declared.known.KnownName.TheVariants as known

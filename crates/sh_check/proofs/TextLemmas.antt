@@ -1,5 +1,5 @@
 -- The static texts that a call table keeps of a command are those of its words, wherever it is entered.
-use Rattle.std.proofs.Common.{◌≡◌, ℕ, Bool, true, false, ◌&&◌, List, [], ◌∷◌, map, Option, Some, None, refl, sym, ap, ap₂, ◌∙◌, true≢false}
+use Rattle.std.proofs.Common.{◌≡◌, ℕ, Bool, true, false, ◌&&◌, List, [], ◌∷◌, map, Some, None, refl, sym, ap, ap₂, ◌∙◌, true≢false}
 use Rattle.std.specs.List.{list_all}
 use Rattle.std.specs.Str.{bytes_eq}
 use Rattle.std.proofs.lemmas.Bool.{and_parts, and_from}
@@ -10,7 +10,7 @@ use Rattle.sh_tree.specs.program.Words.{static_of}
 use Rattle.sh_table.specs.Calls.{Row, row_of, texts_with}
 use Rattle.sh_table.specs.Numbering.{is_numbered}
 use Rattle.sh_table.specs.Profile.{Static}
-use Rattle.sh_table.specs.Sites.{Site, site_of, form_of, statics, sites_of}
+use Rattle.sh_table.specs.Sites.{site_of, form_of, statics, sites_of}
 use Rattle.sh_table.specs.Surroundings.{Surroundings, Located, outside, items_located}
 use Rattle.sh_table.proofs.NumberLemmas.{Tells, numbered_tells}
 use Rattle.sh_facts.specs.Entries.{Entered, script_entered}

@@ -1,5 +1,5 @@
 -- What the walk tells of a whole script are its demands.
-use Rattle.std.proofs.Common.{◌≡◌, ℕ, suc, ◌-◌, ◌+◌, Bool, true, false, not, ◌&&◌, if◌then◌else◌, List, [], ◌∷◌, ◌++◌, append_assoc, append-nil, flat_map, fold, map, length, Option, Some, None, slice_get, unwrap_or, option_map, option_and_then, refl, sym, ap, ap₂, ◌∙◌, arith, Result, Ok, Err, IfOk, Vec, Global}
+use Rattle.std.proofs.Common.{◌≡◌, ℕ, suc, ◌-◌, Bool, true, false, ◌&&◌, if◌then◌else◌, List, [], ◌∷◌, ◌++◌, append_assoc, append-nil, flat_map, fold, map, Option, Some, None, slice_get, unwrap_or, option_map, option_and_then, refl, sym, ap, ap₂, ◌∙◌, arith, Result, Ok, Err, IfOk, Vec, Global}
 use Rattle.std.specs.List.{list_all, position_from}
 use Rattle.std.specs.Str.{bytes_eq}
 use Rattle.std.proofs.lemmas.Bool.{and_parts}
@@ -13,7 +13,6 @@ use Rattle.sh_tree.specs.program.Words.{static_of, operands_in}
 use Rattle.sh_table.specs.Calls as calls
 use Rattle.sh_table.specs.Calls.{Table, row_of, table_of, texts_with}
 use Rattle.sh_table.specs.Numbering.{is_numbered}
-use Rattle.sh_table.specs.Sites.{sites_of}
 use Rattle.sh_table.specs.runs.Environment.{is_one_of}
 use Rattle.sh_table.proofs.FunctionLemmas.{place_later}
 use Rattle.sh_facts.specs.declared.certificate.Certificate as kept
@@ -24,27 +23,25 @@ use Rattle.sh_facts.specs.declared.rule.FlowRule.{FlowRule}
 use Rattle.sh_facts.specs.Certificates.{claim_of, drops_of, in_byte_order, sheet_of}
 use Rattle.sh_facts.specs.Demands.{kind_unmet, with_text, drop_at, move_at, is_reached, command_moves, shared_unmet, unmet, demands}
 use Rattle.sh_facts.specs.Entries.{Around, Entered, script_entered}
-use Rattle.sh_facts.specs.Facts.{Claim, Unreached, Facts, NotReached, Known, Declared, facts, claims, Nowhere}
+use Rattle.sh_facts.specs.Facts.{Unreached, Facts, NotReached, Known, Declared, facts, claims}
 use Rattle.sh_facts.specs.Gains.{words_gains, redirects_gains, with_gains}
 use Rattle.sh_facts.specs.Knowledge.{AreNumbered}
 use Rattle.sh_facts.specs.Names.{number_of}
 use Rattle.sh_facts.specs.Needs.{redirects_unmet}
-use Rattle.sh_facts.specs.Operands.{Names, no_names}
+use Rattle.sh_facts.specs.Operands.{no_names}
 use Rattle.sh_facts.specs.Rules.{functions_of, losses}
 use Rattle.sh_facts.specs.Sheets.{certificate_of}
 use Rattle.sh_facts.specs.Table.{operands, manner}
 use Rattle.sh_facts.specs.Views.{Certificate, Before, Seen}
 use Rattle.sh_facts.proofs.KnownNameLemmas.{names_suffice}
 use Rattle.sh_facts.proofs.SlotLemmas.{claims_are_entries}
-use Rattle.sh_check.specs.Drops.{all_told}
 use Rattle.sh_check.specs.Moves.{moves_by}
-use Rattle.sh_check.specs.Own.{own_places}
 use Rattle.sh_check.specs.Places.{Source, source_of, known_before, known_behind, function_drops, texts_drops, sharing, reached_sharing, shared, command_places}
 use Rattle.sh_check.specs.Tellings.{entered_told}
 use Rattle.sh_check.specs.Told.{items_told}
 use Rattle.sh_check.specs.ToldWalks.{script_step}
 use Rattle.sh_check.specs.Whole.{AreNamesOf, DemandsAreTold, kept_claims}
-use Rattle.sh_check.specs.Within.{command_within, redirects_within, kind_within, elements_within}
+use Rattle.sh_check.specs.Within.{command_within, redirects_within, kind_within}
 use Rattle.sh_check.proofs.DefinedLemmas.{functions_same}
 use Rattle.sh_check.proofs.EnteredLemmas.{script_goes}
 use Rattle.sh_check.proofs.LossLemmas.{names_lost, losses_told, losses_nowhere}

@@ -1,4 +1,4 @@
-use Rattle.std.proofs.Common.{◌≡◌, ◌<◌, length, arith}
+use Rattle.std.proofs.Common.{arith}
 use Rattle.sh_check.proofs.DropLemmas.{functions_always, functions_taken}
 use Rattle.sh_check.proofs.drops.takes_functions.Goals as goal
 

@@ -1,4 +1,4 @@
-use Rattle.std.proofs.Common.{◌≡◌, ◌<◌, ◌||◌, true, false, not, length, arith, rules, sym, ap, ◌∙◌}
+use Rattle.std.proofs.Common.{◌≡◌, ◌||◌, true, false, not, arith, rules, sym, ap, ◌∙◌}
 use Rattle.sh_check.proofs.DropLemmas.{variables_always, variables_taken}
 use Rattle.sh_check.proofs.drops.takes_variables.Goals as goal
 
