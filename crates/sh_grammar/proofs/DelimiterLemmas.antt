@@ -1,5 +1,5 @@
 -- Delimiters of here-documents.
-use Rattle.std.proofs.Common.{◌≡◌, true, false, not, ◌&&◌, cond, List, Option, Some, None, ℕ, refl, sym, ap, ◌∙◌}
+use Rattle.std.proofs.Common.{◌≡◌, true, false, not, ◌&&◌, List, Option, Some, None, ℕ, refl, sym, ap, ◌∙◌}
 use Rattle.std.specs.List.{list_any}
 use Rattle.std.proofs.lemmas.Bool.{and_right, cond-true, cond-false}
 use Rattle.sh_tree.specs.Tree.{text_of}

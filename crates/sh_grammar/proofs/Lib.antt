@@ -22,3 +22,6 @@ pub mod FaultLemmas
 pub mod BranchLemmas
 pub mod CaseLemmas
 pub mod DelimiterLemmas
+pub mod KeptLemmas
+pub mod LineLemmas
+pub mod QuoteLemmas

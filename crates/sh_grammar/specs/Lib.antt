@@ -14,3 +14,5 @@ pub mod Branches
 pub mod Cases
 pub mod Delimiters
 pub mod Targets
+pub mod Lines
+pub mod Quotes
