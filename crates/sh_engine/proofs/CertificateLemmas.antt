@@ -1,5 +1,5 @@
 -- What is read of a certificate's text, and what is refused of it.
-use Rattle.std.proofs.Common.{ℕ, List, length, Result, Ok, Err, IfOk, IfErr, subst}
+use Rattle.std.proofs.Common.{ℕ, List, length, Result, Ok, Err, subst}
 use Rattle.sh_tree.specs.declared.refusal.Refusal.{Refusal}
 use Rattle.sh_tree.specs.declared.refusal.Refusal.TheVariants.{TooLong, NulByte, Syntax, LeftOut, TooDeep, TooMany, Memory, Profile, CertSyntax, CertShape}
 use Rattle.sh_tree.specs.program.Syntax.{Text}
@@ -8,8 +8,8 @@ use Rattle.sh_facts.specs.Facts.{Declared}
 use Rattle.sh_facts.specs.Reading.{Reads}
 use Rattle.sh_facts.specs.declared.certificate.Certificate.{Certificate}
 use Rattle.sh_accept.specs.Accepted.{IsAdmitted, functions_in}
-use Rattle.sh_accept.specs.Answers.{IsCertified, Refuses, RefusesText}
-use Rattle.sh_engine.specs.Prepared.{IsPrepared, sheet_in}
+use Rattle.sh_accept.specs.Answers.{Refuses, RefusesText}
+use Rattle.sh_engine.specs.Prepared.{IsPrepared, AnswersText}
 use Rattle.sh_engine.specs.declared.prepared.Prepared.{Prepared}
 
 module _ (b : List ℕ) (d : Declared) (text : Text) where
@@ -17,13 +17,6 @@ module _ (b : List ℕ) (d : Declared) (text : Text) where
   reads_whole : (p : Prepared) (r : Result Certificate Refusal) → IsPrepared b d p → Reads text p.tree (length p.table.functions.names) p.names r
       → Reads text p.tree (length (functions_in b p.tree)) p.names r
   reads_whole p r i h = subst (λ (x : Table). Reads text p.tree (length x.functions.names) p.names r) i.table h
-
-  pub certified : (p : Prepared) (r : Result Certificate Refusal) → IsPrepared b d p → Reads text p.tree (length p.table.functions.names) p.names r
-      → IfOk r (λ c. IsCertified b d text p.tree (sheet_in p c))
-  certified p (Err e) i h = tt
-  certified p (Ok c) i h =
-      let whole = reads_whole p (Ok c) i h in
-      record { names = p.names; admitted = i.admitted; claims = whole.2.claims; fit = record { loops = whole.0; are_loops = whole.1; fit = whole.2.fit } }
 
   refusal : (p : Prepared) (e : Refusal) → IsAdmitted b d p.tree p.names → Reads text p.tree (length (functions_in b p.tree)) p.names (Err e)
       → Refuses b d (RefusesText b d text) e
@@ -38,7 +31,9 @@ module _ (b : List ℕ) (d : Declared) (text : Text) where
   refusal p (CertSyntax n) a h = (p.tree, p.names, a, h)
   refusal p CertShape a h = (p.tree, p.names, a, h)
 
-  pub uncertified : (p : Prepared) (r : Result Certificate Refusal) → IsPrepared b d p → Reads text p.tree (length p.table.functions.names) p.names r
-      → IfErr r (Refuses b d (RefusesText b d text))
-  uncertified p (Ok c) i h = tt
-  uncertified p (Err e) i h = refusal p e i.admitted (reads_whole p (Err e) i h)
+  pub answered : (p : Prepared) (r : Result Certificate Refusal) → IsPrepared b d p → Reads text p.tree (length p.table.functions.names) p.names r
+      → AnswersText b d text p r
+  answered p (Err e) i h = refusal p e i.admitted (reads_whole p (Err e) i h)
+  answered p (Ok c) i h =
+      let whole = reads_whole p (Ok c) i h in
+      record { names = p.names; admitted = i.admitted; claims = whole.2.claims; fit = record { loops = whole.0; are_loops = whole.1; fit = whole.2.fit } }

@@ -18,7 +18,8 @@ use Rattle.sh_accept.specs.Accepted.{claims_in}
 use Rattle.sh_accept.specs.Answers.{Checks, IsCertified, places}
 use Rattle.sh_accept.proofs.PartLemmas.{parts_always_answer}
 use Rattle.sh_engine.specs.Judged.{TellsFault, Judges}
-use Rattle.sh_engine.specs.Prepared.{IsPrepared}
+use Rattle.sh_facts.specs.declared.certificate.Certificate.{Certificate}
+use Rattle.sh_engine.specs.Prepared.{IsPrepared, AnswersText, sheet_in}
 use Rattle.sh_engine.specs.Told.{TellsPlaces}
 use Rattle.sh_engine.specs.declared.check.Fault as declared
 use Rattle.sh_engine.specs.declared.prepared.Prepared.{Prepared}
@@ -64,7 +65,7 @@ module _ (b : List ℕ) (d : Declared) where
   keeps t c (Ok (Fail r)) h k = (none_broken (faults d (claims_in b t c) (script_of b t)) h, k.0, k.1)
   keeps t c (Ok (Forged n f)) h k = absurd k
 
-  pub answers : (text : Text) (t : Script) (c : Sheet) (v : Verdict) → IsCertified b d text t c → Judges b d t c v → Checks b d text (Ok v)
+  answers : (text : Text) (t : Script) (c : Sheet) (v : Verdict) → IsCertified b d text t c → Judges b d t c v → Checks b d text (Ok v)
   answers text t c Pass h j = (parts_always_answer b d text).passes t c h j.0 j.1
   answers text t c (Fail r) h j = (parts_always_answer b d text).fails t c r h j.0 j.1 j.2
   answers text t c (Forged n f) h j = (parts_always_answer b d text).forged t c (record { number = n; rule = f }) h j
@@ -72,3 +73,7 @@ module _ (b : List ℕ) (d : Declared) where
   -- want of memory
   pub exhausted : (text : Text) (p : Prepared) (e : Refusal) → IsPrepared b d p → e ≡ Memory → Checks b d text (Err e)
   exhausted text p e i h = subst (λ x. Checks b d text (Err x)) (sym h) i.admitted.reading.0
+
+  -- a certificate that fits
+  pub certifies : (text : Text) (p : Prepared) (c : Certificate) (v : Verdict) → AnswersText b d text p (Ok c) → Judges b d p.tree (sheet_in p c) v → Checks b d text (Ok v)
+  certifies text p c v h j = answers text p.tree (sheet_in p c) v h j

@@ -1,9 +1,9 @@
 //! The check of a certificate: the script first, then the text, then what the rules and the demands say of it.
-ghost use Rattle.std.specs.Prelude.{◌≡◌, ◌++◌, length, map, Ok, IfErr, IfOk};
+ghost use Rattle.std.specs.Prelude.{◌≡◌, IfOk};
 ghost use Rattle.sh_tree.specs.program.Trees.{script_of};
 ghost use Rattle.sh_facts.specs.Demands.{demands};
 ghost use Rattle.sh_accept.specs.Accepted.{claims_in};
-ghost use Rattle.sh_accept.specs.Answers.{Checks, IsCertified, places};
+ghost use Rattle.sh_accept.specs.Answers.{Checks, places};
 ghost use Rattle.sh_engine.specs.Judged.{Judges, TellsFault};
 ghost use Rattle.sh_engine.specs.Prepared.{IsPrepared, sheet_in};
 
@@ -96,7 +96,7 @@ fn judged<J: Judge>(
 }
 
 // What is told of a certificate's text, of a script that is admitted.
-#[tactic(auto, using(crate::proofs::CheckLemmas::answers, crate::proofs::CheckLemmas::exhausted))]
+#[tactic(auto, using(crate::proofs::CheckLemmas::exhausted))]
 fn check_prepared<J: Judge>(
     alloc: Global,
     script: &[u8],
@@ -108,7 +108,7 @@ fn check_prepared<J: Judge>(
     requires { IsPrepared script.now policy.now prepared.now }
     ensures { Checks script.now policy.now text.now result }
 {
-    let certificate = certified(alloc, script, policy, prepared, text)?;
+    let certificate = certified(alloc, prepared, text)?;
     let verdict = judged(alloc, script, policy, prepared, &certificate, judge)?;
     Ok(verdict)
 }

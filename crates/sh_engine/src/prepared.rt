@@ -1,10 +1,11 @@
 //! Scripts that are admitted, and their certificates.
-ghost use Rattle.std.specs.Prelude.{◌≡◌, length, Ok, IfErr, IfOk};
+ghost use Rattle.std.specs.Prelude.{◌≡◌, ℕ, List, Ok, IfErr, IfOk};
 ghost use Rattle.sh_tree.specs.Answers.{Parses};
 ghost use Rattle.sh_table.specs.Calls.{table_of};
+ghost use Rattle.sh_facts.specs.Facts.{Declared};
 ghost use Rattle.sh_accept.specs.Accepted.{IsAdmitted};
-ghost use Rattle.sh_accept.specs.Answers.{IsCertified, NoRefusal, Refuses, RefusesText};
-ghost use Rattle.sh_engine.specs.Prepared.{IsPrepared, sheet_in};
+ghost use Rattle.sh_accept.specs.Answers.{NoRefusal, Refuses};
+ghost use Rattle.sh_engine.specs.Prepared.{AnswersText, IsPrepared};
 
 use sh_facts::certificate::Certificate;
 use sh_facts::names::Names;
@@ -82,22 +83,14 @@ fn names_of(
     Ok(names)
 }
 
-/// The certificate that a text claims of a script, which was prepared.
+/// The certificate that a text claims of a script that is admitted.
 ///
 /// # Errors
 ///
 /// `CertSyntax` and `CertShape` as `read_certificate` tells them; `Memory` where a growth was refused.
-#[tactic(auto, using(crate::proofs::CertificateLemmas::certified, crate::proofs::CertificateLemmas::uncertified))]
-pub fn certified(
-    alloc: Global,
-    script: &[u8],
-    policy: &Policy,
-    prepared: &Prepared,
-    text: &[u8],
-) -> Result<Certificate, Refusal>
-    requires { IsPrepared script.now policy.now prepared.now }
-    ensures certified { IfOk result (λ c. IsCertified script.now policy.now text.now prepared.now.tree (sheet_in prepared.now c)) }
-    ensures refused { IfErr result (Refuses script.now policy.now (RefusesText script.now policy.now text.now)) }
+#[tactic(auto, using(crate::proofs::CertificateLemmas::answered))]
+pub fn certified(alloc: Global, prepared: &Prepared, text: &[u8]) -> Result<Certificate, Refusal>
+    ensures { (b : List ℕ) (d : Declared) → IsPrepared b d prepared.now → AnswersText b d text.now prepared.now result }
 {
     read_certificate(
         alloc,

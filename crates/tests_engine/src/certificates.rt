@@ -21,7 +21,7 @@ fn fit(
     certificate: &[u8],
 ) -> Result<Verdict, Refusal> {
     let prepared = prepare(alloc, script, policy)?;
-    certified(alloc, script, policy, &prepared, certificate)?;
+    certified(alloc, &prepared, certificate)?;
     Ok(Verdict::Pass)
 }
 
