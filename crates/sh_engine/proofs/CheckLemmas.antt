@@ -14,6 +14,7 @@ use Rattle.sh_facts.specs.Sheets.{Sheet}
 use Rattle.sh_facts.proofs.DifferLemmas.{read_is_numbered}
 use Rattle.sh_report.specs.declared.verdict.Verdict.{Verdict}
 use Rattle.sh_report.specs.declared.verdict.Verdict.TheVariants.{Pass, Fail, Forged}
+use Rattle.sh_check.specs.Whole.{AreNamesOf}
 use Rattle.sh_accept.specs.Accepted.{claims_in}
 use Rattle.sh_accept.specs.Answers.{Checks, IsCertified, places}
 use Rattle.sh_accept.proofs.PartLemmas.{parts_always_answer}
@@ -46,13 +47,16 @@ none_broken [] e = refl
 none_broken (x ∷ xs) e = absurd (fold_there x xs e)
 
 module _ (b : List ℕ) (d : Declared) where
-  -- what is read is no longer than it may be, and each command has a number of its own
+  -- what is read is no longer than it may be, each command has a number of its own, and its names are numbered
 
   pub reads_prepared : (p : Prepared) → IsPrepared b d p → Reads b p.tree
   reads_prepared p i = (MAX_NESTING, i.admitted.reading.1.0, i.admitted.reading.1.1)
 
   pub numbered_prepared : (p : Prepared) → IsPrepared b d p → is_numbered (script_of b p.tree) ≡ true
   numbered_prepared p i = read_is_numbered b p.tree (reads_prepared p i)
+
+  pub names_prepared : (p : Prepared) → IsPrepared b d p → AreNamesOf b p.tree p.names
+  names_prepared p i = record { declared = d; numbered = i.admitted.numbered.0; few = i.admitted.numbered.1 }
 
   -- a fault is told
   pub forges : (t : Script) (c : Sheet) (f : declared.Fault) → TellsFault b d t c (Some f) → Judges b d t c (Forged f.number f.rule)

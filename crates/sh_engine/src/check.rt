@@ -1,14 +1,13 @@
 //! The check of a certificate: the script first, then the text, then what the rules and the demands say of it.
 ghost use Rattle.std.specs.Prelude.{◌≡◌, IfOk};
-ghost use Rattle.sh_tree.specs.program.Trees.{script_of};
-ghost use Rattle.sh_facts.specs.Demands.{demands};
-ghost use Rattle.sh_accept.specs.Accepted.{claims_in};
+ghost use Rattle.sh_facts.specs.Facts.{Declared};
 ghost use Rattle.sh_accept.specs.Answers.{Checks, places};
 ghost use Rattle.sh_engine.specs.Judged.{Judges, TellsFault};
 ghost use Rattle.sh_engine.specs.Prepared.{IsPrepared, sheet_in};
 
 use crate::prepared::{Prepared, certified, prepare};
 use crate::told::verdict_of;
+use sh_check::demands::check_demands;
 use sh_facts::certificate::Certificate;
 use sh_facts::policy::Policy;
 use sh_facts::rule::FlowRule;
@@ -25,7 +24,7 @@ pub struct Fault {
     pub rule: FlowRule,
 }
 
-/// What the flow rules and the demands say of a certificate.
+/// What the flow rules say of a certificate.
 pub trait Judge {
     /// The least command at which the certificate breaks a flow rule, with the least of the rules that it breaks there.
     fn fault(
@@ -37,37 +36,30 @@ pub trait Judge {
     ) -> Option<Fault>
         requires { IsPrepared script.now policy.now prepared.now }
         ensures { TellsFault script.now policy.now prepared.now.tree (sheet_in prepared.now certificate.now) result };
-
-    /// The places of the demands that the certificate leaves unmet.
-    ///
-    /// # Errors
-    ///
-    /// `AllocError` where a growth was refused.
-    fn unmet(
-        &self,
-        alloc: Global,
-        script: &[u8],
-        policy: &Policy,
-        prepared: &Prepared,
-        certificate: &Certificate,
-    ) -> Result<Vec<Place>, AllocError>
-        requires { IsPrepared script.now policy.now prepared.now }
-        ensures { IfOk result (λ v. v.items ≡ demands policy.now (claims_in script.now prepared.now.tree (sheet_in prepared.now certificate.now)) (script_of script.now prepared.now.tree)) };
 }
 
-// The demands that are unmet, then the expansions outside quotes.
-fn places_of<J: Judge>(
+/// The places that a certificate of a script that is admitted leaves to be told: the demands that are unmet, then the expansions outside quotes.
+///
+/// # Errors
+///
+/// `AllocError` where a growth was refused.
+pub fn places_of(
     alloc: Global,
     script: &[u8],
-    policy: &Policy,
     prepared: &Prepared,
     certificate: &Certificate,
-    judge: &J,
 ) -> Result<Vec<Place>, AllocError>
-    requires { IsPrepared script.now policy.now prepared.now }
-    ensures { IfOk result (λ v. v.items ≡ places script.now policy.now prepared.now.tree (sheet_in prepared.now certificate.now)) }
+    requires { (d : Declared) × IsPrepared script.now d prepared.now }
+    ensures { IfOk result (λ v. (d : Declared) → v.items ≡ places script.now d prepared.now.tree (sheet_in prepared.now certificate.now)) }
 {
-    let mut places = judge.unmet(alloc, script, policy, prepared, certificate)?;
+    let mut places = check_demands(
+        alloc,
+        &prepared.tree,
+        script,
+        &prepared.table,
+        &prepared.names,
+        certificate,
+    )?;
     let mut unquoted = check_quotes(alloc, &prepared.tree, &prepared.table, script)?;
     places.append(&mut unquoted)?;
     Ok(places)
@@ -89,7 +81,7 @@ fn judged<J: Judge>(
     match judge.fault(script, policy, prepared, certificate) {
         Some(fault) => Ok(Verdict::Forged(fault.number, fault.rule)),
         None => {
-            let places = places_of(alloc, script, policy, prepared, certificate, judge)?;
+            let places = places_of(alloc, script, prepared, certificate)?;
             verdict_of(alloc, script, &places)
         }
     }

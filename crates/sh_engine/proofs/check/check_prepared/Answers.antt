@@ -1,4 +1,3 @@
-use Rattle.std.proofs.Common.{◌≡◌}
 use Rattle.std.proofs.lemmas.Result.{err_from_is_err_and}
 use Rattle.sh_engine.proofs.CheckLemmas.{certifies}
 use Rattle.sh_engine.proofs.check.check_prepared.Goals as goal
