@@ -26,7 +26,7 @@ use Rattle.sh_rules.specs.Settings.{Setting, certificate, known_at, gained}
 use Rattle.sh_rules.specs.Behind.{Behind, both, in_any_case, turns, falls}
 use Rattle.sh_rules.specs.Walked.{trail}
 use Rattle.sh_rules.specs.Meaning.{knows}
-use Rattle.sh_rules.specs.Asked.{is_compound, AskedOfFacts}
+use Rattle.sh_rules.specs.Asked.{is_compound}
 use Rattle.sh_rules.specs.Bounds.{fault, ends, behind_list, defined, list_left, told_within, leaves_told, branches_told, otherwise_told, loop_told, for_told, clause_told, clauses_told, unmatched_told, body_told, compound_told, redirects_told}
 use Rattle.sh_rules.proofs.EnteredLemmas.{Interprets, behind_of, zero_same, nonzero_same, any_same, items_same, turns_same, falls_same}
 use Rattle.sh_rules.proofs.MeaningLemmas.{interprets}
@@ -56,20 +56,20 @@ module _ (x : Setting) (h : AreNumbered x.names) (d : Declared) where
   i = interprets x h d
 
   -- behind lists
-  abbrev left : After → Behind
+  abbrev pub left : After → Behind
   left o = behind_of x (knows x d) (interprets x h d) o
 
-  abbrev all : Option Fault → List Constraint → Option Fault
+  abbrev pub all : Option Fault → List Constraint → Option Fault
   all best ks = with_all x h d best ks
 
-  joined : (best mid last : Option Fault) (ks ls : List Constraint) → all best ks ≡ mid → all mid ls ≡ last → all best (ks ++ ls) ≡ last
+  pub joined : (best mid last : Option Fault) (ks ls : List Constraint) → all best ks ≡ mid → all mid ls ≡ last → all best (ks ++ ls) ≡ last
   joined best mid last ks ls one two = all_split x h d best ks ls ∙ ap (λ b. all b ls) one ∙ two
 
-  bound_at : (slot : Slot) (n : ℕ) (rule : FlowRule) (s : Seen) (k : Facts) (best : Option Fault) → k ≡ known s
+  pub bound_at : (slot : Slot) (n : ℕ) (rule : FlowRule) (s : Seen) (k : Facts) (best : Option Fault) → k ≡ known s
       → all best (bound slot n rule s) ≡ told_within x slot (fault n rule) k best
   bound_at slot n rule s k best same = bound_told x h d slot n rule s best ∙ ap (λ f. told_within x slot (fault n rule) f best) (sym same)
 
-  leaves_at : (n : ℕ) (rule : FlowRule) (o : After) (b : Behind) (best : Option Fault) → b ≡ left o → all best (leaves n rule o) ≡ leaves_told x (fault n rule) b best
+  pub leaves_at : (n : ℕ) (rule : FlowRule) (o : After) (b : Behind) (best : Option Fault) → b ≡ left o → all best (leaves n rule o) ≡ leaves_told x (fault n rule) b best
   unfolding leaves_told
   leaves_at n rule o b best same =
       joined best _ _ (bound (AfterZero n) n rule (if_zero o)) (bound (AfterNonzero n) n rule (if_nonzero o))
@@ -85,7 +85,7 @@ module _ (x : Setting) (h : AreNumbered x.names) (d : Declared) where
   unfolding behind_of
   both_at s k same = ap both same
 
-  slot_at : (s : Slot) → known_at x s ≡ known (at s)
+  pub slot_at : (s : Slot) → known_at x s ≡ known (at s)
   slot_at s = sym (i.slot s)
 
   -- `if`
@@ -162,7 +162,7 @@ module _ (x : Setting) (h : AreNumbered x.names) (d : Declared) where
       (bound_at (ReturnsZero f) m F13 (at (AfterZero m)) (known_at x (AfterZero m)) best (slot_at (AfterZero m)))
       (bound_at (ReturnsNonzero f) m F13 (at (AfterNonzero m)) (known_at x (AfterNonzero m)) _ (slot_at (AfterNonzero m)))
 
-  redirects_same : (n : ℕ) (rs : p.Redirects) (best : Option Fault) → all best (r.redirects_bounds n rs) ≡ redirects_told x n (is_redirected rs) best
+  pub redirects_same : (n : ℕ) (rs : p.Redirects) (best : Option Fault) → all best (r.redirects_bounds n rs) ≡ redirects_told x n (is_redirected rs) best
   unfolding redirects_told r.redirects_bounds is_redirected
   redirects_same n p.no_redirects best = refl
   redirects_same n (p.more_redirects q rs) best = bound_at (AfterNonzero n) n F10 (at (Before n)) (known_at x (Before n)) best (slot_at (Before n))
@@ -240,7 +240,7 @@ module _ (x : Setting) (h : AreNumbered x.names) (d : Declared) where
   subshell_same functions y n s list best =
       leaves_at n F11 (Both (at (Before n))) (both (known_at x (Before n))) best (both_at (at (Before n)) (known_at x (Before n)) (slot_at (Before n)))
 
-  kind_same : (functions : List Text) (y : e.Around) (n : ℕ) (s : Seen) (k : p.Kind) (best : Option Fault) → is_compound k ≡ true
+  pub kind_same : (functions : List Text) (y : e.Around) (n : ℕ) (s : Seen) (k : p.Kind) (best : Option Fault) → is_compound k ≡ true
       → all best (r.kind_bounds functions y n s k) ≡ compound_told x n (known s) k best
   unfolding is_compound
   kind_same functions y n s (p.Simple es) best it = absurd (true≢false (sym it))
@@ -251,10 +251,3 @@ module _ (x : Setting) (h : AreNumbered x.names) (d : Declared) where
   kind_same functions y n s (p.For name ws body) best it = for_same functions y n s name ws body best
   kind_same functions y n s (p.Case w cs) best it = case_same functions y n s w cs best
   kind_same functions y n s (p.Define name body) best it = define_same functions y n s name body best
-
-pub asked_of_facts : AskedOfFacts
-asked_of_facts = record {
-  place = λ x d slot n rule s best h. bound_told x h d slot n rule s best;
-  compound = λ x d functions y n s k best h. kind_same x h d functions y n s k best;
-  redirects = λ x d n rs best h. redirects_same x h d n rs best;
-}

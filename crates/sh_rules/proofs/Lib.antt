@@ -6,5 +6,7 @@ pub mod EnteredLemmas
 pub mod MeaningLemmas
 pub mod ToldLemmas
 pub mod BoundLemmas
+pub mod SimpleLemmas
+pub mod AskedLemmas
 pub mod ClaimLemmas
 pub mod TellLemmas

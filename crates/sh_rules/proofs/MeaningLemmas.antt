@@ -54,7 +54,7 @@ unfolding meet
 meet_twice NotReached = refl
 meet_twice (Known v f a) = known_same _ _ _ _ (min a a) a (λ t. and_twice (v t)) (λ t. and_twice (f t)) (omega arith)
 
-meet_last : (f : Facts) → meet f NotReached ≡ f
+pub meet_last : (f : Facts) → meet f NotReached ≡ f
 unfolding meet
 meet_last NotReached = refl
 meet_last (Known v f a) = refl
@@ -69,7 +69,7 @@ among_meet ns (Known v f a) (Known w g n) =
 told : (ns xs : List Text) (t : Text) → is_one_of (filter (is_one_of ns) xs) t ≡ (is_one_of ns t && is_one_of xs t)
 told ns xs t = any-filter_same (λ n. bytes_eq n t) (is_one_of ns) (is_one_of ns t) (λ k e. ap (is_one_of ns) ((bytes_eq-Decides k t).0 e)) xs
 
-among_gained : (ns : List Text) (g : Gains) (f : Facts) → among ns (with_gains g f) ≡ with_gains (knowing.among ns g) (among ns f)
+pub among_gained : (ns : List Text) (g : Gains) (f : Facts) → among ns (with_gains g f) ≡ with_gains (knowing.among ns g) (among ns f)
 unfolding among with_gains
 among_gained ns g NotReached = refl
 among_gained ns g (Known v f a) =
@@ -77,7 +77,7 @@ among_gained ns g (Known v f a) =
     (λ t. spread (is_one_of ns t) (is_one_of g.names t) (v t) ∙ ap (λ b. b || (is_one_of ns t && v t)) (sym (told ns g.names t)))
     (λ t. refl) refl
 
-among_lost : (ns : List Text) (c : Certificate) (names : Names) (f : Facts) → among ns (step c (Lose names) f) ≡ step c (Lose names) (among ns f)
+pub among_lost : (ns : List Text) (c : Certificate) (names : Names) (f : Facts) → among ns (step c (Lose names) f) ≡ step c (Lose names) (among ns f)
 unfolding among step where_known
 among_lost ns c names NotReached = refl
 among_lost ns c names (Known v f a) =

@@ -9,11 +9,12 @@ use Rattle.sh_facts.specs.Facts.{Declared}
 use Rattle.sh_facts.specs.Faults.{Fault, lesser, broken}
 use Rattle.sh_facts.specs.Knowledge.{AreNumbered}
 use Rattle.sh_facts.specs.Rules.{Constraint, bound, kind_bounds, redirects_bounds}
-use Rattle.sh_facts.specs.Table.{is_redirected}
+use Rattle.sh_facts.specs.Table.{is_redirected, manner}
 use Rattle.sh_facts.specs.Views.{Slot, Seen}
 use Rattle.sh_rules.specs.Settings.{Setting, certificate}
 use Rattle.sh_rules.specs.Meaning.{knows}
 use Rattle.sh_rules.specs.Bounds.{fault, told_within, compound_told, redirects_told}
+use Rattle.sh_rules.specs.SimpleBounds.{simple_told}
 
 unfoldable pub is_compound : p.Kind → Bool
 is_compound (p.Simple es) = false
@@ -23,7 +24,7 @@ is_compound _ = true
 abbrev pub with_all : Setting → Declared → Option Fault → List Constraint → Option Fault
 with_all x d best ks = fold lesser best (flat_map (broken d (certificate x)) ks)
 
--- A place, a compound command and its redirections: the least fault is that of their constraints.
+-- A place, a compound command and its redirections, and a simple command: the least fault is that of their constraints.
 pub record AskedOfFacts : Type 0 where
   pub place : (x : Setting) (d : Declared) (slot : Slot) (n : ℕ) (rule : FlowRule) (s : Seen) (best : Option Fault) → AreNumbered x.names
       → with_all x d best (bound slot n rule s) ≡ told_within x slot (fault n rule) (knows x d s) best
@@ -31,3 +32,5 @@ pub record AskedOfFacts : Type 0 where
       → is_compound k ≡ true → with_all x d best (kind_bounds functions y n s k) ≡ compound_told x n (knows x d s) k best
   pub redirects : (x : Setting) (d : Declared) (n : ℕ) (rs : p.Redirects) (best : Option Fault) → AreNumbered x.names
       → with_all x d best (redirects_bounds n rs) ≡ redirects_told x n (is_redirected rs) best
+  pub simple : (x : Setting) (d : Declared) (functions : List Text) (y : Around) (n : ℕ) (s : Seen) (es : p.Elements) (best : Option Fault) → AreNumbered x.names
+      → with_all x d best (kind_bounds functions y n s (p.Simple es)) ≡ simple_told x n y es (manner functions es) best

@@ -5,5 +5,6 @@ pub mod Walks
 pub mod Steps
 pub mod Meaning
 pub mod Bounds
+pub mod SimpleBounds
 pub mod Asked
 pub mod Tells

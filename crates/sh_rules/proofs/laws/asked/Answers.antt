@@ -1,4 +1,4 @@
-use Rattle.sh_rules.proofs.BoundLemmas.{asked_of_facts}
+use Rattle.sh_rules.proofs.AskedLemmas.{asked_of_facts}
 use Rattle.sh_rules.proofs.laws.asked.Goals as goal
 
 pub returns : goal.returns

@@ -1,0 +1,146 @@
+-- The least fault so far, with those of a simple command: what the flow rules of `sh_facts` ask of views, asked of facts.
+-- POSIX.1-2024, XCU 2.9.1 (simple commands), 2.15 (special built-in utilities), 3 (false, getopts, read, true).
+use Rattle.std.specs.Prelude.{ℕ, ◌==◌, Bool, true, false, not, if◌then◌else◌, List, [], ◌∷◌, filter, codes, Option, Some, None}
+use Rattle.sh_tree.specs.declared.known.KnownName.TheVariants as known
+use Rattle.sh_tree.specs.program.Syntax as p
+use Rattle.sh_tree.specs.program.Syntax.{Text, Word}
+use Rattle.sh_tree.specs.program.Words.{operands_in, redirects_in}
+use Rattle.sh_table.specs.declared.kind.Kind.{Kind}
+use Rattle.sh_table.specs.declared.kind.Kind.TheVariants as kind
+use Rattle.sh_table.specs.runs.Environment.{is_one_of}
+use Rattle.sh_facts.specs.declared.rule.FlowRule.TheVariants.{F4, F5, F14, F15}
+use Rattle.sh_facts.specs.Entries.{Around}
+use Rattle.sh_facts.specs.Facts.{Facts, NotReached, meet}
+use Rattle.sh_facts.specs.Faults.{Fault}
+use Rattle.sh_facts.specs.Gains.{Gains, named, and_gains, words_gains}
+use Rattle.sh_facts.specs.Knowledge.{among}
+use Rattle.sh_facts.specs.Operands.{unset_names, declared_names, read_names, getopts_names, positional_words, total, first_number, return_status, runs_command}
+use Rattle.sh_facts.specs.Rules.{jump_loop}
+use Rattle.sh_facts.specs.Table as table
+use Rattle.sh_facts.specs.Table.{Manner, Nameless, Utility, prefixes, assignments_gains, redirections_gains, is_redirected}
+use Rattle.sh_facts.specs.Views as views
+use Rattle.sh_facts.specs.Views.{Slot, Before, AfterZero, AfterNonzero, Head, Entry, ReturnsZero, ReturnsNonzero, Step, Lose, Count, Shift, step}
+use Rattle.sh_rules.specs.Settings.{Setting, certificate, known_at, gained}
+use Rattle.sh_rules.specs.Behind.{Behind, either, both}
+use Rattle.sh_rules.specs.Bounds.{fault, told_within, leaves_told}
+
+-- behind one more step, which names nothing that is not known
+unfoldable pub stepped : Setting → Step → Facts → Facts
+stepped x s k = step (certificate x) s k
+
+-- the function was called and returned there, of the names that are numbered
+unfoldable pub called : Setting → Text → Slot → List Text → Facts → Facts
+called x f return names k = among x.names (step (certificate x) (views.Call f return names) k)
+
+-- The table, over what is known behind the words, the operands, what assignments and redirections leave set, the names of the prefix
+-- assignments, and whether there are redirections
+
+module _ (x : Setting) (k : Facts) (ws : List Word) (left : Gains) (names : List Text) (redirected : Bool) where
+  -- behind the assignments and redirections too, which stay at a special built-in utility
+  abbrev pub settled : Facts
+  settled = gained x left k
+
+  abbrev pub gained_names : List Text → Facts → Facts
+  gained_names ts f = gained x (named ts) f
+
+  abbrev pub unless_prefixed : List Text → List Text
+  unless_prefixed ts = filter (λ t. not (is_one_of names t)) ts
+
+  abbrev pub without_optarg : Facts → Facts
+  without_optarg f = stepped x (Lose (record { vars = codes "OPTARG" ∷ []; functions = [] })) f
+
+  -- `set` with positional words: as many as are counted; where it fails, no more than there were
+  unfoldable pub set_behind : Option (List Word) → Behind
+  set_behind None = both settled
+  set_behind (Some vs) =
+      either (gained_names left.names (stepped x (Count (total vs)) k)) (meet (gained_names left.names (stepped x (Count (total vs)) k)) settled)
+
+  -- `shift` by a number that is not known may leave none
+  unfoldable pub shift_behind : Option ℕ → Behind
+  shift_behind None = both (stepped x (Count (total [])) settled)
+  shift_behind (Some n) = both (stepped x (Shift n) settled)
+
+  unfoldable pub utility_behind : Kind → Behind
+  utility_behind (kind.Special known.Colon) = either settled NotReached
+  utility_behind (kind.Special known.Export) = both (gained_names (declared_names ws) settled)
+  utility_behind (kind.Special known.Readonly) = both (gained_names (declared_names ws) settled)
+  utility_behind (kind.Special known.Unset) = both (stepped x (Lose (unset_names ws)) settled)
+  utility_behind (kind.Special known.Set) = set_behind (positional_words ws)
+  utility_behind (kind.Special known.Shift) = shift_behind (first_number ws)
+  utility_behind (kind.Special known.Exit) = both NotReached
+  utility_behind (kind.Special known.Break) = both NotReached
+  utility_behind (kind.Special known.Continue) = both NotReached
+  utility_behind (kind.Special known.Return) = both NotReached
+  utility_behind (kind.Special known.Exec) = either (if runs_command ws then NotReached else settled) settled
+  utility_behind (kind.Special known.Times) = both settled
+  utility_behind (kind.Special known.Trap) = both settled
+  utility_behind kind.True = either k (if redirected then k else NotReached)
+  utility_behind kind.False = either NotReached k
+  utility_behind kind.Read = either (gained_names (unless_prefixed (read_names ws)) k) k
+  utility_behind kind.Getopts = either (without_optarg (gained_names (unless_prefixed (getopts_names ws)) k)) (without_optarg k)
+  utility_behind _ = both k
+
+  -- without a name: where it fails, redirections may have failed, and assignments may not be done
+  unfoldable pub nameless_behind : Behind
+  nameless_behind = either settled (if redirected then k else settled)
+
+-- Jumps
+
+module _ (x : Setting) (n : ℕ) (k : Facts) where
+  -- `break` goes on behind the loop, `continue` with its next turn
+  unfoldable pub breaks_told : Option ℕ → Option Fault → Option Fault
+  breaks_told None best = best
+  breaks_told (Some l) best = told_within x (AfterNonzero l) (fault n F15) k (told_within x (AfterZero l) (fault n F15) k best)
+
+  unfoldable pub continues_told : Option ℕ → Option Fault → Option Fault
+  continues_told None best = best
+  continues_told (Some l) best = told_within x (Head l) (fault n F15) k best
+
+  -- `return` with a status that is not static returns with any
+  unfoldable pub returns_with_told : Option ℕ → Text → Option Fault → Option Fault
+  returns_with_told None f best = told_within x (ReturnsNonzero f) (fault n F15) k (told_within x (ReturnsZero f) (fault n F15) k best)
+  returns_with_told (Some status) f best =
+      if status == 0 then told_within x (ReturnsZero f) (fault n F15) k best else told_within x (ReturnsNonzero f) (fault n F15) k best
+
+  unfoldable pub returns_told : Option ℕ → Option Text → Option Fault → Option Fault
+  returns_told status None best = best
+  returns_told status (Some f) best = returns_with_told status f best
+
+  unfoldable pub jumps_told : Around → Kind → List Word → Option Fault → Option Fault
+  jumps_told y (kind.Special known.Break) ws best = breaks_told (jump_loop (first_number ws) y.loops) best
+  jumps_told y (kind.Special known.Continue) ws best = continues_told (jump_loop (first_number ws) y.loops) best
+  jumps_told y (kind.Special known.Return) ws best = returns_told (return_status ws) y.function best
+  jumps_told y _ ws best = best
+
+-- Simple commands
+
+-- behind the words, where redirections and values are judged
+abbrev pub behind : Setting → ℕ → p.Elements → Facts
+behind x n es = gained x (words_gains (operands_in es)) (known_at x (Before n))
+
+-- what assignments and redirections leave set
+abbrev pub left : p.Elements → Gains
+left es = and_gains (assignments_gains es) (redirections_gains es)
+
+module _ (x : Setting) (n : ℕ) where
+  -- a failed redirection of a call leaves what was known before it
+  unfoldable pub redirection_told : Bool → Facts → Option Fault → Option Fault
+  redirection_told true k best = told_within x (AfterNonzero n) (fault n F14) k best
+  redirection_told false k best = best
+
+  -- a call: the function is entered with the names of the prefix assignments, and with the operands
+  unfoldable pub call_told : p.Elements → Text → List Word → Option Fault → Option Fault
+  call_told es f ws best =
+      redirection_told (is_redirected (redirects_in es)) (behind x n es)
+      (told_within x (AfterNonzero n) (fault n F14) (called x f (ReturnsNonzero f) (prefixes es) (behind x n es))
+      (told_within x (AfterZero n) (fault n F14) (called x f (ReturnsZero f) (prefixes es) (behind x n es))
+      (told_within x (Entry f) (fault n F14) (gained x (named (prefixes es)) (stepped x (Count (total ws)) (behind x n es))) best)))
+
+  -- by what its name means
+  unfoldable pub simple_told : Around → p.Elements → Manner → Option Fault → Option Fault
+  simple_told y es Nameless best =
+      leaves_told x (fault n F5) (nameless_behind x (behind x n es) [] (assignments_gains es) (prefixes es) (is_redirected (redirects_in es))) best
+  simple_told y es (Utility kind ws) best =
+      jumps_told x n (gained x (left es) (behind x n es)) y kind ws
+      (leaves_told x (fault n F4) (utility_behind x (behind x n es) ws (left es) (prefixes es) (is_redirected (redirects_in es)) kind) best)
+  simple_told y es (table.Call f ws) best = call_told es f ws best
