@@ -1,13 +1,12 @@
 -- What is told of each command where it stands is told of each as it is entered.
-use Rattle.std.proofs.Common.{◌≡◌, ℕ, Bool, true, false, not, ◌&&◌, ◌||◌, List, [], ◌∷◌, ◌++◌, fold, refl, sym, ◌∙◌, ap}
+use Rattle.std.proofs.Common.{◌≡◌, ℕ, Bool, true, false, List, [], ◌∷◌, ◌++◌, fold, refl, sym, ◌∙◌, ap}
 use Rattle.std.proofs.lemmas.List.Sums.{fold-append}
 use Rattle.sh_tree.specs.declared.place.Place.{Place}
-use Rattle.sh_tree.specs.declared.tree.Action.{Action}
 use Rattle.sh_tree.specs.program.Syntax as p
 use Rattle.sh_facts.specs.declared.rule.FlowRule.{FlowRule}
 use Rattle.sh_facts.specs.declared.rule.FlowRule.TheVariants.{F1, F2, F3, F6, F7, F8, F9, F10, F11, F13}
 use Rattle.sh_facts.specs.Entries.{Around, Entered, alone, in_loop, in_function, is_long, item_rule, item_around, item_seen, part_rule, part_around, link_seen, linked, pipeline_after, items_after, item_after, turns, falls, otherwise_seen, operand_seen, items_entered, list_entered, links_entered, pipeline_entered, commands_entered, command_entered, kind_entered, elements_entered, redirect_entered, redirects_entered, branches_entered, otherwise_entered, for_words_entered, words_entered, clauses_entered, patterns_entered, word_entered, part_entered, operator_entered, expression_entered, operands_entered, script_entered, behind_redirects}
-use Rattle.sh_facts.specs.Gains.{sure, part_gains, expanded_gains, word_gains, redirect_gains}
+use Rattle.sh_facts.specs.Gains.{part_gains, expanded_gains, word_gains, redirect_gains}
 use Rattle.sh_facts.specs.Table.{behind_words}
 use Rattle.sh_facts.specs.Views.{Seen, After, Both, at, Before, Head, Entry, gaining, gaining_names, without_job, if_zero, if_nonzero, in_any_case, at_start}
 use Rattle.sh_check.specs.Tellings.{EachIsTold, entered_told}

@@ -9,6 +9,12 @@ pub mod ToldLemmas
 pub mod EnteredLemmas
 pub mod OwnTellLemmas
 pub mod MoveLemmas
+pub mod OnceLemmas
+pub mod LocatedLemmas
+pub mod DefinedLemmas
+pub mod TextLemmas
+pub mod LossLemmas
+pub mod DropLemmas
 pub mod WholeLemmas
 pub mod StandLemmas
 pub mod SightLemmas

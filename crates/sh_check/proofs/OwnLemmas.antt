@@ -1,5 +1,5 @@
 -- What is judged of a command's own words, by the pieces one level below.
-use Rattle.std.proofs.Common.{◌≡◌, ℕ, Option, Some, None, List, [], ◌∷◌, fold, refl, sym, ap, ◌∙◌, Result, Ok, Err, OnOk}
+use Rattle.std.proofs.Common.{◌≡◌, ℕ, Option, Some, None, List, [], ◌∷◌, fold, refl, sym, ap, ◌∙◌}
 use Rattle.sh_tree.specs.declared.place.Place.{Place}
 use Rattle.sh_tree.specs.declared.tree.Branch.{Branch}
 use Rattle.sh_tree.specs.declared.tree.Clause.{Clause, out-Clause}
@@ -24,7 +24,7 @@ use Rattle.sh_tree.proofs.ProgramRules as rules
 use Rattle.sh_facts.specs.Gains.{no_gains, word_gains, words_gains}
 use Rattle.sh_check.specs.Judged.{Judged, judged, word_judged}
 use Rattle.sh_check.specs.Knowing.{Knowing, gained}
-use Rattle.sh_check.specs.Own.{beside, words_judged, patterns_judged, redirect_judged, redirects_judged, elements_judged, clauses_judged, for_words_judged, kind_judged, own_places}
+use Rattle.sh_check.specs.Own.{words_judged, patterns_judged, redirect_judged, redirects_judged, elements_judged, clauses_judged, for_words_judged, kind_judged, own_places}
 use Rattle.sh_check.specs.OwnWalks.{word_step, pattern_step, target_step, redirect_step, element_gained, element_step, clause_step, listed_step, simple_step, kind_step}
 use Rattle.sh_check.proofs.KnowingLemmas.{gained_none, gained_both}
 

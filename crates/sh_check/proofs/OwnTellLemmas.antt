@@ -1,5 +1,5 @@
 -- What is judged of a command's own words is what the demands say, where each name that they may set is numbered.
-use Rattle.std.proofs.Common.{◌≡◌, Bool, true, ◌&&◌, List, [], ◌∷◌, ◌++◌, append_assoc, append-nil, refl, sym, ap, ap₂, ◌∙◌}
+use Rattle.std.proofs.Common.{◌≡◌, Bool, true, List, ◌++◌, append_assoc, append-nil, refl, sym, ap, ◌∙◌}
 use Rattle.std.specs.List.{list_all}
 use Rattle.std.proofs.lemmas.Bool.{and_parts}
 use Rattle.sh_tree.specs.declared.place.Place.{Place}
@@ -9,11 +9,11 @@ use Rattle.sh_tree.specs.program.Words.{operands_in}
 use Rattle.sh_table.specs.runs.Environment.{is_one_of}
 use Rattle.sh_facts.specs.Demands.{elements_unmet, clauses_unmet, for_words_unmet, kind_unmet}
 use Rattle.sh_facts.specs.Facts.{Facts}
-use Rattle.sh_facts.specs.Gains.{no_gains, word_gains, words_gains, redirect_gains, redirects_gains, with_gains}
+use Rattle.sh_facts.specs.Gains.{word_gains, words_gains, redirect_gains, redirects_gains, with_gains}
 use Rattle.sh_facts.specs.Needs.{word_unmet, words_unmet, patterns_unmet, redirect_unmet, redirects_unmet}
 use Rattle.sh_check.specs.Judged.{Judged, judged, word_judged}
 use Rattle.sh_check.specs.Knowing.{Knowing, gained}
-use Rattle.sh_check.specs.Own.{beside, words_judged, patterns_judged, redirect_judged, redirects_judged, elements_judged, clauses_judged, for_words_judged, kind_judged, own_places}
+use Rattle.sh_check.specs.Own.{words_judged, patterns_judged, redirect_judged, redirects_judged, elements_judged, clauses_judged, for_words_judged, kind_judged, own_places}
 use Rattle.sh_check.specs.Within.{word_within, words_within, redirect_within, redirects_within, elements_within, clauses_within, for_words_within, kind_within}
 use Rattle.sh_check.specs.Tellings.{OwnTells, known_as}
 use Rattle.sh_check.proofs.TellLemmas.{both_pass, word_pass, gained_whole, facts_whole, still, in_turn, word_told}
@@ -26,7 +26,7 @@ words_pass q p.no_words h = refl
 words_pass q (p.more_words w ws) h =
     let both = and_parts (word_within q w) (words_within q ws) h in both_pass q (word_gains w).names (words_gains ws).names (word_pass q w both.0) (words_pass q ws both.1)
 
-elements_pass : (q : Text → Bool) (es : p.Elements) → elements_within q es ≡ true → list_all q (words_gains (operands_in es)).names ≡ true
+pub elements_pass : (q : Text → Bool) (es : p.Elements) → elements_within q es ≡ true → list_all q (words_gains (operands_in es)).names ≡ true
 unfolding elements_within words_gains operands_in
 elements_pass q p.no_elements h = refl
 elements_pass q (p.assignment name value es) h = elements_pass q es (and_parts (word_within q value) (elements_within q es) h).1

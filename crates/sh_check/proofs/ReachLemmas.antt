@@ -1,6 +1,6 @@
 -- The names that are numbered of a script are those that its commands may set.
-use Rattle.std.proofs.Common.{◌≡◌, ℕ, ◌+◌, ◌⊎◌, Bool, true, false, not, ◌&&◌, ◌||◌, if◌then◌else◌, List, [], ◌∷◌, ◌++◌, map, fold, flat_map, refl, sym, ap, ◌∙◌, arith, inl, inr, true≢false}
-use Rattle.std.specs.List.{list_all, list_any, sum_by}
+use Rattle.std.proofs.Common.{◌≡◌, ℕ, ◌+◌, Bool, true, false, if◌then◌else◌, List, [], ◌∷◌, ◌++◌, map, fold, flat_map, refl, sym, ap, ◌∙◌, arith, inl, inr, true≢false}
+use Rattle.std.specs.List.{list_all, sum_by}
 use Rattle.std.specs.List.Sorted.{IsPermutation}
 use Rattle.std.specs.Prelude.{codes}
 use Rattle.std.specs.Str.{bytes_eq}
@@ -19,7 +19,6 @@ use Rattle.sh_commands.specs.Commands.{commands_of}
 use Rattle.sh_table.specs.Surroundings.{outside}
 use Rattle.sh_table.specs.runs.Environment.{is_one_of}
 use Rattle.sh_table.specs.runs.Worlds.{start_names}
-use Rattle.sh_facts.specs.Entries.{Entered, script_entered}
 use Rattle.sh_facts.specs.Facts.{Declared}
 use Rattle.sh_facts.specs.Gains.{job}
 use Rattle.sh_facts.specs.Names.{IsNumbering, first_names, with_text}

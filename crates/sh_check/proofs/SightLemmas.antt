@@ -1,17 +1,16 @@
 -- The names that a command may set are among those that are seen in it.
-use Rattle.std.proofs.Common.{◌≡◌, ℕ, Bool, true, ◌&&◌, List, [], ◌∷◌, ◌++◌, flat_map, refl, sym, ap, ap₂, ◌∙◌}
+use Rattle.std.proofs.Common.{◌≡◌, ℕ, Bool, true, List, [], ◌∷◌, ◌++◌, flat_map, refl, sym, ap, ◌∙◌}
 use Rattle.std.specs.List.{list_all}
 use Rattle.std.proofs.lemmas.Bool.{and_parts, and_from}
 use Rattle.std.proofs.lemmas.List.Folds.{list_all-append}
 use Rattle.sh_tree.specs.declared.tree.Clause.{Clause, out-Clause}
 use Rattle.sh_tree.specs.declared.tree.Command.{Command, out-Command}
-use Rattle.sh_tree.specs.declared.tree.Element.{Element, Assignment', Word', Redirection'}
+use Rattle.sh_tree.specs.declared.tree.Element.{Assignment', Word', Redirection'}
 use Rattle.sh_tree.specs.declared.tree.Expr.{Expr, Expansion, Parenthesis', Unary', Chain', Choice', Assign', Row_of-Expr, end_of-Expr, more_of-Expr, Row_of-Expr-Chain-1-2, end_of-Expr-Chain-1-2, more_of-Expr-Chain-1-2}
-use Rattle.sh_tree.specs.declared.tree.Kind.{Kind, Simple', For', Branches', Held-Kind-For-1, Kind-For-1-None', Kind-For-1-Some', Row_of-Element, end_of-Element, more_of-Element, items-the_row-Element, Row_of-Word, end_of-Word, more_of-Word, items-the_row-Word, Row_of-Clause, end_of-Clause, more_of-Clause, items-the_row-Clause}
+use Rattle.sh_tree.specs.declared.tree.Kind.{Kind, Simple', For', Branches', Held-Kind-For-1, Kind-For-1-None', Kind-For-1-Some', Row_of-Element, end_of-Element, more_of-Element, items-the_row-Element, items-the_row-Word, items-the_row-Clause}
 use Rattle.sh_tree.specs.declared.tree.ParameterOperator.{ParameterOperator, Use', Remove'}
 use Rattle.sh_tree.specs.declared.tree.Part.{Part, Double', Param', Arith', Row_of-Part, end_of-Part, more_of-Part}
 use Rattle.sh_tree.specs.declared.tree.Redirect.{Redirect}
-use Rattle.sh_tree.specs.declared.tree.Span.{Span}
 use Rattle.sh_tree.specs.declared.tree.Special.{Special}
 use Rattle.sh_tree.specs.declared.tree.Special.TheVariants as special
 use Rattle.sh_tree.specs.declared.tree.Subject.{Subject}

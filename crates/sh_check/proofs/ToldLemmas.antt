@@ -1,11 +1,11 @@
 -- What is told of a piece of a tree, by the pieces one level below it.
-use Rattle.std.proofs.Common.{◌≡◌, ℕ, Result, Ok, Err, OnOk, nat_lt, Bool, true, false, ◌||◌, Option, Some, None, List, [], ◌∷◌, fold, length, refl, sym, ap, ◌∙◌, arith}
+use Rattle.std.proofs.Common.{◌≡◌, ℕ, Result, Ok, Err, OnOk, nat_lt, Bool, true, false, Option, Some, None, List, [], ◌∷◌, fold, length, refl, sym, ap, ◌∙◌, arith}
 use Rattle.std.proofs.lemmas.Bool.Decides.{nat_tests}
 use Rattle.sh_tree.specs.declared.place.Place.{Place}
 use Rattle.sh_tree.specs.declared.tree.Action.{Action}
 use Rattle.sh_tree.specs.declared.tree.AndOr.{AndOr, out-AndOr}
 use Rattle.sh_tree.specs.declared.tree.Binary.{Binary}
-use Rattle.sh_tree.specs.declared.tree.Branch.{Branch, out-Branch}
+use Rattle.sh_tree.specs.declared.tree.Branch.{Branch}
 use Rattle.sh_tree.specs.declared.tree.Clause.{Clause, out-Clause}
 use Rattle.sh_tree.specs.declared.tree.Command.{Command, out-Command}
 use Rattle.sh_tree.specs.declared.tree.CommandStyle.{CommandStyle}
@@ -15,7 +15,7 @@ use Rattle.sh_tree.specs.declared.tree.Element.TheVariants as element
 use Rattle.sh_tree.specs.declared.tree.Expr.{Expr}
 use Rattle.sh_tree.specs.declared.tree.Expr.TheVariants as expression
 use Rattle.sh_tree.specs.declared.tree.HereDoc.{HereDoc}
-use Rattle.sh_tree.specs.declared.tree.Item.{Item, out-Item}
+use Rattle.sh_tree.specs.declared.tree.Item.{Item}
 use Rattle.sh_tree.specs.declared.tree.Kind.{Kind}
 use Rattle.sh_tree.specs.declared.tree.Kind.TheVariants as kind
 use Rattle.sh_tree.specs.declared.tree.Link.{Link}
@@ -38,9 +38,10 @@ use Rattle.sh_tree.specs.program.Syntax as p
 use Rattle.sh_tree.specs.program.Trees as trees
 use Rattle.sh_tree.proofs.ProgramRules as rules
 use Rattle.sh_facts.specs.Entries.{is_long}
+use Rattle.sh_check.specs.DropWalks.{shared_step}
 use Rattle.sh_check.specs.Own.{own_places}
 use Rattle.sh_check.specs.Places.{Source, known_before, command_places}
-use Rattle.sh_check.specs.Told.{Teller, item_shares, part_shares, items_told, list_told, links_told, pipeline_told, commands_told, command_told, kind_told, elements_told, redirect_told, redirects_told, branches_told, otherwise_told, for_words_told, words_told, clauses_told, word_told, part_told, operator_told, expression_told, operands_told}
+use Rattle.sh_check.specs.Told.{Teller, part_shares, items_told, list_told, links_told, pipeline_told, commands_told, command_told, kind_told, elements_told, redirect_told, redirects_told, branches_told, otherwise_told, for_words_told, words_told, clauses_told, word_told, part_told, operator_told, expression_told, operands_told}
 use Rattle.sh_check.specs.ToldWalks.{parts_share, script_step, item_step, list_step, link_step, pipe_step, command_step, kind_step, element_step, target_step, redirect_step, part_step, word_step, operator_step, expression_step, operand_step, branch_step, clause_step, otherwise_step, listed_step}
 
 parts_shared : (b : List ℕ) (s : Bool) (cs : List Command) → part_shares (is_long (commands_from b cs)) s ≡ parts_share (length cs) s
@@ -146,8 +147,10 @@ command_out f b s ps c =
 
 pub own_out : (b : List ℕ) (x : Source) (s : Bool) (ps : List Place) (c : Command)
     → command_places x s ps (trees.command_of b c)
-    ≡ own_places (known_before x (out-Command c).number) ps (trees.kind_of b (out-Command c).kind) (redirects_from b (out-Command c).redirects)
-unfolding command_places
+    ≡ shared_step b x s (out-Command c).number (out-Command c).at
+    (own_places (known_before x (out-Command c).number) ps (trees.kind_of b (out-Command c).kind) (redirects_from b (out-Command c).redirects))
+    (out-Command c).kind
+unfolding command_places shared_step
 own_out b x s ps c = ap (command_places x s ps) (rules.command_of-out b c)
 
 -- kinds

@@ -5,9 +5,11 @@ pub mod Within
 pub mod Tellings
 pub mod Own
 pub mod OwnWalks
+pub mod Moves
+pub mod Drops
 pub mod Places
+pub mod DropWalks
 pub mod Told
 pub mod ToldWalks
-pub mod Moves
 pub mod Whole
 pub mod Numbered

@@ -14,7 +14,7 @@ use Rattle.sh_tree.specs.program.Words.{operands_in}
 use Rattle.sh_facts.specs.Gains.{words_gains}
 use Rattle.sh_check.specs.Judged.{Judged, aside, word_judged}
 use Rattle.sh_check.specs.Knowing.{Knowing, gained}
-use Rattle.sh_check.specs.Own.{beside, redirect_judged, elements_judged, kind_judged}
+use Rattle.sh_check.specs.Own.{redirect_judged, elements_judged, kind_judged}
 
 abbrev pub word_step : List ℕ → Judged → Word → Judged
 word_step b s w = word_judged s (parts_from b w.parts)

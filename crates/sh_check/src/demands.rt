@@ -1,12 +1,22 @@
-//! The parameters of a script that are not surely set, command by command (XCU 2.6, 2.9, 2.13).
-ghost use Rattle.std.specs.Prelude.{◌≡◌, false, fold, OnOk, IfOk, []};
+//! The demands of a script that a certificate leaves unmet, command by command (XCU 2.6, 2.9, 2.13).
+ghost use Rattle.std.specs.Prelude.{◌≡◌, true, false, fold, OnOk, IfOk, []};
 ghost use Rattle.sh_tree.specs.program.Trees.{command_of, script_of};
+ghost use Rattle.sh_table.specs.Calls.{table_of};
+ghost use Rattle.sh_table.specs.Numbering.{is_numbered};
+ghost use Rattle.sh_facts.specs.Demands.{demands};
+ghost use Rattle.sh_facts.specs.Facts.{Declared};
 ghost use Rattle.sh_check.specs.Places.{command_places};
-ghost use Rattle.sh_check.specs.Told.{item_shares, items_told};
+ghost use Rattle.sh_check.specs.Told.{item_shares};
 ghost use Rattle.sh_check.specs.ToldWalks as walks;
+ghost use Rattle.sh_check.specs.Whole.{AreNamesOf, kept_claims};
 
 use crate::own::judge_own;
+use crate::shared::tell_shared;
 use crate::source::Source;
+use sh_facts::certificate::Certificate;
+use sh_facts::names::Names;
+use sh_facts::numbered::in_byte_order;
+use sh_table::table::CallTable;
 use sh_tree::place::Place;
 use sh_tree::tree::{
     AndOr, Binary, Branch, Clause, Command, Element, Expr, Item, Kind, Link, ParameterOperator,
@@ -20,12 +30,21 @@ fn tell_own(
     shares: bool,
     command: &Command,
     script: &[u8],
-    source: &Source<'_>,
+    source: &Source<'_, '_>,
     places: &mut Vec<Place>,
 ) -> Result<(), AllocError>
     ensures { OnOk result (places.new.items ≡ command_places source.now shares places.old.items (command_of script.now command.now)) }
 {
-    judge_own(command, script, source.before(command.number), places)
+    judge_own(command, script, source.before(command.number), places)?;
+    tell_shared(
+        shares,
+        command.number,
+        command.at,
+        &command.kind,
+        script,
+        source,
+        places,
+    )
 }
 
 // Whether more than one part stands there, or they share anyway.
@@ -47,7 +66,7 @@ fn tell_script(
     shares: bool,
     list: &Script,
     script: &[u8],
-    source: &Source<'_>,
+    source: &Source<'_, '_>,
     places: &mut Vec<Place>,
 ) -> Result<(), AllocError>
     ensures { OnOk result (places.new.items ≡ walks.script_step (command_places source.now) script.now shares places.old.items list.now) }
@@ -60,7 +79,7 @@ fn tell_items(
     shares: bool,
     items: &[Item],
     script: &[u8],
-    source: &Source<'_>,
+    source: &Source<'_, '_>,
     places: &mut Vec<Place>,
 ) -> Result<(), AllocError>
     ensures { OnOk result (places.new.items ≡ fold (walks.item_step (command_places source.now) script.now shares) places.old.items items.now) }
@@ -77,7 +96,7 @@ fn tell_item(
     shares: bool,
     item: &Item,
     script: &[u8],
-    source: &Source<'_>,
+    source: &Source<'_, '_>,
     places: &mut Vec<Place>,
 ) -> Result<(), AllocError>
     ensures { OnOk result (places.new.items ≡ walks.item_step (command_places source.now) script.now shares places.old.items item.now) }
@@ -92,7 +111,7 @@ fn tell_list(
     shares: bool,
     list: &AndOr,
     script: &[u8],
-    source: &Source<'_>,
+    source: &Source<'_, '_>,
     places: &mut Vec<Place>,
 ) -> Result<(), AllocError>
     ensures { OnOk result (places.new.items ≡ walks.list_step (command_places source.now) script.now shares places.old.items list.now) }
@@ -106,7 +125,7 @@ fn tell_links(
     shares: bool,
     links: &[(Link, Pipe)],
     script: &[u8],
-    source: &Source<'_>,
+    source: &Source<'_, '_>,
     places: &mut Vec<Place>,
 ) -> Result<(), AllocError>
     ensures { OnOk result (places.new.items ≡ fold (walks.link_step (command_places source.now) script.now shares) places.old.items links.now) }
@@ -123,7 +142,7 @@ fn tell_pipe(
     shares: bool,
     pipe: &Pipe,
     script: &[u8],
-    source: &Source<'_>,
+    source: &Source<'_, '_>,
     places: &mut Vec<Place>,
 ) -> Result<(), AllocError>
     ensures { OnOk result (places.new.items ≡ walks.pipe_step (command_places source.now) script.now shares places.old.items pipe.now) }
@@ -143,7 +162,7 @@ fn tell_commands(
     shares: bool,
     commands: &[Command],
     script: &[u8],
-    source: &Source<'_>,
+    source: &Source<'_, '_>,
     places: &mut Vec<Place>,
 ) -> Result<(), AllocError>
     ensures { OnOk result (places.new.items ≡ fold (walks.command_step (command_places source.now) script.now shares) places.old.items commands.now) }
@@ -160,7 +179,7 @@ fn tell_command(
     shares: bool,
     command: &Command,
     script: &[u8],
-    source: &Source<'_>,
+    source: &Source<'_, '_>,
     places: &mut Vec<Place>,
 ) -> Result<(), AllocError>
     ensures { OnOk result (places.new.items ≡ walks.command_step (command_places source.now) script.now shares places.old.items command.now) }
@@ -174,7 +193,7 @@ fn tell_command(
 fn tell_redirects(
     redirects: &[Redirect],
     script: &[u8],
-    source: &Source<'_>,
+    source: &Source<'_, '_>,
     places: &mut Vec<Place>,
 ) -> Result<(), AllocError>
     ensures { OnOk result (places.new.items ≡ fold (walks.redirect_step (command_places source.now) script.now) places.old.items redirects.now) }
@@ -191,7 +210,7 @@ fn tell_kind(
     shares: bool,
     kind: &Kind,
     script: &[u8],
-    source: &Source<'_>,
+    source: &Source<'_, '_>,
     places: &mut Vec<Place>,
 ) -> Result<(), AllocError>
     ensures { OnOk result (places.new.items ≡ walks.kind_step (command_places source.now) script.now shares places.old.items kind.now) }
@@ -236,7 +255,7 @@ fn tell_otherwise(
     shares: bool,
     otherwise: &Option<Script>,
     script: &[u8],
-    source: &Source<'_>,
+    source: &Source<'_, '_>,
     places: &mut Vec<Place>,
 ) -> Result<(), AllocError>
     ensures { OnOk result (places.new.items ≡ walks.otherwise_step (command_places source.now) script.now shares places.old.items otherwise.now) }
@@ -251,7 +270,7 @@ fn tell_otherwise(
 fn tell_elements(
     elements: &[Element],
     script: &[u8],
-    source: &Source<'_>,
+    source: &Source<'_, '_>,
     places: &mut Vec<Place>,
 ) -> Result<(), AllocError>
     ensures { OnOk result (places.new.items ≡ fold (walks.element_step (command_places source.now) script.now) places.old.items elements.now) }
@@ -267,7 +286,7 @@ fn tell_elements(
 fn tell_element(
     element: &Element,
     script: &[u8],
-    source: &Source<'_>,
+    source: &Source<'_, '_>,
     places: &mut Vec<Place>,
 ) -> Result<(), AllocError>
     ensures { OnOk result (places.new.items ≡ walks.element_step (command_places source.now) script.now places.old.items element.now) }
@@ -284,7 +303,7 @@ fn tell_branches(
     shares: bool,
     branches: &[Branch],
     script: &[u8],
-    source: &Source<'_>,
+    source: &Source<'_, '_>,
     places: &mut Vec<Place>,
 ) -> Result<(), AllocError>
     ensures { OnOk result (places.new.items ≡ fold (walks.branch_step (command_places source.now) script.now shares) places.old.items branches.now) }
@@ -301,7 +320,7 @@ fn tell_branch(
     shares: bool,
     branch: &Branch,
     script: &[u8],
-    source: &Source<'_>,
+    source: &Source<'_, '_>,
     places: &mut Vec<Place>,
 ) -> Result<(), AllocError>
     ensures { OnOk result (places.new.items ≡ walks.branch_step (command_places source.now) script.now shares places.old.items branch.now) }
@@ -314,7 +333,7 @@ fn tell_branch(
 fn tell_words(
     words: &[Word],
     script: &[u8],
-    source: &Source<'_>,
+    source: &Source<'_, '_>,
     places: &mut Vec<Place>,
 ) -> Result<(), AllocError>
     ensures { OnOk result (places.new.items ≡ fold (walks.word_step (command_places source.now) script.now) places.old.items words.now) }
@@ -329,7 +348,7 @@ fn tell_words(
 fn tell_word(
     word: &Word,
     script: &[u8],
-    source: &Source<'_>,
+    source: &Source<'_, '_>,
     places: &mut Vec<Place>,
 ) -> Result<(), AllocError>
     ensures { OnOk result (places.new.items ≡ walks.word_step (command_places source.now) script.now places.old.items word.now) }
@@ -342,7 +361,7 @@ fn tell_clauses(
     shares: bool,
     clauses: &[Clause],
     script: &[u8],
-    source: &Source<'_>,
+    source: &Source<'_, '_>,
     places: &mut Vec<Place>,
 ) -> Result<(), AllocError>
     ensures { OnOk result (places.new.items ≡ fold (walks.clause_step (command_places source.now) script.now shares) places.old.items clauses.now) }
@@ -359,7 +378,7 @@ fn tell_clause(
     shares: bool,
     clause: &Clause,
     script: &[u8],
-    source: &Source<'_>,
+    source: &Source<'_, '_>,
     places: &mut Vec<Place>,
 ) -> Result<(), AllocError>
     ensures { OnOk result (places.new.items ≡ walks.clause_step (command_places source.now) script.now shares places.old.items clause.now) }
@@ -373,7 +392,7 @@ fn tell_clause(
 fn tell_target(
     target: &Target,
     script: &[u8],
-    source: &Source<'_>,
+    source: &Source<'_, '_>,
     places: &mut Vec<Place>,
 ) -> Result<(), AllocError>
     ensures { OnOk result (places.new.items ≡ walks.target_step (command_places source.now) script.now places.old.items target.now) }
@@ -388,7 +407,7 @@ fn tell_target(
 fn tell_parts(
     parts: &[Part],
     script: &[u8],
-    source: &Source<'_>,
+    source: &Source<'_, '_>,
     places: &mut Vec<Place>,
 ) -> Result<(), AllocError>
     ensures { OnOk result (places.new.items ≡ fold (walks.part_step (command_places source.now) script.now) places.old.items parts.now) }
@@ -404,7 +423,7 @@ fn tell_parts(
 fn tell_part(
     part: &Part,
     script: &[u8],
-    source: &Source<'_>,
+    source: &Source<'_, '_>,
     places: &mut Vec<Place>,
 ) -> Result<(), AllocError>
     ensures { OnOk result (places.new.items ≡ walks.part_step (command_places source.now) script.now places.old.items part.now) }
@@ -427,7 +446,7 @@ fn tell_part(
 fn tell_operator(
     operator: &ParameterOperator,
     script: &[u8],
-    source: &Source<'_>,
+    source: &Source<'_, '_>,
     places: &mut Vec<Place>,
 ) -> Result<(), AllocError>
     ensures { OnOk result (places.new.items ≡ walks.operator_step (command_places source.now) script.now places.old.items operator.now) }
@@ -444,7 +463,7 @@ fn tell_operator(
 fn tell_chain(
     rest: &[(Binary, Expr)],
     script: &[u8],
-    source: &Source<'_>,
+    source: &Source<'_, '_>,
     places: &mut Vec<Place>,
 ) -> Result<(), AllocError>
     ensures { OnOk result (places.new.items ≡ fold (walks.operand_step (command_places source.now) script.now) places.old.items rest.now) }
@@ -460,7 +479,7 @@ fn tell_chain(
 fn tell_expression(
     expression: &Expr,
     script: &[u8],
-    source: &Source<'_>,
+    source: &Source<'_, '_>,
     places: &mut Vec<Place>,
 ) -> Result<(), AllocError>
     ensures { OnOk result (places.new.items ≡ walks.expression_step (command_places source.now) script.now places.old.items expression.now) }
@@ -484,23 +503,41 @@ fn tell_expression(
     }
 }
 
-/// The places of the parameters that a script expands, of the tildes without a login name and of the names that arithmetic reads, where
-/// the certificate does not claim that they are set (XCU 2.6.1, 2.6.2, 2.6.4): of each command in the order of the demands, a command
-/// before those in it.
-///
-/// # Errors
-///
-/// Where a growth was refused; nothing but the places grows.
-#[tactic(auto, unfolding(crate::specs::ToldWalks::script_step))]
-pub fn check_parameters(
+fn places_told(
     alloc: Global,
     tree: &Script,
     script: &[u8],
-    source: &Source<'_>,
+    source: &Source<'_, '_>,
 ) -> Result<Vec<Place>, AllocError>
-    ensures { IfOk result (λ places. places.items ≡ items_told (command_places source.now) false [] (script_of script.now tree.now)) }
+    ensures { IfOk result (λ places. places.items ≡ walks.script_step (command_places source.now) script.now false [] tree.now) }
 {
     let mut places = Vec::new(alloc);
     tell_script(false, tree, script, source, &mut places)?;
     Ok(places)
+}
+
+/// The places of a script where a certificate leaves a demand unmet, command by command, a command before those in it: the parameters
+/// that words expand, the tildes without a login name and the names that arithmetic reads, where it does not claim that they are set (XCU
+/// 2.6.1, 2.6.2, 2.6.4); and in a part of a pipeline the names that a command may drop, each once, and that it moves the positional
+/// parameters (XCU 2.9.2, 2.13).
+///
+/// # Errors
+///
+/// Where a growth was refused.
+pub fn check_demands(
+    alloc: Global,
+    tree: &Script,
+    script: &[u8],
+    calls: &CallTable<'_>,
+    names: &Names,
+    certificate: &Certificate,
+) -> Result<Vec<Place>, AllocError>
+    requires table { calls.now ≡ table_of script.now tree.now }
+    requires numbered { is_numbered (script_of script.now tree.now) ≡ true }
+    requires names { AreNamesOf script.now tree.now names.now }
+    ensures { IfOk result (λ places. (d : Declared) → places.items ≡ demands d (kept_claims script.now tree.now names.now certificate.now) (script_of script.now tree.now)) }
+{
+    let order = in_byte_order(alloc, names)?;
+    let source = Source::new(names, &order, certificate, calls, script);
+    places_told(alloc, tree, script, &source)
 }

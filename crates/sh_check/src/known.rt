@@ -1,5 +1,6 @@
 //! What is known at a place, as a walk over a script asks it and adds to it.
 ghost use Rattle.std.specs.Prelude.{◌≡◌, [], ◌∷◌};
+ghost use Rattle.sh_facts.specs.Demands as demands;
 ghost use Rattle.sh_facts.specs.Facts.{claims, Variable, Parameters};
 ghost use Rattle.sh_facts.specs.Gains.{named};
 ghost use Rattle.sh_check.specs.Knowing.{gained, knowing};
@@ -15,6 +16,14 @@ pub struct Known<'n> {
 }
 
 impl Known<'_> {
+    /// Whether some run comes here.
+    #[tactic(auto, unfolding(sh_facts::specs::Demands::is_reached))]
+    pub fn is_reached(&self) -> bool
+        ensures { result ≡ demands.is_reached (knowing self.now).facts }
+    {
+        self.knowledge.is_reached()
+    }
+
     /// Whether the variable is set; `!` is the parameter of that name.
     pub fn has_variable(&self, name: &[u8]) -> bool
         ensures { result ≡ claims (knowing self.now).facts (Variable name.now) }

@@ -2,7 +2,7 @@
 ghost use Rattle.sh_check.specs.Moves.{MovesTell};
 ghost use Rattle.sh_check.specs.Numbered.{NamesReach};
 ghost use Rattle.sh_check.specs.Tellings.{EachIsTold, OwnTells, WordsTell};
-ghost use Rattle.sh_check.specs.Whole.{ParametersAreTold};
+ghost use Rattle.sh_check.specs.Whole.{DemandsAreTold};
 
 /// What is judged of a word is what the demands say of it, and what is gained is what they say is gained, where each name that may be
 /// set is one of those that are known. So it is of a command's own words and redirections.
@@ -11,11 +11,11 @@ pub fn words()
     ensures commands { OwnTells }
 {}
 
-/// The walk over a program tells of each command that the flow rules enter, in their order; so the parameters of a script that it tells
-/// are those that the demands name, where each name that a command may set is numbered.
+/// The walk over a program tells of each command that the flow rules enter, in their order; so the places that it tells of a script are
+/// those of the demands that are unmet, where each name that a command may set is numbered.
 pub fn demands()
     ensures order { EachIsTold }
-    ensures parameters { ParametersAreTold }
+    ensures whole { DemandsAreTold }
 {}
 
 /// A command that changes the positional parameters is told by the static texts of its words.

@@ -2,10 +2,12 @@
 #![tactic(auto)]
 
 pub mod demands;
+pub mod drops;
 pub mod gains;
 pub mod known;
 pub mod laws;
 pub mod moves;
 pub mod needs;
 pub mod own;
+pub mod shared;
 pub mod source;

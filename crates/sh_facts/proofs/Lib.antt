@@ -30,6 +30,7 @@ pub mod ReadLemmas
 pub mod NumberCounts
 pub mod NumberLemmas
 pub mod DifferLemmas
+pub mod TotalLemmas
 pub mod SplitLemmas
 pub mod FormLemmas
 pub mod LineLemmas

@@ -17,7 +17,7 @@ use Rattle.sh_facts.specs.Readings.{command_number}
 use Rattle.sh_reads.specs.Spots.{EachOnce}
 
 -- how many of the commands have the number
-pub held : ℕ → List Located → ℕ
+unfoldable pub held : ℕ → List Located → ℕ
 held n [] = 0
 held n (l ∷ ls) = cond (command_number l == n) 1 0 + held n ls
 

@@ -1,7 +1,7 @@
 -- No two commands of a script that is read have one number: a case for each production.
 --
 -- Numbers do not rise along a program either, so they are counted as spots are (OnceLemmas); what passes them is the count of commands.
-use Rattle.std.proofs.Common.{◌≡◌, ℕ, zero, suc, ◌+◌, ◌-◌, ◌==◌, Bool, true, false, if◌then◌else◌, Option, List, [], ◌∷◌, ◌++◌, refl, ap, ◌∙◌, ◌≤◌, length, arith, length-append, cond, nat_le}
+use Rattle.std.proofs.Common.{◌≡◌, ℕ, zero, suc, ◌+◌, ◌-◌, ◌==◌, Bool, true, false, if◌then◌else◌, Option, List, [], ◌∷◌, ◌++◌, refl, ap, subst, ◌∙◌, ◌≤◌, length, arith, length-append, cond, nat_le}
 use Rattle.sh_tree.specs.declared.tree.AndOr.{AndOr}
 use Rattle.sh_tree.specs.declared.tree.Binary.{Binary}
 use Rattle.sh_tree.specs.declared.tree.Branch.{Branch}
@@ -32,7 +32,7 @@ use Rattle.sh_tree.specs.declared.token.command.Stage.TheVariants.{Named}
 use Rattle.sh_tree.specs.language.Commands.{name_end, is_newline_lead, is_open}
 use Rattle.sh_tree.specs.language.HereDocuments.{Mark, delimiter_of}
 use Rattle.sh_tree.specs.language.Reading as r
-use Rattle.sh_tree.specs.language.Reading.{after, figure_at, figure_span, over, lead_of, lead_here, skip, behind_name, parted, unopened, ReadsParts, ReadsPart, ReadsExpression, ReadsConditional, ReadsLevel, ReadsOperands, ReadsUnary, ReadsWord, ReadsRedirect, ReadsRedirects, ReadsDocuments, ReadsBreaks, ReadsElements, ReadsCommand, ReadsCompound, ReadsDo, ReadsBranches, ReadsElse, ReadsForWords, ReadsWords, ReadsClauses, ReadsPatterns, ReadsPipeline, ReadsCommands, ReadsAndOr, ReadsLinks, ReadsItems, ReadsList, ReadsSequence, ReadsScript, Reads, sign_at}
+use Rattle.sh_tree.specs.language.Reading.{after, figure_at, figure_span, over, lead_of, lead_here, skip, behind_name, parted, unopened, ReadsParts, ReadsPart, ReadsExpression, ReadsConditional, ReadsLevel, ReadsOperands, ReadsUnary, ReadsWord, ReadsRedirect, ReadsRedirects, ReadsDocuments, ReadsBreaks, ReadsElements, ReadsCommand, ReadsCompound, ReadsDo, ReadsBranches, ReadsElse, ReadsForWords, ReadsWords, ReadsClauses, ReadsPatterns, ReadsPipeline, ReadsCommands, ReadsAndOr, ReadsLinks, ReadsItems, ReadsList, ReadsSequence, ReadsScript, ReadsTo, Reads, sign_at}
 use Rattle.sh_tree.specs.language.States.{Spot, State, Document, nth, document_count, waits}
 use Rattle.sh_tree.specs.language.Trees as tree
 use Rattle.sh_tree.specs.language.Trees.{span}
@@ -443,6 +443,15 @@ module _ (whole : List ℕ) (n : ℕ) where
         let before = no_bodies in
         let bound = inside.bound in
         record { bound = omega arith }
+
+-- where so many commands are read, a number is held once at most, and then it is one from 1 to that count
+pub read_given : (b : List ℕ) (t : Script) (limit count : ℕ) → ReadsTo b limit count t → (n : ℕ)
+    → held n (items_located outside (script_of b t)) + cond (nat_le n 0) 1 0 ≤ cond (nat_le n count) 1 0
+unfolding given
+read_given b t limit count h n =
+    let found = script_gives b n outside h.script in
+    let bound = found.bound in
+    subst (λ k. held n (items_located outside (script_of b t)) + cond (nat_le n 0) 1 0 ≤ cond (nat_le n k) 1 0) h.commands (omega arith)
 
 pub read_held : (b : List ℕ) (t : Script) → Reads b t → (n : ℕ) → held n (items_located outside (script_of b t)) ≤ 1
 read_held b t reads n =

@@ -1,12 +1,14 @@
 -- What every script that is read has: its program is formed, its words give fields, its runs have rows, and each number of it stands once.
 -- POSIX.1-2024, XCU 2.10 (shell grammar).
-use Rattle.std.specs.Prelude.{◌≡◌, ℕ, true, List, Some, None, map}
+use Rattle.std.specs.Prelude.{◌≡◌, ◌≤◌, ℕ, true, List, length, Some, None, map}
+use Rattle.sh_tree.specs.declared.limits.TheConstants.{MAX_COMMANDS}
 use Rattle.sh_tree.specs.declared.tree.Script.{Script}
-use Rattle.sh_tree.specs.language.Reading.{Reads}
+use Rattle.sh_tree.specs.language.Reading.{Reads, ReadsWithin}
 use Rattle.sh_tree.specs.program.Syntax.{Text}
 use Rattle.sh_tree.specs.program.Trees.{script_of}
 use Rattle.sh_reads.specs.Spots.{EachOnce}
 use Rattle.sh_table.specs.Admitted.{is_admitted}
+use Rattle.sh_table.specs.Calls.{table_of}
 use Rattle.sh_table.specs.Numbering.{is_numbered}
 use Rattle.sh_table.specs.Rows.{has_row, gives_fields}
 use Rattle.sh_table.specs.Sites.{site_of}
@@ -41,3 +43,7 @@ ReadNumbersDiffer = (b : List ℕ) (t : Script) → Reads b t → EachOnce (map 
 -- and the test of that holds
 abbrev pub ReadIsNumbered : Type 0
 ReadIsNumbered = (b : List ℕ) (t : Script) → Reads b t → is_numbered (script_of b t) ≡ true
+
+-- Within the limits the call table has no more commands than a script may have.
+abbrev pub ReadHasFewCommands : Type 0
+ReadHasFewCommands = (b : List ℕ) (t : Script) → ReadsWithin b t → length (table_of b t).rows ≤ MAX_COMMANDS

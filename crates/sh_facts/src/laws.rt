@@ -10,7 +10,7 @@ ghost use Rattle.sh_facts.specs.Slots.{EveryCertificateClaims};
 ghost use Rattle.sh_facts.specs.RoundTrips.{ReadIsWritten, WrittenReadsBack};
 ghost use Rattle.sh_facts.specs.Spelling.{HasOneText};
 ghost use Rattle.sh_facts.specs.Places.{PlacesStandOnce, ReadPlacesStandOnce};
-ghost use Rattle.sh_facts.specs.Readings.{ReadGivesFields, ReadHasRows, ReadIsFormed, ReadIsNumbered, ReadNumbersDiffer};
+ghost use Rattle.sh_facts.specs.Readings.{ReadGivesFields, ReadHasFewCommands, ReadHasRows, ReadIsFormed, ReadIsNumbered, ReadNumbersDiffer};
 ghost use Rattle.sh_facts.specs.SpotExamples.{SpotsAsExpected};
 ghost use Rattle.sh_facts.specs.TextExamples.{TextsAsExpected};
 
@@ -57,10 +57,12 @@ pub fn formed()
     ensures rows { ReadHasRows }
 {}
 
-/// No two commands of a script that is read have one number, those of its here-documents included.
+/// No two commands of a script that is read have one number, those of its here-documents included; and the table of one within the limits has no more
+/// commands than a script may have.
 pub fn numbered()
     ensures once { ReadNumbersDiffer }
     ensures test { ReadIsNumbered }
+    ensures few { ReadHasFewCommands }
 {}
 
 /// Of a program in which no two commands start at one offset, and no two expansions, tildes or names of arithmetic stand at one, no

@@ -9,7 +9,7 @@ pub mod laws;
 pub mod limits;
 mod lines;
 pub mod names;
-mod numbered;
+pub mod numbered;
 mod operands;
 pub mod options;
 pub mod policy;

@@ -1,5 +1,5 @@
 -- What is known behind a piece of a tree, by the pieces one level below it.
-use Rattle.std.proofs.Common.{◌≡◌, ℕ, Bool, true, false, Option, Some, None, unwrap_or, List, [], ◌∷◌, fold, refl, ap, ◌∙◌}
+use Rattle.std.proofs.Common.{◌≡◌, true, false, Option, Some, None, unwrap_or, List, [], ◌∷◌, fold, refl, ap, ◌∙◌}
 use Rattle.sh_tree.specs.declared.tree.AndOr.{AndOr, out-AndOr}
 use Rattle.sh_tree.specs.declared.tree.Command.{Command, out-Command}
 use Rattle.sh_tree.specs.declared.tree.Item.{Item, out-Item}

@@ -1,6 +1,6 @@
 -- The walk over facts keeps what is kept of the commands as they are entered.
-use Rattle.std.proofs.Common.{◌≡◌, ℕ, min, Bool, true, false, not, ◌&&◌, ◌||◌, List, [], ◌∷◌, ◌++◌, map, fold, refl, sym, ap, ap₂, ◌∙◌, arith}
-use Rattle.std.proofs.lemmas.List.{append-nil, map-append}
+use Rattle.std.proofs.Common.{◌≡◌, ℕ, Bool, true, false, List, [], ◌∷◌, ◌++◌, map, fold, refl, sym, ap, ap₂, ◌∙◌}
+use Rattle.std.proofs.lemmas.List.{map-append}
 use Rattle.std.proofs.lemmas.List.Sums.{fold-append}
 use Rattle.sh_tree.specs.declared.tree.ClauseEnd.{ClauseEnd}
 use Rattle.sh_tree.specs.declared.tree.ClauseEnd.TheVariants as clause
@@ -16,7 +16,7 @@ use Rattle.sh_facts.specs.declared.rule.FlowRule.{FlowRule}
 use Rattle.sh_facts.specs.declared.rule.FlowRule.TheVariants.{F1, F2, F3, F6, F7, F8, F9, F10, F11, F13}
 use Rattle.sh_facts.specs.Entries as e
 use Rattle.sh_facts.specs.Entries.{Around, Entered}
-use Rattle.sh_facts.specs.Facts.{Facts, NotReached, Known, meet}
+use Rattle.sh_facts.specs.Facts.{Facts, NotReached, meet}
 use Rattle.sh_facts.specs.Gains.{Gains, no_gains, and_gains, named, job, sure, operator_gains, assigned_in, part_gains, word_gains, words_gains, expanded_gains, operands_gains, redirect_gains, redirects_gains}
 use Rattle.sh_facts.specs.Views.{Slot, Before, AfterZero, AfterNonzero, Head, Entry, Seen, After, Both, Each, if_zero, if_nonzero, at, gaining}
 use Rattle.sh_facts.specs.Views as views
@@ -38,21 +38,21 @@ pub record Interprets (x : Setting) (knows : Seen → Facts) : Type 0 where
 module _ (x : Setting) (knows : Seen → Facts) (i : Interprets x knows) where
   -- Behind lists
 
-  behind_of : After → Behind
+  unfoldable pub behind_of : After → Behind
   behind_of (Both s) = both (knows s)
   behind_of (Each z n) = either (knows z) (knows n)
 
-  zero_same : (o : After) → (behind_of o).zero ≡ knows (if_zero o)
+  pub zero_same : (o : After) → (behind_of o).zero ≡ knows (if_zero o)
   unfolding behind_of if_zero
   zero_same (Both s) = refl
   zero_same (Each z n) = refl
 
-  nonzero_same : (o : After) → (behind_of o).nonzero ≡ knows (if_nonzero o)
+  pub nonzero_same : (o : After) → (behind_of o).nonzero ≡ knows (if_nonzero o)
   unfolding behind_of if_nonzero
   nonzero_same (Both s) = refl
   nonzero_same (Each z n) = refl
 
-  any_same : (o : After) → in_any_case (behind_of o) ≡ knows (views.in_any_case o)
+  pub any_same : (o : After) → in_any_case (behind_of o) ≡ knows (views.in_any_case o)
   unfolding behind_of views.in_any_case
   any_same (Both s) = i.twice s
   any_same (Each z n) = sym (i.joined z n)
@@ -108,7 +108,7 @@ module _ (x : Setting) (knows : Seen → Facts) (i : Interprets x knows) where
   item_same o true t =
       ap₂ either (ap (gained x (named (job ∷ []))) (any_same o) ∙ sym (i.gain (named (job ∷ [])) (views.in_any_case o))) (sym i.nothing)
 
-  items_same : (o : After) (t : p.Items) → items_behind x (behind_of o) t ≡ behind_of (e.items_after o t)
+  pub items_same : (o : After) (t : p.Items) → items_behind x (behind_of o) t ≡ behind_of (e.items_after o t)
   unfolding items_behind e.items_after
   items_same o p.no_items = refl
   items_same o (p.more_items list background rest) =
@@ -127,12 +127,12 @@ module _ (x : Setting) (knows : Seen → Facts) (i : Interprets x knows) where
   started_same true q = sym (i.job q)
   started_same false q = refl
 
-  turns_same : (k : LoopKind) (o : After) → turns k (behind_of o) ≡ knows (e.turns k o)
+  pub turns_same : (k : LoopKind) (o : After) → turns k (behind_of o) ≡ knows (e.turns k o)
   unfolding turns e.turns
   turns_same loop.While o = zero_same o
   turns_same loop.Until o = nonzero_same o
 
-  falls_same : (end : ClauseEnd) (o : After) → falls end (behind_of o) ≡ knows (e.falls end o)
+  pub falls_same : (end : ClauseEnd) (o : After) → falls end (behind_of o) ≡ knows (e.falls end o)
   unfolding falls e.falls
   falls_same clause.Break o = sym i.nothing
   falls_same clause.FallThrough o = any_same o

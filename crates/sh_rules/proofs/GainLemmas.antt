@@ -16,7 +16,7 @@ use Rattle.sh_tree.specs.program.Trees as trees
 use Rattle.sh_tree.specs.program.Words.{operands_in}
 use Rattle.sh_tree.proofs.ProgramRules as rules
 use Rattle.sh_facts.specs.Facts.{Facts}
-use Rattle.sh_facts.specs.Gains.{Gains, no_gains, and_gains, named, sure, assigned_in, part_gains, word_gains, words_gains, with_gains}
+use Rattle.sh_facts.specs.Gains.{Gains, no_gains, and_gains, named, sure, assigned_in, word_gains, words_gains, with_gains}
 use Rattle.sh_facts.specs.Knowledge as knowledge
 use Rattle.sh_facts.specs.Knowledge.{knowledge_facts}
 use Rattle.sh_facts.specs.declared.knowledge.Knowledge.{Knowledge}

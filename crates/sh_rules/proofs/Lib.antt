@@ -4,3 +4,7 @@ pub mod BehindLemmas
 pub mod WalkLemmas
 pub mod EnteredLemmas
 pub mod MeaningLemmas
+pub mod ToldLemmas
+pub mod BoundLemmas
+pub mod ClaimLemmas
+pub mod TellLemmas

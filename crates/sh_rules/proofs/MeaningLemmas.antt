@@ -1,10 +1,9 @@
 -- What is known of numbered names stands for what is seen.
-use Rattle.std.proofs.Common.{◌≡◌, ℕ, min, Bool, true, false, not, ◌&&◌, ◌||◌, Option, Some, None, option_map, unwrap_or, List, [], ◌∷◌, ◌++◌, map, filter, fold, refl, sym, ap, ◌∙◌, append_assoc, arith}
+use Rattle.std.proofs.Common.{◌≡◌, min, Bool, true, false, not, ◌&&◌, ◌||◌, Option, Some, None, option_map, unwrap_or, List, [], ◌∷◌, ◌++◌, map, filter, fold, refl, sym, ap, ◌∙◌, append_assoc, arith}
 use Rattle.std.specs.Str.{bytes_eq}
 use Rattle.std.proofs.lemmas.Slice.Eq.{bytes_eq-Decides}
 use Rattle.std.proofs.lemmas.List.{append-nil}
 use Rattle.std.proofs.lemmas.Map.Views.{any-filter_same}
-use Rattle.sh_tree.specs.program.Syntax as p
 use Rattle.sh_tree.specs.program.Syntax.{Text}
 use Rattle.sh_table.specs.runs.Environment.{is_one_of}
 use Rattle.sh_facts.specs.declared.certificate.Entry.{Entry}
@@ -13,16 +12,14 @@ use Rattle.sh_facts.specs.declared.certificate.Facts.TheVariants as value_kind
 use Rattle.sh_facts.specs.declared.certificate.FunctionEntry.{FunctionEntry}
 use Rattle.sh_facts.specs.declared.rows.RowId.{RowId}
 use Rattle.sh_facts.specs.Certificates.{claim_of, in_byte_order, names_at}
-use Rattle.sh_facts.specs.Entries.{Entered, script_entered}
+use Rattle.sh_facts.specs.Entries.{script_entered}
 use Rattle.sh_facts.specs.Facts.{Facts, NotReached, Known, Claim, Unreached, facts, meet, Declared, start_facts}
 use Rattle.sh_facts.specs.Gains.{Gains, job, with_gains}
 use Rattle.sh_facts.specs.KeptRows.{holds_at}
-use Rattle.sh_facts.specs.Knowledge.{AreNumbered, among, at_number}
+use Rattle.sh_facts.specs.Knowledge.{AreNumbered, among}
 use Rattle.sh_facts.specs.Meets.{is_call}
-use Rattle.sh_facts.specs.Names.{number_of}
 use Rattle.sh_facts.specs.Operands.{Names}
 use Rattle.sh_facts.specs.Order.{seen_facts}
-use Rattle.sh_facts.specs.Slots.{entry_of}
 use Rattle.sh_facts.specs.Views.{Certificate, Slot, Before, AfterZero, AfterNonzero, Head, Entry as Entered', ReturnsZero, ReturnsNonzero, Seen, Gain, Lose, step, steps, where_known, source_facts, at, at_start, gaining}
 use Rattle.sh_facts.specs.Views as views
 use Rattle.sh_facts.proofs.KnowledgeLemmas.{in_row, numbered_only}
@@ -30,7 +27,6 @@ use Rattle.sh_facts.proofs.MeetLemmas.{known_same, seen_is_meet}
 use Rattle.sh_check.specs.Knowing as knowing
 use Rattle.sh_rules.specs.Settings.{Setting, certificate, known_at, gained, without_job}
 use Rattle.sh_rules.specs.Meaning.{knows, met_of, with_met, WalkEnters}
-use Rattle.sh_rules.specs.Walked.{Met}
 use Rattle.sh_rules.specs.Walks.{head_of}
 use Rattle.sh_rules.proofs.SlotLemmas.{entries, head_claimed}
 use Rattle.sh_rules.proofs.EnteredLemmas.{Interprets, script_same}
@@ -115,7 +111,7 @@ module _ (x : Setting) (h : AreNumbered x.names) where
   by_option : {E : Type 0} (part : E → value.Facts) (o : Option E) (f : Facts) → f ≡ facts (unwrap_or (option_map (λ e. claim (part e)) o) Unreached) → among x.names f ≡ f
   by_option part o f e = ap (among x.names) e ∙ option_named part o ∙ sym e
 
-  slot_named : (s : Slot) → among x.names (known_at x s) ≡ known_at x s
+  pub slot_named : (s : Slot) → among x.names (known_at x s) ≡ known_at x s
   unfolding known_at
   slot_named (Before n) = by_option (λ (e : Entry). e.before) _ _ (ap facts ((entries x).before n))
   slot_named (AfterZero n) = by_option (λ (e : Entry). e.zero) _ _ (ap facts ((entries x).zero n))
@@ -152,7 +148,7 @@ module _ (x : Setting) (h : AreNumbered x.names) where
     unfolding knows seen_facts among
     nothing_seen = refl
 
-    interprets : Interprets x (knows x d)
+    pub interprets : Interprets x (knows x d)
     interprets = record { slot = slot_seen; gain = gain_seen; job = job_seen; joined = joined_seen; nothing = nothing_seen; twice = λ s. meet_twice (knows x d s) }
 
 listed : {A B : Type 0} (f : A → B) (ms : List B) (es : List A) → fold (λ ns m. ns ++ m ∷ []) ms (map f es) ≡ ms ++ map f es

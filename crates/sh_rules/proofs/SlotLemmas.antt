@@ -15,7 +15,7 @@ use Rattle.sh_facts.specs.declared.knowledge.Knowledge.{Knowledge}
 use Rattle.sh_facts.specs.declared.knowledge.Knowledge.TheVariants as knowledge
 use Rattle.sh_facts.specs.Knowledge.{AreNumbered, knowledge_facts}
 use Rattle.sh_facts.specs.Names.{number_of}
-use Rattle.sh_facts.specs.Facts.{Facts, NotReached, Claim, Unreached, facts}
+use Rattle.sh_facts.specs.Facts.{NotReached, Claim, Unreached, facts}
 use Rattle.sh_facts.specs.Sheets.{claim_at, nowhere}
 use Rattle.sh_facts.specs.Slots.{ClaimsAreEntries, entry_of}
 use Rattle.sh_facts.specs.Views.{Before, AfterZero, AfterNonzero, Head, Entry as Entered}
@@ -23,6 +23,7 @@ use Rattle.sh_facts.proofs.SlotLemmas.{claims_are_entries}
 use Rattle.sh_rules.specs.Settings.{Setting, known_at}
 use Rattle.sh_rules.specs.declared.claims.Claims.{Claims}
 use Rattle.sh_rules.specs.Walks.{facts_in, head_of, head_where, setting}
+use Rattle.sh_rules.specs.Bounds.{claimed_at}
 
 pub entries : (x : Setting) → ClaimsAreEntries (in_byte_order x.names) x.kept x.functions
 entries x = claims_are_entries (in_byte_order x.names) x.kept x.functions
@@ -81,12 +82,16 @@ head_at order c k (e ∷ es) (suc j) =
     let same : (k + 1) + j ≡ k + suc j = omega arith in
     head_at order c (k + 1) es j ∙ ap (λ n. option_map (claim_of order c.rows) (head_where (slice_get es j) (get nat_eq c.heads n))) same
 
-pub head_claimed : (x : Setting) (n : ℕ) → known_at x (Head n) ≡ facts (unwrap_or (option_map (claim x) (head_of x.kept n)) Unreached)
-unfolding known_at claim_at
-head_claimed x n =
+pub head_claim : (x : Setting) (n : ℕ) → claimed_at x (Head n) ≡ unwrap_or (option_map (claim x) (head_of x.kept n)) Unreached
+unfolding claimed_at claim_at
+head_claim x n =
     let same : 1 + (n - 1) ≡ max n 1 = omega arith in
-    ap (λ h. facts (unwrap_or h Unreached)) (head_at (in_byte_order x.names) x.kept 1 x.kept.entries.items (n - 1))
-    ∙ ap (λ k. facts (unwrap_or (option_map (claim x) (head_where (slice_get x.kept.entries.items (n - 1)) (get nat_eq x.kept.heads k))) Unreached)) same
+    ap (λ h. unwrap_or h Unreached) (head_at (in_byte_order x.names) x.kept 1 x.kept.entries.items (n - 1))
+    ∙ ap (λ k. unwrap_or (option_map (claim x) (head_where (slice_get x.kept.entries.items (n - 1)) (get nat_eq x.kept.heads k))) Unreached) same
+
+pub head_claimed : (x : Setting) (n : ℕ) → known_at x (Head n) ≡ facts (unwrap_or (option_map (claim x) (head_of x.kept n)) Unreached)
+unfolding known_at claimed_at
+head_claimed x n = ap facts (head_claim x n)
 
 pub head_some : (x : Setting) (n : ℕ) (f : value.Facts) → head_of x.kept n ≡ Some f → known_at x (Head n) ≡ facts (claim x f)
 head_some x n f s = head_claimed x n ∙ ap (λ o. facts (unwrap_or (option_map (claim x) o) Unreached)) s

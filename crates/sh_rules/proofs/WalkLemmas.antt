@@ -39,7 +39,7 @@ use Rattle.sh_tree.specs.program.Trees as trees
 use Rattle.sh_tree.proofs.ProgramRules as rules
 use Rattle.sh_facts.specs.declared.rule.FlowRule.{FlowRule}
 use Rattle.sh_facts.specs.declared.rule.FlowRule.TheVariants.{F1, F2, F3, F6, F7, F9, F10, F11, F13}
-use Rattle.sh_facts.specs.Entries.{Around, alone, in_function, in_loop, is_long, item_rule, item_around, part_rule, part_around}
+use Rattle.sh_facts.specs.Entries.{Around, alone, in_function, is_long, item_rule, item_around, part_rule, part_around}
 use Rattle.sh_facts.specs.Facts.{Facts, meet}
 use Rattle.sh_facts.specs.Gains.{named, assigned_in}
 use Rattle.sh_facts.specs.Views.{Before, Entry, Head}
@@ -47,7 +47,7 @@ use Rattle.sh_check.specs.Judged.{inner_gains}
 use Rattle.sh_check.specs.Knowing.{action_gains}
 use Rattle.sh_rules.specs.Settings.{Setting, known_at, gained, without_job}
 use Rattle.sh_rules.specs.Behind.{Behind, both, falls, in_any_case, link_known, started, turns}
-use Rattle.sh_rules.specs.Walked.{Met, Trail, trail, trail_gained, Course, course, branch_body, branch_left, loop_body, clause_body, clause_left, nothing_falls, items_walked, list_walked, links_walked, pipeline_walked, commands_walked, command_walked, kind_walked, elements_walked, redirect_walked, redirects_walked, branches_walked, otherwise_walked, for_words_walked, words_walked, clauses_walked, patterns_walked, word_walked, part_walked, operator_walked, expression_walked, operands_walked, script_walked}
+use Rattle.sh_rules.specs.Walked.{Met, Trail, trail, trail_gained, Course, course, branch_body, branch_left, clause_body, clause_left, nothing_falls, items_walked, list_walked, links_walked, pipeline_walked, commands_walked, command_walked, kind_walked, elements_walked, redirect_walked, redirects_walked, branches_walked, otherwise_walked, for_words_walked, words_walked, clauses_walked, patterns_walked, word_walked, part_walked, operator_walked, expression_walked, operands_walked, script_walked}
 use Rattle.sh_rules.specs.Walks.{pipe_behind, link_left, item_left}
 use Rattle.sh_rules.specs.Steps.{and_or_kept, pipe_kept, command_kept, script_ran, item_step, link_step, kind_kept, target_step, redirect_step, element_step, element_gained, part_step, word_step, pattern_step, operator_step, expression_step, operand_step, branch_step, otherwise_kept, clause_step, from_kept, condition_ran, loop_kept, for_kept, for_words_kept, simple_kept}
 use Rattle.sh_rules.proofs.GainLemmas.{elements_gained}

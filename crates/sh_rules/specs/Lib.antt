@@ -4,3 +4,6 @@ pub mod Walked
 pub mod Walks
 pub mod Steps
 pub mod Meaning
+pub mod Bounds
+pub mod Asked
+pub mod Tells

@@ -9,6 +9,7 @@ ghost use Rattle.sh_facts.specs.Knowledge.{knowledge_facts};
 ghost use Rattle.sh_facts.specs.Views.{AfterNonzero, AfterZero};
 ghost use Rattle.sh_rules.specs.Settings.{Setting, gained, known_at, without_job};
 ghost use Rattle.sh_rules.specs.Behind as spec;
+ghost use Rattle.sh_rules.specs.Bounds as bounds;
 ghost use Rattle.sh_rules.specs.Walks as walks;
 ghost use Rattle.sh_rules.specs.Walks.{facts_in, setting};
 
@@ -124,6 +125,17 @@ impl Behind {
         match kind {
             LoopKind::While => self.zero,
             LoopKind::Until => self.nonzero,
+        }
+    }
+
+    /// Where the condition of a loop ends it.
+    #[tactic(auto, unfolding(crate::specs::Bounds::ends))]
+    pub fn at_end(&self, kind: LoopKind) -> Knowledge
+        ensures { (x : Setting) → facts_in x result ≡ bounds.ends kind (walks.behind_in x self.now) }
+    {
+        match kind {
+            LoopKind::While => self.nonzero,
+            LoopKind::Until => self.zero,
         }
     }
 

@@ -3,7 +3,9 @@
 
 pub mod around;
 pub mod behind;
+pub mod bounds;
 pub mod claims;
+pub mod fault;
 pub mod gains;
 pub mod laws;
 mod slots;

@@ -8,6 +8,9 @@ ghost use Rattle.sh_facts.specs.Slots as slots;
 ghost use Rattle.sh_facts.specs.Views as views;
 ghost use Rattle.sh_rules.specs.Settings.{known_at};
 ghost use Rattle.sh_rules.specs.Walks.{facts_in, head_of, setting};
+ghost use Rattle.sh_facts.specs.Facts.{within};
+ghost use Rattle.sh_rules.specs.Bounds.{claimed_at};
+ghost use Rattle.sh_rules.specs.Tells.{claim_in};
 
 use crate::claims::Claims;
 use sh_facts::certificate::{Entry, Facts, FunctionEntry};
@@ -105,6 +108,94 @@ impl Claims<'_> {
         match self.function(name) {
             Some(entry) => Knowledge::claimed(&self.certificate.rows, &entry.before),
             None => Knowledge::NotReached,
+        }
+    }
+}
+
+// What is claimed at each place, as the certificate keeps it.
+impl Claims<'_> {
+    /// Whether all that is claimed by this fact is known.
+    #[tactic(auto, using(crate::proofs::ClaimLemmas::claim_tested))]
+    pub fn is_known(&self, facts: &Facts, known: &Knowledge) -> bool
+        ensures { result ≡ within (claim_in (setting self.now) facts.now) (facts_in (setting self.now) known.now) }
+    {
+        known.includes(&self.certificate.rows, facts)
+    }
+
+    /// Before a command.
+    #[tactic(auto, using(crate::proofs::ClaimLemmas::before_there, crate::proofs::ClaimLemmas::before_away))]
+    pub fn before_facts(&self, number: u32) -> Facts
+        ensures { claim_in (setting self.now) result ≡ claimed_at (setting self.now) (views.Before number) }
+    {
+        match self.entry(number) {
+            Some(entry) => entry.before,
+            None => Facts::NotReached,
+        }
+    }
+
+    /// After a command, where its status is zero.
+    #[tactic(auto, using(crate::proofs::ClaimLemmas::zero_there, crate::proofs::ClaimLemmas::zero_away))]
+    pub fn zero_facts(&self, number: u32) -> Facts
+        ensures { claim_in (setting self.now) result ≡ claimed_at (setting self.now) (views.AfterZero number) }
+    {
+        match self.entry(number) {
+            Some(entry) => entry.zero,
+            None => Facts::NotReached,
+        }
+    }
+
+    /// After a command, where its status is another one.
+    #[tactic(auto, using(crate::proofs::ClaimLemmas::nonzero_there, crate::proofs::ClaimLemmas::nonzero_away))]
+    pub fn nonzero_facts(&self, number: u32) -> Facts
+        ensures { claim_in (setting self.now) result ≡ claimed_at (setting self.now) (views.AfterNonzero number) }
+    {
+        match self.entry(number) {
+            Some(entry) => entry.nonzero,
+            None => Facts::NotReached,
+        }
+    }
+
+    /// At each turn of a loop.
+    #[tactic(auto, using(crate::proofs::ClaimLemmas::head_there, crate::proofs::ClaimLemmas::head_away))]
+    pub fn turn_facts(&self, number: u32) -> Facts
+        ensures { claim_in (setting self.now) result ≡ claimed_at (setting self.now) (views.Head number) }
+    {
+        match self.head_facts(number) {
+            Some(facts) => *facts,
+            None => Facts::NotReached,
+        }
+    }
+
+    /// Where a function is entered.
+    #[tactic(auto, using(crate::proofs::ClaimLemmas::entry_there, crate::proofs::ClaimLemmas::entry_away))]
+    pub fn entry_facts(&self, name: &[u8]) -> Facts
+        ensures { claim_in (setting self.now) result ≡ claimed_at (setting self.now) (views.Entry name.now) }
+    {
+        match self.function(name) {
+            Some(entry) => entry.before,
+            None => Facts::NotReached,
+        }
+    }
+
+    /// Where a function returns with status zero.
+    #[tactic(auto, using(crate::proofs::ClaimLemmas::return_zero_there, crate::proofs::ClaimLemmas::return_zero_away))]
+    pub fn return_zero_facts(&self, name: &[u8]) -> Facts
+        ensures { claim_in (setting self.now) result ≡ claimed_at (setting self.now) (views.ReturnsZero name.now) }
+    {
+        match self.function(name) {
+            Some(entry) => entry.zero,
+            None => Facts::NotReached,
+        }
+    }
+
+    /// Where a function returns with another status.
+    #[tactic(auto, using(crate::proofs::ClaimLemmas::return_nonzero_there, crate::proofs::ClaimLemmas::return_nonzero_away))]
+    pub fn return_nonzero_facts(&self, name: &[u8]) -> Facts
+        ensures { claim_in (setting self.now) result ≡ claimed_at (setting self.now) (views.ReturnsNonzero name.now) }
+    {
+        match self.function(name) {
+            Some(entry) => entry.nonzero,
+            None => Facts::NotReached,
         }
     }
 }

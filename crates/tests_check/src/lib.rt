@@ -2,4 +2,6 @@
 #![tactic(auto)]
 
 #[cfg(test)]
-mod parameters;
+mod demands;
+#[cfg(test)]
+mod pipelines;

@@ -1,4 +1,6 @@
 //! Certificates that are read from their texts.
+use sh_facts::certificate::Certificate;
+use sh_facts::limits::MAX_CERTIFICATE;
 use sh_facts::names::Names;
 use sh_facts::policy::Policy;
 use sh_facts::reading::read_certificate;
@@ -6,27 +8,67 @@ use sh_facts::texts::write_certificate;
 use sh_grammar::parse;
 use sh_table::table::CallTable;
 use sh_tree::refusal::Refusal;
-use std::alloc::Global;
+use sh_tree::tree::Script;
+use std::alloc::{AllocError, Global};
 use std::test::Fail;
 
-/// The text that is written of the certificate that this text is, for a script with the name `A` declared.
-fn read_again(alloc: Global, script: &[u8], text: &[u8]) -> Result<Vec<u8>, Refusal> {
-    let tree = parse(alloc, script)?;
-    let table = CallTable::new(alloc, &tree, script)?;
-    let Ok(policy) = Policy::new(alloc, &[b"A"], 0) else {
-        return Err(Refusal::Memory);
-    };
-    let names = Names::new(alloc, &tree, script, &policy)?;
-    let certificate = read_certificate(alloc, text, &tree, &table, &names)?;
+/// The text that is written of a certificate of few commands and functions.
+fn written(alloc: Global, certificate: &Certificate, names: &Names) -> Result<Vec<u8>, Refusal> {
     if certificate.entries.len() > 100 || certificate.functions.len() > 100 {
         return Err(Refusal::TooMany);
     }
-    Ok(write_certificate(alloc, &certificate, &names)?)
+    Ok(write_certificate(alloc, certificate, names)?)
+}
+
+fn names_with(
+    alloc: Global,
+    tree: &Script,
+    script: &[u8],
+    declared: &[&[u8]],
+) -> Result<Names, Refusal> {
+    let Ok(policy) = Policy::new(alloc, declared, 0) else {
+        return Err(Refusal::Memory);
+    };
+    Names::new(alloc, tree, script, &policy)
+}
+
+fn written_of(
+    alloc: Global,
+    text: &[u8],
+    tree: &Script,
+    table: &CallTable,
+    names: &Names,
+) -> Result<Vec<u8>, Refusal> {
+    let certificate = read_certificate(alloc, text, tree, table, names)?;
+    written(alloc, &certificate, names)
+}
+
+fn written_for(
+    alloc: Global,
+    tree: &Script,
+    script: &[u8],
+    declared: &[&[u8]],
+    text: &[u8],
+) -> Result<Vec<u8>, Refusal> {
+    let table = CallTable::new(alloc, tree, script)?;
+    let names = names_with(alloc, tree, script, declared)?;
+    written_of(alloc, text, tree, &table, &names)
+}
+
+/// The text that is written of the certificate that this text is, for a script with these names declared.
+pub fn read_again(
+    alloc: Global,
+    script: &[u8],
+    declared: &[&[u8]],
+    text: &[u8],
+) -> Result<Vec<u8>, Refusal> {
+    let tree = parse(alloc, script)?;
+    written_for(alloc, &tree, script, declared, text)
 }
 
 /// Whether the text is a certificate's, and is written again to the byte.
 fn is_read(alloc: Global, script: &[u8], text: &[u8]) -> bool {
-    match read_again(alloc, script, text) {
+    match read_again(alloc, script, DECLARED, text) {
         Ok(again) => again.as_slice() == text,
         Err(_) => false,
     }
@@ -34,11 +76,14 @@ fn is_read(alloc: Global, script: &[u8], text: &[u8]) -> bool {
 
 /// Whether the text is refused so.
 fn is_refused(alloc: Global, script: &[u8], text: &[u8], refusal: Refusal) -> bool {
-    match read_again(alloc, script, text) {
+    match read_again(alloc, script, DECLARED, text) {
         Ok(_) => false,
         Err(found) => found == refusal,
     }
 }
+
+/// The name that is declared.
+const DECLARED: &[&[u8]] = &[b"A"];
 
 const SKIPPED: &[u8] = b"false && echo \"$x\"\n";
 
@@ -57,6 +102,17 @@ c 2 0:IFS,OPTIND,PPID: 0:IFS,OPTIND,PPID,l: 0:IFS,OPTIND,PPID:
 c 3 0:IFS,OPTIND,PPID,l:A,l 0:IFS,OPTIND,PPID,l: 0:IFS,OPTIND,PPID,l:
 ";
 
+const FUNCTION: &[u8] = b"f() { unset A; }; f\n";
+
+const FUNCTION_TEXT: &[u8] = b"shset certificate 1
+commands 4 functions 1
+c 1 0:A,IFS,OPTIND,PPID: 0:A,IFS,OPTIND,PPID:f -
+c 2 0:A,IFS,OPTIND,PPID:f 0:IFS,OPTIND,PPID:f -
+c 3 0:A,IFS,OPTIND,PPID:f 0:IFS,OPTIND,PPID:f 1:!:A,f
+c 4 0:A,IFS,OPTIND,PPID:f 0:IFS,OPTIND,PPID:f -
+f 1 0:A,IFS,OPTIND,PPID:f A:A,f 0:IFS,OPTIND,PPID:f -
+";
+
 #[test]
 fn read_to_the_byte(rt: HostRuntime) -> Result<(), Fail> {
     assert!(rt;
@@ -68,59 +124,137 @@ fn read_to_the_byte(rt: HostRuntime) -> Result<(), Fail> {
     );
     assert!(rt; is_read(rt.alloc(), SKIPPED, SKIPPED_TEXT));
     assert!(rt; is_read(rt.alloc(), LOOP, LOOP_TEXT));
+    assert!(rt; is_read(rt.alloc(), FUNCTION, FUNCTION_TEXT));
     Ok(())
 }
 
-/// The line of the only command, and the first line that has not the form.
+/// Lines that are none of the only command.
 const LINES: &[&[u8]] = &[
     b"c 1 0:PPID,IFS: - -\n",
     b"c 1 0:IFS,IFS: - -\n",
-    b"c 1 00:IFS: - -\n",
-    b"c 1 65536:IFS: - -\n",
+    b"c 1 0:IFS,!: - -\n",
     b"c 1 0:IFS:! - -\n",
     b"c 1 0:IFS,: - -\n",
+    b"c 1 0:,IFS: - -\n",
+    b"c 1 0:1a: - -\n",
+    b"c 1 0:IFS - -\n",
+    b"c 1 0:IFS:f:g - -\n",
     b"c 1 0::IFS: - -\n",
+    b"c 1 :IFS: - -\n",
+    b"c 1 -:IFS: - -\n",
+    b"c 1 00:IFS: - -\n",
+    b"c 1 65536:IFS: - -\n",
+    b"c 1 99999999999999999999:IFS: - -\n",
+    b"c 1 +1:IFS: - -\n",
+];
+
+/// More of them, by their fields and their ends.
+const MORE_LINES: &[&[u8]] = &[
     b"c 1  - - -\n",
     b"c 1 - - - \n",
+    b"c 1\t- - -\n",
+    b" c 1 - - -\n",
     b"c 1 - - -\r\n",
+    b"c 1 - - -\0\n",
     b"c 1 - -\0 -\n",
     b"c 1 - - -",
     b"c 1 - -\n",
     b"c 1 - - - - -\n",
     b"c 01 - - -\n",
     b"c 2 - - -\n",
-    b"f 1 - - -\n",
+    b"C 1 - - -\n",
+    b"f 1 - : - -\n",
+    b"\n",
     b"",
+];
+
+fn are_refused(alloc: Global, lines: &[&[u8]]) -> Result<bool, AllocError> {
+    for line in lines {
+        let mut text = Vec::from_slice(alloc, b"shset certificate 1\ncommands 1 functions 0\n")?;
+        text.extend_from_slice(line)?;
+        if !is_refused(alloc, b":\n", &text, Refusal::CertSyntax(3)) {
+            return Ok(false);
+        }
+    }
+    Ok(true)
+}
+
+/// Texts whose second line is none.
+const COUNTS: &[&[u8]] = &[
+    b"shset certificate 1\n",
+    b"shset certificate 1\ncommands 0 functions 0",
+    b"shset certificate 1\ncommands 0 functions 00\n",
+    b"shset certificate 1\ncommands 65536 functions 0\n",
+    b"shset certificate 1\ncommands 0 functions 0 \n",
+    b"shset certificate 1\ncommands 0  functions 0\n",
+    b"shset certificate 1\ncommands 0\n",
+    b"shset certificate 1\nfunctions 0 commands 0\n",
+    b"shset certificate 1\ncommands 0 functions 0\r\n",
+    b"shset certificate 1\n\n",
 ];
 
 #[test]
 fn first_fault_is_told(rt: HostRuntime) -> Result<(), Fail> {
     let alloc = rt.alloc();
-    for line in LINES {
-        let mut text = Vec::from_slice(alloc, b"shset certificate 1\ncommands 1 functions 0\n")?;
-        text.extend_from_slice(line)?;
-        let is_third = is_refused(alloc, b":\n", &text, Refusal::CertSyntax(3));
-        assert!(rt; is_third);
+    let of_line = are_refused(alloc, LINES)? && are_refused(alloc, MORE_LINES)?;
+    assert!(rt; of_line);
+    for text in COUNTS {
+        assert!(rt; is_refused(alloc, b"", text, Refusal::CertSyntax(2)));
     }
-    assert!(rt; is_refused(alloc, b"", b"", Refusal::CertSyntax(1)));
-    assert!(rt; is_refused(alloc, b"", b"shset certificate 1", Refusal::CertSyntax(1)));
-    assert!(rt; is_refused(alloc, b"", b"shset certificate 1\n", Refusal::CertSyntax(2)));
-    assert!(rt;
-        is_refused(
-            alloc,
-            b"",
-            b"shset certificate 1\ncommands 0 functions 00\n",
-            Refusal::CertSyntax(2)
-        )
-    );
-    assert!(rt;
-        is_refused(
-            alloc,
-            b"",
-            b"shset certificate 1\ncommands 0 functions 0\n\n",
-            Refusal::CertSyntax(3)
-        )
-    );
+    for text in &[
+        b"".as_slice(),
+        b"shset certificate 1",
+        b"shset certificate 2\n",
+        b"\n",
+    ] {
+        assert!(rt; is_refused(alloc, b"", text, Refusal::CertSyntax(1)));
+    }
+    let one_more = b"shset certificate 1\ncommands 0 functions 0\n\n";
+    assert!(rt; is_refused(alloc, b"", one_more, Refusal::CertSyntax(3)));
+    Ok(())
+}
+
+/// Whether the cut that ends there is refused, at the line where it ends.
+fn is_cut(alloc: Global, script: &[u8], text: &[u8], end: usize) -> bool {
+    let cut = text.get(..end).unwrap_or(text);
+    let lines = cut.iter().filter(|byte| **byte == b'\n').count();
+    let line = u32::try_from(lines).unwrap_or(0).saturating_add(1);
+    is_refused(alloc, script, cut, Refusal::CertSyntax(line))
+}
+
+#[test]
+fn cuts_are_refused(rt: HostRuntime) -> Result<(), Fail> {
+    for end in 0..LOOP_TEXT.len() {
+        assert!(rt; is_cut(rt.alloc(), LOOP, LOOP_TEXT, end), "{end}");
+    }
+    for end in 0..FUNCTION_TEXT.len() {
+        assert!(rt; is_cut(rt.alloc(), FUNCTION, FUNCTION_TEXT, end), "{end}");
+    }
+    Ok(())
+}
+
+/// A text of the form, of so many bytes, whose only name no script has.
+fn long_text(alloc: Global, length: usize) -> Result<Vec<u8>, AllocError> {
+    let mut text = Vec::from_slice(
+        alloc,
+        b"shset certificate 1\ncommands 1 functions 0\nc 1 0:",
+    )?;
+    let end = b": - -\n";
+    let name = length.saturating_sub(text.len()).saturating_sub(end.len());
+    let letters = vec![in alloc; b'a'; name]?;
+    text.extend_from_slice(&letters)?;
+    text.extend_from_slice(end)?;
+    Ok(text)
+}
+
+#[test]
+fn limit_is_told(rt: HostRuntime) -> Result<(), Fail> {
+    let text = vec![in rt.alloc(); b'\n'; MAX_CERTIFICATE + 1]?;
+    let longest = text.get(1..).unwrap_or(b"");
+    assert!(rt; is_refused(rt.alloc(), b"", longest, Refusal::CertSyntax(1)));
+    assert!(rt; is_refused(rt.alloc(), b"", &text, Refusal::CertSyntax(0)));
+    let text = long_text(rt.alloc(), 100_000)?;
+    assert!(rt; is_refused(rt.alloc(), b":\n", &text, Refusal::CertShape));
     Ok(())
 }
 
@@ -132,6 +266,7 @@ const OTHERS: &[&[u8]] = &[
     b"shset certificate 1\ncommands 1 functions 0\nc 1 - - - -\n",
     b"shset certificate 1\ncommands 1 functions 0\nc 1 0:B: - -\n",
     b"shset certificate 1\ncommands 1 functions 0\nc 1 - 0:A:B -\n",
+    b"shset certificate 1\ncommands 1 functions 0\nc 1 - - 0:!,A,B,IFS:\n",
 ];
 
 #[test]
@@ -141,5 +276,14 @@ fn another_script(rt: HostRuntime) -> Result<(), Fail> {
     }
     let no_head = b"shset certificate 1\ncommands 3 functions 0\nc 1 - - -\nc 2 - - -\nc 3 - - -\n";
     assert!(rt; is_refused(rt.alloc(), LOOP, no_head, Refusal::CertShape));
+    Ok(())
+}
+
+#[test]
+fn memory_alone_is_wanting(rt: HostRuntime) -> Result<(), Fail> {
+    match read_again(rt.alloc(), FUNCTION, DECLARED, FUNCTION_TEXT) {
+        Ok(again) => assert!(rt; again.as_slice() == FUNCTION_TEXT),
+        Err(refusal) => assert!(rt; refusal == Refusal::Memory),
+    }
     Ok(())
 }

@@ -138,7 +138,7 @@ fn declared_names(rt: HostRuntime) -> Result<(), Fail> {
 }
 
 /// The policy that declares `n0`, `n1` and so on.
-fn declaring(alloc: Global, count: u32) -> Result<Policy, PolicyFault> {
+pub fn declaring(alloc: Global, count: u32) -> Result<Policy, PolicyFault> {
     let mut texts = Vec::new(alloc);
     for number in 0..count {
         texts.push(format!(in alloc; "n{number}")?)?;

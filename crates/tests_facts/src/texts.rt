@@ -10,7 +10,7 @@ use std::alloc::{AllocError, Global};
 use std::test::Fail;
 
 /// Keeps a row of these numbers.
-fn keep(
+pub fn keep(
     alloc: Global,
     certificate: &mut Certificate,
     numbers: &[u32],

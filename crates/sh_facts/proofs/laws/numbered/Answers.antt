@@ -1,5 +1,6 @@
 use Rattle.sh_facts.proofs.DifferLemmas.{read_is_numbered}
 use Rattle.sh_facts.proofs.NumberLemmas.{read_numbers_differ}
+use Rattle.sh_facts.proofs.TotalLemmas.{read_has_few_commands}
 use Rattle.sh_facts.proofs.laws.numbered.Goals as goal
 
 pub returns-clause-once : goal.returns-clause-once
@@ -7,3 +8,6 @@ returns-clause-once c = read_numbers_differ
 
 pub returns-clause-test : goal.returns-clause-test
 returns-clause-test c = read_is_numbered
+
+pub returns-clause-few : goal.returns-clause-few
+returns-clause-few c = read_has_few_commands

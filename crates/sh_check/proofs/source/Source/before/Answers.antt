@@ -11,5 +11,5 @@ returns c =
     let certificate = c.self.inside.certificate.now in
     rw (← c.self.view_is)
     (knowing_same names _ _
-    (c.claimed.ensures names c.self.invariant
-    ∙ ap facts (c.facts_before-facts.ensures (in_byte_order names) ∙ sym (claim_before names certificate c.args.number))))
+    (c.claimed.ensures names c.self.invariant.numbered
+    ∙ ap facts (c.facts_before-facts.ensures (in_byte_order names) ∙ sym (claim_before names certificate c.self.inside.calls.now c.args.number))))

@@ -1,9 +1,11 @@
-//! The parameters that are not surely set, in known scripts by known certificates.
-ghost use Rattle.std.specs.Prelude.{IfOk};
-ghost use Rattle.sh_facts.specs.Knowledge.{AreNumbered};
+//! The demands that are unmet, in known scripts by known certificates.
+ghost use Rattle.std.specs.Prelude.{◌≡◌, true, IfOk};
+ghost use Rattle.sh_tree.specs.program.Trees.{script_of};
+ghost use Rattle.sh_table.specs.Calls.{table_of};
+ghost use Rattle.sh_table.specs.Numbering.{is_numbered};
+ghost use Rattle.sh_check.specs.Whole.{AreNamesOf};
 
-use sh_check::demands::check_parameters;
-use sh_check::source::Source;
+use sh_check::demands::check_demands;
 use sh_facts::names::Names;
 use sh_facts::policy::Policy;
 use sh_facts::reading::read_certificate;
@@ -16,16 +18,16 @@ use std::alloc::Global;
 use std::process::Abort;
 use std::test::Fail;
 
-/// An offset, the rule, and the name of the parameter.
-type Told = (u32, Code, &'static [u8]);
+/// An offset, the rule, and the name that it is about.
+pub type Told = (u32, Code, &'static [u8]);
 
 /// A script, the names that are declared and how many positional parameters, its greatest certificate, and what is told.
-struct Row {
-    script: &'static [u8],
-    names: &'static [&'static [u8]],
-    args: u16,
-    certificate: &'static [u8],
-    told: &'static [Told],
+pub struct Row {
+    pub script: &'static [u8],
+    pub names: &'static [&'static [u8]],
+    pub args: u16,
+    pub certificate: &'static [u8],
+    pub told: &'static [Told],
 }
 
 /// The names of a script with these declared.
@@ -36,7 +38,7 @@ fn names_of(
     declared: &[&[u8]],
     args: u16,
 ) -> Result<Names, Refusal>
-    ensures { IfOk result (λ names. AreNumbered names) }
+    ensures { IfOk result (λ names. AreNamesOf script.now tree.now names) }
 {
     let Ok(policy) = Policy::new(alloc, declared, args) else {
         return Err(Refusal::Memory);
@@ -51,11 +53,12 @@ fn places_named(
     table: &CallTable,
     names: &Names,
 ) -> Result<Vec<Place>, Refusal>
-    requires { AreNumbered names.now }
+    requires table { table.now ≡ table_of row.now.script.now tree.now }
+    requires numbered { is_numbered (script_of row.now.script.now tree.now) ≡ true }
+    requires names { AreNamesOf row.now.script.now tree.now names.now }
 {
     let certificate = read_certificate(alloc, row.certificate, tree, table, names)?;
-    let source = Source::new(names, &certificate);
-    Ok(check_parameters(alloc, tree, row.script, &source)?)
+    Ok(check_demands(alloc, tree, row.script, table, names, &certificate)?)
 }
 
 fn places_numbered(
@@ -63,7 +66,12 @@ fn places_numbered(
     row: &Row,
     tree: &Script,
     table: &CallTable,
-) -> Result<Vec<Place>, Refusal> {
+) -> Result<Vec<Place>, Refusal>
+    requires table { table.now ≡ table_of row.now.script.now tree.now }
+{
+    if !table.is_numbered() {
+        return Err(Refusal::CertShape);
+    }
     let names = names_of(alloc, tree, row.script, row.names, row.args)?;
     places_named(alloc, row, tree, table, &names)
 }
@@ -84,7 +92,7 @@ fn is_told(places: &[Place], told: &Told) -> bool {
     })
 }
 
-fn check(rt: &impl Abort, alloc: Global, rows: &[Row]) -> Result<(), Fail> {
+pub fn check(rt: &impl Abort, alloc: Global, rows: &[Row]) -> Result<(), Fail> {
     for row in rows {
         let places = places_of(alloc, row)?;
         assert_eq!(rt; places.len(), row.told.len());

@@ -1,0 +1,90 @@
+-- Clauses of private functions: the places of names that a command may drop, by the pieces that name them.
+-- POSIX.1-2024, XCU 2.9.1 (simple commands), 2.15 (unset).
+use Rattle.std.specs.Prelude.{ℕ, Bool, true, false, ◌&&◌, if◌then◌else◌, List, [], ◌∷◌, ◌++◌, drop, fold, Some, None}
+use Rattle.sh_tree.specs.declared.place.Place.{Place}
+use Rattle.sh_tree.specs.declared.tree.Element.{Element}
+use Rattle.sh_tree.specs.declared.tree.Kind.{Kind}
+use Rattle.sh_tree.specs.language.Bytes.{is_name}
+use Rattle.sh_tree.specs.program.Lists.{element_from, elements_from}
+use Rattle.sh_tree.specs.program.Syntax as p
+use Rattle.sh_tree.specs.program.Syntax.{Text}
+use Rattle.sh_tree.specs.program.Trees.{kind_of}
+use Rattle.sh_table.specs.Profile.{Static}
+use Rattle.sh_table.specs.WordTexts.{text_in}
+use Rattle.sh_table.specs.declared.word_text.WordText.{WordText}
+use Rattle.sh_table.specs.runs.Environment.{is_one_of}
+use Rattle.sh_table.specs.runs.Operands.{Removal, OfVariables, OfFunctions, removal_of, ends_options, is_dashed}
+use Rattle.sh_facts.specs.declared.numbered.Numbered.{Numbered}
+use Rattle.sh_facts.specs.declared.rows.RowId.{RowId}
+use Rattle.sh_facts.specs.Demands.{is_reached}
+use Rattle.sh_facts.specs.Facts.{Facts, claims, Variable}
+use Rattle.sh_facts.specs.KeptRows.{KeptRows, holds_at}
+use Rattle.sh_check.specs.Drops.{once_told, all_told, unseen}
+use Rattle.sh_check.specs.Places.{Source, known_before, sharing, reached_sharing, shared}
+
+-- the name, if it is wanted
+unfoldable pub told_if : Bool → (k at : ℕ) → List Place → Text → List Place
+told_if wanted k at ps t = if wanted then once_told k at ps t else ps
+
+-- a static text that is a name
+unfoldable pub variable_told : (k at : ℕ) → List Place → Static → List Place
+variable_told k at ps None = ps
+variable_told k at ps (Some t) = told_if (is_name t) k at ps t
+
+-- one that is the name of a function
+unfoldable pub function_told : List Text → (k at : ℕ) → List Place → Static → List Place
+function_told functions k at ps None = ps
+function_told functions k at ps (Some t) = told_if (is_name t && is_one_of functions t) k at ps t
+
+abbrev pub variable_step : List ℕ → (k at : ℕ) → List Place → WordText → List Place
+variable_step b k at ps w = variable_told k at ps (text_in b w)
+
+abbrev pub function_step : List ℕ → List Text → (k at : ℕ) → List Place → WordText → List Place
+function_step b functions k at ps w = function_told functions k at ps (text_in b w)
+
+-- the options of `unset`, by texts: what its operands are, and those behind the options
+unfoldable pub unset_by : Text → List Static → Removal × List Static
+unset_by letters [] = (removal_of letters, [])
+unset_by letters (None ∷ ts) = unset_by letters ts
+unset_by letters (Some t ∷ ts) =
+    if ends_options t then (removal_of letters, ts)
+    else (if is_dashed t then unset_by (letters ++ drop 1 t) ts else (removal_of letters, Some t ∷ ts))
+
+-- whether `unset` takes variables, and functions
+unfoldable pub has_variables : Removal → Bool
+has_variables OfFunctions = false
+has_variables _ = true
+
+unfoldable pub has_functions : Removal → Bool
+has_functions OfVariables = false
+has_functions _ = true
+
+-- the variables, then the functions
+unfoldable pub removed_told : List ℕ → List Text → (variables functions : Bool) → (k at : ℕ) → List Place → List WordText → List Place
+removed_told b names true true k at ps ws = fold (function_step b names k at) (fold (variable_step b k at) ps ws) ws
+removed_told b names true false k at ps ws = fold (variable_step b k at) ps ws
+removed_told b names false true k at ps ws = fold (function_step b names k at) ps ws
+removed_told b names false false k at ps ws = ps
+
+-- a name whose number is in the row
+abbrev pub numbered_step : KeptRows → RowId → (k at : ℕ) → List Place → Numbered → List Place
+numbered_step rows id k at ps n = told_if (holds_at rows.rows id.index n.number) k at ps n.name.now
+
+-- the name of a prefix assignment
+unfoldable pub unseen_told : Facts → (k at : ℕ) → List Place → Text → List Place
+unseen_told f k at ps t = if claims f (Variable t) then ps else once_told k at ps t
+
+unfoldable pub prefix_step : List ℕ → Facts → (k at : ℕ) → List Place → Element → List Place
+prefix_step b f k at ps e = all_told k at ps (unseen f (element_from b e p.no_elements))
+
+-- a simple command, where some run comes to it
+unfoldable pub elements_step : List ℕ → Source → (n at : ℕ) → List Place → List Element → List Place
+elements_step b s n at ps es = if is_reached (known_before s n).facts then sharing s n at ps (elements_from b es) else ps
+
+-- a command of a tree to which some run may come
+unfoldable pub reached_step : List ℕ → Source → (n at : ℕ) → List Place → Kind → List Place
+reached_step b s n at ps k = reached_sharing s n at ps (kind_of b k)
+
+-- one that may stand in a part of a pipeline
+unfoldable pub shared_step : List ℕ → Source → Bool → (n at : ℕ) → List Place → Kind → List Place
+shared_step b s shares n at ps k = shared s shares n at ps (kind_of b k)

@@ -1,0 +1,4 @@
+pub mod RefusalLemmas
+pub mod CertificateLemmas
+pub mod FindingLemmas
+pub mod CheckLemmas

@@ -1,0 +1,14 @@
+use Rattle.std.proofs.Common.{◌≡◌}
+use Rattle.std.proofs.lemmas.Result.{err_from_is_err_and}
+use Rattle.sh_engine.proofs.CheckLemmas.{certifies}
+use Rattle.sh_engine.proofs.check.check_prepared.Goals as goal
+
+pub returns-in_err-certificate : goal.returns-in_err-certificate
+returns-in_err-certificate g c =
+    let p = err_from_is_err_and c.from_residual.result c.from_residual.ensures.1 in
+    rw (p.1, p.2) (c.in_err-certificate.ensures c.args.script.now c.args.policy.now c.requires)
+
+pub returns : goal.returns
+returns g c =
+    certifies c.args.script.now c.args.policy.now c.args.text.now c.args.prepared.now c.in_ok-certificate.certificate c.in_ok-verdict.verdict
+    (c.in_ok-certificate.ensures c.args.script.now c.args.policy.now c.requires) c.in_ok-verdict.ensures
