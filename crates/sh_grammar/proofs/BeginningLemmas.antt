@@ -151,9 +151,9 @@ no_gap c (d ∷ cs) h =
     let blank = zero_not (is_blank c) (1 + gap_length (d ∷ cs)) (cond (is_backslash c && is_newline d) (2 + gap_length cs) 0) (omega arith) h in
     (blank.0, (zero_not (is_backslash c && is_newline d) (2 + gap_length cs) 0 (omega arith) blank.1).0)
 
-settled_gap : (b : List ℕ) (i : ℕ) → blanks false b i ≡ i → gap_length (drop i b) ≡ 0
+settled_gap : (joins : Bool) (b : List ℕ) (i : ℕ) → blanks joins b i ≡ i → gap_length (drop i b) ≡ 0
 unfolding blanks blank_length
-settled_gap b i h = go _ (gap_length (drop i b)) _ h
+settled_gap joins b i h = go _ (gap_length (drop i b)) _ h
   where
     go : (t : Bool) (g k : ℕ) → i + cond t (g + k) g ≡ i → g ≡ 0
     go true g k e = omega arith
@@ -241,21 +241,21 @@ stage_site b (Named d) i =
 stage_site b _ i = refl
 
 -- where a word begins, a byte of it comes
-pub word_takes : (b : List ℕ) (s : Stage) (i : ℕ) → lead_at b s i ≡ lead.Word → blanks false b i ≡ i
+pub word_takes : (joins : Bool) (b : List ℕ) (s : Stage) (i : ℕ) → lead_at b s i ≡ lead.Word → blanks joins b i ≡ i
     → (i < length b) × (ends (words.sign_of (in_stage b s i) 0 i (drop i b)) ≡ false)
 unfolding lead_at
-word_takes b s i is settled =
+word_takes joins b s i is settled =
     let at = begins b s i (operator_of (drop i b)) (ap is_element is) in
     let some : 0 < length (drop i b) = (let inside = at.inside in omega (arith, length-drop i b)) in (
       at.inside,
       false_from_ne_true (ends (words.sign_of (in_stage b s i) 0 i (drop i b)))
-          (never (in_stage b s i) i (drop i b) (stage_site b s i) some (settled_gap b i settled) at.no_operator at.no_newline),
+          (never (in_stage b s i) i (drop i b) (stage_site b s i) some (settled_gap joins b i settled) at.no_operator at.no_newline),
     )
 
-pub word_goes : (b : List ℕ) (s : Stage) (i : ℕ) → lead_at b s i ≡ lead.Word → blanks false b i ≡ i → (words.token b (in_stage b s i) 0 i).sign ≡ sign.Stop → ⊥
+pub word_goes : (joins : Bool) (b : List ℕ) (s : Stage) (i : ℕ) → lead_at b s i ≡ lead.Word → blanks joins b i ≡ i → (words.token b (in_stage b s i) 0 i).sign ≡ sign.Stop → ⊥
 unfolding words.token
-word_goes b s i is settled stop =
-    true≢false (sym (ap (λ g. takes_none g (words.sign_of (in_stage b s i) 0 i (drop i b)).1) stop) ∙ (word_takes b s i is settled).1)
+word_goes joins b s i is settled stop =
+    true≢false (sym (ap (λ g. takes_none g (words.sign_of (in_stage b s i) 0 i (drop i b)).1) stop) ∙ (word_takes joins b s i is settled).1)
 
 -- Assignments
 

@@ -1,12 +1,11 @@
 -- Newlines between commands, and what stands behind blanks.
-use Rattle.std.proofs.Common.{◌≡◌, ℕ, suc, ◌+◌, ◌≤◌, true, false, not, ◌&&◌, List, [], ◌∷◌, length, drop, map, Some, None, Ok, refl, sym, ap, subst, ◌∙◌, ⊎_elim, arith}
+use Rattle.std.proofs.Common.{◌≡◌, ℕ, Bool, suc, ◌+◌, ◌≤◌, true, false, not, ◌&&◌, List, [], ◌∷◌, length, drop, map, Some, None, Ok, refl, sym, ap, subst, ◌∙◌, ⊎_elim, arith}
 use Rattle.std.proofs.lemmas.Bool.{true≢false, cases_Bool, cond-true, cond-false, eqb-true}
 use Rattle.std.proofs.lemmas.List.{drop-drop}
 use Rattle.std.proofs.lemmas.List.Sums.{take_while-cons}
 use Rattle.sh_tree.specs.declared.token.command.Stage.TheVariants.{First}
 use Rattle.sh_tree.specs.language.Bytes.{is_blank, is_newline, is_backslash, is_first}
 use Rattle.sh_tree.specs.language.Commands.{gap_length, comment_length, is_comment, blank_length, blanks, lead_at, is_newline_lead}
-use Rattle.sh_tree.specs.language.HereDocuments as documents
 use Rattle.sh_tree.specs.language.Reading.{ReadsBreaks, ReadsDocuments, parted, is_some}
 use Rattle.sh_tree.specs.language.Reading as r
 use Rattle.sh_tree.specs.language.States as states
@@ -17,11 +16,13 @@ use Rattle.sh_tree.specs.declared.refusal.Refusal.TheVariants.{LeftOut}
 use Rattle.sh_tree.proofs.Inversions.{no_breaks, some_breaks}
 use Rattle.sh_tree.proofs.Counts.{breaks_count}
 use Rattle.sh_grammar.specs.Breaks.{BreaksTo, BreaksFrom, Line, LineFrom, LineTo}
-use Rattle.sh_grammar.specs.declared.mark.Mark.{Mark}
 use Rattle.sh_grammar.specs.declared.state.State.{State}
 use Rattle.sh_grammar.specs.Readers.{Refused}
-use Rattle.sh_grammar.specs.States.{IsIn, here, mark_of, moved, pending_of, Stands, waiting}
+use Rattle.sh_grammar.specs.States.{IsIn, Lies, here, moved, pending_of, Stands, waiting}
+use Rattle.sh_grammar.specs.Marks.{mark_of}
+use Rattle.sh_grammar.specs.declared.mark.Mark.{Mark}
 use Rattle.sh_grammar.proofs.FaultLemmas.{first_in}
+use Rattle.sh_tree.specs.language.HereDocuments as documents
 use Rattle.sh_grammar.proofs.ReaderLemmas.{refused_by}
 
 -- Behind blanks stand none
@@ -47,49 +48,49 @@ gap_settles (c ∷ d ∷ cs) = ⊎_elim
     (cases_Bool (is_backslash c && is_newline d)))
     (cases_Bool (is_blank c))
 
-no_blanks : (cs : List ℕ) → gap_length cs ≡ 0 → is_comment false cs ≡ false → blank_length false cs ≡ 0
+no_blanks : (joins : Bool) (cs : List ℕ) → gap_length cs ≡ 0 → is_comment joins cs ≡ false → blank_length joins cs ≡ 0
 unfolding blank_length
-no_blanks cs gap comment = cond-false _ _ _ (ap (λ n. is_comment false (drop n cs)) gap ∙ comment) ∙ gap
+no_blanks joins cs gap comment = cond-false _ _ _ (ap (λ n. is_comment joins (drop n cs)) gap ∙ comment) ∙ gap
 
-newline_settles : (c : ℕ) (cs : List ℕ) → is_newline c ≡ true → blank_length false (c ∷ cs) ≡ 0
+newline_settles : (joins : Bool) (c : ℕ) (cs : List ℕ) → is_newline c ≡ true → blank_length joins (c ∷ cs) ≡ 0
 unfolding gap_length is_first
-newline_settles c cs is = subst (λ v. blank_length false (v ∷ cs) ≡ 0) (sym (eqb-true c 10 is)) (here cs)
+newline_settles joins c cs is = subst (λ v. blank_length joins (v ∷ cs) ≡ 0) (sym (eqb-true c 10 is)) (here cs)
   where
-    here : (ds : List ℕ) → blank_length false (10 ∷ ds) ≡ 0
-    here [] = no_blanks (10 ∷ []) refl refl
-    here (d ∷ ds) = no_blanks (10 ∷ d ∷ ds) refl refl
+    here : (ds : List ℕ) → blank_length joins (10 ∷ ds) ≡ 0
+    here [] = no_blanks joins (10 ∷ []) refl refl
+    here (d ∷ ds) = no_blanks joins (10 ∷ d ∷ ds) refl refl
 
-comment_settles : (cs : List ℕ) → blank_length false (drop (comment_length cs) cs) ≡ 0
+comment_settles : (joins : Bool) (cs : List ℕ) → blank_length joins (drop (comment_length cs) cs) ≡ 0
 unfolding gap_length is_first
-comment_settles [] = no_blanks [] refl refl
-comment_settles (c ∷ cs) = ⊎_elim
+comment_settles joins [] = no_blanks joins [] refl refl
+comment_settles joins (c ∷ cs) = ⊎_elim
     (λ line.
     let none : comment_length (c ∷ cs) ≡ 0 = ap length (take_while-cons (λ d. not (is_newline d)) c cs ∙ cond-false _ _ _ (ap not line)) in
-    ap (λ n. blank_length false (drop n (c ∷ cs))) none ∙ newline_settles c cs line)
+    ap (λ n. blank_length joins (drop n (c ∷ cs))) none ∙ newline_settles joins c cs line)
     (λ other.
     let more : comment_length (c ∷ cs) ≡ suc (comment_length cs) = ap length (take_while-cons (λ d. not (is_newline d)) c cs ∙ cond-true _ _ _ (ap not other)) in
-    ap (λ n. blank_length false (drop n (c ∷ cs))) more ∙ comment_settles cs)
+    ap (λ n. blank_length joins (drop n (c ∷ cs))) more ∙ comment_settles joins cs)
     (cases_Bool (is_newline c))
 
-blank_length_settles : (cs : List ℕ) → blank_length false (drop (blank_length false cs) cs) ≡ 0
+blank_length_settles : (joins : Bool) (cs : List ℕ) → blank_length joins (drop (blank_length joins cs) cs) ≡ 0
 unfolding blank_length
-blank_length_settles cs =
+blank_length_settles joins cs =
     let rest = drop (gap_length cs) cs in
     ⊎_elim
     (λ comment.
-    let whole : blank_length false cs ≡ gap_length cs + comment_length rest = cond-true _ _ _ comment in
-    ap (λ n. blank_length false (drop n cs)) whole ∙ ap (λ v. blank_length false v) (sym (drop-drop (comment_length rest) (gap_length cs) cs)) ∙ comment_settles rest)
+    let whole : blank_length joins cs ≡ gap_length cs + comment_length rest = cond-true _ _ _ comment in
+    ap (λ n. blank_length joins (drop n cs)) whole ∙ ap (λ v. blank_length joins v) (sym (drop-drop (comment_length rest) (gap_length cs) cs)) ∙ comment_settles joins rest)
     (λ other.
-    let whole : blank_length false cs ≡ gap_length cs = cond-false _ _ _ other in
-    ap (λ n. blank_length false (drop n cs)) whole ∙ no_blanks rest (gap_settles cs) other)
-    (cases_Bool (is_comment false rest))
+    let whole : blank_length joins cs ≡ gap_length cs = cond-false _ _ _ other in
+    ap (λ n. blank_length joins (drop n cs)) whole ∙ no_blanks joins rest (gap_settles cs) other)
+    (cases_Bool (is_comment joins rest))
 
-pub blanks_settle : (b : List ℕ) (i : ℕ) → blanks false b (blanks false b i) ≡ blanks false b i
+pub blanks_settle : (joins : Bool) (b : List ℕ) (i : ℕ) → blanks joins b (blanks joins b i) ≡ blanks joins b i
 unfolding blanks
-blanks_settle b i =
-    let none = blank_length_settles (drop i b) in
-    let same : blank_length false (drop (i + blank_length false (drop i b)) b) ≡ 0 =
-    ap (λ cs. blank_length false cs) (sym (drop-drop (blank_length false (drop i b)) i b)) ∙ none in
+blanks_settle joins b i =
+    let none = blank_length_settles joins (drop i b) in
+    let same : blank_length joins (drop (i + blank_length joins (drop i b)) b) ≡ 0 =
+    ap (λ cs. blank_length joins cs) (sym (drop-drop (blank_length joins (drop i b)) i b)) ∙ none in
     omega arith
 
 -- One newline
@@ -166,14 +167,15 @@ module _ (b : List ℕ) where
 
 -- Where states stand
 
-pub moved_stands : (b : List ℕ) (i j : ℕ) (s : State) → Stands b s → j ≡ blanks false b i → j ≤ length b → Stands b (record s { at = j; fresh = true })
-moved_stands b i j s stands is inside = record {
+pub settled_stands : (b : List ℕ) (j : ℕ) (s : State) → Lies b s → j ≡ blanks s.joins b s.at → j ≤ length b → Stands b (record s { at = j; fresh = true })
+settled_stands b j s stands is inside = record {
   inside = inside;
-  settled = ap (blanks false b) is ∙ blanks_settle b i ∙ sym is;
+  settled = ap (blanks s.joins b) is ∙ blanks_settle s.joins b s.at ∙ sym is;
   few = stands.few;
   shallow = stands.shallow;
   around = stands.around;
   behind = stands.behind;
+  kept = stands.kept;
 }
 
 pub parted_is : (b : List ℕ) (s : State) → is_newline_lead (lead_at b First s.at) ≡ false → here (moved b (s.at + 1) s) ≡ parted b (here s)

@@ -197,4 +197,4 @@ module _ (b : List ℕ) (s next : State) (g : Stage) (found : List Element) (h :
 
 -- where a word begins, its context does not end
 pub begins_word : (b : List ℕ) (g : Stage) (s : State) → lead.Word ≡ lead_at b g s.at → Stands b s → Begins b (in_stage b g s.at) s.at s
-begins_word b g s is stands = word_goes b g s.at (sym is) stands.settled
+begins_word b g s is stands = word_goes s.joins b g s.at (sym is) stands.settled

@@ -39,7 +39,7 @@ word_is _ h = absurd (true≢false (sym h))
 -- where a word begins, its context does not end
 pub word_begins : (b : List ℕ) (s : State) → is_word (lead_at b (Named false) s.at) ≡ true → Stands b s → Begins b (in_word s.at) s.at s
 unfolding in_stage
-word_begins b s some stands = word_goes b (Named false) s.at (word_is _ some) stands.settled
+word_begins b s some stands = word_goes s.joins b (Named false) s.at (word_is _ some) stands.settled
 
 words_end : {limit : ℕ} {b : List ℕ} {s v : states.State} {ws : List Word} → is_word (lead_of b (Named false) s) ≡ false → ReadsWords limit b s v ws → (v ≡ s) × (ws ≡ [])
 words_end none (r.no_word h) = (refl, refl)

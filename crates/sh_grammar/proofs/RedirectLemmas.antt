@@ -1,6 +1,8 @@
 -- Redirections, by their operators.
-use Rattle.std.proofs.Common.{◌≡◌, ℕ, ◌<◌, ◌≤◌, true, false, List, [], ◌∷◌, ◌++◌, length, Some, None, refl, sym, ap, subst, ◌∙◌, le_refl}
-use Rattle.std.proofs.lemmas.Bool.{cond-true, true≢false}
+use Rattle.std.proofs.Common.{◌≡◌, ℕ, Bool, ◌<◌, ◌≤◌, true, false, List, [], ◌∷◌, ◌++◌, length, Some, None, refl, sym, ap, subst, ◌∙◌, le_refl}
+use Rattle.std.proofs.lemmas.Bool.{true≢false}
+use Rattle.std.proofs.lemmas.List.{map-append}
+use Rattle.sh_tree.specs.declared.limits.TheConstants.{MAX_NESTING}
 use Rattle.sh_tree.specs.declared.token.command.Lead.{Lead}
 use Rattle.sh_tree.specs.declared.token.command.Lead.TheVariants as lead
 use Rattle.sh_tree.specs.declared.token.command.Stage.TheVariants.{Named}
@@ -8,7 +10,7 @@ use Rattle.sh_tree.specs.declared.token.command.Redirection.{Redirection}
 use Rattle.sh_tree.specs.declared.tree.Direction.{Direction}
 use Rattle.sh_tree.specs.declared.tree.Word.{Word}
 use Rattle.sh_tree.specs.declared.tree.Redirect.{Redirect}
-use Rattle.sh_tree.specs.declared.tree.Target.TheVariants.{File}
+use Rattle.sh_tree.specs.declared.tree.Target.TheVariants.{File, Here}
 use Rattle.sh_tree.specs.declared.refusal.Refusal.{Refusal}
 use Rattle.sh_tree.specs.declared.token.command.Operator.{Operator}
 use Rattle.sh_tree.specs.declared.token.command.Operator.TheVariants as op
@@ -17,14 +19,18 @@ use Rattle.sh_tree.specs.language.Contexts.{in_unsplit}
 use Rattle.sh_tree.specs.language.Reading as r
 use Rattle.sh_tree.specs.language.Reading.{ReadsWord, ReadsRedirect, ReadsRedirects, lead_of}
 use Rattle.sh_tree.specs.language.States as states
-use Rattle.sh_tree.specs.language.States.{Spot, Document, facing, past, next, waits}
+use Rattle.sh_tree.specs.language.States.{Spot, Document, document_count, facing, next, no_document, nth, past, waits, with_mark}
 use Rattle.sh_tree.specs.language.Trees as tree
+use Rattle.sh_tree.specs.language.HereDocuments as documents
 use Rattle.sh_tree.specs.language.HereDocuments.{is_delimiter, delimiter_of}
+use Rattle.sh_tree.specs.language.Parts.{is_quoted_word}
 use Rattle.sh_tree.proofs.Inversions.{some_one, word_parts}
 use Rattle.sh_tree.proofs.Counts.{redirects_count}
 use Rattle.sh_grammar.specs.declared.state.State.{State}
-use Rattle.sh_grammar.specs.States.{here}
-use Rattle.sh_grammar.specs.Delimiters.{delimiter_in}
+use Rattle.sh_grammar.specs.declared.mark.Mark.{Mark}
+use Rattle.sh_grammar.specs.States.{AreIn, Stands, here}
+use Rattle.sh_grammar.specs.Delimiters.{DelimiterIn}
+use Rattle.sh_grammar.specs.Marks.{mark_of}
 use Rattle.sh_grammar.specs.Targets.{TargetFrom}
 use Rattle.sh_grammar.proofs.BeginningLemmas.{word_takes}
 use Rattle.sh_grammar.proofs.BreakLemmas.{blanks_settle}
@@ -82,14 +88,38 @@ target_of {limit = limit} {b = b} {s = s} at is (r.file {u = u} {r = f} {w = w} 
 target_of {limit = limit} {b = b} {s = s} at is (r.here_document {u = u} {r = f} {w = w} h o l read k) =
     (u, w, subst (λ p. TargetOf limit b s p u w) (some_one (sym h ∙ is)) (l, read), refl)
 
--- a here-document, where the operator has no direction
-document_is : {limit : ℕ} {b : List ℕ} {body : ℕ → Document} {s v : states.State} {q : Redirect} (at : Redirection) → redirection b s.spot.at ≡ Some at
-    → direction_of at.operator ≡ None → ReadsRedirect limit b body s v q → (u : Spot) × (w : Word) × TargetOf limit b s at u w × (is_delimiter b w ≡ true)
-document_is at is none (r.file {r = f} {d = e} h o l read) =
-    let way : Some e ≡ None = sym o ∙ ap (λ p. direction_of p.operator) (some_one (sym h ∙ is)) ∙ none in
+no_direction : (o : Operator) (strip : Bool) → strip_of o ≡ Some strip → direction_of o ≡ None
+unfolding direction_of strip_of
+no_direction op.HereDoc strip h = refl
+no_direction op.HereDocTabs strip h = refl
+no_direction _ strip h = cc
+
+-- the here-document of the word, at s
+abbrev marked : List ℕ → Bool → Word → states.State → documents.Mark
+marked b strip w s = record { strip = strip; quoted = is_quoted_word w; delimiter = delimiter_of b w; depth = s.spot.depth }
+
+-- a here-document, where the operator is one
+abbrev DocumentOf : ℕ → List ℕ → (ℕ → Document) → states.State → states.State → Redirection → Bool → Redirect → Type 0
+DocumentOf limit b body s v at strip q =
+    (u : Spot) × (w : Word) × TargetOf limit b s at u w × (is_delimiter b w ≡ true) × (v ≡ with_mark (marked b strip w s) (past b u s))
+    × (q ≡ tree.redirect at.at at.number (Here (tree.here_doc strip w (body (document_count s)).text (body (document_count s)).end)))
+
+document_is : {limit : ℕ} {b : List ℕ} {body : ℕ → Document} {s v : states.State} {q : Redirect} (at : Redirection) (strip : Bool) → redirection b s.spot.at ≡ Some at
+    → strip_of at.operator ≡ Some strip → ReadsRedirect limit b body s v q → DocumentOf limit b body s v at strip q
+document_is at strip is way (r.file {r = f} {d = e} h o l read) =
+    let none : Some e ≡ None = sym o ∙ ap (λ p. direction_of p.operator) (some_one (sym h ∙ is)) ∙ no_direction at.operator strip way in
     cc
-document_is {limit = limit} {b = b} {s = s} at is none (r.here_document {u = u} {r = f} {w = w} h o l read k) =
-    (u, w, subst (λ p. TargetOf limit b s p u w) (some_one (sym h ∙ is)) (l, read), k)
+document_is {limit = limit} {b = b} {body = body} {s = s} at strip is way (r.here_document {u = u} {r = f} {strip = g} {w = w} h o l read k) =
+    let same : f ≡ at = some_one (sym h ∙ is) in
+    let stripped : g ≡ strip = some_one (sym o ∙ ap (λ p. strip_of p.operator) same ∙ way) in
+    let document = λ (x : Bool). Here (tree.here_doc x w (body (document_count s)).text (body (document_count s)).end) in (
+      u,
+      w,
+      subst (λ p. TargetOf limit b s p u w) same (l, read),
+      k,
+      ap (λ x. with_mark (marked b x w s) (past b u s)) stripped,
+      ap (λ p. tree.redirect p.at p.number (document g)) same ∙ ap (λ x. tree.redirect at.at at.number (document x)) stripped,
+    )
 
 -- The word behind an operator that ends at i
 
@@ -98,21 +128,21 @@ is_lead lead.Word h = refl
 is_lead _ h = absurd (true≢false (sym h))
 
 module _ (b : List ℕ) (i : ℕ) (s : State) where
-  pub target_none : is_word (lead_at b (Named false) (blanks false b i)) ≡ false → Nothing (TargetFrom b i s)
+  pub target_none : is_word (lead_at b (Named false) (blanks s.joins b i)) ≡ false → Nothing (TargetFrom b i s)
   target_none none limit v w l = true≢false (sym l.0 ∙ none)
 
-  pub target_refused : (e : Refusal) → Refused b (WordAt b (in_unsplit (blanks false b i)) (blanks false b i) s) e → Refused b (TargetFrom b i s) e
-  target_refused e h = refused_by b (WordAt b (in_unsplit (blanks false b i)) (blanks false b i) s) (TargetFrom b i s) e (λ limit v w l. (v, w, l.1, le_refl v.spot.count)) h
+  pub target_refused : (e : Refusal) → Refused b (WordAt b (in_unsplit (blanks s.joins b i)) (blanks s.joins b i) s) e → Refused b (TargetFrom b i s) e
+  target_refused e h = refused_by b (WordAt b (in_unsplit (blanks s.joins b i)) (blanks s.joins b i) s) (TargetFrom b i s) e (λ limit v w l. (v, w, l.1, le_refl v.spot.count)) h
 
-  pub target_read : (w : Word) (v : State) → is_word (lead_at b (Named false) (blanks false b i)) ≡ true
-      → One (WordAt b (in_unsplit (blanks false b i)) (blanks false b i) s) (here v) w → One (TargetFrom b i s) (here v) w
+  pub target_read : (w : Word) (v : State) → is_word (lead_at b (Named false) (blanks s.joins b i)) ≡ true
+      → One (WordAt b (in_unsplit (blanks s.joins b i)) (blanks s.joins b i) s) (here v) w → One (TargetFrom b i s) (here v) w
   target_read w v word h = record { reads = (word, h.reads); only = λ limit k y l. h.only limit k y l.1 }
 
   pub target_begins : (w : Word) (v : states.State) (limit : ℕ) → TargetFrom b i s limit v w → w.span.start < length b
   target_begins w v limit l =
-      let j = blanks false b i in
+      let j = blanks s.joins b i in
       let parts = word_parts l.1.1 in
-      let inside = (word_takes b (Named false) j (is_lead (lead_at b (Named false) j) l.0) (blanks_settle b i)).0 in
+      let inside = (word_takes s.joins b (Named false) j (is_lead (lead_at b (Named false) j) l.0) (blanks_settle s.joins b i)).0 in
       subst (λ (x : Word). x.span.start < length b) (sym parts.1) inside
 
 -- Redirections by their operators
@@ -138,15 +168,64 @@ module _ (b : List ℕ) (s : State) (at : Redirection) (is : redirection b s.at 
         (o.0, f.3 ∙ ap (λ y. tree.redirect at.at at.number (File d y)) o.1);
   }
 
-  -- its word is no delimiter
-  pub document_none : (w : Word) (v : State) → direction_of at.operator ≡ None → One (TargetFrom b at.end s) (here v) w → None ≡ delimiter_in b w → Nothing (RedirectFrom b s)
-  unfolding waits
-  document_none w v none h other limit k q l =
-      let t = document_is {s = here s} at is none l in
-      let o = h.only limit (past b t.0 (here s)) t.1 (t.2.0, (t.0, t.2.1, refl)) in
-      let whole : delimiter_in b w ≡ Some (delimiter_of b w) = cond-true _ _ _ (subst (λ y. is_delimiter b y ≡ true) o.1 t.3) in
-      let wrong : None ≡ Some (delimiter_of b w) = other ∙ whole in
-      cc
+  -- an operator of neither
+  pub redirect_neither : direction_of at.operator ≡ None → strip_of at.operator ≡ None → Nothing (RedirectFrom b s)
+  redirect_neither none other limit k q l = neither l
+    where
+      neither : {limit : ℕ} {body : ℕ → Document} {v : states.State} {q : Redirect} → ReadsRedirect limit b body (here s) v q → ⊥
+      neither (r.file {r = f} {d = e} h o l read) =
+          let wrong : Some e ≡ None = sym o ∙ ap (λ p. direction_of p.operator) (some_one (sym h ∙ is)) ∙ none in
+          cc
+      neither (r.here_document {r = f} {strip = g} h o l read k) =
+          let wrong : Some g ≡ None = sym o ∙ ap (λ p. strip_of p.operator) (some_one (sym h ∙ is)) ∙ other in
+          cc
+
+  module _ (strip : Bool) (way : strip_of at.operator ≡ Some strip) (w : Word) (v : State) (h : One (TargetFrom b at.end s) (here v) w) where
+    -- its word is no delimiter
+    pub document_refused : (e : Refusal) → Refused b (DelimiterIn b w) e → Refused b (RedirectFrom b s) e
+    unfolding waits
+    document_refused e none = refused_by b (DelimiterIn b w) (RedirectFrom b s) e
+        (λ limit k q l.
+        let t = document_is {s = here s} at strip is way l in
+        let o = h.only limit (past b t.0 (here s)) t.1 (t.2.0, (t.0, t.2.1, refl)) in
+        (k, tt, subst (λ y. is_delimiter b y ≡ true) o.1 t.3, le_refl k.spot.count)) none
+
+    pub document_read : (m : Mark) → is_delimiter b w ≡ true → mark_of m ≡ marked b strip w (here s)
+        → One (RedirectFrom b s) (here (record v { pending = v.pending ++ m ∷ [] })) (tree.redirect at.at at.number (Here (tree.here_doc strip w no_document.text no_document.end)))
+    unfolding waits nth
+    document_read m word is_mark =
+        let q = tree.redirect at.at at.number (Here (tree.here_doc strip w no_document.text no_document.end)) in
+        let end : here (record v { pending = v.pending ++ m ∷ [] }) ≡ with_mark (marked b strip w (here s)) (here v) =
+        ap (λ ms. record (here v) { pending = ms }) (map-append mark_of v.pending (m ∷ [])) ∙ ap (λ n. with_mark n (here v)) is_mark in
+        record {
+          reads =
+              let t = h.reads in
+              let there : here (record v { pending = v.pending ++ m ∷ [] }) ≡ with_mark (marked b strip w (here s)) (past b t.1.0 (here s)) =
+              end ∙ ap (λ x. with_mark (marked b strip w (here s)) x) t.1.2 in
+              subst (λ k. ReadsRedirect 64 b unread (here s) k q) (sym there) (r.here_document {s = here s} {u = t.1.0} is way t.0 t.1.1 word);
+          only = λ limit k p l.
+              let t = document_is {s = here s} at strip is way l in
+              let o = h.only limit (past b t.0 (here s)) t.1 (t.2.0, (t.0, t.2.1, refl)) in (
+                t.4 ∙ ap (λ x. with_mark (marked b strip x (here s)) (past b t.0 (here s))) o.1 ∙ ap (λ x. with_mark (marked b strip w (here s)) x) o.0 ∙ sym end,
+                t.5 ∙ ap (λ x. tree.redirect at.at at.number (Here (tree.here_doc strip x no_document.text no_document.end))) o.1,
+              );
+        }
+
+-- one more waits in the text
+one_more_in : (b : List ℕ) (ms : List Mark) (m : Mark) → AreIn b ms → m.at < length b → m.depth ≤ MAX_NESTING → AreIn b (ms ++ m ∷ [])
+one_more_in b [] m all inside shallow = (inside, tt, shallow)
+one_more_in b (n ∷ ms) m all inside shallow = (all.0, one_more_in b ms m all.1 inside shallow, all.2)
+
+pub awaiting_stands : (b : List ℕ) (v : State) (m : Mark) → Stands b v → m.at < length b → m.depth ≤ MAX_NESTING → Stands b (record v { pending = v.pending ++ m ∷ [] })
+awaiting_stands b v m h inside shallow = record {
+  inside = h.inside;
+  settled = h.settled;
+  few = h.few;
+  shallow = h.shallow;
+  around = h.around;
+  behind = one_more_in b v.pending m h.behind inside shallow;
+  kept = h.kept;
+}
 
 -- Redirections behind a compound command
 

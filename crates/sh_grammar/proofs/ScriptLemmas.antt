@@ -2,6 +2,7 @@
 use Rattle.std.proofs.Common.{◌≡◌, ℕ, ◌<◌, ◌≤◌, false, List, [], length, Some, None, Result, Ok, Err, refl, sym, ap, subst, ◌∙◌, arith}
 use Rattle.std.proofs.lemmas.Bool.{true≢false}
 use Rattle.sh_tree.specs.declared.refusal.Fault.TheVariants as fault
+use Rattle.sh_tree.specs.declared.refusal.Form.TheVariants as form
 use Rattle.sh_tree.specs.declared.limits.TheConstants.{MAX_COMMANDS, MAX_NESTING, MAX_SCRIPT}
 use Rattle.sh_tree.specs.declared.refusal.Refusal.{Refusal}
 use Rattle.sh_tree.specs.declared.refusal.Refusal.TheVariants.{TooLong, NulByte, Syntax, LeftOut, TooDeep, TooMany, Memory}
@@ -14,24 +15,25 @@ use Rattle.sh_tree.specs.language.States as states
 use Rattle.sh_tree.specs.language.States.{Document, nth, waits}
 use Rattle.sh_tree.proofs.Inversions.{apart}
 use Rattle.sh_grammar.specs.declared.state.State.{State}
-use Rattle.sh_grammar.specs.States.{here, first_of, Stands, waiting}
+use Rattle.sh_grammar.specs.States.{first_kept, here, first_of, Stands, waiting}
 use Rattle.sh_grammar.specs.Faults.{IsFault, TellsAt, Misplaced, TellsBehind, TellsMisplaced, stage_at}
 use Rattle.sh_grammar.specs.Readers.{One, Refused, SequenceFrom, unread}
 use Rattle.sh_grammar.proofs.BodyLemmas.{level_of, sequence_with}
 use Rattle.sh_grammar.proofs.FaultLemmas.{first_inside, tells_inside}
 use Rattle.sh_grammar.proofs.ItemLemmas.{inside_lead}
-use Rattle.sh_grammar.proofs.SubstitutionLemmas.{none_waits, some_wait}
+use Rattle.sh_grammar.proofs.SubstitutionLemmas.{kept_in, none_kept, none_waits, some_wait}
 use Rattle.sh_grammar.proofs.BreakLemmas.{blanks_settle}
 use Rattle.sh_grammar.proofs.Nul.{has_no_nul}
 
 pub first_stands : (b : List ℕ) (i : ℕ) → i ≡ blanks false b 0 → i ≤ length b → Stands b (first_of b)
 first_stands b i is inside = record {
   inside = subst (λ v. v ≤ length b) is inside;
-  settled = blanks_settle b 0;
+  settled = blanks_settle false b 0;
   few = omega arith;
   shallow = omega arith;
   around = tt;
   behind = tt;
+  kept = tt;
 }
 
 -- a script of the text is a sequence from its first token to its end, behind which no here-document waits
@@ -60,14 +62,15 @@ sequence_of b limit count t q =
 
 module _ (b : List ℕ) (text : IsText b) where
   module _ (t : Script) (v : State) (one : One (SequenceFrom b (first_of b)) (here v) t) where
-    pub text_read : length b ≤ v.at → None ≡ waiting None v.pending → v.at ≤ length b → v.count ≤ MAX_COMMANDS → Parses b (Ok t)
+    pub text_read : length b ≤ v.at → None ≡ waiting None v.pending → None ≡ first_kept v.bodies → v.at ≤ length b → v.count ≤ MAX_COMMANDS → Parses b (Ok t)
     unfolding is_some
-    text_read over none within few =
+    text_read over none bare within few =
         let end : v.at ≡ length b = omega arith in
         let read : ReadsTo b MAX_NESTING v.count t = record {
           no_nul = has_no_nul b text.1;
           end = (here v).spot;
-          script = r.script {u = here v} one.reads (none_waits v.pending none);
+          script = r.script {u = here v}
+              (subst (λ ds. ReadsSequence MAX_NESTING b (nth ds) (here (first_of b)) (here v) t) (sym (none_kept v.bodies bare)) one.reads) (none_waits v.pending none);
           to_end = end;
           commands = refl;
         } in (
@@ -76,7 +79,7 @@ module _ (b : List ℕ) (text : IsText b) where
           λ u q.
               let s = sequence_of b q.0 q.1 u q.2 in
               let o = one.only q.0 s.end s.tree s.reads in
-              let p = one.only q.0 s.end u (s.bare (ap (λ (w : states.State). w.bodies) o.0)) in
+              let p = one.only q.0 s.end u (s.bare (ap (λ (w : states.State). w.bodies) o.0 ∙ none_kept v.bodies bare)) in
               p.1,
         )
 
@@ -105,6 +108,10 @@ module _ (b : List ℕ) (text : IsText b) where
             let s = sequence_of b q.0 q.1 u q.2 in
             let o = one.only q.0 s.end s.tree s.reads in
             true≢false (sym (some_wait v.pending at some) ∙ sym (ap (λ (w : states.State). waits w.pending) o.0) ∙ s.over)
+
+    -- the body of a here-document came, which is not read yet
+    pub text_kept : (at : ℕ) → Some at ≡ first_kept v.bodies → Stands b v → Parses b (Err (LeftOut form.Later at))
+    text_kept at some stands = (text, kept_in b (first_kept v.bodies) at some stands.kept, λ told. absurd (told refl))
 
   pub text_refused : (e : Refusal) → Refused b (SequenceFrom b (first_of b)) e → Parses b (Err e)
   text_refused (Syntax f at) h = (text, h.0, λ u q. let s = sequence_of b q.0 q.1 u q.2 in h.1 q.0 s.end s.tree s.reads)

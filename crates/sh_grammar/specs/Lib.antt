@@ -16,3 +16,4 @@ pub mod Delimiters
 pub mod Targets
 pub mod Lines
 pub mod Quotes
+pub mod Marks

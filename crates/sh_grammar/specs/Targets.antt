@@ -11,4 +11,4 @@ use Rattle.sh_grammar.specs.Readers.{Reading, WordAt}
 -- the word behind an operator that ends at i
 abbrev pub TargetFrom : List ℕ → ℕ → State → Reading Word
 TargetFrom b i s limit v w =
-    (is_word (lead_at b (Named false) (blanks false b i)) ≡ true) × WordAt b (in_unsplit (blanks false b i)) (blanks false b i) s limit v w
+    (is_word (lead_at b (Named false) (blanks s.joins b i)) ≡ true) × WordAt b (in_unsplit (blanks s.joins b i)) (blanks s.joins b i) s limit v w

@@ -1,8 +1,8 @@
 //! The line that ends a here-document (XCU 2.7.4).
-ghost use Rattle.std.specs.Prelude.{◌≡◌, ◌≤◌, ◌&&◌, Bool, drop, take, length, not, if◌then◌else◌, IfSome};
+ghost use Rattle.std.specs.Prelude.{◌≡◌, ◌<◌, ◌≤◌, ◌&&◌, Bool, drop, take, length, not, if◌then◌else◌, IfSome};
 ghost use Rattle.std.specs.Str.{bytes_eq};
 ghost use Rattle.sh_grammar.specs.Lines as lines;
-ghost use Rattle.sh_grammar.specs.States.{mark_of};
+ghost use Rattle.sh_grammar.specs.Marks.{mark_of};
 ghost use Rattle.sh_tree.specs.language.Bytes.{is_tab, run};
 ghost use Rattle.sh_tree.specs.language.HereDocuments as documents;
 
@@ -133,6 +133,7 @@ pub fn end_line(script: &[u8], mark: &Mark, from: u32) -> Option<Span>
     requires small { length script.now ≤ MAX_SCRIPT }
     requires inside { from ≤ length script.now }
     ensures value { result ≡ documents.end_line (mark_of mark.now) script.now from }
+    ensures begins { IfSome result (λ l. l.start < length script.now) }
     ensures ordered { IfSome result (λ l. (from ≤ l.start) × (l.start ≤ l.end) × (l.end ≤ length script.now)) }
 {
     let mut start = from;

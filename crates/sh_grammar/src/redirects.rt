@@ -1,19 +1,19 @@
 //! Redirections (XCU 2.7).
-ghost use Rattle.std.specs.Prelude.{◌-◌, ◌≡◌, ◌+◌, ◌≤◌, ◌<◌, length, Some, None, IfOk};
+ghost use Rattle.std.specs.Prelude.{◌-◌, ◌≡◌, ◌+◌, ◌≤◌, ◌<◌, length, Some, IfOk};
 ghost use Rattle.sh_tree.specs.language.Commands as commands;
 ghost use Rattle.sh_grammar.specs.Nests.{Nests};
 ghost use Rattle.sh_grammar.specs.States.{Stands};
 ghost use Rattle.sh_grammar.specs.Readers.{Answers, RedirectFrom, RedirectsFrom};
 ghost use Rattle.sh_grammar.specs.Targets.{TargetFrom};
 
-use super::delimiters::delimiter_of;
+use super::delimiters::{awaited, mark_at};
 use super::faults::unexpected_at;
 use super::grammar::Grammar;
 use super::state::State;
-use sh_scan::{direction_of, is_redirection, lead_at, redirection_at};
+use sh_scan::{direction_of, is_redirection, lead_at, redirection_at, strip_of};
 use sh_tree::Items;
 use sh_tree::limits::MAX_SCRIPT;
-use sh_tree::refusal::{Form, Refusal};
+use sh_tree::refusal::Refusal;
 use sh_tree::token::{Lead, Redirection, Stage};
 use sh_tree::tree::{Direction, Redirect, Script, Target, Word};
 use sh_words::Mode;
@@ -76,35 +76,40 @@ impl<F: Fn(Global, &[u8], State) -> Result<(Script, State), Refusal>> Grammar<F>
         Ok((redirect, behind))
     }
 
-    /// A here-document, of which the operator is read. Its body is not read yet.
-    #[tactic(auto, using(crate::proofs::RedirectLemmas::redirect_refused, crate::proofs::RedirectLemmas::document_none))]
+    /// A here-document, of which the operator is read. Its body comes behind the newline.
+    #[tactic(auto, using(crate::proofs::RedirectLemmas::redirect_refused, crate::proofs::RedirectLemmas::document_refused))]
     fn here_document(
         &self,
         script: &[u8],
         front: Redirection,
+        strip: bool,
         from: State,
     ) -> Result<(Redirect, State), Refusal>
         requires small { length script.now ≤ MAX_SCRIPT }
         requires stands { Stands script.now from }
         requires begins { commands.redirection script.now from.at ≡ Some front }
-        requires way { commands.direction_of front.operator ≡ None }
+        requires way { commands.strip_of front.operator ≡ Some strip }
         requires moves { from.at < front.end }
+        requires operator { front.at < front.end }
         requires within { front.end ≤ length script.now }
         requires further { length script.now - from.at ≤ self.now.left }
         requires nests { Nests self.now.left (F.pre self.now.nested) (F.post self.now.nested) }
         ensures { Answers script.now (RedirectFrom script.now from) (from.at + 1) result }
     {
-        let later = Refusal::LeftOut(Form::Later, from.at);
-        let (word, _) = self.target(script, front.end, from)?;
-        let delimiter = delimiter_of(self.alloc, script, &word)?;
-        match delimiter {
-            Some(_) => Err(later),
-            None => Err(Refusal::LeftOut(Form::HereWord, word.span.start)),
-        }
+        let depth = from.depth;
+        let (word, behind) = self.target(script, front.end, from)?;
+        let mark = mark_at(self.alloc, script, front.at, strip, &word, depth)?;
+        let behind = behind.awaiting(mark)?;
+        let redirect = Redirect {
+            at: front.at,
+            number: front.number,
+            target: Target::Here(awaited(self.alloc, strip, word)),
+        };
+        Ok((redirect, behind))
     }
 
-    /// The redirection at a token that begins one. The bodies of here-documents are not read yet.
-    #[tactic(auto, using(crate::proofs::RedirectLemmas::no_redirect, crate::proofs::ReaderLemmas::refused_none))]
+    /// The redirection at a token that begins one.
+    #[tactic(auto, using(crate::proofs::RedirectLemmas::no_redirect, crate::proofs::RedirectLemmas::redirect_neither, crate::proofs::ReaderLemmas::refused_none))]
     pub fn redirect_at(&self, script: &[u8], from: State) -> Result<(Redirect, State), Refusal>
         requires small { length script.now ≤ MAX_SCRIPT }
         requires stands { Stands script.now from }
@@ -115,9 +120,12 @@ impl<F: Fn(Global, &[u8], State) -> Result<(Script, State), Refusal>> Grammar<F>
         let Some(front) = redirection_at(script, from.at) else {
             return Err(unexpected_at(script, Stage::Named(false), &from));
         };
-        match direction_of(front.operator) {
-            Some(direction) => self.file(script, front, direction, from),
-            None => self.here_document(script, front, from),
+        if let Some(direction) = direction_of(front.operator) {
+            return self.file(script, front, direction, from);
+        }
+        match strip_of(front.operator) {
+            Some(strip) => self.here_document(script, front, strip, from),
+            None => Err(unexpected_at(script, Stage::Named(false), &from)),
         }
     }
 

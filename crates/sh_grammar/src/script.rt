@@ -12,7 +12,7 @@ use memchr::memchr;
 use sh_scan::blanks_at;
 use sh_tree::Items;
 use sh_tree::limits::MAX_SCRIPT;
-use sh_tree::refusal::{Fault, Refusal};
+use sh_tree::refusal::{Fault, Form, Refusal};
 use sh_tree::tree::Script;
 use std::alloc::Global;
 
@@ -44,7 +44,10 @@ fn first_state(alloc: Global, script: &[u8]) -> State
         closed: false,
         fresh: true,
         outer: None,
+        joins: false,
+        tabs: false,
         pending: Items::new(alloc),
+        bodies: Items::new(alloc),
     }
 }
 
@@ -61,6 +64,9 @@ fn read(alloc: Global, script: &[u8]) -> Result<Script, Refusal>
     }
     if let Some(at) = end.first_pending() {
         return Err(Refusal::Syntax(Fault::OpenHereDoc, at));
+    }
+    if let Some(at) = end.first_kept() {
+        return Err(Refusal::LeftOut(Form::Later, at));
     }
     Ok(found)
 }

@@ -1,17 +1,17 @@
 //! Where a reader of commands stands (XCU 2.10).
-ghost use Rattle.std.specs.Prelude.{◌≡◌, ◌≤◌, ◌<◌, ◌+◌, length, false, None};
+ghost use Rattle.std.specs.Prelude.{◌≡◌, ◌≤◌, ◌<◌, ◌+◌, [], ◌∷◌, ◌++◌, length, false, None, IfOk};
 ghost use Rattle.std.specs.Option.{option_copied};
-ghost use Rattle.sh_grammar.specs.States.{Stands, moved, substituted, waiting};
+ghost use Rattle.sh_grammar.specs.States.{Lies, Stands, first_kept, moved, substituted, waiting};
 ghost use Rattle.sh_tree.specs.language.Commands as commands;
 
-use super::mark::Mark;
+use super::mark::{Document, Mark};
 use sh_scan::blanks_at;
 use sh_tree::Items;
 use sh_tree::limits::{MAX_COMMANDS, MAX_NESTING, MAX_SCRIPT};
-use std::alloc::Global;
+use std::alloc::{AllocError, Global};
 
 /// A token's first byte, and what came before it.
-#[derive(Debug, Drop)]
+#[derive(Drop)]
 pub struct State {
     pub at: u32,
     /// How many commands began before.
@@ -24,13 +24,35 @@ pub struct State {
     pub fresh: bool,
     /// The operator of the first here-document outside that waits for its body, so that no newline may come.
     pub outer: Option<u32>,
+    /// Whether this is in the body of a here-document whose lines are joined.
+    pub joins: bool,
+    /// Whether tabs are stripped from the lines around.
+    pub tabs: bool,
     /// The here-documents of this level that wait for their bodies.
     pub pending: Items<Mark>,
+    /// The bodies of this level's here-documents, as far as they came.
+    pub bodies: Items<Document>,
 }
 
 impl State {
+    /// At the token at or behind this place.
+    #[tactic(auto, using(crate::proofs::BreakLemmas::settled_stands))]
+    pub fn settled(self, script: &[u8]) -> State
+        requires small { length script.now ≤ MAX_SCRIPT }
+        requires lies { Lies script.now self }
+        ensures value { result ≡ moved script.now self.at self }
+        ensures after { self.at ≤ result.at }
+        ensures stands { Stands script.now result }
+    {
+        State {
+            at: blanks_at(script, self.at, self.joins),
+            fresh: true,
+            ..self
+        }
+    }
+
     /// At the token at or behind `at`.
-    #[tactic(auto, using(crate::proofs::BreakLemmas::moved_stands))]
+    #[tactic(auto, using(crate::proofs::StateLemmas::lies_at))]
     pub fn next(self, script: &[u8], at: u32) -> State
         requires small { length script.now ≤ MAX_SCRIPT }
         requires inside { at ≤ length script.now }
@@ -39,11 +61,7 @@ impl State {
         ensures after { at ≤ result.at }
         ensures stands { Stands script.now result }
     {
-        State {
-            at: blanks_at(script, at, false),
-            fresh: true,
-            ..self
-        }
+        State { at, ..self }.settled(script)
     }
 
     /// Behind the first byte of one more command.
@@ -82,13 +100,13 @@ impl State {
     pub fn within(&self, alloc: Global, script: &[u8], at: u32, depth: u8) -> State
         requires small { length script.now ≤ MAX_SCRIPT }
         requires inside { at ≤ length script.now }
-        requires stands { Stands script.now self.now }
+        requires lies { Lies script.now self.now }
         requires shallow { depth ≤ MAX_NESTING }
         ensures value { result ≡ substituted script.now at depth self.now }
         ensures after { at ≤ result.at }
         ensures stands { Stands script.now result }
     {
-        let first = blanks_at(script, at, false);
+        let first = blanks_at(script, at, self.joins);
         State {
             at: first,
             count: self.count,
@@ -96,7 +114,43 @@ impl State {
             closed: false,
             fresh: true,
             outer: self.first_waiting(),
+            joins: self.joins,
+            tabs: self.tabs,
             pending: Items::new(alloc),
+            bodies: Items::new(alloc),
+        }
+    }
+
+    /// Behind an operator of a here-document and its delimiter.
+    ///
+    /// # Errors
+    ///
+    /// `AllocError` where a growth was refused.
+    pub fn awaiting(self, mark: Mark) -> Result<State, AllocError>
+        ensures { IfOk result (λ v. v ≡ record self { pending = self.pending ++ mark ∷ [] }) }
+    {
+        let mut next = self;
+        next.pending.push(mark)?;
+        Ok(next)
+    }
+
+    /// The operator of the first here-document of this level whose body came.
+    pub fn first_kept(&self) -> Option<u32>
+        ensures { result ≡ first_kept self.now.bodies }
+    {
+        match self.bodies.as_slice() {
+            [] => None,
+            [document, ..] => Some(document.at),
+        }
+    }
+
+    /// The end of a level.
+    pub fn ended(self) -> State
+        ensures { result ≡ record self { closed = false } }
+    {
+        State {
+            closed: false,
+            ..self
         }
     }
 

@@ -3,7 +3,7 @@ ghost use Rattle.std.specs.Prelude.{◌-◌, ◌≡◌, ◌<◌, ◌≤◌, leng
 ghost use Rattle.sh_grammar.specs.Faults.{IsFault, TellsAt, stage_at};
 ghost use Rattle.sh_grammar.specs.Nests.{Nests};
 ghost use Rattle.sh_grammar.specs.States.{Stands};
-ghost use Rattle.sh_grammar.specs.Substitutions.{ClosedFrom, TellsOpen};
+ghost use Rattle.sh_grammar.specs.Substitutions.{ClosedFrom, IsLevel, TellsOpen};
 ghost use Rattle.sh_grammar.specs.Readers.{Answers};
 ghost use Rattle.sh_tree.specs.language.Commands as tokens;
 
@@ -46,6 +46,7 @@ impl<F: Fn(Global, &[u8], State) -> Result<(Script, State), Refusal>> Grammar<F>
     ) -> Result<(Script, State), Refusal>
         requires small { length script.now ≤ MAX_SCRIPT }
         requires stands { Stands script.now from }
+        requires level { IsLevel from }
         requires begins { start ≤ length script.now }
         requires further { length script.now - from.at < self.now.left }
         requires nests { Nests self.now.left (F.pre self.now.nested) (F.post self.now.nested) }
@@ -58,6 +59,9 @@ impl<F: Fn(Global, &[u8], State) -> Result<(Script, State), Refusal>> Grammar<F>
         if let Some(at) = behind.first_pending() {
             return Err(Refusal::LeftOut(Form::HereAcross, at));
         }
-        Ok((commands, behind))
+        if let Some(at) = behind.first_kept() {
+            return Err(Refusal::LeftOut(Form::Later, at));
+        }
+        Ok((commands, behind.ended()))
     }
 }

@@ -5,10 +5,11 @@ ghost use Rattle.sh_tree.specs.language.Commands as commands;
 ghost use Rattle.sh_words.specs.Modes as modes;
 ghost use Rattle.sh_grammar.specs.Modes.{Begins, Builds, IsWhole};
 ghost use Rattle.sh_grammar.specs.Nests.{Nests};
-ghost use Rattle.sh_grammar.specs.States.{Stands};
+ghost use Rattle.sh_grammar.specs.States.{Lies, Stands};
 ghost use Rattle.sh_grammar.specs.Readers.{Answers, WordAt};
 
 use super::grammar::Grammar;
+use super::kept::split_at;
 use super::state::State;
 use sh_scan::is_location_at;
 use sh_tree::limits::MAX_SCRIPT;
@@ -45,7 +46,7 @@ fn is_location(script: &[u8], mode: Mode, start: u32, end: u32) -> bool
 impl<F: Fn(Global, &[u8], State) -> Result<(Script, State), Refusal>> Grammar<F> {
     /// The word of a mode at `at`, and the state behind as many commands as stand in it.
     #[tactic(auto, using(crate::proofs::WordLemmas::driven_new, crate::proofs::WordLemmas::word_refused, crate::proofs::WordLemmas::word_done))]
-    fn built(
+    pub fn built(
         &self,
         script: &[u8],
         mode: Mode,
@@ -55,8 +56,8 @@ impl<F: Fn(Global, &[u8], State) -> Result<(Script, State), Refusal>> Grammar<F>
         requires small { length script.now ≤ MAX_SCRIPT }
         requires inside { at ≤ length script.now }
         requires ordered { from.at ≤ at }
-        requires whole { IsWhole mode }
-        requires stands { Stands script.now from }
+        requires whole { modes.seen script.now mode ≡ script.now }
+        requires lies { Lies script.now from }
         requires further { length script.now - from.at ≤ self.now.left }
         requires nests { Nests self.now.left (F.pre self.now.nested) (F.post self.now.nested) }
         ensures { Builds script.now mode at from result }
@@ -77,7 +78,7 @@ impl<F: Fn(Global, &[u8], State) -> Result<(Script, State), Refusal>> Grammar<F>
     }
 
     /// The word of a mode at `at`, and where the token behind it begins.
-    #[tactic(auto, using(crate::proofs::WordLemmas::word_read, crate::proofs::WordLemmas::word_located))]
+    #[tactic(auto, using(crate::proofs::WordLemmas::word_unread, crate::proofs::WordLemmas::whole_seen, crate::proofs::StateLemmas::lies_of))]
     pub fn word_at(
         &self,
         script: &[u8],
@@ -98,6 +99,9 @@ impl<F: Fn(Global, &[u8], State) -> Result<(Script, State), Refusal>> Grammar<F>
         let (word, last) = self.built(script, mode, at, from)?;
         if is_location(script, mode, at, word.span.end) {
             return Err(Refusal::LeftOut(Form::IoLocation, at));
+        }
+        if let Some(place) = split_at(script, last.joins, word.parts.as_slice()) {
+            return Err(Refusal::LeftOut(Form::Continuation, place));
         }
         let behind = last.next(script, word.span.end);
         Ok((word, behind))

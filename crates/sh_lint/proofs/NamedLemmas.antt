@@ -78,7 +78,7 @@ abbrev pub IsSettled : List ℕ → Spot → Type 0
 IsSettled b s = (s.joins ≡ false) × (blanks false b s.at ≡ s.at)
 
 pub settles : (b : List ℕ) (body : Bool) (i : ℕ) → body ≡ false → blanks false b (blanks body b i) ≡ blanks body b i
-settles b body i outside = subst (λ t. blanks false b (blanks t b i) ≡ blanks t b i) (sym outside) (blanks_settle b i)
+settles b body i outside = subst (λ t. blanks false b (blanks t b i) ≡ blanks t b i) (sym outside) (blanks_settle false b i)
 
 pub settled_next : (b : List ℕ) (i : ℕ) (s : State) → s.spot.joins ≡ false → IsSettled b (next b i s).spot
 settled_next b i s outside = (outside, settles b s.spot.joins i outside)
@@ -95,7 +95,7 @@ elements_named {b = b} {s = s} here h (r.assigned_element {u = u} {w = w} {es = 
     rw (word_of-Assignment _ w)
     (elements_named (settled_past b s u here) (and_parts (is_straight_element (element.Assignment _ w)) (list_all is_straight_element es) h).1 rest)
 elements_named {b = b} {s = s} here h (r.word_element {g = g} {w = w} {es = es} e q rest) =
-    let begins = word_takes b g s.spot.at e here.1 in
+    let begins = word_takes false b g s.spot.at e here.1 in
     let straight = sym (straight_Word w) ∙ (and_parts (is_straight_element (element.Word w)) (list_all is_straight_element es) h).0 in
     rw (word_of-Word w) (word_gives begins.0 begins.1 straight q)
 elements_named here h (r.redirect_element {r = f} {es = es} e q rest) =

@@ -132,8 +132,8 @@ const REDIRECTIONS: &[Row] = &[
     ("a >\\\n>b", "LeftOut(Continuation, 3)"),
     ("a 2\\\n>b", "LeftOut(Continuation, 3)"),
     ("a >$@", "LeftOut(AllParameters, 3)"),
-    ("a <<b", "LeftOut(Later, 2)"),
-    ("{ a; } <<b", "LeftOut(Later, 7)"),
+    ("a <<b", "Syntax(OpenHereDoc, 2)"),
+    ("{ a; } <<b", "Syntax(OpenHereDoc, 7)"),
 ];
 
 #[test]

@@ -40,13 +40,13 @@ fn no_words(rt: HostRuntime) -> Result<(), Fail> {
 
 // Bodies are not read yet.
 const DELIMITERS: &[Row] = &[
-    ("a <<b", "LeftOut(Later, 2)"),
-    ("a <<-b", "LeftOut(Later, 2)"),
-    ("a 3<<b", "LeftOut(Later, 2)"),
-    ("a <<'b c'", "LeftOut(Later, 2)"),
-    ("a <<\"b\"\\c", "LeftOut(Later, 2)"),
-    ("a <<*", "LeftOut(Later, 2)"),
-    ("a <<''", "LeftOut(Later, 2)"),
+    ("a <<b", "Syntax(OpenHereDoc, 2)"),
+    ("a <<-b", "Syntax(OpenHereDoc, 2)"),
+    ("a 3<<b", "Syntax(OpenHereDoc, 3)"),
+    ("a <<'b c'", "Syntax(OpenHereDoc, 2)"),
+    ("a <<\"b\"\\c", "Syntax(OpenHereDoc, 2)"),
+    ("a <<*", "Syntax(OpenHereDoc, 2)"),
+    ("a <<''", "Syntax(OpenHereDoc, 2)"),
     ("a <<b\nc\nb\n", "LeftOut(Later, 2)"),
 ];
 

@@ -146,7 +146,7 @@ const MISPLACED: &[Row] = &[
     ("$(a)`", "LeftOut(Backquoted, 4)"),
     ("$([[ a", "LeftOut(LeftBrackets, 2)"),
     ("$(a\\\nb)", "LeftOut(Continuation, 3)"),
-    ("$(a <<b", "LeftOut(Later, 4)"),
+    ("$(a <<b", "Syntax(OpenHereDoc, 4)"),
 ];
 
 #[test]

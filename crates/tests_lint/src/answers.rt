@@ -572,13 +572,13 @@ fn places_on_further_lines(rt: HostRuntime) -> Result<(), Fail> {
 
 const UNREAD: &[Row] = &[
     (
-        b"if a; then b <<c; fi",
+        b"if a; then b <<c; fi\nc\n",
         &[],
         b"refused 1:14: this form is outside the profile\n",
         2,
     ),
     (
-        b"a <<b",
+        b"a <<b\nb\n",
         &[],
         b"refused 1:3: this form is outside the profile\n",
         2,
@@ -588,6 +588,26 @@ const UNREAD: &[Row] = &[
 #[test]
 fn forms_that_are_not_read_yet(rt: HostRuntime) -> Result<(), Fail> {
     check_rows(&rt, UNREAD)
+}
+
+const UNENDED: &[Row] = &[
+    (
+        b"if a; then b <<c; fi",
+        &[],
+        b"refused 1:14: a here-document is not ended\n",
+        2,
+    ),
+    (
+        b"a <<b",
+        &[],
+        b"refused 1:3: a here-document is not ended\n",
+        2,
+    ),
+];
+
+#[test]
+fn here_documents_that_are_not_ended(rt: HostRuntime) -> Result<(), Fail> {
+    check_rows(&rt, UNENDED)
 }
 
 const UNANALYSED: &[Row] = &[

@@ -1,5 +1,5 @@
 use Rattle.std.proofs.Common.{sym, ◌∙◌}
-use Rattle.sh_grammar.specs.States.{mark_of}
+use Rattle.sh_grammar.specs.Marks.{mark_of}
 use Rattle.sh_grammar.proofs.LineLemmas.{looks_first, end_none, end_found, end_goes_on}
 use Rattle.sh_grammar.proofs.end_lines.end_line.Goals as goal
 

@@ -1,5 +1,5 @@
 use Rattle.std.proofs.Common.{◌-◌, length}
-use Rattle.sh_grammar.specs.States.{mark_of}
+use Rattle.sh_grammar.specs.Marks.{mark_of}
 use Rattle.sh_grammar.proofs.LineLemmas.{Looks}
 use Rattle.sh_grammar.proofs.end_lines.end_line.Given as goal
 

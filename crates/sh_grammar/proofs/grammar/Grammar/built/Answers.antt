@@ -7,6 +7,7 @@ use Rattle.sh_words.specs.Sound.{RunMoves, TakesWord}
 use Rattle.sh_grammar.specs.Readers.{One, Refused}
 use Rattle.sh_grammar.specs.States.{here}
 use Rattle.sh_grammar.specs.Substitutions.{ClosedFrom}
+use Rattle.sh_grammar.proofs.StateLemmas.{lies_of}
 use Rattle.sh_grammar.proofs.WordLemmas.{Driven, word_refused, word_done, inner_refused, driven_fed, fed_moves}
 use Rattle.sh_grammar.proofs.grammar.Grammar.built.Goals as goal
 
@@ -74,5 +75,5 @@ loop-last-preserved g c =
           (subst (λ n. Answers text (Left text w) new n) c.in-Inner.is (c.in_ok-word.ensures.runs d.goes))
           (subst (λ n. RunMoves text w new (Ok n)) c.in-Inner.is c.in_ok-word.ensures.moves)
           (subst (λ s. One (ClosedFrom b s) (here found.end) found.commands) c.within-first.ensures.value found.ensures.one)
-          (le_trans c.within-first.ensures.after found.ensures.from) found.ensures.stands c.in_ok-resume-in-Inner.ensures.gives c.in_ok-resume-in-Inner.ensures.sound);
+          (le_trans c.within-first.ensures.after found.ensures.from) (lies_of b found.end found.ensures.stands) c.in_ok-resume-in-Inner.ensures.gives c.in_ok-resume-in-Inner.ensures.sound);
     }

@@ -10,7 +10,7 @@ use Rattle.sh_grammar.specs.Breaks.{BreaksTo, BreaksFrom}
 use Rattle.sh_grammar.specs.Cases.{ClausesFrom}
 use Rattle.sh_grammar.specs.Readers.{One, Refused}
 use Rattle.sh_grammar.specs.States.{here}
-use Rattle.sh_grammar.proofs.CaseLemmas.{clauses_wrong, clauses_last, clauses_more, clauses_all, clauses_stopped}
+use Rattle.sh_grammar.proofs.CaseLemmas.{clauses_refused, clauses_wrong, clauses_last, clauses_more, clauses_all, clauses_stopped}
 use Rattle.sh_grammar.proofs.ReaderLemmas.{refused_none}
 use Rattle.sh_grammar.proofs.grammar.Grammar.clauses.Goals as goal
 
@@ -25,6 +25,14 @@ returns-in_err-last g c =
     let none = sym (c.in_default.ensures ∙ ap clause_end_of c.lead_at-in-loop-next.ensures.value) in
     rw (p.1, p.2) (refused_none b (ClausesFrom b c.args.from) _ c.in_err-last.ensures.0 (clauses_wrong b c.args.from at.next at.clauses at.invariant.found some clause.patterns clause.body
     clause.behind clause.ensures.one none c.in_err-last.ensures.1))
+
+pub returns-in_err-patterns : goal.returns-in_err-patterns
+returns-in_err-patterns g c =
+    let at = c.loop-next in
+    let b = c.args.script.now in
+    let p = err_from_is_err_and c.from_residual.result c.from_residual.ensures.1 in
+    let some : lead_at b First at.next.at ≡ lead.Reserved word.Esac → ⊥ = λ esac. c.is_same.ensures.no c.loop-next-test.true (c.lead_at.ensures.value ∙ esac) in
+    rw (p.1, p.2) (clauses_refused b c.args.from at.next at.clauses at.invariant.found some _ c.in_err-patterns.ensures)
 
 pub returns-in_default : goal.returns-in_default
 returns-in_default g c =
