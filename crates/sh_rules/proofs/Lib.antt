@@ -7,6 +7,7 @@ pub mod MeaningLemmas
 pub mod ToldLemmas
 pub mod BoundLemmas
 pub mod SimpleLemmas
+pub mod CommandLemmas
 pub mod AskedLemmas
 pub mod ClaimLemmas
 pub mod TellLemmas

@@ -128,7 +128,7 @@ module _ (x : Setting) (h : AreNumbered x.names) (d : Declared) where
   lost_same names s =
       sym (ap (among x.names) (seen_is_meet.behind d (certificate x) (Lose names) s refl) ∙ among_lost x.names (certificate x) names (seen_facts d (certificate x) s))
 
-  gained_same : (g : Gains) (s : Seen) (k : Facts) → k ≡ known s → gained x g k ≡ known (gaining g s)
+  pub gained_same : (g : Gains) (s : Seen) (k : Facts) → k ≡ known s → gained x g k ≡ known (gaining g s)
   gained_same g s k same = ap (gained x g) same ∙ sym (i.gain g s)
 
   -- a call, of what is seen at one place
@@ -319,7 +319,7 @@ module _ (x : Setting) (h : AreNumbered x.names) (d : Declared) where
 
   -- Simple commands
 
-  behind_same : (n : ℕ) (es : p.Elements) → behind x n es ≡ known (table.behind_words es (at (Before n)))
+  pub behind_same : (n : ℕ) (es : p.Elements) → behind x n es ≡ known (table.behind_words es (at (Before n)))
   behind_same n es = gained_same (words_gains (operands_in es)) (at (Before n)) (known_at x (Before n)) (slot_at x h d (Before n))
 
   redirection_same : (n : ℕ) (b : Bool) (s : Seen) (k : Facts) (best : Option Fault) → k ≡ known s

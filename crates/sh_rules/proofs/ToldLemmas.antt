@@ -77,7 +77,7 @@ tests_joined true b f best = refl
 tests_joined false true f best = refl
 tests_joined false false f best = twice f best
 
-test_told : (b : Bool) (n : ℕ) (rule : FlowRule) (best : Option Fault) → fold lesser best (told b n rule) ≡ with_test b (fault n rule) best
+pub test_told : (b : Bool) (n : ℕ) (rule : FlowRule) (best : Option Fault) → fold lesser best (told b n rule) ≡ with_test b (fault n rule) best
 unfolding with_test told
 test_told true n rule best = refl
 test_told false n rule best = refl

@@ -6,5 +6,6 @@ pub mod Steps
 pub mod Meaning
 pub mod Bounds
 pub mod SimpleBounds
+pub mod CommandBounds
 pub mod Asked
 pub mod Tells

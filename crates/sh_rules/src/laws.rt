@@ -9,7 +9,8 @@ pub fn entered()
 {}
 
 /// What the flow rules ask of several views at a place is asked of what is known there, of the names that are numbered: at each place, at each
-/// compound command and where one has redirections, and at each simple command, by what its name means, with where it jumps to.
+/// compound command and where one has redirections, at each simple command, by what its name means, with where it jumps to,
+/// and at a whole command, with what it drops.
 pub fn asked()
     ensures { AskedOfFacts }
 {}
