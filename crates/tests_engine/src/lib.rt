@@ -1,8 +1,10 @@
-//! Tests of which scripts and certificates are refused, and of what is told of places.
+//! Tests of which scripts and certificates are refused, of what is told of places, and of which places are told.
 #![tactic(auto)]
 
 #[cfg(test)]
 mod certificates;
+#[cfg(test)]
+mod demands;
 #[cfg(test)]
 mod findings;
 #[cfg(test)]
