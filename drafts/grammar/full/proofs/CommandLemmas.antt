@@ -1,0 +1,170 @@
+-- Commands, by the token at their first byte.
+use Rattle.std.proofs.Common.{◌≡◌, ℕ, ◌+◌, ◌<◌, ◌≤◌, Bool, ◌||◌, true, false, List, [], refl, sym, ap, subst, ◌∙◌, arith}
+use Rattle.std.proofs.lemmas.Bool.{true≢false, or_left, or_right}
+use Rattle.sh_tree.specs.declared.limits.TheConstants.{MAX_COMMANDS}
+use Rattle.sh_tree.specs.declared.token.command.Stage.TheVariants.{First}
+use Rattle.sh_tree.specs.declared.token.command.Lead.{Lead}
+use Rattle.sh_tree.specs.declared.token.command.Lead.TheVariants as lead
+use Rattle.sh_tree.specs.declared.token.command.Operator.TheVariants as op
+use Rattle.sh_tree.specs.declared.token.command.Reserved.TheVariants as word
+use Rattle.sh_tree.specs.declared.tree.Element.{Element}
+use Rattle.sh_tree.specs.declared.tree.Redirect.{Redirect}
+use Rattle.sh_tree.specs.declared.tree.Kind.{Kind}
+use Rattle.sh_tree.specs.declared.tree.Kind.TheVariants as kind
+use Rattle.sh_tree.specs.declared.tree.Command.{Command}
+use Rattle.sh_tree.specs.declared.refusal.Refusal.{Refusal}
+use Rattle.sh_tree.specs.language.Commands.{lead_at, begins_simple, begins_compound, begins_command, begins_pipeline, is_redirection, redirects}
+use Rattle.sh_tree.specs.language.Reading as r
+use Rattle.sh_tree.specs.language.Reading.{ReadsElements, ReadsRedirects, ReadsCompound, ReadsCommand, lead_here, is_empty}
+use Rattle.sh_tree.specs.language.States as states
+use Rattle.sh_tree.specs.language.States.{Document, begun, closing}
+use Rattle.sh_tree.specs.language.Trees as tree
+use Rattle.sh_tree.proofs.Inversions.{apart, compound_begins}
+use Rattle.sh_tree.proofs.Counts.{command_count_more, redirects_count}
+use Rattle.sh_grammar.specs.declared.state.State.{State}
+use Rattle.sh_grammar.specs.States.{here}
+use Rattle.sh_grammar.specs.Readers.{One, Nothing, NothingWithin, Crowded, Refused, ElementsFrom, RedirectsFrom, CompoundFrom, CommandFrom, unread}
+use Rattle.sh_grammar.proofs.ReaderLemmas.{refused_by}
+
+-- What begins a command
+
+not_simple : (l : Lead) → begins_compound l ≡ true → begins_simple l ≡ false
+unfolding begins_simple begins_compound is_redirection redirects
+not_simple (lead.Operator op.LeftParenthesis) h = refl
+not_simple (lead.Reserved w) h = refl
+not_simple _ h = absurd (true≢false (sym h))
+
+simple_command_begins : (l : Lead) → begins_simple l ≡ true → begins_command l ≡ true
+unfolding begins_command
+simple_command_begins lead.Definition h = refl
+simple_command_begins l h = or_left (begins_simple l) (begins_compound l) h
+
+compound_command_begins : (l : Lead) → begins_compound l ≡ true → begins_command l ≡ true
+unfolding begins_command
+compound_command_begins lead.Definition h = refl
+compound_command_begins l h = or_right (begins_simple l) (begins_compound l) h
+
+pub command_pipeline : (l : Lead) → begins_command l ≡ true → begins_pipeline l ≡ true
+unfolding begins_pipeline
+command_pipeline (lead.Reserved word.Bang) h = refl
+command_pipeline _ h = h
+
+pub command_begins : {limit : ℕ} {b : List ℕ} {body : ℕ → Document} {s v : states.State} {c : Command} → ReadsCommand limit b body s v c → begins_command (lead_here b s) ≡ true
+unfolding begins_command
+command_begins (r.simple_command h e) = simple_command_begins _ h
+command_begins (r.compound_command {l = l} is k q) = ap begins_command is ∙ compound_command_begins l (compound_begins k)
+command_begins (r.definition h o p k i c) = ap begins_command h
+
+-- the end of the text begins none
+pub not_ended : (l : Lead) → begins_command l ≡ true → l ≡ lead.End → ⊥
+unfolding begins_command begins_simple is_redirection begins_compound
+not_ended l some is = true≢false (sym some ∙ ap begins_command is)
+
+pub compound_some : (l : Lead) → begins_compound l ≡ true → l ≡ lead.End → ⊥
+compound_some l some = not_ended l (compound_command_begins l some)
+
+-- what begins a command and is neither simple nor compound
+pub rest_defines : (l : Lead) → begins_command l ≡ true → begins_simple l ≡ false → begins_compound l ≡ false → l ≡ lead.Definition
+unfolding begins_command
+rest_defines lead.Definition h k m = refl
+rest_defines l h k m = absurd (true≢false (sym h ∙ or_false (begins_simple l) (begins_compound l) k m))
+  where
+    or_false : (s t : Bool) → s ≡ false → t ≡ false → (s || t) ≡ false
+    or_false s t k m = rw (k, m) refl
+
+-- a token that begins no command
+pub command_none : (b : List ℕ) (s : State) → begins_command (lead_at b First s.at) ≡ false → Nothing (CommandFrom b s)
+command_none b s none limit v c l = true≢false (sym (command_begins l) ∙ none)
+
+-- no more commands may begin
+pub command_crowded : (b : List ℕ) (s : State) → s.count ≡ MAX_COMMANDS → Crowded (CommandFrom b s)
+command_crowded b s many limit v c l = let more = command_count_more l in omega arith
+
+-- Simple commands, from their elements
+
+simple_of : {limit : ℕ} {b : List ℕ} {body : ℕ → Document} {s v : states.State} {c : Command} → begins_simple (lead_here b s) ≡ true → ReadsCommand limit b body s v c
+    → (u : states.State) × (es : List Element) × (v ≡ closing false u) × (c ≡ tree.command (s.spot.count + 1) s.spot.at (kind.Simple es) [])
+    × ReadsElements limit b body First (begun s) u es
+unfolding begins_simple is_redirection
+simple_of some (r.simple_command {u = u} {es = es} h e) = (u, es, refl, refl, e)
+simple_of some (r.compound_command {l = l} is k q) = absurd (true≢false (sym some ∙ ap begins_simple is ∙ not_simple l (compound_begins k)))
+simple_of some (r.definition h o p k i c) = absurd (apart begins_simple h some refl)
+
+-- behind one more command
+abbrev pub one_more_command : State → State
+one_more_command s = record s { count = s.count + 1 }
+
+same_count : (u v : states.State) (closed : Bool) → v ≡ closing closed u → u.spot.count ≤ v.spot.count
+same_count u v closed e = let same = ap (λ s. s.spot.count) e in omega arith
+
+module _ (b : List ℕ) (s : State) (some : begins_simple (lead_at b First s.at) ≡ true) where
+  pub simple_read : (es : List Element) (u : State) → One (ElementsFrom b (First, one_more_command s)) (here u) es
+      → One (CommandFrom b s) (closing false (here u)) (tree.command (s.count + 1) s.at (kind.Simple es) [])
+  simple_read es u h = record {
+    reads = r.simple_command {s = here s} some h.reads;
+    only = λ limit v c l.
+        let f = simple_of {s = here s} some l in
+        let o = h.only limit f.0 f.1 f.4 in
+        (f.2 ∙ ap (closing false) o.0, f.3 ∙ ap (λ fs. tree.command (s.count + 1) s.at (kind.Simple fs) []) o.1);
+  }
+
+  pub simple_refused : (e : Refusal) → Refused b (ElementsFrom b (First, one_more_command s)) e → Refused b (CommandFrom b s) e
+  simple_refused e h = refused_by b (ElementsFrom b (First, one_more_command s)) (CommandFrom b s) e
+      (λ limit v c l. let f = simple_of {s = here s} some l in (f.0, f.1, f.4, same_count f.0 v false f.2)) h
+
+-- Compound commands and their redirections
+
+compound_of : {limit : ℕ} {b : List ℕ} {body : ℕ → Document} {s v : states.State} {c : Command} → begins_compound (lead_here b s) ≡ true → ReadsCommand limit b body s v c
+    → (u w : states.State) × (k : Kind) × (qs : List Redirect) × (v ≡ closing (is_empty qs) w) × (c ≡ tree.command (s.spot.count + 1) s.spot.at k qs)
+    × ReadsCompound limit b body (lead_here b s) (begun s) u k × ReadsRedirects limit b body u w qs
+unfolding begins_compound
+compound_of some (r.simple_command h e) = absurd (true≢false (sym h ∙ not_simple _ some))
+compound_of {limit = limit} {b = b} {body = body} {s = s} some (r.compound_command {u = u} {v = w} {l = m} {k = k} {rs = qs} h c q) =
+    (u, w, k, qs, refl, refl, subst (λ n. ReadsCompound limit b body n (begun s) u k) (sym h) c, q)
+compound_of some (r.definition h o p k i c) = absurd (apart begins_compound h some refl)
+
+compound_deeper : {limit : ℕ} {b : List ℕ} {body : ℕ → Document} {l : Lead} {s v : states.State} {k : Kind} → ReadsCompound limit b body l s v k → s.spot.depth < limit
+compound_deeper (r.group d h e) = d
+compound_deeper (r.subshell d h e) = d
+compound_deeper (r.cond d h) = d
+compound_deeper (r.while_loop d h g) = d
+compound_deeper (r.until_loop d h g) = d
+compound_deeper (r.for_loop d n h g) = d
+compound_deeper (r.case_of d i w h k g c) = d
+
+pub compound_with : (b : List ℕ) (s : State) (l : Lead) → l ≡ lead_at b First s.at → (k : Kind) (u : State) → One (CompoundFrom b l (one_more_command s)) (here u) k
+    → One (CompoundFrom b (lead_at b First s.at) (one_more_command s)) (here u) k
+compound_with b s l is k u one = subst (λ m. One (CompoundFrom b m (one_more_command s)) (here u) k) is one
+
+module _ (b : List ℕ) (s : State) (some : begins_compound (lead_at b First s.at) ≡ true) where
+  pub compound_deep : 64 ≤ s.depth → NothingWithin (CommandFrom b s)
+  compound_deep deep v c l = let f = compound_of {s = here s} some l in let d = compound_deeper f.6 in omega arith
+
+  pub compound_refused : (e : Refusal) → Refused b (CompoundFrom b (lead_at b First s.at) (one_more_command s)) e → Refused b (CommandFrom b s) e
+  compound_refused e h = refused_by b (CompoundFrom b (lead_at b First s.at) (one_more_command s)) (CommandFrom b s) e
+      (λ limit v c l.
+      let f = compound_of {s = here s} some l in
+      let more = redirects_count f.7 in
+      let same = same_count f.1 v (is_empty f.3) f.4 in
+      (f.0, f.2, f.6, omega arith)) h
+
+  module _ (k : Kind) (u : State) (one : One (CompoundFrom b (lead_at b First s.at) (one_more_command s)) (here u) k) where
+    pub redirected_refused : (e : Refusal) → Refused b (RedirectsFrom b u) e → Refused b (CommandFrom b s) e
+    redirected_refused e h = refused_by b (RedirectsFrom b u) (CommandFrom b s) e
+        (λ limit v c l.
+        let f = compound_of {s = here s} some l in
+        let o = one.only limit f.0 f.2 f.6 in
+        (f.1, f.3, subst (λ w. ReadsRedirects limit b unread w f.1 f.3) o.0 f.7, same_count f.1 v (is_empty f.3) f.4)) h
+
+    pub redirected_read : (qs : List Redirect) (v : State) → One (RedirectsFrom b u) (here v) qs
+        → One (CommandFrom b s) (closing (is_empty qs) (here v)) (tree.command (s.count + 1) s.at k qs)
+    redirected_read qs v h = record {
+      reads = r.compound_command {s = here s} refl one.reads h.reads;
+      only = λ limit w c l.
+          let f = compound_of {s = here s} some l in
+          let o = one.only limit f.0 f.2 f.6 in
+          let p = h.only limit f.1 f.3 (subst (λ t. ReadsRedirects limit b unread t f.1 f.3) o.0 f.7) in (
+            f.4 ∙ ap (λ t. closing (is_empty f.3) t) p.0 ∙ ap (λ xs. closing (is_empty xs) (here v)) p.1,
+            f.5 ∙ ap (λ j. tree.command (s.count + 1) s.at j f.3) o.1 ∙ ap (λ xs. tree.command (s.count + 1) s.at k xs) p.1,
+          );
+    }

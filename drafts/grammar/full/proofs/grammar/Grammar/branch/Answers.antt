@@ -1,0 +1,23 @@
+use Rattle.std.proofs.Common.{arith}
+use Rattle.std.proofs.lemmas.Result.{err_from_is_err_and}
+use Rattle.sh_grammar.proofs.BranchLemmas.{branch_read, consequence_refused}
+use Rattle.sh_grammar.proofs.grammar.Grammar.branch.Goals as goal
+
+pub returns-in_err-body : goal.returns-in_err-body
+returns-in_err-body g c =
+    let residual = c.from_residual-in_err-body in
+    let p = err_from_is_err_and residual.result residual.ensures.1 in
+    let first = c.in_ok-condition in
+    rw (p.1, p.2) (consequence_refused c.args.script.now c.args.from first.condition first.first first.ensures.one _ c.in_err-body.ensures)
+
+pub returns : goal.returns
+returns g c =
+    let first = c.in_ok-condition in
+    let found = c.in_ok-body in
+    let before = first.ensures.from in
+    let after = found.ensures.from in
+    record {
+      one = branch_read c.args.script.now c.args.from first.condition first.first first.ensures.one found.body found.behind found.ensures.one;
+      from = omega arith;
+      stands = found.ensures.stands;
+    }

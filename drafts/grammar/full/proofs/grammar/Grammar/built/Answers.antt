@@ -1,0 +1,79 @@
+use Rattle.std.proofs.Common.{Ok, le_trans, sym, subst}
+use Rattle.std.proofs.lemmas.Result.{err_from_is_err_and}
+use Rattle.sh_words.specs.Clauses.{Answers}
+use Rattle.sh_words.specs.Modes.{seen}
+use Rattle.sh_words.specs.Rest.{Left}
+use Rattle.sh_words.specs.Sound.{RunMoves, TakesWord}
+use Rattle.sh_grammar.specs.Readers.{One, Refused}
+use Rattle.sh_grammar.specs.States.{here}
+use Rattle.sh_grammar.specs.Substitutions.{ClosedFrom}
+use Rattle.sh_grammar.proofs.StateLemmas.{lies_of}
+use Rattle.sh_grammar.proofs.WordLemmas.{Driven, word_refused, word_done, inner_refused, driven_fed, fed_moves}
+use Rattle.sh_grammar.proofs.grammar.Grammar.built.Goals as goal
+
+pub returns-in_err-word : goal.returns-in_err-word
+returns-in_err-word g c =
+    let at = c.loop-last in
+    let d = at.invariant.driven in
+    let residual = c.from_residual-in_err-word in
+    let p = err_from_is_err_and residual.result residual.ensures.1 in
+    rw (p.1, p.2) (word_refused c.args.script.now c.args.mode c.requires.whole c.args.at c.args.from at.last at.builder d c.run.new.self _ (c.in_err-word.ensures.runs d.goes))
+
+pub returns-in-Done : goal.returns-in-Done
+returns-in-Done g c =
+    let at = c.loop-last in
+    let d = at.invariant.driven in
+    let b = c.args.script.now in
+    let w = at.builder in
+    let new = c.run.new.self in
+    let text = seen b w.mode in
+    let found = c.in_ok-word.ensures in
+    word_done b c.args.mode c.requires.whole c.args.at c.args.from at.last w d new c.in-Done.word
+    (subst (λ n. Answers text (Left text w) new n) c.in-Done.is (found.runs d.goes)) (subst (λ n. RunMoves text w new (Ok n)) c.in-Done.is found.moves)
+    (subst (λ n. TakesWord text w new (Ok n)) c.in-Done.is found.takes)
+
+pub returns-in_err-commands-in-Inner : goal.returns-in_err-commands-in-Inner
+returns-in_err-commands-in-Inner g c =
+    let at = c.loop-last in
+    let d = at.invariant.driven in
+    let b = c.args.script.now in
+    let w = at.builder in
+    let new = c.run.new.self in
+    let text = seen b w.mode in
+    let asked = subst (λ n. Answers text (Left text w) new n) c.in-Inner.is (c.in_ok-word.ensures.runs d.goes) in
+    let residual = c.from_residual-in_err-commands-in-Inner in
+    let p = err_from_is_err_and residual.result residual.ensures.1 in
+    rw (p.1, p.2) (inner_refused b c.args.mode c.requires.whole c.args.at c.args.from at.last w d new asked.0 c.in-Inner.at c.in-Inner.depth _ asked.2
+    (subst (λ s. Refused b (ClosedFrom b s) c.in_err-commands-in-Inner.field-0.0) c.within-first.ensures.value c.in_err-commands-in-Inner.ensures))
+
+pub loop-last-smaller : goal.loop-last-smaller
+loop-last-smaller g c =
+    let at = c.loop-last in
+    let d = at.invariant.driven in
+    let b = c.args.script.now in
+    let w = at.builder in
+    let new = c.run.new.self in
+    let text = seen b w.mode in
+    let found = c.in_ok-commands-in-Inner in
+    fed_moves b c.args.mode c.requires.whole c.args.at c.args.from at.last w d new c.resume.new.self c.in-Inner.at c.in-Inner.depth found.commands found.end
+    (subst (λ n. Answers text (Left text w) new n) c.in-Inner.is (c.in_ok-word.ensures.runs d.goes)) (subst (λ n. RunMoves text w new (Ok n)) c.in-Inner.is c.in_ok-word.ensures.moves)
+    (subst (λ s. One (ClosedFrom b s) (here found.end) found.commands) c.within-first.ensures.value found.ensures.one) (le_trans c.within-first.ensures.after found.ensures.from)
+    c.in_ok-resume-in-Inner.ensures.gives
+
+pub loop-last-preserved : goal.loop-last-preserved
+loop-last-preserved g c =
+    let at = c.loop-last in
+    let d = at.invariant.driven in
+    let b = c.args.script.now in
+    let w = at.builder in
+    let new = c.run.new.self in
+    let text = seen b w.mode in
+    let found = c.in_ok-commands-in-Inner in
+    record {
+      driven = subst (λ v. Driven b c.args.mode c.args.at c.args.from c.resume.new.self v) (sym c.counting-last.ensures)
+          (driven_fed b c.args.mode c.requires.whole c.args.at c.args.from at.last w d new c.resume.new.self c.in-Inner.at c.in-Inner.depth found.commands found.end
+          (subst (λ n. Answers text (Left text w) new n) c.in-Inner.is (c.in_ok-word.ensures.runs d.goes))
+          (subst (λ n. RunMoves text w new (Ok n)) c.in-Inner.is c.in_ok-word.ensures.moves)
+          (subst (λ s. One (ClosedFrom b s) (here found.end) found.commands) c.within-first.ensures.value found.ensures.one)
+          (le_trans c.within-first.ensures.after found.ensures.from) (lies_of b found.end found.ensures.stands) c.in_ok-resume-in-Inner.ensures.gives c.in_ok-resume-in-Inner.ensures.sound);
+    }

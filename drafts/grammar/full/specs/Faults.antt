@@ -1,0 +1,71 @@
+-- What is told of a token that has no place.
+-- POSIX.1-2024, XCU 2.10 (shell grammar).
+use Rattle.std.specs.Prelude.{◌≡◌, ℕ, ◌<◌, ◌≤◌, Bool, true, false, List, [], ◌∷◌, length, Result, Ok, Err}
+use Rattle.sh_tree.specs.declared.limits.TheConstants.{MAX_COMMANDS, MAX_NESTING}
+use Rattle.sh_tree.specs.declared.refusal.Fault.TheVariants as fault
+use Rattle.sh_tree.specs.declared.refusal.Form.{Form}
+use Rattle.sh_tree.specs.declared.refusal.Form.TheVariants as form
+use Rattle.sh_tree.specs.declared.refusal.Refusal.{Refusal}
+use Rattle.sh_tree.specs.declared.refusal.Refusal.TheVariants.{Syntax, LeftOut, TooMany, Memory}
+use Rattle.sh_tree.specs.declared.token.command.Stage.{Stage}
+use Rattle.sh_tree.specs.declared.token.command.Stage.TheVariants.{First, Prefixed}
+use Rattle.sh_tree.specs.declared.token.command.Lead.{Lead}
+use Rattle.sh_tree.specs.declared.token.command.Lead.TheVariants as lead
+use Rattle.sh_tree.specs.declared.tree.Script.{Script}
+use Rattle.sh_tree.specs.language.Commands.{lead_at}
+use Rattle.sh_tree.specs.language.Reading.{ReadsSequence}
+use Rattle.sh_tree.specs.language.States as states
+use Rattle.sh_tree.specs.language.States.{Document}
+use Rattle.sh_grammar.specs.declared.mark.Mark.{Mark}
+use Rattle.sh_grammar.specs.declared.state.State.{State}
+use Rattle.sh_grammar.specs.States.{here, first_of}
+
+-- a fault of syntax or a form that is left out, at its place in the text
+abbrev pub IsFault : List ℕ → Refusal → Type 0
+IsFault b (Syntax f at) = at ≤ length b
+IsFault b (LeftOut f at) = at < length b
+IsFault b _ = ⊥
+
+-- Where a form is told that the token at i is: a line continuation behind the token's first bytes.
+abbrev pub IsPlace : List ℕ → Form → ℕ → ℕ → Type 0
+IsPlace b form.Continuation i at = (i ≤ at) × (at < length b)
+IsPlace b _ i at = at ≡ i
+
+-- what is told of the token at i, which has no place there
+abbrev pub Tells : List ℕ → Lead → ℕ → Refusal → Type 0
+Tells b (lead.LeftOut f) i e = (at : ℕ) × (e ≡ LeftOut f at) × IsPlace b f i at
+Tells b lead.End i e = e ≡ Syntax fault.UnexpectedEnd i
+Tells b _ i e = e ≡ Syntax fault.UnexpectedToken i
+
+-- what is told at the end of the text, where these here-documents wait for their bodies
+abbrev pub ended : List Mark → ℕ → Refusal
+ended [] i = Syntax fault.UnexpectedEnd i
+ended (m ∷ ms) i = Syntax fault.OpenHereDoc m.at
+
+-- what is told of the token at s, which has no place there
+abbrev pub TellsAt : List ℕ → Lead → State → Refusal → Type 0
+TellsAt b lead.End s e = e ≡ ended s.pending s.at
+TellsAt b l s e = Tells b l s.at e
+
+-- how the token is read where nothing goes on: as a command's first token where a command could begin
+unfoldable pub stage_at : Bool → Stage
+stage_at true = First
+stage_at false = Prefixed
+
+-- what is told of the token at i where nothing goes on
+abbrev pub Misplaced : List ℕ → ℕ → Refusal → Type 0
+Misplaced b i e = (fresh : Bool) × Tells b (lead_at b (stage_at fresh) i) i e
+
+-- What is told where a sequence is read up to v and the text goes on there: the token at v. One command too many comes before it where there are that many, and
+-- of a form that is not read yet nothing is said.
+abbrev pub TellsBehind : List ℕ → states.State → Result Script Refusal → Type 0
+TellsBehind b v (Ok t) = ⊥
+TellsBehind b v (Err Memory) = Unit {0}
+TellsBehind b v (Err TooMany) = MAX_COMMANDS < v.spot.count
+TellsBehind b v (Err (LeftOut f at)) = (f ≡ form.Later → ⊥) → Misplaced b v.spot.at (LeftOut f at)
+TellsBehind b v (Err e) = Misplaced b v.spot.at e
+
+-- the same of each sequence at the front of the text
+abbrev pub TellsMisplaced : List ℕ → Result Script Refusal → Type 0
+TellsMisplaced b r =
+    (body : ℕ → Document) (v : states.State) (t : Script) → ReadsSequence MAX_NESTING b body (here (first_of b)) v t → v.spot.at < length b → TellsBehind b v r

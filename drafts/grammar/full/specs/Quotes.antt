@@ -1,0 +1,29 @@
+-- Clauses of private functions: single quotes in bodies whose lines are joined.
+-- POSIX.1-2024, XCU 2.2.1 (line continuation), 2.7.4 (here-document).
+use Rattle.std.specs.Prelude.{◌≡◌, ◌<◌, ℕ, Bool, true, false, not, List, [], ◌∷◌, ◌++◌, length, Option, Some, None}
+use Rattle.std.specs.List.{list_all}
+use Rattle.sh_tree.specs.Tree.{text_of}
+use Rattle.sh_tree.specs.declared.tree.Binary.{Binary}
+use Rattle.sh_tree.specs.declared.tree.Expr.{Expr}
+use Rattle.sh_tree.specs.declared.tree.Part.{Part}
+use Rattle.sh_tree.specs.declared.tree.Span.{Span}
+use Rattle.sh_tree.specs.language.HereDocuments.{is_split_text}
+use Rattle.sh_tree.specs.language.Parts.{expression_singles, keeps_lines}
+
+-- the single quotes in the operands of a chain
+unfoldable pub chained : List (Binary × Expr) → List Span
+chained [] = []
+chained (x ∷ xs) = expression_singles x.1 ++ chained xs
+
+abbrev pub all_kept : List ℕ → List Span → Bool
+all_kept b ss = list_all (λ s. not (is_split_text (text_of b s))) ss
+
+-- no line continuation stands in the spans, or one of them holds one, and a place is told
+abbrev pub SplitsIn : List ℕ → List Span → Option ℕ → Type 0
+SplitsIn b ss None = all_kept b ss ≡ true
+SplitsIn b ss (Some at) = (all_kept b ss ≡ false) × (at < length b)
+
+-- the lines of the parts are kept, or a place is told
+abbrev pub Splits : List ℕ → Bool → List Part → Option ℕ → Type 0
+Splits b joins ps None = keeps_lines b joins ps ≡ true
+Splits b joins ps (Some at) = (keeps_lines b joins ps ≡ false) × (at < length b)

@@ -1,0 +1,114 @@
+//! Commands (XCU 2.9).
+ghost use Rattle.std.specs.Prelude.{◌-◌, ◌≡◌, ◌+◌, ◌<◌, ◌≤◌, true, length};
+ghost use Rattle.sh_grammar.specs.Nests.{Nests};
+ghost use Rattle.sh_grammar.specs.States.{Stands};
+ghost use Rattle.sh_grammar.specs.Readers.{Answers, CommandFrom};
+ghost use Rattle.sh_tree.specs.declared.token.command.Stage.TheVariants.{First};
+ghost use Rattle.sh_tree.specs.language.Commands as tokens;
+ghost use Rattle.sh_tree.specs.language.Reading as reading;
+
+use super::faults::unexpected_at;
+use super::grammar::Grammar;
+use super::state::State;
+use sh_scan::{begins_command, begins_compound, begins_simple, lead_at};
+use sh_tree::Items;
+use sh_tree::limits::{MAX_COMMANDS, MAX_NESTING, MAX_SCRIPT};
+use sh_tree::refusal::Refusal;
+use sh_tree::token::{Lead, Stage};
+use sh_tree::tree::{Command, Kind, Redirect, Script};
+use std::alloc::Global;
+
+/// Whether there are no redirections.
+#[tactic(auto, unfolding(sh_tree::specs::language::Reading::is_empty))]
+fn is_bare(redirects: &Items<Redirect>) -> bool
+    ensures { result ≡ reading.is_empty redirects.now }
+{
+    match redirects.as_slice() {
+        [] => true,
+        _ => false,
+    }
+}
+
+impl<F: Fn(Global, &[u8], State) -> Result<(Script, State), Refusal>> Grammar<F> {
+    /// A simple command.
+    #[tactic(auto, using(crate::proofs::CommandLemmas::command_crowded, crate::proofs::CommandLemmas::simple_read, crate::proofs::CommandLemmas::simple_refused))]
+    fn simple(&self, script: &[u8], from: State) -> Result<(Command, State), Refusal>
+        requires small { length script.now ≤ MAX_SCRIPT }
+        requires stands { Stands script.now from }
+        requires begins { tokens.begins_simple (tokens.lead_at script.now First from.at) ≡ true }
+        requires further { length script.now - from.at ≤ self.now.left }
+        requires nests { Nests self.now.left (F.pre self.now.nested) (F.post self.now.nested) }
+        ensures { Answers script.now (CommandFrom script.now from) (from.at + 1) result }
+    {
+        if from.count == MAX_COMMANDS {
+            return Err(Refusal::TooMany);
+        }
+        let (number, at) = (from.count + 1, from.at);
+        let (elements, behind) = self.elements_at(script, from.counted())?;
+        let command = Command {
+            number,
+            at,
+            kind: Kind::Simple(elements),
+            redirects: Items::new(self.alloc),
+        };
+        Ok((command, behind.closing(false)))
+    }
+
+    /// A command.
+    #[tactic(auto, using(crate::proofs::CommandLemmas::command_none, crate::proofs::CommandLemmas::rest_defines, crate::proofs::ReaderLemmas::refused_none))]
+    pub fn command(&self, script: &[u8], from: State) -> Result<(Command, State), Refusal>
+        requires small { length script.now ≤ MAX_SCRIPT }
+        requires stands { Stands script.now from }
+        requires further { length script.now - from.at ≤ self.now.left }
+        requires nests { Nests self.now.left (F.pre self.now.nested) (F.post self.now.nested) }
+        ensures { Answers script.now (CommandFrom script.now from) (from.at + 1) result }
+    {
+        let lead = lead_at(script, Stage::First, from.at);
+        if !begins_command(lead) {
+            return Err(unexpected_at(script, Stage::First, &from));
+        }
+        if begins_simple(lead) {
+            return self.simple(script, from);
+        }
+        if begins_compound(lead) {
+            return self.compound_command(script, lead, from);
+        }
+        self.definition(script, from)
+    }
+
+    /// A compound command and its redirections.
+    #[tactic(auto, using(crate::proofs::CommandLemmas::command_crowded, crate::proofs::CommandLemmas::compound_deep, crate::proofs::CommandLemmas::compound_refused, crate::proofs::CommandLemmas::redirected_refused, crate::proofs::CommandLemmas::redirected_read))]
+    pub fn compound_command(
+        &self,
+        script: &[u8],
+        lead: Lead,
+        from: State,
+    ) -> Result<(Command, State), Refusal>
+        requires small { length script.now ≤ MAX_SCRIPT }
+        requires stands { Stands script.now from }
+        requires some { from.at < length script.now }
+        requires token { lead ≡ tokens.lead_at script.now First from.at }
+        requires begins { tokens.begins_compound lead ≡ true }
+        requires further { length script.now - from.at ≤ self.now.left }
+        requires nests { Nests self.now.left (F.pre self.now.nested) (F.post self.now.nested) }
+        ensures { Answers script.now (CommandFrom script.now from) (from.at + 1) result }
+    {
+        if u32::from(from.depth) >= MAX_NESTING {
+            return Err(Refusal::TooDeep(from.at));
+        }
+        if from.count == MAX_COMMANDS {
+            return Err(Refusal::TooMany);
+        }
+        let (number, at) = (from.count + 1, from.at);
+        let (kind, behind) = self.compound(script, lead, from.counted())?;
+        let (redirects, behind) = self.redirects_at(script, behind)?;
+        let closed = is_bare(&redirects);
+        let command = Command {
+            number,
+            at,
+            kind,
+            redirects,
+        };
+        Ok((command, behind.closing(closed)))
+    }
+}

@@ -1,0 +1,127 @@
+//! Groups and subshells (XCU 2.9.4.1).
+ghost use Rattle.std.specs.Prelude.{◌-◌, ◌≡◌, ◌≢◌, ◌+◌, ◌<◌, ◌≤◌, true, false, length};
+ghost use Rattle.sh_tree.specs.declared.token.command.Stage.TheVariants.{First};
+ghost use Rattle.sh_tree.specs.language.Commands as tokens;
+ghost use Rattle.sh_grammar.specs.Brackets.{BracketFrom, inner, outer};
+ghost use Rattle.sh_grammar.specs.Nests.{Nests};
+ghost use Rattle.sh_grammar.specs.States.{Stands};
+ghost use Rattle.sh_grammar.specs.Readers.{Answers, CompoundFrom};
+
+use super::faults::unexpected;
+use super::grammar::Grammar;
+use super::state::State;
+use sh_scan::lead_at;
+use sh_tree::limits::{MAX_NESTING, MAX_SCRIPT};
+use sh_tree::refusal::{Form, Refusal};
+use sh_tree::token::{Lead, Operator, Reserved, Stage};
+use sh_tree::tree::{Kind, LoopKind, Script};
+use std::alloc::Global;
+
+/// Whether the tokens are the same.
+pub fn is_same(lead: Lead, other: Lead) -> bool
+    ensures yes { result ≡ true → lead ≡ other }
+    ensures no { result ≡ false → lead ≡ other → ⊥ }
+{
+    lead == other
+}
+
+/// One level inside, behind the first byte of the token that opens it.
+fn inside(script: &[u8], from: State) -> State
+    requires small { length script.now ≤ MAX_SCRIPT }
+    requires stands { Stands script.now from }
+    requires some { from.at < length script.now }
+    requires shallow { from.depth < MAX_NESTING }
+    ensures value { result ≡ inner script.now from }
+    ensures further { from.at < result.at }
+    ensures stands { Stands script.now result }
+{
+    let at = from.at + 1;
+    from.next(script, at).lower()
+}
+
+/// Behind the token of one byte that closes what began where so many levels were open.
+fn outside(script: &[u8], depth: u8, close: State) -> State
+    requires small { length script.now ≤ MAX_SCRIPT }
+    requires shallow { depth ≤ MAX_NESTING }
+    requires stands { Stands script.now close }
+    requires some { close.at < length script.now }
+    ensures value { result ≡ outer script.now depth close }
+    ensures further { close.at < result.at }
+    ensures stands { Stands script.now result }
+{
+    let at = close.at + 1;
+    close.next(script, at).at_depth(depth)
+}
+
+impl<F: Fn(Global, &[u8], State) -> Result<(Script, State), Refusal>> Grammar<F> {
+    /// A list one level deeper, up to the token of one byte that closes it.
+    #[tactic(auto, using(crate::proofs::CompoundLemmas::bracket_refused, crate::proofs::CompoundLemmas::bracket_open, crate::proofs::CompoundLemmas::bracket_read, crate::proofs::ReaderLemmas::refused_none))]
+    fn bracketed(&self, script: &[u8], close: Lead, from: State) -> Result<(Script, State), Refusal>
+        requires small { length script.now ≤ MAX_SCRIPT }
+        requires stands { Stands script.now from }
+        requires some { from.at < length script.now }
+        requires shallow { from.depth < MAX_NESTING }
+        requires token { close ≢ Lead.End }
+        requires further { length script.now - from.at ≤ self.now.left }
+        requires nests { Nests self.now.left (F.pre self.now.nested) (F.post self.now.nested) }
+        ensures { Answers script.now (BracketFrom script.now close from) (from.at + 1) result }
+    {
+        let depth = from.depth;
+        let (list, behind) = self.list(script, inside(script, from))?;
+        if !is_same(lead_at(script, Stage::First, behind.at), close) {
+            return Err(unexpected(script, &behind));
+        }
+        Ok((list, outside(script, depth, behind)))
+    }
+
+    #[tactic(auto, using(crate::proofs::CompoundLemmas::group_refused, crate::proofs::CompoundLemmas::group_read))]
+    fn group(&self, script: &[u8], from: State) -> Result<(Kind, State), Refusal>
+        requires small { length script.now ≤ MAX_SCRIPT }
+        requires stands { Stands script.now from }
+        requires some { from.at < length script.now }
+        requires shallow { from.depth < MAX_NESTING }
+        requires further { length script.now - from.at ≤ self.now.left }
+        requires nests { Nests self.now.left (F.pre self.now.nested) (F.post self.now.nested) }
+        ensures { Answers script.now (CompoundFrom script.now (Lead.Reserved Reserved.LeftBrace) from) (from.at + 1) result }
+    {
+        let (list, end) = self.bracketed(script, Lead::Reserved(Reserved::RightBrace), from)?;
+        Ok((Kind::Group(list), end))
+    }
+
+    #[tactic(auto, using(crate::proofs::CompoundLemmas::subshell_refused, crate::proofs::CompoundLemmas::subshell_read))]
+    fn subshell(&self, script: &[u8], from: State) -> Result<(Kind, State), Refusal>
+        requires small { length script.now ≤ MAX_SCRIPT }
+        requires stands { Stands script.now from }
+        requires some { from.at < length script.now }
+        requires shallow { from.depth < MAX_NESTING }
+        requires further { length script.now - from.at ≤ self.now.left }
+        requires nests { Nests self.now.left (F.pre self.now.nested) (F.post self.now.nested) }
+        ensures { Answers script.now (CompoundFrom script.now (Lead.Operator Operator.LeftParenthesis) from) (from.at + 1) result }
+    {
+        let (list, end) = self.bracketed(script, Lead::Operator(Operator::RightParenthesis), from)?;
+        Ok((Kind::Subshell(list), end))
+    }
+
+    /// The compound command that begins with the token.
+    pub fn compound(&self, script: &[u8], lead: Lead, from: State) -> Result<(Kind, State), Refusal>
+        requires small { length script.now ≤ MAX_SCRIPT }
+        requires stands { Stands script.now from }
+        requires some { from.at < length script.now }
+        requires token { lead ≡ tokens.lead_at script.now First from.at }
+        requires shallow { from.depth < MAX_NESTING }
+        requires further { length script.now - from.at ≤ self.now.left }
+        requires nests { Nests self.now.left (F.pre self.now.nested) (F.post self.now.nested) }
+        ensures { Answers script.now (CompoundFrom script.now lead from) (from.at + 1) result }
+    {
+        match lead {
+            Lead::Operator(Operator::LeftParenthesis) => self.subshell(script, from),
+            Lead::Reserved(Reserved::LeftBrace) => self.group(script, from),
+            Lead::Reserved(Reserved::Case) => self.case_of(script, from),
+            Lead::Reserved(Reserved::For) => self.for_loop(script, from),
+            Lead::Reserved(Reserved::If) => self.cond(script, from),
+            Lead::Reserved(Reserved::While) => self.loop_of(script, LoopKind::While, from),
+            Lead::Reserved(Reserved::Until) => self.loop_of(script, LoopKind::Until, from),
+            _ => Err(Refusal::LeftOut(Form::Later, from.at)),
+        }
+    }
+}

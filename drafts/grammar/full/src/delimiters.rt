@@ -1,0 +1,98 @@
+//! The words behind the operators of here-documents (XCU 2.7.4).
+ghost use Rattle.std.specs.Prelude.{◌≡◌, ◌<◌, length, IfOk, option_map};
+ghost use Rattle.sh_grammar.specs.Delimiters.{Awaits, delimiter_in};
+ghost use Rattle.sh_tree.specs.language.Parts as parts;
+ghost use Rattle.sh_tree.specs.language.States.{no_document};
+ghost use Rattle.sh_tree.specs.language.Trees.{here_doc};
+
+use super::mark::Mark;
+use sh_tree::Items;
+use sh_tree::refusal::{Form, Refusal};
+use sh_tree::text::unquoted_text;
+use sh_tree::tree::{HereDoc, Part, Span, Word};
+use std::alloc::{AllocError, Global};
+
+/// The delimiter that the word is: its text without its quoting, or nothing where it holds an expansion, a tilde-prefix or a
+/// newline.
+///
+/// # Errors
+///
+/// `AllocError` where a growth was refused.
+#[tactic(auto, using(crate::proofs::DelimiterLemmas::delimiter_split, crate::proofs::DelimiterLemmas::delimiter_whole))]
+fn delimiter_of(
+    alloc: Global,
+    script: &[u8],
+    word: &Word,
+) -> Result<Option<Vec<u8>>, AllocError>
+    ensures { IfOk result (λ found. option_map (λ v. v.items) found ≡ delimiter_in script.now word.now) }
+{
+    if word.span.text(script).contains(&b'\n') {
+        return Ok(None);
+    }
+    unquoted_text(alloc, word, script)
+}
+
+/// Whether the part is quoting.
+#[tactic(auto, unfolding(sh_tree::specs::language::Parts::is_quotation))]
+fn is_quotation(part: &Part) -> bool
+    ensures { result ≡ parts.is_quotation part.now }
+{
+    matches!(
+        part,
+        Part::Escaped(_) | Part::Single(_, _) | Part::Double(_, _)
+    )
+}
+
+/// Whether a part of the word is quoted.
+#[tactic(auto, unfolding(sh_tree::specs::language::Parts::is_quoted_word))]
+fn is_quoted(word: &Word) -> bool
+    ensures { result ≡ parts.is_quoted_word word.now }
+{
+    word.parts.as_slice().iter().any(|part| is_quotation(part))
+}
+
+/// The here-document with the operator at `at`, where so many levels are open, whose body ends with the word.
+///
+/// # Errors
+///
+/// `LeftOut` at the word where it is no delimiter.
+#[tactic(auto, using(crate::proofs::DelimiterLemmas::not_delimiter))]
+pub fn mark_at(
+    alloc: Global,
+    script: &[u8],
+    at: u32,
+    strip: bool,
+    word: &Word,
+    depth: u8,
+) -> Result<Mark, Refusal>
+    requires begins { word.now.span.start < length script.now }
+    ensures { Awaits script.now at strip word.now depth result }
+{
+    let delimiter = delimiter_of(alloc, script, word)?;
+    match delimiter {
+        Some(delimiter) => Ok(Mark {
+            at,
+            strip,
+            quoted: is_quoted(word),
+            delimiter,
+            depth,
+        }),
+        None => Err(Refusal::LeftOut(Form::HereWord, word.span.start)),
+    }
+}
+
+/// A here-document whose body has not come.
+pub fn awaited(alloc: Global, strip: bool, delimiter: Word) -> HereDoc
+    ensures { result ≡ here_doc strip delimiter no_document.text no_document.end }
+{
+    let none = Span { start: 0, end: 0 };
+    HereDoc {
+        strip,
+        delimiter,
+        body: Word {
+            span: none,
+            parts: Items::new(alloc),
+        },
+        end: none,
+    }
+}

@@ -1,0 +1,96 @@
+//! The elements of simple commands (XCU 2.9.1).
+ghost use Rattle.std.specs.Prelude.{◌-◌, ◌≡◌, ◌+◌, ◌≤◌, true, length};
+ghost use Rattle.sh_grammar.specs.Nests.{Nests};
+ghost use Rattle.sh_grammar.specs.States.{Stands};
+ghost use Rattle.sh_grammar.specs.Readers.{Answers, ElementsFrom};
+ghost use Rattle.sh_tree.specs.declared.token.command.Stage.TheVariants.{First};
+ghost use Rattle.sh_tree.specs.language.Commands as commands;
+ghost use Rattle.sh_tree.specs.language.Reading as reading;
+
+use super::grammar::Grammar;
+use super::state::State;
+use super::words::mode_of;
+use sh_scan::{begins_simple, declares_at, lead_at, name_at};
+use sh_tree::Items;
+use sh_tree::limits::MAX_SCRIPT;
+use sh_tree::refusal::Refusal;
+use sh_tree::token::{Lead, Stage};
+use sh_tree::tree::{Element, Script, Span};
+use sh_words::Mode;
+use std::alloc::Global;
+
+/// The stage behind the word at `at`.
+fn stage_behind(script: &[u8], stage: Stage, at: u32) -> Stage
+    requires small { length script.now ≤ MAX_SCRIPT }
+    requires inside { at ≤ length script.now }
+    ensures { result ≡ reading.stage_behind script.now stage at }
+{
+    match stage {
+        Stage::Named(declares) => Stage::Named(declares),
+        Stage::First | Stage::Prefixed => Stage::Named(declares_at(script, at)),
+    }
+}
+
+/// The stage behind a redirection.
+fn redirected(stage: Stage) -> Stage
+    ensures { result ≡ reading.redirected stage }
+{
+    match stage {
+        Stage::First => Stage::Prefixed,
+        Stage::Prefixed => Stage::Prefixed,
+        Stage::Named(declares) => Stage::Named(declares),
+    }
+}
+
+impl<F: Fn(Global, &[u8], State) -> Result<(Script, State), Refusal>> Grammar<F> {
+    /// The elements of the simple command at a token.
+    #[tactic(auto, using(crate::proofs::ElementLemmas::found_none, crate::proofs::ElementLemmas::not_moved, crate::proofs::ElementLemmas::moved_on, crate::proofs::ElementLemmas::elements_end, crate::proofs::BeginningLemmas::name_within))]
+    pub fn elements_at(
+        &self,
+        script: &[u8],
+        from: State,
+    ) -> Result<(Items<Element>, State), Refusal>
+        requires small { length script.now ≤ MAX_SCRIPT }
+        requires stands { Stands script.now from }
+        requires begins { commands.begins_simple (commands.lead_at script.now First from.at) ≡ true }
+        requires further { length script.now - from.at ≤ self.now.left }
+        requires nests { Nests self.now.left (F.pre self.now.nested) (F.post self.now.nested) }
+        ensures { Answers script.now (ElementsFrom script.now (First, from)) (from.at + 1) result }
+    {
+        let mut elements = Items::new(self.alloc);
+        let mut stage = Stage::First;
+        let mut next = from;
+        loop {
+            let lead = lead_at(script, stage, next.at);
+            if !begins_simple(lead) {
+                return Ok((elements, next));
+            }
+            match lead {
+                Lead::Assignment => {
+                    let equals = name_at(script, next.at);
+                    let name = Span {
+                        start: next.at,
+                        end: equals,
+                    };
+                    let (value, behind) = self.word_at(script, Mode::Value, equals + 1, next)?;
+                    stage = Stage::Prefixed;
+                    next = behind;
+                    elements.push(Element::Assignment { name, value })?;
+                }
+                Lead::Word => {
+                    let at = next.at;
+                    let (word, behind) = self.word_at(script, mode_of(stage), at, next)?;
+                    stage = stage_behind(script, stage, at);
+                    next = behind;
+                    elements.push(Element::Word(word))?;
+                }
+                _ => {
+                    let (redirect, behind) = self.redirect_at(script, next)?;
+                    stage = redirected(stage);
+                    next = behind;
+                    elements.push(Element::Redirection(redirect))?;
+                }
+            }
+        }
+    }
+}

@@ -1,0 +1,77 @@
+//! What is told of a token that has no place (XCU 2.10).
+ghost use Rattle.std.specs.Prelude.{◌≡◌, ◌<◌, ◌≤◌, length};
+ghost use Rattle.sh_tree.specs.language.Commands as commands;
+ghost use Rattle.sh_grammar.specs.Faults.{IsFault, IsPlace, TellsAt, ended, stage_at};
+ghost use Rattle.sh_grammar.specs.States.{Stands};
+
+use super::state::State;
+use memchr::memchr;
+use sh_scan::lead_at;
+use sh_tree::limits::MAX_SCRIPT;
+use sh_tree::refusal::{Fault, Form, Refusal};
+use sh_tree::token::{Lead, Stage};
+
+/// Where a form that is left out is told, which the token at `at` is: a line continuation at its backslash.
+fn place_of(script: &[u8], form: Form, at: u32) -> u32
+    requires small { length script.now ≤ MAX_SCRIPT }
+    requires inside { at < length script.now }
+    ensures which { IsPlace script.now form at result }
+    ensures within { result < length script.now }
+{
+    match form {
+        Form::Continuation => match memchr(b'\\', &script[at as usize..]) {
+            Some(further) => at + further as u32,
+            None => at,
+        },
+        _ => at,
+    }
+}
+
+/// What is told at the end of the text: the first here-document that waits for its body, if one does.
+#[tactic(auto, using(crate::proofs::FaultLemmas::end_of, crate::proofs::FaultLemmas::open_of, crate::proofs::FaultLemmas::first_inside))]
+fn at_end(script: &[u8], here: &State) -> Refusal
+    requires stands { Stands script.now here.now }
+    ensures which { result ≡ ended here.now.pending here.now.at }
+    ensures fault { IsFault script.now result }
+{
+    match here.first_pending() {
+        Some(at) => Refusal::Syntax(Fault::OpenHereDoc, at),
+        None => Refusal::Syntax(Fault::UnexpectedEnd, here.at),
+    }
+}
+
+/// What is told of the token here, which has no place there.
+pub fn unexpected_at(script: &[u8], stage: Stage, here: &State) -> Refusal
+    requires small { length script.now ≤ MAX_SCRIPT }
+    requires stands { Stands script.now here.now }
+    ensures which { TellsAt script.now (commands.lead_at script.now stage here.now.at) here.now result }
+    ensures fault { IsFault script.now result }
+{
+    match lead_at(script, stage, here.at) {
+        Lead::LeftOut(form) => Refusal::LeftOut(form, place_of(script, form, here.at)),
+        Lead::End => at_end(script, here),
+        _ => Refusal::Syntax(Fault::UnexpectedToken, here.at),
+    }
+}
+
+/// How the token is told of where nothing goes on.
+#[tactic(auto, unfolding(crate::specs::Faults::stage_at))]
+fn stage_of(here: &State) -> Stage
+    ensures { result ≡ stage_at here.now.fresh }
+{
+    if here.fresh {
+        Stage::First
+    } else {
+        Stage::Prefixed
+    }
+}
+
+/// What is told where nothing that stands there goes on.
+pub fn unexpected(script: &[u8], here: &State) -> Refusal
+    requires small { length script.now ≤ MAX_SCRIPT }
+    requires stands { Stands script.now here.now }
+    ensures which { TellsAt script.now (commands.lead_at script.now (stage_at here.now.fresh) here.now.at) here.now result }
+    ensures fault { IsFault script.now result }
+{
+    unexpected_at(script, stage_of(here), here)
+}

@@ -1,0 +1,124 @@
+//! `for` (XCU 2.9.4.2).
+ghost use Rattle.std.specs.Prelude.{◌-◌, ◌≡◌, ◌+◌, ◌<◌, ◌≤◌, true, false, length, Some};
+ghost use Rattle.sh_grammar.specs.Fors.{ForWordsFrom, ListedFrom, WordsFrom};
+ghost use Rattle.sh_grammar.specs.Nests.{Nests};
+ghost use Rattle.sh_grammar.specs.States.{Stands};
+ghost use Rattle.sh_grammar.specs.Readers.{Answers, CompoundFrom};
+ghost use Rattle.sh_tree.specs.declared.token.command.Stage.TheVariants.{First};
+ghost use Rattle.sh_tree.specs.language.Commands as tokens;
+
+use super::breaks::parted;
+use super::compounds::is_same;
+use super::faults::unexpected_at;
+use super::grammar::Grammar;
+use super::redirects::is_word;
+use super::reserved::{enter, skip};
+use super::state::State;
+use sh_scan::{is_bare_name_at, lead_at, name_at, separator};
+use sh_tree::Items;
+use sh_tree::limits::{MAX_NESTING, MAX_SCRIPT};
+use sh_tree::refusal::Refusal;
+use sh_tree::token::{Lead, Operator, Reserved, Stage};
+use sh_tree::tree::{Kind, Script, Span, Word};
+use sh_words::Mode;
+use std::alloc::Global;
+
+/// Whether the token ends the words behind `in`.
+fn ends_words(lead: Lead) -> bool
+    ensures yes { result ≡ true → tokens.separator lead ≡ Some false }
+    ensures no { result ≡ false → tokens.separator lead ≡ Some false → ⊥ }
+{
+    matches!(separator(lead), Some(false))
+}
+
+impl<F: Fn(Global, &[u8], State) -> Result<(Script, State), Refusal>> Grammar<F> {
+    /// The words at a token, whose fields are split.
+    #[tactic(auto, using(crate::proofs::ForLemmas::word_begins, crate::proofs::ForLemmas::words_none, crate::proofs::ForLemmas::words_more, crate::proofs::ForLemmas::words_refused, crate::proofs::ForLemmas::words_all))]
+    fn words_at(&self, script: &[u8], from: State) -> Result<(Items<Word>, State), Refusal>
+        requires small { length script.now ≤ MAX_SCRIPT }
+        requires stands { Stands script.now from }
+        requires further { length script.now - from.at ≤ self.now.left }
+        requires nests { Nests self.now.left (F.pre self.now.nested) (F.post self.now.nested) }
+        ensures { Answers script.now (WordsFrom script.now from) from.at result }
+    {
+        let mut words = Items::new(self.alloc);
+        let mut next = from;
+        while is_word(lead_at(script, Stage::Named(false), next.at)) {
+            let at = next.at;
+            let (word, behind) = self.word_at(script, Mode::Word, at, next)?;
+            words.push(word)?;
+            next = behind;
+        }
+        Ok((words, next))
+    }
+
+    /// The words behind `in`, and what separates them from `do`.
+    #[tactic(auto, using(crate::proofs::ForLemmas::listed_refused, crate::proofs::ForLemmas::listed_unended, crate::proofs::ForLemmas::listed_stopped, crate::proofs::ForLemmas::listed_read, crate::proofs::ReaderLemmas::refused_none))]
+    fn listed(&self, script: &[u8], from: State) -> Result<(Items<Word>, State), Refusal>
+        requires small { length script.now ≤ MAX_SCRIPT }
+        requires stands { Stands script.now from }
+        requires further { length script.now - from.at ≤ self.now.left }
+        requires nests { Nests self.now.left (F.pre self.now.nested) (F.post self.now.nested) }
+        ensures { Answers script.now (ListedFrom script.now from) from.at result }
+    {
+        let (words, behind) = self.words_at(script, from)?;
+        let lead = lead_at(script, Stage::First, behind.at);
+        if !ends_words(lead) {
+            return Err(unexpected_at(script, Stage::Named(false), &behind));
+        }
+        let end = self.breaks(script, parted(script, lead, behind))?;
+        Ok((words, end))
+    }
+
+    /// What stands between the name and `do`.
+    #[tactic(auto, using(crate::proofs::ForLemmas::arguments_ended, crate::proofs::ForLemmas::arguments_stopped, crate::proofs::ForLemmas::for_words_stopped, crate::proofs::ForLemmas::arguments_read, crate::proofs::ForLemmas::for_words_none, crate::proofs::ForLemmas::for_words_refused, crate::proofs::ForLemmas::for_words_read, crate::proofs::ReaderLemmas::refused_none))]
+    fn for_words(&self, script: &[u8], from: State) -> Result<(Option<Items<Word>>, State), Refusal>
+        requires small { length script.now ≤ MAX_SCRIPT }
+        requires stands { Stands script.now from }
+        requires further { length script.now - from.at ≤ self.now.left }
+        requires nests { Nests self.now.left (F.pre self.now.nested) (F.post self.now.nested) }
+        ensures { Answers script.now (ForWordsFrom script.now from) from.at result }
+    {
+        let first = lead_at(script, Stage::First, from.at);
+        if is_same(first, Lead::Operator(Operator::Semicolon)) {
+            let at = from.at + 1;
+            let end = self.breaks(script, from.next(script, at))?;
+            return Ok((None, end));
+        }
+        let next = self.breaks(script, from)?;
+        let lead = lead_at(script, Stage::First, next.at);
+        if is_same(lead, Lead::Reserved(Reserved::Do)) {
+            return Ok((None, next));
+        }
+        if !is_same(lead, Lead::Reserved(Reserved::In)) {
+            return Err(unexpected_at(script, Stage::Named(false), &next));
+        }
+        let (words, behind) = self.listed(script, skip(script, Reserved::In, next))?;
+        Ok((Some(words), behind))
+    }
+
+    /// `for`, a name, its words and what it does.
+    #[tactic(auto, using(crate::proofs::ForLemmas::for_unnamed, crate::proofs::ForLemmas::for_refused, crate::proofs::ForLemmas::for_body_refused, crate::proofs::ForLemmas::for_read, crate::proofs::ReaderLemmas::refused_none))]
+    pub fn for_loop(&self, script: &[u8], from: State) -> Result<(Kind, State), Refusal>
+        requires small { length script.now ≤ MAX_SCRIPT }
+        requires stands { Stands script.now from }
+        requires word { Lead.Reserved Reserved.For ≡ tokens.lead_at script.now First from.at }
+        requires shallow { from.depth < MAX_NESTING }
+        requires further { length script.now - from.at ≤ self.now.left }
+        requires nests { Nests self.now.left (F.pre self.now.nested) (F.post self.now.nested) }
+        ensures { Answers script.now (CompoundFrom script.now (Lead.Reserved Reserved.For) from) (from.at + 1) result }
+    {
+        let depth = from.depth;
+        let first = enter(script, Reserved::For, from);
+        if !is_bare_name_at(script, first.at) {
+            return Err(unexpected_at(script, Stage::Named(false), &first));
+        }
+        let name = Span {
+            start: first.at,
+            end: name_at(script, first.at),
+        };
+        let (words, behind) = self.for_words(script, first.next(script, name.end))?;
+        let (body, end) = self.do_group(script, behind)?;
+        Ok((Kind::For { name, words, body }, end.at_depth(depth)))
+    }
+}

@@ -1,0 +1,165 @@
+//! Pipelines and lists (XCU 2.9.2, 2.9.3).
+ghost use Rattle.std.specs.Prelude.{◌-◌, ◌≡◌, ◌+◌, ◌<◌, ◌≤◌, ◌||◌, not, true, false, length};
+ghost use Rattle.sh_grammar.specs.Items.{RestFrom};
+ghost use Rattle.sh_grammar.specs.Nests.{Nests};
+ghost use Rattle.sh_grammar.specs.States.{Stands};
+ghost use Rattle.sh_grammar.specs.Readers.{Answers, AndOrFrom, CommandsFrom, LinksFrom, PipelineFrom, SequenceFrom};
+ghost use Rattle.sh_tree.specs.declared.token.command.Stage.TheVariants.{First};
+ghost use Rattle.sh_tree.specs.language.Commands as tokens;
+
+use super::breaks::parted;
+use super::faults::unexpected;
+use super::grammar::Grammar;
+use super::state::State;
+use sh_scan::{begins_pipeline, lead_at, link_of, separator};
+use sh_tree::Items;
+use sh_tree::limits::MAX_SCRIPT;
+use sh_tree::refusal::Refusal;
+use sh_tree::token::{Lead, Operator, Reserved, Stage};
+use sh_tree::tree::{AndOr, Command, Item, Link, Pipe, Script};
+use std::alloc::Global;
+
+fn is_bang(lead: Lead) -> bool
+    ensures yes { result ≡ true → lead ≡ Lead.Reserved Reserved.Bang }
+    ensures no { result ≡ false → lead ≡ Lead.Reserved Reserved.Bang → ⊥ }
+{
+    matches!(lead, Lead::Reserved(Reserved::Bang))
+}
+
+fn is_bar(lead: Lead) -> bool
+    ensures { result ≡ tokens.is_bar lead }
+{
+    matches!(lead, Lead::Operator(Operator::Bar))
+}
+
+fn is_reserved(lead: Lead) -> bool
+    ensures { result ≡ tokens.is_reserved lead }
+{
+    matches!(lead, Lead::Reserved(_))
+}
+
+/// Whether an item ends before a token that separates nothing: a reserved word has to be one that may close something.
+fn closes(lead: Lead, closed: bool) -> bool
+    ensures { result ≡ (not (tokens.is_reserved lead) || closed) }
+{
+    !is_reserved(lead) || closed
+}
+
+impl<F: Fn(Global, &[u8], State) -> Result<(Script, State), Refusal>> Grammar<F> {
+    /// Commands with bars between them.
+    #[tactic(auto, using(crate::proofs::ListLemmas::commands_none, crate::proofs::ListLemmas::commands_refused, crate::proofs::ListLemmas::commands_last, crate::proofs::ListLemmas::commands_stopped, crate::proofs::ListLemmas::commands_more))]
+    fn commands(&self, script: &[u8], from: State) -> Result<(Items<Command>, State), Refusal>
+        requires small { length script.now ≤ MAX_SCRIPT }
+        requires stands { Stands script.now from }
+        requires further { length script.now - from.at ≤ self.now.left }
+        requires nests { Nests self.now.left (F.pre self.now.nested) (F.post self.now.nested) }
+        ensures { Answers script.now (CommandsFrom script.now from) (from.at + 1) result }
+    {
+        let mut parts = Items::new(self.alloc);
+        let mut next = from;
+        loop {
+            let (command, behind) = self.command(script, next)?;
+            parts.push(command)?;
+            if !is_bar(lead_at(script, Stage::First, behind.at)) {
+                return Ok((parts, behind));
+            }
+            let at = behind.at + 1;
+            next = self.breaks(script, behind.next(script, at))?;
+        }
+    }
+
+    #[tactic(auto, using(crate::proofs::ListLemmas::negated_refused, crate::proofs::ListLemmas::negated_read, crate::proofs::ListLemmas::straight_refused, crate::proofs::ListLemmas::straight_read))]
+    fn pipeline(&self, script: &[u8], from: State) -> Result<(Pipe, State), Refusal>
+        requires small { length script.now ≤ MAX_SCRIPT }
+        requires stands { Stands script.now from }
+        requires further { length script.now - from.at ≤ self.now.left }
+        requires nests { Nests self.now.left (F.pre self.now.nested) (F.post self.now.nested) }
+        ensures { Answers script.now (PipelineFrom script.now from) (from.at + 1) result }
+    {
+        if is_bang(lead_at(script, Stage::First, from.at)) {
+            let at = from.at + 1;
+            let (parts, behind) = self.commands(script, from.next(script, at))?;
+            let negated = true;
+            return Ok((Pipe { negated, parts }, behind));
+        }
+        let (parts, behind) = self.commands(script, from)?;
+        let negated = false;
+        Ok((Pipe { negated, parts }, behind))
+    }
+
+    /// The pipelines behind the first one of an and-or list.
+    #[tactic(auto, using(crate::proofs::ListLemmas::links_none, crate::proofs::ListLemmas::links_refused, crate::proofs::ListLemmas::links_stopped, crate::proofs::ListLemmas::links_more, crate::proofs::ListLemmas::links_all, crate::proofs::WidthLemmas::link_inside))]
+    fn links(&self, script: &[u8], from: State) -> Result<(Items<(Link, Pipe)>, State), Refusal>
+        requires small { length script.now ≤ MAX_SCRIPT }
+        requires stands { Stands script.now from }
+        requires further { length script.now - from.at ≤ self.now.left }
+        requires nests { Nests self.now.left (F.pre self.now.nested) (F.post self.now.nested) }
+        ensures { Answers script.now (LinksFrom script.now from) from.at result }
+    {
+        let mut rest = Items::new(self.alloc);
+        let mut next = from;
+        while let Some(link) = link_of(lead_at(script, Stage::First, next.at)) {
+            let at = next.at + 2;
+            let first = self.breaks(script, next.next(script, at))?;
+            let (pipe, behind) = self.pipeline(script, first)?;
+            rest.push((link, pipe))?;
+            next = behind;
+        }
+        Ok((rest, next))
+    }
+
+    #[tactic(auto, using(crate::proofs::ListLemmas::first_refused, crate::proofs::ListLemmas::rest_refused, crate::proofs::ListLemmas::list_linked))]
+    fn and_or(&self, script: &[u8], from: State) -> Result<(AndOr, State), Refusal>
+        requires small { length script.now ≤ MAX_SCRIPT }
+        requires stands { Stands script.now from }
+        requires further { length script.now - from.at ≤ self.now.left }
+        requires nests { Nests self.now.left (F.pre self.now.nested) (F.post self.now.nested) }
+        ensures { Answers script.now (AndOrFrom script.now from) (from.at + 1) result }
+    {
+        let (first, behind) = self.pipeline(script, from)?;
+        let (rest, end) = self.links(script, behind)?;
+        Ok((AndOr { first, rest }, end))
+    }
+
+    /// The items from a token on that is no newline. There are none where no pipeline begins.
+    #[tactic(auto, using(crate::proofs::ListLemmas::items_none, crate::proofs::ListLemmas::items_all, crate::proofs::ListLemmas::items_refused, crate::proofs::ListLemmas::items_stopped, crate::proofs::ListLemmas::items_last, crate::proofs::ListLemmas::items_wrong, crate::proofs::ListLemmas::items_more, crate::proofs::ReaderLemmas::refused_none))]
+    fn items(&self, script: &[u8], from: State) -> Result<(Items<Item>, State), Refusal>
+        requires small { length script.now ≤ MAX_SCRIPT }
+        requires stands { Stands script.now from }
+        requires further { length script.now - from.at ≤ self.now.left }
+        requires nests { Nests self.now.left (F.pre self.now.nested) (F.post self.now.nested) }
+        ensures { Answers script.now (RestFrom script.now from) from.at result }
+    {
+        let mut items = Items::new(self.alloc);
+        let mut next = from;
+        while begins_pipeline(lead_at(script, Stage::First, next.at)) {
+            let (list, behind) = self.and_or(script, next)?;
+            let lead = lead_at(script, Stage::First, behind.at);
+            let Some(background) = separator(lead) else {
+                if !closes(lead, behind.closed) {
+                    return Err(unexpected(script, &behind));
+                }
+                let background = false;
+                items.push(Item { list, background })?;
+                return Ok((items, behind));
+            };
+            items.push(Item { list, background })?;
+            next = self.breaks(script, parted(script, lead, behind))?;
+        }
+        Ok((items, next))
+    }
+
+    /// A list, or newlines alone.
+    #[tactic(auto, using(crate::proofs::ListLemmas::sequence_stopped, crate::proofs::ListLemmas::sequence_refused, crate::proofs::ListLemmas::sequence_read))]
+    pub fn sequence(&self, script: &[u8], from: State) -> Result<(Script, State), Refusal>
+        requires small { length script.now ≤ MAX_SCRIPT }
+        requires stands { Stands script.now from }
+        requires further { length script.now - from.at ≤ self.now.left }
+        requires nests { Nests self.now.left (F.pre self.now.nested) (F.post self.now.nested) }
+        ensures { Answers script.now (SequenceFrom script.now from) from.at result }
+    {
+        let first = self.breaks(script, from)?;
+        let (items, behind) = self.items(script, first)?;
+        Ok((Script { items }, behind))
+    }
+}

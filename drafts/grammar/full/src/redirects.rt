@@ -1,0 +1,154 @@
+//! Redirections (XCU 2.7).
+ghost use Rattle.std.specs.Prelude.{◌-◌, ◌≡◌, ◌+◌, ◌≤◌, ◌<◌, length, Some, IfOk};
+ghost use Rattle.sh_tree.specs.language.Commands as commands;
+ghost use Rattle.sh_grammar.specs.Nests.{Nests};
+ghost use Rattle.sh_grammar.specs.States.{Stands};
+ghost use Rattle.sh_grammar.specs.Readers.{Answers, RedirectFrom, RedirectsFrom};
+ghost use Rattle.sh_grammar.specs.Targets.{TargetFrom};
+
+use super::delimiters::{awaited, mark_at};
+use super::faults::unexpected_at;
+use super::grammar::Grammar;
+use super::state::State;
+use sh_scan::{direction_of, is_redirection, lead_at, redirection_at, strip_of};
+use sh_tree::Items;
+use sh_tree::limits::MAX_SCRIPT;
+use sh_tree::refusal::Refusal;
+use sh_tree::token::{Lead, Redirection, Stage};
+use sh_tree::tree::{Direction, Redirect, Script, Target, Word};
+use sh_words::Mode;
+use std::alloc::Global;
+
+pub fn is_word(lead: Lead) -> bool
+    ensures { result ≡ commands.is_word lead }
+{
+    matches!(lead, Lead::Word)
+}
+
+impl<F: Fn(Global, &[u8], State) -> Result<(Script, State), Refusal>> Grammar<F> {
+    /// The word behind an operator that ends at `end`.
+    #[tactic(auto, using(crate::proofs::RedirectLemmas::target_none, crate::proofs::RedirectLemmas::target_refused, crate::proofs::RedirectLemmas::target_read, crate::proofs::ReaderLemmas::refused_none))]
+    fn target(&self, script: &[u8], end: u32, from: State) -> Result<(Word, State), Refusal>
+        requires small { length script.now ≤ MAX_SCRIPT }
+        requires stands { Stands script.now from }
+        requires moves { from.at < end }
+        requires within { end ≤ length script.now }
+        requires further { length script.now - from.at ≤ self.now.left }
+        requires nests { Nests self.now.left (F.pre self.now.nested) (F.post self.now.nested) }
+        ensures reads { Answers script.now (TargetFrom script.now end from) (from.at + 1) result }
+        ensures begins { IfOk result (λ r. r.0.span.start < length script.now) }
+    {
+        let target = from.next(script, end);
+        let stage = Stage::Named(false);
+        if !is_word(lead_at(script, stage, target.at)) {
+            return Err(unexpected_at(script, stage, &target));
+        }
+        let at = target.at;
+        let (word, behind) = self.word_at(script, Mode::Unsplit, at, target)?;
+        Ok((word, behind))
+    }
+
+    /// The redirection of a file, of which the operator is read.
+    #[tactic(auto, using(crate::proofs::RedirectLemmas::redirect_refused, crate::proofs::RedirectLemmas::redirect_read))]
+    fn file(
+        &self,
+        script: &[u8],
+        front: Redirection,
+        direction: Direction,
+        from: State,
+    ) -> Result<(Redirect, State), Refusal>
+        requires small { length script.now ≤ MAX_SCRIPT }
+        requires stands { Stands script.now from }
+        requires begins { commands.redirection script.now from.at ≡ Some front }
+        requires way { commands.direction_of front.operator ≡ Some direction }
+        requires moves { from.at < front.end }
+        requires within { front.end ≤ length script.now }
+        requires further { length script.now - from.at ≤ self.now.left }
+        requires nests { Nests self.now.left (F.pre self.now.nested) (F.post self.now.nested) }
+        ensures { Answers script.now (RedirectFrom script.now from) (from.at + 1) result }
+    {
+        let (word, behind) = self.target(script, front.end, from)?;
+        let redirect = Redirect {
+            at: front.at,
+            number: front.number,
+            target: Target::File(direction, word),
+        };
+        Ok((redirect, behind))
+    }
+
+    /// A here-document, of which the operator is read. Its body comes behind the newline.
+    #[tactic(auto, using(crate::proofs::RedirectLemmas::redirect_refused, crate::proofs::RedirectLemmas::document_refused))]
+    fn here_document(
+        &self,
+        script: &[u8],
+        front: Redirection,
+        strip: bool,
+        from: State,
+    ) -> Result<(Redirect, State), Refusal>
+        requires small { length script.now ≤ MAX_SCRIPT }
+        requires stands { Stands script.now from }
+        requires begins { commands.redirection script.now from.at ≡ Some front }
+        requires way { commands.strip_of front.operator ≡ Some strip }
+        requires moves { from.at < front.end }
+        requires operator { front.at < front.end }
+        requires within { front.end ≤ length script.now }
+        requires further { length script.now - from.at ≤ self.now.left }
+        requires nests { Nests self.now.left (F.pre self.now.nested) (F.post self.now.nested) }
+        ensures { Answers script.now (RedirectFrom script.now from) (from.at + 1) result }
+    {
+        let depth = from.depth;
+        let (word, behind) = self.target(script, front.end, from)?;
+        let mark = mark_at(self.alloc, script, front.at, strip, &word, depth)?;
+        let behind = behind.awaiting(mark)?;
+        let redirect = Redirect {
+            at: front.at,
+            number: front.number,
+            target: Target::Here(awaited(self.alloc, strip, word)),
+        };
+        Ok((redirect, behind))
+    }
+
+    /// The redirection at a token that begins one.
+    #[tactic(auto, using(crate::proofs::RedirectLemmas::no_redirect, crate::proofs::RedirectLemmas::redirect_neither, crate::proofs::ReaderLemmas::refused_none))]
+    pub fn redirect_at(&self, script: &[u8], from: State) -> Result<(Redirect, State), Refusal>
+        requires small { length script.now ≤ MAX_SCRIPT }
+        requires stands { Stands script.now from }
+        requires further { length script.now - from.at ≤ self.now.left }
+        requires nests { Nests self.now.left (F.pre self.now.nested) (F.post self.now.nested) }
+        ensures { Answers script.now (RedirectFrom script.now from) (from.at + 1) result }
+    {
+        let Some(front) = redirection_at(script, from.at) else {
+            return Err(unexpected_at(script, Stage::Named(false), &from));
+        };
+        if let Some(direction) = direction_of(front.operator) {
+            return self.file(script, front, direction, from);
+        }
+        match strip_of(front.operator) {
+            Some(strip) => self.here_document(script, front, strip, from),
+            None => Err(unexpected_at(script, Stage::Named(false), &from)),
+        }
+    }
+
+    /// The redirections behind a compound command.
+    #[tactic(auto, using(crate::proofs::RedirectLemmas::redirects_none, crate::proofs::RedirectLemmas::redirects_more, crate::proofs::RedirectLemmas::redirects_refused, crate::proofs::RedirectLemmas::redirects_all))]
+    pub fn redirects_at(
+        &self,
+        script: &[u8],
+        from: State,
+    ) -> Result<(Items<Redirect>, State), Refusal>
+        requires small { length script.now ≤ MAX_SCRIPT }
+        requires stands { Stands script.now from }
+        requires further { length script.now - from.at ≤ self.now.left }
+        requires nests { Nests self.now.left (F.pre self.now.nested) (F.post self.now.nested) }
+        ensures { Answers script.now (RedirectsFrom script.now from) from.at result }
+    {
+        let mut redirects = Items::new(self.alloc);
+        let mut next = from;
+        while is_redirection(lead_at(script, Stage::Named(false), next.at)) {
+            let (redirect, behind) = self.redirect_at(script, next)?;
+            redirects.push(redirect)?;
+            next = behind;
+        }
+        Ok((redirects, next))
+    }
+}

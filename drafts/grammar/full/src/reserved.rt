@@ -1,0 +1,100 @@
+//! Reserved words where one is wanted (XCU 2.4).
+ghost use Rattle.std.specs.Prelude.{◌-◌, ◌≡◌, ◌<◌, ◌≤◌, length};
+ghost use Rattle.sh_grammar.specs.Nests.{Nests};
+ghost use Rattle.sh_grammar.specs.Phrases.{Expects, ListBefore, behind_reserved, entered, reserved_text};
+ghost use Rattle.sh_grammar.specs.States.{Stands};
+ghost use Rattle.sh_grammar.specs.Readers.{Answers};
+ghost use Rattle.sh_tree.specs.declared.token.command.Stage.TheVariants.{First};
+ghost use Rattle.sh_tree.specs.language.Commands as tokens;
+
+use super::compounds::is_same;
+use super::faults::unexpected;
+use super::grammar::Grammar;
+use super::state::State;
+use sh_scan::lead_at;
+use sh_tree::limits::{MAX_NESTING, MAX_SCRIPT};
+use sh_tree::refusal::Refusal;
+use sh_tree::token::{Lead, Reserved, Stage};
+use sh_tree::tree::Script;
+use std::alloc::Global;
+
+/// How many bytes the word has.
+fn width(reserved: Reserved) -> u32
+    ensures value { result ≡ length (reserved_text reserved) }
+    ensures some { 0 < result }
+    ensures small { result ≤ 5 }
+{
+    match reserved {
+        Reserved::Bang | Reserved::LeftBrace | Reserved::RightBrace => 1,
+        Reserved::Do | Reserved::Fi | Reserved::If | Reserved::In => 2,
+        Reserved::For => 3,
+        Reserved::Case
+        | Reserved::Done
+        | Reserved::Elif
+        | Reserved::Else
+        | Reserved::Esac
+        | Reserved::Then => 4,
+        Reserved::Until | Reserved::While => 5,
+    }
+}
+
+/// Behind the reserved word that stands here.
+#[tactic(auto, using(crate::proofs::ReservedLemmas::reserved_inside))]
+pub fn skip(script: &[u8], reserved: Reserved, from: State) -> State
+    requires small { length script.now ≤ MAX_SCRIPT }
+    requires stands { Stands script.now from }
+    requires word { tokens.lead_at script.now First from.at ≡ Lead.Reserved reserved }
+    ensures value { result ≡ behind_reserved script.now reserved from }
+    ensures further { from.at < result.at }
+    ensures stands { Stands script.now result }
+{
+    let at = from.at + width(reserved);
+    from.next(script, at)
+}
+
+/// One level inside, behind the reserved word that stands here.
+pub fn enter(script: &[u8], reserved: Reserved, from: State) -> State
+    requires small { length script.now ≤ MAX_SCRIPT }
+    requires stands { Stands script.now from }
+    requires word { Lead.Reserved reserved ≡ tokens.lead_at script.now First from.at }
+    requires shallow { from.depth < MAX_NESTING }
+    ensures value { result ≡ entered script.now reserved from }
+    ensures further { from.at < result.at }
+    ensures stands { Stands script.now result }
+{
+    skip(script, reserved, from).lower()
+}
+
+/// Behind the reserved word, which is wanted here.
+pub fn expect(script: &[u8], reserved: Reserved, from: State) -> Result<State, Refusal>
+    requires small { length script.now ≤ MAX_SCRIPT }
+    requires stands { Stands script.now from }
+    ensures { Expects script.now reserved from result }
+{
+    let lead = lead_at(script, Stage::First, from.at);
+    if is_same(lead, Lead::Reserved(reserved)) {
+        return Ok(skip(script, reserved, from));
+    }
+    Err(unexpected(script, &from))
+}
+
+impl<F: Fn(Global, &[u8], State) -> Result<(Script, State), Refusal>> Grammar<F> {
+    /// A list and the reserved word behind it.
+    #[tactic(auto, using(crate::proofs::LoopLemmas::before_refused, crate::proofs::LoopLemmas::before_none, crate::proofs::LoopLemmas::before_read, crate::proofs::ReaderLemmas::refused_none))]
+    pub fn list_before(
+        &self,
+        script: &[u8],
+        reserved: Reserved,
+        from: State,
+    ) -> Result<(Script, State), Refusal>
+        requires small { length script.now ≤ MAX_SCRIPT }
+        requires stands { Stands script.now from }
+        requires further { length script.now - from.at < self.now.left }
+        requires nests { Nests self.now.left (F.pre self.now.nested) (F.post self.now.nested) }
+        ensures { Answers script.now (ListBefore script.now reserved from) from.at result }
+    {
+        let (list, behind) = self.list(script, from)?;
+        let end = expect(script, reserved, behind)?;
+        Ok((list, end))
+    }
+}
