@@ -1,3 +1,4 @@
 pub mod Prepared
 pub mod Told
 pub mod Judged
+pub mod Runs

@@ -3,5 +3,6 @@
 #![tactic(auto)]
 
 pub mod check;
+pub mod engine;
 pub mod prepared;
 pub mod told;

@@ -1,5 +1,5 @@
 -- From clap's facts on a parse to what a line says.
-use Rattle.std.proofs.Common.{◌≡◌, ◌∙◌, ◌⊎◌, false, true, refl, sym, subst, List, [], Option, Some, None, inl, inr}
+use Rattle.std.proofs.Common.{◌≡◌, ◌∙◌, ◌⊎◌, false, true, refl, sym, ap, codes, subst, List, [], Option, Some, None, inl, inr}
 use Rattle.std.specs.Prelude.{IsSome, option_map}
 use Rattle.clap.specs.Words.{IsAmong, Row, Text, fault_of, first_of, first_value, is_simple, is_simple_and_free, rows_of, subcommand_of}
 use Rattle.clap.specs.Faults.{level_fault}
@@ -10,12 +10,14 @@ use Rattle.clap.specs.declared.parser.matches.Found.{Found}
 use Rattle.clap.proofs.OnLiterals.{clap_on_literals}
 use Rattle.clap.proofs.WalkLemmas.{first_value-rows}
 use Rattle.sh_line.specs.App.{shset_app}
-use Rattle.sh_line.specs.Line.{IsWhole, StopsAs, StopsAt, StopsRead, action_name}
+use Rattle.sh_line.specs.Line.{AreApart, HasCertificate, HasTwoInputs, IsCertificateOf, IsSourceOf, IsWhole, StopsAs, StopsAt, StopsPolicy, StopsRead, action_name}
+use Rattle.sh_line.specs.declared.line.Source.{Source}
+use Rattle.sh_line.specs.declared.line.Source.TheVariants.{Input, File}
 use Rattle.sh_line.specs.declared.line.Stop.{Stop}
 use Rattle.sh_line.specs.declared.line.Stop.TheVariants.{Usage, Help, BadName, Memory}
 use Rattle.sh_report.specs.declared.task.Action.{Action}
-use Rattle.sh_report.specs.declared.task.Action.TheVariants.{Lint}
-use Rattle.sh_line.proofs.LineWholeLemmas.{file_found, found_passes, number_found, reading}
+use Rattle.sh_report.specs.declared.task.Action.TheVariants.{Lint, Check}
+use Rattle.sh_line.proofs.LineWholeLemmas.{certificate_found, checking, checking_reads, file_found, found_passes, number_found, reading, reading_reads}
 
 -- clap's clauses say what the program's command line takes
 pub is_simple-shset : is_simple shset_app ≡ true
@@ -41,32 +43,85 @@ no_file f id some none =
     let bad : IsSome {T = Text} None = subst (λ (o : Option Text). IsSome o) (sym e) some in
     cc
 
--- a subcommand that reads a script is whole where its level has no fault
-reading_whole : (a : Action) (words : List Text) → level_fault (reading (action_name a)) [] nothing_held words false [] ≡ []
-    → IsWhole (action_name a) (rows_after (reading (action_name a)).rules [] words)
-reading_whole a words passes = record {
-  action = (a, refl);
-  file = file_found (action_name a) words passes;
-  args = number_found (action_name a) words passes;
-}
+-- each subcommand is whole where its level has no fault
+
+lint_whole : (words : List Text) → level_fault (reading (action_name Lint)) [] nothing_held words false [] ≡ []
+    → IsWhole (action_name Lint) (rows_after (reading (action_name Lint)).rules [] words)
+lint_whole words passes =
+    record {
+      action = (Lint, refl);
+      file = file_found (reading (action_name Lint)) (reading_reads (action_name Lint)) words passes;
+      cert = cert;
+      args = number_found (reading (action_name Lint)) (reading_reads (action_name Lint)) words passes;
+    }
+  where
+    cert : (a : Action) → action_name Lint ≡ action_name a → HasCertificate a (rows_after (reading (action_name Lint)).rules [] words)
+    cert Lint e = tt
+    cert Check e = cc
+
+check_whole : (words : List Text) → level_fault checking [] nothing_held words false [] ≡ []
+    → IsWhole (action_name Check) (rows_after checking.rules [] words)
+check_whole words passes =
+    record {
+      action = (Check, refl);
+      file = file_found checking checking_reads words passes;
+      cert = cert;
+      args = number_found checking checking_reads words passes;
+    }
+  where
+    cert : (a : Action) → action_name Check ≡ action_name a → HasCertificate a (rows_after checking.rules [] words)
+    cert Lint e = cc
+    cert Check e = certificate_found words passes
 
 -- what a parse with no fault finds is whole
 pub whole : (words : List Text) (q : Text × List Row) → fault_of shset_app words ≡ [] → subcommand_of shset_app words ≡ Some q → IsWhole q.0 q.1
-whole words q none is = found_passes (λ p. IsWhole p.0 p.1) (reading_whole Lint, tt) words q none is
+whole words q none is = found_passes (λ p. IsWhole p.0 p.1) (lint_whole, (check_whole, tt)) words q none is
+
+-- Both files are standard input, or they are apart
+
+module _ (name : Text) (rows : List Row) (file : Text) where
+  pub two_inputs : (a : Action) (script : Source) (cert : Option Source) → name ≡ action_name a → first_of (codes "FILE") rows ≡ Some file
+      → IsSourceOf file script → IsCertificateOf a rows cert → (script ≡ Input) × (cert ≡ Some Input) → HasTwoInputs name rows
+  two_inputs Lint Input (Some Input) is given named other both = absurd other
+  two_inputs Check Input (Some Input) is given named other both = (is, given ∙ ap Some named, other.1 ∙ ap Some other.2)
+  two_inputs a Input None is given named other both = cc
+  two_inputs a Input (Some (File f)) is given named other both = cc
+  two_inputs a (File f) cert is given named other both = cc
+
+  pub not_two : (a : Action) (script : Source) (cert : Option Source) → name ≡ action_name a → first_of (codes "FILE") rows ≡ Some file
+      → IsSourceOf file script → IsCertificateOf a rows cert → AreApart script cert → HasTwoInputs name rows → ⊥
+  not_two a (File f) cert is given named other apart two =
+      let same : Some file ≡ Some (codes "-") = sym given ∙ two.1 in
+      named.0 cc
+  not_two Lint Input cert is given named other apart two = cc
+  not_two Check Input None is given named other apart two = other
+  not_two Check Input (Some Input) is given named other apart two = apart
+  not_two Check Input (Some (File f)) is given named other apart two =
+      let same : Some other.0 ≡ Some (codes "-") = sym other.1 ∙ two.2 in
+      other.2.0 cc
+
+pub policy_stops : (name : Text) (rows : List Row) (s : Stop) → (HasTwoInputs name rows → ⊥) → StopsPolicy rows s → StopsRead name rows s
+policy_stops name rows (Usage text) apart s = absurd s
+policy_stops name rows (Help text) apart s = s
+policy_stops name rows BadName apart s = (apart, s)
+policy_stops name rows Memory apart s = tt
+
+pub no_certificate : (f : Found) → HasCertificate Check (rows_of f) → None ≡ first_value f (codes "CERT") → ⊥
+no_certificate f some none = no_file f (codes "CERT") some none
 
 -- an error of clap's is answered as its kind says
 pub error_stops : (words : List Text) (kind : ErrorKind) (s : Stop) → (kind ≡ OutOfMemory) ⊎ IsAmong kind (fault_of shset_app words)
     → StopsAs kind s → StopsAt words s
 error_stops words kind (Usage text) (inl m) s = absurd (s.1 m)
-error_stops words kind (Usage text) (inr k) s = (kind, k, s.0)
+error_stops words kind (Usage text) (inr k) s = inl (kind, k, s.0)
 error_stops words kind (Help text) (inl m) s = cc
 error_stops words kind (Help text) (inr k) s = subst (λ (x : ErrorKind). IsAmong x (fault_of shset_app words)) s k
 error_stops words kind BadName h s = absurd s
 error_stops words kind Memory h s = tt
 
 pub read_stops : (words : List Text) (q : Text × List Row) (s : Stop) → fault_of shset_app words ≡ [] → subcommand_of shset_app words ≡ Some q
-    → StopsRead q.1 s → StopsAt words s
-read_stops words q (Usage text) none is s = absurd s
+    → StopsRead q.0 q.1 s → StopsAt words s
+read_stops words q (Usage text) none is s = inr (none, q, is, s)
 read_stops words q (Help text) none is s = absurd s
 read_stops words q BadName none is s = (none, q, is, s)
 read_stops words q Memory none is s = tt

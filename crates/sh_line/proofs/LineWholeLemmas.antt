@@ -1,12 +1,12 @@
 -- A parse of the program's words with no fault finds a subcommand, with all that a line is made of.
-use Rattle.std.proofs.Common.{◌≡◌, ◌∙◌, ◌||◌, Bool, cond, drop, true, false, not, refl, ap, subst, arith, codes, List, [], ◌∷◌, Option, Some, None, is_some, inl, inr}
-use Rattle.std.specs.Prelude.{⊤, find, option_and_then, pos, slice_get}
+use Rattle.std.proofs.Common.{◌≡◌, ◌∙◌, ◌||◌, Bool, cond, drop, true, false, not, refl, sym, ap, subst, arith, codes, List, [], ◌∷◌, Option, Some, None, is_some, inl, inr}
+use Rattle.std.specs.Prelude.{⊤, find, fold, option_and_then, pos, slice_get}
 use Rattle.std.specs.Option.{option_map, option_map_or}
 use Rattle.std.specs.Str.{bytes_eq}
 use Rattle.clap.specs.Lexer.{without_minus}
 use Rattle.clap.specs.Values.{IsSignedIn, read_as, refused_kind}
 use Rattle.clap.specs.ValueTests.{accepts}
-use Rattle.clap.specs.Walk.{Row, Rule, Text, answers_to, first_of, nothing_held, one_of, row_text, rows_after, settled, stop_after, walk}
+use Rattle.clap.specs.Walk.{Row, Rule, Text, answers_to, first_of, has_row, nothing_held, row_text, rows_after, settled, stop_after, walk, with_default}
 use Rattle.clap.specs.Simple.{Shape, argument_words, built, built_leaf, entered, filled, inherited, label_of, marked_built, names_of, on_top, rows_at, subcommand_of, with_index, with_leaf_noted}
 use Rattle.clap.specs.Takes.{is_given}
 use Rattle.clap.specs.Kinds.{value_kinds}
@@ -17,8 +17,9 @@ use Rattle.clap.specs.declared.builder.value_parser.ValueParser.{ValueParser}
 use Rattle.clap.specs.declared.builder.value_parser.ValueParser.TheVariants.{Signed}
 use Rattle.clap.specs.declared.error.kind.ErrorKind.TheVariants as kind
 use Rattle.clap.proofs.ValueTestLemmas.{accepts-Accepts}
-use Rattle.sh_line.specs.App.{args_rule, reading_app, shset_app}
-use Rattle.sh_line.proofs.LineRowLemmas.{AllGood, AllSound, default_row, given_row, level-good, level_checks, row_found}
+use Rattle.sh_line.specs.App.{args_rule, checking_app, reading_app, shset_app}
+use Rattle.sh_line.specs.Line.{HasNumber}
+use Rattle.sh_line.proofs.LineRowLemmas.{AllGood, AllSound, Sound, default_row, given_row, level-good, level_checks, row_found}
 
 accepted : (i : Bool) (p : ValueParser) (v : Text) → value_kinds i p v ≡ [] → accepts i p v ≡ true
 accepted i p v e = go (accepts i p v) refl
@@ -41,61 +42,103 @@ reading name = built_leaf (inherited above (reading_app name).top)
 abbrev Fits : Text → Reading → Text → Type 0
 Fits id how v = bytes_eq id (codes "args") ≡ true → (how ≡ WithoutMinus) × IsSignedIn (pos 0) (pos 65535) v
 
-sound : (name : Text) → AllSound Fits (reading name).rules
-sound name = (
-  record {
-    takes = inl (omega arith);
-    fits = λ v e is. (refl, accepts-Accepts false (Signed (pos 0) (pos 65535)) v (accepted false (Signed (pos 0) (pos 65535)) v e));
-  },
-  (
-    record { takes = inl (omega arith); fits = λ v e is. cc },
-    (
-      record { takes = inl (omega arith); fits = λ v e is. cc },
-      (record { takes = inr refl; fits = λ v e is. cc }, tt),
-    ),
-  ),
-)
+-- a check, as it is built
+abbrev pub checking : Shape
+checking = built_leaf (inherited above (checking_app (codes "check")).top)
 
-file_given : (name : Text) (rows : List Row) → check_fault (reading name) rows false ≡ [] → is_given (codes "FILE") rows ≡ true
-file_given name rows e = go (is_given (codes "FILE") rows) e
-  where
-    go : (b : Bool) → cond (not b || false) (kind.MissingRequiredArgument ∷ []) [] ≡ [] → b ≡ true
-    go true e = refl
-    go false e = cc
-
--- the first argument, and the others, of a subcommand that reads a script
+-- the first argument of each
 abbrev filled_args : Rule
 filled_args = with_index 1 (filled args_rule)
 
-abbrev later_rules : Text → List Rule
-later_rules name = drop 1 (reading name).rules
+-- A subcommand whose first argument is `--args`, and which wants a file.
+pub record Reads (s : Shape) : Type 0 where
+  pub sound : AllSound Fits s.rules
+  pub later : List Rule
+  pub first : s.rules ≡ filled_args ∷ later
+  pub file : (rows : List Row) → check_fault s rows false ≡ [] → is_given (codes "FILE") rows ≡ true
+
+args_sound : Sound Fits filled_args
+args_sound =
+    record {
+      takes = inl (omega arith);
+      fits = λ v e is. (refl, accepts-Accepts false (Signed (pos 0) (pos 65535)) v (accepted false (Signed (pos 0) (pos 65535)) v e));
+    }
+
+one_given : (b : Bool) → cond (not b || false) (kind.MissingRequiredArgument ∷ []) [] ≡ [] → b ≡ true
+one_given true e = refl
+one_given false e = cc
+
+both_given : (a b : Bool) → cond (not a || (not b || false)) (kind.MissingRequiredArgument ∷ []) [] ≡ [] → (a ≡ true) × (b ≡ true)
+both_given true true e = (refl, refl)
+both_given true false e = cc
+both_given false b e = cc
+
+pub reading_reads : (name : Text) → Reads (reading name)
+reading_reads name =
+    record {
+      sound = (
+        args_sound,
+        (record { takes = inl (omega arith); fits = λ v e is. cc }, (record { takes = inl (omega arith); fits = λ v e is. cc }, (record { takes = inr refl; fits = λ v e is. cc }, tt))),
+      );
+      later = drop 1 (reading name).rules;
+      first = refl;
+      file = λ rows e. one_given (is_given (codes "FILE") rows) e;
+    }
+
+certificate_given : (rows : List Row) → check_fault checking rows false ≡ [] → (is_given (codes "FILE") rows ≡ true) × (is_given (codes "CERT") rows ≡ true)
+certificate_given rows e = both_given (is_given (codes "FILE") rows) (is_given (codes "CERT") rows) e
+
+pub checking_reads : Reads checking
+checking_reads =
+    record {
+      sound = (
+        args_sound,
+        (
+          record { takes = inl (omega arith); fits = λ v e is. cc },
+          (record { takes = inl (omega arith); fits = λ v e is. cc }, (record { takes = inl (omega arith); fits = λ v e is. cc }, (record { takes = inr refl; fits = λ v e is. cc }, tt))),
+        ),
+      );
+      later = drop 1 checking.rules;
+      first = refl;
+      file = λ rows e. (certificate_given rows e).0;
+    }
 
 read_at : (r : Row) (v : Text) → r.reading ≡ WithoutMinus → slice_get r.values 0 ≡ Some v → row_text r ≡ Some (without_minus v)
 read_at r v how is = ap (λ (o : Option Text). option_map (read_as r.reading) o) is ∙ ap (λ (h : Reading). Some (read_as h v)) how
 
--- what a subcommand that reads a script finds where its level has no fault
-module _ (name : Text) (words : List Text) (passes : level_fault (reading name) [] nothing_held words false [] ≡ []) where
-  good : AllGood Fits (rows_after (reading name).rules [] words)
-  good = level-good Fits (reading name) (sound name) [] nothing_held words false [] passes tt
+-- what such a subcommand finds where its level has no fault
+module _ (s : Shape) (r : Reads s) (words : List Text) (passes : level_fault s [] nothing_held words false [] ≡ []) where
+  good : AllGood Fits (rows_after s.rules [] words)
+  good = level-good Fits s r.sound [] nothing_held words false [] passes tt
 
-  checked : check_fault (reading name) (rows_after (reading name).rules [] words) false ≡ []
-  checked = (level_checks (reading name) [] nothing_held words false [] passes).0
+  checked : check_fault s (rows_after s.rules [] words) false ≡ []
+  checked = (level_checks s [] nothing_held words false [] passes).0
 
-  pub file_found : is_some (first_of (codes "FILE") (rows_after (reading name).rules [] words)) ≡ true
-  file_found =
-      let rows = rows_after (reading name).rules [] words in
-      let row = row_found Fits (λ r. bytes_eq r.id (codes "FILE")) rows good (given_row (codes "FILE") rows (file_given name rows checked)) in
+  first_found : (id : Text) → is_given id (rows_after s.rules [] words) ≡ true → is_some (first_of id (rows_after s.rules [] words)) ≡ true
+  first_found id given =
+      let rows = rows_after s.rules [] words in
+      let row = row_found Fits (λ r. bytes_eq r.id id) rows good (given_row id rows given) in
       ap is_some (ap (option_and_then (λ (r : Row). slice_get r.values 0)) row.1 ∙ row.3.is)
 
-  pub number_found : (t : Text) × (one_of (codes "args") (rows_after (reading name).rules [] words) ≡ Some (without_minus t)) × IsSignedIn (pos 0) (pos 65535) t
+  pub file_found : is_some (first_of (codes "FILE") (rows_after s.rules [] words)) ≡ true
+  file_found = first_found (codes "FILE") (r.file (rows_after s.rules [] words) checked)
+
+  pub number_found : HasNumber (rows_after s.rules [] words)
   number_found =
-      let there = default_row filled_args (codes "0") [] (later_rules name) (settled (reading name).rules (walk (reading name).rules [] nothing_held words).held).rows refl in
-      let row = row_found Fits (λ r. bytes_eq r.id (codes "args")) (rows_after (reading name).rules [] words) good there in
+      let held = (settled s.rules (walk s.rules [] nothing_held words).held).rows in
+      let there = subst (λ rs. has_row (codes "args") (fold with_default held rs) ≡ true) (sym r.first) (default_row filled_args (codes "0") [] r.later held refl) in
+      let row = row_found Fits (λ r. bytes_eq r.id (codes "args")) (rows_after s.rules [] words) good there in
       let number = row.3.fits row.2 in (
         row.3.first,
         ap (option_and_then row_text) row.1 ∙ read_at row.0 row.3.first number.0 row.3.is,
         number.1,
       )
+
+pub certificate_found : (words : List Text) → level_fault checking [] nothing_held words false [] ≡ []
+    → is_some (first_of (codes "CERT") (rows_after checking.rules [] words)) ≡ true
+certificate_found words passes =
+    first_found checking checking_reads words passes (codes "CERT")
+    (certificate_given (rows_after checking.rules [] words) (checked checking checking_reads words passes)).1
 
 -- ---- the program's own level
 

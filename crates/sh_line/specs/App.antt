@@ -1,4 +1,4 @@
--- The command line that the program has, as clap reads it: `lint [--args N] FILE [NAME..]`.
+-- The command line that the program has, as clap reads it: `lint [--args N] FILE [NAME..]` and `check [--args N] FILE CERT [NAME..]`.
 -- POSIX.1-2024, XBD 12.2 (utility syntax guidelines).
 use Rattle.std.specs.Prelude.{[], ◌∷◌, Some, codes, true, pos}
 use Rattle.clap.specs.Words.{App, Rule, Text, new_app, new_rule, with_rule, with_subcommand}
@@ -25,7 +25,15 @@ abbrev pub reading_app : Text → App
 reading_app name =
     with_rule (with_rule (with_rule (new_app name) args_rule) (file_rule (codes "FILE"))) name_rule
 
+-- a command that reads a certificate too: [--args N] FILE CERT [NAME..]
+abbrev pub checking_app : Text → App
+checking_app name =
+    with_rule (with_rule (with_rule (with_rule (new_app name) args_rule) (file_rule (codes "FILE"))) (file_rule (codes "CERT"))) name_rule
+
 abbrev pub shset_app : App
-shset_app = with_subcommand
+shset_app =
+    with_subcommand
+    (with_subcommand
     (on_top (λ s. record s { subcommand_required = true; disable_help_subcommand = true }) (new_app (codes "shset")))
-    (reading_app (codes "lint")).top
+    (reading_app (codes "lint")).top)
+    (checking_app (codes "check")).top

@@ -1,6 +1,6 @@
 -- What a command line asks for, by what clap found in its words, and why there is none.
 -- POSIX.1-2024, XBD 12.2 (utility syntax guidelines: `-` is standard input); a name is as in XBD 3.216.
-use Rattle.std.specs.Prelude.{◌≡◌, ◌≢◌, ⊤, List, [], Some, None, IsSome, Ok, codes, pos, unwrap_or}
+use Rattle.std.specs.Prelude.{◌≡◌, ◌≢◌, ◌⊎◌, ⊤, List, [], Option, Some, None, IsSome, Ok, codes, pos, string_bytes, unwrap_or}
 use Rattle.std.specs.Str.Parse.{ParsesUnsigned}
 use Rattle.std.specs.declared.num.ParseIntError.{ParseIntError}
 use Rattle.clap.specs.Lexer.{without_minus}
@@ -8,6 +8,7 @@ use Rattle.clap.specs.Values.{IsSignedIn}
 use Rattle.clap.specs.Words.{IsAmong, Row, Text, all_of, fault_of, first_of, one_of, subcommand_of}
 use Rattle.clap.specs.declared.error.kind.ErrorKind.{ErrorKind}
 use Rattle.clap.specs.declared.error.kind.ErrorKind.TheVariants.{DisplayHelp, OutOfMemory}
+use Rattle.sh_facts.specs.Facts.{Declared}
 use Rattle.sh_facts.specs.Policy.{first_bad}
 use Rattle.sh_facts.specs.declared.policy.PolicyFault.{PolicyFault}
 use Rattle.sh_facts.specs.declared.policy.PolicyFault.TheVariants as fault
@@ -18,38 +19,69 @@ use Rattle.sh_line.specs.declared.line.Source.TheVariants.{Input, File}
 use Rattle.sh_line.specs.declared.line.Stop.{Stop}
 use Rattle.sh_line.specs.declared.line.Stop.TheVariants.{Usage, Help, BadName, Memory}
 use Rattle.sh_report.specs.declared.task.Action.{Action}
-use Rattle.sh_report.specs.declared.task.Action.TheVariants.{Lint}
+use Rattle.sh_report.specs.declared.task.Action.TheVariants.{Lint, Check}
 
 -- the subcommand that asks for the action
 abbrev pub action_name : Action → Text
 action_name Lint = codes "lint"
+action_name Check = codes "check"
 
 -- `-` is standard input, and any other text names a file
 abbrev pub IsSourceOf : Text → Source → Type 0
 IsSourceOf text Input = text ≡ codes "-"
 IsSourceOf text (File name) = (text ≢ codes "-") × (name.now ≡ text)
 
+-- only a check has a certificate
+abbrev pub IsCertificateOf : Action → List Row → Option Source → Type 0
+IsCertificateOf Lint rows None = ⊤
+IsCertificateOf Lint rows (Some s) = ⊥
+IsCertificateOf Check rows None = ⊥
+IsCertificateOf Check rows (Some s) = (t : Text) × (first_of (codes "CERT") rows ≡ Some t) × IsSourceOf t s
+
+-- there is one for a check
+abbrev pub HasCertificate : Action → List Row → Type 0
+HasCertificate Lint rows = ⊤
+HasCertificate Check rows = IsSome (first_of (codes "CERT") rows)
+
+-- standard input is read once
+abbrev pub AreApart : Source → Option Source → Type 0
+AreApart Input (Some Input) = ⊥
+AreApart _ _ = ⊤
+
+-- a check of which both files are standard input
+abbrev pub HasTwoInputs : Text → List Row → Type 0
+HasTwoInputs name rows =
+    (name ≡ action_name Check) × (first_of (codes "FILE") rows ≡ Some (codes "-")) × (first_of (codes "CERT") rows ≡ Some (codes "-"))
+
 -- the texts that are to be names
 abbrev pub declared_texts : List Row → List Text
 declared_texts rows = unwrap_or (all_of (codes "NAME") rows) []
+
+-- the policy says what clap found
+pub record IsPolicyOf (rows : List Row) (p : Declared) : Type 0 where
+  pub args : (t : Text) × (one_of (codes "args") rows ≡ Some t)
+      × ParsesUnsigned {E = ParseIntError} 16 10 t (Ok p.args)
+  pub names : p.names ≡ declared_texts rows
+  pub declared : first_bad (declared_texts rows) ≡ None
 
 -- the line says what clap found for the subcommand of this name
 pub record IsLineOf (name : Text) (rows : List Row) (l : Line) : Type 0 where
   pub action : name ≡ action_name l.task.action
   pub script : (t : Text) × (first_of (codes "FILE") rows ≡ Some t) × IsSourceOf t l.script
-  pub cert : l.cert ≡ None
-  pub args : (t : Text) × (one_of (codes "args") rows ≡ Some t)
-      × ParsesUnsigned {E = ParseIntError} 16 10 t (Ok l.task.policy.args)
-  pub names : l.task.policy.names ≡ declared_texts rows
-  pub declared : first_bad (declared_texts rows) ≡ None
+  pub cert : IsCertificateOf l.task.action rows l.cert
+  pub apart : AreApart l.script l.cert
+  pub policy : IsPolicyOf rows l.task.policy
 
--- what a parse with no fault finds for a subcommand: its name is an action's, and there are a file
--- and a number
+-- there is a number of positional parameters
+abbrev pub HasNumber : List Row → Type 0
+HasNumber rows = (t : Text) × (one_of (codes "args") rows ≡ Some (without_minus t)) × IsSignedIn (pos 0) (pos 65535) t
+
+-- what a parse with no fault finds for a subcommand: its name is an action's, and there are a file and a number, and for a check a certificate
 pub record IsWhole (name : Text) (rows : List Row) : Type 0 where
   pub action : (a : Action) × (name ≡ action_name a)
   pub file : IsSome (first_of (codes "FILE") rows)
-  pub args : (t : Text) × (one_of (codes "args") rows ≡ Some (without_minus t))
-      × IsSignedIn (pos 0) (pos 65535) t
+  pub cert : (a : Action) → name ≡ action_name a → HasCertificate a rows
+  pub args : HasNumber rows
 
 -- what is answered for a policy that is not made
 abbrev pub fault_stop : PolicyFault → Stop
@@ -63,19 +95,28 @@ StopsAs kind (Help text) = kind ≡ DisplayHelp
 StopsAs kind BadName = ⊥
 StopsAs kind Memory = ⊤
 
--- what may stop the reading of what clap found: a declared text that is no name, or memory
-abbrev pub StopsRead : List Row → Stop → Type 0
-StopsRead rows (Usage text) = ⊥
-StopsRead rows (Help text) = ⊥
-StopsRead rows BadName = IsSome (first_bad (declared_texts rows))
-StopsRead rows Memory = ⊤
+-- what may stop the making of a policy: a declared text that is no name, or memory
+abbrev pub StopsPolicy : List Row → Stop → Type 0
+StopsPolicy rows BadName = IsSome (first_bad (declared_texts rows))
+StopsPolicy rows Memory = ⊤
+StopsPolicy rows _ = ⊥
 
--- Usage and help are answered where clap's parse of the words fails so, and a bad name where the
--- parse finds no fault.
+-- what may stop the reading of what clap found: two files that are both standard input, then a declared text that is no name; or memory
+abbrev pub StopsRead : Text → List Row → Stop → Type 0
+StopsRead name rows (Usage text) = HasTwoInputs name rows × (string_bytes text ≡ codes "shset: two inputs from -\n")
+StopsRead name rows (Help text) = ⊥
+StopsRead name rows BadName = (HasTwoInputs name rows → ⊥) × IsSome (first_bad (declared_texts rows))
+StopsRead name rows Memory = ⊤
+
+-- the parse finds no fault, and what it found is stopped so
+abbrev pub StopsBehind : List Text → Stop → Type 0
+StopsBehind words s = (fault_of shset_app words ≡ []) × (p : Text × List Row) × (subcommand_of shset_app words ≡ Some p) × StopsRead p.0 p.1 s
+
+-- Usage and help are answered where clap's parse of the words fails so; where it finds no fault, two files that are both standard input are a
+-- usage fault too, and before a bad name.
 abbrev pub StopsAt : List Text → Stop → Type 0
 StopsAt words (Usage text) =
-    (kind : ErrorKind) × IsAmong kind (fault_of shset_app words) × (kind ≢ DisplayHelp)
+    ((kind : ErrorKind) × IsAmong kind (fault_of shset_app words) × (kind ≢ DisplayHelp)) ⊎ StopsBehind words (Usage text)
 StopsAt words (Help text) = IsAmong DisplayHelp (fault_of shset_app words)
-StopsAt words BadName = (fault_of shset_app words ≡ []) × (p : Text × List Row)
-    × (subcommand_of shset_app words ≡ Some p) × IsSome (first_bad (declared_texts p.1))
+StopsAt words BadName = StopsBehind words BadName
 StopsAt words Memory = ⊤

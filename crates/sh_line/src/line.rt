@@ -1,9 +1,10 @@
 //! The words of a command line, read by clap.
-ghost use Rattle.std.specs.Prelude.{◌≡◌, IfOk, IfErr, Some, [], codes, false, map, List};
+ghost use Rattle.std.specs.Prelude.{◌≡◌, IfOk, IfErr, Some, [], codes, false, true, map, List};
 ghost use Rattle.clap.specs.Words.{Row, Text, app_of, fault_of, found_of, kind_of, rows_of, rule_of, subcommand_of};
 ghost use Rattle.clap.specs.declared.builder.command.Command.TheViews.{out-Command};
-ghost use Rattle.sh_line.specs.App.{args_rule, file_rule, name_rule, reading_app, shset_app};
-ghost use Rattle.sh_line.specs.Line.{IsLineOf, IsSourceOf, IsWhole, StopsAs, StopsAt, StopsRead, action_name, declared_texts, fault_stop};
+ghost use Rattle.sh_line.specs.App.{args_rule, checking_app, file_rule, name_rule, reading_app, shset_app};
+ghost use Rattle.sh_line.specs.Line.{AreApart, HasCertificate, HasNumber, IsCertificateOf, IsLineOf, IsPolicyOf, IsSourceOf, IsWhole, StopsAs, StopsAt, StopsPolicy, StopsRead, action_name, declared_texts, fault_stop};
+ghost use Rattle.sh_line.specs.declared.line.Source.TheVariants.{Input};
 
 use clap::error::ErrorKind;
 use clap::{Arg, ArgAction, ArgMatches, Command, Error};
@@ -11,6 +12,9 @@ use sh_facts::policy::{Policy, PolicyFault};
 use sh_report::task::{Action, Task};
 use std::alloc::{AllocError, Global};
 use std::convert::AsStr;
+
+/// What is told where both files of a check are standard input.
+const TWO_INPUTS: &str = "shset: two inputs from -\n";
 
 /// Where bytes come from.
 #[derive(Clone, Copy, Debug, PartialEq, Eq)]
@@ -35,7 +39,7 @@ pub struct Line<'a> {
 /// Why there is no line.
 #[derive(Debug, Drop)]
 pub enum Stop {
-    /// The words are no line of the program. The text is clap's, for standard error.
+    /// The words are no line of the program. The text is for standard error: clap's, or that two files are standard input.
     Usage(String),
     /// Help was asked for. The text is clap's, for standard output.
     Help(String),
@@ -89,6 +93,15 @@ fn file_arg<'a>(alloc: Global) -> Arg<'a>
         .help("The script, or - for standard input")
 }
 
+fn certificate_arg<'a>(alloc: Global) -> Arg<'a>
+    ensures rule { rule_of result ≡ file_rule (codes "CERT") }
+    ensures local { result.global ≡ false }
+{
+    Arg::new(alloc, "CERT")
+        .required(true)
+        .help("A certificate of the script, or - for standard input")
+}
+
 fn name_arg<'a>(alloc: Global) -> Arg<'a>
     ensures rule { rule_of result ≡ name_rule }
     ensures local { result.global ≡ false }
@@ -113,6 +126,22 @@ fn reading_command<'a>(
         .arg(name_arg(alloc))
 }
 
+fn checking_command<'a>(
+    alloc: Global,
+    name: &'a str,
+    about: &'a str,
+) -> Result<Command<'a>, AllocError>
+    ensures app { IfOk result (λ c. app_of c ≡ checking_app name.entry.now) }
+    ensures local { IfOk result (λ c. (out-Command c).has_globals ≡ false) }
+{
+    Command::new(alloc, name)
+        .about(about)
+        .arg(args_arg(alloc))?
+        .arg(file_arg(alloc))?
+        .arg(certificate_arg(alloc))?
+        .arg(name_arg(alloc))
+}
+
 fn shset_command<'a>(alloc: Global) -> Result<Command<'a>, AllocError>
     ensures { IfOk result (λ c. app_of c ≡ shset_app) }
 {
@@ -121,11 +150,17 @@ fn shset_command<'a>(alloc: Global) -> Result<Command<'a>, AllocError>
         "lint",
         "Prints what is wrong with a script, or that it is clean",
     )?;
+    let check = checking_command(
+        alloc,
+        "check",
+        "Prints what is wrong with a script by a certificate of it, or that it is clean",
+    )?;
     Command::new(alloc, "shset")
         .about("Looks in shell scripts for variables that may be unset and words that may be split")
         .subcommand_required(true)
         .disable_help_subcommand(true)
-        .subcommand(lint)
+        .subcommand(lint)?
+        .subcommand(check)
 }
 
 fn stop_of(alloc: Global, error: Error) -> Stop
@@ -151,6 +186,7 @@ fn action_of(name: &str) -> Action
 {
     match name {
         "lint" => Action::Lint,
+        "check" => Action::Check,
         _ => unreachable!(),
     }
 }
@@ -163,6 +199,29 @@ fn source_of<'a>(text: &'a str) -> Source<'a>
     } else {
         Source::File(text)
     }
+}
+
+// Where the certificate comes from, which only a check has.
+fn certificate_of<'a>(action: Action, sub: &ArgMatches<'a>) -> Option<Source<'a>>
+    requires { HasCertificate action (rows_of (found_of sub.now)) }
+    ensures { IsCertificateOf action (rows_of (found_of sub.now)) result }
+{
+    match action {
+        Action::Lint => None,
+        Action::Check => {
+            let Some(file) = sub.get_str("CERT") else {
+                unreachable!()
+            };
+            Some(source_of(file))
+        }
+    }
+}
+
+fn are_both_input(script: Source<'_>, cert: Option<Source<'_>>) -> bool
+    ensures both { result ≡ true → (script.entry ≡ Input) × (cert.entry ≡ Some Input) }
+    ensures apart { result ≡ false → AreApart script.entry cert.entry }
+{
+    matches!((script, cert), (Source::Input, Some(Source::Input)))
 }
 
 fn names_of<'a>(alloc: Global, sub: &ArgMatches<'a>) -> Result<Vec<&'a [u8]>, AllocError>
@@ -184,36 +243,49 @@ fn bytes_of<'a>(alloc: Global, texts: &[&'a str]) -> Result<Vec<&'a [u8]>, Alloc
     Ok(bytes)
 }
 
-fn read_line<'a>(alloc: Global, name: &str, sub: &ArgMatches<'a>) -> Result<Line<'a>, Stop>
-    requires { IsWhole name.now (rows_of (found_of sub.now)) }
-    ensures line { IfOk result (IsLineOf name.now (rows_of (found_of sub.now))) }
-    ensures stop { IfErr result (StopsRead (rows_of (found_of sub.now))) }
+fn policy_of(alloc: Global, sub: &ArgMatches<'_>) -> Result<Policy, Stop>
+    requires { HasNumber (rows_of (found_of sub.now)) }
+    ensures policy { IfOk result (λ p. IsPolicyOf (rows_of (found_of sub.now)) p) }
+    ensures stop { IfErr result (StopsPolicy (rows_of (found_of sub.now))) }
 {
-    let Some(file) = sub.get_str("FILE") else {
-        unreachable!()
-    };
     let Some(args) = sub.get_one::<u16>("args") else {
         unreachable!()
     };
     let names = names_of(alloc, sub)?;
     let policy = Policy::new(alloc, &names, args)?;
+    Ok(policy)
+}
+
+fn read_line<'a>(alloc: Global, name: &str, sub: &ArgMatches<'a>) -> Result<Line<'a>, Stop>
+    requires { IsWhole name.now (rows_of (found_of sub.now)) }
+    ensures line { IfOk result (IsLineOf name.now (rows_of (found_of sub.now))) }
+    ensures stop { IfErr result (StopsRead name.now (rows_of (found_of sub.now))) }
+{
+    let Some(file) = sub.get_str("FILE") else {
+        unreachable!()
+    };
+    let action = action_of(name);
+    let script = source_of(file);
+    let cert = certificate_of(action, sub);
+    if are_both_input(script, cert) {
+        return Err(Stop::Usage(TWO_INPUTS.to_string(alloc)?));
+    }
+    let policy = policy_of(alloc, sub)?;
     Ok(Line {
-        task: Task {
-            action: action_of(name),
-            policy,
-        },
-        script: source_of(file),
-        cert: None,
+        task: Task { action, policy },
+        script,
+        cert,
     })
 }
 
-/// Reads the words of a command line, the program's name first: `lint [--args N] FILE [NAME..]`. N is 0 to 65535, and 0 where
-/// it is not given; FILE `-` is standard input; each NAME is a variable that is set when the script starts.
+/// Reads the words of a command line, the program's name first: `lint [--args N] FILE [NAME..]` or `check [--args N] FILE CERT
+/// [NAME..]`. N is 0 to 65535, and 0 where it is not given; FILE or CERT `-` is standard input; each NAME is a variable that is set
+/// when the script starts.
 ///
 /// # Errors
 ///
-/// `Usage` and `Help` where clap takes no line from the words, `BadName` where it takes one that declares what is no name,
-/// and `Memory` where a growth was refused.
+/// `Usage` and `Help` where clap takes no line from the words, and `Usage` too where FILE and CERT are both standard input;
+/// `BadName` where it takes one that declares what is no name, and `Memory` where a growth was refused.
 pub fn command_line<'a, S: AsStr>(alloc: Global, words: &'a [S]) -> Result<Line<'a>, Stop>
     // clap's parse finds no fault in the words, and the line says what it found
     ensures taken { IfOk result (λ _. fault_of shset_app (map S.text words.entry.now) ≡ []) }

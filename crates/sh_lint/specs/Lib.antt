@@ -1,5 +1,4 @@
 pub mod Findings
 pub mod Walks
 pub mod Lint
-pub mod Runs
 pub mod Certifies

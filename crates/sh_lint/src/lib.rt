@@ -3,7 +3,6 @@
 #![tactic(auto)]
 
 pub mod admit;
-pub mod engine;
 mod find;
 pub mod lint;
 mod quotes;

@@ -6,6 +6,8 @@ use sh_facts::policy::Policy;
 pub enum Action {
     /// Looks for findings in it.
     Lint,
+    /// Checks it with a certificate.
+    Check,
 }
 
 /// What is done, and under which policy.

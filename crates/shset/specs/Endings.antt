@@ -38,7 +38,7 @@ abbrev pub words_line : ErrorKind → List ℕ
 words_line OutOfMemory = fault_line fault.Memory
 words_line _ = codes "shset: the words of the command line are not UTF-8"
 
--- the texts of usage and help are clap's, and whole
+-- the texts of usage and help are whole
 abbrev pub StopsWith : Stop → Ending → Type 0
 StopsWith (Usage text) e = EndsWith Error (string_bytes text) 3 e
 StopsWith (Help text) e = EndsWith Output (string_bytes text) 0 e

@@ -8,8 +8,8 @@ ghost use Rattle.shset.specs.Endings.{IsStatusOf};
 mod ending;
 
 use ending::{Ending, Stream, after_run, unprinted, without_line, without_words};
+use sh_engine::engine::run;
 use sh_line::line::{Line, Source, command_line};
-use sh_lint::engine::run;
 use sh_report::counted::Counted;
 use sh_report::moves::Fault;
 use std::io::{self, Read};
@@ -39,13 +39,14 @@ fn end(rt: &(impl Print + Eprint), ending: Ending<'_>) -> ExitCode
     ExitCode::from(last.status)
 }
 
-fn run_over<R: Print + AllocGlobal, S: Read + Drop>(
+fn run_over<R: Print + AllocGlobal, S: Read + Drop, C: Read + Drop>(
     rt: &R,
     line: &Line<'_>,
     script: S,
+    certificate: C,
 ) -> Result<u8, Fault> {
     let mut script = Counted::new(script);
-    let mut certificate = Counted::new(b"".as_slice());
+    let mut certificate = Counted::new(certificate);
     let mut out = Counted::new(io::writer(rt));
     run(
         rt.alloc(),
@@ -56,12 +57,28 @@ fn run_over<R: Print + AllocGlobal, S: Read + Drop>(
     )
 }
 
+/// Runs over a script and the certificate that the line names, if it names one.
+fn run_script<R: Files + Input + Print + AllocGlobal, S: Read + Drop>(
+    rt: &R,
+    line: &Line<'_>,
+    script: S,
+) -> Result<u8, Fault> {
+    match line.cert {
+        None => run_over(rt, line, script, b"".as_slice()),
+        Some(Source::Input) => run_over(rt, line, script, rt.reader()),
+        Some(Source::File(name)) => match fs::open(rt, name) {
+            Ok(file) => run_over(rt, line, script, file),
+            Err(_) => Err(Fault::Read),
+        },
+    }
+}
+
 /// Runs over the script that the line names.
 fn run_line<R: Files + Input + Print + AllocGlobal>(rt: &R, line: &Line<'_>) -> Result<u8, Fault> {
     match line.script {
-        Source::Input => run_over(rt, line, rt.reader()),
+        Source::Input => run_script(rt, line, rt.reader()),
         Source::File(name) => match fs::open(rt, name) {
-            Ok(file) => run_over(rt, line, file),
+            Ok(file) => run_script(rt, line, file),
             Err(_) => Err(Fault::Read),
         },
     }

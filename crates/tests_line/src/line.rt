@@ -11,6 +11,7 @@ type Row = (&'static [&'static str], &'static str);
 fn line_text(alloc: Global, line: &Line<'_>) -> Result<String, Fail> {
     let action = match line.task.action {
         Action::Lint => "lint",
+        Action::Check => "check",
     };
     let mut text = match line.script {
         Source::Input => format!(in alloc; "{action} standard input")?,
@@ -22,8 +23,10 @@ fn line_text(alloc: Global, line: &Line<'_>) -> Result<String, Fail> {
         let name = String::from_utf8(name.clone()?)?;
         text.push_str(format!(in alloc; " name {name}")?.as_str())?;
     }
-    if line.cert.is_some() {
-        text.push_str(" with a certificate")?;
+    match line.cert {
+        None => (),
+        Some(Source::Input) => text.push_str(" by standard input")?,
+        Some(Source::File(name)) => text.push_str(format!(in alloc; " by file {name}")?.as_str())?,
     }
     Ok(text)
 }
@@ -92,6 +95,22 @@ const LINES: &[Row] = &[
     (
         &["shset", "lint", "lint", "lint"],
         "lint file lint args 0 name lint",
+    ),
+    (
+        &["shset", "check", "script.sh", "certificate"],
+        "check file script.sh args 0 by file certificate",
+    ),
+    (
+        &["shset", "check", "-", "certificate", "a", "b"],
+        "check standard input args 0 name a name b by file certificate",
+    ),
+    (
+        &["shset", "check", "--args", "2", "script.sh", "-", "y"],
+        "check file script.sh args 2 name y by standard input",
+    ),
+    (
+        &["shset", "check", "check", "lint"],
+        "check file check args 0 by file lint",
     ),
 ];
 
@@ -195,11 +214,39 @@ fn usage_faults_of_lint(rt: HostRuntime) -> Result<(), Fail> {
     check(&rt, USAGE_OF_LINT)
 }
 
+const USAGE_OF_CHECK: &[Row] = &[
+    (
+        &["shset", "check", "-", "-"],
+        "usage: shset: two inputs from -
+",
+    ),
+    (
+        &["shset", "check", "-", "-", "1x"],
+        "usage: shset: two inputs from -
+",
+    ),
+    (
+        &["shset", "check", "script.sh"],
+        "usage: error: the following required arguments were not provided:
+  <CERT>
+
+Usage: shset check <FILE> <CERT> [NAME]...
+
+For more information, try '--help'.
+",
+    ),
+];
+
+#[test]
+fn usage_faults_of_check(rt: HostRuntime) -> Result<(), Fail> {
+    check(&rt, USAGE_OF_CHECK)
+}
+
 const USAGE_OF_PROGRAM: &[Row] = &[
     (
         &["shset"],
         "usage: error: 'shset' requires a subcommand but one was not provided
-  [subcommands: lint]
+  [subcommands: lint, check]
 
 Usage: shset <COMMAND>
 
@@ -238,7 +285,7 @@ For more information, try '--help'.
     (
         &[],
         "usage: error: 'shset' requires a subcommand but one was not provided
-  [subcommands: lint]
+  [subcommands: lint, check]
 
 Usage: shset <COMMAND>
 
@@ -258,7 +305,8 @@ const HELP: &str =
 Usage: shset <COMMAND>
 
 Commands:
-  lint  Prints what is wrong with a script, or that it is clean
+  lint   Prints what is wrong with a script, or that it is clean
+  check  Prints what is wrong with a script by a certificate of it, or that it is clean
 
 Options:
   -h, --help  Print help
@@ -277,12 +325,29 @@ Options:
   -h, --help      Print help
 ";
 
+const HELP_OF_CHECK: &str =
+    "help: Prints what is wrong with a script by a certificate of it, or that it is clean
+
+Usage: shset check [OPTIONS] <FILE> <CERT> [NAME]...
+
+Arguments:
+  <FILE>     The script, or - for standard input
+  <CERT>     A certificate of the script, or - for standard input
+  [NAME]...  A variable that is set when the script starts
+
+Options:
+      --args <N>  How many positional parameters are set at least when the script starts [default: 0]
+  -h, --help      Print help
+";
+
 const HELPED: &[Row] = &[
     (&["shset", "--help"], HELP),
     (&["shset", "-h"], HELP),
     (&["shset", "lint", "--help"], HELP_OF_LINT),
     (&["shset", "lint", "-h"], HELP_OF_LINT),
     (&["shset", "lint", "-", "1x", "--help"], HELP_OF_LINT),
+    (&["shset", "check", "--help"], HELP_OF_CHECK),
+    (&["shset", "check", "-", "-", "-h"], HELP_OF_CHECK),
 ];
 
 #[test]
@@ -296,6 +361,7 @@ const BAD_NAMES: &[Row] = &[
     (&["shset", "lint", "-", "a", "b c", "c"], "bad name"),
     (&["shset", "lint", "-", ""], "bad name"),
     (&["shset", "lint", "f", "é"], "bad name"),
+    (&["shset", "check", "-", "f", "1x"], "bad name"),
 ];
 
 #[test]

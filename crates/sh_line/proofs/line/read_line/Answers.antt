@@ -1,41 +1,37 @@
-use Rattle.std.proofs.Common.{◌∙◌, ℕ, List, Bor, Ok, arith, ap, codes, map, refl, subst, sym}
-use Rattle.std.specs.Str.Parse.{ExplainsUnsignedError, HasUnsignedDigitsIfOk, ParsesUnsigned}
-use Rattle.std.specs.declared.num.ParseIntError.{ParseIntError}
-use Rattle.clap.specs.Lexer.{without_minus}
-use Rattle.clap.specs.Words.{found_of}
-use Rattle.clap.proofs.CallerReads.{signed_reads}
-use Rattle.clap.proofs.WalkLemmas.{first_value-rows, one_text-rows}
-use Rattle.sh_facts.specs.Facts.{Declared}
-use Rattle.sh_facts.specs.Policy.{first_bad}
-use Rattle.sh_line.proofs.LineLemmas.{no_file}
+use Rattle.std.proofs.Common.{rules, ◌∙◌, codes, sym}
+use Rattle.clap.specs.Words.{found_of, rows_of}
+use Rattle.clap.proofs.WalkLemmas.{first_value-rows}
+use Rattle.sh_line.proofs.LineLemmas.{no_file, not_two, policy_stops, two_inputs}
 use Rattle.sh_line.proofs.line.read_line.Goals as goal
 
 pub unreachable-requires : goal.unreachable-requires
 unreachable-requires c = no_file (found_of c.args.sub.now) (codes "FILE") c.requires.file c.in_default.ensures
 
-pub unreachable-requires-in_default-get_one : goal.unreachable-requires-in_default-get_one
-unreachable-requires-in_default-get_one c =
-    let text = c.requires.args in
-    let read = c.get_one.ensures.value (without_minus text.0) (one_text-rows (found_of c.args.sub.now) (codes "args") ∙ text.1) in
-    let number = signed_reads _ (λ bs r. ParsesUnsigned 16 10 bs r × ExplainsUnsignedError 10 bs r × HasUnsignedDigitsIfOk bs r) 16 0 65535 text.0 c.get_one.result read (λ u x h. h.0) (omega arith) text.2 in
-    c.in_default-get_one.not-Some number.0 number.1
+pub returns-then-are_both_input-clause-stop : goal.returns-then-are_both_input-clause-stop
+returns-then-are_both_input-clause-stop c =
+    let given = sym (first_value-rows (found_of c.args.sub.now) (codes "FILE")) ∙ sym c.in-Some.ensures in (
+      two_inputs c.args.name.now (rows_of (found_of c.args.sub.now)) c.in-Some.file.now _ _ _ c.action_of-action.ensures given c.source_of-script.ensures c.certificate_of-cert.ensures
+          (c.are_both_input.ensures.both c.if-are_both_input.true),
+      c.in_ok-to_string.ensures.ok,
+    )
+
+pub returns-in_err-policy-clause-stop : goal.returns-in_err-policy-clause-stop
+returns-in_err-policy-clause-stop c =
+    let given = sym (first_value-rows (found_of c.args.sub.now) (codes "FILE")) ∙ sym c.in-Some.ensures in
+    let apart =
+    not_two c.args.name.now (rows_of (found_of c.args.sub.now)) c.in-Some.file.now _ _ _ c.action_of-action.ensures given c.source_of-script.ensures c.certificate_of-cert.ensures
+    (c.are_both_input.ensures.apart c.if-are_both_input.false)
+    in
+    let stops = policy_stops c.args.name.now (rows_of (found_of c.args.sub.now)) _ apart c.in_err-policy.ensures.stop in
+    search rules
 
 pub returns-clause-line : goal.returns-clause-line
 returns-clause-line c =
-    let text = c.requires.args in
-    let texts = ap (map (λ (s : Bor (List ℕ)). s.now)) c.deref.ensures.value ∙ c.in_ok-names.ensures in
-    let made = c.in_ok-policy.ensures in
-    let number = ap (λ (d : Declared). d.args) made.1 in
-    let read = c.in-Some-get_one.ensures.value (without_minus text.0) (one_text-rows (found_of c.args.sub.now) (codes "args") ∙ text.1) in
+    let given = sym (first_value-rows (found_of c.args.sub.now) (codes "FILE")) ∙ sym c.in-Some.ensures in
     record {
-      action = c.action_of.ensures;
-      script = (c.in-Some.file.now, sym (first_value-rows (found_of c.args.sub.now) (codes "FILE")) ∙ sym c.in-Some.ensures, c.source_of.ensures);
-      cert = refl;
-      args = (
-        without_minus text.0,
-        text.1,
-        subst (λ n. ParsesUnsigned {E = ParseIntError} 16 10 (without_minus text.0) (Ok n)) (sym number) read.0,
-      );
-      names = ap (λ (d : Declared). d.names) made.1 ∙ texts;
-      declared = sym (ap first_bad texts) ∙ made.0;
+      action = c.action_of-action.ensures;
+      script = (c.in-Some.file.now, given, c.source_of-script.ensures);
+      cert = c.certificate_of-cert.ensures;
+      apart = c.are_both_input.ensures.apart c.if-are_both_input.false;
+      policy = c.in_ok-policy.ensures.policy;
     }

@@ -10,6 +10,7 @@ top = on_top (λ s. record s { subcommand_required = true; disable_help_subcomma
 pub returns : goal.returns
 returns c =
     let base : app_of c.disable_help_subcommand.result ≡ top = search rules in
-    IfOk-weaker c.subcommand.result _ _
-    (λ r h. h.shape c.in_ok-lint.ensures.local ∙ ap₂ with_subcommand base (ap (λ (a : App). a.top) c.in_ok-lint.ensures.app))
-    c.subcommand.ensures
+    let lint = c.in_ok-subcommand.ensures.shape c.in_ok-lint.ensures.local ∙ ap₂ with_subcommand base (ap (λ (a : App). a.top) c.in_ok-lint.ensures.app) in
+    IfOk-weaker c.subcommand-2.result _ _
+    (λ r h. h.shape c.in_ok-check.ensures.local ∙ ap₂ with_subcommand lint (ap (λ (a : App). a.top) c.in_ok-check.ensures.app))
+    c.subcommand-2.ensures

@@ -1,0 +1,118 @@
+//! One run: reads what its action reads, and writes the text of the answer.
+ghost use Rattle.std.specs.Prelude.{◌≡◌, ◌≤◌, ◌⊎◌, ℕ, List, IfOk, OnOk, OnErr, IsErrOf, length};
+ghost use Rattle.sh_report.specs.Ends.{BoreOnly, FailedBetween, HasRoom, RefusedBetween};
+ghost use Rattle.sh_report.specs.Moves.{BoreAll, Had, TookAtMost, TookWhole};
+ghost use Rattle.sh_report.specs.declared.task.Action.TheVariants as action;
+ghost use Rattle.sh_engine.specs.Runs.{HadText, TellsAnswer, WritesAnswer, WritesFront};
+
+use crate::check::{Judge, check};
+use sh_facts::limits::MAX_CERTIFICATE;
+use sh_lint::lint::lint;
+use sh_report::ends::{Feed, Outlet};
+use sh_report::moves::{Fault, read_all, write_all};
+use sh_report::task::{Action, Task};
+use sh_report::texts;
+use sh_tree::limits::MAX_SCRIPT;
+use std::alloc::{AllocError, Global};
+
+/// The most bytes that are taken of the script's reader: one more than a script may have.
+pub const SCRIPT_READ: usize = MAX_SCRIPT + 1;
+
+/// The most bytes that are taken of the certificate's reader: one more than its text may have.
+pub const CERTIFICATE_READ: usize = MAX_CERTIFICATE + 1;
+
+/// Reads the script, at most `SCRIPT_READ` bytes of it, and then for a check the certificate, at most `CERTIFICATE_READ` bytes of it; does the task,
+/// and writes the text of the answer: the whole text is made before its first byte is written. The result is the exit status: 0 clean, 1
+/// findings or a certificate that breaks a flow rule, 2 refused. No other action reads `cert`.
+///
+/// # Errors
+///
+/// `Memory` where a growth was refused and `Read` where a reader failed, each with nothing written; `Write` where the writer
+/// failed, with a front of the text written.
+pub fn run<R: Feed, C: Feed, W: Outlet, J: Judge>(
+    alloc: Global,
+    task: &Task,
+    script: &mut R,
+    cert: &mut C,
+    out: &mut W,
+    judge: &J,
+) -> Result<u8, Fault>
+    requires script_room { HasRoom (R.tally script.old) }
+    requires cert_room { HasRoom (C.tally cert.old) }
+    requires out_room { HasRoom (W.tally out.old) }
+
+    // What was written is the text of the answer on the bytes read, and nothing else.
+    ensures text { IfOk result (λ status. (b t : List ℕ) → Had (R.remaining script.old) SCRIPT_READ b → HadText task.now.action (C.remaining cert.old) CERTIFICATE_READ t
+        → WritesAnswer task.now b t (W.contents out.old) (W.contents out.new) status) }
+    ensures script_whole { OnOk result (TookWhole (R.tally script.old) (R.tally script.new) (R.remaining script.old) (R.remaining script.new) SCRIPT_READ) }
+    ensures script_written { IsErrOf result Fault.Write → TookWhole (R.tally script.old) (R.tally script.new) (R.remaining script.old) (R.remaining script.new) SCRIPT_READ }
+    ensures script_lost { OnErr result (TookAtMost (R.remaining script.old) (R.remaining script.new) SCRIPT_READ) }
+    ensures cert_left { task.now.action ≡ action.Lint → cert.new ≡ cert.old }
+    ensures cert_whole { OnOk result (task.now.action ≡ action.Check → TookWhole (C.tally cert.old) (C.tally cert.new) (C.remaining cert.old) (C.remaining cert.new) CERTIFICATE_READ) }
+    ensures cert_written { IsErrOf result Fault.Write → task.now.action ≡ action.Check → TookWhole (C.tally cert.old) (C.tally cert.new) (C.remaining cert.old) (C.remaining cert.new) CERTIFICATE_READ }
+    ensures cert_lost { OnErr result (task.now.action ≡ action.Check → TookAtMost (C.remaining cert.old) (C.remaining cert.new) CERTIFICATE_READ) }
+
+    // After a failed write a front of that text was written, and otherwise nothing.
+    ensures front { IsErrOf result Fault.Write → (b t : List ℕ) → Had (R.remaining script.old) SCRIPT_READ b → HadText task.now.action (C.remaining cert.old) CERTIFICATE_READ t
+        → WritesFront task.now b t (W.contents out.old) (W.contents out.new) }
+    ensures memory { IsErrOf result Fault.Memory → out.new ≡ out.old }
+    ensures read { IsErrOf result Fault.Read → out.new ≡ out.old }
+
+    // A fault is told where that end failed, and only there. After a refused growth no reader had failed.
+    ensures wrote { OnOk result (BoreOnly (W.tally out.old) (W.tally out.new)) }
+    ensures memory_read { IsErrOf result Fault.Memory → BoreAll (R.tally script.old) (R.tally script.new) × BoreAll (C.tally cert.old) (C.tally cert.new) }
+    ensures read_failed { IsErrOf result Fault.Read → (FailedBetween (R.tally script.old) (R.tally script.new) × (cert.new ≡ cert.old)) ⊎ FailedBetween (C.tally cert.old) (C.tally cert.new) }
+    ensures write_failed { IsErrOf result Fault.Write → RefusedBetween (W.tally out.old) (W.tally out.new) }
+{
+    let bytes = read_all(alloc, script, SCRIPT_READ)?;
+    let text = read_certificate(alloc, task.action, cert)?;
+    let Ok(answer) = answer_of(alloc, task, &bytes, &text, judge) else {
+        return Err(Fault::Memory);
+    };
+    write_all(out, &answer.text)?;
+    Ok(answer.status)
+}
+
+// The certificate's text, or an empty one for an action that reads none.
+fn read_certificate<C: Feed>(alloc: Global, action: Action, cert: &mut C) -> Result<Vec<u8>, Fault>
+    requires { HasRoom (C.tally cert.old) }
+    ensures taken { IfOk result (λ v. (t : List ℕ) → HadText action (C.remaining cert.old) CERTIFICATE_READ t → v.items ≡ t) }
+    ensures left { action ≡ action.Lint → cert.new ≡ cert.old }
+    ensures whole { OnOk result (action ≡ action.Check → TookWhole (C.tally cert.old) (C.tally cert.new) (C.remaining cert.old) (C.remaining cert.new) CERTIFICATE_READ) }
+    ensures lost { OnErr result (action ≡ action.Check → TookAtMost (C.remaining cert.old) (C.remaining cert.new) CERTIFICATE_READ) }
+    ensures bore { OnOk result (BoreAll (C.tally cert.old) (C.tally cert.new)) }
+    ensures memory { IsErrOf result Fault.Memory → BoreAll (C.tally cert.old) (C.tally cert.new) }
+    ensures failed { IsErrOf result Fault.Read → FailedBetween (C.tally cert.old) (C.tally cert.new) }
+    ensures written { IsErrOf result Fault.Write → ⊥ }
+{
+    match action {
+        Action::Lint => Ok(Vec::new(alloc)),
+        Action::Check => read_all(alloc, cert, CERTIFICATE_READ),
+    }
+}
+
+/// The text of an answer, and its exit status.
+#[derive(Debug, Drop)]
+struct Answer {
+    text: Vec<u8>,
+    status: u8,
+}
+
+fn answer_of<J: Judge>(
+    alloc: Global,
+    task: &Task,
+    script: &[u8],
+    text: &[u8],
+    judge: &J,
+) -> Result<Answer, AllocError>
+    requires { length script.now ≤ SCRIPT_READ }
+    ensures { IfOk result (λ a. TellsAnswer task.now script.now text.now a.text.items a.status) }
+{
+    let answer = match task.action {
+        Action::Lint => lint(alloc, script, &task.policy),
+        Action::Check => check(alloc, script, &task.policy, text, judge),
+    };
+    let text = texts::answer(alloc, script, &answer)?;
+    let status = texts::status(&answer);
+    Ok(Answer { text, status })
+}
