@@ -1,5 +1,5 @@
 //! Operands behind options, by their static texts (XBD 12.2, XCU 2.15).
-ghost use Rattle.std.specs.Prelude.{◌≡◌, ◌==◌, ◌≤◌, length, drop, map, false};
+ghost use Rattle.std.specs.Prelude.{IfSome, ◌≡◌, ◌==◌, ◌≤◌, length, drop, map, false};
 ghost use Rattle.std.specs.List.{list_all};
 ghost use Rattle.sh_table.specs.WordTexts.{text_in};
 ghost use Rattle.sh_table.specs.runs.Operands as operands;
@@ -146,7 +146,8 @@ fn is_set_option(text: &[u8]) -> bool
 
 #[tactic(auto, unfolding(crate::specs::Texts::positional_from))]
 fn find_positional(words: &[WordText], script: &[u8]) -> Option<usize>
-    ensures { result ≡ spec.positional_from 0 false (map (text_in script.now) words.now) }
+    ensures same { result ≡ spec.positional_from 0 false (map (text_in script.now) words.now) }
+    ensures within { IfSome result (λ at. at ≤ length words.now) }
 {
     let mut rest = words;
     let mut takes = false;
@@ -175,7 +176,8 @@ fn find_positional(words: &[WordText], script: &[u8]) -> Option<usize>
 /// How many operands of `set` stand before its positional words, if it has some or `--` stands before them.
 #[tactic(auto, using(crate::proofs::TextLemmas::from_start))]
 pub fn positional_at(words: &[WordText], script: &[u8]) -> Option<usize>
-    ensures { result ≡ spec.positional_at false (map (text_in script.now) words.now) }
+    ensures same { result ≡ spec.positional_at false (map (text_in script.now) words.now) }
+    ensures within { IfSome result (λ at. at ≤ length words.now) }
 {
     find_positional(words, script)
 }
