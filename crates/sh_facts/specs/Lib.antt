@@ -10,6 +10,7 @@ pub mod KnowledgeExamples
 pub mod Gains
 pub mod Operands
 pub mod Views
+pub mod Parameters
 pub mod Sheets
 pub mod Forms
 pub mod Spelling

@@ -1,5 +1,5 @@
 //! What is known at a place of a script: sets of names that stand on the stack and take no memory.
-ghost use Rattle.std.specs.Prelude.{◌≡◌, ◌&&◌, ◌||◌, ◌<◌, ◌-◌, ℕ, List, [], ◌∷◌, true, false, not, length, map, codes};
+ghost use Rattle.std.specs.Prelude.{◌≡◌, ◌≤◌, ◌&&◌, ◌||◌, ◌<◌, ◌-◌, ℕ, List, [], ◌∷◌, true, false, not, length, map, codes};
 ghost use Rattle.std.specs.List.{list_all};
 ghost use Rattle.std.specs.Str.{bytes_eq};
 ghost use Rattle.sh_rows.specs.Numbers.{has_bit};
@@ -13,6 +13,7 @@ ghost use Rattle.sh_facts.specs.Views as views;
 ghost use Rattle.sh_facts.specs.KeptRows.{holds_at};
 ghost use Rattle.sh_facts.specs.Certificates.{claim_of, drops_of, in_byte_order, names_at};
 ghost use Rattle.sh_facts.specs.Knowledge.{AreNumbered, among, assured_facts, contains, knowledge_facts};
+ghost use Rattle.sh_facts.specs.Parameters.{with_parameters_of};
 
 use crate::certificate::{Drops, Facts};
 use crate::names::Names;
@@ -398,6 +399,33 @@ impl Knowledge {
         }
     }
 
+    /// As many positional parameters are gone as may be counted, or more.
+    #[tactic(auto, unfolding(crate::specs::Knowledge::knowledge_facts, crate::specs::Views::step, crate::specs::Views::where_known))]
+    pub fn shift_all(&mut self)
+        ensures { (c : views.Certificate) (names : List Text) (count : ℕ) → views.most_fields ≤ count
+            → knowledge_facts names self.new ≡ views.step c (views.Shift count) (knowledge_facts names self.old) }
+    {
+        match self {
+            Knowledge::NotReached => {}
+            Knowledge::Known(assured) => assured.args = without_most(assured.args),
+        }
+    }
+
+    /// There are as many positional parameters as there, whatever there were.
+    #[tactic(auto, unfolding(crate::specs::Knowledge::knowledge_facts, crate::specs::Parameters::with_parameters_of))]
+    pub fn take_parameters(&mut self, other: &Knowledge)
+        ensures { (names : List Text) → knowledge_facts names self.new ≡ with_parameters_of (knowledge_facts names self.old) (knowledge_facts names other.now) }
+    {
+        match self {
+            Knowledge::NotReached => {}
+            Knowledge::Known(assured) => {
+                if let Knowledge::Known(others) = other {
+                    assured.args = others.args;
+                }
+            }
+        }
+    }
+
     /// A function was called, with prefix assignments of these names, and has returned. Where it is surely defined it leaves what
     /// the certificate says of its return; otherwise a utility may have run.
     #[tactic(auto, unfolding(crate::specs::Knowledge::knowledge_facts, crate::specs::Views::step, crate::specs::Views::called, crate::specs::Views::where_known))]
@@ -498,6 +526,13 @@ fn shifted(args: u16, count: u32) -> u16
     ensures { result ≡ args - count }
 {
     u32::from(args).saturating_sub(count) as u16
+}
+
+// Without as many as may be counted, none is left.
+fn without_most(args: u16) -> u16
+    ensures { (count : ℕ) → views.most_fields ≤ count → result ≡ args - count }
+{
+    args.saturating_sub(65_535)
 }
 
 fn is_getopts(function: &[u8]) -> bool

@@ -1,0 +1,3 @@
+pub mod NumeralLemmas
+pub mod TextLemmas
+pub mod FieldLemmas

@@ -1,0 +1,3 @@
+pub mod Numerals
+pub mod Texts
+pub mod Fields

@@ -1,0 +1,343 @@
+//! How many fields the operands of a simple command give at least (XCU 2.5.2, 2.6.2, 2.6.5).
+ghost use Rattle.std.specs.Prelude.{◌≡◌, ℕ, List, drop, false, fold};
+ghost use Rattle.std.specs.List.{list_any};
+ghost use Rattle.std.specs.Option.{option_copied};
+ghost use Rattle.sh_tree.specs.program.Lists.{parts_from, elements_from};
+ghost use Rattle.sh_tree.specs.program.Words.{words_in, operands_in};
+ghost use Rattle.sh_table.specs.Counts.{count_of, is_parameters, some_gives_field, word_has_all};
+ghost use Rattle.sh_operands.specs.Fields as spec;
+
+use sh_tree::tree::{
+    Action, Binary, Element, Expr, ParameterOperator, Part, Special, Subject, Word,
+};
+
+/// How many fields words give at least: so many, and as many as there are positional parameters for each `"$@"` that stands alone.
+/// Up to 4,294,967,295 are counted.
+#[derive(Clone, Copy, Debug, PartialEq, Eq)]
+pub struct Total {
+    pub ones: u32,
+    pub parameters: u32,
+}
+
+// Parameters
+
+// `$@`, or `$*` outside quotes.
+#[tactic(auto, unfolding(crate::specs::Fields::special_is_all))]
+fn special_is_all(quoted: bool, special: Special) -> bool
+    ensures { result ≡ spec.special_is_all quoted special }
+{
+    match special {
+        Special::At => true,
+        Special::Asterisk => !quoted,
+        Special::NumberSign => false,
+        Special::QuestionMark => false,
+        Special::Hyphen => false,
+        Special::Dollar => false,
+        Special::Exclamation => false,
+        Special::Zero => false,
+    }
+}
+
+#[tactic(auto, unfolding(crate::specs::Fields::subject_is_all))]
+fn subject_is_all(quoted: bool, subject: Subject) -> bool
+    ensures { result ≡ spec.subject_is_all quoted subject }
+{
+    match subject {
+        Subject::Name(_) => false,
+        Subject::Positional(_, _) => false,
+        Subject::Special(special, _) => special_is_all(quoted, special),
+    }
+}
+
+// Whether such a parameter stands in a word, or in a word of a braced expansion or of arithmetic in it.
+#[cycle(has)]
+fn parts_have(quoted: bool, parts: &[Part]) -> bool
+    ensures { (b : List ℕ) → result ≡ list_any (spec.part_has b quoted) parts.now }
+{
+    for part in parts {
+        if part_has(quoted, part) {
+            return true;
+        }
+    }
+    false
+}
+
+#[cycle(has)]
+#[tactic(auto, using(crate::proofs::FieldLemmas::parts))]
+fn part_has(quoted: bool, part: &Part) -> bool
+    ensures { (b : List ℕ) → result ≡ spec.part_has b quoted part.now }
+{
+    match part {
+        Part::Double(_, parts) => parts_have(true, parts.as_slice()),
+        Part::Param(param) => {
+            subject_is_all(quoted, param.subject) || operator_has(quoted, &param.operator)
+        }
+        Part::Arith(_, expression) => expression_has(expression.get()),
+        Part::Plain(_) => false,
+        Part::Escaped(_) => false,
+        Part::Single(_, _) => false,
+        Part::Command(_, _, _) => false,
+        Part::Tilde(_) => false,
+        Part::Joined(_) => false,
+    }
+}
+
+#[cycle(has)]
+#[tactic(auto, using(crate::proofs::FieldLemmas::operators))]
+fn operator_has(quoted: bool, operator: &ParameterOperator) -> bool
+    ensures { (b : List ℕ) → result ≡ spec.operator_has b quoted operator.now }
+{
+    match operator {
+        ParameterOperator::Value => false,
+        ParameterOperator::Length => false,
+        ParameterOperator::Use { word, .. } => parts_have(quoted, word.parts.as_slice()),
+        ParameterOperator::Remove { pattern, .. } => parts_have(false, pattern.parts.as_slice()),
+    }
+}
+
+#[cycle(has)]
+fn chain_has(rest: &[(Binary, Expr)]) -> bool
+    ensures { (b : List ℕ) → result ≡ list_any (spec.step_has b) rest.now }
+{
+    for link in rest {
+        if expression_has(&link.1) {
+            return true;
+        }
+    }
+    false
+}
+
+#[cycle(has)]
+#[tactic(auto, using(crate::proofs::FieldLemmas::expressions))]
+fn expression_has(expression: &Expr) -> bool
+    ensures { (b : List ℕ) → result ≡ spec.expression_has b expression.now }
+{
+    match expression {
+        Expr::Constant(_) => false,
+        Expr::Variable(_) => false,
+        Expr::Expansion(part) => part_has(true, part),
+        Expr::Parenthesis(inner) => expression_has(inner.get()),
+        Expr::Unary { operand, .. } => expression_has(operand.get()),
+        Expr::Chain { first, rest } => { expression_has(first.get()) || chain_has(rest.as_slice()) }
+        Expr::Choice { condition, yes, no } => {
+            expression_has(condition.get()) || expression_has(yes.get()) || expression_has(no.get())
+        }
+        Expr::Assign { value, .. } => expression_has(value.get()),
+    }
+}
+
+#[tactic(auto, using(crate::proofs::FieldLemmas::word_listed))]
+fn word_has_all(word: &Word) -> bool
+    ensures { (b : List ℕ) → result ≡ word_has_all false (parts_from b word.now.parts) }
+{
+    parts_have(false, word.parts.as_slice())
+}
+
+// Parts that give a field
+
+#[tactic(auto, unfolding(crate::specs::Fields::action_gives))]
+fn action_gives(action: Action) -> bool
+    ensures { result ≡ spec.action_gives action }
+{
+    match action {
+        Action::Default => false,
+        Action::Assign => true,
+        Action::Fault => true,
+        Action::Alternative => false,
+    }
+}
+
+// Whether an expansion with this operator gives a field of its own.
+#[tactic(auto, using(crate::proofs::FieldLemmas::giving_operators))]
+fn operator_gives(operator: &ParameterOperator) -> bool
+    ensures { (b : List ℕ) → result ≡ spec.operator_gives b operator.now }
+{
+    match operator {
+        ParameterOperator::Value => true,
+        ParameterOperator::Length => true,
+        ParameterOperator::Use { action, .. } => action_gives(*action),
+        ParameterOperator::Remove { .. } => true,
+    }
+}
+
+#[tactic(auto, using(crate::proofs::FieldLemmas::giving_parts))]
+fn part_gives(part: &Part, script: &[u8]) -> bool
+    ensures { result ≡ spec.part_gives script.now part.now }
+{
+    match part {
+        Part::Plain(span) => !span.text(script).is_empty(),
+        Part::Param(param) => operator_gives(&param.operator),
+        Part::Joined(_) => false,
+        Part::Double(_, _) => true,
+        Part::Arith(_, _) => true,
+        Part::Escaped(_) => true,
+        Part::Single(_, _) => true,
+        Part::Command(_, _, _) => true,
+        Part::Tilde(_) => true,
+    }
+}
+
+fn some_part_gives(parts: &[Part], script: &[u8]) -> bool
+    ensures { result ≡ list_any (spec.part_gives script.now) parts.now }
+{
+    parts.iter().any(|part| part_gives(part, script))
+}
+
+#[tactic(auto, using(crate::proofs::FieldLemmas::some_listed))]
+fn some_gives_field(word: &Word, script: &[u8]) -> bool
+    ensures { result ≡ some_gives_field (parts_from script.now word.now.parts) }
+{
+    some_part_gives(word.parts.as_slice(), script)
+}
+
+// `"$@"` alone
+
+#[tactic(auto, unfolding(crate::specs::Fields::lone_part))]
+fn lone_part(parts: &[Part]) -> Option<&Part>
+    ensures { option_copied result ≡ spec.lone_part parts.entry.now }
+{
+    match parts {
+        [part] => Some(part),
+        _ => None,
+    }
+}
+
+#[tactic(auto, unfolding(crate::specs::Fields::is_value))]
+fn is_value(operator: &ParameterOperator) -> bool
+    ensures { result ≡ spec.is_value operator.now }
+{
+    match operator {
+        ParameterOperator::Value => true,
+        ParameterOperator::Length => false,
+        ParameterOperator::Use { .. } => false,
+        ParameterOperator::Remove { .. } => false,
+    }
+}
+
+#[tactic(auto, unfolding(crate::specs::Fields::is_at))]
+fn is_at(part: &Part) -> bool
+    ensures { result ≡ spec.is_at part.now }
+{
+    match part {
+        Part::Param(param) => { subject_is_all(true, param.subject) && is_value(&param.operator) }
+        Part::Double(_, _) => false,
+        Part::Arith(_, _) => false,
+        Part::Plain(_) => false,
+        Part::Escaped(_) => false,
+        Part::Single(_, _) => false,
+        Part::Command(_, _, _) => false,
+        Part::Tilde(_) => false,
+        Part::Joined(_) => false,
+    }
+}
+
+#[tactic(auto, unfolding(crate::specs::Fields::are_at))]
+fn are_at(parts: &[Part]) -> bool
+    ensures { result ≡ spec.are_at (spec.lone_part parts.now) }
+{
+    match lone_part(parts) {
+        Some(part) => is_at(part),
+        None => false,
+    }
+}
+
+#[tactic(auto, using(crate::proofs::FieldLemmas::quoting))]
+fn quotes_at(part: &Part) -> bool
+    ensures { (b : List ℕ) → result ≡ spec.quotes_at b part.now }
+{
+    match part {
+        Part::Double(_, parts) => are_at(parts.as_slice()),
+        Part::Param(_) => false,
+        Part::Arith(_, _) => false,
+        Part::Plain(_) => false,
+        Part::Escaped(_) => false,
+        Part::Single(_, _) => false,
+        Part::Command(_, _, _) => false,
+        Part::Tilde(_) => false,
+        Part::Joined(_) => false,
+    }
+}
+
+#[tactic(auto, unfolding(crate::specs::Fields::are_quoted))]
+fn are_quoted(parts: &[Part]) -> bool
+    ensures { (b : List ℕ) → result ≡ spec.are_quoted b (spec.lone_part parts.now) }
+{
+    match lone_part(parts) {
+        Some(part) => quotes_at(part),
+        None => false,
+    }
+}
+
+#[tactic(auto, using(crate::proofs::FieldLemmas::parameters_listed))]
+fn is_parameters(word: &Word) -> bool
+    ensures { (b : List ℕ) → result ≡ is_parameters (parts_from b word.now.parts) }
+{
+    are_quoted(word.parts.as_slice())
+}
+
+// Words
+
+// Whether a word that is no `"$@"` surely gives a field.
+fn is_field(word: &Word, script: &[u8]) -> bool
+    ensures { result ≡ spec.is_field (parts_from script.now word.now.parts) }
+{
+    !word_has_all(word) && some_gives_field(word, script)
+}
+
+impl Total {
+    #[tactic(auto, using(crate::proofs::FieldLemmas::one_more))]
+    fn add(&mut self, word: &Word, script: &[u8])
+        ensures { self.new ≡ spec.counted self.old (count_of (parts_from script.now word.now.parts)) }
+    {
+        if is_parameters(word) {
+            self.parameters = self.parameters.saturating_add(1);
+        } else if is_field(word, script) {
+            self.ones = self.ones.saturating_add(1);
+        }
+    }
+}
+
+// One more word, unless it is one of the first so many.
+#[tactic(auto, using(crate::proofs::FieldLemmas::words))]
+fn count_word(word: &Word, script: &[u8], skipped: &mut usize, total: &mut Total)
+    ensures { spec.counting skipped.new total.new ≡ spec.word_counted (spec.counting skipped.old total.old) (parts_from script.now word.now.parts) }
+{
+    if *skipped == 0 {
+        total.add(word, script);
+    } else {
+        *skipped -= 1;
+    }
+}
+
+#[tactic(auto, using(crate::proofs::FieldLemmas::elements))]
+fn count_element(element: &Element, script: &[u8], skipped: &mut usize, total: &mut Total)
+    ensures { spec.counting skipped.new total.new ≡ spec.element_counted script.now (spec.counting skipped.old total.old) element.now }
+{
+    match element {
+        Element::Assignment { .. } => (),
+        Element::Word(word) => count_word(word, script, skipped, total),
+        Element::Redirection(_) => (),
+    }
+}
+
+fn count_elements(elements: &[Element], script: &[u8], skipped: usize) -> Total
+    ensures { result ≡ (fold (spec.element_counted script.now) (spec.counting skipped spec.no_fields) elements.now).total }
+{
+    let mut left = skipped;
+    let mut total = Total {
+        ones: 0,
+        parameters: 0,
+    };
+    for element in elements {
+        count_element(element, script, &mut left, &mut total);
+    }
+    total
+}
+
+/// How many fields the words of a simple command give at least, behind the first so many of them.
+#[tactic(auto, using(crate::proofs::FieldLemmas::elements_counted))]
+pub fn count_behind(elements: &[Element], script: &[u8], skipped: usize) -> Total
+    ensures { result ≡ fold spec.counted_word spec.no_fields (drop skipped (words_in (operands_in (elements_from script.now elements.now)))) }
+{
+    count_elements(elements, script, skipped)
+}

@@ -1,0 +1,6 @@
+//! What the operands of built-in utilities say: numbers, options, and how many fields they give (XCU 2.5, 2.15).
+#![tactic(auto)]
+
+pub mod counts;
+pub mod numbers;
+pub mod options;
