@@ -1,5 +1,5 @@
 //! Scripts that are admitted, and their certificates.
-ghost use Rattle.std.specs.Prelude.{◌≡◌, ℕ, List, Ok, IfErr, IfOk};
+ghost use Rattle.std.specs.Prelude.{◌≡◌, ℕ, List, Ok, IfErr, IfOk, length};
 ghost use Rattle.sh_tree.specs.Answers.{Parses};
 ghost use Rattle.sh_table.specs.Calls.{table_of};
 ghost use Rattle.sh_facts.specs.Facts.{Declared};
@@ -90,7 +90,8 @@ fn names_of(
 /// `CertSyntax` and `CertShape` as `read_certificate` tells them; `Memory` where a growth was refused.
 #[tactic(auto, using(crate::proofs::CertificateLemmas::answered))]
 pub fn certified(alloc: Global, prepared: &Prepared, text: &[u8]) -> Result<Certificate, Refusal>
-    ensures { (b : List ℕ) (d : Declared) → IsPrepared b d prepared.now → AnswersText b d text.now prepared.now result }
+    ensures answers { (b : List ℕ) (d : Declared) → IsPrepared b d prepared.now → AnswersText b d text.now prepared.now result }
+    ensures sized { IfOk result (λ c. c.rows.count ≡ length prepared.now.names) }
 {
     read_certificate(
         alloc,

@@ -243,6 +243,7 @@ functions_end names first count t j left old rows entries inv le = record {
   left = left;
   reading = read_all function_in first count j t left inv.claims le inv.reading;
   fit = inv.fit;
+  sized = inv.same;
   stay = inv.stay;
   lasting = inv.lasting;
 }

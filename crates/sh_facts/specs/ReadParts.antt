@@ -108,6 +108,7 @@ pub record ReadsFunctions (names : List Text) (first count : ℕ) (t : Text) (ol
   pub left : Text
   pub reading : read_lines function_in first 1 count t ≡ Ok (read, left)
   pub fit : list_all (function_fits names) read ≡ true
+  pub sized : new.count ≡ length names
   pub stay : Stay old.rows new.rows
   pub lasting : (later : KeptRows) → Stay new.rows later.rows → map (claims.function_claims (in_byte_order names) later) entries ≡ read
 

@@ -38,7 +38,8 @@ pub fn read_certificate(
     table: &CallTable,
     names: &Names,
 ) -> Result<Certificate, Refusal>
-    ensures { fit.Reads text.now tree.now (length table.now.functions.names) names.now result }
+    ensures reads { fit.Reads text.now tree.now (length table.now.functions.names) names.now result }
+    ensures sized { IfOk result (λ c. c.rows.count ≡ length names.now) }
 {
     if text.len() > MAX_CERTIFICATE {
         return Err(Refusal::CertSyntax(0));
@@ -59,7 +60,8 @@ fn read_lines(
     names: &Names,
 ) -> Result<Certificate, Refusal>
     requires form { field.outcome (form.read_text text.now) ≡ Ok tt }
-    ensures { fit.Answers text.now names.now (part.loops_of commands.now) functions result }
+    ensures reads { fit.Answers text.now names.now (part.loops_of commands.now) functions result }
+    ensures sized { IfOk result (λ c. c.rows.count ≡ length names.now) }
 {
     let Ok(left) = behind_first(text) else {
         return Err(Refusal::CertShape);

@@ -10,34 +10,34 @@ use Rattle.sh_facts.specs.ReadParts.{loops_of, NoneFit, NoFunctionsFit}
 use Rattle.sh_facts.proofs.WholeLemmas.{has_first, has_counts, other_commands, other_functions, no_commands, no_functions, whole, missed}
 use Rattle.sh_facts.proofs.reading.read_lines.Goals as goal
 
-pub returns-in_default : goal.returns-in_default
+pub returns-in_default-clause-reads : goal.returns-in_default-clause-reads
 unfolding text_left
-returns-in_default c = absurd (has_first c.args.text.now c.args.names.now (loops_of c.args.commands.now) c.args.functions c.requires.form c.in_default.field-0 (sym c.in_default.ensures))
+returns-in_default-clause-reads c = absurd (has_first c.args.text.now c.args.names.now (loops_of c.args.commands.now) c.args.functions c.requires.form c.in_default.field-0 (sym c.in_default.ensures))
 
-pub returns-in_default-behind_counts : goal.returns-in_default-behind_counts
+pub returns-in_default-behind_counts-clause-reads : goal.returns-in_default-behind_counts-clause-reads
 unfolding text_left counts_left
-returns-in_default-behind_counts c =
+returns-in_default-behind_counts-clause-reads c =
     absurd (has_counts c.args.text.now c.args.names.now (loops_of c.args.commands.now) c.args.functions c.requires.form c.in-Ok.left.now c.in_default-behind_counts.field-0 (sym c.in-Ok.ensures) (sym c.in_default-behind_counts.ensures))
 
-pub returns-then-counts-commands : goal.returns-then-counts-commands
+pub returns-then-counts-commands-clause-reads : goal.returns-then-counts-commands-clause-reads
 unfolding text_left counts_left
-returns-then-counts-commands c =
+returns-then-counts-commands-clause-reads c =
     let n = c.in-Ok-behind_counts.counts.commands in
     let apart : nat_eq n (length c.args.commands.now) ≡ false = search rules in
     let long : length (loops_of c.args.commands.now) ≡ length c.args.commands.now = length-map c.args.commands.now (λ (x : Bor Command). is_loop x.now) in
     other_commands c.args.text.now c.args.names.now (loops_of c.args.commands.now) c.args.functions c.requires.form c.in-Ok.left.now c.in-Ok-behind_counts.left.now n c.in-Ok-behind_counts.counts.functions (sym c.in-Ok.ensures)
     (sym c.in-Ok-behind_counts.ensures) (ap (nat_eq n) long ∙ apart)
 
-pub returns-then-counts-functions : goal.returns-then-counts-functions
+pub returns-then-counts-functions-clause-reads : goal.returns-then-counts-functions-clause-reads
 unfolding text_left counts_left
-returns-then-counts-functions c =
+returns-then-counts-functions-clause-reads c =
     let apart : nat_eq c.in-Ok-behind_counts.counts.functions c.args.functions ≡ false = search rules in
     other_functions c.args.text.now c.args.names.now (loops_of c.args.commands.now) c.args.functions c.requires.form c.in-Ok.left.now c.in-Ok-behind_counts.left.now c.in-Ok-behind_counts.counts.commands
     c.in-Ok-behind_counts.counts.functions (sym c.in-Ok.ensures) (sym c.in-Ok-behind_counts.ensures) apart
 
-pub returns-in_err-read : goal.returns-in_err-read
+pub returns-in_err-read-clause-reads : goal.returns-in_err-read-clause-reads
 unfolding text_left counts_left
-returns-in_err-read c =
+returns-in_err-read-clause-reads c =
     let p = err_from_is_err_and c.from_residual.result c.from_residual.ensures.1 in
     let n = c.in-Ok-behind_counts.counts.commands in
     let same : n ≡ length c.args.commands.now = search rules in
@@ -48,9 +48,9 @@ returns-in_err-read c =
     (sym c.in-Ok-behind_counts.ensures) (same ∙ sym long))
     c.in_err-read.ensures.refusal)
 
-pub returns-in_err-entries : goal.returns-in_err-entries
+pub returns-in_err-entries-clause-reads : goal.returns-in_err-entries-clause-reads
 unfolding text_left counts_left
-returns-in_err-entries c =
+returns-in_err-entries-clause-reads c =
     let p = err_from_is_err_and c.from_residual-in_err-entries.result c.from_residual-in_err-entries.ensures.1 in
     let n = c.in-Ok-behind_counts.counts.commands in
     let m = c.in-Ok-behind_counts.counts.functions in
@@ -62,9 +62,9 @@ returns-in_err-entries c =
     (sym c.in-Ok-behind_counts.ensures) (same ∙ sym long) c.in_ok-read.read.left.now c.in_ok-read.read.entries.items (get nat_eq c.in_ok-read.read.heads) c.read_commands.new.rows c.in_ok-read.ensures.ok)
     c.in_err-entries.ensures.refusal)
 
-pub returns : goal.returns
+pub returns-clause-reads : goal.returns-clause-reads
 unfolding text_left counts_left
-returns c =
+returns-clause-reads c =
     let n = c.in-Ok-behind_counts.counts.commands in
     let m = c.in-Ok-behind_counts.counts.functions in
     let same : n ≡ length c.args.commands.now = search rules in
