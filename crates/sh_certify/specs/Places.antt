@@ -15,7 +15,7 @@ use Rattle.sh_facts.specs.Sheets.{Sheet, nowhere, uncalled}
 use Rattle.sh_facts.specs.Views as views
 use Rattle.sh_facts.specs.Views.{Slot}
 use Rattle.sh_certify.specs.declared.place.Part.{Part}
-use Rattle.sh_certify.specs.declared.place.Part.TheVariants.{Before, Zero, Nonzero, Head, Entry, ReturnZero, ReturnNonzero}
+use Rattle.sh_certify.specs.declared.place.Part.TheVariants.{Before, Zero, Nonzero, Head, Entered, ReturnZero, ReturnNonzero}
 use Rattle.sh_certify.specs.declared.place.Place.{Place}
 
 unfoldable pub rank : Part → ℕ
@@ -23,7 +23,7 @@ rank Before = 0
 rank Zero = 1
 rank Nonzero = 2
 rank Head = 3
-rank Entry = 4
+rank Entered = 4
 rank ReturnZero = 5
 rank ReturnNonzero = 6
 
@@ -39,7 +39,7 @@ place_of functions (views.Before n) = Some (at Before (n - 1))
 place_of functions (views.AfterZero n) = Some (at Zero (n - 1))
 place_of functions (views.AfterNonzero n) = Some (at Nonzero (n - 1))
 place_of functions (views.Head n) = Some (at Head (n - 1))
-place_of functions (views.Entry f) = option_map (at Entry) (number_of functions f)
+place_of functions (views.Entry f) = option_map (at Entered) (number_of functions f)
 place_of functions (views.ReturnsZero f) = option_map (at ReturnZero) (number_of functions f)
 place_of functions (views.ReturnsNonzero f) = option_map (at ReturnNonzero) (number_of functions f)
 
@@ -50,7 +50,7 @@ part_claim s i Before = (unwrap_or (slice_get s.commands i) nowhere).before
 part_claim s i Zero = (unwrap_or (slice_get s.commands i) nowhere).zero
 part_claim s i Nonzero = (unwrap_or (slice_get s.commands i) nowhere).nonzero
 part_claim s i Head = unwrap_or (unwrap_or (slice_get s.commands i) nowhere).head Unreached
-part_claim s i Entry = (unwrap_or (slice_get s.functions i) uncalled).before
+part_claim s i Entered = (unwrap_or (slice_get s.functions i) uncalled).before
 part_claim s i ReturnZero = (unwrap_or (slice_get s.functions i) uncalled).zero
 part_claim s i ReturnNonzero = (unwrap_or (slice_get s.functions i) uncalled).nonzero
 
@@ -70,7 +70,7 @@ is_of_command Before = true
 is_of_command Zero = true
 is_of_command Nonzero = true
 is_of_command Head = false
-is_of_command Entry = false
+is_of_command Entered = false
 is_of_command ReturnZero = false
 is_of_command ReturnNonzero = false
 
@@ -79,7 +79,7 @@ is_of_function Before = false
 is_of_function Zero = false
 is_of_function Nonzero = false
 is_of_function Head = false
-is_of_function Entry = true
+is_of_function Entered = true
 is_of_function ReturnZero = true
 is_of_function ReturnNonzero = true
 
@@ -88,7 +88,7 @@ entry_part e Before = Some e.before
 entry_part e Zero = Some e.zero
 entry_part e Nonzero = Some e.nonzero
 entry_part e Head = None
-entry_part e Entry = None
+entry_part e Entered = None
 entry_part e ReturnZero = None
 entry_part e ReturnNonzero = None
 
@@ -97,7 +97,7 @@ function_part e Before = None
 function_part e Zero = None
 function_part e Nonzero = None
 function_part e Head = None
-function_part e Entry = Some e.before
+function_part e Entered = Some e.before
 function_part e ReturnZero = Some e.zero
 function_part e ReturnNonzero = Some e.nonzero
 
@@ -106,7 +106,7 @@ entry_with Before f e = record e { before = f }
 entry_with Zero f e = record e { zero = f }
 entry_with Nonzero f e = record e { nonzero = f }
 entry_with Head f e = e
-entry_with Entry f e = e
+entry_with Entered f e = e
 entry_with ReturnZero f e = e
 entry_with ReturnNonzero f e = e
 
@@ -115,7 +115,7 @@ function_with Before f e = e
 function_with Zero f e = e
 function_with Nonzero f e = e
 function_with Head f e = e
-function_with Entry f e = record e { before = f }
+function_with Entered f e = record e { before = f }
 function_with ReturnZero f e = record e { zero = f }
 function_with ReturnNonzero f e = record e { nonzero = f }
 

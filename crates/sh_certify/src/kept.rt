@@ -17,7 +17,7 @@ fn entry_part(entry: &Entry, part: Part) -> Option<Facts>
         Part::Zero => Some(entry.zero),
         Part::Nonzero => Some(entry.nonzero),
         Part::Head => None,
-        Part::Entry => None,
+        Part::Entered => None,
         Part::ReturnZero => None,
         Part::ReturnNonzero => None,
     }
@@ -29,7 +29,7 @@ fn function_part(entry: &FunctionEntry, part: Part) -> Option<Facts>
     ensures { result ≡ spec.function_part entry.now part }
 {
     match part {
-        Part::Entry => Some(entry.before),
+        Part::Entered => Some(entry.before),
         Part::ReturnZero => Some(entry.zero),
         Part::ReturnNonzero => Some(entry.nonzero),
         Part::Before => None,
@@ -49,7 +49,7 @@ fn entry_with(mut entry: Entry, part: Part, facts: Facts) -> Entry
         Part::Zero => entry.zero = facts,
         Part::Nonzero => entry.nonzero = facts,
         Part::Head => (),
-        Part::Entry => (),
+        Part::Entered => (),
         Part::ReturnZero => (),
         Part::ReturnNonzero => (),
     }
@@ -61,7 +61,7 @@ fn function_with(mut entry: FunctionEntry, part: Part, facts: Facts) -> Function
     ensures { result ≡ spec.function_with part facts entry }
 {
     match part {
-        Part::Entry => entry.before = facts,
+        Part::Entered => entry.before = facts,
         Part::ReturnZero => entry.zero = facts,
         Part::ReturnNonzero => entry.nonzero = facts,
         Part::Before => (),

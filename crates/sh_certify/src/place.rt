@@ -10,7 +10,7 @@ pub enum Part {
     Zero,
     Nonzero,
     Head,
-    Entry,
+    Entered,
     ReturnZero,
     ReturnNonzero,
 }
@@ -33,7 +33,7 @@ impl Part {
             Part::Zero => 1,
             Part::Nonzero => 2,
             Part::Head => 3,
-            Part::Entry => 4,
+            Part::Entered => 4,
             Part::ReturnZero => 5,
             Part::ReturnNonzero => 6,
         }
@@ -49,7 +49,7 @@ impl Part {
             Part::Zero => true,
             Part::Nonzero => true,
             Part::Head => false,
-            Part::Entry => false,
+            Part::Entered => false,
             Part::ReturnZero => false,
             Part::ReturnNonzero => false,
         }
@@ -65,7 +65,7 @@ impl Part {
             Part::Zero => false,
             Part::Nonzero => false,
             Part::Head => false,
-            Part::Entry => true,
+            Part::Entered => true,
             Part::ReturnZero => true,
             Part::ReturnNonzero => true,
         }
