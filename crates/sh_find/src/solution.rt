@@ -107,8 +107,12 @@ fn intern(rows: &mut Rows, probe: &mut BitRow, numbers: &NumberSet) -> Result<Ro
     rows.intern(probe)
 }
 
-// The facts that are seen, by the places of their rows, which are added where they are not there.
-fn keep(rows: &mut Rows, probe: &mut BitRow, sight: &Sight) -> Result<Facts, AllocError>
+/// The facts that are seen, by the places of their rows, which are added where they are not there.
+///
+/// # Errors
+///
+/// Where a growth was refused, or no place for a row is left.
+pub fn keep(rows: &mut Rows, probe: &mut BitRow, sight: &Sight) -> Result<Facts, AllocError>
     requires probed { probe.old.count ≡ rows.old.count }
     requires named { IsNamed rows.old.count (sight_facts sight.now) }
     ensures stay { Stay rows.old.rows rows.new.rows }
