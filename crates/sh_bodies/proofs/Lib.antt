@@ -1,0 +1,3 @@
+pub mod FillLemmas
+pub mod CountLemmas
+pub mod ReadingLemmas
