@@ -107,7 +107,7 @@ job_first =
     list_any-append (λ m. bytes_eq m job) start_names (codes "OPTARG" ∷ codes "!" ∷ [])
     ∙ or_right (is_one_of start_names job) _ (or_right (bytes_eq (codes "OPTARG") job) _ (or_left (bytes_eq job job) false (text_same job)))
 
-seen_reach : (b : List ℕ) (t : Script) (d : Declared) (names : List Text) → IsNumbering b t d names
+pub seen_reach : (b : List ℕ) (t : Script) (d : Declared) (names : List Text) → IsNumbering b t d names
     → list_all (λ (c : Command). list_all (λ (s : Sight). is_one_of names s.name) (in_command b c)) (commands_of t) ≡ true
 seen_reach b t d names n =
     let p : Sight → Bool = λ s. is_one_of names s.name in

@@ -12,9 +12,8 @@ use Rattle.sh_facts.specs.Knowledge.{AreNumbered, knowledge_facts}
 use Rattle.sh_facts.specs.Slots.{entry_of}
 use Rattle.sh_facts.specs.Views.{Before, AfterZero, AfterNonzero, Head, Entry as Entered, ReturnsZero, ReturnsNonzero}
 use Rattle.sh_rules.specs.declared.claims.Claims.{Claims}
-use Rattle.sh_rules.specs.Settings.{Setting}
+use Rattle.sh_rules.specs.Settings.{Setting, claimed_at}
 use Rattle.sh_rules.specs.Walks.{facts_in, head_of, setting}
-use Rattle.sh_rules.specs.Bounds.{claimed_at}
 use Rattle.sh_rules.specs.Tells.{claim_in}
 use Rattle.sh_rules.proofs.SlotLemmas.{entries, head_claim}
 

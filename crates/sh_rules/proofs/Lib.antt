@@ -8,6 +8,9 @@ pub mod ToldLemmas
 pub mod BoundLemmas
 pub mod SimpleLemmas
 pub mod CommandLemmas
+pub mod ScriptLemmas
+pub mod PrefixLemmas
 pub mod AskedLemmas
 pub mod ClaimLemmas
+pub mod DropLemmas
 pub mod TellLemmas

@@ -126,7 +126,7 @@ module _ (x : Setting) (h : AreNumbered x.names) where
     unfolding knows seen_facts steps source_facts known_at
     slot_seen s = ap (among x.names) (meet_last (facts ((certificate x).claim s))) ∙ slot_named s
 
-    start_seen : among x.names (start_facts d) ≡ knows x d at_start
+    pub start_seen : among x.names (start_facts d) ≡ knows x d at_start
     unfolding knows seen_facts steps source_facts
     start_seen = ap (among x.names) (sym (meet_last (start_facts d)))
 

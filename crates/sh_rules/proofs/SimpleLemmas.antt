@@ -10,7 +10,6 @@ use Rattle.sh_table.specs.runs.Environment.{is_one_of}
 use Rattle.sh_facts.specs.declared.rule.FlowRule.TheVariants.{F4, F5, F14, F15}
 use Rattle.sh_facts.specs.Entries as e
 use Rattle.sh_facts.specs.Facts.{Facts, NotReached, Known, Declared, Function, claims, facts, meet}
-use Rattle.sh_facts.specs.Faults.{Fault}
 use Rattle.sh_facts.specs.Gains.{Gains, named, with_gains, words_gains}
 use Rattle.sh_facts.specs.Knowledge.{AreNumbered, among}
 use Rattle.sh_facts.specs.Meets.{is_call}
@@ -23,14 +22,16 @@ use Rattle.sh_facts.specs.Table.{Manner, Nameless, Utility, manner, prefixes, as
 use Rattle.sh_facts.specs.Views as views
 use Rattle.sh_facts.specs.Views.{Certificate, Slot, Before, AfterZero, AfterNonzero, Head, Entry, ReturnsZero, ReturnsNonzero, Seen, After, Both, Each, Step, Gain, Lose, Count, Shift, Define, at, gaining, gaining_names, step, steps, where_known, source_facts, kept, passes, returned}
 use Rattle.sh_facts.proofs.MeetLemmas.{known_same, seen_is_meet}
+use Rattle.sh_rules.specs.Asking.{Asking}
 use Rattle.sh_rules.specs.Settings.{Setting, certificate, known_at, gained}
 use Rattle.sh_rules.specs.Behind.{Behind, both, either}
 use Rattle.sh_rules.specs.Meaning.{knows}
-use Rattle.sh_rules.specs.Bounds.{fault, told_within}
+use Rattle.sh_rules.specs.Asked.{ByConstraints}
+use Rattle.sh_rules.specs.Bounds.{fault}
 use Rattle.sh_rules.specs.SimpleBounds.{stepped, called, set_behind, shift_behind, utility_behind, nameless_behind, breaks_told, continues_told, returns_with_told, returns_told, jumps_told, behind, left, redirection_told, call_told, simple_told}
 use Rattle.sh_rules.proofs.EnteredLemmas.{Interprets, behind_of}
 use Rattle.sh_rules.proofs.MeaningLemmas.{interprets, meet_last, among_lost, slot_named}
-use Rattle.sh_rules.proofs.BoundLemmas.{all, joined, bound_at, leaves_at, slot_at}
+use Rattle.sh_rules.proofs.BoundLemmas.{joined, bound_at, leaves_at, slot_at}
 
 -- Steps of facts about some names
 
@@ -130,6 +131,10 @@ module _ (x : Setting) (h : AreNumbered x.names) (d : Declared) where
 
   pub gained_same : (g : Gains) (s : Seen) (k : Facts) → k ≡ known s → gained x g k ≡ known (gaining g s)
   gained_same g s k same = ap (gained x g) same ∙ sym (i.gain g s)
+
+  -- behind the words
+  pub behind_same : (n : ℕ) (es : p.Elements) → behind x n es ≡ known (table.behind_words es (at (Before n)))
+  behind_same n es = gained_same (words_gains (operands_in es)) (at (Before n)) (known_at x (Before n)) (slot_at x h d (Before n))
 
   -- a call, of what is seen at one place
   called_same : (g : Gains) (s : Slot) (f : Text) (return : Slot) (names : List Text)
@@ -238,139 +243,139 @@ module _ (x : Setting) (h : AreNumbered x.names) (d : Declared) where
         or_settled true = refl
         or_settled false = settled_same
 
+module _ {K : Type 0} (a : Asking K) (x : Setting) (h : AreNumbered x.names) (d : Declared) (g : ByConstraints K a x d) where
   -- Jumps
 
-  module _ (n : ℕ) (s : Seen) (k : Facts) (same : k ≡ known s) where
-    twice_bound : (a b : Slot) (best : Option Fault) → all x h d best (bound a n F15 s ++ bound b n F15 s) ≡ told_within x b (fault n F15) k (told_within x a (fault n F15) k best)
-    twice_bound a b best = joined x h d best _ _ (bound a n F15 s) (bound b n F15 s) (bound_at x h d a n F15 s k best same) (bound_at x h d b n F15 s k _ same)
+  module _ (n : ℕ) (s : Seen) (k : Facts) (same : k ≡ knows x d s) where
+    twice_bound : (one two : Slot) (kept : K)
+        → g.all kept (bound one n F15 s ++ bound two n F15 s) ≡ a.bound x two (fault n F15) k (a.bound x one (fault n F15) k kept)
+    twice_bound one two kept =
+        joined a x h d g kept _ _ (bound one n F15 s) (bound two n F15 s) (bound_at a x h d g one n F15 s k kept same) (bound_at a x h d g two n F15 s k _ same)
 
-    breaks_same : (o : Option ℕ) (best : Option Fault) → all x h d best (r.breaks o n s) ≡ breaks_told x n k o best
+    breaks_same : (o : Option ℕ) (kept : K) → g.all kept (r.breaks o n s) ≡ breaks_told a x n k o kept
     unfolding breaks_told r.breaks
-    breaks_same None best = refl
-    breaks_same (Some l) best = twice_bound (AfterZero l) (AfterNonzero l) best
+    breaks_same None kept = g.none kept
+    breaks_same (Some l) kept = twice_bound (AfterZero l) (AfterNonzero l) kept
 
-    continues_same : (o : Option ℕ) (best : Option Fault) → all x h d best (r.continues o n s) ≡ continues_told x n k o best
+    continues_same : (o : Option ℕ) (kept : K) → g.all kept (r.continues o n s) ≡ continues_told a x n k o kept
     unfolding continues_told r.continues
-    continues_same None best = refl
-    continues_same (Some l) best = bound_at x h d (Head l) n F15 s k best same
+    continues_same None kept = g.none kept
+    continues_same (Some l) kept = bound_at a x h d g (Head l) n F15 s k kept same
 
-    by_status : (b : Bool) (f : Text) (best : Option Fault)
-        → all x h d best (if b then bound (ReturnsZero f) n F15 s else bound (ReturnsNonzero f) n F15 s)
-        ≡ (if b then told_within x (ReturnsZero f) (fault n F15) k best else told_within x (ReturnsNonzero f) (fault n F15) k best)
-    by_status true f best = bound_at x h d (ReturnsZero f) n F15 s k best same
-    by_status false f best = bound_at x h d (ReturnsNonzero f) n F15 s k best same
+    by_status : (b : Bool) (f : Text) (kept : K)
+        → g.all kept (if b then bound (ReturnsZero f) n F15 s else bound (ReturnsNonzero f) n F15 s)
+        ≡ (if b then a.bound x (ReturnsZero f) (fault n F15) k kept else a.bound x (ReturnsNonzero f) (fault n F15) k kept)
+    by_status true f kept = bound_at a x h d g (ReturnsZero f) n F15 s k kept same
+    by_status false f kept = bound_at a x h d g (ReturnsNonzero f) n F15 s k kept same
 
-    returns_with_same : (o : Option ℕ) (f : Text) (best : Option Fault) → all x h d best (r.returns_with o f n s) ≡ returns_with_told x n k o f best
+    returns_with_same : (o : Option ℕ) (f : Text) (kept : K) → g.all kept (r.returns_with o f n s) ≡ returns_with_told a x n k o f kept
     unfolding returns_with_told r.returns_with
-    returns_with_same None f best = twice_bound (ReturnsZero f) (ReturnsNonzero f) best
-    returns_with_same (Some status) f best = by_status (status == 0) f best
+    returns_with_same None f kept = twice_bound (ReturnsZero f) (ReturnsNonzero f) kept
+    returns_with_same (Some status) f kept = by_status (status == 0) f kept
 
-    returns_same : (o : Option ℕ) (f : Option Text) (best : Option Fault) → all x h d best (r.returns o f n s) ≡ returns_told x n k o f best
+    returns_same : (o : Option ℕ) (f : Option Text) (kept : K) → g.all kept (r.returns o f n s) ≡ returns_told a x n k o f kept
     unfolding returns_told r.returns
-    returns_same o None best = refl
-    returns_same o (Some f) best = returns_with_same o f best
+    returns_same o None kept = g.none kept
+    returns_same o (Some f) kept = returns_with_same o f kept
 
-    jumps_same : (y : e.Around) (u : Kind) (ws : List Word) (best : Option Fault) → all x h d best (r.jumps y n u ws s) ≡ jumps_told x n k y u ws best
+    jumps_same : (y : e.Around) (u : Kind) (ws : List Word) (kept : K) → g.all kept (r.jumps y n u ws s) ≡ jumps_told a x n k y u ws kept
     unfolding jumps_told r.jumps
-    jumps_same y (kind.Special known'.Break) ws best = breaks_same (r.jump_loop (first_number ws) y.loops) best
-    jumps_same y (kind.Special known'.Continue) ws best = continues_same (r.jump_loop (first_number ws) y.loops) best
-    jumps_same y (kind.Special known'.Return) ws best = returns_same (return_status ws) y.function best
-    jumps_same y kind.Cd ws best = refl
-    jumps_same y kind.Command ws best = refl
-    jumps_same y kind.False ws best = refl
-    jumps_same y kind.Getopts ws best = refl
-    jumps_same y kind.Read ws best = refl
-    jumps_same y kind.True ws best = refl
-    jumps_same y kind.Utility ws best = refl
-    jumps_same y (kind.Refused name) ws best = refl
-    jumps_same y (kind.Special known'.Colon) ws best = refl
-    jumps_same y (kind.Special known'.Exec) ws best = refl
-    jumps_same y (kind.Special known'.Exit) ws best = refl
-    jumps_same y (kind.Special known'.Export) ws best = refl
-    jumps_same y (kind.Special known'.Readonly) ws best = refl
-    jumps_same y (kind.Special known'.Set) ws best = refl
-    jumps_same y (kind.Special known'.Shift) ws best = refl
-    jumps_same y (kind.Special known'.Times) ws best = refl
-    jumps_same y (kind.Special known'.Trap) ws best = refl
-    jumps_same y (kind.Special known'.Unset) ws best = refl
-    jumps_same y (kind.Special known'.Dot) ws best = refl
-    jumps_same y (kind.Special known'.Eval) ws best = refl
-    jumps_same y (kind.Special known'.Alias) ws best = refl
-    jumps_same y (kind.Special known'.Unalias) ws best = refl
-    jumps_same y (kind.Special known'.Fc) ws best = refl
-    jumps_same y (kind.Special known'.Local) ws best = refl
-    jumps_same y (kind.Special known'.Typeset) ws best = refl
-    jumps_same y (kind.Special known'.Declare) ws best = refl
-    jumps_same y (kind.Special known'.Source) ws best = refl
-    jumps_same y (kind.Special known'.Let) ws best = refl
-    jumps_same y (kind.Special known'.Builtin) ws best = refl
-    jumps_same y (kind.Special known'.Nameref) ws best = refl
-    jumps_same y (kind.Special known'.Integer) ws best = refl
-    jumps_same y (kind.Special known'.Float) ws best = refl
-    jumps_same y (kind.Special known'.Mapfile) ws best = refl
-    jumps_same y (kind.Special known'.Readarray) ws best = refl
-    jumps_same y (kind.Special known'.Shopt) ws best = refl
-    jumps_same y (kind.Special known'.LeftBrackets) ws best = refl
-    jumps_same y (kind.Special known'.RightBrackets) ws best = refl
-    jumps_same y (kind.Special known'.Function) ws best = refl
-    jumps_same y (kind.Special known'.Select) ws best = refl
-    jumps_same y (kind.Special known'.Time) ws best = refl
-    jumps_same y (kind.Special known'.Namespace) ws best = refl
+    jumps_same y (kind.Special known'.Break) ws kept = breaks_same (r.jump_loop (first_number ws) y.loops) kept
+    jumps_same y (kind.Special known'.Continue) ws kept = continues_same (r.jump_loop (first_number ws) y.loops) kept
+    jumps_same y (kind.Special known'.Return) ws kept = returns_same (return_status ws) y.function kept
+    jumps_same y kind.Cd ws kept = g.none kept
+    jumps_same y kind.Command ws kept = g.none kept
+    jumps_same y kind.False ws kept = g.none kept
+    jumps_same y kind.Getopts ws kept = g.none kept
+    jumps_same y kind.Read ws kept = g.none kept
+    jumps_same y kind.True ws kept = g.none kept
+    jumps_same y kind.Utility ws kept = g.none kept
+    jumps_same y (kind.Refused name) ws kept = g.none kept
+    jumps_same y (kind.Special known'.Colon) ws kept = g.none kept
+    jumps_same y (kind.Special known'.Exec) ws kept = g.none kept
+    jumps_same y (kind.Special known'.Exit) ws kept = g.none kept
+    jumps_same y (kind.Special known'.Export) ws kept = g.none kept
+    jumps_same y (kind.Special known'.Readonly) ws kept = g.none kept
+    jumps_same y (kind.Special known'.Set) ws kept = g.none kept
+    jumps_same y (kind.Special known'.Shift) ws kept = g.none kept
+    jumps_same y (kind.Special known'.Times) ws kept = g.none kept
+    jumps_same y (kind.Special known'.Trap) ws kept = g.none kept
+    jumps_same y (kind.Special known'.Unset) ws kept = g.none kept
+    jumps_same y (kind.Special known'.Dot) ws kept = g.none kept
+    jumps_same y (kind.Special known'.Eval) ws kept = g.none kept
+    jumps_same y (kind.Special known'.Alias) ws kept = g.none kept
+    jumps_same y (kind.Special known'.Unalias) ws kept = g.none kept
+    jumps_same y (kind.Special known'.Fc) ws kept = g.none kept
+    jumps_same y (kind.Special known'.Local) ws kept = g.none kept
+    jumps_same y (kind.Special known'.Typeset) ws kept = g.none kept
+    jumps_same y (kind.Special known'.Declare) ws kept = g.none kept
+    jumps_same y (kind.Special known'.Source) ws kept = g.none kept
+    jumps_same y (kind.Special known'.Let) ws kept = g.none kept
+    jumps_same y (kind.Special known'.Builtin) ws kept = g.none kept
+    jumps_same y (kind.Special known'.Nameref) ws kept = g.none kept
+    jumps_same y (kind.Special known'.Integer) ws kept = g.none kept
+    jumps_same y (kind.Special known'.Float) ws kept = g.none kept
+    jumps_same y (kind.Special known'.Mapfile) ws kept = g.none kept
+    jumps_same y (kind.Special known'.Readarray) ws kept = g.none kept
+    jumps_same y (kind.Special known'.Shopt) ws kept = g.none kept
+    jumps_same y (kind.Special known'.LeftBrackets) ws kept = g.none kept
+    jumps_same y (kind.Special known'.RightBrackets) ws kept = g.none kept
+    jumps_same y (kind.Special known'.Function) ws kept = g.none kept
+    jumps_same y (kind.Special known'.Select) ws kept = g.none kept
+    jumps_same y (kind.Special known'.Time) ws kept = g.none kept
+    jumps_same y (kind.Special known'.Namespace) ws kept = g.none kept
 
   -- Simple commands
 
-  pub behind_same : (n : ℕ) (es : p.Elements) → behind x n es ≡ known (table.behind_words es (at (Before n)))
-  behind_same n es = gained_same (words_gains (operands_in es)) (at (Before n)) (known_at x (Before n)) (slot_at x h d (Before n))
-
-  redirection_same : (n : ℕ) (b : Bool) (s : Seen) (k : Facts) (best : Option Fault) → k ≡ known s
-      → all x h d best (if b then bound (AfterNonzero n) n F14 s else []) ≡ redirection_told x n b k best
+  redirection_same : (n : ℕ) (b : Bool) (s : Seen) (k : Facts) (kept : K) → k ≡ knows x d s
+      → g.all kept (if b then bound (AfterNonzero n) n F14 s else []) ≡ redirection_told a x n b k kept
   unfolding redirection_told
-  redirection_same n true s k best same = bound_at x h d (AfterNonzero n) n F14 s k best same
-  redirection_same n false s k best same = refl
+  redirection_same n true s k kept same = bound_at a x h d g (AfterNonzero n) n F14 s k kept same
+  redirection_same n false s k kept same = g.none kept
 
-  call_same : (y : e.Around) (n : ℕ) (es : p.Elements) (f : Text) (ws : List Word) (best : Option Fault)
-      → all x h d best (r.call_bounds y n es f ws) ≡ call_told x n es f ws best
+  call_same : (y : e.Around) (n : ℕ) (es : p.Elements) (f : Text) (ws : List Word) (kept : K)
+      → g.all kept (r.call_bounds y n es f ws) ≡ call_told a x n es f ws kept
   unfolding call_told r.call_bounds r.where_redirected
-  call_same y n es f ws best =
+  call_same y n es f ws kept =
       let s = table.behind_words es (at (Before n)) in
       let k = behind x n es in
-      let same : k ≡ known s = behind_same n es in
+      let same : k ≡ knows x d s = behind_same x h d n es in
       let names = prefixes es in
       let entered = gaining_names names (views.stepped (Count (total ws)) s) in
       let zero = views.stepped (views.Call f (ReturnsZero f) names) s in
       let nonzero = views.stepped (views.Call f (ReturnsNonzero f) names) s in
-      let back : (return : Slot) → called x f return names k ≡ known (views.stepped (views.Call f return names) s) =
-      λ return. ap (called x f return names) same ∙ called_same (words_gains (operands_in es)) (Before n) f return names in
-      joined x h d best _ _ (bound (Entry f) n F14 entered ++ bound (AfterZero n) n F14 zero ++ bound (AfterNonzero n) n F14 nonzero)
+      let back : (return : Slot) → called x f return names k ≡ knows x d (views.stepped (views.Call f return names) s) =
+      λ return. ap (called x f return names) same ∙ called_same x h d (words_gains (operands_in es)) (Before n) f return names in
+      joined a x h d g kept _ _ (bound (Entry f) n F14 entered ++ bound (AfterZero n) n F14 zero ++ bound (AfterNonzero n) n F14 nonzero)
       (if is_redirected (redirects_in es) then bound (AfterNonzero n) n F14 s else [])
-      (joined x h d best _ _ (bound (Entry f) n F14 entered ++ bound (AfterZero n) n F14 zero) (bound (AfterNonzero n) n F14 nonzero)
-      (joined x h d best _ _ (bound (Entry f) n F14 entered) (bound (AfterZero n) n F14 zero)
-      (bound_at x h d (Entry f) n F14 entered (gained x (named names) (stepped x (Count (total ws)) k)) best
-      (gained_same (named names) (views.stepped (Count (total ws)) s) _ (ap (stepped x (Count (total ws))) same ∙ counted_same (total ws) s)))
-      (bound_at x h d (AfterZero n) n F14 zero (called x f (ReturnsZero f) names k) _ (back (ReturnsZero f))))
-      (bound_at x h d (AfterNonzero n) n F14 nonzero (called x f (ReturnsNonzero f) names k) _ (back (ReturnsNonzero f))))
+      (joined a x h d g kept _ _ (bound (Entry f) n F14 entered ++ bound (AfterZero n) n F14 zero) (bound (AfterNonzero n) n F14 nonzero)
+      (joined a x h d g kept _ _ (bound (Entry f) n F14 entered) (bound (AfterZero n) n F14 zero)
+      (bound_at a x h d g (Entry f) n F14 entered (gained x (named names) (stepped x (Count (total ws)) k)) kept
+      (gained_same x h d (named names) (views.stepped (Count (total ws)) s) _ (ap (stepped x (Count (total ws))) same ∙ counted_same x h d (total ws) s)))
+      (bound_at a x h d g (AfterZero n) n F14 zero (called x f (ReturnsZero f) names k) _ (back (ReturnsZero f))))
+      (bound_at a x h d g (AfterNonzero n) n F14 nonzero (called x f (ReturnsNonzero f) names k) _ (back (ReturnsNonzero f))))
       (redirection_same n (is_redirected (redirects_in es)) s k _ same)
 
-  manner_same : (y : e.Around) (n : ℕ) (es : p.Elements) (m : Manner) (best : Option Fault) → all x h d best (r.simple_bounds y n es m) ≡ simple_told x n y es m best
+  manner_same : (y : e.Around) (n : ℕ) (es : p.Elements) (m : Manner) (kept : K) → g.all kept (r.simple_bounds y n es m) ≡ simple_told a x n y es m kept
   unfolding simple_told r.simple_bounds
-  manner_same y n es Nameless best =
+  manner_same y n es Nameless kept =
       let s = table.behind_words es (at (Before n)) in
       let redirected = is_redirected (redirects_in es) in
-      leaves_at x h d n F5 (table.after_nameless s [] (assignments_gains es) (prefixes es) redirected)
-      (nameless_behind x (behind x n es) [] (assignments_gains es) (prefixes es) redirected) best
-      (ap (λ k. nameless_behind x k [] (assignments_gains es) (prefixes es) redirected) (behind_same n es)
-      ∙ nameless_same s [] (assignments_gains es) (prefixes es) redirected)
-  manner_same y n es (Utility u ws) best =
+      leaves_at a x h d g n F5 (table.after_nameless s [] (assignments_gains es) (prefixes es) redirected)
+      (nameless_behind x (behind x n es) [] (assignments_gains es) (prefixes es) redirected) kept
+      (ap (λ k. nameless_behind x k [] (assignments_gains es) (prefixes es) redirected) (behind_same x h d n es)
+      ∙ nameless_same x h d s [] (assignments_gains es) (prefixes es) redirected)
+  manner_same y n es (Utility u ws) kept =
       let s = table.behind_words es (at (Before n)) in
       let redirected = is_redirected (redirects_in es) in
-      joined x h d best _ _ (leaves n F4 (table.after_utility s ws (left es) (prefixes es) redirected u)) (r.jumps y n u ws (gaining (left es) s))
-      (leaves_at x h d n F4 (table.after_utility s ws (left es) (prefixes es) redirected u)
-      (utility_behind x (behind x n es) ws (left es) (prefixes es) redirected u) best
-      (ap (λ k. utility_behind x k ws (left es) (prefixes es) redirected u) (behind_same n es) ∙ utility_same s ws (left es) (prefixes es) redirected u))
-      (jumps_same n (gaining (left es) s) (gained x (left es) (behind x n es)) (gained_same (left es) s (behind x n es) (behind_same n es)) y u ws _)
-  manner_same y n es (table.Call f ws) best = call_same y n es f ws best
+      joined a x h d g kept _ _ (leaves n F4 (table.after_utility s ws (left es) (prefixes es) redirected u)) (r.jumps y n u ws (gaining (left es) s))
+      (leaves_at a x h d g n F4 (table.after_utility s ws (left es) (prefixes es) redirected u)
+      (utility_behind x (behind x n es) ws (left es) (prefixes es) redirected u) kept
+      (ap (λ k. utility_behind x k ws (left es) (prefixes es) redirected u) (behind_same x h d n es) ∙ utility_same x h d s ws (left es) (prefixes es) redirected u))
+      (jumps_same n (gaining (left es) s) (gained x (left es) (behind x n es)) (gained_same x h d (left es) s (behind x n es) (behind_same x h d n es)) y u ws _)
+  manner_same y n es (table.Call f ws) kept = call_same y n es f ws kept
 
-  pub simple_same : (functions : List Text) (y : e.Around) (n : ℕ) (s : Seen) (es : p.Elements) (best : Option Fault)
-      → all x h d best (r.kind_bounds functions y n s (p.Simple es)) ≡ simple_told x n y es (manner functions es) best
+  pub simple_same : (functions : List Text) (y : e.Around) (n : ℕ) (s : Seen) (es : p.Elements) (kept : K)
+      → g.all kept (r.kind_bounds functions y n s (p.Simple es)) ≡ simple_told a x n y es (manner functions es) kept
   unfolding r.kind_bounds
-  simple_same functions y n s es best = manner_same y n es (manner functions es) best
+  simple_same functions y n s es kept = manner_same y n es (manner functions es) kept

@@ -20,10 +20,9 @@ use Rattle.sh_facts.specs.Sheets.{claim_at, nowhere}
 use Rattle.sh_facts.specs.Slots.{ClaimsAreEntries, entry_of}
 use Rattle.sh_facts.specs.Views.{Before, AfterZero, AfterNonzero, Head, Entry as Entered}
 use Rattle.sh_facts.proofs.SlotLemmas.{claims_are_entries}
-use Rattle.sh_rules.specs.Settings.{Setting, known_at}
+use Rattle.sh_rules.specs.Settings.{Setting, claimed_at, known_at}
 use Rattle.sh_rules.specs.declared.claims.Claims.{Claims}
 use Rattle.sh_rules.specs.Walks.{facts_in, head_of, head_where, setting}
-use Rattle.sh_rules.specs.Bounds.{claimed_at}
 
 pub entries : (x : Setting) → ClaimsAreEntries (in_byte_order x.names) x.kept x.functions
 entries x = claims_are_entries (in_byte_order x.names) x.kept x.functions

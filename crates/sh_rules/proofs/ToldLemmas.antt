@@ -1,22 +1,26 @@
 -- What several views are asked is what their meet is asked.
-use Rattle.std.proofs.Common.{◌≡◌, ℕ, Bool, true, false, ◌&&◌, if◌then◌else◌, Option, Some, None, List, [], ◌∷◌, ◌++◌, flat_map, fold, refl, sym, ap, ◌∙◌, subst, arith}
+use Rattle.std.proofs.Common.{◌≡◌, ℕ, Bool, true, false, ◌&&◌, Option, List, [], ◌∷◌, ◌++◌, flat_map, fold, refl, sym, ap, ◌∙◌, subst, arith}
 use Rattle.std.proofs.lemmas.Bool.{and_parts, and_from}
+use Rattle.std.proofs.lemmas.List.{append-nil}
 use Rattle.std.proofs.lemmas.Grind.{flat_map-append}
 use Rattle.std.proofs.lemmas.List.Sums.{fold-append}
 use Rattle.sh_tree.specs.program.Syntax.{Text}
 use Rattle.sh_table.specs.runs.Environment.{is_one_of}
 use Rattle.sh_facts.specs.declared.rule.FlowRule.{FlowRule}
+use Rattle.sh_facts.specs.declared.rule.FlowRule.TheVariants.{F13}
 use Rattle.sh_facts.specs.Facts.{Facts, NotReached, Known, Claim, facts, meet, within, Declared}
-use Rattle.sh_facts.specs.Faults.{Fault, precedes, lesser, told, broken}
+use Rattle.sh_facts.specs.Faults.{Fault, lesser, told, broken, are_among}
 use Rattle.sh_facts.specs.Knowledge.{AreNumbered, among}
 use Rattle.sh_facts.specs.Order.{IsWithin, seen_facts}
-use Rattle.sh_facts.specs.Rules.{Constraint, bound}
-use Rattle.sh_facts.specs.Views.{Slot, Seen, view_facts}
+use Rattle.sh_facts.specs.Rules.{Constraint, Counted, bound}
+use Rattle.sh_facts.specs.Views.{Slot, Seen, Loss, view_facts, lost}
 use Rattle.sh_facts.proofs.KnowledgeLemmas.{same_tests}
 use Rattle.sh_facts.proofs.OrderLemmas.{known_within, known_parts, within_nowhere, nowhere_known, within_itself, within_through, within_test, meet_first, meet_second, meet_greatest}
-use Rattle.sh_rules.specs.Settings.{Setting, certificate, known_at}
+use Rattle.sh_rules.specs.Settings.{Setting, certificate, claimed_at, known_at}
 use Rattle.sh_rules.specs.Meaning.{knows}
-use Rattle.sh_rules.specs.Bounds.{with_test, fault, claimed_at, is_within, told_within}
+use Rattle.sh_rules.specs.Bounds.{fault}
+use Rattle.sh_rules.specs.LeastFault.{with_test, is_within, tests_joined, least_told}
+use Rattle.sh_rules.specs.Asked.{ByConstraints, LeastOfConstraints, with_all}
 use Rattle.sh_rules.proofs.MeaningLemmas.{slot_named}
 
 -- Tests of claims
@@ -52,64 +56,51 @@ within_among ns c f named = same_tests _ _
     (λ e. (within_test c f).1 (within_through _ _ _ ((within_test c (among ns f)).0 e) (among_less ns f)))
     (λ e. (within_test c (among ns f)).1 (subst (λ h. IsWithin h (among ns f)) named (among_grows ns (facts c) f ((within_test c f).0 e))))
 
--- One fault, told more than once
+-- Constraints
 
-either_way : {A : Type 0} (b : Bool) (a : A) → (if b then a else a) ≡ a
-either_way true a = refl
-either_way false a = refl
-
-itself : (f : Fault) → lesser (Some f) f ≡ Some f
-unfolding lesser
-itself f = either_way (precedes f f) (Some f)
-
-twice : (f : Fault) (best : Option Fault) → lesser (lesser best f) f ≡ lesser best f
-unfolding lesser
-twice f None = itself f
-twice f (Some a) = go (precedes f a) refl
-  where
-    go : (b : Bool) → precedes f a ≡ b → lesser (lesser (Some a) f) f ≡ lesser (Some a) f
-    go true e = let one : lesser (Some a) f ≡ Some f = rw e refl in ap (λ o. lesser o f) one ∙ itself f ∙ sym one
-    go false e = let one : lesser (Some a) f ≡ Some a = rw e refl in ap (λ o. lesser o f) one
-
-tests_joined : (a b : Bool) (f : Fault) (best : Option Fault) → with_test b f (with_test a f best) ≡ with_test (a && b) f best
-unfolding with_test
-tests_joined true b f best = refl
-tests_joined false true f best = refl
-tests_joined false false f best = twice f best
-
-pub test_told : (b : Bool) (n : ℕ) (rule : FlowRule) (best : Option Fault) → fold lesser best (told b n rule) ≡ with_test b (fault n rule) best
+pub test_told : (b : Bool) (n : ℕ) (rule : FlowRule) (least : Option Fault) → fold lesser least (told b n rule) ≡ with_test b (fault n rule) least
 unfolding with_test told
-test_told true n rule best = refl
-test_told false n rule best = refl
+test_told true n rule least = refl
+test_told false n rule least = refl
 
--- Constraints over views
+module _ (x : Setting) (d : Declared) where
+  pub all_split : (least : Option Fault) (ks ls : List Constraint) → with_all x d least (ks ++ ls) ≡ with_all x d (with_all x d least ks) ls
+  all_split least ks ls =
+      ap (fold lesser least) (flat_map-append (broken d (certificate x)) ks ls)
+      ∙ fold-append lesser least (flat_map (broken d (certificate x)) ks) (flat_map (broken d (certificate x)) ls)
+
+  loss_told : (f : Text) (n : ℕ) (l : Loss) (least : Option Fault)
+      → with_all x d least (Counted f n l ∷ []) ≡ least_told.drop x f (fault n F13) (lost d (certificate x) n l) least
+  unfolding broken
+  loss_told f n l least =
+      let one : Bool = are_among (lost d (certificate x) n l) ((certificate x).drops f) in
+      ap (fold lesser least) (append-nil (told one n F13)) ∙ test_told one n F13 least
 
 module _ (x : Setting) (h : AreNumbered x.names) (d : Declared) where
-  -- the least fault so far, with those of these constraints
-  abbrev pub with_all : Option Fault → List Constraint → Option Fault
-  with_all best ks = fold lesser best (flat_map (broken d (certificate x)) ks)
-
-  pub all_split : (best : Option Fault) (ks ls : List Constraint) → with_all best (ks ++ ls) ≡ with_all (with_all best ks) ls
-  all_split best ks ls =
-      ap (fold lesser best) (flat_map-append (broken d (certificate x)) ks ls)
-      ∙ fold-append lesser best (flat_map (broken d (certificate x)) ks) (flat_map (broken d (certificate x)) ls)
-
   is_within_seen : (slot : Slot) (s : Seen) → is_within x slot (knows x d s) ≡ within ((certificate x).claim slot) (seen_facts d (certificate x) s)
   unfolding claimed_at knows known_at
   is_within_seen slot s = within_among x.names ((certificate x).claim slot) (seen_facts d (certificate x) s) (slot_named x h slot)
 
-  pub bound_told : (slot : Slot) (n : ℕ) (rule : FlowRule) (s : Seen) (best : Option Fault)
-      → with_all best (bound slot n rule s) ≡ told_within x slot (fault n rule) (knows x d s) best
+  bound_told : (slot : Slot) (n : ℕ) (rule : FlowRule) (s : Seen) (least : Option Fault)
+      → with_all x d least (bound slot n rule s) ≡ least_told.bound x slot (fault n rule) (knows x d s) least
   unfolding broken knows claimed_at seen_facts among with_test within
-  bound_told slot n rule [] best = refl
-  bound_told slot n rule (v ∷ s) best =
+  bound_told slot n rule [] least = refl
+  bound_told slot n rule (v ∷ s) least =
       let c = (certificate x).claim slot in
       let f = fault n rule in
       let one : Bool = within c (view_facts d (certificate x) v) in
       let rest : Bool = within c (seen_facts d (certificate x) s) in
-      fold-append lesser best (told one n rule) (flat_map (broken d (certificate x)) (bound slot n rule s))
-      ∙ ap (λ b. with_all b (bound slot n rule s)) (test_told one n rule best)
-      ∙ bound_told slot n rule s (with_test one f best)
-      ∙ ap (λ b. with_test b f (with_test one f best)) (is_within_seen slot s)
-      ∙ tests_joined one rest f best
-      ∙ ap (λ b. with_test b f best) (sym (is_within_seen slot (v ∷ s) ∙ within_both c (view_facts d (certificate x) v) (seen_facts d (certificate x) s)))
+      fold-append lesser least (told one n rule) (flat_map (broken d (certificate x)) (bound slot n rule s))
+      ∙ ap (λ b. with_all x d b (bound slot n rule s)) (test_told one n rule least)
+      ∙ bound_told slot n rule s (with_test one f least)
+      ∙ ap (λ b. with_test b f (with_test one f least)) (is_within_seen slot s)
+      ∙ tests_joined one rest f least
+      ∙ ap (λ b. with_test b f least) (sym (is_within_seen slot (v ∷ s) ∙ within_both c (view_facts d (certificate x) v) (seen_facts d (certificate x) s)))
+
+  -- the least fault goes by constraints
+  least_by : ByConstraints (Option Fault) least_told x d
+  least_by = record { all = with_all x d; none = λ least. refl; joined = all_split x d; bounded = bound_told; counted = loss_told x d }
+
+pub least_of_constraints : LeastOfConstraints
+unfolding least_by
+least_of_constraints x d h = (least_by x h d, λ least ks. refl)

@@ -1,42 +1,90 @@
 -- What the flow rules ask of views is asked of what is known there, of the names that are numbered.
 -- The standard has no such rules: what is claimed of a place has to be known there in every run.
-use Rattle.std.specs.Prelude.{◌≡◌, ℕ, Bool, true, false, List, flat_map, fold, Option}
+use Rattle.std.specs.Prelude.{◌≡◌, ℕ, Bool, true, false, List, [], ◌∷◌, ◌++◌, flat_map, fold, Option, None}
 use Rattle.std.specs.List.{list_all}
+use Rattle.sh_tree.specs.declared.tree.Script.{Script}
 use Rattle.sh_tree.specs.program.Syntax as p
 use Rattle.sh_tree.specs.program.Syntax.{Text}
+use Rattle.sh_tree.specs.program.Trees.{script_of}
+use Rattle.sh_table.specs.Calls.{table_of}
 use Rattle.sh_table.specs.runs.Environment.{is_one_of}
 use Rattle.sh_facts.specs.declared.rule.FlowRule.{FlowRule}
-use Rattle.sh_facts.specs.Entries.{Around, Entered}
-use Rattle.sh_facts.specs.Facts.{Declared}
-use Rattle.sh_facts.specs.Faults.{Fault, lesser, broken}
-use Rattle.sh_facts.specs.Knowledge.{AreNumbered}
-use Rattle.sh_facts.specs.Rules.{Constraint, bound, kind_bounds, redirects_bounds, bounds}
+use Rattle.sh_facts.specs.declared.rule.FlowRule.TheVariants.{F13}
+use Rattle.sh_facts.specs.Entries.{Around, Entered, script_entered}
+use Rattle.sh_facts.specs.Facts.{Declared, start_facts}
+use Rattle.sh_facts.specs.Faults.{Fault, lesser, least, faults, broken}
+use Rattle.sh_facts.specs.Knowledge.{AreNumbered, among}
+use Rattle.sh_facts.specs.Names.{IsNumbering}
+use Rattle.sh_facts.specs.Rules.{Constraint, Counted, bound, kind_bounds, redirects_bounds, bounds, functions_of, script_bounds}
 use Rattle.sh_facts.specs.Table.{is_redirected, manner}
-use Rattle.sh_facts.specs.Views.{Slot, Seen}
+use Rattle.sh_facts.specs.Views.{Slot, Seen, Loss, lost}
 use Rattle.sh_rules.specs.Settings.{Setting, certificate}
+use Rattle.sh_rules.specs.Asking.{Asking}
+use Rattle.sh_rules.specs.Walked.{script_walked}
 use Rattle.sh_rules.specs.Meaning.{knows, met_of}
-use Rattle.sh_rules.specs.Bounds.{fault, told_within, compound_told, redirects_told}
+use Rattle.sh_rules.specs.Bounds.{fault, compound_told, redirects_told}
 use Rattle.sh_rules.specs.SimpleBounds.{simple_told}
 use Rattle.sh_rules.specs.CommandBounds.{command_told, prefixes_in}
+use Rattle.sh_rules.specs.LeastFault.{least_told}
 
 unfoldable pub is_compound : p.Kind → Bool
 is_compound (p.Simple es) = false
 is_compound _ = true
 
+-- What is done goes by constraints: what a list of them asks, one after the other. Those over views of a place ask what is known of the
+-- numbered names where all of these are seen, and those of a function that it drops what is lost there.
+pub record ByConstraints (K : Type 0) (a : Asking K) (x : Setting) (d : Declared) : Type 0 where
+  pub all : K → List Constraint → K
+  pub none : (kept : K) → all kept [] ≡ kept
+  pub joined : (kept : K) (ks ls : List Constraint) → all kept (ks ++ ls) ≡ all (all kept ks) ls
+  pub bounded : (slot : Slot) (n : ℕ) (rule : FlowRule) (s : Seen) (kept : K) → all kept (bound slot n rule s) ≡ a.bound x slot (fault n rule) (knows x d s) kept
+  pub counted : (function : Text) (n : ℕ) (l : Loss) (kept : K) → all kept (Counted function n l ∷ []) ≡ a.drop x function (fault n F13) (lost d (certificate x) n l) kept
+
+-- the names of its prefix assignments are numbered
+unfoldable pub has_numbered_prefixes : List Text → Entered → Bool
+has_numbered_prefixes names e = list_all (is_one_of names) (prefixes_in e.command)
+
+-- these are the functions that the script defines
+abbrev pub AreDefined : List Text → p.Items → Type 0
+AreDefined functions t = (name : Text) → is_one_of functions name ≡ is_one_of (functions_of (script_entered t)) name
+
+-- A compound command and its redirections, a simple command, and a whole command as it is entered, if the names of its prefix assignments
+-- are numbered: what is done is done for their constraints. And for those of a script, by a walk that does it at each command.
+pub record AskedOfFacts (K : Type 0) (a : Asking K) : Type 0 where
+  pub compound : (x : Setting) (d : Declared) (i : ByConstraints K a x d) (functions : List Text) (y : Around) (n : ℕ) (s : Seen) (k : p.Kind) (kept : K)
+      → AreNumbered x.names → is_compound k ≡ true → i.all kept (kind_bounds functions y n s k) ≡ compound_told a x n (knows x d s) k kept
+  pub redirects : (x : Setting) (d : Declared) (i : ByConstraints K a x d) (n : ℕ) (rs : p.Redirects) (kept : K)
+      → AreNumbered x.names → i.all kept (redirects_bounds n rs) ≡ redirects_told a x n (is_redirected rs) kept
+  pub simple : (x : Setting) (d : Declared) (i : ByConstraints K a x d) (functions : List Text) (y : Around) (n : ℕ) (s : Seen) (es : p.Elements) (kept : K)
+      → AreNumbered x.names → i.all kept (kind_bounds functions y n s (p.Simple es)) ≡ simple_told a x n y es (manner functions es) kept
+  pub command : (x : Setting) (d : Declared) (i : ByConstraints K a x d) (functions : List Text) (e : Entered) (kept : K)
+      → AreNumbered x.names → has_numbered_prefixes x.names e ≡ true → i.all kept (bounds functions e) ≡ command_told a x functions kept (met_of x d e)
+  pub script : (x : Setting) (d : Declared) (i : ByConstraints K a x d) (t : p.Items) (kept : K)
+      → AreNumbered x.names → AreDefined x.functions t → list_all (has_numbered_prefixes x.names) (script_entered t) ≡ true
+      → script_walked x (command_told a x x.functions) (among x.names (start_facts d)) kept t ≡ i.all kept (script_bounds t)
+
 -- the least fault so far, with those of these constraints
 abbrev pub with_all : Setting → Declared → Option Fault → List Constraint → Option Fault
-with_all x d best ks = fold lesser best (flat_map (broken d (certificate x)) ks)
+with_all x d least ks = fold lesser least (flat_map (broken d (certificate x)) ks)
 
--- A place, a compound command and its redirections, a simple command, and a whole command as it is entered, if the names of its prefix
--- assignments are numbered: the least fault is that of their constraints.
-pub record AskedOfFacts : Type 0 where
-  pub place : (x : Setting) (d : Declared) (slot : Slot) (n : ℕ) (rule : FlowRule) (s : Seen) (best : Option Fault) → AreNumbered x.names
-      → with_all x d best (bound slot n rule s) ≡ told_within x slot (fault n rule) (knows x d s) best
-  pub compound : (x : Setting) (d : Declared) (functions : List Text) (y : Around) (n : ℕ) (s : Seen) (k : p.Kind) (best : Option Fault) → AreNumbered x.names
-      → is_compound k ≡ true → with_all x d best (kind_bounds functions y n s k) ≡ compound_told x n (knows x d s) k best
-  pub redirects : (x : Setting) (d : Declared) (n : ℕ) (rs : p.Redirects) (best : Option Fault) → AreNumbered x.names
-      → with_all x d best (redirects_bounds n rs) ≡ redirects_told x n (is_redirected rs) best
-  pub simple : (x : Setting) (d : Declared) (functions : List Text) (y : Around) (n : ℕ) (s : Seen) (es : p.Elements) (best : Option Fault) → AreNumbered x.names
-      → with_all x d best (kind_bounds functions y n s (p.Simple es)) ≡ simple_told x n y es (manner functions es) best
-  pub command : (x : Setting) (d : Declared) (functions : List Text) (c : Entered) (best : Option Fault) → AreNumbered x.names → list_all (is_one_of x.names) (prefixes_in c.command) ≡ true
-      → with_all x d best (bounds functions c) ≡ command_told x functions best (met_of x d c)
+-- The least fault goes by constraints.
+abbrev pub LeastOfConstraints : Type 0
+LeastOfConstraints =
+    (x : Setting) (d : Declared) → AreNumbered x.names
+    → (i : ByConstraints (Option Fault) least_told x d) × ((least : Option Fault) (ks : List Constraint) → i.all least ks ≡ with_all x d least ks)
+
+-- So a walk over a script, of which the names of prefix assignments are numbered, that tells of each command tells the least fault of the certificate.
+abbrev pub LeastOfScripts : Type 0
+LeastOfScripts =
+    (x : Setting) (d : Declared) (t : p.Items) → AreNumbered x.names → AreDefined x.functions t → list_all (has_numbered_prefixes x.names) (script_entered t) ≡ true
+    → script_walked x (command_told least_told x x.functions) (among x.names (start_facts d)) None t ≡ least (faults d (certificate x) t)
+
+-- The names of prefix assignments are numbered with those of the script.
+abbrev pub PrefixesAreNumbered : Type 0
+PrefixesAreNumbered =
+    (b : List ℕ) (t : Script) (d : Declared) (names : List Text) → IsNumbering b t d names
+    → list_all (has_numbered_prefixes names) (script_entered (script_of b t)) ≡ true
+
+-- The functions that the call table of a script has are those that it defines.
+abbrev pub TableDefines : Type 0
+TableDefines = (b : List ℕ) (t : Script) → AreDefined (table_of b t).functions.names (script_of b t)

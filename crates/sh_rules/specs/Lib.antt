@@ -1,4 +1,5 @@
 pub mod Settings
+pub mod Asking
 pub mod Behind
 pub mod Walked
 pub mod Walks
@@ -7,5 +8,7 @@ pub mod Meaning
 pub mod Bounds
 pub mod SimpleBounds
 pub mod CommandBounds
+pub mod LeastFault
 pub mod Asked
+pub mod Places
 pub mod Tells

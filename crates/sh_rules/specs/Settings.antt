@@ -4,7 +4,7 @@ use Rattle.std.specs.Prelude.{List, [], ◌∷◌}
 use Rattle.sh_tree.specs.program.Syntax.{Text}
 use Rattle.sh_facts.specs.declared.certificate.Certificate as kept
 use Rattle.sh_facts.specs.Certificates.{in_byte_order, sheet_of}
-use Rattle.sh_facts.specs.Facts.{Facts, facts}
+use Rattle.sh_facts.specs.Facts.{Facts, Claim, facts}
 use Rattle.sh_facts.specs.Gains.{Gains, job, with_gains}
 use Rattle.sh_facts.specs.Sheets.{certificate_of}
 use Rattle.sh_facts.specs.Views.{Certificate, Slot, Lose, step}
@@ -20,7 +20,10 @@ pub record Setting : Type 0 where
 abbrev pub certificate : Setting → Certificate
 certificate x = certificate_of x.functions (sheet_of (in_byte_order x.names) x.kept)
 
--- what the certificate claims at a place
+-- what the certificate claims at a place, as a claim and as facts
+unfoldable pub claimed_at : Setting → Slot → Claim
+claimed_at x s = (certificate x).claim s
+
 unfoldable pub known_at : Setting → Slot → Facts
 known_at x s = facts ((certificate x).claim s)
 

@@ -1,4 +1,4 @@
--- The least fault so far, with those of a simple command: what the flow rules of `sh_facts` ask of views, asked of facts.
+-- What is kept so far, with what a simple command asks: what the flow rules of `sh_facts` ask of views, asked of facts.
 -- POSIX.1-2024, XCU 2.9.1 (simple commands), 2.15 (special built-in utilities), 3 (false, getopts, read, true).
 use Rattle.std.specs.Prelude.{ℕ, ◌==◌, Bool, true, false, not, if◌then◌else◌, List, [], ◌∷◌, filter, codes, Option, Some, None}
 use Rattle.sh_tree.specs.declared.known.KnownName.TheVariants as known
@@ -11,7 +11,6 @@ use Rattle.sh_table.specs.runs.Environment.{is_one_of}
 use Rattle.sh_facts.specs.declared.rule.FlowRule.TheVariants.{F4, F5, F14, F15}
 use Rattle.sh_facts.specs.Entries.{Around}
 use Rattle.sh_facts.specs.Facts.{Facts, NotReached, meet}
-use Rattle.sh_facts.specs.Faults.{Fault}
 use Rattle.sh_facts.specs.Gains.{Gains, named, and_gains, words_gains}
 use Rattle.sh_facts.specs.Knowledge.{among}
 use Rattle.sh_facts.specs.Operands.{unset_names, declared_names, read_names, getopts_names, positional_words, total, first_number, return_status, runs_command}
@@ -20,9 +19,10 @@ use Rattle.sh_facts.specs.Table as table
 use Rattle.sh_facts.specs.Table.{Manner, Nameless, Utility, prefixes, assignments_gains, redirections_gains, is_redirected}
 use Rattle.sh_facts.specs.Views as views
 use Rattle.sh_facts.specs.Views.{Slot, Before, AfterZero, AfterNonzero, Head, Entry, ReturnsZero, ReturnsNonzero, Step, Lose, Count, Shift, step}
+use Rattle.sh_rules.specs.Asking.{Asking}
 use Rattle.sh_rules.specs.Settings.{Setting, certificate, known_at, gained}
 use Rattle.sh_rules.specs.Behind.{Behind, either, both}
-use Rattle.sh_rules.specs.Bounds.{fault, told_within, leaves_told}
+use Rattle.sh_rules.specs.Bounds.{fault, leaves_told}
 
 -- behind one more step, which names nothing that is not known
 unfoldable pub stepped : Setting → Step → Facts → Facts
@@ -86,31 +86,31 @@ module _ (x : Setting) (k : Facts) (ws : List Word) (left : Gains) (names : List
 
 -- Jumps
 
-module _ (x : Setting) (n : ℕ) (k : Facts) where
+module _ {K : Type 0} (a : Asking K) (x : Setting) (n : ℕ) (k : Facts) where
   -- `break` goes on behind the loop, `continue` with its next turn
-  unfoldable pub breaks_told : Option ℕ → Option Fault → Option Fault
-  breaks_told None best = best
-  breaks_told (Some l) best = told_within x (AfterNonzero l) (fault n F15) k (told_within x (AfterZero l) (fault n F15) k best)
+  unfoldable pub breaks_told : Option ℕ → K → K
+  breaks_told None kept = kept
+  breaks_told (Some l) kept = a.bound x (AfterNonzero l) (fault n F15) k (a.bound x (AfterZero l) (fault n F15) k kept)
 
-  unfoldable pub continues_told : Option ℕ → Option Fault → Option Fault
-  continues_told None best = best
-  continues_told (Some l) best = told_within x (Head l) (fault n F15) k best
+  unfoldable pub continues_told : Option ℕ → K → K
+  continues_told None kept = kept
+  continues_told (Some l) kept = a.bound x (Head l) (fault n F15) k kept
 
   -- `return` with a status that is not static returns with any
-  unfoldable pub returns_with_told : Option ℕ → Text → Option Fault → Option Fault
-  returns_with_told None f best = told_within x (ReturnsNonzero f) (fault n F15) k (told_within x (ReturnsZero f) (fault n F15) k best)
-  returns_with_told (Some status) f best =
-      if status == 0 then told_within x (ReturnsZero f) (fault n F15) k best else told_within x (ReturnsNonzero f) (fault n F15) k best
+  unfoldable pub returns_with_told : Option ℕ → Text → K → K
+  returns_with_told None f kept = a.bound x (ReturnsNonzero f) (fault n F15) k (a.bound x (ReturnsZero f) (fault n F15) k kept)
+  returns_with_told (Some status) f kept =
+      if status == 0 then a.bound x (ReturnsZero f) (fault n F15) k kept else a.bound x (ReturnsNonzero f) (fault n F15) k kept
 
-  unfoldable pub returns_told : Option ℕ → Option Text → Option Fault → Option Fault
-  returns_told status None best = best
-  returns_told status (Some f) best = returns_with_told status f best
+  unfoldable pub returns_told : Option ℕ → Option Text → K → K
+  returns_told status None kept = kept
+  returns_told status (Some f) kept = returns_with_told status f kept
 
-  unfoldable pub jumps_told : Around → Kind → List Word → Option Fault → Option Fault
-  jumps_told y (kind.Special known.Break) ws best = breaks_told (jump_loop (first_number ws) y.loops) best
-  jumps_told y (kind.Special known.Continue) ws best = continues_told (jump_loop (first_number ws) y.loops) best
-  jumps_told y (kind.Special known.Return) ws best = returns_told (return_status ws) y.function best
-  jumps_told y _ ws best = best
+  unfoldable pub jumps_told : Around → Kind → List Word → K → K
+  jumps_told y (kind.Special known.Break) ws kept = breaks_told (jump_loop (first_number ws) y.loops) kept
+  jumps_told y (kind.Special known.Continue) ws kept = continues_told (jump_loop (first_number ws) y.loops) kept
+  jumps_told y (kind.Special known.Return) ws kept = returns_told (return_status ws) y.function kept
+  jumps_told y _ ws kept = kept
 
 -- Simple commands
 
@@ -122,25 +122,25 @@ behind x n es = gained x (words_gains (operands_in es)) (known_at x (Before n))
 abbrev pub left : p.Elements → Gains
 left es = and_gains (assignments_gains es) (redirections_gains es)
 
-module _ (x : Setting) (n : ℕ) where
+module _ {K : Type 0} (a : Asking K) (x : Setting) (n : ℕ) where
   -- a failed redirection of a call leaves what was known before it
-  unfoldable pub redirection_told : Bool → Facts → Option Fault → Option Fault
-  redirection_told true k best = told_within x (AfterNonzero n) (fault n F14) k best
-  redirection_told false k best = best
+  unfoldable pub redirection_told : Bool → Facts → K → K
+  redirection_told true k kept = a.bound x (AfterNonzero n) (fault n F14) k kept
+  redirection_told false k kept = kept
 
   -- a call: the function is entered with the names of the prefix assignments, and with the operands
-  unfoldable pub call_told : p.Elements → Text → List Word → Option Fault → Option Fault
-  call_told es f ws best =
+  unfoldable pub call_told : p.Elements → Text → List Word → K → K
+  call_told es f ws kept =
       redirection_told (is_redirected (redirects_in es)) (behind x n es)
-      (told_within x (AfterNonzero n) (fault n F14) (called x f (ReturnsNonzero f) (prefixes es) (behind x n es))
-      (told_within x (AfterZero n) (fault n F14) (called x f (ReturnsZero f) (prefixes es) (behind x n es))
-      (told_within x (Entry f) (fault n F14) (gained x (named (prefixes es)) (stepped x (Count (total ws)) (behind x n es))) best)))
+      (a.bound x (AfterNonzero n) (fault n F14) (called x f (ReturnsNonzero f) (prefixes es) (behind x n es))
+      (a.bound x (AfterZero n) (fault n F14) (called x f (ReturnsZero f) (prefixes es) (behind x n es))
+      (a.bound x (Entry f) (fault n F14) (gained x (named (prefixes es)) (stepped x (Count (total ws)) (behind x n es))) kept)))
 
   -- by what its name means
-  unfoldable pub simple_told : Around → p.Elements → Manner → Option Fault → Option Fault
-  simple_told y es Nameless best =
-      leaves_told x (fault n F5) (nameless_behind x (behind x n es) [] (assignments_gains es) (prefixes es) (is_redirected (redirects_in es))) best
-  simple_told y es (Utility kind ws) best =
-      jumps_told x n (gained x (left es) (behind x n es)) y kind ws
-      (leaves_told x (fault n F4) (utility_behind x (behind x n es) ws (left es) (prefixes es) (is_redirected (redirects_in es)) kind) best)
-  simple_told y es (table.Call f ws) best = call_told es f ws best
+  unfoldable pub simple_told : Around → p.Elements → Manner → K → K
+  simple_told y es Nameless kept =
+      leaves_told a x (fault n F5) (nameless_behind x (behind x n es) [] (assignments_gains es) (prefixes es) (is_redirected (redirects_in es))) kept
+  simple_told y es (Utility kind ws) kept =
+      jumps_told a x n (gained x (left es) (behind x n es)) y kind ws
+      (leaves_told a x (fault n F4) (utility_behind x (behind x n es) ws (left es) (prefixes es) (is_redirected (redirects_in es)) kind) kept)
+  simple_told y es (table.Call f ws) kept = call_told es f ws kept

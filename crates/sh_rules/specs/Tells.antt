@@ -27,11 +27,12 @@ use Rattle.sh_facts.specs.Rules.{is_last}
 use Rattle.sh_facts.specs.Views.{Before, AfterZero, AfterNonzero, Head, ReturnsZero, ReturnsNonzero}
 use Rattle.sh_rules.specs.declared.fault.Fault as code
 use Rattle.sh_rules.specs.declared.fault.Least.{Least}
+use Rattle.sh_rules.specs.Asking.{Asking}
 use Rattle.sh_rules.specs.Settings.{Setting, known_at, gained}
 use Rattle.sh_rules.specs.Behind.{Behind, both, turns, falls}
 use Rattle.sh_rules.specs.Walked.{Trail, trail}
 use Rattle.sh_rules.specs.Walks.{script_behind}
-use Rattle.sh_rules.specs.Bounds.{fault, defined, told_within, leaves_told, loop_told, for_told, clause_told, clauses_told, unmatched_told, compound_told}
+use Rattle.sh_rules.specs.Bounds.{fault, defined, leaves_told, loop_told, for_told, clause_told, clauses_told, unmatched_told, compound_told}
 
 -- what is told
 
@@ -50,14 +51,14 @@ claim_in x f = claim_of (in_byte_order x.names) x.kept.rows f
 abbrev pub script_left : Setting → Facts → Script → Behind
 script_left x k t = script_behind x (both k) t
 
-unfoldable pub branch_told : Setting → ℕ → Trail (Option Fault) → Branch → Trail (Option Fault)
-branch_told x n t c =
+unfoldable pub branch_told : {K : Type 0} → Asking K → Setting → ℕ → Trail K → Branch → Trail K
+branch_told a x n t c =
     trail (script_left x t.known (out-Branch c).condition).nonzero
-    (leaves_told x (fault n F6) (script_left x (script_left x t.known (out-Branch c).condition).zero (out-Branch c).body) t.kept)
+    (leaves_told a x (fault n F6) (script_left x (script_left x t.known (out-Branch c).condition).zero (out-Branch c).body) t.kept)
 
-unfoldable pub otherwise_told : Setting → ℕ → Trail (Option Fault) → Option Script → Option Fault
-otherwise_told x n t None = told_within x (AfterZero n) (fault n F6) t.known t.kept
-otherwise_told x n t (Some list) = leaves_told x (fault n F6) (script_left x t.known list) t.kept
+unfoldable pub otherwise_told : {K : Type 0} → Asking K → Setting → ℕ → Trail K → Option Script → K
+otherwise_told a x n t None = a.bound x (AfterZero n) (fault n F6) t.known t.kept
+otherwise_told a x n t (Some list) = leaves_told a x (fault n F6) (script_left x t.known list) t.kept
 
 -- whether a clause leaves what the whole does: where none follows that it could go on with
 unfoldable pub ends_case : List ℕ → ClauseEnd → List Clause → Bool
@@ -71,14 +72,14 @@ is_star b _ = false
 abbrev pub has_star : List ℕ → Clause → Bool
 has_star b c = list_any (λ w. is_star b w.parts) (out-Clause c).patterns
 
-unfoldable pub clauses_left : Setting → ℕ → Facts → Trail (Option Fault) → List Clause → Trail (Option Fault)
-clauses_left x n k t cs = clauses_told x n k t (clauses_from x.script cs)
+unfoldable pub clauses_left : {K : Type 0} → Asking K → Setting → ℕ → Facts → Trail K → List Clause → Trail K
+clauses_left a x n k t cs = clauses_told a x n k t (clauses_from x.script cs)
 
 -- a clause, which may be the last
-abbrev pub clause_left : Setting → ℕ → Facts → Trail (Option Fault) → Bool → Clause → Trail (Option Fault)
-clause_left x n k t is_last c =
+abbrev pub clause_left : {K : Type 0} → Asking K → Setting → ℕ → Facts → Trail K → Bool → Clause → Trail K
+clause_left a x n k t is_last c =
     trail (falls (out-Clause c).end (script_left x (meet k t.known) (out-Clause c).body))
-    (clause_told x n is_last (script_left x (meet k t.known) (out-Clause c).body) t.kept)
+    (clause_told a x n is_last (script_left x (meet k t.known) (out-Clause c).body) t.kept)
 
 abbrev pub word_gained : Setting → Facts → Word → Facts
 word_gained x k w = gained x (word_gains (parts_from x.script w.parts)) k
@@ -88,23 +89,23 @@ unfoldable pub for_words_gained : Setting → Facts → Option (List Word) → F
 for_words_gained x k None = k
 for_words_gained x k (Some ws) = fold (word_gained x) k ws
 
-abbrev pub loop_left : Setting → ℕ → LoopKind → Facts → Script → Script → Option Fault → Option Fault
-loop_left x n kind k condition body best =
-    loop_told x n kind k (script_left x (known_at x (Head n)) condition) (script_left x (turns kind (script_left x (known_at x (Head n)) condition)) body) best
+abbrev pub loop_left : {K : Type 0} → Asking K → Setting → ℕ → LoopKind → Facts → Script → Script → K → K
+loop_left a x n kind k condition body kept =
+    loop_told a x n kind k (script_left x (known_at x (Head n)) condition) (script_left x (turns kind (script_left x (known_at x (Head n)) condition)) body) kept
 
-abbrev pub for_left : Setting → ℕ → Span → Facts → Script → Option Fault → Option Fault
-for_left x n name k body best = for_told x n k (script_left x (gained x (named (text_of x.script name ∷ [])) (known_at x (Head n))) body) best
+abbrev pub for_left : {K : Type 0} → Asking K → Setting → ℕ → Span → Facts → Script → K → K
+for_left a x n name k body kept = for_told a x n k (script_left x (gained x (named (text_of x.script name ∷ [])) (known_at x (Head n))) body) kept
 
-abbrev pub case_left : Setting → ℕ → Facts → List Clause → Option Fault → Option Fault
-case_left x n k cs best = unmatched_told x n (list_any (has_star x.script) cs) k (clauses_left x n k (trail NotReached best) cs).kept
+abbrev pub case_left : {K : Type 0} → Asking K → Setting → ℕ → Facts → List Clause → K → K
+case_left a x n k cs kept = unmatched_told a x n (list_any (has_star x.script) cs) k (clauses_left a x n k (trail NotReached kept) cs).kept
 
 -- the body of a function, by its number
-abbrev pub returns_told : Setting → Text → ℕ → Option Fault → Option Fault
-returns_told x f m best =
-    told_within x (ReturnsNonzero f) (fault m F13) (known_at x (AfterNonzero m)) (told_within x (ReturnsZero f) (fault m F13) (known_at x (AfterZero m)) best)
+abbrev pub returns_told : {K : Type 0} → Asking K → Setting → Text → ℕ → K → K
+returns_told a x f m kept =
+    a.bound x (ReturnsNonzero f) (fault m F13) (known_at x (AfterNonzero m)) (a.bound x (ReturnsZero f) (fault m F13) (known_at x (AfterZero m)) kept)
 
-abbrev pub define_left : Setting → ℕ → Text → Command → Option Fault → Option Fault
-define_left x n name c best = returns_told x name (out-Command c).number (told_within x (AfterZero n) (fault n F13) (defined x name (known_at x (Before n))) best)
+abbrev pub define_left : {K : Type 0} → Asking K → Setting → ℕ → Text → Command → K → K
+define_left a x n name c kept = returns_told a x name (out-Command c).number (a.bound x (AfterZero n) (fault n F13) (defined x name (known_at x (Before n))) kept)
 
-unfoldable pub kind_told : Setting → ℕ → Facts → Kind → Option Fault → Option Fault
-kind_told x n k kind best = compound_told x n k (trees.kind_of x.script kind) best
+unfoldable pub kind_told : {K : Type 0} → Asking K → Setting → ℕ → Facts → Kind → K → K
+kind_told a x n k kind kept = compound_told a x n k (trees.kind_of x.script kind) kept

@@ -1,226 +1,118 @@
-//! What the flow rules ask at a compound command: where more is claimed than is known, the command breaks the rule (XCU 2.9.4, 2.9.5).
+//! What the flow rules ask at a compound command: of each place that it claims no more than is known there (XCU 2.9.4, 2.9.5).
 ghost use Rattle.std.specs.Prelude.{◌≡◌, List, ℕ, fold};
 ghost use Rattle.std.specs.List.{list_any};
 ghost use Rattle.sh_tree.specs.declared.tree.ClauseEnd.TheVariants as clause;
-ghost use Rattle.sh_facts.specs.Facts.{within};
-ghost use Rattle.sh_facts.specs.Views as views;
 ghost use Rattle.sh_rules.specs.Bounds as bounds;
-ghost use Rattle.sh_rules.specs.Bounds.{told_within, with_test};
 ghost use Rattle.sh_rules.specs.Tells as tells;
-ghost use Rattle.sh_rules.specs.Tells.{claim_in, fault_of, least_of};
+ghost use Rattle.sh_rules.specs.Tells.{fault_of};
 ghost use Rattle.sh_rules.specs.Walked.{trail};
 ghost use Rattle.sh_rules.specs.Walks.{behind_in, facts_in, setting};
 
+use crate::asked::Asked;
 use crate::behind::{Behind, met, script_behind};
 use crate::claims::Claims;
-use crate::fault::{Fault, Least};
+use crate::fault::Fault;
 use crate::gains::{gain_variable, gain_word};
-use sh_facts::certificate::Facts;
+use crate::place::Place;
 use sh_facts::knowledge::Knowledge;
 use sh_facts::rule::FlowRule;
 use sh_tree::Items;
 use sh_tree::tree::{Branch, Clause, ClauseEnd, Command, Kind, LoopKind, Part, Script, Span, Word};
 
-// The fault is told where not all of these facts is known.
-fn tell(claims: &Claims<'_>, facts: &Facts, fault: Fault, known: &Knowledge, least: &mut Least)
-    ensures { least_of least.new ≡ with_test (within (claim_in (setting claims.now) facts.now) (facts_in (setting claims.now) known.now)) (fault_of fault) (least_of least.old) }
-{
-    let holds = claims.is_known(facts, known);
-    least.tell(holds, fault);
-}
-
-/// Of what is claimed before a command.
-pub fn tell_before(
-    claims: &Claims<'_>,
-    place: u32,
-    fault: Fault,
-    known: &Knowledge,
-    least: &mut Least,
-)
-    ensures { least_of least.new ≡ told_within (setting claims.now) (views.Before place) (fault_of fault) (facts_in (setting claims.now) known.now) (least_of least.old) }
-{
-    let facts = claims.before_facts(place);
-    tell(claims, &facts, fault, known, least);
-}
-
-/// Of what is claimed after a command, where its status is zero.
-pub fn tell_zero(
-    claims: &Claims<'_>,
-    place: u32,
-    fault: Fault,
-    known: &Knowledge,
-    least: &mut Least,
-)
-    ensures { least_of least.new ≡ told_within (setting claims.now) (views.AfterZero place) (fault_of fault) (facts_in (setting claims.now) known.now) (least_of least.old) }
-{
-    let facts = claims.zero_facts(place);
-    tell(claims, &facts, fault, known, least);
-}
-
-/// Of what is claimed after a command, where its status is another one.
-pub fn tell_nonzero(
-    claims: &Claims<'_>,
-    place: u32,
-    fault: Fault,
-    known: &Knowledge,
-    least: &mut Least,
-)
-    ensures { least_of least.new ≡ told_within (setting claims.now) (views.AfterNonzero place) (fault_of fault) (facts_in (setting claims.now) known.now) (least_of least.old) }
-{
-    let facts = claims.nonzero_facts(place);
-    tell(claims, &facts, fault, known, least);
-}
-
-/// Of what is claimed at each turn of a loop.
-pub fn tell_head(
-    claims: &Claims<'_>,
-    place: u32,
-    fault: Fault,
-    known: &Knowledge,
-    least: &mut Least,
-)
-    ensures { least_of least.new ≡ told_within (setting claims.now) (views.Head place) (fault_of fault) (facts_in (setting claims.now) known.now) (least_of least.old) }
-{
-    let facts = claims.turn_facts(place);
-    tell(claims, &facts, fault, known, least);
-}
-
-/// Of what is claimed where a function is entered.
-pub fn tell_entry(
-    claims: &Claims<'_>,
-    name: &[u8],
-    fault: Fault,
-    known: &Knowledge,
-    least: &mut Least,
-)
-    ensures { least_of least.new ≡ told_within (setting claims.now) (views.Entry name.now) (fault_of fault) (facts_in (setting claims.now) known.now) (least_of least.old) }
-{
-    let facts = claims.entry_facts(name);
-    tell(claims, &facts, fault, known, least);
-}
-
-/// Of what is claimed where a function returns with status zero.
-pub fn tell_return_zero(
-    claims: &Claims<'_>,
-    name: &[u8],
-    fault: Fault,
-    known: &Knowledge,
-    least: &mut Least,
-)
-    ensures { least_of least.new ≡ told_within (setting claims.now) (views.ReturnsZero name.now) (fault_of fault) (facts_in (setting claims.now) known.now) (least_of least.old) }
-{
-    let facts = claims.return_zero_facts(name);
-    tell(claims, &facts, fault, known, least);
-}
-
-/// Of what is claimed where a function returns with another status.
-pub fn tell_return_nonzero(
-    claims: &Claims<'_>,
-    name: &[u8],
-    fault: Fault,
-    known: &Knowledge,
-    least: &mut Least,
-)
-    ensures { least_of least.new ≡ told_within (setting claims.now) (views.ReturnsNonzero name.now) (fault_of fault) (facts_in (setting claims.now) known.now) (least_of least.old) }
-{
-    let facts = claims.return_nonzero_facts(name);
-    tell(claims, &facts, fault, known, least);
-}
-
 /// Of what is claimed after a command, by its status.
 #[tactic(auto, unfolding(crate::specs::Bounds::leaves_told))]
-pub fn tell_leaves(claims: &Claims<'_>, fault: Fault, behind: &Behind, least: &mut Least)
-    ensures { least_of least.new ≡ bounds.leaves_told (setting claims.now) (fault_of fault) (behind_in (setting claims.now) behind.now) (least_of least.old) }
+pub fn tell_leaves<A: Asked>(claims: &Claims<'_>, fault: Fault, behind: &Behind, asked: &mut A)
+    ensures { A.kept asked.new ≡ bounds.leaves_told A.asked (setting claims.now) (fault_of fault) (behind_in (setting claims.now) behind.now) (A.kept asked.old) }
 {
-    tell_zero(claims, fault.number, fault, &behind.zero, least);
-    tell_nonzero(claims, fault.number, fault, &behind.nonzero, least);
+    asked.bound(claims, Place::Zero(fault.number), fault, &behind.zero);
+    asked.bound(claims, Place::Nonzero(fault.number), fault, &behind.nonzero);
 }
 
 // A condition, and its list where it is zero.
 #[tactic(auto, unfolding(crate::specs::Tells::branch_told))]
-fn tell_branch(
+fn tell_branch<A: Asked>(
     claims: &Claims<'_>,
     number: u32,
     known: &mut Knowledge,
     branch: &Branch,
-    least: &mut Least,
+    asked: &mut A,
 )
-    ensures { trail (facts_in (setting claims.now) known.new) (least_of least.new) ≡ tells.branch_told (setting claims.now) number (trail (facts_in (setting claims.now) known.old) (least_of least.old)) branch.now }
+    ensures { trail (facts_in (setting claims.now) known.new) (A.kept asked.new) ≡ tells.branch_told A.asked (setting claims.now) number (trail (facts_in (setting claims.now) known.old) (A.kept asked.old)) branch.now }
 {
     let condition = script_behind(claims, &*known, &branch.condition);
     let body = script_behind(claims, &condition.zero, &branch.body);
     let rule = FlowRule::F6;
-    tell_leaves(claims, Fault { number, rule }, &body, least);
+    tell_leaves(claims, Fault { number, rule }, &body, asked);
     *known = condition.nonzero;
 }
 
-fn tell_branches(
+fn tell_branches<A: Asked>(
     claims: &Claims<'_>,
     number: u32,
     known: &mut Knowledge,
     branches: &[Branch],
-    least: &mut Least,
+    asked: &mut A,
 )
-    ensures { trail (facts_in (setting claims.now) known.new) (least_of least.new) ≡ fold (tells.branch_told (setting claims.now) number) (trail (facts_in (setting claims.now) known.old) (least_of least.old)) branches.now }
+    ensures { trail (facts_in (setting claims.now) known.new) (A.kept asked.new) ≡ fold (tells.branch_told A.asked (setting claims.now) number) (trail (facts_in (setting claims.now) known.old) (A.kept asked.old)) branches.now }
 {
     for branch in branches {
-        tell_branch(claims, number, known, branch, least);
+        tell_branch(claims, number, known, branch, asked);
     }
 }
 
 #[tactic(auto, unfolding(crate::specs::Tells::otherwise_told))]
-fn tell_otherwise(
+fn tell_otherwise<A: Asked>(
     claims: &Claims<'_>,
     number: u32,
     known: &Knowledge,
     otherwise: &Option<Script>,
-    least: &mut Least,
+    asked: &mut A,
 )
-    ensures { least_of least.new ≡ tells.otherwise_told (setting claims.now) number (trail (facts_in (setting claims.now) known.now) (least_of least.old)) otherwise.now }
+    ensures { A.kept asked.new ≡ tells.otherwise_told A.asked (setting claims.now) number (trail (facts_in (setting claims.now) known.now) (A.kept asked.old)) otherwise.now }
 {
     let rule = FlowRule::F6;
     let fault = Fault { number, rule };
     match otherwise {
         Some(list) => {
             let behind = script_behind(claims, known, list);
-            tell_leaves(claims, fault, &behind, least);
+            tell_leaves(claims, fault, &behind, asked);
         }
-        None => tell_zero(claims, number, fault, known, least),
+        None => asked.bound(claims, Place::Zero(number), fault, known),
     }
 }
 
 // The head of a loop is entered from before it and from the end of each turn.
 #[tactic(auto, unfolding(crate::specs::Bounds::loop_told))]
-fn tell_loop(
+fn tell_loop<A: Asked>(
     claims: &Claims<'_>,
     number: u32,
     kind: LoopKind,
     known: &Knowledge,
     condition: &Script,
     body: &Script,
-    least: &mut Least,
+    asked: &mut A,
 )
-    ensures { least_of least.new ≡ tells.loop_left (setting claims.now) number kind (facts_in (setting claims.now) known.now) condition.now body.now (least_of least.old) }
+    ensures { A.kept asked.new ≡ tells.loop_left A.asked (setting claims.now) number kind (facts_in (setting claims.now) known.now) condition.now body.now (A.kept asked.old) }
 {
     let rule = FlowRule::F7;
     let fault = Fault { number, rule };
     let tested = script_behind(claims, &claims.head(number), condition);
     let turn = script_behind(claims, &tested.at_turn(kind), body);
-    tell_head(claims, number, fault, known, least);
-    tell_head(claims, number, fault, &turn.in_any_case(), least);
-    tell_leaves(claims, fault, &Behind::both(&tested.at_end(kind)), least);
+    asked.bound(claims, Place::Head(number), fault, known);
+    asked.bound(claims, Place::Head(number), fault, &turn.in_any_case());
+    tell_leaves(claims, fault, &Behind::both(&tested.at_end(kind)), asked);
 }
 
 #[tactic(auto, unfolding(crate::specs::Bounds::for_told))]
-fn tell_for(
+fn tell_for<A: Asked>(
     claims: &Claims<'_>,
     number: u32,
     name: Span,
     known: &Knowledge,
     body: &Script,
-    least: &mut Least,
+    asked: &mut A,
 )
-    ensures { least_of least.new ≡ tells.for_left (setting claims.now) number name (facts_in (setting claims.now) known.now) body.now (least_of least.old) }
+    ensures { A.kept asked.new ≡ tells.for_left A.asked (setting claims.now) number name (facts_in (setting claims.now) known.now) body.now (A.kept asked.old) }
 {
     let rule = FlowRule::F8;
     let fault = Fault { number, rule };
@@ -228,9 +120,9 @@ fn tell_for(
     let mut inside = head;
     gain_variable(claims, (&*claims).text(name), &mut inside);
     let turn = script_behind(claims, &inside, body);
-    tell_head(claims, number, fault, known, least);
-    tell_head(claims, number, fault, &turn.in_any_case(), least);
-    tell_leaves(claims, fault, &Behind::both(&head), least);
+    asked.bound(claims, Place::Head(number), fault, known);
+    asked.bound(claims, Place::Head(number), fault, &turn.in_any_case());
+    tell_leaves(claims, fault, &Behind::both(&head), asked);
 }
 
 // Behind words.
@@ -265,47 +157,53 @@ fn ends_case(end: ClauseEnd, rest: &[Clause]) -> bool
 
 // A clause, behind the word and what falls into it.
 #[tactic(auto, unfolding(crate::specs::Bounds::clause_told))]
-fn tell_clause(claims: &Claims<'_>, number: u32, is_last: bool, left: &Behind, least: &mut Least)
-    ensures { least_of least.new ≡ bounds.clause_told (setting claims.now) number is_last (behind_in (setting claims.now) left.now) (least_of least.old) }
+fn tell_clause<A: Asked>(
+    claims: &Claims<'_>,
+    number: u32,
+    is_last: bool,
+    left: &Behind,
+    asked: &mut A,
+)
+    ensures { A.kept asked.new ≡ bounds.clause_told A.asked (setting claims.now) number is_last (behind_in (setting claims.now) left.now) (A.kept asked.old) }
 {
     if is_last {
         let rule = FlowRule::F9;
-        tell_leaves(claims, Fault { number, rule }, left, least);
+        tell_leaves(claims, Fault { number, rule }, left, asked);
     }
 }
 
 // A clause, with what falls into the next one.
-fn go_through(
+fn go_through<A: Asked>(
     claims: &Claims<'_>,
     number: u32,
     behind: &Knowledge,
     fallen: &mut Knowledge,
     is_last: bool,
     clause: &Clause,
-    least: &mut Least,
+    asked: &mut A,
 )
-    ensures { trail (facts_in (setting claims.now) fallen.new) (least_of least.new) ≡ tells.clause_left (setting claims.now) number (facts_in (setting claims.now) behind.now) (trail (facts_in (setting claims.now) fallen.old) (least_of least.old)) is_last clause.now }
+    ensures { trail (facts_in (setting claims.now) fallen.new) (A.kept asked.new) ≡ tells.clause_left A.asked (setting claims.now) number (facts_in (setting claims.now) behind.now) (trail (facts_in (setting claims.now) fallen.old) (A.kept asked.old)) is_last clause.now }
 {
     let seen = met(behind, &*fallen);
     let left = script_behind(claims, &seen, &clause.body);
-    tell_clause(claims, number, is_last, &left, least);
+    tell_clause(claims, number, is_last, &left, asked);
     *fallen = left.falling(clause.end);
 }
 
-fn tell_clauses(
+fn tell_clauses<A: Asked>(
     claims: &Claims<'_>,
     number: u32,
     behind: &Knowledge,
     fallen: &mut Knowledge,
     clauses: &[Clause],
-    least: &mut Least,
+    asked: &mut A,
 )
-    ensures { trail (facts_in (setting claims.now) fallen.new) (least_of least.new) ≡ tells.clauses_left (setting claims.now) number (facts_in (setting claims.now) behind.now) (trail (facts_in (setting claims.now) fallen.old) (least_of least.old)) clauses.now }
+    ensures { trail (facts_in (setting claims.now) fallen.new) (A.kept asked.new) ≡ tells.clauses_left A.asked (setting claims.now) number (facts_in (setting claims.now) behind.now) (trail (facts_in (setting claims.now) fallen.old) (A.kept asked.old)) clauses.now }
 {
     let mut rest = clauses;
     while let [clause, others @ ..] = rest {
         let is_last = ends_case(clause.end, others);
-        go_through(claims, number, behind, fallen, is_last, clause, least);
+        go_through(claims, number, behind, fallen, is_last, clause, asked);
         rest = others;
     }
 }
@@ -337,45 +235,50 @@ fn matches_always(clauses: &[Clause], script: &[u8]) -> bool
 }
 
 #[tactic(auto, unfolding(crate::specs::Bounds::unmatched_told))]
-fn tell_unmatched(
+fn tell_unmatched<A: Asked>(
     claims: &Claims<'_>,
     number: u32,
     always: bool,
     behind: &Knowledge,
-    least: &mut Least,
+    asked: &mut A,
 )
-    ensures { least_of least.new ≡ bounds.unmatched_told (setting claims.now) number always (facts_in (setting claims.now) behind.now) (least_of least.old) }
+    ensures { A.kept asked.new ≡ bounds.unmatched_told A.asked (setting claims.now) number always (facts_in (setting claims.now) behind.now) (A.kept asked.old) }
 {
     if !always {
         let rule = FlowRule::F9;
-        tell_zero(claims, number, Fault { number, rule }, behind, least);
+        asked.bound(claims, Place::Zero(number), Fault { number, rule }, behind);
     }
 }
 
-fn tell_case(
+fn tell_case<A: Asked>(
     claims: &Claims<'_>,
     number: u32,
     behind: &Knowledge,
     clauses: &[Clause],
-    least: &mut Least,
+    asked: &mut A,
 )
-    ensures { least_of least.new ≡ tells.case_left (setting claims.now) number (facts_in (setting claims.now) behind.now) clauses.now (least_of least.old) }
+    ensures { A.kept asked.new ≡ tells.case_left A.asked (setting claims.now) number (facts_in (setting claims.now) behind.now) clauses.now (A.kept asked.old) }
 {
     let mut fallen = Knowledge::NotReached;
-    tell_clauses(claims, number, behind, &mut fallen, clauses, least);
+    tell_clauses(claims, number, behind, &mut fallen, clauses, asked);
     let always = matches_always(clauses, claims.script);
-    tell_unmatched(claims, number, always, behind, least);
+    tell_unmatched(claims, number, always, behind, asked);
 }
 
 // The body of a function is where it returns.
-fn tell_returns(claims: &Claims<'_>, name: &[u8], body: u32, least: &mut Least)
-    ensures { least_of least.new ≡ tells.returns_told (setting claims.now) name.now body (least_of least.old) }
+fn tell_returns<A: Asked>(claims: &Claims<'_>, name: &[u8], body: u32, asked: &mut A)
+    ensures { A.kept asked.new ≡ tells.returns_told A.asked (setting claims.now) name.now body (A.kept asked.old) }
 {
     let number = body;
     let rule = FlowRule::F13;
     let fault = Fault { number, rule };
-    tell_return_zero(claims, name, fault, &claims.zero(body), least);
-    tell_return_nonzero(claims, name, fault, &claims.nonzero(body), least);
+    asked.bound(claims, Place::ReturnZero(name), fault, &claims.zero(body));
+    asked.bound(
+        claims,
+        Place::ReturnNonzero(name),
+        fault,
+        &claims.nonzero(body),
+    );
 }
 
 // What is known behind a definition.
@@ -386,78 +289,94 @@ fn define(claims: &Claims<'_>, name: &[u8], known: &mut Knowledge)
     known.define(claims.names, name);
 }
 
-fn tell_define(claims: &Claims<'_>, number: u32, name: &[u8], body: &Command, least: &mut Least)
-    ensures { least_of least.new ≡ tells.define_left (setting claims.now) number name.now body.now (least_of least.old) }
+fn tell_define<A: Asked>(
+    claims: &Claims<'_>,
+    number: u32,
+    name: &[u8],
+    body: &Command,
+    asked: &mut A,
+)
+    ensures { A.kept asked.new ≡ tells.define_left A.asked (setting claims.now) number name.now body.now (A.kept asked.old) }
 {
     let rule = FlowRule::F13;
     let mut behind = claims.before(number);
     define(claims, name, &mut behind);
-    tell_zero(claims, number, Fault { number, rule }, &behind, least);
-    tell_returns(claims, name, body.number, least);
+    asked.bound(claims, Place::Zero(number), Fault { number, rule }, &behind);
+    tell_returns(claims, name, body.number, asked);
 }
 
 /// What a compound command claims, behind whose redirections this is known; of a simple command nothing.
 #[tactic(auto, using(crate::proofs::TellLemmas::told_kinds), unfolding(crate::specs::Tells::for_words_gained))]
-pub fn tell_compound(
+pub fn tell_compound<A: Asked>(
     claims: &Claims<'_>,
     number: u32,
     known: &Knowledge,
     kind: &Kind,
-    least: &mut Least,
+    asked: &mut A,
 )
-    ensures { least_of least.new ≡ tells.kind_told (setting claims.now) number (facts_in (setting claims.now) known.now) kind.now (least_of least.old) }
+    ensures { A.kept asked.new ≡ tells.kind_told A.asked (setting claims.now) number (facts_in (setting claims.now) known.now) kind.now (A.kept asked.old) }
 {
     match kind {
         Kind::Simple(_) => (),
         Kind::Group(list) => {
             let rule = FlowRule::F10;
             let behind = script_behind(claims, known, list);
-            tell_leaves(claims, Fault { number, rule }, &behind, least);
+            tell_leaves(claims, Fault { number, rule }, &behind, asked);
         }
         Kind::Subshell(_) => {
             let rule = FlowRule::F11;
             let behind = Behind::both(&claims.before(number));
-            tell_leaves(claims, Fault { number, rule }, &behind, least);
+            tell_leaves(claims, Fault { number, rule }, &behind, asked);
         }
         Kind::Cond {
             branches,
             otherwise,
         } => {
             let mut left = *known;
-            tell_branches(claims, number, &mut left, branches.as_slice(), least);
-            tell_otherwise(claims, number, &left, otherwise, least);
+            tell_branches(claims, number, &mut left, branches.as_slice(), asked);
+            tell_otherwise(claims, number, &left, otherwise, asked);
         }
         Kind::Loop {
             kind: turns,
             condition,
             body,
-        } => tell_loop(claims, number, *turns, known, condition, body, least),
+        } => tell_loop(claims, number, *turns, known, condition, body, asked),
         Kind::For { name, words, body } => {
             let mut behind = *known;
             if let Some(words) = words {
                 gain_words(claims, words.as_slice(), &mut behind);
             }
-            tell_for(claims, number, *name, &behind, body, least);
+            tell_for(claims, number, *name, &behind, body, asked);
         }
         Kind::Branches { word, clauses } => {
             let mut behind = *known;
             gain_word(claims, word, &mut behind);
-            tell_case(claims, number, &behind, clauses.as_slice(), least);
+            tell_case(claims, number, &behind, clauses.as_slice(), asked);
         }
         Kind::Define { name, body } => {
-            tell_define(claims, number, (&*claims).text(*name), body.get(), least)
+            tell_define(claims, number, (&*claims).text(*name), body.get(), asked)
         }
     }
 }
 
 /// Where a redirection of a compound command fails, what was known before it is known.
 #[tactic(auto, unfolding(crate::specs::Bounds::redirects_told))]
-pub fn tell_redirects(claims: &Claims<'_>, number: u32, is_redirected: bool, least: &mut Least)
-    ensures { least_of least.new ≡ bounds.redirects_told (setting claims.now) number is_redirected (least_of least.old) }
+pub fn tell_redirects<A: Asked>(
+    claims: &Claims<'_>,
+    number: u32,
+    is_redirected: bool,
+    asked: &mut A,
+)
+    ensures { A.kept asked.new ≡ bounds.redirects_told A.asked (setting claims.now) number is_redirected (A.kept asked.old) }
 {
     if is_redirected {
         let rule = FlowRule::F10;
         let before = claims.before(number);
-        tell_nonzero(claims, number, Fault { number, rule }, &before, least);
+        asked.bound(
+            claims,
+            Place::Nonzero(number),
+            Fault { number, rule },
+            &before,
+        );
     }
 }

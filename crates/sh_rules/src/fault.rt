@@ -1,7 +1,7 @@
 //! The least command that breaks a flow rule, with the least of the rules that it breaks.
 ghost use Rattle.std.specs.Prelude.{◌≡◌, option_map};
 ghost use Rattle.sh_facts.specs.Faults as spec;
-ghost use Rattle.sh_rules.specs.Bounds.{with_test};
+ghost use Rattle.sh_rules.specs.LeastFault.{with_test};
 ghost use Rattle.sh_rules.specs.Tells.{fault_of, least_of};
 
 use sh_facts::rule::FlowRule;
@@ -48,7 +48,7 @@ pub struct Least {
 
 impl Least {
     /// The fault is told where the test fails.
-    #[tactic(auto, unfolding(crate::specs::Bounds::with_test))]
+    #[tactic(auto, unfolding(crate::specs::LeastFault::with_test))]
     pub fn tell(&mut self, holds: bool, fault: Fault)
         ensures { least_of self.new ≡ with_test holds (fault_of fault) (least_of self.old) }
     {

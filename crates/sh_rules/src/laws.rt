@@ -1,6 +1,8 @@
 //! What the walk is good for, and what the rules ask.
-ghost use Rattle.sh_rules.specs.Asked.{AskedOfFacts};
+ghost use Rattle.sh_rules.specs.Asked.{AskedOfFacts, LeastOfConstraints, LeastOfScripts, PrefixesAreNumbered, TableDefines};
 ghost use Rattle.sh_rules.specs.Meaning.{WalkEnters};
+
+use crate::asked::Asked;
 
 /// A walk from what is known at the start meets each command as the flow rules enter it, in their order: with the rule that enters it, what
 /// stands round it, and what is seen there, of the names that are numbered.
@@ -8,9 +10,27 @@ pub fn entered()
     ensures { WalkEnters }
 {}
 
-/// What the flow rules ask of several views at a place is asked of what is known there, of the names that are numbered: at each place, at each
-/// compound command and where one has redirections, at each simple command, by what its name means, with where it jumps to,
-/// and at a whole command, with what it drops.
-pub fn asked()
-    ensures { AskedOfFacts }
+/// What the flow rules ask of several views at a place is asked of what is known there, of the names that are numbered, whatever is done
+/// with it that goes by constraints: at each compound command and where one has redirections, at each simple command, by what its name
+/// means, with where it jumps to, at a whole command, with what it drops, and over a script, by a walk that does it at each command.
+pub fn asked<A: Asked>()
+    ensures { AskedOfFacts A.Kept A.asked }
+{}
+
+/// The least fault so far goes by constraints: it is the least of those that fail.
+pub fn least_by()
+    ensures { LeastOfConstraints }
+{}
+
+/// A walk over a script from what is known at the start that tells of each command, and keeps the least fault, has the least fault of the
+/// certificate at its end: the first command that breaks a flow rule, with the first of the rules that it breaks.
+pub fn least()
+    ensures { LeastOfScripts }
+{}
+
+/// The names of a script suffice for its rules: those of prefix assignments are among them; and the functions of its call table are those
+/// that its commands define.
+pub fn names()
+    ensures prefixes { PrefixesAreNumbered }
+    ensures functions { TableDefines }
 {}

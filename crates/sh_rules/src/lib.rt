@@ -2,11 +2,13 @@
 #![tactic(auto)]
 
 pub mod around;
+pub mod asked;
 pub mod behind;
 pub mod bounds;
 pub mod claims;
 pub mod fault;
 pub mod gains;
 pub mod laws;
+pub mod place;
 mod slots;
 pub mod walk;

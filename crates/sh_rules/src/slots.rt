@@ -1,5 +1,6 @@
 //! What a certificate claims at each place of a script.
-ghost use Rattle.std.specs.Prelude.{◌≡◌, ◌-◌, slice_get, map, position};
+ghost use Rattle.std.specs.Prelude.{◌≡◌, ◌<◌, ◌-◌, ℕ, List, [], true, false, length, slice_get, map, position};
+ghost use Rattle.std.specs.List.{list_all};
 ghost use Rattle.std.specs.Option.{option_copied};
 ghost use Rattle.std.specs.Str.{bytes_eq};
 ghost use Rattle.sh_tree.specs.Tree.{text_of};
@@ -9,12 +10,22 @@ ghost use Rattle.sh_facts.specs.Views as views;
 ghost use Rattle.sh_rules.specs.Settings.{known_at};
 ghost use Rattle.sh_rules.specs.Walks.{facts_in, head_of, setting};
 ghost use Rattle.sh_facts.specs.Facts.{within};
-ghost use Rattle.sh_rules.specs.Bounds.{claimed_at};
+ghost use Rattle.sh_rules.specs.Settings.{certificate, claimed_at};
+ghost use Rattle.sh_rules.specs.Places.{slot_of};
 ghost use Rattle.sh_rules.specs.Tells.{claim_in};
+ghost use Rattle.sh_table.specs.runs.Environment.{is_one_of};
+ghost use Rattle.sh_facts.specs.Certificates.{in_byte_order, names_at};
+ghost use Rattle.sh_facts.specs.Faults.{are_among};
+ghost use Rattle.sh_facts.specs.KeptRows.{holds_at};
+ghost use Rattle.sh_facts.specs.Knowledge.{AreNumbered};
+ghost use Rattle.sh_tree.specs.program.Syntax.{Text};
+ghost use Rattle.sh_rules.specs.Asking.{one_function, one_variable};
 
 use crate::claims::Claims;
+use crate::place::Place;
 use sh_facts::certificate::{Entry, Facts, FunctionEntry};
 use sh_facts::knowledge::Knowledge;
+use sh_facts::rows::{RowId, Rows};
 use sh_tree::tree::Span;
 
 impl Claims<'_> {
@@ -122,9 +133,9 @@ impl Claims<'_> {
         known.includes(&self.certificate.rows, facts)
     }
 
-    /// Before a command.
+    // Before a command.
     #[tactic(auto, using(crate::proofs::ClaimLemmas::before_there, crate::proofs::ClaimLemmas::before_away))]
-    pub fn before_facts(&self, number: u32) -> Facts
+    fn before_facts(&self, number: u32) -> Facts
         ensures { claim_in (setting self.now) result ≡ claimed_at (setting self.now) (views.Before number) }
     {
         match self.entry(number) {
@@ -133,9 +144,9 @@ impl Claims<'_> {
         }
     }
 
-    /// After a command, where its status is zero.
+    // After a command, where its status is zero.
     #[tactic(auto, using(crate::proofs::ClaimLemmas::zero_there, crate::proofs::ClaimLemmas::zero_away))]
-    pub fn zero_facts(&self, number: u32) -> Facts
+    fn zero_facts(&self, number: u32) -> Facts
         ensures { claim_in (setting self.now) result ≡ claimed_at (setting self.now) (views.AfterZero number) }
     {
         match self.entry(number) {
@@ -144,9 +155,9 @@ impl Claims<'_> {
         }
     }
 
-    /// After a command, where its status is another one.
+    // After a command, where its status is another one.
     #[tactic(auto, using(crate::proofs::ClaimLemmas::nonzero_there, crate::proofs::ClaimLemmas::nonzero_away))]
-    pub fn nonzero_facts(&self, number: u32) -> Facts
+    fn nonzero_facts(&self, number: u32) -> Facts
         ensures { claim_in (setting self.now) result ≡ claimed_at (setting self.now) (views.AfterNonzero number) }
     {
         match self.entry(number) {
@@ -155,9 +166,9 @@ impl Claims<'_> {
         }
     }
 
-    /// At each turn of a loop.
+    // At each turn of a loop.
     #[tactic(auto, using(crate::proofs::ClaimLemmas::head_there, crate::proofs::ClaimLemmas::head_away))]
-    pub fn turn_facts(&self, number: u32) -> Facts
+    fn turn_facts(&self, number: u32) -> Facts
         ensures { claim_in (setting self.now) result ≡ claimed_at (setting self.now) (views.Head number) }
     {
         match self.head_facts(number) {
@@ -166,9 +177,9 @@ impl Claims<'_> {
         }
     }
 
-    /// Where a function is entered.
+    // Where a function is entered.
     #[tactic(auto, using(crate::proofs::ClaimLemmas::entry_there, crate::proofs::ClaimLemmas::entry_away))]
-    pub fn entry_facts(&self, name: &[u8]) -> Facts
+    fn entry_facts(&self, name: &[u8]) -> Facts
         ensures { claim_in (setting self.now) result ≡ claimed_at (setting self.now) (views.Entry name.now) }
     {
         match self.function(name) {
@@ -177,9 +188,9 @@ impl Claims<'_> {
         }
     }
 
-    /// Where a function returns with status zero.
+    // Where a function returns with status zero.
     #[tactic(auto, using(crate::proofs::ClaimLemmas::return_zero_there, crate::proofs::ClaimLemmas::return_zero_away))]
-    pub fn return_zero_facts(&self, name: &[u8]) -> Facts
+    fn return_zero_facts(&self, name: &[u8]) -> Facts
         ensures { claim_in (setting self.now) result ≡ claimed_at (setting self.now) (views.ReturnsZero name.now) }
     {
         match self.function(name) {
@@ -188,9 +199,9 @@ impl Claims<'_> {
         }
     }
 
-    /// Where a function returns with another status.
+    // Where a function returns with another status.
     #[tactic(auto, using(crate::proofs::ClaimLemmas::return_nonzero_there, crate::proofs::ClaimLemmas::return_nonzero_away))]
-    pub fn return_nonzero_facts(&self, name: &[u8]) -> Facts
+    fn return_nonzero_facts(&self, name: &[u8]) -> Facts
         ensures { claim_in (setting self.now) result ≡ claimed_at (setting self.now) (views.ReturnsNonzero name.now) }
     {
         match self.function(name) {
@@ -198,6 +209,89 @@ impl Claims<'_> {
             None => Facts::NotReached,
         }
     }
+}
+
+impl Claims<'_> {
+    /// What is claimed at a place, as the certificate keeps it.
+    pub fn facts_at(&self, place: Place<'_>) -> Facts
+        ensures { claim_in (setting self.now) result ≡ claimed_at (setting self.now) (slot_of place.entry) }
+    {
+        match place {
+            Place::Before(number) => self.before_facts(number),
+            Place::Zero(number) => self.zero_facts(number),
+            Place::Nonzero(number) => self.nonzero_facts(number),
+            Place::Head(number) => self.turn_facts(number),
+            Place::Entry(name) => self.entry_facts(name),
+            Place::ReturnZero(name) => self.return_zero_facts(name),
+            Place::ReturnNonzero(name) => self.return_nonzero_facts(name),
+        }
+    }
+}
+
+// What a function drops.
+impl Claims<'_> {
+    /// Whether a function drops a variable.
+    #[tactic(auto, using(crate::proofs::DropLemmas::variable_away))]
+    pub fn drops_variable(&self, function: &[u8], name: &[u8]) -> bool
+        ensures { result ≡ are_among (one_variable name.now) ((certificate (setting self.now)).drops function.now) }
+    {
+        match self.function(function) {
+            Some(entry) => entry
+                .drops
+                .has_variable(self.names, &self.certificate.rows, name),
+            None => false,
+        }
+    }
+
+    /// Whether a function drops a function.
+    #[tactic(auto, using(crate::proofs::DropLemmas::function_away))]
+    pub fn drops_function(&self, function: &[u8], name: &[u8]) -> bool
+        ensures { result ≡ are_among (one_function name.now) ((certificate (setting self.now)).drops function.now) }
+    {
+        match self.function(function) {
+            Some(entry) => entry
+                .drops
+                .has_function(self.names, &self.certificate.rows, name),
+            None => false,
+        }
+    }
+
+    /// Whether a function drops all that another one drops.
+    pub fn drops_like(&self, function: &[u8], callee: &[u8]) -> bool
+        ensures { result ≡ are_among ((certificate (setting self.now)).drops callee.now) ((certificate (setting self.now)).drops function.now) }
+    {
+        let rows = &self.certificate.rows;
+        match self.function(callee) {
+            Some(called) => match self.function(function) {
+                Some(entry) => entry.drops.includes(rows, &called.drops),
+                None => {
+                    is_row_empty(rows, called.drops.vars)
+                        && is_row_empty(rows, called.drops.functions)
+                }
+            },
+            None => true,
+        }
+    }
+}
+
+// Whether no number below the count is in a row.
+fn holds_none(rows: &Rows, id: RowId) -> bool
+    ensures none { result ≡ true → (k : ℕ) → k < rows.now.count → holds_at rows.now.rows id.index k ≡ false }
+    ensures some { result ≡ false → (k : ℕ) × (k < rows.now.count) × (holds_at rows.now.rows id.index k ≡ true) }
+{
+    for number in 0..rows.count() {
+        if rows.has(id, number) {
+            return false;
+        }
+    }
+    true
+}
+
+// Whether a row has no names.
+fn is_row_empty(rows: &Rows, id: RowId) -> bool
+    ensures { (names : List Text) → AreNumbered names → rows.now.count ≡ length names → result ≡ list_all (is_one_of []) (names_at (in_byte_order names) rows.now id) }
+{
+    holds_none(rows, id)
 }
 
 fn position_of(name: &[u8], names: &[Vec<u8>]) -> Option<usize>

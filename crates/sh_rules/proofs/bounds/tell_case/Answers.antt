@@ -1,5 +1,4 @@
 use Rattle.sh_facts.specs.declared.knowledge.Knowledge.TheVariants as knowledge
-use Rattle.sh_rules.specs.Tells.{least_of}
 use Rattle.sh_rules.specs.Walks.{facts_in, setting}
 use Rattle.sh_rules.proofs.BehindLemmas.{nothing_known}
 use Rattle.sh_rules.proofs.TellLemmas.{case_told}
@@ -7,8 +6,8 @@ use Rattle.sh_rules.proofs.bounds.tell_case.Goals as goal
 
 pub returns : goal.returns
 unfolding setting
-returns c =
+returns g c =
     let x = setting c.args.claims.now in
-    case_told x c.args.number (facts_in x c.args.behind.now) c.args.clauses.now (least_of c.args.least.now) (least_of c.tell_clauses.new.least) (least_of c.tell_unmatched.new.least)
+    case_told g.A.Asked.asked x c.args.number (facts_in x c.args.behind.now) c.args.clauses.now (g.A.Asked.kept c.args.asked.now) (g.A.Asked.kept c.tell_clauses.new.asked) (g.A.Asked.kept c.tell_unmatched.new.asked)
     c.matches_always-always.result (facts_in x c.tell_clauses.new.fallen) (facts_in x knowledge.NotReached)
     c.tell_unmatched.ensures c.matches_always-always.ensures c.tell_clauses.ensures (nothing_known x)
