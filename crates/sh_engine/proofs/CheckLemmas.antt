@@ -22,7 +22,7 @@ use Rattle.sh_engine.specs.Judged.{TellsFault, Judges}
 use Rattle.sh_facts.specs.declared.certificate.Certificate.{Certificate}
 use Rattle.sh_engine.specs.Prepared.{IsPrepared, AnswersText, sheet_in}
 use Rattle.sh_engine.specs.Told.{TellsPlaces}
-use Rattle.sh_engine.specs.declared.check.Fault as declared
+use Rattle.sh_rules.specs.declared.fault.Fault as declared
 use Rattle.sh_engine.specs.declared.prepared.Prepared.{Prepared}
 
 -- the least of some faults is one

@@ -11,11 +11,12 @@ use Rattle.sh_report.specs.declared.verdict.Verdict.{Verdict}
 use Rattle.sh_report.specs.declared.verdict.Verdict.TheVariants.{Pass, Fail, Forged}
 use Rattle.sh_accept.specs.Accepted.{KeepsRules, claims_in}
 use Rattle.sh_accept.specs.Answers.{places}
-use Rattle.sh_engine.specs.declared.check.Fault as declared
+use Rattle.sh_rules.specs.declared.fault.Fault as declared
+use Rattle.sh_rules.specs.Tells.{fault_of}
 
 -- this is the least of the flow rules that it breaks, if it breaks one
 abbrev pub TellsFault : List ℕ → Declared → Script → Sheet → Option declared.Fault → Type 0
-TellsFault b d t c o = least (faults d (claims_in b t c) (script_of b t)) ≡ option_map (λ (f : declared.Fault). record { number = f.number; rule = f.rule }) o
+TellsFault b d t c o = least (faults d (claims_in b t c) (script_of b t)) ≡ option_map fault_of o
 
 -- the least fault, or where there is none the findings, or where there is no place either a pass
 abbrev pub Judges : List ℕ → Declared → Script → Sheet → Verdict → Type 0

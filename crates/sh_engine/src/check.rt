@@ -1,5 +1,5 @@
 //! The check of a certificate: the script first, then the text, then what the rules and the demands say of it.
-ghost use Rattle.std.specs.Prelude.{◌≡◌, IfOk};
+ghost use Rattle.std.specs.Prelude.{◌≡◌, IfOk, length};
 ghost use Rattle.sh_facts.specs.Facts.{Declared};
 ghost use Rattle.sh_accept.specs.Answers.{Checks, places};
 ghost use Rattle.sh_engine.specs.Judged.{Judges, TellsFault};
@@ -10,33 +10,14 @@ use crate::told::verdict_of;
 use sh_check::demands::check_demands;
 use sh_facts::certificate::Certificate;
 use sh_facts::policy::Policy;
-use sh_facts::rule::FlowRule;
 use sh_places::places::check_quotes;
 use sh_report::verdict::Verdict;
+use sh_rules::claims::Claims;
+use sh_rules::fault::Fault;
+use sh_rules::rules::check_rules;
 use sh_tree::place::Place;
 use sh_tree::refusal::Refusal;
 use std::alloc::{AllocError, Global};
-
-/// A flow rule that a certificate breaks, at the command of this number.
-#[derive(Clone, Copy, Debug, PartialEq, Eq)]
-pub struct Fault {
-    pub number: u32,
-    pub rule: FlowRule,
-}
-
-/// What the flow rules say of a certificate.
-pub trait Judge {
-    /// The least command at which the certificate breaks a flow rule, with the least of the rules that it breaks there.
-    fn fault(
-        &self,
-        script: &[u8],
-        policy: &Policy,
-        prepared: &Prepared,
-        certificate: &Certificate,
-    ) -> Option<Fault>
-        requires { IsPrepared script.now policy.now prepared.now }
-        ensures { TellsFault script.now policy.now prepared.now.tree (sheet_in prepared.now certificate.now) result };
-}
 
 /// The places that a certificate of a script that is admitted leaves to be told: the demands that are unmet, then the expansions outside quotes.
 ///
@@ -65,20 +46,40 @@ pub fn places_of(
     Ok(places)
 }
 
+// The least command at which a certificate breaks a flow rule, with the least of the rules that it breaks there.
+fn fault_of(
+    script: &[u8],
+    policy: &Policy,
+    prepared: &Prepared,
+    certificate: &Certificate,
+) -> Option<Fault>
+    requires prepared { IsPrepared script.now policy.now prepared.now }
+    requires sized { certificate.now.rows.count ≡ length prepared.now.names }
+    ensures { TellsFault script.now policy.now prepared.now.tree (sheet_in prepared.now certificate.now) result }
+{
+    let claims = Claims {
+        script,
+        names: &prepared.names,
+        calls: &prepared.table,
+        certificate,
+    };
+    check_rules(&claims, policy, &prepared.tree)
+}
+
 // What is told of a certificate.
 #[tactic(auto, using(crate::proofs::CheckLemmas::forges, crate::proofs::CheckLemmas::keeps))]
-fn judged<J: Judge>(
+fn judged(
     alloc: Global,
     script: &[u8],
     policy: &Policy,
     prepared: &Prepared,
     certificate: &Certificate,
-    judge: &J,
 ) -> Result<Verdict, AllocError>
-    requires { IsPrepared script.now policy.now prepared.now }
+    requires prepared { IsPrepared script.now policy.now prepared.now }
+    requires sized { certificate.now.rows.count ≡ length prepared.now.names }
     ensures { IfOk result (Judges script.now policy.now prepared.now.tree (sheet_in prepared.now certificate.now)) }
 {
-    match judge.fault(script, policy, prepared, certificate) {
+    match fault_of(script, policy, prepared, certificate) {
         Some(fault) => Ok(Verdict::Forged(fault.number, fault.rule)),
         None => {
             let places = places_of(alloc, script, prepared, certificate)?;
@@ -89,19 +90,18 @@ fn judged<J: Judge>(
 
 // What is told of a certificate's text, of a script that is admitted.
 #[tactic(auto, using(crate::proofs::CheckLemmas::exhausted))]
-fn check_prepared<J: Judge>(
+fn check_prepared(
     alloc: Global,
     script: &[u8],
     policy: &Policy,
     prepared: &Prepared,
     text: &[u8],
-    judge: &J,
 ) -> Result<Verdict, Refusal>
     requires { IsPrepared script.now policy.now prepared.now }
     ensures { Checks script.now policy.now text.now result }
 {
     let certificate = certified(alloc, prepared, text)?;
-    let verdict = judged(alloc, script, policy, prepared, &certificate, judge)?;
+    let verdict = judged(alloc, script, policy, prepared, &certificate)?;
     Ok(verdict)
 }
 
@@ -111,15 +111,9 @@ fn check_prepared<J: Judge>(
 ///
 /// The refusal of the script, of its profile, of its names or of the text, in that order; `Memory` where a growth was refused.
 #[tactic(auto, using(crate::proofs::RefusalLemmas::widened))]
-pub fn check<J: Judge>(
-    alloc: Global,
-    script: &[u8],
-    policy: &Policy,
-    text: &[u8],
-    judge: &J,
-) -> Result<Verdict, Refusal>
+pub fn check(alloc: Global, script: &[u8], policy: &Policy, text: &[u8]) -> Result<Verdict, Refusal>
     ensures { Checks script.now policy.now text.now result }
 {
     let prepared = prepare(alloc, script, policy)?;
-    check_prepared(alloc, script, policy, &prepared, text, judge)
+    check_prepared(alloc, script, policy, &prepared, text)
 }

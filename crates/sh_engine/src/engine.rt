@@ -2,10 +2,10 @@
 ghost use Rattle.std.specs.Prelude.{◌≡◌, ◌≤◌, ◌⊎◌, ℕ, List, IfOk, OnOk, OnErr, IsErrOf, length};
 ghost use Rattle.sh_report.specs.Ends.{BoreOnly, FailedBetween, HasRoom, RefusedBetween};
 ghost use Rattle.sh_report.specs.Moves.{BoreAll, Had, TookAtMost, TookWhole};
-ghost use Rattle.sh_report.specs.declared.task.Action.TheVariants as action;
+ghost use Rattle.sh_report.specs.declared.task.Action.TheVariants as actions;
 ghost use Rattle.sh_engine.specs.Runs.{HadText, TellsAnswer, WritesAnswer, WritesFront};
 
-use crate::check::{Judge, check};
+use crate::check::check;
 use sh_facts::limits::MAX_CERTIFICATE;
 use sh_lint::lint::lint;
 use sh_report::ends::{Feed, Outlet};
@@ -29,13 +29,12 @@ pub const CERTIFICATE_READ: usize = MAX_CERTIFICATE + 1;
 ///
 /// `Memory` where a growth was refused and `Read` where a reader failed, each with nothing written; `Write` where the writer
 /// failed, with a front of the text written.
-pub fn run<R: Feed, C: Feed, W: Outlet, J: Judge>(
+pub fn run<R: Feed, C: Feed, W: Outlet>(
     alloc: Global,
     task: &Task,
     script: &mut R,
     cert: &mut C,
     out: &mut W,
-    judge: &J,
 ) -> Result<u8, Fault>
     requires script_room { HasRoom (R.tally script.old) }
     requires cert_room { HasRoom (C.tally cert.old) }
@@ -47,10 +46,10 @@ pub fn run<R: Feed, C: Feed, W: Outlet, J: Judge>(
     ensures script_whole { OnOk result (TookWhole (R.tally script.old) (R.tally script.new) (R.remaining script.old) (R.remaining script.new) SCRIPT_READ) }
     ensures script_written { IsErrOf result Fault.Write → TookWhole (R.tally script.old) (R.tally script.new) (R.remaining script.old) (R.remaining script.new) SCRIPT_READ }
     ensures script_lost { OnErr result (TookAtMost (R.remaining script.old) (R.remaining script.new) SCRIPT_READ) }
-    ensures cert_left { task.now.action ≡ action.Lint → cert.new ≡ cert.old }
-    ensures cert_whole { OnOk result (task.now.action ≡ action.Check → TookWhole (C.tally cert.old) (C.tally cert.new) (C.remaining cert.old) (C.remaining cert.new) CERTIFICATE_READ) }
-    ensures cert_written { IsErrOf result Fault.Write → task.now.action ≡ action.Check → TookWhole (C.tally cert.old) (C.tally cert.new) (C.remaining cert.old) (C.remaining cert.new) CERTIFICATE_READ }
-    ensures cert_lost { OnErr result (task.now.action ≡ action.Check → TookAtMost (C.remaining cert.old) (C.remaining cert.new) CERTIFICATE_READ) }
+    ensures cert_left { task.now.action ≡ actions.Lint → cert.new ≡ cert.old }
+    ensures cert_whole { OnOk result (task.now.action ≡ actions.Check → TookWhole (C.tally cert.old) (C.tally cert.new) (C.remaining cert.old) (C.remaining cert.new) CERTIFICATE_READ) }
+    ensures cert_written { IsErrOf result Fault.Write → task.now.action ≡ actions.Check → TookWhole (C.tally cert.old) (C.tally cert.new) (C.remaining cert.old) (C.remaining cert.new) CERTIFICATE_READ }
+    ensures cert_lost { OnErr result (task.now.action ≡ actions.Check → TookAtMost (C.remaining cert.old) (C.remaining cert.new) CERTIFICATE_READ) }
 
     // After a failed write a front of that text was written, and otherwise nothing.
     ensures front { IsErrOf result Fault.Write → (b t : List ℕ) → Had (R.remaining script.old) SCRIPT_READ b → HadText task.now.action (C.remaining cert.old) CERTIFICATE_READ t
@@ -66,7 +65,7 @@ pub fn run<R: Feed, C: Feed, W: Outlet, J: Judge>(
 {
     let bytes = read_all(alloc, script, SCRIPT_READ)?;
     let text = read_certificate(alloc, task.action, cert)?;
-    let Ok(answer) = answer_of(alloc, task, &bytes, &text, judge) else {
+    let Ok(answer) = answer_of(alloc, task, &bytes, &text) else {
         return Err(Fault::Memory);
     };
     write_all(out, &answer.text)?;
@@ -77,9 +76,9 @@ pub fn run<R: Feed, C: Feed, W: Outlet, J: Judge>(
 fn read_certificate<C: Feed>(alloc: Global, action: Action, cert: &mut C) -> Result<Vec<u8>, Fault>
     requires { HasRoom (C.tally cert.old) }
     ensures taken { IfOk result (λ v. (t : List ℕ) → HadText action (C.remaining cert.old) CERTIFICATE_READ t → v.items ≡ t) }
-    ensures left { action ≡ action.Lint → cert.new ≡ cert.old }
-    ensures whole { OnOk result (action ≡ action.Check → TookWhole (C.tally cert.old) (C.tally cert.new) (C.remaining cert.old) (C.remaining cert.new) CERTIFICATE_READ) }
-    ensures lost { OnErr result (action ≡ action.Check → TookAtMost (C.remaining cert.old) (C.remaining cert.new) CERTIFICATE_READ) }
+    ensures left { action ≡ actions.Lint → cert.new ≡ cert.old }
+    ensures whole { OnOk result (action ≡ actions.Check → TookWhole (C.tally cert.old) (C.tally cert.new) (C.remaining cert.old) (C.remaining cert.new) CERTIFICATE_READ) }
+    ensures lost { OnErr result (action ≡ actions.Check → TookAtMost (C.remaining cert.old) (C.remaining cert.new) CERTIFICATE_READ) }
     ensures bore { OnOk result (BoreAll (C.tally cert.old) (C.tally cert.new)) }
     ensures memory { IsErrOf result Fault.Memory → BoreAll (C.tally cert.old) (C.tally cert.new) }
     ensures failed { IsErrOf result Fault.Read → FailedBetween (C.tally cert.old) (C.tally cert.new) }
@@ -98,19 +97,13 @@ struct Answer {
     status: u8,
 }
 
-fn answer_of<J: Judge>(
-    alloc: Global,
-    task: &Task,
-    script: &[u8],
-    text: &[u8],
-    judge: &J,
-) -> Result<Answer, AllocError>
+fn answer_of(alloc: Global, task: &Task, script: &[u8], text: &[u8]) -> Result<Answer, AllocError>
     requires { length script.now ≤ SCRIPT_READ }
     ensures { IfOk result (λ a. TellsAnswer task.now script.now text.now a.text.items a.status) }
 {
     let answer = match task.action {
         Action::Lint => lint(alloc, script, &task.policy),
-        Action::Check => check(alloc, script, &task.policy, text, judge),
+        Action::Check => check(alloc, script, &task.policy, text),
     };
     let text = texts::answer(alloc, script, &answer)?;
     let status = texts::status(&answer);
