@@ -121,8 +121,8 @@ pub record Level (limit : ℕ) (b : List ℕ) (s u : Spot) (t : Script) : Type 0
   pub reads : ReadsSequence limit b unread (within s) end tree
   pub is : u ≡ end.spot
   pub over : waits end.pending ≡ false
-  -- which is the tree where no here-document stands
-  pub bare : end.bodies ≡ [] → ReadsSequence limit b unread (within s) end t
+  -- and with them
+  pub whole : ReadsSequence limit b (nth end.bodies) (within s) end t
 
 pub level_of : {limit : ℕ} {b : List ℕ} {s u : Spot} {t : Script} → ReadsScript limit b s u t → Level limit b s u t
 level_of {limit = limit} {b = b} {s = s} {t = t} l =
@@ -134,5 +134,5 @@ level_of {limit = limit} {b = b} {s = s} {t = t} l =
       reads = g.1;
       is = f.1;
       over = f.2;
-      bare = λ none. subst (λ ds. ReadsSequence limit b (nth ds) (within s) f.0 t) none f.3;
+      whole = f.3;
     }

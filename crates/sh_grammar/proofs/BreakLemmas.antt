@@ -1,5 +1,5 @@
 -- Newlines between commands, and what stands behind blanks.
-use Rattle.std.proofs.Common.{◌≡◌, ℕ, Bool, suc, ◌+◌, ◌≤◌, true, false, not, ◌&&◌, List, [], ◌∷◌, length, drop, map, Some, None, Ok, refl, sym, ap, subst, ◌∙◌, ⊎_elim, arith}
+use Rattle.std.proofs.Common.{◌≡◌, ℕ, Bool, suc, ◌+◌, ◌≤◌, true, false, not, ◌&&◌, List, [], ◌∷◌, length, drop, Some, None, Ok, refl, sym, ap, subst, ◌∙◌, ⊎_elim, le_refl, ◌<◌, arith}
 use Rattle.std.proofs.lemmas.Bool.{true≢false, cases_Bool, cond-true, cond-false, eqb-true}
 use Rattle.std.proofs.lemmas.List.{drop-drop}
 use Rattle.std.proofs.lemmas.List.Sums.{take_while-cons}
@@ -15,14 +15,11 @@ use Rattle.sh_tree.specs.declared.refusal.Refusal.{Refusal}
 use Rattle.sh_tree.specs.declared.refusal.Refusal.TheVariants.{LeftOut}
 use Rattle.sh_tree.proofs.Inversions.{no_breaks, some_breaks}
 use Rattle.sh_tree.proofs.Counts.{breaks_count}
+use Rattle.sh_grammar.specs.Documents.{DocumentsFrom, Passes}
 use Rattle.sh_grammar.specs.Breaks.{BreaksTo, BreaksFrom, Line, LineFrom, LineTo}
 use Rattle.sh_grammar.specs.declared.state.State.{State}
 use Rattle.sh_grammar.specs.Readers.{Refused}
-use Rattle.sh_grammar.specs.States.{IsIn, Lies, here, moved, pending_of, Stands, waiting}
-use Rattle.sh_grammar.specs.Marks.{mark_of}
-use Rattle.sh_grammar.specs.declared.mark.Mark.{Mark}
-use Rattle.sh_grammar.proofs.FaultLemmas.{first_in}
-use Rattle.sh_tree.specs.language.HereDocuments as documents
+use Rattle.sh_grammar.specs.States.{IsIn, Lies, here, moved, pending_of, Stands}
 use Rattle.sh_grammar.proofs.ReaderLemmas.{refused_by}
 
 -- Behind blanks stand none
@@ -95,44 +92,38 @@ blanks_settle joins b i =
 
 -- One newline
 
-pub no_documents : {limit : ℕ} {b : List ℕ} {ms : List documents.Mark} {s v : states.State} → ms ≡ [] → ReadsDocuments limit b ms s v → v ≡ s
-no_documents none r.no_body = refl
-no_documents none (r.more_bodies e a c h k d) = cc
-
 module _ (b : List ℕ) where
   -- one here-document outside waits
   pub line_across : (s : State) (at : ℕ) → Some at ≡ s.outer → Stands b s → Refused b (LineFrom b s) (LeftOut form.HereAcross at)
   unfolding is_some
   line_across s at is stands = (
     subst (IsIn b) (sym is) stands.around,
-    λ told limit k y l. let quiet : is_some s.outer ≡ true = ap is_some (sym is) in true≢false (sym quiet ∙ l.1),
+    λ limit k y l. let quiet : is_some s.outer ≡ true = ap is_some (sym is) in true≢false (sym quiet ∙ l.1),
   )
 
-  -- one of this level waits
-  pub line_later : (s : State) (at : ℕ) → Some at ≡ waiting None s.pending → Stands b s → Refused b (LineFrom b s) (LeftOut form.Later at)
-  line_later s at is stands = (first_in b s.pending at is stands.behind, λ told. absurd (told refl))
+  -- `first` is behind the newline at s, and the bodies lead from there to v
+  module _ (s first v : State) (out : None ≡ s.outer) (is : first ≡ record s { at = s.at + 1; pending = [] }) where
+    -- where the line's bodies are read
+    line_first : here first ≡ on_line (s.at + 1) (here s)
+    line_first = ap here is
 
-  -- none waits
-  pub line_over : (s v : State) → None ≡ s.outer → None ≡ waiting None s.pending → v ≡ moved b (s.at + 1) s → s.at + 1 ≤ v.at → Stands b v → Line b s (Ok v)
-  unfolding is_some
-  line_over s v out none is after stands = record {
-    forth = λ limit u l.
-        let same : l.0 ≡ on_line (s.at + 1) (here s) = no_documents empty l.2 in
-        l.3 ∙ ap (λ w. next b w.spot.at w) same ∙ sym there;
-    back = (on_line (s.at + 1) (here s), ap is_some (sym out), subst (λ ms. ReadsDocuments 64 b ms (on_line (s.at + 1) (here s)) (on_line (s.at + 1) (here s))) (sym empty) r.no_body, there);
-    from = omega arith;
-    stands = stands;
-  }
-    where
-      none_of : (ms : List Mark) → None ≡ waiting None ms → map mark_of ms ≡ []
-      none_of [] h = refl
-      none_of (m ∷ ms) h = cc
+    pub line_refused : (e : Refusal) → Refused b (DocumentsFrom b s.pending first) e → Refused b (LineFrom b s) e
+    line_refused e h = refused_by b (DocumentsFrom b s.pending first) (LineFrom b s) e
+        (λ limit k y l. (l.0, tt, subst (λ x. ReadsDocuments limit b (pending_of s) x l.0) (sym line_first) l.2, same_count k l.0 l.3)) h
+      where
+        same_count : (k u : states.State) → k ≡ next b u.spot.at u → u.spot.count ≤ k.spot.count
+        same_count k u e = subst (λ x. u.spot.count ≤ x.spot.count) (sym e) (le_refl u.spot.count)
 
-      empty : pending_of s ≡ []
-      empty = none_of s.pending none
-
-      there : here v ≡ next b (s.at + 1) (on_line (s.at + 1) (here s))
-      there = ap here is ∙ ap (λ ms. record (here (moved b (s.at + 1) s)) { pending = ms }) empty
+    pub line_over : Passes b (DocumentsFrom b s.pending first) first.at v → (w : State) → w ≡ moved b v.at v → v.at ≤ w.at → Stands b w → Line b s (Ok w)
+    unfolding is_some
+    line_over h w there after stands = record {
+      forth = λ limit u l.
+          let same = h.forth limit l.0 (subst (λ x. ReadsDocuments limit b (pending_of s) x l.0) (sym line_first) l.2) in
+          l.3 ∙ ap (λ x. next b x.spot.at x) same ∙ sym (ap here there);
+      back = (here v, ap is_some (sym out), subst (λ x. ReadsDocuments 64 b (pending_of s) x (here v)) line_first h.back, ap here there);
+      from = let from = h.from in let at : first.at ≡ s.at + 1 = ap (λ (x : State). x.at) is in omega arith;
+      stands = stands;
+    }
 
   -- the same breaks are left at v as at s
   pub record Skips (s v : State) : Type 0 where
@@ -175,8 +166,17 @@ settled_stands b j s stands is inside = record {
   shallow = stands.shallow;
   around = stands.around;
   behind = stands.behind;
-  kept = stands.kept;
 }
+
+-- behind a newline
+pub line_lies : (b : List ℕ) (s first : State) → Stands b s → s.at < length b → first ≡ record s { at = s.at + 1; pending = [] } → Lies b first
+line_lies b s first stands below is = subst (Lies b) (sym is) (record {
+  inside = omega arith;
+  few = stands.few;
+  shallow = stands.shallow;
+  around = stands.around;
+  behind = tt;
+})
 
 pub parted_is : (b : List ℕ) (s : State) → is_newline_lead (lead_at b First s.at) ≡ false → here (moved b (s.at + 1) s) ≡ parted b (here s)
 parted_is b s other = sym (cond-false _ _ _ other)

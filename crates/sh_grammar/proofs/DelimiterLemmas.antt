@@ -43,4 +43,4 @@ no_delimiter : (b : List ℕ) (w : Word) → None ≡ delimiter_in b w → (limi
 no_delimiter b w h limit k x is = let whole : delimiter_in b w ≡ Some (delimiter_of b w) = cond-true _ _ _ is in let wrong : None ≡ Some (delimiter_of b w) = h ∙ whole in cc
 
 pub not_delimiter : (b : List ℕ) (w : Word) → w.span.start < length b → None ≡ delimiter_in b w → Refused b (DelimiterIn b w) (LeftOut form.HereWord w.span.start)
-not_delimiter b w inside h = (inside, λ told. no_delimiter b w h)
+not_delimiter b w inside h = (inside, no_delimiter b w h)

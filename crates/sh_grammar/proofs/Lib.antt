@@ -25,3 +25,5 @@ pub mod DelimiterLemmas
 pub mod KeptLemmas
 pub mod LineLemmas
 pub mod QuoteLemmas
+pub mod DocumentLemmas
+pub mod CheckLemmas

@@ -11,7 +11,7 @@ use Rattle.sh_grammar.specs.Readers.{Reading, One, Nothing, Refused}
 pub refused_by : {A B : Type 0} (b : List ℕ) (R : Reading A) (Q : Reading B) (e : Refusal)
     → ((limit : ℕ) (k : states.State) (y : B) → Q limit k y → (j : states.State) × (x : A) × R limit j x × (j.spot.count ≤ k.spot.count)) → Refused b R e → Refused b Q e
 refused_by b R Q (Syntax f at) inside h = (h.0, λ limit k y l. let t = inside limit k y l in h.1 limit t.0 t.1 t.2)
-refused_by b R Q (LeftOut f at) inside h = (h.0, λ told limit k y l. let t = inside limit k y l in h.1 told limit t.0 t.1 t.2)
+refused_by b R Q (LeftOut f at) inside h = (h.0, λ limit k y l. let t = inside limit k y l in h.1 limit t.0 t.1 t.2)
 refused_by b R Q (TooDeep at) inside h = (h.0, λ k y l. let t = inside 64 k y l in h.1 t.0 t.1 t.2)
 refused_by b R Q TooMany inside h = λ limit k y l. let t = inside limit k y l in let more = h limit t.0 t.1 t.2 in let no_more = t.3 in omega arith
 refused_by b R Q Memory inside h = tt
@@ -24,7 +24,7 @@ refused_by b R Q CertShape inside h = h
 -- a fault where nothing is read
 pub refused_none : {A : Type 0} (b : List ℕ) (R : Reading A) (e : Refusal) → IsFault b e → Nothing R → Refused b R e
 refused_none b R (Syntax f at) is none = (is, none)
-refused_none b R (LeftOut f at) is none = (is, λ told. none)
+refused_none b R (LeftOut f at) is none = (is, none)
 refused_none b R _ is none = absurd is
 
 module _ {S A : Type 0} (R : S → Reading (List A)) where

@@ -224,7 +224,6 @@ awaiting_stands b v m h inside shallow = record {
   shallow = h.shallow;
   around = h.around;
   behind = one_more_in b v.pending m h.behind inside shallow;
-  kept = h.kept;
 }
 
 -- Redirections behind a compound command

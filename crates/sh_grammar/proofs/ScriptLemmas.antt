@@ -1,8 +1,7 @@
 -- The whole text.
-use Rattle.std.proofs.Common.{◌≡◌, ℕ, ◌<◌, ◌≤◌, false, List, [], length, Some, None, Result, Ok, Err, refl, sym, ap, subst, ◌∙◌, arith}
+use Rattle.std.proofs.Common.{◌≡◌, ℕ, ◌<◌, ◌≤◌, false, List, length, map, Some, None, Result, Ok, Err, refl, sym, ap, subst, ◌∙◌, arith}
 use Rattle.std.proofs.lemmas.Bool.{true≢false}
 use Rattle.sh_tree.specs.declared.refusal.Fault.TheVariants as fault
-use Rattle.sh_tree.specs.declared.refusal.Form.TheVariants as form
 use Rattle.sh_tree.specs.declared.limits.TheConstants.{MAX_COMMANDS, MAX_NESTING, MAX_SCRIPT}
 use Rattle.sh_tree.specs.declared.refusal.Refusal.{Refusal}
 use Rattle.sh_tree.specs.declared.refusal.Refusal.TheVariants.{TooLong, NulByte, Syntax, LeftOut, TooDeep, TooMany, Memory}
@@ -14,14 +13,16 @@ use Rattle.sh_tree.specs.language.Reading.{is_some, ReadsSequence, ReadsTo, Read
 use Rattle.sh_tree.specs.language.States as states
 use Rattle.sh_tree.specs.language.States.{Document, nth, waits}
 use Rattle.sh_tree.proofs.Inversions.{apart}
+use Rattle.sh_bodies.specs.Fill.{document_of, fill}
+use Rattle.sh_bodies.proofs.ReadingLemmas.{bodies}
 use Rattle.sh_grammar.specs.declared.state.State.{State}
-use Rattle.sh_grammar.specs.States.{first_kept, here, first_of, Stands, waiting}
+use Rattle.sh_grammar.specs.States.{here, first_of, Stands, waiting}
 use Rattle.sh_grammar.specs.Faults.{IsFault, TellsAt, Misplaced, TellsBehind, TellsMisplaced, stage_at}
 use Rattle.sh_grammar.specs.Readers.{One, Refused, SequenceFrom, unread}
 use Rattle.sh_grammar.proofs.BodyLemmas.{level_of, sequence_with}
 use Rattle.sh_grammar.proofs.FaultLemmas.{first_inside, tells_inside}
 use Rattle.sh_grammar.proofs.ItemLemmas.{inside_lead}
-use Rattle.sh_grammar.proofs.SubstitutionLemmas.{kept_in, none_kept, none_waits, some_wait}
+use Rattle.sh_grammar.proofs.SubstitutionLemmas.{filled_once, filled_reads, none_waits, some_wait}
 use Rattle.sh_grammar.proofs.BreakLemmas.{blanks_settle}
 use Rattle.sh_grammar.proofs.Nul.{has_no_nul}
 
@@ -33,7 +34,6 @@ first_stands b i is inside = record {
   shallow = omega arith;
   around = tt;
   behind = tt;
-  kept = tt;
 }
 
 -- a script of the text is a sequence from its first token to its end, behind which no here-document waits
@@ -44,7 +44,7 @@ record SequenceOf (b : List ℕ) (limit count : ℕ) (t : Script) : Type 0 where
   to_end : end.spot.at ≡ length b
   counted : end.spot.count ≡ count
   over : waits end.pending ≡ false
-  bare : end.bodies ≡ [] → SequenceFrom b (first_of b) limit end t
+  whole : ReadsSequence limit b (nth end.bodies) (here (first_of b)) end t
 
 sequence_of : (b : List ℕ) (limit count : ℕ) (t : Script) → ReadsTo b limit count t → SequenceOf b limit count t
 unfolding is_some
@@ -57,20 +57,19 @@ sequence_of b limit count t q =
       to_end = ap (λ u. u.at) (sym l.is) ∙ q.to_end;
       counted = ap (λ u. u.count) (sym l.is) ∙ q.commands;
       over = l.over;
-      bare = l.bare;
+      whole = l.whole;
     }
 
 module _ (b : List ℕ) (text : IsText b) where
   module _ (t : Script) (v : State) (one : One (SequenceFrom b (first_of b)) (here v) t) where
-    pub text_read : length b ≤ v.at → None ≡ waiting None v.pending → None ≡ first_kept v.bodies → v.at ≤ length b → v.count ≤ MAX_COMMANDS → Parses b (Ok t)
+    pub text_read : length b ≤ v.at → None ≡ waiting None v.pending → v.at ≤ length b → v.count ≤ MAX_COMMANDS → Parses b (Ok (fill v.bodies t))
     unfolding is_some
-    text_read over none bare within few =
+    text_read over none within few =
         let end : v.at ≡ length b = omega arith in
-        let read : ReadsTo b MAX_NESTING v.count t = record {
+        let read : ReadsTo b MAX_NESTING v.count (fill v.bodies t) = record {
           no_nul = has_no_nul b text.1;
           end = (here v).spot;
-          script = r.script {u = here v}
-              (subst (λ ds. ReadsSequence MAX_NESTING b (nth ds) (here (first_of b)) (here v) t) (sym (none_kept v.bodies bare)) one.reads) (none_waits v.pending none);
+          script = r.script {u = here v} (filled_reads v.bodies t refl (λ u l. (one.only MAX_NESTING (here v) u l).1) one.reads) (none_waits v.pending none);
           to_end = end;
           commands = refl;
         } in (
@@ -79,13 +78,14 @@ module _ (b : List ℕ) (text : IsText b) where
           λ u q.
               let s = sequence_of b q.0 q.1 u q.2 in
               let o = one.only q.0 s.end s.tree s.reads in
-              let p = one.only q.0 s.end u (s.bare (ap (λ (w : states.State). w.bodies) o.0 ∙ none_kept v.bodies bare)) in
-              p.1,
+              let all : s.end.bodies ≡ map document_of v.bodies = ap (λ (w : states.State). w.bodies) o.0 in
+              let whole : ReadsSequence q.0 b (bodies v.bodies) (here (first_of b)) s.end u = subst (λ ds. ReadsSequence q.0 b (nth ds) (here (first_of b)) s.end u) all s.whole in
+              filled_once v.bodies t u refl (λ x m. (one.only q.0 s.end x m).1) whole,
         )
 
     told : (e : Refusal) → IsFault b e → ((u : Script) → Reads b u → ⊥) → Parses b (Err e)
     told (Syntax f at) is none = (text, is, none)
-    told (LeftOut f at) is none = (text, is, λ other. none)
+    told (LeftOut f at) is none = (text, is, λ told. none)
     told _ is none = absurd is
 
     -- the text goes on
@@ -109,13 +109,9 @@ module _ (b : List ℕ) (text : IsText b) where
             let o = one.only q.0 s.end s.tree s.reads in
             true≢false (sym (some_wait v.pending at some) ∙ sym (ap (λ (w : states.State). waits w.pending) o.0) ∙ s.over)
 
-    -- the body of a here-document came, which is not read yet
-    pub text_kept : (at : ℕ) → Some at ≡ first_kept v.bodies → Stands b v → Parses b (Err (LeftOut form.Later at))
-    text_kept at some stands = (text, kept_in b (first_kept v.bodies) at some stands.kept, λ told. absurd (told refl))
-
   pub text_refused : (e : Refusal) → Refused b (SequenceFrom b (first_of b)) e → Parses b (Err e)
   text_refused (Syntax f at) h = (text, h.0, λ u q. let s = sequence_of b q.0 q.1 u q.2 in h.1 q.0 s.end s.tree s.reads)
-  text_refused (LeftOut f at) h = (text, h.0, λ other u q. let s = sequence_of b q.0 q.1 u q.2 in h.1 other q.0 s.end s.tree s.reads)
+  text_refused (LeftOut f at) h = (text, h.0, λ told u q. let s = sequence_of b q.0 q.1 u q.2 in h.1 q.0 s.end s.tree s.reads)
   text_refused (TooDeep at) h = (text, h.0, λ u q. let s = sequence_of b MAX_NESTING q.0 u q.1 in h.1 s.end s.tree s.reads)
   text_refused TooMany h = (
     text,
@@ -148,7 +144,7 @@ module _ (b : List ℕ) where
       where
         go : (e : Refusal) → IsFault b e → Misplaced b u.spot.at e → TellsBehind b u (Err e)
         go (Syntax f at) is m = m
-        go (LeftOut f at) is m = λ other. m
+        go (LeftOut f at) is m = m
         go _ is m = absurd is
 
   pub refused_behind_none : (e : Refusal) → Refused b (SequenceFrom b (first_of b)) e → TellsMisplaced b (Err e)
@@ -156,7 +152,7 @@ module _ (b : List ℕ) where
     where
       go : (e : Refusal) → Refused b (SequenceFrom b (first_of b)) e → (t : Script) → SequenceFrom b (first_of b) MAX_NESTING u t → TellsBehind b u (Err e)
       go (Syntax f at) h t l = absurd (h.1 MAX_NESTING u t l)
-      go (LeftOut f at) h t l = λ other. absurd (h.1 other MAX_NESTING u t l)
+      go (LeftOut f at) h t l = absurd (h.1 MAX_NESTING u t l)
       go (TooDeep at) h t l = absurd (h.1 u t l)
       go TooMany h t l = h MAX_NESTING u t l
       go Memory h t l = tt

@@ -1,24 +1,25 @@
 -- Command substitutions: the commands and the parenthesis behind them.
-use Rattle.std.proofs.Common.{◌≡◌, ℕ, ◌<◌, ◌≤◌, true, false, List, [], ◌∷◌, length, map, Option, Some, None, refl, sym, ap, subst, ◌∙◌, le_refl}
+use Rattle.std.proofs.Common.{◌≡◌, ℕ, ◌≤◌, true, false, List, [], ◌∷◌, length, map, drop, Option, Some, None, refl, sym, ap, subst, ◌∙◌, le_refl}
 use Rattle.std.proofs.lemmas.Bool.{true≢false}
 use Rattle.sh_tree.specs.declared.limits.TheConstants.{MAX_NESTING}
 use Rattle.sh_tree.specs.declared.refusal.Refusal.{Refusal}
 use Rattle.sh_tree.specs.declared.tree.Script.{Script}
 use Rattle.sh_tree.specs.language.Arithmetic.{is_closed}
 use Rattle.sh_tree.specs.language.Commands.{blanks}
-use Rattle.sh_tree.specs.language.HereDocuments as documents
 use Rattle.sh_tree.specs.language.Reading as r
 use Rattle.sh_tree.specs.language.Reading.{ReadsScript, ReadsSequence}
 use Rattle.sh_tree.specs.language.States as states
-use Rattle.sh_tree.specs.language.States.{Spot, nth, waits, within}
-use Rattle.sh_grammar.specs.declared.mark.Document.{Document}
+use Rattle.sh_tree.specs.language.States.{Spot, document_count, nth, waits, within}
+use Rattle.sh_bodies.specs.declared.Document.{Document}
+use Rattle.sh_bodies.specs.Fill.{Filled, document_of, fill, fill_script}
+use Rattle.sh_bodies.proofs.ReadingLemmas.{bodies, sequence_from}
 use Rattle.sh_grammar.specs.declared.mark.Mark.{Mark}
 use Rattle.sh_grammar.specs.declared.state.State.{State}
-use Rattle.sh_grammar.specs.Marks.{document_of, mark_of}
-use Rattle.sh_grammar.specs.States.{AreIn, IsIn, Lies, first_kept, here, Stands, substituted, waiting}
+use Rattle.sh_grammar.specs.Marks.{mark_of}
+use Rattle.sh_grammar.specs.States.{AreIn, IsIn, Lies, here, Stands, substituted, waiting}
 use Rattle.sh_grammar.specs.Readers.{One, Nothing, Refused, SequenceFrom, unread}
 use Rattle.sh_grammar.specs.Substitutions.{ClosedFrom, IsLevel}
-use Rattle.sh_grammar.proofs.BodyLemmas.{Level, level_of}
+use Rattle.sh_grammar.proofs.BodyLemmas.{Level, level_of, sequence_with}
 use Rattle.sh_grammar.proofs.BreakLemmas.{blanks_settle}
 use Rattle.sh_grammar.proofs.ReaderLemmas.{refused_by}
 
@@ -37,7 +38,6 @@ substituted_stands b i n at s o ms ds lies is inside shallow first none bare = r
   shallow = shallow;
   around = subst (IsIn b) (sym first) (first_of_all b s.outer s.pending lies.around lies.behind);
   behind = subst (AreIn b) (sym none) tt;
-  kept = subst (λ x. IsIn b (first_kept x)) (sym bare) tt;
 }
 
 -- a substitution begins a level
@@ -60,14 +60,22 @@ none_pending : (ms : List Mark) → None ≡ waiting None ms → map mark_of ms 
 none_pending [] h = refl
 none_pending (m ∷ ms) h = cc
 
-pub none_kept : (ds : List Document) → None ≡ first_kept ds → map document_of ds ≡ []
-none_kept [] h = refl
-none_kept (d ∷ ds) h = cc
+-- The bodies of a level
 
--- the operator of a body that came stands in the text
-pub kept_in : (b : List ℕ) (o : Option ℕ) (i : ℕ) → Some i ≡ o → IsIn b o → i < length b
-kept_in b (Some j) i is inside = subst (λ v. v < length b) (let same : Some j ≡ Some i = sym is in cc) inside
-kept_in b None i is inside = cc
+-- what is read with the bodies is what is read without them, filled
+pub filled_once : {limit : ℕ} {b : List ℕ} {s v : states.State} (ds : List Document) (t y : Script) → document_count s ≡ 0 → ((u : Script) → ReadsSequence limit b unread s v u → u ≡ t)
+    → ReadsSequence limit b (bodies ds) s v y → y ≡ fill ds t
+unfolding fill nth
+filled_once [] t y first only l = only y l
+filled_once {s = s} (d ∷ ds) t y first only l =
+    let f = sequence_from (d ∷ ds) refl l in
+    sym (ap (λ (r : Filled Script). r.0) f.fills) ∙ ap (λ n. (fill_script (drop n (d ∷ ds)) f.bare).0) first ∙ ap (λ u. (fill_script (d ∷ ds) u).0) (only f.bare f.reads)
+
+pub filled_reads : {limit : ℕ} {b : List ℕ} {s v : states.State} (ds : List Document) (t : Script) → document_count s ≡ 0 → ((u : Script) → ReadsSequence limit b unread s v u → u ≡ t)
+    → ReadsSequence limit b unread s v t → ReadsSequence limit b (bodies ds) s v (fill ds t)
+filled_reads {limit = limit} {b = b} {s = s} {v = v} ds t first only l =
+    let f = sequence_with (bodies ds) l in
+    subst (λ y. ReadsSequence limit b (bodies ds) s v y) (filled_once ds t f.0 first only f.1) f.1
 
 module _ (b : List ℕ) (s : State) (level : IsLevel s) where
   level_here : {limit : ℕ} {u : Spot} {t : Script} (l : Level limit b (here s).spot u t) → SequenceFrom b s limit l.end l.tree
@@ -94,26 +102,27 @@ module _ (b : List ℕ) (s : State) (level : IsLevel s) where
         let l = level_of q.0 in
         true≢false (sym (some_wait v.pending i some) ∙ sym (ap (λ (u : states.State). waits u.pending) (level_end l)) ∙ l.over)
 
-    module _ (close : is_closed b v.at ≡ true) (none : None ≡ waiting None v.pending) (bare : None ≡ first_kept v.bodies) where
+    module _ (close : is_closed b v.at ≡ true) (none : None ≡ waiting None v.pending) where
       -- the level ends where v stands
-      ends_level : within (here v).spot ≡ here (record v { closed = false })
-      ends_level =
-          let whole : List documents.Mark → List states.Document → states.State = λ ms ds. record (within (here v).spot) { pending = ms; bodies = ds } in
-          sym (ap (λ ms. whole ms (map document_of v.bodies)) (none_pending v.pending none) ∙ ap (λ ds. whole [] ds) (none_kept v.bodies bare))
+      ends_level : within (here v).spot ≡ here (record v { closed = false; bodies = [] })
+      ends_level = sym (ap (λ ms. record (within (here v).spot) { pending = ms }) (none_pending v.pending none))
 
-      pub closed_read : One (ClosedFrom b s) (here (record v { closed = false })) t
+      -- read without bodies
+      bare_read : {limit : ℕ} {end : states.State} {y : Script} → ReadsSequence limit b unread (within (here s).spot) end y → SequenceFrom b s limit end y
+      bare_read {limit = limit} {end = end} {y = y} l = subst (λ x. ReadsSequence limit b unread x end y) (sym level) l
+
+      pub closed_read : One (ClosedFrom b s) (here (record v { closed = false; bodies = [] })) (fill v.bodies t)
       closed_read = record {
         reads = (
           r.script {u = here v}
-              (subst (λ ds. ReadsSequence 64 b (nth ds) (within (here s).spot) (here v) t) (sym (none_kept v.bodies bare)) (subst (λ x. ReadsSequence 64 b unread x (here v) t) level one.reads))
-              (none_waits v.pending none),
+              (filled_reads v.bodies t refl (λ u l. (one.only 64 (here v) u (bare_read l)).1) (subst (λ x. ReadsSequence 64 b unread x (here v) t) level one.reads)) (none_waits v.pending none),
           close,
           sym ends_level,
         );
         only = λ limit k y q.
             let l = level_of q.0 in
             let end = level_end l in
-            let bodies : l.end.bodies ≡ [] = ap (λ (u : states.State). u.bodies) end ∙ none_kept v.bodies bare in
-            let p = one.only limit l.end y (subst (λ x. ReadsSequence limit b unread x l.end y) (sym level) (l.bare bodies)) in
-            (q.2 ∙ ap within (l.is ∙ ap (λ u. u.spot) end) ∙ ends_level, p.1);
+            let all : l.end.bodies ≡ map document_of v.bodies = ap (λ (u : states.State). u.bodies) end in
+            let whole : ReadsSequence limit b (bodies v.bodies) (within (here s).spot) l.end y = subst (λ ds. ReadsSequence limit b (nth ds) (within (here s).spot) l.end y) all l.whole in
+            (q.2 ∙ ap within (l.is ∙ ap (λ u. u.spot) end) ∙ ends_level, filled_once v.bodies t y refl (λ u m. (one.only limit l.end u (bare_read m)).1) whole);
       }

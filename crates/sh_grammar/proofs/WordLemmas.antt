@@ -159,7 +159,7 @@ module _ (b : List ℕ) (m : Mode) (all : seen b m ≡ b) (i : ℕ) (s v : State
   refuses : (e : Refusal) → Refuses b (Left b w) e → Refused b parts_here e
   refuses Memory h = tt
   refuses (Syntax f at) h = (h.0, λ limit. nothing_left limit (h.1 limit))
-  refuses (LeftOut f at) h = (h.0, λ other limit. nothing_left limit (h.1 limit))
+  refuses (LeftOut f at) h = (h.0, λ limit. nothing_left limit (h.1 limit))
   refuses (TooDeep at) h = (h.0, nothing_left 64 h.1)
   refuses TooLong h = absurd h
   refuses (NulByte at) h = absurd h
@@ -287,7 +287,6 @@ module _ (b : List ℕ) (m : Mode) (all : seen b m ≡ b) (i : ℕ) (s v : State
               shallow = d.counted.lies.shallow;
               around = d.counted.lies.around;
               behind = d.counted.lies.behind;
-              kept = d.counted.lies.kept;
             };
           };
         }
@@ -326,7 +325,6 @@ counted_stands b s v stands c = record {
   shallow = c.lies.shallow;
   around = c.lies.around;
   behind = c.lies.behind;
-  kept = c.lies.kept;
 }
 
 module _ (b : List ℕ) (m : Mode) (whole : IsWhole m) (i : ℕ) (s v : State) (w : Word) (h : Whole b (context_of b m i) (first_prior m) i s w v) where

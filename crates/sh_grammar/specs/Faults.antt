@@ -56,13 +56,11 @@ stage_at false = Prefixed
 abbrev pub Misplaced : List ℕ → ℕ → Refusal → Type 0
 Misplaced b i e = (fresh : Bool) × Tells b (lead_at b (stage_at fresh) i) i e
 
--- What is told where a sequence is read up to v and the text goes on there: the token at v. One command too many comes before it where there are that many, and
--- of a form that is not read yet nothing is said.
+-- What is told where a sequence is read up to v and the text goes on there: the token at v. One command too many comes before it where there are that many.
 abbrev pub TellsBehind : List ℕ → states.State → Result Script Refusal → Type 0
 TellsBehind b v (Ok t) = ⊥
 TellsBehind b v (Err Memory) = Unit {0}
 TellsBehind b v (Err TooMany) = MAX_COMMANDS < v.spot.count
-TellsBehind b v (Err (LeftOut f at)) = (f ≡ form.Later → ⊥) → Misplaced b v.spot.at (LeftOut f at)
 TellsBehind b v (Err e) = Misplaced b v.spot.at e
 
 -- the same of each sequence at the front of the text

@@ -17,3 +17,4 @@ pub mod Targets
 pub mod Lines
 pub mod Quotes
 pub mod Marks
+pub mod Documents

@@ -1,14 +1,8 @@
--- Here-documents that wait, and their bodies, as the reading says them.
+-- Here-documents that wait, as the reading says them.
 -- POSIX.1-2024, XCU 2.7.4 (here-document).
 use Rattle.sh_tree.specs.language.HereDocuments as documents
-use Rattle.sh_tree.specs.language.States as states
-use Rattle.sh_grammar.specs.declared.mark.Document.{Document}
 use Rattle.sh_grammar.specs.declared.mark.Mark.{Mark}
 
 -- a here-document that waits for its body
 abbrev pub mark_of : Mark → documents.Mark
 mark_of m = record { strip = m.strip; quoted = m.quoted; delimiter = m.delimiter.items; depth = m.depth }
-
--- a body that was read
-abbrev pub document_of : Document → states.Document
-document_of d = record { text = d.text; end = d.end }

@@ -14,7 +14,6 @@ use Rattle.sh_tree.specs.declared.tree.Pipe.{Pipe}
 use Rattle.sh_tree.specs.declared.tree.Link.{Link}
 use Rattle.sh_tree.specs.declared.tree.AndOr.{AndOr}
 use Rattle.sh_tree.specs.declared.tree.Script.{Script}
-use Rattle.sh_tree.specs.declared.refusal.Form.TheVariants as form
 use Rattle.sh_tree.specs.declared.refusal.Refusal.{Refusal}
 use Rattle.sh_tree.specs.declared.refusal.Refusal.TheVariants.{TooLong, NulByte, Syntax, LeftOut, TooDeep, TooMany, Memory, Profile, CertSyntax, CertShape}
 use Rattle.sh_tree.specs.language.Reading.{ReadsWord, ReadsRedirect, ReadsRedirects, ReadsElements, ReadsCommand, ReadsCompound, ReadsCommands, ReadsPipeline, ReadsLinks, ReadsAndOr, ReadsSequence, ReadsList}
@@ -49,10 +48,10 @@ NothingWithin {A = A} R = (k : states.State) (y : A) → R 64 k y → ⊥
 abbrev pub Crowded : {A : Type 0} → Reading A → Type 0
 Crowded {A = A} R = (limit : ℕ) (k : states.State) (y : A) → R limit k y → MAX_COMMANDS < k.spot.count
 
--- a refusal, at a place of the text, only where nothing is read; of a form that is not read yet nothing is said
+-- a refusal, at a place of the text, only where nothing is read
 abbrev pub Refused : {A : Type 0} → List ℕ → Reading A → Refusal → Type 0
 Refused b R (Syntax f at) = (at ≤ length b) × Nothing R
-Refused b R (LeftOut f at) = (at < length b) × ((f ≡ form.Later → ⊥) → Nothing R)
+Refused b R (LeftOut f at) = (at < length b) × Nothing R
 Refused b R (TooDeep at) = (at ≤ length b) × NothingWithin R
 Refused b R TooMany = Crowded R
 Refused b R Memory = Unit {0}

@@ -1,16 +1,16 @@
 -- Where a reader of commands stands, as the reading says it.
 -- POSIX.1-2024, XCU 2.10 (shell grammar).
-use Rattle.std.specs.Prelude.{◌≡◌, ◌<◌, ℕ, ◌≤◌, Bool, true, false, ◌||◌, List, [], ◌∷◌, length, map, Option, Some, None}
+use Rattle.std.specs.Prelude.{◌≡◌, ◌<◌, ℕ, ◌≤◌, Bool, true, false, not, ◌||◌, List, [], ◌∷◌, length, map, Option, Some, None}
 use Rattle.sh_tree.specs.declared.limits.TheConstants.{MAX_COMMANDS, MAX_NESTING}
 use Rattle.sh_tree.specs.language.Commands.{blanks}
 use Rattle.sh_tree.specs.language.HereDocuments as documents
 use Rattle.sh_tree.specs.language.Reading.{is_some}
 use Rattle.sh_tree.specs.language.States as states
 use Rattle.sh_tree.specs.language.States.{waits}
-use Rattle.sh_grammar.specs.declared.mark.Document.{Document}
 use Rattle.sh_grammar.specs.declared.mark.Mark.{Mark}
 use Rattle.sh_grammar.specs.declared.state.State.{State}
-use Rattle.sh_grammar.specs.Marks.{document_of, mark_of}
+use Rattle.sh_bodies.specs.Fill.{document_of}
+use Rattle.sh_grammar.specs.Marks.{mark_of}
 
 -- the here-documents of this level that wait
 abbrev pub pending_of : State → List documents.Mark
@@ -52,11 +52,6 @@ abbrev pub AreIn : List ℕ → List Mark → Type 0
 AreIn b [] = Unit {0}
 AreIn b (m ∷ ms) = (m.at < length b) × AreIn b ms × (m.depth ≤ MAX_NESTING)
 
--- the operator of the first here-document of this level whose body came
-abbrev pub first_kept : List Document → Option ℕ
-first_kept [] = None
-first_kept (d ∷ ds) = Some d.at
-
 -- in the text, within the limits
 pub record Lies (b : List ℕ) (s : State) : Type 0 where
   pub inside : s.at ≤ length b
@@ -64,7 +59,6 @@ pub record Lies (b : List ℕ) (s : State) : Type 0 where
   pub shallow : s.depth ≤ MAX_NESTING
   pub around : IsIn b s.outer
   pub behind : AreIn b s.pending
-  pub kept : IsIn b (first_kept s.bodies)
 
 -- at a token of the text, within the limits
 pub record Stands (b : List ℕ) (s : State) : Type 0 where
@@ -74,7 +68,6 @@ pub record Stands (b : List ℕ) (s : State) : Type 0 where
   pub shallow : s.depth ≤ MAX_NESTING
   pub around : IsIn b s.outer
   pub behind : AreIn b s.pending
-  pub kept : IsIn b (first_kept s.bodies)
 
 -- at the first token of a text
 abbrev pub first_of : List ℕ → State
@@ -91,6 +84,21 @@ substituted b i n s = record {
   outer = waiting s.outer s.pending;
   joins = s.joins;
   tabs = s.tabs;
+  pending = [];
+  bodies = [];
+}
+
+-- where the body of a here-document is read
+abbrev pub in_body : Mark → State → State
+in_body m s = record {
+  at = s.at;
+  count = s.count;
+  depth = m.depth;
+  closed = false;
+  fresh = true;
+  outer = None;
+  joins = not m.quoted;
+  tabs = s.tabs || m.strip;
   pending = [];
   bodies = [];
 }

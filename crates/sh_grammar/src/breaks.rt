@@ -1,57 +1,25 @@
 //! Newlines between commands (XCU 2.10).
-ghost use Rattle.std.specs.Prelude.{◌≡◌, ◌≤◌, ◌<◌, length};
+ghost use Rattle.std.specs.Prelude.{◌-◌, ◌≡◌, ◌≤◌, ◌<◌, length};
 ghost use Rattle.sh_tree.specs.language.Commands as commands;
 ghost use Rattle.sh_tree.specs.language.Reading as reading;
 ghost use Rattle.sh_tree.specs.declared.token.command.Stage.TheVariants.{First};
+ghost use Rattle.sh_grammar.specs.Nests.{Nests};
 ghost use Rattle.sh_grammar.specs.States.{Stands, here};
 ghost use Rattle.sh_grammar.specs.Breaks.{Breaks, Line};
 
+use super::grammar::Grammar;
 use super::state::State;
 use sh_scan::lead_at;
 use sh_tree::limits::MAX_SCRIPT;
 use sh_tree::refusal::{Form, Refusal};
 use sh_tree::token::{Lead, Stage};
+use sh_tree::tree::Script;
+use std::alloc::Global;
 
 pub fn is_newline(lead: Lead) -> bool
     ensures { result ≡ commands.is_newline_lead lead }
 {
     matches!(lead, Lead::Newline)
-}
-
-/// Behind a newline, and the bodies of the here-documents before it. Bodies are not read yet.
-#[tactic(auto, using(crate::proofs::BreakLemmas::line_across, crate::proofs::BreakLemmas::line_later, crate::proofs::BreakLemmas::line_over))]
-fn line(script: &[u8], from: State) -> Result<State, Refusal>
-    requires small { length script.now ≤ MAX_SCRIPT }
-    requires stands { Stands script.now from }
-    requires inside { from.at < length script.now }
-    ensures { Line script.now from result }
-{
-    if let Some(at) = from.outer {
-        return Err(Refusal::LeftOut(Form::HereAcross, at));
-    }
-    if let Some(at) = from.first_pending() {
-        return Err(Refusal::LeftOut(Form::Later, at));
-    }
-    let at = from.at + 1;
-    Ok(from.next(script, at))
-}
-
-/// The first token at or behind this one that is no newline.
-///
-/// # Errors
-///
-/// `LeftOut` at the operator of a here-document outside that waits for its body.
-#[tactic(auto, using(crate::proofs::BreakLemmas::skips_none, crate::proofs::BreakLemmas::skips_refused))]
-pub fn breaks(script: &[u8], from: State) -> Result<State, Refusal>
-    requires small { length script.now ≤ MAX_SCRIPT }
-    requires stands { Stands script.now from }
-    ensures { Breaks script.now from result }
-{
-    let mut next = from;
-    while is_newline(lead_at(script, Stage::First, next.at)) {
-        next = line(script, next)?;
-    }
-    Ok(next)
 }
 
 /// Where the newlines behind a separator begin: a newline is one of them.
@@ -69,5 +37,46 @@ pub fn parted(script: &[u8], lead: Lead, from: State) -> State
     } else {
         let behind = from.at + 1;
         from.next(script, behind)
+    }
+}
+
+impl<F: Fn(Global, &[u8], State) -> Result<(Script, State), Refusal>> Grammar<F> {
+    /// Behind a newline, and the bodies of the here-documents before it.
+    #[tactic(auto, using(crate::proofs::BreakLemmas::line_across, crate::proofs::BreakLemmas::line_lies))]
+    fn line(&self, script: &[u8], from: State) -> Result<State, Refusal>
+        requires small { length script.now ≤ MAX_SCRIPT }
+        requires stands { Stands script.now from }
+        requires further { length script.now - from.at ≤ self.now.left }
+        requires nests { Nests self.now.left (F.pre self.now.nested) (F.post self.now.nested) }
+        requires inside { from.at < length script.now }
+        ensures { Line script.now from result }
+    {
+        if let Some(at) = from.outer {
+            return Err(Refusal::LeftOut(Form::HereAcross, at));
+        }
+        let at = from.at + 1;
+        let (marks, first) = from.on_line(self.alloc, at);
+        let behind = self.documents(script, marks.as_slice(), first)?;
+        Ok(behind.settled(script))
+    }
+
+    /// The first token at or behind this one that is no newline.
+    ///
+    /// # Errors
+    ///
+    /// `LeftOut` at the operator of a here-document outside that waits for its body; and what is told of a body.
+    #[tactic(auto, using(crate::proofs::BreakLemmas::skips_none, crate::proofs::BreakLemmas::skips_refused))]
+    pub fn breaks(&self, script: &[u8], from: State) -> Result<State, Refusal>
+        requires small { length script.now ≤ MAX_SCRIPT }
+        requires stands { Stands script.now from }
+        requires further { length script.now - from.at ≤ self.now.left }
+        requires nests { Nests self.now.left (F.pre self.now.nested) (F.post self.now.nested) }
+        ensures { Breaks script.now from result }
+    {
+        let mut next = from;
+        while is_newline(lead_at(script, Stage::First, next.at)) {
+            next = self.line(script, next)?;
+        }
+        Ok(next)
     }
 }

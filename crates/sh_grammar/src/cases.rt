@@ -8,7 +8,6 @@ ghost use Rattle.sh_tree.specs.declared.token.command.Stage.TheVariants.{First};
 ghost use Rattle.sh_tree.specs.language.Commands as tokens;
 ghost use Rattle.sh_tree.specs.language.Reading as reading;
 
-use super::breaks::breaks;
 use super::compounds::is_same;
 use super::faults::unexpected_at;
 use super::grammar::Grammar;
@@ -145,7 +144,7 @@ impl<F: Fn(Global, &[u8], State) -> Result<(Script, State), Refusal>> Grammar<F>
                 end,
             })?;
             let at = behind.at + 2;
-            next = breaks(script, behind.next(script, at))?;
+            next = self.breaks(script, behind.next(script, at))?;
         }
         Ok((clauses, skip(script, Reserved::Esac, next)))
     }
@@ -163,9 +162,9 @@ impl<F: Fn(Global, &[u8], State) -> Result<(Script, State), Refusal>> Grammar<F>
     {
         let depth = from.depth;
         let (word, behind) = self.unsplit(script, enter(script, Reserved::Case, from))?;
-        let wanted = breaks(script, behind)?;
+        let wanted = self.breaks(script, behind)?;
         let inside = expect_in(script, wanted)?;
-        let first = breaks(script, inside)?;
+        let first = self.breaks(script, inside)?;
         let (clauses, end) = self.clauses(script, first)?;
         Ok((Kind::Branches { word, clauses }, end.at_depth(depth)))
     }

@@ -7,12 +7,12 @@ ghost use Rattle.sh_grammar.specs.Nests.{Nests};
 ghost use Rattle.sh_grammar.specs.States.{Stands};
 ghost use Rattle.sh_grammar.specs.Readers.{Answers, CompoundFrom};
 
-use super::faults::unexpected;
+use super::faults::{unexpected, unexpected_at};
 use super::grammar::Grammar;
 use super::state::State;
 use sh_scan::lead_at;
 use sh_tree::limits::{MAX_NESTING, MAX_SCRIPT};
-use sh_tree::refusal::{Form, Refusal};
+use sh_tree::refusal::Refusal;
 use sh_tree::token::{Lead, Operator, Reserved, Stage};
 use sh_tree::tree::{Kind, LoopKind, Script};
 use std::alloc::Global;
@@ -114,14 +114,20 @@ impl<F: Fn(Global, &[u8], State) -> Result<(Script, State), Refusal>> Grammar<F>
         ensures { Answers script.now (CompoundFrom script.now lead from) (from.at + 1) result }
     {
         match lead {
-            Lead::Operator(Operator::LeftParenthesis) => self.subshell(script, from),
-            Lead::Reserved(Reserved::LeftBrace) => self.group(script, from),
-            Lead::Reserved(Reserved::Case) => self.case_of(script, from),
-            Lead::Reserved(Reserved::For) => self.for_loop(script, from),
-            Lead::Reserved(Reserved::If) => self.cond(script, from),
-            Lead::Reserved(Reserved::While) => self.loop_of(script, LoopKind::While, from),
-            Lead::Reserved(Reserved::Until) => self.loop_of(script, LoopKind::Until, from),
-            _ => Err(Refusal::LeftOut(Form::Later, from.at)),
+            Lead::Operator(operator) => match operator {
+                Operator::LeftParenthesis => self.subshell(script, from),
+                _ => Err(unexpected_at(script, Stage::First, &from)),
+            },
+            Lead::Reserved(word) => match word {
+                Reserved::LeftBrace => self.group(script, from),
+                Reserved::Case => self.case_of(script, from),
+                Reserved::For => self.for_loop(script, from),
+                Reserved::If => self.cond(script, from),
+                Reserved::While => self.loop_of(script, LoopKind::While, from),
+                Reserved::Until => self.loop_of(script, LoopKind::Until, from),
+                _ => Err(unexpected_at(script, Stage::First, &from)),
+            },
+            _ => Err(unexpected_at(script, Stage::First, &from)),
         }
     }
 }

@@ -8,7 +8,6 @@ ghost use Rattle.sh_tree.specs.declared.token.command.Lead.TheVariants as lead;
 ghost use Rattle.sh_tree.specs.declared.token.command.Stage.TheVariants.{First};
 ghost use Rattle.sh_tree.specs.language.Commands as tokens;
 
-use super::breaks::breaks;
 use super::compounds::is_same;
 use super::faults::{unexpected, unexpected_at};
 use super::grammar::Grammar;
@@ -66,7 +65,7 @@ impl<F: Fn(Global, &[u8], State) -> Result<(Script, State), Refusal>> Grammar<F>
         };
         let (number, at) = (from.count + 1, from.at);
         let behind = parentheses(script, from.counted().next(script, name.end))?;
-        let first = breaks(script, behind)?;
+        let first = self.breaks(script, behind)?;
         let lead = lead_at(script, Stage::First, first.at);
         if !begins_compound(lead) {
             return Err(unexpected(script, &first));

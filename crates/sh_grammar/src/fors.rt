@@ -7,7 +7,7 @@ ghost use Rattle.sh_grammar.specs.Readers.{Answers, CompoundFrom};
 ghost use Rattle.sh_tree.specs.declared.token.command.Stage.TheVariants.{First};
 ghost use Rattle.sh_tree.specs.language.Commands as tokens;
 
-use super::breaks::{breaks, parted};
+use super::breaks::parted;
 use super::compounds::is_same;
 use super::faults::unexpected_at;
 use super::grammar::Grammar;
@@ -66,7 +66,7 @@ impl<F: Fn(Global, &[u8], State) -> Result<(Script, State), Refusal>> Grammar<F>
         if !ends_words(lead) {
             return Err(unexpected_at(script, Stage::Named(false), &behind));
         }
-        let end = breaks(script, parted(script, lead, behind))?;
+        let end = self.breaks(script, parted(script, lead, behind))?;
         Ok((words, end))
     }
 
@@ -82,10 +82,10 @@ impl<F: Fn(Global, &[u8], State) -> Result<(Script, State), Refusal>> Grammar<F>
         let first = lead_at(script, Stage::First, from.at);
         if is_same(first, Lead::Operator(Operator::Semicolon)) {
             let at = from.at + 1;
-            let end = breaks(script, from.next(script, at))?;
+            let end = self.breaks(script, from.next(script, at))?;
             return Ok((None, end));
         }
-        let next = breaks(script, from)?;
+        let next = self.breaks(script, from)?;
         let lead = lead_at(script, Stage::First, next.at);
         if is_same(lead, Lead::Reserved(Reserved::Do)) {
             return Ok((None, next));

@@ -8,6 +8,7 @@ mod commands;
 mod compounds;
 mod definitions;
 mod delimiters;
+mod documents;
 mod elements;
 mod end_lines;
 mod faults;

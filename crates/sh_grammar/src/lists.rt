@@ -7,7 +7,7 @@ ghost use Rattle.sh_grammar.specs.Readers.{Answers, AndOrFrom, CommandsFrom, Lin
 ghost use Rattle.sh_tree.specs.declared.token.command.Stage.TheVariants.{First};
 ghost use Rattle.sh_tree.specs.language.Commands as tokens;
 
-use super::breaks::{breaks, parted};
+use super::breaks::parted;
 use super::faults::unexpected;
 use super::grammar::Grammar;
 use super::state::State;
@@ -64,7 +64,7 @@ impl<F: Fn(Global, &[u8], State) -> Result<(Script, State), Refusal>> Grammar<F>
                 return Ok((parts, behind));
             }
             let at = behind.at + 1;
-            next = breaks(script, behind.next(script, at))?;
+            next = self.breaks(script, behind.next(script, at))?;
         }
     }
 
@@ -100,7 +100,7 @@ impl<F: Fn(Global, &[u8], State) -> Result<(Script, State), Refusal>> Grammar<F>
         let mut next = from;
         while let Some(link) = link_of(lead_at(script, Stage::First, next.at)) {
             let at = next.at + 2;
-            let first = breaks(script, next.next(script, at))?;
+            let first = self.breaks(script, next.next(script, at))?;
             let (pipe, behind) = self.pipeline(script, first)?;
             rest.push((link, pipe))?;
             next = behind;
@@ -144,7 +144,7 @@ impl<F: Fn(Global, &[u8], State) -> Result<(Script, State), Refusal>> Grammar<F>
                 return Ok((items, behind));
             };
             items.push(Item { list, background })?;
-            next = breaks(script, parted(script, lead, behind))?;
+            next = self.breaks(script, parted(script, lead, behind))?;
         }
         Ok((items, next))
     }
@@ -158,7 +158,7 @@ impl<F: Fn(Global, &[u8], State) -> Result<(Script, State), Refusal>> Grammar<F>
         requires nests { Nests self.now.left (F.pre self.now.nested) (F.post self.now.nested) }
         ensures { Answers script.now (SequenceFrom script.now from) from.at result }
     {
-        let first = breaks(script, from)?;
+        let first = self.breaks(script, from)?;
         let (items, behind) = self.items(script, first)?;
         Ok((Script { items }, behind))
     }

@@ -1,5 +1,4 @@
-//! Here-documents that wait for their bodies, and bodies (XCU 2.7.4).
-use sh_tree::tree::{Span, Word};
+//! Here-documents that wait for their bodies (XCU 2.7.4).
 
 /// A here-document whose body has not come.
 #[derive(Debug, Drop)]
@@ -14,13 +13,4 @@ pub struct Mark {
     pub delimiter: Vec<u8>,
     /// How many levels are open around the operator.
     pub depth: u8,
-}
-
-/// The body of a here-document, and the line that ends it, without its newline.
-#[derive(Drop)]
-pub struct Document {
-    /// Where its operator stands.
-    pub at: u32,
-    pub text: Word,
-    pub end: Span,
 }

@@ -9,10 +9,11 @@ use super::faults::unexpected;
 use super::grammar::Grammar;
 use super::state::State;
 use memchr::memchr;
+use sh_bodies::filled;
 use sh_scan::blanks_at;
 use sh_tree::Items;
 use sh_tree::limits::MAX_SCRIPT;
-use sh_tree::refusal::{Fault, Form, Refusal};
+use sh_tree::refusal::{Fault, Refusal};
 use sh_tree::tree::Script;
 use std::alloc::Global;
 
@@ -65,10 +66,7 @@ fn read(alloc: Global, script: &[u8]) -> Result<Script, Refusal>
     if let Some(at) = end.first_pending() {
         return Err(Refusal::Syntax(Fault::OpenHereDoc, at));
     }
-    if let Some(at) = end.first_kept() {
-        return Err(Refusal::LeftOut(Form::Later, at));
-    }
-    Ok(found)
+    Ok(filled(alloc, found, end.bodies)?)
 }
 
 /// The one script that the bytes are (XCU 2.10).
@@ -76,8 +74,7 @@ fn read(alloc: Global, script: &[u8]) -> Result<Script, Refusal>
 /// # Errors
 ///
 /// The first refusal that is met, in this order: `TooLong`; `NulByte` with the offset of the first NUL byte; then, reading from
-/// the front, `Syntax` at what the grammar has no place for, `LeftOut` at the first byte of a form that is left out or not read
-/// yet, `TooDeep` at what would be one level more than there may be, and `TooMany` at one command more. `Memory` where a growth
+/// the front, `Syntax` at what the grammar has no place for, `LeftOut` at the first byte of a form that is left out, `TooDeep` at what would be one level more than there may be, and `TooMany` at one command more. `Memory` where a growth
 /// was refused.
 #[tactic(auto, using(crate::proofs::Nul::no_nul, crate::proofs::Nul::nul_at, crate::proofs::ScriptLemmas::long_is_none, crate::proofs::ScriptLemmas::nul_is_none))]
 pub fn parse(alloc: Global, script: &[u8]) -> Result<Script, Refusal>

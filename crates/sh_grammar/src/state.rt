@@ -1,14 +1,16 @@
 //! Where a reader of commands stands (XCU 2.10).
 ghost use Rattle.std.specs.Prelude.{◌≡◌, ◌≤◌, ◌<◌, ◌+◌, [], ◌∷◌, ◌++◌, length, false, None, IfOk};
 ghost use Rattle.std.specs.Option.{option_copied};
-ghost use Rattle.sh_grammar.specs.States.{Lies, Stands, first_kept, moved, substituted, waiting};
+ghost use Rattle.sh_grammar.specs.States.{Lies, Stands, in_body, moved, substituted, waiting};
 ghost use Rattle.sh_tree.specs.language.Commands as commands;
 
-use super::mark::{Document, Mark};
+use super::mark::Mark;
+use sh_bodies::Document;
 use sh_scan::blanks_at;
 use sh_tree::Items;
 use sh_tree::limits::{MAX_COMMANDS, MAX_NESTING, MAX_SCRIPT};
 use std::alloc::{AllocError, Global};
+use std::mem;
 
 /// A token's first byte, and what came before it.
 #[derive(Drop)]
@@ -121,6 +123,24 @@ impl State {
         }
     }
 
+    /// Where the body of the here-document is read.
+    pub fn in_document(&self, alloc: Global, mark: &Mark) -> State
+        ensures { result ≡ in_body mark.now self.now }
+    {
+        State {
+            at: self.at,
+            count: self.count,
+            depth: mark.depth,
+            closed: false,
+            fresh: true,
+            outer: None,
+            joins: !mark.quoted,
+            tabs: self.tabs || mark.strip,
+            pending: Items::new(alloc),
+            bodies: Items::new(alloc),
+        }
+    }
+
     /// Behind an operator of a here-document and its delimiter.
     ///
     /// # Errors
@@ -134,24 +154,40 @@ impl State {
         Ok(next)
     }
 
-    /// The operator of the first here-document of this level whose body came.
-    pub fn first_kept(&self) -> Option<u32>
-        ensures { result ≡ first_kept self.now.bodies }
+    /// Behind a body that has as many commands before its end, and the line that ends it, at `at`.
+    ///
+    /// # Errors
+    ///
+    /// `AllocError` where a growth was refused.
+    pub fn with_document(self, document: Document, count: u32, at: u32) -> Result<State, AllocError>
+        ensures { IfOk result (λ v. v ≡ record self { at = at; count = count; bodies = self.bodies ++ document ∷ [] }) }
     {
-        match self.bodies.as_slice() {
-            [] => None,
-            [document, ..] => Some(document.at),
-        }
+        let mut next = State { at, count, ..self };
+        next.bodies.push(document)?;
+        Ok(next)
     }
 
-    /// The end of a level.
-    pub fn ended(self) -> State
-        ensures { result ≡ record self { closed = false } }
+    /// Behind a newline, at `at`, and the here-documents whose bodies stand there.
+    pub fn on_line(self, alloc: Global, at: u32) -> (Items<Mark>, State)
+        ensures marks { result.0 ≡ self.pending }
+        ensures line { result.1 ≡ record self { at = at; pending = [] } }
     {
-        State {
+        let mut line = State { at, ..self };
+        let pending = mem::replace(&mut line.pending, Items::new(alloc));
+        (pending, line)
+    }
+
+    /// The end of a level, and the bodies of its here-documents.
+    pub fn ended(self, alloc: Global) -> (Items<Document>, State)
+        ensures bodies { result.0 ≡ self.bodies }
+        ensures level { result.1 ≡ record self { closed = false; bodies = [] } }
+    {
+        let mut level = State {
             closed: false,
             ..self
-        }
+        };
+        let bodies = mem::replace(&mut level.bodies, Items::new(alloc));
+        (bodies, level)
     }
 
     /// Behind so many commands.

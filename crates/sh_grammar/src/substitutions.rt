@@ -10,6 +10,7 @@ ghost use Rattle.sh_tree.specs.language.Commands as tokens;
 use super::faults::unexpected;
 use super::grammar::Grammar;
 use super::state::State;
+use sh_bodies::filled;
 use sh_scan::is_closed;
 use sh_tree::limits::MAX_SCRIPT;
 use sh_tree::refusal::{Fault, Form, Refusal};
@@ -59,9 +60,8 @@ impl<F: Fn(Global, &[u8], State) -> Result<(Script, State), Refusal>> Grammar<F>
         if let Some(at) = behind.first_pending() {
             return Err(Refusal::LeftOut(Form::HereAcross, at));
         }
-        if let Some(at) = behind.first_kept() {
-            return Err(Refusal::LeftOut(Form::Later, at));
-        }
-        Ok((commands, behind.ended()))
+        let (bodies, behind) = behind.ended(self.alloc);
+        let list = filled(self.alloc, commands, bodies)?;
+        Ok((list, behind))
     }
 }

@@ -36,6 +36,8 @@ mod reserved;
 #[cfg(test)]
 mod rows;
 #[cfg(test)]
+mod samples;
+#[cfg(test)]
 mod substitutions;
 #[cfg(test)]
 mod tildes;

@@ -1,11 +1,11 @@
-use Rattle.std.proofs.Common.{Err, Ok, ◌≤◌, length, subst, arith}
+use Rattle.std.proofs.Common.{Err, Ok, ◌≤◌, length, sym, subst, arith}
 use Rattle.std.proofs.lemmas.Bool.Decides.{nat_tests}
 use Rattle.sh_tree.specs.declared.refusal.Fault.TheVariants as fault
-use Rattle.sh_tree.specs.declared.refusal.Form.TheVariants as form
-use Rattle.sh_tree.specs.declared.refusal.Refusal.TheVariants.{Syntax, LeftOut}
+use Rattle.sh_tree.specs.declared.refusal.Refusal.TheVariants.{Syntax}
+use Rattle.sh_tree.specs.Answers.{Parses}
 use Rattle.sh_grammar.specs.Readers.{One, SequenceFrom}
 use Rattle.sh_grammar.specs.States.{here}
-use Rattle.sh_grammar.proofs.ScriptLemmas.{text_read, text_waits, text_kept, none_behind}
+use Rattle.sh_grammar.proofs.ScriptLemmas.{text_read, text_waits, none_behind}
 use Rattle.sh_grammar.proofs.script.read.Goals as goal
 
 pub returns-in-Some-clause-reads : goal.returns-in-Some-clause-reads
@@ -29,7 +29,7 @@ returns-clause-reads c =
     let found = c.in_ok-found in
     let one = subst (λ s. One (SequenceFrom b s) (here found.end) found.found) c.first_state.ensures.value found.ensures.one in
     let over : length b ≤ found.end.at = grind (arith, nat_tests) in
-    text_read b c.requires found.found found.end one over c.in_default.ensures c.in_default-first_kept.ensures found.ensures.stands.inside found.ensures.stands.few
+    subst (λ t. Parses b (Ok t)) (sym c.in_ok-filled.ensures) (text_read b c.requires found.found found.end one over c.in_default.ensures found.ensures.stands.inside found.ensures.stands.few)
 
 pub returns-clause-behind : goal.returns-clause-behind
 returns-clause-behind c =
@@ -37,19 +37,4 @@ returns-clause-behind c =
     let found = c.in_ok-found in
     let one = subst (λ s. One (SequenceFrom b s) (here found.end) found.found) c.first_state.ensures.value found.ensures.one in
     let over : length b ≤ found.end.at = grind (arith, nat_tests) in
-    none_behind b found.found found.end one over (Ok found.found)
-
-pub returns-in-Some-first_kept-clause-reads : goal.returns-in-Some-first_kept-clause-reads
-returns-in-Some-first_kept-clause-reads c =
-    let b = c.args.script.now in
-    let found = c.in_ok-found in
-    let one = subst (λ s. One (SequenceFrom b s) (here found.end) found.found) c.first_state.ensures.value found.ensures.one in
-    text_kept b c.requires found.found found.end one c.in-Some-first_kept.at c.in-Some-first_kept.ensures found.ensures.stands
-
-pub returns-in-Some-first_kept-clause-behind : goal.returns-in-Some-first_kept-clause-behind
-returns-in-Some-first_kept-clause-behind c =
-    let b = c.args.script.now in
-    let found = c.in_ok-found in
-    let one = subst (λ s. One (SequenceFrom b s) (here found.end) found.found) c.first_state.ensures.value found.ensures.one in
-    let over : length b ≤ found.end.at = grind (arith, nat_tests) in
-    none_behind b found.found found.end one over (Err (LeftOut form.Later c.in-Some-first_kept.at))
+    none_behind b found.found found.end one over (Ok c.in_ok-filled.field-0)

@@ -1,7 +1,9 @@
-use Rattle.std.proofs.Common.{false, sym, subst, ◌∙◌}
-use Rattle.sh_grammar.specs.Readers.{To}
+use Rattle.std.proofs.Common.{◌≡◌, false, [], sym, ap, subst, ◌∙◌}
+use Rattle.sh_bodies.specs.Fill.{fill}
+use Rattle.sh_grammar.specs.Readers.{One, To}
+use Rattle.sh_grammar.specs.States.{here}
 use Rattle.sh_grammar.specs.Substitutions.{ClosedFrom}
-use Rattle.sh_grammar.proofs.StateLemmas.{closing_stands}
+use Rattle.sh_grammar.proofs.StateLemmas.{ended_stands}
 use Rattle.sh_grammar.proofs.SubstitutionLemmas.{closed_read}
 use Rattle.sh_grammar.proofs.grammar.Grammar.substitution.Goals as goal
 
@@ -10,9 +12,12 @@ returns g c =
     let b = c.args.script.now in
     let s = c.args.from in
     let found = c.in_ok-commands in
+    let end = found.behind in
     let close = sym c.is_closed.ensures.value ∙ c.if-not-is_closed.false in
-    subst (λ v. To b (ClosedFrom b s) s.at found.commands v) (sym c.ended.ensures) (record {
-      one = closed_read b s c.requires.level found.behind found.commands found.ensures.one close c.in_default.ensures c.in_default-first_kept.ensures;
+    let list : c.in_ok-list.list ≡ fill end.bodies found.commands = c.in_ok-list.ensures ∙ ap (λ ds. fill ds found.commands) c.ended-bodies.ensures.bodies in
+    let one = closed_read b s c.requires.level end found.commands found.ensures.one close c.in_default.ensures in
+    subst (λ v. To b (ClosedFrom b s) s.at c.in_ok-list.list v) (sym c.ended-bodies.ensures.level) (record {
+      one = subst (λ t. One (ClosedFrom b s) (here (record end { closed = false; bodies = [] })) t) (sym list) one;
       from = found.ensures.from;
-      stands = closing_stands b false found.behind.fresh found.behind found.ensures.stands;
+      stands = ended_stands b end found.ensures.stands;
     })

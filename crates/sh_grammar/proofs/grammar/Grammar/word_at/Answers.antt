@@ -17,7 +17,7 @@ returns-then-is_location-clause-reads g c =
     let found = c.in_ok-word in
     let located = sym c.is_location.ensures.value ∙ c.if-is_location.true in (
       c.is_location.ensures.within c.if-is_location.true,
-      λ told. word_located c.args.script.now c.args.mode c.requires.whole c.args.at c.args.from found.last found.word found.ensures located,
+      word_located c.args.script.now c.args.mode c.requires.whole c.args.at c.args.from found.last found.word found.ensures located,
     )
 
 pub returns-in-Some-clause-reads : goal.returns-in-Some-clause-reads
@@ -27,7 +27,7 @@ returns-in-Some-clause-reads g c =
     let splits = subst (λ ps. Splits b found.last.joins ps c.split_at.result) c.as_slice.ensures c.split_at.ensures in
     let split = subst (λ o. Splits b found.last.joins found.word.parts o) c.in-Some.is splits in (
       split.1,
-      λ told. word_split b c.args.mode c.requires.whole c.args.at c.args.from found.last found.word found.ensures split.0,
+      word_split b c.args.mode c.requires.whole c.args.at c.args.from found.last found.word found.ensures split.0,
     )
 
 pub returns-clause-reads : goal.returns-clause-reads

@@ -1,10 +1,10 @@
 use Rattle.std.proofs.Common.{sym, ap, ◌∙◌, arith}
 use Rattle.sh_tree.specs.language.Commands.{is_newline_lead}
 use Rattle.sh_grammar.proofs.BreakLemmas.{skips_one, skips_all}
-use Rattle.sh_grammar.proofs.breaks.breaks.Goals as goal
+use Rattle.sh_grammar.proofs.grammar.Grammar.breaks.Goals as goal
 
 pub loop-next-preserved : goal.loop-next-preserved
-loop-next-preserved c =
+loop-next-preserved g c =
     let at = c.loop-next in
     let line = sym (c.is_newline.ensures ∙ ap is_newline_lead c.lead_at.ensures.value) ∙ c.loop-next-test.true in
     let to = c.in_ok-next.ensures in
@@ -17,7 +17,7 @@ loop-next-preserved c =
     }
 
 pub returns : goal.returns
-returns c =
+returns g c =
     let at = c.loop-next in
     let none = sym (c.is_newline.ensures ∙ ap is_newline_lead c.lead_at.ensures.value) ∙ c.loop-next-test.false in
     skips_all c.args.script.now c.args.from at.next at.invariant.skips none at.invariant.from at.invariant.stands

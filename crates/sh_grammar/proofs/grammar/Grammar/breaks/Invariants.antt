@@ -1,14 +1,14 @@
 use Rattle.std.proofs.Common.{◌-◌, ◌≤◌, length}
 use Rattle.sh_grammar.specs.States.{Stands}
 use Rattle.sh_grammar.proofs.BreakLemmas.{Skips}
-use Rattle.sh_grammar.proofs.breaks.breaks.Given as goal
+use Rattle.sh_grammar.proofs.grammar.Grammar.breaks.Given as goal
 
 abbrev pub invariant-loop-next : goal.invariant-loop-next
-invariant-loop-next l = record {
+invariant-loop-next g l = record {
   skips : Skips l.script l.fn.from l.next;
   from : l.fn.from.at ≤ l.next.at;
   stands : Stands l.script l.next;
 }
 
 abbrev pub decreases-loop-next : goal.decreases-loop-next
-decreases-loop-next l = length l.script - l.next.at
+decreases-loop-next g l = length l.script - l.next.at
