@@ -10,6 +10,7 @@ pub mod SimpleLemmas
 pub mod CommandLemmas
 pub mod ScriptLemmas
 pub mod PrefixLemmas
+pub mod NestLemmas
 pub mod AskedLemmas
 pub mod ClaimLemmas
 pub mod DropLemmas

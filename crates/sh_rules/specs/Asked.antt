@@ -1,12 +1,13 @@
 -- What the flow rules ask of views is asked of what is known there, of the names that are numbered.
 -- The standard has no such rules: what is claimed of a place has to be known there in every run.
-use Rattle.std.specs.Prelude.{◌≡◌, ℕ, Bool, true, false, List, [], ◌∷◌, ◌++◌, flat_map, fold, Option, None}
+use Rattle.std.specs.Prelude.{◌≡◌, ◌≤◌, ℕ, nat_le, length, Bool, true, false, List, [], ◌∷◌, ◌++◌, flat_map, fold, Option, None}
 use Rattle.std.specs.List.{list_all}
 use Rattle.sh_tree.specs.declared.tree.Script.{Script}
 use Rattle.sh_tree.specs.program.Syntax as p
 use Rattle.sh_tree.specs.program.Syntax.{Text}
 use Rattle.sh_tree.specs.program.Trees.{script_of}
 use Rattle.sh_table.specs.Calls.{table_of}
+use Rattle.sh_table.specs.Surroundings.{outside, items_located}
 use Rattle.sh_table.specs.runs.Environment.{is_one_of}
 use Rattle.sh_facts.specs.declared.rule.FlowRule.{FlowRule}
 use Rattle.sh_facts.specs.declared.rule.FlowRule.TheVariants.{F13}
@@ -88,3 +89,8 @@ PrefixesAreNumbered =
 -- The functions that the call table of a script has are those that it defines.
 abbrev pub TableDefines : Type 0
 TableDefines = (b : List ℕ) (t : Script) → AreDefined (table_of b t).functions.names (script_of b t)
+
+-- A command stands in no more loops than there are commands.
+abbrev pub LoopsAreFew : Type 0
+LoopsAreFew =
+    (t : p.Items) (most : ℕ) → length (items_located outside t) ≤ most → list_all (λ (e : Entered). nat_le (length e.around.loops) most) (script_entered t) ≡ true

@@ -1,5 +1,5 @@
 //! What the walk is good for, and what the rules ask.
-ghost use Rattle.sh_rules.specs.Asked.{AskedOfFacts, LeastOfConstraints, LeastOfScripts, PrefixesAreNumbered, TableDefines};
+ghost use Rattle.sh_rules.specs.Asked.{AskedOfFacts, LeastOfConstraints, LeastOfScripts, LoopsAreFew, PrefixesAreNumbered, TableDefines};
 ghost use Rattle.sh_rules.specs.Meaning.{WalkEnters};
 
 use crate::asked::Asked;
@@ -28,9 +28,10 @@ pub fn least()
     ensures { LeastOfScripts }
 {}
 
-/// The names of a script suffice for its rules: those of prefix assignments are among them; and the functions of its call table are those
-/// that its commands define.
+/// The names of a script suffice for its rules: those of prefix assignments are among them; the functions of its call table are those that
+/// its commands define; and no command stands in more loops than there are commands.
 pub fn names()
     ensures prefixes { PrefixesAreNumbered }
     ensures functions { TableDefines }
+    ensures loops { LoopsAreFew }
 {}

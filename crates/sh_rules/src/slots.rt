@@ -107,7 +107,7 @@ impl Claims<'_> {
     fn function(&self, name: &[u8]) -> Option<&FunctionEntry>
         ensures { option_copied result ≡ slots.entry_of (setting self.now).kept (setting self.now).functions name.now }
     {
-        let place = place_of(name, self.functions)?;
+        let place = place_of(name, self.calls.functions())?;
         self.certificate.functions.get(place)
     }
 
