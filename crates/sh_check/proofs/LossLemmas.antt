@@ -39,7 +39,7 @@ special_same (kind.Special name) = refl
 special_same k = refl
 
 -- a name that has a place
-found : (names : List Text) (t : Text) (i : ℕ) → is_some (position_from (λ n. bytes_eq n t) i names) ≡ is_one_of names t
+pub found : (names : List Text) (t : Text) (i : ℕ) → is_some (position_from (λ n. bytes_eq n t) i names) ≡ is_one_of names t
 found [] t i = refl
 found (u ∷ us) t i = go (found us t (i + 1)) (bytes_eq u t)
   where

@@ -45,7 +45,7 @@ unfolding facts_in setting
 name_gained c k l t h = facts_named (setting c) k l t h
 
 -- what a walk over words knows, as facts of the names of the script
-facts_gained : (x : Setting) (ms : List Text) (k l : Knowledge) (g : Gains) → known ms (knowledge_facts ms l) ≡ knowing.gained g (known x.names (knowledge_facts x.names k))
+pub facts_gained : (x : Setting) (ms : List Text) (k l : Knowledge) (g : Gains) → known ms (knowledge_facts ms l) ≡ knowing.gained g (known x.names (knowledge_facts x.names k))
     → knowledge_facts x.names l ≡ gained x g (knowledge_facts x.names k)
 unfolding gained knowing.gained
 facts_gained x ms k l g e = ap (λ (z : Knowing). knowledge_facts z.names l) (sym e) ∙ ap (λ (z : Knowing). z.facts) e

@@ -15,3 +15,12 @@ pub mod AskedLemmas
 pub mod ClaimLemmas
 pub mod DropLemmas
 pub mod TellLemmas
+pub mod StepLemmas
+pub mod ElementLemmas
+pub mod OperandLemmas
+pub mod UtilityLemmas
+pub mod CallLemmas
+pub mod ReturnLemmas
+pub mod ReachedLemmas
+pub mod CalleeLemmas
+pub mod WordLemmas

@@ -12,3 +12,10 @@ pub mod LeastFault
 pub mod Asked
 pub mod Places
 pub mod Tells
+pub mod Losses
+pub mod Elements
+pub mod Texts
+pub mod TextBounds
+pub mod Calls
+pub mod TextTells
+pub mod Reached

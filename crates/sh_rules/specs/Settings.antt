@@ -1,7 +1,8 @@
--- What a check of a certificate goes by: the script, its names, the names of its functions, and the certificate that is kept.
+-- What a check of a certificate goes by: the script, its names, its call table, and the certificate that is kept.
 -- The standard has no such thing: what is known at a place (XCU 2.5), of the names that are numbered.
 use Rattle.std.specs.Prelude.{List, [], ◌∷◌}
 use Rattle.sh_tree.specs.program.Syntax.{Text}
+use Rattle.sh_table.specs.Calls.{Row}
 use Rattle.sh_facts.specs.declared.certificate.Certificate as kept
 use Rattle.sh_facts.specs.Certificates.{in_byte_order, sheet_of}
 use Rattle.sh_facts.specs.Facts.{Facts, Claim, facts}
@@ -14,6 +15,7 @@ pub record Setting : Type 0 where
   pub script : Text
   pub names : List Text
   pub functions : List Text
+  pub rows : List Row
   pub kept : kept.Certificate
 
 -- the certificate that the rules are asked of

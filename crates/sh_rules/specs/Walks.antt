@@ -1,6 +1,6 @@
 -- Clauses of private functions: what stands round a piece of a tree, and what is known behind it.
 -- POSIX.1-2024, XCU 2.9.2 (pipelines), 2.9.3 (lists).
-use Rattle.std.specs.Prelude.{ℕ, ◌-◌, max, nat_eq, slice_get, List, [], ◌∷◌, map, Option, Some, None, option_map}
+use Rattle.std.specs.Prelude.{ℕ, ◌-◌, max, nat_eq, slice_get, List, [], ◌∷◌, Option, Some, None, option_map}
 use Rattle.sh_tree.specs.declared.tree.AndOr.{AndOr}
 use Rattle.sh_tree.specs.declared.tree.Command.{Command}
 use Rattle.sh_tree.specs.declared.tree.Item.{Item, out-Item}
@@ -27,7 +27,7 @@ use Rattle.sh_rules.specs.Behind.{Behind, parts_behind, pipeline_behind, link_be
 
 -- what a check goes by
 unfoldable pub setting : Claims → Setting
-setting c = record { script = c.script.now; names = c.names.now; functions = map (λ v. v.items) c.functions.now; kept = c.certificate.now }
+setting c = record { script = c.script.now; names = c.names.now; functions = c.calls.now.functions.names; rows = c.calls.now.rows; kept = c.certificate.now }
 
 -- what stands round a command
 

@@ -1,16 +1,18 @@
-//! A script with its names, its functions and a certificate of it.
+//! A script with its names, its call table and a certificate of it.
 ghost use Rattle.std.specs.Prelude.{length, ◌≡◌};
 ghost use Rattle.sh_facts.specs.Knowledge.{AreNumbered};
 
 use sh_facts::certificate::Certificate;
 use sh_facts::names::Names;
+use sh_table::table::CallTable;
 
-/// A script, its names, the names of its functions in the order of their first definitions, and a certificate of it.
+/// A script, its names, its call table, whose functions the certificate numbers, and a certificate of it.
 pub struct Claims<'a> {
     pub script: &'a [u8],
     pub names: &'a Names,
-    pub functions: &'a [Vec<u8>],
+    pub calls: &'a CallTable<'a>,
     pub certificate: &'a Certificate,
     ghost numbered: { AreNumbered names.now },
     ghost sized: { certificate.now.rows.count ≡ length names.now },
+    ghost read: { calls.now.script ≡ script.now },
 }

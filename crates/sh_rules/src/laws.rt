@@ -1,6 +1,7 @@
 //! What the walk is good for, and what the rules ask.
 ghost use Rattle.sh_rules.specs.Asked.{AskedOfFacts, LeastOfConstraints, LeastOfScripts, LoopsAreFew, PrefixesAreNumbered, TableDefines};
 ghost use Rattle.sh_rules.specs.Meaning.{WalkEnters};
+ghost use Rattle.sh_rules.specs.TextTells.{TextsTell};
 
 use crate::asked::Asked;
 
@@ -34,4 +35,9 @@ pub fn names()
     ensures prefixes { PrefixesAreNumbered }
     ensures functions { TableDefines }
     ensures loops { LoopsAreFew }
+{}
+
+/// What simple commands ask and drop by the static texts of their words is what they ask and drop by the words (XCU 2.9.1).
+pub fn texts<A: Asked>()
+    ensures { TextsTell A.Kept A.asked }
 {}

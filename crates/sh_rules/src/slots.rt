@@ -20,11 +20,12 @@ ghost use Rattle.sh_facts.specs.KeptRows.{holds_at};
 ghost use Rattle.sh_facts.specs.Knowledge.{AreNumbered};
 ghost use Rattle.sh_tree.specs.program.Syntax.{Text};
 ghost use Rattle.sh_rules.specs.Asking.{one_function, one_variable};
+ghost use Rattle.sh_rules.specs.Calls.{Returns};
 
 use crate::claims::Claims;
 use crate::place::Place;
 use sh_facts::certificate::{Entry, Facts, FunctionEntry};
-use sh_facts::knowledge::Knowledge;
+use sh_facts::knowledge::{Knowledge, Return};
 use sh_facts::rows::{RowId, Rows};
 use sh_tree::tree::Span;
 
@@ -107,7 +108,7 @@ impl Claims<'_> {
     fn function(&self, name: &[u8]) -> Option<&FunctionEntry>
         ensures { option_copied result ≡ slots.entry_of (setting self.now).kept (setting self.now).functions name.now }
     {
-        let place = place_of(name, self.functions)?;
+        let place = place_of(name, self.calls.functions())?;
         self.certificate.functions.get(place)
     }
 
@@ -270,6 +271,37 @@ impl Claims<'_> {
                 }
             },
             None => true,
+        }
+    }
+}
+
+// What a call of a function leaves.
+impl Claims<'_> {
+    /// What a call drops, and what is claimed where it returns with status zero, if the certificate has the function.
+    #[tactic(auto, using(crate::proofs::ReturnLemmas::zero))]
+    pub fn return_zero(&self, name: &[u8]) -> Option<Return>
+        ensures { Returns (setting self.now) name.now (views.ReturnsZero name.now) result }
+    {
+        match self.function(name) {
+            Some(entry) => Some(Return {
+                drops: entry.drops,
+                facts: entry.zero,
+            }),
+            None => None,
+        }
+    }
+
+    /// What a call drops, and what is claimed where it returns with another status, if the certificate has the function.
+    #[tactic(auto, using(crate::proofs::ReturnLemmas::nonzero))]
+    pub fn return_nonzero(&self, name: &[u8]) -> Option<Return>
+        ensures { Returns (setting self.now) name.now (views.ReturnsNonzero name.now) result }
+    {
+        match self.function(name) {
+            Some(entry) => Some(Return {
+                drops: entry.drops,
+                facts: entry.nonzero,
+            }),
+            None => None,
         }
     }
 }

@@ -1,0 +1,111 @@
+//! What the flow rules ask of a simple command: of what it claims behind it, and of where it jumps to (XCU 2.9.1, 2.15, 3).
+ghost use Rattle.std.specs.Prelude.{◌≡◌, map};
+ghost use Rattle.sh_tree.specs.program.Lists.{elements_from};
+ghost use Rattle.sh_table.specs.WordTexts.{text_in};
+ghost use Rattle.sh_rules.specs.TextTells as spec;
+ghost use Rattle.sh_rules.specs.Walks as walks;
+ghost use Rattle.sh_rules.specs.Walks.{setting};
+
+use crate::around::Around;
+use crate::asked::Asked;
+use crate::bounds::tell_leaves;
+use crate::calls::tell_call;
+use crate::claims::Claims;
+use crate::elements::behind;
+use crate::fault::Fault;
+use crate::jumps::tell_jumps;
+use crate::utilities::{nameless_behind, settled, utility_behind};
+use sh_facts::rule::FlowRule;
+use sh_table::kind::{Kind, kind_of};
+use sh_table::word_text::WordText;
+use sh_tree::tree::Element;
+
+#[tactic(auto, unfolding(crate::specs::TextTells::told_by))]
+fn tell_utility<A: Asked>(
+    claims: &Claims<'_>,
+    around: &Around<'_>,
+    number: u32,
+    kind: Kind,
+    operands: &[WordText],
+    elements: &[Element],
+    asked: &mut A,
+)
+    ensures { A.kept asked.new ≡ spec.told_by A.asked (setting claims.now) number (walks.around (setting claims.now).script around.now) (elements_from (setting claims.now).script elements.now) kind (map (text_in (setting claims.now).script) operands.now) (A.kept asked.old) }
+{
+    let rule = FlowRule::F4;
+    let known = behind(claims, number, elements);
+    let left = utility_behind(claims, kind, elements, operands, &known);
+    tell_leaves(claims, Fault { number, rule }, &left, asked);
+    let jumps = settled(claims, elements, &known);
+    tell_jumps(claims, around, number, kind, operands, &jumps, asked);
+}
+
+fn tell_nameless<A: Asked>(claims: &Claims<'_>, number: u32, elements: &[Element], asked: &mut A)
+    ensures { A.kept asked.new ≡ spec.nameless_told A.asked (setting claims.now) number (elements_from (setting claims.now).script elements.now) (A.kept asked.old) }
+{
+    let rule = FlowRule::F5;
+    let known = behind(claims, number, elements);
+    let left = nameless_behind(claims, elements, &known);
+    tell_leaves(claims, Fault { number, rule }, &left, asked);
+}
+
+#[tactic(auto, unfolding(crate::specs::TextTells::named_by))]
+fn tell_named<A: Asked>(
+    claims: &Claims<'_>,
+    around: &Around<'_>,
+    number: u32,
+    is_call: bool,
+    name: &[u8],
+    operands: &[WordText],
+    elements: &[Element],
+    asked: &mut A,
+)
+    ensures { A.kept asked.new ≡ spec.named_by A.asked (setting claims.now) number (walks.around (setting claims.now).script around.now) (elements_from (setting claims.now).script elements.now) is_call name.now (map (text_in (setting claims.now).script) operands.now) (A.kept asked.old) }
+{
+    if is_call {
+        tell_call(claims, number, name, elements, asked);
+    } else {
+        tell_utility(
+            claims,
+            around,
+            number,
+            kind_of(name),
+            operands,
+            elements,
+            asked,
+        );
+    }
+}
+
+/// Of a simple command whose words have these static texts, its name first, which calls a function or is a utility: that it claims no more than is
+/// known behind it by what its name means, and no more where it jumps to.
+#[tactic(auto, unfolding(crate::specs::TextTells::simple_by, crate::specs::Walks::setting))]
+pub fn tell_simple<A: Asked>(
+    claims: &Claims<'_>,
+    around: &Around<'_>,
+    number: u32,
+    texts: &[WordText],
+    is_call: bool,
+    elements: &[Element],
+    asked: &mut A,
+)
+    ensures { A.kept asked.new ≡ spec.simple_by A.asked (setting claims.now) number (walks.around (setting claims.now).script around.now) (elements_from (setting claims.now).script elements.now) is_call (map (text_in (setting claims.now).script) texts.now) (A.kept asked.old) }
+{
+    match texts {
+        [] => tell_nameless(claims, number, elements, asked),
+        [name, operands @ ..] => match name.get(claims.script) {
+            Some(name) => tell_named(
+                claims, around, number, is_call, name, operands, elements, asked,
+            ),
+            None => tell_utility(
+                claims,
+                around,
+                number,
+                Kind::Utility,
+                operands,
+                elements,
+                asked,
+            ),
+        },
+    }
+}
