@@ -28,6 +28,7 @@ use Rattle.sh_certify.specs.declared.place.Place.{Place}
 use Rattle.sh_certify.specs.Gathered.{Gathered, is_at, is_number, bounded, counted, gathered, all_gathered}
 use Rattle.sh_certify.specs.Numbers.{name_passes, by_number, by_name, numbers_in}
 use Rattle.sh_certify.specs.Places.{same, place_of, claim_there, drops_there}
+use Rattle.sh_certify.specs.Turns.{AreNumbers, Stands}
 use Rattle.sh_certify.specs.Working.{Sets, joined, AreBelow}
 use Rattle.sh_certify.proofs.KeptLemmas.{place_same}
 use Rattle.sh_certify.proofs.NumberLemmas.{back, meet_named}
@@ -98,10 +99,6 @@ module _ (names functions : List Text) (d : Declared) where
 
   -- Only numbered names are gathered
 
-  pub record IsNumberedOnly (g : Gathered) : Type 0 where
-    pub known : IsNamed (length names) g.known
-    pub sets : AreBelow (length names) g.sets
-
   passes_below : (v : Text → Bool) (k : ℕ) → name_passes v (slice_get names k) ≡ true → k < length names
   unfolding name_passes
   passes_below v k e = go (slice_get names k) refl e
@@ -135,7 +132,7 @@ module _ (names functions : List Text) (d : Declared) where
   if_below true s z a b = a
   if_below false s z a b = b
 
-  pub numbered_only : (c : Certificate) (ks : List Constraint) (g : Gathered) → IsNumberedOnly g → IsNumberedOnly (all_gathered names functions d c g ks)
+  pub numbered_only : (c : Certificate) (ks : List Constraint) (g : Gathered) → AreNumbers (length names) g → AreNumbers (length names) (all_gathered names functions d c g ks)
   unfolding gathered bounded counted
   numbered_only c [] g a = a
   numbered_only c (Within slot n rule v ∷ ks) g a = numbered_only c ks (gathered names functions d c g (Within slot n rule v)) (record {
@@ -150,11 +147,6 @@ module _ (names functions : List Text) (d : Declared) where
   -- What keeps the rules claims no more than is gathered, and drops no less
 
   module _ (c : Certificate) (other : Sheet) (below : IsBelow (certificate_of functions other) c) (fit : (o : Option Place) → claim_fits names (claim_there other o) ≡ true) where
-    pub record Stands (g : Gathered) : Type 0 where
-      pub place : IsWithin (facts (claim_there other (Some g.place))) (by_name names g.known)
-      pub vars : (x : Text) → at_number g.sets.vars (number_of names x) ≡ true → is_one_of (drops_there other (Some g.function)).vars x ≡ true
-      pub names_too : (x : Text) → at_number g.sets.functions (number_of names x) ≡ true → is_one_of (drops_there other (Some g.function)).functions x ≡ true
-
     is_there : (o : Option Place) (p : Place) → is_at o p ≡ true → o ≡ Some p
     unfolding is_at
     is_there None p e = absurd (true≢false (sym e))
@@ -166,7 +158,7 @@ module _ (names functions : List Text) (d : Declared) where
     is_its (Some k) i e = ap Some (eqb-true k i e)
 
     -- the claim at a place that is asked for
-    asked : (slot : Slot) (f : Facts) (g : Gathered) → IsWithin (facts ((certificate_of functions other).claim slot)) f → Stands g → is_at (place_of functions slot) g.place ≡ true
+    asked : (slot : Slot) (f : Facts) (g : Gathered) → IsWithin (facts ((certificate_of functions other).claim slot)) f → Stands names other g → is_at (place_of functions slot) g.place ≡ true
         → IsWithin (facts (claim_there other (Some g.place))) (by_name names (number.meet g.known (by_number names f)))
     asked slot f g w s e =
         let here : claim_at functions other slot ≡ claim_there other (Some g.place) = placed functions other slot ∙ ap (claim_there other) (is_there (place_of functions slot) g.place e) in
@@ -188,7 +180,7 @@ module _ (names functions : List Text) (d : Declared) where
           | inr h ↦ inr (sym (ap (name_passes (is_one_of ts)) (stands_there names k x is)) ∙ h)
         ]
 
-    stands_on : (k : Constraint) (g : Gathered) → broken d (certificate_of functions other) k ≡ [] → Stands g → Stands (gathered names functions d c g k)
+    stands_on : (k : Constraint) (g : Gathered) → broken d (certificate_of functions other) k ≡ [] → Stands names other g → Stands names other (gathered names functions d c g k)
     unfolding gathered bounded counted Fits
     stands_on (Within slot n rule v) g none s =
         let w : IsWithin (facts ((certificate_of functions other).claim slot)) (view_facts d c v) = fits_below d (certificate_of functions other) c (Within slot n rule v) below none in
@@ -198,7 +190,7 @@ module _ (names functions : List Text) (d : Declared) where
             | inr e ↦ rw e s.place
           ];
           vars = s.vars;
-          names_too = s.names_too;
+          functions = s.functions;
         }
     stands_on (Counted f n loss) g none s =
         let a : AreAmong (lost d c n loss) ((certificate_of functions other).drops f) = fits_below d (certificate_of functions other) c (Counted f n loss) below none in
@@ -208,12 +200,12 @@ module _ (names functions : List Text) (d : Declared) where
               rw e (record {
                 place = s.place;
                 vars = λ x t. elim (lost_name g.sets.vars (lost d c n loss).vars x t) [ inl h ↦ s.vars x h | inr h ↦ subst (λ k. is_one_of k.vars x ≡ true) here (a.vars x h) ];
-                names_too = λ x t. elim (lost_name g.sets.functions (lost d c n loss).functions x t) [ inl h ↦ s.names_too x h | inr h ↦ subst (λ k. is_one_of k.functions x ≡ true) here (a.functions x h) ];
+                functions = λ x t. elim (lost_name g.sets.functions (lost d c n loss).functions x t) [ inl h ↦ s.functions x h | inr h ↦ subst (λ k. is_one_of k.functions x ≡ true) here (a.functions x h) ];
               })
-          | inr e ↦ rw e (record { place = s.place; vars = s.vars; names_too = s.names_too })
+          | inr e ↦ rw e (record { place = s.place; vars = s.vars; functions = s.functions })
         ]
 
-    pub stands_all : (ks : List Constraint) (g : Gathered) → flat_map (broken d (certificate_of functions other)) ks ≡ [] → Stands g → Stands (all_gathered names functions d c g ks)
+    pub stands_all : (ks : List Constraint) (g : Gathered) → flat_map (broken d (certificate_of functions other)) ks ≡ [] → Stands names other g → Stands names other (all_gathered names functions d c g ks)
     stands_all [] g none s = s
     stands_all (k ∷ ks) g none s =
         stands_all ks (gathered names functions d c g k) (rest_none (broken d (certificate_of functions other) k) (flat_map (broken d (certificate_of functions other)) ks) none)

@@ -6,3 +6,4 @@ pub mod SheetLemmas
 pub mod AboveLemmas
 pub mod GatherLemmas
 pub mod FirstLemmas
+pub mod TurnLemmas

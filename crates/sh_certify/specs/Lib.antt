@@ -4,3 +4,4 @@ pub mod Writable
 pub mod Numbers
 pub mod First
 pub mod Gathered
+pub mod Turns

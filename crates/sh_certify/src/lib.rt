@@ -2,7 +2,10 @@
 #![tactic(auto)]
 
 pub mod first;
+pub mod gather;
 pub mod kept;
 pub mod lower;
 pub mod place;
+pub mod subject;
+pub mod turn;
 pub mod writable;
