@@ -7,3 +7,4 @@ pub mod AboveLemmas
 pub mod GatherLemmas
 pub mod FirstLemmas
 pub mod TurnLemmas
+pub mod GreatestLemmas

@@ -128,6 +128,14 @@ module _ (names : List Text) (loops : List Bool) (m : ℕ) (old mid new : kept.C
         | inr e ↦ subst (λ c. IsBelow (certificate_of defined d) (certificate_of defined (sheet_by names c))) (sym (second.stays e)) below
       ]
 
+pub sunk_then : (names : List Text) (loops : List Bool) (m : ℕ) (old new : kept.Certificate) (g : Gathered) (x y : Bool) → x ≡ true → IsSunk names loops m old new g (x || y) → IsSunk names loops m old new g x
+sunk_then names loops m old new g true y e s = s
+sunk_then names loops m old new g false y e s = absurd (true≢false (sym e))
+
+pub sunk_else : (names : List Text) (loops : List Bool) (m : ℕ) (old new : kept.Certificate) (g : Gathered) (x y : Bool) → x ≡ false → IsSunk names loops m old new g (x || y) → IsSunk names loops m old new g y
+sunk_else names loops m old new g true y e s = absurd (true≢false e)
+sunk_else names loops m old new g false y e s = s
+
 -- Attempts
 
 pub sunk_attempt : (names : List Text) (loops : List Bool) (m : ℕ) (declared : Declared) (defined : List Text) (ks : List Constraint) (old new : kept.Certificate) (g : Gathered) → AreNumbered names
@@ -165,17 +173,18 @@ kept_attempt names loops m declared defined ks c working rules =
 -- Turns
 
 module _ (names : List Text) (loops : List Bool) (m : ℕ) (declared : Declared) (defined : List Text) (ks : List Constraint) where
-  pub kept_turn : (old new : kept.Certificate) → IsAttempt names loops m declared defined ks old new Kept → IsTurn names loops m declared defined ks old new true
-  kept_turn old new a = record { working = a.working; rules = λ e. a.rules refl; less = λ e. absurd (true≢false e); above = a.above }
+  pub kept_turn : (old new : kept.Certificate) (o : Outcome) → o ≡ Kept → IsAttempt names loops m declared defined ks old new o → IsTurn names loops m declared defined ks old new true
+  kept_turn old new o e a = record { working = a.working; rules = λ x. a.rules e; less = λ x. absurd (true≢false x); above = a.above }
 
-  pub lowered_turn : (old new : kept.Certificate) → IsAttempt names loops m declared defined ks old new Lowered → IsTurn names loops m declared defined ks old new false
-  lowered_turn old new a = record { working = a.working; rules = λ e. absurd (true≢false (sym e)); less = λ e. a.less refl; above = a.above }
+  pub lowered_turn : (old new : kept.Certificate) (o : Outcome) → o ≡ Lowered → IsAttempt names loops m declared defined ks old new o → IsTurn names loops m declared defined ks old new false
+  lowered_turn old new o e a = record { working = a.working; rules = λ x. absurd (true≢false (sym x)); less = λ x. a.less e; above = a.above }
 
   -- behind an attempt that left all as it was
-  pub later_turn : (old mid new : kept.Certificate) (kept : Bool) → IsAttempt names loops m declared defined ks old mid Stays → IsTurn names loops m declared defined ks mid new kept → IsTurn names loops m declared defined ks old new kept
-  later_turn old mid new kept a t = record {
+  pub later_turn : (old mid new : kept.Certificate) (o : Outcome) (kept : Bool) → o ≡ Stays → IsAttempt names loops m declared defined ks old mid o → IsTurn names loops m declared defined ks mid new kept
+      → IsTurn names loops m declared defined ks old new kept
+  later_turn old mid new o kept e a t = record {
     working = t.working;
     rules = t.rules;
-    less = λ e. subst (λ c. height (length names) (length loops) m new < height (length names) (length loops) m c) (a.stays refl) (t.less e);
+    less = λ x. subst (λ c. height (length names) (length loops) m new < height (length names) (length loops) m c) (a.stays e) (t.less x);
     above = λ d fit none below. t.above d fit none (a.above d fit none below);
   }

@@ -77,3 +77,10 @@ pub record IsAttempt (names : List Text) (loops : List Bool) (m : ℕ) (declared
   pub stays : outcome ≡ Stays → new ≡ old
   pub above : (d : Sheet) → ((o : Option Place) → claim_fits names (claim_there d o) ≡ true) → flat_map (broken declared (certificate_of defined d)) ks ≡ []
       → IsBelow (certificate_of defined d) (certificate_of defined (sheet_by names old)) → IsBelow (certificate_of defined d) (certificate_of defined (sheet_by names new))
+
+-- the certificate keeps all constraints, and stays above each one that keeps them
+pub record IsSettled (names : List Text) (loops : List Bool) (m : ℕ) (declared : Declared) (defined : List Text) (ks : List Constraint) (old new : Certificate) : Type 0 where
+  pub working : IsWorking names loops m new
+  pub rules : flat_map (broken declared (certificate_of defined (sheet_by names new))) ks ≡ []
+  pub above : (d : Sheet) → ((o : Option Place) → claim_fits names (claim_there d o) ≡ true) → flat_map (broken declared (certificate_of defined d)) ks ≡ []
+      → IsBelow (certificate_of defined d) (certificate_of defined (sheet_by names old)) → IsBelow (certificate_of defined d) (certificate_of defined (sheet_by names new))

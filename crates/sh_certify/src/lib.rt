@@ -1,6 +1,7 @@
 //! The greatest certificate of a script: it begins with the one that claims everything, and lowers what breaks a flow rule until nothing does.
 #![tactic(auto)]
 
+pub mod find;
 pub mod first;
 pub mod gather;
 pub mod kept;
