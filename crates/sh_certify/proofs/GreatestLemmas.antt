@@ -80,3 +80,10 @@ module _ (b : List ℕ) (d : Declared) (t : Script) (names : List Text) (admitte
         above = λ other fit keeps. s.above other (known_there names fit.loops (length defined) other fit.fit) keeps (first_above names h defined loops (length defined) first working all none other);
         spelled = written_reads_back.rising names c (has_text names h loops (length defined) c s.working distinct few some);
       }
+
+  -- by any count that is that of its functions
+  pub is_greatest_of : (m : ℕ) → m ≡ length defined → (first c : kept.Certificate) → IsWorking names loops m first → ClaimsAll first → DropsNothing first
+      → IsSettled names loops m d defined (script_bounds (script_of b t)) first c → are_distinct names ≡ true → length loops ≤ 65535 → m ≤ 65535 → IsGreatest b d t names (sheet_by names c)
+  is_greatest_of m e first c working all none s distinct few some =
+      is_greatest first c (subst (λ n. IsWorking names loops n first) e working) all none (subst (λ n. IsSettled names loops n d defined (script_bounds (script_of b t)) first c) e s) distinct few
+      (subst (λ n. n ≤ 65535) e some)

@@ -1,5 +1,5 @@
 //! What is gathered of all that the flow rules ask of a certificate.
-ghost use Rattle.std.specs.Prelude.{◌≡◌};
+ghost use Rattle.std.specs.Prelude.{◌≡◌, length};
 ghost use Rattle.sh_tree.specs.program.Trees.{script_of};
 ghost use Rattle.sh_facts.specs.Rules.{script_bounds};
 ghost use Rattle.sh_accept.specs.Accepted.{IsAdmitted, claims_in, functions_in};
@@ -65,7 +65,8 @@ impl Gather {
 pub trait Asks {
     /// Gathers it.
     fn ask(&self, subject: &Subject<'_>, certificate: &Certificate, gather: &mut Gather)
-        requires { IsAdmitted subject.now.script.now subject.now.policy.now subject.now.tree.now subject.now.names.now }
+        requires sized { certificate.now.rows.count ≡ length subject.now.names.now }
+        requires admitted { IsAdmitted subject.now.script.now subject.now.policy.now subject.now.tree.now subject.now.names.now }
         ensures { gathered_of gather.new ≡ all_gathered subject.now.names.now (functions_in subject.now.script.now subject.now.tree.now) subject.now.policy.now
             (claims_in subject.now.script.now subject.now.tree.now (sheet_by subject.now.names.now certificate.now)) (gathered_of gather.old)
             (script_bounds (script_of subject.now.script.now subject.now.tree.now)) };

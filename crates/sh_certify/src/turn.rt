@@ -42,7 +42,8 @@ fn asked<W: Asks>(
     certificate: &Certificate,
     target: Target,
 ) -> Gather
-    requires { IsAdmitted subject.now.script.now subject.now.policy.now subject.now.tree.now subject.now.names.now }
+    requires sized { certificate.now.rows.count ≡ length subject.now.names.now }
+    requires admitted { IsAdmitted subject.now.script.now subject.now.policy.now subject.now.tree.now subject.now.names.now }
     ensures numbers { AreNumbers (length subject.now.names.now) (gathered_of result) }
     ensures rules { result.kept ≡ true → flat_map (broken subject.now.policy.now (claims_in subject.now.script.now subject.now.tree.now (sheet_by subject.now.names.now certificate.now)))
         (script_bounds (script_of subject.now.script.now subject.now.tree.now)) ≡ [] }

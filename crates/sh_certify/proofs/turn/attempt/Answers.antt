@@ -24,3 +24,6 @@ returns-clause-attempt g c = λ loops m working.
     idle_attempt s.names.now loops m s.policy.now defined ks c.args.certificate.now c.lower_gathered.new.certificate (gathered_of c.asked-gather.result)
     (numbered s.script.now s.policy.now s.tree.now s.names.now c.requires.admitted) c.asked-gather.ensures.stands
     (subst (λ (b : Bool). IsSunk s.names.now loops m c.args.certificate.now c.lower_gathered.new.certificate (gathered_of c.asked-gather.result) b) c.if-branch.false (c.in_ok-lower_gathered.ensures.sunk loops m working))
+
+pub asked-gather-requires-clause-sized : goal.asked-gather-requires-clause-sized
+asked-gather-requires-clause-sized g c = c.requires.working.2.count
