@@ -111,16 +111,16 @@ within_there g xs i h = let x = there g (slice_get xs i) h in slice_get_within x
 -- Facts that are put
 
 -- which kind of part it is decides where it is kept
-kept_command : (c : Certificate) (q : Place) → is_of_command q.part ≡ true → kept_at c q ≡ option_and_then (λ e. entry_part e q.part) (slice_get c.entries.items q.index)
+pub kept_command : (c : Certificate) (q : Place) → is_of_command q.part ≡ true → kept_at c q ≡ option_and_then (λ e. entry_part e q.part) (slice_get c.entries.items q.index)
 unfolding kept_at
 kept_command c q h = rw h refl
 
-kept_function : (c : Certificate) (q : Place) → is_of_command q.part ≡ false → is_of_function q.part ≡ true
+pub kept_function : (c : Certificate) (q : Place) → is_of_command q.part ≡ false → is_of_function q.part ≡ true
     → kept_at c q ≡ option_and_then (λ e. function_part e q.part) (slice_get c.functions.items q.index)
 unfolding kept_at
 kept_function c q h k = rw (h, k) refl
 
-kept_head : (c : Certificate) (q : Place) → is_of_command q.part ≡ false → is_of_function q.part ≡ false → kept_at c q ≡ get nat_eq c.heads (q.index + 1)
+pub kept_head : (c : Certificate) (q : Place) → is_of_command q.part ≡ false → is_of_function q.part ≡ false → kept_at c q ≡ get nat_eq c.heads (q.index + 1)
 unfolding kept_at
 kept_head c q h k = rw (h, k) refl
 

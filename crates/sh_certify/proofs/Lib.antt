@@ -1,1 +1,10 @@
 pub mod KeptLemmas
+pub mod LowerLemmas
+pub mod HeightLemmas
+pub mod NumberLemmas
+pub mod SheetLemmas
+pub mod AboveLemmas
+pub mod GatherLemmas
+pub mod FirstLemmas
+pub mod TurnLemmas
+pub mod GreatestLemmas

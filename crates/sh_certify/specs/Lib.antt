@@ -1,1 +1,7 @@
 pub mod Places
+pub mod Working
+pub mod Writable
+pub mod Numbers
+pub mod First
+pub mod Gathered
+pub mod Turns

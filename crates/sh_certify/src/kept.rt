@@ -90,6 +90,14 @@ pub fn facts_at(certificate: &Certificate, place: Place) -> Option<Facts>
     Some(*facts)
 }
 
+/// What the function of an index may drop, if it is there.
+pub fn drops_of(certificate: &Certificate, index: u16) -> Option<Drops>
+    ensures { result ≡ spec.drops_at certificate.now index }
+{
+    let entry = certificate.functions.get(index as usize)?;
+    Some(entry.drops)
+}
+
 fn put_entry(entries: &mut Vec<Entry>, index: usize, part: Part, facts: Facts)
     requires { index < length entries.old.items }
     ensures { spec.EntryPut entries.old.items entries.new.items index part facts }

@@ -1,5 +1,12 @@
 //! The greatest certificate of a script: it begins with the one that claims everything, and lowers what breaks a flow rule until nothing does.
 #![tactic(auto)]
 
+pub mod find;
+pub mod first;
+pub mod gather;
 pub mod kept;
+pub mod lower;
 pub mod place;
+pub mod subject;
+pub mod turn;
+pub mod writable;

@@ -1,0 +1,212 @@
+-- What is gathered of all that the flow rules ask.
+use Rattle.std.proofs.Common.{◌≡◌, ℕ, ◌+◌, ◌<◌, ◌==◌, eqb, Bool, true, false, ◌&&◌, ◌||◌, if◌then◌else◌, Option, Some, None, List, [], ◌∷◌, ◌++◌, length, flat_map, fold, map, slice_get, refl, sym, ap, ap₂, ◌∙◌, subst, inl, inr, ◌⊎◌, true≢false}
+use Rattle.std.specs.List.{list_all}
+use Rattle.std.proofs.Math.Path.{fun_ext}
+use Rattle.std.proofs.lemmas.Bool.{cases_Bool, and_parts, and_from, or_cases, eqb-true}
+use Rattle.std.proofs.lemmas.List.Folds.{list_all-append}
+use Rattle.std.proofs.lemmas.Option.{slice_get_within}
+use Rattle.sh_tree.specs.program.Syntax.{Text}
+use Rattle.sh_table.specs.runs.Environment.{is_one_of}
+use Rattle.sh_facts.specs.declared.rule.FlowRule.{FlowRule}
+use Rattle.sh_facts.specs.Facts.{Facts, NotReached, Known, Claim, Unreached, Claimed, facts, within, meet, Declared}
+use Rattle.sh_facts.specs.Faults.{Fault, are_among, told, broken}
+use Rattle.sh_facts.specs.Knowledge.{AreNumbered, among, at_number}
+use Rattle.sh_facts.specs.Names.{number_of}
+use Rattle.sh_facts.specs.Operands.{Names, no_names}
+use Rattle.sh_facts.specs.Order.{IsWithin, IsBelow, AreAmong, Fits, seen_facts}
+use Rattle.sh_facts.specs.Reading.{claim_fits}
+use Rattle.sh_facts.specs.Rules.{Constraint, Within, Counted, bound}
+use Rattle.sh_facts.specs.Sheets.{Sheet, certificate_of, claim_at, function_at}
+use Rattle.sh_facts.specs.Views.{Certificate, Slot, Seen, view_facts, lost}
+use Rattle.sh_facts.proofs.KnowledgeLemmas.{same_tests, stands_there}
+use Rattle.sh_facts.proofs.MonotoneLemmas.{fits_below}
+use Rattle.sh_facts.proofs.OrderLemmas.{known_within, known_parts, within_nowhere, nowhere_known, within_itself, within_through, within_test, meet_first, meet_second, meet_greatest, among_all}
+use Rattle.sh_find.specs.Facts as number
+use Rattle.sh_find.specs.Kept.{IsNamed, AreNamed}
+use Rattle.sh_find.proofs.OrderLemmas as numbers
+use Rattle.sh_certify.specs.declared.place.Place.{Place}
+use Rattle.sh_certify.specs.Gathered.{Gathered, is_at, is_number, bounded, counted, gathered, all_gathered}
+use Rattle.sh_certify.specs.Numbers.{name_passes, by_number, by_name, numbers_in}
+use Rattle.sh_certify.specs.Places.{same, place_of, claim_there, drops_there}
+use Rattle.sh_certify.specs.Turns.{AreNumbers, Stands}
+use Rattle.sh_certify.specs.Working.{Sets, joined, AreBelow}
+use Rattle.sh_certify.proofs.KeptLemmas.{place_same}
+use Rattle.sh_certify.proofs.NumberLemmas.{back, meet_named}
+use Rattle.sh_certify.proofs.SheetLemmas.{placed, drops_placed}
+
+-- Facts of numbered names
+
+pub among_grows : (names : List Text) (f g : Facts) → IsWithin f g → IsWithin (among names f) (among names g)
+unfolding among
+among_grows names f NotReached h = within_nowhere _
+among_grows names NotReached (Known w g b) h = absurd (nowhere_known w g b h)
+among_grows names (Known v f a) (Known w g b) h =
+    let s = known_parts v w f g a b h in
+    known_within _ _ _ _ a b
+    (λ t e. let both = and_parts (is_one_of names t) (v t) e in and_from _ _ both.0 (s.vars t both.1))
+    (λ t e. let both = and_parts (is_one_of names t) (f t) e in and_from _ _ both.0 (s.functions t both.1))
+    s.args
+
+only_known : (names vs : List Text) → list_all (is_one_of names) vs ≡ true → (t : Text) → (is_one_of names t && is_one_of vs t) ≡ is_one_of vs t
+only_known names vs e t = same_tests _ _ (λ h. (and_parts (is_one_of names t) (is_one_of vs t) h).1) (λ h. and_from _ _ (among_all (is_one_of names) vs e t h) h)
+
+pub claim_among : (names : List Text) (c : Claim) → claim_fits names c ≡ true → among names (facts c) ≡ facts c
+unfolding claim_fits facts among
+claim_among names Unreached e = refl
+claim_among names (Claimed vs fs n) e =
+    let both = and_parts (list_all (is_one_of names) vs) (list_all (is_one_of names) fs) e in
+    ap₂ (λ (v f : Text → Bool). Known v f n) (fun_ext (only_known names vs both.0)) (fun_ext (only_known names fs both.1))
+
+-- a claim of numbered names is within what is known of these
+pub within_among : (names : List Text) (c : Claim) (f : Facts) → claim_fits names c ≡ true → IsWithin (facts c) f → IsWithin (facts c) (among names f)
+within_among names c f e w = subst (λ g. IsWithin g (among names f)) (claim_among names c e) (among_grows names (facts c) f w)
+
+-- Lists without faults
+
+first_none : (xs ys : List Fault) → xs ++ ys ≡ [] → xs ≡ []
+first_none [] ys e = refl
+first_none (x ∷ xs) ys e = cc
+
+rest_none : (xs ys : List Fault) → xs ++ ys ≡ [] → ys ≡ []
+rest_none [] ys e = e
+rest_none (x ∷ xs) ys e = cc
+
+module _ (names functions : List Text) (d : Declared) where
+  -- where all is kept, no constraint is broken
+  pub all_kept : (c : Certificate) (ks : List Constraint) (g : Gathered) → (all_gathered names functions d c g ks).kept ≡ true → (g.kept ≡ true) × (flat_map (broken d c) ks ≡ [])
+  unfolding gathered bounded counted broken told
+  all_kept c [] g e = (e, refl)
+  all_kept c (Within slot n rule v ∷ ks) g e =
+      let rest = all_kept c ks (gathered names functions d c g (Within slot n rule v)) e in
+      let both = and_parts g.kept (within (c.claim slot) (view_facts d c v)) rest.0 in
+      (both.0, ap (λ b. told b n rule ++ flat_map (broken d c) ks) both.1 ∙ rest.1)
+  all_kept c (Counted f n loss ∷ ks) g e =
+      let rest = all_kept c ks (gathered names functions d c g (Counted f n loss)) e in
+      let both = and_parts g.kept (are_among (lost d c n loss) (c.drops f)) rest.0 in
+      (both.0, rw both.1 rest.1)
+
+  pub place_stays : (c : Certificate) (ks : List Constraint) (g : Gathered) → (all_gathered names functions d c g ks).place ≡ g.place
+  unfolding gathered bounded counted
+  place_stays c [] g = refl
+  place_stays c (Within slot n rule v ∷ ks) g = place_stays c ks (gathered names functions d c g (Within slot n rule v))
+  place_stays c (Counted f n loss ∷ ks) g = place_stays c ks (gathered names functions d c g (Counted f n loss))
+
+  pub function_stays : (c : Certificate) (ks : List Constraint) (g : Gathered) → (all_gathered names functions d c g ks).function ≡ g.function
+  unfolding gathered bounded counted
+  function_stays c [] g = refl
+  function_stays c (Within slot n rule v ∷ ks) g = function_stays c ks (gathered names functions d c g (Within slot n rule v))
+  function_stays c (Counted f n loss ∷ ks) g = function_stays c ks (gathered names functions d c g (Counted f n loss))
+
+  -- Only numbered names are gathered
+
+  passes_below : (v : Text → Bool) (k : ℕ) → name_passes v (slice_get names k) ≡ true → k < length names
+  unfolding name_passes
+  passes_below v k e = go (slice_get names k) refl e
+    where
+      go : (o : Option Text) → slice_get names k ≡ o → name_passes v o ≡ true → k < length names
+      go None is e = absurd (true≢false (sym e))
+      go (Some t) is e = slice_get_within names k t is
+
+  number_named : (f : Facts) → IsNamed (length names) (by_number names f)
+  unfolding IsNamed by_number
+  number_named NotReached = tt
+  number_named (Known v f a) = record { vars = passes_below v; functions = passes_below f }
+
+  met_named : (f g : number.Facts) → IsNamed (length names) f → IsNamed (length names) g → IsNamed (length names) (number.meet f g)
+  unfolding IsNamed number.meet
+  met_named number.NotReached g a b = b
+  met_named (number.Known v f n) number.NotReached a b = a
+  met_named (number.Known v f n) (number.Known w g k) a b = record { vars = λ x e. a.vars x (and_parts (v x) (w x) e).0; functions = λ x e. a.functions x (and_parts (f x) (g x) e).0 }
+
+  joined_below : (lost : Names) (s : Sets) → AreBelow (length names) s → AreBelow (length names) (joined (numbers_in names lost) s)
+  joined_below lost s a = record {
+    vars = λ k e. elim (or_cases (s.vars k) (name_passes (is_one_of lost.vars) (slice_get names k)) e) [ inl h ↦ a.vars k h | inr h ↦ passes_below (is_one_of lost.vars) k h ];
+    functions = λ k e. elim (or_cases (s.functions k) (name_passes (is_one_of lost.functions) (slice_get names k)) e) [ inl h ↦ a.functions k h | inr h ↦ passes_below (is_one_of lost.functions) k h ];
+  }
+
+  if_named : (b : Bool) (f g : number.Facts) → IsNamed (length names) f → IsNamed (length names) g → IsNamed (length names) (if b then f else g)
+  if_named true f g a b = a
+  if_named false f g a b = b
+
+  if_below : (b : Bool) (s z : Sets) → AreBelow (length names) s → AreBelow (length names) z → AreBelow (length names) (if b then s else z)
+  if_below true s z a b = a
+  if_below false s z a b = b
+
+  pub numbered_only : (c : Certificate) (ks : List Constraint) (g : Gathered) → AreNumbers (length names) g → AreNumbers (length names) (all_gathered names functions d c g ks)
+  unfolding gathered bounded counted
+  numbered_only c [] g a = a
+  numbered_only c (Within slot n rule v ∷ ks) g a = numbered_only c ks (gathered names functions d c g (Within slot n rule v)) (record {
+    known = if_named (is_at (place_of functions slot) g.place) _ _ (met_named g.known (by_number names (view_facts d c v)) a.known (number_named (view_facts d c v))) a.known;
+    sets = a.sets;
+  })
+  numbered_only c (Counted f n loss ∷ ks) g a = numbered_only c ks (gathered names functions d c g (Counted f n loss)) (record {
+    known = a.known;
+    sets = if_below (is_number (number_of functions f) g.function) _ _ (joined_below (lost d c n loss) g.sets a.sets) a.sets;
+  })
+
+  -- What keeps the rules claims no more than is gathered, and drops no less
+
+  module _ (c : Certificate) (other : Sheet) (below : IsBelow (certificate_of functions other) c) (fit : (o : Option Place) → claim_fits names (claim_there other o) ≡ true) where
+    is_there : (o : Option Place) (p : Place) → is_at o p ≡ true → o ≡ Some p
+    unfolding is_at
+    is_there None p e = absurd (true≢false (sym e))
+    is_there (Some q) p e = ap Some (place_same q p e)
+
+    is_its : (o : Option ℕ) (i : ℕ) → is_number o i ≡ true → o ≡ Some i
+    unfolding is_number
+    is_its None i e = absurd (true≢false (sym e))
+    is_its (Some k) i e = ap Some (eqb-true k i e)
+
+    -- the claim at a place that is asked for
+    asked : (slot : Slot) (f : Facts) (g : Gathered) → IsWithin (facts ((certificate_of functions other).claim slot)) f → Stands names other g → is_at (place_of functions slot) g.place ≡ true
+        → IsWithin (facts (claim_there other (Some g.place))) (by_name names (number.meet g.known (by_number names f)))
+    asked slot f g w s e =
+        let here : claim_at functions other slot ≡ claim_there other (Some g.place) = placed functions other slot ∙ ap (claim_there other) (is_there (place_of functions slot) g.place e) in
+        subst (IsWithin (facts (claim_there other (Some g.place)))) (sym (meet_named names g.known (by_number names f)))
+        (meet_greatest (by_name names g.known) (by_name names (by_number names f)) _ s.place
+        (subst (IsWithin (facts (claim_there other (Some g.place)))) (sym (back names f))
+        (within_among names (claim_there other (Some g.place)) f (fit (Some g.place)) (subst (λ k. IsWithin (facts k) f) here w))))
+
+    -- a name that is lost by its number
+    lost_name : (v : ℕ → Bool) (ts : List Text) (x : Text) → at_number (λ k. v k || name_passes (is_one_of ts) (slice_get names k)) (number_of names x) ≡ true
+        → (at_number v (number_of names x) ≡ true) ⊎ (is_one_of ts x ≡ true)
+    unfolding at_number name_passes
+    lost_name v ts x e = go (number_of names x) refl e
+      where
+        go : (o : Option ℕ) → number_of names x ≡ o → at_number (λ k. v k || name_passes (is_one_of ts) (slice_get names k)) o ≡ true → (at_number v o ≡ true) ⊎ (is_one_of ts x ≡ true)
+        go None is e = absurd (true≢false (sym e))
+        go (Some k) is e = elim (or_cases (v k) (name_passes (is_one_of ts) (slice_get names k)) e) [
+          | inl h ↦ inl h
+          | inr h ↦ inr (sym (ap (name_passes (is_one_of ts)) (stands_there names k x is)) ∙ h)
+        ]
+
+    stands_on : (k : Constraint) (g : Gathered) → broken d (certificate_of functions other) k ≡ [] → Stands names other g → Stands names other (gathered names functions d c g k)
+    unfolding gathered bounded counted Fits
+    stands_on (Within slot n rule v) g none s =
+        let w : IsWithin (facts ((certificate_of functions other).claim slot)) (view_facts d c v) = fits_below d (certificate_of functions other) c (Within slot n rule v) below none in
+        record {
+          place = elim (cases_Bool (is_at (place_of functions slot) g.place)) [
+            | inl e ↦ rw e (asked slot (view_facts d c v) g w s e)
+            | inr e ↦ rw e s.place
+          ];
+          vars = s.vars;
+          functions = s.functions;
+        }
+    stands_on (Counted f n loss) g none s =
+        let a : AreAmong (lost d c n loss) ((certificate_of functions other).drops f) = fits_below d (certificate_of functions other) c (Counted f n loss) below none in
+        elim (cases_Bool (is_number (number_of functions f) g.function)) [
+          | inl e ↦
+              let here : (function_at functions other.functions f).drops ≡ drops_there other (Some g.function) = drops_placed functions other f ∙ ap (drops_there other) (is_its (number_of functions f) g.function e) in
+              rw e (record {
+                place = s.place;
+                vars = λ x t. elim (lost_name g.sets.vars (lost d c n loss).vars x t) [ inl h ↦ s.vars x h | inr h ↦ subst (λ k. is_one_of k.vars x ≡ true) here (a.vars x h) ];
+                functions = λ x t. elim (lost_name g.sets.functions (lost d c n loss).functions x t) [ inl h ↦ s.functions x h | inr h ↦ subst (λ k. is_one_of k.functions x ≡ true) here (a.functions x h) ];
+              })
+          | inr e ↦ rw e (record { place = s.place; vars = s.vars; functions = s.functions })
+        ]
+
+    pub stands_all : (ks : List Constraint) (g : Gathered) → flat_map (broken d (certificate_of functions other)) ks ≡ [] → Stands names other g → Stands names other (all_gathered names functions d c g ks)
+    stands_all [] g none s = s
+    stands_all (k ∷ ks) g none s =
+        stands_all ks (gathered names functions d c g k) (rest_none (broken d (certificate_of functions other) k) (flat_map (broken d (certificate_of functions other)) ks) none)
+        (stands_on k g (first_none (broken d (certificate_of functions other) k) (flat_map (broken d (certificate_of functions other)) ks) none) s)

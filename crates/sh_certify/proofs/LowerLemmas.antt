@@ -1,0 +1,316 @@
+-- A claim that is lowered, and drops that are added to.
+use Rattle.std.proofs.Common.{◌≡◌, ℕ, zero, suc, ◌+◌, ◌<◌, ◌≤◌, ◌==◌, eqb, nat_eq, Bool, true, false, not, ◌&&◌, ◌||◌, Option, Some, None, option_map, List, [], ◌∷◌, length, slice_get, is_some, refl, sym, ap, ap₂, ◌∙◌, subst, arith, inl, inr, ◌⊎◌, true≢false}
+use Rattle.std.specs.Prelude.{unwrap_or}
+use Rattle.std.proofs.Math.Path.{fun_ext}
+use Rattle.std.proofs.lemmas.Bool.{cases_Bool, and_parts, and_from, or_cases, eqb-true}
+use Rattle.indexmap.specs.IndexMap.{get}
+use Rattle.sh_tree.specs.program.Syntax.{Text}
+use Rattle.sh_tree.specs.language.Bytes.{is_name}
+use Rattle.sh_rows.specs.declared.bits.BitRow.{BitRow}
+use Rattle.sh_facts.specs.declared.certificate.Certificate.{Certificate}
+use Rattle.sh_facts.specs.declared.certificate.Drops.{Drops}
+use Rattle.sh_facts.specs.declared.certificate.Facts as value
+use Rattle.sh_facts.specs.declared.certificate.Facts.TheVariants as value_kind
+use Rattle.sh_facts.specs.declared.rows.RowId.{RowId}
+use Rattle.sh_facts.specs.Forms.{is_variable}
+use Rattle.sh_facts.specs.KeptRows.{KeptRows, Stay, bits_in, holds_at}
+use Rattle.sh_facts.specs.RoundTrips.{FactsPass, SetsPass}
+use Rattle.sh_find.specs.declared.number_set.NumberSet.{NumberSet}
+use Rattle.sh_find.specs.declared.sight.Sight.{Sight}
+use Rattle.sh_find.specs.Facts.{Facts, NotReached, Known, IsWithin, meet}
+use Rattle.sh_find.specs.Kept.{numbers_of, sight_facts, fact_of, IsNamed, IsPlaced, AreNamed}
+use Rattle.sh_find.proofs.SolutionLemmas.{stays_there, stays_placed, stays_same, meet_numbered}
+use Rattle.sh_find.specs.Lowers.{IsNumbered}
+use Rattle.sh_find.proofs.NamedLemmas.{met_named}
+use Rattle.std.proofs.lemmas.Option.{slice_get_within}
+use Rattle.sh_facts.specs.declared.certificate.FunctionEntry.{FunctionEntry}
+use Rattle.sh_certify.specs.declared.place.Part.TheVariants.{Head}
+use Rattle.sh_certify.specs.declared.place.Place.{Place}
+use Rattle.sh_certify.specs.Places.{same, at, is_of_command, is_of_function, kept_at, drops_at, IsPut, IsDropped}
+use Rattle.sh_certify.specs.Working.{Sets, sets_of, joined, claims, dropped, AreWithin, AreBelow, IsFine, AreFine, IsWorking, IsLowered, IsCounted}
+use Rattle.sh_certify.specs.Writable.{sets_in, IsWritten, text_passes, passes_at}
+use Rattle.sh_certify.proofs.KeptLemmas.{place_same}
+
+-- Rows of drops
+
+pub drops_named : (names : ℕ) (vars functions : NumberSet) (a : ℕ) → AreBelow names (sets_in vars functions) → IsNamed names (Known (numbers_of vars) (numbers_of functions) a)
+unfolding IsNamed
+drops_named names vars functions a below = record { vars = below.vars; functions = below.functions }
+
+pub vars_placed : (n : ℕ) (f : value.Facts) (v g : RowId) (a : ℕ) → f ≡ value_kind.Known v g a → IsPlaced n f → v.index < n
+unfolding IsPlaced
+vars_placed n f v g a is p = (subst (IsPlaced n) is p).0
+
+pub functions_placed : (n : ℕ) (f : value.Facts) (v g : RowId) (a : ℕ) → f ≡ value_kind.Known v g a → IsPlaced n f → g.index < n
+unfolding IsPlaced
+functions_placed n f v g a is p = (subst (IsPlaced n) is p).1
+
+-- facts that are equal know the same
+vars_of : Facts → ℕ → Bool
+vars_of NotReached k = false
+vars_of (Known v f a) k = v k
+
+functions_of : Facts → ℕ → Bool
+functions_of NotReached k = false
+functions_of (Known v f a) k = f k
+
+args_of : Facts → ℕ
+args_of NotReached = 0
+args_of (Known v f a) = a
+
+pub drops_kept : (rows : KeptRows) (vars functions : NumberSet) (f : value.Facts) (v g : RowId) (a b : ℕ) → f ≡ value_kind.Known v g a
+    → fact_of rows.rows f ≡ Known (numbers_of vars) (numbers_of functions) b → sets_of rows (record { vars = v; functions = g }) ≡ sets_in vars functions
+unfolding fact_of vars_of functions_of
+drops_kept rows vars functions f v g a b is same =
+    let e : fact_of rows.rows (value_kind.Known v g a) ≡ Known (numbers_of vars) (numbers_of functions) b = ap (fact_of rows.rows) (sym is) ∙ same in
+    let left : holds_at rows.rows v.index ≡ numbers_of vars = ap vars_of e in
+    let right : holds_at rows.rows g.index ≡ numbers_of functions = ap functions_of e in
+    ap₂ (λ (x y : ℕ → Bool). record { vars = x; functions = y }) left right
+
+-- Names that may stand
+
+text_parts : (t : Text) (v f : Bool) → text_passes (Some t) v f ≡ true → (v ≡ true → is_variable t ≡ true) × (f ≡ true → is_name t ≡ true)
+unfolding text_passes
+text_parts t v f e =
+    let both = and_parts (not v || is_variable t) (not f || is_name t) e in
+    (λ w. implied v (is_variable t) both.0 w, λ w. implied f (is_name t) both.1 w)
+  where
+    implied : (a b : Bool) → (not a || b) ≡ true → a ≡ true → b ≡ true
+    implied true b h w = h
+    implied false b h w = absurd (true≢false (sym w))
+
+pub all_written : (names : List Text) (s : Sets) (n : ℕ) → length names ≤ n → ((k : ℕ) → k < n → passes_at names s k ≡ true) → IsWritten names s
+all_written names s n low h = record {
+  vars = λ k t is e. (parts k t is).0 e;
+  functions = λ k t is e. (parts k t is).1 e;
+}
+  where
+    parts : (k : ℕ) (t : Text) → slice_get names k ≡ Some t → (s.vars k ≡ true → is_variable t ≡ true) × (s.functions k ≡ true → is_name t ≡ true)
+    parts k t is =
+        let l : k < length names = slice_get_within names k t is in
+        text_parts t (s.vars k) (s.functions k) (subst (λ o. text_passes o (s.vars k) (s.functions k) ≡ true) is (h k (omega (arith, l, low))))
+
+-- Rows that grow
+
+holds_still : (old new : List BitRow) (i : ℕ) → Stay old new → i < length old → (k : ℕ) → holds_at new i k ≡ holds_at old i k
+holds_still old new i stay l k = ap (λ o. bits_in o k) (stay i l)
+
+sets_still : (old new : KeptRows) (d : Drops) → Stay old.rows new.rows → d.vars.index < length old.rows → d.functions.index < length old.rows → sets_of new d ≡ sets_of old d
+sets_still old new d stay v f =
+    ap₂ (λ (x y : ℕ → Bool). record { vars = x; functions = y }) (ap bits_in (stay d.vars.index v)) (ap bits_in (stay d.functions.index f))
+
+passes_still : (names : List Text) (old new : KeptRows) (v f : RowId) → Stay old.rows new.rows → v.index < length old.rows → f.index < length old.rows → SetsPass names old v f → SetsPass names new v f
+passes_still names old new v f stay l m p = record {
+  vars = λ k t is h. p.vars k t is (sym (holds_still old.rows new.rows v.index stay l k) ∙ h);
+  functions = λ k t is h. p.functions k t is (sym (holds_still old.rows new.rows f.index stay m k) ∙ h);
+}
+
+facts_still : (names : List Text) (old new : KeptRows) (f : value.Facts) → Stay old.rows new.rows → IsPlaced (length old.rows) f → FactsPass names old f → FactsPass names new f
+unfolding IsPlaced FactsPass
+facts_still names old new value_kind.NotReached stay l p = tt
+facts_still names old new (value_kind.Known v f a) stay l p = (passes_still names old new v f stay l.0 l.1 p.0, p.1)
+
+fine_still : (names : List Text) (old new : KeptRows) (f : value.Facts) → Stay old.rows new.rows → IsFine names old f → IsFine names new f
+fine_still names old new f stay fine = record {
+  placed = stays_placed old.rows new.rows f stay fine.placed;
+  numbered = subst (IsNumbered (length names)) (sym (stays_same old.rows new.rows f stay fine.placed)) fine.numbered;
+  passes = facts_still names old new f stay fine.placed fine.passes;
+}
+
+drops_still : (names : List Text) (old new : KeptRows) (d : Drops) → Stay old.rows new.rows → AreFine names old d → AreFine names new d
+drops_still names old new d stay fine = record {
+  vars = stays_there old.rows new.rows d.vars.index stay fine.vars;
+  functions = stays_there old.rows new.rows d.functions.index stay fine.functions;
+  below = subst (AreBelow (length names)) (sym (sets_still old new d stay fine.vars fine.functions)) fine.below;
+  passes = passes_still names old new d.vars d.functions stay fine.vars fine.functions fine.passes;
+}
+
+-- What is kept depends on no rows
+
+pub kept_still : (c d : Certificate) (q : Place) → d.entries ≡ c.entries → d.heads ≡ c.heads → d.functions ≡ c.functions → kept_at d q ≡ kept_at c q
+unfolding kept_at
+kept_still c d q entries heads functions = rw (entries, heads, functions) refl
+
+pub is_there : {A B : Type 0} (g : A → B) (o : Option A) (x : A) → o ≡ Some x → is_some (option_map g o) ≡ true
+is_there g o x e = ap (λ p. is_some (option_map g p)) e
+
+pub heads_at : (c : Certificate) (i : ℕ) → kept_at c (at Head i) ≡ get nat_eq c.heads (i + 1)
+unfolding kept_at is_of_command is_of_function
+heads_at c i = refl
+
+-- the facts of a sight that may be written
+pub sight_passes : (names : List Text) (rows : KeptRows) (f : value.Facts) (s : Sight) → fact_of rows.rows f ≡ sight_facts s → IsWritten names (sets_in s.vars s.functions) → FactsPass names rows f
+unfolding fact_of FactsPass vars_of functions_of args_of
+sight_passes names rows value_kind.NotReached s e w = tt
+sight_passes names rows (value_kind.Known v f a) s e w =
+    let left : holds_at rows.rows v.index ≡ numbers_of s.vars = ap vars_of e in
+    let right : holds_at rows.rows f.index ≡ numbers_of s.functions = ap functions_of e in
+    let args : a ≡ s.args = ap args_of e in
+    let few = s.bounded in
+    (record {
+      vars = λ k t is h. w.vars k t is (sym (ap (λ (g : ℕ → Bool). g k) left) ∙ h);
+      functions = λ k t is h. w.functions k t is (sym (ap (λ (g : ℕ → Bool). g k) right) ∙ h);
+    }, omega (arith, args, few))
+
+-- A claim that is lowered
+
+module _ (names : List Text) (loops : List Bool) (m : ℕ) (old mid new : Certificate) (p : Place) (f kept : value.Facts) (known : Facts)
+    (is : kept_at old p ≡ Some f) (stay : Stay old.rows.rows mid.rows.rows) (count : mid.rows.count ≡ old.rows.count)
+    (entries : mid.entries ≡ old.entries) (heads : mid.heads ≡ old.heads) (functions : mid.functions ≡ old.functions) (put : IsPut mid new p kept)
+    (met : fact_of mid.rows.rows kept ≡ meet (fact_of old.rows.rows f) known) (working : IsWorking names loops m old) where
+  same_rows : new.rows ≡ mid.rows
+  same_rows = put.rows
+
+  grown : Stay old.rows.rows new.rows.rows
+  grown = subst (λ (r : KeptRows). Stay old.rows.rows r.rows) (sym same_rows) stay
+
+  elsewhere : (q : Place) → same q p ≡ false → kept_at new q ≡ kept_at old q
+  elsewhere q n = put.elsewhere q n ∙ kept_still old mid q entries heads functions
+
+  drops_same : (i : ℕ) → drops_at new i ≡ drops_at old i
+  drops_same i = put.drops i ∙ ap (λ v. option_map (λ (e : FunctionEntry). e.drops) (slice_get v.items i)) functions
+
+  claims_still : (o : Option value.Facts) → ((g : value.Facts) → o ≡ Some g → IsFine names old.rows g) → option_map (fact_of new.rows.rows) o ≡ option_map (fact_of old.rows.rows) o
+  claims_still None h = refl
+  claims_still (Some g) h = ap Some (stays_same old.rows.rows new.rows.rows g grown (h g refl).placed)
+
+  dropped_still : (o : Option Drops) → ((d : Drops) → o ≡ Some d → AreFine names old.rows d) → option_map (sets_of new.rows) o ≡ option_map (sets_of old.rows) o
+  dropped_still None h = refl
+  dropped_still (Some d) h = ap Some (sets_still old.rows new.rows d grown (h d refl).vars (h d refl).functions)
+
+  pub is_lowered : ¬ (IsWithin (fact_of old.rows.rows f) known) → IsLowered old new p known true
+  unfolding claims dropped
+  is_lowered fails = record {
+    stays = λ e. absurd (true≢false e);
+    there = λ e. is_there (fact_of old.rows.rows) (kept_at old p) f is;
+    fails = λ e g at_p. λ w. fails (subst (λ h. IsWithin h known) (some_same _ _ (sym at_p ∙ ap (option_map (fact_of old.rows.rows)) is)) w);
+    here = λ e. ap (option_map (fact_of new.rows.rows)) put.here ∙ ap (λ (r : KeptRows). Some (fact_of r.rows kept)) same_rows ∙ ap Some met ∙ sym (ap (λ o. option_map (λ g. meet g known) (option_map (fact_of old.rows.rows) o)) is);
+    elsewhere = λ q n. ap (option_map (fact_of new.rows.rows)) (elsewhere q n) ∙ claims_still (kept_at old q) (working.facts q);
+    drops = λ i. ap (option_map (sets_of new.rows)) (drops_same i) ∙ dropped_still (drops_at old i) (working.drops i);
+  }
+    where
+      some_same : (x y : Facts) → Some x ≡ Some y → x ≡ y
+      some_same x y e = cc
+
+  fine_here : IsPlaced (length mid.rows.rows) kept → IsNumbered (length names) known → FactsPass names mid.rows kept → IsFine names new.rows kept
+  fine_here placed numbered passes = subst (λ (r : KeptRows). IsFine names r kept) (sym same_rows) (record {
+    placed = placed;
+    numbered = subst (IsNumbered (length names)) (sym met) (meet_numbered (length names) (fact_of old.rows.rows f) known (working.facts p f is).numbered numbered);
+    passes = passes;
+  })
+
+  pub still_works : IsPlaced (length mid.rows.rows) kept → IsNumbered (length names) known → FactsPass names mid.rows kept → IsWorking names loops m new
+  still_works placed numbered passes = record {
+    count = ap (λ (r : KeptRows). r.count) same_rows ∙ count ∙ working.count;
+    commands = put.entries ∙ ap (λ v. length v.items) entries ∙ working.commands;
+    defined = put.functions ∙ ap (λ v. length v.items) functions ∙ working.defined;
+    heads = λ i. ap is_some (sym (heads_at new i)) ∙ elim (cases_Bool (same (at Head i) p)) [
+      | inl e ↦
+          let q : at Head i ≡ p = place_same (at Head i) p e in
+          ap (λ x. is_some (kept_at new x)) q ∙ ap is_some put.here ∙ sym (ap is_some is) ∙ ap (λ x. is_some (kept_at old x)) (sym q)
+      | inr e ↦ ap is_some (elsewhere (at Head i) e)
+    ] ∙ ap is_some (heads_at old i) ∙ working.heads i;
+    low = put.low ∙ ap (λ h. get nat_eq h 0) heads ∙ working.low;
+    facts = λ q g e. elim (cases_Bool (same q p)) [
+      | inl s ↦ subst (IsFine names new.rows) (some_facts _ _ (sym put.here ∙ ap (kept_at new) (sym (place_same q p s)) ∙ e)) (fine_here placed numbered passes)
+      | inr s ↦ fine_still names old.rows new.rows g grown (working.facts q g (sym (elsewhere q s) ∙ e))
+    ];
+    drops = λ i d e. drops_still names old.rows new.rows d grown (working.drops i d (sym (drops_same i) ∙ e));
+  }
+    where
+      some_facts : (x y : value.Facts) → Some x ≡ Some y → x ≡ y
+      some_facts x y e = cc
+
+-- Drops that are added to
+
+pub union_below : (names : List Text) (rows : KeptRows) (d : Drops) (old : Sets) (new : Sets) → AreBelow (length names) (sets_of rows d) → AreBelow (length names) old
+    → ((k : ℕ) → new.vars k ≡ (holds_at rows.rows d.vars.index k || old.vars k)) → ((k : ℕ) → new.functions k ≡ (holds_at rows.rows d.functions.index k || old.functions k)) → AreBelow (length names) new
+union_below names rows d old new a b v f = record {
+  vars = λ k e. elim (or_cases (holds_at rows.rows d.vars.index k) (old.vars k) (sym (v k) ∙ e)) [ inl h ↦ a.vars k h | inr h ↦ b.vars k h ];
+  functions = λ k e. elim (or_cases (holds_at rows.rows d.functions.index k) (old.functions k) (sym (f k) ∙ e)) [ inl h ↦ a.functions k h | inr h ↦ b.functions k h ];
+}
+
+module _ (names : List Text) (loops : List Bool) (m : ℕ) (old mid new : Certificate) (i : ℕ) (d kept : Drops) (sets : Sets)
+    (is : drops_at old i ≡ Some d) (stay : Stay old.rows.rows mid.rows.rows) (count : mid.rows.count ≡ old.rows.count)
+    (entries : mid.entries ≡ old.entries) (heads : mid.heads ≡ old.heads) (functions : mid.functions ≡ old.functions) (put : IsDropped mid new i kept)
+    (union : sets_of mid.rows kept ≡ joined sets (sets_of old.rows d)) (working : IsWorking names loops m old) where
+  rows_same : new.rows ≡ mid.rows
+  rows_same = put.rows
+
+  rows_grown : Stay old.rows.rows new.rows.rows
+  rows_grown = subst (λ (r : KeptRows). Stay old.rows.rows r.rows) (sym rows_same) stay
+
+  others : (j : ℕ) → (j == i) ≡ false → drops_at new j ≡ drops_at old j
+  others j n = put.elsewhere j n ∙ ap (λ v. option_map (λ (e : FunctionEntry). e.drops) (slice_get v.items j)) functions
+
+  facts_same : (q : Place) → kept_at new q ≡ kept_at old q
+  facts_same q = put.facts q ∙ kept_still old mid q entries heads functions
+
+  facts_kept : (o : Option value.Facts) → ((g : value.Facts) → o ≡ Some g → IsFine names old.rows g) → option_map (fact_of new.rows.rows) o ≡ option_map (fact_of old.rows.rows) o
+  facts_kept None h = refl
+  facts_kept (Some g) h = ap Some (stays_same old.rows.rows new.rows.rows g rows_grown (h g refl).placed)
+
+  sets_kept : (o : Option Drops) → ((x : Drops) → o ≡ Some x → AreFine names old.rows x) → option_map (sets_of new.rows) o ≡ option_map (sets_of old.rows) o
+  sets_kept None h = refl
+  sets_kept (Some x) h = ap Some (sets_still old.rows new.rows x rows_grown (h x refl).vars (h x refl).functions)
+
+  pub is_counted : ¬ (AreWithin sets (sets_of old.rows d)) → IsCounted old new i sets true
+  unfolding claims dropped
+  is_counted fails = record {
+    stays = λ e. absurd (true≢false e);
+    there = λ e. is_there (sets_of old.rows) (drops_at old i) d is;
+    fails = λ e s at_i. λ w. fails (subst (AreWithin sets) (some_sets _ _ (sym at_i ∙ ap (option_map (sets_of old.rows)) is)) w);
+    here = λ e. ap (option_map (sets_of new.rows)) put.here ∙ ap (λ (r : KeptRows). Some (sets_of r kept)) rows_same ∙ ap Some union ∙ sym (ap (λ o. option_map (joined sets) (option_map (sets_of old.rows) o)) is);
+    elsewhere = λ j n. ap (option_map (sets_of new.rows)) (others j n) ∙ sets_kept (drops_at old j) (working.drops j);
+    claims = λ q. ap (option_map (fact_of new.rows.rows)) (facts_same q) ∙ facts_kept (kept_at old q) (working.facts q);
+  }
+    where
+      some_sets : (x y : Sets) → Some x ≡ Some y → x ≡ y
+      some_sets x y e = cc
+
+  pub counting_works : AreFine names mid.rows kept → IsWorking names loops m new
+  counting_works fine = record {
+    count = ap (λ (r : KeptRows). r.count) rows_same ∙ count ∙ working.count;
+    commands = put.entries ∙ ap (λ v. length v.items) entries ∙ working.commands;
+    defined = put.functions ∙ ap (λ v. length v.items) functions ∙ working.defined;
+    heads = λ j. ap is_some (put.heads (j + 1)) ∙ ap (λ h. is_some (get nat_eq h (j + 1))) heads ∙ working.heads j;
+    low = put.heads 0 ∙ ap (λ h. get nat_eq h 0) heads ∙ working.low;
+    facts = λ q g e. fine_still names old.rows new.rows g rows_grown (working.facts q g (sym (facts_same q) ∙ e));
+    drops = λ j x e. elim (cases_Bool (eqb j i)) [
+      | inl s ↦ subst (AreFine names new.rows) (some_drops _ _ (sym put.here ∙ ap (drops_at new) (sym (eqb-true j i s)) ∙ e)) (subst (λ (r : KeptRows). AreFine names r kept) (sym rows_same) fine)
+      | inr s ↦ drops_still names old.rows new.rows x rows_grown (working.drops j x (sym (others j s) ∙ e))
+    ];
+  }
+    where
+      some_drops : (x y : Drops) → Some x ≡ Some y → x ≡ y
+      some_drops x y e = cc
+
+-- What calls require
+
+pub met_fits : (names n : ℕ) (f met : Facts) (s : Sight) → n ≡ names → met ≡ meet f (sight_facts s) → IsNamed names (sight_facts s) → IsNamed n met
+met_fits names n f met s e is h = subst (λ k. IsNamed k met) (sym e) (subst (IsNamed names) (sym is) (met_named names f s h))
+
+pub there_still : (c d : Certificate) (p : Place) (o : Option value.Facts) (f : value.Facts) → d.entries ≡ c.entries → d.heads ≡ c.heads → d.functions ≡ c.functions
+    → o ≡ kept_at c p → o ≡ Some f → is_some (kept_at d p) ≡ true
+there_still c d p o f entries heads functions e is = ap is_some (kept_still c d p entries heads functions ∙ sym e ∙ is)
+
+pub drops_there : (fs : List FunctionEntry) (i : ℕ) (o : Option Drops) (d : Drops) → o ≡ option_map (λ (e : FunctionEntry). e.drops) (slice_get fs i) → o ≡ Some d
+    → is_some (option_map (λ (e : FunctionEntry). e.drops) (slice_get fs i)) ≡ true
+drops_there fs i o d e is = ap is_some (sym e ∙ is)
+
+-- the drops with those that are added, as they are kept
+pub union_kept : (rows mid : KeptRows) (d kept : Drops) (old new : Sets) → sets_of mid kept ≡ new → ((k : ℕ) → new.vars k ≡ (holds_at rows.rows d.vars.index k || old.vars k))
+    → ((k : ℕ) → new.functions k ≡ (holds_at rows.rows d.functions.index k || old.functions k)) → sets_of mid kept ≡ joined old (sets_of rows d)
+union_kept rows mid d kept old new e v f = e ∙ ap₂ (λ (x y : ℕ → Bool). record { vars = x; functions = y }) (fun_ext v) (fun_ext f)
+
+pub fine_drops : (names : List Text) (rows : KeptRows) (d : Drops) (s : Sets) → sets_of rows d ≡ s → d.vars.index < length rows.rows → d.functions.index < length rows.rows → AreBelow (length names) s
+    → IsWritten names s → AreFine names rows d
+fine_drops names rows d s e v f below w = record {
+  vars = v;
+  functions = f;
+  below = subst (AreBelow (length names)) (sym e) below;
+  passes = record {
+    vars = λ k t is h. w.vars k t is (sym (ap (λ (z : Sets). z.vars k) e) ∙ h);
+    functions = λ k t is h. w.functions k t is (sym (ap (λ (z : Sets). z.functions k) e) ∙ h);
+  };
+}

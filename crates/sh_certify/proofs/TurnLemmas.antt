@@ -1,0 +1,190 @@
+-- Turns of the search.
+use Rattle.std.proofs.Common.{◌≡◌, ℕ, ◌+◌, ◌<◌, Bool, true, false, ◌||◌, Option, Some, None, option_map, List, [], length, flat_map, refl, sym, ap, ◌∙◌, subst, arith, inl, inr, true≢false}
+use Rattle.std.proofs.lemmas.Bool.{cases_Bool}
+use Rattle.sh_tree.specs.program.Syntax.{Text}
+use Rattle.sh_table.specs.runs.Environment.{is_one_of}
+use Rattle.sh_facts.specs.declared.certificate.Certificate as kept
+use Rattle.sh_facts.specs.declared.certificate.Drops.{Drops}
+use Rattle.sh_facts.specs.Facts.{facts, Declared, NotReached}
+use Rattle.sh_facts.specs.Faults.{broken}
+use Rattle.sh_facts.specs.Knowledge.{AreNumbered, at_number}
+use Rattle.sh_facts.specs.Names.{number_of}
+use Rattle.sh_facts.specs.Order.{IsWithin, IsBelow}
+use Rattle.sh_facts.specs.Reading.{claim_fits}
+use Rattle.sh_facts.specs.Rules.{Constraint}
+use Rattle.sh_facts.specs.Sheets.{Sheet, certificate_of}
+use Rattle.sh_facts.proofs.OrderLemmas.{within_nowhere}
+use Rattle.sh_find.specs.Facts as number
+use Rattle.sh_find.specs.Kept.{seen_of, numbers_of, IsNamed}
+use Rattle.sh_certify.specs.declared.gather.Gather.{Gather}
+use Rattle.sh_certify.specs.declared.gather.Target.{Target}
+use Rattle.sh_certify.specs.declared.place.Place.{Place}
+use Rattle.sh_certify.specs.declared.turn.Outcome.{Outcome}
+use Rattle.sh_certify.specs.declared.turn.Outcome.TheVariants.{Kept, Lowered, Stays}
+use Rattle.sh_certify.specs.Gathered.{Gathered, all_gathered}
+use Rattle.sh_certify.specs.Numbers.{by_name}
+use Rattle.sh_certify.specs.Places.{claim_there, drops_there, drops_at}
+use Rattle.sh_certify.specs.Turns.{gathered_of, IsNew, AreNumbers, Stands, sheet_by, IsSunk, IsAttempt, IsTurn}
+use Rattle.sh_certify.specs.Working.{Sets, AreBelow, AreFine, IsWorking, IsLowered, IsCounted, claims, dropped, height}
+use Rattle.sh_certify.proofs.AboveLemmas.{lowered_above, counted_above}
+use Rattle.sh_certify.proofs.GatherLemmas.{all_kept, numbered_only, stands_all}
+use Rattle.sh_certify.proofs.HeightLemmas.{lowered_less, counted_less}
+
+kept_of : (g : Gather) → (gathered_of g).kept ≡ g.kept
+unfolding gathered_of
+kept_of g = refl
+
+-- What is gathered from nothing
+
+module _ (target : Target) (g : Gather) (new : IsNew target g) where
+  pub new_numbers : (names : ℕ) → AreNumbers names (gathered_of g)
+  unfolding gathered_of IsNamed
+  new_numbers names = record {
+    known = subst (IsNamed names) (sym new.known) tt;
+    sets = record { vars = λ k e. absurd (true≢false (sym e ∙ new.vars k)); functions = λ k e. absurd (true≢false (sym e ∙ new.functions k)) };
+  }
+
+  none_at : (v : ℕ → Bool) → ((k : ℕ) → v k ≡ false) → (o : Option ℕ) → at_number v o ≡ false
+  unfolding at_number
+  none_at v h None = refl
+  none_at v h (Some k) = h k
+
+  pub new_stands : (names : List Text) (d : Sheet) → Stands names d (gathered_of g)
+  unfolding gathered_of by_name
+  new_stands names d = record {
+    place = subst (IsWithin (facts (claim_there d (Some g.target.place)))) (sym (ap (by_name names) new.known)) (within_nowhere _);
+    vars = λ x e. absurd (true≢false (sym e ∙ none_at (numbers_of g.vars) new.vars (number_of names x)));
+    functions = λ x e. absurd (true≢false (sym e ∙ none_at (numbers_of g.functions) new.functions (number_of names x)));
+  }
+
+  module _ (names defined : List Text) (declared : Declared) (c : Sheet) (ks : List Constraint) (after : Gather)
+      (is : gathered_of after ≡ all_gathered names defined declared (certificate_of defined c) (gathered_of g) ks) where
+    pub asked_numbers : AreNumbers (length names) (gathered_of after)
+    asked_numbers = subst (AreNumbers (length names)) (sym is) (numbered_only names defined declared (certificate_of defined c) ks (gathered_of g) (new_numbers (length names)))
+
+    pub asked_rules : after.kept ≡ true → flat_map (broken declared (certificate_of defined c)) ks ≡ []
+    asked_rules e = (all_kept names defined declared (certificate_of defined c) ks (gathered_of g) (sym (ap (λ (x : Gathered). x.kept) is) ∙ kept_is ∙ e)).1
+      where
+        kept_is : (gathered_of after).kept ≡ after.kept
+        kept_is = kept_of after
+
+    pub asked_stands : (d : Sheet) → ((o : Option Place) → claim_fits names (claim_there d o) ≡ true) → flat_map (broken declared (certificate_of defined d)) ks ≡ []
+        → IsBelow (certificate_of defined d) (certificate_of defined c) → Stands names d (gathered_of after)
+    asked_stands d fit none below =
+        subst (Stands names d) (sym is) (stands_all names defined declared (certificate_of defined c) d below fit ks (gathered_of g) none (new_stands names d))
+
+-- A certificate that is lowered twice
+
+pub not_lowered : (c : kept.Certificate) (p : Place) (known : number.Facts) → IsLowered c c p known false
+not_lowered c p known = record {
+  stays = λ e. refl;
+  there = λ e. absurd (true≢false (sym e));
+  fails = λ e. absurd (true≢false (sym e));
+  here = λ e. absurd (true≢false (sym e));
+  elsewhere = λ q n. refl;
+  drops = λ i. refl;
+}
+
+module _ (names : List Text) (loops : List Bool) (m : ℕ) (old mid new : kept.Certificate) (g : Gathered) (x y : Bool) (before : IsWorking names loops m old) (between : IsWorking names loops m mid)
+    (after : IsWorking names loops m new) (first : IsLowered old mid g.place g.known x) (second : IsCounted mid new g.function g.sets y) (numbers : AreNumbers (length names) g) where
+  abbrev tall : kept.Certificate → ℕ
+  tall c = height (length names) (length loops) m c
+
+  first_less : x ≡ true → tall mid < tall old
+  first_less e = lowered_less names loops m old mid g.place g.known before between (subst (IsLowered old mid g.place g.known) e first)
+
+  second_less : y ≡ true → tall new < tall mid
+  second_less e = counted_less names loops m mid new g.function g.sets between numbers.sets (subst (IsCounted mid new g.function g.sets) e second)
+
+  either : (a b : Bool) → (a || b) ≡ false → (a ≡ false) × (b ≡ false)
+  either true b e = absurd (true≢false e)
+  either false b e = (refl, e)
+
+  less_by : (a b : Bool) → x ≡ a → y ≡ b → (a || b) ≡ true → tall new < tall old
+  less_by true true e f h = let p = first_less e in let q = second_less f in omega (arith, p, q)
+  less_by true false e f h = subst (λ c. tall c < tall old) (sym (second.stays f)) (first_less e)
+  less_by false true e f h = subst (λ c. tall new < tall c) (first.stays e) (second_less f)
+  less_by false false e f h = absurd (true≢false (sym h))
+
+  pub sunk_both : IsSunk names loops m old new g (x || y)
+  sunk_both = record {
+    stays = λ e. let both = either x y e in second.stays both.1 ∙ first.stays both.0;
+    working = after;
+    less = λ e. less_by x y refl refl e;
+    above = λ h defined d s below. by_second h defined d s (by_first h defined d s below);
+  }
+    where
+      by_first : AreNumbered names → (defined : List Text) (d : Sheet) → Stands names d g → IsBelow (certificate_of defined d) (certificate_of defined (sheet_by names old))
+          → IsBelow (certificate_of defined d) (certificate_of defined (sheet_by names mid))
+      by_first h defined d s below = elim (cases_Bool x) [
+        | inl e ↦ lowered_above names h defined loops m old mid before between d below g.place g.known (subst (IsLowered old mid g.place g.known) e first) s.place
+        | inr e ↦ subst (λ c. IsBelow (certificate_of defined d) (certificate_of defined (sheet_by names c))) (sym (first.stays e)) below
+      ]
+
+      by_second : AreNumbered names → (defined : List Text) (d : Sheet) → Stands names d g → IsBelow (certificate_of defined d) (certificate_of defined (sheet_by names mid))
+          → IsBelow (certificate_of defined d) (certificate_of defined (sheet_by names new))
+      by_second h defined d s below = elim (cases_Bool y) [
+        | inl e ↦ counted_above names h defined loops m mid new between after d below g.function g.sets (subst (IsCounted mid new g.function g.sets) e second) s.vars s.functions
+        | inr e ↦ subst (λ c. IsBelow (certificate_of defined d) (certificate_of defined (sheet_by names c))) (sym (second.stays e)) below
+      ]
+
+pub sunk_then : (names : List Text) (loops : List Bool) (m : ℕ) (old new : kept.Certificate) (g : Gathered) (x y : Bool) → x ≡ true → IsSunk names loops m old new g (x || y) → IsSunk names loops m old new g x
+sunk_then names loops m old new g true y e s = s
+sunk_then names loops m old new g false y e s = absurd (true≢false (sym e))
+
+pub sunk_else : (names : List Text) (loops : List Bool) (m : ℕ) (old new : kept.Certificate) (g : Gathered) (x y : Bool) → x ≡ false → IsSunk names loops m old new g (x || y) → IsSunk names loops m old new g y
+sunk_else names loops m old new g true y e s = absurd (true≢false e)
+sunk_else names loops m old new g false y e s = s
+
+-- Attempts
+
+pub sunk_attempt : (names : List Text) (loops : List Bool) (m : ℕ) (declared : Declared) (defined : List Text) (ks : List Constraint) (old new : kept.Certificate) (g : Gathered) → AreNumbered names
+    → ((d : Sheet) → ((o : Option Place) → claim_fits names (claim_there d o) ≡ true) → flat_map (broken declared (certificate_of defined d)) ks ≡ []
+    → IsBelow (certificate_of defined d) (certificate_of defined (sheet_by names old)) → Stands names d g)
+    → (b : Bool) (outcome : Outcome) → (outcome ≡ Kept → ⊥) → (outcome ≡ Lowered → b ≡ true) → (outcome ≡ Stays → b ≡ false) → IsSunk names loops m old new g b
+    → IsAttempt names loops m declared defined ks old new outcome
+sunk_attempt names loops m declared defined ks old new g h stands b outcome none low same sunk = record {
+  working = sunk.working;
+  rules = λ e. absurd (none e);
+  less = λ e. sunk.less (low e);
+  stays = λ e. sunk.stays (same e);
+  above = λ d fit kept below. sunk.above h defined d (stands d fit kept below) below;
+}
+
+pub lowered_attempt : (names : List Text) (loops : List Bool) (m : ℕ) (declared : Declared) (defined : List Text) (ks : List Constraint) (old new : kept.Certificate) (g : Gathered) → AreNumbered names
+    → ((d : Sheet) → ((o : Option Place) → claim_fits names (claim_there d o) ≡ true) → flat_map (broken declared (certificate_of defined d)) ks ≡ []
+    → IsBelow (certificate_of defined d) (certificate_of defined (sheet_by names old)) → Stands names d g)
+    → IsSunk names loops m old new g true → IsAttempt names loops m declared defined ks old new Lowered
+lowered_attempt names loops m declared defined ks old new g h stands sunk =
+    sunk_attempt names loops m declared defined ks old new g h stands true Lowered (λ e. cc) (λ e. refl) (λ e. cc) sunk
+
+pub idle_attempt : (names : List Text) (loops : List Bool) (m : ℕ) (declared : Declared) (defined : List Text) (ks : List Constraint) (old new : kept.Certificate) (g : Gathered) → AreNumbered names
+    → ((d : Sheet) → ((o : Option Place) → claim_fits names (claim_there d o) ≡ true) → flat_map (broken declared (certificate_of defined d)) ks ≡ []
+    → IsBelow (certificate_of defined d) (certificate_of defined (sheet_by names old)) → Stands names d g)
+    → IsSunk names loops m old new g false → IsAttempt names loops m declared defined ks old new Stays
+idle_attempt names loops m declared defined ks old new g h stands sunk =
+    sunk_attempt names loops m declared defined ks old new g h stands false Stays (λ e. cc) (λ e. cc) (λ e. refl) sunk
+
+pub kept_attempt : (names : List Text) (loops : List Bool) (m : ℕ) (declared : Declared) (defined : List Text) (ks : List Constraint) (c : kept.Certificate) → IsWorking names loops m c
+    → flat_map (broken declared (certificate_of defined (sheet_by names c))) ks ≡ [] → IsAttempt names loops m declared defined ks c c Kept
+kept_attempt names loops m declared defined ks c working rules =
+    record { working = working; rules = λ e. rules; less = λ e. cc; stays = λ e. cc; above = λ d fit kept below. below }
+
+-- Turns
+
+module _ (names : List Text) (loops : List Bool) (m : ℕ) (declared : Declared) (defined : List Text) (ks : List Constraint) where
+  pub kept_turn : (old new : kept.Certificate) (o : Outcome) → o ≡ Kept → IsAttempt names loops m declared defined ks old new o → IsTurn names loops m declared defined ks old new true
+  kept_turn old new o e a = record { working = a.working; rules = λ x. a.rules e; less = λ x. absurd (true≢false x); above = a.above }
+
+  pub lowered_turn : (old new : kept.Certificate) (o : Outcome) → o ≡ Lowered → IsAttempt names loops m declared defined ks old new o → IsTurn names loops m declared defined ks old new false
+  lowered_turn old new o e a = record { working = a.working; rules = λ x. absurd (true≢false (sym x)); less = λ x. a.less e; above = a.above }
+
+  -- behind an attempt that left all as it was
+  pub later_turn : (old mid new : kept.Certificate) (o : Outcome) (kept : Bool) → o ≡ Stays → IsAttempt names loops m declared defined ks old mid o → IsTurn names loops m declared defined ks mid new kept
+      → IsTurn names loops m declared defined ks old new kept
+  later_turn old mid new o kept e a t = record {
+    working = t.working;
+    rules = t.rules;
+    less = λ x. subst (λ c. height (length names) (length loops) m new < height (length names) (length loops) m c) (a.stays e) (t.less x);
+    above = λ d fit none below. t.above d fit none (a.above d fit none below);
+  }

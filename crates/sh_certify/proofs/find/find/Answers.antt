@@ -1,0 +1,22 @@
+use Rattle.std.proofs.Common.{◌≡◌, ℕ, ◌≤◌, length, sym, ap, ◌∙◌, subst, arith}
+use Rattle.std.proofs.lemmas.List.{length-map}
+use Rattle.sh_table.specs.Calls.{Table}
+use Rattle.sh_facts.specs.Reading.{AreLoops}
+use Rattle.sh_facts.specs.ReadParts.{loops_of}
+use Rattle.sh_accept.specs.Accepted.{functions_in}
+use Rattle.sh_certify.proofs.GreatestLemmas.{is_greatest_of}
+use Rattle.sh_certify.proofs.find.find.Goals as goal
+
+pub returns : goal.returns
+returns g c =
+    let s = c.args.subject.now in
+    let m : ℕ = length c.functions-functions.result.now in
+    let same : m ≡ length (functions_in s.script.now s.tree.now) =
+    sym (length-map c.functions-functions.result.now _) ∙ ap length c.functions-functions.ensures.names ∙ ap (λ (x : Table). length x.functions.names) s.listed in
+    let loops = loops_of c.deref.result.now in
+    let are : AreLoops s.tree.now loops = record { commands = c.in_ok-commands.commands.items; all = c.in_ok-commands.ensures.same; ordered = c.in_ok-commands.ensures.ordered; each = ap loops_of c.deref.ensures.value } in
+    let long : length loops ≡ length c.deref.result.now = length-map c.deref.result.now _ in
+    let low : length c.deref.result.now ≡ length c.in_ok-commands.commands.items = ap length c.deref.ensures.value in
+    let working = c.in_ok-certificate.ensures.working s.names.now (sym c.count-count.ensures.count) in
+    is_greatest_of s.script.now s.policy.now s.tree.now s.names.now c.requires loops are m same c.in_ok-certificate.certificate c.settle.new.certificate working c.in_ok-certificate.ensures.claims
+    c.in_ok-certificate.ensures.drops (c.in_ok-settle.ensures loops m working) c.count-count.ensures.distinct (omega (arith, long, low, c.if-len-gt-MOST_COMMANDS.false, c.len.ensures)) (omega (arith, c.functions-functions.ensures.few))

@@ -1,0 +1,32 @@
+use Rattle.std.proofs.Common.{refl, sym, ◌∙◌, subst, true≢false}
+use Rattle.sh_certify.specs.Working.{AreBelow}
+use Rattle.sh_certify.specs.Writable.{sets_in}
+use Rattle.sh_certify.proofs.LowerLemmas.{drops_there, union_below, union_kept, fine_drops, is_counted, counting_works}
+use Rattle.sh_certify.proofs.lower.count.Goals as goal
+
+pub keep_drops-requires-clause-below : goal.keep_drops-requires-clause-below
+keep_drops-requires-clause-below c =
+    subst (λ n. AreBelow n (sets_in c.join_row.new.self c.join_row-2.new.self)) (sym c.requires.count)
+    (union_below c.args.names.now c.args.certificate.now.rows c.in-Some.drops (sets_in c.args.vars c.args.functions) (sets_in c.join_row.new.self c.join_row-2.new.self)
+    (c.requires.fine c.in-Some.drops (sym c.drops_of.ensures ∙ c.in-Some.is)).below c.requires.below c.join_row.ensures c.join_row-2.ensures)
+
+pub put_drops-requires : goal.put_drops-requires
+put_drops-requires c = drops_there c.args.certificate.now.functions.items c.args.index c.drops_of.result c.in-Some.drops c.drops_of.ensures c.in-Some.is
+
+pub returns-clause-counted : goal.returns-clause-counted
+returns-clause-counted c = λ loops defined working.
+    is_counted c.args.names.now loops defined c.args.certificate.now _ c.put_drops.new.certificate c.args.index c.in-Some.drops c.in_ok-kept.kept (sets_in c.args.vars c.args.functions) (sym c.drops_of.ensures ∙ c.in-Some.is)
+    c.in_ok-kept.ensures.stay c.in_ok-kept.ensures.count refl refl refl c.put_drops.ensures
+    (union_kept c.args.certificate.now.rows c.keep_drops.new.rows c.in-Some.drops c.in_ok-kept.kept (sets_in c.args.vars c.args.functions) (sets_in c.join_row.new.self c.join_row-2.new.self) c.in_ok-kept.ensures.sets c.join_row.ensures c.join_row-2.ensures)
+    working (λ h. true≢false (sym (c.are_in_rows.ensures h) ∙ c.if-are_in_rows.false))
+
+pub returns-clause-working : goal.returns-clause-working
+returns-clause-working c = λ loops defined working.
+    counting_works c.args.names.now loops defined c.args.certificate.now _ c.put_drops.new.certificate c.args.index c.in-Some.drops c.in_ok-kept.kept (sets_in c.args.vars c.args.functions) (sym c.drops_of.ensures ∙ c.in-Some.is)
+    c.in_ok-kept.ensures.stay c.in_ok-kept.ensures.count refl refl refl c.put_drops.ensures
+    (union_kept c.args.certificate.now.rows c.keep_drops.new.rows c.in-Some.drops c.in_ok-kept.kept (sets_in c.args.vars c.args.functions) (sets_in c.join_row.new.self c.join_row-2.new.self) c.in_ok-kept.ensures.sets c.join_row.ensures c.join_row-2.ensures)
+    working
+    (fine_drops c.args.names.now c.keep_drops.new.rows c.in_ok-kept.kept (sets_in c.join_row.new.self c.join_row-2.new.self) c.in_ok-kept.ensures.sets c.in_ok-kept.ensures.vars c.in_ok-kept.ensures.functions
+    (union_below c.args.names.now c.args.certificate.now.rows c.in-Some.drops (sets_in c.args.vars c.args.functions) (sets_in c.join_row.new.self c.join_row-2.new.self)
+    (c.requires.fine c.in-Some.drops (sym c.drops_of.ensures ∙ c.in-Some.is)).below c.requires.below c.join_row.ensures c.join_row-2.ensures)
+    (c.is_writable.ensures c.if-not-is_writable.false))

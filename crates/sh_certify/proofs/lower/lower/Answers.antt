@@ -1,0 +1,24 @@
+use Rattle.std.proofs.Common.{refl, sym, ◌∙◌, true≢false}
+use Rattle.sh_find.specs.Kept.{sight_facts}
+use Rattle.sh_find.proofs.NamedLemmas.{sight_numbered}
+use Rattle.sh_certify.proofs.LowerLemmas.{met_fits, there_still, sight_passes, is_lowered, still_works}
+use Rattle.sh_certify.proofs.lower.lower.Goals as goal
+
+pub keep-requires-clause-named : goal.keep-requires-clause-named
+keep-requires-clause-named c = met_fits _ _ _ _ c.args.known c.requires.count c.meet_facts.ensures c.requires.named
+
+pub put-requires : goal.put-requires
+put-requires c = there_still c.args.certificate.now _ c.args.place c.facts_at.result c.in-Some.facts refl refl refl c.facts_at.ensures c.in-Some.is
+
+pub returns-clause-lowered : goal.returns-clause-lowered
+returns-clause-lowered c = λ loops functions working.
+    is_lowered c.args.names.now loops functions c.args.certificate.now _ c.put.new.certificate c.args.place c.in-Some.facts c.in_ok-kept.kept (sight_facts c.args.known) (sym c.facts_at.ensures ∙ c.in-Some.is)
+    c.in_ok-kept.ensures.stay c.in_ok-kept.ensures.count refl refl refl c.in_ok-put.ensures (c.in_ok-kept.ensures.facts ∙ c.meet_facts.ensures) working
+    (λ h. true≢false (sym (c.is_within.ensures.1 h) ∙ c.if-is_within.false))
+
+pub returns-clause-working : goal.returns-clause-working
+returns-clause-working c = λ loops functions working.
+    still_works c.args.names.now loops functions c.args.certificate.now _ c.put.new.certificate c.args.place c.in-Some.facts c.in_ok-kept.kept (sight_facts c.args.known) (sym c.facts_at.ensures ∙ c.in-Some.is)
+    c.in_ok-kept.ensures.stay c.in_ok-kept.ensures.count refl refl refl c.in_ok-put.ensures (c.in_ok-kept.ensures.facts ∙ c.meet_facts.ensures) working
+    c.in_ok-kept.ensures.placed (sight_numbered _ c.args.known c.requires.named)
+    (sight_passes c.args.names.now c.keep.new.rows c.in_ok-kept.kept c.meet_facts.new.sight c.in_ok-kept.ensures.facts (c.is_writable.ensures c.if-not-is_writable.false))

@@ -1,0 +1,31 @@
+use Rattle.std.proofs.Common.{◌||◌}
+use Rattle.sh_certify.specs.Turns.{gathered_of}
+use Rattle.sh_certify.proofs.TurnLemmas.{sunk_both, sunk_then, sunk_else}
+use Rattle.sh_certify.proofs.turn.lower_gathered.Goals as goal
+
+pub lower_known-requires-clause-named : goal.lower_known-requires-clause-named
+unfolding gathered_of
+lower_known-requires-clause-named c = c.requires.numbers.known
+
+pub count-requires-clause-below : goal.count-requires-clause-below
+unfolding gathered_of
+count-requires-clause-below c = c.requires.numbers.sets
+
+pub count-requires-clause-fine : goal.count-requires-clause-fine
+count-requires-clause-fine c = (c.in_ok-lowered.ensures.working c.requires.working.0 c.requires.working.1 c.requires.working.2).drops c.args.gather.now.target.function
+
+pub returns-then-lowered-clause-sunk : goal.returns-then-lowered-clause-sunk
+unfolding gathered_of
+returns-then-lowered-clause-sunk c = λ loops m working.
+    let between = c.in_ok-lowered.ensures.working loops m working in
+    sunk_then c.args.names.now loops m c.args.certificate.now c.count.new.certificate (gathered_of c.args.gather.now) c.in_ok-lowered.lowered c.in_ok-counted.counted c.if-lowered.true
+    (sunk_both c.args.names.now loops m c.args.certificate.now c.lower_known.new.certificate c.count.new.certificate (gathered_of c.args.gather.now) c.in_ok-lowered.lowered c.in_ok-counted.counted working between
+    (c.in_ok-counted.ensures.working loops m between) (c.in_ok-lowered.ensures.lowered loops m working) (c.in_ok-counted.ensures.counted loops m between) c.requires.numbers)
+
+pub returns-else-lowered-clause-sunk : goal.returns-else-lowered-clause-sunk
+unfolding gathered_of
+returns-else-lowered-clause-sunk c = λ loops m working.
+    let between = c.in_ok-lowered.ensures.working loops m working in
+    sunk_else c.args.names.now loops m c.args.certificate.now c.count.new.certificate (gathered_of c.args.gather.now) c.in_ok-lowered.lowered c.in_ok-counted.counted c.if-lowered.false
+    (sunk_both c.args.names.now loops m c.args.certificate.now c.lower_known.new.certificate c.count.new.certificate (gathered_of c.args.gather.now) c.in_ok-lowered.lowered c.in_ok-counted.counted working between
+    (c.in_ok-counted.ensures.working loops m between) (c.in_ok-lowered.ensures.lowered loops m working) (c.in_ok-counted.ensures.counted loops m between) c.requires.numbers)

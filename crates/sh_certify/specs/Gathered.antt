@@ -1,0 +1,61 @@
+-- What is gathered of all that the flow rules ask of a certificate: whether it is kept, what is known at one place, and what one function has to drop.
+-- The standard has no such rules: what is claimed of a place has to be known there in every run.
+use Rattle.std.specs.Prelude.{ℕ, ◌==◌, Bool, true, false, ◌&&◌, if◌then◌else◌, List, fold, Option, Some, None}
+use Rattle.sh_tree.specs.program.Syntax.{Text}
+use Rattle.sh_facts.specs.Facts.{Facts, Claim, within, Declared}
+use Rattle.sh_facts.specs.Faults.{are_among}
+use Rattle.sh_facts.specs.Names.{number_of}
+use Rattle.sh_facts.specs.Operands.{Names}
+use Rattle.sh_facts.specs.Rules.{Constraint, Within, Counted}
+use Rattle.sh_facts.specs.Views.{Certificate, Slot, view_facts, lost}
+use Rattle.sh_find.specs.Facts as number
+use Rattle.sh_certify.specs.declared.place.Place.{Place}
+use Rattle.sh_certify.specs.Numbers.{by_number, numbers_in}
+use Rattle.sh_certify.specs.Places.{same, place_of}
+use Rattle.sh_certify.specs.Working.{Sets, joined}
+
+-- all is kept so far; what is known at the place; what the function of the index has to drop
+pub record Gathered : Type 0 where
+  pub kept : Bool
+  pub place : Place
+  pub known : number.Facts
+  pub function : ℕ
+  pub sets : Sets
+
+unfoldable pub is_at : Option Place → Place → Bool
+is_at None p = false
+is_at (Some q) p = same q p
+
+unfoldable pub is_number : Option ℕ → ℕ → Bool
+is_number None i = false
+is_number (Some k) i = k == i
+
+-- the names of a script, and of its functions
+module _ (names functions : List Text) where
+  -- a slot that claims this may claim no more than these facts
+  unfoldable pub bounded : Slot → Claim → Facts → Gathered → Gathered
+  bounded slot c k g = record {
+    kept = g.kept && within c k;
+    place = g.place;
+    known = if is_at (place_of functions slot) g.place then number.meet g.known (by_number names k) else g.known;
+    function = g.function;
+    sets = g.sets;
+  }
+
+  -- a function that may drop these drops those
+  unfoldable pub counted : Text → Names → Names → Gathered → Gathered
+  counted f may lost g = record {
+    kept = g.kept && are_among lost may;
+    place = g.place;
+    known = g.known;
+    function = g.function;
+    sets = if is_number (number_of functions f) g.function then joined (numbers_in names lost) g.sets else g.sets;
+  }
+
+  -- one constraint after the other
+  unfoldable pub gathered : Declared → Certificate → Gathered → Constraint → Gathered
+  gathered d c g (Within slot n rule v) = bounded slot (c.claim slot) (view_facts d c v) g
+  gathered d c g (Counted f n loss) = counted f (c.drops f) (lost d c n loss) g
+
+  abbrev pub all_gathered : Declared → Certificate → Gathered → List Constraint → Gathered
+  all_gathered d c g ks = fold (gathered d c) g ks

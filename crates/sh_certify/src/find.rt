@@ -1,0 +1,70 @@
+//! The search for the greatest certificate.
+ghost use Rattle.std.specs.Prelude.{◌≡◌, ◌≤◌, ℕ, List, Bool, length, IfOk, OnOk};
+ghost use Rattle.sh_tree.specs.program.Trees.{script_of};
+ghost use Rattle.sh_facts.specs.Rules.{script_bounds};
+ghost use Rattle.sh_accept.specs.Accepted.{IsAdmitted, functions_in};
+ghost use Rattle.sh_accept.specs.Answers.{IsGreatest};
+ghost use Rattle.sh_certify.specs.Turns.{IsSettled, sheet_by};
+ghost use Rattle.sh_certify.specs.Working.{IsWorking};
+
+use crate::first::unreached;
+use crate::gather::{Asks, Target};
+use crate::subject::Subject;
+use crate::turn::turn;
+use sh_commands::commands;
+use sh_facts::certificate::Certificate;
+use sh_rows::bits::BitRow;
+use sh_rows::row::Row;
+use std::alloc::{AllocError, Global};
+
+/// As many commands as a text of a certificate may have.
+const MOST_COMMANDS: usize = 65_535;
+
+// Takes turns until the certificate keeps all flow rules.
+fn settle<W: Asks>(
+    walk: &W,
+    subject: &Subject<'_>,
+    certificate: &mut Certificate,
+    probe: &mut BitRow,
+) -> Result<(), AllocError>
+    requires admitted { IsAdmitted subject.now.script.now subject.now.policy.now subject.now.tree.now subject.now.names.now }
+    requires working { (loops : List Bool) × (functions : ℕ) × IsWorking subject.now.names.now loops functions certificate.old }
+    requires probed { probe.old.count ≡ length subject.now.names.now }
+    ensures { OnOk result ((loops : List Bool) (functions : ℕ) → IsWorking subject.now.names.now loops functions certificate.old
+        → IsSettled subject.now.names.now loops functions subject.now.policy.now (functions_in subject.now.script.now subject.now.tree.now)
+        (script_bounds (script_of subject.now.script.now subject.now.tree.now)) certificate.old certificate.new) }
+{
+    let mut target = Target::first();
+    let mut kept = false;
+    'turns: while !kept {
+        kept = turn(walk, subject, certificate, probe, &mut target)?;
+    }
+    Ok(())
+}
+
+/// The greatest certificate of a script that is admitted: it keeps all flow rules, and claims at each place what any other one does that
+/// keeps them.
+///
+/// # Errors
+///
+/// Where a growth was refused or no place for a row is left; and where a rule asks for a place or a name that the script does not have, as no
+/// rule does of a script that is read.
+pub fn find<W: Asks>(
+    alloc: Global,
+    walk: &W,
+    subject: &Subject<'_>,
+) -> Result<Certificate, AllocError>
+    requires { IsAdmitted subject.now.script.now subject.now.policy.now subject.now.tree.now subject.now.names.now }
+    ensures { IfOk result (λ c. IsGreatest subject.now.script.now subject.now.policy.now subject.now.tree.now subject.now.names.now (sheet_by subject.now.names.now c)) }
+{
+    let commands = commands(alloc, subject.tree)?;
+    if commands.len() > MOST_COMMANDS {
+        return Err(AllocError);
+    }
+    let count = subject.names.count();
+    let functions = subject.table.functions().len();
+    let mut certificate = unreached(alloc, count, &commands, functions)?;
+    let mut probe = BitRow::empty(alloc, count)?;
+    settle(walk, subject, &mut certificate, &mut probe)?;
+    Ok(certificate)
+}

@@ -1,0 +1,155 @@
+//! What a certificate claims at a place is lowered to what is known there, and what a function may drop is added to.
+ghost use Rattle.std.specs.Prelude.{◌≡◌, ◌<◌, ◌≤◌, ◌&&◌, ℕ, List, Bool, true, not, length, Some, IfOk};
+ghost use Rattle.sh_tree.specs.declared.limits.TheConstants.{MAX_NAMES};
+ghost use Rattle.sh_facts.specs.KeptRows.{Stay, holds_at};
+ghost use Rattle.sh_find.specs.Kept.{numbers_of, sight_facts, IsNamed};
+ghost use Rattle.sh_facts.specs.declared.certificate.Drops as drops;
+ghost use Rattle.sh_certify.specs.Places.{drops_at};
+ghost use Rattle.sh_certify.specs.Working.{AreBelow, AreFine, AreWithin, IsCounted, IsLowered, IsWorking, sets_of};
+ghost use Rattle.sh_certify.specs.Writable.{sets_in};
+
+use crate::kept::{drops_of, facts_at, put, put_drops};
+use crate::place::Place;
+use crate::writable::is_writable;
+use sh_facts::certificate::{Certificate, Drops, Facts};
+use sh_facts::names::Names;
+use sh_facts::rows::{RowId, Rows};
+use sh_find::number_set::NumberSet;
+use sh_find::sight::Sight;
+use sh_find::solution::{is_within, keep, meet_facts};
+use sh_rows::bits::BitRow;
+use std::alloc::AllocError;
+
+/// Puts the claim of a place to what it and what is known there both claim, if it is there and claims more, and says whether it did.
+///
+/// # Errors
+///
+/// Where a growth was refused, no place for a row is left, or what is left names what no text of a certificate may name.
+pub fn lower(
+    names: &Names,
+    certificate: &mut Certificate,
+    probe: &mut BitRow,
+    place: Place,
+    mut known: Sight,
+) -> Result<bool, AllocError>
+    requires few { length names.now ≤ MAX_NAMES }
+    requires count { certificate.old.rows.count ≡ length names.now }
+    requires probed { probe.old.count ≡ length names.now }
+    requires named { IsNamed (length names.now) (sight_facts known) }
+    ensures lowered { IfOk result (λ changed. (loops : List Bool) (functions : ℕ) → IsWorking names.now loops functions certificate.old
+        → IsLowered certificate.old certificate.new place (sight_facts known) changed) }
+    ensures working { IfOk result (λ changed. (loops : List Bool) (functions : ℕ) → IsWorking names.now loops functions certificate.old
+        → IsWorking names.now loops functions certificate.new) }
+    ensures probed { IfOk result (λ changed. probe.new.count ≡ length names.now) }
+{
+    let Some(facts) = facts_at(certificate, place) else {
+        return Ok(false);
+    };
+    if is_within(&certificate.rows, facts, &known) {
+        return Ok(false);
+    }
+    meet_facts(&certificate.rows, facts, &mut known);
+    if !is_writable(names, &known.vars, &known.functions) {
+        return Err(AllocError);
+    }
+    let kept = keep(&mut certificate.rows, probe, &known)?;
+    put(certificate, place, kept)?;
+    Ok(true)
+}
+
+fn is_missing(rows: &Rows, id: RowId, numbers: &NumberSet, number: u32) -> bool
+    requires { number < MAX_NAMES }
+    ensures { result ≡ (numbers_of numbers.now number && not (holds_at rows.now.rows id.index number)) }
+{
+    numbers.has(number) && !rows.has(id, number)
+}
+
+// Whether the numbers are in the row of a place.
+fn is_in_row(rows: &Rows, id: RowId, numbers: &NumberSet) -> bool
+    requires { rows.now.count ≤ MAX_NAMES }
+    ensures { ((k : ℕ) → numbers_of numbers.now k ≡ true → holds_at rows.now.rows id.index k ≡ true) → result ≡ true }
+{
+    for number in 0..rows.count() {
+        if is_missing(rows, id, numbers, number) {
+            return false;
+        }
+    }
+    true
+}
+
+// Whether these may be dropped.
+fn are_in_rows(rows: &Rows, drops: Drops, vars: &NumberSet, functions: &NumberSet) -> bool
+    requires { rows.now.count ≤ MAX_NAMES }
+    ensures { AreWithin (sets_in vars.now functions.now) (sets_of rows.now drops) → result ≡ true }
+{
+    is_in_row(rows, drops.vars, vars) && is_in_row(rows, drops.functions, functions)
+}
+
+// The places of rows of these variables and these functions, which are added where they are not there.
+fn keep_drops(
+    rows: &mut Rows,
+    probe: &mut BitRow,
+    vars: NumberSet,
+    functions: NumberSet,
+) -> Result<Drops, AllocError>
+    requires probed { probe.old.count ≡ rows.old.count }
+    requires below { AreBelow rows.old.count (sets_in vars functions) }
+    ensures stay { Stay rows.old.rows rows.new.rows }
+    ensures count { rows.new.count ≡ rows.old.count }
+    ensures probed { probe.new.count ≡ probe.old.count }
+    ensures vars { IfOk result (λ d. d.vars.index < length rows.new.rows) }
+    ensures functions { IfOk result (λ d. d.functions.index < length rows.new.rows) }
+    ensures sets { IfOk result (λ d. sets_of rows.new d ≡ sets_in vars functions) }
+{
+    let sight = Sight {
+        vars,
+        functions,
+        args: 0,
+    };
+    match keep(rows, probe, &sight)? {
+        Facts::NotReached => Err(AllocError),
+        Facts::Known {
+            vars, functions, ..
+        } => Ok(Drops { vars, functions }),
+    }
+}
+
+/// Lets the function of an index drop these variables and these functions too, if it is there and may not yet, and says whether it did.
+///
+/// # Errors
+///
+/// Where a growth was refused, no place for a row is left, or these names are such as no text of a certificate may name.
+pub fn count(
+    names: &Names,
+    certificate: &mut Certificate,
+    probe: &mut BitRow,
+    index: u16,
+    mut vars: NumberSet,
+    mut functions: NumberSet,
+) -> Result<bool, AllocError>
+    requires few { length names.now ≤ MAX_NAMES }
+    requires count { certificate.old.rows.count ≡ length names.now }
+    requires probed { probe.old.count ≡ length names.now }
+    requires below { AreBelow (length names.now) (sets_in vars functions) }
+    requires fine { (d : drops.Drops) → drops_at certificate.old index ≡ Some d → AreFine names.now certificate.old.rows d }
+    ensures counted { IfOk result (λ changed. (loops : List Bool) (defined : ℕ) → IsWorking names.now loops defined certificate.old
+        → IsCounted certificate.old certificate.new index (sets_in vars functions) changed) }
+    ensures working { IfOk result (λ changed. (loops : List Bool) (defined : ℕ) → IsWorking names.now loops defined certificate.old
+        → IsWorking names.now loops defined certificate.new) }
+    ensures probed { IfOk result (λ changed. probe.new.count ≡ length names.now) }
+{
+    let Some(drops) = drops_of(certificate, index) else {
+        return Ok(false);
+    };
+    if are_in_rows(&certificate.rows, drops, &vars, &functions) {
+        return Ok(false);
+    }
+    vars.join_row(&certificate.rows, drops.vars);
+    functions.join_row(&certificate.rows, drops.functions);
+    if !is_writable(names, &vars, &functions) {
+        return Err(AllocError);
+    }
+    let kept = keep_drops(&mut certificate.rows, probe, vars, functions)?;
+    put_drops(certificate, index, kept);
+    Ok(true)
+}

@@ -1,0 +1,170 @@
+//! Turns of the search: a walk over the script, and what is lowered by it.
+ghost use Rattle.std.specs.Prelude.{◌≡◌, ◌≤◌, ℕ, List, Bool, true, [], length, flat_map, Option, IfOk};
+ghost use Rattle.sh_tree.specs.declared.limits.TheConstants.{MAX_NAMES};
+ghost use Rattle.sh_tree.specs.program.Trees.{script_of};
+ghost use Rattle.sh_facts.specs.Faults.{broken};
+ghost use Rattle.sh_facts.specs.Order.{IsBelow};
+ghost use Rattle.sh_facts.specs.Reading.{claim_fits};
+ghost use Rattle.sh_facts.specs.Rules.{script_bounds};
+ghost use Rattle.sh_facts.specs.Sheets.{Sheet};
+ghost use Rattle.sh_find.specs.Kept.{seen_of, IsNamed};
+ghost use Rattle.sh_accept.specs.Accepted.{IsAdmitted, claims_in, functions_in};
+ghost use Rattle.sh_certify.specs.declared.place.Place as place;
+ghost use Rattle.sh_certify.specs.Places.{claim_there};
+ghost use Rattle.sh_certify.specs.Turns.{AreNumbers, IsAttempt, IsSunk, IsTurn, Stands, gathered_of, sheet_by};
+ghost use Rattle.sh_certify.specs.Working.{IsLowered, IsWorking};
+
+use crate::gather::{Asks, Gather, Target};
+use crate::lower::{count, lower};
+use crate::place::Place;
+use crate::subject::Subject;
+use sh_facts::certificate::Certificate;
+use sh_facts::names::Names;
+use sh_find::sight::Sight;
+use sh_rows::bits::BitRow;
+use std::alloc::AllocError;
+
+/// What became of a certificate.
+#[derive(Clone, Copy, Debug)]
+pub enum Outcome {
+    /// It keeps all flow rules.
+    Kept,
+    /// It claims less, or lets a function drop more.
+    Lowered,
+    /// It is as it was.
+    Stays,
+}
+
+// All that is asked of the certificate, gathered for a place and a function.
+fn asked<W: Asks>(
+    walk: &W,
+    subject: &Subject<'_>,
+    certificate: &Certificate,
+    target: Target,
+) -> Gather
+    requires sized { certificate.now.rows.count ≡ length subject.now.names.now }
+    requires admitted { IsAdmitted subject.now.script.now subject.now.policy.now subject.now.tree.now subject.now.names.now }
+    ensures numbers { AreNumbers (length subject.now.names.now) (gathered_of result) }
+    ensures rules { result.kept ≡ true → flat_map (broken subject.now.policy.now (claims_in subject.now.script.now subject.now.tree.now (sheet_by subject.now.names.now certificate.now)))
+        (script_bounds (script_of subject.now.script.now subject.now.tree.now)) ≡ [] }
+    ensures stands { (d : Sheet) → ((o : Option place.Place) → claim_fits subject.now.names.now (claim_there d o) ≡ true)
+        → flat_map (broken subject.now.policy.now (claims_in subject.now.script.now subject.now.tree.now d)) (script_bounds (script_of subject.now.script.now subject.now.tree.now)) ≡ []
+        → IsBelow (claims_in subject.now.script.now subject.now.tree.now d) (claims_in subject.now.script.now subject.now.tree.now (sheet_by subject.now.names.now certificate.now))
+        → Stands subject.now.names.now d (gathered_of result) }
+{
+    let mut gather = Gather::new(target);
+    walk.ask(subject, certificate, &mut gather);
+    gather
+}
+
+// Lowers the claim of a place where any run comes to it.
+#[tactic(auto, unfolding(sh_find::specs::Kept::seen_of))]
+fn lower_known(
+    names: &Names,
+    certificate: &mut Certificate,
+    probe: &mut BitRow,
+    place: Place,
+    known: Option<Sight>,
+) -> Result<bool, AllocError>
+    requires few { length names.now ≤ MAX_NAMES }
+    requires count { certificate.old.rows.count ≡ length names.now }
+    requires probed { probe.old.count ≡ length names.now }
+    requires named { IsNamed (length names.now) (seen_of known) }
+    ensures lowered { IfOk result (λ changed. (loops : List Bool) (functions : ℕ) → IsWorking names.now loops functions certificate.old
+        → IsLowered certificate.old certificate.new place (seen_of known) changed) }
+    ensures working { IfOk result (λ changed. (loops : List Bool) (functions : ℕ) → IsWorking names.now loops functions certificate.old
+        → IsWorking names.now loops functions certificate.new) }
+    ensures probed { IfOk result (λ changed. probe.new.count ≡ length names.now) }
+{
+    match known {
+        None => Ok(false),
+        Some(sight) => lower(names, certificate, probe, place, sight),
+    }
+}
+
+// Lowers the certificate by what was gathered, and says whether it claimed more or had a function drop less.
+fn lower_gathered(
+    names: &Names,
+    certificate: &mut Certificate,
+    probe: &mut BitRow,
+    gather: &Gather,
+) -> Result<bool, AllocError>
+    requires few { length names.now ≤ MAX_NAMES }
+    requires working { (loops : List Bool) × (functions : ℕ) × IsWorking names.now loops functions certificate.old }
+    requires probed { probe.old.count ≡ length names.now }
+    requires numbers { AreNumbers (length names.now) (gathered_of gather.now) }
+    ensures sunk { IfOk result (λ changed. (loops : List Bool) (functions : ℕ) → IsWorking names.now loops functions certificate.old
+        → IsSunk names.now loops functions certificate.old certificate.new (gathered_of gather.now) changed) }
+    ensures probed { IfOk result (λ changed. probe.new.count ≡ length names.now) }
+{
+    let target = gather.target;
+    let lowered = lower_known(names, certificate, probe, target.place, gather.known)?;
+    let counted = count(
+        names,
+        certificate,
+        probe,
+        target.function,
+        gather.vars,
+        gather.functions,
+    )?;
+    Ok(lowered || counted)
+}
+
+// Asks all of the certificate, and lowers it where it does not keep that. The next attempt is at a place and a function of which more was asked.
+fn attempt<W: Asks>(
+    walk: &W,
+    subject: &Subject<'_>,
+    certificate: &mut Certificate,
+    probe: &mut BitRow,
+    target: &mut Target,
+) -> Result<Outcome, AllocError>
+    requires admitted { IsAdmitted subject.now.script.now subject.now.policy.now subject.now.tree.now subject.now.names.now }
+    requires working { (loops : List Bool) × (functions : ℕ) × IsWorking subject.now.names.now loops functions certificate.old }
+    requires probed { probe.old.count ≡ length subject.now.names.now }
+    ensures attempt { IfOk result (λ outcome. (loops : List Bool) (functions : ℕ) → IsWorking subject.now.names.now loops functions certificate.old
+        → IsAttempt subject.now.names.now loops functions subject.now.policy.now (functions_in subject.now.script.now subject.now.tree.now)
+        (script_bounds (script_of subject.now.script.now subject.now.tree.now)) certificate.old certificate.new outcome) }
+    ensures probed { IfOk result (λ outcome. probe.new.count ≡ length subject.now.names.now) }
+{
+    let gather = asked(walk, subject, certificate, *target);
+    if gather.kept {
+        return Ok(Outcome::Kept);
+    }
+    *target = gather.next;
+    if lower_gathered(subject.names, certificate, probe, &gather)? {
+        return Ok(Outcome::Lowered);
+    }
+    Ok(Outcome::Stays)
+}
+
+/// Lowers a certificate where it does not keep all flow rules, and says whether it keeps them.
+///
+/// # Errors
+///
+/// Where a growth was refused or no place for a row is left; and where a rule asks for a place, a name or a loop that the script does not have,
+/// as no rule does of a script that is read.
+pub fn turn<W: Asks>(
+    walk: &W,
+    subject: &Subject<'_>,
+    certificate: &mut Certificate,
+    probe: &mut BitRow,
+    target: &mut Target,
+) -> Result<bool, AllocError>
+    requires admitted { IsAdmitted subject.now.script.now subject.now.policy.now subject.now.tree.now subject.now.names.now }
+    requires working { (loops : List Bool) × (functions : ℕ) × IsWorking subject.now.names.now loops functions certificate.old }
+    requires probed { probe.old.count ≡ length subject.now.names.now }
+    ensures turn { IfOk result (λ kept. (loops : List Bool) (functions : ℕ) → IsWorking subject.now.names.now loops functions certificate.old
+        → IsTurn subject.now.names.now loops functions subject.now.policy.now (functions_in subject.now.script.now subject.now.tree.now)
+        (script_bounds (script_of subject.now.script.now subject.now.tree.now)) certificate.old certificate.new kept) }
+    ensures probed { IfOk result (λ kept. probe.new.count ≡ length subject.now.names.now) }
+{
+    match attempt(walk, subject, certificate, probe, target)? {
+        Outcome::Kept => Ok(true),
+        Outcome::Lowered => Ok(false),
+        Outcome::Stays => match attempt(walk, subject, certificate, probe, target)? {
+            Outcome::Kept => Ok(true),
+            Outcome::Lowered => Ok(false),
+            Outcome::Stays => Err(AllocError),
+        },
+    }
+}
