@@ -1,13 +1,12 @@
 -- What a run of the engine reads and writes.
 -- shset's own; the standard has no linter.
-use Rattle.std.specs.Prelude.{◌≡◌, ◌⊎◌, ⊤, ℕ, List, [], take, Option, Result, Err}
+use Rattle.std.specs.Prelude.{◌≡◌, ℕ, List, [], take, Option, Result, Err}
 use Rattle.std.specs.Io.KnownBytes.{Appends}
 use Rattle.sh_tree.specs.declared.refusal.Refusal.{Refusal}
 use Rattle.sh_tree.specs.declared.refusal.Refusal.TheVariants.{Memory}
 use Rattle.sh_facts.specs.Facts.{Declared}
-use Rattle.sh_report.specs.Moves.{Had, TookWhole, TookAtMost}
+use Rattle.sh_report.specs.Moves.{Had}
 use Rattle.sh_report.specs.Texts.{answer_text, status_of}
-use Rattle.sh_report.specs.declared.ends.Counts.{Counts}
 use Rattle.sh_report.specs.declared.task.Action.{Action}
 use Rattle.sh_report.specs.declared.task.Action.TheVariants.{Lint, Check}
 use Rattle.sh_report.specs.declared.task.Task.{Task}
@@ -19,11 +18,6 @@ use Rattle.sh_lint.specs.Lint.{Lints}
 abbrev pub HadText : Action → Option (List ℕ) → ℕ → List ℕ → Type 0
 HadText Lint bytes limit text = text ≡ []
 HadText Check bytes limit text = Had bytes limit text
-
--- where the action reads a certificate it was read whole, and otherwise not touched
-abbrev pub TookText : Action → Counts → Counts → Option (List ℕ) → Option (List ℕ) → ℕ → Type 0
-TookText Lint old new before left limit = (new ≡ old) × (left ≡ before)
-TookText Check old new before left limit = TookWhole old new before left limit
 
 -- the answer is one of the action on the script's bytes and the certificate's, and has a text
 abbrev pub Answers : Action → (b text : List ℕ) → Declared → Result Verdict Refusal → Type 0
