@@ -27,11 +27,11 @@ use Rattle.sh_tree.specs.declared.token.word.Sign.{Sign}
 use Rattle.sh_tree.specs.Words.{elements_of, elements_of_simple, lone_command, lone_list, lone_pipe, lone_part, words_of}
 use Rattle.sh_tree.specs.language.Commands.{lead_at, is_newline_lead, is_redirection, begins_simple, begins_compound, begins_command}
 use Rattle.sh_tree.specs.language.Reading as r
-use Rattle.sh_tree.specs.language.Reading.{lead_here, parted, ReadsParts, ReadsPart, ReadsWord, ReadsBreaks, ReadsElements, ReadsCommand, ReadsCompound, ReadsPipeline, ReadsCommands, ReadsAndOr, ReadsLinks, ReadsItems, ReadsSequence, ReadsScript, Reads}
+use Rattle.sh_tree.specs.language.Reading.{lead_here, parted, ReadsParts, ReadsPart, ReadsWord, ReadsBreaks, ReadsDocuments, ReadsElements, ReadsCommand, ReadsCompound, ReadsPipeline, ReadsCommands, ReadsAndOr, ReadsLinks, ReadsItems, ReadsSequence, ReadsScript, Reads}
+use Rattle.sh_tree.specs.language.HereDocuments.{Mark}
 use Rattle.sh_tree.specs.language.States.{Spot, State, Document}
 use Rattle.sh_tree.specs.language.Trees as tree
 use Rattle.sh_tree.proofs.Inversions.{apart, compound_begins, some_one}
-use Rattle.sh_grammar.proofs.BreakLemmas.{no_documents}
 use Rattle.sh_grammar.proofs.ItemLemmas.{end_lead}
 use Rattle.sh_flow.specs.Profile.{is_variable, is_value, is_flat, is_straight_part, is_straight_element, is_simple, has_none, is_straight, is_plain_name, is_admitted, is_item_admitted, Admitted, gives_name, has_name, HasNames}
 use Rattle.sh_lint.specs.Findings.{first_start, item_start}
@@ -167,6 +167,11 @@ elements_calm {b = b} {s = s} k h c (r.word_element {u = u} {w = w} {es = es} e 
     (c.0, word_count (sym (straight_Word w) ∙ here) q ∙ c.1, settled_past b s u c.2) rest
 elements_calm k h c (r.redirect_element {r = f} {es = es} e q rest) =
     absurd (true≢false (sym (and_parts (is_straight_element (element.Redirection f)) (list_all is_straight_element es) h).0 ∙ straight_Redirection f))
+
+-- where none waits, no body is read
+no_documents : {limit : ℕ} {b : List ℕ} {ms : List Mark} {s v : State} → ms ≡ [] → ReadsDocuments limit b ms s v → v ≡ s
+no_documents none r.no_body = refl
+no_documents none (r.more_bodies e a c h k d) = cc
 
 breaks_calm : {limit : ℕ} {b : List ℕ} {s v : State} (k : ℕ) → IsCalm b k s → ReadsBreaks limit b s v → IsCalm b k v
 breaks_calm k c (r.no_break h) = c
