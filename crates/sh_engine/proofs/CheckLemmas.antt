@@ -1,17 +1,19 @@
 -- From what is told of a certificate to what a check answers.
-use Rattle.std.proofs.Common.{◌≡◌, ℕ, Bool, true, false, if◌then◌else◌, List, [], ◌∷◌, fold, Some, None, Result, Ok, Err, IfOk, refl, sym, ap, ◌∙◌, subst}
-use Rattle.sh_tree.specs.declared.limits.TheConstants.{MAX_NESTING}
+use Rattle.std.proofs.Common.{◌≡◌, ◌≤◌, ℕ, length, Bool, true, false, if◌then◌else◌, List, [], ◌∷◌, fold, Some, None, Result, Ok, Err, IfOk, refl, sym, ap, ◌∙◌, subst}
+use Rattle.sh_tree.specs.declared.limits.TheConstants.{MAX_COMMANDS, MAX_NESTING}
 use Rattle.sh_tree.specs.declared.refusal.Refusal.{Refusal}
 use Rattle.sh_tree.specs.declared.refusal.Refusal.TheVariants.{Memory}
 use Rattle.sh_tree.specs.declared.tree.Script.{Script}
 use Rattle.sh_tree.specs.language.Reading.{Reads}
 use Rattle.sh_tree.specs.program.Syntax.{Text}
 use Rattle.sh_tree.specs.program.Trees.{script_of}
+use Rattle.sh_table.specs.Calls.{Table, table_of}
 use Rattle.sh_table.specs.Numbering.{is_numbered}
 use Rattle.sh_facts.specs.Facts.{Declared}
 use Rattle.sh_facts.specs.Faults.{Fault, faults, precedes, lesser, least}
 use Rattle.sh_facts.specs.Sheets.{Sheet}
 use Rattle.sh_facts.proofs.DifferLemmas.{read_is_numbered}
+use Rattle.sh_facts.proofs.TotalLemmas.{read_has_few_commands}
 use Rattle.sh_report.specs.declared.verdict.Verdict.{Verdict}
 use Rattle.sh_report.specs.declared.verdict.Verdict.TheVariants.{Pass, Fail, Forged}
 use Rattle.sh_check.specs.Whole.{AreNamesOf}
@@ -57,6 +59,12 @@ module _ (b : List ℕ) (d : Declared) where
 
   pub names_prepared : (p : Prepared) → IsPrepared b d p → AreNamesOf b p.tree p.names
   names_prepared p i = record { declared = d; numbered = i.admitted.numbered.0; few = i.admitted.numbered.1 }
+
+  pub few_prepared : (p : Prepared) → IsPrepared b d p → length (table_of b p.tree).rows ≤ MAX_COMMANDS
+  few_prepared p i = read_has_few_commands b p.tree i.admitted.reading.1
+
+  pub script_prepared : (p : Prepared) → IsPrepared b d p → p.table.script ≡ b
+  script_prepared p i = ap (λ (t : Table). t.script) i.table
 
   -- a fault is told
   pub forges : (t : Script) (c : Sheet) (f : declared.Fault) → TellsFault b d t c (Some f) → Judges b d t c (Forged f.number f.rule)
