@@ -102,7 +102,7 @@ unfolding by_number
 ordered_length [] = refl
 ordered_length (s ∷ ss) = placed_length s (by_number ss) ∙ ap suc (ordered_length ss)
 
-rows_length : (b : List ℕ) (t : Script) → length (table_of b t).rows ≡ length (items_located outside (script_of b t))
+pub rows_length : (b : List ℕ) (t : Script) → length (table_of b t).rows ≡ length (items_located outside (script_of b t))
 unfolding table_of sites_of
 rows_length b t =
     let ls = items_located outside (script_of b t) in

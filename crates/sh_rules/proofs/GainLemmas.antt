@@ -9,14 +9,14 @@ use Rattle.sh_tree.specs.declared.tree.Redirect.{Redirect}
 use Rattle.sh_tree.specs.declared.tree.Span.{Span}
 use Rattle.sh_tree.specs.declared.tree.Subject.{Subject}
 use Rattle.sh_tree.specs.declared.tree.Word.{Word}
-use Rattle.sh_tree.specs.program.Lists.{parts_from, element_from, elements_from}
+use Rattle.sh_tree.specs.program.Lists.{parts_from, element_from, elements_from, redirects_from}
 use Rattle.sh_tree.specs.program.Syntax as p
 use Rattle.sh_tree.specs.program.Syntax.{Text}
 use Rattle.sh_tree.specs.program.Trees as trees
 use Rattle.sh_tree.specs.program.Words.{operands_in}
 use Rattle.sh_tree.proofs.ProgramRules as rules
 use Rattle.sh_facts.specs.Facts.{Facts}
-use Rattle.sh_facts.specs.Gains.{Gains, no_gains, and_gains, named, sure, assigned_in, word_gains, words_gains, with_gains}
+use Rattle.sh_facts.specs.Gains.{Gains, no_gains, and_gains, named, sure, assigned_in, word_gains, words_gains, redirects_gains, with_gains}
 use Rattle.sh_facts.specs.Knowledge as knowledge
 use Rattle.sh_facts.specs.Knowledge.{knowledge_facts}
 use Rattle.sh_facts.specs.declared.knowledge.Knowledge.{Knowledge}
@@ -54,6 +54,12 @@ pub word_known : (c : Claims) (ms : List Text) (k l : Knowledge) (v : Word) → 
     → facts_in (setting c) l ≡ gained (setting c) (word_gains (parts_from (setting c).script v.parts)) (facts_in (setting c) k)
 unfolding facts_in setting
 word_known c ms k l v e = facts_gained (setting c) ms k l (word_gains (parts_from (setting c).script v.parts)) e
+
+pub redirects_known : (c : Claims) (ms : List Text) (k l : Knowledge) (rs : List Redirect)
+    → known ms (knowledge_facts ms l) ≡ knowing.gained (redirects_gains (redirects_from c.script.now rs)) (known c.names.now (knowledge_facts c.names.now k))
+    → facts_in (setting c) l ≡ gained (setting c) (redirects_gains (redirects_from (setting c).script rs)) (facts_in (setting c) k)
+unfolding facts_in setting
+redirects_known c ms k l rs e = facts_gained (setting c) ms k l (redirects_gains (redirects_from (setting c).script rs)) e
 
 pub subject_known : (c : Claims) (ms : List Text) (k l : Knowledge) (v : Subject) → known ms (knowledge_facts ms l) ≡ subject_gained c.script.now (known c.names.now (knowledge_facts c.names.now k)) v
     → facts_in (setting c) l ≡ gained (setting c) (sure (trees.parameter_of (setting c).script v)) (facts_in (setting c) k)

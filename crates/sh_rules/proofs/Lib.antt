@@ -24,3 +24,5 @@ pub mod ReturnLemmas
 pub mod ReachedLemmas
 pub mod CalleeLemmas
 pub mod WordLemmas
+pub mod VisitLemmas
+pub mod RuleLemmas

@@ -19,3 +19,4 @@ pub mod TextBounds
 pub mod Calls
 pub mod TextTells
 pub mod Reached
+pub mod Visits

@@ -1,8 +1,8 @@
 //! What is known behind words and names, of the names that are numbered (XCU 2.6).
 ghost use Rattle.std.specs.Prelude.{◌≡◌, [], ◌∷◌};
-ghost use Rattle.sh_tree.specs.program.Lists.{parts_from};
+ghost use Rattle.sh_tree.specs.program.Lists.{parts_from, redirects_from};
 ghost use Rattle.sh_tree.specs.program.Trees.{expression_of, parameter_of};
-ghost use Rattle.sh_facts.specs.Gains.{assigned_in, named, sure, word_gains};
+ghost use Rattle.sh_facts.specs.Gains.{assigned_in, named, redirects_gains, sure, word_gains};
 ghost use Rattle.sh_check.specs.Judged.{inner_gains};
 ghost use Rattle.sh_check.specs.Knowing.{action_gains};
 ghost use Rattle.sh_rules.specs.Settings.{gained};
@@ -12,7 +12,7 @@ use crate::claims::Claims;
 use sh_check::gains as words;
 use sh_check::known::Known;
 use sh_facts::knowledge::Knowledge;
-use sh_tree::tree::{Action, Expr, Subject, Word};
+use sh_tree::tree::{Action, Expr, Redirect, Subject, Word};
 
 /// A variable is set from here on.
 #[tactic(auto, using(crate::proofs::GainLemmas::name_gained))]
@@ -32,6 +32,19 @@ pub fn gain_word(claims: &Claims<'_>, word: &Word, known: &mut Knowledge)
         knowledge: *known,
     };
     words::gain_word(word, claims.script, &mut behind);
+    *known = behind.knowledge;
+}
+
+/// What is known behind redirections.
+#[tactic(auto, using(crate::proofs::GainLemmas::redirects_known))]
+pub fn gain_redirects(claims: &Claims<'_>, redirects: &[Redirect], known: &mut Knowledge)
+    ensures { facts_in (setting claims.now) known.new ≡ gained (setting claims.now) (redirects_gains (redirects_from (setting claims.now).script redirects.now)) (facts_in (setting claims.now) known.old) }
+{
+    let mut behind = Known {
+        names: claims.names,
+        knowledge: *known,
+    };
+    words::gain_redirects(redirects, claims.script, &mut behind);
     *known = behind.knowledge;
 }
 

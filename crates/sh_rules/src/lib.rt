@@ -14,6 +14,7 @@ pub mod gains;
 pub mod jumps;
 pub mod laws;
 pub mod place;
+pub mod rules;
 pub mod simple;
 mod slots;
 pub mod steps;

@@ -1,0 +1,227 @@
+//! The flow rules of a whole script: at each command what they ask of it is done (XCU 2.9).
+ghost use Rattle.std.specs.Prelude.{◌≡◌, ◌≤◌, List, Some, ℕ, length, map, option_map, true};
+ghost use Rattle.sh_tree.specs.declared.limits.TheConstants.{MAX_COMMANDS};
+ghost use Rattle.sh_tree.specs.Tree.{text_of};
+ghost use Rattle.sh_tree.specs.program.Lists.{elements_from, redirects_from};
+ghost use Rattle.sh_tree.specs.program.Trees as trees;
+ghost use Rattle.sh_tree.specs.program.Trees.{script_of};
+ghost use Rattle.sh_table.specs.Calls.{table_of, texts_with};
+ghost use Rattle.sh_table.specs.Numbering.{is_numbered};
+ghost use Rattle.sh_table.specs.WordTexts.{text_in};
+ghost use Rattle.sh_facts.specs.Faults.{faults, least};
+ghost use Rattle.sh_facts.specs.Names.{IsNumbering};
+ghost use Rattle.sh_facts.specs.Table.{is_redirected};
+ghost use Rattle.sh_check.specs.Whole.{kept_claims};
+ghost use Rattle.sh_rules.specs.Bounds as bounds;
+ghost use Rattle.sh_rules.specs.CommandBounds as commands;
+ghost use Rattle.sh_rules.specs.Visits as spec;
+ghost use Rattle.sh_rules.specs.Steps as steps;
+ghost use Rattle.sh_rules.specs.Tells.{fault_of};
+ghost use Rattle.sh_rules.specs.Walks as walks;
+ghost use Rattle.sh_rules.specs.Walks.{facts_in, setting};
+
+use crate::around::Around;
+use crate::asked::Asked;
+use crate::bounds::{tell_compound, tell_redirects};
+use crate::claims::Claims;
+use crate::drops::tell_drops;
+use crate::fault::{Fault, Least};
+use crate::gains::gain_redirects;
+use crate::place::Place;
+use crate::simple::tell_simple;
+use crate::walk::{Visitor, walk};
+use sh_facts::knowledge::Knowledge;
+use sh_facts::policy::Policy;
+use sh_facts::rule::FlowRule;
+use sh_table::word_text::WordText;
+use sh_tree::Items;
+use sh_tree::tree::{Command, Element, Kind, Redirect, Script};
+
+impl Claims<'_> {
+    /// The static texts of the words of a command, the command name's first.
+    #[tactic(auto, using(crate::proofs::VisitLemmas::texts_read))]
+    pub fn texts(&self, number: u32) -> &[WordText]
+        ensures { map (text_in (setting self.now).script) result.now ≡ texts_with number (setting self.now).rows }
+    {
+        self.calls.texts(number)
+    }
+
+    /// Whether a command calls a function.
+    #[tactic(auto, using(crate::proofs::VisitLemmas::call_read))]
+    pub fn is_call(&self, number: u32) -> bool
+        ensures { result ≡ spec.calls_at (setting self.now) number }
+    {
+        self.calls.callee(number).is_some()
+    }
+}
+
+// The elements of a simple command.
+#[tactic(auto, using(crate::proofs::VisitLemmas::simple_kinds))]
+fn elements_in(kind: &Kind) -> Option<&[Element]>
+    ensures { (b : List ℕ) → option_map (λ es. elements_from b es.now) result ≡ spec.simple_in (trees.kind_of b kind.now) }
+{
+    match kind {
+        Kind::Simple(elements) => Some(elements.as_slice()),
+        Kind::Group(_) => None,
+        Kind::Subshell(_) => None,
+        Kind::Cond { .. } => None,
+        Kind::Loop { .. } => None,
+        Kind::For { .. } => None,
+        Kind::Branches { .. } => None,
+        Kind::Define { .. } => None,
+    }
+}
+
+// What the command claims behind it.
+fn tell_claims<A: Asked>(
+    claims: &Claims<'_>,
+    around: &Around<'_>,
+    number: u32,
+    known: &Knowledge,
+    kind: &Kind,
+    asked: &mut A,
+)
+    ensures { A.kept asked.new ≡ spec.claims_by A.asked (setting claims.now) number (walks.around (setting claims.now).script around.now) (facts_in (setting claims.now) known.now) (trees.kind_of (setting claims.now).script kind.now) (A.kept asked.old) }
+{
+    match elements_in(kind) {
+        Some(elements) => {
+            let texts = claims.texts(number);
+            let is_call = claims.is_call(number);
+            tell_simple(claims, around, number, texts, is_call, elements, asked);
+        }
+        None => tell_compound(claims, number, known, kind, asked),
+    }
+}
+
+// What a simple command drops of this function.
+fn tell_lost<A: Asked>(
+    claims: &Claims<'_>,
+    function: &[u8],
+    number: u32,
+    elements: &[Element],
+    asked: &mut A,
+)
+    ensures { A.kept asked.new ≡ spec.drops_as A.asked (setting claims.now) number (Some function.now) (Some (elements_from (setting claims.now).script elements.now)) (A.kept asked.old) }
+{
+    let texts = claims.texts(number);
+    let is_call = claims.is_call(number);
+    tell_drops(claims, function, number, texts, is_call, elements, asked);
+}
+
+// What a command drops of this function.
+fn tell_dropped<A: Asked>(
+    claims: &Claims<'_>,
+    function: &[u8],
+    number: u32,
+    kind: &Kind,
+    asked: &mut A,
+)
+    ensures { A.kept asked.new ≡ spec.counted_by A.asked (setting claims.now) number (Some function.now) (trees.kind_of (setting claims.now).script kind.now) (A.kept asked.old) }
+{
+    match elements_in(kind) {
+        Some(elements) => tell_lost(claims, function, number, elements, asked),
+        None => (),
+    }
+}
+
+// What the command drops of the function that counts its drops.
+fn tell_counted<A: Asked>(
+    claims: &Claims<'_>,
+    around: &Around<'_>,
+    number: u32,
+    kind: &Kind,
+    asked: &mut A,
+)
+    ensures { A.kept asked.new ≡ spec.counted_by A.asked (setting claims.now) number (option_map (text_of (setting claims.now).script) around.now.drops) (trees.kind_of (setting claims.now).script kind.now) (A.kept asked.old) }
+{
+    match around.drops {
+        Some(function) => {
+            tell_dropped(claims, (&*claims).text(function), number, kind, asked);
+        }
+        None => (),
+    }
+}
+
+// Whether there are redirections.
+fn is_redirected(redirects: &[Redirect]) -> bool
+    ensures { (b : List ℕ) → result ≡ is_redirected (redirects_from b redirects.now) }
+{
+    match redirects {
+        [] => false,
+        [_, ..] => true,
+    }
+}
+
+// What is known behind the redirections of a command.
+fn behind_redirects(claims: &Claims<'_>, number: u32, redirects: &[Redirect]) -> Knowledge
+    ensures { facts_in (setting claims.now) result ≡ commands.redirected (setting claims.now) number (redirects_from (setting claims.now).script redirects.now) }
+{
+    let mut known = claims.before(number);
+    gain_redirects(claims, redirects, &mut known);
+    known
+}
+
+/// What a command asks, as it is entered by this rule with this round it and this known there: that it is entered so, what it claims behind it
+/// by its kind, where its redirections fail, and what a function drops by it.
+#[tactic(auto, using(crate::proofs::VisitLemmas::command_out))]
+pub fn tell_command<A: Asked>(
+    claims: &Claims<'_>,
+    by: FlowRule,
+    around: &Around<'_>,
+    known: &Knowledge,
+    command: &Command,
+    asked: &mut A,
+)
+    ensures { A.kept asked.new ≡ spec.command_by A.asked (setting claims.now) (A.kept asked.old) (steps.met_in (setting claims.now) by around.now known.now command.now) }
+{
+    let number = command.number;
+    let redirects = command.redirects.as_slice();
+    let fault = Fault { number, rule: by };
+    asked.bound(claims, Place::Before(number), fault, known);
+    let behind = behind_redirects(claims, number, redirects);
+    tell_claims(claims, around, number, &behind, &command.kind, asked);
+    tell_redirects(claims, number, is_redirected(redirects), asked);
+    tell_counted(claims, around, number, &command.kind, asked);
+}
+
+/// A visitor that does at each command what the rules ask of it.
+pub struct Rules<A> {
+    pub asked: A,
+}
+
+impl<A: Asked> Visitor for Rules<A> {
+    ghost Kept = { A.Kept };
+
+    ghost kept = { λ s. A.kept s.asked };
+
+    ghost with_met = { λ x. spec.command_by A.asked x };
+
+    fn visit(
+        &mut self,
+        claims: &Claims<'_>,
+        by: FlowRule,
+        around: &Around<'_>,
+        known: &Knowledge,
+        command: &Command,
+    ) {
+        tell_command(claims, by, around, known, command, &mut self.asked);
+    }
+}
+
+/// The least command that breaks a flow rule, with the least of the rules that it breaks, by what the certificate claims of the script; none
+/// where it breaks none. It takes no memory.
+pub fn check_rules(claims: &Claims<'_>, policy: &Policy, tree: &Script) -> Option<Fault>
+    requires table { claims.now.calls.now ≡ table_of claims.now.script.now tree.now }
+    requires numbered { is_numbered (script_of claims.now.script.now tree.now) ≡ true }
+    requires few { length (table_of claims.now.script.now tree.now).rows ≤ MAX_COMMANDS }
+    requires names { IsNumbering claims.now.script.now tree.now policy.now claims.now.names.now }
+    ensures { option_map fault_of result ≡ least (faults policy.now (kept_claims claims.now.script.now tree.now claims.now.names.now claims.now.certificate.now) (script_of claims.now.script.now tree.now)) }
+{
+    let start = Knowledge::start(claims.names, policy);
+    let mut rules = Rules {
+        asked: Least { fault: None },
+    };
+    walk(claims, &start, tree, &mut rules);
+    let Rules { asked } = rules;
+    asked.fault
+}
