@@ -1,9 +1,8 @@
 -- What is known behind a call of a function, whether or not the certificate has it.
-use Rattle.std.proofs.Common.{◌≡◌, ℕ, Bool, true, false, not, ◌&&◌, ◌||◌, if◌then◌else◌, List, [], ◌∷◌, drop, codes, Option, Some, None, refl, sym, ap, ap₂, ◌∙◌}
+use Rattle.std.proofs.Common.{◌≡◌, ℕ, Bool, true, false, not, ◌&&◌, ◌||◌, if◌then◌else◌, List, drop, codes, refl, sym, ap, ap₂, ◌∙◌}
 use Rattle.std.specs.Str.{bytes_eq}
 use Rattle.sh_tree.specs.declared.tree.Element.{Element}
 use Rattle.sh_tree.specs.program.Lists.{elements_from}
-use Rattle.sh_tree.specs.program.Syntax as p
 use Rattle.sh_tree.specs.program.Syntax.{Text}
 use Rattle.sh_table.specs.runs.Environment.{is_one_of}
 use Rattle.sh_facts.specs.declared.knowledge.Knowledge.{Knowledge}
@@ -11,7 +10,7 @@ use Rattle.sh_facts.specs.declared.knowledge.Knowledge.TheVariants as knowledge
 use Rattle.sh_facts.specs.declared.knowledge.NameSet.{NameSet}
 use Rattle.sh_facts.specs.declared.knowledge.Return.{Return}
 use Rattle.sh_facts.specs.Certificates.{claim_of, drops_of, in_byte_order}
-use Rattle.sh_facts.specs.Facts.{Facts, NotReached, Known, Unreached, Function, claims, facts}
+use Rattle.sh_facts.specs.Facts.{Facts, NotReached, Known, Function, claims, facts}
 use Rattle.sh_facts.specs.Gains.{named}
 use Rattle.sh_facts.specs.Knowledge.{AreNumbered, among, contains, knowledge_facts}
 use Rattle.sh_facts.specs.Operands.{no_names, total}

@@ -1,5 +1,5 @@
 -- What the elements of a simple command leave known, element by element.
-use Rattle.std.proofs.Common.{◌≡◌, ℕ, Bool, true, false, ◌&&◌, ◌||◌, if◌then◌else◌, List, [], ◌∷◌, fold, refl, sym, ap, ap₂, ◌∙◌}
+use Rattle.std.proofs.Common.{◌≡◌, ℕ, Bool, true, false, ◌&&◌, ◌||◌, List, [], ◌∷◌, fold, refl, sym, ap, ◌∙◌}
 use Rattle.std.specs.List.{list_any}
 use Rattle.std.specs.Str.{bytes_eq}
 use Rattle.sh_tree.specs.declared.tree.Element.{Element, Assignment', Word', Redirection'}
@@ -17,10 +17,9 @@ use Rattle.sh_tree.specs.program.Words.{assignments_in, operands_in, redirects_i
 use Rattle.sh_tree.proofs.ProgramRules as rules
 use Rattle.sh_table.specs.runs.Environment.{is_one_of}
 use Rattle.sh_facts.specs.declared.knowledge.Knowledge.{Knowledge}
-use Rattle.sh_facts.specs.declared.knowledge.NameSet.{NameSet}
 use Rattle.sh_facts.specs.Facts.{Facts}
-use Rattle.sh_facts.specs.Gains.{Gains, no_gains, and_gains, named, word_gains, words_gains, redirect_gains, redirects_gains}
-use Rattle.sh_facts.specs.Knowledge.{contains, knowledge_facts}
+use Rattle.sh_facts.specs.Gains.{no_gains, named, word_gains, words_gains, redirect_gains, redirects_gains}
+use Rattle.sh_facts.specs.Knowledge.{knowledge_facts}
 use Rattle.sh_facts.specs.Table.{prefixes, values_gains, assignments_gains, redirections_gains, is_redirected}
 use Rattle.sh_facts.specs.Views.{Before}
 use Rattle.sh_check.specs.Knowing as knowing

@@ -1,6 +1,6 @@
 -- What operands say by their static texts is what they say by their words.
-use Rattle.std.proofs.Common.{◌≡◌, ℕ, suc, ◌+◌, ◌-◌, ◌<◌, ◌≤◌, ◌==◌, nat_lt, min, Bool, true, false, not, ◌&&◌, if◌then◌else◌, cond, List, [], ◌∷◌, ◌++◌, drop, filter, fold, length, map, codes, Option, Some, None, is_some, unwrap_or, option_map, option_and_then, inl, inr, refl, sym, ap, ap₂, ◌∙◌, arith, true≢false}
-use Rattle.std.specs.List.{cons_option, list_all, filter_map}
+use Rattle.std.proofs.Common.{◌≡◌, ℕ, suc, ◌≤◌, ◌==◌, Bool, true, false, not, ◌&&◌, if◌then◌else◌, cond, List, [], ◌∷◌, drop, filter, fold, map, codes, Option, Some, None, is_some, unwrap_or, option_map, option_and_then, inl, inr, refl, sym, ap, ◌∙◌, arith, true≢false}
+use Rattle.std.specs.List.{cons_option, list_all}
 use Rattle.std.proofs.lemmas.Bool.{cases_lt, le-ltb}
 use Rattle.std.proofs.lemmas.List.Folds.{fold-map, list_all-map}
 use Rattle.sh_tree.specs.language.Bytes.{is_first, is_name}
@@ -15,12 +15,12 @@ use Rattle.sh_table.specs.runs.Operands as o
 use Rattle.sh_facts.specs.Facts.{Facts, NotReached, Known}
 use Rattle.sh_facts.specs.Operands.{Names, removed, status, statics, words_from, unset_names, read_names, getopts_names, positional_words, first_number, return_status, runs_command}
 use Rattle.sh_facts.specs.Sights.{takes_next}
-use Rattle.sh_facts.specs.Views.{Certificate, Lose, step, where_known, kept}
+use Rattle.sh_facts.specs.Views.{Lose, step, where_known}
 use Rattle.sh_facts.proofs.KnownNameLemmas.{lost_one_by_one}
 use Rattle.sh_facts.proofs.MeetLemmas.{known_same}
 use Rattle.sh_check.specs.Drops.{listed}
 use Rattle.sh_operands.specs.declared.options.Letters.{Letters}
-use Rattle.sh_operands.specs.Numerals.{most, capped}
+use Rattle.sh_operands.specs.Numerals.{capped}
 use Rattle.sh_operands.specs.Texts.{no_letters, removal_in, takes_variables, takes_functions, unset_behind, positional_at}
 use Rattle.sh_operands.proofs.TextLemmas.{unset_told}
 use Rattle.sh_rules.specs.Settings.{Setting, certificate}

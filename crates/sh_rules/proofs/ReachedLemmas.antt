@@ -1,5 +1,5 @@
 -- What is kept of names that a simple command drops, name by name.
-use Rattle.std.proofs.Common.{◌≡◌, ℕ, Bool, true, false, not, ◌||◌, if◌then◌else◌, cond, List, [], ◌∷◌, ◌++◌, append-nil, filter, fold, map, codes, refl, sym, ap, ap₂, ◌∙◌, Vec, Global}
+use Rattle.std.proofs.Common.{◌≡◌, ℕ, Bool, true, false, not, cond, List, [], ◌∷◌, append-nil, filter, fold, map, codes, refl, sym, ap, ◌∙◌, Vec, Global}
 use Rattle.std.specs.List.{list_any}
 use Rattle.std.specs.Str.{bytes_eq}
 use Rattle.sh_tree.specs.declared.tree.Element.{Element, Assignment', Word', Redirection'}
@@ -30,10 +30,10 @@ use Rattle.sh_check.proofs.DropLemmas as checked
 use Rattle.sh_operands.specs.declared.options.Letters.{Letters}
 use Rattle.sh_operands.specs.Texts.{no_letters, removal_in, takes_variables, takes_functions, unset_behind}
 use Rattle.sh_rules.specs.declared.claims.Claims.{Claims}
-use Rattle.sh_rules.specs.Asking.{Asking, one_variable, one_function, both_names}
+use Rattle.sh_rules.specs.Asking.{Asking, one_variable, one_function}
 use Rattle.sh_rules.specs.Bounds.{fault}
 use Rattle.sh_rules.specs.CommandBounds.{option_argument, unknown, drops_told, loses_told}
-use Rattle.sh_rules.specs.Losses.{if_wanted, texts_with, where_taken}
+use Rattle.sh_rules.specs.Losses.{where_taken}
 use Rattle.sh_rules.specs.Reached.{is_reached, unset_dropped, variable_dropped, function_dropped, defined_dropped, unknown_dropped, prefix_dropped}
 use Rattle.sh_rules.specs.Settings.{Setting, known_at}
 use Rattle.sh_rules.specs.Texts.{unset_by}

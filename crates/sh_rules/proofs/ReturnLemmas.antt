@@ -1,5 +1,5 @@
 -- What the certificate says of the return of a function, by the entry that is there.
-use Rattle.std.proofs.Common.{◌≡◌, Option, Some, None, option_map, unwrap_or, ap, ◌∙◌}
+use Rattle.std.proofs.Common.{◌≡◌, Some, None, option_map, unwrap_or, ap, ◌∙◌}
 use Rattle.sh_tree.specs.program.Syntax.{Text}
 use Rattle.sh_facts.specs.declared.certificate.FunctionEntry.{FunctionEntry}
 use Rattle.sh_facts.specs.declared.knowledge.Return.{Return}

@@ -1,5 +1,5 @@
 -- Words that are counted, and parameters that are shifted, up to the greatest number that is told.
-use Rattle.std.proofs.Common.{◌≡◌, ◌≢◌, ℕ, zero, suc, ◌+◌, ◌-◌, ◌*◌, ◌≤◌, ◌<◌, min, List, [], ◌∷◌, drop, fold, inl, inr, refl, sym, ap, ap₂, ◌∙◌, arith}
+use Rattle.std.proofs.Common.{◌≡◌, ◌≢◌, ℕ, zero, suc, ◌+◌, ◌*◌, ◌≤◌, min, List, [], ◌∷◌, drop, fold, inl, inr, refl, ap, ap₂, ◌∙◌, arith}
 use Rattle.std.proofs.Math.Nat.{mul-le-mul_left}
 use Rattle.std.proofs.lemmas.Bool.{cases_lt}
 use Rattle.sh_tree.specs.declared.tree.Element.{Element}
@@ -15,8 +15,7 @@ use Rattle.sh_facts.specs.Facts.{Facts, NotReached, Known}
 use Rattle.sh_facts.specs.Knowledge.{knowledge_facts}
 use Rattle.sh_facts.specs.Operands.{Total, total}
 use Rattle.sh_facts.specs.Table.{operands}
-use Rattle.sh_facts.specs.Views as views
-use Rattle.sh_facts.specs.Views.{Certificate, Count, Shift, step, where_known, counted_by, most_fields}
+use Rattle.sh_facts.specs.Views.{Certificate, Count, Shift, step, where_known, most_fields}
 use Rattle.sh_facts.specs.declared.knowledge.Knowledge.{Knowledge}
 use Rattle.sh_rules.specs.Settings.{Setting, certificate}
 use Rattle.sh_rules.specs.SimpleBounds.{stepped}

@@ -1,5 +1,5 @@
 -- What is known behind a utility, piece by piece.
-use Rattle.std.proofs.Common.{◌≡◌, ℕ, ◌+◌, ◌<◌, ◌≤◌, ◌-◌, max, length, Bool, true, false, not, ◌&&◌, ◌||◌, if◌then◌else◌, cond, List, [], ◌∷◌, take, drop, take_all, get_or, filter, fold, map, codes, Option, Some, None, is_some, option_map, refl, sym, ap, ap₂, ◌∙◌, arith}
+use Rattle.std.proofs.Common.{◌≡◌, ℕ, ◌<◌, ◌≤◌, ◌-◌, max, length, Bool, true, false, ◌||◌, if◌then◌else◌, cond, List, [], ◌∷◌, take, drop, get_or, filter, fold, map, codes, Option, Some, None, is_some, option_map, refl, sym, ap, ap₂, ◌∙◌, arith}
 use Rattle.std.specs.List.{cons_option, list_all, filter_map}
 use Rattle.std.proofs.lemmas.List.{take_rest}
 use Rattle.std.proofs.lemmas.Option.{same_Some}
@@ -24,21 +24,21 @@ use Rattle.sh_table.specs.WordTexts.{text_in}
 use Rattle.sh_table.specs.declared.word_text.WordText.{WordText}
 use Rattle.sh_table.specs.runs.Environment.{is_one_of}
 use Rattle.sh_facts.specs.Facts.{Facts, NotReached, Known, meet}
-use Rattle.sh_facts.specs.Gains.{Gains, no_gains, and_gains, named, with_gains}
+use Rattle.sh_facts.specs.Gains.{Gains, named, with_gains}
 use Rattle.sh_facts.specs.Operands.{Total, declared_names, total}
 use Rattle.sh_facts.specs.Parameters.{with_parameters_of}
-use Rattle.sh_facts.specs.Table.{operands, prefixes}
+use Rattle.sh_facts.specs.Table.{operands}
 use Rattle.sh_facts.specs.Views.{Count, Shift, step, where_known, counted_by}
 use Rattle.sh_check.specs.Drops.{listed}
 use Rattle.sh_operands.specs.Numerals.{capped}
 use Rattle.sh_operands.specs.Texts.{positional_at}
-use Rattle.sh_rules.specs.Settings.{Setting, certificate, gained}
+use Rattle.sh_rules.specs.Settings.{Setting, gained}
 use Rattle.sh_rules.specs.Behind.{Behind, both, either}
 use Rattle.sh_rules.specs.Elements.{declared_gained, front_name, declared_name, declared_by, is_word}
-use Rattle.sh_rules.specs.Losses.{name_gained, if_wanted, by_name, texts_with, is_free, unless_prefixed, free_gained, free_names}
+use Rattle.sh_rules.specs.Losses.{name_gained, if_wanted, texts_with, is_free, unless_prefixed, free_gained, free_names}
 use Rattle.sh_rules.specs.SimpleBounds.{stepped, left}
-use Rattle.sh_rules.specs.TextBounds.{behind_name, settled, counted, words_set, set_by, shifted_by}
-use Rattle.sh_rules.specs.Texts.{names_behind, read_behind, read_by, option_name, getopts_name, and_optind, positional_by}
+use Rattle.sh_rules.specs.TextBounds.{behind_name, counted, words_set, set_by, shifted_by}
+use Rattle.sh_rules.specs.Texts.{names_behind, read_behind, read_by, and_optind, positional_by}
 use Rattle.sh_rules.proofs.GainLemmas.{none_gained, both_gained}
 use Rattle.sh_rules.proofs.OperandLemmas.{kept_fold, read_static, read_computed}
 

@@ -1,11 +1,10 @@
 -- What a simple command asks and drops by the static texts of its words is what it asks and drops by its words.
-use Rattle.std.proofs.Common.{◌≡◌, ℕ, ◌+◌, ◌-◌, ◌<◌, ◌≤◌, nat_le, length, Bool, true, false, not, ◌&&◌, if◌then◌else◌, List, [], ◌∷◌, drop, filter, map, codes, Option, Some, None, is_some, option_map, inl, inr, refl, sym, ap, ap₂, ◌∙◌, arith}
+use Rattle.std.proofs.Common.{◌≡◌, ℕ, ◌-◌, ◌≤◌, nat_le, length, Bool, true, false, not, ◌&&◌, if◌then◌else◌, List, [], ◌∷◌, drop, filter, map, codes, Option, Some, None, option_map, inl, inr, refl, sym, ap, ◌∙◌, arith}
 use Rattle.std.proofs.lemmas.Bool.{cases_Bool, cases_lt, leb-true}
-use Rattle.std.specs.Str.{bytes_eq}
 use Rattle.sh_tree.specs.declared.known.KnownName.TheVariants as known
 use Rattle.sh_tree.specs.program.Syntax as p
 use Rattle.sh_tree.specs.program.Syntax.{Text, Word}
-use Rattle.sh_tree.specs.program.Words.{static_of, redirects_in}
+use Rattle.sh_tree.specs.program.Words.{static_of}
 use Rattle.sh_table.specs.Kinds.{kind_of}
 use Rattle.sh_table.specs.Profile.{Static}
 use Rattle.sh_table.specs.declared.kind.Kind.{Kind}
@@ -14,7 +13,7 @@ use Rattle.sh_table.specs.runs.Environment.{is_one_of}
 use Rattle.sh_facts.specs.declared.rule.FlowRule.TheVariants.{F4}
 use Rattle.sh_facts.specs.Entries.{Around}
 use Rattle.sh_facts.specs.Facts.{Facts}
-use Rattle.sh_facts.specs.Operands.{positional_words, first_number, unset_names}
+use Rattle.sh_facts.specs.Operands.{positional_words, first_number}
 use Rattle.sh_facts.specs.Rules.{loop_at, jump_loop}
 use Rattle.sh_facts.specs.Table as table
 use Rattle.sh_facts.specs.Table.{Manner, Utility, operands, prefixes, manner, manner_of_words, manner_of_name, is_special}
@@ -25,11 +24,11 @@ use Rattle.sh_rules.specs.Behind.{Behind, both, either}
 use Rattle.sh_rules.specs.Bounds.{fault, leaves_told}
 use Rattle.sh_rules.specs.CommandBounds.{loses_told, simple_drops_told, utility_drops_told}
 use Rattle.sh_rules.specs.Losses.{variable_lost, free_names}
-use Rattle.sh_rules.specs.Settings.{Setting, gained}
+use Rattle.sh_rules.specs.Settings.{Setting}
 use Rattle.sh_rules.specs.SimpleBounds.{stepped, behind, left, set_behind, shift_behind, utility_behind, nameless_behind, breaks_told, continues_told, returns_told, jumps_told, simple_told}
 use Rattle.sh_rules.specs.TextBounds.{behind_name, redirected, settled, words_set, set_by, shifted_by, exec_by, true_by, unless_failed, nameless_by, special_by, utility_by}
 use Rattle.sh_rules.specs.TextTells.{jumps_by, told_by, named_by, simple_by, utility_drops_by, call_drops_by, named_drops_by, drops_by, calls_by, TextsTell}
-use Rattle.sh_rules.specs.Texts.{unset_by, read_by, getopts_name, and_optind, positional_by, first_by, status_by, runs_by}
+use Rattle.sh_rules.specs.Texts.{first_by}
 use Rattle.sh_rules.proofs.OperandLemmas.{unset_words, read_words, getopts_words, positional_of_words, first_words, status_words, runs_words}
 
 -- what is known behind a utility

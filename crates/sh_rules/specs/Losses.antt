@@ -1,6 +1,6 @@
 -- Names that are lost or gained one after the other, by the static texts of operands.
 -- POSIX.1-2024, XCU 2.15 (unset), 3 (read).
-use Rattle.std.specs.Prelude.{Bool, true, false, not, filter, if◌then◌else◌, List, [], ◌∷◌, fold, Option, Some, None}
+use Rattle.std.specs.Prelude.{Bool, true, false, not, filter, if◌then◌else◌, List, [], ◌∷◌, fold, Some, None}
 use Rattle.sh_tree.specs.language.Bytes.{is_name}
 use Rattle.sh_tree.specs.program.Syntax as p
 use Rattle.sh_tree.specs.program.Syntax.{Text}

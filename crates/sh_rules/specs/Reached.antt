@@ -1,6 +1,6 @@
 -- Clauses of private functions: what is kept of names that a simple command drops, if some run comes to it.
 -- POSIX.1-2024, XCU 2.9.1 (simple commands), 2.9.5 (function definitions), 2.15 (unset).
-use Rattle.std.specs.Prelude.{ℕ, Bool, not, if◌then◌else◌, List, filter, fold}
+use Rattle.std.specs.Prelude.{ℕ, Bool, not, List, filter, fold}
 use Rattle.sh_tree.specs.declared.tree.Element.{Element}
 use Rattle.sh_tree.specs.program.Lists.{element_from}
 use Rattle.sh_tree.specs.program.Syntax as p

@@ -1,6 +1,6 @@
 -- What is known behind a utility, by the static texts of its operands.
 -- POSIX.1-2024, XCU 2.9.1 (simple commands), 2.15 (special built-in utilities), 3 (false, getopts, read, true).
-use Rattle.std.specs.Prelude.{ℕ, Bool, true, false, if◌then◌else◌, List, [], ◌∷◌, drop, codes, Option, Some, None}
+use Rattle.std.specs.Prelude.{ℕ, Bool, if◌then◌else◌, List, [], drop, codes, Option, Some, None}
 use Rattle.sh_tree.specs.declared.known.KnownName.{KnownName}
 use Rattle.sh_tree.specs.declared.known.KnownName.TheVariants as known
 use Rattle.sh_tree.specs.program.Syntax as p

@@ -1,6 +1,6 @@
 -- What is kept so far, with what a simple command asks and drops, by the static texts of its words.
 -- POSIX.1-2024, XCU 2.9.1 (simple commands), 2.9.5 (function definitions), 2.15 (break, continue, return, unset), 3 (getopts).
-use Rattle.std.specs.Prelude.{◌≡◌, ◌≤◌, ℕ, length, Bool, true, false, not, ◌&&◌, List, [], ◌∷◌, filter, map, codes, Option, Some, None, option_map}
+use Rattle.std.specs.Prelude.{◌≡◌, ◌≤◌, ℕ, length, Bool, true, false, not, ◌&&◌, List, [], ◌∷◌, filter, map, codes, Some, None, option_map}
 use Rattle.std.specs.Str.{bytes_eq}
 use Rattle.sh_tree.specs.declared.known.KnownName.TheVariants as known
 use Rattle.sh_tree.specs.program.Syntax as p

@@ -1,7 +1,7 @@
 -- What the operands of built-in utilities say, by their static texts in their order; an operand that has none keeps its place.
 -- POSIX.1-2024, XCU 2.15 (break, continue, exec, return, set, shift, unset), 3 (getopts, read).
 use Rattle.std.specs.Prelude.{ℕ, ◌==◌, Bool, true, false, not, ◌&&◌, if◌then◌else◌, List, [], ◌∷◌, drop, filter, length, codes, Option, Some, None, is_some, unwrap_or, option_map, option_and_then}
-use Rattle.std.specs.List.{list_all, filter_map}
+use Rattle.std.specs.List.{list_all}
 use Rattle.sh_tree.specs.language.Bytes.{is_first, is_name}
 use Rattle.sh_tree.specs.program.Syntax.{Text, Word}
 use Rattle.sh_table.specs.Profile.{Static}
