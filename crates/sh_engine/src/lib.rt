@@ -3,5 +3,6 @@
 #![tactic(auto)]
 
 pub mod check;
+pub mod lint;
 pub mod prepared;
 pub mod told;
