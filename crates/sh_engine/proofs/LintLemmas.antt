@@ -1,10 +1,9 @@
 -- From the greatest certificate of a script to what is answered of it.
-use Rattle.std.proofs.Common.{◌≡◌, ℕ, ◌+◌, ◌^◌, ◌<◌, ◌≤◌, nat_eq, Bool, true, List, [], ◌∷◌, length, Some, None, Result, Ok, Err, IfOk, Vec, Global, refl, sym, ap, ◌∙◌, subst, arith}
+use Rattle.std.proofs.Common.{◌≡◌, ℕ, suc, ◌+◌, ◌^◌, ◌<◌, ◌≤◌, nat_eq, Bool, true, List, [], ◌∷◌, length, Some, None, Result, Ok, Err, IfOk, Vec, Global, refl, sym, ap, ◌∙◌, subst, arith}
 use Rattle.std.specs.Prelude.{nat_le}
 use Rattle.std.proofs.Common.{leb-true}
 use Rattle.std.proofs.lemmas.List.{length-map}
 use Rattle.std.proofs.lemmas.Result.{IfOk-weaker}
-use Rattle.indexmap.specs.IndexMap.{get}
 use Rattle.sh_tree.specs.declared.refusal.Refusal.{Refusal}
 use Rattle.sh_tree.specs.declared.refusal.Refusal.TheVariants.{Memory, CertSyntax}
 use Rattle.sh_tree.specs.program.Syntax.{Text}
@@ -66,7 +65,7 @@ module _ (b : List ℕ) (d : Declared) (p : Prepared) (i : IsPrepared b d p) whe
 commands_long : (order : List (ℕ × Text)) (c : Certificate) (k : ℕ) (es : List Entry) → length (commands_from order c k es) ≡ length es
 unfolding commands_from
 commands_long order c k [] = refl
-commands_long order c k (e ∷ es) = ap (λ n. n + 1) (commands_long order c (k + 1) es)
+commands_long order c k (e ∷ es) = ap suc (commands_long order c (k + 1) es)
 
 pub few_commands : (b : List ℕ) (d : Declared) (p : Prepared) (c : Certificate) → IsGreatest b d p.tree p.names (sheet_in p c) → length c.entries.items < 2 ^ 32
 few_commands b d p c g =
