@@ -1,17 +1,16 @@
 -- A certificate that is lowered stays above those that keep the rules.
-use Rattle.std.proofs.Common.{◌≡◌, ℕ, ◌==◌, eqb, Bool, true, false, ◌&&◌, ◌||◌, Option, Some, None, option_map, List, [], ◌∷◌, length, refl, sym, ap, ◌∙◌, subst, inl, inr, ◌⊎◌, true≢false}
+use Rattle.std.proofs.Common.{◌≡◌, ℕ, eqb, Bool, true, false, ◌||◌, Option, Some, None, option_map, List, refl, sym, ap, ◌∙◌, subst, inl, inr, ◌⊎◌, true≢false}
 use Rattle.std.proofs.lemmas.Bool.{cases_Bool, or_cases, eqb-true}
 use Rattle.sh_tree.specs.program.Syntax.{Text}
 use Rattle.sh_table.specs.runs.Environment.{is_one_of}
 use Rattle.sh_facts.specs.declared.certificate.Certificate as kept
-use Rattle.sh_facts.specs.Facts.{Facts, NotReached, facts, meet}
+use Rattle.sh_facts.specs.Facts.{Facts, NotReached, facts}
 use Rattle.sh_facts.specs.Knowledge.{AreNumbered, at_number}
 use Rattle.sh_facts.specs.Names.{number_of}
-use Rattle.sh_facts.specs.Operands.{Names}
 use Rattle.sh_facts.specs.Order.{IsWithin, IsBelow, AreAmong}
 use Rattle.sh_facts.specs.Sheets.{Sheet, certificate_of, claim_at, function_at}
 use Rattle.sh_facts.specs.Views.{Slot}
-use Rattle.sh_facts.proofs.OrderLemmas.{within_nowhere, within_through, meet_greatest}
+use Rattle.sh_facts.proofs.OrderLemmas.{within_nowhere, meet_greatest}
 use Rattle.sh_find.specs.Facts as number
 use Rattle.sh_certify.specs.declared.place.Place.{Place}
 use Rattle.sh_certify.specs.First.{ClaimsAll, DropsNothing}

@@ -1,9 +1,9 @@
 -- The certificate that claims everything.
-use Rattle.std.proofs.Common.{◌≡◌, ℕ, zero, suc, ◌+◌, ◌<◌, ◌≤◌, nat_eq, eqb, Bool, true, false, Option, Some, None, option_map, List, [], ◌∷◌, length, map, get_or, slice_get, is_some, replicate, refl, sym, ap, ◌∙◌, subst, arith, inl, inr, true≢false}
+use Rattle.std.proofs.Common.{◌≡◌, ℕ, ◌+◌, ◌<◌, ◌≤◌, nat_eq, Bool, true, false, Option, Some, None, option_map, List, length, get_or, slice_get, is_some, replicate, refl, sym, ap, ◌∙◌, subst, arith, inl, inr, true≢false}
 use Rattle.std.specs.Prelude.{option_and_then, unwrap_or}
 use Rattle.std.specs.Borrow.{Bor}
 use Rattle.std.proofs.lemmas.Bool.{cases_Bool, cases_lt, eqb-true}
-use Rattle.std.proofs.lemmas.List.{length-map, length-replicate, get_or-replicate}
+use Rattle.std.proofs.lemmas.List.{length-replicate, get_or-replicate}
 use Rattle.std.proofs.lemmas.Option.{slice_get-map, slice_get-get_or, slice_get_past, slice_get_within}
 use Rattle.indexmap.specs.IndexMap.{get}
 use Rattle.sh_tree.specs.declared.tree.Command.{Command}
@@ -15,7 +15,7 @@ use Rattle.sh_facts.specs.declared.certificate.Facts as value
 use Rattle.sh_facts.specs.declared.certificate.Facts.TheVariants as value_kind
 use Rattle.sh_facts.specs.declared.certificate.FunctionEntry.{FunctionEntry}
 use Rattle.sh_facts.specs.declared.rows.RowId.{RowId}
-use Rattle.sh_facts.specs.KeptRows.{KeptRows, holds_at}
+use Rattle.sh_facts.specs.KeptRows.{holds_at}
 use Rattle.sh_facts.specs.Reading.{is_loop}
 use Rattle.sh_facts.specs.ReadParts.{loops_of}
 use Rattle.sh_facts.specs.RoundTrips.{FactsPass}

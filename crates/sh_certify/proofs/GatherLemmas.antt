@@ -1,33 +1,30 @@
 -- What is gathered of all that the flow rules ask.
-use Rattle.std.proofs.Common.{◌≡◌, ℕ, ◌+◌, ◌<◌, ◌==◌, eqb, Bool, true, false, ◌&&◌, ◌||◌, if◌then◌else◌, Option, Some, None, List, [], ◌∷◌, ◌++◌, length, flat_map, fold, map, slice_get, refl, sym, ap, ap₂, ◌∙◌, subst, inl, inr, ◌⊎◌, true≢false}
+use Rattle.std.proofs.Common.{◌≡◌, ℕ, ◌<◌, ◌≤◌, Bool, true, false, ◌&&◌, ◌||◌, if◌then◌else◌, Option, Some, None, List, [], ◌∷◌, ◌++◌, length, flat_map, slice_get, refl, sym, ap, ap₂, ◌∙◌, subst, arith, inl, inr, ◌⊎◌, true≢false}
 use Rattle.std.specs.List.{list_all}
 use Rattle.std.proofs.Math.Path.{fun_ext}
 use Rattle.std.proofs.lemmas.Bool.{cases_Bool, and_parts, and_from, or_cases, eqb-true}
-use Rattle.std.proofs.lemmas.List.Folds.{list_all-append}
 use Rattle.std.proofs.lemmas.Option.{slice_get_within}
 use Rattle.sh_tree.specs.program.Syntax.{Text}
 use Rattle.sh_table.specs.runs.Environment.{is_one_of}
-use Rattle.sh_facts.specs.declared.rule.FlowRule.{FlowRule}
-use Rattle.sh_facts.specs.Facts.{Facts, NotReached, Known, Claim, Unreached, Claimed, facts, within, meet, Declared}
+use Rattle.sh_facts.specs.Facts.{Facts, NotReached, Known, Claim, Unreached, Claimed, facts, within, Declared}
 use Rattle.sh_facts.specs.Faults.{Fault, are_among, told, broken}
-use Rattle.sh_facts.specs.Knowledge.{AreNumbered, among, at_number}
+use Rattle.sh_facts.specs.Knowledge.{among, at_number}
 use Rattle.sh_facts.specs.Names.{number_of}
-use Rattle.sh_facts.specs.Operands.{Names, no_names}
-use Rattle.sh_facts.specs.Order.{IsWithin, IsBelow, AreAmong, Fits, seen_facts}
+use Rattle.sh_facts.specs.Operands.{Names}
+use Rattle.sh_facts.specs.Order.{IsWithin, IsBelow, AreAmong, Fits}
 use Rattle.sh_facts.specs.Reading.{claim_fits}
-use Rattle.sh_facts.specs.Rules.{Constraint, Within, Counted, bound}
+use Rattle.sh_facts.specs.Rules.{Constraint, Within, Counted}
 use Rattle.sh_facts.specs.Sheets.{Sheet, certificate_of, claim_at, function_at}
-use Rattle.sh_facts.specs.Views.{Certificate, Slot, Seen, view_facts, lost}
+use Rattle.sh_facts.specs.Views.{Certificate, Slot, view_facts, lost}
 use Rattle.sh_facts.proofs.KnowledgeLemmas.{same_tests, stands_there}
 use Rattle.sh_facts.proofs.MonotoneLemmas.{fits_below}
-use Rattle.sh_facts.proofs.OrderLemmas.{known_within, known_parts, within_nowhere, nowhere_known, within_itself, within_through, within_test, meet_first, meet_second, meet_greatest, among_all}
+use Rattle.sh_facts.proofs.OrderLemmas.{known_within, known_parts, within_nowhere, nowhere_known, within_itself, meet_greatest, among_all}
 use Rattle.sh_find.specs.Facts as number
-use Rattle.sh_find.specs.Kept.{IsNamed, AreNamed}
-use Rattle.sh_find.proofs.OrderLemmas as numbers
+use Rattle.sh_find.specs.Kept.{IsNamed}
 use Rattle.sh_certify.specs.declared.place.Place.{Place}
 use Rattle.sh_certify.specs.Gathered.{Gathered, is_at, is_number, bounded, counted, gathered, all_gathered}
 use Rattle.sh_certify.specs.Numbers.{name_passes, by_number, by_name, numbers_in}
-use Rattle.sh_certify.specs.Places.{same, place_of, claim_there, drops_there}
+use Rattle.sh_certify.specs.Places.{place_of, claim_there, drops_there}
 use Rattle.sh_certify.specs.Turns.{AreNumbers, Stands}
 use Rattle.sh_certify.specs.Working.{Sets, joined, AreBelow}
 use Rattle.sh_certify.proofs.KeptLemmas.{place_same}
@@ -35,6 +32,15 @@ use Rattle.sh_certify.proofs.NumberLemmas.{back, meet_named}
 use Rattle.sh_certify.proofs.SheetLemmas.{placed, drops_placed}
 
 -- Facts of numbered names
+
+pub among_less : (names : List Text) (f : Facts) → IsWithin (among names f) f
+unfolding among
+among_less names NotReached = within_itself NotReached
+among_less names (Known v f a) =
+    known_within _ _ _ _ a a (λ t e. (and_parts (is_one_of names t) (v t) e).1) (λ t e. (and_parts (is_one_of names t) (f t) e).1) (le_self a)
+  where
+    le_self : (a : ℕ) → a ≤ a
+    le_self a = omega arith
 
 pub among_grows : (names : List Text) (f g : Facts) → IsWithin f g → IsWithin (among names f) (among names g)
 unfolding among

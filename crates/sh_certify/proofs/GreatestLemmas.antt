@@ -1,5 +1,5 @@
 -- What is found is the greatest certificate.
-use Rattle.std.proofs.Common.{◌≡◌, ℕ, ◌+◌, ◌<◌, ◌≤◌, cond, Bool, true, false, Option, List, [], length, flat_map, refl, sym, ap, ◌∙◌, subst, arith, true≢false}
+use Rattle.std.proofs.Common.{◌≡◌, ℕ, ◌+◌, ◌<◌, ◌≤◌, cond, Bool, true, false, Option, List, [], length, flat_map, refl, sym, subst, arith, true≢false}
 use Rattle.sh_tree.specs.declared.tree.Script.{Script}
 use Rattle.sh_tree.specs.program.Syntax.{Text}
 use Rattle.sh_tree.specs.program.Trees.{script_of}
@@ -14,7 +14,7 @@ use Rattle.sh_facts.specs.Rules.{Constraint, script_bounds}
 use Rattle.sh_facts.specs.Sheets.{Sheet, certificate_of}
 use Rattle.sh_facts.proofs.KnownNameLemmas.{names_suffice}
 use Rattle.sh_facts.proofs.RoundTripLemmas.{written_reads_back}
-use Rattle.sh_accept.specs.Accepted.{IsAdmitted, Fits, KeepsRules, functions_in}
+use Rattle.sh_accept.specs.Accepted.{IsAdmitted, functions_in}
 use Rattle.sh_accept.specs.Answers.{IsGreatest}
 use Rattle.sh_certify.specs.declared.place.Place.{Place}
 use Rattle.sh_certify.specs.First.{ClaimsAll, DropsNothing}

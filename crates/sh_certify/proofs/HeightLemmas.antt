@@ -1,15 +1,14 @@
 -- A certificate that is lowered has a lesser height.
-use Rattle.std.proofs.Common.{◌≡◌, ℕ, zero, suc, ◌+◌, ◌<◌, ◌≤◌, ◌==◌, eqb, nat_eq, nat_lt, Bool, true, false, not, ◌&&◌, ◌||◌, Option, Some, None, option_map, List, [], ◌∷◌, length, slice_get, is_some, refl, sym, ap, ap₂, ◌∙◌, subst, arith, inl, inr, ◌⊎◌, true≢false, rules}
+use Rattle.std.proofs.Common.{◌≡◌, ℕ, zero, suc, ◌<◌, ◌≤◌, eqb, nat_lt, Bool, true, false, not, ◌&&◌, ◌||◌, Option, Some, None, option_map, List, length, slice_get, is_some, refl, sym, ap, ◌∙◌, subst, arith, inl, inr, ◌⊎◌, true≢false, rules}
 use Rattle.std.specs.Prelude.{unwrap_or}
-use Rattle.std.proofs.lemmas.Bool.{cases_Bool, cases_lt, and_parts, and_from, eqb-true, eq-eqb}
+use Rattle.std.proofs.lemmas.Bool.{cases_Bool, cases_lt, and_parts, and_from, eqb-true}
 use Rattle.std.proofs.lemmas.Option.{slice_get_within}
-use Rattle.indexmap.specs.IndexMap.{get}
 use Rattle.sh_tree.specs.program.Syntax.{Text}
 use Rattle.sh_facts.specs.declared.certificate.Certificate.{Certificate}
 use Rattle.sh_facts.specs.declared.certificate.Drops.{Drops}
 use Rattle.sh_facts.specs.declared.certificate.Facts as value
 use Rattle.sh_facts.specs.declared.certificate.Facts.TheVariants as value_kind
-use Rattle.sh_find.specs.Facts.{Facts, NotReached, Known, IsWithin, meet}
+use Rattle.sh_find.specs.Facts.{Facts, IsWithin, meet}
 use Rattle.sh_find.specs.Kept.{fact_of}
 use Rattle.sh_find.specs.Lowers.{IsNumbered, rank}
 use Rattle.sh_find.proofs.HeightLemmas.{rank_less}

@@ -8,3 +8,4 @@ pub mod GatherLemmas
 pub mod FirstLemmas
 pub mod TurnLemmas
 pub mod GreatestLemmas
+pub mod TogetherLemmas

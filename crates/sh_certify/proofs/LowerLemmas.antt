@@ -1,8 +1,7 @@
 -- A claim that is lowered, and drops that are added to.
-use Rattle.std.proofs.Common.{◌≡◌, ℕ, zero, suc, ◌+◌, ◌<◌, ◌≤◌, ◌==◌, eqb, nat_eq, Bool, true, false, not, ◌&&◌, ◌||◌, Option, Some, None, option_map, List, [], ◌∷◌, length, slice_get, is_some, refl, sym, ap, ap₂, ◌∙◌, subst, arith, inl, inr, ◌⊎◌, true≢false}
-use Rattle.std.specs.Prelude.{unwrap_or}
+use Rattle.std.proofs.Common.{◌≡◌, ℕ, ◌+◌, ◌<◌, ◌≤◌, ◌==◌, eqb, nat_eq, Bool, true, false, not, ◌||◌, Option, Some, None, option_map, List, length, slice_get, is_some, refl, sym, ap, ap₂, ◌∙◌, subst, arith, inl, inr, true≢false}
 use Rattle.std.proofs.Math.Path.{fun_ext}
-use Rattle.std.proofs.lemmas.Bool.{cases_Bool, and_parts, and_from, or_cases, eqb-true}
+use Rattle.std.proofs.lemmas.Bool.{cases_Bool, and_parts, or_cases, eqb-true}
 use Rattle.indexmap.specs.IndexMap.{get}
 use Rattle.sh_tree.specs.program.Syntax.{Text}
 use Rattle.sh_tree.specs.language.Bytes.{is_name}
@@ -18,7 +17,7 @@ use Rattle.sh_facts.specs.RoundTrips.{FactsPass, SetsPass}
 use Rattle.sh_find.specs.declared.number_set.NumberSet.{NumberSet}
 use Rattle.sh_find.specs.declared.sight.Sight.{Sight}
 use Rattle.sh_find.specs.Facts.{Facts, NotReached, Known, IsWithin, meet}
-use Rattle.sh_find.specs.Kept.{numbers_of, sight_facts, fact_of, IsNamed, IsPlaced, AreNamed}
+use Rattle.sh_find.specs.Kept.{numbers_of, sight_facts, fact_of, IsNamed, IsPlaced}
 use Rattle.sh_find.proofs.SolutionLemmas.{stays_there, stays_placed, stays_same, meet_numbered}
 use Rattle.sh_find.specs.Lowers.{IsNumbered}
 use Rattle.sh_find.proofs.NamedLemmas.{met_named}
@@ -146,11 +145,13 @@ sight_passes names rows (value_kind.Known v f a) s e w =
     let left : holds_at rows.rows v.index ≡ numbers_of s.vars = ap vars_of e in
     let right : holds_at rows.rows f.index ≡ numbers_of s.functions = ap functions_of e in
     let args : a ≡ s.args = ap args_of e in
-    let few = s.bounded in
-    (record {
-      vars = λ k t is h. w.vars k t is (sym (ap (λ (g : ℕ → Bool). g k) left) ∙ h);
-      functions = λ k t is h. w.functions k t is (sym (ap (λ (g : ℕ → Bool). g k) right) ∙ h);
-    }, omega (arith, args, few))
+    let few = s.bounded in (
+      record {
+        vars = λ k t is h. w.vars k t is (sym (ap (λ (g : ℕ → Bool). g k) left) ∙ h);
+        functions = λ k t is h. w.functions k t is (sym (ap (λ (g : ℕ → Bool). g k) right) ∙ h);
+      },
+      omega (arith, args, few),
+    )
 
 -- A claim that is lowered
 

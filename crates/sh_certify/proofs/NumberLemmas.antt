@@ -1,23 +1,20 @@
 -- Facts by numbers and by names.
-use Rattle.std.proofs.Common.{◌≡◌, ℕ, zero, suc, ◌+◌, ◌<◌, ◌≤◌, Bool, true, false, not, ◌&&◌, ◌||◌, min, Option, Some, None, option_map, List, [], ◌∷◌, length, map, slice_get, is_some, refl, sym, ap, ap₂, ◌∙◌, subst, arith, inl, inr, true≢false}
-use Rattle.std.specs.List.{list_all, filter}
+use Rattle.std.proofs.Common.{◌≡◌, ℕ, Bool, true, false, ◌&&◌, min, Option, Some, None, List, slice_get, is_some, refl, sym, ap, ap₂, ◌∙◌, true≢false}
 use Rattle.std.proofs.Math.Path.{fun_ext}
-use Rattle.std.proofs.lemmas.Bool.{cases_Bool, and_parts, and_from}
-use Rattle.std.proofs.lemmas.Option.{slice_get_within}
+use Rattle.std.proofs.lemmas.Bool.{and_from}
 use Rattle.sh_tree.specs.program.Syntax.{Text}
 use Rattle.sh_table.specs.runs.Environment.{is_one_of}
 use Rattle.sh_facts.specs.declared.certificate.Facts as value
 use Rattle.sh_facts.specs.declared.certificate.Facts.TheVariants as value_kind
 use Rattle.sh_facts.specs.declared.rows.RowId.{RowId}
 use Rattle.sh_facts.specs.Certificates.{claim_of, in_byte_order, names_at}
-use Rattle.sh_facts.specs.Facts.{Facts, NotReached, Known, Claim, facts, meet}
+use Rattle.sh_facts.specs.Facts.{Facts, NotReached, Known, facts, meet}
 use Rattle.sh_facts.specs.KeptRows.{KeptRows, holds_at}
 use Rattle.sh_facts.specs.Knowledge.{AreNumbered, among, at_number}
 use Rattle.sh_facts.specs.Names.{number_of}
-use Rattle.sh_facts.specs.Order.{IsWithin}
 use Rattle.sh_facts.specs.Reading.{are_known, claim_fits}
 use Rattle.sh_facts.proofs.KnowledgeLemmas.{has_number, in_row, stands_there}
-use Rattle.sh_facts.proofs.OrderLemmas.{all_among, known_within, known_parts, nowhere_known, within_nowhere}
+use Rattle.sh_facts.proofs.OrderLemmas.{all_among}
 use Rattle.sh_find.specs.Facts as number
 use Rattle.sh_find.specs.Kept.{fact_of}
 use Rattle.sh_certify.specs.Numbers.{name_passes, by_number, by_name}

@@ -1,7 +1,7 @@
 -- What a sheet claims at each place, and what that of a kept certificate does.
 use Rattle.std.proofs.Common.{◌≡◌, ℕ, zero, suc, ◌+◌, ◌-◌, ◌<◌, ◌≤◌, nat_eq, Bool, true, false, ◌&&◌, Option, Some, None, option_map, List, [], ◌∷◌, length, map, slice_get, is_some, refl, sym, ap, ◌∙◌, subst, arith, inl, inr, true≢false}
-use Rattle.std.specs.Prelude.{option_and_then, unwrap_or, nat_le}
-use Rattle.std.specs.List.{list_all, position_from, All}
+use Rattle.std.specs.Prelude.{option_and_then, unwrap_or}
+use Rattle.std.specs.List.{list_all, position_from}
 use Rattle.std.specs.Str.{bytes_eq}
 use Rattle.std.proofs.lemmas.Bool.{cases_Bool, cases_lt, and_parts, and_from, eq-eqb}
 use Rattle.std.proofs.lemmas.List.{length-map}
@@ -11,15 +11,13 @@ use Rattle.indexmap.specs.IndexMap.{get}
 use Rattle.sh_tree.specs.program.Syntax.{Text}
 use Rattle.sh_table.specs.runs.Environment.{is_one_of}
 use Rattle.sh_facts.specs.declared.certificate.Certificate.{Certificate}
-use Rattle.sh_facts.specs.declared.certificate.Drops.{Drops}
 use Rattle.sh_facts.specs.declared.certificate.Entry.{Entry}
 use Rattle.sh_facts.specs.declared.certificate.Facts as value
 use Rattle.sh_facts.specs.declared.certificate.Facts.TheVariants as value_kind
 use Rattle.sh_facts.specs.declared.certificate.FunctionEntry.{FunctionEntry}
-use Rattle.sh_facts.specs.Certificates.{claim_of, command_claims, commands_from, drops_of, function_claims, in_byte_order, names_at, sheet_of}
-use Rattle.sh_facts.specs.Facts.{Facts, NotReached, Claim, Unreached, facts}
-use Rattle.sh_facts.specs.KeptRows.{holds_at}
-use Rattle.sh_facts.specs.Knowledge.{AreNumbered, at_number}
+use Rattle.sh_facts.specs.Certificates.{claim_of, command_claims, commands_from, function_claims, in_byte_order, sheet_of}
+use Rattle.sh_facts.specs.Facts.{Claim, Unreached, facts}
+use Rattle.sh_facts.specs.Knowledge.{AreNumbered}
 use Rattle.sh_facts.specs.Names.{number_of, are_distinct}
 use Rattle.sh_facts.specs.Reading.{claim_fits, sets_fit, head_fits, command_fits, commands_fit, function_fits, fits}
 use Rattle.sh_facts.specs.RoundTrips.{FactsPass, EntryPasses, FunctionPasses, HasText}
@@ -31,9 +29,9 @@ use Rattle.sh_find.specs.Kept.{fact_of}
 use Rattle.sh_certify.specs.declared.place.Part.{Part}
 use Rattle.sh_certify.specs.declared.place.Part.TheVariants.{Before, Zero, Nonzero, Head, Entered, ReturnZero, ReturnNonzero}
 use Rattle.sh_certify.specs.declared.place.Place.{Place}
-use Rattle.sh_certify.specs.Numbers.{by_name, named, is_dropped}
-use Rattle.sh_certify.specs.Places.{at, place_of, part_claim, claim_there, drops_there, is_of_command, is_of_function, entry_part, function_part, kept_at, drops_at}
-use Rattle.sh_certify.specs.Working.{Sets, sets_of, claims, dropped, IsWorking}
+use Rattle.sh_certify.specs.Numbers.{named, is_dropped}
+use Rattle.sh_certify.specs.Places.{at, place_of, part_claim, claim_there, drops_there, is_of_command, is_of_function, entry_part, function_part, kept_at}
+use Rattle.sh_certify.specs.Working.{sets_of, claims, dropped, IsWorking}
 use Rattle.sh_certify.proofs.LowerLemmas.{heads_at}
 use Rattle.sh_certify.proofs.NumberLemmas.{claim_named, claim_known, sets_known}
 

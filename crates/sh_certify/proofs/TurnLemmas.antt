@@ -1,11 +1,9 @@
 -- Turns of the search.
-use Rattle.std.proofs.Common.{◌≡◌, ℕ, ◌+◌, ◌<◌, Bool, true, false, ◌||◌, Option, Some, None, option_map, List, [], length, flat_map, refl, sym, ap, ◌∙◌, subst, arith, inl, inr, true≢false}
+use Rattle.std.proofs.Common.{◌≡◌, ℕ, ◌<◌, Bool, true, false, ◌||◌, Option, Some, None, List, [], length, flat_map, refl, sym, ap, ◌∙◌, subst, arith, inl, inr, true≢false}
 use Rattle.std.proofs.lemmas.Bool.{cases_Bool}
 use Rattle.sh_tree.specs.program.Syntax.{Text}
-use Rattle.sh_table.specs.runs.Environment.{is_one_of}
 use Rattle.sh_facts.specs.declared.certificate.Certificate as kept
-use Rattle.sh_facts.specs.declared.certificate.Drops.{Drops}
-use Rattle.sh_facts.specs.Facts.{facts, Declared, NotReached}
+use Rattle.sh_facts.specs.Facts.{facts, Declared}
 use Rattle.sh_facts.specs.Faults.{broken}
 use Rattle.sh_facts.specs.Knowledge.{AreNumbered, at_number}
 use Rattle.sh_facts.specs.Names.{number_of}
@@ -15,7 +13,7 @@ use Rattle.sh_facts.specs.Rules.{Constraint}
 use Rattle.sh_facts.specs.Sheets.{Sheet, certificate_of}
 use Rattle.sh_facts.proofs.OrderLemmas.{within_nowhere}
 use Rattle.sh_find.specs.Facts as number
-use Rattle.sh_find.specs.Kept.{seen_of, numbers_of, IsNamed}
+use Rattle.sh_find.specs.Kept.{numbers_of, IsNamed}
 use Rattle.sh_certify.specs.declared.gather.Gather.{Gather}
 use Rattle.sh_certify.specs.declared.gather.Target.{Target}
 use Rattle.sh_certify.specs.declared.place.Place.{Place}
@@ -23,9 +21,9 @@ use Rattle.sh_certify.specs.declared.turn.Outcome.{Outcome}
 use Rattle.sh_certify.specs.declared.turn.Outcome.TheVariants.{Kept, Lowered, Stays}
 use Rattle.sh_certify.specs.Gathered.{Gathered, all_gathered}
 use Rattle.sh_certify.specs.Numbers.{by_name}
-use Rattle.sh_certify.specs.Places.{claim_there, drops_there, drops_at}
+use Rattle.sh_certify.specs.Places.{claim_there}
 use Rattle.sh_certify.specs.Turns.{gathered_of, IsNew, AreNumbers, Stands, sheet_by, IsSunk, IsAttempt, IsTurn}
-use Rattle.sh_certify.specs.Working.{Sets, AreBelow, AreFine, IsWorking, IsLowered, IsCounted, claims, dropped, height}
+use Rattle.sh_certify.specs.Working.{IsWorking, IsLowered, IsCounted, height}
 use Rattle.sh_certify.proofs.AboveLemmas.{lowered_above, counted_above}
 use Rattle.sh_certify.proofs.GatherLemmas.{all_kept, numbered_only, stands_all}
 use Rattle.sh_certify.proofs.HeightLemmas.{lowered_less, counted_less}

@@ -1,6 +1,6 @@
 -- The certificate that claims everything.
 -- The standard has no such thing: no run comes to any place, and no function drops a name.
-use Rattle.std.specs.Prelude.{◌≡◌, ℕ, zero, ◌+◌, ◌<◌, ◌≤◌, Bool, true, false, List, Option, Some, None, slice_get, unwrap_or}
+use Rattle.std.specs.Prelude.{◌≡◌, ℕ, ◌+◌, ◌<◌, ◌≤◌, Bool, true, false, List, Option, Some, None, slice_get, unwrap_or}
 use Rattle.sh_facts.specs.declared.certificate.Certificate.{Certificate}
 use Rattle.sh_facts.specs.declared.certificate.Facts as value
 use Rattle.sh_facts.specs.declared.certificate.Facts.TheVariants as value_kind

@@ -1,6 +1,6 @@
 -- What is gathered of all that the flow rules ask of a certificate: whether it is kept, what is known at one place, and what one function has to drop.
 -- The standard has no such rules: what is claimed of a place has to be known there in every run.
-use Rattle.std.specs.Prelude.{ℕ, ◌==◌, Bool, true, false, ◌&&◌, if◌then◌else◌, List, fold, Option, Some, None}
+use Rattle.std.specs.Prelude.{ℕ, ◌==◌, Bool, false, ◌&&◌, if◌then◌else◌, List, fold, Option, Some, None}
 use Rattle.sh_tree.specs.program.Syntax.{Text}
 use Rattle.sh_facts.specs.Facts.{Facts, Claim, within, Declared}
 use Rattle.sh_facts.specs.Faults.{are_among}

@@ -5,3 +5,4 @@ pub mod Numbers
 pub mod First
 pub mod Gathered
 pub mod Turns
+pub mod Together

@@ -1,6 +1,6 @@
 -- Facts and names by the numbers of names, and back.
 -- The standard has no such thing: what is surely set (XCU 2.5), of the names that are numbered.
-use Rattle.std.specs.Prelude.{ℕ, Bool, true, false, not, ◌&&◌, nat_lt, List, Option, Some, None, slice_get}
+use Rattle.std.specs.Prelude.{ℕ, Bool, false, List, Option, Some, None, slice_get}
 use Rattle.sh_tree.specs.program.Syntax.{Text}
 use Rattle.sh_table.specs.runs.Environment.{is_one_of}
 use Rattle.sh_facts.specs.Facts.{Facts, NotReached, Known}

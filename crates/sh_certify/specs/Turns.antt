@@ -23,7 +23,7 @@ use Rattle.sh_certify.specs.declared.turn.Outcome.TheVariants.{Kept, Lowered, St
 use Rattle.sh_certify.specs.Gathered.{Gathered}
 use Rattle.sh_certify.specs.Numbers.{by_name}
 use Rattle.sh_certify.specs.Places.{claim_there, drops_there}
-use Rattle.sh_certify.specs.Working.{Sets, AreBelow, IsWorking, height}
+use Rattle.sh_certify.specs.Working.{AreBelow, IsWorking, height}
 use Rattle.sh_certify.specs.Writable.{sets_in}
 
 -- what is gathered, by numbers

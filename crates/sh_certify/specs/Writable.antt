@@ -1,6 +1,6 @@
 -- Which numbers stand for names that a text of a certificate may have.
 -- The standard has no such thing: the names of variables, `!` among them, and of functions (XBD 3.216), by their numbers.
-use Rattle.std.specs.Prelude.{◌≡◌, ◌≤◌, ℕ, ◌+◌, ◌<◌, Bool, true, not, ◌&&◌, ◌||◌, List, length, Option, Some, None, slice_get}
+use Rattle.std.specs.Prelude.{◌≡◌, ℕ, ◌<◌, Bool, true, not, ◌&&◌, ◌||◌, List, Option, Some, None, slice_get}
 use Rattle.sh_tree.specs.language.Bytes.{is_name}
 use Rattle.sh_tree.specs.program.Syntax.{Text}
 use Rattle.sh_facts.specs.Forms.{is_variable}

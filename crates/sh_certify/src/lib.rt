@@ -5,6 +5,7 @@ pub mod find;
 pub mod first;
 pub mod gather;
 pub mod kept;
+pub mod laws;
 pub mod lower;
 pub mod place;
 pub mod subject;

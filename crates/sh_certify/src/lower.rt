@@ -109,7 +109,9 @@ fn keep_drops(
     match keep(rows, probe, &sight)? {
         Facts::NotReached => Err(AllocError),
         Facts::Known {
-            vars, functions, ..
+            vars,
+            functions,
+            ..
         } => Ok(Drops { vars, functions }),
     }
 }

@@ -8,6 +8,7 @@ use sh_table::table::CallTable;
 use sh_tree::tree::Script;
 
 /// A script, with its policy, its tree, its calls and its names.
+#[derive(Clone, Copy)]
 pub struct Subject<'a> {
     pub script: &'a [u8],
     pub policy: &'a Policy,

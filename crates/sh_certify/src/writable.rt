@@ -28,11 +28,7 @@ fn passes(names: &Names, number: u32, vars: &NumberSet, functions: &NumberSet) -
     requires few { length names.now ≤ MAX_NAMES }
     ensures { result ≡ passes_at names.now (sets_in vars.now functions.now) number }
 {
-    may_stand(
-        names.name(number),
-        vars.has(number),
-        functions.has(number),
-    )
+    may_stand(names.name(number), vars.has(number), functions.has(number))
 }
 
 /// Whether a text may have these variables and these functions.

@@ -2,3 +2,4 @@ pub mod RefusalLemmas
 pub mod CertificateLemmas
 pub mod FindingLemmas
 pub mod CheckLemmas
+pub mod LintLemmas

@@ -4,5 +4,6 @@
 
 pub mod check;
 pub mod engine;
+pub mod lint;
 pub mod prepared;
 pub mod told;

@@ -1,4 +1,4 @@
-use Rattle.std.proofs.Common.{◌≡◌, ℕ, ◌+◌, nat_eq, false, None, Option, sym, ap, ◌∙◌, subst}
+use Rattle.std.proofs.Common.{◌≡◌, ℕ, ◌+◌, nat_eq, false, None, Option, ap, subst}
 use Rattle.indexmap.specs.IndexMap.{get}
 use Rattle.sh_facts.specs.declared.certificate.Facts as value
 use Rattle.sh_certify.specs.First.{head_if}

@@ -1,4 +1,4 @@
-use Rattle.std.proofs.Common.{◌≡◌, length, sym, ◌∙◌}
+use Rattle.std.proofs.Common.{length, sym, ◌∙◌}
 use Rattle.std.proofs.lemmas.List.{length-map}
 use Rattle.sh_facts.specs.ReadParts.{loops_of}
 use Rattle.sh_certify.proofs.FirstLemmas.{first_works, claims_all, drops_nothing}

@@ -1,4 +1,3 @@
-use Rattle.std.proofs.Common.{◌||◌}
 use Rattle.sh_certify.specs.Turns.{gathered_of}
 use Rattle.sh_certify.proofs.TurnLemmas.{sunk_both, sunk_then, sunk_else}
 use Rattle.sh_certify.proofs.turn.lower_gathered.Goals as goal

@@ -1,0 +1,180 @@
+-- What is gathered goes by constraints: several views at a place ask what is known there, and names together what they ask one after the other.
+use Rattle.std.proofs.Common.{◌≡◌, ℕ, Bool, true, false, ◌&&◌, ◌||◌, if◌then◌else◌, min, Option, Some, None, List, [], ◌∷◌, ◌++◌, slice_get, refl, sym, ap, ap₂, ◌∙◌, arith}
+use Rattle.std.specs.List.{list_all}
+use Rattle.std.specs.Str.{bytes_eq}
+use Rattle.std.proofs.Math.Path.{fun_ext}
+use Rattle.std.proofs.lemmas.Bool.{and_parts, and_from}
+use Rattle.std.proofs.lemmas.List.Folds.{list_all-append, list_any-append}
+use Rattle.std.proofs.lemmas.List.Sums.{fold-append}
+use Rattle.sh_tree.specs.program.Syntax.{Text}
+use Rattle.sh_table.specs.runs.Environment.{is_one_of}
+use Rattle.sh_facts.specs.declared.rule.FlowRule.{FlowRule}
+use Rattle.sh_facts.specs.Facts.{Facts, Claim, facts, within, meet, Declared}
+use Rattle.sh_facts.specs.Faults.{are_among}
+use Rattle.sh_facts.specs.Knowledge.{AreNumbered, among}
+use Rattle.sh_facts.specs.Names.{number_of}
+use Rattle.sh_facts.specs.Operands.{Names, no_names}
+use Rattle.sh_facts.specs.Order.{seen_facts}
+use Rattle.sh_facts.specs.Reading.{claim_fits}
+use Rattle.sh_facts.specs.Rules.{Constraint, bound}
+use Rattle.sh_facts.specs.Views.{Certificate, Slot, Seen, view_facts}
+use Rattle.sh_facts.proofs.KnowledgeLemmas.{same_tests}
+use Rattle.sh_facts.proofs.OrderLemmas.{within_through, within_test, meet_first, meet_second, meet_greatest}
+use Rattle.sh_find.specs.Facts as number
+use Rattle.sh_certify.specs.Gathered.{Gathered, is_at, is_number, bounded, counted, gathered, all_gathered}
+use Rattle.sh_certify.specs.Numbers.{name_passes, by_number, numbers_in}
+use Rattle.sh_certify.specs.Places.{place_of}
+use Rattle.sh_certify.specs.Together.{GatheredTogether}
+use Rattle.sh_certify.specs.Working.{Sets, joined}
+use Rattle.sh_certify.proofs.GatherLemmas.{among_less, within_among}
+use Rattle.sh_certify.proofs.NumberLemmas.{meet_numbered, among_numbered}
+
+module _ (names functions : List Text) where
+  -- Names that are dropped
+
+  and_true : (b : Bool) → (b && true) ≡ b
+  and_true true = refl
+  and_true false = refl
+
+  or_false : (b : Bool) → (b || false) ≡ b
+  or_false true = refl
+  or_false false = refl
+
+  none_passes : (o : Option Text) → name_passes (is_one_of []) o ≡ false
+  unfolding name_passes
+  none_passes None = refl
+  none_passes (Some t) = refl
+
+  no_more : (s : Sets) → joined (numbers_in names no_names) s ≡ s
+  no_more s =
+      ap₂ (λ (v f : ℕ → Bool). record { vars = v; functions = f })
+      (fun_ext (λ k. ap (λ b. s.vars k || b) (none_passes (slice_get names k)) ∙ or_false (s.vars k)))
+      (fun_ext (λ k. ap (λ b. s.functions k || b) (none_passes (slice_get names k)) ∙ or_false (s.functions k)))
+
+  same_if : {A : Type 0} (b : Bool) (x y : A) → x ≡ y → (if b then x else y) ≡ y
+  same_if true x y e = e
+  same_if false x y e = refl
+
+  pub drops_nothing : (f : Text) (may : Names) (g : Gathered) → counted names functions f may no_names g ≡ g
+  unfolding counted are_among
+  drops_nothing f may g =
+      ap₂ (λ (k : Bool) (s : Sets). record { kept = k; place = g.place; known = g.known; function = g.function; sets = s }) (and_true g.kept)
+      (same_if (is_number (number_of functions f) g.function) _ g.sets (no_more g.sets))
+
+  -- a name that is lost of two lists
+  both_pass : (ts us : List Text) (o : Option Text) → name_passes (is_one_of (ts ++ us)) o ≡ (name_passes (is_one_of ts) o || name_passes (is_one_of us) o)
+  unfolding name_passes
+  both_pass ts us None = refl
+  both_pass ts us (Some t) = list_any-append (λ u. bytes_eq u t) ts us
+
+  or_grouped : (a b c : Bool) → (a || (b || c)) ≡ ((a || b) || c)
+  or_grouped true b c = refl
+  or_grouped false b c = refl
+
+  both_joined : (v w x y : List Text) (s : Sets) → joined (numbers_in names (record { vars = v ++ w; functions = x ++ y })) s
+      ≡ joined (numbers_in names (record { vars = w; functions = y })) (joined (numbers_in names (record { vars = v; functions = x })) s)
+  both_joined v w x y s =
+      ap₂ (λ (p q : ℕ → Bool). record { vars = p; functions = q })
+      (fun_ext (λ k. ap (λ b. s.vars k || b) (both_pass v w (slice_get names k)) ∙ or_grouped (s.vars k) _ _))
+      (fun_ext (λ k. ap (λ b. s.functions k || b) (both_pass x y (slice_get names k)) ∙ or_grouped (s.functions k) _ _))
+
+  regrouped : (g v w x y : Bool) → (g && ((v && w) && (x && y))) ≡ ((g && (v && x)) && (w && y))
+  regrouped false v w x y = refl
+  regrouped true false w x y = refl
+  regrouped true true w false y = and_none w
+    where
+      and_none : (b : Bool) → (b && false) ≡ false
+      and_none true = refl
+      and_none false = refl
+  regrouped true true w true y = refl
+
+  if_both : {A : Type 0} (b : Bool) (f g : A → A) (h : A → A) (x : A) → ((y : A) → h y ≡ g (f y)) → (if b then h x else x) ≡ (if b then g (if b then f x else x) else (if b then f x else x))
+  if_both true f g h x e = e x
+  if_both false f g h x e = refl
+
+  -- names together ask what they ask one after the other
+  pub drops_both : (f : Text) (may : Names) (v w x y : List Text) (g : Gathered)
+      → counted names functions f may (record { vars = v ++ w; functions = x ++ y }) g
+      ≡ counted names functions f may (record { vars = w; functions = y }) (counted names functions f may (record { vars = v; functions = x }) g)
+  unfolding counted are_among
+  drops_both f may v w x y g =
+      ap₂ (λ (k : Bool) (s : Sets). record { kept = k; place = g.place; known = g.known; function = g.function; sets = s })
+      (ap (λ b. g.kept && (b && list_all (is_one_of may.functions) (x ++ y))) (list_all-append (is_one_of may.vars) v w)
+      ∙ ap (λ b. g.kept && ((list_all (is_one_of may.vars) v && list_all (is_one_of may.vars) w) && b)) (list_all-append (is_one_of may.functions) x y)
+      ∙ regrouped g.kept (list_all (is_one_of may.vars) v) (list_all (is_one_of may.vars) w) (list_all (is_one_of may.functions) x) (list_all (is_one_of may.functions) y))
+      (if_both (is_number (number_of functions f) g.function) (joined (numbers_in names (record { vars = v; functions = x }))) (joined (numbers_in names (record { vars = w; functions = y })))
+      (joined (numbers_in names (record { vars = v ++ w; functions = x ++ y }))) g.sets (both_joined v w x y))
+
+  and_over : (a b c : Bool) → ((a && b) && c) ≡ (a && (b && c))
+  and_over true b c = refl
+  and_over false b c = refl
+
+  -- Views of a place
+
+  within_both : (c : Claim) (f g : Facts) → within c (meet f g) ≡ (within c f && within c g)
+  within_both c f g = same_tests _ _
+      (λ e.
+      let h = (within_test c (meet f g)).0 e in
+      and_from _ _ ((within_test c f).1 (within_through _ _ _ h (meet_first f g))) ((within_test c g).1 (within_through _ _ _ h (meet_second f g))))
+      (λ e.
+      let h = and_parts (within c f) (within c g) e in
+      (within_test c (meet f g)).1 (meet_greatest f g (facts c) ((within_test c f).0 h.0) ((within_test c g).0 h.1)))
+
+  -- a claim of numbered names is within what is known of these where it is within what is known
+  within_same : (c : Claim) (f : Facts) → claim_fits names c ≡ true → within c (among names f) ≡ within c f
+  within_same c f fit = same_tests _ _
+      (λ e. (within_test c f).1 (within_through _ _ _ ((within_test c (among names f)).0 e) (among_less names f)))
+      (λ e. (within_test c (among names f)).1 (within_among names c f fit ((within_test c f).0 e)))
+
+  known_of : (v w f g : ℕ → Bool) (a b : ℕ) → a ≡ b → v ≡ w → f ≡ g → number.Known v f a ≡ number.Known w g b
+  known_of v w f g a b e h k = cc
+
+  min_over : (a b c : ℕ) → min (min a b) c ≡ min a (min b c)
+  min_over a b c = omega arith
+
+  meets_grouped : (f g h : number.Facts) → number.meet (number.meet f g) h ≡ number.meet f (number.meet g h)
+  unfolding number.meet
+  meets_grouped number.NotReached g h = refl
+  meets_grouped (number.Known v f a) number.NotReached h = refl
+  meets_grouped (number.Known v f a) (number.Known w g b) number.NotReached = refl
+  meets_grouped (number.Known v f a) (number.Known w g b) (number.Known x h c) = known_of _ _ _ _ _ _ (min_over a b c) (fun_ext (λ k. and_over (v k) (w k) (x k))) (fun_ext (λ k. and_over (f k) (g k) (h k)))
+
+  if_meet : (b : Bool) (g f k fk : number.Facts) → number.meet (number.meet g f) k ≡ number.meet g fk → (if b then number.meet (if b then number.meet g f else g) k else (if b then number.meet g f else g)) ≡ (if b then number.meet g fk else g)
+  if_meet true g f k fk e = e
+  if_meet false g f k fk e = refl
+
+  nothing_met : (b : Bool) (g : number.Facts) → g ≡ (if b then number.meet g number.NotReached else g)
+  unfolding number.meet
+  nothing_met true number.NotReached = refl
+  nothing_met true (number.Known v f a) = refl
+  nothing_met false g = refl
+
+  module _ (h : AreNumbered names) (d : Declared) (c : Certificate) (slot : Slot) (fit : claim_fits names (c.claim slot) ≡ true) where
+    -- the views of a place together ask what is known where all are seen
+    pub seen_together : (n : ℕ) (rule : FlowRule) (s : Seen) (g : Gathered) → all_gathered names functions d c g (bound slot n rule s) ≡ bounded names functions slot (c.claim slot) (among names (seen_facts d c s)) g
+    unfolding gathered bounded seen_facts within among by_number
+    seen_together n rule [] g =
+        ap₂ (λ (k : Bool) (f : number.Facts). record { kept = k; place = g.place; known = f; function = g.function; sets = g.sets }) (sym (and_true g.kept)) (nothing_met (is_at (place_of functions slot) g.place) g.known)
+    seen_together n rule (v ∷ s) g =
+        seen_together n rule s (bounded names functions slot (c.claim slot) (view_facts d c v) g)
+        ∙ ap₂ (λ (k : Bool) (f : number.Facts). record { kept = k; place = g.place; known = f; function = g.function; sets = g.sets })
+        (ap (λ b. (g.kept && within (c.claim slot) (view_facts d c v)) && b) (within_same (c.claim slot) (seen_facts d c s) fit)
+        ∙ and_over g.kept (within (c.claim slot) (view_facts d c v)) (within (c.claim slot) (seen_facts d c s))
+        ∙ ap (λ b. g.kept && b) (sym (within_same (c.claim slot) (meet (view_facts d c v) (seen_facts d c s)) fit ∙ within_both (c.claim slot) (view_facts d c v) (seen_facts d c s))))
+        (if_meet (is_at (place_of functions slot) g.place) g.known (by_number names (view_facts d c v)) (by_number names (among names (seen_facts d c s))) (by_number names (among names (meet (view_facts d c v) (seen_facts d c s))))
+        (ap (number.meet (number.meet g.known (by_number names (view_facts d c v)))) (among_numbered names h (seen_facts d c s))
+        ∙ meets_grouped g.known (by_number names (view_facts d c v)) (by_number names (seen_facts d c s))
+        ∙ ap (number.meet g.known) (sym (among_numbered names h (meet (view_facts d c v) (seen_facts d c s)) ∙ meet_numbered names (view_facts d c v) (seen_facts d c s)))))
+
+-- lists of constraints ask what they ask one after the other
+lists : (names functions : List Text) (d : Declared) (c : Certificate) (g : Gathered) (ks ls : List Constraint)
+    → all_gathered names functions d c g (ks ++ ls) ≡ all_gathered names functions d c (all_gathered names functions d c g ks) ls
+lists names functions d c g ks ls = fold-append (gathered names functions d c) g ks ls
+
+pub gathered_together : GatheredTogether
+gathered_together = record {
+  nothing = drops_nothing;
+  names = λ names functions f may a b g. drops_both names functions f may a.vars b.vars a.functions b.functions g;
+  views = λ names functions h d c slot fit n rule s g. seen_together names functions h d c slot fit n rule s g;
+  lists = lists;
+}

@@ -1,0 +1,127 @@
+//! What is answered of a script without a certificate, and which certificate is shown.
+ghost use Rattle.std.specs.Prelude.{Ok, IfOk};
+ghost use Rattle.sh_accept.specs.Answers.{Certifies, IsGreatest, Lints};
+ghost use Rattle.sh_engine.specs.Prepared.{IsGreatestText, IsPrepared, sheet_in};
+
+use crate::check::places_of;
+use crate::prepared::{Prepared, prepare};
+use crate::told::verdict_of;
+use sh_certify::find::find;
+use sh_certify::gather::Asks;
+use sh_certify::subject::Subject;
+use sh_facts::certificate::Certificate;
+use sh_facts::limits::MAX_CERTIFICATE;
+use sh_facts::policy::Policy;
+use sh_facts::texts::write_certificate;
+use sh_report::verdict::Verdict;
+use sh_tree::refusal::Refusal;
+use std::alloc::{AllocError, Global};
+
+// The greatest certificate of a script that is admitted.
+fn greatest<W: Asks>(
+    alloc: Global,
+    walk: &W,
+    script: &[u8],
+    policy: &Policy,
+    prepared: &Prepared,
+) -> Result<Certificate, AllocError>
+    requires { IsPrepared script.now policy.now prepared.now }
+    ensures { IfOk result (λ c. IsGreatest script.now policy.now prepared.now.tree prepared.now.names (sheet_in prepared.now c)) }
+{
+    let subject = Subject {
+        script,
+        policy,
+        tree: &prepared.tree,
+        table: &prepared.table,
+        names: &prepared.names,
+    };
+    find(alloc, walk, &subject)
+}
+
+// What is told of a script that is admitted.
+fn lint_prepared<W: Asks>(
+    alloc: Global,
+    walk: &W,
+    script: &[u8],
+    policy: &Policy,
+    prepared: &Prepared,
+) -> Result<Verdict, AllocError>
+    requires { IsPrepared script.now policy.now prepared.now }
+    ensures { IfOk result (λ v. Lints script.now policy.now (Ok v)) }
+{
+    let certificate = greatest(alloc, walk, script, policy, prepared)?;
+    let places = places_of(alloc, script, prepared, &certificate)?;
+    verdict_of(alloc, script, &places)
+}
+
+/// What is told of a script: a pass exactly where some certificate of it is accepted, or the findings of the greatest one, in order.
+///
+/// # Errors
+///
+/// The refusal of the script, of its profile or of its names, in that order; `Memory` where a growth was refused, and where no certificate was
+/// found (`sh_certify::find`).
+#[tactic(auto, using(crate::proofs::LintLemmas::exhausted))]
+pub fn lint<W: Asks>(
+    alloc: Global,
+    walk: &W,
+    script: &[u8],
+    policy: &Policy,
+) -> Result<Verdict, Refusal>
+    ensures { Lints script.now policy.now result }
+{
+    let prepared = prepare(alloc, script, policy)?;
+    let verdict = lint_prepared(alloc, walk, script, policy, &prepared)?;
+    Ok(verdict)
+}
+
+// The text of the greatest certificate of a script that is admitted.
+fn greatest_text<W: Asks>(
+    alloc: Global,
+    walk: &W,
+    script: &[u8],
+    policy: &Policy,
+    prepared: &Prepared,
+) -> Result<Vec<u8>, AllocError>
+    requires { IsPrepared script.now policy.now prepared.now }
+    ensures { IfOk result (λ t. IsGreatestText script.now policy.now prepared.now t.items) }
+{
+    let certificate = greatest(alloc, walk, script, policy, prepared)?;
+    write_certificate(alloc, &certificate, &prepared.names)
+}
+
+// The same, if it is no longer than a text may be.
+#[tactic(auto, using(crate::proofs::LintLemmas::uncertified))]
+fn certificate_prepared<W: Asks>(
+    alloc: Global,
+    walk: &W,
+    script: &[u8],
+    policy: &Policy,
+    prepared: &Prepared,
+) -> Result<Vec<u8>, Refusal>
+    requires { IsPrepared script.now policy.now prepared.now }
+    ensures { Certifies script.now policy.now result }
+{
+    let text = greatest_text(alloc, walk, script, policy, prepared)?;
+    if text.len() > MAX_CERTIFICATE {
+        return Err(Refusal::CertSyntax(0));
+    }
+    Ok(text)
+}
+
+/// The text of the greatest certificate of a script, whether it passes or not.
+///
+/// # Errors
+///
+/// As `lint`; and `CertSyntax` with 0 where the text is longer than `MAX_CERTIFICATE`.
+#[tactic(auto, using(crate::proofs::RefusalLemmas::widened))]
+pub fn certificate<W: Asks>(
+    alloc: Global,
+    walk: &W,
+    script: &[u8],
+    policy: &Policy,
+) -> Result<Vec<u8>, Refusal>
+    ensures { Certifies script.now policy.now result }
+{
+    let prepared = prepare(alloc, script, policy)?;
+    certificate_prepared(alloc, walk, script, policy, &prepared)
+}
