@@ -63,7 +63,14 @@ fn fault_of(
         calls: &prepared.table,
         certificate,
     };
-    check_rules(&claims, policy, &prepared.tree)
+    let fault = check_rules(&claims, policy, &prepared.tree);
+    let Claims {
+        script: _script,
+        names: _names,
+        calls: _calls,
+        certificate: _certificate,
+    } = claims;
+    fault
 }
 
 // What is told of a certificate.
