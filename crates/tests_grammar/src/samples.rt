@@ -6,12 +6,12 @@ use std::test::Fail;
 /// The numbers and places of the commands in a tree as text.
 fn commands_in(alloc: Global, tree: &str) -> Result<String, AllocError> {
     let mut found = String::new(alloc);
-    let mut between = "";
     for piece in tree.split(|c: char| !c.is_ascii_digit() && c != '@') {
         if piece.contains('@') && piece.len() > 1 {
-            found.push_str(between)?;
+            if !found.is_empty() {
+                found.push_str(" ")?;
+            }
             found.push_str(piece)?;
-            between = " ";
         }
     }
     Ok(found)
@@ -197,7 +197,11 @@ fn samples(rt: HostRuntime) -> Result<(), Fail> {
     let alloc = rt.alloc();
     for (text, want) in SAMPLES {
         let found = told(alloc, text.as_bytes())?;
-        assert_eq!(rt; commands_in(alloc, found.as_str())?.as_str(), *want, "at {text:?}: {found}");
+        assert_eq!(rt;
+            commands_in(alloc, found.as_str())?.as_str(),
+            *want,
+            "at {text:?}: {found}"
+        );
     }
     Ok(())
 }

@@ -570,24 +570,24 @@ fn places_on_further_lines(rt: HostRuntime) -> Result<(), Fail> {
     check_rows(&rt, PLACES)
 }
 
-const UNREAD: &[Row] = &[
+const HERE_DOCUMENTS: &[Row] = &[
     (
         b"if a; then b <<c; fi\nc\n",
         &[],
-        b"refused 1:14: this form is outside the profile\n",
+        b"refused 1:1: this command is outside the profile\n",
         2,
     ),
     (
-        b"a <<b\nb\n",
+        b"a\nb <<c\nc\n",
         &[],
-        b"refused 1:3: this form is outside the profile\n",
+        b"refused 2:1: this command is outside the profile\n",
         2,
     ),
 ];
 
 #[test]
-fn forms_that_are_not_read_yet(rt: HostRuntime) -> Result<(), Fail> {
-    check_rows(&rt, UNREAD)
+fn here_documents(rt: HostRuntime) -> Result<(), Fail> {
+    check_rows(&rt, HERE_DOCUMENTS)
 }
 
 const UNENDED: &[Row] = &[
