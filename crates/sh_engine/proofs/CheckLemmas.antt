@@ -64,6 +64,7 @@ module _ (b : List ℕ) (d : Declared) where
   few_prepared p i = read_has_few_commands b p.tree i.admitted.reading.1
 
   pub script_prepared : (p : Prepared) → IsPrepared b d p → p.table.script ≡ b
+  unfolding table_of
   script_prepared p i = ap (λ (t : Table). t.script) i.table
 
   -- a fault is told
