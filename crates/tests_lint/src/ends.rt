@@ -1,6 +1,6 @@
 //! Runs between ends that fail, are interrupted or move a byte at a time.
 use crate::told::lint_task;
-use sh_lint::engine::run;
+use sh_engine::engine::run;
 use sh_report::counted::Counted;
 use sh_report::moves::Fault;
 use sh_rigged::{Rigged, Trick};
