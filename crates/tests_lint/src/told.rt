@@ -1,5 +1,5 @@
-use sh_facts::policy::Policy;
 use sh_engine::engine::run;
+use sh_facts::policy::Policy;
 use sh_report::counted::Counted;
 use sh_report::task::{Action, Task};
 use std::alloc::Global;
