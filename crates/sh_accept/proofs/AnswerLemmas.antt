@@ -27,7 +27,7 @@ use Rattle.sh_report.specs.declared.verdict.Verdict.{Verdict}
 use Rattle.sh_report.specs.declared.verdict.Verdict.TheVariants.{Pass, Fail, Forged}
 use Rattle.sh_accept.specs.Accepted.{IsAdmitted, claims_in, functions_in, IsAcceptedText}
 use Rattle.sh_accept.specs.Answers.{Checks, Refuses, IsCertified, IsForged, HasFindings, RefusesText, places}
-use Rattle.sh_accept.specs.Computed.{Answer, Passes, Finds, Breaks, Tells, shown, in_order, of_findings, of_fault, of_certificate, of_fit, of_claims, of_count, of_profile, computed, IsRead, is_settled, is_refusal, is_told, HasOneAnswer}
+use Rattle.sh_accept.specs.Computed.{Answer, Passes, Finds, Breaks, Tells, shown, in_order, of_findings, of_fault, of_certificate, of_fit, of_claims, of_count, of_profile, computed, IsRead, is_refusal, is_told, HasOneAnswer}
 use Rattle.sh_accept.proofs.FindingLemmas.{found_in_order}
 use Rattle.sh_accept.proofs.NumberingLemmas.{same_names, same_count, same_fit}
 
@@ -154,11 +154,11 @@ module _ (b : List ℕ) (d : Declared) (t : Script) (names : List Text) (loops :
       unnumbered (subst (λ u. first_refused (script_of b u) ≡ None) e q.2) (subst (λ u. HasTooMany b u d) e q.3)
 
   pub of_refusal : (x : Refusal) → Refuses b d (RefusesText b d text) x → is_refusal x ≡ true → answer ≡ Tells x
-  unfolding is_refusal is_settled
+  unfolding is_refusal
   of_refusal TooLong h k = let l = read.reading.0.0 in absurd (omega arith)
   of_refusal (NulByte at) h k = absurd (true≢false (sym (ap is_some (sym read.reading.0.1 ∙ h.1))))
   of_refusal (Syntax f at) h k = absurd (h.2 t (MAX_NESTING, read.reading.1.0, read.reading.1.1))
-  of_refusal (LeftOut f at) h k = absurd (h.2 (λ e. true≢false (sym k ∙ ap is_settled e)) t (MAX_NESTING, read.reading.1.0, read.reading.1.1))
+  of_refusal (LeftOut f at) h k = absurd (h.2 t (MAX_NESTING, read.reading.1.0, read.reading.1.1))
   of_refusal (TooDeep at) h k = absurd (h.2 t read.reading.1)
   of_refusal TooMany h k = of_many h
   of_refusal Memory h k = absurd (true≢false (sym k))

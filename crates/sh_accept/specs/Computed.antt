@@ -4,10 +4,8 @@ use Rattle.std.specs.Prelude.{◌≡◌, ℕ, nat_le, Bool, true, false, List, [
 use Rattle.std.specs.Ordering.{is_lt}
 use Rattle.sh_tree.specs.Answers.{Parses}
 use Rattle.sh_tree.specs.declared.limits.TheConstants.{MAX_NAMES}
-use Rattle.sh_tree.specs.declared.refusal.Form.{Form}
-use Rattle.sh_tree.specs.declared.refusal.Form.TheVariants as form
 use Rattle.sh_tree.specs.declared.refusal.Refusal.{Refusal}
-use Rattle.sh_tree.specs.declared.refusal.Refusal.TheVariants.{LeftOut, TooMany, Memory, Profile, CertSyntax, CertShape}
+use Rattle.sh_tree.specs.declared.refusal.Refusal.TheVariants.{TooMany, Memory, Profile, CertSyntax, CertShape}
 use Rattle.sh_tree.specs.declared.tree.Script.{Script}
 use Rattle.sh_tree.specs.program.Syntax.{Text, Items}
 use Rattle.sh_tree.specs.program.Trees.{script_of}
@@ -98,14 +96,9 @@ pub record IsRead (b : List ℕ) (d : Declared) (t : Script) (names : List Text)
   pub are_loops : AreLoops t loops
   pub one_order : (others : List Bool) → AreLoops t others → others ≡ loops
 
--- neither want of memory nor a form that is left for later
-unfoldable pub is_settled : Form → Bool
-is_settled form.Later = false
-is_settled _ = true
-
+-- no want of memory
 unfoldable pub is_refusal : Refusal → Bool
 is_refusal Memory = false
-is_refusal (LeftOut f at) = is_settled f
 is_refusal _ = true
 
 unfoldable pub is_told : Result Verdict Refusal → Bool

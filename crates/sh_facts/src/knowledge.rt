@@ -61,6 +61,13 @@ impl NameSet {
         NameSet { words: [0; 64] }
     }
 
+    /// The words: number n is bit n modulo 64 of word n divided by 64.
+    pub fn words(&self) -> &[u64; 64]
+        ensures { result.now ≡ self.now.words }
+    {
+        &self.words
+    }
+
     /// Whether a name is in the set, which a name without a number never is.
     pub fn has(&self, names: &Names, name: &[u8]) -> bool
         ensures { result ≡ contains names.now self.now name.now }
@@ -148,6 +155,27 @@ impl NameSet {
 }
 
 impl Assured {
+    /// The variables that are set.
+    pub fn vars(&self) -> &NameSet
+        ensures { result.now ≡ self.now.vars }
+    {
+        &self.vars
+    }
+
+    /// The functions that are defined.
+    pub fn functions(&self) -> &NameSet
+        ensures { result.now ≡ self.now.functions }
+    {
+        &self.functions
+    }
+
+    /// So many positional parameters at least.
+    pub fn args(&self) -> u16
+        ensures { result ≡ self.now.args }
+    {
+        self.args
+    }
+
     // Whether all that a certificate claims by a fact is assured.
     fn includes(&self, rows: &Rows, facts: &Facts) -> bool
         ensures { (names : List Text) → AreNumbered names → rows.now.count ≡ length names

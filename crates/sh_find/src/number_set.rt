@@ -46,6 +46,16 @@ impl NumberSet {
         set
     }
 
+    /// The numbers below a count that have their bit in these words.
+    pub fn from_words(words: &[u64; 64], count: u32) -> NumberSet
+        requires { count ≤ MAX_NAMES }
+        ensures { (k : ℕ) → numbers_of result k ≡ (has_bit k words.now && nat_lt k count) }
+    {
+        let mut set = NumberSet::below(count);
+        meet_words(&mut set.words, words);
+        set
+    }
+
     /// The words: number n is bit n modulo 64 of word n divided by 64.
     pub fn words(&self) -> &[u64]
         ensures { result.now ≡ self.now.words }
@@ -95,6 +105,13 @@ impl NumberSet {
         for n in numbers {
             self.clear(*n);
         }
+    }
+
+    /// Takes out the numbers that are not in another set.
+    pub fn meet(&mut self, other: &NumberSet)
+        ensures { (k : ℕ) → numbers_of self.new k ≡ (numbers_of other.now k && numbers_of self.old k) }
+    {
+        meet_words(&mut self.words, &other.words);
     }
 
     /// Takes out the numbers of another set.

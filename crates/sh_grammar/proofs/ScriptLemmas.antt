@@ -85,7 +85,7 @@ module _ (b : List ℕ) (text : IsText b) where
 
     told : (e : Refusal) → IsFault b e → ((u : Script) → Reads b u → ⊥) → Parses b (Err e)
     told (Syntax f at) is none = (text, is, none)
-    told (LeftOut f at) is none = (text, is, λ told. none)
+    told (LeftOut f at) is none = (text, is, none)
     told _ is none = absurd is
 
     -- the text goes on
@@ -111,7 +111,7 @@ module _ (b : List ℕ) (text : IsText b) where
 
   pub text_refused : (e : Refusal) → Refused b (SequenceFrom b (first_of b)) e → Parses b (Err e)
   text_refused (Syntax f at) h = (text, h.0, λ u q. let s = sequence_of b q.0 q.1 u q.2 in h.1 q.0 s.end s.tree s.reads)
-  text_refused (LeftOut f at) h = (text, h.0, λ told u q. let s = sequence_of b q.0 q.1 u q.2 in h.1 q.0 s.end s.tree s.reads)
+  text_refused (LeftOut f at) h = (text, h.0, λ u q. let s = sequence_of b q.0 q.1 u q.2 in h.1 q.0 s.end s.tree s.reads)
   text_refused (TooDeep at) h = (text, h.0, λ u q. let s = sequence_of b MAX_NESTING q.0 u q.1 in h.1 s.end s.tree s.reads)
   text_refused TooMany h = (
     text,

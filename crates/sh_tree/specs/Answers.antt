@@ -3,7 +3,6 @@
 use Rattle.std.specs.Prelude.{◌≡◌, ◌≤◌, ◌<◌, ◌==◌, ℕ, List, length, position, Option, Some, None, Result, Ok, Err}
 use Rattle.sh_tree.specs.declared.limits.TheConstants.{MAX_SCRIPT}
 use Rattle.sh_tree.specs.declared.tree.Script.{Script}
-use Rattle.sh_tree.specs.declared.refusal.Form.TheVariants as form
 use Rattle.sh_tree.specs.declared.refusal.Refusal.{Refusal}
 use Rattle.sh_tree.specs.declared.refusal.Refusal.TheVariants.{TooLong, NulByte, Syntax, LeftOut, TooDeep, TooMany, Memory, Profile, CertSyntax, CertShape}
 use Rattle.sh_tree.specs.language.Reading.{Reads, ReadsWithin}
@@ -17,13 +16,13 @@ abbrev pub IsText : List ℕ → Type 0
 IsText b = (length b ≤ MAX_SCRIPT) × (first_nul b ≡ None)
 
 -- An answer is the one reading, within the limits. A fault of syntax and a form that is left out are told only where there is no reading, and a level or a command
--- too many only where there is none within the limits. Of a form that is not read yet nothing is said.
+-- too many only where there is none within the limits.
 abbrev pub Parses : List ℕ → Result Script Refusal → Type 0
 Parses b (Ok t) = IsText b × ReadsWithin b t × ((u : Script) → Reads b u → u ≡ t)
 Parses b (Err TooLong) = MAX_SCRIPT < length b
 Parses b (Err (NulByte at)) = (length b ≤ MAX_SCRIPT) × (first_nul b ≡ Some at)
 Parses b (Err (Syntax f at)) = IsText b × (at ≤ length b) × ((u : Script) → Reads b u → ⊥)
-Parses b (Err (LeftOut f at)) = IsText b × (at < length b) × ((f ≡ form.Later → ⊥) → (u : Script) → Reads b u → ⊥)
+Parses b (Err (LeftOut f at)) = IsText b × (at < length b) × ((u : Script) → Reads b u → ⊥)
 Parses b (Err (TooDeep at)) = IsText b × (at ≤ length b) × ((u : Script) → ReadsWithin b u → ⊥)
 Parses b (Err TooMany) = IsText b × ((u : Script) → ReadsWithin b u → ⊥)
 Parses b (Err Memory) = IsText b

@@ -51,7 +51,6 @@ form_name form.IoLocation = codes "an IO location"
 form_name form.HereWord = codes "this here-document word"
 form_name form.HereAcross = codes "a here-document across a substitution"
 form_name form.HereTab = codes "a tab after a continuation in a here-document"
-form_name form.Later = codes "this form"
 
 abbrev pub form_text : Form → List ℕ
 form_text f = outside (form_name f)

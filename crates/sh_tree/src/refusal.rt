@@ -104,8 +104,6 @@ pub enum Form {
     HereAcross,
     /// A tab behind a continuation where leading tabs are stripped (XCU 2.7.4).
     HereTab,
-    /// A form that is not read yet.
-    Later,
 }
 
 impl Form {
@@ -136,7 +134,6 @@ impl Form {
             Form::HereWord => outside!("this here-document word"),
             Form::HereAcross => outside!("a here-document across a substitution"),
             Form::HereTab => outside!("a tab after a continuation in a here-document"),
-            Form::Later => outside!("this form"),
         }
     }
 }

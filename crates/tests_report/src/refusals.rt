@@ -69,7 +69,6 @@ const FORMS: &[(Form, &str)] = &[
         Form::HereTab,
         "a tab after a continuation in a here-document is outside the profile",
     ),
-    (Form::Later, "this form is outside the profile"),
 ];
 
 const RULES: &[(Rule, &str)] = &[

@@ -107,8 +107,8 @@ const REFUSED: &[(Refusal, &[u8])] = &[
         b"refused 2:6: a double quote is not closed\n",
     ),
     (
-        Refusal::LeftOut(Form::Later, 7),
-        b"refused 2:1: this form is outside the profile\n",
+        Refusal::LeftOut(Form::Select, 7),
+        b"refused 2:1: select is outside the profile\n",
     ),
     (Refusal::TooDeep(16), b"refused 3:1: nested too deep\n"),
     (Refusal::TooMany, b"refused: too many commands or names\n"),
