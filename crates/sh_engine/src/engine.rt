@@ -1,18 +1,22 @@
 //! One run: reads what its action reads, and writes the text of the answer.
-ghost use Rattle.std.specs.Prelude.{◌≡◌, ◌≤◌, ◌⊎◌, ℕ, List, IfOk, OnOk, OnErr, IsErrOf, length};
+ghost use Rattle.std.specs.Prelude.{◌≡◌, ◌≤◌, ◌⊎◌, ℕ, List, Err, IfOk, IsErr, OnOk, OnErr, IsErrOf, length};
 ghost use Rattle.sh_report.specs.Ends.{BoreOnly, FailedBetween, HasRoom, RefusedBetween};
 ghost use Rattle.sh_report.specs.Moves.{BoreAll, Had, TookAtMost, TookWhole};
 ghost use Rattle.sh_report.specs.declared.task.Action.TheVariants as actions;
-ghost use Rattle.sh_engine.specs.Runs.{HadText, TellsAnswer, WritesAnswer, WritesFront};
+ghost use Rattle.sh_report.specs.Texts.{answer_text, status_of};
+ghost use Rattle.sh_tree.specs.declared.refusal.Refusal.TheVariants as refusals;
+ghost use Rattle.sh_engine.specs.Runs.{HadText, Tells, WritesAnswer, WritesFront, shown_status, shown_text};
 
 use crate::check::check;
+use crate::lint::{certificate, lint};
 use sh_facts::limits::MAX_CERTIFICATE;
-use sh_lint::lint::lint;
 use sh_report::ends::{Feed, Outlet};
 use sh_report::moves::{Fault, read_all, write_all};
 use sh_report::task::{Action, Task};
 use sh_report::texts;
+use sh_report::verdict::Verdict;
 use sh_tree::limits::MAX_SCRIPT;
+use sh_tree::refusal::Refusal;
 use std::alloc::{AllocError, Global};
 
 /// The most bytes that are taken of the script's reader: one more than a script may have.
@@ -46,7 +50,7 @@ pub fn run<R: Feed, C: Feed, W: Outlet>(
     ensures script_whole { OnOk result (TookWhole (R.tally script.old) (R.tally script.new) (R.remaining script.old) (R.remaining script.new) SCRIPT_READ) }
     ensures script_written { IsErrOf result Fault.Write → TookWhole (R.tally script.old) (R.tally script.new) (R.remaining script.old) (R.remaining script.new) SCRIPT_READ }
     ensures script_lost { OnErr result (TookAtMost (R.remaining script.old) (R.remaining script.new) SCRIPT_READ) }
-    ensures cert_left { task.now.action ≡ actions.Lint → cert.new ≡ cert.old }
+    ensures cert_left { (task.now.action ≡ actions.Check → ⊥) → cert.new ≡ cert.old }
     ensures cert_whole { OnOk result (task.now.action ≡ actions.Check → TookWhole (C.tally cert.old) (C.tally cert.new) (C.remaining cert.old) (C.remaining cert.new) CERTIFICATE_READ) }
     ensures cert_written { IsErrOf result Fault.Write → task.now.action ≡ actions.Check → TookWhole (C.tally cert.old) (C.tally cert.new) (C.remaining cert.old) (C.remaining cert.new) CERTIFICATE_READ }
     ensures cert_lost { OnErr result (task.now.action ≡ actions.Check → TookAtMost (C.remaining cert.old) (C.remaining cert.new) CERTIFICATE_READ) }
@@ -76,7 +80,7 @@ pub fn run<R: Feed, C: Feed, W: Outlet>(
 fn read_certificate<C: Feed>(alloc: Global, action: Action, cert: &mut C) -> Result<Vec<u8>, Fault>
     requires { HasRoom (C.tally cert.old) }
     ensures taken { IfOk result (λ v. (t : List ℕ) → HadText action (C.remaining cert.old) CERTIFICATE_READ t → v.items ≡ t) }
-    ensures left { action ≡ actions.Lint → cert.new ≡ cert.old }
+    ensures left { (action ≡ actions.Check → ⊥) → cert.new ≡ cert.old }
     ensures whole { OnOk result (action ≡ actions.Check → TookWhole (C.tally cert.old) (C.tally cert.new) (C.remaining cert.old) (C.remaining cert.new) CERTIFICATE_READ) }
     ensures lost { OnErr result (action ≡ actions.Check → TookAtMost (C.remaining cert.old) (C.remaining cert.new) CERTIFICATE_READ) }
     ensures bore { OnOk result (BoreAll (C.tally cert.old) (C.tally cert.new)) }
@@ -85,7 +89,7 @@ fn read_certificate<C: Feed>(alloc: Global, action: Action, cert: &mut C) -> Res
     ensures written { IsErrOf result Fault.Write → ⊥ }
 {
     match action {
-        Action::Lint => Ok(Vec::new(alloc)),
+        Action::Lint | Action::Cert => Ok(Vec::new(alloc)),
         Action::Check => read_all(alloc, cert, CERTIFICATE_READ),
     }
 }
@@ -97,15 +101,49 @@ struct Answer {
     status: u8,
 }
 
+impl Answer {
+    // Of a verdict.
+    fn of_verdict(
+        alloc: Global,
+        script: &[u8],
+        answer: &Result<Verdict, Refusal>,
+    ) -> Result<Answer, AllocError>
+        requires { length script.now ≤ SCRIPT_READ }
+        ensures text { IfOk result (λ a. a.text.items ≡ answer_text script.now answer.now) }
+        ensures status { IfOk result (λ a. a.status ≡ status_of answer.now) }
+        ensures memory { answer.now ≡ Err refusals.Memory → IsErr result }
+    {
+        let text = texts::answer(alloc, script, answer)?;
+        let status = texts::status(answer);
+        Ok(Answer { text, status })
+    }
+
+    // Of a certificate that is shown.
+    fn of_certificate(
+        alloc: Global,
+        script: &[u8],
+        shown: Result<Vec<u8>, Refusal>,
+    ) -> Result<Answer, AllocError>
+        requires { length script.now ≤ SCRIPT_READ }
+        ensures text { IfOk result (λ a. a.text.items ≡ shown_text script.now shown) }
+        ensures status { IfOk result (λ a. a.status ≡ shown_status shown) }
+        ensures memory { shown ≡ Err refusals.Memory → IsErr result }
+    {
+        match shown {
+            Ok(text) => Ok(Answer { text, status: 0 }),
+            Err(refusal) => Answer::of_verdict(alloc, script, &Err(refusal)),
+        }
+    }
+}
+
 fn answer_of(alloc: Global, task: &Task, script: &[u8], text: &[u8]) -> Result<Answer, AllocError>
     requires { length script.now ≤ SCRIPT_READ }
-    ensures { IfOk result (λ a. TellsAnswer task.now script.now text.now a.text.items a.status) }
+    ensures { IfOk result (λ a. Tells task.now.action script.now text.now task.now.policy a.text.items a.status) }
 {
-    let answer = match task.action {
-        Action::Lint => lint(alloc, script, &task.policy),
-        Action::Check => check(alloc, script, &task.policy, text),
-    };
-    let text = texts::answer(alloc, script, &answer)?;
-    let status = texts::status(&answer);
-    Ok(Answer { text, status })
+    let policy = &task.policy;
+    match task.action {
+        Action::Lint => Answer::of_verdict(alloc, script, &lint(alloc, script, policy)),
+        Action::Cert => Answer::of_certificate(alloc, script, certificate(alloc, script, policy)),
+        Action::Check => Answer::of_verdict(alloc, script, &check(alloc, script, policy, text)),
+    }
 }

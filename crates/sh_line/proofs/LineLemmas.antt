@@ -16,7 +16,7 @@ use Rattle.sh_line.specs.declared.line.Source.TheVariants.{Input, File}
 use Rattle.sh_line.specs.declared.line.Stop.{Stop}
 use Rattle.sh_line.specs.declared.line.Stop.TheVariants.{Usage, Help, BadName, Memory}
 use Rattle.sh_report.specs.declared.task.Action.{Action}
-use Rattle.sh_report.specs.declared.task.Action.TheVariants.{Lint, Check}
+use Rattle.sh_report.specs.declared.task.Action.TheVariants.{Lint, Cert, Check}
 use Rattle.sh_line.proofs.LineWholeLemmas.{certificate_found, checking, checking_reads, file_found, found_passes, number_found, reading, reading_reads}
 
 -- clap's clauses say what the program's command line takes
@@ -57,6 +57,22 @@ lint_whole words passes =
   where
     cert : (a : Action) → action_name Lint ≡ action_name a → HasCertificate a (rows_after (reading (action_name Lint)).rules [] words)
     cert Lint e = tt
+    cert Cert e = tt
+    cert Check e = cc
+
+cert_whole : (words : List Text) → level_fault (reading (action_name Cert)) [] nothing_held words false [] ≡ []
+    → IsWhole (action_name Cert) (rows_after (reading (action_name Cert)).rules [] words)
+cert_whole words passes =
+    record {
+      action = (Cert, refl);
+      file = file_found (reading (action_name Cert)) (reading_reads (action_name Cert)) words passes;
+      cert = cert;
+      args = number_found (reading (action_name Cert)) (reading_reads (action_name Cert)) words passes;
+    }
+  where
+    cert : (a : Action) → action_name Cert ≡ action_name a → HasCertificate a (rows_after (reading (action_name Cert)).rules [] words)
+    cert Lint e = tt
+    cert Cert e = tt
     cert Check e = cc
 
 check_whole : (words : List Text) → level_fault checking [] nothing_held words false [] ≡ []
@@ -70,12 +86,13 @@ check_whole words passes =
     }
   where
     cert : (a : Action) → action_name Check ≡ action_name a → HasCertificate a (rows_after checking.rules [] words)
-    cert Lint e = cc
+    cert Lint e = tt
+    cert Cert e = tt
     cert Check e = certificate_found words passes
 
 -- what a parse with no fault finds is whole
 pub whole : (words : List Text) (q : Text × List Row) → fault_of shset_app words ≡ [] → subcommand_of shset_app words ≡ Some q → IsWhole q.0 q.1
-whole words q none is = found_passes (λ p. IsWhole p.0 p.1) (lint_whole, (check_whole, tt)) words q none is
+whole words q none is = found_passes (λ p. IsWhole p.0 p.1) (lint_whole, (cert_whole, (check_whole, tt))) words q none is
 
 -- Both files are standard input, or they are apart
 
@@ -83,6 +100,7 @@ module _ (name : Text) (rows : List Row) (file : Text) where
   pub two_inputs : (a : Action) (script : Source) (cert : Option Source) → name ≡ action_name a → first_of (codes "FILE") rows ≡ Some file
       → IsSourceOf file script → IsCertificateOf a rows cert → (script ≡ Input) × (cert ≡ Some Input) → HasTwoInputs name rows
   two_inputs Lint Input (Some Input) is given named other both = absurd other
+  two_inputs Cert Input (Some Input) is given named other both = absurd other
   two_inputs Check Input (Some Input) is given named other both = (is, given ∙ ap Some named, other.1 ∙ ap Some other.2)
   two_inputs a Input None is given named other both = cc
   two_inputs a Input (Some (File f)) is given named other both = cc
@@ -94,6 +112,7 @@ module _ (name : Text) (rows : List Row) (file : Text) where
       let same : Some file ≡ Some (codes "-") = sym given ∙ two.1 in
       named.0 cc
   not_two Lint Input cert is given named other apart two = cc
+  not_two Cert Input cert is given named other apart two = cc
   not_two Check Input None is given named other apart two = other
   not_two Check Input (Some Input) is given named other apart two = apart
   not_two Check Input (Some (File f)) is given named other apart two =

@@ -1,4 +1,5 @@
--- The command line that the program has, as clap reads it: `lint [--args N] FILE [NAME..]` and `check [--args N] FILE CERT [NAME..]`.
+-- The command line that the program has, as clap reads it: `lint [--args N] FILE [NAME..]`, `cert` with the same words, and
+-- `check [--args N] FILE CERT [NAME..]`.
 -- POSIX.1-2024, XBD 12.2 (utility syntax guidelines).
 use Rattle.std.specs.Prelude.{[], ◌∷◌, Some, codes, true, pos}
 use Rattle.clap.specs.Words.{App, Rule, Text, new_app, new_rule, with_rule, with_subcommand}
@@ -34,6 +35,8 @@ abbrev pub shset_app : App
 shset_app =
     with_subcommand
     (with_subcommand
+    (with_subcommand
     (on_top (λ s. record s { subcommand_required = true; disable_help_subcommand = true }) (new_app (codes "shset")))
     (reading_app (codes "lint")).top)
+    (reading_app (codes "cert")).top)
     (checking_app (codes "check")).top

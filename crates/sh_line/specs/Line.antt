@@ -19,11 +19,12 @@ use Rattle.sh_line.specs.declared.line.Source.TheVariants.{Input, File}
 use Rattle.sh_line.specs.declared.line.Stop.{Stop}
 use Rattle.sh_line.specs.declared.line.Stop.TheVariants.{Usage, Help, BadName, Memory}
 use Rattle.sh_report.specs.declared.task.Action.{Action}
-use Rattle.sh_report.specs.declared.task.Action.TheVariants.{Lint, Check}
+use Rattle.sh_report.specs.declared.task.Action.TheVariants.{Lint, Cert, Check}
 
 -- the subcommand that asks for the action
 abbrev pub action_name : Action → Text
 action_name Lint = codes "lint"
+action_name Cert = codes "cert"
 action_name Check = codes "check"
 
 -- `-` is standard input, and any other text names a file
@@ -35,12 +36,15 @@ IsSourceOf text (File name) = (text ≢ codes "-") × (name.now ≡ text)
 abbrev pub IsCertificateOf : Action → List Row → Option Source → Type 0
 IsCertificateOf Lint rows None = ⊤
 IsCertificateOf Lint rows (Some s) = ⊥
+IsCertificateOf Cert rows None = ⊤
+IsCertificateOf Cert rows (Some s) = ⊥
 IsCertificateOf Check rows None = ⊥
 IsCertificateOf Check rows (Some s) = (t : Text) × (first_of (codes "CERT") rows ≡ Some t) × IsSourceOf t s
 
 -- there is one for a check
 abbrev pub HasCertificate : Action → List Row → Type 0
 HasCertificate Lint rows = ⊤
+HasCertificate Cert rows = ⊤
 HasCertificate Check rows = IsSome (first_of (codes "CERT") rows)
 
 -- standard input is read once

@@ -150,6 +150,11 @@ fn shset_command<'a>(alloc: Global) -> Result<Command<'a>, AllocError>
         "lint",
         "Prints what is wrong with a script, or that it is clean",
     )?;
+    let cert = reading_command(
+        alloc,
+        "cert",
+        "Prints what is surely set at each place of a script, as a certificate",
+    )?;
     let check = checking_command(
         alloc,
         "check",
@@ -160,6 +165,7 @@ fn shset_command<'a>(alloc: Global) -> Result<Command<'a>, AllocError>
         .subcommand_required(true)
         .disable_help_subcommand(true)
         .subcommand(lint)?
+        .subcommand(cert)?
         .subcommand(check)
 }
 
@@ -186,6 +192,7 @@ fn action_of(name: &str) -> Action
 {
     match name {
         "lint" => Action::Lint,
+        "cert" => Action::Cert,
         "check" => Action::Check,
         _ => unreachable!(),
     }
@@ -207,7 +214,7 @@ fn certificate_of<'a>(action: Action, sub: &ArgMatches<'a>) -> Option<Source<'a>
     ensures { IsCertificateOf action (rows_of (found_of sub.now)) result }
 {
     match action {
-        Action::Lint => None,
+        Action::Lint | Action::Cert => None,
         Action::Check => {
             let Some(file) = sub.get_str("CERT") else {
                 unreachable!()
@@ -278,8 +285,8 @@ fn read_line<'a>(alloc: Global, name: &str, sub: &ArgMatches<'a>) -> Result<Line
     })
 }
 
-/// Reads the words of a command line, the program's name first: `lint [--args N] FILE [NAME..]` or `check [--args N] FILE CERT
-/// [NAME..]`. N is 0 to 65535, and 0 where it is not given; FILE or CERT `-` is standard input; each NAME is a variable that is set
+/// Reads the words of a command line, the program's name first: `lint [--args N] FILE [NAME..]`, `cert` with the same words, or
+/// `check [--args N] FILE CERT [NAME..]`. N is 0 to 65535, and 0 where it is not given; FILE or CERT `-` is standard input; each NAME is a variable that is set
 /// when the script starts.
 ///
 /// # Errors

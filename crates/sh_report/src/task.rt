@@ -6,6 +6,8 @@ use sh_facts::policy::Policy;
 pub enum Action {
     /// Looks for findings in it.
     Lint,
+    /// Shows the certificate that says most of it.
+    Cert,
     /// Checks it with a certificate.
     Check,
 }

@@ -11,6 +11,7 @@ type Row = (&'static [&'static str], &'static str);
 fn line_text(alloc: Global, line: &Line<'_>) -> Result<String, Fail> {
     let action = match line.task.action {
         Action::Lint => "lint",
+        Action::Cert => "cert",
         Action::Check => "check",
     };
     let mut text = match line.script {
@@ -95,6 +96,10 @@ const LINES: &[Row] = &[
     (
         &["shset", "lint", "lint", "lint"],
         "lint file lint args 0 name lint",
+    ),
+    (
+        &["shset", "cert", "--args", "1", "script.sh", "y"],
+        "cert file script.sh args 1 name y",
     ),
     (
         &["shset", "check", "script.sh", "certificate"],
@@ -246,7 +251,7 @@ const USAGE_OF_PROGRAM: &[Row] = &[
     (
         &["shset"],
         "usage: error: 'shset' requires a subcommand but one was not provided
-  [subcommands: lint, check]
+  [subcommands: lint, cert, check]
 
 Usage: shset <COMMAND>
 
@@ -285,7 +290,7 @@ For more information, try '--help'.
     (
         &[],
         "usage: error: 'shset' requires a subcommand but one was not provided
-  [subcommands: lint, check]
+  [subcommands: lint, cert, check]
 
 Usage: shset <COMMAND>
 
@@ -306,6 +311,7 @@ Usage: shset <COMMAND>
 
 Commands:
   lint   Prints what is wrong with a script, or that it is clean
+  cert   Prints what is surely set at each place of a script, as a certificate
   check  Prints what is wrong with a script by a certificate of it, or that it is clean
 
 Options:

@@ -11,6 +11,7 @@ pub returns : goal.returns
 returns c =
     let base : app_of c.disable_help_subcommand.result ≡ top = search rules in
     let lint = c.in_ok-subcommand.ensures.shape c.in_ok-lint.ensures.local ∙ ap₂ with_subcommand base (ap (λ (a : App). a.top) c.in_ok-lint.ensures.app) in
-    IfOk-weaker c.subcommand-2.result _ _
-    (λ r h. h.shape c.in_ok-check.ensures.local ∙ ap₂ with_subcommand lint (ap (λ (a : App). a.top) c.in_ok-check.ensures.app))
-    c.subcommand-2.ensures
+    let cert = c.in_ok-subcommand-2.ensures.shape c.in_ok-cert.ensures.local ∙ ap₂ with_subcommand lint (ap (λ (a : App). a.top) c.in_ok-cert.ensures.app) in
+    IfOk-weaker c.subcommand-3.result _ _
+    (λ r h. h.shape c.in_ok-check.ensures.local ∙ ap₂ with_subcommand cert (ap (λ (a : App). a.top) c.in_ok-check.ensures.app))
+    c.subcommand-3.ensures
