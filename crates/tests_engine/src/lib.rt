@@ -12,6 +12,12 @@ mod ends;
 #[cfg(test)]
 mod findings;
 #[cfg(test)]
+mod limits;
+#[cfg(test)]
+mod lints;
+#[cfg(test)]
 mod scripts;
 #[cfg(test)]
 mod told;
+#[cfg(test)]
+mod writers;

@@ -1,5 +1,5 @@
 //! Worked scripts, and what is told of them.
-use crate::told::{CLEAN, check};
+use crate::told::{CLEAN, lint};
 use std::process::Abort;
 use std::test::Fail;
 
@@ -10,7 +10,7 @@ const OUTSIDE: &[u8] = b"refused 1:1: this command is outside the profile\n";
 
 fn check_rows(rt: &(impl Abort + AllocGlobal), rows: &[Row]) -> Result<(), Fail> {
     for (script, names, text, status) in rows {
-        check(rt, names, script, text, *status)?;
+        lint(rt, names, script, text, *status)?;
     }
     Ok(())
 }

@@ -1,5 +1,5 @@
 //! Scripts at a limit and one past it.
-use crate::told::{CLEAN, check};
+use crate::told::{CLEAN, lint};
 use std::alloc::Global;
 use std::process::Abort;
 use std::test::Fail;
@@ -48,7 +48,7 @@ fn check_rows(rt: &(impl Abort + AllocGlobal), rows: &[Row]) -> Result<(), Fail>
         let mut script = Vec::new(rt.alloc());
         push_copies(&mut script, open, *count)?;
         push_copies(&mut script, close, *count)?;
-        check(rt, &[], &script, text, *status)?;
+        lint(rt, &[], &script, text, *status)?;
     }
     Ok(())
 }
@@ -80,6 +80,6 @@ fn names(alloc: Global, count: u32) -> Result<Vec<u8>, Fail> {
 
 #[test]
 fn limits_of_names(rt: HostRuntime) -> Result<(), Fail> {
-    check(&rt, &[], &names(rt.alloc(), 4_091)?, CLEAN, 0)?;
-    check(&rt, &[], &names(rt.alloc(), 4_092)?, TOO_MANY, 2)
+    lint(&rt, &[], &names(rt.alloc(), 4_091)?, CLEAN, 0)?;
+    lint(&rt, &[], &names(rt.alloc(), 4_092)?, TOO_MANY, 2)
 }
