@@ -19,9 +19,9 @@ use Rattle.sh_facts.specs.Knowledge.{AreNumbered, among}
 use Rattle.sh_facts.specs.Operands.{Names, unset_names}
 use Rattle.sh_facts.specs.Order.{seen_facts}
 use Rattle.sh_facts.specs.Rules as r
-use Rattle.sh_facts.specs.Rules.{Constraint, bound, builtin_losses, losses}
+use Rattle.sh_facts.specs.Rules.{bound, builtin_losses, losses}
 use Rattle.sh_facts.specs.Table as table
-use Rattle.sh_facts.specs.Table.{Manner, Nameless, Utility, manner, prefixes, is_redirected}
+use Rattle.sh_facts.specs.Table.{Manner, Nameless, Utility, manner, prefixes}
 use Rattle.sh_facts.specs.Views.{Slot, Before, Seen, View, Loss, OfNames, OfFunction, OfUnseen, Gain, At, at, gaining, step, steps, source_facts, lost}
 use Rattle.sh_rules.specs.Asking.{Asking}
 use Rattle.sh_rules.specs.Settings.{Setting, certificate, known_at}
@@ -181,7 +181,7 @@ module _ {K : Type 0} (a : Asking K) (x : Setting) (h : AreNumbered x.names) (d 
     drops_same f (p.Case w cs) kept named = g.none kept
     drops_same f (p.Define name body) kept named = g.none kept
 
-    counted_same : (o : Option Text) (k : p.Kind) (kept : K) → list_all (is_one_of x.names) (prefixes_in (p.command n offset k rs)) ≡ true
+    pub counted_same : (o : Option Text) (k : p.Kind) (kept : K) → list_all (is_one_of x.names) (prefixes_in (p.command n offset k rs)) ≡ true
         → g.all kept (r.counted o n (losses functions (entered k))) ≡ counted_told a x n o functions k kept
     unfolding counted_told r.counted
     counted_same None k kept named = g.none kept
@@ -199,6 +199,10 @@ module _ {K : Type 0} (a : Asking K) (x : Setting) (h : AreNumbered x.names) (d 
     claims_same s m (p.Case w cs) kept same = by_compound functions y n s m (p.Case w cs) kept same refl
     claims_same s m (p.Define name body) kept same = by_compound functions y n s m (p.Define name body) kept same refl
 
+    pub claims_behind : (k : p.Kind) (kept : K) → g.all kept (r.kind_bounds functions y n (behind_redirects n rs) k) ≡ claims_told a x functions y n (redirected x n rs) k kept
+    claims_behind k kept =
+        claims_same (behind_redirects n rs) (redirected x n rs) k kept (gained_same x h d (redirects_gains rs) (at (Before n)) (known_at x (Before n)) (slot_at x h d (Before n)))
+
     bounds_same : (k : p.Kind) (kept : K) → list_all (is_one_of x.names) (prefixes_in (p.command n offset k rs)) ≡ true
         → g.all kept (r.bounds functions (entered k)) ≡ command_told a x functions kept (met_of x d (entered k))
     unfolding r.bounds command_told
@@ -209,7 +213,7 @@ module _ {K : Type 0} (a : Asking K) (x : Setting) (h : AreNumbered x.names) (d 
         (joined a x h d g kept _ _ (before ++ its) (r.redirects_bounds n rs)
         (joined a x h d g kept _ _ before its
         (bound_at a x h d g (Before n) n by seen (knows x d seen) kept refl)
-        (claims_same (behind_redirects n rs) (redirected x n rs) k _ (gained_same x h d (redirects_gains rs) (at (Before n)) (known_at x (Before n)) (slot_at x h d (Before n)))))
+        (claims_behind k _))
         (redirects_same a x h d g n rs _))
         (counted_same y.drops k _ named)
 

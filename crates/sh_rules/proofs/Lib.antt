@@ -2,6 +2,7 @@ pub mod SlotLemmas
 pub mod GainLemmas
 pub mod BehindLemmas
 pub mod WalkLemmas
+pub mod LedLemmas
 pub mod EnteredLemmas
 pub mod MeaningLemmas
 pub mod ToldLemmas
@@ -12,6 +13,7 @@ pub mod ScriptLemmas
 pub mod PrefixLemmas
 pub mod NestLemmas
 pub mod AskedLemmas
+pub mod AboveLemmas
 pub mod ClaimLemmas
 pub mod DropLemmas
 pub mod TellLemmas

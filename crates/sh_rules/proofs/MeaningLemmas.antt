@@ -26,7 +26,7 @@ use Rattle.sh_facts.proofs.KnowledgeLemmas.{in_row, numbered_only}
 use Rattle.sh_facts.proofs.MeetLemmas.{known_same, seen_is_meet}
 use Rattle.sh_check.specs.Knowing as knowing
 use Rattle.sh_rules.specs.Settings.{Setting, certificate, known_at, gained, without_job}
-use Rattle.sh_rules.specs.Meaning.{knows, met_of, with_met, WalkEnters}
+use Rattle.sh_rules.specs.Meaning.{sees, knows, met_of, with_met, WalkEnters}
 use Rattle.sh_rules.specs.Walks.{head_of}
 use Rattle.sh_rules.proofs.SlotLemmas.{entries, head_claimed}
 use Rattle.sh_rules.proofs.EnteredLemmas.{Interprets, script_same}
@@ -85,6 +85,30 @@ among_lost ns c names (Known v f a) =
     (λ t. grouped (is_one_of ns t) (v t) (not (is_one_of names.vars t)))
     (λ t. grouped (is_one_of ns t) (f t) (not (is_one_of names.functions t))) refl
 
+-- What a certificate sees, step by step
+
+pub start_sees : (names : List Text) (d : Declared) (c : Certificate) → among names (start_facts d) ≡ sees names d c at_start
+unfolding seen_facts steps source_facts
+start_sees names d c = ap (among names) (sym (meet_last (start_facts d)))
+
+module _ (x : Setting) (d : Declared) (c : Certificate) where
+  pub gain_seen : (g : Gains) (s : Seen) → sees x.names d c (gaining g s) ≡ gained x g (sees x.names d c s)
+  unfolding gained step is_call
+  gain_seen g s = ap (among x.names) (seen_is_meet.behind d c (Gain g) s refl) ∙ among_gained x.names g (seen_facts d c s)
+
+  pub job_seen : (s : Seen) → sees x.names d c (views.without_job s) ≡ without_job x (sees x.names d c s)
+  unfolding without_job step is_call
+  job_seen s =
+      let lost : Names = record { vars = job ∷ []; functions = [] } in
+      ap (among x.names) (seen_is_meet.behind d c (Lose lost) s refl) ∙ among_lost x.names c lost (seen_facts d c s)
+
+  pub joined_seen : (s t : Seen) → sees x.names d c (s ++ t) ≡ meet (sees x.names d c s) (sees x.names d c t)
+  joined_seen s t = ap (among x.names) (seen_is_meet.joined d c s t) ∙ among_meet x.names (seen_facts d c s) (seen_facts d c t)
+
+  pub nothing_seen : sees x.names d c [] ≡ NotReached
+  unfolding seen_facts among
+  nothing_seen = refl
+
 -- What a certificate claims is about numbered names
 
 module _ (x : Setting) (h : AreNumbered x.names) where
@@ -127,29 +151,19 @@ module _ (x : Setting) (h : AreNumbered x.names) where
     slot_seen s = ap (among x.names) (meet_last (facts ((certificate x).claim s))) ∙ slot_named s
 
     pub start_seen : among x.names (start_facts d) ≡ knows x d at_start
-    unfolding knows seen_facts steps source_facts
-    start_seen = ap (among x.names) (sym (meet_last (start_facts d)))
-
-    gain_seen : (g : Gains) (s : Seen) → knows x d (gaining g s) ≡ gained x g (knows x d s)
-    unfolding knows gained step is_call
-    gain_seen g s = ap (among x.names) (seen_is_meet.behind d (certificate x) (Gain g) s refl) ∙ among_gained x.names g (seen_facts d (certificate x) s)
-
-    job_seen : (s : Seen) → knows x d (views.without_job s) ≡ without_job x (knows x d s)
-    unfolding knows without_job is_call
-    job_seen s =
-        let lost : Names = record { vars = job ∷ []; functions = [] } in
-        ap (among x.names) (seen_is_meet.behind d (certificate x) (Lose lost) s refl) ∙ among_lost x.names (certificate x) lost (seen_facts d (certificate x) s)
-
-    joined_seen : (s t : Seen) → knows x d (s ++ t) ≡ meet (knows x d s) (knows x d t)
     unfolding knows
-    joined_seen s t = ap (among x.names) (seen_is_meet.joined d (certificate x) s t) ∙ among_meet x.names (seen_facts d (certificate x) s) (seen_facts d (certificate x) t)
-
-    nothing_seen : knows x d [] ≡ NotReached
-    unfolding knows seen_facts among
-    nothing_seen = refl
+    start_seen = start_sees x.names d (certificate x)
 
     pub interprets : Interprets x (knows x d)
-    interprets = record { slot = slot_seen; gain = gain_seen; job = job_seen; joined = joined_seen; nothing = nothing_seen; twice = λ s. meet_twice (knows x d s) }
+    unfolding knows
+    interprets = record {
+      slot = slot_seen;
+      gain = gain_seen x d (certificate x);
+      job = job_seen x d (certificate x);
+      joined = joined_seen x d (certificate x);
+      nothing = nothing_seen x d (certificate x);
+      twice = λ s. meet_twice (knows x d s);
+    }
 
 listed : {A B : Type 0} (f : A → B) (ms : List B) (es : List A) → fold (λ ns m. ns ++ m ∷ []) ms (map f es) ≡ ms ++ map f es
 listed f ms [] = sym (append-nil ms)

@@ -1,5 +1,5 @@
 -- A walk that visits each command by the call table tells the least fault of a script.
-use Rattle.std.proofs.Common.{◌≡◌, ℕ, ◌≤◌, Bool, true, false, ◌&&◌, nat_le, List, [], ◌∷◌, length, map, fold, Option, Some, None, refl, sym, ap, ap₂, ◌∙◌, subst, arith}
+use Rattle.std.proofs.Common.{◌≡◌, ℕ, ◌≤◌, true, nat_le, List, [], ◌∷◌, length, map, fold, Option, Some, None, refl, sym, ap, ◌∙◌, subst, arith}
 use Rattle.std.specs.List.{list_all}
 use Rattle.std.proofs.lemmas.Bool.{and_parts}
 use Rattle.std.proofs.lemmas.Bool.Decides.{nat_tests}
@@ -8,20 +8,20 @@ use Rattle.sh_tree.specs.declared.tree.Script.{Script}
 use Rattle.sh_tree.specs.program.Syntax as p
 use Rattle.sh_tree.specs.program.Syntax.{Text}
 use Rattle.sh_tree.specs.program.Trees.{script_of}
-use Rattle.sh_table.specs.Calls.{Table, Row, row_of, table_of, texts_with}
+use Rattle.sh_table.specs.Calls.{Table, table_of, texts_with}
 use Rattle.sh_table.specs.Numbering.{is_numbered}
-use Rattle.sh_table.specs.Sites.{sites_of}
 use Rattle.sh_table.specs.Surroundings.{outside, items_located}
 use Rattle.sh_facts.specs.declared.knowledge.Knowledge.{Knowledge}
 use Rattle.sh_facts.specs.Certificates.{in_byte_order, sheet_of}
 use Rattle.sh_facts.specs.Entries.{Around, Entered, script_entered}
 use Rattle.sh_facts.specs.Facts.{Facts, Declared, start_facts}
 use Rattle.sh_facts.specs.Faults.{Fault, least, faults}
+use Rattle.sh_facts.specs.Inclusions.{Each}
 use Rattle.sh_facts.specs.Knowledge.{AreNumbered, among, knowledge_facts}
 use Rattle.sh_facts.specs.Names.{IsNumbering}
 use Rattle.sh_facts.specs.Rules.{script_bounds}
 use Rattle.sh_facts.specs.Sheets.{certificate_of}
-use Rattle.sh_facts.specs.Table.{operands, is_redirected}
+use Rattle.sh_facts.specs.Table.{is_redirected}
 use Rattle.sh_facts.specs.Views.{Before}
 use Rattle.sh_facts.proofs.TotalLemmas.{rows_length}
 use Rattle.sh_check.specs.Whole.{kept_claims}
@@ -31,20 +31,22 @@ use Rattle.sh_rules.specs.declared.claims.Claims.{Claims}
 use Rattle.sh_rules.specs.Asking.{Asking}
 use Rattle.sh_rules.specs.Settings.{Setting, certificate}
 use Rattle.sh_rules.specs.Walked.{script_walked}
-use Rattle.sh_rules.specs.Meaning.{knows, met_of}
+use Rattle.sh_rules.specs.Above.{DoesAsked, VisitsDoAsked}
+use Rattle.sh_rules.specs.Meaning.{knows, met_at, met_of}
 use Rattle.sh_rules.specs.Bounds.{fault, redirects_told}
 use Rattle.sh_rules.specs.CommandBounds.{counted_told, kind_drops_told, claims_told, command_told, redirected}
 use Rattle.sh_rules.specs.LeastFault.{least_told}
-use Rattle.sh_rules.specs.Asked.{ByConstraints, AreDefined, has_numbered_prefixes}
+use Rattle.sh_rules.specs.Asked.{ByConstraints, AreDefined}
 use Rattle.sh_rules.specs.TextTells.{simple_by, drops_by, calls_by}
-use Rattle.sh_rules.specs.Visits.{calls_at, simple_in, claims_as, claims_by, drops_as, counted_by, command_by}
+use Rattle.sh_rules.specs.Visits.{simple_in, claims_as, claims_by, drops_as, counted_by, command_by}
 use Rattle.sh_rules.specs.Walks.{facts_in, setting}
 use Rattle.sh_rules.proofs.CalleeLemmas.{one_called}
 use Rattle.sh_rules.proofs.EnteredLemmas.{script_same}
 use Rattle.sh_rules.proofs.MeaningLemmas.{interprets, start_seen}
 use Rattle.sh_rules.proofs.NestLemmas.{script_shallow}
 use Rattle.sh_rules.proofs.PrefixLemmas.{prefixes_are_numbered, table_defines}
-use Rattle.sh_rules.proofs.ScriptLemmas.{least_of_scripts}
+use Rattle.sh_rules.proofs.ScriptLemmas.{script_told}
+use Rattle.sh_rules.proofs.ToldLemmas.{least_of_constraints}
 use Rattle.sh_rules.proofs.WordLemmas.{texts_tell}
 
 -- A command
@@ -90,36 +92,42 @@ module _ {K : Type 0} (a : Asking K) (x : Setting) where
   few_loops : (n : ℕ) → nat_le n most ≡ true → n ≤ most
   few_loops n h = grind (arith, nat_tests, h)
 
+  command_same : (e : Entered) (k : Facts) (kept : K) → has_texts x.rows e.command ≡ true → nat_le (length e.around.loops) most ≡ true
+      → command_by a x kept (met_at e k) ≡ command_told a x x.functions kept (met_at e k)
+  unfolding command_by command_told
+  command_same e k kept texts few = go e.command texts
+    where
+      go : (c : p.Command) → has_texts x.rows c ≡ true
+          → command_by a x kept (met_at (record { command = c; rule = e.rule; around = e.around; seen = e.seen }) k)
+          ≡ command_told a x x.functions kept (met_at (record { command = c; rule = e.rule; around = e.around; seen = e.seen }) k)
+      go (p.command n offset kind rs) texts =
+          counted_same n offset rs e.around.drops kind _ texts
+          ∙ ap (λ m. counted_told a x n e.around.drops x.functions kind (redirects_told a x n (is_redirected rs) m))
+          (claims_same n offset rs e.around (redirected x n rs) kind (a.bound x (Before n) (fault n e.rule) k kept) texts (few_loops (length e.around.loops) few))
+
+  each_does : (es : List Entered) → list_all (λ (e : Entered). has_texts x.rows e.command) es ≡ true
+      → list_all (λ (e : Entered). nat_le (length e.around.loops) most) es ≡ true → Each (DoesAsked a x x.functions (command_by a x)) es
+  unfolding Each
+  each_does [] texts few = tt
+  each_does (e ∷ es) texts few =
+      let own = and_parts (has_texts x.rows e.command) (list_all (λ (f : Entered). has_texts x.rows f.command) es) texts in
+      let less = and_parts (nat_le (length e.around.loops) most) (list_all (λ (f : Entered). nat_le (length f.around.loops) most) es) few in
+      (λ k kept. command_same e k kept own.0 less.0, each_does es own.1 less.1)
+
   module _ (d : Declared) where
-    command_same : (e : Entered) (kept : K) → has_texts x.rows e.command ≡ true → nat_le (length e.around.loops) most ≡ true
-        → command_by a x kept (met_of x d e) ≡ command_told a x x.functions kept (met_of x d e)
-    unfolding command_by command_told
-    command_same e kept texts few = go e.command texts
-      where
-        go : (c : p.Command) → has_texts x.rows c ≡ true
-            → command_by a x kept (met_of x d (record { command = c; rule = e.rule; around = e.around; seen = e.seen }))
-            ≡ command_told a x x.functions kept (met_of x d (record { command = c; rule = e.rule; around = e.around; seen = e.seen }))
-        go (p.command n offset kind rs) texts =
-            counted_same n offset rs e.around.drops kind _ texts
-            ∙ ap (λ k. counted_told a x n e.around.drops x.functions kind (redirects_told a x n (is_redirected rs) k))
-            (claims_same n offset rs e.around (redirected x n rs) kind (a.bound x (Before n) (fault n e.rule) (knows x d e.seen) kept) texts (few_loops (length e.around.loops) few))
-
-    each_same : (kept : K) (es : List Entered) → list_all (λ (e : Entered). has_texts x.rows e.command) es ≡ true
-        → list_all (λ (e : Entered). nat_le (length e.around.loops) most) es ≡ true
+    each_same : (kept : K) (es : List Entered) → Each (DoesAsked a x x.functions (command_by a x)) es
         → fold (command_by a x) kept (map (met_of x d) es) ≡ fold (command_told a x x.functions) kept (map (met_of x d) es)
-    each_same kept [] texts few = refl
-    each_same kept (e ∷ es) texts few =
-        let own = and_parts (has_texts x.rows e.command) (list_all (λ (f : Entered). has_texts x.rows f.command) es) texts in
-        let less = and_parts (nat_le (length e.around.loops) most) (list_all (λ (f : Entered). nat_le (length f.around.loops) most) es) few in
-        ap (λ k. fold (command_by a x) k (map (met_of x d) es)) (command_same e kept own.0 less.0)
-        ∙ each_same (command_told a x x.functions kept (met_of x d e)) es own.1 less.1
+    unfolding Each
+    each_same kept [] does = refl
+    each_same kept (e ∷ es) does =
+        ap (λ k. fold (command_by a x) k (map (met_of x d) es)) (does.0 (knows x d e.seen) kept)
+        ∙ each_same (command_told a x x.functions kept (met_of x d e)) es does.1
 
-    pub walk_same : (h : AreNumbered x.names) (t : p.Items) (kept : K) → list_all (λ (e : Entered). has_texts x.rows e.command) (script_entered t) ≡ true
-        → list_all (λ (e : Entered). nat_le (length e.around.loops) most) (script_entered t) ≡ true
+    pub walk_same : (h : AreNumbered x.names) (t : p.Items) (kept : K) → Each (DoesAsked a x x.functions (command_by a x)) (script_entered t)
         → script_walked x (command_by a x) (among x.names (start_facts d)) kept t ≡ script_walked x (command_told a x x.functions) (among x.names (start_facts d)) kept t
-    walk_same h t kept texts few =
+    walk_same h t kept does =
         script_same x (knows x d) (interprets x h d) (command_by a x) (among x.names (start_facts d)) kept t (start_seen x h d)
-        ∙ each_same kept (script_entered t) texts few
+        ∙ each_same kept (script_entered t) does
         ∙ sym (script_same x (knows x d) (interprets x h d) (command_told a x x.functions) (among x.names (start_facts d)) kept t (start_seen x h d))
 
 -- A script
@@ -136,15 +144,29 @@ few_loops_in b t few =
     let less : length (items_located outside (script_of b t)) ≤ most = omega (arith, few, same) in
     script_shallow most (script_of b t) less
 
--- what a walk over facts tells is the least fault
-told : (x : Setting) (d : Declared) (b : List ℕ) (t : Script) → AreNumbered x.names → x.script ≡ b → x.functions ≡ (table_of b t).functions.names → x.rows ≡ (table_of b t).rows
-    → is_numbered (script_of b t) ≡ true → length (table_of b t).rows ≤ MAX_COMMANDS → IsNumbering b t d x.names
-    → script_walked x (command_by least_told x) (among x.names (start_facts d)) None (script_of b t) ≡ least (faults d (certificate x) (script_of b t))
-told x d b t h script functions rows numbered few names =
-    walk_same least_told x d h (script_of b t) None
+-- a visit by the table does what the rules ask at each command of the script
+pub visits_do_asked : {K : Type 0} (a : Asking K) → VisitsDoAsked K a
+visits_do_asked a x b t rows numbered few =
+    each_does a x (script_entered (script_of b t))
     (ap (λ rs. list_all (λ (e : Entered). has_texts rs e.command) (script_entered (script_of b t))) rows ∙ have_texts b t numbered)
     (few_loops_in b t few)
-    ∙ least_of_scripts x d (script_of b t) h (subst (λ fs. AreDefined fs (script_of b t)) (sym functions) (table_defines b t)) (prefixes_are_numbered b t d x.names names)
+
+-- what a walk over facts does is what is done for the constraints of the script
+pub asked_of_script : {K : Type 0} (a : Asking K) (x : Setting) (d : Declared) (i : ByConstraints K a x d) (b : List ℕ) (t : Script) (kept : K) → AreNumbered x.names
+    → x.functions ≡ (table_of b t).functions.names → x.rows ≡ (table_of b t).rows → is_numbered (script_of b t) ≡ true → length (table_of b t).rows ≤ MAX_COMMANDS → IsNumbering b t d x.names
+    → script_walked x (command_by a x) (among x.names (start_facts d)) kept (script_of b t) ≡ i.all kept (script_bounds (script_of b t))
+asked_of_script a x d i b t kept h functions rows numbered few names =
+    walk_same a x d h (script_of b t) kept (visits_do_asked a x b t rows numbered few)
+    ∙ script_told a x h d i (script_of b t) kept (subst (λ fs. AreDefined fs (script_of b t)) (sym functions) (table_defines b t)) (prefixes_are_numbered b t d x.names names)
+
+-- that of the least fault tells the least fault
+told : (x : Setting) (d : Declared) (b : List ℕ) (t : Script) → AreNumbered x.names → x.functions ≡ (table_of b t).functions.names → x.rows ≡ (table_of b t).rows
+    → is_numbered (script_of b t) ≡ true → length (table_of b t).rows ≤ MAX_COMMANDS → IsNumbering b t d x.names
+    → script_walked x (command_by least_told x) (among x.names (start_facts d)) None (script_of b t) ≡ least (faults d (certificate x) (script_of b t))
+unfolding least faults
+told x d b t h functions rows numbered few names =
+    let by = least_of_constraints x d h in
+    asked_of_script least_told x d by.0 b t None h functions rows numbered few names ∙ by.1 None (script_bounds (script_of b t))
 
 pub rules_told : (c : Claims) (d : Declared) (t : Script) (start : Knowledge) (new : Option Fault) → c.calls.now ≡ table_of c.script.now t
     → is_numbered (script_of c.script.now t) ≡ true → length (table_of c.script.now t).rows ≤ MAX_COMMANDS → IsNumbering c.script.now t d c.names.now
@@ -155,5 +177,5 @@ unfolding setting facts_in
 rules_told c d t start new table numbered few names begun walked =
     walked
     ∙ ap (λ k. script_walked (setting c) (command_by least_told (setting c)) k None (script_of c.script.now t)) begun
-    ∙ told (setting c) d c.script.now t c.numbered refl (ap (λ (y : Table). y.functions.names) table) (ap (λ (y : Table). y.rows) table) numbered few names
+    ∙ told (setting c) d c.script.now t c.numbered (ap (λ (y : Table). y.functions.names) table) (ap (λ (y : Table). y.rows) table) numbered few names
     ∙ ap (λ (y : Table). least (faults d (certificate_of y.functions.names (sheet_of (in_byte_order c.names.now) c.certificate.now)) (script_of c.script.now t))) table

@@ -102,6 +102,11 @@ module _ (fs gs : List Text) (same : (t : Text) → is_one_of fs t ≡ is_one_of
   all_ask [] = refl
   all_ask (e ∷ es) = ap₂ (λ ks ls. ks ++ ls) (each_asks e) (all_ask es)
 
+-- the constraints of a script, by the functions that it defines
+pub script_asks : (functions : List Text) (t : p.Items) → AreDefined functions t → flat_map (bounds functions) (script_entered t) ≡ script_bounds t
+unfolding script_bounds
+script_asks functions t defined = all_ask functions (functions_of (script_entered t)) defined (script_entered t)
+
 module _ {K : Type 0} (a : Asking K) (x : Setting) (h : AreNumbered x.names) (d : Declared) (g : ByConstraints K a x d) where
   each_same : (functions : List Text) (kept : K) (es : List Entered) → list_all (has_numbered_prefixes x.names) es ≡ true
       → fold (command_told a x functions) kept (map (met_of x d) es) ≡ g.all kept (flat_map (bounds functions) es)
@@ -114,11 +119,10 @@ module _ {K : Type 0} (a : Asking K) (x : Setting) (h : AreNumbered x.names) (d 
 
   pub script_told : (t : p.Items) (kept : K) → AreDefined x.functions t → list_all (has_numbered_prefixes x.names) (script_entered t) ≡ true
       → script_walked x (command_told a x x.functions) (among x.names (start_facts d)) kept t ≡ g.all kept (script_bounds t)
-  unfolding script_bounds
   script_told t kept defined named =
       script_same x (knows x d) (interprets x h d) (command_told a x x.functions) (among x.names (start_facts d)) kept t (start_seen x h d)
       ∙ each_same x.functions kept (script_entered t) named
-      ∙ ap (g.all kept) (all_ask x.functions (functions_of (script_entered t)) defined (script_entered t))
+      ∙ ap (g.all kept) (script_asks x.functions t defined)
 
 pub least_of_scripts : LeastOfScripts
 unfolding least faults

@@ -20,3 +20,4 @@ pub mod Calls
 pub mod TextTells
 pub mod Reached
 pub mod Visits
+pub mod Above

@@ -2,21 +2,30 @@
 -- The standard has no such thing: what several views claim together, as one fact.
 use Rattle.std.specs.Prelude.{◌≡◌, List, [], ◌∷◌, ◌++◌, map}
 use Rattle.sh_tree.specs.program.Syntax as p
+use Rattle.sh_tree.specs.program.Syntax.{Text}
 use Rattle.sh_facts.specs.Entries.{Entered, script_entered}
 use Rattle.sh_facts.specs.Facts.{Facts, Declared, start_facts}
 use Rattle.sh_facts.specs.Knowledge.{AreNumbered, among}
 use Rattle.sh_facts.specs.Order.{seen_facts}
-use Rattle.sh_facts.specs.Views.{Seen}
+use Rattle.sh_facts.specs.Views.{Certificate, Seen}
 use Rattle.sh_rules.specs.Settings.{Setting, certificate}
 use Rattle.sh_rules.specs.Walked.{Met, script_walked}
 
--- what is known where this is seen, of the names that are numbered
-unfoldable pub knows : Setting → Declared → Seen → Facts
-knows x d s = among x.names (seen_facts d (certificate x) s)
+-- what a certificate sees there, of the names that are numbered
+abbrev pub sees : List Text → Declared → Certificate → Seen → Facts
+sees names d c s = among names (seen_facts d c s)
 
--- a command as it is entered, with what is known there
+-- what is known where this is seen, by the certificate that the rules are asked of
+unfoldable pub knows : Setting → Declared → Seen → Facts
+knows x d s = sees x.names d (certificate x) s
+
+-- a command as it is entered, where this is known
+abbrev pub met_at : Entered → Facts → Met
+met_at e k = record { command = e.command; rule = e.rule; around = e.around; known = k }
+
+-- with what is known there
 abbrev pub met_of : Setting → Declared → Entered → Met
-met_of x d e = record { command = e.command; rule = e.rule; around = e.around; known = knows x d e.seen }
+met_of x d e = met_at e (knows x d e.seen)
 
 abbrev pub with_met : List Met → Met → List Met
 with_met ms m = ms ++ m ∷ []

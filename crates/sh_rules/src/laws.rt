@@ -1,4 +1,5 @@
 //! What the walk is good for, and what the rules ask.
+ghost use Rattle.sh_rules.specs.Above.{StaysAbove, VisitsDoAsked};
 ghost use Rattle.sh_rules.specs.Asked.{AskedOfFacts, LeastOfConstraints, LeastOfScripts, LoopsAreFew, PrefixesAreNumbered, TableDefines};
 ghost use Rattle.sh_rules.specs.Meaning.{WalkEnters};
 ghost use Rattle.sh_rules.specs.TextTells.{TextsTell};
@@ -40,4 +41,16 @@ pub fn names()
 /// What simple commands ask and drop by the static texts of their words is what they ask and drop by the words (XCU 2.9.1).
 pub fn texts<A: Asked>()
     ensures { TextsTell A.Kept A.asked }
+{}
+
+/// A walk over more than is seen asks no less of a certificate below. Where a certificate that breaks no rule at the commands of an item, or of a
+/// list, claims no more than the one that is asked, and sees no more than is known before it, it allows all that is asked there, and sees no
+/// more than is known behind it. So a certificate may be lowered item by item, and stays above each one that keeps the rules.
+pub fn above<A: Asked>()
+    ensures { StaysAbove A.Kept A.asked }
+{}
+
+/// What a visit does by the call table of a script is what the rules ask at each of its commands, whatever is known there.
+pub fn visits<A: Asked>()
+    ensures { VisitsDoAsked A.Kept A.asked }
 {}

@@ -103,12 +103,20 @@ impl Claims<'_> {
         }
     }
 
-    // The facts round the function of a name.
+    /// The place of a function among those of the script, if it is one of them.
     #[tactic(auto, unfolding(crate::specs::Walks::setting))]
-    fn function(&self, name: &[u8]) -> Option<&FunctionEntry>
+    pub fn place_of_function(&self, name: &[u8]) -> Option<usize>
+        ensures { result ≡ number_of (setting self.now).functions name.now }
+    {
+        place_of(name, self.calls.functions())
+    }
+
+    /// The facts round the function of a name, if the certificate has it.
+    #[tactic(auto, unfolding(crate::specs::Walks::setting))]
+    pub fn function(&self, name: &[u8]) -> Option<&FunctionEntry>
         ensures { option_copied result ≡ slots.entry_of (setting self.now).kept (setting self.now).functions name.now }
     {
-        let place = place_of(name, self.calls.functions())?;
+        let place = self.place_of_function(name)?;
         self.certificate.functions.get(place)
     }
 

@@ -52,8 +52,8 @@ pub struct Course {
     pub behind: Behind,
 }
 
-// At the start of a list that this rule enters.
-fn begun(by: FlowRule, known: &Knowledge) -> Course
+/// At the start of a list that this rule enters, where this is known.
+pub fn begun(by: FlowRule, known: &Knowledge) -> Course
     ensures by { result.by ≡ by }
     ensures behind { (x : Setting) → walks.behind_in x result.behind ≡ both (facts_in x known.now) }
 {
@@ -709,4 +709,13 @@ pub fn walk<V: Visitor>(claims: &Claims<'_>, start: &Knowledge, list: &Script, v
 {
     let outside = alone();
     walk_from(claims, &outside, FlowRule::F1, start, list, visitor);
+}
+
+/// Visits each command of an item of a script, those in its words included, from where the walk is in the list, and goes on behind the item. It
+/// takes no memory.
+pub fn walk_over<V: Visitor>(claims: &Claims<'_>, course: &mut Course, item: &Item, visitor: &mut V)
+    ensures { steps.ran (setting claims.now) course.new (V.kept visitor.new) ≡ steps.item_step (setting claims.now) (V.with_met (setting claims.now)) entries.alone (steps.ran (setting claims.now) course.old (V.kept visitor.old)) item.now }
+{
+    let outside = alone();
+    walk_item(claims, &outside, course, item, visitor);
 }
