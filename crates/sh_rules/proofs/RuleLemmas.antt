@@ -19,7 +19,6 @@ use Rattle.sh_facts.specs.Faults.{Fault, least, faults}
 use Rattle.sh_facts.specs.Inclusions.{Each}
 use Rattle.sh_facts.specs.Knowledge.{AreNumbered, among, knowledge_facts}
 use Rattle.sh_facts.specs.Names.{IsNumbering}
-use Rattle.sh_facts.specs.Rules.{script_bounds}
 use Rattle.sh_facts.specs.Sheets.{certificate_of}
 use Rattle.sh_facts.specs.Table.{is_redirected}
 use Rattle.sh_facts.specs.Views.{Before}
@@ -36,7 +35,7 @@ use Rattle.sh_rules.specs.Meaning.{knows, met_at, met_of}
 use Rattle.sh_rules.specs.Bounds.{fault, redirects_told}
 use Rattle.sh_rules.specs.CommandBounds.{counted_told, kind_drops_told, claims_told, command_told, redirected}
 use Rattle.sh_rules.specs.LeastFault.{least_told}
-use Rattle.sh_rules.specs.Asked.{ByConstraints, AreDefined}
+use Rattle.sh_rules.specs.Asked.{AreDefined}
 use Rattle.sh_rules.specs.TextTells.{simple_by, drops_by, calls_by}
 use Rattle.sh_rules.specs.Visits.{simple_in, claims_as, claims_by, drops_as, counted_by, command_by}
 use Rattle.sh_rules.specs.Walks.{facts_in, setting}
@@ -45,8 +44,7 @@ use Rattle.sh_rules.proofs.EnteredLemmas.{script_same}
 use Rattle.sh_rules.proofs.MeaningLemmas.{interprets, start_seen}
 use Rattle.sh_rules.proofs.NestLemmas.{script_shallow}
 use Rattle.sh_rules.proofs.PrefixLemmas.{prefixes_are_numbered, table_defines}
-use Rattle.sh_rules.proofs.ScriptLemmas.{script_told}
-use Rattle.sh_rules.proofs.ToldLemmas.{least_of_constraints}
+use Rattle.sh_rules.proofs.ScriptLemmas.{least_of_scripts}
 use Rattle.sh_rules.proofs.WordLemmas.{texts_tell}
 
 -- A command
@@ -123,11 +121,12 @@ module _ {K : Type 0} (a : Asking K) (x : Setting) where
         ap (λ k. fold (command_by a x) k (map (met_of x d) es)) (does.0 (knows x d e.seen) kept)
         ∙ each_same (command_told a x x.functions kept (met_of x d e)) es does.1
 
-    pub walk_same : (h : AreNumbered x.names) (t : p.Items) (kept : K) → Each (DoesAsked a x x.functions (command_by a x)) (script_entered t)
+    pub walk_same : (h : AreNumbered x.names) (t : p.Items) (kept : K) → list_all (λ (e : Entered). has_texts x.rows e.command) (script_entered t) ≡ true
+        → list_all (λ (e : Entered). nat_le (length e.around.loops) most) (script_entered t) ≡ true
         → script_walked x (command_by a x) (among x.names (start_facts d)) kept t ≡ script_walked x (command_told a x x.functions) (among x.names (start_facts d)) kept t
-    walk_same h t kept does =
+    walk_same h t kept texts few =
         script_same x (knows x d) (interprets x h d) (command_by a x) (among x.names (start_facts d)) kept t (start_seen x h d)
-        ∙ each_same kept (script_entered t) does
+        ∙ each_same kept (script_entered t) (each_does (script_entered t) texts few)
         ∙ sym (script_same x (knows x d) (interprets x h d) (command_told a x x.functions) (among x.names (start_facts d)) kept t (start_seen x h d))
 
 -- A script
@@ -151,22 +150,15 @@ visits_do_asked a x b t rows numbered few =
     (ap (λ rs. list_all (λ (e : Entered). has_texts rs e.command) (script_entered (script_of b t))) rows ∙ have_texts b t numbered)
     (few_loops_in b t few)
 
--- what a walk over facts does is what is done for the constraints of the script
-pub asked_of_script : {K : Type 0} (a : Asking K) (x : Setting) (d : Declared) (i : ByConstraints K a x d) (b : List ℕ) (t : Script) (kept : K) → AreNumbered x.names
-    → x.functions ≡ (table_of b t).functions.names → x.rows ≡ (table_of b t).rows → is_numbered (script_of b t) ≡ true → length (table_of b t).rows ≤ MAX_COMMANDS → IsNumbering b t d x.names
-    → script_walked x (command_by a x) (among x.names (start_facts d)) kept (script_of b t) ≡ i.all kept (script_bounds (script_of b t))
-asked_of_script a x d i b t kept h functions rows numbered few names =
-    walk_same a x d h (script_of b t) kept (visits_do_asked a x b t rows numbered few)
-    ∙ script_told a x h d i (script_of b t) kept (subst (λ fs. AreDefined fs (script_of b t)) (sym functions) (table_defines b t)) (prefixes_are_numbered b t d x.names names)
-
--- that of the least fault tells the least fault
-told : (x : Setting) (d : Declared) (b : List ℕ) (t : Script) → AreNumbered x.names → x.functions ≡ (table_of b t).functions.names → x.rows ≡ (table_of b t).rows
+-- what a walk over facts tells is the least fault
+told : (x : Setting) (d : Declared) (b : List ℕ) (t : Script) → AreNumbered x.names → x.script ≡ b → x.functions ≡ (table_of b t).functions.names → x.rows ≡ (table_of b t).rows
     → is_numbered (script_of b t) ≡ true → length (table_of b t).rows ≤ MAX_COMMANDS → IsNumbering b t d x.names
     → script_walked x (command_by least_told x) (among x.names (start_facts d)) None (script_of b t) ≡ least (faults d (certificate x) (script_of b t))
-unfolding least faults
-told x d b t h functions rows numbered few names =
-    let by = least_of_constraints x d h in
-    asked_of_script least_told x d by.0 b t None h functions rows numbered few names ∙ by.1 None (script_bounds (script_of b t))
+told x d b t h script functions rows numbered few names =
+    walk_same least_told x d h (script_of b t) None
+    (ap (λ rs. list_all (λ (e : Entered). has_texts rs e.command) (script_entered (script_of b t))) rows ∙ have_texts b t numbered)
+    (few_loops_in b t few)
+    ∙ least_of_scripts x d (script_of b t) h (subst (λ fs. AreDefined fs (script_of b t)) (sym functions) (table_defines b t)) (prefixes_are_numbered b t d x.names names)
 
 pub rules_told : (c : Claims) (d : Declared) (t : Script) (start : Knowledge) (new : Option Fault) → c.calls.now ≡ table_of c.script.now t
     → is_numbered (script_of c.script.now t) ≡ true → length (table_of c.script.now t).rows ≤ MAX_COMMANDS → IsNumbering c.script.now t d c.names.now
@@ -177,5 +169,5 @@ unfolding setting facts_in
 rules_told c d t start new table numbered few names begun walked =
     walked
     ∙ ap (λ k. script_walked (setting c) (command_by least_told (setting c)) k None (script_of c.script.now t)) begun
-    ∙ told (setting c) d c.script.now t c.numbered (ap (λ (y : Table). y.functions.names) table) (ap (λ (y : Table). y.rows) table) numbered few names
+    ∙ told (setting c) d c.script.now t c.numbered refl (ap (λ (y : Table). y.functions.names) table) (ap (λ (y : Table). y.rows) table) numbered few names
     ∙ ap (λ (y : Table). least (faults d (certificate_of y.functions.names (sheet_of (in_byte_order c.names.now) c.certificate.now)) (script_of c.script.now t))) table

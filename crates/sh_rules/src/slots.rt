@@ -103,20 +103,12 @@ impl Claims<'_> {
         }
     }
 
-    /// The place of a function among those of the script, if it is one of them.
+    // The facts round the function of a name.
     #[tactic(auto, unfolding(crate::specs::Walks::setting))]
-    pub fn place_of_function(&self, name: &[u8]) -> Option<usize>
-        ensures { result ≡ number_of (setting self.now).functions name.now }
-    {
-        place_of(name, self.calls.functions())
-    }
-
-    /// The facts round the function of a name, if the certificate has it.
-    #[tactic(auto, unfolding(crate::specs::Walks::setting))]
-    pub fn function(&self, name: &[u8]) -> Option<&FunctionEntry>
+    fn function(&self, name: &[u8]) -> Option<&FunctionEntry>
         ensures { option_copied result ≡ slots.entry_of (setting self.now).kept (setting self.now).functions name.now }
     {
-        let place = self.place_of_function(name)?;
+        let place = place_of(name, self.calls.functions())?;
         self.certificate.functions.get(place)
     }
 
