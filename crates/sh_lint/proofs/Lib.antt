@@ -1,9 +1,0 @@
-pub mod AdmitLemmas
-pub mod QuoteLemmas
-pub mod LintLemmas
-pub mod RowLemmas
-pub mod FinderLemmas
-pub mod NumberingLemmas
-pub mod NamedLemmas
-pub mod ReadLemmas
-pub mod CertificateLemmas

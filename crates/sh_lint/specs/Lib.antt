@@ -1,4 +1,0 @@
-pub mod Findings
-pub mod Walks
-pub mod Lint
-pub mod Certifies
