@@ -30,7 +30,7 @@ const NESTING: &[Row] = &[
         b"${x-",
         b"}",
         64,
-        b"refused 1:1: this command is outside the profile\n",
+        b"refused 1:1: a computed command name is outside the profile\n",
         2,
     ),
     (b"${x-", b"}", 65, b"refused 1:261: nested too deep\n", 2),

@@ -6,8 +6,6 @@ use std::test::Fail;
 /// A script, the names behind it on the command line, what is told, and the status.
 type Row = (&'static [u8], &'static [&'static [u8]], &'static [u8], u8);
 
-const OUTSIDE: &[u8] = b"refused 1:1: this command is outside the profile\n";
-
 fn check_rows(rt: &(impl Abort + AllocGlobal), rows: &[Row]) -> Result<(), Fail> {
     for (script, names, text, status) in rows {
         lint(rt, names, script, text, *status)?;
@@ -239,9 +237,9 @@ fn declared_names(rt: HostRuntime) -> Result<(), Fail> {
     check_rows(&rt, DECLARED)
 }
 
-const REFUSED: &[Row] = &[
-    (b"echo 'a'\n", &[], OUTSIDE, 2),
-    (b"unset x\n", &[], OUTSIDE, 2),
+const NAMES_AND_TOKENS: &[Row] = &[
+    (b"echo 'a'\n", &[], CLEAN, 0),
+    (b"unset x\n", &[], CLEAN, 0),
     (
         b"echo \"$x\n",
         &[],
@@ -255,31 +253,41 @@ const REFUSED: &[Row] = &[
     (b"a; ;b", &[], b"refused 1:4: unexpected token\n", 2),
     (b"a;&b", &[], b"refused 1:2: unexpected token\n", 2),
     (b"x=1\nin", &[], b"refused 2:1: unexpected token\n", 2),
-    (b"$x a", &[], OUTSIDE, 2),
+    (
+        b"$x a",
+        &[],
+        b"refused 1:1: a computed command name is outside the profile\n",
+        2,
+    ),
     (
         b"a\nb$x",
         &[],
-        b"refused 2:1: this command is outside the profile\n",
+        b"refused 2:1: a computed command name is outside the profile\n",
         2,
     ),
-    (b"\"x\"=1", &[], OUTSIDE, 2),
-    (b"1x=2", &[], OUTSIDE, 2),
-    (b"x=1 cd /", &[], OUTSIDE, 2),
+    (b"\"x\"=1", &[], CLEAN, 0),
+    (b"1x=2", &[], CLEAN, 0),
+    (b"x=1 cd /", &[], CLEAN, 0),
     (
         b"a\n  \"eval\" a",
         &[],
-        b"refused 2:3: this command is outside the profile\n",
+        b"refused 2:3: eval is outside the profile\n",
         2,
     ),
-    (b":", &[], OUTSIDE, 2),
-    (b"\"time\" a", &[], OUTSIDE, 2),
-    (b"a*", &[], OUTSIDE, 2),
-    (b"export x", &[], OUTSIDE, 2),
+    (b":", &[], CLEAN, 0),
+    (b"\"time\" a", &[], CLEAN, 0),
+    (
+        b"a*",
+        &[],
+        b"refused 1:1: a computed command name is outside the profile\n",
+        2,
+    ),
+    (b"export x", &[], CLEAN, 0),
 ];
 
 #[test]
-fn refused_scripts(rt: HostRuntime) -> Result<(), Fail> {
-    check_rows(&rt, REFUSED)
+fn command_names_and_tokens(rt: HostRuntime) -> Result<(), Fail> {
+    check_rows(&rt, NAMES_AND_TOKENS)
 }
 
 const OPEN: &[Row] = &[
@@ -571,18 +579,8 @@ fn places_on_further_lines(rt: HostRuntime) -> Result<(), Fail> {
 }
 
 const HERE_DOCUMENTS: &[Row] = &[
-    (
-        b"if a; then b <<c; fi\nc\n",
-        &[],
-        b"refused 1:1: this command is outside the profile\n",
-        2,
-    ),
-    (
-        b"a\nb <<c\nc\n",
-        &[],
-        b"refused 2:1: this command is outside the profile\n",
-        2,
-    ),
+    (b"if a; then b <<c; fi\nc\n", &[], CLEAN, 0),
+    (b"a\nb <<c\nc\n", &[], CLEAN, 0),
 ];
 
 #[test]
@@ -610,61 +608,91 @@ fn here_documents_that_are_not_ended(rt: HostRuntime) -> Result<(), Fail> {
     check_rows(&rt, UNENDED)
 }
 
-const UNANALYSED: &[Row] = &[
-    (b"a 'b' | c", &[], OUTSIDE, 2),
-    (b"a && b", &[], OUTSIDE, 2),
-    (b"a &", &[], OUTSIDE, 2),
-    (b"a 2>b", &[], OUTSIDE, 2),
-    (b"f() { a; }", &[], OUTSIDE, 2),
-    (b"for x in y; do a; done", &[], OUTSIDE, 2),
-    (b"if a; then for b; do c; done; fi", &[], OUTSIDE, 2),
-    (b"case a in b) c;; esac", &[], OUTSIDE, 2),
-    (b"if a; then b; fi", &[], OUTSIDE, 2),
-    (b"while a; do b; done", &[], OUTSIDE, 2),
-    (b"until a; do b; done >f", &[], OUTSIDE, 2),
+const MORE_FORMS: &[Row] = &[
+    (b"a 'b' | c", &[], CLEAN, 0),
+    (b"a && b", &[], CLEAN, 0),
+    (b"a &", &[], CLEAN, 0),
+    (b"a 2>b", &[], CLEAN, 0),
+    (b"f() { a; }", &[], CLEAN, 0),
+    (b"for x in y; do a; done", &[], CLEAN, 0),
+    (b"if a; then for b; do c; done; fi", &[], CLEAN, 0),
+    (b"case a in b) c;; esac", &[], CLEAN, 0),
+    (b"if a; then b; fi", &[], CLEAN, 0),
+    (b"while a; do b; done", &[], CLEAN, 0),
+    (b"until a; do b; done >f", &[], CLEAN, 0),
+    (b"a\n{ b; }", &[], CLEAN, 0),
+    (b"echo 'a'", &[], CLEAN, 0),
+    (b"echo \\a", &[], CLEAN, 0),
+    (b"echo \"\\$x\"", &[], CLEAN, 0),
+    (b"echo \"a\\\nb\"", &[], CLEAN, 0),
     (
-        b"a\n{ b; }",
+        b"echo $1",
         &[],
-        b"refused 2:1: this command is outside the profile\n",
-        2,
+        b"1:6: Q1 unquoted expansion\n1:6: U1 parameter 1 may be unset\nfindings: 2\n",
+        1,
     ),
-    (b"echo 'a'", &[], OUTSIDE, 2),
-    (b"echo \\a", &[], OUTSIDE, 2),
-    (b"echo \"\\$x\"", &[], OUTSIDE, 2),
-    (b"echo \"a\\\nb\"", &[], OUTSIDE, 2),
-    (b"echo $1", &[], OUTSIDE, 2),
-    (b"echo $#", &[], OUTSIDE, 2),
-    (b"[ $# -gt 0 ]", &[], OUTSIDE, 2),
-    (b"echo $((a+1))", &[], OUTSIDE, 2),
-    (b"echo \"$(a)\"", &[], OUTSIDE, 2),
-    (b"echo ${x-$(a)}", &[], OUTSIDE, 2),
+    (b"echo $#", &[], CLEAN, 0),
+    (b"[ $# -gt 0 ]", &[], CLEAN, 0),
+    (
+        b"echo $((a+1))",
+        &[],
+        b"1:9: U3 parameter a may be unset in arithmetic\nfindings: 1\n",
+        1,
+    ),
+    (b"echo \"$(a)\"", &[], CLEAN, 0),
+    (
+        b"echo ${x-$(a)}",
+        &[],
+        b"1:6: Q1 unquoted expansion\nfindings: 1\n",
+        1,
+    ),
     (
         b"a\nb $(c)",
         &[],
-        b"refused 2:1: this command is outside the profile\n",
-        2,
+        b"2:3: Q1 unquoted expansion\nfindings: 1\n",
+        1,
     ),
-    (b"echo ${x+\"$x\"}", &[], OUTSIDE, 2),
-    (b"echo ${x-a}", &[], OUTSIDE, 2),
-    (b"echo ${#x}", &[], OUTSIDE, 2),
-    (b"echo ${x%a}", &[], OUTSIDE, 2),
-    (b"echo ${1}", &[], OUTSIDE, 2),
-    (b"echo ~", &[], OUTSIDE, 2),
-    (b"x=~", &[], OUTSIDE, 2),
-    (b"x='a'", &[], OUTSIDE, 2),
-    (b"echo \"${x-a}\"", &[], OUTSIDE, 2),
-    (b"'a'", &[], OUTSIDE, 2),
-    (b"\\echo a", &[], OUTSIDE, 2),
-    (b": \"${1?usage}\"", &[], OUTSIDE, 2),
+    (b"echo ${x+\"$x\"}", &[], CLEAN, 0),
     (
-        b"a b # 'c\n  d 'e'",
+        b"echo ${x-a}",
         &[],
-        b"refused 2:3: this command is outside the profile\n",
-        2,
+        b"1:6: Q1 unquoted expansion\nfindings: 1\n",
+        1,
     ),
+    (
+        b"echo ${#x}",
+        &[],
+        b"1:6: U1 parameter x may be unset\nfindings: 1\n",
+        1,
+    ),
+    (
+        b"echo ${x%a}",
+        &[],
+        b"1:6: Q1 unquoted expansion\n1:6: U1 parameter x may be unset\nfindings: 2\n",
+        1,
+    ),
+    (
+        b"echo ${1}",
+        &[],
+        b"1:6: Q1 unquoted expansion\n1:6: U1 parameter 1 may be unset\nfindings: 2\n",
+        1,
+    ),
+    (
+        b"echo ~",
+        &[],
+        b"1:6: U2 HOME may be unset\nfindings: 1\n",
+        1,
+    ),
+    (b"x=~", &[], b"1:3: U2 HOME may be unset\nfindings: 1\n", 1),
+    (b"x='a'", &[], CLEAN, 0),
+    (b"echo \"${x-a}\"", &[], CLEAN, 0),
+    (b"'a'", &[], CLEAN, 0),
+    (b"\\echo a", &[], CLEAN, 0),
+    (b": \"${1?usage}\"", &[], CLEAN, 0),
+    (b"a b # 'c\n  d 'e'", &[], CLEAN, 0),
 ];
 
 #[test]
-fn words_that_are_not_analysed_yet(rt: HostRuntime) -> Result<(), Fail> {
-    check_rows(&rt, UNANALYSED)
+fn words_and_commands_of_each_form(rt: HostRuntime) -> Result<(), Fail> {
+    check_rows(&rt, MORE_FORMS)
 }
