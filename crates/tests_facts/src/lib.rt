@@ -22,4 +22,6 @@ mod samples_3;
 #[cfg(test)]
 mod samples_4;
 #[cfg(test)]
+mod samples_5;
+#[cfg(test)]
 mod texts;
