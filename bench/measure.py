@@ -34,7 +34,7 @@ ROUNDS = "10000000"
 FINDER = os.path.join(HERE, "..", "crates", "find_timer", "out", "find_timer")
 # A form, how many of it, and how often.
 LISTS = (("line", 60_000, 1), ("pipelines", 20_000, 1), ("repeated", 20_000, 1), ("reversed", 60_000, 1),
-         ("loops", 60, 200), ("functions", 2_000, 1))
+         ("loops", 60, 200), ("functions", 2_000, 1), ("shifts", 65_535, 1))
 
 
 def straight_lines():
