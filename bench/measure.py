@@ -14,6 +14,9 @@ many rounds, and how many times as long the former take. It wants the program of
 
 The kind `finder` searches lists of constraints as scripts of a form give them, by the worklist and by rounds: constraints, looks, seconds,
 microseconds a constraint, how many times as long that is as in a straight line, and megabytes. It wants the program of crates/find_timer built.
+
+The kind `table` tells of scripts of 1 MB how many milliseconds and megabytes more their call table takes, once they are read, and the
+profile behind it; two kinds of scripts are added that have as many words as fit. It wants the program of crates/table_timer built.
 """
 import os
 import shutil
@@ -34,7 +37,12 @@ ROUNDS = "10000000"
 FINDER = os.path.join(HERE, "..", "crates", "find_timer", "out", "find_timer")
 # A form, how many of it, and how often.
 LISTS = (("line", 60_000, 1), ("pipelines", 20_000, 1), ("repeated", 20_000, 1), ("reversed", 60_000, 1),
-         ("loops", 60, 200), ("functions", 2_000, 1))
+         ("loops", 60, 200), ("functions", 2_000, 1), ("shifts", 65_535, 1))
+TABLE_TIMER = os.path.join(HERE, "..", "crates", "table_timer", "out", "table_timer")
+# Other processes disturb so short a time, so it is the least of more runs.
+TABLE_RUNS = 15
+# Nearly as many commands as there may be, of seven words each.
+SEVEN_WORDS = 917_000
 
 
 def straight_lines():
@@ -123,6 +131,11 @@ KINDS = {
     "case and loops": lambda size: script_of(repeated_lines(*CASES_AND_LOOPS), size),
     "substitutions": lambda size: script_of(repeated_lines(SUBSTITUTIONS), size),
     "comments": lambda size: script_of(repeated_lines("# a comment 'of $(some) \"words", "a \\", "b # more"), size),
+}
+
+WORDIEST = {
+    "words": lambda size: word_of("", "a ", "", size),
+    "seven words": lambda size: script_of(repeated_lines("a b c d e f g"), min(size, SEVEN_WORDS)),
 }
 
 
@@ -239,7 +252,28 @@ def measure_finder():
             print(f"{form:<10} {times:>5}  {way:<8} {constraints:>11} {looks:>9}  {seconds:>8.3f} {each:>8.3f}  {each / line:>6.1f}  {kilobytes / 1024:>6.1f}")
 
 
+def measure_table(folder):
+    if not os.access(TABLE_TIMER, os.X_OK):
+        sys.exit("build crates/table_timer first, by `rt run` there")
+    print(f"{'kind':<14} {'bytes':>9}  {'table ms':>8} {'MB':>6}  {'profile ms':>10} {'MB':>6}")
+    path = os.path.join(folder, "script.sh")
+    for kind, made in {**KINDS, **WORDIEST}.items():
+        with open(path, "w", encoding="ascii") as file:
+            file.write(made(SIZES[-1]))
+        columns, before = [f"{kind:<14} {os.path.getsize(path):>9}"], best([TABLE_TIMER, path, "tree"])[1]
+        for step, width in (("table", 8), ("profile", 10)):
+            said = [subprocess.run([TABLE_TIMER, path, step, "timed"], stdout=subprocess.PIPE, check=True).stdout for _ in range(TABLE_RUNS)]
+            kilobytes = best([TABLE_TIMER, path, step])[1]
+            columns.append(f"{min(map(int, said)) / 1000:>{width}.1f} {(kilobytes - before) / 1024:>6.1f}")
+            before = kilobytes
+        print("  ".join(columns))
+
+
 def main():
+    if sys.argv[1:] == ["table"]:
+        with tempfile.TemporaryDirectory() as folder:
+            measure_table(folder)
+        return
     if sys.argv[1:] == ["finder"]:
         measure_finder()
         return
@@ -253,7 +287,7 @@ def main():
         sys.exit("install GNU time first: Debian's package time")
     kinds = sys.argv[1:] or list(KINDS)
     if not set(kinds) <= set(KINDS):
-        sys.exit("kinds: " + ", ".join(KINDS) + "; or kernels or finder alone")
+        sys.exit("kinds: " + ", ".join(KINDS) + "; or kernels, finder or table alone")
     print(f"{'kind':<14} {'bytes':>9}  {'tool':<11} {'seconds':>9} {'MB':>8}  {'time ratio':>10} {'memory ratio':>12}  {'time growth':>11} {'memory growth':>13}")
     with tempfile.TemporaryDirectory() as folder:
         for kind in kinds:

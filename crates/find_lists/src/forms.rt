@@ -19,9 +19,11 @@ pub enum Form {
     Loops,
     /// Functions that each call the next, called once they are defined.
     Functions,
+    /// `while :; do shift; done`.
+    Shifts,
 }
 
-/// The constraints of a form, for so many constraints, items, loops or functions.
+/// The constraints of a form, for so many constraints, items, loops or functions. `Shifts` has three.
 ///
 /// # Errors
 ///
@@ -38,6 +40,7 @@ pub fn list_of(alloc: Global, form: Form, count: u32) -> Result<List, AllocError
         Form::Repeated => items(alloc, count, true),
         Form::Loops => loops(alloc, count),
         Form::Functions => functions(alloc, count),
+        Form::Shifts => shifts(alloc),
     }
 }
 
@@ -237,5 +240,16 @@ fn functions(alloc: Global, count: u32) -> Result<List, AllocError> {
         own = next.unwrap_or(own);
     }
     call(alloc, &mut list, before.zero, 0, first)?;
+    Ok(list)
+}
+
+// A loop that takes a parameter away at each turn: its head, and its body.
+fn shifts(alloc: Global) -> Result<List, AllocError> {
+    let mut list = List::new(alloc);
+    let head = list.slot();
+    let body = list.slot();
+    list.bound(alloc, head, Source::Start)?;
+    list.bound(alloc, head, at(body))?;
+    list.step(alloc, body, at(head), Step::Shift { count: 1 })?;
     Ok(list)
 }

@@ -33,6 +33,7 @@ fn form_of(word: &str) -> Option<Form> {
         "repeated" => Some(Form::Repeated),
         "loops" => Some(Form::Loops),
         "functions" => Some(Form::Functions),
+        "shifts" => Some(Form::Shifts),
         _ => None,
     }
 }
@@ -62,13 +63,21 @@ fn request(words: &[String]) -> Option<Asked> {
     })
 }
 
+// How many positional parameters there are at the start.
+fn parameters(asked: Asked) -> u16 {
+    match asked.form {
+        Form::Shifts => asked.count.min(65_535) as u16,
+        _ => 0,
+    }
+}
+
 // How often a constraint was looked at, where that is counted. A list that names more than there may be is not searched.
 fn search(alloc: Global, asked: Asked, list: &List) -> Result<Option<u64>, AllocError> {
     let names = asked.count.clamp(64, 4096);
     if !is_problem(names, list.slots, &list.constraints) {
         return Ok(None);
     }
-    let start = set_only(names, &[], 0);
+    let start = set_only(names, &[], parameters(asked));
     if asked.by_rounds {
         solve_by_rounds(alloc, names, start, list.slots, &list.constraints)?;
         return Ok(None);
@@ -99,7 +108,7 @@ fn main(rt: HostRuntime) -> io::Result<()> {
     match request(words.as_slice()) {
         Some(asked) => measured(&rt, asked),
         None => println!(rt;
-            "find_timer line|reversed|pipelines|repeated|loops|functions COUNT TIMES worklist|rounds"
+            "find_timer line|reversed|pipelines|repeated|loops|functions|shifts COUNT TIMES worklist|rounds"
         ),
     }
 }

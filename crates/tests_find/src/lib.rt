@@ -1,4 +1,4 @@
-//! Tests of the search: both ways find the same facts.
+//! Tests of the search: both ways find the same facts, and the greatest certificates of scripts.
 #![tactic(auto)]
 
 #[cfg(test)]
@@ -6,4 +6,10 @@ mod functions;
 #[cfg(test)]
 mod lists;
 #[cfg(test)]
+mod sampled;
+#[cfg(test)]
+mod samples;
+#[cfg(test)]
 mod searches;
+#[cfg(test)]
+mod texts;

@@ -1,0 +1,2 @@
+f() { echo "$1" 'a b' plain; }
+f some words
