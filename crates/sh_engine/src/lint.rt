@@ -7,7 +7,6 @@ use crate::check::places_of;
 use crate::prepared::{Prepared, prepare};
 use crate::told::verdict_of;
 use sh_certify::find::find;
-use sh_certify::gather::Asks;
 use sh_certify::subject::Subject;
 use sh_facts::certificate::Certificate;
 use sh_facts::limits::MAX_CERTIFICATE;
@@ -18,9 +17,8 @@ use sh_tree::refusal::Refusal;
 use std::alloc::{AllocError, Global};
 
 // The greatest certificate of a script that is admitted.
-fn greatest<W: Asks>(
+fn greatest(
     alloc: Global,
-    walk: &W,
     script: &[u8],
     policy: &Policy,
     prepared: &Prepared,
@@ -35,13 +33,12 @@ fn greatest<W: Asks>(
         table: &prepared.table,
         names: &prepared.names,
     };
-    find(alloc, walk, &subject)
+    find(alloc, &subject)
 }
 
 // What is told of a script that is admitted.
-fn lint_prepared<W: Asks>(
+fn lint_prepared(
     alloc: Global,
-    walk: &W,
     script: &[u8],
     policy: &Policy,
     prepared: &Prepared,
@@ -49,7 +46,7 @@ fn lint_prepared<W: Asks>(
     requires { IsPrepared script.now policy.now prepared.now }
     ensures { IfOk result (λ v. Lints script.now policy.now (Ok v)) }
 {
-    let certificate = greatest(alloc, walk, script, policy, prepared)?;
+    let certificate = greatest(alloc, script, policy, prepared)?;
     let places = places_of(alloc, script, prepared, &certificate)?;
     verdict_of(alloc, script, &places)
 }
@@ -61,23 +58,17 @@ fn lint_prepared<W: Asks>(
 /// The refusal of the script, of its profile or of its names, in that order; `Memory` where a growth was refused, and where no certificate was
 /// found (`sh_certify::find`).
 #[tactic(auto, using(crate::proofs::LintLemmas::exhausted))]
-pub fn lint<W: Asks>(
-    alloc: Global,
-    walk: &W,
-    script: &[u8],
-    policy: &Policy,
-) -> Result<Verdict, Refusal>
+pub fn lint(alloc: Global, script: &[u8], policy: &Policy) -> Result<Verdict, Refusal>
     ensures { Lints script.now policy.now result }
 {
     let prepared = prepare(alloc, script, policy)?;
-    let verdict = lint_prepared(alloc, walk, script, policy, &prepared)?;
+    let verdict = lint_prepared(alloc, script, policy, &prepared)?;
     Ok(verdict)
 }
 
 // The text of the greatest certificate of a script that is admitted.
-fn greatest_text<W: Asks>(
+fn greatest_text(
     alloc: Global,
-    walk: &W,
     script: &[u8],
     policy: &Policy,
     prepared: &Prepared,
@@ -85,15 +76,14 @@ fn greatest_text<W: Asks>(
     requires { IsPrepared script.now policy.now prepared.now }
     ensures { IfOk result (λ t. IsGreatestText script.now policy.now prepared.now t.items) }
 {
-    let certificate = greatest(alloc, walk, script, policy, prepared)?;
+    let certificate = greatest(alloc, script, policy, prepared)?;
     write_certificate(alloc, &certificate, &prepared.names)
 }
 
 // The same, if it is no longer than a text may be.
 #[tactic(auto, using(crate::proofs::LintLemmas::uncertified))]
-fn certificate_prepared<W: Asks>(
+fn certificate_prepared(
     alloc: Global,
-    walk: &W,
     script: &[u8],
     policy: &Policy,
     prepared: &Prepared,
@@ -101,7 +91,7 @@ fn certificate_prepared<W: Asks>(
     requires { IsPrepared script.now policy.now prepared.now }
     ensures { Certifies script.now policy.now result }
 {
-    let text = greatest_text(alloc, walk, script, policy, prepared)?;
+    let text = greatest_text(alloc, script, policy, prepared)?;
     if text.len() > MAX_CERTIFICATE {
         return Err(Refusal::CertSyntax(0));
     }
@@ -114,14 +104,9 @@ fn certificate_prepared<W: Asks>(
 ///
 /// As `lint`; and `CertSyntax` with 0 where the text is longer than `MAX_CERTIFICATE`.
 #[tactic(auto, using(crate::proofs::RefusalLemmas::widened))]
-pub fn certificate<W: Asks>(
-    alloc: Global,
-    walk: &W,
-    script: &[u8],
-    policy: &Policy,
-) -> Result<Vec<u8>, Refusal>
+pub fn certificate(alloc: Global, script: &[u8], policy: &Policy) -> Result<Vec<u8>, Refusal>
     ensures { Certifies script.now policy.now result }
 {
     let prepared = prepare(alloc, script, policy)?;
-    certificate_prepared(alloc, walk, script, policy, &prepared)
+    certificate_prepared(alloc, script, policy, &prepared)
 }

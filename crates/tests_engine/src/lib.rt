@@ -12,6 +12,8 @@ mod ends;
 #[cfg(test)]
 mod findings;
 #[cfg(test)]
+mod greatest;
+#[cfg(test)]
 mod scripts;
 #[cfg(test)]
 mod told;
