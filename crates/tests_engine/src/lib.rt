@@ -12,6 +12,8 @@ mod ends;
 #[cfg(test)]
 mod findings;
 #[cfg(test)]
+mod greatest;
+#[cfg(test)]
 mod limits;
 #[cfg(test)]
 mod lints;
