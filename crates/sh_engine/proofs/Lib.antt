@@ -3,3 +3,4 @@ pub mod CertificateLemmas
 pub mod FindingLemmas
 pub mod CheckLemmas
 pub mod LintLemmas
+pub mod RunLemmas
