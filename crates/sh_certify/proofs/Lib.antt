@@ -9,3 +9,4 @@ pub mod FirstLemmas
 pub mod TurnLemmas
 pub mod GreatestLemmas
 pub mod TogetherLemmas
+pub mod AskingLemmas

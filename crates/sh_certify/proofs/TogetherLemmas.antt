@@ -22,89 +22,14 @@ use Rattle.sh_facts.proofs.KnowledgeLemmas.{same_tests}
 use Rattle.sh_facts.proofs.OrderLemmas.{within_through, within_test, meet_first, meet_second, meet_greatest}
 use Rattle.sh_find.specs.Facts as number
 use Rattle.sh_certify.specs.Gathered.{Gathered, is_at, is_number, bounded, counted, gathered, all_gathered}
-use Rattle.sh_certify.specs.Numbers.{name_passes, by_number, numbers_in}
+use Rattle.sh_certify.specs.Gathering.{and_true, drops_nothing, drops_both}
+use Rattle.sh_certify.specs.Numbers.{by_number}
 use Rattle.sh_certify.specs.Places.{place_of}
 use Rattle.sh_certify.specs.Together.{GatheredTogether}
-use Rattle.sh_certify.specs.Working.{Sets, joined}
 use Rattle.sh_certify.proofs.GatherLemmas.{among_less, within_among}
 use Rattle.sh_certify.proofs.NumberLemmas.{meet_numbered, among_numbered}
 
 module _ (names functions : List Text) where
-  -- Names that are dropped
-
-  and_true : (b : Bool) → (b && true) ≡ b
-  and_true true = refl
-  and_true false = refl
-
-  or_false : (b : Bool) → (b || false) ≡ b
-  or_false true = refl
-  or_false false = refl
-
-  none_passes : (o : Option Text) → name_passes (is_one_of []) o ≡ false
-  unfolding name_passes
-  none_passes None = refl
-  none_passes (Some t) = refl
-
-  no_more : (s : Sets) → joined (numbers_in names no_names) s ≡ s
-  no_more s =
-      ap₂ (λ (v f : ℕ → Bool). record { vars = v; functions = f })
-      (fun_ext (λ k. ap (λ b. s.vars k || b) (none_passes (slice_get names k)) ∙ or_false (s.vars k)))
-      (fun_ext (λ k. ap (λ b. s.functions k || b) (none_passes (slice_get names k)) ∙ or_false (s.functions k)))
-
-  same_if : {A : Type 0} (b : Bool) (x y : A) → x ≡ y → (if b then x else y) ≡ y
-  same_if true x y e = e
-  same_if false x y e = refl
-
-  pub drops_nothing : (f : Text) (may : Names) (g : Gathered) → counted names functions f may no_names g ≡ g
-  unfolding counted are_among
-  drops_nothing f may g =
-      ap₂ (λ (k : Bool) (s : Sets). record { kept = k; place = g.place; known = g.known; function = g.function; sets = s }) (and_true g.kept)
-      (same_if (is_number (number_of functions f) g.function) _ g.sets (no_more g.sets))
-
-  -- a name that is lost of two lists
-  both_pass : (ts us : List Text) (o : Option Text) → name_passes (is_one_of (ts ++ us)) o ≡ (name_passes (is_one_of ts) o || name_passes (is_one_of us) o)
-  unfolding name_passes
-  both_pass ts us None = refl
-  both_pass ts us (Some t) = list_any-append (λ u. bytes_eq u t) ts us
-
-  or_grouped : (a b c : Bool) → (a || (b || c)) ≡ ((a || b) || c)
-  or_grouped true b c = refl
-  or_grouped false b c = refl
-
-  both_joined : (v w x y : List Text) (s : Sets) → joined (numbers_in names (record { vars = v ++ w; functions = x ++ y })) s
-      ≡ joined (numbers_in names (record { vars = w; functions = y })) (joined (numbers_in names (record { vars = v; functions = x })) s)
-  both_joined v w x y s =
-      ap₂ (λ (p q : ℕ → Bool). record { vars = p; functions = q })
-      (fun_ext (λ k. ap (λ b. s.vars k || b) (both_pass v w (slice_get names k)) ∙ or_grouped (s.vars k) _ _))
-      (fun_ext (λ k. ap (λ b. s.functions k || b) (both_pass x y (slice_get names k)) ∙ or_grouped (s.functions k) _ _))
-
-  regrouped : (g v w x y : Bool) → (g && ((v && w) && (x && y))) ≡ ((g && (v && x)) && (w && y))
-  regrouped false v w x y = refl
-  regrouped true false w x y = refl
-  regrouped true true w false y = and_none w
-    where
-      and_none : (b : Bool) → (b && false) ≡ false
-      and_none true = refl
-      and_none false = refl
-  regrouped true true w true y = refl
-
-  if_both : {A : Type 0} (b : Bool) (f g : A → A) (h : A → A) (x : A) → ((y : A) → h y ≡ g (f y)) → (if b then h x else x) ≡ (if b then g (if b then f x else x) else (if b then f x else x))
-  if_both true f g h x e = e x
-  if_both false f g h x e = refl
-
-  -- names together ask what they ask one after the other
-  pub drops_both : (f : Text) (may : Names) (v w x y : List Text) (g : Gathered)
-      → counted names functions f may (record { vars = v ++ w; functions = x ++ y }) g
-      ≡ counted names functions f may (record { vars = w; functions = y }) (counted names functions f may (record { vars = v; functions = x }) g)
-  unfolding counted are_among
-  drops_both f may v w x y g =
-      ap₂ (λ (k : Bool) (s : Sets). record { kept = k; place = g.place; known = g.known; function = g.function; sets = s })
-      (ap (λ b. g.kept && (b && list_all (is_one_of may.functions) (x ++ y))) (list_all-append (is_one_of may.vars) v w)
-      ∙ ap (λ b. g.kept && ((list_all (is_one_of may.vars) v && list_all (is_one_of may.vars) w) && b)) (list_all-append (is_one_of may.functions) x y)
-      ∙ regrouped g.kept (list_all (is_one_of may.vars) v) (list_all (is_one_of may.vars) w) (list_all (is_one_of may.functions) x) (list_all (is_one_of may.functions) y))
-      (if_both (is_number (number_of functions f) g.function) (joined (numbers_in names (record { vars = v; functions = x }))) (joined (numbers_in names (record { vars = w; functions = y })))
-      (joined (numbers_in names (record { vars = v ++ w; functions = x ++ y }))) g.sets (both_joined v w x y))
-
   and_over : (a b c : Bool) → ((a && b) && c) ≡ (a && (b && c))
   and_over true b c = refl
   and_over false b c = refl

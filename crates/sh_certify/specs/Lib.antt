@@ -4,5 +4,7 @@ pub mod Writable
 pub mod Numbers
 pub mod First
 pub mod Gathered
+pub mod Gathering
 pub mod Turns
 pub mod Together
+pub mod Spots

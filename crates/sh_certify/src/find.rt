@@ -8,7 +8,7 @@ ghost use Rattle.sh_certify.specs.Turns.{IsSettled, sheet_by};
 ghost use Rattle.sh_certify.specs.Working.{IsWorking};
 
 use crate::first::unreached;
-use crate::gather::{Asks, Target};
+use crate::gather::Target;
 use crate::subject::Subject;
 use crate::turn::turn;
 use sh_commands::commands;
@@ -21,8 +21,7 @@ use std::alloc::{AllocError, Global};
 const MOST_COMMANDS: usize = 65_535;
 
 // Takes turns until the certificate keeps all flow rules.
-fn settle<W: Asks>(
-    walk: &W,
+fn settle(
     subject: &Subject<'_>,
     certificate: &mut Certificate,
     probe: &mut BitRow,
@@ -37,7 +36,7 @@ fn settle<W: Asks>(
     let mut target = Target::first();
     let mut kept = false;
     'turns: while !kept {
-        kept = turn(walk, subject, certificate, probe, &mut target)?;
+        kept = turn(subject, certificate, probe, &mut target)?;
     }
     Ok(())
 }
@@ -49,11 +48,7 @@ fn settle<W: Asks>(
 ///
 /// Where a growth was refused or no place for a row is left; and where a rule asks for a place or a name that the script does not have, as no
 /// rule does of a script that is read.
-pub fn find<W: Asks>(
-    alloc: Global,
-    walk: &W,
-    subject: &Subject<'_>,
-) -> Result<Certificate, AllocError>
+pub fn find(alloc: Global, subject: &Subject<'_>) -> Result<Certificate, AllocError>
     requires { IsAdmitted subject.now.script.now subject.now.policy.now subject.now.tree.now subject.now.names.now }
     ensures { IfOk result (λ c. IsGreatest subject.now.script.now subject.now.policy.now subject.now.tree.now subject.now.names.now (sheet_by subject.now.names.now c)) }
 {
@@ -65,6 +60,6 @@ pub fn find<W: Asks>(
     let functions = subject.table.functions().len();
     let mut certificate = unreached(alloc, count, &commands, functions)?;
     let mut probe = BitRow::empty(alloc, count)?;
-    settle(walk, subject, &mut certificate, &mut probe)?;
+    settle(subject, &mut certificate, &mut probe)?;
     Ok(certificate)
 }

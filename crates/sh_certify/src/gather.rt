@@ -1,16 +1,27 @@
 //! What is gathered of all that the flow rules ask of a certificate.
-ghost use Rattle.std.specs.Prelude.{◌≡◌, length};
-ghost use Rattle.sh_tree.specs.program.Trees.{script_of};
-ghost use Rattle.sh_facts.specs.Rules.{script_bounds};
-ghost use Rattle.sh_accept.specs.Accepted.{IsAdmitted, claims_in, functions_in};
-ghost use Rattle.sh_certify.specs.Gathered.{all_gathered};
-ghost use Rattle.sh_certify.specs.Turns.{IsNew, gathered_of, sheet_by};
+ghost use Rattle.std.specs.Prelude.{◌≡◌, length, option_map};
+ghost use Rattle.std.specs.Option.{option_copied};
+ghost use Rattle.sh_facts.specs.Certificates.{drops_of, in_byte_order};
+ghost use Rattle.sh_facts.specs.Knowledge.{AreNumbered, knowledge_facts};
+ghost use Rattle.sh_facts.specs.Slots.{entry_of};
+ghost use Rattle.sh_rules.specs.Asking.{one_function, one_variable};
+ghost use Rattle.sh_rules.specs.Settings.{certificate};
+ghost use Rattle.sh_rules.specs.Walks.{setting};
+ghost use Rattle.sh_certify.specs.Gathered.{is_at, is_number};
+ghost use Rattle.sh_certify.specs.Gathering as gathering;
+ghost use Rattle.sh_certify.specs.Numbers.{by_number, numbers_in};
+ghost use Rattle.sh_certify.specs.Spots.{place_at};
+ghost use Rattle.sh_certify.specs.Turns.{IsNew, gathered_of};
 
 use crate::place::{Part, Place};
-use crate::subject::Subject;
-use sh_facts::certificate::Certificate;
+use crate::sights::{add_name, add_row, met, sight_of};
+use crate::spot::{Spot, index_of};
+use sh_facts::certificate::{Drops, FunctionEntry};
+use sh_facts::knowledge::Knowledge;
+use sh_facts::names::Names;
 use sh_find::number_set::NumberSet;
 use sh_find::sight::Sight;
+use sh_rules::claims::Claims;
 
 /// A place, and the function of an index.
 #[derive(Clone, Copy, Debug)]
@@ -42,6 +53,56 @@ impl Target {
             function: 0,
         }
     }
+
+    // With this place, if there is one.
+    fn at_place(self, spot: Option<Spot>) -> Target {
+        match spot.and_then(Spot::place) {
+            Some(place) => Target { place, ..self },
+            None => self,
+        }
+    }
+
+    // With the function of this index, if there is one.
+    fn at_function(self, index: Option<usize>) -> Target {
+        match index {
+            Some(index) => Target {
+                function: u16::try_from(index).unwrap_or(self.function),
+                ..self
+            },
+            None => self,
+        }
+    }
+}
+
+// Whether this is the place.
+#[tactic(auto, unfolding(crate::specs::Gathered::is_at))]
+fn is_place(spot: Option<Spot>, place: Place) -> bool
+    ensures { result ≡ is_at (option_map place_at spot) place }
+{
+    match spot {
+        Some(spot) => spot.is(place),
+        None => false,
+    }
+}
+
+// Whether this is the index.
+#[tactic(auto, unfolding(crate::specs::Gathered::is_number))]
+fn is_index(found: Option<usize>, index: u16) -> bool
+    ensures { result ≡ is_number found index }
+{
+    match found {
+        Some(found) => found == index as usize,
+        None => false,
+    }
+}
+
+// The facts round a function, if it is one of the script.
+#[tactic(auto, unfolding(sh_rules::specs::Walks::setting))]
+fn entry_in<'a>(claims: &'a Claims<'_>, name: &[u8]) -> Option<&'a FunctionEntry>
+    ensures { option_copied result ≡ entry_of (setting claims.entry.now).kept (setting claims.entry.now).functions name.now }
+{
+    let index = index_of(claims, name)?;
+    claims.certificate.functions.get(index)
 }
 
 impl Gather {
@@ -59,15 +120,90 @@ impl Gather {
             next: target,
         }
     }
-}
 
-/// What asks all that the flow rules ask of a certificate of a script.
-pub trait Asks {
-    /// Gathers it.
-    fn ask(&self, subject: &Subject<'_>, certificate: &Certificate, gather: &mut Gather)
-        requires sized { certificate.now.rows.count ≡ length subject.now.names.now }
-        requires admitted { IsAdmitted subject.now.script.now subject.now.policy.now subject.now.tree.now subject.now.names.now }
-        ensures { gathered_of gather.new ≡ all_gathered subject.now.names.now (functions_in subject.now.script.now subject.now.tree.now) subject.now.policy.now
-            (claims_in subject.now.script.now subject.now.tree.now (sheet_by subject.now.names.now certificate.now)) (gathered_of gather.old)
-            (script_bounds (script_of subject.now.script.now subject.now.tree.now)) };
+    // Something is asked, which is kept or not; where it is not, this is next.
+    fn test(&mut self, is_kept: bool, next: Target)
+        ensures { gathered_of self.new ≡ gathering.tested is_kept (gathered_of self.old) }
+    {
+        if is_kept {
+            return;
+        }
+        self.kept = false;
+        self.next = next;
+    }
+
+    /// Something is asked of a place, which is kept or not; says whether this is the one that is sought.
+    #[tactic(auto, unfolding(crate::specs::Turns::gathered_of))]
+    pub fn see_place(&mut self, spot: Option<Spot>, is_kept: bool) -> bool
+        ensures kept { gathered_of self.new ≡ gathering.tested is_kept (gathered_of self.old) }
+        ensures here { result ≡ is_at (option_map place_at spot) (gathered_of self.old).place }
+    {
+        let is_here = is_place(spot, self.target.place);
+        let next = self.next.at_place(spot);
+        self.test(is_kept, next);
+        is_here
+    }
+
+    /// Something is asked of the function of an index, which is kept or not; says whether this is the one that is sought.
+    #[tactic(auto, unfolding(crate::specs::Turns::gathered_of))]
+    pub fn see_function(&mut self, index: Option<usize>, is_kept: bool) -> bool
+        ensures kept { gathered_of self.new ≡ gathering.tested is_kept (gathered_of self.old) }
+        ensures here { result ≡ is_number index (gathered_of self.old).function }
+    {
+        let is_here = is_index(index, self.target.function);
+        let next = self.next.at_function(index);
+        self.test(is_kept, next);
+        is_here
+    }
+
+    /// This is known at the place too.
+    pub fn meet(&mut self, names: &Names, known: &Knowledge)
+        requires { AreNumbered names.now }
+        ensures { gathered_of self.new ≡ gathering.met (by_number names.now (knowledge_facts names.now known.now)) (gathered_of self.old) }
+    {
+        match known {
+            Knowledge::NotReached => {}
+            Knowledge::Known(assured) => {
+                self.known = Some(met(self.known, sight_of(names, assured)));
+            }
+        }
+    }
+
+    /// The function has to drop a variable.
+    pub fn lose_variable(&mut self, names: &Names, name: &[u8])
+        requires { AreNumbered names.now }
+        ensures { gathered_of self.new ≡ gathering.with_sets (numbers_in names.now (one_variable name.now)) (gathered_of self.old) }
+    {
+        add_name(&mut self.vars, names, name);
+    }
+
+    /// The function has to drop a function.
+    pub fn lose_function(&mut self, names: &Names, name: &[u8])
+        requires { AreNumbered names.now }
+        ensures { gathered_of self.new ≡ gathering.with_sets (numbers_in names.now (one_function name.now)) (gathered_of self.old) }
+    {
+        add_name(&mut self.functions, names, name);
+    }
+
+    // The function has to drop the names of these rows.
+    fn lose(&mut self, claims: &Claims<'_>, drops: Drops)
+        ensures { gathered_of self.new ≡ gathering.with_sets (numbers_in (setting claims.now).names (drops_of (in_byte_order (setting claims.now).names) (setting claims.now).kept.rows drops)) (gathered_of self.old) }
+    {
+        add_row(&mut self.vars, &claims.certificate.rows, drops.vars);
+        add_row(
+            &mut self.functions,
+            &claims.certificate.rows,
+            drops.functions,
+        );
+    }
+
+    /// The function has to drop all that a function drops which it calls.
+    pub fn lose_like(&mut self, claims: &Claims<'_>, callee: &[u8])
+        ensures { gathered_of self.new ≡ gathering.with_sets (numbers_in (setting claims.now).names ((certificate (setting claims.now)).drops callee.now)) (gathered_of self.old) }
+    {
+        match entry_in(claims, callee) {
+            Some(entry) => self.lose(claims, entry.drops),
+            None => {}
+        }
+    }
 }

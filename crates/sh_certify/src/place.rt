@@ -23,9 +23,9 @@ pub struct Place {
 }
 
 impl Part {
-    // Its place in their order.
+    /// Its place in their order.
     #[tactic(auto, unfolding(crate::specs::Places::rank))]
-    fn rank(self) -> u8
+    pub fn rank(self) -> u8
         ensures { result ≡ spec.rank self }
     {
         match self {
@@ -69,14 +69,5 @@ impl Part {
             Part::ReturnZero => true,
             Part::ReturnNonzero => true,
         }
-    }
-}
-
-impl Place {
-    /// Whether this is that place.
-    pub fn is(self, other: Place) -> bool
-        ensures { result ≡ spec.same self other }
-    {
-        self.index == other.index && self.part.rank() == other.part.rank()
     }
 }

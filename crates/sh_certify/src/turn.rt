@@ -14,7 +14,8 @@ ghost use Rattle.sh_certify.specs.Places.{claim_there};
 ghost use Rattle.sh_certify.specs.Turns.{AreNumbers, IsAttempt, IsSunk, IsTurn, Stands, gathered_of, sheet_by};
 ghost use Rattle.sh_certify.specs.Working.{IsLowered, IsWorking};
 
-use crate::gather::{Asks, Gather, Target};
+use crate::asked::ask;
+use crate::gather::{Gather, Target};
 use crate::lower::{count, lower};
 use crate::place::Place;
 use crate::subject::Subject;
@@ -36,12 +37,7 @@ pub enum Outcome {
 }
 
 // All that is asked of the certificate, gathered for a place and a function.
-fn asked<W: Asks>(
-    walk: &W,
-    subject: &Subject<'_>,
-    certificate: &Certificate,
-    target: Target,
-) -> Gather
+fn asked(subject: &Subject<'_>, certificate: &Certificate, target: Target) -> Gather
     requires sized { certificate.now.rows.count ≡ length subject.now.names.now }
     requires admitted { IsAdmitted subject.now.script.now subject.now.policy.now subject.now.tree.now subject.now.names.now }
     ensures numbers { AreNumbers (length subject.now.names.now) (gathered_of result) }
@@ -52,9 +48,8 @@ fn asked<W: Asks>(
         → IsBelow (claims_in subject.now.script.now subject.now.tree.now d) (claims_in subject.now.script.now subject.now.tree.now (sheet_by subject.now.names.now certificate.now))
         → Stands subject.now.names.now d (gathered_of result) }
 {
-    let mut gather = Gather::new(target);
-    walk.ask(subject, certificate, &mut gather);
-    gather
+    let gather = Gather::new(target);
+    ask(subject, certificate, gather)
 }
 
 // Lowers the claim of a place where any run comes to it.
@@ -111,8 +106,7 @@ fn lower_gathered(
 }
 
 // Asks all of the certificate, and lowers it where it does not keep that. The next attempt is at a place and a function of which more was asked.
-fn attempt<W: Asks>(
-    walk: &W,
+fn attempt(
     subject: &Subject<'_>,
     certificate: &mut Certificate,
     probe: &mut BitRow,
@@ -126,7 +120,7 @@ fn attempt<W: Asks>(
         (script_bounds (script_of subject.now.script.now subject.now.tree.now)) certificate.old certificate.new outcome) }
     ensures probed { IfOk result (λ outcome. probe.new.count ≡ length subject.now.names.now) }
 {
-    let gather = asked(walk, subject, certificate, *target);
+    let gather = asked(subject, certificate, *target);
     if gather.kept {
         return Ok(Outcome::Kept);
     }
@@ -143,8 +137,7 @@ fn attempt<W: Asks>(
 ///
 /// Where a growth was refused or no place for a row is left; and where a rule asks for a place, a name or a loop that the script does not have,
 /// as no rule does of a script that is read.
-pub fn turn<W: Asks>(
-    walk: &W,
+pub fn turn(
     subject: &Subject<'_>,
     certificate: &mut Certificate,
     probe: &mut BitRow,
@@ -158,10 +151,10 @@ pub fn turn<W: Asks>(
         (script_bounds (script_of subject.now.script.now subject.now.tree.now)) certificate.old certificate.new kept) }
     ensures probed { IfOk result (λ kept. probe.new.count ≡ length subject.now.names.now) }
 {
-    match attempt(walk, subject, certificate, probe, target)? {
+    match attempt(subject, certificate, probe, target)? {
         Outcome::Kept => Ok(true),
         Outcome::Lowered => Ok(false),
-        Outcome::Stays => match attempt(walk, subject, certificate, probe, target)? {
+        Outcome::Stays => match attempt(subject, certificate, probe, target)? {
             Outcome::Kept => Ok(true),
             Outcome::Lowered => Ok(false),
             Outcome::Stays => Err(AllocError),

@@ -8,7 +8,7 @@ use Rattle.sh_certify.proofs.GreatestLemmas.{is_greatest_of}
 use Rattle.sh_certify.proofs.find.find.Goals as goal
 
 pub returns : goal.returns
-returns g c =
+returns c =
     let s = c.args.subject.now in
     let m : ℕ = length c.functions-functions.result.now in
     let same : m ≡ length (functions_in s.script.now s.tree.now) =

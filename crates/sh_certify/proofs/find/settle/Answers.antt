@@ -5,7 +5,7 @@ use Rattle.sh_certify.proofs.GreatestLemmas.{so_far_more, settled, less_left}
 use Rattle.sh_certify.proofs.find.settle.Goals as goal
 
 pub turns-smaller : goal.turns-smaller
-turns-smaller g c =
+turns-smaller c =
     let s = c.args.subject.now in
     let w = c.requires.working in
     let now = (c.turns.invariant.so_far w.0 w.1 w.2).working in
@@ -13,7 +13,7 @@ turns-smaller g c =
     (c.in_ok-kept.ensures.turn w.0 w.1 now)
 
 pub turns-preserved : goal.turns-preserved
-turns-preserved g c = record {
+turns-preserved c = record {
   probed = c.in_ok-kept.ensures.probed;
   so_far = λ loops m working.
       let s = c.args.subject.now in
@@ -23,7 +23,7 @@ turns-preserved g c = record {
 }
 
 pub returns : goal.returns
-returns g c = λ loops m working.
+returns c = λ loops m working.
     let s = c.args.subject.now in
     settled s.names.now loops m s.policy.now (functions_in s.script.now s.tree.now) (script_bounds (script_of s.script.now s.tree.now)) c.args.certificate.now c.turns.certificate c.turns.kept c.turns-test.false
     (c.turns.invariant.so_far loops m working)

@@ -7,7 +7,7 @@ use Rattle.sh_certify.proofs.GreatestLemmas.{IsSoFar, left}
 use Rattle.sh_certify.proofs.find.settle.Given as goal
 
 abbrev pub invariant-turns : goal.invariant-turns
-invariant-turns g l = record {
+invariant-turns l = record {
   probed : l.probe.count ≡ length l.subject.names.now;
   so_far : (loops : List Bool) (functions : ℕ) → IsWorking l.subject.names.now loops functions l.initial.certificate
       → IsSoFar l.subject.names.now loops functions l.subject.policy.now (functions_in l.subject.script.now l.subject.tree.now) (script_bounds (script_of l.subject.script.now l.subject.tree.now))
@@ -15,4 +15,4 @@ invariant-turns g l = record {
 }
 
 abbrev pub decreases-turns : goal.decreases-turns
-decreases-turns g l = left l.subject.names.now l.certificate l.kept
+decreases-turns l = left l.subject.names.now l.certificate l.kept

@@ -8,7 +8,7 @@ use Rattle.sh_certify.proofs.TurnLemmas.{lowered_attempt, idle_attempt}
 use Rattle.sh_certify.proofs.turn.attempt.Goals as goal
 
 pub returns-then-branch-clause-attempt : goal.returns-then-branch-clause-attempt
-returns-then-branch-clause-attempt g c = λ loops m working.
+returns-then-branch-clause-attempt c = λ loops m working.
     let s = c.args.subject.now in
     let defined = functions_in s.script.now s.tree.now in
     let ks = script_bounds (script_of s.script.now s.tree.now) in
@@ -17,7 +17,7 @@ returns-then-branch-clause-attempt g c = λ loops m working.
     (subst (λ (b : Bool). IsSunk s.names.now loops m c.args.certificate.now c.lower_gathered.new.certificate (gathered_of c.asked-gather.result) b) c.if-branch.true (c.in_ok-lower_gathered.ensures.sunk loops m working))
 
 pub returns-clause-attempt : goal.returns-clause-attempt
-returns-clause-attempt g c = λ loops m working.
+returns-clause-attempt c = λ loops m working.
     let s = c.args.subject.now in
     let defined = functions_in s.script.now s.tree.now in
     let ks = script_bounds (script_of s.script.now s.tree.now) in
@@ -26,4 +26,4 @@ returns-clause-attempt g c = λ loops m working.
     (subst (λ (b : Bool). IsSunk s.names.now loops m c.args.certificate.now c.lower_gathered.new.certificate (gathered_of c.asked-gather.result) b) c.if-branch.false (c.in_ok-lower_gathered.ensures.sunk loops m working))
 
 pub asked-gather-requires-clause-sized : goal.asked-gather-requires-clause-sized
-asked-gather-requires-clause-sized g c = c.requires.working.2.count
+asked-gather-requires-clause-sized c = c.requires.working.2.count

@@ -1,0 +1,73 @@
+//! What is known and what is dropped, as sets of the numbers of names.
+ghost use Rattle.std.specs.Prelude.{◌≡◌, ◌≤◌, ◌||◌, [], ◌∷◌, ℕ, List, length, slice_get};
+ghost use Rattle.sh_tree.specs.declared.limits.TheConstants.{MAX_NAMES};
+ghost use Rattle.sh_tree.specs.program.Syntax.{Text};
+ghost use Rattle.sh_table.specs.runs.Environment.{is_one_of};
+ghost use Rattle.sh_facts.specs.Certificates.{in_byte_order, names_at};
+ghost use Rattle.sh_facts.specs.Knowledge.{AreNumbered, assured_facts};
+ghost use Rattle.sh_find.specs.Facts.{meet};
+ghost use Rattle.sh_find.specs.Kept.{numbers_of, seen_of, sight_facts};
+ghost use Rattle.sh_certify.specs.Numbers.{by_number, name_passes};
+
+use sh_facts::knowledge::Assured;
+use sh_facts::names::Names;
+use sh_facts::rows::{RowId, Rows};
+use sh_find::number_set::NumberSet;
+use sh_find::sight::Sight;
+
+/// What is assured of these names.
+pub fn sight_of(names: &Names, assured: &Assured) -> Sight
+    requires { AreNumbered names.now }
+    ensures { sight_facts result ≡ by_number names.now (assured_facts names.now assured.now) }
+{
+    let count = names.count();
+    Sight {
+        vars: NumberSet::from_words(assured.vars().words(), count),
+        functions: NumberSet::from_words(assured.functions().words(), count),
+        args: assured.args(),
+    }
+}
+
+#[tactic(auto, unfolding(sh_find::specs::Facts::meet))]
+fn both(known: Sight, mut sight: Sight) -> Sight
+    ensures { sight_facts result ≡ meet (sight_facts known) (sight_facts sight) }
+{
+    sight.vars.meet(&known.vars);
+    sight.functions.meet(&known.functions);
+    sight.args = sight.args.min(known.args);
+    sight
+}
+
+/// What both claim; where nothing is known, no run comes, and all is claimed.
+#[tactic(auto, unfolding(sh_find::specs::Kept::seen_of, sh_find::specs::Facts::meet))]
+pub fn met(known: Option<Sight>, sight: Sight) -> Sight
+    ensures { sight_facts result ≡ meet (seen_of known) (sight_facts sight) }
+{
+    let Some(known) = known else {
+        return sight;
+    };
+    both(known, sight)
+}
+
+/// Adds a name, if it is one of these.
+pub fn add_name(set: &mut NumberSet, names: &Names, name: &[u8])
+    requires { AreNumbered names.now }
+    ensures { (k : ℕ) → numbers_of set.new k ≡ (numbers_of set.old k || name_passes (is_one_of (name.now ∷ [])) (slice_get names.now k)) }
+{
+    match names.number(name) {
+        Some(number) => set.add(number),
+        None => {}
+    }
+}
+
+/// Adds the names of a row.
+pub fn add_row(set: &mut NumberSet, rows: &Rows, id: RowId)
+    requires { rows.now.count ≤ MAX_NAMES }
+    ensures { (names : List Text) → AreNumbered names → rows.now.count ≡ length names
+        → (k : ℕ) → numbers_of set.new k ≡ (numbers_of set.old k || name_passes (is_one_of (names_at (in_byte_order names) rows.now id)) (slice_get names k)) }
+{
+    match rows.row(id) {
+        Some(_row) => set.join_row(rows, id),
+        None => {}
+    }
+}
