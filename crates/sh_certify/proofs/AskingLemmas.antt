@@ -242,7 +242,7 @@ module _ (x : Setting) (h : AreNumbered x.names) where
   slot_fits (views.ReturnsZero f) = claimed_fits (λ (e : FunctionEntry). e.zero) _ _ ((entries x).returns_zero f)
   slot_fits (views.ReturnsNonzero f) = claimed_fits (λ (e : FunctionEntry). e.nonzero) _ _ ((entries x).returns_nonzero f)
 
-  by_constraints : (d : Declared) → ByConstraints Gathered gathering x d
+  pub by_constraints : (d : Declared) → ByConstraints Gathered gathering x d
   unfolding claimed_at knows gathered
   by_constraints d = record {
     all = all_gathered x.names x.functions d (certificate x);
@@ -255,10 +255,10 @@ module _ (x : Setting) (h : AreNumbered x.names) where
 -- A script that is admitted
 
 module _ (b : List ℕ) (d : Declared) (t : Script) (names : List Text) (a : IsAdmitted b d t names) where
-  commands_numbered : is_numbered (script_of b t) ≡ true
+  pub commands_numbered : is_numbered (script_of b t) ≡ true
   commands_numbered = read_is_numbered b t (MAX_NESTING, a.reading.1.0, a.reading.1.1)
 
-  few_commands : length (table_of b t).rows ≤ MAX_COMMANDS
+  pub few_commands : length (table_of b t).rows ≤ MAX_COMMANDS
   few_commands = read_has_few_commands b t a.reading.1
 
   walk_gathers : (x : Setting) (old : Gathered) → AreNumbered x.names → x.names ≡ names → x.functions ≡ (table_of b t).functions.names → x.rows ≡ (table_of b t).rows

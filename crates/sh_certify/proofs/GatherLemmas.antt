@@ -18,7 +18,8 @@ use Rattle.sh_facts.specs.Sheets.{Sheet, certificate_of, claim_at, function_at}
 use Rattle.sh_facts.specs.Views.{Certificate, Slot, view_facts, lost}
 use Rattle.sh_facts.proofs.KnowledgeLemmas.{same_tests, stands_there}
 use Rattle.sh_facts.proofs.MonotoneLemmas.{fits_below}
-use Rattle.sh_facts.proofs.OrderLemmas.{known_within, known_parts, within_nowhere, nowhere_known, within_itself, meet_greatest, among_all}
+use Rattle.sh_facts.proofs.OrderLemmas.{known_within, within_itself, meet_greatest, among_all}
+use Rattle.sh_rules.proofs.AboveLemmas.{among_grows}
 use Rattle.sh_find.specs.Facts as number
 use Rattle.sh_find.specs.Kept.{IsNamed}
 use Rattle.sh_certify.specs.declared.place.Place.{Place}
@@ -41,17 +42,6 @@ among_less names (Known v f a) =
   where
     le_self : (a : ℕ) → a ≤ a
     le_self a = omega arith
-
-pub among_grows : (names : List Text) (f g : Facts) → IsWithin f g → IsWithin (among names f) (among names g)
-unfolding among
-among_grows names f NotReached h = within_nowhere _
-among_grows names NotReached (Known w g b) h = absurd (nowhere_known w g b h)
-among_grows names (Known v f a) (Known w g b) h =
-    let s = known_parts v w f g a b h in
-    known_within _ _ _ _ a b
-    (λ t e. let both = and_parts (is_one_of names t) (v t) e in and_from _ _ both.0 (s.vars t both.1))
-    (λ t e. let both = and_parts (is_one_of names t) (f t) e in and_from _ _ both.0 (s.functions t both.1))
-    s.args
 
 only_known : (names vs : List Text) → list_all (is_one_of names) vs ≡ true → (t : Text) → (is_one_of names t && is_one_of vs t) ≡ is_one_of vs t
 only_known names vs e t = same_tests _ _ (λ h. (and_parts (is_one_of names t) (is_one_of vs t) h).1) (λ h. and_from _ _ (among_all (is_one_of names) vs e t h) h)
@@ -138,21 +128,26 @@ module _ (names functions : List Text) (d : Declared) where
   if_below true s z a b = a
   if_below false s z a b = b
 
-  pub numbered_only : (c : Certificate) (ks : List Constraint) (g : Gathered) → AreNumbers (length names) g → AreNumbers (length names) (all_gathered names functions d c g ks)
-  unfolding gathered bounded counted
-  numbered_only c [] g a = a
-  numbered_only c (Within slot n rule v ∷ ks) g a = numbered_only c ks (gathered names functions d c g (Within slot n rule v)) (record {
-    known = if_named (is_at (place_of functions slot) g.place) _ _ (met_named g.known (by_number names (view_facts d c v)) a.known (number_named (view_facts d c v))) a.known;
+  pub place_numbered : (slot : Slot) (c : Claim) (k : Facts) (g : Gathered) → AreNumbers (length names) g → AreNumbers (length names) (bounded names functions slot c k g)
+  unfolding bounded
+  place_numbered slot c k g a = record {
+    known = if_named (is_at (place_of functions slot) g.place) _ _ (met_named g.known (by_number names k) a.known (number_named k)) a.known;
     sets = a.sets;
-  })
-  numbered_only c (Counted f n loss ∷ ks) g a = numbered_only c ks (gathered names functions d c g (Counted f n loss)) (record {
-    known = a.known;
-    sets = if_below (is_number (number_of functions f) g.function) _ _ (joined_below (lost d c n loss) g.sets a.sets) a.sets;
-  })
+  }
+
+  pub drop_numbered : (f : Text) (may lost : Names) (g : Gathered) → AreNumbers (length names) g → AreNumbers (length names) (counted names functions f may lost g)
+  unfolding counted
+  drop_numbered f may lost g a = record { known = a.known; sets = if_below (is_number (number_of functions f) g.function) _ _ (joined_below lost g.sets a.sets) a.sets }
+
+  pub numbered_only : (c : Certificate) (ks : List Constraint) (g : Gathered) → AreNumbers (length names) g → AreNumbers (length names) (all_gathered names functions d c g ks)
+  unfolding gathered
+  numbered_only c [] g a = a
+  numbered_only c (Within slot n rule v ∷ ks) g a = numbered_only c ks (gathered names functions d c g (Within slot n rule v)) (place_numbered slot (c.claim slot) (view_facts d c v) g a)
+  numbered_only c (Counted f n loss ∷ ks) g a = numbered_only c ks (gathered names functions d c g (Counted f n loss)) (drop_numbered f (c.drops f) (lost d c n loss) g a)
 
   -- What keeps the rules claims no more than is gathered, and drops no less
 
-  module _ (c : Certificate) (other : Sheet) (below : IsBelow (certificate_of functions other) c) (fit : (o : Option Place) → claim_fits names (claim_there other o) ≡ true) where
+  module _ (other : Sheet) (fit : (o : Option Place) → claim_fits names (claim_there other o) ≡ true) where
     is_there : (o : Option Place) (p : Place) → is_at o p ≡ true → o ≡ Some p
     unfolding is_at
     is_there None p e = absurd (true≢false (sym e))
@@ -186,30 +181,39 @@ module _ (names functions : List Text) (d : Declared) where
           | inr h ↦ inr (sym (ap (name_passes (is_one_of ts)) (stands_there names k x is)) ∙ h)
         ]
 
+    -- where it claims no more at a place, and drops no less
+
+    pub place_stands : (slot : Slot) (c : Claim) (f : Facts) (g : Gathered) → IsWithin (facts ((certificate_of functions other).claim slot)) f → Stands names other g
+        → Stands names other (bounded names functions slot c f g)
+    unfolding bounded
+    place_stands slot c f g w s = record {
+      place = elim (cases_Bool (is_at (place_of functions slot) g.place)) [
+        | inl e ↦ rw e (asked slot f g w s e)
+        | inr e ↦ rw e s.place
+      ];
+      vars = s.vars;
+      functions = s.functions;
+    }
+
+    pub drop_stands : (f : Text) (may dropped : Names) (g : Gathered) → AreAmong dropped ((certificate_of functions other).drops f) → Stands names other g
+        → Stands names other (counted names functions f may dropped g)
+    unfolding counted
+    drop_stands f may dropped g a s = elim (cases_Bool (is_number (number_of functions f) g.function)) [
+      | inl e ↦
+          let here : (function_at functions other.functions f).drops ≡ drops_there other (Some g.function) = drops_placed functions other f ∙ ap (drops_there other) (is_its (number_of functions f) g.function e) in
+          rw e (record {
+            place = s.place;
+            vars = λ x t. elim (lost_name g.sets.vars dropped.vars x t) [ inl h ↦ s.vars x h | inr h ↦ subst (λ k. is_one_of k.vars x ≡ true) here (a.vars x h) ];
+            functions = λ x t. elim (lost_name g.sets.functions dropped.functions x t) [ inl h ↦ s.functions x h | inr h ↦ subst (λ k. is_one_of k.functions x ≡ true) here (a.functions x h) ];
+          })
+      | inr e ↦ rw e (record { place = s.place; vars = s.vars; functions = s.functions })
+    ]
+
+  module _ (c : Certificate) (other : Sheet) (below : IsBelow (certificate_of functions other) c) (fit : (o : Option Place) → claim_fits names (claim_there other o) ≡ true) where
     stands_on : (k : Constraint) (g : Gathered) → broken d (certificate_of functions other) k ≡ [] → Stands names other g → Stands names other (gathered names functions d c g k)
-    unfolding gathered bounded counted Fits
-    stands_on (Within slot n rule v) g none s =
-        let w : IsWithin (facts ((certificate_of functions other).claim slot)) (view_facts d c v) = fits_below d (certificate_of functions other) c (Within slot n rule v) below none in
-        record {
-          place = elim (cases_Bool (is_at (place_of functions slot) g.place)) [
-            | inl e ↦ rw e (asked slot (view_facts d c v) g w s e)
-            | inr e ↦ rw e s.place
-          ];
-          vars = s.vars;
-          functions = s.functions;
-        }
-    stands_on (Counted f n loss) g none s =
-        let a : AreAmong (lost d c n loss) ((certificate_of functions other).drops f) = fits_below d (certificate_of functions other) c (Counted f n loss) below none in
-        elim (cases_Bool (is_number (number_of functions f) g.function)) [
-          | inl e ↦
-              let here : (function_at functions other.functions f).drops ≡ drops_there other (Some g.function) = drops_placed functions other f ∙ ap (drops_there other) (is_its (number_of functions f) g.function e) in
-              rw e (record {
-                place = s.place;
-                vars = λ x t. elim (lost_name g.sets.vars (lost d c n loss).vars x t) [ inl h ↦ s.vars x h | inr h ↦ subst (λ k. is_one_of k.vars x ≡ true) here (a.vars x h) ];
-                functions = λ x t. elim (lost_name g.sets.functions (lost d c n loss).functions x t) [ inl h ↦ s.functions x h | inr h ↦ subst (λ k. is_one_of k.functions x ≡ true) here (a.functions x h) ];
-              })
-          | inr e ↦ rw e (record { place = s.place; vars = s.vars; functions = s.functions })
-        ]
+    unfolding gathered Fits
+    stands_on (Within slot n rule v) g none s = place_stands other fit slot (c.claim slot) (view_facts d c v) g (fits_below d (certificate_of functions other) c (Within slot n rule v) below none) s
+    stands_on (Counted f n loss) g none s = drop_stands other fit f (c.drops f) (lost d c n loss) g (fits_below d (certificate_of functions other) c (Counted f n loss) below none) s
 
     pub stands_all : (ks : List Constraint) (g : Gathered) → flat_map (broken d (certificate_of functions other)) ks ≡ [] → Stands names other g → Stands names other (all_gathered names functions d c g ks)
     stands_all [] g none s = s

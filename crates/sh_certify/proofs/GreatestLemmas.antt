@@ -52,7 +52,7 @@ module _ (names : List Text) (loops : List Bool) (m : ℕ) (declared : Declared)
   pub settled : (old new : kept.Certificate) (done : Bool) → done ≡ true → IsSoFar names loops m declared defined ks old new done → IsSettled names loops m declared defined ks old new
   settled old new done e s = record { working = s.working; rules = s.rules e; above = s.above }
 
-  heights : (c : kept.Certificate) → IsWorking names loops m c → height (length names) (length c.entries.items) (length c.functions.items) c ≡ height (length names) (length loops) m c
+  pub heights : (c : kept.Certificate) → IsWorking names loops m c → height (length names) (length c.entries.items) (length c.functions.items) c ≡ height (length names) (length loops) m c
   heights c w = rw (w.commands, w.defined) refl
 
   pub less_left : (mid new : kept.Certificate) (before done : Bool) → before ≡ false → IsWorking names loops m mid → IsTurn names loops m declared defined ks mid new done → left names new done < left names mid before

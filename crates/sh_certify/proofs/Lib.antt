@@ -10,3 +10,4 @@ pub mod TurnLemmas
 pub mod GreatestLemmas
 pub mod TogetherLemmas
 pub mod AskingLemmas
+pub mod PassLemmas

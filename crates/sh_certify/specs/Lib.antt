@@ -8,3 +8,4 @@ pub mod Gathering
 pub mod Turns
 pub mod Together
 pub mod Spots
+pub mod Passes

@@ -9,6 +9,7 @@ ghost use Rattle.sh_certify.specs.Working.{IsWorking};
 
 use crate::first::unreached;
 use crate::gather::Target;
+use crate::pass::pass;
 use crate::subject::Subject;
 use crate::turn::turn;
 use sh_commands::commands;
@@ -20,7 +21,7 @@ use std::alloc::{AllocError, Global};
 /// As many commands as a text of a certificate may have.
 const MOST_COMMANDS: usize = 65_535;
 
-// Takes turns until the certificate keeps all flow rules.
+// Passes over the items, and takes turns, until the certificate keeps all flow rules.
 fn settle(
     subject: &Subject<'_>,
     certificate: &mut Certificate,
@@ -36,6 +37,7 @@ fn settle(
     let mut target = Target::first();
     let mut kept = false;
     'turns: while !kept {
+        pass(subject, certificate, probe)?;
         kept = turn(subject, certificate, probe, &mut target)?;
     }
     Ok(())

@@ -8,6 +8,7 @@ pub mod gather;
 pub mod kept;
 pub mod laws;
 pub mod lower;
+pub mod pass;
 pub mod place;
 pub mod sights;
 pub mod spot;

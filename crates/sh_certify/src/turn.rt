@@ -77,8 +77,12 @@ fn lower_known(
     }
 }
 
-// Lowers the certificate by what was gathered, and says whether it claimed more or had a function drop less.
-fn lower_gathered(
+/// Lowers the certificate by what was gathered, and says whether it claimed more or had a function drop less.
+///
+/// # Errors
+///
+/// Where a growth was refused or no place for a row is left; and where a name is asked for that no text of a certificate may have.
+pub fn lower_gathered(
     names: &Names,
     certificate: &mut Certificate,
     probe: &mut BitRow,

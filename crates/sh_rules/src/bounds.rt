@@ -2,7 +2,11 @@
 ghost use Rattle.std.specs.Prelude.{◌≡◌, List, ℕ, fold};
 ghost use Rattle.std.specs.List.{list_any};
 ghost use Rattle.sh_tree.specs.declared.tree.ClauseEnd.TheVariants as clause;
+ghost use Rattle.sh_facts.specs.declared.rule.FlowRule.TheVariants.{F10, F11};
+ghost use Rattle.sh_facts.specs.Views.{Before};
+ghost use Rattle.sh_rules.specs.Behind.{both};
 ghost use Rattle.sh_rules.specs.Bounds as bounds;
+ghost use Rattle.sh_rules.specs.Settings.{known_at};
 ghost use Rattle.sh_rules.specs.Tells as tells;
 ghost use Rattle.sh_rules.specs.Tells.{fault_of};
 ghost use Rattle.sh_rules.specs.Walked.{trail};
@@ -79,6 +83,43 @@ fn tell_otherwise<A: Asked>(
         }
         None => asked.bound(claims, Place::Zero(number), fault, known),
     }
+}
+
+fn tell_conditional<A: Asked>(
+    claims: &Claims<'_>,
+    number: u32,
+    known: &Knowledge,
+    branches: &[Branch],
+    otherwise: &Option<Script>,
+    asked: &mut A,
+)
+    ensures { A.kept asked.new ≡ tells.otherwise_told A.asked (setting claims.now) number (fold (tells.branch_told A.asked (setting claims.now) number) (trail (facts_in (setting claims.now) known.now) (A.kept asked.old)) branches.now) otherwise.now }
+{
+    let mut left = *known;
+    tell_branches(claims, number, &mut left, branches, asked);
+    tell_otherwise(claims, number, &left, otherwise, asked);
+}
+
+fn tell_group<A: Asked>(
+    claims: &Claims<'_>,
+    number: u32,
+    known: &Knowledge,
+    list: &Script,
+    asked: &mut A,
+)
+    ensures { A.kept asked.new ≡ bounds.leaves_told A.asked (setting claims.now) (bounds.fault number F10) (tells.script_left (setting claims.now) (facts_in (setting claims.now) known.now) list.now) (A.kept asked.old) }
+{
+    let rule = FlowRule::F10;
+    let behind = script_behind(claims, known, list);
+    tell_leaves(claims, Fault { number, rule }, &behind, asked);
+}
+
+fn tell_subshell<A: Asked>(claims: &Claims<'_>, number: u32, asked: &mut A)
+    ensures { A.kept asked.new ≡ bounds.leaves_told A.asked (setting claims.now) (bounds.fault number F11) (both (known_at (setting claims.now) (Before number))) (A.kept asked.old) }
+{
+    let rule = FlowRule::F11;
+    let behind = Behind::both(&claims.before(number));
+    tell_leaves(claims, Fault { number, rule }, &behind, asked);
 }
 
 // The head of a loop is entered from before it and from the end of each turn.
@@ -318,24 +359,12 @@ pub fn tell_compound<A: Asked>(
 {
     match kind {
         Kind::Simple(_) => (),
-        Kind::Group(list) => {
-            let rule = FlowRule::F10;
-            let behind = script_behind(claims, known, list);
-            tell_leaves(claims, Fault { number, rule }, &behind, asked);
-        }
-        Kind::Subshell(_) => {
-            let rule = FlowRule::F11;
-            let behind = Behind::both(&claims.before(number));
-            tell_leaves(claims, Fault { number, rule }, &behind, asked);
-        }
+        Kind::Group(list) => tell_group(claims, number, known, list, asked),
+        Kind::Subshell(_) => tell_subshell(claims, number, asked),
         Kind::Cond {
             branches,
             otherwise,
-        } => {
-            let mut left = *known;
-            tell_branches(claims, number, &mut left, branches.as_slice(), asked);
-            tell_otherwise(claims, number, &left, otherwise, asked);
-        }
+        } => tell_conditional(claims, number, known, branches.as_slice(), otherwise, asked),
         Kind::Loop {
             kind: turns,
             condition,
