@@ -111,6 +111,23 @@ TOWERS = (
     tower('if [ "$x" = a ]; then ', "echo word", "; fi", 30),
 )
 
+DOCUMENT = "cat <<E\n" + "some words of a body with $x and ${y-z} in them, " * 2 + "\nE"
+
+
+def one_document(size):
+    """One here-document of as many lines as fit."""
+    line = "a line of words with $x and ${y-z} in it\n"
+    return "cat <<E\n" + line * ((size - 10) // len(line)) + "E\n"
+
+
+def documents_in(depth):
+    """Here-documents in one another's bodies."""
+    text = "echo a few plain words"
+    for level in range(depth):
+        text = f"cat <<E{level}\nwords $({text}\n)\nE{level}"
+    return text
+
+
 # How a script of a size is made, by what is in it.
 KINDS = {
     "straight": lambda size: script_of(straight_lines(), size),
@@ -130,6 +147,9 @@ KINDS = {
     "towers": lambda size: script_of(repeated_lines(*TOWERS), size),
     "case and loops": lambda size: script_of(repeated_lines(*CASES_AND_LOOPS), size),
     "substitutions": lambda size: script_of(repeated_lines(SUBSTITUTIONS), size),
+    "one document": one_document,
+    "documents": lambda size: script_of(repeated_lines(DOCUMENT), size),
+    "deep documents": lambda size: script_of(repeated_lines(documents_in(60)), size),
     "comments": lambda size: script_of(repeated_lines("# a comment 'of $(some) \"words", "a \\", "b # more"), size),
 }
 

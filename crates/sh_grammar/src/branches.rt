@@ -83,6 +83,7 @@ impl<F: Fn(Global, &[u8], State) -> Result<(Script, State), Refusal>> Grammar<F>
 
     /// The conditional construct that begins with `if`.
     #[tactic(auto, using(crate::proofs::BranchLemmas::cond_refused, crate::proofs::BranchLemmas::cond_read))]
+    #[inline(never)]
     pub fn cond(&self, script: &[u8], from: State) -> Result<(Kind, State), Refusal>
         requires small { length script.now ≤ MAX_SCRIPT }
         requires stands { Stands script.now from }

@@ -43,6 +43,7 @@ pub fn parted(script: &[u8], lead: Lead, from: State) -> State
 impl<F: Fn(Global, &[u8], State) -> Result<(Script, State), Refusal>> Grammar<F> {
     /// Behind a newline, and the bodies of the here-documents before it.
     #[tactic(auto, using(crate::proofs::BreakLemmas::line_across, crate::proofs::BreakLemmas::line_lies))]
+    #[inline(never)]
     fn line(&self, script: &[u8], from: State) -> Result<State, Refusal>
         requires small { length script.now ≤ MAX_SCRIPT }
         requires stands { Stands script.now from }

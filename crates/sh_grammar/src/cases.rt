@@ -56,6 +56,7 @@ fn unopened(script: &[u8], from: State) -> State
 impl<F: Fn(Global, &[u8], State) -> Result<(Script, State), Refusal>> Grammar<F> {
     /// The word at a token, whose fields are not split.
     #[tactic(auto, using(crate::proofs::CaseLemmas::unsplit_none, crate::proofs::CaseLemmas::unsplit_refused, crate::proofs::CaseLemmas::unsplit_read, crate::proofs::ReaderLemmas::refused_none))]
+    #[inline(never)]
     fn unsplit(&self, script: &[u8], from: State) -> Result<(Word, State), Refusal>
         requires small { length script.now ≤ MAX_SCRIPT }
         requires stands { Stands script.now from }
@@ -74,6 +75,7 @@ impl<F: Fn(Global, &[u8], State) -> Result<(Script, State), Refusal>> Grammar<F>
 
     /// Patterns between bars, and the `)` behind them.
     #[tactic(auto, using(crate::proofs::CaseLemmas::patterns_none, crate::proofs::CaseLemmas::patterns_refused, crate::proofs::CaseLemmas::patterns_wrong, crate::proofs::CaseLemmas::patterns_last, crate::proofs::CaseLemmas::patterns_more, crate::proofs::ReaderLemmas::refused_none))]
+    #[inline(never)]
     fn patterns(&self, script: &[u8], from: State) -> Result<(Items<Word>, State), Refusal>
         requires small { length script.now ≤ MAX_SCRIPT }
         requires stands { Stands script.now from }
@@ -151,6 +153,7 @@ impl<F: Fn(Global, &[u8], State) -> Result<(Script, State), Refusal>> Grammar<F>
 
     /// `case`, a word, `in` and clauses.
     #[tactic(auto, using(crate::proofs::CaseLemmas::case_word_refused, crate::proofs::CaseLemmas::case_stopped, crate::proofs::CaseLemmas::case_in_stopped, crate::proofs::CaseLemmas::case_none, crate::proofs::CaseLemmas::case_refused, crate::proofs::CaseLemmas::case_read, crate::proofs::ReaderLemmas::refused_none))]
+    #[inline(never)]
     pub fn case_of(&self, script: &[u8], from: State) -> Result<(Kind, State), Refusal>
         requires small { length script.now ≤ MAX_SCRIPT }
         requires stands { Stands script.now from }

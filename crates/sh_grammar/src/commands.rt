@@ -32,6 +32,7 @@ fn is_bare(redirects: &Items<Redirect>) -> bool
 impl<F: Fn(Global, &[u8], State) -> Result<(Script, State), Refusal>> Grammar<F> {
     /// A simple command.
     #[tactic(auto, using(crate::proofs::CommandLemmas::command_crowded, crate::proofs::CommandLemmas::simple_read, crate::proofs::CommandLemmas::simple_refused))]
+    #[inline(never)]
     fn simple(&self, script: &[u8], from: State) -> Result<(Command, State), Refusal>
         requires small { length script.now ≤ MAX_SCRIPT }
         requires stands { Stands script.now from }

@@ -56,6 +56,7 @@ fn outside(script: &[u8], depth: u8, close: State) -> State
 impl<F: Fn(Global, &[u8], State) -> Result<(Script, State), Refusal>> Grammar<F> {
     /// A list one level deeper, up to the token of one byte that closes it.
     #[tactic(auto, using(crate::proofs::CompoundLemmas::bracket_refused, crate::proofs::CompoundLemmas::bracket_open, crate::proofs::CompoundLemmas::bracket_read, crate::proofs::ReaderLemmas::refused_none))]
+    #[inline(always)]
     fn bracketed(&self, script: &[u8], close: Lead, from: State) -> Result<(Script, State), Refusal>
         requires small { length script.now ≤ MAX_SCRIPT }
         requires stands { Stands script.now from }

@@ -48,6 +48,7 @@ fn parentheses(script: &[u8], from: State) -> Result<State, Refusal>
 impl<F: Fn(Global, &[u8], State) -> Result<(Script, State), Refusal>> Grammar<F> {
     /// A definition: a name, two parentheses and a compound command.
     #[tactic(auto, using(crate::proofs::CommandLemmas::command_crowded, crate::proofs::DefinitionLemmas::definition_bare, crate::proofs::DefinitionLemmas::definition_stopped, crate::proofs::DefinitionLemmas::definition_empty, crate::proofs::DefinitionLemmas::definition_refused, crate::proofs::DefinitionLemmas::definition_read, crate::proofs::ReaderLemmas::refused_none))]
+    #[inline(never)]
     pub fn definition(&self, script: &[u8], from: State) -> Result<(Command, State), Refusal>
         requires small { length script.now ≤ MAX_SCRIPT }
         requires stands { Stands script.now from }

@@ -72,6 +72,7 @@ impl<F: Fn(Global, &[u8], State) -> Result<(Script, State), Refusal>> Grammar<F>
 
     /// What stands between the name and `do`.
     #[tactic(auto, using(crate::proofs::ForLemmas::arguments_ended, crate::proofs::ForLemmas::arguments_stopped, crate::proofs::ForLemmas::for_words_stopped, crate::proofs::ForLemmas::arguments_read, crate::proofs::ForLemmas::for_words_none, crate::proofs::ForLemmas::for_words_refused, crate::proofs::ForLemmas::for_words_read, crate::proofs::ReaderLemmas::refused_none))]
+    #[inline(never)]
     fn for_words(&self, script: &[u8], from: State) -> Result<(Option<Items<Word>>, State), Refusal>
         requires small { length script.now ≤ MAX_SCRIPT }
         requires stands { Stands script.now from }
@@ -99,6 +100,7 @@ impl<F: Fn(Global, &[u8], State) -> Result<(Script, State), Refusal>> Grammar<F>
 
     /// `for`, a name, its words and what it does.
     #[tactic(auto, using(crate::proofs::ForLemmas::for_unnamed, crate::proofs::ForLemmas::for_refused, crate::proofs::ForLemmas::for_body_refused, crate::proofs::ForLemmas::for_read, crate::proofs::ReaderLemmas::refused_none))]
+    #[inline(never)]
     pub fn for_loop(&self, script: &[u8], from: State) -> Result<(Kind, State), Refusal>
         requires small { length script.now ≤ MAX_SCRIPT }
         requires stands { Stands script.now from }

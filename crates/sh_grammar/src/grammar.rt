@@ -35,6 +35,7 @@ impl<F: Fn(Global, &[u8], State) -> Result<(Script, State), Refusal>> Grammar<F>
 
     /// A sequence of one item or more.
     #[tactic(auto, using(crate::proofs::CompoundLemmas::list_refused, crate::proofs::CompoundLemmas::list_empty, crate::proofs::CompoundLemmas::list_read, crate::proofs::ReaderLemmas::refused_none))]
+    #[inline(always)]
     pub fn list(&self, script: &[u8], from: State) -> Result<(Script, State), Refusal>
         requires small { length script.now ≤ MAX_SCRIPT }
         requires stands { Stands script.now from }

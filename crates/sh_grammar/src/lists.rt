@@ -89,6 +89,7 @@ impl<F: Fn(Global, &[u8], State) -> Result<(Script, State), Refusal>> Grammar<F>
 
     /// The pipelines behind the first one of an and-or list.
     #[tactic(auto, using(crate::proofs::ListLemmas::links_none, crate::proofs::ListLemmas::links_refused, crate::proofs::ListLemmas::links_stopped, crate::proofs::ListLemmas::links_more, crate::proofs::ListLemmas::links_all, crate::proofs::WidthLemmas::link_inside))]
+    #[inline(never)]
     fn links(&self, script: &[u8], from: State) -> Result<(Items<(Link, Pipe)>, State), Refusal>
         requires small { length script.now ≤ MAX_SCRIPT }
         requires stands { Stands script.now from }

@@ -28,6 +28,7 @@ fn word_of(kind: LoopKind) -> Reserved
 impl<F: Fn(Global, &[u8], State) -> Result<(Script, State), Refusal>> Grammar<F> {
     /// `do`, a list and `done`.
     #[tactic(auto, using(crate::proofs::LoopLemmas::do_none, crate::proofs::LoopLemmas::do_refused, crate::proofs::LoopLemmas::do_read, crate::proofs::ReaderLemmas::refused_none))]
+    #[inline(always)]
     pub fn do_group(&self, script: &[u8], from: State) -> Result<(Script, State), Refusal>
         requires small { length script.now ≤ MAX_SCRIPT }
         requires stands { Stands script.now from }
@@ -42,6 +43,7 @@ impl<F: Fn(Global, &[u8], State) -> Result<(Script, State), Refusal>> Grammar<F>
 
     /// The loop of the kind.
     #[tactic(auto, using(crate::proofs::LoopLemmas::condition_refused, crate::proofs::LoopLemmas::body_refused, crate::proofs::LoopLemmas::loop_read))]
+    #[inline(never)]
     pub fn loop_of(
         &self,
         script: &[u8],

@@ -131,6 +131,7 @@ impl<F: Fn(Global, &[u8], State) -> Result<(Script, State), Refusal>> Grammar<F>
 
     /// The redirections behind a compound command.
     #[tactic(auto, using(crate::proofs::RedirectLemmas::redirects_none, crate::proofs::RedirectLemmas::redirects_more, crate::proofs::RedirectLemmas::redirects_refused, crate::proofs::RedirectLemmas::redirects_all))]
+    #[inline(never)]
     pub fn redirects_at(
         &self,
         script: &[u8],

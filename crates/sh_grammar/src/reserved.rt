@@ -81,6 +81,7 @@ pub fn expect(script: &[u8], reserved: Reserved, from: State) -> Result<State, R
 impl<F: Fn(Global, &[u8], State) -> Result<(Script, State), Refusal>> Grammar<F> {
     /// A list and the reserved word behind it.
     #[tactic(auto, using(crate::proofs::LoopLemmas::before_refused, crate::proofs::LoopLemmas::before_none, crate::proofs::LoopLemmas::before_read, crate::proofs::ReaderLemmas::refused_none))]
+    #[inline(always)]
     pub fn list_before(
         &self,
         script: &[u8],

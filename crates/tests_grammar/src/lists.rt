@@ -1,4 +1,4 @@
-//! Lists of simple commands, and the forms that are not read yet.
+//! Lists of simple commands: pipelines, and-or lists, separators and what ends them.
 use crate::rows::{Row, check};
 use std::test::Fail;
 

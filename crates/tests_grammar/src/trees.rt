@@ -1,4 +1,4 @@
-//! Trees of forms that are not read yet, as text.
+//! Trees of each kind of command, as text.
 use sh_show::{push_command, push_redirect, push_script};
 use sh_tree::tree::{
     AndOr, Branch, Clause, ClauseEnd, Command, Direction, Element, HereDoc, Item, Kind, Link,
