@@ -4,6 +4,7 @@ ghost use Rattle.sh_tree.specs.declared.limits.TheConstants.{MAX_COMMANDS};
 ghost use Rattle.sh_tree.specs.program.Trees.{script_of};
 ghost use Rattle.sh_table.specs.Calls.{table_of};
 ghost use Rattle.sh_table.specs.Numbering.{is_numbered};
+ghost use Rattle.sh_facts.specs.Knowledge.{AreNumbered};
 ghost use Rattle.sh_facts.specs.Names.{IsNumbering};
 
 use sh_facts::names::Names;
@@ -52,7 +53,8 @@ fn text_with(
 
 /// The names of a script.
 fn names_of(alloc: Global, tree: &Script, script: &[u8], policy: &Policy) -> Result<Names, Refusal>
-    ensures { IfOk result (IsNumbering script.now tree.now policy.now) }
+    ensures ordered { IfOk result (IsNumbering script.now tree.now policy.now) }
+    ensures numbered { IfOk result AreNumbered }
 {
     Names::new(alloc, tree, script, policy)
 }
