@@ -1,7 +1,8 @@
 //! The greatest certificates of scripts, and what is told of them.
-use sh_engine::lint::{certificate, lint};
+use sh_engine::engine::run;
 use sh_facts::policy::Policy;
-use sh_report::texts;
+use sh_report::counted::Counted;
+use sh_report::task::{Action, Task};
 use std::process::Abort;
 use std::test::Fail;
 
@@ -94,20 +95,24 @@ const ROWS: &[Row] = &[
     },
 ];
 
-/// Holds what is told of a script, and which certificate is shown.
-fn check(rt: &(impl Abort + AllocGlobal), row: &Row) -> Result<(), Fail> {
-    let alloc = rt.alloc();
-    let policy = Policy::new(alloc, row.names, row.args)?;
-    let told = texts::answer(alloc, row.script, &lint(alloc, row.script, &policy))?;
-    let shown = certificate(alloc, row.script, &policy);
-    let is_shown = match &shown {
-        Ok(text) => text.as_slice() == row.certificate,
-        Err(_) => false,
-    };
+/// Holds what is written where this is done with a script.
+fn check(
+    rt: &(impl Abort + AllocGlobal),
+    action: Action,
+    row: &Row,
+    wanted: &[u8],
+) -> Result<(), Fail> {
+    let policy = Policy::new(rt.alloc(), row.names, row.args)?;
+    let task = Task { action, policy };
+    let mut script = Counted::new(row.script);
+    let mut certificate = Counted::new(b"".as_slice());
+    let mut out = Counted::new(Vec::<u8>::new(rt.alloc()));
+    run(rt.alloc(), &task, &mut script, &mut certificate, &mut out)?;
     assert!(rt;
-        told.as_slice() == row.told && is_shown,
-        "{script:?}: {told:?} {shown:?}",
-        script = row.script
+        out.inner.as_slice() == wanted,
+        "{script:?}: {out:?}",
+        script = row.script,
+        out = out.inner
     );
     Ok(())
 }
@@ -115,7 +120,8 @@ fn check(rt: &(impl Abort + AllocGlobal), row: &Row) -> Result<(), Fail> {
 #[test]
 fn greatest_certificates(rt: HostRuntime) -> Result<(), Fail> {
     for row in ROWS {
-        check(&rt, row)?;
+        check(&rt, Action::Lint, row, row.told)?;
+        check(&rt, Action::Cert, row, row.certificate)?;
     }
     Ok(())
 }

@@ -14,12 +14,6 @@ mod findings;
 #[cfg(test)]
 mod greatest;
 #[cfg(test)]
-mod limits;
-#[cfg(test)]
-mod lints;
-#[cfg(test)]
 mod scripts;
 #[cfg(test)]
 mod told;
-#[cfg(test)]
-mod writers;
