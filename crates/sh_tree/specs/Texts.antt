@@ -112,7 +112,6 @@ rule_name rule.ContinueOperand = codes "this operand of continue"
 rule_name rule.BreakOutside = codes "break outside a loop"
 rule_name rule.ContinueOutside = codes "continue outside a loop"
 rule_name rule.ReturnOutside = codes "return outside a function"
-rule_name rule.Later = codes "this command"
 
 abbrev pub rule_text : Rule → List ℕ
 rule_text r = outside (rule_name r)

@@ -171,8 +171,6 @@ pub enum Rule {
     ContinueOutside,
     /// `return` stands outside a function (XCU 2.15, return).
     ReturnOutside,
-    /// The command is not analysed yet.
-    Later,
 }
 
 impl Rule {
@@ -225,7 +223,6 @@ impl Rule {
             Rule::BreakOutside => ("break outside a loop", ""),
             Rule::ContinueOutside => ("continue outside a loop", ""),
             Rule::ReturnOutside => ("return outside a function", ""),
-            Rule::Later => ("this command", ""),
         }
     }
 }

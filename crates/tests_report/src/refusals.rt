@@ -121,7 +121,6 @@ const RULES: &[(Rule, &str)] = &[
         Rule::ReturnOutside,
         "return outside a function is outside the profile",
     ),
-    (Rule::Later, "this command is outside the profile"),
 ];
 
 // Each name where it is refused itself, and where a function has it.

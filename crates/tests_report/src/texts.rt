@@ -113,8 +113,8 @@ const REFUSED: &[(Refusal, &[u8])] = &[
     (Refusal::TooDeep(16), b"refused 3:1: nested too deep\n"),
     (Refusal::TooMany, b"refused: too many commands or names\n"),
     (
-        Refusal::Profile(Rule::Later, 6),
-        b"refused 1:7: this command is outside the profile\n",
+        Refusal::Profile(Rule::CommandUse, 6),
+        b"refused 1:7: this use of command is outside the profile\n",
     ),
     (
         Refusal::CertSyntax(3),
