@@ -5,7 +5,8 @@ Makes scripts of 10 KB, 100 KB and 1 MB, straight ones and ones of each kind of 
 the peak memory of `shset lint`, `dash -n`, `shfmt` and, of straight ones, `shellcheck`, their ratios to shset's, and how they grew
 from the script a tenth as long: by 10 at most where they are linear in the text. All of them read a script whole, whether shset goes
 on to analyse it or not. A script of short lines is 130 KB long in place of 1 MB, since there may be no more commands. Kinds can be
-given as arguments. A tool that is not installed is left out; one that takes longer than the limit is stopped and shown as more than
+given as arguments. `shset cert` writes the script's certificate and `shset check` goes by it, where the script has one that is not too long.
+A tool that is not installed is left out; one that takes longer than the limit is stopped and shown as more than
 that, and is not run on the larger scripts of that kind. The peak memory is that of GNU time (Debian's package time). Run it once the
 program is built.
 
@@ -111,6 +112,25 @@ TOWERS = (
     tower('if [ "$x" = a ]; then ', "echo word", "; fi", 30),
 )
 
+def nested_loops(depth):
+    """Loops in one another, each with an assignment."""
+    return "".join(f"while a; do x{level}=1; " for level in range(depth)) + "b" + "; done" * depth
+
+
+def calling_functions():
+    """Functions that each call the next, in the order in which they are defined."""
+    number = 0
+    while True:
+        yield f'f{number}() {{ x{number % 3000}=1; f{number + 1} "$@"; }}'
+        number += 1
+
+
+def one_function(size):
+    """A function that holds the whole of a script."""
+    body = script_of(straight_lines(), size - 40)
+    return "main() {\n" + body + "}\nmain\n"
+
+
 DOCUMENT = "cat <<E\n" + "some words of a body with $x and ${y-z} in them, " * 2 + "\nE"
 
 
@@ -150,6 +170,11 @@ KINDS = {
     "one document": one_document,
     "documents": lambda size: script_of(repeated_lines(DOCUMENT), size),
     "deep documents": lambda size: script_of(repeated_lines(documents_in(60)), size),
+    "nested loops": lambda size: script_of(repeated_lines(nested_loops(60)), size),
+    "functions": lambda size: script_of(calling_functions(), size),
+    "one function": one_function,
+    "pipelines": lambda size: script_of(repeated_lines("a | b && c"), min(size, 2 * SHORT_LINES)),
+    "more pipelines": lambda size: script_of(repeated_lines("a | b && a | b"), min(size, 2 * SHORT_LINES)),
     "comments": lambda size: script_of(repeated_lines("# a comment 'of $(some) \"words", "a \\", "b # more"), size),
 }
 
@@ -197,6 +222,14 @@ def best(words):
 
 def tools(kind, path):
     yield "shset lint", [PROGRAM, "lint", path]
+    yield "shset cert", [PROGRAM, "cert", path]
+    with open(path + ".cert", "wb") as file:
+        try:
+            made = subprocess.run([PROGRAM, "cert", path], stdout=file, stderr=subprocess.DEVNULL, timeout=LIMIT_SECONDS).returncode == 0
+        except subprocess.TimeoutExpired:
+            made = False
+    if made:
+        yield "shset check", [PROGRAM, "check", path, path + ".cert"]
     if shutil.which("dash"):
         yield "dash -n", ["dash", "-n", path]
     if shutil.which("shfmt"):
