@@ -30,28 +30,11 @@ numbered b d t names a = names_suffice.numbered b t d names a.numbered.0 a.numbe
 
 -- Turns one after the other
 
--- the certificate so far
-pub record IsSoFar (names : List Text) (loops : List Bool) (m : ℕ) (declared : Declared) (defined : List Text) (ks : List Constraint) (old new : kept.Certificate) (done : Bool) : Type 0 where
-  pub working : IsWorking names loops m new
-  pub rules : done ≡ true → flat_map (broken declared (certificate_of defined (sheet_by names new))) ks ≡ []
-  pub above : (d : Sheet) → ((o : Option Place) → claim_fits names (claim_there d o) ≡ true) → flat_map (broken declared (certificate_of defined d)) ks ≡ []
-      → IsBelow (certificate_of defined d) (certificate_of defined (sheet_by names old)) → IsBelow (certificate_of defined d) (certificate_of defined (sheet_by names new))
-
 -- how much is left to lower, and a last turn
 abbrev pub left : List Text → kept.Certificate → Bool → ℕ
 left names c done = cond done 0 (height (length names) (length c.entries.items) (length c.functions.items) c + 1)
 
 module _ (names : List Text) (loops : List Bool) (m : ℕ) (declared : Declared) (defined : List Text) (ks : List Constraint) where
-  pub so_far_none : (c : kept.Certificate) → IsWorking names loops m c → IsSoFar names loops m declared defined ks c c false
-  so_far_none c w = record { working = w; rules = λ e. absurd (true≢false (sym e)); above = λ d fit none below. below }
-
-  pub so_far_more : (old mid new : kept.Certificate) (before done : Bool) → IsSoFar names loops m declared defined ks old mid before → IsTurn names loops m declared defined ks mid new done
-      → IsSoFar names loops m declared defined ks old new done
-  so_far_more old mid new before done s t = record { working = t.working; rules = t.rules; above = λ d fit none below. t.above d fit none (s.above d fit none below) }
-
-  pub settled : (old new : kept.Certificate) (done : Bool) → done ≡ true → IsSoFar names loops m declared defined ks old new done → IsSettled names loops m declared defined ks old new
-  settled old new done e s = record { working = s.working; rules = s.rules e; above = s.above }
-
   pub heights : (c : kept.Certificate) → IsWorking names loops m c → height (length names) (length c.entries.items) (length c.functions.items) c ≡ height (length names) (length loops) m c
   heights c w = rw (w.commands, w.defined) refl
 

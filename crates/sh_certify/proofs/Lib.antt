@@ -10,4 +10,7 @@ pub mod TurnLemmas
 pub mod GreatestLemmas
 pub mod TogetherLemmas
 pub mod AskingLemmas
-pub mod PassLemmas
+pub mod SweepLemmas
+pub mod MetLemmas
+pub mod PlacedLemmas
+pub mod KnownLemmas

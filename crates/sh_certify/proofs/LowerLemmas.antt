@@ -1,5 +1,6 @@
 -- A claim that is lowered, and drops that are added to.
-use Rattle.std.proofs.Common.{◌≡◌, ℕ, ◌+◌, ◌<◌, ◌≤◌, ◌==◌, eqb, nat_eq, Bool, true, false, not, ◌||◌, Option, Some, None, option_map, List, length, slice_get, is_some, refl, sym, ap, ap₂, ◌∙◌, subst, arith, inl, inr, true≢false}
+use Rattle.std.proofs.Common.{◌≡◌, ℕ, ◌+◌, ◌<◌, ◌≤◌, ◌==◌, eqb, nat_eq, Bool, true, false, not, ◌&&◌, ◌||◌, Option, Some, None, option_map, List, length, slice_get, unwrap_or, is_some, refl, sym, ap, ap₂, ◌∙◌, subst, arith, inl, inr, true≢false}
+use Rattle.std.proofs.Math.Bool.{or-false}
 use Rattle.std.proofs.Math.Path.{fun_ext}
 use Rattle.std.proofs.lemmas.Bool.{cases_Bool, and_parts, or_cases, eqb-true}
 use Rattle.indexmap.specs.IndexMap.{get}
@@ -27,7 +28,7 @@ use Rattle.sh_certify.specs.declared.place.Part.TheVariants.{Head}
 use Rattle.sh_certify.specs.declared.place.Place.{Place}
 use Rattle.sh_certify.specs.Places.{same, at, is_of_command, is_of_function, kept_at, drops_at, IsPut, IsDropped}
 use Rattle.sh_certify.specs.Working.{Sets, sets_of, joined, claims, dropped, AreWithin, AreBelow, IsFine, AreFine, IsWorking, IsLowered, IsCounted}
-use Rattle.sh_certify.specs.Writable.{sets_in, IsWritten, text_passes, passes_at}
+use Rattle.sh_certify.specs.Writable.{sets_in, IsWritten}
 use Rattle.sh_certify.proofs.KeptLemmas.{place_same}
 
 -- Rows of drops
@@ -68,26 +69,21 @@ drops_kept rows vars functions f v g a b is same =
 
 -- Names that may stand
 
-text_parts : (t : Text) (v f : Bool) → text_passes (Some t) v f ≡ true → (v ≡ true → is_variable t ≡ true) × (f ≡ true → is_name t ≡ true)
-unfolding text_passes
-text_parts t v f e =
-    let both = and_parts (not v || is_variable t) (not f || is_name t) e in
-    (λ w. implied v (is_variable t) both.0 w, λ w. implied f (is_name t) both.1 w)
-  where
-    implied : (a b : Bool) → (not a || b) ≡ true → a ≡ true → b ≡ true
-    implied true b h w = h
-    implied false b h w = absurd (true≢false (sym w))
-
-pub all_written : (names : List Text) (s : Sets) (n : ℕ) → length names ≤ n → ((k : ℕ) → k < n → passes_at names s k ≡ true) → IsWritten names s
-all_written names s n low h = record {
-  vars = λ k t is e. (parts k t is).0 e;
-  functions = λ k t is e. (parts k t is).1 e;
+-- with the name of one more number, where it may stand
+pub written_more : (names : List Text) (old new : Sets) (n : ℕ) (t : Text) (v f : Bool) → slice_get names n ≡ Some t → v ≡ is_variable t → f ≡ is_name t
+    → ((k : ℕ) → new.vars k ≡ ((v && (k == n)) || old.vars k)) → ((k : ℕ) → new.functions k ≡ ((f && (k == n)) || old.functions k)) → IsWritten names old → IsWritten names new
+written_more names old new n t v f at is_v is_f vars functions w = record {
+  vars = λ k u is e. one k u is (is_variable u) v (old.vars k) (λ same. is_v ∙ ap is_variable same) (w.vars k u is) (sym (vars k) ∙ e);
+  functions = λ k u is e. one k u is (is_name u) f (old.functions k) (λ same. is_f ∙ ap is_name same) (w.functions k u is) (sym (functions k) ∙ e);
 }
   where
-    parts : (k : ℕ) (t : Text) → slice_get names k ≡ Some t → (s.vars k ≡ true → is_variable t ≡ true) × (s.functions k ≡ true → is_name t ≡ true)
-    parts k t is =
-        let l : k < length names = slice_get_within names k t is in
-        text_parts t (s.vars k) (s.functions k) (subst (λ o. text_passes o (s.vars k) (s.functions k) ≡ true) is (h k (omega (arith, l, low))))
+    same_text : (k : ℕ) (u : Text) → slice_get names k ≡ Some u → k ≡ n → t ≡ u
+    same_text k u is e = ap (λ o. unwrap_or o t) (sym at ∙ ap (slice_get names) (sym e) ∙ is)
+
+    one : (k : ℕ) (u : Text) → slice_get names k ≡ Some u → (passes is_one before : Bool) → (t ≡ u → is_one ≡ passes) → (before ≡ true → passes ≡ true) → ((is_one && (k == n)) || before) ≡ true → passes ≡ true
+    one k u is passes is_one true same was e = was refl
+    one k u is passes true false same was e = sym (same (same_text k u is (eqb-true k n (sym (or-false (k == n)) ∙ e))))
+    one k u is passes false false same was e = absurd (true≢false (sym e))
 
 -- Rows that grow
 

@@ -8,4 +8,4 @@ pub mod Gathering
 pub mod Turns
 pub mod Together
 pub mod Spots
-pub mod Passes
+pub mod Sweeps

@@ -1,6 +1,6 @@
 -- Which numbers stand for names that a text of a certificate may have.
 -- The standard has no such thing: the names of variables, `!` among them, and of functions (XBD 3.216), by their numbers.
-use Rattle.std.specs.Prelude.{◌≡◌, ℕ, ◌<◌, Bool, true, not, ◌&&◌, ◌||◌, List, Option, Some, None, slice_get}
+use Rattle.std.specs.Prelude.{◌≡◌, ℕ, true, List, Some, slice_get}
 use Rattle.sh_tree.specs.language.Bytes.{is_name}
 use Rattle.sh_tree.specs.program.Syntax.{Text}
 use Rattle.sh_facts.specs.Forms.{is_variable}
@@ -15,15 +15,3 @@ sets_in vars functions = record { vars = numbers_of vars; functions = numbers_of
 pub record IsWritten (names : List Text) (s : Sets) : Type 0 where
   pub vars : (k : ℕ) (t : Text) → slice_get names k ≡ Some t → s.vars k ≡ true → is_variable t ≡ true
   pub functions : (k : ℕ) (t : Text) → slice_get names k ≡ Some t → s.functions k ≡ true → is_name t ≡ true
-
--- of a name by its number
-unfoldable pub text_passes : Option Text → Bool → Bool → Bool
-text_passes None v f = true
-text_passes (Some t) v f = (not v || is_variable t) && (not f || is_name t)
-
-abbrev pub passes_at : List Text → Sets → ℕ → Bool
-passes_at names s k = text_passes (slice_get names k) (s.vars k) (s.functions k)
-
--- all numbers below this one
-pub record AreWritten (names : List Text) (s : Sets) (n : ℕ) : Type 0 where
-  pub each : (k : ℕ) → k < n → passes_at names s k ≡ true

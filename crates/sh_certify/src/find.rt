@@ -4,12 +4,14 @@ ghost use Rattle.sh_tree.specs.program.Trees.{script_of};
 ghost use Rattle.sh_facts.specs.Rules.{script_bounds};
 ghost use Rattle.sh_accept.specs.Accepted.{IsAdmitted, functions_in};
 ghost use Rattle.sh_accept.specs.Answers.{IsGreatest};
+ghost use Rattle.sh_certify.specs.Sweeps.{IsReady};
 ghost use Rattle.sh_certify.specs.Turns.{IsSettled, sheet_by};
 ghost use Rattle.sh_certify.specs.Working.{IsWorking};
 
+use crate::draft::Draft;
 use crate::first::unreached;
+use crate::functions::sweep_often;
 use crate::gather::Target;
-use crate::pass::pass;
 use crate::subject::Subject;
 use crate::turn::turn;
 use sh_commands::commands;
@@ -21,24 +23,26 @@ use std::alloc::{AllocError, Global};
 /// As many commands as a text of a certificate may have.
 const MOST_COMMANDS: usize = 65_535;
 
-// Passes over the items, and takes turns, until the certificate keeps all flow rules.
-fn settle(
-    subject: &Subject<'_>,
-    certificate: &mut Certificate,
-    probe: &mut BitRow,
-) -> Result<(), AllocError>
-    requires admitted { IsAdmitted subject.now.script.now subject.now.policy.now subject.now.tree.now subject.now.names.now }
-    requires working { (loops : List Bool) × (functions : ℕ) × IsWorking subject.now.names.now loops functions certificate.old }
-    requires probed { probe.old.count ≡ length subject.now.names.now }
-    ensures { OnOk result ((loops : List Bool) (functions : ℕ) → IsWorking subject.now.names.now loops functions certificate.old
+// Sweeps over the commands, and takes a turn, until the certificate keeps all flow rules. Each time there are twice as many sweeps, so of a script that takes
+// many there are few turns.
+fn settle(subject: &Subject<'_>, draft: &mut Draft) -> Result<(), AllocError>
+    requires { IsReady subject.now draft.old.certificate draft.old.probe.count }
+    ensures { OnOk result ((loops : List Bool) (functions : ℕ) → IsWorking subject.now.names.now loops functions draft.old.certificate
         → IsSettled subject.now.names.now loops functions subject.now.policy.now (functions_in subject.now.script.now subject.now.tree.now)
-        (script_bounds (script_of subject.now.script.now subject.now.tree.now)) certificate.old certificate.new) }
+        (script_bounds (script_of subject.now.script.now subject.now.tree.now)) draft.old.certificate draft.new.certificate) }
 {
     let mut target = Target::first();
     let mut kept = false;
+    let mut times: u32 = 1;
     'turns: while !kept {
-        pass(subject, certificate, probe)?;
-        kept = turn(subject, certificate, probe, &mut target)?;
+        sweep_often(subject, draft, times)?;
+        times = times.saturating_mul(2);
+        kept = turn(
+            subject,
+            &mut draft.certificate,
+            &mut draft.probe,
+            &mut target,
+        )?;
     }
     Ok(())
 }
@@ -60,8 +64,13 @@ pub fn find(alloc: Global, subject: &Subject<'_>) -> Result<Certificate, AllocEr
     }
     let count = subject.names.count();
     let functions = subject.table.functions().len();
-    let mut certificate = unreached(alloc, count, &commands, functions)?;
-    let mut probe = BitRow::empty(alloc, count)?;
-    settle(subject, &mut certificate, &mut probe)?;
-    Ok(certificate)
+    let certificate = unreached(alloc, count, &commands, functions)?;
+    let probe = BitRow::empty(alloc, count)?;
+    let mut draft = Draft {
+        certificate,
+        probe,
+        lowered: 0,
+    };
+    settle(subject, &mut draft)?;
+    Ok(draft.certificate)
 }

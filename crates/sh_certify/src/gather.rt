@@ -38,7 +38,7 @@ pub struct Gather {
     pub known: Option<Sight>,
     pub vars: NumberSet,
     pub functions: NumberSet,
-    /// Something was asked of these that is not kept.
+    /// Something else was asked of these that is not kept.
     pub next: Target,
 }
 
@@ -139,7 +139,11 @@ impl Gather {
         ensures here { result ≡ is_at (option_map place_at spot) (gathered_of self.old).place }
     {
         let is_here = is_place(spot, self.target.place);
-        let next = self.next.at_place(spot);
+        let next = if is_here {
+            self.next
+        } else {
+            self.next.at_place(spot)
+        };
         self.test(is_kept, next);
         is_here
     }

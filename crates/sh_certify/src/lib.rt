@@ -2,16 +2,22 @@
 #![tactic(auto)]
 
 pub mod asked;
+pub mod draft;
 pub mod find;
 pub mod first;
+pub mod functions;
 pub mod gather;
+pub mod inner;
+pub mod item;
 pub mod kept;
+pub mod known;
 pub mod laws;
 pub mod lower;
-pub mod pass;
+pub mod own;
 pub mod place;
 pub mod sights;
 pub mod spot;
 pub mod subject;
+pub mod sweep;
 pub mod turn;
 pub mod writable;

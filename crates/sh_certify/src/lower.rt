@@ -6,11 +6,11 @@ ghost use Rattle.sh_find.specs.Kept.{numbers_of, sight_facts, IsNamed};
 ghost use Rattle.sh_facts.specs.declared.certificate.Drops as drops;
 ghost use Rattle.sh_certify.specs.Places.{drops_at};
 ghost use Rattle.sh_certify.specs.Working.{AreBelow, AreFine, AreWithin, IsCounted, IsLowered, IsWorking, sets_of};
-ghost use Rattle.sh_certify.specs.Writable.{sets_in};
+ghost use Rattle.sh_certify.specs.Writable.{IsWritten, sets_in};
 
 use crate::kept::{drops_of, facts_at, put, put_drops};
 use crate::place::Place;
-use crate::writable::is_writable;
+use crate::writable::Writable;
 use sh_facts::certificate::{Certificate, Drops, Facts};
 use sh_facts::names::Names;
 use sh_facts::rows::{RowId, Rows};
@@ -27,12 +27,14 @@ use std::alloc::AllocError;
 /// Where a growth was refused, no place for a row is left, or what is left names what no text of a certificate may name.
 pub fn lower(
     names: &Names,
+    writable: &Writable,
     certificate: &mut Certificate,
     probe: &mut BitRow,
     place: Place,
     mut known: Sight,
 ) -> Result<bool, AllocError>
     requires few { length names.now ≤ MAX_NAMES }
+    requires written { IsWritten names.now (sets_in writable.now.vars writable.now.functions) }
     requires count { certificate.old.rows.count ≡ length names.now }
     requires probed { probe.old.count ≡ length names.now }
     requires named { IsNamed (length names.now) (sight_facts known) }
@@ -49,7 +51,7 @@ pub fn lower(
         return Ok(false);
     }
     meet_facts(&certificate.rows, facts, &mut known);
-    if !is_writable(names, &known.vars, &known.functions) {
+    if !writable.has(&known.vars, &known.functions) {
         return Err(AllocError);
     }
     let kept = keep(&mut certificate.rows, probe, &known)?;
@@ -123,6 +125,7 @@ fn keep_drops(
 /// Where a growth was refused, no place for a row is left, or these names are such as no text of a certificate may name.
 pub fn count(
     names: &Names,
+    writable: &Writable,
     certificate: &mut Certificate,
     probe: &mut BitRow,
     index: u16,
@@ -130,6 +133,7 @@ pub fn count(
     mut functions: NumberSet,
 ) -> Result<bool, AllocError>
     requires few { length names.now ≤ MAX_NAMES }
+    requires written { IsWritten names.now (sets_in writable.now.vars writable.now.functions) }
     requires count { certificate.old.rows.count ≡ length names.now }
     requires probed { probe.old.count ≡ length names.now }
     requires below { AreBelow (length names.now) (sets_in vars functions) }
@@ -148,7 +152,7 @@ pub fn count(
     }
     vars.join_row(&certificate.rows, drops.vars);
     functions.join_row(&certificate.rows, drops.functions);
-    if !is_writable(names, &vars, &functions) {
+    if !writable.has(&vars, &functions) {
         return Err(AllocError);
     }
     let kept = keep_drops(&mut certificate.rows, probe, vars, functions)?;

@@ -1,7 +1,9 @@
 //! A script of which a certificate is sought.
 ghost use Rattle.std.specs.Prelude.{◌≡◌};
 ghost use Rattle.sh_table.specs.Calls.{table_of};
+ghost use Rattle.sh_certify.specs.Writable.{IsWritten, sets_in};
 
+use crate::writable::Writable;
 use sh_facts::names::Names;
 use sh_facts::policy::Policy;
 use sh_table::table::CallTable;
@@ -15,5 +17,8 @@ pub struct Subject<'a> {
     pub tree: &'a Script,
     pub table: &'a CallTable<'a>,
     pub names: &'a Names,
+    /// The names that a text of its certificates may have.
+    pub writable: &'a Writable,
     ghost listed: { table.now ≡ table_of script.now tree.now },
+    ghost written: { IsWritten names.now (sets_in writable.now.vars writable.now.functions) },
 }

@@ -13,12 +13,14 @@ ghost use Rattle.sh_certify.specs.declared.place.Place as place;
 ghost use Rattle.sh_certify.specs.Places.{claim_there};
 ghost use Rattle.sh_certify.specs.Turns.{AreNumbers, IsAttempt, IsSunk, IsTurn, Stands, gathered_of, sheet_by};
 ghost use Rattle.sh_certify.specs.Working.{IsLowered, IsWorking};
+ghost use Rattle.sh_certify.specs.Writable.{IsWritten, sets_in};
 
 use crate::asked::ask;
 use crate::gather::{Gather, Target};
 use crate::lower::{count, lower};
 use crate::place::Place;
 use crate::subject::Subject;
+use crate::writable::Writable;
 use sh_facts::certificate::Certificate;
 use sh_facts::names::Names;
 use sh_find::sight::Sight;
@@ -56,12 +58,14 @@ fn asked(subject: &Subject<'_>, certificate: &Certificate, target: Target) -> Ga
 #[tactic(auto, unfolding(sh_find::specs::Kept::seen_of))]
 fn lower_known(
     names: &Names,
+    writable: &Writable,
     certificate: &mut Certificate,
     probe: &mut BitRow,
     place: Place,
     known: Option<Sight>,
 ) -> Result<bool, AllocError>
     requires few { length names.now ≤ MAX_NAMES }
+    requires written { IsWritten names.now (sets_in writable.now.vars writable.now.functions) }
     requires count { certificate.old.rows.count ≡ length names.now }
     requires probed { probe.old.count ≡ length names.now }
     requires named { IsNamed (length names.now) (seen_of known) }
@@ -73,7 +77,7 @@ fn lower_known(
 {
     match known {
         None => Ok(false),
-        Some(sight) => lower(names, certificate, probe, place, sight),
+        Some(sight) => lower(names, writable, certificate, probe, place, sight),
     }
 }
 
@@ -84,11 +88,13 @@ fn lower_known(
 /// Where a growth was refused or no place for a row is left; and where a name is asked for that no text of a certificate may have.
 pub fn lower_gathered(
     names: &Names,
+    writable: &Writable,
     certificate: &mut Certificate,
     probe: &mut BitRow,
     gather: &Gather,
 ) -> Result<bool, AllocError>
     requires few { length names.now ≤ MAX_NAMES }
+    requires written { IsWritten names.now (sets_in writable.now.vars writable.now.functions) }
     requires working { (loops : List Bool) × (functions : ℕ) × IsWorking names.now loops functions certificate.old }
     requires probed { probe.old.count ≡ length names.now }
     requires numbers { AreNumbers (length names.now) (gathered_of gather.now) }
@@ -97,9 +103,17 @@ pub fn lower_gathered(
     ensures probed { IfOk result (λ changed. probe.new.count ≡ length names.now) }
 {
     let target = gather.target;
-    let lowered = lower_known(names, certificate, probe, target.place, gather.known)?;
+    let lowered = lower_known(
+        names,
+        writable,
+        certificate,
+        probe,
+        target.place,
+        gather.known,
+    )?;
     let counted = count(
         names,
+        writable,
         certificate,
         probe,
         target.function,
@@ -129,7 +143,7 @@ fn attempt(
         return Ok(Outcome::Kept);
     }
     *target = gather.next;
-    if lower_gathered(subject.names, certificate, probe, &gather)? {
+    if lower_gathered(subject.names, subject.writable, certificate, probe, &gather)? {
         return Ok(Outcome::Lowered);
     }
     Ok(Outcome::Stays)

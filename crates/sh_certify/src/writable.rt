@@ -1,12 +1,23 @@
 //! Which names a text of a certificate may have.
-ghost use Rattle.std.specs.Prelude.{◌≡◌, ◌<◌, ◌≤◌, Some, true, length};
+ghost use Rattle.std.specs.Prelude.{◌≡◌, ◌<◌, ◌==◌, ◌&&◌, ◌||◌, ℕ, List, true};
 ghost use Rattle.sh_tree.specs.declared.limits.TheConstants.{MAX_NAMES};
+ghost use Rattle.sh_tree.specs.language.Bytes.{is_name};
+ghost use Rattle.sh_tree.specs.program.Syntax.{Text};
 ghost use Rattle.sh_facts.specs.Forms as form;
-ghost use Rattle.sh_certify.specs.Writable.{IsWritten, passes_at, sets_in, text_passes};
+ghost use Rattle.sh_find.specs.Kept.{numbers_of};
+ghost use Rattle.sh_certify.specs.Writable.{IsWritten, sets_in};
 
 use sh_facts::names::Names;
 use sh_find::number_set::NumberSet;
+use sh_tree::limits::MAX_NAMES;
 use sh_tree::name::is_name;
+
+/// The names of a script that a text may have, by their numbers: those of variables, `!` among them, and those of functions.
+#[derive(Clone, Copy, Debug)]
+pub struct Writable {
+    pub vars: NumberSet,
+    pub functions: NumberSet,
+}
 
 fn is_variable(name: &[u8]) -> bool
     ensures { result ≡ form.is_variable name.now }
@@ -14,32 +25,35 @@ fn is_variable(name: &[u8]) -> bool
     is_name(name) || name == b"!".as_slice()
 }
 
-// Whether a name that is told among variables, or among functions, may stand there.
-#[tactic(auto, unfolding(crate::specs::Writable::text_passes))]
-fn may_stand(name: &[u8], in_vars: bool, in_functions: bool) -> bool
-    ensures { result ≡ text_passes (Some name.now) in_vars in_functions }
+// Adds a number, if it is one of these.
+fn add_if(set: &mut NumberSet, is_one: bool, number: u32)
+    requires { number < MAX_NAMES }
+    ensures { (k : ℕ) → numbers_of set.new k ≡ ((is_one && (k == number)) || numbers_of set.old k) }
 {
-    (!in_vars || is_variable(name)) && (!in_functions || is_name(name))
-}
-
-// Whether the name of this number may stand where it is told.
-fn passes(names: &Names, number: u32, vars: &NumberSet, functions: &NumberSet) -> bool
-    requires within { number < length names.now }
-    requires few { length names.now ≤ MAX_NAMES }
-    ensures { result ≡ passes_at names.now (sets_in vars.now functions.now) number }
-{
-    may_stand(names.name(number), vars.has(number), functions.has(number))
-}
-
-/// Whether a text may have these variables and these functions.
-pub fn is_writable(names: &Names, vars: &NumberSet, functions: &NumberSet) -> bool
-    requires { length names.now ≤ MAX_NAMES }
-    ensures { result ≡ true → IsWritten names.now (sets_in vars.now functions.now) }
-{
-    for number in 0..names.count() {
-        if !passes(names, number, vars, functions) {
-            return false;
-        }
+    if is_one {
+        set.add(number);
     }
-    true
+}
+
+impl Writable {
+    /// Of the names of a script.
+    pub fn of(names: &Names) -> Writable
+        ensures { IsWritten names.now (sets_in result.vars result.functions) }
+    {
+        let mut vars = NumberSet::new();
+        let mut functions = NumberSet::new();
+        for number in 0..names.count().min(MAX_NAMES as u32) {
+            let name = names.name(number);
+            add_if(&mut vars, is_variable(name), number);
+            add_if(&mut functions, is_name(name), number);
+        }
+        Writable { vars, functions }
+    }
+
+    /// Whether a text may have these variables and these functions.
+    pub fn has(&self, vars: &NumberSet, functions: &NumberSet) -> bool
+        ensures { result ≡ true → (names : List Text) → IsWritten names (sets_in self.now.vars self.now.functions) → IsWritten names (sets_in vars.now functions.now) }
+    {
+        vars.is_within(&self.vars) && functions.is_within(&self.functions)
+    }
 }

@@ -8,6 +8,7 @@ use crate::prepared::{Prepared, prepare};
 use crate::told::verdict_of;
 use sh_certify::find::find;
 use sh_certify::subject::Subject;
+use sh_certify::writable::Writable;
 use sh_facts::certificate::Certificate;
 use sh_facts::limits::MAX_CERTIFICATE;
 use sh_facts::policy::Policy;
@@ -26,12 +27,14 @@ fn greatest(
     requires { IsPrepared script.now policy.now prepared.now }
     ensures { IfOk result (λ c. IsGreatest script.now policy.now prepared.now.tree prepared.now.names (sheet_in prepared.now c)) }
 {
+    let writable = Writable::of(&prepared.names);
     let subject = Subject {
         script,
         policy,
         tree: &prepared.tree,
         table: &prepared.table,
         names: &prepared.names,
+        writable: &writable,
     };
     find(alloc, &subject)
 }

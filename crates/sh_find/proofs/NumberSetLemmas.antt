@@ -1,9 +1,10 @@
 -- A set and the row of a place.
-use Rattle.std.proofs.Common.{◌≡◌, ℕ, ◌*◌, ◌/◌, ◌%◌, ◌<◌, ◌≤◌, Bool, true, false, ◌&&◌, ◌||◌, List, Some, None, length, refl, sym, ◌∙◌, ap, arith, eqb, true≢false, IsTrue, ◌↔◌, inl, inr, slice_get}
+use Rattle.std.proofs.Common.{◌≡◌, ◌≢◌, ◌⊎◌, ℕ, ◌+◌, ◌-◌, ◌^◌, ◌*◌, ◌/◌, ◌%◌, ◌<◌, ◌≤◌, Bool, true, false, ◌&&◌, ◌||◌, List, Some, None, length, refl, sym, ◌∙◌, ap, arith, eqb, true≢false, IsTrue, ◌↔◌, inl, inr, slice_get, slice_set, get_or, nat_lt}
 use Rattle.std.specs.Int.{bit_at}
-use Rattle.std.proofs.lemmas.Bool.{cases_lt, cases_Bool}
-use Rattle.std.proofs.lemmas.List.{get_or_past}
-use Rattle.std.proofs.lemmas.Nat.Bits.{bit_at-zero}
+use Rattle.std.proofs.lemmas.Bool.{cases_lt, cases_Bool, lt-ltb, le-ltb}
+use Rattle.std.proofs.lemmas.Bool.Decides.{eqb_tells}
+use Rattle.std.proofs.lemmas.List.{get_or_past, get_or-set_same, get_or-set_other}
+use Rattle.std.proofs.lemmas.Nat.Bits.{bit_at-zero, bit_at_ones}
 use Rattle.sh_rows.specs.Numbers.{has_bit}
 use Rattle.sh_rows.specs.declared.bits.BitRow.{BitRow}
 use Rattle.sh_facts.specs.KeptRows.{bits_of, holds_at}
@@ -49,3 +50,30 @@ module _ (rows : List BitRow) (i : ℕ) (none : None ≡ slice_get rows i) where
 
   pub none_within : (set : ℕ → Bool) → IsTrue true ↔ ((k : ℕ) → holds_at rows i k ≡ true → set k ≡ true)
   none_within set = (λ h k x. absurd (true≢false (sym x ∙ no_bits rows i (sym none) k)), λ h. refl)
+
+-- A word of ones
+
+-- all numbers below a word, and those of the word
+pub full_word : (words : List ℕ) (at : ℕ) → at < length words → ((k : ℕ) → has_bit k words ≡ nat_lt k (64 * at)) → (k : ℕ) → has_bit k (slice_set words at (2 ^ 64 - 1)) ≡ nat_lt k (64 * (at + 1))
+unfolding has_bit
+full_word words at l before k = elim (eqb_tells (k / 64) at) [
+  | inl e ↦
+      let here : k / 64 ≡ at = e.1 in
+      let inside : k % 64 < 64 = omega arith in
+      ap (λ i. eqb (bit_at (get_or (slice_set words at (2 ^ 64 - 1)) i 0) (k % 64)) 1) here
+      ∙ ap (λ w. eqb (bit_at w (k % 64)) 1) (get_or-set_same words at (2 ^ 64 - 1) 0 l)
+      ∙ ap (λ b. eqb b 1) (bit_at_ones 64 (k % 64) inside)
+      ∙ sym (lt-ltb k (64 * (at + 1)) (omega (arith, here)))
+  | inr e ↦
+      ap (λ w. eqb (bit_at w (k % 64)) 1) (get_or-set_other words at (k / 64) (2 ^ 64 - 1) 0 e.1) ∙ before k ∙ elsewhere e.1 (cases_lt k (64 * at))
+]
+  where
+    elsewhere : (k / 64 ≢ at) → (k < 64 * at) ⊎ (64 * at ≤ k) → nat_lt k (64 * at) ≡ nat_lt k (64 * (at + 1))
+    elsewhere other (inl low) = lt-ltb k (64 * at) low ∙ sym (lt-ltb k (64 * (at + 1)) (omega (arith, low)))
+    elsewhere other (inr high) = le-ltb k (64 * at) high ∙ sym (le-ltb k (64 * (at + 1)) (past other high))
+      where
+        past : (k / 64 ≢ at) → 64 * at ≤ k → 64 * (at + 1) ≤ k
+        past other high = elim (cases_lt k (64 * (at + 1))) [
+          | inl low ↦ absurd (other (omega (arith, low, high)))
+          | inr high ↦ high
+        ]

@@ -1,5 +1,5 @@
 //! Sets of numbers that stand on the stack and take no memory.
-ghost use Rattle.std.specs.Prelude.{◌≡◌, ◌<◌, ◌≤◌, ◌&&◌, ◌||◌, ◌==◌, ◌↔◌, ℕ, true, false, not, nat_lt, IsTrue};
+ghost use Rattle.std.specs.Prelude.{◌≡◌, ◌<◌, ◌≤◌, ◌*◌, ◌&&◌, ◌||◌, ◌==◌, ◌↔◌, ℕ, true, false, not, nat_lt, IsTrue};
 ghost use Rattle.std.specs.List.{All};
 ghost use Rattle.sh_rows.specs.Numbers.{has_bit, has_number};
 ghost use Rattle.sh_tree.specs.declared.limits.TheConstants.{MAX_NAMES};
@@ -39,9 +39,22 @@ impl NumberSet {
         requires { count ≤ MAX_NAMES }
         ensures { (k : ℕ) → numbers_of result k ≡ nat_lt k count }
     {
-        let mut set = NumberSet::new();
-        for n in 0..count {
+        let full = count / 64;
+        let mut set = NumberSet::of_words(full as usize);
+        for n in full * 64..count {
             set.add(n);
+        }
+        set
+    }
+
+    // All numbers of so many words.
+    fn of_words(count: usize) -> NumberSet
+        requires { count ≤ 64 }
+        ensures { (k : ℕ) → numbers_of result k ≡ nat_lt k (64 * count) }
+    {
+        let mut set = NumberSet::new();
+        for at in 0..count {
+            set.words[at] = u64::MAX;
         }
         set
     }
@@ -119,6 +132,13 @@ impl NumberSet {
         ensures { (k : ℕ) → numbers_of self.new k ≡ (not (numbers_of other.now k) && numbers_of self.old k) }
     {
         remove_words(&mut self.words, &other.words);
+    }
+
+    /// Whether each number of the set is in another.
+    pub fn is_within(&self, other: &NumberSet) -> bool
+        ensures { IsTrue result ↔ ((k : ℕ) → numbers_of self.now k ≡ true → numbers_of other.now k ≡ true) }
+    {
+        within_words(&self.words, &other.words)
     }
 
     /// Takes out the numbers that are not in the row of a place.

@@ -74,7 +74,7 @@ module _ (x : Setting) (h : AreNumbered x.names) (d : Declared) (c : Certificate
   abbrev seen : Seen → Facts
   seen s = sees x.names d c s
 
-  abbrev Above : Seen → Facts → Type 0
+  abbrev pub Above : Seen → Facts → Type 0
   Above s k = IsWithin (seen s) k
 
   slot_above : (s : Slot) → Above (at s) (known_at x s)
@@ -98,7 +98,7 @@ module _ (x : Setting) (h : AreNumbered x.names) (d : Declared) (c : Certificate
   joined_above : (s t : Seen) (k l : Facts) → Above s k → Above t l → Above (s ++ t) (meet k l)
   joined_above s t k l w v = subst (λ f. IsWithin f (meet k l)) (sym (joined_seen x d c s t)) (meet_grows (seen s) (seen t) k l w v)
 
-  above : Follows x Above
+  pub above : Follows x Above
   above = record {
     slot = slot_above;
     gain = gain_above;
@@ -132,10 +132,10 @@ module _ {K : Type 0} (a : Asking K) (x : Setting) (Q : Ask → Type 0) where
   function_asked function f names kept q = record { asks = OfFunction function f names ∷ []; each = (q, tt); reached = refl }
 
 -- what holds of all that is asked, where this holds of each constraint and of what is known where something is seen
-record Judges (x : Setting) (d : Declared) (R : Seen → Facts → Type 0) (E : Constraint → Type 0) (Q : Ask → Type 0) : Type 0 where
-  place : (slot : Slot) (n : ℕ) (rule : FlowRule) (s : Seen) (k : Facts) → R s k → Each E (bound slot n rule s) → Q (OfPlace slot (fault n rule) k)
-  view : (slot : Slot) (n : ℕ) (rule : FlowRule) (v : View) → E (Within slot n rule v) → Q (OfPlace slot (fault n rule) (knows x d (v ∷ [])))
-  loss : (function : Text) (n : ℕ) (l : Loss) → E (Counted function n l) → Q (OfFunction function (fault n F13) (lost d (certificate x) n l))
+pub record Judges (x : Setting) (d : Declared) (R : Seen → Facts → Type 0) (E : Constraint → Type 0) (Q : Ask → Type 0) : Type 0 where
+  pub place : (slot : Slot) (n : ℕ) (rule : FlowRule) (s : Seen) (k : Facts) → R s k → Each E (bound slot n rule s) → Q (OfPlace slot (fault n rule) k)
+  pub view : (slot : Slot) (n : ℕ) (rule : FlowRule) (v : View) → E (Within slot n rule v) → Q (OfPlace slot (fault n rule) (knows x d (v ∷ [])))
+  pub loss : (function : Text) (n : ℕ) (l : Loss) → E (Counted function n l) → Q (OfFunction function (fault n F13) (lost d (certificate x) n l))
 
 module _ {K : Type 0} (a : Asking K) (x : Setting) (h : AreNumbered x.names) (d : Declared) (i : ByConstraints K a x d)
     (R : Seen → Facts → Type 0) (E : Constraint → Type 0) (Q : Ask → Type 0) (j : Judges x d R E Q) where
@@ -177,7 +177,7 @@ module _ {K : Type 0} (a : Asking K) (x : Setting) (h : AreNumbered x.names) (d 
         (subst (Asks a x Q three) (counted_same a x h d i functions by z s n offset rs z.drops kind three named) (constraints_asked counted three last.1))
 
     -- a whole command
-    command_asked : (y : Entered) (k : Facts) (kept : K) → R y.seen k → has_numbered_prefixes x.names y ≡ true → Each E (bounds functions y)
+    pub command_asked : (y : Entered) (k : Facts) (kept : K) → R y.seen k → has_numbered_prefixes x.names y ≡ true → Each E (bounds functions y)
         → Asks a x Q kept (command_told a x functions kept (met_at y k))
     unfolding has_numbered_prefixes
     command_asked y k kept w named all = by_command y.command y.rule y.around y.seen w named all
@@ -209,10 +209,10 @@ module _ {K : Type 0} (a : Asking K) (x : Setting) (h : AreNumbered x.names) (d 
 
 -- Whatever is known
 
-abbrev Whatever : Seen → Facts → Type 0
+abbrev pub Whatever : Seen → Facts → Type 0
 Whatever s k = Unit {0}
 
-abbrev Any : Constraint → Type 0
+abbrev pub Any : Constraint → Type 0
 Any k = Unit {0}
 
 whatever : (x : Setting) → Follows x Whatever
@@ -226,7 +226,7 @@ whatever x = record {
   nothing = tt;
 }
 
-anything : (x : Setting) (d : Declared) → Judges x d Whatever Any Anything
+pub anything : (x : Setting) (d : Declared) → Judges x d Whatever Any Anything
 anything x d = record { place = λ slot n rule s k w all. tt; view = λ slot n rule v q. tt; loss = λ function n l q. tt }
 
 item_asks : {K : Type 0} (a : Asking K) (x : Setting) (d : Declared) (i : ByConstraints K a x d) (functions : List Text) (w : K → Met → K) → AreNumbered x.names
@@ -239,7 +239,7 @@ item_asks {K} a x d i functions w h by y o b kept background list does =
 -- What a certificate below allows
 
 module _ (x : Setting) (h : AreNumbered x.names) (d : Declared) (c : Certificate) (below : IsBelow c (certificate x)) where
-  abbrev Unbroken : Constraint → Type 0
+  abbrev pub Unbroken : Constraint → Type 0
   Unbroken k = broken d c k ≡ []
 
   -- what is claimed where it is entered is within all that is seen there
@@ -263,7 +263,7 @@ module _ (x : Setting) (h : AreNumbered x.names) (d : Declared) (c : Certificate
   unfolding Allows Fits
   loss_allowed function n l none = fits_below d c (certificate x) (Counted function n l) below none
 
-  allowed : Judges x d (Above x h d c below) Unbroken (Allows x.names c)
+  pub allowed : Judges x d (Above x h d c below) Unbroken (Allows x.names c)
   allowed = record { place = place_allowed; view = view_allowed; loss = loss_allowed }
 
   module _ {K : Type 0} (a : Asking K) (i : ByConstraints K a x d) (functions : List Text) (w : K → Met → K) (by : FlowRule) (y : Around) (o : After) (b : Behind) (kept : K) (known : SeesWithin x.names d c o b) where

@@ -77,7 +77,7 @@ module _ (x : Setting) (R : Seen → Facts → Type 0) (f : Follows x R) where
   swapped_stand false o b h = h
   swapped_stand true o b h = each_stand _ _ _ _ h.nonzero h.zero
 
-  link_led : (l : Link) (o : After) (b : Behind) → Stands R o b → R (e.link_seen l o) (link_known l b)
+  pub link_led : (l : Link) (o : After) (b : Behind) → Stands R o b → R (e.link_seen l o) (link_known l b)
   unfolding link_known e.link_seen
   link_led link.AndThen o b h = h.zero
   link_led link.OrElse o b h = h.nonzero
@@ -93,11 +93,11 @@ module _ (x : Setting) (R : Seen → Facts → Type 0) (f : Follows x R) where
   parts_stand s k h (p.more_commands (p.command n offset kind rs) p.no_commands) = each_stand _ _ _ _ (f.slot (AfterZero n)) (f.slot (AfterNonzero n))
   parts_stand s k h (p.more_commands (p.command n offset kind rs) (p.more_commands d cs)) = both_stand s k h
 
-  pipeline_stands : (s : Seen) (k : Facts) → R s k → (q : p.Pipeline) → Stands R (e.pipeline_after s q) (pipeline_behind x k q)
+  pub pipeline_stands : (s : Seen) (k : Facts) → R s k → (q : p.Pipeline) → Stands R (e.pipeline_after s q) (pipeline_behind x k q)
   unfolding pipeline_behind e.pipeline_after
   pipeline_stands s k h (p.pipeline negated cs) = swapped_stand negated _ _ (parts_stand s k h cs)
 
-  next_stands : (l : Link) (o : After) (b : Behind) → Stands R o b → (q : p.Pipeline)
+  pub next_stands : (l : Link) (o : After) (b : Behind) → Stands R o b → (q : p.Pipeline)
       → Stands R (e.linked l o (e.pipeline_after (e.link_seen l o) q)) (link_behind x b l q)
   next_stands l o b h q = linked_stand l o _ b _ h (pipeline_stands (e.link_seen l o) (link_known l b) (link_led l o b h) q)
 
@@ -127,7 +127,7 @@ module _ (x : Setting) (R : Seen → Facts → Type 0) (f : Follows x R) where
   none_led : (q : Seen) (k : Facts) → R q k → R (gaining no_gains q) k
   none_led q k h = subst (R (gaining no_gains q)) (none_gained x k) (f.gain no_gains q k h)
 
-  started_led : (b : Bool) (q : Seen) (k : Facts) → R q k → R (e.item_seen b q) (started x b k)
+  pub started_led : (b : Bool) (q : Seen) (k : Facts) → R q k → R (e.item_seen b q) (started x b k)
   unfolding started e.item_seen
   started_led true q k h = f.job q k h
   started_led false q k h = h

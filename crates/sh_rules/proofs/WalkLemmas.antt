@@ -82,7 +82,7 @@ pub link_out : {K : Type 0} (x : Setting) (w : K → Met → K) (y : Around) (c 
 unfolding link_step
 link_out x w y c l q = refl
 
-long_parts : (b : List ℕ) (cs : List Command) → is_long (commands_from b cs) ≡ nat_lt 1 (length cs)
+pub long_parts : (b : List ℕ) (cs : List Command) → is_long (commands_from b cs) ≡ nat_lt 1 (length cs)
 unfolding is_long commands_from
 long_parts b [] = grind (arith, nat_tests)
 long_parts b (c ∷ []) = grind (arith, nat_tests)

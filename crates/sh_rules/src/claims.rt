@@ -7,6 +7,7 @@ use sh_facts::names::Names;
 use sh_table::table::CallTable;
 
 /// A script, its names, its call table, whose functions the certificate numbers, and a certificate of it.
+#[derive(Drop)]
 pub struct Claims<'a> {
     pub script: &'a [u8],
     pub names: &'a Names,

@@ -63,15 +63,17 @@ pub fn begun(by: FlowRule, known: &Knowledge) -> Course
     }
 }
 
+/// The rule that enters an item: an asynchronous one is a process of its own.
 #[tactic(auto, unfolding(sh_facts::specs::Entries::item_rule))]
-fn item_rule(background: bool, by: FlowRule) -> FlowRule
+pub fn item_rule(background: bool, by: FlowRule) -> FlowRule
     ensures { result ≡ entries.item_rule background by }
 {
     if background { FlowRule::F11 } else { by }
 }
 
+/// The rule that enters the parts of a pipeline, of which two or more are processes of their own.
 #[tactic(auto, unfolding(sh_facts::specs::Entries::part_rule))]
-fn part_rule(is_long: bool, by: FlowRule) -> FlowRule
+pub fn part_rule(is_long: bool, by: FlowRule) -> FlowRule
     ensures { result ≡ entries.part_rule is_long by }
 {
     if is_long { FlowRule::F12 } else { by }
@@ -711,11 +713,16 @@ pub fn walk<V: Visitor>(claims: &Claims<'_>, start: &Knowledge, list: &Script, v
     walk_from(claims, &outside, FlowRule::F1, start, list, visitor);
 }
 
-/// Visits each command of an item of a script, those in its words included, from where the walk is in the list, and goes on behind the item. It
+/// Visits each command of an item of a list, those in its words included, from where the walk is in the list, and goes on behind the item. It
 /// takes no memory.
-pub fn walk_over<V: Visitor>(claims: &Claims<'_>, course: &mut Course, item: &Item, visitor: &mut V)
-    ensures { steps.ran (setting claims.now) course.new (V.kept visitor.new) ≡ steps.item_step (setting claims.now) (V.with_met (setting claims.now)) entries.alone (steps.ran (setting claims.now) course.old (V.kept visitor.old)) item.now }
+pub fn walk_over<V: Visitor>(
+    claims: &Claims<'_>,
+    around: &Around<'_>,
+    course: &mut Course,
+    item: &Item,
+    visitor: &mut V,
+)
+    ensures { steps.ran (setting claims.now) course.new (V.kept visitor.new) ≡ steps.item_step (setting claims.now) (V.with_met (setting claims.now)) (walks.around (setting claims.now).script around.now) (steps.ran (setting claims.now) course.old (V.kept visitor.old)) item.now }
 {
-    let outside = alone();
-    walk_item(claims, &outside, course, item, visitor);
+    walk_item(claims, around, course, item, visitor);
 }

@@ -2,7 +2,7 @@ use Rattle.std.proofs.Common.{ap}
 use Rattle.sh_table.specs.Calls.{Table, table_of}
 use Rattle.sh_certify.specs.Turns.{gathered_of}
 use Rattle.sh_certify.proofs.GreatestLemmas.{numbered}
-use Rattle.sh_certify.proofs.PassLemmas.{ran_by_table}
+use Rattle.sh_certify.proofs.KnownLemmas.{walked_by_table}
 use Rattle.sh_certify.proofs.asked.ask_item.Goals as goal
 
 pub invariant_of-claims : goal.invariant_of-claims
@@ -14,4 +14,4 @@ invariant_of-claims c =
 pub returns : goal.returns
 returns c =
     let s = c.args.subject.now in
-    ran_by_table _ s.tree.now c.args.course.now _ c.args.item.now (gathered_of c.args.gather) _ s.listed c.walk_over.ensures
+    walked_by_table _ s.tree.now s.listed c.args.around.now c.args.course.now _ c.args.item.now (gathered_of c.args.gather) _ c.walk_over.ensures

@@ -4,8 +4,25 @@ use Rattle.sh_table.specs.Calls.{Table}
 use Rattle.sh_facts.specs.Reading.{AreLoops}
 use Rattle.sh_facts.specs.ReadParts.{loops_of}
 use Rattle.sh_accept.specs.Accepted.{functions_in}
-use Rattle.sh_certify.proofs.GreatestLemmas.{is_greatest_of}
+use Rattle.sh_certify.proofs.AboveLemmas.{first_above}
+use Rattle.sh_certify.proofs.GreatestLemmas.{is_greatest_of, numbered}
 use Rattle.sh_certify.proofs.find.find.Goals as goal
+
+pub settle-requires : goal.settle-requires
+settle-requires c =
+    let s = c.args.subject.now in
+    let loops = loops_of c.deref.result.now in
+    let m : ℕ = length c.functions-functions.result.now in
+    let working = c.in_ok-certificate.ensures.working s.names.now (sym c.count-count.ensures.count) in
+    let h = numbered s.script.now s.policy.now s.tree.now s.names.now c.requires in
+    record {
+      admitted = c.requires;
+      loops = loops;
+      functions = m;
+      working = working;
+      over = λ other keeps. first_above s.names.now h (functions_in s.script.now s.tree.now) loops m c.in_ok-certificate.certificate working c.in_ok-certificate.ensures.claims c.in_ok-certificate.ensures.drops other;
+      probe = omega (arith, c.in_ok-probe.ensures.limit, c.count-count.ensures.count);
+    }
 
 pub returns : goal.returns
 returns c =
@@ -18,5 +35,5 @@ returns c =
     let long : length loops ≡ length c.deref.result.now = length-map c.deref.result.now _ in
     let low : length c.deref.result.now ≡ length c.in_ok-commands.commands.items = ap length c.deref.ensures.value in
     let working = c.in_ok-certificate.ensures.working s.names.now (sym c.count-count.ensures.count) in
-    is_greatest_of s.script.now s.policy.now s.tree.now s.names.now c.requires loops are m same c.in_ok-certificate.certificate c.settle.new.certificate working c.in_ok-certificate.ensures.claims
+    is_greatest_of s.script.now s.policy.now s.tree.now s.names.now c.requires loops are m same c.in_ok-certificate.certificate c.settle.new.draft.certificate working c.in_ok-certificate.ensures.claims
     c.in_ok-certificate.ensures.drops (c.in_ok-settle.ensures loops m working) c.count-count.ensures.distinct (omega (arith, long, low, c.if-len-gt-MOST_COMMANDS.false, c.len.ensures)) (omega (arith, c.functions-functions.ensures.few))

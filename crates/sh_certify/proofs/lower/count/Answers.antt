@@ -29,4 +29,4 @@ returns-clause-working c = λ loops defined working.
     (fine_drops c.args.names.now c.keep_drops.new.rows c.in_ok-kept.kept (sets_in c.join_row.new.self c.join_row-2.new.self) c.in_ok-kept.ensures.sets c.in_ok-kept.ensures.vars c.in_ok-kept.ensures.functions
     (union_below c.args.names.now c.args.certificate.now.rows c.in-Some.drops (sets_in c.args.vars c.args.functions) (sets_in c.join_row.new.self c.join_row-2.new.self)
     (c.requires.fine c.in-Some.drops (sym c.drops_of.ensures ∙ c.in-Some.is)).below c.requires.below c.join_row.ensures c.join_row-2.ensures)
-    (c.is_writable.ensures c.if-not-is_writable.false))
+    (c.has.ensures c.if-not-has.false c.args.names.now c.requires.written))

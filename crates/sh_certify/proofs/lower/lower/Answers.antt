@@ -21,4 +21,4 @@ returns-clause-working c = λ loops functions working.
     still_works c.args.names.now loops functions c.args.certificate.now _ c.put.new.certificate c.args.place c.in-Some.facts c.in_ok-kept.kept (sight_facts c.args.known) (sym c.facts_at.ensures ∙ c.in-Some.is)
     c.in_ok-kept.ensures.stay c.in_ok-kept.ensures.count refl refl refl c.in_ok-put.ensures (c.in_ok-kept.ensures.facts ∙ c.meet_facts.ensures) working
     c.in_ok-kept.ensures.placed (sight_numbered _ c.args.known c.requires.named)
-    (sight_passes c.args.names.now c.keep.new.rows c.in_ok-kept.kept c.meet_facts.new.sight c.in_ok-kept.ensures.facts (c.is_writable.ensures c.if-not-is_writable.false))
+    (sight_passes c.args.names.now c.keep.new.rows c.in_ok-kept.kept c.meet_facts.new.sight c.in_ok-kept.ensures.facts (c.has.ensures c.if-not-has.false c.args.names.now c.requires.written))

@@ -1,0 +1,101 @@
+-- What is known where lists are entered, by the claims of a certificate that stays above all that keep the rules.
+use Rattle.std.proofs.Common.{◌≡◌, ℕ, Bool, List, [], ◌∷◌, refl, sym, ap, ◌∙◌, subst}
+use Rattle.sh_tree.specs.declared.tree.Item.{Item, out-Item}
+use Rattle.sh_tree.specs.declared.tree.Command.{Command}
+use Rattle.sh_tree.specs.declared.tree.Link.{Link}
+use Rattle.sh_tree.specs.declared.tree.Pipe.{Pipe}
+use Rattle.sh_tree.specs.declared.tree.Script.{Script}
+use Rattle.sh_tree.specs.program.Syntax as p
+use Rattle.sh_tree.specs.program.Trees as trees
+use Rattle.sh_table.specs.Calls.{Table, table_of}
+use Rattle.sh_facts.specs.declared.certificate.Certificate as kept
+use Rattle.sh_facts.specs.declared.knowledge.Knowledge.{Knowledge}
+use Rattle.sh_facts.specs.declared.rule.FlowRule.{FlowRule}
+use Rattle.sh_facts.specs.declared.rule.FlowRule.TheVariants.{F2}
+use Rattle.sh_facts.specs.Entries.{item_after, item_seen, link_seen, linked, pipeline_after}
+use Rattle.sh_facts.specs.Facts.{Facts}
+use Rattle.sh_facts.specs.Gains.{Gains}
+use Rattle.sh_facts.specs.Knowledge.{AreNumbered, knowledge_facts}
+use Rattle.sh_facts.specs.Views as views
+use Rattle.sh_facts.specs.Views.{After, Seen, Slot, at, gaining}
+use Rattle.sh_rules.specs.declared.around.Around.{Around}
+use Rattle.sh_rules.specs.declared.behind.Behind as code
+use Rattle.sh_rules.specs.declared.claims.Claims.{Claims}
+use Rattle.sh_rules.specs.declared.walk.Course.{Course}
+use Rattle.sh_rules.specs.Behind.{Behind, item_behind, started}
+use Rattle.sh_rules.specs.Settings.{Setting, gained, known_at}
+use Rattle.sh_rules.specs.Steps.{item_step, met_in, ran}
+use Rattle.sh_rules.specs.Visits.{command_by}
+use Rattle.sh_rules.specs.Walks as walks
+use Rattle.sh_rules.specs.Walks.{behind_in, facts_in, item_left, setting}
+use Rattle.sh_rules.proofs.LedLemmas.{Follows, item_stands, next_stands, pipeline_stands, started_led}
+use Rattle.sh_accept.specs.Accepted.{functions_in}
+use Rattle.sh_certify.specs.declared.subject.Subject.{Subject}
+use Rattle.sh_certify.specs.Gathered.{Gathered}
+use Rattle.sh_certify.specs.Gathering.{gathering}
+use Rattle.sh_certify.specs.Sweeps.{IsOver, IsPassed, Knows, KnowsBehind, known_behind, setting_by}
+use Rattle.sh_certify.proofs.SweepLemmas.{behind_of, knows_follow, setting_is, stands_of}
+
+-- By the table of a script
+
+module _ (c : Claims) (t : Script) (table : c.calls.now ≡ table_of c.script.now t) where
+  abbrev by_table : Setting
+  by_table = record { script = c.script.now; names = c.names.now; functions = functions_in c.script.now t; rows = (table_of c.script.now t).rows; kept = c.certificate.now }
+
+  pub facts_by_table : (F : Setting → Facts) (k : Knowledge) → facts_in (setting c) k ≡ F (setting c) → facts_in by_table k ≡ F by_table
+  facts_by_table F k is = subst (λ x. facts_in x k ≡ F x) (setting_is c t table) is
+
+  pub behind_by_table : (F : Setting → Behind) (o : code.Behind) → behind_in (setting c) o ≡ F (setting c) → behind_in by_table o ≡ F by_table
+  behind_by_table F o is = subst (λ x. behind_in x o ≡ F x) (setting_is c t table) is
+
+  pub walked_by_table : (y : Around) (before after : Course) (item : Item) (old new : Gathered)
+      → ran (setting c) after new ≡ item_step (setting c) (command_by gathering (setting c)) (walks.around (setting c).script y) (ran (setting c) before old) item
+      → ran by_table after new ≡ item_step by_table (command_by gathering by_table) (walks.around c.script.now y) (ran by_table before old) item
+  walked_by_table y before after item old new is = subst (λ x. ran x after new ≡ item_step x (command_by gathering x) (walks.around x.script y) (ran x before old) item) (setting_is c t table) is
+
+  pub met_by_table : (by : FlowRule) (y : Around) (k : Knowledge) (m : Command) (old new : Gathered) → new ≡ command_by gathering (setting c) old (met_in (setting c) by y k m)
+      → new ≡ command_by gathering by_table old (met_in by_table by y k m)
+  met_by_table by y k m old new is = subst (λ x. new ≡ command_by gathering x old (met_in x by y k m)) (setting_is c t table) is
+
+-- What is known
+
+module _ (s : Subject) (c : kept.Certificate) (h : AreNumbered s.names.now) (over : IsOver s c) where
+  abbrev x : Setting
+  x = setting_by s c
+
+  abbrev follows : Follows x (Knows s)
+  follows = knows_follow s c h over
+
+  pub slot_known : (p : Slot) (k : Knowledge) → facts_in x k ≡ known_at x p → Knows s (at p) (knowledge_facts s.names.now k)
+  unfolding facts_in
+  slot_known p k is = subst (Knows s (at p)) (sym is) (follows.slot p)
+
+  pub gains_known : (g : Gains) (known k : Knowledge) → facts_in x k ≡ gained x g (facts_in x known) → (q : Seen) → Knows s q (knowledge_facts s.names.now known) → Knows s (gaining g q) (knowledge_facts s.names.now k)
+  unfolding facts_in
+  gains_known g known k is q knows = subst (Knows s (gaining g q)) (sym is) (follows.gain g q _ knows)
+
+  pub started_known : (b : Bool) (known k : Knowledge) → facts_in x k ≡ started x b (facts_in x known) → (q : Seen) → Knows s q (knowledge_facts s.names.now known) → Knows s (item_seen b q) (knowledge_facts s.names.now k)
+  unfolding facts_in
+  started_known b known k is q knows = subst (Knows s (item_seen b q)) (sym is) (started_led x (Knows s) follows b q _ knows)
+
+  pub pipe_known : (known : Knowledge) (l : Pipe) (o : code.Behind) → behind_in x o ≡ walks.pipe_behind x (facts_in x known) l → (q : Seen) → Knows s q (knowledge_facts s.names.now known)
+      → KnowsBehind s (pipeline_after q (trees.pipeline_of s.script.now l)) (known_behind s o)
+  unfolding facts_in walks.pipe_behind
+  pipe_known known l o is q knows =
+      subst (KnowsBehind s (pipeline_after q (trees.pipeline_of s.script.now l))) (sym is) (behind_of s _ _ (pipeline_stands x (Knows s) follows q _ knows (trees.pipeline_of s.script.now l)))
+
+  pub link_known : (before o : code.Behind) (l : Link × Pipe) → behind_in x o ≡ walks.link_left x (behind_in x before) l → (q : After) → KnowsBehind s q (known_behind s before)
+      → KnowsBehind s (linked l.0 q (pipeline_after (link_seen l.0 q) (trees.pipeline_of s.script.now l.1))) (known_behind s o)
+  unfolding facts_in
+  link_known before o l is q knows =
+      subst (KnowsBehind s (linked l.0 q (pipeline_after (link_seen l.0 q) (trees.pipeline_of s.script.now l.1)))) (sym is)
+      (behind_of s _ _ (next_stands x (Knows s) follows l.0 q (known_behind s before) (stands_of s q (known_behind s before) knows) (trees.pipeline_of s.script.now l.1)))
+
+  pub passed_on : (old new : Course) (i : Item) → new.by ≡ F2 → behind_in x new.behind ≡ item_left x (behind_in x old.behind) i → IsPassed s old new i
+  unfolding facts_in item_left
+  passed_on old new i by is = record {
+    by = by;
+    behind = λ o knows.
+        subst (KnowsBehind s (item_after (views.in_any_case o) (out-Item i).background (trees.and_or_of s.script.now (out-Item i).list))) (sym is)
+        (behind_of s _ _ (item_stands x (Knows s) follows o (known_behind s old.behind) (stands_of s o (known_behind s old.behind) knows) (out-Item i).background (trees.and_or_of s.script.now (out-Item i).list)));
+  }

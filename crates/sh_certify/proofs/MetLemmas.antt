@@ -1,0 +1,211 @@
+-- What is asked at a command, and at an item of a list, no certificate that keeps the rules breaks.
+use Rattle.std.proofs.Common.{◌≡◌, ℕ, Bool, true, List, [], ◌∷◌, ◌++◌, append-nil, length, flat_map, fold, Option, refl, sym, ap, ◌∙◌, subst}
+use Rattle.std.specs.List.{list_all}
+use Rattle.std.proofs.lemmas.Bool.{and_parts}
+use Rattle.std.proofs.lemmas.Grind.{flat_map-append}
+use Rattle.sh_tree.specs.declared.tree.Command.{Command}
+use Rattle.sh_tree.specs.declared.tree.Item.{Item, out-Item}
+use Rattle.sh_tree.specs.program.Lists.{items_from}
+use Rattle.sh_tree.specs.program.Syntax as p
+use Rattle.sh_tree.specs.program.Trees as trees
+use Rattle.sh_tree.specs.program.Trees.{script_of}
+use Rattle.sh_facts.specs.declared.certificate.Certificate as kept
+use Rattle.sh_facts.specs.declared.rule.FlowRule.{FlowRule}
+use Rattle.sh_facts.specs.declared.rule.FlowRule.TheVariants.{F2}
+use Rattle.sh_facts.specs.Entries.{Around, Entered, behind_redirects, command_entered, item_after, items_entered, kind_entered, redirects_entered, script_entered}
+use Rattle.sh_facts.specs.Facts.{Facts, facts}
+use Rattle.sh_facts.specs.Faults.{broken}
+use Rattle.sh_facts.specs.Inclusions.{Each}
+use Rattle.sh_facts.specs.declared.knowledge.Knowledge.{Knowledge}
+use Rattle.sh_facts.specs.Knowledge.{AreNumbered, among, knowledge_facts}
+use Rattle.sh_facts.specs.Order.{IsWithin}
+use Rattle.sh_facts.specs.Reading.{claim_fits}
+use Rattle.sh_facts.specs.Rules.{Constraint, bounds, script_bounds}
+use Rattle.sh_facts.specs.Sheets.{Sheet}
+use Rattle.sh_facts.specs.Views.{After, Before, Seen, Slot, at, in_any_case}
+use Rattle.sh_facts.proofs.EachLemmas.{none_both, each_none, each_of_all, each_parts}
+use Rattle.sh_rules.specs.Above.{Allows, Anything, Ask, Asks, Does, DoesAsked, KeepsThere, OfFunction, OfPlace, ask, item_entered, item_walked}
+use Rattle.sh_rules.specs.Asked.{has_numbered_prefixes}
+use Rattle.sh_rules.specs.Behind.{Behind}
+use Rattle.sh_rules.specs.CommandBounds.{command_told}
+use Rattle.sh_rules.specs.Meaning.{met_at}
+use Rattle.sh_rules.specs.Settings.{Setting, claimed_at}
+use Rattle.sh_rules.specs.Steps.{and_or_kept, item_step, met_in, ran}
+use Rattle.sh_rules.specs.Visits.{command_by}
+use Rattle.sh_rules.specs.Walked as walked
+use Rattle.sh_rules.specs.Walked.{course}
+use Rattle.sh_rules.specs.Walks.{facts_in}
+use Rattle.sh_rules.specs.declared.walk.Course.{Course}
+use Rattle.sh_rules.proofs.AboveLemmas.{Above, Any, Unbroken, Whatever, all_parts, allowed, anything, command_asked, stays_above}
+use Rattle.sh_rules.proofs.PrefixLemmas.{prefixes_are_numbered, table_defines}
+use Rattle.sh_rules.proofs.RuleLemmas.{visits_do_asked}
+use Rattle.sh_rules.proofs.ScriptLemmas.{script_asks}
+use Rattle.sh_accept.specs.Accepted.{IsAdmitted, claims_in, functions_in}
+use Rattle.sh_certify.specs.declared.place.Place.{Place}
+use Rattle.sh_certify.specs.declared.subject.Subject.{Subject}
+use Rattle.sh_certify.specs.Gathered.{Gathered}
+use Rattle.sh_certify.specs.Gathering.{gathering}
+use Rattle.sh_certify.specs.Places.{claim_there, place_of}
+use Rattle.sh_certify.specs.Sweeps.{AreItems, IsCommand, IsOver, IsPart, Keeps, Knows, KnowsBehind, known_behind, setting_by}
+use Rattle.sh_certify.specs.Turns.{AreNumbers, Stands}
+use Rattle.sh_certify.proofs.AskingLemmas.{by_constraints, commands_numbered, few_commands}
+use Rattle.sh_certify.proofs.GatherLemmas.{claim_among, drop_numbered, drop_stands, place_numbered, place_stands}
+use Rattle.sh_certify.proofs.GreatestLemmas.{numbered}
+use Rattle.sh_certify.proofs.SheetLemmas.{placed}
+use Rattle.sh_certify.proofs.SweepLemmas.{first_part, last_part}
+
+-- What is gathered of all that is asked
+
+module _ (s : Subject) (c : kept.Certificate) where
+  asks_numbered : (qs : List Ask) (g : Gathered) → AreNumbers (length s.names.now) g → AreNumbers (length s.names.now) (fold (ask gathering (setting_by s c)) g qs)
+  unfolding ask
+  asks_numbered [] g a = a
+  asks_numbered (OfPlace slot f k ∷ qs) g a = asks_numbered qs _ (place_numbered s.names.now (functions_in s.script.now s.tree.now) s.policy.now slot (claimed_at (setting_by s c) slot) k g a)
+  asks_numbered (OfFunction function f lost ∷ qs) g a = asks_numbered qs _ (drop_numbered s.names.now (functions_in s.script.now s.tree.now) s.policy.now function _ lost g a)
+
+  module _ (other : Sheet) (keeps : Keeps s other) where
+    named_claim : (slot : Slot) → among s.names.now (facts ((claims_in s.script.now s.tree.now other).claim slot)) ≡ facts ((claims_in s.script.now s.tree.now other).claim slot)
+    named_claim slot =
+        claim_among s.names.now _
+        (ap (claim_fits s.names.now) (placed (functions_in s.script.now s.tree.now) other slot) ∙ keeps.fit (place_of (functions_in s.script.now s.tree.now) slot))
+
+    asks_stand : (qs : List Ask) (g : Gathered) → Each (Allows s.names.now (claims_in s.script.now s.tree.now other)) qs → Stands s.names.now other g
+        → Stands s.names.now other (fold (ask gathering (setting_by s c)) g qs)
+    unfolding Each ask Allows
+    asks_stand [] g all st = st
+    asks_stand (OfPlace slot f k ∷ qs) g all st =
+        asks_stand qs _ all.1
+        (place_stands s.names.now (functions_in s.script.now s.tree.now) s.policy.now other keeps.fit slot (claimed_at (setting_by s c) slot) k g (subst (λ m. IsWithin m k) (named_claim slot) all.0) st)
+    asks_stand (OfFunction function f lost ∷ qs) g all st =
+        asks_stand qs _ all.1 (drop_stands s.names.now (functions_in s.script.now s.tree.now) s.policy.now other keeps.fit function _ lost g all.0 st)
+
+-- Commands of a script that is admitted
+
+module _ (s : Subject) (admitted : IsAdmitted s.script.now s.policy.now s.tree.now s.names.now) where
+  abbrev commands : List Entered
+  commands = script_entered (script_of s.script.now s.tree.now)
+
+  abbrev functions : List p.Text
+  functions = functions_in s.script.now s.tree.now
+
+  abbrev by_table : kept.Certificate → Entered → Type 0
+  by_table c e = DoesAsked gathering (setting_by s c) functions (command_by gathering (setting_by s c)) e
+
+  names_numbered : AreNumbered s.names.now
+  names_numbered = numbered s.script.now s.policy.now s.tree.now s.names.now admitted
+
+  all_does : (c : kept.Certificate) → Each (by_table c) commands
+  all_does c =
+      visits_do_asked gathering (setting_by s c) s.script.now s.tree.now refl (commands_numbered s.script.now s.policy.now s.tree.now s.names.now admitted)
+      (few_commands s.script.now s.policy.now s.tree.now s.names.now admitted)
+
+  all_numbered : list_all (has_numbered_prefixes s.names.now) commands ≡ true
+  all_numbered = prefixes_are_numbered s.script.now s.tree.now s.policy.now s.names.now admitted.numbered.0
+
+  all_kept : (other : Sheet) → Keeps s other → KeepsThere s.policy.now (claims_in s.script.now s.tree.now other) functions commands
+  all_kept other keeps =
+      ap (flat_map (broken s.policy.now (claims_in s.script.now s.tree.now other))) (script_asks functions (script_of s.script.now s.tree.now) (table_defines s.script.now s.tree.now)) ∙ keeps.rules
+
+  kept_parts : (other : Sheet) (es fs : List Entered) → KeepsThere s.policy.now (claims_in s.script.now s.tree.now other) functions (es ++ fs)
+      → KeepsThere s.policy.now (claims_in s.script.now s.tree.now other) functions es × KeepsThere s.policy.now (claims_in s.script.now s.tree.now other) functions fs
+  kept_parts other es fs none =
+      let f = broken s.policy.now (claims_in s.script.now s.tree.now other) in
+      let ks : List Constraint = flat_map (bounds functions) es in
+      let ls : List Constraint = flat_map (bounds functions) fs in
+      none_both (flat_map f ks) (flat_map f ls) (sym (flat_map-append f ks ls) ∙ sym (ap (flat_map f) (flat_map-append (bounds functions) es fs)) ∙ none)
+
+  module _ (es : List Entered) (part : IsPart s es) where
+    does_here : (c : kept.Certificate) → Does gathering (setting_by s c) functions (command_by gathering (setting_by s c)) es
+    does_here c =
+        let asked = each_parts (by_table c) es part.back (each_parts (by_table c) part.front (es ++ part.back) (subst (Each (by_table c)) part.whole (all_does c))).1 in
+        let prefixes =
+        all_parts (has_numbered_prefixes s.names.now) es part.back
+        (all_parts (has_numbered_prefixes s.names.now) part.front (es ++ part.back) (subst (λ fs. list_all (has_numbered_prefixes s.names.now) fs ≡ true) part.whole all_numbered)).1 in
+        record { asked = asked.0; prefixes = prefixes.0 }
+
+    keeps_here : (other : Sheet) → Keeps s other → KeepsThere s.policy.now (claims_in s.script.now s.tree.now other) functions es
+    keeps_here other keeps =
+        let all : KeepsThere s.policy.now (claims_in s.script.now s.tree.now other) functions (part.front ++ (es ++ part.back)) =
+        subst (KeepsThere s.policy.now (claims_in s.script.now s.tree.now other) functions) part.whole (all_kept other keeps) in
+        (kept_parts other es part.back (kept_parts other part.front (es ++ part.back) all).1).0
+
+  -- one command by itself
+
+  module _ (e : Entered) (part : IsPart s (e ∷ [])) (c : kept.Certificate) (k : Facts) (old : Gathered) where
+    abbrev new : Gathered
+    new = command_by gathering (setting_by s c) old (met_at e k)
+
+    same_told : new ≡ command_told gathering (setting_by s c) functions old (met_at e k)
+    unfolding Each
+    same_told = (does_here (e ∷ []) part c).asked.0 k old
+
+    prefixed : has_numbered_prefixes s.names.now e ≡ true
+    prefixed = (and_parts (has_numbered_prefixes s.names.now e) true (does_here (e ∷ []) part c).prefixes).0
+
+    pub one_numbers : AreNumbers (length s.names.now) old → AreNumbers (length s.names.now) new
+    one_numbers a =
+        let asks =
+        command_asked gathering (setting_by s c) names_numbered s.policy.now (by_constraints (setting_by s c) names_numbered s.policy.now) Whatever Any Anything (anything (setting_by s c) s.policy.now) functions e k old tt
+        prefixed (each_of_all (λ x. tt) _) in
+        subst (AreNumbers (length s.names.now)) (sym same_told) (subst (AreNumbers (length s.names.now)) (sym asks.reached) (asks_numbered s c asks.asks old a))
+
+    pub one_stands : IsOver s c → Knows s e.seen k → (other : Sheet) → Keeps s other → Stands s.names.now other old → Stands s.names.now other new
+    one_stands over knows other keeps st =
+        let d = s.policy.now in
+        let x : Setting = setting_by s c in
+        let oc = claims_in s.script.now s.tree.now other in
+        let below = over other keeps in
+        let asks =
+        command_asked gathering x names_numbered d (by_constraints x names_numbered d) (Above x names_numbered d oc below) (Unbroken x names_numbered d oc below) (Allows s.names.now oc)
+        (allowed x names_numbered d oc below) functions e k old (knows other keeps) prefixed
+        (subst (Each (Unbroken x names_numbered d oc below)) (append-nil (bounds functions e)) (each_none (broken d oc) _ (keeps_here (e ∷ []) part other keeps))) in
+        subst (Stands s.names.now other) (sym same_told) (subst (Stands s.names.now other) (sym asks.reached) (asks_stand s c other keeps asks.asks old asks.each st))
+
+  -- an item, with all commands in it
+
+  module _ (by : FlowRule) (y : Around) (known : Behind) (item : Item) (others : List Item) (at : AreItems s by y known (item ∷ others)) where
+    abbrev background : Bool
+    background = (out-Item item).background
+
+    abbrev list : p.AndOr
+    list = trees.and_or_of s.script.now (out-Item item).list
+
+    abbrev its : List Entered
+    its = item_entered by y at.seen background list
+
+    its_part : IsPart s its
+    unfolding items_entered items_from
+    its_part = first_part s its (items_entered F2 y (item_after (in_any_case at.seen) background list) (items_from s.script.now others)) at.part
+
+    module _ (c : kept.Certificate) (old : Gathered) where
+      abbrev all_new : Gathered
+      all_new = item_walked (setting_by s c) (command_by gathering (setting_by s c)) y (course by known old) background list
+
+      item_numbers : AreNumbers (length s.names.now) old → AreNumbers (length s.names.now) all_new
+      item_numbers a =
+          let asks =
+          (stays_above gathering).asks (setting_by s c) s.policy.now (by_constraints (setting_by s c) names_numbered s.policy.now) functions (command_by gathering (setting_by s c)) names_numbered
+          by y at.seen known old background list (does_here its its_part c) in
+          subst (AreNumbers (length s.names.now)) (sym asks.reached) (asks_numbered s c asks.asks old a)
+
+      item_stands : IsOver s c → (other : Sheet) → Keeps s other → Stands s.names.now other old → Stands s.names.now other all_new
+      item_stands over other keeps st =
+          let both =
+          (stays_above gathering).item (setting_by s c) s.policy.now (by_constraints (setting_by s c) names_numbered s.policy.now) functions (command_by gathering (setting_by s c))
+          (claims_in s.script.now s.tree.now other) names_numbered (over other keeps) by y at.seen known old background list (at.knows other keeps) (does_here its its_part c) (keeps_here its its_part other keeps) in
+          subst (Stands s.names.now other) (sym both.0.reached) (asks_stand s c other keeps both.0.asks old both.0.each st)
+
+  -- as the walk goes over it
+
+  module _ (c : kept.Certificate) (y : Around) (before after : Course) (item : Item) (old new : Gathered)
+      (is : ran (setting_by s c) after new ≡ item_step (setting_by s c) (command_by gathering (setting_by s c)) y (ran (setting_by s c) before old) item)
+      (others : List Item) (at : AreItems s before.by y (known_behind s before.behind) (item ∷ others)) where
+    walked_on : new ≡ item_walked (setting_by s c) (command_by gathering (setting_by s c)) y (course before.by (known_behind s before.behind) old) (out-Item item).background (trees.and_or_of s.script.now (out-Item item).list)
+    unfolding item_step and_or_kept facts_in
+    walked_on = ap (λ (z : walked.Course Gathered). z.kept) is
+
+    pub ran_numbers : AreNumbers (length s.names.now) old → AreNumbers (length s.names.now) new
+    ran_numbers a = subst (AreNumbers (length s.names.now)) (sym walked_on) (item_numbers before.by y (known_behind s before.behind) item others at c old a)
+
+    pub ran_stands : IsOver s c → (other : Sheet) → Keeps s other → Stands s.names.now other old → Stands s.names.now other new
+    ran_stands over other keeps st = subst (Stands s.names.now other) (sym walked_on) (item_stands before.by y (known_behind s before.behind) item others at c old over other keeps st)

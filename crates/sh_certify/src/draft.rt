@@ -1,0 +1,13 @@
+//! A certificate that is lowered.
+
+use sh_facts::certificate::Certificate;
+use sh_rows::bits::BitRow;
+
+/// A certificate that is lowered, and a row by which the rows of others are looked up, so that one that is there takes no memory.
+#[derive(Drop)]
+pub struct Draft {
+    pub certificate: Certificate,
+    pub probe: BitRow,
+    /// How often it was lowered so far: a hint.
+    pub lowered: u64,
+}

@@ -1,0 +1,81 @@
+//! The functions of a script are gone over again, from the last to the first: what a body calls is often defined before it (XCU 2.9.5).
+ghost use Rattle.std.specs.Prelude.{◌∷◌, List, IfOk};
+ghost use Rattle.sh_tree.specs.declared.tree.Item as tree;
+ghost use Rattle.sh_facts.specs.declared.rule.FlowRule.TheVariants.{F2};
+ghost use Rattle.sh_facts.specs.Entries.{alone};
+ghost use Rattle.sh_facts.specs.Facts.{NotReached};
+ghost use Rattle.sh_rules.specs.Behind.{both};
+ghost use Rattle.sh_certify.specs.Sweeps.{AreItems, IsReady, IsSwept};
+
+use crate::draft::Draft;
+use crate::subject::Subject;
+use crate::sweep::{LEVELS, sweep, sweep_item};
+use sh_facts::knowledge::Knowledge;
+use sh_facts::rule::FlowRule;
+use sh_rules::around::alone;
+use sh_rules::walk::begun;
+use sh_tree::tree::{Item, Kind};
+use std::alloc::AllocError;
+
+// Whether an item begins with the definition of a function: a hint.
+fn is_definition(item: &Item) -> bool {
+    match item.list.first.parts.as_slice() {
+        [command] => matches!(command.kind, Kind::Define { .. }),
+        _ => false,
+    }
+}
+
+// Lowers the certificate at an item that defines a function, whatever is known before it.
+fn sweep_function(subject: &Subject<'_>, draft: &mut Draft, item: &Item) -> Result<(), AllocError>
+    requires ready { IsReady subject.now draft.old.certificate draft.old.probe.count }
+    requires placed { (others : List tree.Item) × AreItems subject.now F2 alone (both NotReached) (item.now ∷ others) }
+    ensures swept { IfOk result (λ unit. IsSwept subject.now draft.old.certificate draft.new.certificate draft.new.probe.count) }
+{
+    if !is_definition(item) {
+        return Ok(());
+    }
+    let outside = alone();
+    let mut course = begun(FlowRule::F2, &Knowledge::NotReached);
+    sweep_item(subject, draft, LEVELS, &outside, &mut course, item)
+}
+
+// Lowers the certificate at the functions that the script defines outside compound commands, the last first. What its first item is, is left out.
+fn sweep_functions(subject: &Subject<'_>, draft: &mut Draft) -> Result<(), AllocError>
+    requires { IsReady subject.now draft.old.certificate draft.old.probe.count }
+    ensures { IfOk result (λ unit. IsSwept subject.now draft.old.certificate draft.new.certificate draft.new.probe.count) }
+{
+    let items = subject.tree.items.as_slice();
+    for index in (1..items.len()).rev() {
+        sweep_function(subject, draft, &items[index])?;
+    }
+    Ok(())
+}
+
+// Lowers the certificate command by command, and then once more at the functions, the last first.
+fn sweep_both_ways(subject: &Subject<'_>, draft: &mut Draft) -> Result<(), AllocError>
+    requires { IsReady subject.now draft.old.certificate draft.old.probe.count }
+    ensures { IfOk result (λ unit. IsSwept subject.now draft.old.certificate draft.new.certificate draft.new.probe.count) }
+{
+    sweep(subject, draft)?;
+    sweep_functions(subject, draft)
+}
+
+/// Lowers a certificate by so many sweeps over the commands of its script at most, until one lowers nothing.
+///
+/// # Errors
+///
+/// Where a growth was refused or no place for a row is left; and where a rule asks for a name that the script does not have, as no rule does of a
+/// script that is read.
+pub fn sweep_often(subject: &Subject<'_>, draft: &mut Draft, times: u32) -> Result<(), AllocError>
+    requires { IsReady subject.now draft.old.certificate draft.old.probe.count }
+    ensures { IfOk result (λ unit. IsSwept subject.now draft.old.certificate draft.new.certificate draft.new.probe.count) }
+{
+    for _time in 0..times {
+        let before = draft.lowered;
+        sweep_both_ways(subject, draft)?;
+        if draft.lowered == before {
+            return Ok(());
+        }
+    }
+    Ok(())
+}

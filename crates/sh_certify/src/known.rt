@@ -1,0 +1,245 @@
+//! What is known where the lists of a command are entered, by what the certificate claims.
+ghost use Rattle.std.specs.Prelude.{◌∷◌, [], ℕ};
+ghost use Rattle.sh_tree.specs.Tree.{text_of};
+ghost use Rattle.sh_tree.specs.declared.tree.Command.{out-Command};
+ghost use Rattle.sh_tree.specs.program.Lists.{parts_from, redirects_from};
+ghost use Rattle.sh_tree.specs.program.Trees as trees;
+ghost use Rattle.sh_facts.specs.Entries.{behind_redirects, item_seen, link_seen, linked, pipeline_after};
+ghost use Rattle.sh_facts.specs.Gains.{redirects_gains, word_gains};
+ghost use Rattle.sh_facts.specs.Knowledge.{knowledge_facts};
+ghost use Rattle.sh_facts.specs.Views as views;
+ghost use Rattle.sh_facts.specs.Views.{After, Seen, at, gaining, gaining_names};
+ghost use Rattle.sh_certify.specs.Sweeps.{IsPassed, IsReady, Knows, KnowsBehind, known_behind};
+
+use crate::subject::Subject;
+use sh_facts::certificate::Certificate;
+use sh_facts::knowledge::Knowledge;
+use sh_facts::rule::FlowRule;
+use sh_rules::behind::{Behind, item_behind, link_behind, pipe_behind, started};
+use sh_rules::claims::Claims;
+use sh_rules::gains::{gain_redirects, gain_variable, gain_word};
+use sh_rules::walk::Course;
+use sh_tree::tree::{Command, Item, Link, Pipe, Redirect, Span, Word};
+
+// Where a command is entered.
+fn before_of(subject: &Subject<'_>, certificate: &Certificate, number: u32) -> Knowledge
+    requires { (probed : ℕ) × IsReady subject.now certificate.now probed }
+    ensures { Knows subject.now (at (views.Before number)) (knowledge_facts subject.now.names.now result) }
+{
+    let claims = Claims {
+        script: subject.script,
+        names: subject.names,
+        calls: subject.table,
+        certificate,
+    };
+    let entered = claims.before(number);
+    entered
+}
+
+// Behind redirections.
+fn behind_redirections(
+    subject: &Subject<'_>,
+    certificate: &Certificate,
+    redirects: &[Redirect],
+    known: &Knowledge,
+) -> Knowledge
+    requires { (probed : ℕ) × IsReady subject.now certificate.now probed }
+    ensures { (q : Seen) → Knows subject.now q (knowledge_facts subject.now.names.now known.now)
+        → Knows subject.now (gaining (redirects_gains (redirects_from subject.now.script.now redirects.now)) q) (knowledge_facts subject.now.names.now result) }
+{
+    let claims = Claims {
+        script: subject.script,
+        names: subject.names,
+        calls: subject.table,
+        certificate,
+    };
+    let mut behind = *known;
+    gain_redirects(&claims, redirects, &mut behind);
+    behind
+}
+
+/// Inside a command, behind its redirections.
+pub fn inside_of(subject: &Subject<'_>, certificate: &Certificate, command: &Command) -> Knowledge
+    requires { (probed : ℕ) × IsReady subject.now certificate.now probed }
+    ensures { Knows subject.now (behind_redirects (out-Command command.now).number (redirects_from subject.now.script.now (out-Command command.now).redirects)) (knowledge_facts subject.now.names.now result) }
+{
+    let before = before_of(subject, certificate, command.number);
+    behind_redirections(subject, certificate, command.redirects.as_slice(), &before)
+}
+
+/// In the process of a subshell.
+pub fn process_of(subject: &Subject<'_>, certificate: &Certificate, number: u32) -> Knowledge
+    requires { (probed : ℕ) × IsReady subject.now certificate.now probed }
+    ensures { Knows subject.now (views.without_job (at (views.Before number))) (knowledge_facts subject.now.names.now result) }
+{
+    let outside = before_of(subject, certificate, number);
+    started_in(subject, certificate, true, &outside)
+}
+
+/// Where a process may be started.
+pub fn started_in(
+    subject: &Subject<'_>,
+    certificate: &Certificate,
+    is_started: bool,
+    known: &Knowledge,
+) -> Knowledge
+    requires { (probed : ℕ) × IsReady subject.now certificate.now probed }
+    ensures { (q : Seen) → Knows subject.now q (knowledge_facts subject.now.names.now known.now) → Knows subject.now (item_seen is_started q) (knowledge_facts subject.now.names.now result) }
+{
+    let claims = Claims {
+        script: subject.script,
+        names: subject.names,
+        calls: subject.table,
+        certificate,
+    };
+    started(&claims, is_started, known)
+}
+
+/// Behind a pipeline.
+pub fn behind_pipe(
+    subject: &Subject<'_>,
+    certificate: &Certificate,
+    known: &Knowledge,
+    pipe: &Pipe,
+) -> Behind
+    requires { (probed : ℕ) × IsReady subject.now certificate.now probed }
+    ensures { (q : Seen) → Knows subject.now q (knowledge_facts subject.now.names.now known.now)
+        → KnowsBehind subject.now (pipeline_after q (trees.pipeline_of subject.now.script.now pipe.now)) (known_behind subject.now result) }
+{
+    let claims = Claims {
+        script: subject.script,
+        names: subject.names,
+        calls: subject.table,
+        certificate,
+    };
+    pipe_behind(&claims, known, pipe)
+}
+
+/// Behind the pipeline that follows `&&` or `||`.
+pub fn behind_link(
+    subject: &Subject<'_>,
+    certificate: &Certificate,
+    behind: &Behind,
+    link: &(Link, Pipe),
+) -> Behind
+    requires { (probed : ℕ) × IsReady subject.now certificate.now probed }
+    ensures { (o : After) → KnowsBehind subject.now o (known_behind subject.now behind.now)
+        → KnowsBehind subject.now (linked link.now.0 o (pipeline_after (link_seen link.now.0 o) (trees.pipeline_of subject.now.script.now link.now.1))) (known_behind subject.now result) }
+{
+    let claims = Claims {
+        script: subject.script,
+        names: subject.names,
+        calls: subject.table,
+        certificate,
+    };
+    link_behind(&claims, behind, link.0, &link.1)
+}
+
+/// At each turn of a loop.
+pub fn head_of(subject: &Subject<'_>, certificate: &Certificate, number: u32) -> Knowledge
+    requires { (probed : ℕ) × IsReady subject.now certificate.now probed }
+    ensures { Knows subject.now (at (views.Head number)) (knowledge_facts subject.now.names.now result) }
+{
+    let claims = Claims {
+        script: subject.script,
+        names: subject.names,
+        calls: subject.table,
+        certificate,
+    };
+    claims.head(number)
+}
+
+// Where a variable of this name is set.
+fn behind_name(
+    subject: &Subject<'_>,
+    certificate: &Certificate,
+    name: &[u8],
+    known: &Knowledge,
+) -> Knowledge
+    requires { (probed : ℕ) × IsReady subject.now certificate.now probed }
+    ensures { (q : Seen) → Knows subject.now q (knowledge_facts subject.now.names.now known.now)
+        → Knows subject.now (gaining_names (name.now ∷ []) q) (knowledge_facts subject.now.names.now result) }
+{
+    let claims = Claims {
+        script: subject.script,
+        names: subject.names,
+        calls: subject.table,
+        certificate,
+    };
+    let mut behind = *known;
+    gain_variable(&claims, name, &mut behind);
+    behind
+}
+
+/// At each turn of a `for`, which sets its name.
+pub fn turn_of(
+    subject: &Subject<'_>,
+    certificate: &Certificate,
+    number: u32,
+    name: Span,
+) -> Knowledge
+    requires { (probed : ℕ) × IsReady subject.now certificate.now probed }
+    ensures { Knows subject.now (gaining_names (text_of subject.now.script.now name ∷ []) (at (views.Head number))) (knowledge_facts subject.now.names.now result) }
+{
+    let head = head_of(subject, certificate, number);
+    behind_name(subject, certificate, name.text(subject.script), &head)
+}
+
+// Where the function of this name is entered.
+fn entry_by(subject: &Subject<'_>, certificate: &Certificate, name: &[u8]) -> Knowledge
+    requires { (probed : ℕ) × IsReady subject.now certificate.now probed }
+    ensures { Knows subject.now (at (views.Entry name.now)) (knowledge_facts subject.now.names.now result) }
+{
+    let claims = Claims {
+        script: subject.script,
+        names: subject.names,
+        calls: subject.table,
+        certificate,
+    };
+    claims.function_entry(name)
+}
+
+/// Where a function is entered.
+pub fn entry_of(subject: &Subject<'_>, certificate: &Certificate, name: Span) -> Knowledge
+    requires { (probed : ℕ) × IsReady subject.now certificate.now probed }
+    ensures { Knows subject.now (at (views.Entry (text_of subject.now.script.now name))) (knowledge_facts subject.now.names.now result) }
+{
+    entry_by(subject, certificate, name.text(subject.script))
+}
+
+/// Behind a word.
+pub fn behind_word(
+    subject: &Subject<'_>,
+    certificate: &Certificate,
+    word: &Word,
+    known: &Knowledge,
+) -> Knowledge
+    requires { (probed : ℕ) × IsReady subject.now certificate.now probed }
+    ensures { (q : Seen) → Knows subject.now q (knowledge_facts subject.now.names.now known.now)
+        → Knows subject.now (gaining (word_gains (parts_from subject.now.script.now word.now.parts)) q) (knowledge_facts subject.now.names.now result) }
+{
+    let claims = Claims {
+        script: subject.script,
+        names: subject.names,
+        calls: subject.table,
+        certificate,
+    };
+    let mut behind = *known;
+    gain_word(&claims, word, &mut behind);
+    behind
+}
+
+/// Goes on behind an item of a list.
+pub fn pass_on(subject: &Subject<'_>, certificate: &Certificate, course: &mut Course, item: &Item)
+    requires { (probed : ℕ) × IsReady subject.now certificate.now probed }
+    ensures { IsPassed subject.now course.old course.new item.now }
+{
+    let claims = Claims {
+        script: subject.script,
+        names: subject.names,
+        calls: subject.table,
+        certificate,
+    };
+    course.behind = item_behind(&claims, &course.behind, item);
+    course.by = FlowRule::F2;
+}

@@ -1,0 +1,141 @@
+//! A command is lowered by what it asks itself, and not by what the commands in it ask.
+ghost use Rattle.std.specs.Prelude.{◌≡◌, ℕ, length, IfOk};
+ghost use Rattle.sh_facts.specs.Knowledge.{knowledge_facts};
+ghost use Rattle.sh_facts.specs.Sheets.{Sheet};
+ghost use Rattle.sh_rules.specs.Steps.{met_in};
+ghost use Rattle.sh_rules.specs.Visits.{command_by};
+ghost use Rattle.sh_rules.specs.Walks as walks;
+ghost use Rattle.sh_accept.specs.Accepted.{IsAdmitted};
+ghost use Rattle.sh_certify.specs.Gathering.{gathering};
+ghost use Rattle.sh_certify.specs.Sweeps.{IsCommand, IsReady, IsSwept, Keeps, setting_by};
+ghost use Rattle.sh_certify.specs.Turns.{AreNumbers, Stands, gathered_of};
+
+use crate::draft::Draft;
+use crate::gather::{Gather, Target};
+use crate::place::{Part, Place};
+use crate::subject::Subject;
+use crate::turn::lower_gathered;
+use sh_facts::certificate::Certificate;
+use sh_facts::knowledge::Knowledge;
+use sh_facts::rule::FlowRule;
+use sh_rules::around::Around;
+use sh_rules::claims::Claims;
+use sh_rules::rules::Rules;
+use sh_rules::walk::Visitor;
+use sh_tree::tree::Command;
+use std::alloc::AllocError;
+
+// With what the flow rules ask at a command.
+fn visit(
+    subject: &Subject<'_>,
+    certificate: &Certificate,
+    by: FlowRule,
+    around: &Around<'_>,
+    known: &Knowledge,
+    command: &Command,
+    gather: Gather,
+) -> Gather
+    requires sized { certificate.now.rows.count ≡ length subject.now.names.now }
+    requires admitted { IsAdmitted subject.now.script.now subject.now.policy.now subject.now.tree.now subject.now.names.now }
+    ensures { gathered_of result ≡ command_by gathering (setting_by subject.now certificate.now) (gathered_of gather) (met_in (setting_by subject.now certificate.now) by around.now known.now command.now) }
+{
+    let claims = Claims {
+        script: subject.script,
+        names: subject.names,
+        calls: subject.table,
+        certificate,
+    };
+    let mut rules = Rules { asked: gather };
+    rules.visit(&claims, by, around, known, command);
+    let Rules { asked } = rules;
+    asked
+}
+
+// What the flow rules ask at a command, gathered for a place and a function.
+fn asked_of(
+    subject: &Subject<'_>,
+    certificate: &Certificate,
+    by: FlowRule,
+    around: &Around<'_>,
+    known: &Knowledge,
+    command: &Command,
+    target: Target,
+) -> Gather
+    requires ready { (probed : ℕ) × IsReady subject.now certificate.now probed }
+    requires placed { IsCommand subject.now by (walks.around subject.now.script.now around.now) (knowledge_facts subject.now.names.now known.now) command.now }
+    ensures numbers { AreNumbers (length subject.now.names.now) (gathered_of result) }
+    ensures stands { (other : Sheet) → Keeps subject.now other → Stands subject.now.names.now other (gathered_of result) }
+{
+    let gather = Gather::new(target);
+    visit(subject, certificate, by, around, known, command, gather)
+}
+
+// Whether a place is one of the command of an index, and the function the first.
+fn is_own(target: Target, index: u16) -> bool {
+    target.function == 0 && target.place.index == index && !target.place.part.is_of_function()
+}
+
+// Lowers what is claimed at a place, and what a function may drop, by what a command asks; says whether all of it was kept, and of what more was asked.
+fn lower_once(
+    subject: &Subject<'_>,
+    draft: &mut Draft,
+    by: FlowRule,
+    around: &Around<'_>,
+    known: &Knowledge,
+    command: &Command,
+    target: Target,
+) -> Result<(bool, Target), AllocError>
+    requires ready { IsReady subject.now draft.old.certificate draft.old.probe.count }
+    requires placed { IsCommand subject.now by (walks.around subject.now.script.now around.now) (knowledge_facts subject.now.names.now known.now) command.now }
+    ensures swept { IfOk result (λ answer. IsSwept subject.now draft.old.certificate draft.new.certificate draft.new.probe.count) }
+{
+    let gather = asked_of(
+        subject,
+        &draft.certificate,
+        by,
+        around,
+        known,
+        command,
+        target,
+    );
+    let is_lowered = lower_gathered(
+        subject.names,
+        subject.writable,
+        &mut draft.certificate,
+        &mut draft.probe,
+        &gather,
+    )?;
+    draft.lowered = draft.lowered.saturating_add(u64::from(is_lowered));
+    Ok((gather.kept, gather.next))
+}
+
+/// Lowers what is claimed at a part of a command by what the command asks; and what is claimed elsewhere or a function may drop, where it asks for
+/// more of that. Says whether it kept all before.
+///
+/// # Errors
+///
+/// Where a growth was refused or no place for a row is left; and where a rule asks for a name that the script does not have, as no rule does of a
+/// script that is read.
+pub fn lower_own(
+    subject: &Subject<'_>,
+    draft: &mut Draft,
+    by: FlowRule,
+    around: &Around<'_>,
+    known: &Knowledge,
+    command: &Command,
+    part: Part,
+) -> Result<bool, AllocError>
+    requires ready { IsReady subject.now draft.old.certificate draft.old.probe.count }
+    requires placed { IsCommand subject.now by (walks.around subject.now.script.now around.now) (knowledge_facts subject.now.names.now known.now) command.now }
+    ensures swept { IfOk result (λ kept. IsSwept subject.now draft.old.certificate draft.new.certificate draft.new.probe.count) }
+{
+    let index = u16::try_from(command.number.saturating_sub(1)).unwrap_or(0);
+    let place = Place { part, index };
+    let own = Target { place, function: 0 };
+    let (kept, next) = lower_once(subject, draft, by, around, known, command, own)?;
+    if kept || is_own(next, index) {
+        return Ok(kept);
+    }
+    lower_once(subject, draft, by, around, known, command, next)?;
+    Ok(false)
+}

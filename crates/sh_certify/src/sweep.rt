@@ -1,0 +1,685 @@
+//! A sweep of the search over the commands of a list: each command is lowered where the sweep comes to it, before those behind it (XCU 2.9).
+ghost use Rattle.std.specs.Prelude.{◌≡◌, ◌∷◌, ◌++◌, [], ℕ, List, IfOk};
+ghost use Rattle.sh_tree.specs.Tree.{text_of};
+ghost use Rattle.sh_tree.specs.declared.tree.Branch as if_branch;
+ghost use Rattle.sh_tree.specs.declared.tree.Clause as case_clause;
+ghost use Rattle.sh_tree.specs.declared.tree.Item as tree;
+ghost use Rattle.sh_tree.specs.declared.tree.Link as list_link;
+ghost use Rattle.sh_tree.specs.declared.tree.Pipe as pipeline;
+ghost use Rattle.sh_tree.specs.program.Lists.{branches_from, clauses_from, for_words_from, items_from, otherwise_from, parts_from};
+ghost use Rattle.sh_tree.specs.program.Syntax as p;
+ghost use Rattle.sh_tree.specs.program.Trees as trees;
+ghost use Rattle.sh_facts.specs.Entries as entries;
+ghost use Rattle.sh_facts.specs.Entries.{clauses_entered, items_after, kind_entered, word_entered};
+ghost use Rattle.sh_facts.specs.Gains.{word_gains};
+ghost use Rattle.sh_facts.specs.Knowledge.{knowledge_facts};
+ghost use Rattle.sh_facts.specs.Views.{After, Seen, gaining};
+ghost use Rattle.sh_rules.specs.Walks as walks;
+ghost use Rattle.sh_certify.specs.Sweeps.{AreBranches, AreClauses, AreItems, AreLinks, AreParts, IsAndOr, IsCommand, IsIn, IsInside, IsList, IsPart, IsPassed, IsPipe, IsReady, IsSwept, KnowsBehind, known_behind};
+
+use crate::draft::Draft;
+use crate::inner::holds_commands;
+use crate::item::settle_item;
+use crate::known::{
+    behind_link, behind_pipe, behind_word, entry_of, head_of, inside_of, pass_on, process_of,
+    started_in, turn_of,
+};
+use crate::own::lower_own;
+use crate::place::Part;
+use crate::subject::Subject;
+use sh_facts::knowledge::Knowledge;
+use sh_facts::rule::FlowRule;
+use sh_rules::around::{Around, alone, in_function};
+use sh_rules::behind::{Behind, met};
+use sh_rules::walk::{Course, begun, item_rule, part_rule};
+use sh_tree::tree::{
+    AndOr, Branch, Clause, Command, Item, Kind, Link, LoopKind, Pipe, Script, Span, Word,
+};
+use std::alloc::AllocError;
+
+/// How many levels of commands in one another are gone into. No script that is read has more.
+pub const LEVELS: u32 = 128;
+
+/// Lowers the certificate at each item of a list, and goes on behind the last. So many levels of commands are gone into; what stands further in is
+/// left to turns.
+///
+/// # Errors
+///
+/// Where a growth was refused or no place for a row is left; and where a rule asks for a name that the script does not have, as no rule does of a
+/// script that is read.
+#[cycle(sweep)]
+pub fn sweep_items(
+    subject: &Subject<'_>,
+    draft: &mut Draft,
+    levels: u32,
+    around: &Around<'_>,
+    course: &mut Course,
+    items: &[Item],
+) -> Result<(), AllocError>
+    requires ready { IsReady subject.now draft.old.certificate draft.old.probe.count }
+    requires placed { AreItems subject.now course.old.by (walks.around subject.now.script.now around.now) (known_behind subject.now course.old.behind) items.now }
+    ensures swept { IfOk result (λ unit. IsSwept subject.now draft.old.certificate draft.new.certificate draft.new.probe.count) }
+    ensures behind { IfOk result (λ unit. (o : After) → KnowsBehind subject.now o (known_behind subject.now course.old.behind)
+        → KnowsBehind subject.now (items_after o (items_from subject.now.script.now items.now)) (known_behind subject.now course.new.behind)) }
+{
+    for item in items {
+        sweep_item(subject, draft, levels, around, course, item)?;
+    }
+    Ok(())
+}
+
+/// Lowers the certificate at the commands of an item, and by walks over the item where commands stand in its words; and goes on behind it.
+///
+/// # Errors
+///
+/// Where a growth was refused or no place for a row is left; and where a rule asks for a name that the script does not have, as no rule does of a
+/// script that is read.
+#[cycle(sweep)]
+pub fn sweep_item(
+    subject: &Subject<'_>,
+    draft: &mut Draft,
+    levels: u32,
+    around: &Around<'_>,
+    course: &mut Course,
+    item: &Item,
+) -> Result<(), AllocError>
+    requires ready { IsReady subject.now draft.old.certificate draft.old.probe.count }
+    requires placed { (others : List tree.Item) × AreItems subject.now course.old.by (walks.around subject.now.script.now around.now) (known_behind subject.now course.old.behind) (item.now ∷ others) }
+    ensures swept { IfOk result (λ unit. IsSwept subject.now draft.old.certificate draft.new.certificate draft.new.probe.count) }
+    ensures passed { IfOk result (λ unit. IsPassed subject.now course.old course.new item.now) }
+{
+    enter_item(subject, draft, levels, around, &*course, item)?;
+    settle_words(subject, draft, around, &*course, item)?;
+    pass_on(subject, &draft.certificate, course, item);
+    Ok(())
+}
+
+// Lowers the certificate at the commands of an item.
+#[cycle(sweep)]
+fn enter_item(
+    subject: &Subject<'_>,
+    draft: &mut Draft,
+    levels: u32,
+    around: &Around<'_>,
+    course: &Course,
+    item: &Item,
+) -> Result<(), AllocError>
+    requires ready { IsReady subject.now draft.old.certificate draft.old.probe.count }
+    requires placed { (others : List tree.Item) × AreItems subject.now course.now.by (walks.around subject.now.script.now around.now) (known_behind subject.now course.now.behind) (item.now ∷ others) }
+    ensures swept { IfOk result (λ unit. IsSwept subject.now draft.old.certificate draft.new.certificate draft.new.probe.count) }
+{
+    let seen = course.behind.in_any_case();
+    let known = started_in(subject, &draft.certificate, item.background, &seen);
+    let inner = around.round_item(item.background);
+    let by = item_rule(item.background, course.by);
+    sweep_and_or(subject, draft, levels, by, &inner, &known, &item.list)
+}
+
+// Lowers the certificate by walks over an item in whose words commands may stand.
+fn settle_words(
+    subject: &Subject<'_>,
+    draft: &mut Draft,
+    around: &Around<'_>,
+    course: &Course,
+    item: &Item,
+) -> Result<(), AllocError>
+    requires ready { IsReady subject.now draft.old.certificate draft.old.probe.count }
+    requires placed { (others : List tree.Item) × AreItems subject.now course.now.by (walks.around subject.now.script.now around.now) (known_behind subject.now course.now.behind) (item.now ∷ others) }
+    ensures swept { IfOk result (λ unit. IsSwept subject.now draft.old.certificate draft.new.certificate draft.new.probe.count) }
+{
+    if !holds_commands(&item.list) {
+        return Ok(());
+    }
+    settle_item(subject, draft, around, course, item)
+}
+
+#[cycle(sweep)]
+fn sweep_and_or(
+    subject: &Subject<'_>,
+    draft: &mut Draft,
+    levels: u32,
+    by: FlowRule,
+    around: &Around<'_>,
+    known: &Knowledge,
+    list: &AndOr,
+) -> Result<(), AllocError>
+    requires ready { IsReady subject.now draft.old.certificate draft.old.probe.count }
+    requires placed { IsAndOr subject.now by (walks.around subject.now.script.now around.now) (knowledge_facts subject.now.names.now known.now) list.now }
+    ensures swept { IfOk result (λ unit. IsSwept subject.now draft.old.certificate draft.new.certificate draft.new.probe.count) }
+{
+    sweep_pipe(subject, draft, levels, by, around, known, &list.first)?;
+    let mut behind = behind_pipe(subject, &draft.certificate, known, &list.first);
+    sweep_links(
+        subject,
+        draft,
+        levels,
+        around,
+        &mut behind,
+        list.rest.as_slice(),
+    )
+}
+
+#[cycle(sweep)]
+fn sweep_links(
+    subject: &Subject<'_>,
+    draft: &mut Draft,
+    levels: u32,
+    around: &Around<'_>,
+    behind: &mut Behind,
+    links: &[(Link, Pipe)],
+) -> Result<(), AllocError>
+    requires ready { IsReady subject.now draft.old.certificate draft.old.probe.count }
+    requires placed { AreLinks subject.now (walks.around subject.now.script.now around.now) (known_behind subject.now behind.old) links.now }
+    ensures swept { IfOk result (λ unit. IsSwept subject.now draft.old.certificate draft.new.certificate draft.new.probe.count) }
+{
+    for link in links {
+        sweep_link(subject, draft, levels, around, behind, link)?;
+    }
+    Ok(())
+}
+
+// Lowers the certificate at the pipeline behind `&&` or `||`, and goes on behind it.
+#[cycle(sweep)]
+fn sweep_link(
+    subject: &Subject<'_>,
+    draft: &mut Draft,
+    levels: u32,
+    around: &Around<'_>,
+    behind: &mut Behind,
+    link: &(Link, Pipe),
+) -> Result<(), AllocError>
+    requires ready { IsReady subject.now draft.old.certificate draft.old.probe.count }
+    requires placed { (others : List (list_link.Link × pipeline.Pipe)) × AreLinks subject.now (walks.around subject.now.script.now around.now) (known_behind subject.now behind.old) (link.now ∷ others) }
+    ensures swept { IfOk result (λ unit. IsSwept subject.now draft.old.certificate draft.new.certificate draft.new.probe.count) }
+    ensures passed { IfOk result (λ unit. (others : List (list_link.Link × pipeline.Pipe))
+        → AreLinks subject.now (walks.around subject.now.script.now around.now) (known_behind subject.now behind.old) (link.now ∷ others)
+        → AreLinks subject.now (walks.around subject.now.script.now around.now) (known_behind subject.now behind.new) others) }
+{
+    let known = behind.at_link(link.0);
+    sweep_pipe(
+        subject,
+        draft,
+        levels,
+        FlowRule::F3,
+        around,
+        &known,
+        &link.1,
+    )?;
+    *behind = behind_link(subject, &draft.certificate, &*behind, link);
+    Ok(())
+}
+
+#[cycle(sweep)]
+fn sweep_pipe(
+    subject: &Subject<'_>,
+    draft: &mut Draft,
+    levels: u32,
+    by: FlowRule,
+    around: &Around<'_>,
+    known: &Knowledge,
+    pipe: &Pipe,
+) -> Result<(), AllocError>
+    requires ready { IsReady subject.now draft.old.certificate draft.old.probe.count }
+    requires placed { IsPipe subject.now by (walks.around subject.now.script.now around.now) (knowledge_facts subject.now.names.now known.now) pipe.now }
+    ensures swept { IfOk result (λ unit. IsSwept subject.now draft.old.certificate draft.new.certificate draft.new.probe.count) }
+{
+    let parts = pipe.parts.as_slice();
+    let is_long = parts.len() > 1;
+    let inner = around.round_parts(is_long);
+    let seen = started_in(subject, &draft.certificate, is_long, known);
+    sweep_parts(
+        subject,
+        draft,
+        levels,
+        part_rule(is_long, by),
+        &inner,
+        &seen,
+        parts,
+    )
+}
+
+#[cycle(sweep)]
+fn sweep_parts(
+    subject: &Subject<'_>,
+    draft: &mut Draft,
+    levels: u32,
+    by: FlowRule,
+    around: &Around<'_>,
+    known: &Knowledge,
+    parts: &[Command],
+) -> Result<(), AllocError>
+    requires ready { IsReady subject.now draft.old.certificate draft.old.probe.count }
+    requires placed { AreParts subject.now by (walks.around subject.now.script.now around.now) (knowledge_facts subject.now.names.now known.now) parts.now }
+    ensures swept { IfOk result (λ unit. IsSwept subject.now draft.old.certificate draft.new.certificate draft.new.probe.count) }
+{
+    for command in parts {
+        sweep_command(subject, draft, levels, by, around, known, command)?;
+    }
+    Ok(())
+}
+
+// Lowers the certificate at a command: where it is entered, in it, and behind it.
+#[cycle(sweep)]
+fn sweep_command(
+    subject: &Subject<'_>,
+    draft: &mut Draft,
+    levels: u32,
+    by: FlowRule,
+    around: &Around<'_>,
+    known: &Knowledge,
+    command: &Command,
+) -> Result<(), AllocError>
+    requires ready { IsReady subject.now draft.old.certificate draft.old.probe.count }
+    requires placed { IsCommand subject.now by (walks.around subject.now.script.now around.now) (knowledge_facts subject.now.names.now known.now) command.now }
+    ensures swept { IfOk result (λ unit. IsSwept subject.now draft.old.certificate draft.new.certificate draft.new.probe.count) }
+{
+    let kept = lower_own(subject, draft, by, around, known, command, Part::Before)?;
+    if levels == 0 || (kept && is_simple(&command.kind)) {
+        return Ok(());
+    }
+    lower_head(subject, draft, by, around, known, command)?;
+    sweep_inside(subject, draft, levels - 1, around, command)?;
+    lower_head(subject, draft, by, around, known, command)?;
+    lower_behind(subject, draft, by, around, known, command)?;
+    Ok(())
+}
+
+fn is_simple(kind: &Kind) -> bool {
+    matches!(kind, Kind::Simple(_))
+}
+
+fn is_loop(kind: &Kind) -> bool {
+    matches!(kind, Kind::Loop { .. } | Kind::For { .. })
+}
+
+// Lowers what is claimed at each turn of a loop.
+fn lower_head(
+    subject: &Subject<'_>,
+    draft: &mut Draft,
+    by: FlowRule,
+    around: &Around<'_>,
+    known: &Knowledge,
+    command: &Command,
+) -> Result<(), AllocError>
+    requires ready { IsReady subject.now draft.old.certificate draft.old.probe.count }
+    requires placed { IsCommand subject.now by (walks.around subject.now.script.now around.now) (knowledge_facts subject.now.names.now known.now) command.now }
+    ensures swept { IfOk result (λ unit. IsSwept subject.now draft.old.certificate draft.new.certificate draft.new.probe.count) }
+{
+    if !is_loop(&command.kind) {
+        return Ok(());
+    }
+    lower_own(subject, draft, by, around, known, command, Part::Head)?;
+    Ok(())
+}
+
+// Lowers what is claimed behind a command.
+fn lower_behind(
+    subject: &Subject<'_>,
+    draft: &mut Draft,
+    by: FlowRule,
+    around: &Around<'_>,
+    known: &Knowledge,
+    command: &Command,
+) -> Result<(), AllocError>
+    requires ready { IsReady subject.now draft.old.certificate draft.old.probe.count }
+    requires placed { IsCommand subject.now by (walks.around subject.now.script.now around.now) (knowledge_facts subject.now.names.now known.now) command.now }
+    ensures swept { IfOk result (λ unit. IsSwept subject.now draft.old.certificate draft.new.certificate draft.new.probe.count) }
+{
+    let kept = lower_own(subject, draft, by, around, known, command, Part::Zero)?;
+    if kept {
+        return Ok(());
+    }
+    lower_own(subject, draft, by, around, known, command, Part::Nonzero)?;
+    Ok(())
+}
+
+// Lowers the certificate at the lists in a command. What stands in its words is left to walks over its item.
+#[cycle(sweep)]
+fn sweep_inside(
+    subject: &Subject<'_>,
+    draft: &mut Draft,
+    levels: u32,
+    around: &Around<'_>,
+    command: &Command,
+) -> Result<(), AllocError>
+    requires ready { IsReady subject.now draft.old.certificate draft.old.probe.count }
+    requires placed { IsInside subject.now (walks.around subject.now.script.now around.now) command.now }
+    ensures swept { IfOk result (λ unit. IsSwept subject.now draft.old.certificate draft.new.certificate draft.new.probe.count) }
+{
+    let inside = inside_of(subject, &draft.certificate, command);
+    let number = command.number;
+    match &command.kind {
+        Kind::Simple(_) => Ok(()),
+        Kind::Group(list) => sweep_list(
+            subject,
+            draft,
+            levels,
+            around,
+            FlowRule::F10,
+            &inside,
+            list,
+        ),
+        Kind::Subshell(list) => sweep_subshell(subject, draft, levels, number, list),
+        Kind::Cond {
+            branches,
+            otherwise,
+        } => sweep_cond(
+            subject,
+            draft,
+            levels,
+            around,
+            &inside,
+            branches.as_slice(),
+            otherwise,
+        ),
+        Kind::Loop {
+            kind,
+            condition,
+            body,
+        } => sweep_loop(
+            subject, draft, levels, around, number, *kind, condition, body,
+        ),
+        Kind::For { name, body, .. } => {
+            sweep_for(subject, draft, levels, around, number, *name, body)
+        }
+        Kind::Branches { word, clauses } => sweep_case(
+            subject,
+            draft,
+            levels,
+            around,
+            &inside,
+            word,
+            clauses.as_slice(),
+        ),
+        Kind::Define { name, body } => {
+            sweep_definition(subject, draft, levels, *name, body.get())
+        }
+    }
+}
+
+#[cycle(sweep)]
+fn sweep_list(
+    subject: &Subject<'_>,
+    draft: &mut Draft,
+    levels: u32,
+    around: &Around<'_>,
+    by: FlowRule,
+    known: &Knowledge,
+    list: &Script,
+) -> Result<(), AllocError>
+    requires ready { IsReady subject.now draft.old.certificate draft.old.probe.count }
+    requires placed { IsList subject.now by (walks.around subject.now.script.now around.now) (knowledge_facts subject.now.names.now known.now) (trees.script_of subject.now.script.now list.now) }
+    ensures swept { IfOk result (λ unit. IsSwept subject.now draft.old.certificate draft.new.certificate draft.new.probe.count) }
+{
+    let mut course = begun(by, known);
+    sweep_items(
+        subject,
+        draft,
+        levels,
+        around,
+        &mut course,
+        list.items.as_slice(),
+    )
+}
+
+#[cycle(sweep)]
+fn sweep_subshell(
+    subject: &Subject<'_>,
+    draft: &mut Draft,
+    levels: u32,
+    number: u32,
+    list: &Script,
+) -> Result<(), AllocError>
+    requires ready { IsReady subject.now draft.old.certificate draft.old.probe.count }
+    requires placed { (y : entries.Around) × (q : Seen) × IsPart subject.now (kind_entered y number q (p.Subshell (trees.script_of subject.now.script.now list.now))) }
+    ensures swept { IfOk result (λ unit. IsSwept subject.now draft.old.certificate draft.new.certificate draft.new.probe.count) }
+{
+    let outside = alone();
+    let known = process_of(subject, &draft.certificate, number);
+    sweep_list(
+        subject,
+        draft,
+        levels,
+        &outside,
+        FlowRule::F11,
+        &known,
+        list,
+    )
+}
+
+#[cycle(sweep)]
+fn sweep_definition(
+    subject: &Subject<'_>,
+    draft: &mut Draft,
+    levels: u32,
+    name: Span,
+    body: &Command,
+) -> Result<(), AllocError>
+    requires ready { IsReady subject.now draft.old.certificate draft.old.probe.count }
+    requires placed { (y : entries.Around) × (n : ℕ) × (q : Seen) × IsPart subject.now (kind_entered y n q (p.Define (text_of subject.now.script.now name) (trees.command_of subject.now.script.now body.now))) }
+    ensures swept { IfOk result (λ unit. IsSwept subject.now draft.old.certificate draft.new.certificate draft.new.probe.count) }
+{
+    let inner = in_function(name);
+    let known = entry_of(subject, &draft.certificate, name);
+    sweep_command(subject, draft, levels, FlowRule::F13, &inner, &known, body)
+}
+
+#[cycle(sweep)]
+fn sweep_loop(
+    subject: &Subject<'_>,
+    draft: &mut Draft,
+    levels: u32,
+    around: &Around<'_>,
+    number: u32,
+    kind: LoopKind,
+    condition: &Script,
+    body: &Script,
+) -> Result<(), AllocError>
+    requires ready { IsReady subject.now draft.old.certificate draft.old.probe.count }
+    requires placed { (q : Seen) × IsPart subject.now (kind_entered (walks.around subject.now.script.now around.now) number q
+        (p.Loop kind (trees.script_of subject.now.script.now condition.now) (trees.script_of subject.now.script.now body.now))) }
+    ensures swept { IfOk result (λ unit. IsSwept subject.now draft.old.certificate draft.new.certificate draft.new.probe.count) }
+{
+    let inner = (&*around).in_loop(number);
+    let head = head_of(subject, &draft.certificate, number);
+    let mut course = begun(FlowRule::F7, &head);
+    sweep_items(
+        subject,
+        draft,
+        levels,
+        &inner,
+        &mut course,
+        condition.items.as_slice(),
+    )?;
+    let turn = course.behind.at_turn(kind);
+    sweep_list(subject, draft, levels, &inner, FlowRule::F7, &turn, body)?;
+    Ok(())
+}
+
+#[cycle(sweep)]
+fn sweep_for(
+    subject: &Subject<'_>,
+    draft: &mut Draft,
+    levels: u32,
+    around: &Around<'_>,
+    number: u32,
+    name: Span,
+    body: &Script,
+) -> Result<(), AllocError>
+    requires ready { IsReady subject.now draft.old.certificate draft.old.probe.count }
+    requires placed { (q : Seen) × (ws : p.ForWords) × IsPart subject.now (kind_entered (walks.around subject.now.script.now around.now) number q
+        (p.For (text_of subject.now.script.now name) ws (trees.script_of subject.now.script.now body.now))) }
+    ensures swept { IfOk result (λ unit. IsSwept subject.now draft.old.certificate draft.new.certificate draft.new.probe.count) }
+{
+    let inner = (&*around).in_loop(number);
+    let turn = turn_of(subject, &draft.certificate, number, name);
+    sweep_list(subject, draft, levels, &inner, FlowRule::F8, &turn, body)
+}
+
+#[cycle(sweep)]
+fn sweep_cond(
+    subject: &Subject<'_>,
+    draft: &mut Draft,
+    levels: u32,
+    around: &Around<'_>,
+    known: &Knowledge,
+    branches: &[Branch],
+    otherwise: &Option<Script>,
+) -> Result<(), AllocError>
+    requires ready { IsReady subject.now draft.old.certificate draft.old.probe.count }
+    requires placed { AreBranches subject.now (walks.around subject.now.script.now around.now) (knowledge_facts subject.now.names.now known.now)
+        (branches_from subject.now.script.now branches.now) (otherwise_from subject.now.script.now otherwise.now) }
+    ensures swept { IfOk result (λ unit. IsSwept subject.now draft.old.certificate draft.new.certificate draft.new.probe.count) }
+{
+    let mut left = *known;
+    sweep_branches(
+        subject, draft, levels, around, &mut left, branches, otherwise,
+    )?;
+    match otherwise {
+        None => Ok(()),
+        Some(list) => sweep_list(subject, draft, levels, around, FlowRule::F6, &left, list),
+    }
+}
+
+// Lowers the certificate at the branches; what is known behind the last condition, where it was not zero, is left for `else`.
+#[cycle(sweep)]
+fn sweep_branches(
+    subject: &Subject<'_>,
+    draft: &mut Draft,
+    levels: u32,
+    around: &Around<'_>,
+    known: &mut Knowledge,
+    branches: &[Branch],
+    otherwise: &Option<Script>,
+) -> Result<(), AllocError>
+    requires ready { IsReady subject.now draft.old.certificate draft.old.probe.count }
+    requires placed { AreBranches subject.now (walks.around subject.now.script.now around.now) (knowledge_facts subject.now.names.now known.old)
+        (branches_from subject.now.script.now branches.now) (otherwise_from subject.now.script.now otherwise.now) }
+    ensures swept { IfOk result (λ unit. IsSwept subject.now draft.old.certificate draft.new.certificate draft.new.probe.count) }
+    ensures left { IfOk result (λ unit. AreBranches subject.now (walks.around subject.now.script.now around.now) (knowledge_facts subject.now.names.now known.new)
+        (branches_from subject.now.script.now []) (otherwise_from subject.now.script.now otherwise.now)) }
+{
+    for branch in branches {
+        sweep_branch(subject, draft, levels, around, known, branch)?;
+    }
+    Ok(())
+}
+
+#[cycle(sweep)]
+fn sweep_branch(
+    subject: &Subject<'_>,
+    draft: &mut Draft,
+    levels: u32,
+    around: &Around<'_>,
+    known: &mut Knowledge,
+    branch: &Branch,
+) -> Result<(), AllocError>
+    requires ready { IsReady subject.now draft.old.certificate draft.old.probe.count }
+    requires placed { (others : List if_branch.Branch) × (z : p.Otherwise) × AreBranches subject.now (walks.around subject.now.script.now around.now) (knowledge_facts subject.now.names.now known.old)
+        (branches_from subject.now.script.now (branch.now ∷ others)) z }
+    ensures swept { IfOk result (λ unit. IsSwept subject.now draft.old.certificate draft.new.certificate draft.new.probe.count) }
+    ensures passed { IfOk result (λ unit. (others : List if_branch.Branch) (z : p.Otherwise)
+        → AreBranches subject.now (walks.around subject.now.script.now around.now) (knowledge_facts subject.now.names.now known.old) (branches_from subject.now.script.now (branch.now ∷ others)) z
+        → AreBranches subject.now (walks.around subject.now.script.now around.now) (knowledge_facts subject.now.names.now known.new) (branches_from subject.now.script.now others) z) }
+{
+    let mut course = begun(FlowRule::F6, &*known);
+    sweep_items(
+        subject,
+        draft,
+        levels,
+        around,
+        &mut course,
+        branch.condition.items.as_slice(),
+    )?;
+    let zero = course.behind.zero;
+    sweep_list(
+        subject,
+        draft,
+        levels,
+        around,
+        FlowRule::F6,
+        &zero,
+        &branch.body,
+    )?;
+    *known = course.behind.nonzero;
+    Ok(())
+}
+
+#[cycle(sweep)]
+fn sweep_case(
+    subject: &Subject<'_>,
+    draft: &mut Draft,
+    levels: u32,
+    around: &Around<'_>,
+    known: &Knowledge,
+    word: &Word,
+    clauses: &[Clause],
+) -> Result<(), AllocError>
+    requires ready { IsReady subject.now draft.old.certificate draft.old.probe.count }
+    requires placed { IsIn subject.now (λ q. word_entered q (parts_from subject.now.script.now word.now.parts)
+        ++ clauses_entered (walks.around subject.now.script.now around.now) (gaining (word_gains (parts_from subject.now.script.now word.now.parts)) q) [] (clauses_from subject.now.script.now clauses.now))
+        (knowledge_facts subject.now.names.now known.now) }
+    ensures swept { IfOk result (λ unit. IsSwept subject.now draft.old.certificate draft.new.certificate draft.new.probe.count) }
+{
+    let behind = behind_word(subject, &draft.certificate, word, known);
+    let mut fallen = Knowledge::NotReached;
+    for clause in clauses {
+        sweep_clause(subject, draft, levels, around, &behind, &mut fallen, clause)?;
+    }
+    Ok(())
+}
+
+#[cycle(sweep)]
+fn sweep_clause(
+    subject: &Subject<'_>,
+    draft: &mut Draft,
+    levels: u32,
+    around: &Around<'_>,
+    behind: &Knowledge,
+    fallen: &mut Knowledge,
+    clause: &Clause,
+) -> Result<(), AllocError>
+    requires ready { IsReady subject.now draft.old.certificate draft.old.probe.count }
+    requires placed { (others : List case_clause.Clause) × AreClauses subject.now (walks.around subject.now.script.now around.now) (knowledge_facts subject.now.names.now behind.now)
+        (knowledge_facts subject.now.names.now fallen.old) (clauses_from subject.now.script.now (clause.now ∷ others)) }
+    ensures swept { IfOk result (λ unit. IsSwept subject.now draft.old.certificate draft.new.certificate draft.new.probe.count) }
+    ensures passed { IfOk result (λ unit. (others : List case_clause.Clause)
+        → AreClauses subject.now (walks.around subject.now.script.now around.now) (knowledge_facts subject.now.names.now behind.now) (knowledge_facts subject.now.names.now fallen.old) (clauses_from subject.now.script.now (clause.now ∷ others))
+        → AreClauses subject.now (walks.around subject.now.script.now around.now) (knowledge_facts subject.now.names.now behind.now) (knowledge_facts subject.now.names.now fallen.new) (clauses_from subject.now.script.now others)) }
+{
+    let known = met(behind, &*fallen);
+    let mut course = begun(FlowRule::F9, &known);
+    sweep_items(
+        subject,
+        draft,
+        levels,
+        around,
+        &mut course,
+        clause.body.items.as_slice(),
+    )?;
+    *fallen = course.behind.falling(clause.end);
+    Ok(())
+}
+
+/// Lowers a certificate command by command, each where the sweep comes to it, with what is known there then.
+///
+/// # Errors
+///
+/// Where a growth was refused or no place for a row is left; and where a rule asks for a name that the script does not have, as no rule does of a
+/// script that is read.
+pub fn sweep(subject: &Subject<'_>, draft: &mut Draft) -> Result<(), AllocError>
+    requires { IsReady subject.now draft.old.certificate draft.old.probe.count }
+    ensures { IfOk result (λ unit. IsSwept subject.now draft.old.certificate draft.new.certificate draft.new.probe.count) }
+{
+    let start = Knowledge::start(subject.names, subject.policy);
+    let mut course = begun(FlowRule::F1, &start);
+    let outside = alone();
+    sweep_items(
+        subject,
+        draft,
+        LEVELS,
+        &outside,
+        &mut course,
+        subject.tree.items.as_slice(),
+    )
+}
