@@ -4,7 +4,8 @@
 Makes scripts of 10 KB, 100 KB and 1 MB, straight ones and ones of each kind of words, and prints for each the processor time and
 the peak memory of `shset lint`, `dash -n`, `shfmt` and, of straight ones, `shellcheck`, their ratios to shset's, and how they grew
 from the script a tenth as long: by 10 at most where they are linear in the text. All of them read a script whole, whether shset goes
-on to analyse it or not. A script of short lines is 130 KB long in place of 1 MB, since there may be no more commands. Kinds can be
+on to analyse it or not. A script of short lines is 130 KB long in place of 1 MB, one of
+pipelines 240 KB, and one of functions or nested loops 540 KB, since there may be no more commands. Kinds can be
 given as arguments. `shset cert` writes the script's certificate and `shset check` goes by it, where the script has one that is not too long.
 A tool that is not installed is left out; one that takes longer than the limit is stopped and shown as more than
 that, and is not run on the larger scripts of that kind. The peak memory is that of GNU time (Debian's package time). Run it once the
@@ -27,8 +28,10 @@ import sys
 import tempfile
 
 SIZES = (10_000, 100_000, 1_000_000)
-# The longest script of short lines, which has nearly as many commands as there may be.
+# The longest scripts of short lines, of pipelines, and of functions or loops, which have nearly as many commands as there may be.
 SHORT_LINES = 130_000
+PIPELINES = 240_000
+BODIES = 540_000
 LIMIT_SECONDS = 60
 RUNS = 3
 HERE = os.path.dirname(os.path.abspath(__file__))
@@ -170,11 +173,11 @@ KINDS = {
     "one document": one_document,
     "documents": lambda size: script_of(repeated_lines(DOCUMENT), size),
     "deep documents": lambda size: script_of(repeated_lines(documents_in(60)), size),
-    "nested loops": lambda size: script_of(repeated_lines(nested_loops(60)), size),
-    "functions": lambda size: script_of(calling_functions(), size),
+    "nested loops": lambda size: script_of(repeated_lines(nested_loops(60)), min(size, BODIES)),
+    "functions": lambda size: script_of(calling_functions(), min(size, BODIES)),
     "one function": one_function,
-    "pipelines": lambda size: script_of(repeated_lines("a | b && c"), min(size, 2 * SHORT_LINES)),
-    "more pipelines": lambda size: script_of(repeated_lines("a | b && a | b"), min(size, 2 * SHORT_LINES)),
+    "pipelines": lambda size: script_of(repeated_lines("a | b && c"), min(size, PIPELINES)),
+    "more pipelines": lambda size: script_of(repeated_lines("a | b && a | b"), min(size, PIPELINES)),
     "comments": lambda size: script_of(repeated_lines("# a comment 'of $(some) \"words", "a \\", "b # more"), size),
 }
 

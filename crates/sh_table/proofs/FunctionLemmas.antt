@@ -12,9 +12,9 @@ use Rattle.std.proofs.lemmas.List.Sums.{fold-append}
 use Rattle.std.proofs.lemmas.Iterator.Adapters.{position_from-zero}
 use Rattle.std.proofs.lemmas.Slice.Eq.{bytes_eq-Decides}
 use Rattle.sh_tree.specs.program.Syntax.{Text}
-use Rattle.sh_table.specs.Calls.{Functions, functions_in, defined, defines, with_name, names_of, definitions_of, functions_of, with_number, with_definition, with_form, with_site}
-use Rattle.sh_table.specs.declared.site.Site as site
-use Rattle.sh_table.specs.Walks.{seen}
+use Rattle.sh_table.specs.Calls.{Functions, functions_in, defined, defines, with_name, names_of, definitions_of, functions_of, with_number, with_definition}
+use Rattle.sh_table.specs.Found.{definition_at, definition_of, definition_in, with_defined}
+use Rattle.sh_table.specs.declared.functions.Definition as declared
 use Rattle.sh_table.specs.Sites.{Form, Simple, Defines, Other, Site}
 use Rattle.sh_table.specs.runs.Environment.{is_one_of}
 
@@ -319,23 +319,27 @@ one_defined ss s t e =
     let numbers = all_more ss s t (names_of ss) e (distinct_names ss) (none_defined ss t) in
     rw names (ap (λ ds. record { names = with_name (names_of ss) t; definitions = ds }) numbers)
 
-one_more : (ss : List Site) (s : Site) → with_site (functions_of ss) s ≡ functions_of (ss ++ s ∷ [])
-unfolding with_form defined
+one_more : (ss : List Site) (s : Site) → fold with_defined (functions_of ss) (filter_map definition_of (s ∷ [])) ≡ functions_of (ss ++ s ∷ [])
+unfolding definition_of defined
 one_more ss s = go s.form refl
   where
-    go : (f : Form) → s.form ≡ f → with_form (functions_of ss) s.number f ≡ functions_of (ss ++ s ∷ [])
+    go : (f : Form) → s.form ≡ f → fold with_defined (functions_of ss) (cons_option (definition_at s.number f) []) ≡ functions_of (ss ++ s ∷ [])
     go (Simple ws) e = sym (same_more ss s (ap defined e))
     go (Defines t) e = one_defined ss s t e
     go Other e = sym (same_more ss s (ap defined e))
 
-pub all_functions : (before ss : List Site) → fold with_site (functions_of before) ss ≡ functions_of (before ++ ss)
+all_functions : (before ss : List Site) → fold with_defined (functions_of before) (filter_map definition_of ss) ≡ functions_of (before ++ ss)
 all_functions before [] = ap functions_of (sym (append-nil before))
-all_functions before (s ∷ ss) = ap (λ f. fold with_site f ss) (one_more before s) ∙ all_functions (before ++ s ∷ []) ss ∙ ap functions_of (append_assoc before (s ∷ []) ss)
+all_functions before (s ∷ ss) =
+    ap (fold with_defined (functions_of before)) (filter_map-append definition_of (s ∷ []) ss)
+    ∙ fold-append with_defined (functions_of before) (filter_map definition_of (s ∷ [])) (filter_map definition_of ss)
+    ∙ ap (λ f. fold with_defined f (filter_map definition_of ss)) (one_more before s) ∙ all_functions (before ++ s ∷ []) ss ∙ ap functions_of (append_assoc before (s ∷ []) ss)
 
-pub functions_end : (b : List ℕ) (sites : List site.Site) (i : ℕ) (f g : Functions) → length sites ≤ i → fold with_site g (map (seen b) (drop i sites)) ≡ fold with_site f (map (seen b) sites)
-    → f ≡ functions_in [] [] → g ≡ functions_of (map (seen b) sites)
+pub functions_end : (b : List ℕ) (ds : List declared.Definition) (ss : List Site) (i : ℕ) (f g : Functions) → length ds ≤ i
+    → fold with_defined g (map (definition_in b) (drop i ds)) ≡ fold with_defined f (map (definition_in b) ds) → f ≡ functions_in [] [] → map (definition_in b) ds ≡ filter_map definition_of ss
+    → g ≡ functions_of ss
 unfolding functions_of names_of
-functions_end b sites i f g h e none =
-    let left : drop i sites ≡ [] = drop_all i sites h in
-    let all : g ≡ fold with_site f (map (seen b) sites) = rw left at e in
-    all ∙ ap (λ x. fold with_site x (map (seen b) sites)) none ∙ all_functions [] (map (seen b) sites)
+functions_end b ds ss i f g h e none found =
+    let left : drop i ds ≡ [] = drop_all i ds h in
+    let all : g ≡ fold with_defined f (map (definition_in b) ds) = rw left at e in
+    all ∙ ap₂ (fold with_defined) none found ∙ all_functions [] ss

@@ -7,6 +7,7 @@ pub mod ExpansionLemmas
 pub mod FieldLemmas
 pub mod FieldRowLemmas
 pub mod FormLemmas
+pub mod FoundLemmas
 pub mod FunctionLemmas
 pub mod KindLemmas
 pub mod LeftLemmas

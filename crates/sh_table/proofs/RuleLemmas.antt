@@ -23,7 +23,7 @@ use Rattle.sh_table.specs.Profile.{Static, Refused, named_rule, words_rule, comm
 use Rattle.sh_table.specs.Sites.{Site, Simple, statics, site_of, form_of, placed, by_number, sites_of}
 use Rattle.sh_table.specs.Surroundings.{Surroundings, Located, outside, items_located}
 use Rattle.sh_table.specs.WordTexts.{has_pattern}
-use Rattle.sh_table.proofs.OrderLemmas.{Above, Rises, rises_by_number}
+use Rattle.sh_table.proofs.OrderLemmas.{Above, Rises, number_of, rises_by_number}
 
 -- the words of a command
 
@@ -130,7 +130,7 @@ no_first : {A : Type 0} (q : Refused) → first_of [] ≡ Some q → A
 unfolding first_of
 no_first q e = cc
 
-first_above : (n : ℕ) (ss : List Site) (q : Refused) → Above n ss → first_of ss ≡ Some q → n ≤ q.number
+first_above : (n : ℕ) (ss : List Site) (q : Refused) → Above number_of n ss → first_of ss ≡ Some q → n ≤ q.number
 unfolding or_refused
 first_above n [] q a e = no_first q e
 first_above n (s ∷ ss) q a e = go (first_above n ss q a.1) (refused_site s) refl
@@ -149,7 +149,7 @@ unfolding first_of or_refused
 alone s None e = rw e refl
 alone s (Some q) e = rw e refl
 
-placed_first : (s : Site) (ss : List Site) → Rises ss → first_of (placed s ss) ≡ sooner (refused_site s) (first_of ss)
+placed_first : (s : Site) (ss : List Site) → Rises number_of ss → first_of (placed s ss) ≡ sooner (refused_site s) (first_of ss)
 unfolding placed or_refused
 placed_first s [] r = alone s (refused_site s) refl
 placed_first s (x ∷ xs) r = go (placed_first s xs r.1) (nat_lt x.number s.number) refl (refused_site x) refl (refused_site s) refl

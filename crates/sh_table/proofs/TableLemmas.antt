@@ -11,18 +11,16 @@ use Rattle.sh_tree.specs.declared.tree.Script.{Script}
 use Rattle.sh_tree.specs.program.Syntax as p
 use Rattle.sh_tree.specs.program.Syntax.{Text}
 use Rattle.sh_tree.specs.program.Trees.{script_of}
-use Rattle.sh_table.specs.declared.site.Site as site
 use Rattle.sh_table.specs.declared.table.Row as declared
 use Rattle.sh_table.specs.declared.word_text.WordText.{WordText}
 use Rattle.sh_table.specs.Calls.{Functions, Table, Row, IsKept, defined, with_name, names_of, functions_of, row_of, row_in, table_in, table_of, texts_with, static_at, text_at, called, callee_at, first_row, found_texts}
 use Rattle.sh_table.specs.Kinds.{kind_of, is_special}
 use Rattle.sh_table.specs.Profile.{Static}
 use Rattle.sh_table.specs.Sites.{Site, sites_of}
-use Rattle.sh_table.specs.Walks.{seen}
 use Rattle.sh_table.specs.WordTexts.{text_in}
 use Rattle.sh_table.specs.runs.Environment.{is_one_of}
 use Rattle.sh_table.proofs.FunctionLemmas.{place_later}
-use Rattle.sh_table.proofs.OrderLemmas.{Above, Rises, rises_by_number}
+use Rattle.sh_table.proofs.OrderLemmas.{Above, Rises, number_of, rises_by_number}
 
 -- the numbers of rows rise as those of the commands
 
@@ -42,7 +40,7 @@ abbrev later_rows : List Row → List Row
 later_rows [] = []
 later_rows (r ∷ rs) = rs
 
-rows_above : (b : List ℕ) (n : ℕ) (rs : List declared.Row) (ss : List Site) → map (row_in b) rs ≡ map row_of ss → Above n ss → RowsAbove n rs
+rows_above : (b : List ℕ) (n : ℕ) (rs : List declared.Row) (ss : List Site) → map (row_in b) rs ≡ map row_of ss → Above number_of n ss → RowsAbove n rs
 unfolding row_of
 rows_above b n [] ss e a = tt
 rows_above b n (r ∷ rs) [] e a = cc
@@ -51,7 +49,7 @@ rows_above b n (r ∷ rs) (s ∷ ss) e a =
     let least = a.0 in
     (omega (arith, same, least), rows_above b n rs ss (ap later_rows e) a.1)
 
-rows_rise : (b : List ℕ) (rs : List declared.Row) (ss : List Site) → map (row_in b) rs ≡ map row_of ss → Rises ss → RowsRise rs
+rows_rise : (b : List ℕ) (rs : List declared.Row) (ss : List Site) → map (row_in b) rs ≡ map row_of ss → Rises number_of ss → RowsRise rs
 unfolding row_of
 rows_rise b [] ss e r = tt
 rows_rise b (x ∷ xs) [] e r = cc
@@ -77,14 +75,14 @@ numbers_rise b t rs e = never_falls rs (rows_rise b rs _ e (rises_by_number _))
 
 -- the table of a tree
 
-pub functions_whole : (b : List ℕ) (t : Script) (ss : List site.Site) (f : Functions) → f ≡ functions_of (map (seen b) ss) → map (seen b) ss ≡ sites_of (script_of b t) → f ≡ (table_of b t).functions
+pub functions_whole : (b : List ℕ) (t : Script) (f : Functions) → f ≡ functions_of (sites_of (script_of b t)) → f ≡ (table_of b t).functions
 unfolding table_of
-functions_whole b t ss f e h = e ∙ ap functions_of h
+functions_whole b t f e = e
 
-pub table_whole : (b : List ℕ) (t : Script) (ss : List site.Site) (f : Functions) (rs : List declared.Row) → f ≡ functions_of (map (seen b) ss) → map (row_in b) rs ≡ map row_of (map (seen b) ss)
-    → map (seen b) ss ≡ sites_of (script_of b t) → table_in b f rs ≡ table_of b t
+pub table_whole : (b : List ℕ) (t : Script) (f : Functions) (rs : List declared.Row) → f ≡ functions_of (sites_of (script_of b t)) → map (row_in b) rs ≡ map row_of (sites_of (script_of b t))
+    → table_in b f rs ≡ table_of b t
 unfolding table_of
-table_whole b t ss f rs e r h = ap₂ (λ x y. record { script = b; functions = x; rows = y }) (e ∙ ap functions_of h) (r ∙ ap (map row_of) h)
+table_whole b t f rs e r = ap₂ (λ x y. record { script = b; functions = x; rows = y }) e r
 
 -- no more functions than commands
 
@@ -120,9 +118,8 @@ names_few b t =
     let rows = length-map ss row_of in
     omega (arith, named, some, rows)
 
-pub kept : (b : List ℕ) (t : Script) (ss : List site.Site) (f : Functions) (rs : List declared.Row) → length f.names ≤ MAX_COMMANDS → map (row_in b) rs ≡ map row_of (map (seen b) ss)
-    → map (seen b) ss ≡ sites_of (script_of b t) → IsKept f rs
-kept b t ss f rs few r h = record { few = few; ordered = numbers_rise b (script_of b t) rs (r ∙ ap (map row_of) h) }
+pub kept : (b : List ℕ) (t : Script) (f : Functions) (rs : List declared.Row) → length f.names ≤ MAX_COMMANDS → map (row_in b) rs ≡ map row_of (sites_of (script_of b t)) → IsKept f rs
+kept b t f rs few r = record { few = few; ordered = numbers_rise b (script_of b t) rs r }
 
 -- the row behind those with lesser numbers
 

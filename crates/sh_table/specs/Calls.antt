@@ -135,11 +135,3 @@ with_number (u ∷ us) (d ∷ ds) t n = if bytes_eq u t then (d ++ n ∷ []) ∷
 
 unfoldable pub with_definition : Functions → Text → ℕ → Functions
 with_definition f t n = record { names = with_name f.names t; definitions = with_number f.names f.definitions t n }
-
--- with what a command defines
-unfoldable pub with_form : Functions → ℕ → Form → Functions
-with_form f n (Defines t) = with_definition f t n
-with_form f n _ = f
-
-abbrev pub with_site : Functions → Site → Functions
-with_site f s = with_form f s.number s.form

@@ -8,6 +8,7 @@ pub mod Admits
 pub mod Calls
 pub mod Numbering
 pub mod Walks
+pub mod Found
 pub mod WordTexts
 pub mod Counts
 pub mod Quoting

@@ -1,14 +1,22 @@
 //! The functions of a script, by first definition.
-ghost use Rattle.std.specs.Prelude.{◌≡◌, ◌<◌, ℕ, List, length, map, IfOk, IfSome, OnOk, None, Some, slice_get};
-ghost use Rattle.std.specs.List.{position_from};
+ghost use Rattle.std.specs.Prelude.{◌≡◌, ◌<◌, List, length, map, IfOk, IfSome, OnOk, None, Some, slice_get};
+ghost use Rattle.std.specs.List.{filter_map, position_from};
 ghost use Rattle.std.specs.Str.{bytes_eq};
-ghost use Rattle.sh_table.specs.Calls.{functions_of, with_definition, with_site};
-ghost use Rattle.sh_table.specs.Walks as walks;
+ghost use Rattle.sh_table.specs.Calls.{functions_of, with_definition};
+ghost use Rattle.sh_table.specs.Found as found;
+ghost use Rattle.sh_table.specs.Sites.{Site};
 
-use crate::site::{Form, Site};
 use indexmap::IndexSet;
+use sh_tree::tree::Span;
 use std::alloc::{AllocError, Global};
 use std::marker::Model;
+
+/// A function definition: the number of its command, and the function's name.
+#[derive(Clone, Copy)]
+pub struct Definition {
+    pub number: u32,
+    pub name: Span,
+}
 
 /// The names of functions, and for each the numbers of the commands that define it.
 #[derive(Drop)]
@@ -29,20 +37,24 @@ impl Model for Functions {
 }
 
 impl Functions {
-    /// The functions that commands define.
+    /// The functions that commands define, by their definitions in the order of the commands.
     ///
     /// # Errors
     ///
     /// `AllocError` where a growth was refused.
-    pub fn new(alloc: Global, sites: &[Site], script: &[u8]) -> Result<Functions, AllocError>
-        ensures { IfOk result (λ functions. functions ≡ functions_of (map (walks.seen script.now) sites.now)) }
+    pub fn new(
+        alloc: Global,
+        definitions: &[Definition],
+        script: &[u8],
+    ) -> Result<Functions, AllocError>
+        ensures { (ss : List Site) → map (found.definition_in script.now) definitions.now ≡ filter_map found.definition_of ss → IfOk result (λ functions. functions ≡ functions_of ss) }
     {
         let mut functions = Functions {
             names: IndexSet::new(alloc),
             definitions: Vec::new(alloc),
         };
-        for site in sites {
-            functions.add_site(alloc, site)?;
+        for definition in definitions {
+            functions.add(alloc, definition.name.text(script), definition.number)?;
         }
         Ok(functions)
     }
@@ -75,17 +87,6 @@ impl Functions {
         ensures { slice_get self.now.definitions place ≡ Some result.now }
     {
         self.definitions[place].as_slice()
-    }
-
-    #[tactic(auto, unfolding(crate::specs::Walks::seen, crate::specs::Walks::seen_form, crate::specs::Calls::with_form))]
-    fn add_site(&mut self, alloc: Global, site: &Site) -> Result<(), AllocError>
-        ensures { OnOk result ((script : List ℕ) → self.new ≡ with_site self.old (walks.seen script site.now)) }
-    {
-        match site.form {
-            Form::Simple(_) => Ok(()),
-            Form::Defines(name) => self.add(alloc, name, site.number),
-            Form::Other => Ok(()),
-        }
     }
 
     /// Adds a definition.

@@ -2,6 +2,7 @@
 #![tactic(auto)]
 
 pub mod admit;
+mod found;
 mod functions;
 pub mod kind;
 pub mod laws;

@@ -5,19 +5,16 @@ ghost use Rattle.sh_table.specs.Calls as calls;
 ghost use Rattle.sh_tree.specs.declared.tree.Script.{Script};
 ghost use Rattle.sh_tree.specs.program.Trees.{script_of};
 ghost use Rattle.sh_table.specs.Numbering as numbering;
-ghost use Rattle.sh_table.specs.Sites as sites;
-ghost use Rattle.sh_table.specs.Walks as walks;
 ghost use Rattle.sh_table.specs.WordTexts.{text_in};
 
+use crate::found::Found;
 use crate::functions::Functions;
 use crate::kind::kind_of;
-use crate::site::{Form, Site};
-use crate::sites::sites;
-use crate::word_text::{WordText, texts_of};
+use crate::word_text::WordText;
 use sh_tree::limits::MAX_COMMANDS;
 use sh_tree::refusal::Refusal;
 use sh_tree::tree::Script;
-use std::alloc::{AllocError, Global};
+use std::alloc::Global;
 use std::marker::Model;
 
 /// A command, by its number, and the texts of its words.
@@ -46,39 +43,6 @@ impl<'s> Model for CallTable<'s> {
     ghost view = { λ t. calls.table_in t.script.now t.functions t.rows.items };
 
     ghost invariant = { λ t. calls.IsKept t.functions t.rows.items };
-}
-
-#[tactic(auto, unfolding(crate::specs::Walks::seen_form, crate::specs::Sites::statics))]
-fn site_texts(alloc: Global, site: &Site, script: &[u8]) -> Result<Vec<WordText>, AllocError>
-    ensures { IfOk result (λ texts. map (text_in script.now) texts.items ≡ sites.statics (walks.seen_form script.now site.now.form)) }
-{
-    match site.form {
-        Form::Simple(elements) => texts_of(alloc, elements, script),
-        Form::Defines(_) => Ok(Vec::new(alloc)),
-        Form::Other => Ok(Vec::new(alloc)),
-    }
-}
-
-#[tactic(auto, unfolding(crate::specs::Walks::seen, crate::specs::Calls::row_of))]
-fn add_row(alloc: Global, site: &Site, script: &[u8], rows: &mut Vec<Row>) -> Result<(), AllocError>
-    ensures { OnOk result (map (calls.row_in script.now) rows.new.items ≡ map (calls.row_in script.now) rows.old.items ++ calls.row_of (walks.seen script.now site.now) ∷ []) }
-{
-    let texts = site_texts(alloc, site, script)?;
-    rows.push(Row {
-        number: site.number,
-        texts,
-    })?;
-    Ok(())
-}
-
-fn rows_of(alloc: Global, sites: &[Site], script: &[u8]) -> Result<Vec<Row>, AllocError>
-    ensures { IfOk result (λ rows. map (calls.row_in script.now) rows.items ≡ map calls.row_of (map (walks.seen script.now) sites.now)) }
-{
-    let mut rows = Vec::new(alloc);
-    for site in sites {
-        add_row(alloc, site, script, &mut rows)?;
-    }
-    Ok(rows)
 }
 
 #[tactic(auto, unfolding(crate::specs::Calls::first_row))]
@@ -144,12 +108,15 @@ impl<'s> CallTable<'s> {
         ensures tables { calls.Tables script.entry.now tree.now result }
         ensures counted { length (calls.table_of script.entry.now tree.now).rows ≤ MAX_COMMANDS → IfErr result (λ refusal. refusal ≡ Refusal.Memory) }
     {
-        let sites = sites(alloc, tree, script)?;
-        let functions = Functions::new(alloc, sites.as_slice(), script)?;
+        let Found {
+            rows,
+            definitions,
+            ..
+        } = Found::new(alloc, tree, script)?;
+        let functions = Functions::new(alloc, definitions.as_slice(), script)?;
         if functions.len() > MAX_COMMANDS as usize {
             return Err(Refusal::TooMany);
         }
-        let rows = rows_of(alloc, sites.as_slice(), script)?;
         Ok(CallTable {
             script,
             functions,

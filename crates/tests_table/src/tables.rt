@@ -100,3 +100,29 @@ fn least(rt: HostRuntime) -> Result<(), Fail> {
     assert_eq!(rt; admit(alloc, &tree, &table, SCRIPT), Err(refusal));
     Ok(())
 }
+
+/// The commands of the body stand behind the rest of its operator's line: of `f` the one there is the first definition.
+const DOCUMENT: &[u8] = b"cat <<E | f b; f() { :; }\n$(g() { d; }; f() { e 'x y'; })\nE\ng 'c'\n";
+
+const DOCUMENT_TEXTS: &[Text] = &[
+    (1, 0, Some(b"cat")),
+    (2, 1, Some(b"b")),
+    (5, 0, Some(b":")),
+    (8, 0, Some(b"d")),
+    (11, 1, Some(b"x y")),
+    (12, 1, Some(b"c")),
+];
+
+#[test]
+fn bodies(rt: HostRuntime) -> Result<(), Fail> {
+    let alloc = rt.alloc();
+    let tree = parse(alloc, DOCUMENT)?;
+    let table = CallTable::new(alloc, &tree, DOCUMENT)?;
+    assert_eq!(rt; table.functions().len(), 2);
+    assert!(rt; has_function(&table, 1, b"f", &[3, 9]));
+    assert!(rt; has_function(&table, 2, b"g", &[6]));
+    assert_eq!(rt; table.callee(2), Some(1));
+    assert_eq!(rt; table.callee(12), Some(2));
+    check_texts(&rt, &table, DOCUMENT_TEXTS);
+    Ok(())
+}

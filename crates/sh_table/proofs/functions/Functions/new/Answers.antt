@@ -3,4 +3,6 @@ use Rattle.sh_table.proofs.FunctionLemmas.{functions_end}
 use Rattle.sh_table.proofs.functions.Functions.new.Goals as goal
 
 pub returns : goal.returns
-returns c = functions_end c.args.script.now c.args.sites.now c.loop-site.site-index _ c.loop-site.functions c.loop-site-test.false c.loop-site.invariant (search rules)
+returns c =
+    λ ss e. functions_end c.args.script.now c.args.definitions.now ss c.loop-definition.definition-index _ c.loop-definition.functions c.loop-definition-test.false c.loop-definition.invariant
+    (search rules) e

@@ -1,13 +1,15 @@
 use Rattle.std.proofs.Common.{length, ap, ◌∙◌, arith}
+use Rattle.sh_tree.specs.program.Trees.{script_of}
 use Rattle.sh_table.specs.Calls.{Functions}
+use Rattle.sh_table.specs.Sites.{sites_of}
 use Rattle.sh_table.proofs.TableLemmas.{functions_whole, table_whole, names_few, kept}
 use Rattle.sh_table.proofs.table.CallTable.new.Goals as goal
 
 pub returns-then-len-clause-tables : goal.returns-then-len-clause-tables
 returns-then-len-clause-tables c =
     let b = c.args.script.now in
-    let own = rw c.as_slice.ensures.value at c.in_ok-functions.ensures in
-    let whole = functions_whole b c.args.tree.now c.in_ok-sites.sites.items c.in_ok-functions.functions own c.in_ok-sites.ensures in
+    let own = c.in_ok-functions.ensures (sites_of (script_of b c.args.tree.now)) (rw c.as_slice.ensures.value c.in_ok-rows.ensures.definitions) in
+    let whole = functions_whole b c.args.tree.now c.in_ok-functions.functions own in
     let size = c.len.ensures ∙ ap (λ (f : Functions). length f.names) whole in
     let more = c.if-len.true in
     rw (← size) (omega (arith, more))
@@ -15,8 +17,8 @@ returns-then-len-clause-tables c =
 pub returns-then-len-clause-counted : goal.returns-then-len-clause-counted
 returns-then-len-clause-counted c counted =
     let b = c.args.script.now in
-    let own = rw c.as_slice.ensures.value at c.in_ok-functions.ensures in
-    let whole = functions_whole b c.args.tree.now c.in_ok-sites.sites.items c.in_ok-functions.functions own c.in_ok-sites.ensures in
+    let own = c.in_ok-functions.ensures (sites_of (script_of b c.args.tree.now)) (rw c.as_slice.ensures.value c.in_ok-rows.ensures.definitions) in
+    let whole = functions_whole b c.args.tree.now c.in_ok-functions.functions own in
     let size = c.len.ensures ∙ ap (λ (f : Functions). length f.names) whole in
     let more = c.if-len.true in
     let few = names_few b c.args.tree.now in
@@ -25,14 +27,12 @@ returns-then-len-clause-counted c counted =
 pub invariant_of-result : goal.invariant_of-result
 invariant_of-result c =
     let b = c.args.script.now in
-    let rows = rw c.as_slice-2.ensures.value at c.in_ok-rows.ensures in
     let size = c.len.ensures in
     let few = c.if-len.false in
-    kept b c.args.tree.now c.in_ok-sites.sites.items c.in_ok-functions.functions c.in_ok-rows.rows.items (rw size at few) rows c.in_ok-sites.ensures
+    kept b c.args.tree.now c.in_ok-functions.functions _ (rw size at few) c.in_ok-rows.ensures.rows
 
 pub returns-clause-tables : goal.returns-clause-tables
 returns-clause-tables c =
     let b = c.args.script.now in
-    let own = rw c.as_slice.ensures.value at c.in_ok-functions.ensures in
-    let rows = rw c.as_slice-2.ensures.value at c.in_ok-rows.ensures in
-    table_whole b c.args.tree.now c.in_ok-sites.sites.items c.in_ok-functions.functions c.in_ok-rows.rows.items own rows c.in_ok-sites.ensures
+    let own = c.in_ok-functions.ensures (sites_of (script_of b c.args.tree.now)) (rw c.as_slice.ensures.value c.in_ok-rows.ensures.definitions) in
+    table_whole b c.args.tree.now c.in_ok-functions.functions _ own c.in_ok-rows.ensures.rows
