@@ -59,32 +59,12 @@ pub fn lower(
     Ok(true)
 }
 
-fn is_missing(rows: &Rows, id: RowId, numbers: &NumberSet, number: u32) -> bool
-    requires { number < MAX_NAMES }
-    ensures { result ≡ (numbers_of numbers.now number && not (holds_at rows.now.rows id.index number)) }
-{
-    numbers.has(number) && !rows.has(id, number)
-}
-
-// Whether the numbers are in the row of a place.
-fn is_in_row(rows: &Rows, id: RowId, numbers: &NumberSet) -> bool
-    requires { rows.now.count ≤ MAX_NAMES }
-    ensures { ((k : ℕ) → numbers_of numbers.now k ≡ true → holds_at rows.now.rows id.index k ≡ true) → result ≡ true }
-{
-    for number in 0..rows.count() {
-        if is_missing(rows, id, numbers, number) {
-            return false;
-        }
-    }
-    true
-}
-
 // Whether these may be dropped.
 fn are_in_rows(rows: &Rows, drops: Drops, vars: &NumberSet, functions: &NumberSet) -> bool
     requires { rows.now.count ≤ MAX_NAMES }
     ensures { AreWithin (sets_in vars.now functions.now) (sets_of rows.now drops) → result ≡ true }
 {
-    is_in_row(rows, drops.vars, vars) && is_in_row(rows, drops.functions, functions)
+    vars.is_in_row(rows, drops.vars) && functions.is_in_row(rows, drops.functions)
 }
 
 // The places of rows of these variables and these functions, which are added where they are not there.

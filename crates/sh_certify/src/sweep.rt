@@ -148,6 +148,9 @@ fn sweep_and_or(
     ensures swept { IfOk result (λ unit. IsSwept subject.now draft.old.certificate draft.new.certificate draft.new.probe.count) }
 {
     sweep_pipe(subject, draft, levels, by, around, known, &list.first)?;
+    if list.rest.as_slice().is_empty() {
+        return Ok(());
+    }
     let mut behind = behind_pipe(subject, &draft.certificate, known, &list.first);
     sweep_links(
         subject,
@@ -258,7 +261,7 @@ fn sweep_parts(
     Ok(())
 }
 
-// Lowers the certificate at a command: where it is entered, in it, and behind it.
+// Lowers the certificate at a command, and in it.
 #[cycle(sweep)]
 fn sweep_command(
     subject: &Subject<'_>,
@@ -273,13 +276,52 @@ fn sweep_command(
     requires placed { IsCommand subject.now by (walks.around subject.now.script.now around.now) (knowledge_facts subject.now.names.now known.now) command.now }
     ensures swept { IfOk result (λ unit. IsSwept subject.now draft.old.certificate draft.new.certificate draft.new.probe.count) }
 {
+    if levels == 0 || is_simple(&command.kind) {
+        return lower_command(subject, draft, by, around, known, command);
+    }
+    sweep_compound(subject, draft, levels - 1, by, around, known, command)
+}
+
+// Lowers the certificate at a command: where it is entered, in it, and behind it.
+#[cycle(sweep)]
+fn sweep_compound(
+    subject: &Subject<'_>,
+    draft: &mut Draft,
+    levels: u32,
+    by: FlowRule,
+    around: &Around<'_>,
+    known: &Knowledge,
+    command: &Command,
+) -> Result<(), AllocError>
+    requires ready { IsReady subject.now draft.old.certificate draft.old.probe.count }
+    requires placed { IsCommand subject.now by (walks.around subject.now.script.now around.now) (knowledge_facts subject.now.names.now known.now) command.now }
+    ensures swept { IfOk result (λ unit. IsSwept subject.now draft.old.certificate draft.new.certificate draft.new.probe.count) }
+{
+    lower_own(subject, draft, by, around, known, command, Part::Before)?;
+    lower_head(subject, draft, by, around, known, command)?;
+    sweep_inside(subject, draft, levels, around, command)?;
+    lower_head(subject, draft, by, around, known, command)?;
+    lower_behind(subject, draft, by, around, known, command)?;
+    Ok(())
+}
+
+// Lowers the certificate where a command is entered and behind it.
+fn lower_command(
+    subject: &Subject<'_>,
+    draft: &mut Draft,
+    by: FlowRule,
+    around: &Around<'_>,
+    known: &Knowledge,
+    command: &Command,
+) -> Result<(), AllocError>
+    requires ready { IsReady subject.now draft.old.certificate draft.old.probe.count }
+    requires placed { IsCommand subject.now by (walks.around subject.now.script.now around.now) (knowledge_facts subject.now.names.now known.now) command.now }
+    ensures swept { IfOk result (λ unit. IsSwept subject.now draft.old.certificate draft.new.certificate draft.new.probe.count) }
+{
     let kept = lower_own(subject, draft, by, around, known, command, Part::Before)?;
-    if levels == 0 || (kept && is_simple(&command.kind)) {
+    if kept {
         return Ok(());
     }
-    lower_head(subject, draft, by, around, known, command)?;
-    sweep_inside(subject, draft, levels - 1, around, command)?;
-    lower_head(subject, draft, by, around, known, command)?;
     lower_behind(subject, draft, by, around, known, command)?;
     Ok(())
 }

@@ -1,5 +1,5 @@
 -- A set and the row of a place.
-use Rattle.std.proofs.Common.{◌≡◌, ◌≢◌, ◌⊎◌, ℕ, ◌+◌, ◌-◌, ◌^◌, ◌*◌, ◌/◌, ◌%◌, ◌<◌, ◌≤◌, Bool, true, false, ◌&&◌, ◌||◌, List, Some, None, length, refl, sym, ◌∙◌, ap, arith, eqb, true≢false, IsTrue, ◌↔◌, inl, inr, slice_get, slice_set, get_or, nat_lt}
+use Rattle.std.proofs.Common.{◌≡◌, ◌≢◌, ◌⊎◌, ℕ, ◌+◌, ◌-◌, ◌^◌, ◌*◌, ◌/◌, ◌%◌, ◌<◌, ◌≤◌, Bool, true, false, ◌&&◌, ◌||◌, List, [], Some, None, length, refl, sym, ◌∙◌, ap, arith, eqb, true≢false, IsTrue, ◌↔◌, inl, inr, slice_get, slice_set, get_or, nat_lt}
 use Rattle.std.specs.Int.{bit_at}
 use Rattle.std.proofs.lemmas.Bool.{cases_lt, cases_Bool, lt-ltb, le-ltb}
 use Rattle.std.proofs.lemmas.Bool.Decides.{eqb_tells}
@@ -41,7 +41,16 @@ module _ (rows : List BitRow) (i : ℕ) (r : BitRow) (there : Some r ≡ slice_g
   pub row_within : (t : Bool) (set : ℕ → Bool) (ws : List ℕ) → ws ≡ r.words.items → (IsTrue t ↔ ((k : ℕ) → has_bit k ws ≡ true → set k ≡ true)) → (IsTrue t ↔ ((k : ℕ) → holds_at rows i k ≡ true → set k ≡ true))
   row_within t set ws e test = (λ h k x. test.0 h k (ap (has_bit k) e ∙ at k ∙ x), λ h. test.1 (λ k x. h k (sym (at k) ∙ sym (ap (has_bit k) e) ∙ x)))
 
+  pub set_within : (t : Bool) (set : ℕ → Bool) (ws : List ℕ) → ws ≡ r.words.items → (IsTrue t ↔ ((k : ℕ) → set k ≡ true → has_bit k ws ≡ true)) → (IsTrue t ↔ ((k : ℕ) → set k ≡ true → holds_at rows i k ≡ true))
+  set_within t set ws e test = (λ h k x. sym (at k) ∙ sym (ap (has_bit k) e) ∙ test.0 h k x, λ h. test.1 (λ k x. ap (has_bit k) e ∙ at k ∙ h k x))
+
 module _ (rows : List BitRow) (i : ℕ) (none : None ≡ slice_get rows i) where
+  pub none_holds : (t : Bool) (set : ℕ → Bool) → (IsTrue t ↔ ((k : ℕ) → set k ≡ true → has_bit k [] ≡ true)) → (IsTrue t ↔ ((k : ℕ) → set k ≡ true → holds_at rows i k ≡ true))
+  none_holds t set test = (
+    λ h k x. absurd (true≢false (sym (test.0 h k x) ∙ past_words [] k (omega arith))),
+    λ h. test.1 (λ k x. absurd (true≢false (sym (h k x) ∙ no_bits rows i (sym none) k))),
+  )
+
   pub none_met : (old : Bool) (k : ℕ) → false ≡ (holds_at rows i k && old)
   none_met old k = sym (ap (λ b. b && old) (no_bits rows i (sym none) k))
 

@@ -161,6 +161,16 @@ impl NumberSet {
         }
     }
 
+    /// Whether each number of the set is in the row of a place.
+    pub fn is_in_row(&self, rows: &Rows, id: RowId) -> bool
+        ensures { IsTrue result ↔ ((k : ℕ) → numbers_of self.now k ≡ true → holds_at rows.now.rows id.index k ≡ true) }
+    {
+        match rows.row(id) {
+            Some(row) => within_words(&self.words, row.words()),
+            None => within_words(&self.words, &[]),
+        }
+    }
+
     /// Whether each number of the row of a place is in the set.
     pub fn includes(&self, rows: &Rows, id: RowId) -> bool
         ensures { IsTrue result ↔ ((k : ℕ) → holds_at rows.now.rows id.index k ≡ true → numbers_of self.now k ≡ true) }

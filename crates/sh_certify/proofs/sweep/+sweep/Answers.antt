@@ -183,33 +183,33 @@ sweep_clause-returns-clause-passed t c =
     let after = known_after s known c.begun-course.result c.sweep_items.new.course (out-Clause c.args.clause.now).body c.as_slice.result.now begun c.as_slice.ensures c.in_ok-sweep_items.ensures.behind in
     clauses_next s y k old known (known_behind s c.sweep_items.new.course.behind) _ c.args.clause.now others same (c.falling.ensures (setting_by s c.args.draft.now.certificate)) after _ (names_numbered s _ _ r) c.in_ok-sweep_items.ensures.swept.over here
 
-pub sweep_command-sweep_inside-requires : goal.sweep_command-sweep_inside-requires
-sweep_command-sweep_inside-requires t c =
+pub sweep_compound-sweep_inside-requires : goal.sweep_compound-sweep_inside-requires
+sweep_compound-sweep_inside-requires t c =
     let s = c.args.subject.now in
     let r = c.requires.ready in
     let y = walks.around s.script.now c.args.around.now in
-    let ready : IsReady s c.lower_head.new.draft.certificate c.lower_head.new.draft.probe.count = ready_again s _ _ _ _ (ready_again s _ _ _ _ r c.in_ok-kept.ensures.swept) c.in_ok-lower_head.ensures.swept in
+    let ready : IsReady s c.lower_head.new.draft.certificate c.lower_head.new.draft.probe.count = ready_again s _ _ _ _ (ready_again s _ _ _ _ r c.in_ok-lower_own.ensures.swept) c.in_ok-lower_head.ensures.swept in
     let placed : IsInside s y c.args.command.now = inside_placed s c.args.by y (knowledge_facts s.names.now c.args.known.now) c.args.command.now c.requires.placed in
     search std_rules
 
-pub sweep_command-lower_head-requires-2-clause-ready : goal.sweep_command-lower_head-requires-2-clause-ready
-sweep_command-lower_head-requires-2-clause-ready t c =
+pub sweep_compound-lower_head-requires-2-clause-ready : goal.sweep_compound-lower_head-requires-2-clause-ready
+sweep_compound-lower_head-requires-2-clause-ready t c =
     let s = c.args.subject.now in
     let r = c.requires.ready in
-    ready_again s _ _ _ _ (ready_again s _ _ _ _ (ready_again s _ _ _ _ r c.in_ok-kept.ensures.swept) c.in_ok-lower_head.ensures.swept) c.in_ok-sweep_inside.ensures.swept
+    ready_again s _ _ _ _ (ready_again s _ _ _ _ (ready_again s _ _ _ _ r c.in_ok-lower_own.ensures.swept) c.in_ok-lower_head.ensures.swept) c.in_ok-sweep_inside.ensures.swept
 
-pub sweep_command-lower_behind-requires-clause-ready : goal.sweep_command-lower_behind-requires-clause-ready
-sweep_command-lower_behind-requires-clause-ready t c =
+pub sweep_compound-lower_behind-requires-clause-ready : goal.sweep_compound-lower_behind-requires-clause-ready
+sweep_compound-lower_behind-requires-clause-ready t c =
     let s = c.args.subject.now in
     let r = c.requires.ready in
-    ready_again s _ _ _ _ (ready_again s _ _ _ _ (ready_again s _ _ _ _ (ready_again s _ _ _ _ r c.in_ok-kept.ensures.swept) c.in_ok-lower_head.ensures.swept) c.in_ok-sweep_inside.ensures.swept) c.in_ok-lower_head-2.ensures.swept
+    ready_again s _ _ _ _ (ready_again s _ _ _ _ (ready_again s _ _ _ _ (ready_again s _ _ _ _ r c.in_ok-lower_own.ensures.swept) c.in_ok-lower_head.ensures.swept) c.in_ok-sweep_inside.ensures.swept) c.in_ok-lower_head-2.ensures.swept
 
-pub sweep_command-returns : goal.sweep_command-returns
-sweep_command-returns t c =
+pub sweep_compound-returns : goal.sweep_compound-returns
+sweep_compound-returns t c =
     let s = c.args.subject.now in
     record {
       swept = swept_more s _ _ _ _ _
-          (swept_more s _ _ _ _ _ (swept_more s _ _ _ _ _ (swept_more s _ _ _ _ _ c.in_ok-kept.ensures.swept c.in_ok-lower_head.ensures.swept) c.in_ok-sweep_inside.ensures.swept) c.in_ok-lower_head-2.ensures.swept)
+          (swept_more s _ _ _ _ _ (swept_more s _ _ _ _ _ (swept_more s _ _ _ _ _ c.in_ok-lower_own.ensures.swept c.in_ok-lower_head.ensures.swept) c.in_ok-sweep_inside.ensures.swept) c.in_ok-lower_head-2.ensures.swept)
           c.in_ok-lower_behind.ensures.swept;
     }
 

@@ -44,62 +44,65 @@ invariant-sweep_case-loop-clause l = record {
 
 -- Each level that is gone into takes one of the levels, and within a level each call is a step further in.
 
+abbrev pub decreases-sweep_compound : goal.decreases-sweep_compound
+decreases-sweep_compound l = l.levels * 16 + 15
+
 abbrev pub decreases-sweep_inside : goal.decreases-sweep_inside
-decreases-sweep_inside l = l.levels * 16 + 15
+decreases-sweep_inside l = l.levels * 16 + 14
 
 abbrev pub decreases-sweep_cond : goal.decreases-sweep_cond
-decreases-sweep_cond l = l.levels * 16 + 14
+decreases-sweep_cond l = l.levels * 16 + 13
 
 abbrev pub decreases-sweep_case : goal.decreases-sweep_case
-decreases-sweep_case l = l.levels * 16 + 14
+decreases-sweep_case l = l.levels * 16 + 13
 
 abbrev pub decreases-sweep_loop : goal.decreases-sweep_loop
-decreases-sweep_loop l = l.levels * 16 + 14
+decreases-sweep_loop l = l.levels * 16 + 13
 
 abbrev pub decreases-sweep_for : goal.decreases-sweep_for
-decreases-sweep_for l = l.levels * 16 + 14
+decreases-sweep_for l = l.levels * 16 + 13
 
 abbrev pub decreases-sweep_subshell : goal.decreases-sweep_subshell
-decreases-sweep_subshell l = l.levels * 16 + 14
+decreases-sweep_subshell l = l.levels * 16 + 13
 
 abbrev pub decreases-sweep_definition : goal.decreases-sweep_definition
-decreases-sweep_definition l = l.levels * 16 + 14
+decreases-sweep_definition l = l.levels * 16 + 13
 
 abbrev pub decreases-sweep_branches : goal.decreases-sweep_branches
-decreases-sweep_branches l = l.levels * 16 + 13
+decreases-sweep_branches l = l.levels * 16 + 12
 
 abbrev pub decreases-sweep_branch : goal.decreases-sweep_branch
-decreases-sweep_branch l = l.levels * 16 + 12
+decreases-sweep_branch l = l.levels * 16 + 11
 
 abbrev pub decreases-sweep_clause : goal.decreases-sweep_clause
-decreases-sweep_clause l = l.levels * 16 + 12
+decreases-sweep_clause l = l.levels * 16 + 11
 
 abbrev pub decreases-sweep_list : goal.decreases-sweep_list
-decreases-sweep_list l = l.levels * 16 + 11
+decreases-sweep_list l = l.levels * 16 + 10
 
 abbrev pub decreases-sweep_items : goal.decreases-sweep_items
-decreases-sweep_items l = l.levels * 16 + 10
+decreases-sweep_items l = l.levels * 16 + 9
 
 abbrev pub decreases-sweep_item : goal.decreases-sweep_item
-decreases-sweep_item l = l.levels * 16 + 9
+decreases-sweep_item l = l.levels * 16 + 8
 
 abbrev pub decreases-enter_item : goal.decreases-enter_item
-decreases-enter_item l = l.levels * 16 + 8
+decreases-enter_item l = l.levels * 16 + 7
 
 abbrev pub decreases-sweep_and_or : goal.decreases-sweep_and_or
-decreases-sweep_and_or l = l.levels * 16 + 7
+decreases-sweep_and_or l = l.levels * 16 + 6
 
 abbrev pub decreases-sweep_links : goal.decreases-sweep_links
-decreases-sweep_links l = l.levels * 16 + 6
+decreases-sweep_links l = l.levels * 16 + 5
 
 abbrev pub decreases-sweep_link : goal.decreases-sweep_link
-decreases-sweep_link l = l.levels * 16 + 5
+decreases-sweep_link l = l.levels * 16 + 4
 
 abbrev pub decreases-sweep_pipe : goal.decreases-sweep_pipe
-decreases-sweep_pipe l = l.levels * 16 + 4
+decreases-sweep_pipe l = l.levels * 16 + 3
 
 abbrev pub decreases-sweep_parts : goal.decreases-sweep_parts
-decreases-sweep_parts l = l.levels * 16 + 3
+decreases-sweep_parts l = l.levels * 16 + 2
 
 abbrev pub decreases-sweep_command : goal.decreases-sweep_command
-decreases-sweep_command l = l.levels * 16 + 2
+decreases-sweep_command l = l.levels * 16 + 1
