@@ -1,5 +1,5 @@
 -- Commands, by the token at their first byte.
-use Rattle.std.proofs.Common.{◌≡◌, ℕ, ◌+◌, ◌<◌, ◌≤◌, Bool, ◌||◌, true, false, List, [], refl, sym, ap, subst, ◌∙◌, arith}
+use Rattle.std.proofs.Common.{◌≡◌, ℕ, ◌+◌, ◌<◌, ◌≤◌, Bool, ◌||◌, true, false, List, [], Result, Ok, Err, refl, sym, ap, subst, ◌∙◌, le_refl, le_trans, arith}
 use Rattle.std.proofs.lemmas.Bool.{true≢false, or_left, or_right}
 use Rattle.sh_tree.specs.declared.limits.TheConstants.{MAX_COMMANDS}
 use Rattle.sh_tree.specs.declared.token.command.Stage.TheVariants.{First}
@@ -23,7 +23,8 @@ use Rattle.sh_tree.proofs.Inversions.{apart, compound_begins}
 use Rattle.sh_tree.proofs.Counts.{command_count_more, redirects_count}
 use Rattle.sh_grammar.specs.declared.state.State.{State}
 use Rattle.sh_grammar.specs.States.{here}
-use Rattle.sh_grammar.specs.Readers.{One, Nothing, NothingWithin, Crowded, Refused, ElementsFrom, RedirectsFrom, CompoundFrom, CommandFrom, unread}
+use Rattle.sh_grammar.specs.Readers.{One, Nothing, NothingWithin, Crowded, Refused, ElementsFrom, Answers, RedirectsFrom, CompoundFrom, CommandFrom, unread}
+use Rattle.sh_grammar.specs.Redirected.{RedirectedFrom}
 use Rattle.sh_grammar.proofs.ReaderLemmas.{refused_by}
 
 -- What begins a command
@@ -149,22 +150,39 @@ module _ (b : List ℕ) (s : State) (some : begins_compound (lead_at b First s.a
       (f.0, f.2, f.6, omega arith)) h
 
   module _ (k : Kind) (u : State) (one : One (CompoundFrom b (lead_at b First s.at) (one_more_command s)) (here u) k) where
-    pub redirected_refused : (e : Refusal) → Refused b (RedirectsFrom b u) e → Refused b (CommandFrom b s) e
-    redirected_refused e h = refused_by b (RedirectsFrom b u) (CommandFrom b s) e
-        (λ limit v c l.
+    redirected_in : (limit : ℕ) (v : states.State) (c : Command) → CommandFrom b s limit v c → RedirectedFrom b (s.count + 1) s.at k u limit v c
+    redirected_in limit v c l =
         let f = compound_of {s = here s} some l in
         let o = one.only limit f.0 f.2 f.6 in
-        (f.1, f.3, subst (λ w. ReadsRedirects limit b unread w f.1 f.3) o.0 f.7, same_count f.1 v (is_empty f.3) f.4)) h
+        (f.1, f.3, subst (λ w. ReadsRedirects limit b unread w f.1 f.3) o.0 f.7, f.4, f.5 ∙ ap (λ j. tree.command (s.count + 1) s.at j f.3) o.1)
 
-    pub redirected_read : (qs : List Redirect) (v : State) → One (RedirectsFrom b u) (here v) qs
-        → One (CommandFrom b s) (closing (is_empty qs) (here v)) (tree.command (s.count + 1) s.at k qs)
-    redirected_read qs v h = record {
-      reads = r.compound_command {s = here s} refl one.reads h.reads;
-      only = λ limit w c l.
-          let f = compound_of {s = here s} some l in
-          let o = one.only limit f.0 f.2 f.6 in
-          let p = h.only limit f.1 f.3 (subst (λ t. ReadsRedirects limit b unread t f.1 f.3) o.0 f.7) in (
-            f.4 ∙ ap (λ t. closing (is_empty f.3) t) p.0 ∙ ap (λ xs. closing (is_empty xs) (here v)) p.1,
-            f.5 ∙ ap (λ j. tree.command (s.count + 1) s.at j f.3) o.1 ∙ ap (λ xs. tree.command (s.count + 1) s.at k xs) p.1,
-          );
+    redirected_out : (v : states.State) (c : Command) → RedirectedFrom b (s.count + 1) s.at k u 64 v c → CommandFrom b s 64 v c
+    redirected_out v c f =
+        let l = r.compound_command {s = here s} refl one.reads f.2 in
+        subst (λ w. CommandFrom b s 64 w c) (sym f.3) (subst (λ d. CommandFrom b s 64 (closing (is_empty f.1) f.0) d) (sym f.4) l)
+
+    redirected_refused : (e : Refusal) → Refused b (RedirectedFrom b (s.count + 1) s.at k u) e → Refused b (CommandFrom b s) e
+    redirected_refused e h = refused_by b (RedirectedFrom b (s.count + 1) s.at k u) (CommandFrom b s) e (λ limit v c l. (v, c, redirected_in limit v c l, le_refl v.spot.count)) h
+
+    pub redirected_answers : (x : Result (Command × State) Refusal) → s.at + 1 ≤ u.at → Answers b (RedirectedFrom b (s.count + 1) s.at k u) u.at x → Answers b (CommandFrom b s) (s.at + 1) x
+    redirected_answers (Ok x) further h = record {
+      one = record {
+        reads = redirected_out (here x.1) x.0 h.one.reads;
+        only = λ limit v c l. h.one.only limit v c (redirected_in limit v c l);
+      };
+      from = le_trans further h.from;
+      stands = h.stands;
     }
+    redirected_answers (Err e) further h = redirected_refused e h
+
+module _ (b : List ℕ) (n i : ℕ) (k : Kind) (u : State) where
+  pub redirects_read : (qs : List Redirect) (v : State) → One (RedirectsFrom b u) (here v) qs → One (RedirectedFrom b n i k u) (closing (is_empty qs) (here v)) (tree.command n i k qs)
+  redirects_read qs v h = record {
+    reads = (here v, qs, h.reads, refl, refl);
+    only = λ limit w c l.
+        let p = h.only limit l.0 l.1 l.2 in
+        (l.3 ∙ ap (λ t. closing (is_empty l.1) t) p.0 ∙ ap (λ xs. closing (is_empty xs) (here v)) p.1, l.4 ∙ ap (λ xs. tree.command n i k xs) p.1);
+  }
+
+  pub redirects_refused : (e : Refusal) → Refused b (RedirectsFrom b u) e → Refused b (RedirectedFrom b n i k u) e
+  redirects_refused e h = refused_by b (RedirectsFrom b u) (RedirectedFrom b n i k u) e (λ limit v c l. (l.0, l.1, l.2, same_count l.0 v (is_empty l.1) l.3)) h

@@ -3,7 +3,6 @@ use Rattle.std.proofs.Common.{◌≡◌, ℕ, ◌<◌, List, [], ◌∷◌, refl
 use Rattle.sh_tree.specs.declared.token.command.Stage.TheVariants.{First}
 use Rattle.sh_tree.specs.declared.token.command.Lead.{Lead}
 use Rattle.sh_tree.specs.declared.token.command.Lead.TheVariants as lead
-use Rattle.sh_tree.specs.declared.token.command.Operator.{Operator}
 use Rattle.sh_tree.specs.declared.token.command.Operator.TheVariants as op
 use Rattle.sh_tree.specs.declared.token.command.Reserved.{Reserved}
 use Rattle.sh_tree.specs.declared.token.command.Reserved.TheVariants as word
@@ -138,10 +137,6 @@ module _ (b : List ℕ) (s : State) (below : s.depth < 64) where
 
 -- Tokens with which no compound command begins
 
-pub other_operator : {limit : ℕ} {b : List ℕ} {body : ℕ → Document} {o : Operator} {s v : states.State} {k : Kind} → (o ≡ op.LeftParenthesis → ⊥)
-    → ReadsCompound limit b body (lead.Operator o) s v k → ⊥
-other_operator not (r.subshell d h e) = not refl
-
 pub other_word : {limit : ℕ} {b : List ℕ} {body : ℕ → Document} {w : Reserved} {s v : states.State} {k : Kind} → (w ≡ word.LeftBrace → ⊥) → (w ≡ word.Case → ⊥) → (w ≡ word.For → ⊥)
     → (w ≡ word.If → ⊥) → (w ≡ word.Until → ⊥) → (w ≡ word.While → ⊥) → ReadsCompound limit b body (lead.Reserved w) s v k → ⊥
 other_word brace branches each condition before while (r.group d h e) = brace refl
@@ -151,12 +146,12 @@ other_word brace branches each condition before while (r.until_loop d h g) = bef
 other_word brace branches each condition before while (r.for_loop d n h g) = each refl
 other_word brace branches each condition before while (r.case_of d i w h j g c) = branches refl
 
-pub other_token : {limit : ℕ} {b : List ℕ} {body : ℕ → Document} {l : Lead} {s v : states.State} {k : Kind} → ((o : Operator) → l ≡ lead.Operator o → ⊥) → ((w : Reserved) → l ≡ lead.Reserved w → ⊥)
-    → ReadsCompound limit b body l s v k → ⊥
-other_token operator reserved (r.group d h e) = reserved word.LeftBrace refl
-other_token operator reserved (r.subshell d h e) = operator op.LeftParenthesis refl
-other_token operator reserved (r.cond d h) = reserved word.If refl
-other_token operator reserved (r.while_loop d h g) = reserved word.While refl
-other_token operator reserved (r.until_loop d h g) = reserved word.Until refl
-other_token operator reserved (r.for_loop d n h g) = reserved word.For refl
-other_token operator reserved (r.case_of d i w h j g c) = reserved word.Case refl
+pub other_lead : {limit : ℕ} {b : List ℕ} {body : ℕ → Document} {l : Lead} {s v : states.State} {k : Kind} → ((w : Reserved) → l ≡ lead.Reserved w → ⊥)
+    → (l ≡ lead.Operator op.LeftParenthesis → ⊥) → ReadsCompound limit b body l s v k → ⊥
+other_lead reserved bracket (r.group d h e) = reserved word.LeftBrace refl
+other_lead reserved bracket (r.subshell d h e) = bracket refl
+other_lead reserved bracket (r.cond d h) = reserved word.If refl
+other_lead reserved bracket (r.while_loop d h g) = reserved word.While refl
+other_lead reserved bracket (r.until_loop d h g) = reserved word.Until refl
+other_lead reserved bracket (r.for_loop d n h g) = reserved word.For refl
+other_lead reserved bracket (r.case_of d i w h j g c) = reserved word.Case refl

@@ -18,3 +18,4 @@ pub mod Lines
 pub mod Quotes
 pub mod Marks
 pub mod Documents
+pub mod Redirected

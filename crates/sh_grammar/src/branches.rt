@@ -10,8 +10,7 @@ ghost use Rattle.sh_tree.specs.language.Commands as tokens;
 use super::compounds::is_same;
 use super::grammar::Grammar;
 use super::reserved::{enter, expect, skip};
-use super::state::State;
-use sh_scan::lead_at;
+use super::state::Cursor;
 use sh_tree::Items;
 use sh_tree::limits::{MAX_NESTING, MAX_SCRIPT};
 use sh_tree::refusal::Refusal;
@@ -19,10 +18,10 @@ use sh_tree::token::{Lead, Reserved, Stage};
 use sh_tree::tree::{Branch, Kind, Script};
 use std::alloc::Global;
 
-impl<F: Fn(Global, &[u8], State) -> Result<(Script, State), Refusal>> Grammar<F> {
+impl<F: Fn(Global, &[u8], Cursor) -> Result<(Script, Cursor), Refusal>> Grammar<F> {
     /// A condition, `then` and a list.
     #[tactic(auto, using(crate::proofs::BranchLemmas::test_refused, crate::proofs::BranchLemmas::consequence_refused, crate::proofs::BranchLemmas::branch_read))]
-    fn branch(&self, script: &[u8], from: State) -> Result<(Branch, State), Refusal>
+    fn branch(&self, script: &[u8], from: Cursor) -> Result<(Branch, Cursor), Refusal>
         requires small { length script.now ≤ MAX_SCRIPT }
         requires stands { Stands script.now from }
         requires further { length script.now - from.at < self.now.left }
@@ -36,7 +35,7 @@ impl<F: Fn(Global, &[u8], State) -> Result<(Script, State), Refusal>> Grammar<F>
 
     /// What stands behind the last branch, up to `fi`.
     #[tactic(auto, using(crate::proofs::BranchLemmas::fi_none, crate::proofs::BranchLemmas::fi_read, crate::proofs::BranchLemmas::else_refused, crate::proofs::BranchLemmas::else_read, crate::proofs::ReaderLemmas::refused_none))]
-    fn otherwise(&self, script: &[u8], from: State) -> Result<(Option<Script>, State), Refusal>
+    fn otherwise(&self, script: &[u8], from: Cursor) -> Result<(Option<Script>, Cursor), Refusal>
         requires small { length script.now ≤ MAX_SCRIPT }
         requires stands { Stands script.now from }
         requires last { tokens.lead_at script.now First from.at ≡ Lead.Reserved Reserved.Elif → ⊥ }
@@ -44,7 +43,7 @@ impl<F: Fn(Global, &[u8], State) -> Result<(Script, State), Refusal>> Grammar<F>
         requires nests { Nests self.now.left (F.pre self.now.nested) (F.post self.now.nested) }
         ensures { Answers script.now (OtherwiseFrom script.now from) from.at result }
     {
-        let lead = lead_at(script, Stage::First, from.at);
+        let lead = from.lead(script, Stage::First);
         if is_same(lead, Lead::Reserved(Reserved::Else)) {
             let first = skip(script, Reserved::Else, from);
             let (list, end) = self.list_before(script, Reserved::Fi, first)?;
@@ -59,8 +58,8 @@ impl<F: Fn(Global, &[u8], State) -> Result<(Script, State), Refusal>> Grammar<F>
     fn branches(
         &self,
         script: &[u8],
-        from: State,
-    ) -> Result<((Items<Branch>, Option<Script>), State), Refusal>
+        from: Cursor,
+    ) -> Result<((Items<Branch>, Option<Script>), Cursor), Refusal>
         requires small { length script.now ≤ MAX_SCRIPT }
         requires stands { Stands script.now from }
         requires further { length script.now - from.at < self.now.left }
@@ -72,7 +71,7 @@ impl<F: Fn(Global, &[u8], State) -> Result<(Script, State), Refusal>> Grammar<F>
         loop {
             let (branch, behind) = self.branch(script, next)?;
             branches.push(branch)?;
-            let lead = lead_at(script, Stage::First, behind.at);
+            let lead = behind.lead(script, Stage::First);
             if !is_same(lead, Lead::Reserved(Reserved::Elif)) {
                 let (otherwise, end) = self.otherwise(script, behind)?;
                 return Ok(((branches, otherwise), end));
@@ -84,7 +83,7 @@ impl<F: Fn(Global, &[u8], State) -> Result<(Script, State), Refusal>> Grammar<F>
     /// The conditional construct that begins with `if`.
     #[tactic(auto, using(crate::proofs::BranchLemmas::cond_refused, crate::proofs::BranchLemmas::cond_read))]
     #[inline(never)]
-    pub fn cond(&self, script: &[u8], from: State) -> Result<(Kind, State), Refusal>
+    pub fn cond(&self, script: &[u8], from: Cursor) -> Result<(Kind, Cursor), Refusal>
         requires small { length script.now ≤ MAX_SCRIPT }
         requires stands { Stands script.now from }
         requires word { Lead.Reserved Reserved.If ≡ tokens.lead_at script.now First from.at }
@@ -93,7 +92,7 @@ impl<F: Fn(Global, &[u8], State) -> Result<(Script, State), Refusal>> Grammar<F>
         requires nests { Nests self.now.left (F.pre self.now.nested) (F.post self.now.nested) }
         ensures { Answers script.now (CompoundFrom script.now (Lead.Reserved Reserved.If) from) (from.at + 1) result }
     {
-        let depth = from.depth;
+        let depth = from.depth();
         let first = enter(script, Reserved::If, from);
         let ((branches, otherwise), end) = self.branches(script, first)?;
         let found = Kind::Cond {

@@ -8,8 +8,7 @@ ghost use Rattle.sh_grammar.specs.States.{Stands, here};
 ghost use Rattle.sh_grammar.specs.Breaks.{Breaks, Line};
 
 use super::grammar::Grammar;
-use super::state::State;
-use sh_scan::lead_at;
+use super::state::Cursor;
 use sh_tree::limits::MAX_SCRIPT;
 use sh_tree::refusal::{Form, Refusal};
 use sh_tree::token::{Lead, Stage};
@@ -23,7 +22,7 @@ pub fn is_newline(lead: Lead) -> bool
 }
 
 /// Where the newlines behind a separator begin: a newline is one of them.
-pub fn parted(script: &[u8], lead: Lead, from: State) -> State
+pub fn parted(script: &[u8], lead: Lead, from: Cursor) -> Cursor
     requires small { length script.now ≤ MAX_SCRIPT }
     requires stands { Stands script.now from }
     requires inside { from.at < length script.now }
@@ -35,16 +34,15 @@ pub fn parted(script: &[u8], lead: Lead, from: State) -> State
     if is_newline(lead) {
         from
     } else {
-        let behind = from.at + 1;
-        from.next(script, behind)
+        from.next(script, 1)
     }
 }
 
-impl<F: Fn(Global, &[u8], State) -> Result<(Script, State), Refusal>> Grammar<F> {
+impl<F: Fn(Global, &[u8], Cursor) -> Result<(Script, Cursor), Refusal>> Grammar<F> {
     /// Behind a newline, and the bodies of the here-documents before it.
     #[tactic(auto, using(crate::proofs::BreakLemmas::line_across, crate::proofs::BreakLemmas::line_lies))]
     #[inline(never)]
-    fn line(&self, script: &[u8], from: State) -> Result<State, Refusal>
+    fn line(&self, script: &[u8], from: Cursor) -> Result<Cursor, Refusal>
         requires small { length script.now ≤ MAX_SCRIPT }
         requires stands { Stands script.now from }
         requires further { length script.now - from.at ≤ self.now.left }
@@ -52,10 +50,10 @@ impl<F: Fn(Global, &[u8], State) -> Result<(Script, State), Refusal>> Grammar<F>
         requires inside { from.at < length script.now }
         ensures { Line script.now from result }
     {
-        if let Some(at) = from.outer {
+        if let Some(at) = from.get().outer {
             return Err(Refusal::LeftOut(Form::HereAcross, at));
         }
-        let at = from.at + 1;
+        let at = from.at() + 1;
         let (marks, first) = from.on_line(self.alloc, at);
         let behind = self.documents(script, marks.as_slice(), first)?;
         Ok(behind.settled(script))
@@ -67,7 +65,7 @@ impl<F: Fn(Global, &[u8], State) -> Result<(Script, State), Refusal>> Grammar<F>
     ///
     /// `LeftOut` at the operator of a here-document outside that waits for its body; and what is told of a body.
     #[tactic(auto, using(crate::proofs::BreakLemmas::skips_none, crate::proofs::BreakLemmas::skips_refused))]
-    pub fn breaks(&self, script: &[u8], from: State) -> Result<State, Refusal>
+    pub fn breaks(&self, script: &[u8], from: Cursor) -> Result<Cursor, Refusal>
         requires small { length script.now ≤ MAX_SCRIPT }
         requires stands { Stands script.now from }
         requires further { length script.now - from.at ≤ self.now.left }
@@ -75,7 +73,7 @@ impl<F: Fn(Global, &[u8], State) -> Result<(Script, State), Refusal>> Grammar<F>
         ensures { Breaks script.now from result }
     {
         let mut next = from;
-        while is_newline(lead_at(script, Stage::First, next.at)) {
+        while is_newline(next.lead(script, Stage::First)) {
             next = self.line(script, next)?;
         }
         Ok(next)

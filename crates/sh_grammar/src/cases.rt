@@ -9,12 +9,11 @@ ghost use Rattle.sh_tree.specs.language.Commands as tokens;
 ghost use Rattle.sh_tree.specs.language.Reading as reading;
 
 use super::compounds::is_same;
-use super::faults::unexpected_at;
 use super::grammar::Grammar;
 use super::redirects::is_word;
 use super::reserved::{enter, expect, skip};
-use super::state::State;
-use sh_scan::{clause_end_of, lead_at};
+use super::state::Cursor;
+use sh_scan::clause_end_of;
 use sh_tree::Items;
 use sh_tree::limits::{MAX_NESTING, MAX_SCRIPT};
 use sh_tree::refusal::Refusal;
@@ -24,40 +23,39 @@ use sh_words::Mode;
 use std::alloc::Global;
 
 /// Behind `in`, which is wanted where no command can begin.
-fn expect_in(script: &[u8], from: State) -> Result<State, Refusal>
+fn expect_in(script: &[u8], from: Cursor) -> Result<Cursor, Refusal>
     requires small { length script.now ≤ MAX_SCRIPT }
     requires stands { Stands script.now from }
     ensures { ExpectsIn script.now from result }
 {
-    let lead = lead_at(script, Stage::First, from.at);
+    let lead = from.lead(script, Stage::First);
     if is_same(lead, Lead::Reserved(Reserved::In)) {
         return Ok(skip(script, Reserved::In, from));
     }
-    Err(unexpected_at(script, Stage::Named(false), &from))
+    Err(from.unexpected_at(script, Stage::Named(false)))
 }
 
 /// Behind the parenthesis with which a clause may begin.
 #[tactic(auto, using(crate::proofs::CaseLemmas::unopened_with, crate::proofs::CaseLemmas::unopened_without))]
-fn unopened(script: &[u8], from: State) -> State
+fn unopened(script: &[u8], from: Cursor) -> Cursor
     requires small { length script.now ≤ MAX_SCRIPT }
     requires stands { Stands script.now from }
     ensures value { here result ≡ reading.unopened script.now (here from) }
     ensures after { from.at ≤ result.at }
     ensures stands { Stands script.now result }
 {
-    let lead = lead_at(script, Stage::Named(false), from.at);
+    let lead = from.lead(script, Stage::Named(false));
     if is_same(lead, Lead::Operator(Operator::LeftParenthesis)) {
-        let at = from.at + 1;
-        return from.next(script, at);
+        return from.next(script, 1);
     }
     from
 }
 
-impl<F: Fn(Global, &[u8], State) -> Result<(Script, State), Refusal>> Grammar<F> {
+impl<F: Fn(Global, &[u8], Cursor) -> Result<(Script, Cursor), Refusal>> Grammar<F> {
     /// The word at a token, whose fields are not split.
     #[tactic(auto, using(crate::proofs::CaseLemmas::unsplit_none, crate::proofs::CaseLemmas::unsplit_refused, crate::proofs::CaseLemmas::unsplit_read, crate::proofs::ReaderLemmas::refused_none))]
     #[inline(never)]
-    fn unsplit(&self, script: &[u8], from: State) -> Result<(Word, State), Refusal>
+    fn unsplit(&self, script: &[u8], from: Cursor) -> Result<(Word, Cursor), Refusal>
         requires small { length script.now ≤ MAX_SCRIPT }
         requires stands { Stands script.now from }
         requires further { length script.now - from.at ≤ self.now.left }
@@ -65,18 +63,17 @@ impl<F: Fn(Global, &[u8], State) -> Result<(Script, State), Refusal>> Grammar<F>
         ensures { Answers script.now (UnsplitFrom script.now from) from.at result }
     {
         let stage = Stage::Named(false);
-        if !is_word(lead_at(script, stage, from.at)) {
-            return Err(unexpected_at(script, stage, &from));
+        if !is_word(from.lead(script, stage)) {
+            return Err(from.unexpected_at(script, stage));
         }
-        let at = from.at;
-        let (word, behind) = self.word_at(script, Mode::Unsplit, at, from)?;
+        let (word, behind) = self.word(script, Mode::Unsplit, from)?;
         Ok((word, behind))
     }
 
     /// Patterns between bars, and the `)` behind them.
     #[tactic(auto, using(crate::proofs::CaseLemmas::patterns_none, crate::proofs::CaseLemmas::patterns_refused, crate::proofs::CaseLemmas::patterns_wrong, crate::proofs::CaseLemmas::patterns_last, crate::proofs::CaseLemmas::patterns_more, crate::proofs::ReaderLemmas::refused_none))]
     #[inline(never)]
-    fn patterns(&self, script: &[u8], from: State) -> Result<(Items<Word>, State), Refusal>
+    fn patterns(&self, script: &[u8], from: Cursor) -> Result<(Items<Word>, Cursor), Refusal>
         requires small { length script.now ≤ MAX_SCRIPT }
         requires stands { Stands script.now from }
         requires further { length script.now - from.at ≤ self.now.left }
@@ -88,21 +85,24 @@ impl<F: Fn(Global, &[u8], State) -> Result<(Script, State), Refusal>> Grammar<F>
         loop {
             let (word, behind) = self.unsplit(script, next)?;
             found.push(word)?;
-            let lead = lead_at(script, Stage::Named(false), behind.at);
-            let at = behind.at + 1;
+            let lead = behind.lead(script, Stage::Named(false));
             if is_same(lead, Lead::Operator(Operator::RightParenthesis)) {
-                return Ok((found, behind.next(script, at)));
+                return Ok((found, behind.next(script, 1)));
             }
             if !is_same(lead, Lead::Operator(Operator::Bar)) {
-                return Err(unexpected_at(script, Stage::Named(false), &behind));
+                return Err(behind.unexpected_at(script, Stage::Named(false)));
             }
-            next = behind.next(script, at);
+            next = behind.next(script, 1);
         }
     }
 
     /// The patterns of a clause and its list.
     #[tactic(auto, using(crate::proofs::CaseLemmas::clause_refused, crate::proofs::CaseLemmas::clause_list_refused, crate::proofs::CaseLemmas::clause_read))]
-    fn clause(&self, script: &[u8], from: State) -> Result<((Items<Word>, Script), State), Refusal>
+    fn clause(
+        &self,
+        script: &[u8],
+        from: Cursor,
+    ) -> Result<((Items<Word>, Script), Cursor), Refusal>
         requires small { length script.now ≤ MAX_SCRIPT }
         requires stands { Stands script.now from }
         requires further { length script.now - from.at ≤ self.now.left }
@@ -116,7 +116,7 @@ impl<F: Fn(Global, &[u8], State) -> Result<(Script, State), Refusal>> Grammar<F>
 
     /// The clauses at a token, and `esac`.
     #[tactic(auto, using(crate::proofs::CaseLemmas::clauses_none, crate::proofs::CaseLemmas::clauses_all, crate::proofs::CaseLemmas::clauses_refused, crate::proofs::CaseLemmas::clauses_wrong, crate::proofs::CaseLemmas::clauses_stopped, crate::proofs::CaseLemmas::clauses_last, crate::proofs::CaseLemmas::clauses_more, crate::proofs::WidthLemmas::clause_end_inside, crate::proofs::ReaderLemmas::refused_none))]
-    fn clauses(&self, script: &[u8], from: State) -> Result<(Items<Clause>, State), Refusal>
+    fn clauses(&self, script: &[u8], from: Cursor) -> Result<(Items<Clause>, Cursor), Refusal>
         requires small { length script.now ≤ MAX_SCRIPT }
         requires stands { Stands script.now from }
         requires further { length script.now - from.at ≤ self.now.left }
@@ -126,11 +126,11 @@ impl<F: Fn(Global, &[u8], State) -> Result<(Script, State), Refusal>> Grammar<F>
         let mut clauses = Items::new(self.alloc);
         let mut next = from;
         while !is_same(
-            lead_at(script, Stage::First, next.at),
+            next.lead(script, Stage::First),
             Lead::Reserved(Reserved::Esac),
         ) {
             let ((patterns, body), behind) = self.clause(script, next)?;
-            let Some(end) = clause_end_of(lead_at(script, Stage::First, behind.at)) else {
+            let Some(end) = clause_end_of(behind.lead(script, Stage::First)) else {
                 let last = expect(script, Reserved::Esac, behind)?;
                 let end = ClauseEnd::Break;
                 clauses.push(Clause {
@@ -145,8 +145,7 @@ impl<F: Fn(Global, &[u8], State) -> Result<(Script, State), Refusal>> Grammar<F>
                 body,
                 end,
             })?;
-            let at = behind.at + 2;
-            next = self.breaks(script, behind.next(script, at))?;
+            next = self.breaks(script, behind.next(script, 2))?;
         }
         Ok((clauses, skip(script, Reserved::Esac, next)))
     }
@@ -154,7 +153,7 @@ impl<F: Fn(Global, &[u8], State) -> Result<(Script, State), Refusal>> Grammar<F>
     /// `case`, a word, `in` and clauses.
     #[tactic(auto, using(crate::proofs::CaseLemmas::case_word_refused, crate::proofs::CaseLemmas::case_stopped, crate::proofs::CaseLemmas::case_in_stopped, crate::proofs::CaseLemmas::case_none, crate::proofs::CaseLemmas::case_refused, crate::proofs::CaseLemmas::case_read, crate::proofs::ReaderLemmas::refused_none))]
     #[inline(never)]
-    pub fn case_of(&self, script: &[u8], from: State) -> Result<(Kind, State), Refusal>
+    pub fn case_of(&self, script: &[u8], from: Cursor) -> Result<(Kind, Cursor), Refusal>
         requires small { length script.now ≤ MAX_SCRIPT }
         requires stands { Stands script.now from }
         requires word { Lead.Reserved Reserved.Case ≡ tokens.lead_at script.now First from.at }
@@ -163,7 +162,7 @@ impl<F: Fn(Global, &[u8], State) -> Result<(Script, State), Refusal>> Grammar<F>
         requires nests { Nests self.now.left (F.pre self.now.nested) (F.post self.now.nested) }
         ensures { Answers script.now (CompoundFrom script.now (Lead.Reserved Reserved.Case) from) (from.at + 1) result }
     {
-        let depth = from.depth;
+        let depth = from.depth();
         let (word, behind) = self.unsplit(script, enter(script, Reserved::Case, from))?;
         let wanted = self.breaks(script, behind)?;
         let inside = expect_in(script, wanted)?;

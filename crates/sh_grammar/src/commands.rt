@@ -3,14 +3,14 @@ ghost use Rattle.std.specs.Prelude.{◌-◌, ◌≡◌, ◌+◌, ◌<◌, ◌≤
 ghost use Rattle.sh_grammar.specs.Nests.{Nests};
 ghost use Rattle.sh_grammar.specs.States.{Stands};
 ghost use Rattle.sh_grammar.specs.Readers.{Answers, CommandFrom};
+ghost use Rattle.sh_grammar.specs.Redirected.{RedirectedFrom};
 ghost use Rattle.sh_tree.specs.declared.token.command.Stage.TheVariants.{First};
 ghost use Rattle.sh_tree.specs.language.Commands as tokens;
 ghost use Rattle.sh_tree.specs.language.Reading as reading;
 
-use super::faults::unexpected_at;
 use super::grammar::Grammar;
-use super::state::State;
-use sh_scan::{begins_command, begins_compound, begins_simple, lead_at};
+use super::state::Cursor;
+use sh_scan::{begins_command, begins_compound, begins_simple};
 use sh_tree::Items;
 use sh_tree::limits::{MAX_COMMANDS, MAX_NESTING, MAX_SCRIPT};
 use sh_tree::refusal::Refusal;
@@ -29,11 +29,11 @@ fn is_bare(redirects: &Items<Redirect>) -> bool
     }
 }
 
-impl<F: Fn(Global, &[u8], State) -> Result<(Script, State), Refusal>> Grammar<F> {
+impl<F: Fn(Global, &[u8], Cursor) -> Result<(Script, Cursor), Refusal>> Grammar<F> {
     /// A simple command.
     #[tactic(auto, using(crate::proofs::CommandLemmas::command_crowded, crate::proofs::CommandLemmas::simple_read, crate::proofs::CommandLemmas::simple_refused))]
     #[inline(never)]
-    fn simple(&self, script: &[u8], from: State) -> Result<(Command, State), Refusal>
+    fn simple(&self, script: &[u8], from: Cursor) -> Result<(Command, Cursor), Refusal>
         requires small { length script.now ≤ MAX_SCRIPT }
         requires stands { Stands script.now from }
         requires begins { tokens.begins_simple (tokens.lead_at script.now First from.at) ≡ true }
@@ -41,13 +41,13 @@ impl<F: Fn(Global, &[u8], State) -> Result<(Script, State), Refusal>> Grammar<F>
         requires nests { Nests self.now.left (F.pre self.now.nested) (F.post self.now.nested) }
         ensures { Answers script.now (CommandFrom script.now from) (from.at + 1) result }
     {
-        if from.count == MAX_COMMANDS {
+        let (at, count) = (from.at(), from.count());
+        if count == MAX_COMMANDS {
             return Err(Refusal::TooMany);
         }
-        let (number, at) = (from.count + 1, from.at);
         let (elements, behind) = self.elements_at(script, from.counted())?;
         let command = Command {
-            number,
+            number: count + 1,
             at,
             kind: Kind::Simple(elements),
             redirects: Items::new(self.alloc),
@@ -57,16 +57,16 @@ impl<F: Fn(Global, &[u8], State) -> Result<(Script, State), Refusal>> Grammar<F>
 
     /// A command.
     #[tactic(auto, using(crate::proofs::CommandLemmas::command_none, crate::proofs::CommandLemmas::rest_defines, crate::proofs::ReaderLemmas::refused_none))]
-    pub fn command(&self, script: &[u8], from: State) -> Result<(Command, State), Refusal>
+    pub fn command(&self, script: &[u8], from: Cursor) -> Result<(Command, Cursor), Refusal>
         requires small { length script.now ≤ MAX_SCRIPT }
         requires stands { Stands script.now from }
         requires further { length script.now - from.at ≤ self.now.left }
         requires nests { Nests self.now.left (F.pre self.now.nested) (F.post self.now.nested) }
         ensures { Answers script.now (CommandFrom script.now from) (from.at + 1) result }
     {
-        let lead = lead_at(script, Stage::First, from.at);
+        let lead = from.lead(script, Stage::First);
         if !begins_command(lead) {
-            return Err(unexpected_at(script, Stage::First, &from));
+            return Err(from.unexpected_at(script, Stage::First));
         }
         if begins_simple(lead) {
             return self.simple(script, from);
@@ -78,13 +78,13 @@ impl<F: Fn(Global, &[u8], State) -> Result<(Script, State), Refusal>> Grammar<F>
     }
 
     /// A compound command and its redirections.
-    #[tactic(auto, using(crate::proofs::CommandLemmas::command_crowded, crate::proofs::CommandLemmas::compound_deep, crate::proofs::CommandLemmas::compound_refused, crate::proofs::CommandLemmas::redirected_refused, crate::proofs::CommandLemmas::redirected_read))]
+    #[tactic(auto, using(crate::proofs::CommandLemmas::command_crowded, crate::proofs::CommandLemmas::compound_deep, crate::proofs::CommandLemmas::compound_refused))]
     pub fn compound_command(
         &self,
         script: &[u8],
         lead: Lead,
-        from: State,
-    ) -> Result<(Command, State), Refusal>
+        from: Cursor,
+    ) -> Result<(Command, Cursor), Refusal>
         requires small { length script.now ≤ MAX_SCRIPT }
         requires stands { Stands script.now from }
         requires some { from.at < length script.now }
@@ -94,15 +94,35 @@ impl<F: Fn(Global, &[u8], State) -> Result<(Script, State), Refusal>> Grammar<F>
         requires nests { Nests self.now.left (F.pre self.now.nested) (F.post self.now.nested) }
         ensures { Answers script.now (CommandFrom script.now from) (from.at + 1) result }
     {
-        if u32::from(from.depth) >= MAX_NESTING {
-            return Err(Refusal::TooDeep(from.at));
+        let (at, count) = (from.at(), from.count());
+        if u32::from(from.depth()) >= MAX_NESTING {
+            return Err(Refusal::TooDeep(at));
         }
-        if from.count == MAX_COMMANDS {
+        if count == MAX_COMMANDS {
             return Err(Refusal::TooMany);
         }
-        let (number, at) = (from.count + 1, from.at);
         let (kind, behind) = self.compound(script, lead, from.counted())?;
-        let (redirects, behind) = self.redirects_at(script, behind)?;
+        self.redirected(script, count + 1, at, kind, behind)
+    }
+
+    /// The command that a compound command is with the redirections behind it.
+    #[tactic(auto, using(crate::proofs::CommandLemmas::redirects_refused))]
+    #[inline(never)]
+    fn redirected(
+        &self,
+        script: &[u8],
+        number: u32,
+        at: u32,
+        kind: Kind,
+        from: Cursor,
+    ) -> Result<(Command, Cursor), Refusal>
+        requires small { length script.now ≤ MAX_SCRIPT }
+        requires stands { Stands script.now from }
+        requires further { length script.now - from.at ≤ self.now.left }
+        requires nests { Nests self.now.left (F.pre self.now.nested) (F.post self.now.nested) }
+        ensures { Answers script.now (RedirectedFrom script.now number at kind from) from.at result }
+    {
+        let (redirects, behind) = self.redirects_at(script, from)?;
         let closed = is_bare(&redirects);
         let command = Command {
             number,

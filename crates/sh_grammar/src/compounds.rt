@@ -7,10 +7,8 @@ ghost use Rattle.sh_grammar.specs.Nests.{Nests};
 ghost use Rattle.sh_grammar.specs.States.{Stands};
 ghost use Rattle.sh_grammar.specs.Readers.{Answers, CompoundFrom};
 
-use super::faults::{unexpected, unexpected_at};
 use super::grammar::Grammar;
-use super::state::State;
-use sh_scan::lead_at;
+use super::state::Cursor;
 use sh_tree::limits::{MAX_NESTING, MAX_SCRIPT};
 use sh_tree::refusal::Refusal;
 use sh_tree::token::{Lead, Operator, Reserved, Stage};
@@ -26,7 +24,7 @@ pub fn is_same(lead: Lead, other: Lead) -> bool
 }
 
 /// One level inside, behind the first byte of the token that opens it.
-fn inside(script: &[u8], from: State) -> State
+fn inside(script: &[u8], from: Cursor) -> Cursor
     requires small { length script.now ≤ MAX_SCRIPT }
     requires stands { Stands script.now from }
     requires some { from.at < length script.now }
@@ -35,12 +33,11 @@ fn inside(script: &[u8], from: State) -> State
     ensures further { from.at < result.at }
     ensures stands { Stands script.now result }
 {
-    let at = from.at + 1;
-    from.next(script, at).lower()
+    from.next(script, 1).lower()
 }
 
 /// Behind the token of one byte that closes what began where so many levels were open.
-fn outside(script: &[u8], depth: u8, close: State) -> State
+fn outside(script: &[u8], depth: u8, close: Cursor) -> Cursor
     requires small { length script.now ≤ MAX_SCRIPT }
     requires shallow { depth ≤ MAX_NESTING }
     requires stands { Stands script.now close }
@@ -49,15 +46,19 @@ fn outside(script: &[u8], depth: u8, close: State) -> State
     ensures further { close.at < result.at }
     ensures stands { Stands script.now result }
 {
-    let at = close.at + 1;
-    close.next(script, at).at_depth(depth)
+    close.next(script, 1).at_depth(depth)
 }
 
-impl<F: Fn(Global, &[u8], State) -> Result<(Script, State), Refusal>> Grammar<F> {
+impl<F: Fn(Global, &[u8], Cursor) -> Result<(Script, Cursor), Refusal>> Grammar<F> {
     /// A list one level deeper, up to the token of one byte that closes it.
     #[tactic(auto, using(crate::proofs::CompoundLemmas::bracket_refused, crate::proofs::CompoundLemmas::bracket_open, crate::proofs::CompoundLemmas::bracket_read, crate::proofs::ReaderLemmas::refused_none))]
     #[inline(always)]
-    fn bracketed(&self, script: &[u8], close: Lead, from: State) -> Result<(Script, State), Refusal>
+    fn bracketed(
+        &self,
+        script: &[u8],
+        close: Lead,
+        from: Cursor,
+    ) -> Result<(Script, Cursor), Refusal>
         requires small { length script.now ≤ MAX_SCRIPT }
         requires stands { Stands script.now from }
         requires some { from.at < length script.now }
@@ -67,16 +68,16 @@ impl<F: Fn(Global, &[u8], State) -> Result<(Script, State), Refusal>> Grammar<F>
         requires nests { Nests self.now.left (F.pre self.now.nested) (F.post self.now.nested) }
         ensures { Answers script.now (BracketFrom script.now close from) (from.at + 1) result }
     {
-        let depth = from.depth;
+        let depth = from.depth();
         let (list, behind) = self.list(script, inside(script, from))?;
-        if !is_same(lead_at(script, Stage::First, behind.at), close) {
-            return Err(unexpected(script, &behind));
+        if !is_same(behind.lead(script, Stage::First), close) {
+            return Err(behind.unexpected(script));
         }
         Ok((list, outside(script, depth, behind)))
     }
 
     #[tactic(auto, using(crate::proofs::CompoundLemmas::group_refused, crate::proofs::CompoundLemmas::group_read))]
-    fn group(&self, script: &[u8], from: State) -> Result<(Kind, State), Refusal>
+    fn group(&self, script: &[u8], from: Cursor) -> Result<(Kind, Cursor), Refusal>
         requires small { length script.now ≤ MAX_SCRIPT }
         requires stands { Stands script.now from }
         requires some { from.at < length script.now }
@@ -90,7 +91,7 @@ impl<F: Fn(Global, &[u8], State) -> Result<(Script, State), Refusal>> Grammar<F>
     }
 
     #[tactic(auto, using(crate::proofs::CompoundLemmas::subshell_refused, crate::proofs::CompoundLemmas::subshell_read))]
-    fn subshell(&self, script: &[u8], from: State) -> Result<(Kind, State), Refusal>
+    fn subshell(&self, script: &[u8], from: Cursor) -> Result<(Kind, Cursor), Refusal>
         requires small { length script.now ≤ MAX_SCRIPT }
         requires stands { Stands script.now from }
         requires some { from.at < length script.now }
@@ -104,7 +105,12 @@ impl<F: Fn(Global, &[u8], State) -> Result<(Script, State), Refusal>> Grammar<F>
     }
 
     /// The compound command that begins with the token.
-    pub fn compound(&self, script: &[u8], lead: Lead, from: State) -> Result<(Kind, State), Refusal>
+    pub fn compound(
+        &self,
+        script: &[u8],
+        lead: Lead,
+        from: Cursor,
+    ) -> Result<(Kind, Cursor), Refusal>
         requires small { length script.now ≤ MAX_SCRIPT }
         requires stands { Stands script.now from }
         requires some { from.at < length script.now }
@@ -114,21 +120,40 @@ impl<F: Fn(Global, &[u8], State) -> Result<(Script, State), Refusal>> Grammar<F>
         requires nests { Nests self.now.left (F.pre self.now.nested) (F.post self.now.nested) }
         ensures { Answers script.now (CompoundFrom script.now lead from) (from.at + 1) result }
     {
-        match lead {
-            Lead::Operator(operator) => match operator {
-                Operator::LeftParenthesis => self.subshell(script, from),
-                _ => Err(unexpected_at(script, Stage::First, &from)),
-            },
-            Lead::Reserved(word) => match word {
-                Reserved::LeftBrace => self.group(script, from),
-                Reserved::Case => self.case_of(script, from),
-                Reserved::For => self.for_loop(script, from),
-                Reserved::If => self.cond(script, from),
-                Reserved::While => self.loop_of(script, LoopKind::While, from),
-                Reserved::Until => self.loop_of(script, LoopKind::Until, from),
-                _ => Err(unexpected_at(script, Stage::First, &from)),
-            },
-            _ => Err(unexpected_at(script, Stage::First, &from)),
+        if let Lead::Reserved(word) = lead {
+            return self.compound_of(script, word, from);
+        }
+        if is_same(lead, Lead::Operator(Operator::LeftParenthesis)) {
+            return self.subshell(script, from);
+        }
+        Err(from.unexpected_at(script, Stage::First))
+    }
+
+    /// The compound command that begins with the reserved word.
+    #[inline(always)]
+    fn compound_of(
+        &self,
+        script: &[u8],
+        word: Reserved,
+        from: Cursor,
+    ) -> Result<(Kind, Cursor), Refusal>
+        requires small { length script.now ≤ MAX_SCRIPT }
+        requires stands { Stands script.now from }
+        requires some { from.at < length script.now }
+        requires token { Lead.Reserved word ≡ tokens.lead_at script.now First from.at }
+        requires shallow { from.depth < MAX_NESTING }
+        requires further { length script.now - from.at ≤ self.now.left }
+        requires nests { Nests self.now.left (F.pre self.now.nested) (F.post self.now.nested) }
+        ensures { Answers script.now (CompoundFrom script.now (Lead.Reserved word) from) (from.at + 1) result }
+    {
+        match word {
+            Reserved::LeftBrace => self.group(script, from),
+            Reserved::Case => self.case_of(script, from),
+            Reserved::For => self.for_loop(script, from),
+            Reserved::If => self.cond(script, from),
+            Reserved::While => self.loop_of(script, LoopKind::While, from),
+            Reserved::Until => self.loop_of(script, LoopKind::Until, from),
+            _ => Err(from.unexpected_at(script, Stage::First)),
         }
     }
 }

@@ -9,10 +9,9 @@ ghost use Rattle.sh_tree.specs.declared.token.command.Stage.TheVariants.{First};
 ghost use Rattle.sh_tree.specs.language.Commands as tokens;
 
 use super::compounds::is_same;
-use super::faults::{unexpected, unexpected_at};
 use super::grammar::Grammar;
-use super::state::State;
-use sh_scan::{begins_compound, lead_at, name_at};
+use super::state::Cursor;
+use sh_scan::{begins_compound, name_at};
 use sh_tree::limits::{MAX_COMMANDS, MAX_SCRIPT};
 use sh_tree::refusal::Refusal;
 use sh_tree::token::{Lead, Operator, Stage};
@@ -21,35 +20,33 @@ use sh_tree::{Boxed, Items};
 use std::alloc::Global;
 
 /// Behind the two parentheses that are wanted here.
-fn parentheses(script: &[u8], from: State) -> Result<State, Refusal>
+fn parentheses(script: &[u8], from: Cursor) -> Result<Cursor, Refusal>
     requires small { length script.now ≤ MAX_SCRIPT }
     requires stands { Stands script.now from }
     ensures { Parenthesized script.now from result }
 {
     let stage = Stage::Named(false);
     if !is_same(
-        lead_at(script, stage, from.at),
+        from.lead(script, stage),
         Lead::Operator(Operator::LeftParenthesis),
     ) {
-        return Err(unexpected_at(script, stage, &from));
+        return Err(from.unexpected_at(script, stage));
     }
-    let at = from.at + 1;
-    let close = from.next(script, at);
+    let close = from.next(script, 1);
     if !is_same(
-        lead_at(script, stage, close.at),
+        close.lead(script, stage),
         Lead::Operator(Operator::RightParenthesis),
     ) {
-        return Err(unexpected_at(script, stage, &close));
+        return Err(close.unexpected_at(script, stage));
     }
-    let behind = close.at + 1;
-    Ok(close.next(script, behind))
+    Ok(close.next(script, 1))
 }
 
-impl<F: Fn(Global, &[u8], State) -> Result<(Script, State), Refusal>> Grammar<F> {
+impl<F: Fn(Global, &[u8], Cursor) -> Result<(Script, Cursor), Refusal>> Grammar<F> {
     /// A definition: a name, two parentheses and a compound command.
     #[tactic(auto, using(crate::proofs::CommandLemmas::command_crowded, crate::proofs::DefinitionLemmas::definition_bare, crate::proofs::DefinitionLemmas::definition_stopped, crate::proofs::DefinitionLemmas::definition_empty, crate::proofs::DefinitionLemmas::definition_refused, crate::proofs::DefinitionLemmas::definition_read, crate::proofs::ReaderLemmas::refused_none))]
     #[inline(never)]
-    pub fn definition(&self, script: &[u8], from: State) -> Result<(Command, State), Refusal>
+    pub fn definition(&self, script: &[u8], from: Cursor) -> Result<(Command, Cursor), Refusal>
         requires small { length script.now ≤ MAX_SCRIPT }
         requires stands { Stands script.now from }
         requires begins { tokens.lead_at script.now First from.at ≡ lead.Definition }
@@ -57,23 +54,23 @@ impl<F: Fn(Global, &[u8], State) -> Result<(Script, State), Refusal>> Grammar<F>
         requires nests { Nests self.now.left (F.pre self.now.nested) (F.post self.now.nested) }
         ensures { Answers script.now (CommandFrom script.now from) (from.at + 1) result }
     {
-        if from.count == MAX_COMMANDS {
+        let (at, count) = (from.at(), from.count());
+        if count == MAX_COMMANDS {
             return Err(Refusal::TooMany);
         }
         let name = Span {
-            start: from.at,
-            end: name_at(script, from.at),
+            start: at,
+            end: name_at(script, at),
         };
-        let (number, at) = (from.count + 1, from.at);
-        let behind = parentheses(script, from.counted().next(script, name.end))?;
+        let behind = parentheses(script, from.counted().next_from(script, name.end))?;
         let first = self.breaks(script, behind)?;
-        let lead = lead_at(script, Stage::First, first.at);
+        let lead = first.lead(script, Stage::First);
         if !begins_compound(lead) {
-            return Err(unexpected(script, &first));
+            return Err(first.unexpected(script));
         }
         let (body, end) = self.compound_command(script, lead, first)?;
         let command = Command {
-            number,
+            number: count + 1,
             at,
             kind: Kind::Define {
                 name,

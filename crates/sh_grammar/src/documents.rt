@@ -9,7 +9,7 @@ use super::end_lines::{behind_line, end_line};
 use super::grammar::Grammar;
 use super::kept::{joined_if, split_at, tabbed_if};
 use super::mark::Mark;
-use super::state::State;
+use super::state::{Cursor, State};
 use sh_bodies::Document;
 use sh_tree::Items;
 use sh_tree::limits::MAX_SCRIPT;
@@ -79,9 +79,9 @@ fn check_lines(script: &[u8], mark: &Mark, line: Span, from: &State) -> Result<(
     Ok(())
 }
 
-impl<F: Fn(Global, &[u8], State) -> Result<(Script, State), Refusal>> Grammar<F> {
+impl<F: Fn(Global, &[u8], Cursor) -> Result<(Script, Cursor), Refusal>> Grammar<F> {
     /// The body at the beginning of a line, and the line that ends it.
-    fn document(&self, script: &[u8], mark: &Mark, from: State) -> Result<State, Refusal>
+    fn document(&self, script: &[u8], mark: &Mark, from: Cursor) -> Result<Cursor, Refusal>
         requires small { length script.now ≤ MAX_SCRIPT }
         requires lies { Lies script.now from }
         requires marked { AreIn script.now (mark.now ∷ []) }
@@ -89,13 +89,14 @@ impl<F: Fn(Global, &[u8], State) -> Result<(Script, State), Refusal>> Grammar<F>
         requires nests { Nests self.now.left (F.pre self.now.nested) (F.post self.now.nested) }
         ensures { Passing script.now (DocumentFrom script.now mark.now from) from.at result }
     {
-        let Some(line) = end_line(script, mark, from.at) else {
-            return Err(unended(script, mark, &from));
+        let here = from.get();
+        let Some(line) = end_line(script, mark, here.at) else {
+            return Err(unended(script, mark, here));
         };
-        check_lines(script, mark, line, &from)?;
-        let (parts, count) = self.body(script, mark, line.start, &from)?;
+        check_lines(script, mark, line, here)?;
+        let (parts, count) = self.body(script, mark, line.start, here)?;
         let span = Span {
-            start: from.at,
+            start: here.at,
             end: line.start,
         };
         let document = Document {
@@ -128,16 +129,17 @@ impl<F: Fn(Global, &[u8], State) -> Result<(Script, State), Refusal>> Grammar<F>
             strip: mark.strip,
             quoted: mark.quoted,
         };
-        let (word, last) = self.built(seen, mode, from.at, from.in_document(self.alloc, mark))?;
+        let inside = Cursor::new(self.alloc, from.in_document(self.alloc, mark))?;
+        let (word, last) = self.built(seen, mode, from.at, inside)?;
         if let Some(at) = split_at(script, !mark.quoted, word.parts.as_slice()) {
             return Err(Refusal::LeftOut(Form::Continuation, at));
         }
-        Ok((word.parts, last.count))
+        Ok((word.parts, last.count()))
     }
 
     /// The bodies of the here-documents, one behind the other from a line's beginning on.
     #[tactic(auto, using(crate::proofs::DocumentLemmas::documents_first))]
-    pub fn documents(&self, script: &[u8], marks: &[Mark], from: State) -> Result<State, Refusal>
+    pub fn documents(&self, script: &[u8], marks: &[Mark], from: Cursor) -> Result<Cursor, Refusal>
         requires small { length script.now ≤ MAX_SCRIPT }
         requires lies { Lies script.now from }
         requires marked { AreIn script.now marks.now }

@@ -8,9 +8,9 @@ ghost use Rattle.sh_tree.specs.language.Commands as commands;
 ghost use Rattle.sh_tree.specs.language.Reading as reading;
 
 use super::grammar::Grammar;
-use super::state::State;
+use super::state::Cursor;
 use super::words::mode_of;
-use sh_scan::{begins_simple, declares_at, lead_at, name_at};
+use sh_scan::{begins_simple, declares_at, name_at};
 use sh_tree::Items;
 use sh_tree::limits::MAX_SCRIPT;
 use sh_tree::refusal::Refusal;
@@ -42,14 +42,14 @@ fn redirected(stage: Stage) -> Stage
     }
 }
 
-impl<F: Fn(Global, &[u8], State) -> Result<(Script, State), Refusal>> Grammar<F> {
+impl<F: Fn(Global, &[u8], Cursor) -> Result<(Script, Cursor), Refusal>> Grammar<F> {
     /// The elements of the simple command at a token.
     #[tactic(auto, using(crate::proofs::ElementLemmas::found_none, crate::proofs::ElementLemmas::not_moved, crate::proofs::ElementLemmas::moved_on, crate::proofs::ElementLemmas::elements_end, crate::proofs::BeginningLemmas::name_within))]
     pub fn elements_at(
         &self,
         script: &[u8],
-        from: State,
-    ) -> Result<(Items<Element>, State), Refusal>
+        from: Cursor,
+    ) -> Result<(Items<Element>, Cursor), Refusal>
         requires small { length script.now ≤ MAX_SCRIPT }
         requires stands { Stands script.now from }
         requires begins { commands.begins_simple (commands.lead_at script.now First from.at) ≡ true }
@@ -61,15 +61,16 @@ impl<F: Fn(Global, &[u8], State) -> Result<(Script, State), Refusal>> Grammar<F>
         let mut stage = Stage::First;
         let mut next = from;
         loop {
-            let lead = lead_at(script, stage, next.at);
+            let lead = next.lead(script, stage);
             if !begins_simple(lead) {
                 return Ok((elements, next));
             }
+            let at = next.at();
             match lead {
                 Lead::Assignment => {
-                    let equals = name_at(script, next.at);
+                    let equals = name_at(script, at);
                     let name = Span {
-                        start: next.at,
+                        start: at,
                         end: equals,
                     };
                     let (value, behind) = self.word_at(script, Mode::Value, equals + 1, next)?;
@@ -78,8 +79,7 @@ impl<F: Fn(Global, &[u8], State) -> Result<(Script, State), Refusal>> Grammar<F>
                     elements.push(Element::Assignment { name, value })?;
                 }
                 Lead::Word => {
-                    let at = next.at;
-                    let (word, behind) = self.word_at(script, mode_of(stage), at, next)?;
+                    let (word, behind) = self.word(script, mode_of(stage), next)?;
                     stage = stage_behind(script, stage, at);
                     next = behind;
                     elements.push(Element::Word(word))?;

@@ -4,7 +4,7 @@ ghost use Rattle.sh_tree.specs.language.Commands as commands;
 ghost use Rattle.sh_grammar.specs.Faults.{IsFault, IsPlace, TellsAt, ended, stage_at};
 ghost use Rattle.sh_grammar.specs.States.{Stands};
 
-use super::state::State;
+use super::state::{Cursor, State};
 use memchr::memchr;
 use sh_scan::lead_at;
 use sh_tree::limits::MAX_SCRIPT;
@@ -41,7 +41,7 @@ fn at_end(script: &[u8], here: &State) -> Refusal
 }
 
 /// What is told of the token here, which has no place there.
-pub fn unexpected_at(script: &[u8], stage: Stage, here: &State) -> Refusal
+fn unexpected_at(script: &[u8], stage: Stage, here: &State) -> Refusal
     requires small { length script.now ≤ MAX_SCRIPT }
     requires stands { Stands script.now here.now }
     ensures which { TellsAt script.now (commands.lead_at script.now stage here.now.at) here.now result }
@@ -74,4 +74,26 @@ pub fn unexpected(script: &[u8], here: &State) -> Refusal
     ensures fault { IsFault script.now result }
 {
     unexpected_at(script, stage_of(here), here)
+}
+
+impl Cursor {
+    /// What is told of the token here, which has no place there.
+    pub fn unexpected_at(&self, script: &[u8], stage: Stage) -> Refusal
+        requires small { length script.now ≤ MAX_SCRIPT }
+        requires stands { Stands script.now self.now }
+        ensures which { TellsAt script.now (commands.lead_at script.now stage self.now.at) self.now result }
+        ensures fault { IsFault script.now result }
+    {
+        unexpected_at(script, stage, self.get())
+    }
+
+    /// What is told where nothing that stands here goes on.
+    pub fn unexpected(&self, script: &[u8]) -> Refusal
+        requires small { length script.now ≤ MAX_SCRIPT }
+        requires stands { Stands script.now self.now }
+        ensures which { TellsAt script.now (commands.lead_at script.now (stage_at self.now.fresh) self.now.at) self.now result }
+        ensures fault { IsFault script.now result }
+    {
+        unexpected(script, self.get())
+    }
 }

@@ -4,8 +4,7 @@ ghost use Rattle.sh_grammar.specs.Nests.{Nests};
 ghost use Rattle.sh_grammar.specs.States.{Stands};
 ghost use Rattle.sh_grammar.specs.Readers.{Answers, ListFrom, SequenceFrom};
 
-use super::faults::unexpected;
-use super::state::State;
+use super::state::Cursor;
 use sh_tree::limits::MAX_SCRIPT;
 use sh_tree::refusal::Refusal;
 use sh_tree::tree::Script;
@@ -21,9 +20,9 @@ pub struct Grammar<F> {
     pub nested: F,
 }
 
-impl<F: Fn(Global, &[u8], State) -> Result<(Script, State), Refusal>> Grammar<F> {
+impl<F: Fn(Global, &[u8], Cursor) -> Result<(Script, Cursor), Refusal>> Grammar<F> {
     /// A sequence inside a command.
-    pub fn inner(&self, script: &[u8], from: State) -> Result<(Script, State), Refusal>
+    pub fn inner(&self, script: &[u8], from: Cursor) -> Result<(Script, Cursor), Refusal>
         requires small { length script.now ≤ MAX_SCRIPT }
         requires stands { Stands script.now from }
         requires further { length script.now - from.at < self.now.left }
@@ -36,7 +35,7 @@ impl<F: Fn(Global, &[u8], State) -> Result<(Script, State), Refusal>> Grammar<F>
     /// A sequence of one item or more.
     #[tactic(auto, using(crate::proofs::CompoundLemmas::list_refused, crate::proofs::CompoundLemmas::list_empty, crate::proofs::CompoundLemmas::list_read, crate::proofs::ReaderLemmas::refused_none))]
     #[inline(always)]
-    pub fn list(&self, script: &[u8], from: State) -> Result<(Script, State), Refusal>
+    pub fn list(&self, script: &[u8], from: Cursor) -> Result<(Script, Cursor), Refusal>
         requires small { length script.now ≤ MAX_SCRIPT }
         requires stands { Stands script.now from }
         requires further { length script.now - from.at < self.now.left }
@@ -45,7 +44,7 @@ impl<F: Fn(Global, &[u8], State) -> Result<(Script, State), Refusal>> Grammar<F>
     {
         let (list, behind) = self.inner(script, from)?;
         if list.items.is_empty() {
-            return Err(unexpected(script, &behind));
+            return Err(behind.unexpected(script));
         }
         Ok((list, behind))
     }

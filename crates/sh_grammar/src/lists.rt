@@ -8,10 +8,9 @@ ghost use Rattle.sh_tree.specs.declared.token.command.Stage.TheVariants.{First};
 ghost use Rattle.sh_tree.specs.language.Commands as tokens;
 
 use super::breaks::parted;
-use super::faults::unexpected;
 use super::grammar::Grammar;
-use super::state::State;
-use sh_scan::{begins_pipeline, lead_at, link_of, separator};
+use super::state::Cursor;
+use sh_scan::{begins_pipeline, link_of, separator};
 use sh_tree::Items;
 use sh_tree::limits::MAX_SCRIPT;
 use sh_tree::refusal::Refusal;
@@ -45,10 +44,10 @@ fn closes(lead: Lead, closed: bool) -> bool
     !is_reserved(lead) || closed
 }
 
-impl<F: Fn(Global, &[u8], State) -> Result<(Script, State), Refusal>> Grammar<F> {
+impl<F: Fn(Global, &[u8], Cursor) -> Result<(Script, Cursor), Refusal>> Grammar<F> {
     /// Commands with bars between them.
     #[tactic(auto, using(crate::proofs::ListLemmas::commands_none, crate::proofs::ListLemmas::commands_refused, crate::proofs::ListLemmas::commands_last, crate::proofs::ListLemmas::commands_stopped, crate::proofs::ListLemmas::commands_more))]
-    fn commands(&self, script: &[u8], from: State) -> Result<(Items<Command>, State), Refusal>
+    fn commands(&self, script: &[u8], from: Cursor) -> Result<(Items<Command>, Cursor), Refusal>
         requires small { length script.now ≤ MAX_SCRIPT }
         requires stands { Stands script.now from }
         requires further { length script.now - from.at ≤ self.now.left }
@@ -60,25 +59,23 @@ impl<F: Fn(Global, &[u8], State) -> Result<(Script, State), Refusal>> Grammar<F>
         loop {
             let (command, behind) = self.command(script, next)?;
             parts.push(command)?;
-            if !is_bar(lead_at(script, Stage::First, behind.at)) {
+            if !is_bar(behind.lead(script, Stage::First)) {
                 return Ok((parts, behind));
             }
-            let at = behind.at + 1;
-            next = self.breaks(script, behind.next(script, at))?;
+            next = self.breaks(script, behind.next(script, 1))?;
         }
     }
 
     #[tactic(auto, using(crate::proofs::ListLemmas::negated_refused, crate::proofs::ListLemmas::negated_read, crate::proofs::ListLemmas::straight_refused, crate::proofs::ListLemmas::straight_read))]
-    fn pipeline(&self, script: &[u8], from: State) -> Result<(Pipe, State), Refusal>
+    fn pipeline(&self, script: &[u8], from: Cursor) -> Result<(Pipe, Cursor), Refusal>
         requires small { length script.now ≤ MAX_SCRIPT }
         requires stands { Stands script.now from }
         requires further { length script.now - from.at ≤ self.now.left }
         requires nests { Nests self.now.left (F.pre self.now.nested) (F.post self.now.nested) }
         ensures { Answers script.now (PipelineFrom script.now from) (from.at + 1) result }
     {
-        if is_bang(lead_at(script, Stage::First, from.at)) {
-            let at = from.at + 1;
-            let (parts, behind) = self.commands(script, from.next(script, at))?;
+        if is_bang(from.lead(script, Stage::First)) {
+            let (parts, behind) = self.commands(script, from.next(script, 1))?;
             let negated = true;
             return Ok((Pipe { negated, parts }, behind));
         }
@@ -90,7 +87,7 @@ impl<F: Fn(Global, &[u8], State) -> Result<(Script, State), Refusal>> Grammar<F>
     /// The pipelines behind the first one of an and-or list.
     #[tactic(auto, using(crate::proofs::ListLemmas::links_none, crate::proofs::ListLemmas::links_refused, crate::proofs::ListLemmas::links_stopped, crate::proofs::ListLemmas::links_more, crate::proofs::ListLemmas::links_all, crate::proofs::WidthLemmas::link_inside))]
     #[inline(never)]
-    fn links(&self, script: &[u8], from: State) -> Result<(Items<(Link, Pipe)>, State), Refusal>
+    fn links(&self, script: &[u8], from: Cursor) -> Result<(Items<(Link, Pipe)>, Cursor), Refusal>
         requires small { length script.now ≤ MAX_SCRIPT }
         requires stands { Stands script.now from }
         requires further { length script.now - from.at ≤ self.now.left }
@@ -99,9 +96,8 @@ impl<F: Fn(Global, &[u8], State) -> Result<(Script, State), Refusal>> Grammar<F>
     {
         let mut rest = Items::new(self.alloc);
         let mut next = from;
-        while let Some(link) = link_of(lead_at(script, Stage::First, next.at)) {
-            let at = next.at + 2;
-            let first = self.breaks(script, next.next(script, at))?;
+        while let Some(link) = link_of(next.lead(script, Stage::First)) {
+            let first = self.breaks(script, next.next(script, 2))?;
             let (pipe, behind) = self.pipeline(script, first)?;
             rest.push((link, pipe))?;
             next = behind;
@@ -110,7 +106,7 @@ impl<F: Fn(Global, &[u8], State) -> Result<(Script, State), Refusal>> Grammar<F>
     }
 
     #[tactic(auto, using(crate::proofs::ListLemmas::first_refused, crate::proofs::ListLemmas::rest_refused, crate::proofs::ListLemmas::list_linked))]
-    fn and_or(&self, script: &[u8], from: State) -> Result<(AndOr, State), Refusal>
+    fn and_or(&self, script: &[u8], from: Cursor) -> Result<(AndOr, Cursor), Refusal>
         requires small { length script.now ≤ MAX_SCRIPT }
         requires stands { Stands script.now from }
         requires further { length script.now - from.at ≤ self.now.left }
@@ -124,7 +120,7 @@ impl<F: Fn(Global, &[u8], State) -> Result<(Script, State), Refusal>> Grammar<F>
 
     /// The items from a token on that is no newline. There are none where no pipeline begins.
     #[tactic(auto, using(crate::proofs::ListLemmas::items_none, crate::proofs::ListLemmas::items_all, crate::proofs::ListLemmas::items_refused, crate::proofs::ListLemmas::items_stopped, crate::proofs::ListLemmas::items_last, crate::proofs::ListLemmas::items_wrong, crate::proofs::ListLemmas::items_more, crate::proofs::ReaderLemmas::refused_none))]
-    fn items(&self, script: &[u8], from: State) -> Result<(Items<Item>, State), Refusal>
+    fn items(&self, script: &[u8], from: Cursor) -> Result<(Items<Item>, Cursor), Refusal>
         requires small { length script.now ≤ MAX_SCRIPT }
         requires stands { Stands script.now from }
         requires further { length script.now - from.at ≤ self.now.left }
@@ -133,12 +129,12 @@ impl<F: Fn(Global, &[u8], State) -> Result<(Script, State), Refusal>> Grammar<F>
     {
         let mut items = Items::new(self.alloc);
         let mut next = from;
-        while begins_pipeline(lead_at(script, Stage::First, next.at)) {
+        while begins_pipeline(next.lead(script, Stage::First)) {
             let (list, behind) = self.and_or(script, next)?;
-            let lead = lead_at(script, Stage::First, behind.at);
+            let lead = behind.lead(script, Stage::First);
             let Some(background) = separator(lead) else {
-                if !closes(lead, behind.closed) {
-                    return Err(unexpected(script, &behind));
+                if !closes(lead, behind.get().closed) {
+                    return Err(behind.unexpected(script));
                 }
                 let background = false;
                 items.push(Item { list, background })?;
@@ -152,7 +148,7 @@ impl<F: Fn(Global, &[u8], State) -> Result<(Script, State), Refusal>> Grammar<F>
 
     /// A list, or newlines alone.
     #[tactic(auto, using(crate::proofs::ListLemmas::sequence_stopped, crate::proofs::ListLemmas::sequence_refused, crate::proofs::ListLemmas::sequence_read))]
-    pub fn sequence(&self, script: &[u8], from: State) -> Result<(Script, State), Refusal>
+    pub fn sequence(&self, script: &[u8], from: Cursor) -> Result<(Script, Cursor), Refusal>
         requires small { length script.now ≤ MAX_SCRIPT }
         requires stands { Stands script.now from }
         requires further { length script.now - from.at ≤ self.now.left }

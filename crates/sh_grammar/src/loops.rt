@@ -9,7 +9,7 @@ ghost use Rattle.sh_tree.specs.language.Commands as tokens;
 
 use super::grammar::Grammar;
 use super::reserved::{enter, expect};
-use super::state::State;
+use super::state::Cursor;
 use sh_tree::limits::{MAX_NESTING, MAX_SCRIPT};
 use sh_tree::refusal::Refusal;
 use sh_tree::token::{Lead, Reserved};
@@ -25,11 +25,11 @@ fn word_of(kind: LoopKind) -> Reserved
     }
 }
 
-impl<F: Fn(Global, &[u8], State) -> Result<(Script, State), Refusal>> Grammar<F> {
+impl<F: Fn(Global, &[u8], Cursor) -> Result<(Script, Cursor), Refusal>> Grammar<F> {
     /// `do`, a list and `done`.
     #[tactic(auto, using(crate::proofs::LoopLemmas::do_none, crate::proofs::LoopLemmas::do_refused, crate::proofs::LoopLemmas::do_read, crate::proofs::ReaderLemmas::refused_none))]
     #[inline(always)]
-    pub fn do_group(&self, script: &[u8], from: State) -> Result<(Script, State), Refusal>
+    pub fn do_group(&self, script: &[u8], from: Cursor) -> Result<(Script, Cursor), Refusal>
         requires small { length script.now ≤ MAX_SCRIPT }
         requires stands { Stands script.now from }
         requires further { length script.now - from.at ≤ self.now.left }
@@ -48,8 +48,8 @@ impl<F: Fn(Global, &[u8], State) -> Result<(Script, State), Refusal>> Grammar<F>
         &self,
         script: &[u8],
         kind: LoopKind,
-        from: State,
-    ) -> Result<(Kind, State), Refusal>
+        from: Cursor,
+    ) -> Result<(Kind, Cursor), Refusal>
         requires small { length script.now ≤ MAX_SCRIPT }
         requires stands { Stands script.now from }
         requires word { Lead.Reserved (loop_word kind) ≡ tokens.lead_at script.now First from.at }
@@ -58,7 +58,7 @@ impl<F: Fn(Global, &[u8], State) -> Result<(Script, State), Refusal>> Grammar<F>
         requires nests { Nests self.now.left (F.pre self.now.nested) (F.post self.now.nested) }
         ensures { Answers script.now (CompoundFrom script.now (Lead.Reserved (loop_word kind)) from) (from.at + 1) result }
     {
-        let depth = from.depth;
+        let depth = from.depth();
         let (condition, behind) = self.list(script, enter(script, word_of(kind), from))?;
         let (body, end) = self.do_group(script, behind)?;
         let found = Kind::Loop {

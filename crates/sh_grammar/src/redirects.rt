@@ -7,10 +7,9 @@ ghost use Rattle.sh_grammar.specs.Readers.{Answers, RedirectFrom, RedirectsFrom}
 ghost use Rattle.sh_grammar.specs.Targets.{TargetFrom};
 
 use super::delimiters::{awaited, mark_at};
-use super::faults::unexpected_at;
 use super::grammar::Grammar;
-use super::state::State;
-use sh_scan::{direction_of, is_redirection, lead_at, redirection_at, strip_of};
+use super::state::Cursor;
+use sh_scan::{direction_of, is_redirection, redirection_at, strip_of};
 use sh_tree::Items;
 use sh_tree::limits::MAX_SCRIPT;
 use sh_tree::refusal::Refusal;
@@ -25,10 +24,10 @@ pub fn is_word(lead: Lead) -> bool
     matches!(lead, Lead::Word)
 }
 
-impl<F: Fn(Global, &[u8], State) -> Result<(Script, State), Refusal>> Grammar<F> {
+impl<F: Fn(Global, &[u8], Cursor) -> Result<(Script, Cursor), Refusal>> Grammar<F> {
     /// The word behind an operator that ends at `end`.
     #[tactic(auto, using(crate::proofs::RedirectLemmas::target_none, crate::proofs::RedirectLemmas::target_refused, crate::proofs::RedirectLemmas::target_read, crate::proofs::ReaderLemmas::refused_none))]
-    fn target(&self, script: &[u8], end: u32, from: State) -> Result<(Word, State), Refusal>
+    fn target(&self, script: &[u8], end: u32, from: Cursor) -> Result<(Word, Cursor), Refusal>
         requires small { length script.now ≤ MAX_SCRIPT }
         requires stands { Stands script.now from }
         requires moves { from.at < end }
@@ -38,13 +37,12 @@ impl<F: Fn(Global, &[u8], State) -> Result<(Script, State), Refusal>> Grammar<F>
         ensures reads { Answers script.now (TargetFrom script.now end from) (from.at + 1) result }
         ensures begins { IfOk result (λ r. r.0.span.start < length script.now) }
     {
-        let target = from.next(script, end);
+        let target = from.next_from(script, end);
         let stage = Stage::Named(false);
-        if !is_word(lead_at(script, stage, target.at)) {
-            return Err(unexpected_at(script, stage, &target));
+        if !is_word(target.lead(script, stage)) {
+            return Err(target.unexpected_at(script, stage));
         }
-        let at = target.at;
-        let (word, behind) = self.word_at(script, Mode::Unsplit, at, target)?;
+        let (word, behind) = self.word(script, Mode::Unsplit, target)?;
         Ok((word, behind))
     }
 
@@ -55,8 +53,8 @@ impl<F: Fn(Global, &[u8], State) -> Result<(Script, State), Refusal>> Grammar<F>
         script: &[u8],
         front: Redirection,
         direction: Direction,
-        from: State,
-    ) -> Result<(Redirect, State), Refusal>
+        from: Cursor,
+    ) -> Result<(Redirect, Cursor), Refusal>
         requires small { length script.now ≤ MAX_SCRIPT }
         requires stands { Stands script.now from }
         requires begins { commands.redirection script.now from.at ≡ Some front }
@@ -83,8 +81,8 @@ impl<F: Fn(Global, &[u8], State) -> Result<(Script, State), Refusal>> Grammar<F>
         script: &[u8],
         front: Redirection,
         strip: bool,
-        from: State,
-    ) -> Result<(Redirect, State), Refusal>
+        from: Cursor,
+    ) -> Result<(Redirect, Cursor), Refusal>
         requires small { length script.now ≤ MAX_SCRIPT }
         requires stands { Stands script.now from }
         requires begins { commands.redirection script.now from.at ≡ Some front }
@@ -96,7 +94,7 @@ impl<F: Fn(Global, &[u8], State) -> Result<(Script, State), Refusal>> Grammar<F>
         requires nests { Nests self.now.left (F.pre self.now.nested) (F.post self.now.nested) }
         ensures { Answers script.now (RedirectFrom script.now from) (from.at + 1) result }
     {
-        let depth = from.depth;
+        let depth = from.depth();
         let (word, behind) = self.target(script, front.end, from)?;
         let mark = mark_at(self.alloc, script, front.at, strip, &word, depth)?;
         let behind = behind.awaiting(mark)?;
@@ -110,22 +108,22 @@ impl<F: Fn(Global, &[u8], State) -> Result<(Script, State), Refusal>> Grammar<F>
 
     /// The redirection at a token that begins one.
     #[tactic(auto, using(crate::proofs::RedirectLemmas::no_redirect, crate::proofs::RedirectLemmas::redirect_neither, crate::proofs::ReaderLemmas::refused_none))]
-    pub fn redirect_at(&self, script: &[u8], from: State) -> Result<(Redirect, State), Refusal>
+    pub fn redirect_at(&self, script: &[u8], from: Cursor) -> Result<(Redirect, Cursor), Refusal>
         requires small { length script.now ≤ MAX_SCRIPT }
         requires stands { Stands script.now from }
         requires further { length script.now - from.at ≤ self.now.left }
         requires nests { Nests self.now.left (F.pre self.now.nested) (F.post self.now.nested) }
         ensures { Answers script.now (RedirectFrom script.now from) (from.at + 1) result }
     {
-        let Some(front) = redirection_at(script, from.at) else {
-            return Err(unexpected_at(script, Stage::Named(false), &from));
+        let Some(front) = redirection_at(script, from.at()) else {
+            return Err(from.unexpected_at(script, Stage::Named(false)));
         };
         if let Some(direction) = direction_of(front.operator) {
             return self.file(script, front, direction, from);
         }
         match strip_of(front.operator) {
             Some(strip) => self.here_document(script, front, strip, from),
-            None => Err(unexpected_at(script, Stage::Named(false), &from)),
+            None => Err(from.unexpected_at(script, Stage::Named(false))),
         }
     }
 
@@ -135,8 +133,8 @@ impl<F: Fn(Global, &[u8], State) -> Result<(Script, State), Refusal>> Grammar<F>
     pub fn redirects_at(
         &self,
         script: &[u8],
-        from: State,
-    ) -> Result<(Items<Redirect>, State), Refusal>
+        from: Cursor,
+    ) -> Result<(Items<Redirect>, Cursor), Refusal>
         requires small { length script.now ≤ MAX_SCRIPT }
         requires stands { Stands script.now from }
         requires further { length script.now - from.at ≤ self.now.left }
@@ -145,7 +143,7 @@ impl<F: Fn(Global, &[u8], State) -> Result<(Script, State), Refusal>> Grammar<F>
     {
         let mut redirects = Items::new(self.alloc);
         let mut next = from;
-        while is_redirection(lead_at(script, Stage::Named(false), next.at)) {
+        while is_redirection(next.lead(script, Stage::Named(false))) {
             let (redirect, behind) = self.redirect_at(script, next)?;
             redirects.push(redirect)?;
             next = behind;

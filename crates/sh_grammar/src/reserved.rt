@@ -8,10 +8,8 @@ ghost use Rattle.sh_tree.specs.declared.token.command.Stage.TheVariants.{First};
 ghost use Rattle.sh_tree.specs.language.Commands as tokens;
 
 use super::compounds::is_same;
-use super::faults::unexpected;
 use super::grammar::Grammar;
-use super::state::State;
-use sh_scan::lead_at;
+use super::state::Cursor;
 use sh_tree::limits::{MAX_NESTING, MAX_SCRIPT};
 use sh_tree::refusal::Refusal;
 use sh_tree::token::{Lead, Reserved, Stage};
@@ -40,7 +38,7 @@ fn width(reserved: Reserved) -> u32
 
 /// Behind the reserved word that stands here.
 #[tactic(auto, using(crate::proofs::ReservedLemmas::reserved_inside))]
-pub fn skip(script: &[u8], reserved: Reserved, from: State) -> State
+pub fn skip(script: &[u8], reserved: Reserved, from: Cursor) -> Cursor
     requires small { length script.now ≤ MAX_SCRIPT }
     requires stands { Stands script.now from }
     requires word { tokens.lead_at script.now First from.at ≡ Lead.Reserved reserved }
@@ -48,12 +46,11 @@ pub fn skip(script: &[u8], reserved: Reserved, from: State) -> State
     ensures further { from.at < result.at }
     ensures stands { Stands script.now result }
 {
-    let at = from.at + width(reserved);
-    from.next(script, at)
+    from.next(script, width(reserved))
 }
 
 /// One level inside, behind the reserved word that stands here.
-pub fn enter(script: &[u8], reserved: Reserved, from: State) -> State
+pub fn enter(script: &[u8], reserved: Reserved, from: Cursor) -> Cursor
     requires small { length script.now ≤ MAX_SCRIPT }
     requires stands { Stands script.now from }
     requires word { Lead.Reserved reserved ≡ tokens.lead_at script.now First from.at }
@@ -66,19 +63,19 @@ pub fn enter(script: &[u8], reserved: Reserved, from: State) -> State
 }
 
 /// Behind the reserved word, which is wanted here.
-pub fn expect(script: &[u8], reserved: Reserved, from: State) -> Result<State, Refusal>
+pub fn expect(script: &[u8], reserved: Reserved, from: Cursor) -> Result<Cursor, Refusal>
     requires small { length script.now ≤ MAX_SCRIPT }
     requires stands { Stands script.now from }
     ensures { Expects script.now reserved from result }
 {
-    let lead = lead_at(script, Stage::First, from.at);
+    let lead = from.lead(script, Stage::First);
     if is_same(lead, Lead::Reserved(reserved)) {
         return Ok(skip(script, reserved, from));
     }
-    Err(unexpected(script, &from))
+    Err(from.unexpected(script))
 }
 
-impl<F: Fn(Global, &[u8], State) -> Result<(Script, State), Refusal>> Grammar<F> {
+impl<F: Fn(Global, &[u8], Cursor) -> Result<(Script, Cursor), Refusal>> Grammar<F> {
     /// A list and the reserved word behind it.
     #[tactic(auto, using(crate::proofs::LoopLemmas::before_refused, crate::proofs::LoopLemmas::before_none, crate::proofs::LoopLemmas::before_read, crate::proofs::ReaderLemmas::refused_none))]
     #[inline(always)]
@@ -86,8 +83,8 @@ impl<F: Fn(Global, &[u8], State) -> Result<(Script, State), Refusal>> Grammar<F>
         &self,
         script: &[u8],
         reserved: Reserved,
-        from: State,
-    ) -> Result<(Script, State), Refusal>
+        from: Cursor,
+    ) -> Result<(Script, Cursor), Refusal>
         requires small { length script.now ≤ MAX_SCRIPT }
         requires stands { Stands script.now from }
         requires further { length script.now - from.at < self.now.left }

@@ -5,9 +5,8 @@ ghost use Rattle.sh_grammar.specs.Faults.{TellsMisplaced};
 ghost use Rattle.sh_grammar.specs.States.{Stands, first_of};
 ghost use Rattle.sh_grammar.specs.Readers.{Answers, SequenceFrom};
 
-use super::faults::unexpected;
 use super::grammar::Grammar;
-use super::state::State;
+use super::state::{Cursor, State};
 use memchr::memchr;
 use sh_bodies::filled;
 use sh_scan::blanks_at;
@@ -18,14 +17,14 @@ use sh_tree::tree::Script;
 use std::alloc::Global;
 
 /// The sequence at a token.
-fn sequence_at(alloc: Global, script: &[u8], from: State) -> Result<(Script, State), Refusal>
+fn sequence_at(alloc: Global, script: &[u8], from: Cursor) -> Result<(Script, Cursor), Refusal>
     requires small { length script.now ≤ MAX_SCRIPT }
     requires stands { Stands script.now from }
     ensures { Answers script.now (SequenceFrom script.now from) from.at result }
 {
     Grammar {
         alloc,
-        left: script.len() - from.at as usize,
+        left: script.len() - from.at() as usize,
         nested: sequence_at,
     }
     .sequence(script, from)
@@ -59,14 +58,16 @@ fn read(alloc: Global, script: &[u8]) -> Result<Script, Refusal>
     ensures reads { Parses script.now result }
     ensures behind { TellsMisplaced script.now result }
 {
-    let (found, end) = sequence_at(alloc, script, first_state(alloc, script))?;
-    if (end.at as usize) < script.len() {
-        return Err(unexpected(script, &end));
+    let first = Cursor::new(alloc, first_state(alloc, script))?;
+    let (found, end) = sequence_at(alloc, script, first)?;
+    if (end.at() as usize) < script.len() {
+        return Err(end.unexpected(script));
     }
-    if let Some(at) = end.first_pending() {
+    if let Some(at) = end.get().first_pending() {
         return Err(Refusal::Syntax(Fault::OpenHereDoc, at));
     }
-    Ok(filled(alloc, found, end.bodies)?)
+    let (bodies, _end) = end.ended(alloc);
+    Ok(filled(alloc, found, bodies)?)
 }
 
 /// The one script that the bytes are (XCU 2.10).

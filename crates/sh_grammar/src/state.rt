@@ -1,15 +1,17 @@
 //! Where a reader of commands stands (XCU 2.10).
-ghost use Rattle.std.specs.Prelude.{◌≡◌, ◌≤◌, ◌<◌, ◌+◌, [], ◌∷◌, ◌++◌, length, false, None, IfOk};
+ghost use Rattle.std.specs.Prelude.{◌≡◌, ◌≢◌, ◌≤◌, ◌<◌, ◌+◌, [], ◌∷◌, ◌++◌, length, false, None, IfOk};
 ghost use Rattle.std.specs.Option.{option_copied};
 ghost use Rattle.sh_grammar.specs.States.{Lies, Stands, in_body, moved, substituted, waiting};
 ghost use Rattle.sh_tree.specs.language.Commands as commands;
 
 use super::mark::Mark;
 use sh_bodies::Document;
-use sh_scan::blanks_at;
+use sh_scan::{blanks_at, lead_at};
 use sh_tree::Items;
 use sh_tree::limits::{MAX_COMMANDS, MAX_NESTING, MAX_SCRIPT};
+use sh_tree::token::{Lead, Stage};
 use std::alloc::{AllocError, Global};
+use std::marker::Model;
 use std::mem;
 
 /// A token's first byte, and what came before it.
@@ -37,46 +39,6 @@ pub struct State {
 }
 
 impl State {
-    /// At the token at or behind this place.
-    #[tactic(auto, using(crate::proofs::BreakLemmas::settled_stands))]
-    pub fn settled(self, script: &[u8]) -> State
-        requires small { length script.now ≤ MAX_SCRIPT }
-        requires lies { Lies script.now self }
-        ensures value { result ≡ moved script.now self.at self }
-        ensures after { self.at ≤ result.at }
-        ensures stands { Stands script.now result }
-    {
-        State {
-            at: blanks_at(script, self.at, self.joins),
-            fresh: true,
-            ..self
-        }
-    }
-
-    /// At the token at or behind `at`.
-    #[tactic(auto, using(crate::proofs::StateLemmas::lies_at))]
-    pub fn next(self, script: &[u8], at: u32) -> State
-        requires small { length script.now ≤ MAX_SCRIPT }
-        requires inside { at ≤ length script.now }
-        requires stands { Stands script.now self }
-        ensures value { result ≡ moved script.now at self }
-        ensures after { at ≤ result.at }
-        ensures stands { Stands script.now result }
-    {
-        State { at, ..self }.settled(script)
-    }
-
-    /// Behind the first byte of one more command.
-    pub fn counted(self) -> State
-        requires few { self.count < MAX_COMMANDS }
-        ensures { result ≡ record self { count = self.count + 1 } }
-    {
-        State {
-            count: self.count + 1,
-            ..self
-        }
-    }
-
     /// The operator of the first here-document of this level that waits.
     pub fn first_pending(&self) -> Option<u32>
         ensures { result ≡ waiting None self.now.pending }
@@ -140,18 +102,153 @@ impl State {
             bodies: Items::new(alloc),
         }
     }
+}
+
+/// A state behind a pointer, so that the readers that are open take little of the stack. Contracts see the state.
+pub struct Cursor {
+    state: Box<State>,
+}
+
+impl Model for Cursor {
+    ghost use Rattle.std.specs.Coded.{codes};
+    ghost use Rattle.sh_grammar.specs.declared.state.State.{State};
+    ghost use Rattle.sh_tree.specs.contracts.tree.Part as part;
+
+    ghost Value = { State };
+
+    ghost coded = { Prim.hlevel (codes, part.the_row.coded) };
+
+    ghost view = { λ c. c.state.value };
+}
+
+impl Drop for Cursor {
+    // Inlined, it would take room for a state in each reader.
+    #[inline(never)]
+    fn drop(self) {
+        let Cursor { state } = self;
+        drop(state);
+    }
+}
+
+impl Cursor {
+    /// Where the state says.
+    ///
+    /// # Errors
+    ///
+    /// `AllocError` where a growth was refused.
+    pub fn new(alloc: Global, state: State) -> Result<Cursor, AllocError>
+        ensures { IfOk result (λ c. c ≡ state) }
+    {
+        Ok(Cursor {
+            state: Box::new(alloc, state)?,
+        })
+    }
+
+    /// The state.
+    pub fn get(&self) -> &State
+        ensures { result.now ≡ self.now }
+    {
+        &self.state
+    }
+
+    /// Where the token begins.
+    pub fn at(&self) -> u32
+        ensures { result ≡ self.now.at }
+    {
+        self.state.at
+    }
+
+    /// How many commands began before.
+    pub fn count(&self) -> u32
+        ensures { result ≡ self.now.count }
+    {
+        self.state.count
+    }
+
+    /// How many levels are open.
+    pub fn depth(&self) -> u8
+        ensures { result ≡ self.now.depth }
+    {
+        self.state.depth
+    }
+
+    /// What the token here is at the stage of a simple command.
+    pub fn lead(&self, script: &[u8], stage: Stage) -> Lead
+        requires small { length script.now ≤ MAX_SCRIPT }
+        requires inside { self.now.at ≤ length script.now }
+        ensures value { result ≡ commands.lead_at script.now stage self.now.at }
+        ensures within { result ≢ Lead.End → self.now.at < length script.now }
+    {
+        lead_at(script, stage, self.state.at)
+    }
+
+    /// At the token at or behind this place.
+    #[tactic(auto, using(crate::proofs::BreakLemmas::settled_stands))]
+    pub fn settled(self, script: &[u8]) -> Cursor
+        requires small { length script.now ≤ MAX_SCRIPT }
+        requires lies { Lies script.now self }
+        ensures value { result ≡ moved script.now self.at self }
+        ensures after { self.at ≤ result.at }
+        ensures stands { Stands script.now result }
+    {
+        let here = self.get();
+        let at = blanks_at(script, here.at, here.joins);
+        let mut token = self;
+        let state = token.state.as_mut();
+        state.at = at;
+        state.fresh = true;
+        token
+    }
+
+    /// At the token at or behind `at`.
+    #[tactic(auto, using(crate::proofs::StateLemmas::lies_at))]
+    pub fn next_from(self, script: &[u8], at: u32) -> Cursor
+        requires small { length script.now ≤ MAX_SCRIPT }
+        requires inside { at ≤ length script.now }
+        requires stands { Stands script.now self }
+        ensures value { result ≡ moved script.now at self }
+        ensures after { at ≤ result.at }
+        ensures stands { Stands script.now result }
+    {
+        let mut behind = self;
+        behind.state.as_mut().at = at;
+        behind.settled(script)
+    }
+
+    /// At the token behind so many bytes.
+    pub fn next(self, script: &[u8], width: u32) -> Cursor
+        requires small { length script.now ≤ MAX_SCRIPT }
+        requires inside { self.at + width ≤ length script.now }
+        requires stands { Stands script.now self }
+        ensures value { result ≡ moved script.now (self.at + width) self }
+        ensures after { self.at + width ≤ result.at }
+        ensures stands { Stands script.now result }
+    {
+        let at = self.state.at + width;
+        self.next_from(script, at)
+    }
+
+    /// Behind the first byte of one more command.
+    pub fn counted(self) -> Cursor
+        requires few { self.count < MAX_COMMANDS }
+        ensures { result ≡ record self { count = self.count + 1 } }
+    {
+        let mut behind = self;
+        behind.state.count += 1;
+        behind
+    }
 
     /// Behind an operator of a here-document and its delimiter.
     ///
     /// # Errors
     ///
     /// `AllocError` where a growth was refused.
-    pub fn awaiting(self, mark: Mark) -> Result<State, AllocError>
+    pub fn awaiting(self, mark: Mark) -> Result<Cursor, AllocError>
         ensures { IfOk result (λ v. v ≡ record self { pending = self.pending ++ mark ∷ [] }) }
     {
-        let mut next = self;
-        next.pending.push(mark)?;
-        Ok(next)
+        let mut behind = self;
+        behind.state.as_mut().pending.push(mark)?;
+        Ok(behind)
     }
 
     /// Behind a body that has as many commands before its end, and the line that ends it, at `at`.
@@ -159,70 +256,82 @@ impl State {
     /// # Errors
     ///
     /// `AllocError` where a growth was refused.
-    pub fn with_document(self, document: Document, count: u32, at: u32) -> Result<State, AllocError>
+    pub fn with_document(
+        self,
+        document: Document,
+        count: u32,
+        at: u32,
+    ) -> Result<Cursor, AllocError>
         ensures { IfOk result (λ v. v ≡ record self { at = at; count = count; bodies = self.bodies ++ document ∷ [] }) }
     {
-        let mut next = State { at, count, ..self };
-        next.bodies.push(document)?;
-        Ok(next)
+        let mut behind = self;
+        let state = behind.state.as_mut();
+        state.at = at;
+        state.count = count;
+        state.bodies.push(document)?;
+        Ok(behind)
     }
 
     /// Behind a newline, at `at`, and the here-documents whose bodies stand there.
-    pub fn on_line(self, alloc: Global, at: u32) -> (Items<Mark>, State)
+    pub fn on_line(self, alloc: Global, at: u32) -> (Items<Mark>, Cursor)
         ensures marks { result.0 ≡ self.pending }
         ensures line { result.1 ≡ record self { at = at; pending = [] } }
     {
-        let mut line = State { at, ..self };
-        let pending = mem::replace(&mut line.pending, Items::new(alloc));
+        let mut line = self;
+        let state = line.state.as_mut();
+        state.at = at;
+        let pending = mem::replace(&mut state.pending, Items::new(alloc));
         (pending, line)
     }
 
     /// The end of a level, and the bodies of its here-documents.
-    pub fn ended(self, alloc: Global) -> (Items<Document>, State)
+    pub fn ended(self, alloc: Global) -> (Items<Document>, Cursor)
         ensures bodies { result.0 ≡ self.bodies }
         ensures level { result.1 ≡ record self { closed = false; bodies = [] } }
     {
-        let mut level = State {
-            closed: false,
-            ..self
-        };
-        let bodies = mem::replace(&mut level.bodies, Items::new(alloc));
+        let mut level = self;
+        let state = level.state.as_mut();
+        state.closed = false;
+        let bodies = mem::replace(&mut state.bodies, Items::new(alloc));
         (bodies, level)
     }
 
     /// Behind so many commands.
-    pub fn counting(self, count: u32) -> State
+    pub fn counting(self, count: u32) -> Cursor
         ensures { result ≡ record self { count = count } }
     {
-        State { count, ..self }
+        let mut behind = self;
+        behind.state.count = count;
+        behind
     }
 
     /// One level deeper.
-    pub fn lower(self) -> State
+    pub fn lower(self) -> Cursor
         requires shallow { self.depth < MAX_NESTING }
         ensures { result ≡ record self { depth = self.depth + 1 } }
     {
-        State {
-            depth: self.depth + 1,
-            ..self
-        }
+        let mut inside = self;
+        inside.state.depth += 1;
+        inside
     }
 
     /// Where so many levels are open.
-    pub fn at_depth(self, depth: u8) -> State
+    pub fn at_depth(self, depth: u8) -> Cursor
         ensures { result ≡ record self { depth = depth } }
     {
-        State { depth, ..self }
+        let mut outside = self;
+        outside.state.depth = depth;
+        outside
     }
 
     /// Behind a command.
-    pub fn closing(self, closed: bool) -> State
+    pub fn closing(self, closed: bool) -> Cursor
         ensures { result ≡ record self { closed = closed; fresh = false } }
     {
-        State {
-            closed,
-            fresh: false,
-            ..self
-        }
+        let mut behind = self;
+        let state = behind.state.as_mut();
+        state.closed = closed;
+        state.fresh = false;
+        behind
     }
 }

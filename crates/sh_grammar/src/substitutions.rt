@@ -9,7 +9,7 @@ ghost use Rattle.sh_tree.specs.language.Commands as tokens;
 
 use super::faults::unexpected;
 use super::grammar::Grammar;
-use super::state::State;
+use super::state::{Cursor, State};
 use sh_bodies::filled;
 use sh_scan::is_closed;
 use sh_tree::limits::MAX_SCRIPT;
@@ -36,15 +36,15 @@ fn unclosed_at(script: &[u8], start: u32, here: &State) -> Refusal
     }
 }
 
-impl<F: Fn(Global, &[u8], State) -> Result<(Script, State), Refusal>> Grammar<F> {
+impl<F: Fn(Global, &[u8], Cursor) -> Result<(Script, Cursor), Refusal>> Grammar<F> {
     /// The commands of the substitution at `start`, up to the `)` that closes it.
     #[tactic(auto, using(crate::proofs::SubstitutionLemmas::closed_refused, crate::proofs::SubstitutionLemmas::closed_open, crate::proofs::SubstitutionLemmas::closed_across, crate::proofs::FaultLemmas::first_in, crate::proofs::SubstitutionLemmas::closed_read, crate::proofs::ReaderLemmas::refused_none))]
     pub fn substitution(
         &self,
         script: &[u8],
         start: u32,
-        from: State,
-    ) -> Result<(Script, State), Refusal>
+        from: Cursor,
+    ) -> Result<(Script, Cursor), Refusal>
         requires small { length script.now ≤ MAX_SCRIPT }
         requires stands { Stands script.now from }
         requires level { IsLevel from }
@@ -54,10 +54,10 @@ impl<F: Fn(Global, &[u8], State) -> Result<(Script, State), Refusal>> Grammar<F>
         ensures { Answers script.now (ClosedFrom script.now from) from.at result }
     {
         let (commands, behind) = self.inner(script, from)?;
-        if !is_closed(script, behind.at) {
-            return Err(unclosed_at(script, start, &behind));
+        if !is_closed(script, behind.at()) {
+            return Err(unclosed_at(script, start, behind.get()));
         }
-        if let Some(at) = behind.first_pending() {
+        if let Some(at) = behind.get().first_pending() {
             return Err(Refusal::LeftOut(Form::HereAcross, at));
         }
         let (bodies, behind) = behind.ended(self.alloc);

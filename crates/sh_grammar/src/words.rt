@@ -10,7 +10,7 @@ ghost use Rattle.sh_grammar.specs.Readers.{Answers, WordAt};
 
 use super::grammar::Grammar;
 use super::kept::split_at;
-use super::state::State;
+use super::state::Cursor;
 use sh_scan::is_location_at;
 use sh_tree::limits::MAX_SCRIPT;
 use sh_tree::refusal::{Form, Refusal};
@@ -43,7 +43,7 @@ fn is_location(script: &[u8], mode: Mode, start: u32, end: u32) -> bool
     !value && is_location_at(script, start, end)
 }
 
-impl<F: Fn(Global, &[u8], State) -> Result<(Script, State), Refusal>> Grammar<F> {
+impl<F: Fn(Global, &[u8], Cursor) -> Result<(Script, Cursor), Refusal>> Grammar<F> {
     /// The word of a mode at `at`, and the state behind as many commands as stand in it.
     #[tactic(auto, using(crate::proofs::WordLemmas::driven_new, crate::proofs::WordLemmas::word_refused, crate::proofs::WordLemmas::word_done))]
     pub fn built(
@@ -51,8 +51,8 @@ impl<F: Fn(Global, &[u8], State) -> Result<(Script, State), Refusal>> Grammar<F>
         script: &[u8],
         mode: Mode,
         at: u32,
-        from: State,
-    ) -> Result<(Word, State), Refusal>
+        from: Cursor,
+    ) -> Result<(Word, Cursor), Refusal>
         requires small { length script.now ≤ MAX_SCRIPT }
         requires inside { at ≤ length script.now }
         requires ordered { from.at ≤ at }
@@ -62,16 +62,17 @@ impl<F: Fn(Global, &[u8], State) -> Result<(Script, State), Refusal>> Grammar<F>
         requires nests { Nests self.now.left (F.pre self.now.nested) (F.post self.now.nested) }
         ensures { Builds script.now mode at from result }
     {
-        let mut builder = WordBuilder::start(self.alloc, mode, from.depth, at)?;
+        let mut builder = WordBuilder::start(self.alloc, mode, from.depth(), at)?;
         let mut last = from;
         loop {
             match builder.run(script)? {
                 Next::Done(word) => return Ok((word, last)),
                 Next::Inner { at, depth } => {
-                    let first = last.within(self.alloc, script, at, depth);
+                    let inside = last.get().within(self.alloc, script, at, depth);
+                    let first = Cursor::new(self.alloc, inside)?;
                     let (commands, end) = self.substitution(script, at.saturating_sub(2), first)?;
-                    builder.resume(commands, end.at + 1)?;
-                    last = last.counting(end.count);
+                    builder.resume(commands, end.at() + 1)?;
+                    last = last.counting(end.count());
                 }
             }
         }
@@ -84,8 +85,8 @@ impl<F: Fn(Global, &[u8], State) -> Result<(Script, State), Refusal>> Grammar<F>
         script: &[u8],
         mode: Mode,
         at: u32,
-        from: State,
-    ) -> Result<(Word, State), Refusal>
+        from: Cursor,
+    ) -> Result<(Word, Cursor), Refusal>
         requires small { length script.now ≤ MAX_SCRIPT }
         requires inside { at ≤ length script.now }
         requires ordered { from.at ≤ at }
@@ -100,10 +101,24 @@ impl<F: Fn(Global, &[u8], State) -> Result<(Script, State), Refusal>> Grammar<F>
         if is_location(script, mode, at, word.span.end) {
             return Err(Refusal::LeftOut(Form::IoLocation, at));
         }
-        if let Some(place) = split_at(script, last.joins, word.parts.as_slice()) {
+        if let Some(place) = split_at(script, last.get().joins, word.parts.as_slice()) {
             return Err(Refusal::LeftOut(Form::Continuation, place));
         }
-        let behind = last.next(script, word.span.end);
+        let behind = last.next_from(script, word.span.end);
         Ok((word, behind))
+    }
+
+    /// The word of a mode at the token here, and where the token behind it begins.
+    pub fn word(&self, script: &[u8], mode: Mode, from: Cursor) -> Result<(Word, Cursor), Refusal>
+        requires small { length script.now ≤ MAX_SCRIPT }
+        requires whole { IsWhole mode }
+        requires stands { Stands script.now from }
+        requires further { length script.now - from.at ≤ self.now.left }
+        requires nests { Nests self.now.left (F.pre self.now.nested) (F.post self.now.nested) }
+        ensures reads { Answers script.now (WordAt script.now (modes.context_of script.now mode from.at) from.at from) from.at result }
+        ensures moves { IfOk result (λ r. Begins script.now (modes.context_of script.now mode from.at) from.at from → from.at < r.1.at) }
+    {
+        let at = from.at();
+        self.word_at(script, mode, at, from)
     }
 }

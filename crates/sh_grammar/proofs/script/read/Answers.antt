@@ -1,10 +1,12 @@
-use Rattle.std.proofs.Common.{Err, Ok, ◌≤◌, length, sym, subst, arith}
+use Rattle.std.proofs.Common.{Err, Ok, None, ◌≤◌, length, sym, ap, ◌∙◌, subst, arith}
 use Rattle.std.proofs.lemmas.Bool.Decides.{nat_tests}
 use Rattle.sh_tree.specs.declared.refusal.Fault.TheVariants as fault
 use Rattle.sh_tree.specs.declared.refusal.Refusal.TheVariants.{Syntax}
 use Rattle.sh_tree.specs.Answers.{Parses}
+use Rattle.sh_bodies.specs.Fill.{fill}
+use Rattle.sh_grammar.specs.declared.state.State.{State}
 use Rattle.sh_grammar.specs.Readers.{One, SequenceFrom}
-use Rattle.sh_grammar.specs.States.{here}
+use Rattle.sh_grammar.specs.States.{here, waiting}
 use Rattle.sh_grammar.proofs.ScriptLemmas.{text_read, text_waits, none_behind}
 use Rattle.sh_grammar.proofs.script.read.Goals as goal
 
@@ -12,14 +14,15 @@ pub returns-in-Some-clause-reads : goal.returns-in-Some-clause-reads
 returns-in-Some-clause-reads c =
     let b = c.args.script.now in
     let found = c.in_ok-found in
-    let one = subst (λ s. One (SequenceFrom b s) (here found.end) found.found) c.first_state.ensures.value found.ensures.one in
-    text_waits b c.requires found.found found.end one c.in-Some.at c.in-Some.ensures found.ensures.stands
+    let one = subst (λ s. One (SequenceFrom b s) (here found.end) found.found) (c.in_ok-first.ensures ∙ c.first_state.ensures.value) found.ensures.one in
+    text_waits b c.requires found.found found.end one c.in-Some.at (c.in-Some.ensures ∙ ap (λ (v : State). waiting None v.pending) c.get.ensures) found.ensures.stands
 
 pub returns-in-Some-clause-behind : goal.returns-in-Some-clause-behind
 returns-in-Some-clause-behind c =
     let b = c.args.script.now in
     let found = c.in_ok-found in
-    let one = subst (λ s. One (SequenceFrom b s) (here found.end) found.found) c.first_state.ensures.value found.ensures.one in
+    let one = subst (λ s. One (SequenceFrom b s) (here found.end) found.found) (c.in_ok-first.ensures ∙ c.first_state.ensures.value) found.ensures.one in
+    let at = c.at.ensures in
     let over : length b ≤ found.end.at = grind (arith, nat_tests) in
     none_behind b found.found found.end one over (Err (Syntax fault.OpenHereDoc c.in-Some.at))
 
@@ -27,14 +30,16 @@ pub returns-clause-reads : goal.returns-clause-reads
 returns-clause-reads c =
     let b = c.args.script.now in
     let found = c.in_ok-found in
-    let one = subst (λ s. One (SequenceFrom b s) (here found.end) found.found) c.first_state.ensures.value found.ensures.one in
+    let one = subst (λ s. One (SequenceFrom b s) (here found.end) found.found) (c.in_ok-first.ensures ∙ c.first_state.ensures.value) found.ensures.one in
+    let at = c.at.ensures in
     let over : length b ≤ found.end.at = grind (arith, nat_tests) in
-    subst (λ t. Parses b (Ok t)) (sym c.in_ok-filled.ensures) (text_read b c.requires found.found found.end one over c.in_default.ensures found.ensures.stands.inside found.ensures.stands.few)
+    subst (λ t. Parses b (Ok t)) (sym (c.in_ok-filled.ensures ∙ ap (λ ds. fill ds found.found) c.ended-bodies.ensures.bodies)) (text_read b c.requires found.found found.end one over (c.in_default.ensures ∙ ap (λ (v : State). waiting None v.pending) c.get.ensures) found.ensures.stands.inside found.ensures.stands.few)
 
 pub returns-clause-behind : goal.returns-clause-behind
 returns-clause-behind c =
     let b = c.args.script.now in
     let found = c.in_ok-found in
-    let one = subst (λ s. One (SequenceFrom b s) (here found.end) found.found) c.first_state.ensures.value found.ensures.one in
+    let one = subst (λ s. One (SequenceFrom b s) (here found.end) found.found) (c.in_ok-first.ensures ∙ c.first_state.ensures.value) found.ensures.one in
+    let at = c.at.ensures in
     let over : length b ≤ found.end.at = grind (arith, nat_tests) in
     none_behind b found.found found.end one over (Ok c.in_ok-filled.field-0)

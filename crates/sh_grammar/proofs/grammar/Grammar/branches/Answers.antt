@@ -10,7 +10,7 @@ returns-in_err-otherwise g c =
     let at = c.loop-branches in
     let branch = c.in_ok-branch in
     rw (p.1, p.2) (last_refused c.args.script.now c.args.from at.next at.branches at.invariant.found branch.branch branch.behind branch.ensures.one
-    (λ more. c.is_same.ensures.no c.if-not-is_same.true (c.lead_at-lead.ensures.value ∙ more)) _ c.in_err-otherwise.ensures)
+    (λ more. c.is_same.ensures.no c.if-not-is_same.true (c.lead-lead.ensures.value ∙ more)) _ c.in_err-otherwise.ensures)
 
 pub returns-then-not-is_same : goal.returns-then-not-is_same
 returns-then-not-is_same g c =
@@ -23,7 +23,7 @@ returns-then-not-is_same g c =
     let after = found.ensures.from in
     record {
       one = rw c.in_ok-push.ensures.ok (branches_read b c.args.from at.next at.branches at.invariant.found branch.branch branch.behind branch.ensures.one
-          (λ more. c.is_same.ensures.no c.if-not-is_same.true (c.lead_at-lead.ensures.value ∙ more)) found.otherwise found.end found.ensures.one);
+          (λ more. c.is_same.ensures.no c.if-not-is_same.true (c.lead-lead.ensures.value ∙ more)) found.otherwise found.end found.ensures.one);
       from = omega arith;
       stands = found.ensures.stands;
     }

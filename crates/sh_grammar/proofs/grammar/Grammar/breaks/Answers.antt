@@ -6,7 +6,7 @@ use Rattle.sh_grammar.proofs.grammar.Grammar.breaks.Goals as goal
 pub loop-next-preserved : goal.loop-next-preserved
 loop-next-preserved g c =
     let at = c.loop-next in
-    let line = sym (c.is_newline.ensures ∙ ap is_newline_lead c.lead_at.ensures.value) ∙ c.loop-next-test.true in
+    let line = sym (c.is_newline.ensures ∙ ap is_newline_lead c.lead.ensures.value) ∙ c.loop-next-test.true in
     let to = c.in_ok-next.ensures in
     let from = at.invariant.from in
     let after = to.from in
@@ -19,5 +19,5 @@ loop-next-preserved g c =
 pub returns : goal.returns
 returns g c =
     let at = c.loop-next in
-    let none = sym (c.is_newline.ensures ∙ ap is_newline_lead c.lead_at.ensures.value) ∙ c.loop-next-test.false in
+    let none = sym (c.is_newline.ensures ∙ ap is_newline_lead c.lead.ensures.value) ∙ c.loop-next-test.false in
     skips_all c.args.script.now c.args.from at.next at.invariant.skips none at.invariant.from at.invariant.stands

@@ -1,11 +1,13 @@
-use Rattle.std.proofs.Common.{Ok, le_trans, sym, subst}
+use Rattle.std.proofs.Common.{Ok, ◌+◌, ◌≤◌, ◌∙◌, length, le_trans, sym, ap, subst}
 use Rattle.std.proofs.lemmas.Result.{err_from_is_err_and}
 use Rattle.sh_words.specs.Clauses.{Answers}
 use Rattle.sh_words.specs.Modes.{seen}
 use Rattle.sh_words.specs.Rest.{Left}
+use Rattle.sh_words.specs.States.{fed}
 use Rattle.sh_words.specs.Sound.{RunMoves, TakesWord}
+use Rattle.sh_grammar.specs.declared.state.State.{State}
 use Rattle.sh_grammar.specs.Readers.{One, Refused}
-use Rattle.sh_grammar.specs.States.{here}
+use Rattle.sh_grammar.specs.States.{here, substituted}
 use Rattle.sh_grammar.specs.Substitutions.{ClosedFrom}
 use Rattle.sh_grammar.proofs.StateLemmas.{lies_of}
 use Rattle.sh_grammar.proofs.WordLemmas.{Driven, word_refused, word_done, inner_refused, driven_fed, fed_moves}
@@ -44,7 +46,7 @@ returns-in_err-commands-in-Inner g c =
     let residual = c.from_residual-in_err-commands-in-Inner in
     let p = err_from_is_err_and residual.result residual.ensures.1 in
     rw (p.1, p.2) (inner_refused b c.args.mode c.requires.whole c.args.at c.args.from at.last w d new asked.0 c.in-Inner.at c.in-Inner.depth _ asked.2
-    (subst (λ s. Refused b (ClosedFrom b s) c.in_err-commands-in-Inner.field-0.0) c.within-first.ensures.value c.in_err-commands-in-Inner.ensures))
+    (subst (λ s. Refused b (ClosedFrom b s) c.in_err-commands-in-Inner.field-0.0) (c.in_ok-first-in-Inner.ensures ∙ c.within-inside.ensures.value ∙ ap (substituted b c.in-Inner.at c.in-Inner.depth) c.get.ensures) c.in_err-commands-in-Inner.ensures))
 
 pub loop-last-smaller : goal.loop-last-smaller
 loop-last-smaller g c =
@@ -57,8 +59,8 @@ loop-last-smaller g c =
     let found = c.in_ok-commands-in-Inner in
     fed_moves b c.args.mode c.requires.whole c.args.at c.args.from at.last w d new c.resume.new.self c.in-Inner.at c.in-Inner.depth found.commands found.end
     (subst (λ n. Answers text (Left text w) new n) c.in-Inner.is (c.in_ok-word.ensures.runs d.goes)) (subst (λ n. RunMoves text w new (Ok n)) c.in-Inner.is c.in_ok-word.ensures.moves)
-    (subst (λ s. One (ClosedFrom b s) (here found.end) found.commands) c.within-first.ensures.value found.ensures.one) (le_trans c.within-first.ensures.after found.ensures.from)
-    c.in_ok-resume-in-Inner.ensures.gives
+    (subst (λ s. One (ClosedFrom b s) (here found.end) found.commands) (c.in_ok-first-in-Inner.ensures ∙ c.within-inside.ensures.value ∙ ap (substituted b c.in-Inner.at c.in-Inner.depth) c.get.ensures) found.ensures.one) (le_trans (subst (λ (s : State). c.in-Inner.at ≤ s.at) (sym c.in_ok-first-in-Inner.ensures) c.within-inside.ensures.after) found.ensures.from)
+    (λ start waits goes. c.in_ok-resume-in-Inner.ensures.gives start waits goes ∙ ap (λ i. fed new start found.commands (i + 1)) c.at.ensures)
 
 pub loop-last-preserved : goal.loop-last-preserved
 loop-last-preserved g c =
@@ -70,10 +72,11 @@ loop-last-preserved g c =
     let text = seen b w.mode in
     let found = c.in_ok-commands-in-Inner in
     record {
-      driven = subst (λ v. Driven b c.args.mode c.args.at c.args.from c.resume.new.self v) (sym c.counting-last.ensures)
+      driven = subst (λ v. Driven b c.args.mode c.args.at c.args.from c.resume.new.self v) (sym (c.counting-last.ensures ∙ ap (λ n. record at.last { count = n }) c.count.ensures))
           (driven_fed b c.args.mode c.requires.whole c.args.at c.args.from at.last w d new c.resume.new.self c.in-Inner.at c.in-Inner.depth found.commands found.end
           (subst (λ n. Answers text (Left text w) new n) c.in-Inner.is (c.in_ok-word.ensures.runs d.goes))
           (subst (λ n. RunMoves text w new (Ok n)) c.in-Inner.is c.in_ok-word.ensures.moves)
-          (subst (λ s. One (ClosedFrom b s) (here found.end) found.commands) c.within-first.ensures.value found.ensures.one)
-          (le_trans c.within-first.ensures.after found.ensures.from) (lies_of b found.end found.ensures.stands) c.in_ok-resume-in-Inner.ensures.gives c.in_ok-resume-in-Inner.ensures.sound);
+          (subst (λ s. One (ClosedFrom b s) (here found.end) found.commands) (c.in_ok-first-in-Inner.ensures ∙ c.within-inside.ensures.value ∙ ap (substituted b c.in-Inner.at c.in-Inner.depth) c.get.ensures) found.ensures.one)
+          (le_trans (subst (λ (s : State). c.in-Inner.at ≤ s.at) (sym c.in_ok-first-in-Inner.ensures) c.within-inside.ensures.after) found.ensures.from) (lies_of b found.end found.ensures.stands) (λ start waits goes. c.in_ok-resume-in-Inner.ensures.gives start waits goes ∙ ap (λ i. fed new start found.commands (i + 1)) c.at.ensures)
+          (λ x inside. c.in_ok-resume-in-Inner.ensures.sound x (subst (λ i. i + 1 ≤ length x) (sym c.at.ensures) inside)));
     }

@@ -73,7 +73,7 @@ returns g c =
     let inside_from = inside.2 in
     let first_from = c.in_ok-first.ensures.from in
     let after = found.ensures.from in
-    rw c.at_depth.ensures (record {
+    rw (c.at_depth.ensures, c.depth-depth.ensures) (record {
       one = case_read b s word.word word.behind one wanted.wanted wanted.ensures c.in_ok-first.first second c.requires.shallow inside.0 found.clauses found.end
           found.ensures.one;
       from = omega arith;

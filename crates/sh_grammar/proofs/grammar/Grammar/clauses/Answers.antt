@@ -21,8 +21,8 @@ returns-in_err-last g c =
     let clause = c.in_ok-patterns in
     let residual = c.from_residual-in_err-last in
     let p = err_from_is_err_and residual.result residual.ensures.1 in
-    let some : lead_at b First at.next.at ≡ lead.Reserved word.Esac → ⊥ = λ esac. c.is_same.ensures.no c.loop-next-test.true (c.lead_at.ensures.value ∙ esac) in
-    let none = sym (c.in_default.ensures ∙ ap clause_end_of c.lead_at-in-loop-next.ensures.value) in
+    let some : lead_at b First at.next.at ≡ lead.Reserved word.Esac → ⊥ = λ esac. c.is_same.ensures.no c.loop-next-test.true (c.lead.ensures.value ∙ esac) in
+    let none = sym (c.in_default.ensures ∙ ap clause_end_of c.lead-in-loop-next.ensures.value) in
     rw (p.1, p.2) (refused_none b (ClausesFrom b c.args.from) _ c.in_err-last.ensures.0 (clauses_wrong b c.args.from at.next at.clauses at.invariant.found some clause.patterns clause.body
     clause.behind clause.ensures.one none c.in_err-last.ensures.1))
 
@@ -31,7 +31,7 @@ returns-in_err-patterns g c =
     let at = c.loop-next in
     let b = c.args.script.now in
     let p = err_from_is_err_and c.from_residual.result c.from_residual.ensures.1 in
-    let some : lead_at b First at.next.at ≡ lead.Reserved word.Esac → ⊥ = λ esac. c.is_same.ensures.no c.loop-next-test.true (c.lead_at.ensures.value ∙ esac) in
+    let some : lead_at b First at.next.at ≡ lead.Reserved word.Esac → ⊥ = λ esac. c.is_same.ensures.no c.loop-next-test.true (c.lead.ensures.value ∙ esac) in
     rw (p.1, p.2) (clauses_refused b c.args.from at.next at.clauses at.invariant.found some _ c.in_err-patterns.ensures)
 
 pub returns-in_default : goal.returns-in_default
@@ -40,8 +40,8 @@ returns-in_default g c =
     let b = c.args.script.now in
     let clause = c.in_ok-patterns in
     let last = c.in_ok-last in
-    let some : lead_at b First at.next.at ≡ lead.Reserved word.Esac → ⊥ = λ esac. c.is_same.ensures.no c.loop-next-test.true (c.lead_at.ensures.value ∙ esac) in
-    let none = sym (c.in_default.ensures ∙ ap clause_end_of c.lead_at-in-loop-next.ensures.value) in
+    let some : lead_at b First at.next.at ≡ lead.Reserved word.Esac → ⊥ = λ esac. c.is_same.ensures.no c.loop-next-test.true (c.lead.ensures.value ∙ esac) in
+    let none = sym (c.in_default.ensures ∙ ap clause_end_of c.lead-in-loop-next.ensures.value) in
     let one = clauses_last b c.args.from at.next at.clauses at.invariant.found some clause.patterns clause.body clause.behind clause.ensures.one none last.ensures.0 in
     let from = at.invariant.from in
     let further = clause.ensures.from in
@@ -57,8 +57,8 @@ loop-next-preserved g c =
     let at = c.loop-next in
     let b = c.args.script.now in
     let clause = c.in_ok-patterns in
-    let some : lead_at b First at.next.at ≡ lead.Reserved word.Esac → ⊥ = λ esac. c.is_same.ensures.no c.loop-next-test.true (c.lead_at.ensures.value ∙ esac) in
-    let ends = sym (c.in-Some.ensures ∙ ap clause_end_of c.lead_at-in-loop-next.ensures.value) in
+    let some : lead_at b First at.next.at ≡ lead.Reserved word.Esac → ⊥ = λ esac. c.is_same.ensures.no c.loop-next-test.true (c.lead.ensures.value ∙ esac) in
+    let ends = sym (c.in-Some.ensures ∙ ap clause_end_of c.lead-in-loop-next.ensures.value) in
     let breaks = subst (λ v. BreaksTo b v c.in_ok-next.next) c.next.ensures.value c.in_ok-next.ensures in
     let from = at.invariant.from in
     let further = clause.ensures.from in
@@ -78,8 +78,8 @@ returns-in_err-next g c =
     let clause = c.in_ok-patterns in
     let residual = c.from_residual-in_err-next in
     let p = err_from_is_err_and residual.result residual.ensures.1 in
-    let some : lead_at b First at.next.at ≡ lead.Reserved word.Esac → ⊥ = λ esac. c.is_same.ensures.no c.loop-next-test.true (c.lead_at.ensures.value ∙ esac) in
-    let ends = sym (c.in-Some.ensures ∙ ap clause_end_of c.lead_at-in-loop-next.ensures.value) in
+    let some : lead_at b First at.next.at ≡ lead.Reserved word.Esac → ⊥ = λ esac. c.is_same.ensures.no c.loop-next-test.true (c.lead.ensures.value ∙ esac) in
+    let ends = sym (c.in-Some.ensures ∙ ap clause_end_of c.lead-in-loop-next.ensures.value) in
     let none = subst (λ v. Refused b (BreaksFrom b v) c.in_err-next.field-0.0) c.next.ensures.value c.in_err-next.ensures in
     rw (p.1, p.2) (clauses_stopped b c.args.from at.next at.clauses at.invariant.found some clause.patterns clause.body clause.behind clause.ensures.one c.in-Some.end ends _ none)
 
@@ -87,7 +87,7 @@ pub returns : goal.returns
 returns g c =
     let at = c.loop-next in
     let b = c.args.script.now in
-    let is = sym c.lead_at.ensures.value ∙ c.is_same.ensures.yes c.loop-next-test.false in
+    let is = sym c.lead.ensures.value ∙ c.is_same.ensures.yes c.loop-next-test.false in
     let one = clauses_all b c.args.from at.next at.clauses at.invariant.found is in
     let from = at.invariant.from in
     let further = c.skip.ensures.further in

@@ -4,4 +4,4 @@ use Rattle.sh_grammar.proofs.grammar.Grammar.command.Goals as goal
 
 pub compound_command-requires-clause-some : goal.compound_command-requires-clause-some
 compound_command-requires-clause-some g c =
-    c.lead_at-lead.ensures.within (not_ended c.lead_at-lead.result (sym c.begins_command.ensures ∙ c.if-not-begins_command.false))
+    c.lead-lead.ensures.within (not_ended c.lead-lead.result (sym c.begins_command.ensures ∙ c.if-not-begins_command.false))

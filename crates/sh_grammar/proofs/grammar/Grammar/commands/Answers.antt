@@ -11,7 +11,7 @@ returns-then-not-is_bar g c =
     let at = c.loop-parts in
     let b = c.args.script.now in
     let found = c.in_ok-command in
-    let bar = sym (c.is_bar.ensures ∙ ap is_bar c.lead_at.ensures.value) ∙ c.if-not-is_bar.true in
+    let bar = sym (c.is_bar.ensures ∙ ap is_bar c.lead.ensures.value) ∙ c.if-not-is_bar.true in
     let from = at.invariant.from in
     let further = found.ensures.from in
     record {
@@ -27,7 +27,7 @@ returns-in_err-next g c =
     let found = c.in_ok-command in
     let residual = c.from_residual-in_err-next in
     let p = err_from_is_err_and residual.result residual.ensures.1 in
-    let bar = sym (c.is_bar.ensures ∙ ap is_bar c.lead_at.ensures.value) ∙ c.if-not-is_bar.false in
+    let bar = sym (c.is_bar.ensures ∙ ap is_bar c.lead.ensures.value) ∙ c.if-not-is_bar.false in
     let none = subst (λ v. Refused b (BreaksFrom b v) c.in_err-next.field-0.0) c.next.ensures.value c.in_err-next.ensures in
     rw (p.1, p.2) (commands_stopped b c.args.from at.next at.parts at.invariant.found found.command found.behind found.ensures.one _ bar none)
 
@@ -37,7 +37,7 @@ loop-parts-preserved g c =
     let b = c.args.script.now in
     let found = c.in_ok-command in
     let to = c.in_ok-next in
-    let bar = sym (c.is_bar.ensures ∙ ap is_bar c.lead_at.ensures.value) ∙ c.if-not-is_bar.false in
+    let bar = sym (c.is_bar.ensures ∙ ap is_bar c.lead.ensures.value) ∙ c.if-not-is_bar.false in
     let breaks = subst (λ v. BreaksTo b v to.next) c.next.ensures.value to.ensures in
     let from = at.invariant.from in
     let further = found.ensures.from in

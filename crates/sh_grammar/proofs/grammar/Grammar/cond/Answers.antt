@@ -14,7 +14,7 @@ returns g c =
     let one = subst (λ v. One (BranchesFrom b v) (here found.end) (found.branches, found.otherwise)) c.enter-first.ensures.value found.ensures.one in
     let further = c.enter-first.ensures.further in
     let after = found.ensures.from in
-    rw c.at_depth.ensures (record {
+    rw (c.at_depth.ensures, c.depth-depth.ensures) (record {
       one = cond_read b s c.requires.shallow found.branches found.otherwise found.end one;
       from = omega arith;
       stands = at_depth_stands b s.depth found.end c.requires.stands.shallow found.ensures.stands;

@@ -15,19 +15,19 @@ returns-in_err-behind g c =
     let b = c.args.script.now in
     let s = c.args.from in
     let p = err_from_is_err_and c.from_residual.result c.from_residual.ensures.1 in
-    let same = c.next.ensures.value ∙ ap (λ i. moved b i c.counted.result) c.name_at.ensures.value ∙ ap (λ t. moved b (name_end b s.at) t) c.counted.ensures in
+    let same = c.next_from.ensures.value ∙ ap (λ i. moved b i c.counted.result) (c.name_at.ensures.value ∙ ap (name_end b) c.at-at.ensures) ∙ ap (λ t. moved b (name_end b s.at) t) c.counted.ensures in
     let none = c.in_err-behind.ensures in
     rw (p.1, p.2) (refused_none b (CommandFrom b s) _ none.0 (definition_bare b s c.requires.begins (λ two. none.1 (subst (HasParentheses b) (sym same) two))))
 
 pub compound_command-requires-clause-some : goal.compound_command-requires-clause-some
 compound_command-requires-clause-some g c =
-    c.lead_at-lead.ensures.within (compound_some c.lead_at-lead.result (sym c.begins_compound.ensures ∙ c.if-not-begins_compound.false))
+    c.lead-lead.ensures.within (compound_some c.lead-lead.result (sym c.begins_compound.ensures ∙ c.if-not-begins_compound.false))
 
 pub returns-in_err-first : goal.returns-in_err-first
 returns-in_err-first g c =
     let b = c.args.script.now in
     let s = c.args.from in
-    let same = c.next.ensures.value ∙ ap (λ i. moved b i c.counted.result) c.name_at.ensures.value ∙ ap (λ t. moved b (name_end b s.at) t) c.counted.ensures in
+    let same = c.next_from.ensures.value ∙ ap (λ i. moved b i c.counted.result) (c.name_at.ensures.value ∙ ap (name_end b) c.at-at.ensures) ∙ ap (λ t. moved b (name_end b s.at) t) c.counted.ensures in
     let two = c.in_ok-behind.ensures in
     let there = two.1 ∙ ap (λ v. over b (over b v)) same in
     let residual = c.from_residual-in_err-first in
@@ -39,19 +39,19 @@ pub returns-then-not-begins_compound : goal.returns-then-not-begins_compound
 returns-then-not-begins_compound g c =
     let b = c.args.script.now in
     let s = c.args.from in
-    let same = c.next.ensures.value ∙ ap (λ i. moved b i c.counted.result) c.name_at.ensures.value ∙ ap (λ t. moved b (name_end b s.at) t) c.counted.ensures in
+    let same = c.next_from.ensures.value ∙ ap (λ i. moved b i c.counted.result) (c.name_at.ensures.value ∙ ap (name_end b) c.at-at.ensures) ∙ ap (λ t. moved b (name_end b s.at) t) c.counted.ensures in
     let two = c.in_ok-behind.ensures in
     let there = two.1 ∙ ap (λ v. over b (over b v)) same in
     let first = c.in_ok-first in
     let breaks = subst (λ v. BreaksTo b v first.first) there first.ensures in
-    let none = sym (c.begins_compound.ensures ∙ ap begins_compound c.lead_at-lead.ensures.value) ∙ c.if-not-begins_compound.true in
+    let none = sym (c.begins_compound.ensures ∙ ap begins_compound c.lead-lead.ensures.value) ∙ c.if-not-begins_compound.true in
     refused_none b (CommandFrom b s) c.unexpected.result c.unexpected.ensures.fault (definition_empty b s c.requires.begins first.first breaks none)
 
 pub returns-in_err-body : goal.returns-in_err-body
 returns-in_err-body g c =
     let b = c.args.script.now in
     let s = c.args.from in
-    let same = c.next.ensures.value ∙ ap (λ i. moved b i c.counted.result) c.name_at.ensures.value ∙ ap (λ t. moved b (name_end b s.at) t) c.counted.ensures in
+    let same = c.next_from.ensures.value ∙ ap (λ i. moved b i c.counted.result) (c.name_at.ensures.value ∙ ap (name_end b) c.at-at.ensures) ∙ ap (λ t. moved b (name_end b s.at) t) c.counted.ensures in
     let two = c.in_ok-behind.ensures in
     let there = two.1 ∙ ap (λ v. over b (over b v)) same in
     let first = c.in_ok-first in
@@ -64,18 +64,19 @@ pub returns : goal.returns
 returns g c =
     let b = c.args.script.now in
     let s = c.args.from in
-    let same = c.next.ensures.value ∙ ap (λ i. moved b i c.counted.result) c.name_at.ensures.value ∙ ap (λ t. moved b (name_end b s.at) t) c.counted.ensures in
+    let same = c.next_from.ensures.value ∙ ap (λ i. moved b i c.counted.result) (c.name_at.ensures.value ∙ ap (name_end b) c.at-at.ensures) ∙ ap (λ t. moved b (name_end b s.at) t) c.counted.ensures in
     let two = c.in_ok-behind.ensures in
     let first = c.in_ok-first in
     let breaks = subst (λ v. BreaksTo b v first.first) (two.1 ∙ ap (λ v. over b (over b v)) same) first.ensures in
-    let begins = sym (c.begins_compound.ensures ∙ ap begins_compound c.lead_at-lead.ensures.value) ∙ c.if-not-begins_compound.false in
+    let begins = sym (c.begins_compound.ensures ∙ ap begins_compound c.lead-lead.ensures.value) ∙ c.if-not-begins_compound.false in
     let found = c.in_ok-body in
+    let start = c.at-at.ensures in
     let named = c.name_at.ensures.after in
-    let behind = c.next.ensures.after in
+    let behind = c.next_from.ensures.after in
     let closed = two.2 in
     let before = first.ensures.from in
     let after = found.ensures.from in
-    rw (c.in_ok-new.ensures, c.new-2.ensures, c.name_at.ensures.value) (record {
+    rw (c.in_ok-new.ensures, c.new-2.ensures, c.name_at.ensures.value, c.count-count.ensures, c.at-at.ensures) (record {
       one = definition_read b s c.requires.begins first.first breaks (subst (HasParentheses b) same two.0) begins found.body found.end found.ensures.one;
       from = omega arith;
       stands = found.ensures.stands;

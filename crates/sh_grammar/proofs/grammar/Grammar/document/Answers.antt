@@ -1,25 +1,38 @@
-use Rattle.std.proofs.Common.{◌≡◌, ◌++◌, ◌∷◌, [], ◌≤◌, length, ap, subst, ◌∙◌, le_trans}
+use Rattle.std.proofs.Common.{◌≡◌, ◌++◌, ◌∷◌, [], ◌≤◌, length, ap, sym, subst, ◌∙◌, le_trans}
 use Rattle.std.proofs.lemmas.Result.{err_from_is_err_and}
 use Rattle.sh_tree.specs.language.HereDocuments.{behind_line}
 use Rattle.sh_tree.specs.language.Trees.{word}
+use Rattle.sh_grammar.specs.declared.state.State.{State}
+use Rattle.sh_grammar.specs.Documents.{DocumentFrom, Passes}
+use Rattle.sh_grammar.specs.Readers.{Refused}
+use Rattle.sh_grammar.specs.States.{Lies}
 use Rattle.sh_grammar.proofs.DocumentLemmas.{document_refused, document_read}
 use Rattle.sh_grammar.proofs.grammar.Grammar.document.Goals as goal
 
 pub returns-in_err-parts : goal.returns-in_err-parts
 returns-in_err-parts g c =
+    let b = c.args.script.now in
+    let m = c.args.mark.now in
+    let e = c.in_err-parts.field-0.0 in
     let p = err_from_is_err_and c.from_residual-in_err-parts.result c.from_residual-in_err-parts.ensures.1 in
-    rw (p.1, p.2) (document_refused c.args.script.now c.args.mark.now c.args.from c.in-Some.line c.in-Some.ensures.value c.in_err-parts.field-0.0 c.in_err-parts.ensures)
+    rw (p.1, p.2) (subst (λ (s : State). Refused b (DocumentFrom b m s) e) c.get-here.ensures
+    (document_refused b m c.get-here.result.now c.in-Some.line c.in-Some.ensures.value e c.in_err-parts.ensures))
 
 pub returns : goal.returns
 returns g c =
     let b = c.args.script.now in
-    let s = c.args.from in
+    let m = c.args.mark.now in
+    let s = c.get-here.result.now in
     let line = c.in-Some.line in
     let found = c.in_ok-parts in
+    let v = c.in_ok-with_document.field-0 in
     let end = c.behind_line.ensures in
     let ordered = c.in-Some.ensures.ordered in
+    let lies = subst (Lies b) (sym c.get-here.ensures) c.requires.lies in
     let after = subst (λ i. s.at ≤ i) end.value (le_trans ordered.0 (le_trans ordered.1 end.after)) in
     let within = subst (λ i. i ≤ length b) end.value end.within in
-    let to : c.in_ok-with_document.field-0 ≡ record s { at = behind_line b line.end; count = found.count; bodies = s.bodies ++ record { text = word s.at line.start found.parts; end = line } ∷ [] } =
-    c.in_ok-with_document.ensures ∙ ap (λ i. record s { at = i; count = found.count; bodies = s.bodies ++ record { text = word s.at line.start found.parts; end = line } ∷ [] }) end.value in
-    document_read b c.args.mark.now s line c.in-Some.ensures.value found.parts found.count c.in_ok-with_document.field-0 c.in_ok-check_lines.ensures found.ensures c.requires.lies after within to
+    let to : v ≡ record s { at = behind_line b line.end; count = found.count; bodies = s.bodies ++ record { text = word s.at line.start found.parts; end = line } ∷ [] } =
+    c.in_ok-with_document.ensures ∙ ap (λ i. record c.args.from { at = i; count = found.count; bodies = c.args.from.bodies ++ record { text = word s.at line.start found.parts; end = line } ∷ [] }) end.value
+    ∙ ap (λ (t : State). record t { at = behind_line b line.end; count = found.count; bodies = t.bodies ++ record { text = word s.at line.start found.parts; end = line } ∷ [] }) (sym c.get-here.ensures) in
+    subst (λ (t : State). Passes b (DocumentFrom b m t) t.at v) c.get-here.ensures
+    (document_read b m s line c.in-Some.ensures.value found.parts found.count v c.in_ok-check_lines.ensures found.ensures lies after within to)

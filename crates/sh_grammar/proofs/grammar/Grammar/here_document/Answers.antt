@@ -1,4 +1,4 @@
-use Rattle.std.proofs.Common.{◌+◌, ◌<◌, ◌≤◌, length, sym, ap, subst, lt_of_lt_of_le}
+use Rattle.std.proofs.Common.{Ok, ◌+◌, ◌<◌, ◌≤◌, length, sym, ap, subst, lt_of_lt_of_le}
 use Rattle.std.proofs.lemmas.Result.{err_from_is_err_and}
 use Rattle.sh_tree.specs.declared.limits.TheConstants.{MAX_NESTING}
 use Rattle.sh_tree.specs.declared.tree.HereDoc.{HereDoc}
@@ -7,6 +7,7 @@ use Rattle.sh_tree.specs.language.HereDocuments as documents
 use Rattle.sh_tree.specs.language.States.{no_document}
 use Rattle.sh_tree.specs.language.Trees as tree
 use Rattle.sh_grammar.specs.declared.state.State.{State}
+use Rattle.sh_grammar.specs.Delimiters.{Awaits}
 use Rattle.sh_grammar.specs.Readers.{To, RedirectFrom}
 use Rattle.sh_grammar.proofs.RedirectLemmas.{awaiting_stands, document_read, document_refused}
 use Rattle.sh_grammar.proofs.grammar.Grammar.here_document.Goals as goal
@@ -26,12 +27,13 @@ returns g c =
     let at = c.args.front in
     let found = c.in_ok-word in
     let mark = c.in_ok-mark in
+    let ready = subst (λ n. Awaits b at.at c.args.strip found.word n (Ok mark.mark)) c.depth-depth.ensures mark.ensures in
     let inside = subst (λ i. i < length b) (sym mark.ensures.0) (lt_of_lt_of_le c.requires.operator c.requires.within) in
-    let shallow = subst (λ n. n ≤ MAX_NESTING) (sym (ap (λ (m : documents.Mark). m.depth) mark.ensures.2)) c.requires.stands.shallow in
+    let shallow = subst (λ n. n ≤ MAX_NESTING) (sym (ap (λ (m : documents.Mark). m.depth) ready.2)) c.requires.stands.shallow in
     let last = tree.here_doc c.args.strip found.word no_document.text no_document.end in
     subst (λ (d : HereDoc). To b (RedirectFrom b s) (s.at + 1) (tree.redirect at.at at.number (Here d)) c.in_ok-behind.behind) (sym c.awaited.ensures)
     (subst (λ (v : State). To b (RedirectFrom b s) (s.at + 1) (tree.redirect at.at at.number (Here last)) v) (sym c.in_ok-behind.ensures) (record {
-      one = document_read b s at c.requires.begins c.args.strip c.requires.way found.word found.behind found.ensures.reads.one mark.mark mark.ensures.1 mark.ensures.2;
+      one = document_read b s at c.requires.begins c.args.strip c.requires.way found.word found.behind found.ensures.reads.one mark.mark ready.1 ready.2;
       from = found.ensures.reads.from;
       stands = awaiting_stands b found.behind mark.mark found.ensures.reads.stands inside shallow;
     }))

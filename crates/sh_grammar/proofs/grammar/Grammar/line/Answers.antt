@@ -1,5 +1,6 @@
-use Rattle.std.proofs.Common.{sym, subst, ◌∙◌}
+use Rattle.std.proofs.Common.{◌+◌, [], sym, ap, subst, ◌∙◌}
 use Rattle.std.proofs.lemmas.Result.{err_from_is_err_and}
+use Rattle.sh_grammar.specs.declared.state.State.{State}
 use Rattle.sh_grammar.specs.Documents.{DocumentsFrom, Passes}
 use Rattle.sh_grammar.specs.Readers.{Refused}
 use Rattle.sh_grammar.proofs.BreakLemmas.{line_across, line_over, line_refused}
@@ -13,7 +14,7 @@ returns-in_err-behind g c =
     let e = c.in_err-behind.field-0.0 in
     let p = err_from_is_err_and c.from_residual.result c.from_residual.ensures.1 in
     let none = subst (λ ms. Refused b (DocumentsFrom b ms first) e) (c.as_slice.ensures ∙ c.on_line-marks.ensures.marks) c.in_err-behind.ensures in
-    rw (p.1, p.2) (line_refused b s first first (sym c.in_default.is) c.on_line-marks.ensures.line e none)
+    rw (p.1, p.2) (line_refused b s first first (sym c.in_default.is ∙ ap (λ (v : State). v.outer) c.get.ensures) (c.on_line-marks.ensures.line ∙ ap (λ i. record s { at = i + 1; pending = [] }) c.at-at.ensures) e none)
 
 pub returns : goal.returns
 returns g c =
@@ -23,7 +24,7 @@ returns g c =
     let v = c.in_ok-behind.behind in
     let passes = subst (λ ms. Passes b (DocumentsFrom b ms first) first.at v) (c.as_slice.ensures ∙ c.on_line-marks.ensures.marks) c.in_ok-behind.ensures in
     let end = c.settled.ensures in
-    line_over b s first v (sym c.in_default.is) c.on_line-marks.ensures.line passes c.settled.result end.value end.after end.stands
+    line_over b s first v (sym c.in_default.is ∙ ap (λ (v : State). v.outer) c.get.ensures) (c.on_line-marks.ensures.line ∙ ap (λ i. record s { at = i + 1; pending = [] }) c.at-at.ensures) passes c.settled.result end.value end.after end.stands
 
 pub returns-in-Some : goal.returns-in-Some
-returns-in-Some g c = line_across c.args.script.now c.args.from c.in-Some.at (sym c.in-Some.is) c.requires.stands
+returns-in-Some g c = line_across c.args.script.now c.args.from c.in-Some.at (sym c.in-Some.is ∙ ap (λ (v : State). v.outer) c.get.ensures) c.requires.stands

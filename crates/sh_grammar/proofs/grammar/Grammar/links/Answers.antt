@@ -8,7 +8,7 @@ pub loop-link-preserved : goal.loop-link-preserved
 loop-link-preserved g c =
     let at = c.loop-link in
     let b = c.args.script.now in
-    let some = sym (c.in-Some.ensures ∙ ap link_of c.lead_at.ensures.value) in
+    let some = sym (c.in-Some.ensures ∙ ap link_of c.lead.ensures.value) in
     let first = c.in_ok-first in
     let breaks = subst (λ v. BreaksTo b v first.first) c.next.ensures.value first.ensures in
     let pipe = c.in_ok-pipe in
@@ -26,7 +26,7 @@ loop-link-preserved g c =
 pub returns : goal.returns
 returns g c =
     let at = c.loop-link in
-    let none = sym (c.in_default.ensures ∙ ap link_of c.lead_at.ensures.value) in
+    let none = sym (c.in_default.ensures ∙ ap link_of c.lead.ensures.value) in
     record {
       one = links_all c.args.script.now c.args.from at.next at.rest at.invariant.found none;
       from = at.invariant.from;

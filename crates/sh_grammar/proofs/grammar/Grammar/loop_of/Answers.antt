@@ -17,7 +17,7 @@ returns g c =
     let further = c.enter.ensures.further in
     let before = first.ensures.from in
     let after = found.ensures.from in
-    rw c.at_depth.ensures (record {
+    rw (c.at_depth.ensures, c.depth-depth.ensures) (record {
       one = loop_read b c.args.kind s c.requires.shallow first.condition first.behind one found.body found.end found.ensures.one;
       from = omega arith;
       stands = at_depth_stands b s.depth found.end c.requires.stands.shallow found.ensures.stands;

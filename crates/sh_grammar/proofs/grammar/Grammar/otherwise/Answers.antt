@@ -14,7 +14,7 @@ returns-in_err-end g c =
     let residual = c.from_residual-in_err-end in
     let p = err_from_is_err_and residual.result residual.ensures.1 in
     let b = c.args.script.now in
-    let none = fi_none b c.args.from c.requires.last (λ other. c.is_same.ensures.no c.if-is_same.false (c.lead_at-lead.ensures.value ∙ other)) c.in_err-end.ensures.1 in
+    let none = fi_none b c.args.from c.requires.last (λ other. c.is_same.ensures.no c.if-is_same.false (c.lead-lead.ensures.value ∙ other)) c.in_err-end.ensures.1 in
     rw (p.1, p.2) (refused_none b (OtherwiseFrom b c.args.from) _ c.in_err-end.ensures.0 none)
 
 pub returns-then-is_same : goal.returns-then-is_same
@@ -23,7 +23,7 @@ returns-then-is_same g c =
     let further = c.skip-first.ensures.further in
     let after = found.ensures.from in
     record {
-      one = else_read c.args.script.now c.args.from (sym c.lead_at-lead.ensures.value ∙ c.is_same.ensures.yes c.if-is_same.true) found.list found.end
+      one = else_read c.args.script.now c.args.from (sym c.lead-lead.ensures.value ∙ c.is_same.ensures.yes c.if-is_same.true) found.list found.end
           (subst (λ s. One (ListBefore c.args.script.now word.Fi s) (here found.end) found.list) c.skip-first.ensures.value found.ensures.one);
       from = omega arith;
       stands = found.ensures.stands;

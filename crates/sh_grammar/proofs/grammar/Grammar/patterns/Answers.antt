@@ -11,7 +11,7 @@ returns-then-not-is_same g c =
     let at = c.loop-found in
     let b = c.args.script.now in
     let word = c.in_ok-word in
-    let lead = c.lead_at-lead.ensures.value in
+    let lead = c.lead-lead.ensures.value in
     refused_none b (PatternsFrom b c.args.from) c.unexpected_at.result c.unexpected_at.ensures.fault
     (patterns_wrong b c.args.from at.next at.found at.invariant.found word.word word.behind word.ensures.one (λ close. c.is_same.ensures.no c.if-is_same.false (lead ∙ close))
     (λ bar. c.is_same-in-loop-found.ensures.no c.if-not-is_same.true (lead ∙ bar)))
@@ -21,7 +21,7 @@ returns-then-is_same g c =
     let at = c.loop-found in
     let b = c.args.script.now in
     let word = c.in_ok-word in
-    let close = sym c.lead_at-lead.ensures.value ∙ c.is_same.ensures.yes c.if-is_same.true in
+    let close = sym c.lead-lead.ensures.value ∙ c.is_same.ensures.yes c.if-is_same.true in
     let one = patterns_last b c.args.from at.next at.found at.invariant.found word.word word.behind word.ensures.one close in
     let from = at.invariant.from in
     let further = word.ensures.from in

@@ -6,7 +6,7 @@ use Rattle.sh_grammar.proofs.grammar.Grammar.redirects_at.Goals as goal
 pub returns : goal.returns
 returns g c =
     let at = c.loop-next in
-    let none = sym (c.is_redirection.ensures ∙ ap is_redirection c.lead_at.ensures.value) ∙ c.loop-next-test.false in
+    let none = sym (c.is_redirection.ensures ∙ ap is_redirection c.lead.ensures.value) ∙ c.loop-next-test.false in
     record {
       one = redirects_all c.args.script.now c.args.from at.next at.redirects at.invariant.found none;
       from = at.invariant.from;

@@ -15,7 +15,7 @@ returns g c =
     let one = subst (λ v. One (ElementsFrom b (First, v)) (here found.behind) found.elements) c.counted.ensures found.ensures.one in
     let same = ap (λ (v : State). v.at) c.counted.ensures in
     let further = found.ensures.from in
-    rw (c.closing.ensures, c.new.ensures) (record {
+    rw (c.closing.ensures, c.new.ensures, c.count-count.ensures, c.at-at.ensures) (record {
       one = simple_read b s c.requires.begins found.elements found.behind one;
       from = omega arith;
       stands = closing_stands b false false found.behind found.ensures.stands;

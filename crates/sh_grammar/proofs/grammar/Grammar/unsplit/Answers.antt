@@ -6,7 +6,7 @@ use Rattle.sh_grammar.proofs.grammar.Grammar.unsplit.Goals as goal
 pub returns : goal.returns
 returns g c =
     let found = c.in_ok-word in
-    let some = sym (c.is_word.ensures ∙ ap is_word c.lead_at.ensures.value) ∙ c.if-not-is_word.false in
+    let some = sym (c.is_word.ensures ∙ ap is_word c.lead.ensures.value) ∙ c.if-not-is_word.false in
     record {
       one = unsplit_read c.args.script.now c.args.from some found.word found.behind found.ensures.reads.one;
       from = found.ensures.reads.from;

@@ -2,6 +2,7 @@ use Rattle.std.proofs.Common.{sym, subst, ◌∙◌, le_trans}
 use Rattle.std.proofs.lemmas.Result.{err_from_is_err_and}
 use Rattle.sh_grammar.specs.Quotes.{Splits}
 use Rattle.sh_grammar.specs.Readers.{One, WordAt}
+use Rattle.sh_grammar.specs.declared.state.State.{State}
 use Rattle.sh_grammar.specs.States.{here}
 use Rattle.sh_words.specs.Modes.{context_of}
 use Rattle.sh_grammar.proofs.WordLemmas.{word_located, word_read, word_split, word_unread}
@@ -24,7 +25,8 @@ pub returns-in-Some-clause-reads : goal.returns-in-Some-clause-reads
 returns-in-Some-clause-reads g c =
     let b = c.args.script.now in
     let found = c.in_ok-word in
-    let splits = subst (λ ps. Splits b found.last.joins ps c.split_at.result) c.as_slice.ensures c.split_at.ensures in
+    let told = subst (λ (v : State). Splits b v.joins c.as_slice.result.now c.split_at.result) c.get.ensures c.split_at.ensures in
+    let splits = subst (λ ps. Splits b found.last.joins ps c.split_at.result) c.as_slice.ensures told in
     let split = subst (λ o. Splits b found.last.joins found.word.parts o) c.in-Some.is splits in (
       split.1,
       word_split b c.args.mode c.requires.whole c.args.at c.args.from found.last found.word found.ensures split.0,
@@ -38,9 +40,10 @@ returns-clause-reads g c =
     let i = c.args.at in
     let s = c.args.from in
     let free = sym c.is_location.ensures.value ∙ c.if-is_location.false in
-    let splits = subst (λ ps. Splits b found.last.joins ps c.split_at.result) c.as_slice.ensures c.split_at.ensures in
+    let told = subst (λ (v : State). Splits b v.joins c.as_slice.result.now c.split_at.result) c.get.ensures c.split_at.ensures in
+    let splits = subst (λ ps. Splits b found.last.joins ps c.split_at.result) c.as_slice.ensures told in
     let kept = subst (λ o. Splits b found.last.joins found.word.parts o) c.in_default.is splits in
-    let end = c.next-behind.ensures in
+    let end = c.next_from-behind.ensures in
     record {
       one = subst (λ v. One (WordAt b (context_of b m i) i s) (here v) found.word) (sym end.value) (word_read b m c.requires.whole i s found.last found.word found.ensures free kept);
       from = le_trans found.ensures.from end.after;

@@ -3,12 +3,12 @@ use Rattle.sh_grammar.specs.States.{Stands}
 use Rattle.sh_grammar.proofs.ForLemmas.{WordsFound}
 use Rattle.sh_grammar.proofs.grammar.Grammar.words_at.Given as goal
 
-abbrev pub invariant-loop-at : goal.invariant-loop-at
-invariant-loop-at g l = record {
+abbrev pub invariant-loop-next : goal.invariant-loop-next
+invariant-loop-next g l = record {
   found : WordsFound l.script l.fn.from l.words l.next;
   from : l.fn.from.at ≤ l.next.at;
   stands : Stands l.script l.next;
 }
 
-abbrev pub decreases-loop-at : goal.decreases-loop-at
-decreases-loop-at g l = length l.script - l.next.at
+abbrev pub decreases-loop-next : goal.decreases-loop-next
+decreases-loop-next g l = length l.script - l.next.at
