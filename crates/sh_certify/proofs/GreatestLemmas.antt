@@ -1,24 +1,20 @@
 -- What is found is the greatest certificate.
-use Rattle.std.proofs.Common.{◌≡◌, ℕ, ◌+◌, ◌<◌, ◌≤◌, cond, Bool, true, false, Option, List, [], length, flat_map, refl, sym, subst, arith, true≢false}
+use Rattle.std.proofs.Common.{◌≡◌, ℕ, ◌+◌, ◌<◌, ◌≤◌, cond, Bool, true, false, List, length, refl, sym, subst, arith}
 use Rattle.sh_tree.specs.declared.tree.Script.{Script}
 use Rattle.sh_tree.specs.program.Syntax.{Text}
 use Rattle.sh_tree.specs.program.Trees.{script_of}
 use Rattle.sh_facts.specs.declared.certificate.Certificate as kept
 use Rattle.sh_facts.specs.Facts.{Declared}
-use Rattle.sh_facts.specs.Faults.{broken, faults}
+use Rattle.sh_facts.specs.Faults.{faults}
 use Rattle.sh_facts.specs.Knowledge.{AreNumbered}
 use Rattle.sh_facts.specs.Names.{are_distinct}
-use Rattle.sh_facts.specs.Order.{IsBelow}
-use Rattle.sh_facts.specs.Reading.{AreLoops, claim_fits}
+use Rattle.sh_facts.specs.Reading.{AreLoops}
 use Rattle.sh_facts.specs.Rules.{Constraint, script_bounds}
-use Rattle.sh_facts.specs.Sheets.{Sheet, certificate_of}
 use Rattle.sh_facts.proofs.KnownNameLemmas.{names_suffice}
 use Rattle.sh_facts.proofs.RoundTripLemmas.{written_reads_back}
 use Rattle.sh_accept.specs.Accepted.{IsAdmitted, functions_in}
 use Rattle.sh_accept.specs.Answers.{IsGreatest}
-use Rattle.sh_certify.specs.declared.place.Place.{Place}
 use Rattle.sh_certify.specs.First.{ClaimsAll, DropsNothing}
-use Rattle.sh_certify.specs.Places.{claim_there}
 use Rattle.sh_certify.specs.Turns.{sheet_by, IsTurn, IsSettled}
 use Rattle.sh_certify.specs.Working.{IsWorking, height}
 use Rattle.sh_certify.proofs.AboveLemmas.{first_above}

@@ -1,13 +1,12 @@
 -- What is known where lists are entered, by the claims of a certificate that stays above all that keep the rules.
-use Rattle.std.proofs.Common.{◌≡◌, ℕ, Bool, List, [], ◌∷◌, refl, sym, ap, ◌∙◌, subst}
+use Rattle.std.proofs.Common.{◌≡◌, Bool, sym, subst}
 use Rattle.sh_tree.specs.declared.tree.Item.{Item, out-Item}
 use Rattle.sh_tree.specs.declared.tree.Command.{Command}
 use Rattle.sh_tree.specs.declared.tree.Link.{Link}
 use Rattle.sh_tree.specs.declared.tree.Pipe.{Pipe}
 use Rattle.sh_tree.specs.declared.tree.Script.{Script}
-use Rattle.sh_tree.specs.program.Syntax as p
 use Rattle.sh_tree.specs.program.Trees as trees
-use Rattle.sh_table.specs.Calls.{Table, table_of}
+use Rattle.sh_table.specs.Calls.{table_of}
 use Rattle.sh_facts.specs.declared.certificate.Certificate as kept
 use Rattle.sh_facts.specs.declared.knowledge.Knowledge.{Knowledge}
 use Rattle.sh_facts.specs.declared.rule.FlowRule.{FlowRule}
@@ -22,7 +21,7 @@ use Rattle.sh_rules.specs.declared.around.Around.{Around}
 use Rattle.sh_rules.specs.declared.behind.Behind as code
 use Rattle.sh_rules.specs.declared.claims.Claims.{Claims}
 use Rattle.sh_rules.specs.declared.walk.Course.{Course}
-use Rattle.sh_rules.specs.Behind.{Behind, item_behind, started}
+use Rattle.sh_rules.specs.Behind.{Behind, started}
 use Rattle.sh_rules.specs.Settings.{Setting, gained, known_at}
 use Rattle.sh_rules.specs.Steps.{item_step, met_in, ran}
 use Rattle.sh_rules.specs.Visits.{command_by}

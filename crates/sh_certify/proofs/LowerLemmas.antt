@@ -1,8 +1,8 @@
 -- A claim that is lowered, and drops that are added to.
-use Rattle.std.proofs.Common.{◌≡◌, ℕ, ◌+◌, ◌<◌, ◌≤◌, ◌==◌, eqb, nat_eq, Bool, true, false, not, ◌&&◌, ◌||◌, Option, Some, None, option_map, List, length, slice_get, unwrap_or, is_some, refl, sym, ap, ap₂, ◌∙◌, subst, arith, inl, inr, true≢false}
+use Rattle.std.proofs.Common.{◌≡◌, ℕ, ◌+◌, ◌<◌, ◌==◌, eqb, nat_eq, Bool, true, false, ◌&&◌, ◌||◌, Option, Some, None, option_map, List, length, slice_get, unwrap_or, is_some, refl, sym, ap, ap₂, ◌∙◌, subst, arith, inl, inr, true≢false}
 use Rattle.std.proofs.Math.Bool.{or-false}
 use Rattle.std.proofs.Math.Path.{fun_ext}
-use Rattle.std.proofs.lemmas.Bool.{cases_Bool, and_parts, or_cases, eqb-true}
+use Rattle.std.proofs.lemmas.Bool.{cases_Bool, or_cases, eqb-true}
 use Rattle.indexmap.specs.IndexMap.{get}
 use Rattle.sh_tree.specs.program.Syntax.{Text}
 use Rattle.sh_tree.specs.language.Bytes.{is_name}
@@ -22,7 +22,6 @@ use Rattle.sh_find.specs.Kept.{numbers_of, sight_facts, fact_of, IsNamed, IsPlac
 use Rattle.sh_find.proofs.SolutionLemmas.{stays_there, stays_placed, stays_same, meet_numbered}
 use Rattle.sh_find.specs.Lowers.{IsNumbered}
 use Rattle.sh_find.proofs.NamedLemmas.{met_named}
-use Rattle.std.proofs.lemmas.Option.{slice_get_within}
 use Rattle.sh_facts.specs.declared.certificate.FunctionEntry.{FunctionEntry}
 use Rattle.sh_certify.specs.declared.place.Part.TheVariants.{Head}
 use Rattle.sh_certify.specs.declared.place.Place.{Place}

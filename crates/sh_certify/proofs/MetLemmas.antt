@@ -1,9 +1,8 @@
 -- What is asked at a command, and at an item of a list, no certificate that keeps the rules breaks.
-use Rattle.std.proofs.Common.{◌≡◌, ℕ, Bool, true, List, [], ◌∷◌, ◌++◌, append-nil, length, flat_map, fold, Option, refl, sym, ap, ◌∙◌, subst}
+use Rattle.std.proofs.Common.{◌≡◌, Bool, true, List, [], ◌∷◌, ◌++◌, append-nil, length, flat_map, fold, refl, sym, ap, ◌∙◌, subst}
 use Rattle.std.specs.List.{list_all}
 use Rattle.std.proofs.lemmas.Bool.{and_parts}
 use Rattle.std.proofs.lemmas.Grind.{flat_map-append}
-use Rattle.sh_tree.specs.declared.tree.Command.{Command}
 use Rattle.sh_tree.specs.declared.tree.Item.{Item, out-Item}
 use Rattle.sh_tree.specs.program.Lists.{items_from}
 use Rattle.sh_tree.specs.program.Syntax as p
@@ -12,25 +11,24 @@ use Rattle.sh_tree.specs.program.Trees.{script_of}
 use Rattle.sh_facts.specs.declared.certificate.Certificate as kept
 use Rattle.sh_facts.specs.declared.rule.FlowRule.{FlowRule}
 use Rattle.sh_facts.specs.declared.rule.FlowRule.TheVariants.{F2}
-use Rattle.sh_facts.specs.Entries.{Around, Entered, behind_redirects, command_entered, item_after, items_entered, kind_entered, redirects_entered, script_entered}
+use Rattle.sh_facts.specs.Entries.{Around, Entered, item_after, items_entered, script_entered}
 use Rattle.sh_facts.specs.Facts.{Facts, facts}
 use Rattle.sh_facts.specs.Faults.{broken}
 use Rattle.sh_facts.specs.Inclusions.{Each}
-use Rattle.sh_facts.specs.declared.knowledge.Knowledge.{Knowledge}
-use Rattle.sh_facts.specs.Knowledge.{AreNumbered, among, knowledge_facts}
+use Rattle.sh_facts.specs.Knowledge.{AreNumbered, among}
 use Rattle.sh_facts.specs.Order.{IsWithin}
 use Rattle.sh_facts.specs.Reading.{claim_fits}
-use Rattle.sh_facts.specs.Rules.{Constraint, bounds, script_bounds}
+use Rattle.sh_facts.specs.Rules.{Constraint, bounds}
 use Rattle.sh_facts.specs.Sheets.{Sheet}
-use Rattle.sh_facts.specs.Views.{After, Before, Seen, Slot, at, in_any_case}
+use Rattle.sh_facts.specs.Views.{Slot, in_any_case}
 use Rattle.sh_facts.proofs.EachLemmas.{none_both, each_none, each_of_all, each_parts}
-use Rattle.sh_rules.specs.Above.{Allows, Anything, Ask, Asks, Does, DoesAsked, KeepsThere, OfFunction, OfPlace, ask, item_entered, item_walked}
+use Rattle.sh_rules.specs.Above.{Allows, Anything, Ask, Does, DoesAsked, KeepsThere, OfFunction, OfPlace, ask, item_entered, item_walked}
 use Rattle.sh_rules.specs.Asked.{has_numbered_prefixes}
 use Rattle.sh_rules.specs.Behind.{Behind}
 use Rattle.sh_rules.specs.CommandBounds.{command_told}
 use Rattle.sh_rules.specs.Meaning.{met_at}
 use Rattle.sh_rules.specs.Settings.{Setting, claimed_at}
-use Rattle.sh_rules.specs.Steps.{and_or_kept, item_step, met_in, ran}
+use Rattle.sh_rules.specs.Steps.{and_or_kept, item_step, ran}
 use Rattle.sh_rules.specs.Visits.{command_by}
 use Rattle.sh_rules.specs.Walked as walked
 use Rattle.sh_rules.specs.Walked.{course}
@@ -41,18 +39,17 @@ use Rattle.sh_rules.proofs.PrefixLemmas.{prefixes_are_numbered, table_defines}
 use Rattle.sh_rules.proofs.RuleLemmas.{visits_do_asked}
 use Rattle.sh_rules.proofs.ScriptLemmas.{script_asks}
 use Rattle.sh_accept.specs.Accepted.{IsAdmitted, claims_in, functions_in}
-use Rattle.sh_certify.specs.declared.place.Place.{Place}
 use Rattle.sh_certify.specs.declared.subject.Subject.{Subject}
 use Rattle.sh_certify.specs.Gathered.{Gathered}
 use Rattle.sh_certify.specs.Gathering.{gathering}
-use Rattle.sh_certify.specs.Places.{claim_there, place_of}
-use Rattle.sh_certify.specs.Sweeps.{AreItems, IsCommand, IsOver, IsPart, Keeps, Knows, KnowsBehind, known_behind, setting_by}
+use Rattle.sh_certify.specs.Places.{place_of}
+use Rattle.sh_certify.specs.Sweeps.{AreItems, IsOver, IsPart, Keeps, Knows, known_behind, setting_by}
 use Rattle.sh_certify.specs.Turns.{AreNumbers, Stands}
 use Rattle.sh_certify.proofs.AskingLemmas.{by_constraints, commands_numbered, few_commands}
 use Rattle.sh_certify.proofs.GatherLemmas.{claim_among, drop_numbered, drop_stands, place_numbered, place_stands}
 use Rattle.sh_certify.proofs.GreatestLemmas.{numbered}
 use Rattle.sh_certify.proofs.SheetLemmas.{placed}
-use Rattle.sh_certify.proofs.SweepLemmas.{first_part, last_part}
+use Rattle.sh_certify.proofs.SweepLemmas.{first_part}
 
 -- What is gathered of all that is asked
 

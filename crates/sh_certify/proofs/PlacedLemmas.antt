@@ -1,6 +1,5 @@
 -- Where a sweep is in a command, by where it is before it: a lemma for each kind of command (XCU 2.9).
-use Rattle.std.proofs.Common.{◌≡◌, ℕ, zero, suc, ◌+◌, ◌-◌, ◌<◌, ◌≤◌, Bool, true, false, Option, Some, None, List, [], ◌∷◌, ◌++◌, append_assoc, append-nil, drop, get_or, length, nat_lt, refl, sym, ap, ◌∙◌, subst, arith}
-use Rattle.std.proofs.lemmas.List.{drop_all}
+use Rattle.std.proofs.Common.{◌≡◌, ℕ, zero, suc, ◌+◌, ◌-◌, ◌<◌, ◌≤◌, Bool, Option, Some, List, [], ◌∷◌, ◌++◌, append_assoc, append-nil, drop, get_or, length, nat_lt, refl, sym, ap, ◌∙◌, subst, arith}
 use Rattle.std.proofs.Math.Seq.{drop-cons}
 use Rattle.sh_tree.specs.declared.tree.AndOr.{AndOr, out-AndOr}
 use Rattle.sh_tree.specs.declared.tree.Branch.{Branch, out-Branch}
@@ -23,25 +22,23 @@ use Rattle.sh_facts.specs.declared.rule.FlowRule.TheVariants.{F1, F2, F3, F6, F7
 use Rattle.sh_facts.specs.Entries as e
 use Rattle.sh_facts.specs.Entries.{Around, Entered, behind_redirects}
 use Rattle.sh_facts.specs.Facts.{Facts, NotReached, meet, start_facts}
-use Rattle.sh_facts.specs.Gains.{redirects_gains, word_gains}
+use Rattle.sh_facts.specs.Gains.{word_gains}
 use Rattle.sh_facts.specs.Knowledge.{AreNumbered, among, knowledge_facts}
 use Rattle.sh_facts.specs.declared.knowledge.Knowledge.{Knowledge}
 use Rattle.sh_facts.proofs.OrderLemmas.{within_nowhere}
 use Rattle.sh_facts.specs.Views as views
 use Rattle.sh_facts.specs.Views.{After, Before, Both, Entry, Head, Seen, at, at_start, gaining, gaining_names, if_nonzero, if_zero}
-use Rattle.sh_rules.specs.declared.behind.Behind as code
 use Rattle.sh_rules.specs.declared.walk.Course.{Course}
 use Rattle.sh_rules.specs.Behind.{Behind, both, in_any_case}
 use Rattle.sh_rules.specs.Behind as behind
 use Rattle.sh_rules.proofs.AboveLemmas.{stays_above}
-use Rattle.sh_rules.proofs.LedLemmas.{Follows, any_led, falls_led, link_led, turns_led}
+use Rattle.sh_rules.proofs.LedLemmas.{any_led, falls_led, link_led}
 use Rattle.sh_rules.proofs.WalkLemmas.{long_parts}
 use Rattle.sh_accept.specs.Accepted.{claims_in}
 use Rattle.sh_certify.specs.declared.subject.Subject.{Subject}
 use Rattle.sh_certify.specs.Gathering.{gathering}
-use Rattle.sh_certify.specs.Sweeps.{AreBranches, AreClauses, AreItems, AreLinks, AreParts, IsAndOr, IsAt, IsCommand, IsIn, IsInside, IsList, IsOver, IsPart, IsPassed, IsPipe, IsReady, Knows, KnowsBehind, known_behind, setting_by}
-use Rattle.sh_certify.proofs.GreatestLemmas.{numbered}
-use Rattle.sh_certify.proofs.SweepLemmas.{behind_of, first_part, knows_follow, last_part, stands_of}
+use Rattle.sh_certify.specs.Sweeps.{AreBranches, AreClauses, AreItems, AreLinks, AreParts, IsAndOr, IsCommand, IsIn, IsInside, IsList, IsOver, IsPart, IsPassed, IsPipe, Knows, KnowsBehind, known_behind, setting_by}
+use Rattle.sh_certify.proofs.SweepLemmas.{first_part, knows_follow, last_part, stands_of}
 
 module _ (s : Subject) where
   -- A command, and what stands in it

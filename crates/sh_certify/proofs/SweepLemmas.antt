@@ -2,7 +2,6 @@
 use Rattle.std.proofs.Common.{◌≡◌, ℕ, ◌≤◌, Bool, true, false, List, [], ◌++◌, append_assoc, length, flat_map, refl, sym, ap, ◌∙◌, subst, arith, true≢false}
 use Rattle.sh_facts.specs.declared.certificate.Certificate as kept
 use Rattle.sh_facts.specs.Entries.{Entered}
-use Rattle.sh_facts.specs.Facts.{Facts}
 use Rattle.sh_facts.specs.Faults.{broken}
 use Rattle.sh_facts.specs.Knowledge.{AreNumbered}
 use Rattle.sh_facts.specs.Rules.{script_bounds}
@@ -17,7 +16,6 @@ use Rattle.sh_table.specs.Calls.{Table, table_of}
 use Rattle.sh_tree.specs.declared.tree.Script.{Script}
 use Rattle.sh_tree.specs.program.Trees.{script_of}
 use Rattle.sh_rules.specs.declared.claims.Claims.{Claims}
-use Rattle.sh_rules.specs.Settings.{Setting}
 use Rattle.sh_rules.specs.Walks.{setting}
 use Rattle.sh_certify.specs.declared.subject.Subject.{Subject}
 use Rattle.sh_certify.specs.Sweeps.{setting_by, Keeps, IsOver, Knows, KnowsBehind, IsPart, IsReady, IsSwept}

@@ -1,19 +1,12 @@
 -- What is gathered goes by constraints: several views at a place ask what is known there, and names together what they ask one after the other.
-use Rattle.std.proofs.Common.{◌≡◌, ℕ, Bool, true, false, ◌&&◌, ◌||◌, if◌then◌else◌, min, Option, Some, None, List, [], ◌∷◌, ◌++◌, slice_get, refl, sym, ap, ap₂, ◌∙◌, arith}
-use Rattle.std.specs.List.{list_all}
-use Rattle.std.specs.Str.{bytes_eq}
+use Rattle.std.proofs.Common.{◌≡◌, ℕ, Bool, true, false, ◌&&◌, if◌then◌else◌, min, List, [], ◌∷◌, ◌++◌, refl, sym, ap, ap₂, ◌∙◌, arith}
 use Rattle.std.proofs.Math.Path.{fun_ext}
 use Rattle.std.proofs.lemmas.Bool.{and_parts, and_from}
-use Rattle.std.proofs.lemmas.List.Folds.{list_all-append, list_any-append}
 use Rattle.std.proofs.lemmas.List.Sums.{fold-append}
 use Rattle.sh_tree.specs.program.Syntax.{Text}
-use Rattle.sh_table.specs.runs.Environment.{is_one_of}
 use Rattle.sh_facts.specs.declared.rule.FlowRule.{FlowRule}
 use Rattle.sh_facts.specs.Facts.{Facts, Claim, facts, within, meet, Declared}
-use Rattle.sh_facts.specs.Faults.{are_among}
 use Rattle.sh_facts.specs.Knowledge.{AreNumbered, among}
-use Rattle.sh_facts.specs.Names.{number_of}
-use Rattle.sh_facts.specs.Operands.{Names, no_names}
 use Rattle.sh_facts.specs.Order.{seen_facts}
 use Rattle.sh_facts.specs.Reading.{claim_fits}
 use Rattle.sh_facts.specs.Rules.{Constraint, bound}
@@ -21,7 +14,7 @@ use Rattle.sh_facts.specs.Views.{Certificate, Slot, Seen, view_facts}
 use Rattle.sh_facts.proofs.KnowledgeLemmas.{same_tests}
 use Rattle.sh_facts.proofs.OrderLemmas.{within_through, within_test, meet_first, meet_second, meet_greatest}
 use Rattle.sh_find.specs.Facts as number
-use Rattle.sh_certify.specs.Gathered.{Gathered, is_at, is_number, bounded, counted, gathered, all_gathered}
+use Rattle.sh_certify.specs.Gathered.{Gathered, is_at, bounded, gathered, all_gathered}
 use Rattle.sh_certify.specs.Gathering.{and_true, drops_nothing, drops_both}
 use Rattle.sh_certify.specs.Numbers.{by_number}
 use Rattle.sh_certify.specs.Places.{place_of}

@@ -1,6 +1,6 @@
 -- What is gathered of one thing that the flow rules ask.
 -- The standard has no such rules: what is claimed of a place has to be known there in every run.
-use Rattle.std.specs.Prelude.{◌≡◌, ℕ, Bool, true, false, ◌&&◌, ◌||◌, if◌then◌else◌, List, [], ◌∷◌, ◌++◌, Option, Some, None, slice_get}
+use Rattle.std.specs.Prelude.{◌≡◌, ℕ, Bool, true, false, ◌&&◌, ◌||◌, if◌then◌else◌, List, [], ◌++◌, Option, Some, None, slice_get}
 use Rattle.std.proofs.Common.{refl, ap, ap₂, ◌∙◌}
 use Rattle.std.specs.List.{list_all}
 use Rattle.std.specs.Str.{bytes_eq}
@@ -13,7 +13,7 @@ use Rattle.sh_facts.specs.Names.{number_of}
 use Rattle.sh_facts.specs.Operands.{Names, no_names}
 use Rattle.sh_find.specs.Facts as number
 use Rattle.sh_rules.specs.Asking.{Asking}
-use Rattle.sh_rules.specs.Settings.{Setting, certificate, claimed_at}
+use Rattle.sh_rules.specs.Settings.{certificate, claimed_at}
 use Rattle.sh_certify.specs.Gathered.{Gathered, is_number, bounded, counted}
 use Rattle.sh_certify.specs.Numbers.{name_passes, numbers_in}
 use Rattle.sh_certify.specs.Working.{Sets, joined}

@@ -1,6 +1,6 @@
 -- A sweep of the search over the commands of a script: each is lowered by itself, with what is known before it by the certificate as it is there.
 -- The standard has no such thing: a certificate is lowered until it keeps all flow rules.
-use Rattle.std.specs.Prelude.{◌≡◌, ℕ, ◌≤◌, List, Bool, true, [], ◌∷◌, ◌++◌, length, flat_map, Option}
+use Rattle.std.specs.Prelude.{◌≡◌, ℕ, ◌≤◌, List, Bool, true, [], ◌++◌, length, flat_map, Option}
 use Rattle.sh_tree.specs.declared.tree.Command.{Command, out-Command}
 use Rattle.sh_tree.specs.declared.tree.AndOr.{AndOr}
 use Rattle.sh_tree.specs.declared.tree.Item.{Item, out-Item}

@@ -2,7 +2,7 @@ use Rattle.sh_tree.specs.program.Trees.{script_of}
 use Rattle.sh_facts.specs.Rules.{script_bounds}
 use Rattle.sh_accept.specs.Accepted.{functions_in}
 use Rattle.sh_certify.proofs.GreatestLemmas.{less_left}
-use Rattle.sh_certify.proofs.SweepLemmas.{ready_turned, settled, swept_turn, turned_more}
+use Rattle.sh_certify.proofs.SweepLemmas.{settled, swept_turn, turned_more}
 use Rattle.sh_certify.proofs.find.settle.Goals as goal
 
 pub turn-requires-clause-admitted : goal.turn-requires-clause-admitted

@@ -1,4 +1,3 @@
-use Rattle.std.proofs.Common.{ℕ}
 use Rattle.sh_certify.proofs.GreatestLemmas.{left}
 use Rattle.sh_certify.proofs.SweepLemmas.{IsTurned}
 use Rattle.sh_certify.proofs.find.settle.Given as goal

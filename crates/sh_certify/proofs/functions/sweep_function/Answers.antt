@@ -1,4 +1,4 @@
-use Rattle.std.proofs.Common.{◌≡◌, ◌∷◌, List, sym, subst}
+use Rattle.std.proofs.Common.{◌≡◌, ◌∷◌, sym, subst}
 use Rattle.sh_facts.specs.Entries.{alone}
 use Rattle.sh_facts.specs.Facts.{NotReached}
 use Rattle.sh_facts.specs.Knowledge.{knowledge_facts}

@@ -1,4 +1,4 @@
-use Rattle.std.proofs.Common.{List, [], ◌∷◌, ap}
+use Rattle.std.proofs.Common.{ap}
 use Rattle.sh_tree.specs.program.Lists.{redirects_from}
 use Rattle.sh_facts.specs.Gains.{redirects_gains}
 use Rattle.sh_rules.specs.Settings.{gained}

@@ -1,4 +1,4 @@
-use Rattle.std.proofs.Common.{List, [], ◌∷◌, ap}
+use Rattle.std.proofs.Common.{ap}
 use Rattle.sh_tree.specs.program.Lists.{parts_from}
 use Rattle.sh_facts.specs.Gains.{word_gains}
 use Rattle.sh_rules.specs.Settings.{gained}

@@ -1,4 +1,4 @@
-use Rattle.std.proofs.Common.{List, [], ◌∷◌, ap}
+use Rattle.std.proofs.Common.{ap}
 use Rattle.sh_facts.specs.Views.{Entry}
 use Rattle.sh_rules.specs.Settings.{known_at}
 use Rattle.sh_table.specs.Calls.{Table, table_of}

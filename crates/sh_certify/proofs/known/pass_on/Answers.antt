@@ -1,4 +1,4 @@
-use Rattle.std.proofs.Common.{List, [], ◌∷◌, ap}
+use Rattle.std.proofs.Common.{ap}
 use Rattle.std.proofs.Common.{refl}
 use Rattle.sh_rules.specs.Walks.{behind_in, item_left}
 use Rattle.sh_table.specs.Calls.{Table, table_of}
