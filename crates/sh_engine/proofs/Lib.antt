@@ -4,3 +4,4 @@ pub mod FindingLemmas
 pub mod CheckLemmas
 pub mod LintLemmas
 pub mod RunLemmas
+pub mod PromiseLemmas

@@ -1,9 +1,11 @@
 //! The check of a certificate: the script first, then the text, then what the rules and the demands say of it.
-ghost use Rattle.std.specs.Prelude.{◌≡◌, IfOk, length};
+ghost use Rattle.std.specs.Prelude.{◌≡◌, IfOk, Ok, length};
 ghost use Rattle.sh_facts.specs.Facts.{Declared};
+ghost use Rattle.sh_report.specs.declared.verdict.Verdict.TheVariants as verdicts;
 ghost use Rattle.sh_accept.specs.Answers.{Checks, places};
 ghost use Rattle.sh_engine.specs.Judged.{Judges, TellsFault};
 ghost use Rattle.sh_engine.specs.Prepared.{IsPrepared, sheet_in};
+ghost use Rattle.sh_engine.specs.Promises.{Promises};
 
 use crate::prepared::{Prepared, certified, prepare};
 use crate::told::verdict_of;
@@ -112,14 +114,18 @@ fn check_prepared(
     Ok(verdict)
 }
 
-/// What is told of a certificate's text: a pass exactly where it is accepted, the least flow rule that it breaks, or the findings in order.
+/// What is told of a certificate's text: a pass exactly where it is accepted, the least flow rule that it breaks, or the findings in order. Behind a pass
+/// the script has exactly one reading, and no run of it, from any start that the policy allows, with any results of the commands, any choice and any
+/// order of the processes, expands a parameter that is not set or gives an expansion's value to field splitting or pathname expansion that could change
+/// it (XCU 2.6.2, 2.6.5, 2.6.6).
 ///
 /// # Errors
 ///
 /// The refusal of the script, of its profile, of its names or of the text, in that order; `Memory` where a growth was refused.
-#[tactic(auto, using(crate::proofs::RefusalLemmas::widened))]
+#[tactic(auto, using(crate::proofs::RefusalLemmas::widened, crate::proofs::PromiseLemmas::checked))]
 pub fn check(alloc: Global, script: &[u8], policy: &Policy, text: &[u8]) -> Result<Verdict, Refusal>
-    ensures { Checks script.now policy.now text.now result }
+    ensures answers { Checks script.now policy.now text.now result }
+    ensures headline { result ≡ Ok verdicts.Pass → Promises script.now policy.now }
 {
     let prepared = prepare(alloc, script, policy)?;
     check_prepared(alloc, script, policy, &prepared, text)

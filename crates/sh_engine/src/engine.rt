@@ -5,6 +5,7 @@ ghost use Rattle.sh_report.specs.Moves.{BoreAll, Had, TookAtMost, TookWhole};
 ghost use Rattle.sh_report.specs.declared.task.Action.TheVariants as actions;
 ghost use Rattle.sh_report.specs.Texts.{answer_text, status_of};
 ghost use Rattle.sh_tree.specs.declared.refusal.Refusal.TheVariants as refusals;
+ghost use Rattle.sh_engine.specs.Promises.{EndsSafe};
 ghost use Rattle.sh_engine.specs.Runs.{HadText, Tells, WritesAnswer, WritesFront, shown_status, shown_text};
 
 use crate::check::check;
@@ -27,7 +28,7 @@ pub const CERTIFICATE_READ: usize = MAX_CERTIFICATE + 1;
 
 /// Reads the script, at most `SCRIPT_READ` bytes of it, and then for a check the certificate, at most `CERTIFICATE_READ` bytes of it; does the task,
 /// and writes the text of the answer: the whole text is made before its first byte is written. The result is the exit status: 0 clean, 1
-/// findings or a certificate that breaks a flow rule, 2 refused. No other action reads `cert`.
+/// findings or a certificate that breaks a flow rule, 2 refused. A lint or a check that ends with 0 promises what a pass does. No other action reads `cert`.
 ///
 /// # Errors
 ///
@@ -47,6 +48,8 @@ pub fn run<R: Feed, C: Feed, W: Outlet>(
     // What was written is the text of the answer on the bytes read, and nothing else.
     ensures text { IfOk result (λ status. (b t : List ℕ) → Had (R.remaining script.old) SCRIPT_READ b → HadText task.now.action (C.remaining cert.old) CERTIFICATE_READ t
         → WritesAnswer task.now b t (W.contents out.old) (W.contents out.new) status) }
+    ensures headline { IfOk result (λ status. (b t : List ℕ) → Had (R.remaining script.old) SCRIPT_READ b → HadText task.now.action (C.remaining cert.old) CERTIFICATE_READ t
+        → EndsSafe task.now b status) }
     ensures script_whole { OnOk result (TookWhole (R.tally script.old) (R.tally script.new) (R.remaining script.old) (R.remaining script.new) SCRIPT_READ) }
     ensures script_written { IsErrOf result Fault.Write → TookWhole (R.tally script.old) (R.tally script.new) (R.remaining script.old) (R.remaining script.new) SCRIPT_READ }
     ensures script_lost { OnErr result (TookAtMost (R.remaining script.old) (R.remaining script.new) SCRIPT_READ) }

@@ -1,7 +1,9 @@
 //! What is answered of a script without a certificate, and which certificate is shown.
-ghost use Rattle.std.specs.Prelude.{Ok, IfOk};
+ghost use Rattle.std.specs.Prelude.{◌≡◌, Ok, IfOk};
+ghost use Rattle.sh_report.specs.declared.verdict.Verdict.TheVariants as verdicts;
 ghost use Rattle.sh_accept.specs.Answers.{Certifies, IsGreatest, Lints};
 ghost use Rattle.sh_engine.specs.Prepared.{IsGreatestText, IsPrepared, sheet_in};
+ghost use Rattle.sh_engine.specs.Promises.{Promises};
 
 use crate::check::places_of;
 use crate::prepared::{Prepared, prepare};
@@ -54,15 +56,17 @@ fn lint_prepared(
     verdict_of(alloc, script, &places)
 }
 
-/// What is told of a script: a pass exactly where some certificate of it is accepted, or the findings of the greatest one, in order.
+/// What is told of a script: a pass exactly where some certificate of it is accepted, or the findings of the greatest one, in order. A pass promises
+/// what that of a check does.
 ///
 /// # Errors
 ///
 /// The refusal of the script, of its profile or of its names, in that order; `Memory` where a growth was refused, and where no certificate was
 /// found (`sh_certify::find`).
-#[tactic(auto, using(crate::proofs::LintLemmas::exhausted))]
+#[tactic(auto, using(crate::proofs::LintLemmas::exhausted, crate::proofs::PromiseLemmas::linted))]
 pub fn lint(alloc: Global, script: &[u8], policy: &Policy) -> Result<Verdict, Refusal>
-    ensures { Lints script.now policy.now result }
+    ensures answers { Lints script.now policy.now result }
+    ensures headline { result ≡ Ok verdicts.Pass → Promises script.now policy.now }
 {
     let prepared = prepare(alloc, script, policy)?;
     let verdict = lint_prepared(alloc, script, policy, &prepared)?;
