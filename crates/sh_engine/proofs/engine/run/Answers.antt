@@ -1,4 +1,4 @@
-use Rattle.std.proofs.Common.{rules, ◌≡◌}
+use Rattle.std.proofs.Common.{rules}
 use Rattle.sh_engine.specs.Runs.{Tells}
 use Rattle.sh_engine.proofs.PromiseLemmas.{told_safe}
 use Rattle.sh_engine.proofs.engine.run.Goals as goal
