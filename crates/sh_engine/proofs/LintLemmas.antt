@@ -20,7 +20,7 @@ use Rattle.sh_report.specs.declared.verdict.Verdict.{Verdict}
 use Rattle.sh_report.specs.declared.verdict.Verdict.TheVariants.{Pass, Fail, Forged}
 use Rattle.sh_accept.specs.Accepted.{claims_in}
 use Rattle.sh_accept.specs.Answers.{Certifies, IsBest, IsGreatest, Lints, places}
-use Rattle.sh_engine.specs.Prepared.{IsGreatestText, IsPrepared, sheet_in}
+use Rattle.sh_engine.specs.Prepared.{IsPrepared, sheet_in}
 use Rattle.sh_engine.specs.Told.{TellsPlaces}
 use Rattle.sh_engine.specs.declared.prepared.Prepared.{Prepared}
 
@@ -39,18 +39,13 @@ module _ (b : List ℕ) (d : Declared) (p : Prepared) (i : IsPrepared b d p) whe
   pub told_places : {E : Type 0} (c : Certificate) (r : Result Verdict E) → IsGreatest b d p.tree p.names (sheet_in p c) → IfOk r (TellsPlaces b (places b d p.tree (sheet_in p c))) → IfOk r (λ v. Lints b d (Ok v))
   told_places c r g h = IfOk-weaker r (TellsPlaces b (places b d p.tree (sheet_in p c))) (λ v. Lints b d (Ok v)) (λ v k. told (sheet_in p c) g v k) h
 
-  -- the text of the greatest certificate
-  pub text_of : {E : Type 0} (c : Certificate) (r : Result (Vec ℕ Global) E) → IsGreatest b d p.tree p.names (sheet_in p c) → IfOk r (λ v. v.items ≡ certificate_text (sheet_in p c))
-      → IfOk r (λ v. IsGreatestText b d p v.items)
-  text_of c r g h =
-      IfOk-weaker r (λ v. v.items ≡ certificate_text (sheet_in p c)) (λ v. IsGreatestText b d p v.items) (λ v e. record { certificate = sheet_in p c; greatest = g; written = e }) h
+  -- the text of the greatest certificate that is not too long, and one that is
+  pub shown : (c : Certificate) (v : Vec ℕ Global) → IsGreatest b d p.tree p.names (sheet_in p c) → v.items ≡ certificate_text (sheet_in p c) → length (certificate_text (sheet_in p c)) ≤ MAX_CERTIFICATE
+      → Certifies b d (Ok v)
+  shown c v g e l = (p.tree, sheet_in p c, best (sheet_in p c) g, e, subst (λ (t : Text). length t ≤ MAX_CERTIFICATE) (sym e) l)
 
-  -- one that is not too long, and one that is
-  pub shown : (v : Vec ℕ Global) → IsGreatestText b d p v.items → length v.items ≤ MAX_CERTIFICATE → Certifies b d (Ok v)
-  shown v g l = (p.tree, g.certificate, best g.certificate g.greatest, g.written, l)
-
-  pub too_long : (v : Vec ℕ Global) → IsGreatestText b d p v.items → MAX_CERTIFICATE < length v.items → Certifies b d (Err (CertSyntax 0))
-  too_long v g l = (p.tree, g.certificate, best g.certificate g.greatest, subst (λ (t : Text). MAX_CERTIFICATE < length t) g.written l, refl)
+  pub too_long : (c : Certificate) → IsGreatest b d p.tree p.names (sheet_in p c) → MAX_CERTIFICATE < length (certificate_text (sheet_in p c)) → Certifies b d (Err (CertSyntax 0))
+  too_long c g l = (p.tree, sheet_in p c, best (sheet_in p c) g, l, refl)
 
   -- want of memory
   pub exhausted : (e : Refusal) → e ≡ Memory → Lints b d (Err e)

@@ -6,10 +6,10 @@ use Rattle.sh_tree.specs.program.Syntax.{Text}
 use Rattle.sh_table.specs.Calls.{table_of}
 use Rattle.sh_facts.specs.Certificates.{in_byte_order, sheet_of}
 use Rattle.sh_facts.specs.Facts.{Declared}
-use Rattle.sh_facts.specs.Sheets.{Sheet, certificate_text}
+use Rattle.sh_facts.specs.Sheets.{Sheet}
 use Rattle.sh_facts.specs.declared.certificate.Certificate.{Certificate}
 use Rattle.sh_accept.specs.Accepted.{IsAdmitted}
-use Rattle.sh_accept.specs.Answers.{IsCertified, IsGreatest, Refuses, RefusesText}
+use Rattle.sh_accept.specs.Answers.{IsCertified, Refuses, RefusesText}
 use Rattle.sh_engine.specs.declared.prepared.Prepared.{Prepared}
 
 -- the tree is admitted with these names, and this is its table
@@ -25,9 +25,3 @@ sheet_in p c = sheet_of (in_byte_order p.names) c
 abbrev pub AnswersText : List ℕ → Declared → Text → Prepared → Result Certificate Refusal → Type 0
 AnswersText b d text p (Ok c) = IsCertified b d text p.tree (sheet_in p c)
 AnswersText b d text p (Err r) = Refuses b d (RefusesText b d text) r
-
--- the text of the greatest certificate
-pub record IsGreatestText (b : List ℕ) (d : Declared) (p : Prepared) (text : Text) : Type 0 where
-  pub certificate : Sheet
-  pub greatest : IsGreatest b d p.tree p.names certificate
-  pub written : text ≡ certificate_text certificate

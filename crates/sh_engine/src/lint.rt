@@ -2,7 +2,7 @@
 ghost use Rattle.std.specs.Prelude.{◌≡◌, Ok, IfOk};
 ghost use Rattle.sh_report.specs.declared.verdict.Verdict.TheVariants as verdicts;
 ghost use Rattle.sh_accept.specs.Answers.{Certifies, IsGreatest, Lints};
-ghost use Rattle.sh_engine.specs.Prepared.{IsGreatestText, IsPrepared, sheet_in};
+ghost use Rattle.sh_engine.specs.Prepared.{IsPrepared, sheet_in};
 ghost use Rattle.sh_engine.specs.Promises.{Promises};
 
 use crate::check::places_of;
@@ -12,9 +12,9 @@ use sh_certify::find::find;
 use sh_certify::subject::Subject;
 use sh_certify::writable::Writable;
 use sh_facts::certificate::Certificate;
-use sh_facts::limits::MAX_CERTIFICATE;
 use sh_facts::policy::Policy;
 use sh_facts::texts::write_certificate;
+use sh_length::text::is_too_long;
 use sh_report::verdict::Verdict;
 use sh_tree::refusal::Refusal;
 use std::alloc::{AllocError, Global};
@@ -73,21 +73,7 @@ pub fn lint(alloc: Global, script: &[u8], policy: &Policy) -> Result<Verdict, Re
     Ok(verdict)
 }
 
-// The text of the greatest certificate of a script that is admitted.
-fn greatest_text(
-    alloc: Global,
-    script: &[u8],
-    policy: &Policy,
-    prepared: &Prepared,
-) -> Result<Vec<u8>, AllocError>
-    requires { IsPrepared script.now policy.now prepared.now }
-    ensures { IfOk result (λ t. IsGreatestText script.now policy.now prepared.now t.items) }
-{
-    let certificate = greatest(alloc, script, policy, prepared)?;
-    write_certificate(alloc, &certificate, &prepared.names)
-}
-
-// The same, if it is no longer than a text may be.
+// The text of the greatest certificate of a script that is admitted, if it is no longer than a text may be. It is counted before it is made.
 #[tactic(auto, using(crate::proofs::LintLemmas::uncertified))]
 fn certificate_prepared(
     alloc: Global,
@@ -98,10 +84,11 @@ fn certificate_prepared(
     requires { IsPrepared script.now policy.now prepared.now }
     ensures { Certifies script.now policy.now result }
 {
-    let text = greatest_text(alloc, script, policy, prepared)?;
-    if text.len() > MAX_CERTIFICATE {
+    let certificate = greatest(alloc, script, policy, prepared)?;
+    if is_too_long(&certificate, &prepared.names) {
         return Err(Refusal::CertSyntax(0));
     }
+    let text = write_certificate(alloc, &certificate, &prepared.names)?;
     Ok(text)
 }
 
@@ -109,7 +96,7 @@ fn certificate_prepared(
 ///
 /// # Errors
 ///
-/// As `lint`; and `CertSyntax` with 0 where the text is longer than `MAX_CERTIFICATE`.
+/// As `lint`; and `CertSyntax` with 0 where the text would be longer than `MAX_CERTIFICATE`.
 #[tactic(auto, using(crate::proofs::RefusalLemmas::widened))]
 pub fn certificate(alloc: Global, script: &[u8], policy: &Policy) -> Result<Vec<u8>, Refusal>
     ensures { Certifies script.now policy.now result }

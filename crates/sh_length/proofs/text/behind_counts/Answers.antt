@@ -1,0 +1,12 @@
+use Rattle.std.proofs.Common.{◌+◌, length, arith}
+use Rattle.std.specs.Fmt.{decimal}
+use Rattle.sh_facts.specs.Sheets.{line, first_line, count_fields}
+use Rattle.sh_length.proofs.LineLemmas.{first_bytes}
+use Rattle.sh_length.proofs.RoomLemmas.{others, taken}
+use Rattle.sh_length.proofs.text.behind_counts.Goals as goal
+
+pub returns : goal.returns
+returns c =
+    let n = 41 + c.digits_of.result + c.digits_of-2.result in
+    let all = first_bytes c.args.commands c.args.functions in
+    others c.args.room c.args.room 0 n _ c.checked_sub.result (omega arith) (omega (arith, all, c.digits_of.ensures.value, c.digits_of-2.ensures.value)) (taken c.args.room n c.checked_sub.result c.checked_sub.ensures)
