@@ -8,7 +8,7 @@ use sh_facts::rows::RowId;
 use sh_length::text::is_too_long;
 use sh_rows::bits::BitRow;
 use sh_rows::row::Row;
-use sh_tree::items::Items;
+use sh_tree::Items;
 use sh_tree::refusal::Refusal;
 use sh_tree::tree::Script;
 use std::alloc::{AllocError, Global};
