@@ -1,5 +1,4 @@
-use Rattle.std.proofs.Common.{◌≡◌, ◌+◌, ◌∙◌, true, sym, ap, length, arith}
-use Rattle.sh_facts.specs.KeptRows.{holds_at}
+use Rattle.std.proofs.Common.{◌+◌, ◌∙◌, sym, ap, length, arith}
 use Rattle.sh_length.proofs.RowLemmas.{named, unnamed}
 use Rattle.sh_length.proofs.RoomLemmas.{no_room_for_names, last_byte}
 use Rattle.sh_length.proofs.rows.behind_number.Goals as goal

@@ -1,4 +1,4 @@
-use Rattle.std.proofs.Common.{◌≡◌, ◌+◌, length, arith}
+use Rattle.std.proofs.Common.{◌+◌, length, arith}
 use Rattle.sh_facts.specs.Certificates.{in_byte_order, names_at}
 use Rattle.sh_facts.specs.Sheets.{names_text}
 use Rattle.sh_length.proofs.RoomLemmas.{no_room, others, taken}

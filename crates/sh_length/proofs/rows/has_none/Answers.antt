@@ -1,4 +1,4 @@
-use Rattle.std.proofs.Common.{◌≡◌, ◌∙◌, List, ℕ, get_or, length, sym, ap, arith}
+use Rattle.std.proofs.Common.{◌∙◌, List, ℕ, get_or, length, sym, ap, arith}
 use Rattle.std.specs.Option.{option_copied}
 use Rattle.std.proofs.lemmas.Bool.{eqb-true}
 use Rattle.sh_length.proofs.RowLemmas.{no_row, no_word, word_held}

@@ -1,6 +1,4 @@
-use Rattle.std.proofs.Common.{◌+◌, length, arith}
-use Rattle.std.specs.Fmt.{decimal}
-use Rattle.sh_facts.specs.Sheets.{line, first_line, count_fields}
+use Rattle.std.proofs.Common.{◌+◌, arith}
 use Rattle.sh_length.proofs.LineLemmas.{first_bytes}
 use Rattle.sh_length.proofs.RoomLemmas.{others, taken}
 use Rattle.sh_length.proofs.text.behind_counts.Goals as goal

@@ -1,4 +1,4 @@
-use Rattle.std.proofs.Common.{◌-◌, List, length, map, ap, subst, arith, rules}
+use Rattle.std.proofs.Common.{◌-◌, List, length, map, subst, arith, rules}
 use Rattle.sh_facts.specs.declared.certificate.FunctionEntry.{FunctionEntry}
 use Rattle.sh_facts.specs.Certificates.{in_byte_order, function_claims}
 use Rattle.sh_facts.specs.Sheets.{numbered_lines, function_fields}
