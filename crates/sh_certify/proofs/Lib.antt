@@ -1,3 +1,5 @@
+pub mod CountedLemmas
+pub mod LoopsLemmas
 pub mod KeptLemmas
 pub mod LowerLemmas
 pub mod HeightLemmas

@@ -66,6 +66,17 @@ drops_kept rows vars functions f v g a b is same =
     let right : holds_at rows.rows g.index ≡ numbers_of functions = ap functions_of e in
     ap₂ (λ (x y : ℕ → Bool). record { vars = x; functions = y }) left right
 
+pub drops_known : (rows : KeptRows) (vars functions : NumberSet) (f : value.Facts) (b : ℕ) → f ≡ value_kind.NotReached → fact_of rows.rows f ≡ Known (numbers_of vars) (numbers_of functions) b → ⊥
+unfolding fact_of
+drops_known rows vars functions f b is same =
+    let e : fact_of rows.rows value_kind.NotReached ≡ Known (numbers_of vars) (numbers_of functions) b = ap (fact_of rows.rows) (sym is) ∙ same in
+    let wrong : NotReached ≡ Known (numbers_of vars) (numbers_of functions) b = e in
+    true≢false (ap is_none wrong)
+  where
+    is_none : Facts → Bool
+    is_none NotReached = true
+    is_none (Known v g a) = false
+
 -- Names that may stand
 
 -- with the name of one more number, where it may stand

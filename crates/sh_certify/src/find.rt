@@ -20,9 +20,6 @@ use sh_rows::bits::BitRow;
 use sh_rows::row::Row;
 use std::alloc::{AllocError, Global};
 
-/// As many commands as a text of a certificate may have.
-const MOST_COMMANDS: usize = 65_535;
-
 // Sweeps over the commands, and takes a turn, until the certificate keeps all flow rules. Each time there are twice as many sweeps, so of a script that takes
 // many there are few turns.
 fn settle(subject: &Subject<'_>, draft: &mut Draft) -> Result<(), AllocError>
@@ -59,9 +56,6 @@ pub fn find(alloc: Global, subject: &Subject<'_>) -> Result<Certificate, AllocEr
     ensures { IfOk result (λ c. IsGreatest subject.now.script.now subject.now.policy.now subject.now.tree.now subject.now.names.now (sheet_by subject.now.names.now c)) }
 {
     let commands = commands(alloc, subject.tree)?;
-    if commands.len() > MOST_COMMANDS {
-        return Err(AllocError);
-    }
     let count = subject.names.count();
     let functions = subject.table.functions().len();
     let certificate = unreached(alloc, count, &commands, functions)?;

@@ -20,11 +20,12 @@ use sh_find::solution::{is_within, keep, meet_facts};
 use sh_rows::bits::BitRow;
 use std::alloc::AllocError;
 
-/// Puts the claim of a place to what it and what is known there both claim, if it is there and claims more, and says whether it did.
+/// Puts the claim of a place to what it and what is known there both claim, if it is there, claims more, and what is left names only what a text
+/// of a certificate may name; says whether it did.
 ///
 /// # Errors
 ///
-/// Where a growth was refused, no place for a row is left, or what is left names what no text of a certificate may name.
+/// Where a growth was refused or no place for a row is left.
 pub fn lower(
     names: &Names,
     writable: &Writable,
@@ -52,7 +53,7 @@ pub fn lower(
     }
     meet_facts(&certificate.rows, facts, &mut known);
     if !writable.has(&known.vars, &known.functions) {
-        return Err(AllocError);
+        return Ok(false);
     }
     let kept = keep(&mut certificate.rows, probe, &known)?;
     put(certificate, place, kept)?;
@@ -89,7 +90,7 @@ fn keep_drops(
         args: 0,
     };
     match keep(rows, probe, &sight)? {
-        Facts::NotReached => Err(AllocError),
+        Facts::NotReached => unreachable!(),
         Facts::Known {
             vars,
             functions,
@@ -98,11 +99,12 @@ fn keep_drops(
     }
 }
 
-/// Lets the function of an index drop these variables and these functions too, if it is there and may not yet, and says whether it did.
+/// Lets the function of an index drop these variables and these functions too, if it is there, may not yet, and a text of a certificate may name
+/// them; says whether it did.
 ///
 /// # Errors
 ///
-/// Where a growth was refused, no place for a row is left, or these names are such as no text of a certificate may name.
+/// Where a growth was refused or no place for a row is left.
 pub fn count(
     names: &Names,
     writable: &Writable,
@@ -133,7 +135,7 @@ pub fn count(
     vars.join_row(&certificate.rows, drops.vars);
     functions.join_row(&certificate.rows, drops.functions);
     if !writable.has(&vars, &functions) {
-        return Err(AllocError);
+        return Ok(false);
     }
     let kept = keep_drops(&mut certificate.rows, probe, vars, functions)?;
     put_drops(certificate, index, kept);
