@@ -1,9 +1,9 @@
 -- Commands by their numbers, and which of them are loops.
-use Rattle.std.proofs.Common.{◌≡◌, ℕ, zero, suc, ◌+◌, ◌-◌, ◌<◌, ◌≤◌, ◌==◌, cond, nat_le, nat_lt, Bool, true, false, ◌&&◌, not, Option, Some, None, List, [], ◌∷◌, ◌++◌, map, length, get_or, slice_get, unwrap_or, option_map, refl, sym, ap, ◌∙◌, subst, arith, inl, inr, eq-eqb}
+use Rattle.std.proofs.Common.{◌≡◌, ℕ, zero, suc, ◌+◌, ◌-◌, ◌<◌, ◌≤◌, ◌==◌, cond, nat_le, nat_lt, Bool, true, false, ◌&&◌, Some, List, [], ◌∷◌, map, length, get_or, slice_get, unwrap_or, option_map, refl, sym, ap, ◌∙◌, arith, inl, inr, eq-eqb}
 use Rattle.std.specs.Borrow.{Bor}
 use Rattle.std.specs.List.{All, list_all, sum_by}
 use Rattle.std.specs.List.Sorted.{IsPermutation, IsNonDecreasingBy}
-use Rattle.std.proofs.lemmas.Bool.{and_from, and_parts, cases_lt}
+use Rattle.std.proofs.lemmas.Bool.{and_from, cases_lt}
 use Rattle.std.proofs.lemmas.Bool.Decides.{nat_tests}
 use Rattle.std.proofs.lemmas.List.{length-map}
 use Rattle.std.proofs.lemmas.List.Elements.{All-map}
@@ -21,7 +21,7 @@ use Rattle.sh_tree.specs.program.Trees as trees
 use Rattle.sh_tree.proofs.ProgramRules.{command_of-out}
 use Rattle.sh_commands.specs.Commands.{commands_of}
 use Rattle.sh_table.specs.Sites.{site_of}
-use Rattle.sh_table.specs.Surroundings.{Surroundings, Located, outside, items_located}
+use Rattle.sh_table.specs.Surroundings.{Located, outside, items_located}
 use Rattle.sh_facts.specs.Entries.{Entered, script_entered}
 use Rattle.sh_facts.specs.Reading.{AreLoops, is_loop, kind_loops}
 use Rattle.sh_facts.specs.Readings.{command_number}

@@ -49,8 +49,7 @@ fn settle(subject: &Subject<'_>, draft: &mut Draft) -> Result<(), AllocError>
 ///
 /// # Errors
 ///
-/// Where a growth was refused or no place for a row is left; and where a rule asks for a place or a name that the script does not have, as no
-/// rule does of a script that is read.
+/// Where a growth was refused or no place for a row is left; and where a turn lowers nothing though not all is kept (`turn`).
 pub fn find(alloc: Global, subject: &Subject<'_>) -> Result<Certificate, AllocError>
     requires { IsAdmitted subject.now.script.now subject.now.policy.now subject.now.tree.now subject.now.names.now }
     ensures { IfOk result (λ c. IsGreatest subject.now.script.now subject.now.policy.now subject.now.tree.now subject.now.names.now (sheet_by subject.now.names.now c)) }
