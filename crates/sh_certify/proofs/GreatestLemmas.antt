@@ -1,8 +1,12 @@
 -- What is found is the greatest certificate.
-use Rattle.std.proofs.Common.{◌≡◌, ℕ, ◌+◌, ◌<◌, ◌≤◌, cond, Bool, true, false, List, length, refl, sym, subst, arith}
+use Rattle.std.proofs.Common.{◌≡◌, ℕ, ◌+◌, ◌<◌, ◌≤◌, cond, Bool, true, false, List, map, length, refl, sym, subst, arith}
+use Rattle.std.specs.Borrow.{Bor}
+use Rattle.std.specs.List.Sorted.{IsPermutation}
+use Rattle.sh_tree.specs.declared.tree.Command.{Command}
 use Rattle.sh_tree.specs.declared.tree.Script.{Script}
 use Rattle.sh_tree.specs.program.Syntax.{Text}
 use Rattle.sh_tree.specs.program.Trees.{script_of}
+use Rattle.sh_commands.specs.Commands.{commands_of}
 use Rattle.sh_facts.specs.declared.certificate.Certificate as kept
 use Rattle.sh_facts.specs.Facts.{Declared}
 use Rattle.sh_facts.specs.Faults.{faults}
@@ -18,11 +22,20 @@ use Rattle.sh_certify.specs.First.{ClaimsAll, DropsNothing}
 use Rattle.sh_certify.specs.Turns.{sheet_by, IsTurn, IsSettled}
 use Rattle.sh_certify.specs.Working.{IsWorking, height}
 use Rattle.sh_certify.proofs.AboveLemmas.{first_above}
+use Rattle.sh_certify.proofs.LoopsLemmas.{all_counted}
 use Rattle.sh_certify.proofs.SheetLemmas.{fits_there, has_text, known_there}
 
 -- the names of a script that is admitted are numbered
 pub numbered : (b : List ℕ) (d : Declared) (t : Script) (names : List Text) → IsAdmitted b d t names → AreNumbered names
 numbered b d t names a = names_suffice.numbered b t d names a.numbered.0 a.numbered.1
+
+-- it has no more commands than a text of a certificate may have
+pub few_commands : (b : List ℕ) (d : Declared) (t : Script) (names : List Text) → IsAdmitted b d t names → (cs : List (Bor Command)) → IsPermutation (commands_of t) (map (λ (c : Bor Command). c.now) cs)
+    → length cs ≤ 65535
+few_commands b d t names a cs same =
+    let all = all_counted b t a.reading.1.0 a.reading.1.1 cs same in
+    let few = a.reading.1.2 in
+    omega (arith, all, few)
 
 -- Turns one after the other
 

@@ -1,3 +1,6 @@
+pub mod CountedLemmas
+pub mod LoopsLemmas
+pub mod AroundLemmas
 pub mod KeptLemmas
 pub mod LowerLemmas
 pub mod HeightLemmas
@@ -14,3 +17,4 @@ pub mod SweepLemmas
 pub mod MetLemmas
 pub mod PlacedLemmas
 pub mod KnownLemmas
+pub mod ThereLemmas

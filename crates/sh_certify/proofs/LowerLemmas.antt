@@ -26,7 +26,7 @@ use Rattle.sh_facts.specs.declared.certificate.FunctionEntry.{FunctionEntry}
 use Rattle.sh_certify.specs.declared.place.Part.TheVariants.{Head}
 use Rattle.sh_certify.specs.declared.place.Place.{Place}
 use Rattle.sh_certify.specs.Places.{same, at, is_of_command, is_of_function, kept_at, drops_at, IsPut, IsDropped}
-use Rattle.sh_certify.specs.Working.{Sets, sets_of, joined, claims, dropped, AreWithin, AreBelow, IsFine, AreFine, IsWorking, IsLowered, IsCounted}
+use Rattle.sh_certify.specs.Working.{Sets, sets_of, names_of, joined, claims, dropped, AreWithin, AreBelow, IsFine, AreFine, IsWorking, IsLowered, IsCounted}
 use Rattle.sh_certify.specs.Writable.{sets_in, IsWritten}
 use Rattle.sh_certify.proofs.KeptLemmas.{place_same}
 
@@ -65,6 +65,17 @@ drops_kept rows vars functions f v g a b is same =
     let left : holds_at rows.rows v.index ≡ numbers_of vars = ap vars_of e in
     let right : holds_at rows.rows g.index ≡ numbers_of functions = ap functions_of e in
     ap₂ (λ (x y : ℕ → Bool). record { vars = x; functions = y }) left right
+
+pub drops_known : (rows : KeptRows) (vars functions : NumberSet) (f : value.Facts) (b : ℕ) → f ≡ value_kind.NotReached → fact_of rows.rows f ≡ Known (numbers_of vars) (numbers_of functions) b → ⊥
+unfolding fact_of
+drops_known rows vars functions f b is same =
+    let e : fact_of rows.rows value_kind.NotReached ≡ Known (numbers_of vars) (numbers_of functions) b = ap (fact_of rows.rows) (sym is) ∙ same in
+    let wrong : NotReached ≡ Known (numbers_of vars) (numbers_of functions) b = e in
+    true≢false (ap is_none wrong)
+  where
+    is_none : Facts → Bool
+    is_none NotReached = true
+    is_none (Known v g a) = false
 
 -- Names that may stand
 
@@ -216,6 +227,32 @@ module _ (names : List Text) (loops : List Bool) (m : ℕ) (old mid new : Certif
     where
       some_facts : (x y : value.Facts) → Some x ≡ Some y → x ≡ y
       some_facts x y e = cc
+
+-- Where nothing is lowered
+
+pub nothing_claimed : (c : Certificate) (p : Place) (o : Option value.Facts) → o ≡ kept_at c p → o ≡ None → (f : Facts) → claims c p ≡ Some f → ⊥
+unfolding claims
+nothing_claimed c p o at none f e = true≢false (ap is_some (sym e ∙ ap (option_map (fact_of c.rows.rows)) (sym at ∙ none)))
+
+pub claimed_is : (c : Certificate) (p : Place) (g : value.Facts) → kept_at c p ≡ Some g → (f : Facts) → claims c p ≡ Some f → fact_of c.rows.rows g ≡ f
+unfolding claims
+claimed_is c p g at f e = let same : Some (fact_of c.rows.rows g) ≡ Some f = sym (ap (option_map (fact_of c.rows.rows)) at) ∙ e in cc
+
+pub names_within : (s : Sight) (f : Facts) (z : Sets) → sight_facts s ≡ f → AreWithin (names_of f) z → AreWithin (sets_in s.vars s.functions) z
+unfolding names_of
+names_within s f z e w = subst (λ (g : Facts). AreWithin (names_of g) z) (sym e) w
+
+pub nothing_dropped : (c : Certificate) (i : ℕ) (o : Option Drops) → o ≡ drops_at c i → o ≡ None → (s : Sets) → dropped c i ≡ Some s → ⊥
+unfolding dropped
+nothing_dropped c i o at none s e = true≢false (ap is_some (sym e ∙ ap (option_map (sets_of c.rows)) (sym at ∙ none)))
+
+pub dropped_is : (c : Certificate) (i : ℕ) (d : Drops) → drops_at c i ≡ Some d → (s : Sets) → dropped c i ≡ Some s → sets_of c.rows d ≡ s
+unfolding dropped
+dropped_is c i d at s e = let same : Some (sets_of c.rows d) ≡ Some s = sym (ap (option_map (sets_of c.rows)) at) ∙ e in cc
+
+pub union_within : (rows : KeptRows) (d : Drops) (old new z : Sets) → ((k : ℕ) → new.vars k ≡ (holds_at rows.rows d.vars.index k || old.vars k))
+    → ((k : ℕ) → new.functions k ≡ (holds_at rows.rows d.functions.index k || old.functions k)) → AreWithin (joined old (sets_of rows d)) z → AreWithin new z
+union_within rows d old new z v f w = record { vars = λ k e. w.vars k (sym (v k) ∙ e); functions = λ k e. w.functions k (sym (f k) ∙ e) }
 
 -- Drops that are added to
 

@@ -9,3 +9,4 @@ pub mod Turns
 pub mod Together
 pub mod Spots
 pub mod Sweeps
+pub mod There

@@ -8,7 +8,7 @@ use Rattle.sh_facts.specs.declared.certificate.Drops.{Drops}
 use Rattle.sh_facts.specs.declared.certificate.Facts as value
 use Rattle.sh_facts.specs.KeptRows.{KeptRows, holds_at}
 use Rattle.sh_facts.specs.RoundTrips.{FactsPass, SetsPass}
-use Rattle.sh_find.specs.Facts.{Facts, Known, IsWithin, meet}
+use Rattle.sh_find.specs.Facts.{Facts, NotReached, Known, IsWithin, meet}
 use Rattle.sh_find.specs.Kept.{fact_of, IsPlaced}
 use Rattle.sh_find.specs.Lowers.{IsNumbered, rank}
 use Rattle.sh_certify.specs.declared.place.Part.TheVariants.{Before, Zero, Nonzero, Head, Entered, ReturnZero, ReturnNonzero}
@@ -34,6 +34,11 @@ dropped c i = option_map (sets_of c.rows) (drops_at c i)
 
 abbrev pub joined : Sets → Sets → Sets
 joined s z = record { vars = λ k. z.vars k || s.vars k; functions = λ k. z.functions k || s.functions k }
+
+-- the names of facts
+unfoldable pub names_of : Facts → Sets
+names_of NotReached = record { vars = λ k. false; functions = λ k. false }
+names_of (Known v f a) = record { vars = v; functions = f }
 
 -- all of the first are of the second
 pub record AreWithin (s z : Sets) : Type 0 where

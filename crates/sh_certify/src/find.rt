@@ -20,9 +20,6 @@ use sh_rows::bits::BitRow;
 use sh_rows::row::Row;
 use std::alloc::{AllocError, Global};
 
-/// As many commands as a text of a certificate may have.
-const MOST_COMMANDS: usize = 65_535;
-
 // Sweeps over the commands, and takes a turn, until the certificate keeps all flow rules. Each time there are twice as many sweeps, so of a script that takes
 // many there are few turns.
 fn settle(subject: &Subject<'_>, draft: &mut Draft) -> Result<(), AllocError>
@@ -52,16 +49,12 @@ fn settle(subject: &Subject<'_>, draft: &mut Draft) -> Result<(), AllocError>
 ///
 /// # Errors
 ///
-/// Where a growth was refused or no place for a row is left; and where a rule asks for a place or a name that the script does not have, as no
-/// rule does of a script that is read.
+/// Where a growth was refused or no place for a row is left; and where a turn lowers nothing though not all is kept (`turn`).
 pub fn find(alloc: Global, subject: &Subject<'_>) -> Result<Certificate, AllocError>
     requires { IsAdmitted subject.now.script.now subject.now.policy.now subject.now.tree.now subject.now.names.now }
     ensures { IfOk result (λ c. IsGreatest subject.now.script.now subject.now.policy.now subject.now.tree.now subject.now.names.now (sheet_by subject.now.names.now c)) }
 {
     let commands = commands(alloc, subject.tree)?;
-    if commands.len() > MOST_COMMANDS {
-        return Err(AllocError);
-    }
     let count = subject.names.count();
     let functions = subject.table.functions().len();
     let certificate = unreached(alloc, count, &commands, functions)?;

@@ -1,11 +1,13 @@
 //! What a certificate claims at a place is lowered to what is known there, and what a function may drop is added to.
-ghost use Rattle.std.specs.Prelude.{◌≡◌, ◌<◌, ◌≤◌, ◌&&◌, ℕ, List, Bool, true, not, length, Some, IfOk};
+ghost use Rattle.std.specs.Prelude.{◌≡◌, ◌<◌, ◌≤◌, ◌&&◌, ℕ, List, Bool, true, false, not, length, Some, IfOk};
 ghost use Rattle.sh_tree.specs.declared.limits.TheConstants.{MAX_NAMES};
 ghost use Rattle.sh_facts.specs.KeptRows.{Stay, holds_at};
 ghost use Rattle.sh_find.specs.Kept.{numbers_of, sight_facts, IsNamed};
 ghost use Rattle.sh_facts.specs.declared.certificate.Drops as drops;
 ghost use Rattle.sh_certify.specs.Places.{drops_at};
-ghost use Rattle.sh_certify.specs.Working.{AreBelow, AreFine, AreWithin, IsCounted, IsLowered, IsWorking, sets_of};
+ghost use Rattle.sh_find.specs.Facts as fact;
+ghost use Rattle.sh_find.specs.Facts.{IsWithin, meet};
+ghost use Rattle.sh_certify.specs.Working.{AreBelow, AreFine, AreWithin, IsCounted, IsLowered, IsWorking, Sets, claims, dropped, joined, names_of, sets_of};
 ghost use Rattle.sh_certify.specs.Writable.{IsWritten, sets_in};
 
 use crate::kept::{drops_of, facts_at, put, put_drops};
@@ -20,11 +22,12 @@ use sh_find::solution::{is_within, keep, meet_facts};
 use sh_rows::bits::BitRow;
 use std::alloc::AllocError;
 
-/// Puts the claim of a place to what it and what is known there both claim, if it is there and claims more, and says whether it did.
+/// Puts the claim of a place to what it and what is known there both claim, if it is there, claims more, and what is left names only what a text
+/// of a certificate may name; says whether it did.
 ///
 /// # Errors
 ///
-/// Where a growth was refused, no place for a row is left, or what is left names what no text of a certificate may name.
+/// Where a growth was refused or no place for a row is left.
 pub fn lower(
     names: &Names,
     writable: &Writable,
@@ -42,6 +45,8 @@ pub fn lower(
         → IsLowered certificate.old certificate.new place (sight_facts known) changed) }
     ensures working { IfOk result (λ changed. (loops : List Bool) (functions : ℕ) → IsWorking names.now loops functions certificate.old
         → IsWorking names.now loops functions certificate.new) }
+    ensures idle { IfOk result (λ changed. changed ≡ false → (f : fact.Facts) → claims certificate.old place ≡ Some f → ¬ (IsWithin f (sight_facts known))
+        → ¬ (AreWithin (names_of (meet f (sight_facts known))) (sets_in writable.now.vars writable.now.functions))) }
     ensures probed { IfOk result (λ changed. probe.new.count ≡ length names.now) }
 {
     let Some(facts) = facts_at(certificate, place) else {
@@ -52,7 +57,7 @@ pub fn lower(
     }
     meet_facts(&certificate.rows, facts, &mut known);
     if !writable.has(&known.vars, &known.functions) {
-        return Err(AllocError);
+        return Ok(false);
     }
     let kept = keep(&mut certificate.rows, probe, &known)?;
     put(certificate, place, kept)?;
@@ -62,7 +67,8 @@ pub fn lower(
 // Whether these may be dropped.
 fn are_in_rows(rows: &Rows, drops: Drops, vars: &NumberSet, functions: &NumberSet) -> bool
     requires { rows.now.count ≤ MAX_NAMES }
-    ensures { AreWithin (sets_in vars.now functions.now) (sets_of rows.now drops) → result ≡ true }
+    ensures all { AreWithin (sets_in vars.now functions.now) (sets_of rows.now drops) → result ≡ true }
+    ensures there { result ≡ true → AreWithin (sets_in vars.now functions.now) (sets_of rows.now drops) }
 {
     vars.is_in_row(rows, drops.vars) && functions.is_in_row(rows, drops.functions)
 }
@@ -89,7 +95,7 @@ fn keep_drops(
         args: 0,
     };
     match keep(rows, probe, &sight)? {
-        Facts::NotReached => Err(AllocError),
+        Facts::NotReached => unreachable!(),
         Facts::Known {
             vars,
             functions,
@@ -98,11 +104,12 @@ fn keep_drops(
     }
 }
 
-/// Lets the function of an index drop these variables and these functions too, if it is there and may not yet, and says whether it did.
+/// Lets the function of an index drop these variables and these functions too, if it is there, may not yet, and a text of a certificate may name
+/// them; says whether it did.
 ///
 /// # Errors
 ///
-/// Where a growth was refused, no place for a row is left, or these names are such as no text of a certificate may name.
+/// Where a growth was refused or no place for a row is left.
 pub fn count(
     names: &Names,
     writable: &Writable,
@@ -122,6 +129,8 @@ pub fn count(
         → IsCounted certificate.old certificate.new index (sets_in vars functions) changed) }
     ensures working { IfOk result (λ changed. (loops : List Bool) (defined : ℕ) → IsWorking names.now loops defined certificate.old
         → IsWorking names.now loops defined certificate.new) }
+    ensures idle { IfOk result (λ changed. changed ≡ false → (s : Sets) → dropped certificate.old index ≡ Some s → ¬ (AreWithin (sets_in vars functions) s)
+        → ¬ (AreWithin (joined (sets_in vars functions) s) (sets_in writable.now.vars writable.now.functions))) }
     ensures probed { IfOk result (λ changed. probe.new.count ≡ length names.now) }
 {
     let Some(drops) = drops_of(certificate, index) else {
@@ -133,7 +142,7 @@ pub fn count(
     vars.join_row(&certificate.rows, drops.vars);
     functions.join_row(&certificate.rows, drops.functions);
     if !writable.has(&vars, &functions) {
-        return Err(AllocError);
+        return Ok(false);
     }
     let kept = keep_drops(&mut certificate.rows, probe, vars, functions)?;
     put_drops(certificate, index, kept);

@@ -85,7 +85,7 @@ fn lower_known(
 ///
 /// # Errors
 ///
-/// Where a growth was refused or no place for a row is left; and where a name is asked for that no text of a certificate may have.
+/// Where a growth was refused or no place for a row is left.
 pub fn lower_gathered(
     names: &Names,
     writable: &Writable,
@@ -153,8 +153,8 @@ fn attempt(
 ///
 /// # Errors
 ///
-/// Where a growth was refused or no place for a row is left; and where a rule asks for a place, a name or a loop that the script does not have,
-/// as no rule does of a script that is read.
+/// Where a growth was refused or no place for a row is left; and where nothing is lowered twice though not all is kept. Each place of which a rule asks
+/// is there (`laws::places`), so no script that is read is known to come to that, but it is not proved that none does.
 pub fn turn(
     subject: &Subject<'_>,
     certificate: &mut Certificate,

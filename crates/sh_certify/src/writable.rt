@@ -5,6 +5,7 @@ ghost use Rattle.sh_tree.specs.language.Bytes.{is_name};
 ghost use Rattle.sh_tree.specs.program.Syntax.{Text};
 ghost use Rattle.sh_facts.specs.Forms as form;
 ghost use Rattle.sh_find.specs.Kept.{numbers_of};
+ghost use Rattle.sh_certify.specs.Working.{AreWithin};
 ghost use Rattle.sh_certify.specs.Writable.{IsWritten, sets_in};
 
 use sh_facts::names::Names;
@@ -52,7 +53,8 @@ impl Writable {
 
     /// Whether a text may have these variables and these functions.
     pub fn has(&self, vars: &NumberSet, functions: &NumberSet) -> bool
-        ensures { result ≡ true → (names : List Text) → IsWritten names (sets_in self.now.vars self.now.functions) → IsWritten names (sets_in vars.now functions.now) }
+        ensures written { result ≡ true → (names : List Text) → IsWritten names (sets_in self.now.vars self.now.functions) → IsWritten names (sets_in vars.now functions.now) }
+        ensures all { AreWithin (sets_in vars.now functions.now) (sets_in self.now.vars self.now.functions) → result ≡ true }
     {
         vars.is_within(&self.vars) && functions.is_within(&self.functions)
     }

@@ -5,8 +5,15 @@ use Rattle.sh_facts.specs.Reading.{AreLoops}
 use Rattle.sh_facts.specs.ReadParts.{loops_of}
 use Rattle.sh_accept.specs.Accepted.{functions_in}
 use Rattle.sh_certify.proofs.AboveLemmas.{first_above}
-use Rattle.sh_certify.proofs.GreatestLemmas.{is_greatest_of, numbered}
+use Rattle.sh_certify.proofs.GreatestLemmas.{few_commands, is_greatest_of, numbered}
 use Rattle.sh_certify.proofs.find.find.Goals as goal
+
+pub unreached-requires : goal.unreached-requires
+unreached-requires c =
+    let s = c.args.subject.now in
+    let few = few_commands s.script.now s.policy.now s.tree.now s.names.now c.requires c.in_ok-commands.commands.items c.in_ok-commands.ensures.same in
+    let same : length c.deref.result.now ≡ length c.in_ok-commands.commands.items = ap length c.deref.ensures.value in
+    omega (arith, few, same)
 
 pub settle-requires : goal.settle-requires
 settle-requires c =
@@ -34,6 +41,7 @@ returns c =
     let are : AreLoops s.tree.now loops = record { commands = c.in_ok-commands.commands.items; all = c.in_ok-commands.ensures.same; ordered = c.in_ok-commands.ensures.ordered; each = ap loops_of c.deref.ensures.value } in
     let long : length loops ≡ length c.deref.result.now = length-map c.deref.result.now _ in
     let low : length c.deref.result.now ≡ length c.in_ok-commands.commands.items = ap length c.deref.ensures.value in
+    let few = few_commands s.script.now s.policy.now s.tree.now s.names.now c.requires c.in_ok-commands.commands.items c.in_ok-commands.ensures.same in
     let working = c.in_ok-certificate.ensures.working s.names.now (sym c.count-count.ensures.count) in
     is_greatest_of s.script.now s.policy.now s.tree.now s.names.now c.requires loops are m same c.in_ok-certificate.certificate c.settle.new.draft.certificate working c.in_ok-certificate.ensures.claims
-    c.in_ok-certificate.ensures.drops (c.in_ok-settle.ensures loops m working) c.count-count.ensures.distinct (omega (arith, long, low, c.if-len-gt-MOST_COMMANDS.false, c.len.ensures)) (omega (arith, c.functions-functions.ensures.few))
+    c.in_ok-certificate.ensures.drops (c.in_ok-settle.ensures loops m working) c.count-count.ensures.distinct (omega (arith, long, low, few)) (omega (arith, c.functions-functions.ensures.few))

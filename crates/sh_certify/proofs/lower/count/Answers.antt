@@ -1,7 +1,7 @@
-use Rattle.std.proofs.Common.{refl, sym, ◌∙◌, subst, true≢false}
-use Rattle.sh_certify.specs.Working.{AreBelow}
+use Rattle.std.proofs.Common.{◌≡◌, None, rules, refl, sym, ◌∙◌, subst, true≢false}
+use Rattle.sh_certify.specs.Working.{AreBelow, AreWithin, Sets, joined}
 use Rattle.sh_certify.specs.Writable.{sets_in}
-use Rattle.sh_certify.proofs.LowerLemmas.{drops_there, union_below, union_kept, fine_drops, is_counted, counting_works}
+use Rattle.sh_certify.proofs.LowerLemmas.{dropped_is, nothing_dropped, union_within, drops_there, union_below, union_kept, fine_drops, is_counted, counting_works}
 use Rattle.sh_certify.proofs.lower.count.Goals as goal
 
 pub keep_drops-requires-clause-below : goal.keep_drops-requires-clause-below
@@ -18,7 +18,7 @@ returns-clause-counted c = λ loops defined working.
     is_counted c.args.names.now loops defined c.args.certificate.now _ c.put_drops.new.certificate c.args.index c.in-Some.drops c.in_ok-kept.kept (sets_in c.args.vars c.args.functions) (sym c.drops_of.ensures ∙ c.in-Some.is)
     c.in_ok-kept.ensures.stay c.in_ok-kept.ensures.count refl refl refl c.put_drops.ensures
     (union_kept c.args.certificate.now.rows c.keep_drops.new.rows c.in-Some.drops c.in_ok-kept.kept (sets_in c.args.vars c.args.functions) (sets_in c.join_row.new.self c.join_row-2.new.self) c.in_ok-kept.ensures.sets c.join_row.ensures c.join_row-2.ensures)
-    working (λ h. true≢false (sym (c.are_in_rows.ensures h) ∙ c.if-are_in_rows.false))
+    working (λ h. true≢false (sym (c.are_in_rows.ensures.all h) ∙ c.if-are_in_rows.false))
 
 pub returns-clause-working : goal.returns-clause-working
 returns-clause-working c = λ loops defined working.
@@ -29,4 +29,21 @@ returns-clause-working c = λ loops defined working.
     (fine_drops c.args.names.now c.keep_drops.new.rows c.in_ok-kept.kept (sets_in c.join_row.new.self c.join_row-2.new.self) c.in_ok-kept.ensures.sets c.in_ok-kept.ensures.vars c.in_ok-kept.ensures.functions
     (union_below c.args.names.now c.args.certificate.now.rows c.in-Some.drops (sets_in c.args.vars c.args.functions) (sets_in c.join_row.new.self c.join_row-2.new.self)
     (c.requires.fine c.in-Some.drops (sym c.drops_of.ensures ∙ c.in-Some.is)).below c.requires.below c.join_row.ensures c.join_row-2.ensures)
-    (c.has.ensures c.if-not-has.false c.args.names.now c.requires.written))
+    (c.has.ensures.written c.if-not-has.false c.args.names.now c.requires.written))
+
+pub returns-in_default-clause-idle : goal.returns-in_default-clause-idle
+returns-in_default-clause-idle c = λ e s at_i. λ out. λ w.
+    let none : c.drops_of.result ≡ None = search rules in
+    nothing_dropped c.args.certificate.now c.args.index c.drops_of.result c.drops_of.ensures none s at_i
+
+pub returns-then-are_in_rows-clause-idle : goal.returns-then-are_in_rows-clause-idle
+returns-then-are_in_rows-clause-idle c = λ e s at_i. λ out. λ w.
+    let same = dropped_is c.args.certificate.now c.args.index c.in-Some.drops (sym c.drops_of.ensures ∙ c.in-Some.is) s at_i in
+    out (subst (AreWithin (sets_in c.args.vars c.args.functions)) same (c.are_in_rows.ensures.there c.if-are_in_rows.true))
+
+pub returns-then-not-has-clause-idle : goal.returns-then-not-has-clause-idle
+returns-then-not-has-clause-idle c = λ e s at_i. λ out. λ w.
+    let same = dropped_is c.args.certificate.now c.args.index c.in-Some.drops (sym c.drops_of.ensures ∙ c.in-Some.is) s at_i in
+    let may : Sets = sets_in c.args.writable.now.vars c.args.writable.now.functions in
+    let all = subst (λ (z : Sets). AreWithin (joined (sets_in c.args.vars c.args.functions) z) may) (sym same) w in
+    true≢false (sym (c.has.ensures.all (union_within c.args.certificate.now.rows c.in-Some.drops (sets_in c.args.vars c.args.functions) (sets_in c.join_row.new.self c.join_row-2.new.self) may c.join_row.ensures c.join_row-2.ensures all)) ∙ c.if-not-has.true)

@@ -1,7 +1,9 @@
-use Rattle.std.proofs.Common.{refl, sym, ◌∙◌, true≢false}
+use Rattle.std.proofs.Common.{◌≡◌, None, rules, refl, sym, ap, ◌∙◌, subst, true≢false}
+use Rattle.sh_find.specs.Facts.{Facts, IsWithin, meet}
 use Rattle.sh_find.specs.Kept.{sight_facts}
+use Rattle.sh_certify.specs.Writable.{sets_in}
 use Rattle.sh_find.proofs.NamedLemmas.{sight_numbered}
-use Rattle.sh_certify.proofs.LowerLemmas.{met_fits, there_still, sight_passes, is_lowered, still_works}
+use Rattle.sh_certify.proofs.LowerLemmas.{claimed_is, names_within, nothing_claimed, met_fits, there_still, sight_passes, is_lowered, still_works}
 use Rattle.sh_certify.proofs.lower.lower.Goals as goal
 
 pub keep-requires-clause-named : goal.keep-requires-clause-named
@@ -21,4 +23,20 @@ returns-clause-working c = λ loops functions working.
     still_works c.args.names.now loops functions c.args.certificate.now _ c.put.new.certificate c.args.place c.in-Some.facts c.in_ok-kept.kept (sight_facts c.args.known) (sym c.facts_at.ensures ∙ c.in-Some.is)
     c.in_ok-kept.ensures.stay c.in_ok-kept.ensures.count refl refl refl c.in_ok-put.ensures (c.in_ok-kept.ensures.facts ∙ c.meet_facts.ensures) working
     c.in_ok-kept.ensures.placed (sight_numbered _ c.args.known c.requires.named)
-    (sight_passes c.args.names.now c.keep.new.rows c.in_ok-kept.kept c.meet_facts.new.sight c.in_ok-kept.ensures.facts (c.has.ensures c.if-not-has.false c.args.names.now c.requires.written))
+    (sight_passes c.args.names.now c.keep.new.rows c.in_ok-kept.kept c.meet_facts.new.sight c.in_ok-kept.ensures.facts (c.has.ensures.written c.if-not-has.false c.args.names.now c.requires.written))
+
+pub returns-in_default-clause-idle : goal.returns-in_default-clause-idle
+returns-in_default-clause-idle c = λ e f at_p. λ out. λ w.
+    let none : c.facts_at.result ≡ None = search rules in
+    nothing_claimed c.args.certificate.now c.args.place c.facts_at.result c.facts_at.ensures none f at_p
+
+pub returns-then-is_within-clause-idle : goal.returns-then-is_within-clause-idle
+returns-then-is_within-clause-idle c = λ e f at_p. λ out. λ w.
+    let same = claimed_is c.args.certificate.now c.args.place c.in-Some.facts (sym c.facts_at.ensures ∙ c.in-Some.is) f at_p in
+    out (subst (λ (g : Facts). IsWithin g (sight_facts c.args.known)) same (c.is_within.ensures.0 c.if-is_within.true))
+
+pub returns-then-not-has-clause-idle : goal.returns-then-not-has-clause-idle
+returns-then-not-has-clause-idle c = λ e f at_p. λ out. λ w.
+    let same = claimed_is c.args.certificate.now c.args.place c.in-Some.facts (sym c.facts_at.ensures ∙ c.in-Some.is) f at_p in
+    let met = c.meet_facts.ensures ∙ ap (λ (g : Facts). meet g (sight_facts c.args.known)) same in
+    true≢false (sym (c.has.ensures.all (names_within c.meet_facts.new.sight (meet f (sight_facts c.args.known)) (sets_in c.args.writable.now.vars c.args.writable.now.functions) met w)) ∙ c.if-not-has.true)
