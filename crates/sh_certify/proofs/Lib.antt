@@ -14,3 +14,4 @@ pub mod SweepLemmas
 pub mod MetLemmas
 pub mod PlacedLemmas
 pub mod KnownLemmas
+pub mod WordLemmas
