@@ -18,3 +18,4 @@ pub mod MetLemmas
 pub mod PlacedLemmas
 pub mod KnownLemmas
 pub mod ThereLemmas
+pub mod WordLemmas

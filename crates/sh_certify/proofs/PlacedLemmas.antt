@@ -53,20 +53,14 @@ module _ (s : Subject) where
   own_part by y k c in_it = own_of by y in_it.seen (trees.command_of s.script.now c) in_it.part
 
   inside_part : (by : FlowRule) (y : Around) (q : Seen) (n offset : ℕ) (kind : p.Kind) (rs : p.Redirects) → IsPart s (e.command_entered by y q (p.command n offset kind rs))
-      → IsPart s (e.kind_entered y n (behind_redirects n rs) kind)
+      → IsPart s (e.redirects_entered (at (Before n)) rs ++ e.kind_entered y n (behind_redirects n rs) kind)
   unfolding e.items_entered
   inside_part by y q n offset kind rs part =
-      last_part s (e.redirects_entered (at (Before n)) rs) (e.kind_entered y n (behind_redirects n rs) kind)
-      (last_part s (record { command = p.command n offset kind rs; rule = by; around = y; seen = q } ∷ []) (e.redirects_entered (at (Before n)) rs ++ e.kind_entered y n (behind_redirects n rs) kind) part)
+      last_part s (record { command = p.command n offset kind rs; rule = by; around = y; seen = q } ∷ []) (e.redirects_entered (at (Before n)) rs ++ e.kind_entered y n (behind_redirects n rs) kind) part
 
   pub inside_placed : (by : FlowRule) (y : Around) (k : Facts) (c : Command) → IsCommand s by y k c → IsInside s y c
   inside_placed by y k c in_it =
       inside_part by y in_it.seen _ _ _ _ (subst (λ m. IsPart s (e.command_entered by y in_it.seen m)) (rules.command_of-out s.script.now c) in_it.part)
-
-  pub inside_as : (y : Around) (c : Command) (k : Kind) (program : p.Kind) → (out-Command c).kind ≡ k → trees.kind_of s.script.now k ≡ program → IsInside s y c
-      → IsPart s (e.kind_entered y (out-Command c).number (behind_redirects (out-Command c).number (redirects_from s.script.now (out-Command c).redirects)) program)
-  inside_as y c k program is same part =
-      subst (λ m. IsPart s (e.kind_entered y (out-Command c).number (behind_redirects (out-Command c).number (redirects_from s.script.now (out-Command c).redirects)) m)) (ap (trees.kind_of s.script.now) is ∙ same) part
 
   -- The kinds of commands
 

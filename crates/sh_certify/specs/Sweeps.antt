@@ -4,6 +4,7 @@ use Rattle.std.specs.Prelude.{◌≡◌, ℕ, ◌≤◌, List, Bool, true, [], �
 use Rattle.sh_tree.specs.declared.tree.Command.{Command, out-Command}
 use Rattle.sh_tree.specs.declared.tree.AndOr.{AndOr}
 use Rattle.sh_tree.specs.declared.tree.Item.{Item, out-Item}
+use Rattle.sh_tree.specs.declared.tree.Kind.{Kind}
 use Rattle.sh_tree.specs.declared.tree.Link.{Link}
 use Rattle.sh_tree.specs.declared.tree.Pipe.{Pipe}
 use Rattle.sh_tree.specs.program.Lists.{commands_from, items_from, links_from, redirects_from}
@@ -14,15 +15,16 @@ use Rattle.sh_table.specs.Calls.{table_of}
 use Rattle.sh_facts.specs.declared.certificate.Certificate as kept
 use Rattle.sh_facts.specs.declared.rule.FlowRule.{FlowRule}
 use Rattle.sh_facts.specs.declared.rule.FlowRule.TheVariants.{F2}
-use Rattle.sh_facts.specs.Entries.{Around, Entered, behind_redirects, branches_entered, clauses_entered, command_entered, commands_entered, item_after, items_entered, kind_entered, links_entered, list_entered, pipeline_entered, otherwise_entered, otherwise_seen, script_entered}
+use Rattle.sh_facts.specs.Entries.{Around, Entered, behind_redirects, branches_entered, clauses_entered, command_entered, commands_entered, elements_entered, item_after, items_entered, kind_entered, links_entered, list_entered, pipeline_entered, otherwise_entered, otherwise_seen, redirects_entered, script_entered, word_entered}
 use Rattle.sh_facts.specs.Facts.{Facts}
 use Rattle.sh_facts.specs.Faults.{broken}
+use Rattle.sh_facts.specs.Gains.{Gains}
 use Rattle.sh_facts.specs.Knowledge.{knowledge_facts}
 use Rattle.sh_facts.specs.Order.{IsBelow, IsWithin}
 use Rattle.sh_facts.specs.Reading.{claim_fits}
 use Rattle.sh_facts.specs.Rules.{script_bounds}
 use Rattle.sh_facts.specs.Sheets.{Sheet}
-use Rattle.sh_facts.specs.Views.{After, Both, Seen, in_any_case}
+use Rattle.sh_facts.specs.Views.{After, Before, Both, Seen, at, gaining, in_any_case}
 use Rattle.sh_rules.specs.declared.behind.Behind as code
 use Rattle.sh_rules.specs.declared.walk.Course.{Course}
 use Rattle.sh_rules.specs.Above.{SeesWithin}
@@ -108,11 +110,31 @@ module _ (s : Subject) where
   abbrev pub AreLinks : Around → Behind → List (Link × Pipe) → Type 0
   AreLinks y k ls = IsAt (λ o. links_entered y o (links_from s.script.now ls)) k
 
-  -- what stands in a command
+  -- what stands in the redirections of a command, and in it
   abbrev pub IsInside : Around → Command → Type 0
   IsInside y c =
       IsPart
-      (kind_entered y (out-Command c).number (behind_redirects (out-Command c).number (redirects_from s.script.now (out-Command c).redirects)) (trees.kind_of s.script.now (out-Command c).kind))
+      (redirects_entered (at (Before (out-Command c).number)) (redirects_from s.script.now (out-Command c).redirects)
+      ++ kind_entered y (out-Command c).number (behind_redirects (out-Command c).number (redirects_from s.script.now (out-Command c).redirects)) (trees.kind_of s.script.now (out-Command c).kind))
+
+  abbrev pub IsKind : Around → ℕ → Facts → Kind → Type 0
+  IsKind y n k kind = IsIn (λ q. kind_entered y n q (trees.kind_of s.script.now kind)) k
+
+  -- what is left of the elements of a simple command: where its next word is expanded, and behind all its words
+  pub record AreElements (known behind : Facts) (es : p.Elements) : Type 0 where
+    pub seen : Seen
+    pub last : Seen
+    pub part : IsPart (elements_entered seen last es)
+    pub knows : Knows seen known
+    pub knows_last : Knows last behind
+
+  -- a word, or what is left of it
+  abbrev pub IsWord : Facts → p.Word → Type 0
+  IsWord k w = IsIn (λ q. word_entered q w) k
+
+  -- what is known behind something that leaves these set
+  abbrev pub Gained : Gains → Facts → Facts → Type 0
+  Gained g old new = (q : Seen) → Knows q old → Knows (gaining g q) new
 
   -- what is left of a list
   abbrev pub AreItems : FlowRule → Around → Behind → List Item → Type 0

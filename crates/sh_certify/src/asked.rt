@@ -2,13 +2,8 @@
 ghost use Rattle.std.specs.Prelude.{◌≡◌, length};
 ghost use Rattle.sh_tree.specs.program.Trees.{script_of};
 ghost use Rattle.sh_facts.specs.Rules.{script_bounds};
-ghost use Rattle.sh_rules.specs.Steps.{item_step, ran};
-ghost use Rattle.sh_rules.specs.Visits.{command_by};
-ghost use Rattle.sh_rules.specs.Walks as walks;
 ghost use Rattle.sh_accept.specs.Accepted.{IsAdmitted, claims_in, functions_in};
 ghost use Rattle.sh_certify.specs.Gathered.{all_gathered};
-ghost use Rattle.sh_certify.specs.Gathering.{gathering};
-ghost use Rattle.sh_certify.specs.Sweeps.{setting_by};
 ghost use Rattle.sh_certify.specs.Turns.{gathered_of, sheet_by};
 
 use crate::gather::Gather;
@@ -16,14 +11,12 @@ use crate::spot::{index_of, spot_of};
 use crate::subject::Subject;
 use sh_facts::certificate::Certificate;
 use sh_facts::knowledge::Knowledge;
-use sh_rules::around::Around;
 use sh_rules::asked::Asked;
 use sh_rules::claims::Claims;
 use sh_rules::fault::Fault;
 use sh_rules::place::Place;
 use sh_rules::rules::Rules;
-use sh_rules::walk::{Course, walk, walk_over};
-use sh_tree::tree::Item;
+use sh_rules::walk::walk;
 
 /// What is known at the place that is sought, and what its function has to drop.
 impl Asked for Gather {
@@ -88,33 +81,6 @@ pub fn ask(subject: &Subject<'_>, certificate: &Certificate, gather: Gather) -> 
     let start = Knowledge::start(subject.names, subject.policy);
     let mut rules = Rules { asked: gather };
     walk(&claims, &start, subject.tree, &mut rules);
-    let Rules { asked } = rules;
-    asked
-}
-
-/// With all that the flow rules ask of a certificate at an item of a list, from where a walk is in the list; it goes on behind the item.
-pub fn ask_item(
-    subject: &Subject<'_>,
-    certificate: &Certificate,
-    around: &Around<'_>,
-    course: &mut Course,
-    item: &Item,
-    gather: Gather,
-) -> Gather
-    requires sized { certificate.now.rows.count ≡ length subject.now.names.now }
-    requires admitted { IsAdmitted subject.now.script.now subject.now.policy.now subject.now.tree.now subject.now.names.now }
-    ensures { ran (setting_by subject.now certificate.now) course.new (gathered_of result)
-        ≡ item_step (setting_by subject.now certificate.now) (command_by gathering (setting_by subject.now certificate.now)) (walks.around subject.now.script.now around.now)
-        (ran (setting_by subject.now certificate.now) course.old (gathered_of gather)) item.now }
-{
-    let claims = Claims {
-        script: subject.script,
-        names: subject.names,
-        calls: subject.table,
-        certificate,
-    };
-    let mut rules = Rules { asked: gather };
-    walk_over(&claims, around, course, item, &mut rules);
     let Rules { asked } = rules;
     asked
 }

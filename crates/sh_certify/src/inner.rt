@@ -1,93 +1,98 @@
-//! Whether commands stand in the words of an item: a hint, by which it is gone over as a whole.
+//! Whether commands stand in words: a hint, by which words without any are passed over.
 
-use sh_tree::tree::{
-    AndOr, Clause, Command, Element, Kind, Link, ParameterOperator, Part, Pipe, Redirect, Target,
-    Word,
-};
+use sh_tree::tree::{Binary, Element, Expr, ParameterOperator, Part, Redirect, Target, Word};
 
-// Whether a command may stand in a part of a word. What stands in arithmetic and in the words of expansions is not looked at.
-fn is_inner(part: &Part) -> bool {
+#[cycle(holds)]
+fn holds(part: &Part) -> bool {
     match part {
         Part::Plain(_) => false,
         Part::Escaped(_) => false,
         Part::Single(_, _) => false,
         Part::Tilde(_) => false,
         Part::Joined(_) => false,
-        Part::Double(_, parts) => parts.as_slice().iter().any(is_in_quotes),
-        Part::Param(param) => has_word(&param.operator),
-        Part::Arith(_, _) => true,
+        Part::Double(_, parts) => is_one_holding(parts.as_slice()),
+        Part::Param(param) => is_in_operator(&param.operator),
+        Part::Arith(_, expression) => is_in_expression(expression.get()),
         Part::Command(_, _, _) => true,
     }
 }
 
-fn is_in_quotes(part: &Part) -> bool {
-    match part {
-        Part::Param(param) => has_word(&param.operator),
-        Part::Arith(_, _) => true,
-        Part::Command(_, _, _) => true,
-        _ => false,
+#[cycle(holds)]
+fn is_one_holding(parts: &[Part]) -> bool {
+    for part in parts {
+        if holds(part) {
+            return true;
+        }
     }
+    false
 }
 
-fn has_word(operator: &ParameterOperator) -> bool {
+#[cycle(holds)]
+fn is_in_operator(operator: &ParameterOperator) -> bool {
     match operator {
         ParameterOperator::Value => false,
         ParameterOperator::Length => false,
-        ParameterOperator::Use { .. } => true,
-        ParameterOperator::Remove { .. } => true,
+        ParameterOperator::Use { word, .. } => is_one_holding(word.parts.as_slice()),
+        ParameterOperator::Remove { pattern, .. } => is_one_holding(pattern.parts.as_slice()),
     }
 }
 
-fn is_held(word: &Word) -> bool {
-    word.parts.as_slice().iter().any(is_inner)
-}
-
-fn is_target(redirect: &Redirect) -> bool {
-    match &redirect.target {
-        Target::File(_, word) => is_held(word),
-        Target::Here(document) => is_held(&document.body),
-    }
-}
-
-fn is_element(element: &Element) -> bool {
-    match element {
-        Element::Assignment { value, .. } => is_held(value),
-        Element::Word(word) => is_held(word),
-        Element::Redirection(redirect) => is_target(redirect),
-    }
-}
-
-fn is_clause(clause: &Clause) -> bool {
-    clause.patterns.as_slice().iter().any(is_held)
-}
-
-fn in_kind(kind: &Kind) -> bool {
-    match kind {
-        Kind::Simple(elements) => elements.as_slice().iter().any(is_element),
-        Kind::For {
-            words: Some(words),
-            ..
-        } => words.as_slice().iter().any(is_held),
-        Kind::Branches { word, clauses } => {
-            is_held(word) || clauses.as_slice().iter().any(is_clause)
+#[cycle(holds)]
+fn is_in_expression(expression: &Expr) -> bool {
+    match expression {
+        Expr::Constant(_) => false,
+        Expr::Variable(_) => false,
+        Expr::Expansion(part) => holds(part),
+        Expr::Parenthesis(inner) => is_in_expression(inner.get()),
+        Expr::Unary { operand, .. } => is_in_expression(operand.get()),
+        Expr::Chain { first, rest } => {
+            is_in_expression(first.get()) || is_in_operands(rest.as_slice())
         }
-        _ => false,
+        Expr::Choice { condition, yes, no } => {
+            is_in_expression(condition.get())
+                || is_in_expression(yes.get())
+                || is_in_expression(no.get())
+        }
+        Expr::Assign { value, .. } => is_in_expression(value.get()),
     }
 }
 
-fn in_command(command: &Command) -> bool {
-    in_kind(&command.kind) || command.redirects.as_slice().iter().any(is_target)
+#[cycle(holds)]
+fn is_in_operands(rest: &[(Binary, Expr)]) -> bool {
+    for link in rest {
+        if is_in_expression(&link.1) {
+            return true;
+        }
+    }
+    false
 }
 
-fn in_pipe(pipe: &Pipe) -> bool {
-    pipe.parts.as_slice().iter().any(in_command)
+/// Whether a command stands in a word.
+pub fn is_in_word(word: &Word) -> bool {
+    is_one_holding(word.parts.as_slice())
 }
 
-fn in_link(link: &(Link, Pipe)) -> bool {
-    in_pipe(&link.1)
+fn is_in_redirect(redirect: &Redirect) -> bool {
+    match &redirect.target {
+        Target::File(_, word) => is_in_word(word),
+        Target::Here(document) => is_in_word(&document.body),
+    }
 }
 
-/// Whether commands may stand in the words of the commands of an and-or list.
-pub fn holds_commands(list: &AndOr) -> bool {
-    in_pipe(&list.first) || list.rest.as_slice().iter().any(in_link)
+fn is_in_element(element: &Element) -> bool {
+    match element {
+        Element::Assignment { value, .. } => is_in_word(value),
+        Element::Word(word) => is_in_word(word),
+        Element::Redirection(redirect) => is_in_redirect(redirect),
+    }
+}
+
+/// Whether a command stands in the words of redirections, or in the bodies of here-documents.
+pub fn is_in_redirects(redirects: &[Redirect]) -> bool {
+    redirects.iter().any(is_in_redirect)
+}
+
+/// Whether a command stands in the words of a simple command.
+pub fn is_in_elements(elements: &[Element]) -> bool {
+    elements.iter().any(is_in_element)
 }

@@ -2,27 +2,35 @@
 ghost use Rattle.std.specs.Prelude.{◌∷◌, [], ℕ};
 ghost use Rattle.sh_tree.specs.Tree.{text_of};
 ghost use Rattle.sh_tree.specs.declared.tree.Command.{out-Command};
-ghost use Rattle.sh_tree.specs.program.Lists.{parts_from, redirects_from};
+ghost use Rattle.sh_tree.specs.program.Lists.{elements_from, parts_from, redirects_from};
 ghost use Rattle.sh_tree.specs.program.Trees as trees;
-ghost use Rattle.sh_facts.specs.Entries.{behind_redirects, item_seen, link_seen, linked, pipeline_after};
-ghost use Rattle.sh_facts.specs.Gains.{redirects_gains, word_gains};
+ghost use Rattle.sh_facts.specs.Entries.{behind_redirects, item_seen, link_seen, linked, operand_seen, pipeline_after};
+ghost use Rattle.sh_facts.specs.Gains.{assigned_in, named, redirects_gains, word_gains};
 ghost use Rattle.sh_facts.specs.Knowledge.{knowledge_facts};
+ghost use Rattle.sh_facts.specs.Table.{behind_words};
 ghost use Rattle.sh_facts.specs.Views as views;
 ghost use Rattle.sh_facts.specs.Views.{After, Seen, at, gaining, gaining_names};
+ghost use Rattle.sh_check.specs.Knowing.{action_gains};
 ghost use Rattle.sh_certify.specs.Sweeps.{IsPassed, IsReady, Knows, KnowsBehind, known_behind};
 
 use crate::subject::Subject;
+use sh_check::known::Known;
+use sh_check::own::gain_operands;
 use sh_facts::certificate::Certificate;
 use sh_facts::knowledge::Knowledge;
 use sh_facts::rule::FlowRule;
 use sh_rules::behind::{Behind, item_behind, link_behind, pipe_behind, started};
 use sh_rules::claims::Claims;
-use sh_rules::gains::{gain_redirects, gain_variable, gain_word};
+use sh_rules::gains::{
+    enter_operator, gain_action, gain_assigned, gain_redirects, gain_variable, gain_word,
+};
 use sh_rules::walk::Course;
-use sh_tree::tree::{Command, Item, Link, Pipe, Redirect, Span, Word};
+use sh_tree::tree::{
+    Action, Command, Element, Expr, Item, Link, Pipe, Redirect, Span, Subject as Parameter, Word,
+};
 
-// Where a command is entered.
-fn before_of(subject: &Subject<'_>, certificate: &Certificate, number: u32) -> Knowledge
+/// Where a command is entered.
+pub fn before_of(subject: &Subject<'_>, certificate: &Certificate, number: u32) -> Knowledge
     requires { (probed : ℕ) × IsReady subject.now certificate.now probed }
     ensures { Knows subject.now (at (views.Before number)) (knowledge_facts subject.now.names.now result) }
 {
@@ -226,6 +234,93 @@ pub fn behind_word(
     };
     let mut behind = *known;
     gain_word(&claims, word, &mut behind);
+    behind
+}
+
+/// Behind the command name and the operands of a simple command.
+pub fn behind_operands(
+    subject: &Subject<'_>,
+    certificate: &Certificate,
+    elements: &[Element],
+    known: &Knowledge,
+) -> Knowledge
+    requires { (probed : ℕ) × IsReady subject.now certificate.now probed }
+    ensures { (q : Seen) → Knows subject.now q (knowledge_facts subject.now.names.now known.now)
+        → Knows subject.now (behind_words (elements_from subject.now.script.now elements.now) q) (knowledge_facts subject.now.names.now result) }
+{
+    let mut behind = Known {
+        names: subject.names,
+        knowledge: *known,
+    };
+    gain_operands(elements, subject.script, &mut behind);
+    behind.knowledge
+}
+
+/// In the word behind an operator, where it is expanded.
+pub fn operand_of(
+    subject: &Subject<'_>,
+    certificate: &Certificate,
+    parameter: Parameter,
+    action: Action,
+    known: &Knowledge,
+) -> Knowledge
+    requires { (probed : ℕ) × IsReady subject.now certificate.now probed }
+    ensures { (q : Seen) → Knows subject.now q (knowledge_facts subject.now.names.now known.now)
+        → Knows subject.now (operand_seen action (trees.parameter_of subject.now.script.now parameter) q) (knowledge_facts subject.now.names.now result) }
+{
+    let claims = Claims {
+        script: subject.script,
+        names: subject.names,
+        calls: subject.table,
+        certificate,
+    };
+    let mut inside = *known;
+    enter_operator(&claims, action, parameter, &mut inside);
+    inside
+}
+
+/// Behind an expansion with an operator and a word.
+pub fn behind_action(
+    subject: &Subject<'_>,
+    certificate: &Certificate,
+    parameter: Parameter,
+    action: Action,
+    known: &Knowledge,
+) -> Knowledge
+    requires { (probed : ℕ) × IsReady subject.now certificate.now probed }
+    ensures { (q : Seen) → Knows subject.now q (knowledge_facts subject.now.names.now known.now)
+        → Knows subject.now (gaining (action_gains (trees.parameter_of subject.now.script.now parameter) action) q) (knowledge_facts subject.now.names.now result) }
+{
+    let claims = Claims {
+        script: subject.script,
+        names: subject.names,
+        calls: subject.table,
+        certificate,
+    };
+    let mut behind = *known;
+    gain_action(&claims, action, parameter, &mut behind);
+    behind
+}
+
+/// Behind arithmetic, by the names that it is sure to assign.
+pub fn behind_assigned(
+    subject: &Subject<'_>,
+    certificate: &Certificate,
+    expression: &Expr,
+    known: &Knowledge,
+) -> Knowledge
+    requires { (probed : ℕ) × IsReady subject.now certificate.now probed }
+    ensures { (q : Seen) → Knows subject.now q (knowledge_facts subject.now.names.now known.now)
+        → Knows subject.now (gaining (named (assigned_in (trees.expression_of subject.now.script.now expression.now))) q) (knowledge_facts subject.now.names.now result) }
+{
+    let claims = Claims {
+        script: subject.script,
+        names: subject.names,
+        calls: subject.table,
+        certificate,
+    };
+    let mut behind = *known;
+    gain_assigned(&claims, expression, &mut behind);
     behind
 }
 

@@ -11,22 +11,25 @@ ghost use Rattle.sh_tree.specs.program.Syntax as p;
 ghost use Rattle.sh_tree.specs.program.Trees as trees;
 ghost use Rattle.sh_facts.specs.Entries as entries;
 ghost use Rattle.sh_facts.specs.Entries.{clauses_entered, items_after, kind_entered, word_entered};
+ghost use Rattle.sh_facts.specs.Facts.{NotReached};
 ghost use Rattle.sh_facts.specs.Gains.{word_gains};
 ghost use Rattle.sh_facts.specs.Knowledge.{knowledge_facts};
 ghost use Rattle.sh_facts.specs.Views.{After, Seen, gaining};
 ghost use Rattle.sh_rules.specs.Walks as walks;
-ghost use Rattle.sh_certify.specs.Sweeps.{AreBranches, AreClauses, AreItems, AreLinks, AreParts, IsAndOr, IsCommand, IsIn, IsInside, IsList, IsPart, IsPassed, IsPipe, IsReady, IsSwept, KnowsBehind, known_behind};
+ghost use Rattle.sh_certify.specs.Sweeps.{AreBranches, AreClauses, AreItems, AreLinks, AreParts, IsAndOr, IsCommand, IsIn, IsInside, IsKind, IsList, IsPart, IsPassed, IsPipe, IsReady, IsSwept, KnowsBehind, known_behind};
 
 use crate::draft::Draft;
-use crate::inner::holds_commands;
-use crate::item::settle_item;
+use crate::inner::is_in_elements;
 use crate::known::{
-    behind_link, behind_pipe, behind_word, entry_of, head_of, inside_of, pass_on, process_of,
-    started_in, turn_of,
+    behind_link, behind_pipe, entry_of, head_of, inside_of, pass_on, process_of, started_in,
+    turn_of,
 };
 use crate::own::lower_own;
 use crate::place::Part;
 use crate::subject::Subject;
+use crate::words::{
+    pass_word, sweep_elements, sweep_for_words, sweep_patterns, sweep_redirections,
+};
 use sh_facts::knowledge::Knowledge;
 use sh_facts::rule::FlowRule;
 use sh_rules::around::{Around, alone, in_function};
@@ -37,11 +40,11 @@ use sh_tree::tree::{
 };
 use std::alloc::AllocError;
 
-/// How many levels of commands in one another are gone into. No script that is read has more.
-pub const LEVELS: u32 = 128;
+/// How many levels are gone into: of commands, of parts of words, and of expressions in arithmetic. No script that is read has more, since of 64
+/// levels at most each is a few of these.
+pub const LEVELS: u32 = 2048;
 
-/// Lowers the certificate at each item of a list, and goes on behind the last. So many levels of commands are gone into; what stands further in is
-/// left to turns.
+/// Lowers the certificate at each item of a list, and goes on behind the last. So many levels are gone into; what stands further in is left to turns.
 ///
 /// # Errors
 ///
@@ -68,7 +71,7 @@ pub fn sweep_items(
     Ok(())
 }
 
-/// Lowers the certificate at the commands of an item, and by walks over the item where commands stand in its words; and goes on behind it.
+/// Lowers the certificate at the commands of an item, and goes on behind it.
 ///
 /// # Errors
 ///
@@ -89,7 +92,6 @@ pub fn sweep_item(
     ensures passed { IfOk result (λ unit. IsPassed subject.now course.old course.new item.now) }
 {
     enter_item(subject, draft, levels, around, &*course, item)?;
-    settle_words(subject, draft, around, &*course, item)?;
     pass_on(subject, &draft.certificate, course, item);
     Ok(())
 }
@@ -113,24 +115,6 @@ fn enter_item(
     let inner = around.round_item(item.background);
     let by = item_rule(item.background, course.by);
     sweep_and_or(subject, draft, levels, by, &inner, &known, &item.list)
-}
-
-// Lowers the certificate by walks over an item in whose words commands may stand.
-fn settle_words(
-    subject: &Subject<'_>,
-    draft: &mut Draft,
-    around: &Around<'_>,
-    course: &Course,
-    item: &Item,
-) -> Result<(), AllocError>
-    requires ready { IsReady subject.now draft.old.certificate draft.old.probe.count }
-    requires placed { (others : List tree.Item) × AreItems subject.now course.now.by (walks.around subject.now.script.now around.now) (known_behind subject.now course.now.behind) (item.now ∷ others) }
-    ensures swept { IfOk result (λ unit. IsSwept subject.now draft.old.certificate draft.new.certificate draft.new.probe.count) }
-{
-    if !holds_commands(&item.list) {
-        return Ok(());
-    }
-    settle_item(subject, draft, around, course, item)
 }
 
 #[cycle(sweep)]
@@ -276,10 +260,55 @@ fn sweep_command(
     requires placed { IsCommand subject.now by (walks.around subject.now.script.now around.now) (knowledge_facts subject.now.names.now known.now) command.now }
     ensures swept { IfOk result (λ unit. IsSwept subject.now draft.old.certificate draft.new.certificate draft.new.probe.count) }
 {
-    if levels == 0 || is_simple(&command.kind) {
+    if levels == 0 {
         return lower_command(subject, draft, by, around, known, command);
     }
+    if is_simple(&command.kind) {
+        return sweep_simple(subject, draft, levels - 1, by, around, known, command);
+    }
     sweep_compound(subject, draft, levels - 1, by, around, known, command)
+}
+
+// Lowers the certificate at a simple command, and at those in its words.
+#[cycle(sweep)]
+fn sweep_simple(
+    subject: &Subject<'_>,
+    draft: &mut Draft,
+    levels: u32,
+    by: FlowRule,
+    around: &Around<'_>,
+    known: &Knowledge,
+    command: &Command,
+) -> Result<(), AllocError>
+    requires ready { IsReady subject.now draft.old.certificate draft.old.probe.count }
+    requires placed { IsCommand subject.now by (walks.around subject.now.script.now around.now) (knowledge_facts subject.now.names.now known.now) command.now }
+    ensures swept { IfOk result (λ unit. IsSwept subject.now draft.old.certificate draft.new.certificate draft.new.probe.count) }
+{
+    let kept = lower_own(subject, draft, by, around, known, command, Part::Before)?;
+    sweep_held(subject, draft, levels, around, command)?;
+    if kept {
+        return Ok(());
+    }
+    lower_behind(subject, draft, by, around, known, command)
+}
+
+// Lowers the certificate at the commands in the words of a simple command, if it holds any.
+#[cycle(sweep)]
+fn sweep_held(
+    subject: &Subject<'_>,
+    draft: &mut Draft,
+    levels: u32,
+    around: &Around<'_>,
+    command: &Command,
+) -> Result<(), AllocError>
+    requires ready { IsReady subject.now draft.old.certificate draft.old.probe.count }
+    requires placed { IsInside subject.now (walks.around subject.now.script.now around.now) command.now }
+    ensures swept { IfOk result (λ unit. IsSwept subject.now draft.old.certificate draft.new.certificate draft.new.probe.count) }
+{
+    if !is_in_elements(command.elements()) {
+        return Ok(());
+    }
+    sweep_inside(subject, draft, levels, around, command)
 }
 
 // Lowers the certificate at a command: where it is entered, in it, and behind it.
@@ -375,7 +404,7 @@ fn lower_behind(
     Ok(())
 }
 
-// Lowers the certificate at the lists in a command. What stands in its words is left to walks over its item.
+// Lowers the certificate at the commands in the redirections of a command, and at those in it.
 #[cycle(sweep)]
 fn sweep_inside(
     subject: &Subject<'_>,
@@ -388,32 +417,97 @@ fn sweep_inside(
     requires placed { IsInside subject.now (walks.around subject.now.script.now around.now) command.now }
     ensures swept { IfOk result (λ unit. IsSwept subject.now draft.old.certificate draft.new.certificate draft.new.probe.count) }
 {
-    let inside = inside_of(subject, &draft.certificate, command);
     let number = command.number;
-    match &command.kind {
-        Kind::Simple(_) => Ok(()),
-        Kind::Group(list) => sweep_list(
-            subject,
-            draft,
-            levels,
-            around,
-            FlowRule::F10,
-            &inside,
-            list,
-        ),
+    let redirects = command.redirects.as_slice();
+    sweep_redirections(subject, draft, levels, number, redirects)?;
+    let inside = inside_of(subject, &draft.certificate, command);
+    sweep_kind(
+        subject,
+        draft,
+        levels,
+        around,
+        number,
+        &inside,
+        &command.kind,
+    )
+}
+
+#[cycle(sweep)]
+fn sweep_kind(
+    subject: &Subject<'_>,
+    draft: &mut Draft,
+    levels: u32,
+    around: &Around<'_>,
+    number: u32,
+    known: &Knowledge,
+    kind: &Kind,
+) -> Result<(), AllocError>
+    requires ready { IsReady subject.now draft.old.certificate draft.old.probe.count }
+    requires placed { IsKind subject.now (walks.around subject.now.script.now around.now) number (knowledge_facts subject.now.names.now known.now) kind.now }
+    ensures swept { IfOk result (λ unit. IsSwept subject.now draft.old.certificate draft.new.certificate draft.new.probe.count) }
+{
+    match kind {
+        Kind::Simple(elements) => {
+            sweep_elements(subject, draft, levels, known, elements.as_slice())
+        }
+        Kind::Group(list) => {
+            sweep_list(subject, draft, levels, around, FlowRule::F10, known, list)
+        }
         Kind::Subshell(list) => sweep_subshell(subject, draft, levels, number, list),
+        Kind::Define { name, body } => {
+            sweep_definition(subject, draft, levels, *name, body.get())
+        }
+        _ => sweep_conditional(subject, draft, levels, around, number, known, kind),
+    }
+}
+
+// Lowers the certificate at what stands in `if` or `case`, or in a loop.
+#[cycle(sweep)]
+fn sweep_conditional(
+    subject: &Subject<'_>,
+    draft: &mut Draft,
+    levels: u32,
+    around: &Around<'_>,
+    number: u32,
+    known: &Knowledge,
+    kind: &Kind,
+) -> Result<(), AllocError>
+    requires ready { IsReady subject.now draft.old.certificate draft.old.probe.count }
+    requires placed { IsKind subject.now (walks.around subject.now.script.now around.now) number (knowledge_facts subject.now.names.now known.now) kind.now }
+    ensures swept { IfOk result (λ unit. IsSwept subject.now draft.old.certificate draft.new.certificate draft.new.probe.count) }
+{
+    match kind {
         Kind::Cond {
             branches,
             otherwise,
-        } => sweep_cond(
-            subject,
-            draft,
-            levels,
-            around,
-            &inside,
-            branches.as_slice(),
-            otherwise,
-        ),
+        } => {
+            let branches = branches.as_slice();
+            sweep_cond(subject, draft, levels, around, known, branches, otherwise)
+        }
+        Kind::Branches { word, clauses } => {
+            let clauses = clauses.as_slice();
+            sweep_case(subject, draft, levels, around, known, word, clauses)
+        }
+        _ => sweep_iteration(subject, draft, levels, around, number, known, kind),
+    }
+}
+
+// Lowers the certificate at what stands in a loop.
+#[cycle(sweep)]
+fn sweep_iteration(
+    subject: &Subject<'_>,
+    draft: &mut Draft,
+    levels: u32,
+    around: &Around<'_>,
+    number: u32,
+    known: &Knowledge,
+    kind: &Kind,
+) -> Result<(), AllocError>
+    requires ready { IsReady subject.now draft.old.certificate draft.old.probe.count }
+    requires placed { IsKind subject.now (walks.around subject.now.script.now around.now) number (knowledge_facts subject.now.names.now known.now) kind.now }
+    ensures swept { IfOk result (λ unit. IsSwept subject.now draft.old.certificate draft.new.certificate draft.new.probe.count) }
+{
+    match kind {
         Kind::Loop {
             kind,
             condition,
@@ -421,26 +515,22 @@ fn sweep_inside(
         } => sweep_loop(
             subject, draft, levels, around, number, *kind, condition, body,
         ),
-        Kind::For { name, body, .. } => {
+        Kind::For { name, words, body } => {
+            sweep_for_words(subject, draft, levels, known, words)?;
             sweep_for(subject, draft, levels, around, number, *name, body)
         }
-        Kind::Branches { word, clauses } => sweep_case(
-            subject,
-            draft,
-            levels,
-            around,
-            &inside,
-            word,
-            clauses.as_slice(),
-        ),
-        Kind::Define { name, body } => {
-            sweep_definition(subject, draft, levels, *name, body.get())
-        }
+        _ => Ok(()),
     }
 }
 
+/// Lowers the certificate at a list that a rule enters where this is known.
+///
+/// # Errors
+///
+/// Where a growth was refused or no place for a row is left; and where a rule asks for a name that the script does not have, as no rule does of a
+/// script that is read.
 #[cycle(sweep)]
-fn sweep_list(
+pub fn sweep_list(
     subject: &Subject<'_>,
     draft: &mut Draft,
     levels: u32,
@@ -663,16 +753,57 @@ fn sweep_case(
         (knowledge_facts subject.now.names.now known.now) }
     ensures swept { IfOk result (λ unit. IsSwept subject.now draft.old.certificate draft.new.certificate draft.new.probe.count) }
 {
-    let behind = behind_word(subject, &draft.certificate, word, known);
+    let mut behind = *known;
+    pass_word(subject, draft, levels, &mut behind, word)?;
+    sweep_clauses(subject, draft, levels, around, &behind, clauses)
+}
+
+#[cycle(sweep)]
+fn sweep_clauses(
+    subject: &Subject<'_>,
+    draft: &mut Draft,
+    levels: u32,
+    around: &Around<'_>,
+    behind: &Knowledge,
+    clauses: &[Clause],
+) -> Result<(), AllocError>
+    requires ready { IsReady subject.now draft.old.certificate draft.old.probe.count }
+    requires placed { AreClauses subject.now (walks.around subject.now.script.now around.now) (knowledge_facts subject.now.names.now behind.now)
+        NotReached (clauses_from subject.now.script.now clauses.now) }
+    ensures swept { IfOk result (λ unit. IsSwept subject.now draft.old.certificate draft.new.certificate draft.new.probe.count) }
+{
     let mut fallen = Knowledge::NotReached;
     for clause in clauses {
-        sweep_clause(subject, draft, levels, around, &behind, &mut fallen, clause)?;
+        sweep_clause(subject, draft, levels, around, behind, &mut fallen, clause)?;
     }
     Ok(())
 }
 
 #[cycle(sweep)]
 fn sweep_clause(
+    subject: &Subject<'_>,
+    draft: &mut Draft,
+    levels: u32,
+    around: &Around<'_>,
+    behind: &Knowledge,
+    fallen: &mut Knowledge,
+    clause: &Clause,
+) -> Result<(), AllocError>
+    requires ready { IsReady subject.now draft.old.certificate draft.old.probe.count }
+    requires placed { (others : List case_clause.Clause) × AreClauses subject.now (walks.around subject.now.script.now around.now) (knowledge_facts subject.now.names.now behind.now)
+        (knowledge_facts subject.now.names.now fallen.old) (clauses_from subject.now.script.now (clause.now ∷ others)) }
+    ensures swept { IfOk result (λ unit. IsSwept subject.now draft.old.certificate draft.new.certificate draft.new.probe.count) }
+    ensures passed { IfOk result (λ unit. (others : List case_clause.Clause)
+        → AreClauses subject.now (walks.around subject.now.script.now around.now) (knowledge_facts subject.now.names.now behind.now) (knowledge_facts subject.now.names.now fallen.old) (clauses_from subject.now.script.now (clause.now ∷ others))
+        → AreClauses subject.now (walks.around subject.now.script.now around.now) (knowledge_facts subject.now.names.now behind.now) (knowledge_facts subject.now.names.now fallen.new) (clauses_from subject.now.script.now others)) }
+{
+    sweep_patterns(subject, draft, levels, behind, clause.patterns.as_slice())?;
+    sweep_body(subject, draft, levels, around, behind, fallen, clause)
+}
+
+// Lowers the certificate at the list of a clause, and goes on behind it.
+#[cycle(sweep)]
+fn sweep_body(
     subject: &Subject<'_>,
     draft: &mut Draft,
     levels: u32,

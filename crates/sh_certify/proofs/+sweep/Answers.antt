@@ -1,0 +1,1225 @@
+use Rattle.std.proofs.Common.{rules as std_rules, ap, Bool, length, nat_lt, ◌≡◌, ◌+◌, ◌∷◌, ◌++◌, ◌∙◌, [], ℕ, List, drop, refl, sym, subst}
+use Rattle.std.proofs.lemmas.List.{drop_all}
+use Rattle.sh_tree.specs.Tree.{text_of}
+use Rattle.sh_tree.specs.declared.tree.AndOr.{out-AndOr}
+use Rattle.sh_tree.specs.declared.tree.Branch.{Branch, out-Branch}
+use Rattle.sh_tree.specs.declared.tree.Clause.{Clause, out-Clause}
+use Rattle.sh_tree.specs.declared.tree.Command.{out-Command}
+use Rattle.sh_tree.specs.declared.tree.Element.{Element}
+use Rattle.sh_tree.specs.declared.tree.Item.{Item, out-Item}
+use Rattle.sh_tree.specs.declared.tree.Link.{Link}
+use Rattle.sh_tree.specs.declared.tree.Pipe.{Pipe, out-Pipe}
+use Rattle.sh_tree.specs.program.Lists.{branches_from, clauses_from, elements_from, for_words_from, operands_from, otherwise_from, parts_from, redirects_from, words_from}
+use Rattle.sh_tree.specs.program.Syntax as p
+use Rattle.sh_tree.specs.program.Trees as trees
+use Rattle.sh_tree.specs.program.Trees.{expression_of, operator_of, parameter_of, part_of, script_of, target_of}
+use Rattle.sh_tree.proofs.ProgramRules as program
+use Rattle.sh_facts.specs.declared.rule.FlowRule.TheVariants.{F3, F6, F7, F8, F9, F10, F11, F13}
+use Rattle.sh_facts.specs.Entries as entries
+use Rattle.sh_facts.specs.Entries.{Around}
+use Rattle.sh_facts.specs.Facts.{NotReached, meet}
+use Rattle.sh_facts.specs.Gains.{and_gains, assigned_in, expanded_gains, named, operands_gains, operator_gains, part_gains, redirect_gains, word_gains}
+use Rattle.sh_facts.specs.Knowledge.{knowledge_facts}
+use Rattle.sh_facts.specs.Table.{behind_words}
+use Rattle.sh_facts.specs.Views.{Before, Both, Head, Seen, at, gaining}
+use Rattle.sh_rules.specs.Behind.{both, in_any_case}
+use Rattle.sh_rules.specs.Walks as walks
+use Rattle.sh_rules.specs.Walks.{facts_in}
+use Rattle.sh_rules.proofs.LedLemmas.{turns_led}
+use Rattle.sh_certify.specs.Sweeps.{AreBranches, AreClauses, AreElements, AreItems, AreLinks, AreParts, Gained, IsAndOr, IsCommand, IsIn, IsInside, IsKind, IsList, IsPart, IsPipe, IsReady, IsWord, Knows, known_behind, setting_by}
+use Rattle.sh_certify.proofs.PlacedLemmas.{GoesOn, and_or_placed, at_index, begun_at, body_placed, branch_body, branch_condition, branches_next, branches_placed, case_placed, clause_list, clauses_next, clauses_placed, command_placed, condition_placed, definition_placed, else_placed, for_placed, goes_last, goes_next, group_placed, inside_placed, items_next, known_after, link_placed, links_next, links_placed, parts_next, parts_placed, pipe_placed, subshell_placed}
+use Rattle.sh_certify.proofs.SweepLemmas.{knows_follow, names_numbered, ready_again, stands_of, swept_more, swept_none}
+use Rattle.sh_certify.proofs.WordLemmas.{Along, along_first, along_no_operands, along_no_parts, along_operands, along_parts, arithmetic_gained, arithmetic_placed, assigned_gained, assigned_placed, both_gained, case_word, chain_first, chain_gained, chain_rest, choice_condition, choice_gained, choice_no, choice_yes, clause_patterns, double_gained, double_placed, element_as, elements_first, elements_placed, expanded_gained, expanded_placed, expansion_gained, expansion_placed, expression_as, expression_gained, file_gained, file_placed, for_words_placed, gained_nowhere, here_gained, here_placed, kind_as, kind_placed, link_expression, listed_placed, literal_gained, nothing_gained, operand_inside, operand_next, operand_placed, operands_next, parenthesis_gained, parenthesis_placed, part_as, part_gained, part_placed, pattern_placed, patterns_next, pieces_next, plain_gained, redirect_placed, redirection_next, redirection_placed, redirections_placed, redirects_next, remove_placed, signed_gained, signed_placed, substitution_placed, use_gained, use_placed, value_next, value_placed, word_placed, words_next}
+use Rattle.sh_certify.proofs.+sweep.Goals as goal
+
+pub sweep::enter_item-sweep_and_or-requires : goal.sweep::enter_item-sweep_and_or-requires
+unfolding facts_in
+sweep::enter_item-sweep_and_or-requires t c =
+    let s = c.args.subject.now in
+    let r = c.requires.ready in
+    let at = c.args.course.now in
+    let i = c.args.item.now in
+    let y = walks.around s.script.now c.args.around.now in
+    let k = knowledge_facts s.names.now c.started_in-known.result in
+    let any : knowledge_facts s.names.now c.in_any_case-seen.result ≡ in_any_case (known_behind s at.behind) = c.in_any_case-seen.ensures (setting_by s c.args.draft.now.certificate) in
+    let first = and_or_placed s y at i c.requires.placed.0 k (λ q w. c.started_in-known.ensures q (subst (Knows s q) (sym any) w)) _ (names_numbered s _ _ r) r.over c.requires.placed.1 in
+    let placed : IsAndOr s c.item_rule-by.result (walks.around s.script.now c.round_item-inner.result) k (out-Item i).list =
+    subst (λ by. IsAndOr s by (walks.around s.script.now c.round_item-inner.result) k (out-Item i).list) (sym c.item_rule-by.ensures)
+    (subst (λ z. IsAndOr s (entries.item_rule (out-Item i).background at.by) z k (out-Item i).list) (sym (c.round_item-inner.ensures s.script.now)) first) in
+    search std_rules
+
+pub sweep::sweep_and_or-sweep_pipe-requires : goal.sweep::sweep_and_or-sweep_pipe-requires
+sweep::sweep_and_or-sweep_pipe-requires t c =
+    let s = c.args.subject.now in
+    let y = walks.around s.script.now c.args.around.now in
+    let placed : IsPipe s c.args.by y (knowledge_facts s.names.now c.args.known.now) (out-AndOr c.args.list.now).first = pipe_placed s c.args.by y (knowledge_facts s.names.now c.args.known.now) c.args.list.now c.requires.placed in
+    search std_rules
+
+pub sweep::sweep_and_or-sweep_links-requires : goal.sweep::sweep_and_or-sweep_links-requires
+sweep::sweep_and_or-sweep_links-requires t c =
+    let s = c.args.subject.now in
+    let r = c.requires.ready in
+    let y = walks.around s.script.now c.args.around.now in
+    let ready : IsReady s c.sweep_pipe.new.draft.certificate c.sweep_pipe.new.draft.probe.count = ready_again s _ _ _ _ r c.in_ok-sweep_pipe.ensures.swept in
+    let placed : AreLinks s y (known_behind s c.behind_pipe-behind.result) c.as_slice.result.now =
+    subst (AreLinks s y (known_behind s c.behind_pipe-behind.result)) (sym c.as_slice.ensures)
+    (links_placed s c.args.by y (knowledge_facts s.names.now c.args.known.now) c.args.list.now (known_behind s c.behind_pipe-behind.result) c.behind_pipe-behind.ensures c.requires.placed) in
+    search std_rules
+
+pub sweep::sweep_branch-sweep_items-requires : goal.sweep::sweep_branch-sweep_items-requires
+unfolding facts_in
+sweep::sweep_branch-sweep_items-requires t c =
+    let s = c.args.subject.now in
+    let r = c.requires.ready in
+    let y = walks.around s.script.now c.args.around.now in
+    let k = knowledge_facts s.names.now c.args.known.now in
+    let begun : known_behind s c.begun-course.result.behind ≡ both k = c.begun-course.ensures.behind (setting_by s c.args.draft.now.certificate) in
+    let w = c.requires.placed in
+    let placed : AreItems s c.begun-course.result.by y (known_behind s c.begun-course.result.behind) c.as_slice.result.now =
+    begun_at s y k c.begun-course.result F6 (out-Branch c.args.branch.now).condition c.as_slice.result.now c.begun-course.ensures.by begun c.as_slice.ensures (branch_condition s y k c.args.branch.now w.0 w.1 w.2) in
+    search std_rules
+
+pub sweep::sweep_branch-sweep_list-requires : goal.sweep::sweep_branch-sweep_list-requires
+unfolding facts_in
+sweep::sweep_branch-sweep_list-requires t c =
+    let s = c.args.subject.now in
+    let r = c.requires.ready in
+    let y = walks.around s.script.now c.args.around.now in
+    let ready : IsReady s c.sweep_items.new.draft.certificate c.sweep_items.new.draft.probe.count = ready_again s _ _ _ _ r c.in_ok-sweep_items.ensures.swept in
+    let k = knowledge_facts s.names.now c.args.known.now in
+    let begun : known_behind s c.begun-course.result.behind ≡ both k = c.begun-course.ensures.behind (setting_by s c.args.draft.now.certificate) in
+    let after = known_after s k c.begun-course.result c.sweep_items.new.course (out-Branch c.args.branch.now).condition c.as_slice.result.now begun c.as_slice.ensures c.in_ok-sweep_items.ensures.behind in
+    let w = c.requires.placed in
+    let placed : IsList s F6 y (knowledge_facts s.names.now c.sweep_items.new.course.behind.zero) (script_of s.script.now (out-Branch c.args.branch.now).body) =
+    branch_body s y k _ c.args.branch.now w.0 w.1 (λ q w other keeps. (after q w other keeps).zero) w.2 in
+    search std_rules
+
+pub sweep::sweep_branch-returns-clause-swept : goal.sweep::sweep_branch-returns-clause-swept
+sweep::sweep_branch-returns-clause-swept t c =
+    swept_more c.args.subject.now _ _ _ _ _ c.in_ok-sweep_items.ensures.swept c.in_ok-sweep_list.ensures.swept
+
+pub sweep::sweep_branch-returns-clause-passed : goal.sweep::sweep_branch-returns-clause-passed
+unfolding facts_in
+sweep::sweep_branch-returns-clause-passed t c =
+    λ others z here.
+    let s = c.args.subject.now in
+    let y = walks.around s.script.now c.args.around.now in
+    let k = knowledge_facts s.names.now c.args.known.now in
+    let begun : known_behind s c.begun-course.result.behind ≡ both k = c.begun-course.ensures.behind (setting_by s c.args.draft.now.certificate) in
+    let after = known_after s k c.begun-course.result c.sweep_items.new.course (out-Branch c.args.branch.now).condition c.as_slice.result.now begun c.as_slice.ensures c.in_ok-sweep_items.ensures.behind in
+    branches_next s y k _ c.args.branch.now others z (λ q w other keeps. (after q w other keeps).nonzero) here
+
+pub sweep::sweep_branches-sweep_branch-requires : goal.sweep::sweep_branches-sweep_branch-requires
+sweep::sweep_branches-sweep_branch-requires t c =
+    let s = c.args.subject.now in
+    let r = c.requires.ready in
+    let y = walks.around s.script.now c.args.around.now in
+    let ready : IsReady s c.loop-branch.draft.certificate c.loop-branch.draft.probe.count = ready_again s _ _ _ _ r c.loop-branch.invariant.swept in
+    let here : AreBranches s y (knowledge_facts s.names.now c.loop-branch.known) (branches_from s.script.now (c.branch-item.result ∷ drop (c.loop-branch.branch-index + 1) c.args.branches.now)) (otherwise_from s.script.now c.args.otherwise.now) = subst (λ bs. AreBranches s y (knowledge_facts s.names.now c.loop-branch.known) (branches_from s.script.now bs) (otherwise_from s.script.now c.args.otherwise.now)) (at_index c.args.branches.now c.loop-branch.branch-index c.branch-item.result c.loop-branch-test.true c.branch-item.is) c.loop-branch.invariant.placed in
+    let placed : (others : List Branch) × (z : p.Otherwise) × AreBranches s y (knowledge_facts s.names.now c.loop-branch.known) (branches_from s.script.now (c.branch-item.result ∷ others)) z = (_, _, here) in
+    search std_rules
+
+pub sweep::sweep_branches-loop-branch-preserved : goal.sweep::sweep_branches-loop-branch-preserved
+sweep::sweep_branches-loop-branch-preserved t c =
+    let s = c.args.subject.now in
+    let y = walks.around s.script.now c.args.around.now in
+    let here : AreBranches s y (knowledge_facts s.names.now c.loop-branch.known) (branches_from s.script.now (c.branch-item.result ∷ drop (c.loop-branch.branch-index + 1) c.args.branches.now)) (otherwise_from s.script.now c.args.otherwise.now) = subst (λ bs. AreBranches s y (knowledge_facts s.names.now c.loop-branch.known) (branches_from s.script.now bs) (otherwise_from s.script.now c.args.otherwise.now)) (at_index c.args.branches.now c.loop-branch.branch-index c.branch-item.result c.loop-branch-test.true c.branch-item.is) c.loop-branch.invariant.placed in
+    record { swept = swept_more s _ _ _ _ _ c.loop-branch.invariant.swept c.in_ok-sweep_branch.ensures.swept; placed = c.in_ok-sweep_branch.ensures.passed _ _ here }
+
+pub sweep::sweep_clauses-loop-clause-init : goal.sweep::sweep_clauses-loop-clause-init
+unfolding knowledge_facts
+sweep::sweep_clauses-loop-clause-init t c =
+    let s = c.args.subject.now in
+    let r = c.requires.ready in
+    record { swept = swept_none s _ _ r; placed = c.requires.placed }
+
+pub sweep::sweep_clauses-sweep_clause-requires : goal.sweep::sweep_clauses-sweep_clause-requires
+sweep::sweep_clauses-sweep_clause-requires t c =
+    let s = c.args.subject.now in
+    let r = c.requires.ready in
+    let y = walks.around s.script.now c.args.around.now in
+    let ready : IsReady s c.loop-clause.draft.certificate c.loop-clause.draft.probe.count = ready_again s _ _ _ _ r c.loop-clause.invariant.swept in
+    let here : AreClauses s y (knowledge_facts s.names.now c.args.behind.now) (knowledge_facts s.names.now c.loop-clause.fallen) (clauses_from s.script.now (c.clause-item.result ∷ drop (c.loop-clause.clause-index + 1) c.args.clauses.now)) = subst (λ cs. AreClauses s y (knowledge_facts s.names.now c.args.behind.now) (knowledge_facts s.names.now c.loop-clause.fallen) (clauses_from s.script.now cs)) (at_index c.args.clauses.now c.loop-clause.clause-index c.clause-item.result c.loop-clause-test.true c.clause-item.is) c.loop-clause.invariant.placed in
+    let placed : (others : List Clause) × AreClauses s y (knowledge_facts s.names.now c.args.behind.now) (knowledge_facts s.names.now c.loop-clause.fallen) (clauses_from s.script.now (c.clause-item.result ∷ others)) = (_, here) in
+    search std_rules
+
+pub sweep::sweep_clauses-loop-clause-preserved : goal.sweep::sweep_clauses-loop-clause-preserved
+sweep::sweep_clauses-loop-clause-preserved t c =
+    let s = c.args.subject.now in
+    let y = walks.around s.script.now c.args.around.now in
+    let here : AreClauses s y (knowledge_facts s.names.now c.args.behind.now) (knowledge_facts s.names.now c.loop-clause.fallen) (clauses_from s.script.now (c.clause-item.result ∷ drop (c.loop-clause.clause-index + 1) c.args.clauses.now)) = subst (λ cs. AreClauses s y (knowledge_facts s.names.now c.args.behind.now) (knowledge_facts s.names.now c.loop-clause.fallen) (clauses_from s.script.now cs)) (at_index c.args.clauses.now c.loop-clause.clause-index c.clause-item.result c.loop-clause-test.true c.clause-item.is) c.loop-clause.invariant.placed in
+    record { swept = swept_more s _ _ _ _ _ c.loop-clause.invariant.swept c.in_ok-sweep_clause.ensures.swept; placed = c.in_ok-sweep_clause.ensures.passed _ here }
+
+pub sweep::sweep_body-sweep_items-requires : goal.sweep::sweep_body-sweep_items-requires
+unfolding facts_in
+sweep::sweep_body-sweep_items-requires t c =
+    let s = c.args.subject.now in
+    let r = c.requires.ready in
+    let y = walks.around s.script.now c.args.around.now in
+    let k = knowledge_facts s.names.now c.args.behind.now in
+    let old = knowledge_facts s.names.now c.args.fallen.now in
+    let known = knowledge_facts s.names.now c.met-known.result in
+    let same : known ≡ meet k old = c.met-known.ensures (setting_by s c.args.draft.now.certificate) in
+    let begun : known_behind s c.begun-course.result.behind ≡ both known = c.begun-course.ensures.behind (setting_by s c.args.draft.now.certificate) in
+    let placed : AreItems s c.begun-course.result.by y (known_behind s c.begun-course.result.behind) c.as_slice.result.now =
+    begun_at s y known c.begun-course.result F9 (out-Clause c.args.clause.now).body c.as_slice.result.now c.begun-course.ensures.by begun c.as_slice.ensures
+    (clause_list s y k old known c.args.clause.now c.requires.placed.0 same _ (names_numbered s _ _ r) r.over c.requires.placed.1) in
+    search std_rules
+
+pub sweep::sweep_body-returns-clause-passed : goal.sweep::sweep_body-returns-clause-passed
+unfolding facts_in
+sweep::sweep_body-returns-clause-passed t c =
+    λ others here.
+    let s = c.args.subject.now in
+    let r = c.requires.ready in
+    let y = walks.around s.script.now c.args.around.now in
+    let k = knowledge_facts s.names.now c.args.behind.now in
+    let old = knowledge_facts s.names.now c.args.fallen.now in
+    let known = knowledge_facts s.names.now c.met-known.result in
+    let same : known ≡ meet k old = c.met-known.ensures (setting_by s c.args.draft.now.certificate) in
+    let begun : known_behind s c.begun-course.result.behind ≡ both known = c.begun-course.ensures.behind (setting_by s c.args.draft.now.certificate) in
+    let after = known_after s known c.begun-course.result c.sweep_items.new.course (out-Clause c.args.clause.now).body c.as_slice.result.now begun c.as_slice.ensures c.in_ok-sweep_items.ensures.behind in
+    clauses_next s y k old known (known_behind s c.sweep_items.new.course.behind) _ c.args.clause.now others same (c.falling.ensures (setting_by s c.args.draft.now.certificate)) after _ (names_numbered s _ _ r) c.in_ok-sweep_items.ensures.swept.over here
+
+pub sweep::sweep_compound-sweep_inside-requires : goal.sweep::sweep_compound-sweep_inside-requires
+sweep::sweep_compound-sweep_inside-requires t c =
+    let s = c.args.subject.now in
+    let r = c.requires.ready in
+    let y = walks.around s.script.now c.args.around.now in
+    let ready : IsReady s c.lower_head.new.draft.certificate c.lower_head.new.draft.probe.count = ready_again s _ _ _ _ (ready_again s _ _ _ _ r c.in_ok-lower_own.ensures.swept) c.in_ok-lower_head.ensures.swept in
+    let placed : IsInside s y c.args.command.now = inside_placed s c.args.by y (knowledge_facts s.names.now c.args.known.now) c.args.command.now c.requires.placed in
+    search std_rules
+
+pub sweep::sweep_compound-lower_head-requires-2-clause-ready : goal.sweep::sweep_compound-lower_head-requires-2-clause-ready
+sweep::sweep_compound-lower_head-requires-2-clause-ready t c =
+    let s = c.args.subject.now in
+    let r = c.requires.ready in
+    ready_again s _ _ _ _ (ready_again s _ _ _ _ (ready_again s _ _ _ _ r c.in_ok-lower_own.ensures.swept) c.in_ok-lower_head.ensures.swept) c.in_ok-sweep_inside.ensures.swept
+
+pub sweep::sweep_compound-lower_behind-requires-clause-ready : goal.sweep::sweep_compound-lower_behind-requires-clause-ready
+sweep::sweep_compound-lower_behind-requires-clause-ready t c =
+    let s = c.args.subject.now in
+    let r = c.requires.ready in
+    ready_again s _ _ _ _ (ready_again s _ _ _ _ (ready_again s _ _ _ _ (ready_again s _ _ _ _ r c.in_ok-lower_own.ensures.swept) c.in_ok-lower_head.ensures.swept) c.in_ok-sweep_inside.ensures.swept) c.in_ok-lower_head-2.ensures.swept
+
+pub sweep::sweep_compound-returns : goal.sweep::sweep_compound-returns
+sweep::sweep_compound-returns t c =
+    let s = c.args.subject.now in
+    record {
+      swept = swept_more s _ _ _ _ _
+          (swept_more s _ _ _ _ _ (swept_more s _ _ _ _ _ (swept_more s _ _ _ _ _ c.in_ok-lower_own.ensures.swept c.in_ok-lower_head.ensures.swept) c.in_ok-sweep_inside.ensures.swept) c.in_ok-lower_head-2.ensures.swept)
+          c.in_ok-lower_behind.ensures.swept;
+    }
+
+pub sweep::sweep_cond-sweep_list-requires : goal.sweep::sweep_cond-sweep_list-requires
+sweep::sweep_cond-sweep_list-requires t c =
+    let s = c.args.subject.now in
+    let r = c.requires.ready in
+    let y = walks.around s.script.now c.args.around.now in
+    let ready : IsReady s c.sweep_branches.new.draft.certificate c.sweep_branches.new.draft.probe.count = ready_again s _ _ _ _ r c.in_ok-sweep_branches.ensures.swept in
+    let placed : IsList s F6 y (knowledge_facts s.names.now c.sweep_branches.new.known) (script_of s.script.now c.in-Some.list) =
+    else_placed s y (knowledge_facts s.names.now c.sweep_branches.new.known) c.args.otherwise.now c.in-Some.list c.in-Some.is c.in_ok-sweep_branches.ensures.left in
+    search std_rules
+
+pub sweep::sweep_definition-sweep_command-requires : goal.sweep::sweep_definition-sweep_command-requires
+sweep::sweep_definition-sweep_command-requires t c =
+    let s = c.args.subject.now in
+    let r = c.requires.ready in
+    let w = c.requires.placed in
+    let k = knowledge_facts s.names.now c.entry_of-known.result in
+    let placed : IsCommand s F13 (walks.around s.script.now c.in_function-inner.result) k c.args.body.now =
+    subst (λ z. IsCommand s F13 z k c.args.body.now) (sym (c.in_function-inner.ensures s.script.now)) (definition_placed s w.0 w.1 w.2 k (text_of s.script.now c.args.name) c.args.body.now w.3 c.entry_of-known.ensures) in
+    search std_rules
+
+pub sweep::sweep_for-sweep_list-requires : goal.sweep::sweep_for-sweep_list-requires
+sweep::sweep_for-sweep_list-requires t c =
+    let s = c.args.subject.now in
+    let r = c.requires.ready in
+    let y = walks.around s.script.now c.args.around.now in
+    let w = c.requires.placed in
+    let k = knowledge_facts s.names.now c.turn_of-turn.result in
+    let placed : IsList s F8 (walks.around s.script.now c.in_loop-inner.result) k (script_of s.script.now c.args.body.now) =
+    subst (λ z. IsList s F8 z k (script_of s.script.now c.args.body.now)) (sym (c.in_loop-inner.ensures s.script.now))
+    (for_placed s y c.args.number w.0 k (text_of s.script.now c.args.name) w.1 (script_of s.script.now c.args.body.now) w.2 c.turn_of-turn.ensures) in
+    search std_rules
+
+pub sweep::sweep_items-sweep_item-requires : goal.sweep::sweep_items-sweep_item-requires
+sweep::sweep_items-sweep_item-requires t c =
+    let s = c.args.subject.now in
+    let r = c.requires.ready in
+    let y = walks.around s.script.now c.args.around.now in
+    let ready : IsReady s c.loop-item.draft.certificate c.loop-item.draft.probe.count = ready_again s _ _ _ _ r c.loop-item.invariant.swept in
+    let here : AreItems s c.loop-item.course.by y (known_behind s c.loop-item.course.behind) (c.item-item.result ∷ drop (c.loop-item.item-index + 1) c.args.items.now) = subst (AreItems s c.loop-item.course.by y (known_behind s c.loop-item.course.behind)) (at_index c.args.items.now c.loop-item.item-index c.item-item.result c.loop-item-test.true c.item-item.is) c.loop-item.invariant.placed in
+    let placed : (others : List Item) × AreItems s c.loop-item.course.by y (known_behind s c.loop-item.course.behind) (c.item-item.result ∷ others) = (_, here) in
+    search std_rules
+
+pub sweep::sweep_items-loop-item-preserved : goal.sweep::sweep_items-loop-item-preserved
+sweep::sweep_items-loop-item-preserved t c =
+    let s = c.args.subject.now in
+    let y = walks.around s.script.now c.args.around.now in
+    let here : AreItems s c.loop-item.course.by y (known_behind s c.loop-item.course.behind) (c.item-item.result ∷ drop (c.loop-item.item-index + 1) c.args.items.now) = subst (AreItems s c.loop-item.course.by y (known_behind s c.loop-item.course.behind)) (at_index c.args.items.now c.loop-item.item-index c.item-item.result c.loop-item-test.true c.item-item.is) c.loop-item.invariant.placed in
+    record {
+      swept = swept_more s _ _ _ _ _ c.loop-item.invariant.swept c.in_ok-sweep_item.ensures.swept;
+      placed = items_next s y c.loop-item.course c.sweep_item.new.course c.item-item.result _ here c.in_ok-sweep_item.ensures.passed;
+      goes = λ o k. goes_next s o c.loop-item.course c.sweep_item.new.course c.args.items.now c.item-item.result _
+          (subst (GoesOn s o (known_behind s c.loop-item.course.behind) c.args.items.now) (at_index c.args.items.now c.loop-item.item-index c.item-item.result c.loop-item-test.true c.item-item.is) (c.loop-item.invariant.goes o k)) c.in_ok-sweep_item.ensures.passed;
+    }
+
+pub sweep::sweep_items-returns-clause-behind : goal.sweep::sweep_items-returns-clause-behind
+sweep::sweep_items-returns-clause-behind t c =
+    λ o k.
+    let s = c.args.subject.now in
+    goes_last s o (known_behind s c.loop-item.course.behind) c.args.items.now
+    (subst (GoesOn s o (known_behind s c.loop-item.course.behind) c.args.items.now) (drop_all c.loop-item.item-index c.args.items.now c.loop-item-test.false) (c.loop-item.invariant.goes o k))
+
+pub sweep::sweep_link-sweep_pipe-requires : goal.sweep::sweep_link-sweep_pipe-requires
+unfolding facts_in
+sweep::sweep_link-sweep_pipe-requires t c =
+    let s = c.args.subject.now in
+    let r = c.requires.ready in
+    let y = walks.around s.script.now c.args.around.now in
+    let b = known_behind s c.args.behind.now in
+    let k = knowledge_facts s.names.now c.at_link-known.result in
+    let placed : IsPipe s F3 y k c.args.link.now.1 = link_placed s y b k c.args.link.now c.requires.placed.0 (c.at_link-known.ensures (setting_by s c.args.draft.now.certificate)) _ (names_numbered s _ _ r) r.over c.requires.placed.1 in
+    search std_rules
+
+pub sweep::sweep_link-returns-clause-passed : goal.sweep::sweep_link-returns-clause-passed
+sweep::sweep_link-returns-clause-passed t c =
+    λ others here.
+    let s = c.args.subject.now in
+    let y = walks.around s.script.now c.args.around.now in
+    links_next s y (known_behind s c.args.behind.now) _ c.args.link.now others c.behind_link.ensures here
+
+pub sweep::sweep_links-sweep_link-requires : goal.sweep::sweep_links-sweep_link-requires
+sweep::sweep_links-sweep_link-requires t c =
+    let s = c.args.subject.now in
+    let r = c.requires.ready in
+    let y = walks.around s.script.now c.args.around.now in
+    let ready : IsReady s c.loop-link.draft.certificate c.loop-link.draft.probe.count = ready_again s _ _ _ _ r c.loop-link.invariant.swept in
+    let here : AreLinks s y (known_behind s c.loop-link.behind) (c.link-item.result ∷ drop (c.loop-link.link-index + 1) c.args.links.now) = subst (AreLinks s y (known_behind s c.loop-link.behind)) (at_index c.args.links.now c.loop-link.link-index c.link-item.result c.loop-link-test.true c.link-item.is) c.loop-link.invariant.placed in
+    let placed : (others : List (Link × Pipe)) × AreLinks s y (known_behind s c.loop-link.behind) (c.link-item.result ∷ others) = (_, here) in
+    search std_rules
+
+pub sweep::sweep_links-loop-link-preserved : goal.sweep::sweep_links-loop-link-preserved
+sweep::sweep_links-loop-link-preserved t c =
+    let s = c.args.subject.now in
+    let y = walks.around s.script.now c.args.around.now in
+    let here : AreLinks s y (known_behind s c.loop-link.behind) (c.link-item.result ∷ drop (c.loop-link.link-index + 1) c.args.links.now) = subst (AreLinks s y (known_behind s c.loop-link.behind)) (at_index c.args.links.now c.loop-link.link-index c.link-item.result c.loop-link-test.true c.link-item.is) c.loop-link.invariant.placed in
+    record { swept = swept_more s _ _ _ _ _ c.loop-link.invariant.swept c.in_ok-sweep_link.ensures.swept; placed = c.in_ok-sweep_link.ensures.passed _ here }
+
+pub sweep::sweep_list-sweep_items-requires : goal.sweep::sweep_list-sweep_items-requires
+unfolding facts_in
+sweep::sweep_list-sweep_items-requires t c =
+    let s = c.args.subject.now in
+    let r = c.requires.ready in
+    let y = walks.around s.script.now c.args.around.now in
+    let k = knowledge_facts s.names.now c.args.known.now in
+    let begun : known_behind s c.begun-course.result.behind ≡ both k = c.begun-course.ensures.behind (setting_by s c.args.draft.now.certificate) in
+    let placed : AreItems s c.begun-course.result.by y (known_behind s c.begun-course.result.behind) c.as_slice.result.now =
+    begun_at s y k c.begun-course.result c.args.by c.args.list.now c.as_slice.result.now c.begun-course.ensures.by begun c.as_slice.ensures c.requires.placed in
+    search std_rules
+
+pub sweep::sweep_loop-sweep_items-requires : goal.sweep::sweep_loop-sweep_items-requires
+unfolding facts_in
+sweep::sweep_loop-sweep_items-requires t c =
+    let s = c.args.subject.now in
+    let r = c.requires.ready in
+    let y = walks.around s.script.now c.args.around.now in
+    let k = knowledge_facts s.names.now c.head_of-head.result in
+    let begun : known_behind s c.begun-course.result.behind ≡ both k = c.begun-course.ensures.behind (setting_by s c.args.draft.now.certificate) in
+    let w = c.requires.placed in
+    let inner : walks.around s.script.now c.in_loop-inner.result ≡ entries.in_loop c.args.number y = c.in_loop-inner.ensures s.script.now in
+    let placed : AreItems s c.begun-course.result.by (walks.around s.script.now c.in_loop-inner.result) (known_behind s c.begun-course.result.behind) c.as_slice.result.now =
+    subst (λ z. AreItems s c.begun-course.result.by z (known_behind s c.begun-course.result.behind) c.as_slice.result.now) (sym inner)
+    (begun_at s (entries.in_loop c.args.number y) k c.begun-course.result F7 c.args.condition.now c.as_slice.result.now c.begun-course.ensures.by begun c.as_slice.ensures
+    (condition_placed s y c.args.number w.0 k c.args.kind (script_of s.script.now c.args.condition.now) (script_of s.script.now c.args.body.now) w.1 c.head_of-head.ensures)) in
+    search std_rules
+
+pub sweep::sweep_loop-sweep_list-requires : goal.sweep::sweep_loop-sweep_list-requires
+unfolding facts_in
+sweep::sweep_loop-sweep_list-requires t c =
+    let s = c.args.subject.now in
+    let r = c.requires.ready in
+    let y = walks.around s.script.now c.args.around.now in
+    let k = knowledge_facts s.names.now c.head_of-head.result in
+    let begun : known_behind s c.begun-course.result.behind ≡ both k = c.begun-course.ensures.behind (setting_by s c.args.draft.now.certificate) in
+    let w = c.requires.placed in
+    let inner : walks.around s.script.now c.in_loop-inner.result ≡ entries.in_loop c.args.number y = c.in_loop-inner.ensures s.script.now in
+    let ready : IsReady s c.sweep_items.new.draft.certificate c.sweep_items.new.draft.probe.count = ready_again s _ _ _ _ r c.in_ok-sweep_items.ensures.swept in
+    let after = known_after s k c.begun-course.result c.sweep_items.new.course c.args.condition.now c.as_slice.result.now begun c.as_slice.ensures c.in_ok-sweep_items.ensures.behind in
+    let o = entries.items_after (Both (at (Head c.args.number))) (script_of s.script.now c.args.condition.now) in
+    let turn = knowledge_facts s.names.now c.at_turn-turn.result in
+    let known : Knows s (entries.turns c.args.kind o) turn =
+    subst (Knows s (entries.turns c.args.kind o)) (sym (c.at_turn-turn.ensures (setting_by s c.args.draft.now.certificate)))
+    (turns_led (setting_by s c.args.draft.now.certificate) (Knows s) (knows_follow s _ (names_numbered s _ _ r) r.over) c.args.kind o (known_behind s c.sweep_items.new.course.behind) (stands_of s o _ (after (at (Head c.args.number)) c.head_of-head.ensures))) in
+    let placed : IsList s F7 (walks.around s.script.now c.in_loop-inner.result) turn (script_of s.script.now c.args.body.now) =
+    subst (λ z. IsList s F7 z turn (script_of s.script.now c.args.body.now)) (sym inner)
+    (body_placed s y c.args.number w.0 turn c.args.kind (script_of s.script.now c.args.condition.now) (script_of s.script.now c.args.body.now) w.1 known) in
+    search std_rules
+
+pub sweep::sweep_loop-returns : goal.sweep::sweep_loop-returns
+sweep::sweep_loop-returns t c = record { swept = swept_more c.args.subject.now _ _ _ _ _ c.in_ok-sweep_items.ensures.swept c.in_ok-sweep_list.ensures.swept }
+
+pub sweep::sweep_parts-sweep_command-requires : goal.sweep::sweep_parts-sweep_command-requires
+sweep::sweep_parts-sweep_command-requires t c =
+    let s = c.args.subject.now in
+    let r = c.requires.ready in
+    let y = walks.around s.script.now c.args.around.now in
+    let ready : IsReady s c.loop-command.draft.certificate c.loop-command.draft.probe.count = ready_again s _ _ _ _ r c.loop-command.invariant.swept in
+    let here : AreParts s c.args.by y (knowledge_facts s.names.now c.args.known.now) (c.command-item.result ∷ drop (c.loop-command.command-index + 1) c.args.parts.now) = subst (AreParts s c.args.by y (knowledge_facts s.names.now c.args.known.now)) (at_index c.args.parts.now c.loop-command.command-index c.command-item.result c.loop-command-test.true c.command-item.is) c.loop-command.invariant.placed in
+    let placed : IsCommand s c.args.by y (knowledge_facts s.names.now c.args.known.now) c.command-item.result = command_placed s c.args.by y (knowledge_facts s.names.now c.args.known.now) c.command-item.result _ here in
+    search std_rules
+
+pub sweep::sweep_parts-loop-command-preserved : goal.sweep::sweep_parts-loop-command-preserved
+sweep::sweep_parts-loop-command-preserved t c =
+    let s = c.args.subject.now in
+    let y = walks.around s.script.now c.args.around.now in
+    let here : AreParts s c.args.by y (knowledge_facts s.names.now c.args.known.now) (c.command-item.result ∷ drop (c.loop-command.command-index + 1) c.args.parts.now) = subst (AreParts s c.args.by y (knowledge_facts s.names.now c.args.known.now)) (at_index c.args.parts.now c.loop-command.command-index c.command-item.result c.loop-command-test.true c.command-item.is) c.loop-command.invariant.placed in
+    record {
+      swept = swept_more s _ _ _ _ _ c.loop-command.invariant.swept c.in_ok-sweep_command.ensures.swept;
+      placed = parts_next s c.args.by y (knowledge_facts s.names.now c.args.known.now) c.command-item.result _ here;
+    }
+
+pub sweep::sweep_pipe-sweep_parts-requires : goal.sweep::sweep_pipe-sweep_parts-requires
+sweep::sweep_pipe-sweep_parts-requires t c =
+    let s = c.args.subject.now in
+    let y = walks.around s.script.now c.args.around.now in
+    let k = knowledge_facts s.names.now c.args.known.now in
+    let k' = knowledge_facts s.names.now c.started_in-seen.result in
+    let ps = (out-Pipe c.args.pipe.now).parts in
+    let is_long : Bool = nat_lt 1 (length ps) in
+    let long : nat_lt 1 (length c.as_slice-parts.result.now) ≡ is_long = ap (λ cs. nat_lt 1 (length cs)) c.as_slice-parts.ensures in
+    let one = parts_placed s c.args.by y k k' c.args.pipe.now (nat_lt 1 (length c.as_slice-parts.result.now)) long c.started_in-seen.ensures c.requires.placed in
+    let two : AreParts s (entries.part_rule (nat_lt 1 (length c.as_slice-parts.result.now)) c.args.by) (entries.part_around (nat_lt 1 (length c.as_slice-parts.result.now)) y) k' c.as_slice-parts.result.now =
+    subst (AreParts s (entries.part_rule (nat_lt 1 (length c.as_slice-parts.result.now)) c.args.by) (entries.part_around (nat_lt 1 (length c.as_slice-parts.result.now)) y) k') (sym c.as_slice-parts.ensures) one in
+    let three : AreParts s c.part_rule.result (entries.part_around (nat_lt 1 (length c.as_slice-parts.result.now)) y) k' c.as_slice-parts.result.now = subst (λ by. AreParts s by (entries.part_around (nat_lt 1 (length c.as_slice-parts.result.now)) y) k' c.as_slice-parts.result.now) (sym c.part_rule.ensures) two in
+    let placed : AreParts s c.part_rule.result (walks.around s.script.now c.round_parts-inner.result) k' c.as_slice-parts.result.now =
+    subst (λ z. AreParts s c.part_rule.result z k' c.as_slice-parts.result.now) (sym (c.round_parts-inner.ensures s.script.now)) three in
+    search std_rules
+
+pub sweep::sweep_subshell-sweep_list-requires : goal.sweep::sweep_subshell-sweep_list-requires
+sweep::sweep_subshell-sweep_list-requires t c =
+    let s = c.args.subject.now in
+    let r = c.requires.ready in
+    let w = c.requires.placed in
+    let k = knowledge_facts s.names.now c.process_of-known.result in
+    let placed : IsList s F11 (walks.around s.script.now c.alone-outside.result) k (script_of s.script.now c.args.list.now) =
+    subst (λ z. IsList s F11 z k (script_of s.script.now c.args.list.now)) (sym (c.alone-outside.ensures s.script.now))
+    (subshell_placed s w.0 c.args.number w.1 k (script_of s.script.now c.args.list.now) w.2 c.process_of-known.ensures) in
+    search std_rules
+
+pub sweep::sweep_kind-sweep_elements-requires : goal.sweep::sweep_kind-sweep_elements-requires
+sweep::sweep_kind-sweep_elements-requires t c =
+    let s = c.args.subject.now in
+    let r = c.requires.ready in
+    let y = walks.around s.script.now c.args.around.now in
+    let k = knowledge_facts s.names.now c.args.known.now in
+    let es = elements_from s.script.now c.in-Simple.0 in
+    let first = elements_placed s y c.args.number k es (kind_as s y c.args.number k c.args.kind.now _ _ c.in-Simple.is (program.kind_of-Simple s.script.now c.in-Simple.0) c.requires.placed) in
+    let placed : IsIn s (λ q. entries.elements_entered q (behind_words (elements_from s.script.now c.as_slice.result.now) q) (elements_from s.script.now c.as_slice.result.now)) k =
+    subst (λ xs. IsIn s (λ q. entries.elements_entered q (behind_words (elements_from s.script.now xs) q) (elements_from s.script.now xs)) k) (sym c.as_slice.ensures) first in
+    search std_rules
+
+pub sweep::sweep_kind-sweep_list-requires : goal.sweep::sweep_kind-sweep_list-requires
+sweep::sweep_kind-sweep_list-requires t c =
+    let s = c.args.subject.now in
+    let r = c.requires.ready in
+    let y = walks.around s.script.now c.args.around.now in
+    let k = knowledge_facts s.names.now c.args.known.now in
+    let here = kind_as s y c.args.number k c.args.kind.now _ _ c.in-Group.is (program.kind_of-Group s.script.now c.in-Group.list) c.requires.placed in
+    let placed : IsList s F10 y k (script_of s.script.now c.in-Group.list) = group_placed s y c.args.number here.seen k (script_of s.script.now c.in-Group.list) here.part here.knows in
+    search std_rules
+
+pub sweep::sweep_kind-sweep_subshell-requires : goal.sweep::sweep_kind-sweep_subshell-requires
+sweep::sweep_kind-sweep_subshell-requires t c =
+    let s = c.args.subject.now in
+    let r = c.requires.ready in
+    let y = walks.around s.script.now c.args.around.now in
+    let k = knowledge_facts s.names.now c.args.known.now in
+    let here = kind_as s y c.args.number k c.args.kind.now _ _ c.in-Subshell.is (program.kind_of-Subshell s.script.now c.in-Subshell.list) c.requires.placed in
+    let placed : (z : Around) × (r : Seen) × IsPart s (entries.kind_entered z c.args.number r (p.Subshell (script_of s.script.now c.in-Subshell.list))) = (y, here.seen, here.part) in
+    search std_rules
+
+pub sweep::sweep_kind-sweep_definition-requires : goal.sweep::sweep_kind-sweep_definition-requires
+sweep::sweep_kind-sweep_definition-requires t c =
+    let s = c.args.subject.now in
+    let r = c.requires.ready in
+    let y = walks.around s.script.now c.args.around.now in
+    let k = knowledge_facts s.names.now c.args.known.now in
+    let here = kind_as s y c.args.number k c.args.kind.now _ _ c.in-Define.is (program.kind_of-Define s.script.now c.in-Define.name _) c.requires.placed in
+    let placed : (z : Around) × (n : ℕ) × (r : Seen) × IsPart s (entries.kind_entered z n r (p.Define (text_of s.script.now c.in-Define.name) (trees.command_of s.script.now c.get.result.now))) =
+    (y, c.args.number, here.seen, subst (λ b. IsPart s (entries.kind_entered y c.args.number here.seen (p.Define (text_of s.script.now c.in-Define.name) (trees.command_of s.script.now b)))) (sym c.get.ensures) here.part) in
+    search std_rules
+
+pub sweep::sweep_conditional-sweep_cond-requires : goal.sweep::sweep_conditional-sweep_cond-requires
+sweep::sweep_conditional-sweep_cond-requires t c =
+    let s = c.args.subject.now in
+    let r = c.requires.ready in
+    let y = walks.around s.script.now c.args.around.now in
+    let k = knowledge_facts s.names.now c.args.known.now in
+    let bs = branches_from s.script.now c.in-Cond.branches in
+    let z = otherwise_from s.script.now c.in-Cond.otherwise in
+    let here = kind_as s y c.args.number k c.args.kind.now _ _ c.in-Cond.is (program.kind_of-Cond s.script.now c.in-Cond.branches c.in-Cond.otherwise) c.requires.placed in
+    let first = branches_placed s y c.args.number here.seen k bs z here.part here.knows in
+    let placed : AreBranches s y k (branches_from s.script.now c.as_slice-branches.result.now) z = subst (λ cs. AreBranches s y k (branches_from s.script.now cs) z) (sym c.as_slice-branches.ensures) first in
+    search std_rules
+
+pub sweep::sweep_conditional-sweep_case-requires : goal.sweep::sweep_conditional-sweep_case-requires
+sweep::sweep_conditional-sweep_case-requires t c =
+    let s = c.args.subject.now in
+    let r = c.requires.ready in
+    let y = walks.around s.script.now c.args.around.now in
+    let k = knowledge_facts s.names.now c.args.known.now in
+    let w = parts_from s.script.now c.in-Branches.word.parts in
+    let here = kind_as s y c.args.number k c.args.kind.now _ _ c.in-Branches.is (program.kind_of-Branches s.script.now c.in-Branches.word c.in-Branches.clauses) c.requires.placed in
+    let first = case_placed s y c.args.number here.seen k w (clauses_from s.script.now c.in-Branches.clauses) here.part here.knows in
+    let placed : IsIn s (λ v. entries.word_entered v w ++ entries.clauses_entered y (gaining (word_gains w) v) [] (clauses_from s.script.now c.as_slice-clauses.result.now)) k =
+    subst (λ cs. IsIn s (λ v. entries.word_entered v w ++ entries.clauses_entered y (gaining (word_gains w) v) [] (clauses_from s.script.now cs)) k) (sym c.as_slice-clauses.ensures) first in
+    search std_rules
+
+pub sweep::sweep_iteration-sweep_loop-requires : goal.sweep::sweep_iteration-sweep_loop-requires
+sweep::sweep_iteration-sweep_loop-requires t c =
+    let s = c.args.subject.now in
+    let r = c.requires.ready in
+    let y = walks.around s.script.now c.args.around.now in
+    let k = knowledge_facts s.names.now c.args.known.now in
+    let here = kind_as s y c.args.number k c.args.kind.now _ _ c.in-Loop.is (program.kind_of-Loop s.script.now c.in-Loop.kind c.in-Loop.condition c.in-Loop.body) c.requires.placed in
+    let placed : (q : Seen) × IsPart s (entries.kind_entered y c.args.number q (p.Loop c.in-Loop.kind (script_of s.script.now c.in-Loop.condition) (script_of s.script.now c.in-Loop.body))) = (here.seen, here.part) in
+    search std_rules
+
+pub sweep::sweep_iteration-sweep_for_words-requires : goal.sweep::sweep_iteration-sweep_for_words-requires
+sweep::sweep_iteration-sweep_for_words-requires t c =
+    let s = c.args.subject.now in
+    let r = c.requires.ready in
+    let y = walks.around s.script.now c.args.around.now in
+    let k = knowledge_facts s.names.now c.args.known.now in
+    let here = kind_as s y c.args.number k c.args.kind.now _ _ c.in-For.is (program.kind_of-For s.script.now c.in-For.name c.in-For.words c.in-For.body) c.requires.placed in
+    let placed : IsIn s (λ q. entries.for_words_entered q (for_words_from s.script.now c.in-For.words)) k =
+    for_words_placed s y c.args.number k (text_of s.script.now c.in-For.name) (for_words_from s.script.now c.in-For.words) (script_of s.script.now c.in-For.body) here in
+    search std_rules
+
+pub sweep::sweep_iteration-sweep_for-requires : goal.sweep::sweep_iteration-sweep_for-requires
+sweep::sweep_iteration-sweep_for-requires t c =
+    let s = c.args.subject.now in
+    let r = c.requires.ready in
+    let y = walks.around s.script.now c.args.around.now in
+    let k = knowledge_facts s.names.now c.args.known.now in
+    let ready : IsReady s c.sweep_for_words.new.draft.certificate c.sweep_for_words.new.draft.probe.count = ready_again s _ _ _ _ r c.in_ok-sweep_for_words.ensures.swept in
+    let here = kind_as s y c.args.number k c.args.kind.now _ _ c.in-For.is (program.kind_of-For s.script.now c.in-For.name c.in-For.words c.in-For.body) c.requires.placed in
+    let placed : (q : Seen) × (ws : p.ForWords) × IsPart s (entries.kind_entered y c.args.number q (p.For (text_of s.script.now c.in-For.name) ws (script_of s.script.now c.in-For.body))) =
+    (here.seen, for_words_from s.script.now c.in-For.words, here.part) in
+    search std_rules
+
+pub sweep::sweep_inside-sweep_redirections-requires : goal.sweep::sweep_inside-sweep_redirections-requires
+sweep::sweep_inside-sweep_redirections-requires t c =
+    let s = c.args.subject.now in
+    let r = c.requires.ready in
+    let y = walks.around s.script.now c.args.around.now in
+    let m = c.args.command.now in
+    let first = redirections_placed s y m c.requires.placed in
+    let placed : IsPart s (entries.redirects_entered (at (Before (out-Command m).number)) (redirects_from s.script.now c.as_slice-redirects.result.now)) =
+    subst (λ rs. IsPart s (entries.redirects_entered (at (Before (out-Command m).number)) (redirects_from s.script.now rs))) (sym c.as_slice-redirects.ensures) first in
+    search std_rules
+
+pub sweep::sweep_inside-sweep_kind-requires : goal.sweep::sweep_inside-sweep_kind-requires
+sweep::sweep_inside-sweep_kind-requires t c =
+    let s = c.args.subject.now in
+    let r = c.requires.ready in
+    let y = walks.around s.script.now c.args.around.now in
+    let m = c.args.command.now in
+    let k = knowledge_facts s.names.now c.inside_of-inside.result in
+    let ready : IsReady s c.sweep_redirections.new.draft.certificate c.sweep_redirections.new.draft.probe.count = ready_again s _ _ _ _ r c.in_ok-sweep_redirections.ensures.swept in
+    let placed : IsKind s y (out-Command m).number k (out-Command m).kind = kind_placed s y k m c.requires.placed c.inside_of-inside.ensures in
+    search std_rules
+
+pub sweep::sweep_simple-sweep_held-requires : goal.sweep::sweep_simple-sweep_held-requires
+sweep::sweep_simple-sweep_held-requires t c =
+    let s = c.args.subject.now in
+    let r = c.requires.ready in
+    let y = walks.around s.script.now c.args.around.now in
+    let ready : IsReady s c.lower_own-kept.new.draft.certificate c.lower_own-kept.new.draft.probe.count = ready_again s _ _ _ _ r c.in_ok-lower_own-kept.ensures.swept in
+    let placed : IsInside s y c.args.command.now = inside_placed s c.args.by y (knowledge_facts s.names.now c.args.known.now) c.args.command.now c.requires.placed in
+    search std_rules
+
+pub sweep::sweep_case-pass_word-requires : goal.sweep::sweep_case-pass_word-requires
+sweep::sweep_case-pass_word-requires t c =
+    let s = c.args.subject.now in
+    let r = c.requires.ready in
+    let y = walks.around s.script.now c.args.around.now in
+    let k = knowledge_facts s.names.now c.args.known.now in
+    let placed : IsWord s k (parts_from s.script.now c.args.word.now.parts) = case_word s y k (parts_from s.script.now c.args.word.now.parts) (clauses_from s.script.now c.args.clauses.now) c.requires.placed in
+    search std_rules
+
+pub sweep::sweep_case-sweep_clauses-requires : goal.sweep::sweep_case-sweep_clauses-requires
+sweep::sweep_case-sweep_clauses-requires t c =
+    let s = c.args.subject.now in
+    let r = c.requires.ready in
+    let y = walks.around s.script.now c.args.around.now in
+    let k = knowledge_facts s.names.now c.args.known.now in
+    let ready : IsReady s c.pass_word.new.draft.certificate c.pass_word.new.draft.probe.count = ready_again s _ _ _ _ r c.in_ok-pass_word.ensures.swept in
+    let placed : AreClauses s y (knowledge_facts s.names.now c.pass_word.new.known) NotReached (clauses_from s.script.now c.args.clauses.now) =
+    clauses_placed s y k (knowledge_facts s.names.now c.pass_word.new.known) (parts_from s.script.now c.args.word.now.parts) (clauses_from s.script.now c.args.clauses.now)
+    c.in_ok-pass_word.ensures.gained c.requires.placed _ (names_numbered s _ _ r) r.over in
+    search std_rules
+
+pub sweep::sweep_clause-sweep_patterns-requires : goal.sweep::sweep_clause-sweep_patterns-requires
+sweep::sweep_clause-sweep_patterns-requires t c =
+    let s = c.args.subject.now in
+    let r = c.requires.ready in
+    let y = walks.around s.script.now c.args.around.now in
+    let k = knowledge_facts s.names.now c.args.behind.now in
+    let w = c.requires.placed in
+    let first = clause_patterns s y k (knowledge_facts s.names.now c.args.fallen.now) c.args.clause.now w.0 w.1 in
+    let placed : IsIn s (λ q. entries.patterns_entered q (words_from s.script.now c.as_slice.result.now)) k =
+    subst (λ ws. IsIn s (λ q. entries.patterns_entered q (words_from s.script.now ws)) k) (sym c.as_slice.ensures) first in
+    search std_rules
+
+pub words::sweep_elements-loop-element-init : goal.words::sweep_elements-loop-element-init
+words::sweep_elements-loop-element-init t c =
+    let s = c.args.subject.now in
+    let r = c.requires.ready in
+    let k = knowledge_facts s.names.now c.args.known.now in
+    record {
+      swept = swept_none s _ _ r;
+      placed = elements_first s k (knowledge_facts s.names.now c.behind_operands-behind.result) (elements_from s.script.now c.args.elements.now) c.behind_operands-behind.ensures c.requires.placed;
+    }
+
+pub words::sweep_elements-sweep_element-requires : goal.words::sweep_elements-sweep_element-requires
+words::sweep_elements-sweep_element-requires t c =
+    let s = c.args.subject.now in
+    let r = c.requires.ready in
+    let ready : IsReady s c.loop-element.draft.certificate c.loop-element.draft.probe.count = ready_again s _ _ _ _ r c.loop-element.invariant.swept in
+    let here : AreElements s (knowledge_facts s.names.now c.loop-element.inside) (knowledge_facts s.names.now c.behind_operands-behind.result) (elements_from s.script.now (c.element-item.result ∷ drop (c.loop-element.element-index + 1) c.args.elements.now)) = subst (λ xs. AreElements s (knowledge_facts s.names.now c.loop-element.inside) (knowledge_facts s.names.now c.behind_operands-behind.result) (elements_from s.script.now xs)) (at_index c.args.elements.now c.loop-element.element-index c.element-item.result c.loop-element-test.true c.element-item.is) c.loop-element.invariant.placed in
+    let placed : (others : List Element) × AreElements s (knowledge_facts s.names.now c.loop-element.inside) (knowledge_facts s.names.now c.behind_operands-behind.result) (elements_from s.script.now (c.element-item.result ∷ others)) = (_, here) in
+    search std_rules
+
+pub words::sweep_elements-loop-element-preserved : goal.words::sweep_elements-loop-element-preserved
+words::sweep_elements-loop-element-preserved t c =
+    let s = c.args.subject.now in
+    let r = c.requires.ready in
+    let here : AreElements s (knowledge_facts s.names.now c.loop-element.inside) (knowledge_facts s.names.now c.behind_operands-behind.result) (elements_from s.script.now (c.element-item.result ∷ drop (c.loop-element.element-index + 1) c.args.elements.now)) = subst (λ xs. AreElements s (knowledge_facts s.names.now c.loop-element.inside) (knowledge_facts s.names.now c.behind_operands-behind.result) (elements_from s.script.now xs)) (at_index c.args.elements.now c.loop-element.element-index c.element-item.result c.loop-element-test.true c.element-item.is) c.loop-element.invariant.placed in
+    record { swept = swept_more s _ _ _ _ _ c.loop-element.invariant.swept c.in_ok-sweep_element.ensures.swept; placed = c.in_ok-sweep_element.ensures.passed _ here }
+
+pub words::sweep_element-sweep_word-requires : goal.words::sweep_element-sweep_word-requires
+words::sweep_element-sweep_word-requires t c =
+    let s = c.args.subject.now in
+    let r = c.requires.ready in
+    let k = knowledge_facts s.names.now c.args.known.now in
+    let b = knowledge_facts s.names.now c.args.behind.now in
+    let here = element_as s k b c.args.element.now _ c.requires.placed.0 _ c.in-Assignment.is (program.elements_from-Assignment s.script.now c.in-Assignment.name c.in-Assignment.value c.requires.placed.0) c.requires.placed.1 in
+    let placed : IsWord s b (parts_from s.script.now c.in-Assignment.value.parts) = value_placed s k b _ _ _ here in
+    search std_rules
+
+pub words::sweep_element-pass_word-requires : goal.words::sweep_element-pass_word-requires
+words::sweep_element-pass_word-requires t c =
+    let s = c.args.subject.now in
+    let r = c.requires.ready in
+    let k = knowledge_facts s.names.now c.args.known.now in
+    let b = knowledge_facts s.names.now c.args.behind.now in
+    let here = element_as s k b c.args.element.now _ c.requires.placed.0 _ c.in-Word.is (program.elements_from-Word s.script.now c.in-Word.word c.requires.placed.0) c.requires.placed.1 in
+    let placed : IsWord s k (parts_from s.script.now c.in-Word.word.parts) = operand_placed s k b _ _ here in
+    search std_rules
+
+pub words::sweep_element-pass_target-requires : goal.words::sweep_element-pass_target-requires
+words::sweep_element-pass_target-requires t c =
+    let s = c.args.subject.now in
+    let r = c.requires.ready in
+    let k = knowledge_facts s.names.now c.args.known.now in
+    let b = knowledge_facts s.names.now c.args.behind.now in
+    let here = element_as s k b c.args.element.now _ c.requires.placed.0 _ c.in-Redirection.is (program.elements_from-Redirection s.script.now c.in-Redirection.redirect c.requires.placed.0) c.requires.placed.1 in
+    let placed : IsIn s (λ q. entries.redirect_entered q (target_of s.script.now c.in-Redirection.redirect.target)) b = redirection_placed s k b _ _ here in
+    search std_rules
+
+pub words::sweep_element-returns-in-Assignment-clause-passed : goal.words::sweep_element-returns-in-Assignment-clause-passed
+words::sweep_element-returns-in-Assignment-clause-passed t c =
+    λ others here.
+    let s = c.args.subject.now in
+    let r = c.requires.ready in
+    let k = knowledge_facts s.names.now c.args.known.now in
+    let b = knowledge_facts s.names.now c.args.behind.now in
+    value_next s k b _ _ _ (element_as s k b c.args.element.now _ others _ c.in-Assignment.is (program.elements_from-Assignment s.script.now c.in-Assignment.name c.in-Assignment.value others) here)
+
+pub words::sweep_element-returns-in-Word-clause-passed : goal.words::sweep_element-returns-in-Word-clause-passed
+words::sweep_element-returns-in-Word-clause-passed t c =
+    λ others here.
+    let s = c.args.subject.now in
+    let r = c.requires.ready in
+    let k = knowledge_facts s.names.now c.args.known.now in
+    let b = knowledge_facts s.names.now c.args.behind.now in
+    operand_next s k (knowledge_facts s.names.now c.pass_word.new.known) b _ _ c.in_ok-pass_word.ensures.gained (element_as s k b c.args.element.now _ others _ c.in-Word.is (program.elements_from-Word s.script.now c.in-Word.word others) here)
+
+pub words::sweep_element-returns-in-Redirection-clause-passed : goal.words::sweep_element-returns-in-Redirection-clause-passed
+words::sweep_element-returns-in-Redirection-clause-passed t c =
+    λ others here.
+    let s = c.args.subject.now in
+    let r = c.requires.ready in
+    let k = knowledge_facts s.names.now c.args.known.now in
+    let b = knowledge_facts s.names.now c.args.behind.now in
+    redirection_next s k b _ _ (element_as s k b c.args.element.now _ others _ c.in-Redirection.is (program.elements_from-Redirection s.script.now c.in-Redirection.redirect others) here)
+
+pub words::sweep_redirections-sweep_redirects-requires : goal.words::sweep_redirections-sweep_redirects-requires
+words::sweep_redirections-sweep_redirects-requires t c =
+    let s = c.args.subject.now in
+    let r = c.requires.ready in
+    let k = knowledge_facts s.names.now c.before_of-before.result in
+    let placed : IsIn s (λ q. entries.redirects_entered q (redirects_from s.script.now c.args.redirects.now)) k = record { seen = at (Before c.args.number); part = c.requires.placed; knows = c.before_of-before.ensures } in
+    search std_rules
+
+pub words::sweep_redirects-pass_target-requires : goal.words::sweep_redirects-pass_target-requires
+words::sweep_redirects-pass_target-requires t c =
+    let s = c.args.subject.now in
+    let r = c.requires.ready in
+    let ready : IsReady s c.loop-redirect.draft.certificate c.loop-redirect.draft.probe.count = ready_again s _ _ _ _ r c.loop-redirect.invariant.swept in
+    let here : IsIn s (λ q. entries.redirects_entered q (redirects_from s.script.now (c.redirect-item.result ∷ drop (c.loop-redirect.redirect-index + 1) c.args.redirects.now))) (knowledge_facts s.names.now c.loop-redirect.inside) = subst (λ xs. IsIn s (λ q. entries.redirects_entered q (redirects_from s.script.now xs)) (knowledge_facts s.names.now c.loop-redirect.inside)) (at_index c.args.redirects.now c.loop-redirect.redirect-index c.redirect-item.result c.loop-redirect-test.true c.redirect-item.is) c.loop-redirect.invariant.placed in
+    let placed : IsIn s (λ q. entries.redirect_entered q (target_of s.script.now c.redirect-item.result.target)) (knowledge_facts s.names.now c.loop-redirect.inside) = redirect_placed s (knowledge_facts s.names.now c.loop-redirect.inside) c.redirect-item.result _ here in
+    search std_rules
+
+pub words::sweep_redirects-loop-redirect-preserved : goal.words::sweep_redirects-loop-redirect-preserved
+words::sweep_redirects-loop-redirect-preserved t c =
+    let s = c.args.subject.now in
+    let r = c.requires.ready in
+    let here : IsIn s (λ q. entries.redirects_entered q (redirects_from s.script.now (c.redirect-item.result ∷ drop (c.loop-redirect.redirect-index + 1) c.args.redirects.now))) (knowledge_facts s.names.now c.loop-redirect.inside) = subst (λ xs. IsIn s (λ q. entries.redirects_entered q (redirects_from s.script.now xs)) (knowledge_facts s.names.now c.loop-redirect.inside)) (at_index c.args.redirects.now c.loop-redirect.redirect-index c.redirect-item.result c.loop-redirect-test.true c.redirect-item.is) c.loop-redirect.invariant.placed in
+    record {
+      swept = swept_more s _ _ _ _ _ c.loop-redirect.invariant.swept c.in_ok-pass_target.ensures.swept;
+      placed = redirects_next s (knowledge_facts s.names.now c.loop-redirect.inside) (knowledge_facts s.names.now c.pass_target.new.known) c.redirect-item.result _ c.in_ok-pass_target.ensures.gained here;
+    }
+
+pub words::pass_target-pass_word-requires : goal.words::pass_target-pass_word-requires
+words::pass_target-pass_word-requires t c =
+    let s = c.args.subject.now in
+    let r = c.requires.ready in
+    let k = knowledge_facts s.names.now c.args.known.now in
+    let placed : IsWord s k (parts_from s.script.now c.in-File.word.parts) = file_placed s k _ (subst (λ x. IsIn s (λ q. entries.redirect_entered q x) k) (ap (target_of s.script.now) c.in-File.is ∙ program.target_of-File s.script.now _ c.in-File.word) c.requires.placed) in
+    search std_rules
+
+pub words::pass_target-pass_word-requires-2 : goal.words::pass_target-pass_word-requires-2
+words::pass_target-pass_word-requires-2 t c =
+    let s = c.args.subject.now in
+    let r = c.requires.ready in
+    let k = knowledge_facts s.names.now c.args.known.now in
+    let placed : IsWord s k (parts_from s.script.now c.in-Here.here.body.parts) = here_placed s k _ (subst (λ x. IsIn s (λ q. entries.redirect_entered q x) k) (ap (target_of s.script.now) c.in-Here.is ∙ program.target_of-Here s.script.now c.in-Here.here) c.requires.placed) in
+    search std_rules
+
+pub words::pass_target-returns-in-File-clause-gained : goal.words::pass_target-returns-in-File-clause-gained
+words::pass_target-returns-in-File-clause-gained t c =
+    let s = c.args.subject.now in
+    let r = c.requires.ready in
+    let k = knowledge_facts s.names.now c.args.known.now in
+    subst (λ x. Gained s (redirect_gains x) k (knowledge_facts s.names.now c.pass_word.new.known)) (sym (ap (target_of s.script.now) c.in-File.is ∙ program.target_of-File s.script.now _ c.in-File.word)) (file_gained s k _ _ c.in_ok-pass_word.ensures.gained)
+
+pub words::pass_target-returns-in-Here-clause-gained : goal.words::pass_target-returns-in-Here-clause-gained
+words::pass_target-returns-in-Here-clause-gained t c =
+    let s = c.args.subject.now in
+    let r = c.requires.ready in
+    let k = knowledge_facts s.names.now c.args.known.now in
+    subst (λ x. Gained s (redirect_gains x) k (knowledge_facts s.names.now c.pass_word-2.new.known)) (sym (ap (target_of s.script.now) c.in-Here.is ∙ program.target_of-Here s.script.now c.in-Here.here)) (here_gained s k _ _ c.in_ok-pass_word-2.ensures.gained)
+
+pub words::sweep_for_words-sweep_words-requires : goal.words::sweep_for_words-sweep_words-requires
+words::sweep_for_words-sweep_words-requires t c =
+    let s = c.args.subject.now in
+    let r = c.requires.ready in
+    let k = knowledge_facts s.names.now c.args.known.now in
+    let first = listed_placed s k _ (subst (λ x. IsIn s (λ q. entries.for_words_entered q x) k) (ap (for_words_from s.script.now) c.in-Some.is ∙ program.for_words_from-Some s.script.now c.in-Some.words) c.requires.placed) in
+    let placed : IsIn s (λ q. entries.words_entered q (words_from s.script.now c.as_slice.result.now)) k = subst (λ ws. IsIn s (λ q. entries.words_entered q (words_from s.script.now ws)) k) (sym c.as_slice.ensures) first in
+    search std_rules
+
+pub words::sweep_words-pass_word-requires : goal.words::sweep_words-pass_word-requires
+words::sweep_words-pass_word-requires t c =
+    let s = c.args.subject.now in
+    let r = c.requires.ready in
+    let ready : IsReady s c.loop-word.draft.certificate c.loop-word.draft.probe.count = ready_again s _ _ _ _ r c.loop-word.invariant.swept in
+    let here : IsIn s (λ q. entries.words_entered q (words_from s.script.now (c.word-item.result ∷ drop (c.loop-word.word-index + 1) c.args.words.now))) (knowledge_facts s.names.now c.loop-word.inside) = subst (λ xs. IsIn s (λ q. entries.words_entered q (words_from s.script.now xs)) (knowledge_facts s.names.now c.loop-word.inside)) (at_index c.args.words.now c.loop-word.word-index c.word-item.result c.loop-word-test.true c.word-item.is) c.loop-word.invariant.placed in
+    let placed : IsWord s (knowledge_facts s.names.now c.loop-word.inside) (parts_from s.script.now c.word-item.result.parts) = word_placed s (knowledge_facts s.names.now c.loop-word.inside) c.word-item.result _ here in
+    search std_rules
+
+pub words::sweep_words-loop-word-preserved : goal.words::sweep_words-loop-word-preserved
+words::sweep_words-loop-word-preserved t c =
+    let s = c.args.subject.now in
+    let r = c.requires.ready in
+    let here : IsIn s (λ q. entries.words_entered q (words_from s.script.now (c.word-item.result ∷ drop (c.loop-word.word-index + 1) c.args.words.now))) (knowledge_facts s.names.now c.loop-word.inside) = subst (λ xs. IsIn s (λ q. entries.words_entered q (words_from s.script.now xs)) (knowledge_facts s.names.now c.loop-word.inside)) (at_index c.args.words.now c.loop-word.word-index c.word-item.result c.loop-word-test.true c.word-item.is) c.loop-word.invariant.placed in
+    record {
+      swept = swept_more s _ _ _ _ _ c.loop-word.invariant.swept c.in_ok-pass_word.ensures.swept;
+      placed = words_next s (knowledge_facts s.names.now c.loop-word.inside) (knowledge_facts s.names.now c.pass_word.new.known) c.word-item.result _ c.in_ok-pass_word.ensures.gained here;
+    }
+
+pub words::sweep_patterns-sweep_word-requires : goal.words::sweep_patterns-sweep_word-requires
+words::sweep_patterns-sweep_word-requires t c =
+    let s = c.args.subject.now in
+    let r = c.requires.ready in
+    let ready : IsReady s c.loop-pattern.draft.certificate c.loop-pattern.draft.probe.count = ready_again s _ _ _ _ r c.loop-pattern.invariant.swept in
+    let here : IsIn s (λ q. entries.patterns_entered q (words_from s.script.now (c.pattern-item.result ∷ drop (c.loop-pattern.pattern-index + 1) c.args.patterns.now))) (knowledge_facts s.names.now c.args.known.now) = subst (λ xs. IsIn s (λ q. entries.patterns_entered q (words_from s.script.now xs)) (knowledge_facts s.names.now c.args.known.now)) (at_index c.args.patterns.now c.loop-pattern.pattern-index c.pattern-item.result c.loop-pattern-test.true c.pattern-item.is) c.loop-pattern.invariant.placed in
+    let placed : IsWord s (knowledge_facts s.names.now c.args.known.now) (parts_from s.script.now c.pattern-item.result.parts) = pattern_placed s (knowledge_facts s.names.now c.args.known.now) c.pattern-item.result _ here in
+    search std_rules
+
+pub words::sweep_patterns-loop-pattern-preserved : goal.words::sweep_patterns-loop-pattern-preserved
+words::sweep_patterns-loop-pattern-preserved t c =
+    let s = c.args.subject.now in
+    let r = c.requires.ready in
+    let here : IsIn s (λ q. entries.patterns_entered q (words_from s.script.now (c.pattern-item.result ∷ drop (c.loop-pattern.pattern-index + 1) c.args.patterns.now))) (knowledge_facts s.names.now c.args.known.now) = subst (λ xs. IsIn s (λ q. entries.patterns_entered q (words_from s.script.now xs)) (knowledge_facts s.names.now c.args.known.now)) (at_index c.args.patterns.now c.loop-pattern.pattern-index c.pattern-item.result c.loop-pattern-test.true c.pattern-item.is) c.loop-pattern.invariant.placed in
+    record {
+      swept = swept_more s _ _ _ _ _ c.loop-pattern.invariant.swept c.in_ok-sweep_word.ensures.swept;
+      placed = patterns_next s (knowledge_facts s.names.now c.args.known.now) c.pattern-item.result _ here;
+    }
+
+pub words::sweep_word-pass_parts-requires : goal.words::sweep_word-pass_parts-requires
+words::sweep_word-pass_parts-requires t c =
+    let s = c.args.subject.now in
+    let r = c.requires.ready in
+    let k = knowledge_facts s.names.now c.args.known.now in
+    let placed : IsWord s k (parts_from s.script.now c.as_slice.result.now) = subst (λ ps. IsWord s k (parts_from s.script.now ps)) (sym c.as_slice.ensures) c.requires.placed in
+    search std_rules
+
+pub words::pass_parts-loop-part-init : goal.words::pass_parts-loop-part-init
+words::pass_parts-loop-part-init t c =
+    let s = c.args.subject.now in
+    let r = c.requires.ready in
+    record { swept = swept_none s _ _ r; placed = c.requires.placed; along = λ q w. along_first s q _ _ w }
+
+pub words::pass_parts-pass_part-requires : goal.words::pass_parts-pass_part-requires
+words::pass_parts-pass_part-requires t c =
+    let s = c.args.subject.now in
+    let r = c.requires.ready in
+    let ready : IsReady s c.loop-part.draft.certificate c.loop-part.draft.probe.count = ready_again s _ _ _ _ r c.loop-part.invariant.swept in
+    let here : IsWord s (knowledge_facts s.names.now c.loop-part.known) (parts_from s.script.now (c.part-item.result ∷ drop (c.loop-part.part-index + 1) c.args.parts.now)) = subst (λ xs. IsWord s (knowledge_facts s.names.now c.loop-part.known) (parts_from s.script.now xs)) (at_index c.args.parts.now c.loop-part.part-index c.part-item.result c.loop-part-test.true c.part-item.is) c.loop-part.invariant.placed in
+    let placed : IsIn s (λ q. entries.part_entered q (part_of s.script.now c.part-item.result)) (knowledge_facts s.names.now c.loop-part.known) = part_placed s (knowledge_facts s.names.now c.loop-part.known) c.part-item.result _ here in
+    search std_rules
+
+pub words::pass_parts-loop-part-preserved : goal.words::pass_parts-loop-part-preserved
+words::pass_parts-loop-part-preserved t c =
+    let s = c.args.subject.now in
+    let r = c.requires.ready in
+    let here : IsWord s (knowledge_facts s.names.now c.loop-part.known) (parts_from s.script.now (c.part-item.result ∷ drop (c.loop-part.part-index + 1) c.args.parts.now)) = subst (λ xs. IsWord s (knowledge_facts s.names.now c.loop-part.known) (parts_from s.script.now xs)) (at_index c.args.parts.now c.loop-part.part-index c.part-item.result c.loop-part-test.true c.part-item.is) c.loop-part.invariant.placed in
+    record {
+      swept = swept_more s _ _ _ _ _ c.loop-part.invariant.swept c.in_ok-pass_part.ensures.swept;
+      placed = pieces_next s (knowledge_facts s.names.now c.loop-part.known) (knowledge_facts s.names.now c.pass_part.new.known) c.part-item.result _ c.in_ok-pass_part.ensures.gained here;
+      along = λ q w. along_parts s _ (names_numbered s _ _ r) r.over q (knowledge_facts s.names.now c.loop-part.known) _ _ c.part-item.result _ c.in_ok-pass_part.ensures.gained
+          (subst (λ xs. Along s q (knowledge_facts s.names.now c.loop-part.known) (word_gains (parts_from s.script.now c.args.parts.now)) (word_gains (parts_from s.script.now xs))) (at_index c.args.parts.now c.loop-part.part-index c.part-item.result c.loop-part-test.true c.part-item.is) (c.loop-part.invariant.along q w));
+    }
+
+pub words::pass_parts-returns-clause-gained : goal.words::pass_parts-returns-clause-gained
+words::pass_parts-returns-clause-gained t c =
+    λ q w.
+    let s = c.args.subject.now in
+    let r = c.requires.ready in
+    along_no_parts s _ (names_numbered s _ _ r) r.over q _ _
+    (subst (λ xs. Along s q (knowledge_facts s.names.now c.loop-part.known) (word_gains (parts_from s.script.now c.args.parts.now)) (word_gains (parts_from s.script.now xs))) (drop_all c.loop-part.part-index c.args.parts.now c.loop-part-test.false) (c.loop-part.invariant.along q w))
+
+pub words::pass_part-returns : goal.words::pass_part-returns
+words::pass_part-returns t c =
+    record { swept = swept_none c.args.subject.now _ _ c.requires.ready; gained = gained_nowhere c.args.subject.now _ _ }
+
+pub words::open_part-pass_parts-requires : goal.words::open_part-pass_parts-requires
+words::open_part-pass_parts-requires t c =
+    let s = c.args.subject.now in
+    let r = c.requires.ready in
+    let k = knowledge_facts s.names.now c.args.known.now in
+    let first = double_placed s k _ (part_as s k c.args.part.now _ _ c.in-Double.is (program.part_of-Double s.script.now _ c.in-Double.parts) c.requires.placed) in
+    let placed : IsWord s k (parts_from s.script.now c.as_slice.result.now) = subst (λ ps. IsWord s k (parts_from s.script.now ps)) (sym c.as_slice.ensures) first in
+    search std_rules
+
+pub words::open_part-pass_operator-requires : goal.words::open_part-pass_operator-requires
+words::open_part-pass_operator-requires t c =
+    let s = c.args.subject.now in
+    let r = c.requires.ready in
+    let k = knowledge_facts s.names.now c.args.known.now in
+    let placed : IsIn s (λ q. entries.operator_entered q (parameter_of s.script.now c.in-Param.param.subject) (operator_of s.script.now c.in-Param.param.operator)) k = expansion_placed s k _ _ _ (part_as s k c.args.part.now _ _ c.in-Param.is (program.part_of-Param s.script.now c.in-Param.param) c.requires.placed) in
+    search std_rules
+
+pub words::open_part-pass_arithmetic-requires : goal.words::open_part-pass_arithmetic-requires
+words::open_part-pass_arithmetic-requires t c =
+    let s = c.args.subject.now in
+    let r = c.requires.ready in
+    let k = knowledge_facts s.names.now c.args.known.now in
+    let first = arithmetic_placed s k _ _ (part_as s k c.args.part.now _ _ c.in-Arith.is (program.part_of-Arith s.script.now _ c.in-Arith.expression) c.requires.placed) in
+    let placed : IsIn s (λ q. entries.expression_entered q (expression_of s.script.now c.get.result.now)) k = subst (λ x. IsIn s (λ q. entries.expression_entered q (expression_of s.script.now x)) k) (sym c.get.ensures) first in
+    search std_rules
+
+pub words::open_part-sweep_substitution-requires : goal.words::open_part-sweep_substitution-requires
+words::open_part-sweep_substitution-requires t c =
+    let s = c.args.subject.now in
+    let r = c.requires.ready in
+    let k = knowledge_facts s.names.now c.args.known.now in
+    let placed : (offset : ℕ) × IsIn s (λ q. entries.part_entered q (p.Substitution offset (script_of s.script.now c.in-Command.list))) k = (_, part_as s k c.args.part.now _ _ c.in-Command.is (program.part_of-Command s.script.now _ _ c.in-Command.list) c.requires.placed) in
+    search std_rules
+
+pub words::open_part-returns-in-Plain-clause-gained : goal.words::open_part-returns-in-Plain-clause-gained
+unfolding part_gains
+words::open_part-returns-in-Plain-clause-gained t c =
+    let s = c.args.subject.now in
+    let r = c.requires.ready in
+    let k = knowledge_facts s.names.now c.args.known.now in
+    plain_gained s _ (names_numbered s _ _ r) r.over k c.args.part.now _ _ c.in-Plain.is (program.part_of-Plain s.script.now _) refl
+
+pub words::open_part-returns-in-Escaped-clause-gained : goal.words::open_part-returns-in-Escaped-clause-gained
+unfolding part_gains
+words::open_part-returns-in-Escaped-clause-gained t c =
+    let s = c.args.subject.now in
+    let r = c.requires.ready in
+    let k = knowledge_facts s.names.now c.args.known.now in
+    plain_gained s _ (names_numbered s _ _ r) r.over k c.args.part.now _ _ c.in-Escaped.is (program.part_of-Escaped s.script.now _) refl
+
+pub words::open_part-returns-in-Single-clause-gained : goal.words::open_part-returns-in-Single-clause-gained
+unfolding part_gains
+words::open_part-returns-in-Single-clause-gained t c =
+    let s = c.args.subject.now in
+    let r = c.requires.ready in
+    let k = knowledge_facts s.names.now c.args.known.now in
+    plain_gained s _ (names_numbered s _ _ r) r.over k c.args.part.now _ _ c.in-Single.is (program.part_of-Single s.script.now _ _) refl
+
+pub words::open_part-returns-in-Tilde-clause-gained : goal.words::open_part-returns-in-Tilde-clause-gained
+unfolding part_gains
+words::open_part-returns-in-Tilde-clause-gained t c =
+    let s = c.args.subject.now in
+    let r = c.requires.ready in
+    let k = knowledge_facts s.names.now c.args.known.now in
+    plain_gained s _ (names_numbered s _ _ r) r.over k c.args.part.now _ _ c.in-Tilde.is (program.part_of-Tilde s.script.now _) refl
+
+pub words::open_part-returns-in-Joined-clause-gained : goal.words::open_part-returns-in-Joined-clause-gained
+unfolding part_gains
+words::open_part-returns-in-Joined-clause-gained t c =
+    let s = c.args.subject.now in
+    let r = c.requires.ready in
+    let k = knowledge_facts s.names.now c.args.known.now in
+    plain_gained s _ (names_numbered s _ _ r) r.over k c.args.part.now _ _ c.in-Joined.is (program.part_of-Joined s.script.now _) refl
+
+pub words::open_part-returns-in-Command-clause-gained : goal.words::open_part-returns-in-Command-clause-gained
+unfolding part_gains
+words::open_part-returns-in-Command-clause-gained t c =
+    let s = c.args.subject.now in
+    let r = c.requires.ready in
+    let k = knowledge_facts s.names.now c.args.known.now in
+    plain_gained s _ (names_numbered s _ _ r) r.over k c.args.part.now _ _ c.in-Command.is (program.part_of-Command s.script.now _ _ c.in-Command.list) refl
+
+pub words::open_part-returns-in-Double-clause-gained : goal.words::open_part-returns-in-Double-clause-gained
+words::open_part-returns-in-Double-clause-gained t c =
+    let s = c.args.subject.now in
+    let r = c.requires.ready in
+    let k = knowledge_facts s.names.now c.args.known.now in
+    let l = (knowledge_facts s.names.now c.pass_parts.new.known) in
+    part_gained s k l c.args.part.now _ _ c.in-Double.is (program.part_of-Double s.script.now _ c.in-Double.parts) (double_gained s k l _ (subst (λ ps. Gained s (word_gains (parts_from s.script.now ps)) k l) c.as_slice.ensures c.in_ok-pass_parts.ensures.gained))
+
+pub words::open_part-returns-in-Param-clause-gained : goal.words::open_part-returns-in-Param-clause-gained
+words::open_part-returns-in-Param-clause-gained t c =
+    let s = c.args.subject.now in
+    let r = c.requires.ready in
+    let k = knowledge_facts s.names.now c.args.known.now in
+    let l = (knowledge_facts s.names.now c.pass_operator.new.known) in
+    part_gained s k l c.args.part.now _ _ c.in-Param.is (program.part_of-Param s.script.now c.in-Param.param) (expansion_gained s k l _ _ _ c.in_ok-pass_operator.ensures.gained)
+
+pub words::open_part-returns-in-Arith-clause-gained : goal.words::open_part-returns-in-Arith-clause-gained
+words::open_part-returns-in-Arith-clause-gained t c =
+    let s = c.args.subject.now in
+    let r = c.requires.ready in
+    let k = knowledge_facts s.names.now c.args.known.now in
+    let l = (knowledge_facts s.names.now c.pass_arithmetic.new.known) in
+    part_gained s k l c.args.part.now _ _ c.in-Arith.is (program.part_of-Arith s.script.now _ c.in-Arith.expression) (arithmetic_gained s k l _ _ (subst (λ x. Gained s (and_gains (expanded_gains (expression_of s.script.now x)) (named (assigned_in (expression_of s.script.now x)))) k l) c.get.ensures c.in_ok-pass_arithmetic.ensures.gained))
+
+pub words::sweep_substitution-sweep_list-requires : goal.words::sweep_substitution-sweep_list-requires
+words::sweep_substitution-sweep_list-requires t c =
+    let s = c.args.subject.now in
+    let r = c.requires.ready in
+    let k = knowledge_facts s.names.now c.args.known.now in
+    let w = c.requires.placed in
+    let l = knowledge_facts s.names.now c.started_in-seen.result in
+    let placed : IsList s F11 (walks.around s.script.now c.alone-outside.result) l (script_of s.script.now c.args.list.now) =
+    subst (λ z. IsList s F11 z l (script_of s.script.now c.args.list.now)) (sym (c.alone-outside.ensures s.script.now))
+    (substitution_placed s k l w.0 (script_of s.script.now c.args.list.now) c.started_in-seen.ensures w.1) in
+    search std_rules
+
+pub words::pass_operator-pass_action-requires : goal.words::pass_operator-pass_action-requires
+words::pass_operator-pass_action-requires t c =
+    let s = c.args.subject.now in
+    let r = c.requires.ready in
+    let k = knowledge_facts s.names.now c.args.known.now in
+    let placed : IsIn s (λ q. entries.word_entered (entries.operand_seen c.in-Use.action (parameter_of s.script.now c.args.parameter) q) (parts_from s.script.now c.in-Use.word.parts)) k =
+    use_placed s k _ _ _ _ (subst (λ x. IsIn s (λ q. entries.operator_entered q (parameter_of s.script.now c.args.parameter) x) k) (ap (operator_of s.script.now) c.in-Use.is ∙ program.operator_of-Use s.script.now c.in-Use.action _ c.in-Use.word) c.requires.placed) in
+    search std_rules
+
+pub words::pass_operator-sweep_word-requires : goal.words::pass_operator-sweep_word-requires
+words::pass_operator-sweep_word-requires t c =
+    let s = c.args.subject.now in
+    let r = c.requires.ready in
+    let k = knowledge_facts s.names.now c.args.known.now in
+    let placed : IsWord s k (parts_from s.script.now c.in-Remove.pattern.parts) = remove_placed s k _ _ _ (subst (λ x. IsIn s (λ q. entries.operator_entered q (parameter_of s.script.now c.args.parameter) x) k) (ap (operator_of s.script.now) c.in-Remove.is ∙ program.operator_of-Remove s.script.now _ c.in-Remove.pattern) c.requires.placed) in
+    search std_rules
+
+pub words::pass_operator-returns-in-Value-clause-gained : goal.words::pass_operator-returns-in-Value-clause-gained
+unfolding operator_gains
+words::pass_operator-returns-in-Value-clause-gained t c =
+    let s = c.args.subject.now in
+    let r = c.requires.ready in
+    let k = knowledge_facts s.names.now c.args.known.now in
+    subst (λ x. Gained s (operator_gains (parameter_of s.script.now c.args.parameter) x) k k) (sym (ap (operator_of s.script.now) c.in-Value.is ∙ program.operator_of-Value s.script.now)) (nothing_gained s _ (names_numbered s _ _ r) r.over k _ refl)
+
+pub words::pass_operator-returns-in-Length-clause-gained : goal.words::pass_operator-returns-in-Length-clause-gained
+unfolding operator_gains
+words::pass_operator-returns-in-Length-clause-gained t c =
+    let s = c.args.subject.now in
+    let r = c.requires.ready in
+    let k = knowledge_facts s.names.now c.args.known.now in
+    subst (λ x. Gained s (operator_gains (parameter_of s.script.now c.args.parameter) x) k k) (sym (ap (operator_of s.script.now) c.in-Length.is ∙ program.operator_of-Length s.script.now)) (nothing_gained s _ (names_numbered s _ _ r) r.over k _ refl)
+
+pub words::pass_operator-returns-in-Remove-clause-gained : goal.words::pass_operator-returns-in-Remove-clause-gained
+unfolding operator_gains
+words::pass_operator-returns-in-Remove-clause-gained t c =
+    let s = c.args.subject.now in
+    let r = c.requires.ready in
+    let k = knowledge_facts s.names.now c.args.known.now in
+    subst (λ x. Gained s (operator_gains (parameter_of s.script.now c.args.parameter) x) k k) (sym (ap (operator_of s.script.now) c.in-Remove.is ∙ program.operator_of-Remove s.script.now _ c.in-Remove.pattern)) (nothing_gained s _ (names_numbered s _ _ r) r.over k _ refl)
+
+pub words::pass_operator-returns-in-Use-clause-gained : goal.words::pass_operator-returns-in-Use-clause-gained
+words::pass_operator-returns-in-Use-clause-gained t c =
+    let s = c.args.subject.now in
+    let r = c.requires.ready in
+    let k = knowledge_facts s.names.now c.args.known.now in
+    let l = (knowledge_facts s.names.now c.pass_action.new.known) in
+    subst (λ x. Gained s (operator_gains (parameter_of s.script.now c.args.parameter) x) k l) (sym (ap (operator_of s.script.now) c.in-Use.is ∙ program.operator_of-Use s.script.now c.in-Use.action _ c.in-Use.word)) (use_gained s k l _ _ _ _ c.in_ok-pass_action.ensures.gained)
+
+pub words::pass_action-sweep_word-requires : goal.words::pass_action-sweep_word-requires
+words::pass_action-sweep_word-requires t c =
+    let s = c.args.subject.now in
+    let r = c.requires.ready in
+    let k = knowledge_facts s.names.now c.args.known.now in
+    let l = knowledge_facts s.names.now c.operand_of-inside.result in
+    let placed : IsWord s l (parts_from s.script.now c.args.word.now.parts) = operand_inside s k l _ _ _ c.operand_of-inside.ensures c.requires.placed in
+    search std_rules
+
+pub words::pass_arithmetic-returns-clause-gained : goal.words::pass_arithmetic-returns-clause-gained
+words::pass_arithmetic-returns-clause-gained t c =
+    let s = c.args.subject.now in
+    let r = c.requires.ready in
+    let k = knowledge_facts s.names.now c.args.known.now in
+    both_gained s _ (names_numbered s _ _ r) r.over k (knowledge_facts s.names.now c.pass_expression.new.known) _ _ _ c.in_ok-pass_expression.ensures.gained c.behind_assigned.ensures
+
+pub words::pass_expression-returns : goal.words::pass_expression-returns
+words::pass_expression-returns t c =
+    record { swept = swept_none c.args.subject.now _ _ c.requires.ready; gained = gained_nowhere c.args.subject.now _ _ }
+
+pub words::open_expression-pass_part-requires : goal.words::open_expression-pass_part-requires
+words::open_expression-pass_part-requires t c =
+    let s = c.args.subject.now in
+    let r = c.requires.ready in
+    let k = knowledge_facts s.names.now c.args.known.now in
+    let placed : IsIn s (λ q. entries.part_entered q (part_of s.script.now c.in-Expansion.part)) k = expanded_placed s k _ (expression_as s k c.args.expression.now _ _ c.in-Expansion.is (program.expression_of-Expansion s.script.now c.in-Expansion.part) c.requires.placed) in
+    search std_rules
+
+pub words::open_expression-pass_expression-requires : goal.words::open_expression-pass_expression-requires
+words::open_expression-pass_expression-requires t c =
+    let s = c.args.subject.now in
+    let r = c.requires.ready in
+    let k = knowledge_facts s.names.now c.args.known.now in
+    let first = parenthesis_placed s k _ (expression_as s k c.args.expression.now _ _ c.in-Parenthesis.is (program.expression_of-Parenthesis s.script.now c.in-Parenthesis.inner) c.requires.placed) in
+    let placed : IsIn s (λ q. entries.expression_entered q (expression_of s.script.now c.get.result.now)) k = subst (λ x. IsIn s (λ q. entries.expression_entered q (expression_of s.script.now x)) k) (sym c.get.ensures) first in
+    search std_rules
+
+pub words::open_expression-returns-in-Parenthesis-clause-gained : goal.words::open_expression-returns-in-Parenthesis-clause-gained
+words::open_expression-returns-in-Parenthesis-clause-gained t c =
+    let s = c.args.subject.now in
+    let r = c.requires.ready in
+    let k = knowledge_facts s.names.now c.args.known.now in
+    let l = (knowledge_facts s.names.now c.pass_expression.new.known) in
+    expression_gained s k l c.args.expression.now _ _ c.in-Parenthesis.is (program.expression_of-Parenthesis s.script.now c.in-Parenthesis.inner) (parenthesis_gained s k l _ (subst (λ x. Gained s (expanded_gains (expression_of s.script.now x)) k l) c.get.ensures c.in_ok-pass_expression.ensures.gained))
+
+pub words::open_expression-pass_expression-requires-2 : goal.words::open_expression-pass_expression-requires-2
+words::open_expression-pass_expression-requires-2 t c =
+    let s = c.args.subject.now in
+    let r = c.requires.ready in
+    let k = knowledge_facts s.names.now c.args.known.now in
+    let first = signed_placed s k _ _ (expression_as s k c.args.expression.now _ _ c.in-Unary.is (program.expression_of-Unary s.script.now _ c.in-Unary.operand) c.requires.placed) in
+    let placed : IsIn s (λ q. entries.expression_entered q (expression_of s.script.now c.get-2.result.now)) k = subst (λ x. IsIn s (λ q. entries.expression_entered q (expression_of s.script.now x)) k) (sym c.get-2.ensures) first in
+    search std_rules
+
+pub words::open_expression-returns-in-Unary-clause-gained : goal.words::open_expression-returns-in-Unary-clause-gained
+words::open_expression-returns-in-Unary-clause-gained t c =
+    let s = c.args.subject.now in
+    let r = c.requires.ready in
+    let k = knowledge_facts s.names.now c.args.known.now in
+    let l = (knowledge_facts s.names.now c.pass_expression-2.new.known) in
+    expression_gained s k l c.args.expression.now _ _ c.in-Unary.is (program.expression_of-Unary s.script.now _ c.in-Unary.operand) (signed_gained s k l _ _ (subst (λ x. Gained s (expanded_gains (expression_of s.script.now x)) k l) c.get-2.ensures c.in_ok-pass_expression-2.ensures.gained))
+
+pub words::open_expression-pass_expression-requires-3 : goal.words::open_expression-pass_expression-requires-3
+words::open_expression-pass_expression-requires-3 t c =
+    let s = c.args.subject.now in
+    let r = c.requires.ready in
+    let k = knowledge_facts s.names.now c.args.known.now in
+    let first = assigned_placed s k _ _ _ _ (expression_as s k c.args.expression.now _ _ c.in-Assign.is (program.expression_of-Assign s.script.now _ _ c.in-Assign.value) c.requires.placed) in
+    let placed : IsIn s (λ q. entries.expression_entered q (expression_of s.script.now c.get-3.result.now)) k = subst (λ x. IsIn s (λ q. entries.expression_entered q (expression_of s.script.now x)) k) (sym c.get-3.ensures) first in
+    search std_rules
+
+pub words::open_expression-returns-in-Assign-clause-gained : goal.words::open_expression-returns-in-Assign-clause-gained
+words::open_expression-returns-in-Assign-clause-gained t c =
+    let s = c.args.subject.now in
+    let r = c.requires.ready in
+    let k = knowledge_facts s.names.now c.args.known.now in
+    let l = (knowledge_facts s.names.now c.pass_expression-3.new.known) in
+    expression_gained s k l c.args.expression.now _ _ c.in-Assign.is (program.expression_of-Assign s.script.now _ _ c.in-Assign.value) (assigned_gained s k l _ _ _ _ (subst (λ x. Gained s (expanded_gains (expression_of s.script.now x)) k l) c.get-3.ensures c.in_ok-pass_expression-3.ensures.gained))
+
+pub words::open_expression-returns-in-Constant-clause-gained : goal.words::open_expression-returns-in-Constant-clause-gained
+unfolding part_gains
+words::open_expression-returns-in-Constant-clause-gained t c =
+    let s = c.args.subject.now in
+    let r = c.requires.ready in
+    let k = knowledge_facts s.names.now c.args.known.now in
+    literal_gained s _ (names_numbered s _ _ r) r.over k c.args.expression.now _ _ c.in-Constant.is (program.expression_of-Constant s.script.now _) refl
+
+pub words::open_expression-returns-in-Variable-clause-gained : goal.words::open_expression-returns-in-Variable-clause-gained
+unfolding part_gains
+words::open_expression-returns-in-Variable-clause-gained t c =
+    let s = c.args.subject.now in
+    let r = c.requires.ready in
+    let k = knowledge_facts s.names.now c.args.known.now in
+    literal_gained s _ (names_numbered s _ _ r) r.over k c.args.expression.now _ _ c.in-Variable.is (program.expression_of-Variable s.script.now _) refl
+
+pub words::open_expression-returns-in-Expansion-clause-gained : goal.words::open_expression-returns-in-Expansion-clause-gained
+words::open_expression-returns-in-Expansion-clause-gained t c =
+    let s = c.args.subject.now in
+    let r = c.requires.ready in
+    let k = knowledge_facts s.names.now c.args.known.now in
+    let l = (knowledge_facts s.names.now c.pass_part.new.known) in
+    expression_gained s k l c.args.expression.now _ _ c.in-Expansion.is (program.expression_of-Expansion s.script.now c.in-Expansion.part) (expanded_gained s k l _ c.in_ok-pass_part.ensures.gained)
+
+pub words::open_expression-pass_chain-requires : goal.words::open_expression-pass_chain-requires
+words::open_expression-pass_chain-requires t c =
+    let s = c.args.subject.now in
+    let r = c.requires.ready in
+    let k = knowledge_facts s.names.now c.args.known.now in
+    let first = expression_as s k c.args.expression.now _ _ c.in-Chain.is (program.expression_of-Chain s.script.now c.in-Chain.first c.in-Chain.rest) c.requires.placed in
+    let placed : IsIn s (λ q. entries.expression_entered q (p.Chain (expression_of s.script.now c.get-in-Chain.result.now) (operands_from s.script.now c.as_slice.result.now))) k =
+    subst (λ x. IsIn s (λ q. entries.expression_entered q (p.Chain (expression_of s.script.now x) (operands_from s.script.now c.as_slice.result.now))) k) (sym c.get-in-Chain.ensures)
+    (subst (λ xs. IsIn s (λ q. entries.expression_entered q (p.Chain (expression_of s.script.now c.in-Chain.first) (operands_from s.script.now xs))) k) (sym c.as_slice.ensures) first) in
+    search std_rules
+
+pub words::open_expression-returns-in-Chain-clause-gained : goal.words::open_expression-returns-in-Chain-clause-gained
+words::open_expression-returns-in-Chain-clause-gained t c =
+    let s = c.args.subject.now in
+    let r = c.requires.ready in
+    let k = knowledge_facts s.names.now c.args.known.now in
+    let l = (knowledge_facts s.names.now c.pass_chain.new.known) in
+    expression_gained s k l c.args.expression.now _ _ c.in-Chain.is (program.expression_of-Chain s.script.now c.in-Chain.first c.in-Chain.rest)
+    (subst (λ x. Gained s (expanded_gains (p.Chain (expression_of s.script.now x) (operands_from s.script.now c.in-Chain.rest))) k l) c.get-in-Chain.ensures
+    (subst (λ xs. Gained s (expanded_gains (p.Chain (expression_of s.script.now c.get-in-Chain.result.now) (operands_from s.script.now xs))) k l) c.as_slice.ensures c.in_ok-pass_chain.ensures.gained))
+
+pub words::open_expression-pass_choice-requires : goal.words::open_expression-pass_choice-requires
+words::open_expression-pass_choice-requires t c =
+    let s = c.args.subject.now in
+    let r = c.requires.ready in
+    let k = knowledge_facts s.names.now c.args.known.now in
+    let first = expression_as s k c.args.expression.now _ _ c.in-Choice.is (program.expression_of-Choice s.script.now c.in-Choice.condition c.in-Choice.yes c.in-Choice.no) c.requires.placed in
+    let placed : IsIn s (λ q. entries.expression_entered q (p.Choice (expression_of s.script.now c.get-in-Choice.result.now) (expression_of s.script.now c.get-in-Choice-2.result.now) (expression_of s.script.now c.get-in-Choice-3.result.now))) k =
+    subst (λ x. IsIn s (λ q. entries.expression_entered q (p.Choice (expression_of s.script.now x) (expression_of s.script.now c.get-in-Choice-2.result.now) (expression_of s.script.now c.get-in-Choice-3.result.now))) k) (sym c.get-in-Choice.ensures)
+    (subst (λ x. IsIn s (λ q. entries.expression_entered q (p.Choice (expression_of s.script.now c.in-Choice.condition) (expression_of s.script.now x) (expression_of s.script.now c.get-in-Choice-3.result.now))) k) (sym c.get-in-Choice-2.ensures)
+    (subst (λ x. IsIn s (λ q. entries.expression_entered q (p.Choice (expression_of s.script.now c.in-Choice.condition) (expression_of s.script.now c.in-Choice.yes) (expression_of s.script.now x))) k) (sym c.get-in-Choice-3.ensures) first)) in
+    search std_rules
+
+pub words::open_expression-returns-in-Choice-clause-gained : goal.words::open_expression-returns-in-Choice-clause-gained
+words::open_expression-returns-in-Choice-clause-gained t c =
+    let s = c.args.subject.now in
+    let r = c.requires.ready in
+    let k = knowledge_facts s.names.now c.args.known.now in
+    let l = (knowledge_facts s.names.now c.pass_choice.new.known) in
+    expression_gained s k l c.args.expression.now _ _ c.in-Choice.is (program.expression_of-Choice s.script.now c.in-Choice.condition c.in-Choice.yes c.in-Choice.no)
+    (subst (λ x. Gained s (expanded_gains (p.Choice (expression_of s.script.now x) (expression_of s.script.now c.in-Choice.yes) (expression_of s.script.now c.in-Choice.no))) k l) c.get-in-Choice.ensures
+    (subst (λ x. Gained s (expanded_gains (p.Choice (expression_of s.script.now c.get-in-Choice.result.now) (expression_of s.script.now x) (expression_of s.script.now c.in-Choice.no))) k l) c.get-in-Choice-2.ensures
+    (subst (λ x. Gained s (expanded_gains (p.Choice (expression_of s.script.now c.get-in-Choice.result.now) (expression_of s.script.now c.get-in-Choice-2.result.now) (expression_of s.script.now x))) k l) c.get-in-Choice-3.ensures c.in_ok-pass_choice.ensures.gained)))
+
+pub words::pass_chain-pass_expression-requires : goal.words::pass_chain-pass_expression-requires
+words::pass_chain-pass_expression-requires t c =
+    let s = c.args.subject.now in
+    let r = c.requires.ready in
+    let k = knowledge_facts s.names.now c.args.known.now in
+    let placed : IsIn s (λ q. entries.expression_entered q (expression_of s.script.now c.args.first.now)) k = chain_first s k (expression_of s.script.now c.args.first.now) (operands_from s.script.now c.args.rest.now) c.requires.placed in
+    search std_rules
+
+pub words::pass_chain-pass_operands-requires : goal.words::pass_chain-pass_operands-requires
+words::pass_chain-pass_operands-requires t c =
+    let s = c.args.subject.now in
+    let r = c.requires.ready in
+    let k = knowledge_facts s.names.now c.args.known.now in
+    let ready : IsReady s c.pass_expression.new.draft.certificate c.pass_expression.new.draft.probe.count = ready_again s _ _ _ _ r c.in_ok-pass_expression.ensures.swept in
+    let l = (knowledge_facts s.names.now c.pass_expression.new.known) in
+    let placed : IsIn s (λ q. entries.operands_entered q (operands_from s.script.now c.args.rest.now)) l = chain_rest s k l (expression_of s.script.now c.args.first.now) (operands_from s.script.now c.args.rest.now) c.in_ok-pass_expression.ensures.gained c.requires.placed in
+    search std_rules
+
+pub words::pass_chain-returns : goal.words::pass_chain-returns
+words::pass_chain-returns t c =
+    let s = c.args.subject.now in
+    let r = c.requires.ready in
+    let k = knowledge_facts s.names.now c.args.known.now in
+    record {
+      swept = swept_more s _ _ _ _ _ c.in_ok-pass_expression.ensures.swept c.in_ok-pass_operands.ensures.swept;
+      gained = chain_gained s _ (names_numbered s _ _ r) r.over k (knowledge_facts s.names.now c.pass_expression.new.known) _ (expression_of s.script.now c.args.first.now) (operands_from s.script.now c.args.rest.now) c.in_ok-pass_expression.ensures.gained c.in_ok-pass_operands.ensures.gained;
+    }
+
+pub words::pass_operands-loop-link-init : goal.words::pass_operands-loop-link-init
+words::pass_operands-loop-link-init t c =
+    let s = c.args.subject.now in
+    let r = c.requires.ready in
+    record { swept = swept_none s _ _ r; placed = c.requires.placed; along = λ q w. along_first s q _ _ w }
+
+pub words::pass_operands-pass_expression-requires : goal.words::pass_operands-pass_expression-requires
+words::pass_operands-pass_expression-requires t c =
+    let s = c.args.subject.now in
+    let r = c.requires.ready in
+    let ready : IsReady s c.loop-link.draft.certificate c.loop-link.draft.probe.count = ready_again s _ _ _ _ r c.loop-link.invariant.swept in
+    let here : IsIn s (λ q. entries.operands_entered q (operands_from s.script.now (c.link-item.result ∷ drop (c.loop-link.link-index + 1) c.args.rest.now))) (knowledge_facts s.names.now c.loop-link.known) = subst (λ xs. IsIn s (λ q. entries.operands_entered q (operands_from s.script.now xs)) (knowledge_facts s.names.now c.loop-link.known)) (at_index c.args.rest.now c.loop-link.link-index c.link-item.result c.loop-link-test.true c.link-item.is) c.loop-link.invariant.placed in
+    let placed : IsIn s (λ q. entries.expression_entered q (expression_of s.script.now c.link-item.result.1)) (knowledge_facts s.names.now c.loop-link.known) = link_expression s (knowledge_facts s.names.now c.loop-link.known) c.link-item.result _ here in
+    search std_rules
+
+pub words::pass_operands-loop-link-preserved : goal.words::pass_operands-loop-link-preserved
+words::pass_operands-loop-link-preserved t c =
+    let s = c.args.subject.now in
+    let r = c.requires.ready in
+    let here : IsIn s (λ q. entries.operands_entered q (operands_from s.script.now (c.link-item.result ∷ drop (c.loop-link.link-index + 1) c.args.rest.now))) (knowledge_facts s.names.now c.loop-link.known) = subst (λ xs. IsIn s (λ q. entries.operands_entered q (operands_from s.script.now xs)) (knowledge_facts s.names.now c.loop-link.known)) (at_index c.args.rest.now c.loop-link.link-index c.link-item.result c.loop-link-test.true c.link-item.is) c.loop-link.invariant.placed in
+    record {
+      swept = swept_more s _ _ _ _ _ c.loop-link.invariant.swept c.in_ok-pass_expression.ensures.swept;
+      placed = operands_next s (knowledge_facts s.names.now c.loop-link.known) (knowledge_facts s.names.now c.pass_expression.new.known) c.link-item.result _ c.in_ok-pass_expression.ensures.gained here;
+      along = λ q w. along_operands s _ (names_numbered s _ _ r) r.over q (knowledge_facts s.names.now c.loop-link.known) _ _ c.link-item.result _ c.in_ok-pass_expression.ensures.gained
+          (subst (λ xs. Along s q (knowledge_facts s.names.now c.loop-link.known) (operands_gains (operands_from s.script.now c.args.rest.now)) (operands_gains (operands_from s.script.now xs))) (at_index c.args.rest.now c.loop-link.link-index c.link-item.result c.loop-link-test.true c.link-item.is) (c.loop-link.invariant.along q w));
+    }
+
+pub words::pass_operands-returns-clause-gained : goal.words::pass_operands-returns-clause-gained
+words::pass_operands-returns-clause-gained t c =
+    λ q w.
+    let s = c.args.subject.now in
+    let r = c.requires.ready in
+    along_no_operands s _ (names_numbered s _ _ r) r.over q _ _
+    (subst (λ xs. Along s q (knowledge_facts s.names.now c.loop-link.known) (operands_gains (operands_from s.script.now c.args.rest.now)) (operands_gains (operands_from s.script.now xs))) (drop_all c.loop-link.link-index c.args.rest.now c.loop-link-test.false) (c.loop-link.invariant.along q w))
+
+pub words::pass_choice-pass_expression-requires : goal.words::pass_choice-pass_expression-requires
+words::pass_choice-pass_expression-requires t c =
+    let s = c.args.subject.now in
+    let r = c.requires.ready in
+    let k = knowledge_facts s.names.now c.args.known.now in
+    let placed : IsIn s (λ q. entries.expression_entered q (expression_of s.script.now c.args.condition.now)) k = choice_condition s k (expression_of s.script.now c.args.condition.now) (expression_of s.script.now c.args.yes.now) (expression_of s.script.now c.args.no.now) c.requires.placed in
+    search std_rules
+
+pub words::pass_choice-pass_expression-requires-2 : goal.words::pass_choice-pass_expression-requires-2
+words::pass_choice-pass_expression-requires-2 t c =
+    let s = c.args.subject.now in
+    let r = c.requires.ready in
+    let k = knowledge_facts s.names.now c.args.known.now in
+    let ready : IsReady s c.pass_expression.new.draft.certificate c.pass_expression.new.draft.probe.count = ready_again s _ _ _ _ r c.in_ok-pass_expression.ensures.swept in
+    let l = (knowledge_facts s.names.now c.pass_expression.new.known) in
+    let placed : IsIn s (λ q. entries.expression_entered q (expression_of s.script.now c.args.yes.now)) l = choice_yes s k l (expression_of s.script.now c.args.condition.now) (expression_of s.script.now c.args.yes.now) (expression_of s.script.now c.args.no.now) c.in_ok-pass_expression.ensures.gained c.requires.placed in
+    search std_rules
+
+pub words::pass_choice-pass_expression-requires-3 : goal.words::pass_choice-pass_expression-requires-3
+words::pass_choice-pass_expression-requires-3 t c =
+    let s = c.args.subject.now in
+    let r = c.requires.ready in
+    let k = knowledge_facts s.names.now c.args.known.now in
+    let l = (knowledge_facts s.names.now c.pass_expression.new.known) in
+    let m = (knowledge_facts s.names.now c.pass_expression-2.new.known) in
+    let ready : IsReady s c.pass_expression-2.new.draft.certificate c.pass_expression-2.new.draft.probe.count = ready_again s _ _ _ _ (ready_again s _ _ _ _ r c.in_ok-pass_expression.ensures.swept) c.in_ok-pass_expression-2.ensures.swept in
+    let placed : IsIn s (λ q. entries.expression_entered q (expression_of s.script.now c.args.no.now)) m = choice_no s k l m (expression_of s.script.now c.args.condition.now) (expression_of s.script.now c.args.yes.now) (expression_of s.script.now c.args.no.now) c.in_ok-pass_expression.ensures.gained c.in_ok-pass_expression-2.ensures.gained c.requires.placed in
+    search std_rules
+
+pub words::pass_choice-returns : goal.words::pass_choice-returns
+words::pass_choice-returns t c =
+    let s = c.args.subject.now in
+    let r = c.requires.ready in
+    let k = knowledge_facts s.names.now c.args.known.now in
+    record {
+      swept = swept_more s _ _ _ _ _ (swept_more s _ _ _ _ _ c.in_ok-pass_expression.ensures.swept c.in_ok-pass_expression-2.ensures.swept) c.in_ok-pass_expression-3.ensures.swept;
+      gained = choice_gained s _ (names_numbered s _ _ r) r.over k (knowledge_facts s.names.now c.pass_expression.new.known) (knowledge_facts s.names.now c.pass_expression-2.new.known) _ (expression_of s.script.now c.args.condition.now) (expression_of s.script.now c.args.yes.now) (expression_of s.script.now c.args.no.now) c.in_ok-pass_expression.ensures.gained c.in_ok-pass_expression-2.ensures.gained c.in_ok-pass_expression-3.ensures.gained;
+    }
