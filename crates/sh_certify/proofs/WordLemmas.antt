@@ -1,5 +1,5 @@
 -- Where a sweep is in words, by where it is before them: a lemma for each kind of element, part and expression (XCU 2.6, 2.9.1).
-use Rattle.std.proofs.Common.{◌≡◌, ℕ, Bool, true, List, [], ◌∷◌, ◌++◌, refl, sym, ap, ◌∙◌, subst}
+use Rattle.std.proofs.Common.{◌≡◌, ℕ, Bool, true, Result, Ok, Err, IfOk, List, [], ◌∷◌, ◌++◌, refl, sym, ap, ◌∙◌, subst}
 use Rattle.sh_tree.specs.declared.tree.Action.{Action}
 use Rattle.sh_tree.specs.declared.tree.Action.TheVariants as action
 use Rattle.sh_tree.specs.declared.tree.Binary.{Binary}
@@ -37,6 +37,11 @@ use Rattle.sh_rules.proofs.LedLemmas.{Follows}
 use Rattle.sh_certify.specs.declared.subject.Subject.{Subject}
 use Rattle.sh_certify.specs.Sweeps.{AreClauses, AreElements, Gained, IsIn, IsInside, IsKind, IsList, IsOver, IsPart, IsWord, Knows, setting_by}
 use Rattle.sh_certify.proofs.SweepLemmas.{first_part, knows_follow, last_part}
+
+-- behind a call whose result is returned
+pub if_ok : {T E : Type 0} (r : Result T E) (P Q : T → Type 0) → ((x : T) → P x → Q x) → IfOk r P → IfOk r Q
+if_ok (Ok x) P Q f h = f x h
+if_ok (Err e) P Q f h = tt
 
 module _ (s : Subject) where
   -- no run comes here
