@@ -10,23 +10,21 @@ use Rattle.sh_tree.specs.declared.tree.Expr.{Expr}
 use Rattle.sh_tree.specs.declared.tree.Kind.{Kind}
 use Rattle.sh_tree.specs.declared.tree.Part.{Part}
 use Rattle.sh_tree.specs.declared.tree.Redirect.{Redirect}
-use Rattle.sh_tree.specs.declared.tree.Script.{Script}
 use Rattle.sh_tree.specs.declared.tree.Word.{Word}
 use Rattle.sh_tree.specs.program.Lists.{clauses_from, elements_from, operands_from, parts_from, redirects_from, words_from}
 use Rattle.sh_tree.specs.program.Syntax as p
 use Rattle.sh_tree.specs.program.Trees as trees
-use Rattle.sh_tree.specs.program.Trees.{script_of}
 use Rattle.sh_facts.specs.declared.certificate.Certificate as kept
-use Rattle.sh_facts.specs.declared.rule.FlowRule.TheVariants.{F9, F11}
+use Rattle.sh_facts.specs.declared.rule.FlowRule.TheVariants.{F11}
 use Rattle.sh_facts.specs.Entries as e
-use Rattle.sh_facts.specs.Entries.{Around, Entered, behind_redirects}
+use Rattle.sh_facts.specs.Entries.{Around, behind_redirects}
 use Rattle.sh_facts.specs.Facts.{Facts, NotReached}
-use Rattle.sh_facts.specs.Gains.{Gains, and_gains, assigned_in, expanded_gains, named, no_gains, operands_gains, operator_gains, part_gains, redirect_gains, redirects_gains, sure, word_gains, words_gains}
+use Rattle.sh_facts.specs.Gains.{Gains, and_gains, assigned_in, expanded_gains, named, no_gains, operands_gains, operator_gains, part_gains, redirect_gains, sure, word_gains}
 use Rattle.sh_facts.specs.declared.knowledge.Knowledge.{Knowledge}
 use Rattle.sh_facts.specs.Knowledge.{AreNumbered, knowledge_facts}
 use Rattle.sh_facts.specs.Table.{behind_words}
 use Rattle.sh_facts.specs.Views as views
-use Rattle.sh_facts.specs.Views.{Before, Both, Seen, at, gaining}
+use Rattle.sh_facts.specs.Views.{Before, Seen, at, gaining}
 use Rattle.sh_facts.proofs.OrderLemmas.{within_nowhere}
 use Rattle.sh_check.specs.Judged.{inner_gains}
 use Rattle.sh_check.specs.Knowing.{action_gains}
