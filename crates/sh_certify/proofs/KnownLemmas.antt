@@ -23,7 +23,7 @@ use Rattle.sh_rules.specs.declared.claims.Claims.{Claims}
 use Rattle.sh_rules.specs.declared.walk.Course.{Course}
 use Rattle.sh_rules.specs.Behind.{Behind, started}
 use Rattle.sh_rules.specs.Settings.{Setting, gained, known_at}
-use Rattle.sh_rules.specs.Steps.{item_step, met_in, ran}
+use Rattle.sh_rules.specs.Steps.{met_in}
 use Rattle.sh_rules.specs.Visits.{command_by}
 use Rattle.sh_rules.specs.Walks as walks
 use Rattle.sh_rules.specs.Walks.{behind_in, facts_in, item_left, setting}
@@ -46,11 +46,6 @@ module _ (c : Claims) (t : Script) (table : c.calls.now ≡ table_of c.script.no
 
   pub behind_by_table : (F : Setting → Behind) (o : code.Behind) → behind_in (setting c) o ≡ F (setting c) → behind_in by_table o ≡ F by_table
   behind_by_table F o is = subst (λ x. behind_in x o ≡ F x) (setting_is c t table) is
-
-  pub walked_by_table : (y : Around) (before after : Course) (item : Item) (old new : Gathered)
-      → ran (setting c) after new ≡ item_step (setting c) (command_by gathering (setting c)) (walks.around (setting c).script y) (ran (setting c) before old) item
-      → ran by_table after new ≡ item_step by_table (command_by gathering by_table) (walks.around c.script.now y) (ran by_table before old) item
-  walked_by_table y before after item old new is = subst (λ x. ran x after new ≡ item_step x (command_by gathering x) (walks.around x.script y) (ran x before old) item) (setting_is c t table) is
 
   pub met_by_table : (by : FlowRule) (y : Around) (k : Knowledge) (m : Command) (old new : Gathered) → new ≡ command_by gathering (setting c) old (met_in (setting c) by y k m)
       → new ≡ command_by gathering by_table old (met_in by_table by y k m)

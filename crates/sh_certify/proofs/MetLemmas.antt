@@ -1,17 +1,12 @@
--- What is asked at a command, and at an item of a list, no certificate that keeps the rules breaks.
-use Rattle.std.proofs.Common.{◌≡◌, Bool, true, List, [], ◌∷◌, ◌++◌, append-nil, length, flat_map, fold, refl, sym, ap, ◌∙◌, subst}
+-- What is asked at a command no certificate that keeps the rules breaks.
+use Rattle.std.proofs.Common.{◌≡◌, true, List, [], ◌∷◌, ◌++◌, append-nil, length, flat_map, fold, refl, sym, ap, ◌∙◌, subst}
 use Rattle.std.specs.List.{list_all}
 use Rattle.std.proofs.lemmas.Bool.{and_parts}
 use Rattle.std.proofs.lemmas.Grind.{flat_map-append}
-use Rattle.sh_tree.specs.declared.tree.Item.{Item, out-Item}
-use Rattle.sh_tree.specs.program.Lists.{items_from}
 use Rattle.sh_tree.specs.program.Syntax as p
-use Rattle.sh_tree.specs.program.Trees as trees
 use Rattle.sh_tree.specs.program.Trees.{script_of}
 use Rattle.sh_facts.specs.declared.certificate.Certificate as kept
-use Rattle.sh_facts.specs.declared.rule.FlowRule.{FlowRule}
-use Rattle.sh_facts.specs.declared.rule.FlowRule.TheVariants.{F2}
-use Rattle.sh_facts.specs.Entries.{Around, Entered, item_after, items_entered, script_entered}
+use Rattle.sh_facts.specs.Entries.{Entered, script_entered}
 use Rattle.sh_facts.specs.Facts.{Facts, facts}
 use Rattle.sh_facts.specs.Faults.{broken}
 use Rattle.sh_facts.specs.Inclusions.{Each}
@@ -20,21 +15,15 @@ use Rattle.sh_facts.specs.Order.{IsWithin}
 use Rattle.sh_facts.specs.Reading.{claim_fits}
 use Rattle.sh_facts.specs.Rules.{Constraint, bounds}
 use Rattle.sh_facts.specs.Sheets.{Sheet}
-use Rattle.sh_facts.specs.Views.{Slot, in_any_case}
+use Rattle.sh_facts.specs.Views.{Slot}
 use Rattle.sh_facts.proofs.EachLemmas.{none_both, each_none, each_of_all, each_parts}
-use Rattle.sh_rules.specs.Above.{Allows, Anything, Ask, Does, DoesAsked, KeepsThere, OfFunction, OfPlace, ask, item_entered, item_walked}
+use Rattle.sh_rules.specs.Above.{Allows, Anything, Ask, Does, DoesAsked, KeepsThere, OfFunction, OfPlace, ask}
 use Rattle.sh_rules.specs.Asked.{has_numbered_prefixes}
-use Rattle.sh_rules.specs.Behind.{Behind}
 use Rattle.sh_rules.specs.CommandBounds.{command_told}
 use Rattle.sh_rules.specs.Meaning.{met_at}
 use Rattle.sh_rules.specs.Settings.{Setting, claimed_at}
-use Rattle.sh_rules.specs.Steps.{and_or_kept, item_step, ran}
 use Rattle.sh_rules.specs.Visits.{command_by}
-use Rattle.sh_rules.specs.Walked as walked
-use Rattle.sh_rules.specs.Walked.{course}
-use Rattle.sh_rules.specs.Walks.{facts_in}
-use Rattle.sh_rules.specs.declared.walk.Course.{Course}
-use Rattle.sh_rules.proofs.AboveLemmas.{Above, Any, Unbroken, Whatever, all_parts, allowed, anything, command_asked, stays_above}
+use Rattle.sh_rules.proofs.AboveLemmas.{Above, Any, Unbroken, Whatever, all_parts, allowed, anything, command_asked}
 use Rattle.sh_rules.proofs.PrefixLemmas.{prefixes_are_numbered, table_defines}
 use Rattle.sh_rules.proofs.RuleLemmas.{visits_do_asked}
 use Rattle.sh_rules.proofs.ScriptLemmas.{script_asks}
@@ -43,13 +32,12 @@ use Rattle.sh_certify.specs.declared.subject.Subject.{Subject}
 use Rattle.sh_certify.specs.Gathered.{Gathered}
 use Rattle.sh_certify.specs.Gathering.{gathering}
 use Rattle.sh_certify.specs.Places.{place_of}
-use Rattle.sh_certify.specs.Sweeps.{AreItems, IsOver, IsPart, Keeps, Knows, known_behind, setting_by}
+use Rattle.sh_certify.specs.Sweeps.{IsOver, IsPart, Keeps, Knows, setting_by}
 use Rattle.sh_certify.specs.Turns.{AreNumbers, Stands}
 use Rattle.sh_certify.proofs.AskingLemmas.{by_constraints, commands_numbered, few_commands}
 use Rattle.sh_certify.proofs.GatherLemmas.{claim_among, drop_numbered, drop_stands, place_numbered, place_stands}
 use Rattle.sh_certify.proofs.GreatestLemmas.{numbered}
 use Rattle.sh_certify.proofs.SheetLemmas.{placed}
-use Rattle.sh_certify.proofs.SweepLemmas.{first_part}
 
 -- What is gathered of all that is asked
 
@@ -157,52 +145,3 @@ module _ (s : Subject) (admitted : IsAdmitted s.script.now s.policy.now s.tree.n
         (allowed x names_numbered d oc below) functions e k old (knows other keeps) prefixed
         (subst (Each (Unbroken x names_numbered d oc below)) (append-nil (bounds functions e)) (each_none (broken d oc) _ (keeps_here (e ∷ []) part other keeps))) in
         subst (Stands s.names.now other) (sym same_told) (subst (Stands s.names.now other) (sym asks.reached) (asks_stand s c other keeps asks.asks old asks.each st))
-
-  -- an item, with all commands in it
-
-  module _ (by : FlowRule) (y : Around) (known : Behind) (item : Item) (others : List Item) (at : AreItems s by y known (item ∷ others)) where
-    abbrev background : Bool
-    background = (out-Item item).background
-
-    abbrev list : p.AndOr
-    list = trees.and_or_of s.script.now (out-Item item).list
-
-    abbrev its : List Entered
-    its = item_entered by y at.seen background list
-
-    its_part : IsPart s its
-    unfolding items_entered items_from
-    its_part = first_part s its (items_entered F2 y (item_after (in_any_case at.seen) background list) (items_from s.script.now others)) at.part
-
-    module _ (c : kept.Certificate) (old : Gathered) where
-      abbrev all_new : Gathered
-      all_new = item_walked (setting_by s c) (command_by gathering (setting_by s c)) y (course by known old) background list
-
-      item_numbers : AreNumbers (length s.names.now) old → AreNumbers (length s.names.now) all_new
-      item_numbers a =
-          let asks =
-          (stays_above gathering).asks (setting_by s c) s.policy.now (by_constraints (setting_by s c) names_numbered s.policy.now) functions (command_by gathering (setting_by s c)) names_numbered
-          by y at.seen known old background list (does_here its its_part c) in
-          subst (AreNumbers (length s.names.now)) (sym asks.reached) (asks_numbered s c asks.asks old a)
-
-      item_stands : IsOver s c → (other : Sheet) → Keeps s other → Stands s.names.now other old → Stands s.names.now other all_new
-      item_stands over other keeps st =
-          let both =
-          (stays_above gathering).item (setting_by s c) s.policy.now (by_constraints (setting_by s c) names_numbered s.policy.now) functions (command_by gathering (setting_by s c))
-          (claims_in s.script.now s.tree.now other) names_numbered (over other keeps) by y at.seen known old background list (at.knows other keeps) (does_here its its_part c) (keeps_here its its_part other keeps) in
-          subst (Stands s.names.now other) (sym both.0.reached) (asks_stand s c other keeps both.0.asks old both.0.each st)
-
-  -- as the walk goes over it
-
-  module _ (c : kept.Certificate) (y : Around) (before after : Course) (item : Item) (old new : Gathered)
-      (is : ran (setting_by s c) after new ≡ item_step (setting_by s c) (command_by gathering (setting_by s c)) y (ran (setting_by s c) before old) item)
-      (others : List Item) (at : AreItems s before.by y (known_behind s before.behind) (item ∷ others)) where
-    walked_on : new ≡ item_walked (setting_by s c) (command_by gathering (setting_by s c)) y (course before.by (known_behind s before.behind) old) (out-Item item).background (trees.and_or_of s.script.now (out-Item item).list)
-    unfolding item_step and_or_kept facts_in
-    walked_on = ap (λ (z : walked.Course Gathered). z.kept) is
-
-    pub ran_numbers : AreNumbers (length s.names.now) old → AreNumbers (length s.names.now) new
-    ran_numbers a = subst (AreNumbers (length s.names.now)) (sym walked_on) (item_numbers before.by y (known_behind s before.behind) item others at c old a)
-
-    pub ran_stands : IsOver s c → (other : Sheet) → Keeps s other → Stands s.names.now other old → Stands s.names.now other new
-    ran_stands over other keeps st = subst (Stands s.names.now other) (sym walked_on) (item_stands before.by y (known_behind s before.behind) item others at c old over other keeps st)

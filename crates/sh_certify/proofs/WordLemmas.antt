@@ -1,5 +1,5 @@
 -- Where a sweep is in words, by where it is before them: a lemma for each kind of element, part and expression (XCU 2.6, 2.9.1).
-use Rattle.std.proofs.Common.{◌≡◌, ℕ, Bool, true, List, [], ◌∷◌, ◌++◌, refl, sym, ap, ◌∙◌, subst}
+use Rattle.std.proofs.Common.{◌≡◌, ℕ, Bool, true, Result, Ok, Err, IfOk, List, [], ◌∷◌, ◌++◌, refl, sym, ap, ◌∙◌, subst}
 use Rattle.sh_tree.specs.declared.tree.Action.{Action}
 use Rattle.sh_tree.specs.declared.tree.Action.TheVariants as action
 use Rattle.sh_tree.specs.declared.tree.Binary.{Binary}
@@ -10,23 +10,21 @@ use Rattle.sh_tree.specs.declared.tree.Expr.{Expr}
 use Rattle.sh_tree.specs.declared.tree.Kind.{Kind}
 use Rattle.sh_tree.specs.declared.tree.Part.{Part}
 use Rattle.sh_tree.specs.declared.tree.Redirect.{Redirect}
-use Rattle.sh_tree.specs.declared.tree.Script.{Script}
 use Rattle.sh_tree.specs.declared.tree.Word.{Word}
 use Rattle.sh_tree.specs.program.Lists.{clauses_from, elements_from, operands_from, parts_from, redirects_from, words_from}
 use Rattle.sh_tree.specs.program.Syntax as p
 use Rattle.sh_tree.specs.program.Trees as trees
-use Rattle.sh_tree.specs.program.Trees.{script_of}
 use Rattle.sh_facts.specs.declared.certificate.Certificate as kept
-use Rattle.sh_facts.specs.declared.rule.FlowRule.TheVariants.{F9, F11}
+use Rattle.sh_facts.specs.declared.rule.FlowRule.TheVariants.{F11}
 use Rattle.sh_facts.specs.Entries as e
-use Rattle.sh_facts.specs.Entries.{Around, Entered, behind_redirects}
+use Rattle.sh_facts.specs.Entries.{Around, behind_redirects}
 use Rattle.sh_facts.specs.Facts.{Facts, NotReached}
-use Rattle.sh_facts.specs.Gains.{Gains, and_gains, assigned_in, expanded_gains, named, no_gains, operands_gains, operator_gains, part_gains, redirect_gains, redirects_gains, sure, word_gains, words_gains}
+use Rattle.sh_facts.specs.Gains.{Gains, and_gains, assigned_in, expanded_gains, named, no_gains, operands_gains, operator_gains, part_gains, redirect_gains, sure, word_gains}
 use Rattle.sh_facts.specs.declared.knowledge.Knowledge.{Knowledge}
 use Rattle.sh_facts.specs.Knowledge.{AreNumbered, knowledge_facts}
 use Rattle.sh_facts.specs.Table.{behind_words}
 use Rattle.sh_facts.specs.Views as views
-use Rattle.sh_facts.specs.Views.{Before, Both, Seen, at, gaining}
+use Rattle.sh_facts.specs.Views.{Before, Seen, at, gaining}
 use Rattle.sh_facts.proofs.OrderLemmas.{within_nowhere}
 use Rattle.sh_check.specs.Judged.{inner_gains}
 use Rattle.sh_check.specs.Knowing.{action_gains}
@@ -37,6 +35,11 @@ use Rattle.sh_rules.proofs.LedLemmas.{Follows}
 use Rattle.sh_certify.specs.declared.subject.Subject.{Subject}
 use Rattle.sh_certify.specs.Sweeps.{AreClauses, AreElements, Gained, IsIn, IsInside, IsKind, IsList, IsOver, IsPart, IsWord, Knows, setting_by}
 use Rattle.sh_certify.proofs.SweepLemmas.{first_part, knows_follow, last_part}
+
+-- behind a call whose result is returned
+pub if_ok : {T E : Type 0} (r : Result T E) (P Q : T → Type 0) → ((x : T) → P x → Q x) → IfOk r P → IfOk r Q
+if_ok (Ok x) P Q f h = f x h
+if_ok (Err e) P Q f h = tt
 
 module _ (s : Subject) where
   -- no run comes here

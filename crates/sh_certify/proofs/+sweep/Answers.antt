@@ -29,7 +29,7 @@ use Rattle.sh_rules.proofs.LedLemmas.{turns_led}
 use Rattle.sh_certify.specs.Sweeps.{AreBranches, AreClauses, AreElements, AreItems, AreLinks, AreParts, Gained, IsAndOr, IsCommand, IsIn, IsInside, IsKind, IsList, IsPart, IsPipe, IsReady, IsWord, Knows, known_behind, setting_by}
 use Rattle.sh_certify.proofs.PlacedLemmas.{GoesOn, and_or_placed, at_index, begun_at, body_placed, branch_body, branch_condition, branches_next, branches_placed, case_placed, clause_list, clauses_next, clauses_placed, command_placed, condition_placed, definition_placed, else_placed, for_placed, goes_last, goes_next, group_placed, inside_placed, items_next, known_after, link_placed, links_next, links_placed, parts_next, parts_placed, pipe_placed, subshell_placed}
 use Rattle.sh_certify.proofs.SweepLemmas.{knows_follow, names_numbered, ready_again, stands_of, swept_more, swept_none}
-use Rattle.sh_certify.proofs.WordLemmas.{Along, along_first, along_no_operands, along_no_parts, along_operands, along_parts, arithmetic_gained, arithmetic_placed, assigned_gained, assigned_placed, both_gained, case_word, chain_first, chain_gained, chain_rest, choice_condition, choice_gained, choice_no, choice_yes, clause_patterns, double_gained, double_placed, element_as, elements_first, elements_placed, expanded_gained, expanded_placed, expansion_gained, expansion_placed, expression_as, expression_gained, file_gained, file_placed, for_words_placed, gained_nowhere, here_gained, here_placed, kind_as, kind_placed, link_expression, listed_placed, literal_gained, nothing_gained, operand_inside, operand_next, operand_placed, operands_next, parenthesis_gained, parenthesis_placed, part_as, part_gained, part_placed, pattern_placed, patterns_next, pieces_next, plain_gained, redirect_placed, redirection_next, redirection_placed, redirections_placed, redirects_next, remove_placed, signed_gained, signed_placed, substitution_placed, use_gained, use_placed, value_next, value_placed, word_placed, words_next}
+use Rattle.sh_certify.proofs.WordLemmas.{Along, along_first, along_no_operands, along_no_parts, along_operands, along_parts, arithmetic_gained, arithmetic_placed, assigned_gained, assigned_placed, both_gained, case_word, chain_first, chain_gained, chain_rest, choice_condition, choice_gained, choice_no, choice_yes, clause_patterns, double_gained, double_placed, element_as, elements_first, elements_placed, expanded_gained, expanded_placed, expansion_gained, expansion_placed, expression_as, expression_gained, file_gained, file_placed, for_words_placed, gained_nowhere, here_gained, here_placed, if_ok, kind_as, kind_placed, link_expression, listed_placed, literal_gained, nothing_gained, operand_inside, operand_next, operand_placed, operands_next, parenthesis_gained, parenthesis_placed, part_as, part_gained, part_placed, pattern_placed, patterns_next, pieces_next, plain_gained, redirect_placed, redirection_next, redirection_placed, redirections_placed, redirects_next, remove_placed, signed_gained, signed_placed, substitution_placed, use_gained, use_placed, value_next, value_placed, word_placed, words_next}
 use Rattle.sh_certify.proofs.+sweep.Goals as goal
 
 pub sweep::enter_item-sweep_and_or-requires : goal.sweep::enter_item-sweep_and_or-requires
@@ -414,8 +414,8 @@ sweep::sweep_kind-sweep_elements-requires t c =
     let r = c.requires.ready in
     let y = walks.around s.script.now c.args.around.now in
     let k = knowledge_facts s.names.now c.args.known.now in
-    let es = elements_from s.script.now c.in-Simple.0 in
-    let first = elements_placed s y c.args.number k es (kind_as s y c.args.number k c.args.kind.now _ _ c.in-Simple.is (program.kind_of-Simple s.script.now c.in-Simple.0) c.requires.placed) in
+    let es = elements_from s.script.now c.in-Simple.elements in
+    let first = elements_placed s y c.args.number k es (kind_as s y c.args.number k c.args.kind.now _ _ c.in-Simple.is (program.kind_of-Simple s.script.now c.in-Simple.elements) c.requires.placed) in
     let placed : IsIn s (λ q. entries.elements_entered q (behind_words (elements_from s.script.now c.as_slice.result.now) q) (elements_from s.script.now c.as_slice.result.now)) k =
     subst (λ xs. IsIn s (λ q. entries.elements_entered q (behind_words (elements_from s.script.now xs) q) (elements_from s.script.now xs)) k) (sym c.as_slice.ensures) first in
     search std_rules
@@ -504,7 +504,7 @@ sweep::sweep_iteration-sweep_for-requires t c =
     let r = c.requires.ready in
     let y = walks.around s.script.now c.args.around.now in
     let k = knowledge_facts s.names.now c.args.known.now in
-    let ready : IsReady s c.sweep_for_words.new.draft.certificate c.sweep_for_words.new.draft.probe.count = ready_again s _ _ _ _ r c.in_ok-sweep_for_words.ensures.swept in
+    let ready : IsReady s c.sweep_for_words.new.draft.certificate c.sweep_for_words.new.draft.probe.count = ready_again s _ _ _ _ r c.in_ok-sweep_for_words-in-For.ensures.swept in
     let here = kind_as s y c.args.number k c.args.kind.now _ _ c.in-For.is (program.kind_of-For s.script.now c.in-For.name c.in-For.words c.in-For.body) c.requires.placed in
     let placed : (q : Seen) × (ws : p.ForWords) × IsPart s (entries.kind_entered y c.args.number q (p.For (text_of s.script.now c.in-For.name) ws (script_of s.script.now c.in-For.body))) =
     (here.seen, for_words_from s.script.now c.in-For.words, here.part) in
@@ -537,7 +537,7 @@ sweep::sweep_simple-sweep_held-requires t c =
     let s = c.args.subject.now in
     let r = c.requires.ready in
     let y = walks.around s.script.now c.args.around.now in
-    let ready : IsReady s c.lower_own-kept.new.draft.certificate c.lower_own-kept.new.draft.probe.count = ready_again s _ _ _ _ r c.in_ok-lower_own-kept.ensures.swept in
+    let ready : IsReady s c.lower_own.new.draft.certificate c.lower_own.new.draft.probe.count = ready_again s _ _ _ _ r c.in_ok-kept.ensures.swept in
     let placed : IsInside s y c.args.command.now = inside_placed s c.args.by y (knowledge_facts s.names.now c.args.known.now) c.args.command.now c.requires.placed in
     search std_rules
 
@@ -630,33 +630,6 @@ words::sweep_element-pass_target-requires t c =
     let placed : IsIn s (λ q. entries.redirect_entered q (target_of s.script.now c.in-Redirection.redirect.target)) b = redirection_placed s k b _ _ here in
     search std_rules
 
-pub words::sweep_element-returns-in-Assignment-clause-passed : goal.words::sweep_element-returns-in-Assignment-clause-passed
-words::sweep_element-returns-in-Assignment-clause-passed t c =
-    λ others here.
-    let s = c.args.subject.now in
-    let r = c.requires.ready in
-    let k = knowledge_facts s.names.now c.args.known.now in
-    let b = knowledge_facts s.names.now c.args.behind.now in
-    value_next s k b _ _ _ (element_as s k b c.args.element.now _ others _ c.in-Assignment.is (program.elements_from-Assignment s.script.now c.in-Assignment.name c.in-Assignment.value others) here)
-
-pub words::sweep_element-returns-in-Word-clause-passed : goal.words::sweep_element-returns-in-Word-clause-passed
-words::sweep_element-returns-in-Word-clause-passed t c =
-    λ others here.
-    let s = c.args.subject.now in
-    let r = c.requires.ready in
-    let k = knowledge_facts s.names.now c.args.known.now in
-    let b = knowledge_facts s.names.now c.args.behind.now in
-    operand_next s k (knowledge_facts s.names.now c.pass_word.new.known) b _ _ c.in_ok-pass_word.ensures.gained (element_as s k b c.args.element.now _ others _ c.in-Word.is (program.elements_from-Word s.script.now c.in-Word.word others) here)
-
-pub words::sweep_element-returns-in-Redirection-clause-passed : goal.words::sweep_element-returns-in-Redirection-clause-passed
-words::sweep_element-returns-in-Redirection-clause-passed t c =
-    λ others here.
-    let s = c.args.subject.now in
-    let r = c.requires.ready in
-    let k = knowledge_facts s.names.now c.args.known.now in
-    let b = knowledge_facts s.names.now c.args.behind.now in
-    redirection_next s k b _ _ (element_as s k b c.args.element.now _ others _ c.in-Redirection.is (program.elements_from-Redirection s.script.now c.in-Redirection.redirect others) here)
-
 pub words::sweep_redirections-sweep_redirects-requires : goal.words::sweep_redirections-sweep_redirects-requires
 words::sweep_redirections-sweep_redirects-requires t c =
     let s = c.args.subject.now in
@@ -691,28 +664,6 @@ words::pass_target-pass_word-requires t c =
     let k = knowledge_facts s.names.now c.args.known.now in
     let placed : IsWord s k (parts_from s.script.now c.in-File.word.parts) = file_placed s k _ (subst (λ x. IsIn s (λ q. entries.redirect_entered q x) k) (ap (target_of s.script.now) c.in-File.is ∙ program.target_of-File s.script.now _ c.in-File.word) c.requires.placed) in
     search std_rules
-
-pub words::pass_target-pass_word-requires-2 : goal.words::pass_target-pass_word-requires-2
-words::pass_target-pass_word-requires-2 t c =
-    let s = c.args.subject.now in
-    let r = c.requires.ready in
-    let k = knowledge_facts s.names.now c.args.known.now in
-    let placed : IsWord s k (parts_from s.script.now c.in-Here.here.body.parts) = here_placed s k _ (subst (λ x. IsIn s (λ q. entries.redirect_entered q x) k) (ap (target_of s.script.now) c.in-Here.is ∙ program.target_of-Here s.script.now c.in-Here.here) c.requires.placed) in
-    search std_rules
-
-pub words::pass_target-returns-in-File-clause-gained : goal.words::pass_target-returns-in-File-clause-gained
-words::pass_target-returns-in-File-clause-gained t c =
-    let s = c.args.subject.now in
-    let r = c.requires.ready in
-    let k = knowledge_facts s.names.now c.args.known.now in
-    subst (λ x. Gained s (redirect_gains x) k (knowledge_facts s.names.now c.pass_word.new.known)) (sym (ap (target_of s.script.now) c.in-File.is ∙ program.target_of-File s.script.now _ c.in-File.word)) (file_gained s k _ _ c.in_ok-pass_word.ensures.gained)
-
-pub words::pass_target-returns-in-Here-clause-gained : goal.words::pass_target-returns-in-Here-clause-gained
-words::pass_target-returns-in-Here-clause-gained t c =
-    let s = c.args.subject.now in
-    let r = c.requires.ready in
-    let k = knowledge_facts s.names.now c.args.known.now in
-    subst (λ x. Gained s (redirect_gains x) k (knowledge_facts s.names.now c.pass_word-2.new.known)) (sym (ap (target_of s.script.now) c.in-Here.is ∙ program.target_of-Here s.script.now c.in-Here.here)) (here_gained s k _ _ c.in_ok-pass_word-2.ensures.gained)
 
 pub words::sweep_for_words-sweep_words-requires : goal.words::sweep_for_words-sweep_words-requires
 words::sweep_for_words-sweep_words-requires t c =
@@ -804,10 +755,6 @@ words::pass_parts-returns-clause-gained t c =
     along_no_parts s _ (names_numbered s _ _ r) r.over q _ _
     (subst (λ xs. Along s q (knowledge_facts s.names.now c.loop-part.known) (word_gains (parts_from s.script.now c.args.parts.now)) (word_gains (parts_from s.script.now xs))) (drop_all c.loop-part.part-index c.args.parts.now c.loop-part-test.false) (c.loop-part.invariant.along q w))
 
-pub words::pass_part-returns : goal.words::pass_part-returns
-words::pass_part-returns t c =
-    record { swept = swept_none c.args.subject.now _ _ c.requires.ready; gained = gained_nowhere c.args.subject.now _ _ }
-
 pub words::open_part-pass_parts-requires : goal.words::open_part-pass_parts-requires
 words::open_part-pass_parts-requires t c =
     let s = c.args.subject.now in
@@ -882,38 +829,6 @@ words::open_part-returns-in-Joined-clause-gained t c =
     let k = knowledge_facts s.names.now c.args.known.now in
     plain_gained s _ (names_numbered s _ _ r) r.over k c.args.part.now _ _ c.in-Joined.is (program.part_of-Joined s.script.now _) refl
 
-pub words::open_part-returns-in-Command-clause-gained : goal.words::open_part-returns-in-Command-clause-gained
-unfolding part_gains
-words::open_part-returns-in-Command-clause-gained t c =
-    let s = c.args.subject.now in
-    let r = c.requires.ready in
-    let k = knowledge_facts s.names.now c.args.known.now in
-    plain_gained s _ (names_numbered s _ _ r) r.over k c.args.part.now _ _ c.in-Command.is (program.part_of-Command s.script.now _ _ c.in-Command.list) refl
-
-pub words::open_part-returns-in-Double-clause-gained : goal.words::open_part-returns-in-Double-clause-gained
-words::open_part-returns-in-Double-clause-gained t c =
-    let s = c.args.subject.now in
-    let r = c.requires.ready in
-    let k = knowledge_facts s.names.now c.args.known.now in
-    let l = (knowledge_facts s.names.now c.pass_parts.new.known) in
-    part_gained s k l c.args.part.now _ _ c.in-Double.is (program.part_of-Double s.script.now _ c.in-Double.parts) (double_gained s k l _ (subst (λ ps. Gained s (word_gains (parts_from s.script.now ps)) k l) c.as_slice.ensures c.in_ok-pass_parts.ensures.gained))
-
-pub words::open_part-returns-in-Param-clause-gained : goal.words::open_part-returns-in-Param-clause-gained
-words::open_part-returns-in-Param-clause-gained t c =
-    let s = c.args.subject.now in
-    let r = c.requires.ready in
-    let k = knowledge_facts s.names.now c.args.known.now in
-    let l = (knowledge_facts s.names.now c.pass_operator.new.known) in
-    part_gained s k l c.args.part.now _ _ c.in-Param.is (program.part_of-Param s.script.now c.in-Param.param) (expansion_gained s k l _ _ _ c.in_ok-pass_operator.ensures.gained)
-
-pub words::open_part-returns-in-Arith-clause-gained : goal.words::open_part-returns-in-Arith-clause-gained
-words::open_part-returns-in-Arith-clause-gained t c =
-    let s = c.args.subject.now in
-    let r = c.requires.ready in
-    let k = knowledge_facts s.names.now c.args.known.now in
-    let l = (knowledge_facts s.names.now c.pass_arithmetic.new.known) in
-    part_gained s k l c.args.part.now _ _ c.in-Arith.is (program.part_of-Arith s.script.now _ c.in-Arith.expression) (arithmetic_gained s k l _ _ (subst (λ x. Gained s (and_gains (expanded_gains (expression_of s.script.now x)) (named (assigned_in (expression_of s.script.now x)))) k l) c.get.ensures c.in_ok-pass_arithmetic.ensures.gained))
-
 pub words::sweep_substitution-sweep_list-requires : goal.words::sweep_substitution-sweep_list-requires
 words::sweep_substitution-sweep_list-requires t c =
     let s = c.args.subject.now in
@@ -959,22 +874,6 @@ words::pass_operator-returns-in-Length-clause-gained t c =
     let k = knowledge_facts s.names.now c.args.known.now in
     subst (λ x. Gained s (operator_gains (parameter_of s.script.now c.args.parameter) x) k k) (sym (ap (operator_of s.script.now) c.in-Length.is ∙ program.operator_of-Length s.script.now)) (nothing_gained s _ (names_numbered s _ _ r) r.over k _ refl)
 
-pub words::pass_operator-returns-in-Remove-clause-gained : goal.words::pass_operator-returns-in-Remove-clause-gained
-unfolding operator_gains
-words::pass_operator-returns-in-Remove-clause-gained t c =
-    let s = c.args.subject.now in
-    let r = c.requires.ready in
-    let k = knowledge_facts s.names.now c.args.known.now in
-    subst (λ x. Gained s (operator_gains (parameter_of s.script.now c.args.parameter) x) k k) (sym (ap (operator_of s.script.now) c.in-Remove.is ∙ program.operator_of-Remove s.script.now _ c.in-Remove.pattern)) (nothing_gained s _ (names_numbered s _ _ r) r.over k _ refl)
-
-pub words::pass_operator-returns-in-Use-clause-gained : goal.words::pass_operator-returns-in-Use-clause-gained
-words::pass_operator-returns-in-Use-clause-gained t c =
-    let s = c.args.subject.now in
-    let r = c.requires.ready in
-    let k = knowledge_facts s.names.now c.args.known.now in
-    let l = (knowledge_facts s.names.now c.pass_action.new.known) in
-    subst (λ x. Gained s (operator_gains (parameter_of s.script.now c.args.parameter) x) k l) (sym (ap (operator_of s.script.now) c.in-Use.is ∙ program.operator_of-Use s.script.now c.in-Use.action _ c.in-Use.word)) (use_gained s k l _ _ _ _ c.in_ok-pass_action.ensures.gained)
-
 pub words::pass_action-sweep_word-requires : goal.words::pass_action-sweep_word-requires
 words::pass_action-sweep_word-requires t c =
     let s = c.args.subject.now in
@@ -990,10 +889,6 @@ words::pass_arithmetic-returns-clause-gained t c =
     let r = c.requires.ready in
     let k = knowledge_facts s.names.now c.args.known.now in
     both_gained s _ (names_numbered s _ _ r) r.over k (knowledge_facts s.names.now c.pass_expression.new.known) _ _ _ c.in_ok-pass_expression.ensures.gained c.behind_assigned.ensures
-
-pub words::pass_expression-returns : goal.words::pass_expression-returns
-words::pass_expression-returns t c =
-    record { swept = swept_none c.args.subject.now _ _ c.requires.ready; gained = gained_nowhere c.args.subject.now _ _ }
 
 pub words::open_expression-pass_part-requires : goal.words::open_expression-pass_part-requires
 words::open_expression-pass_part-requires t c =
@@ -1012,48 +907,6 @@ words::open_expression-pass_expression-requires t c =
     let placed : IsIn s (λ q. entries.expression_entered q (expression_of s.script.now c.get.result.now)) k = subst (λ x. IsIn s (λ q. entries.expression_entered q (expression_of s.script.now x)) k) (sym c.get.ensures) first in
     search std_rules
 
-pub words::open_expression-returns-in-Parenthesis-clause-gained : goal.words::open_expression-returns-in-Parenthesis-clause-gained
-words::open_expression-returns-in-Parenthesis-clause-gained t c =
-    let s = c.args.subject.now in
-    let r = c.requires.ready in
-    let k = knowledge_facts s.names.now c.args.known.now in
-    let l = (knowledge_facts s.names.now c.pass_expression.new.known) in
-    expression_gained s k l c.args.expression.now _ _ c.in-Parenthesis.is (program.expression_of-Parenthesis s.script.now c.in-Parenthesis.inner) (parenthesis_gained s k l _ (subst (λ x. Gained s (expanded_gains (expression_of s.script.now x)) k l) c.get.ensures c.in_ok-pass_expression.ensures.gained))
-
-pub words::open_expression-pass_expression-requires-2 : goal.words::open_expression-pass_expression-requires-2
-words::open_expression-pass_expression-requires-2 t c =
-    let s = c.args.subject.now in
-    let r = c.requires.ready in
-    let k = knowledge_facts s.names.now c.args.known.now in
-    let first = signed_placed s k _ _ (expression_as s k c.args.expression.now _ _ c.in-Unary.is (program.expression_of-Unary s.script.now _ c.in-Unary.operand) c.requires.placed) in
-    let placed : IsIn s (λ q. entries.expression_entered q (expression_of s.script.now c.get-2.result.now)) k = subst (λ x. IsIn s (λ q. entries.expression_entered q (expression_of s.script.now x)) k) (sym c.get-2.ensures) first in
-    search std_rules
-
-pub words::open_expression-returns-in-Unary-clause-gained : goal.words::open_expression-returns-in-Unary-clause-gained
-words::open_expression-returns-in-Unary-clause-gained t c =
-    let s = c.args.subject.now in
-    let r = c.requires.ready in
-    let k = knowledge_facts s.names.now c.args.known.now in
-    let l = (knowledge_facts s.names.now c.pass_expression-2.new.known) in
-    expression_gained s k l c.args.expression.now _ _ c.in-Unary.is (program.expression_of-Unary s.script.now _ c.in-Unary.operand) (signed_gained s k l _ _ (subst (λ x. Gained s (expanded_gains (expression_of s.script.now x)) k l) c.get-2.ensures c.in_ok-pass_expression-2.ensures.gained))
-
-pub words::open_expression-pass_expression-requires-3 : goal.words::open_expression-pass_expression-requires-3
-words::open_expression-pass_expression-requires-3 t c =
-    let s = c.args.subject.now in
-    let r = c.requires.ready in
-    let k = knowledge_facts s.names.now c.args.known.now in
-    let first = assigned_placed s k _ _ _ _ (expression_as s k c.args.expression.now _ _ c.in-Assign.is (program.expression_of-Assign s.script.now _ _ c.in-Assign.value) c.requires.placed) in
-    let placed : IsIn s (λ q. entries.expression_entered q (expression_of s.script.now c.get-3.result.now)) k = subst (λ x. IsIn s (λ q. entries.expression_entered q (expression_of s.script.now x)) k) (sym c.get-3.ensures) first in
-    search std_rules
-
-pub words::open_expression-returns-in-Assign-clause-gained : goal.words::open_expression-returns-in-Assign-clause-gained
-words::open_expression-returns-in-Assign-clause-gained t c =
-    let s = c.args.subject.now in
-    let r = c.requires.ready in
-    let k = knowledge_facts s.names.now c.args.known.now in
-    let l = (knowledge_facts s.names.now c.pass_expression-3.new.known) in
-    expression_gained s k l c.args.expression.now _ _ c.in-Assign.is (program.expression_of-Assign s.script.now _ _ c.in-Assign.value) (assigned_gained s k l _ _ _ _ (subst (λ x. Gained s (expanded_gains (expression_of s.script.now x)) k l) c.get-3.ensures c.in_ok-pass_expression-3.ensures.gained))
-
 pub words::open_expression-returns-in-Constant-clause-gained : goal.words::open_expression-returns-in-Constant-clause-gained
 unfolding part_gains
 words::open_expression-returns-in-Constant-clause-gained t c =
@@ -1070,14 +923,6 @@ words::open_expression-returns-in-Variable-clause-gained t c =
     let k = knowledge_facts s.names.now c.args.known.now in
     literal_gained s _ (names_numbered s _ _ r) r.over k c.args.expression.now _ _ c.in-Variable.is (program.expression_of-Variable s.script.now _) refl
 
-pub words::open_expression-returns-in-Expansion-clause-gained : goal.words::open_expression-returns-in-Expansion-clause-gained
-words::open_expression-returns-in-Expansion-clause-gained t c =
-    let s = c.args.subject.now in
-    let r = c.requires.ready in
-    let k = knowledge_facts s.names.now c.args.known.now in
-    let l = (knowledge_facts s.names.now c.pass_part.new.known) in
-    expression_gained s k l c.args.expression.now _ _ c.in-Expansion.is (program.expression_of-Expansion s.script.now c.in-Expansion.part) (expanded_gained s k l _ c.in_ok-pass_part.ensures.gained)
-
 pub words::open_expression-pass_chain-requires : goal.words::open_expression-pass_chain-requires
 words::open_expression-pass_chain-requires t c =
     let s = c.args.subject.now in
@@ -1088,16 +933,6 @@ words::open_expression-pass_chain-requires t c =
     subst (λ x. IsIn s (λ q. entries.expression_entered q (p.Chain (expression_of s.script.now x) (operands_from s.script.now c.as_slice.result.now))) k) (sym c.get-in-Chain.ensures)
     (subst (λ xs. IsIn s (λ q. entries.expression_entered q (p.Chain (expression_of s.script.now c.in-Chain.first) (operands_from s.script.now xs))) k) (sym c.as_slice.ensures) first) in
     search std_rules
-
-pub words::open_expression-returns-in-Chain-clause-gained : goal.words::open_expression-returns-in-Chain-clause-gained
-words::open_expression-returns-in-Chain-clause-gained t c =
-    let s = c.args.subject.now in
-    let r = c.requires.ready in
-    let k = knowledge_facts s.names.now c.args.known.now in
-    let l = (knowledge_facts s.names.now c.pass_chain.new.known) in
-    expression_gained s k l c.args.expression.now _ _ c.in-Chain.is (program.expression_of-Chain s.script.now c.in-Chain.first c.in-Chain.rest)
-    (subst (λ x. Gained s (expanded_gains (p.Chain (expression_of s.script.now x) (operands_from s.script.now c.in-Chain.rest))) k l) c.get-in-Chain.ensures
-    (subst (λ xs. Gained s (expanded_gains (p.Chain (expression_of s.script.now c.get-in-Chain.result.now) (operands_from s.script.now xs))) k l) c.as_slice.ensures c.in_ok-pass_chain.ensures.gained))
 
 pub words::open_expression-pass_choice-requires : goal.words::open_expression-pass_choice-requires
 words::open_expression-pass_choice-requires t c =
@@ -1110,17 +945,6 @@ words::open_expression-pass_choice-requires t c =
     (subst (λ x. IsIn s (λ q. entries.expression_entered q (p.Choice (expression_of s.script.now c.in-Choice.condition) (expression_of s.script.now x) (expression_of s.script.now c.get-in-Choice-3.result.now))) k) (sym c.get-in-Choice-2.ensures)
     (subst (λ x. IsIn s (λ q. entries.expression_entered q (p.Choice (expression_of s.script.now c.in-Choice.condition) (expression_of s.script.now c.in-Choice.yes) (expression_of s.script.now x))) k) (sym c.get-in-Choice-3.ensures) first)) in
     search std_rules
-
-pub words::open_expression-returns-in-Choice-clause-gained : goal.words::open_expression-returns-in-Choice-clause-gained
-words::open_expression-returns-in-Choice-clause-gained t c =
-    let s = c.args.subject.now in
-    let r = c.requires.ready in
-    let k = knowledge_facts s.names.now c.args.known.now in
-    let l = (knowledge_facts s.names.now c.pass_choice.new.known) in
-    expression_gained s k l c.args.expression.now _ _ c.in-Choice.is (program.expression_of-Choice s.script.now c.in-Choice.condition c.in-Choice.yes c.in-Choice.no)
-    (subst (λ x. Gained s (expanded_gains (p.Choice (expression_of s.script.now x) (expression_of s.script.now c.in-Choice.yes) (expression_of s.script.now c.in-Choice.no))) k l) c.get-in-Choice.ensures
-    (subst (λ x. Gained s (expanded_gains (p.Choice (expression_of s.script.now c.get-in-Choice.result.now) (expression_of s.script.now x) (expression_of s.script.now c.in-Choice.no))) k l) c.get-in-Choice-2.ensures
-    (subst (λ x. Gained s (expanded_gains (p.Choice (expression_of s.script.now c.get-in-Choice.result.now) (expression_of s.script.now c.get-in-Choice-2.result.now) (expression_of s.script.now x))) k l) c.get-in-Choice-3.ensures c.in_ok-pass_choice.ensures.gained)))
 
 pub words::pass_chain-pass_expression-requires : goal.words::pass_chain-pass_expression-requires
 words::pass_chain-pass_expression-requires t c =
@@ -1223,3 +1047,186 @@ words::pass_choice-returns t c =
       swept = swept_more s _ _ _ _ _ (swept_more s _ _ _ _ _ c.in_ok-pass_expression.ensures.swept c.in_ok-pass_expression-2.ensures.swept) c.in_ok-pass_expression-3.ensures.swept;
       gained = choice_gained s _ (names_numbered s _ _ r) r.over k (knowledge_facts s.names.now c.pass_expression.new.known) (knowledge_facts s.names.now c.pass_expression-2.new.known) _ (expression_of s.script.now c.args.condition.now) (expression_of s.script.now c.args.yes.now) (expression_of s.script.now c.args.no.now) c.in_ok-pass_expression.ensures.gained c.in_ok-pass_expression-2.ensures.gained c.in_ok-pass_expression-3.ensures.gained;
     }
+
+pub words::sweep_element-returns-in-Assignment-clause-passed : goal.words::sweep_element-returns-in-Assignment-clause-passed
+words::sweep_element-returns-in-Assignment-clause-passed t c =
+    let s = c.args.subject.now in
+    let r = c.requires.ready in
+    let k = knowledge_facts s.names.now c.args.known.now in
+    let b = knowledge_facts s.names.now c.args.behind.now in
+    if_ok c.sweep_word.result _ _ (λ u h others here. value_next s k b _ _ _ (element_as s k b c.args.element.now _ others _ c.in-Assignment.is (program.elements_from-Assignment s.script.now c.in-Assignment.name c.in-Assignment.value others) here)) c.sweep_word.ensures.swept
+
+pub words::sweep_element-returns-in-Word-clause-passed : goal.words::sweep_element-returns-in-Word-clause-passed
+words::sweep_element-returns-in-Word-clause-passed t c =
+    let s = c.args.subject.now in
+    let r = c.requires.ready in
+    let k = knowledge_facts s.names.now c.args.known.now in
+    let b = knowledge_facts s.names.now c.args.behind.now in
+    if_ok c.pass_word.result _ _ (λ u h others here. operand_next s k (knowledge_facts s.names.now c.pass_word.new.known) b _ _ h (element_as s k b c.args.element.now _ others _ c.in-Word.is (program.elements_from-Word s.script.now c.in-Word.word others) here)) c.pass_word.ensures.gained
+
+pub words::sweep_element-returns-in-Redirection-clause-passed : goal.words::sweep_element-returns-in-Redirection-clause-passed
+words::sweep_element-returns-in-Redirection-clause-passed t c =
+    let s = c.args.subject.now in
+    let r = c.requires.ready in
+    let k = knowledge_facts s.names.now c.args.known.now in
+    let b = knowledge_facts s.names.now c.args.behind.now in
+    if_ok c.pass_target.result _ _ (λ u h others here. redirection_next s k b _ _ (element_as s k b c.args.element.now _ others _ c.in-Redirection.is (program.elements_from-Redirection s.script.now c.in-Redirection.redirect others) here)) c.pass_target.ensures.swept
+
+pub words::pass_target-returns-in-File-clause-gained : goal.words::pass_target-returns-in-File-clause-gained
+words::pass_target-returns-in-File-clause-gained t c =
+    let s = c.args.subject.now in
+    let r = c.requires.ready in
+    let k = knowledge_facts s.names.now c.args.known.now in
+    if_ok c.pass_word.result _ _ (λ u h. subst (λ x. Gained s (redirect_gains x) k (knowledge_facts s.names.now c.pass_word.new.known)) (sym (ap (target_of s.script.now) c.in-File.is ∙ program.target_of-File s.script.now _ c.in-File.word)) (file_gained s k _ _ h)) c.pass_word.ensures.gained
+
+pub words::pass_target-returns-in-Here-clause-gained : goal.words::pass_target-returns-in-Here-clause-gained
+words::pass_target-returns-in-Here-clause-gained t c =
+    let s = c.args.subject.now in
+    let r = c.requires.ready in
+    let k = knowledge_facts s.names.now c.args.known.now in
+    if_ok c.pass_word-in-Here.result _ _ (λ u h. subst (λ x. Gained s (redirect_gains x) k (knowledge_facts s.names.now c.pass_word-in-Here.new.known)) (sym (ap (target_of s.script.now) c.in-Here.is ∙ program.target_of-Here s.script.now c.in-Here.here)) (here_gained s k _ _ h)) c.pass_word-in-Here.ensures.gained
+
+pub words::pass_target-pass_word-requires-in-Here : goal.words::pass_target-pass_word-requires-in-Here
+words::pass_target-pass_word-requires-in-Here t c =
+    let s = c.args.subject.now in
+    let r = c.requires.ready in
+    let k = knowledge_facts s.names.now c.args.known.now in
+    let placed : IsWord s k (parts_from s.script.now c.in-Here.here.body.parts) = here_placed s k _ (subst (λ x. IsIn s (λ q. entries.redirect_entered q x) k) (ap (target_of s.script.now) c.in-Here.is ∙ program.target_of-Here s.script.now c.in-Here.here) c.requires.placed) in
+    search std_rules
+
+pub words::open_part-returns-in-Command-clause-gained : goal.words::open_part-returns-in-Command-clause-gained
+unfolding part_gains
+words::open_part-returns-in-Command-clause-gained t c =
+    let s = c.args.subject.now in
+    let r = c.requires.ready in
+    let k = knowledge_facts s.names.now c.args.known.now in
+    if_ok c.sweep_substitution.result _ _ (λ u h. plain_gained s _ (names_numbered s _ _ r) r.over k c.args.part.now _ _ c.in-Command.is (program.part_of-Command s.script.now _ _ c.in-Command.list) refl) c.sweep_substitution.ensures.swept
+
+pub words::open_part-returns-in-Double-clause-gained : goal.words::open_part-returns-in-Double-clause-gained
+words::open_part-returns-in-Double-clause-gained t c =
+    let s = c.args.subject.now in
+    let r = c.requires.ready in
+    let k = knowledge_facts s.names.now c.args.known.now in
+    let l = (knowledge_facts s.names.now c.pass_parts.new.known) in
+    if_ok c.pass_parts.result _ _ (λ u h. part_gained s k l c.args.part.now _ _ c.in-Double.is (program.part_of-Double s.script.now _ c.in-Double.parts) (double_gained s k l _ (subst (λ ps. Gained s (word_gains (parts_from s.script.now ps)) k l) c.as_slice.ensures h))) c.pass_parts.ensures.gained
+
+pub words::open_part-returns-in-Param-clause-gained : goal.words::open_part-returns-in-Param-clause-gained
+words::open_part-returns-in-Param-clause-gained t c =
+    let s = c.args.subject.now in
+    let r = c.requires.ready in
+    let k = knowledge_facts s.names.now c.args.known.now in
+    let l = (knowledge_facts s.names.now c.pass_operator.new.known) in
+    if_ok c.pass_operator.result _ _ (λ u h. part_gained s k l c.args.part.now _ _ c.in-Param.is (program.part_of-Param s.script.now c.in-Param.param) (expansion_gained s k l _ _ _ h)) c.pass_operator.ensures.gained
+
+pub words::open_part-returns-in-Arith-clause-gained : goal.words::open_part-returns-in-Arith-clause-gained
+words::open_part-returns-in-Arith-clause-gained t c =
+    let s = c.args.subject.now in
+    let r = c.requires.ready in
+    let k = knowledge_facts s.names.now c.args.known.now in
+    let l = (knowledge_facts s.names.now c.pass_arithmetic.new.known) in
+    if_ok c.pass_arithmetic.result _ _ (λ u h. part_gained s k l c.args.part.now _ _ c.in-Arith.is (program.part_of-Arith s.script.now _ c.in-Arith.expression) (arithmetic_gained s k l _ _ (subst (λ x. Gained s (and_gains (expanded_gains (expression_of s.script.now x)) (named (assigned_in (expression_of s.script.now x)))) k l) c.get.ensures h))) c.pass_arithmetic.ensures.gained
+
+pub words::pass_operator-returns-in-Remove-clause-gained : goal.words::pass_operator-returns-in-Remove-clause-gained
+unfolding operator_gains
+words::pass_operator-returns-in-Remove-clause-gained t c =
+    let s = c.args.subject.now in
+    let r = c.requires.ready in
+    let k = knowledge_facts s.names.now c.args.known.now in
+    if_ok c.sweep_word.result _ _ (λ u h. subst (λ x. Gained s (operator_gains (parameter_of s.script.now c.args.parameter) x) k k) (sym (ap (operator_of s.script.now) c.in-Remove.is ∙ program.operator_of-Remove s.script.now _ c.in-Remove.pattern)) (nothing_gained s _ (names_numbered s _ _ r) r.over k _ refl)) c.sweep_word.ensures.swept
+
+pub words::pass_operator-returns-in-Use-clause-gained : goal.words::pass_operator-returns-in-Use-clause-gained
+words::pass_operator-returns-in-Use-clause-gained t c =
+    let s = c.args.subject.now in
+    let r = c.requires.ready in
+    let k = knowledge_facts s.names.now c.args.known.now in
+    let l = (knowledge_facts s.names.now c.pass_action.new.known) in
+    if_ok c.pass_action.result _ _ (λ u h. subst (λ x. Gained s (operator_gains (parameter_of s.script.now c.args.parameter) x) k l) (sym (ap (operator_of s.script.now) c.in-Use.is ∙ program.operator_of-Use s.script.now c.in-Use.action _ c.in-Use.word)) (use_gained s k l _ _ _ _ h)) c.pass_action.ensures.gained
+
+pub words::open_expression-returns-in-Parenthesis-clause-gained : goal.words::open_expression-returns-in-Parenthesis-clause-gained
+words::open_expression-returns-in-Parenthesis-clause-gained t c =
+    let s = c.args.subject.now in
+    let r = c.requires.ready in
+    let k = knowledge_facts s.names.now c.args.known.now in
+    let l = (knowledge_facts s.names.now c.pass_expression.new.known) in
+    if_ok c.pass_expression.result _ _ (λ u h. expression_gained s k l c.args.expression.now _ _ c.in-Parenthesis.is (program.expression_of-Parenthesis s.script.now c.in-Parenthesis.inner) (parenthesis_gained s k l _ (subst (λ x. Gained s (expanded_gains (expression_of s.script.now x)) k l) c.get.ensures h))) c.pass_expression.ensures.gained
+
+pub words::open_expression-returns-in-Unary-clause-gained : goal.words::open_expression-returns-in-Unary-clause-gained
+words::open_expression-returns-in-Unary-clause-gained t c =
+    let s = c.args.subject.now in
+    let r = c.requires.ready in
+    let k = knowledge_facts s.names.now c.args.known.now in
+    let l = (knowledge_facts s.names.now c.pass_expression-in-Unary.new.known) in
+    if_ok c.pass_expression-in-Unary.result _ _ (λ u h. expression_gained s k l c.args.expression.now _ _ c.in-Unary.is (program.expression_of-Unary s.script.now _ c.in-Unary.operand) (signed_gained s k l _ _ (subst (λ x. Gained s (expanded_gains (expression_of s.script.now x)) k l) c.get-in-Unary.ensures h))) c.pass_expression-in-Unary.ensures.gained
+
+pub words::open_expression-pass_expression-requires-in-Unary : goal.words::open_expression-pass_expression-requires-in-Unary
+words::open_expression-pass_expression-requires-in-Unary t c =
+    let s = c.args.subject.now in
+    let r = c.requires.ready in
+    let k = knowledge_facts s.names.now c.args.known.now in
+    let first = signed_placed s k _ _ (expression_as s k c.args.expression.now _ _ c.in-Unary.is (program.expression_of-Unary s.script.now _ c.in-Unary.operand) c.requires.placed) in
+    let placed : IsIn s (λ q. entries.expression_entered q (expression_of s.script.now c.get-in-Unary.result.now)) k = subst (λ x. IsIn s (λ q. entries.expression_entered q (expression_of s.script.now x)) k) (sym c.get-in-Unary.ensures) first in
+    search std_rules
+
+pub words::open_expression-returns-in-Assign-clause-gained : goal.words::open_expression-returns-in-Assign-clause-gained
+words::open_expression-returns-in-Assign-clause-gained t c =
+    let s = c.args.subject.now in
+    let r = c.requires.ready in
+    let k = knowledge_facts s.names.now c.args.known.now in
+    let l = (knowledge_facts s.names.now c.pass_expression-in-Assign.new.known) in
+    if_ok c.pass_expression-in-Assign.result _ _ (λ u h. expression_gained s k l c.args.expression.now _ _ c.in-Assign.is (program.expression_of-Assign s.script.now _ _ c.in-Assign.value) (assigned_gained s k l _ _ _ _ (subst (λ x. Gained s (expanded_gains (expression_of s.script.now x)) k l) c.get-in-Assign.ensures h))) c.pass_expression-in-Assign.ensures.gained
+
+pub words::open_expression-pass_expression-requires-in-Assign : goal.words::open_expression-pass_expression-requires-in-Assign
+words::open_expression-pass_expression-requires-in-Assign t c =
+    let s = c.args.subject.now in
+    let r = c.requires.ready in
+    let k = knowledge_facts s.names.now c.args.known.now in
+    let first = assigned_placed s k _ _ _ _ (expression_as s k c.args.expression.now _ _ c.in-Assign.is (program.expression_of-Assign s.script.now _ _ c.in-Assign.value) c.requires.placed) in
+    let placed : IsIn s (λ q. entries.expression_entered q (expression_of s.script.now c.get-in-Assign.result.now)) k = subst (λ x. IsIn s (λ q. entries.expression_entered q (expression_of s.script.now x)) k) (sym c.get-in-Assign.ensures) first in
+    search std_rules
+
+pub words::open_expression-returns-in-Expansion-clause-gained : goal.words::open_expression-returns-in-Expansion-clause-gained
+words::open_expression-returns-in-Expansion-clause-gained t c =
+    let s = c.args.subject.now in
+    let r = c.requires.ready in
+    let k = knowledge_facts s.names.now c.args.known.now in
+    let l = (knowledge_facts s.names.now c.pass_part.new.known) in
+    if_ok c.pass_part.result _ _ (λ u h. expression_gained s k l c.args.expression.now _ _ c.in-Expansion.is (program.expression_of-Expansion s.script.now c.in-Expansion.part) (expanded_gained s k l _ h)) c.pass_part.ensures.gained
+
+pub words::open_expression-returns-in-Chain-clause-gained : goal.words::open_expression-returns-in-Chain-clause-gained
+words::open_expression-returns-in-Chain-clause-gained t c =
+    let s = c.args.subject.now in
+    let r = c.requires.ready in
+    let k = knowledge_facts s.names.now c.args.known.now in
+    let l = (knowledge_facts s.names.now c.pass_chain.new.known) in
+    if_ok c.pass_chain.result _ _ (λ u h. expression_gained s k l c.args.expression.now _ _ c.in-Chain.is (program.expression_of-Chain s.script.now c.in-Chain.first c.in-Chain.rest)
+    (subst (λ x. Gained s (expanded_gains (p.Chain (expression_of s.script.now x) (operands_from s.script.now c.in-Chain.rest))) k l) c.get-in-Chain.ensures
+    (subst (λ xs. Gained s (expanded_gains (p.Chain (expression_of s.script.now c.get-in-Chain.result.now) (operands_from s.script.now xs))) k l) c.as_slice.ensures h))) c.pass_chain.ensures.gained
+
+pub words::open_expression-returns-in-Choice-clause-gained : goal.words::open_expression-returns-in-Choice-clause-gained
+words::open_expression-returns-in-Choice-clause-gained t c =
+    let s = c.args.subject.now in
+    let r = c.requires.ready in
+    let k = knowledge_facts s.names.now c.args.known.now in
+    let l = (knowledge_facts s.names.now c.pass_choice.new.known) in
+    if_ok c.pass_choice.result _ _ (λ u h. expression_gained s k l c.args.expression.now _ _ c.in-Choice.is (program.expression_of-Choice s.script.now c.in-Choice.condition c.in-Choice.yes c.in-Choice.no)
+    (subst (λ x. Gained s (expanded_gains (p.Choice (expression_of s.script.now x) (expression_of s.script.now c.in-Choice.yes) (expression_of s.script.now c.in-Choice.no))) k l) c.get-in-Choice.ensures
+    (subst (λ x. Gained s (expanded_gains (p.Choice (expression_of s.script.now c.get-in-Choice.result.now) (expression_of s.script.now x) (expression_of s.script.now c.in-Choice.no))) k l) c.get-in-Choice-2.ensures
+    (subst (λ x. Gained s (expanded_gains (p.Choice (expression_of s.script.now c.get-in-Choice.result.now) (expression_of s.script.now c.get-in-Choice-2.result.now) (expression_of s.script.now x))) k l) c.get-in-Choice-3.ensures h)))) c.pass_choice.ensures.gained
+
+pub words::pass_part-returns-then-levels-eq0-clause-gained : goal.words::pass_part-returns-then-levels-eq0-clause-gained
+unfolding knowledge_facts
+words::pass_part-returns-then-levels-eq0-clause-gained t c =
+    let s = c.args.subject.now in
+    gained_nowhere s (part_gains (part_of s.script.now c.args.part.now)) (knowledge_facts s.names.now c.args.known.now)
+
+pub words::pass_expression-returns-then-levels-eq0-clause-gained : goal.words::pass_expression-returns-then-levels-eq0-clause-gained
+unfolding knowledge_facts
+words::pass_expression-returns-then-levels-eq0-clause-gained t c =
+    let s = c.args.subject.now in
+    gained_nowhere s (expanded_gains (expression_of s.script.now c.args.expression.now)) (knowledge_facts s.names.now c.args.known.now)
+
+pub sweep::sweep_clause-returns-clause-swept : goal.sweep::sweep_clause-returns-clause-swept
+sweep::sweep_clause-returns-clause-swept t c = if_ok c.sweep_body.result _ _ (λ u h. swept_more c.args.subject.now _ _ _ _ _ c.in_ok-sweep_patterns.ensures.swept h) c.sweep_body.ensures.swept
+
+pub sweep::sweep_simple-returns-then-kept : goal.sweep::sweep_simple-returns-then-kept
+sweep::sweep_simple-returns-then-kept t c = record { swept = swept_more c.args.subject.now _ _ _ _ _ c.in_ok-kept.ensures.swept c.in_ok-sweep_held.ensures.swept }
