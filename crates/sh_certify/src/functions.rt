@@ -64,8 +64,7 @@ fn sweep_both_ways(subject: &Subject<'_>, draft: &mut Draft) -> Result<(), Alloc
 ///
 /// # Errors
 ///
-/// Where a growth was refused or no place for a row is left; and where a rule asks for a name that the script does not have, as no rule does of a
-/// script that is read.
+/// Where a growth was refused or no place for a row is left.
 pub fn sweep_often(subject: &Subject<'_>, draft: &mut Draft, times: u32) -> Result<(), AllocError>
     requires { IsReady subject.now draft.old.certificate draft.old.probe.count }
     ensures { IfOk result (λ unit. IsSwept subject.now draft.old.certificate draft.new.certificate draft.new.probe.count) }

@@ -24,7 +24,7 @@ use crate::known::{
     behind_link, behind_pipe, entry_of, head_of, inside_of, pass_on, process_of, started_in,
     turn_of,
 };
-use crate::own::lower_own;
+use crate::own::{lower_behind, lower_command, lower_head, lower_own};
 use crate::place::Part;
 use crate::subject::Subject;
 use crate::words::{
@@ -48,8 +48,7 @@ pub const LEVELS: u32 = 2048;
 ///
 /// # Errors
 ///
-/// Where a growth was refused or no place for a row is left; and where a rule asks for a name that the script does not have, as no rule does of a
-/// script that is read.
+/// Where a growth was refused or no place for a row is left.
 #[cycle(sweep)]
 pub fn sweep_items(
     subject: &Subject<'_>,
@@ -75,8 +74,7 @@ pub fn sweep_items(
 ///
 /// # Errors
 ///
-/// Where a growth was refused or no place for a row is left; and where a rule asks for a name that the script does not have, as no rule does of a
-/// script that is read.
+/// Where a growth was refused or no place for a row is left.
 #[cycle(sweep)]
 pub fn sweep_item(
     subject: &Subject<'_>,
@@ -334,74 +332,8 @@ fn sweep_compound(
     Ok(())
 }
 
-// Lowers the certificate where a command is entered and behind it.
-fn lower_command(
-    subject: &Subject<'_>,
-    draft: &mut Draft,
-    by: FlowRule,
-    around: &Around<'_>,
-    known: &Knowledge,
-    command: &Command,
-) -> Result<(), AllocError>
-    requires ready { IsReady subject.now draft.old.certificate draft.old.probe.count }
-    requires placed { IsCommand subject.now by (walks.around subject.now.script.now around.now) (knowledge_facts subject.now.names.now known.now) command.now }
-    ensures swept { IfOk result (λ unit. IsSwept subject.now draft.old.certificate draft.new.certificate draft.new.probe.count) }
-{
-    let kept = lower_own(subject, draft, by, around, known, command, Part::Before)?;
-    if kept {
-        return Ok(());
-    }
-    lower_behind(subject, draft, by, around, known, command)?;
-    Ok(())
-}
-
 fn is_simple(kind: &Kind) -> bool {
     matches!(kind, Kind::Simple(_))
-}
-
-fn is_loop(kind: &Kind) -> bool {
-    matches!(kind, Kind::Loop { .. } | Kind::For { .. })
-}
-
-// Lowers what is claimed at each turn of a loop.
-fn lower_head(
-    subject: &Subject<'_>,
-    draft: &mut Draft,
-    by: FlowRule,
-    around: &Around<'_>,
-    known: &Knowledge,
-    command: &Command,
-) -> Result<(), AllocError>
-    requires ready { IsReady subject.now draft.old.certificate draft.old.probe.count }
-    requires placed { IsCommand subject.now by (walks.around subject.now.script.now around.now) (knowledge_facts subject.now.names.now known.now) command.now }
-    ensures swept { IfOk result (λ unit. IsSwept subject.now draft.old.certificate draft.new.certificate draft.new.probe.count) }
-{
-    if !is_loop(&command.kind) {
-        return Ok(());
-    }
-    lower_own(subject, draft, by, around, known, command, Part::Head)?;
-    Ok(())
-}
-
-// Lowers what is claimed behind a command.
-fn lower_behind(
-    subject: &Subject<'_>,
-    draft: &mut Draft,
-    by: FlowRule,
-    around: &Around<'_>,
-    known: &Knowledge,
-    command: &Command,
-) -> Result<(), AllocError>
-    requires ready { IsReady subject.now draft.old.certificate draft.old.probe.count }
-    requires placed { IsCommand subject.now by (walks.around subject.now.script.now around.now) (knowledge_facts subject.now.names.now known.now) command.now }
-    ensures swept { IfOk result (λ unit. IsSwept subject.now draft.old.certificate draft.new.certificate draft.new.probe.count) }
-{
-    let kept = lower_own(subject, draft, by, around, known, command, Part::Zero)?;
-    if kept {
-        return Ok(());
-    }
-    lower_own(subject, draft, by, around, known, command, Part::Nonzero)?;
-    Ok(())
 }
 
 // Lowers the certificate at the commands in the redirections of a command, and at those in it.
@@ -527,8 +459,7 @@ fn sweep_iteration(
 ///
 /// # Errors
 ///
-/// Where a growth was refused or no place for a row is left; and where a rule asks for a name that the script does not have, as no rule does of a
-/// script that is read.
+/// Where a growth was refused or no place for a row is left.
 #[cycle(sweep)]
 pub fn sweep_list(
     subject: &Subject<'_>,
@@ -838,8 +769,7 @@ fn sweep_body(
 ///
 /// # Errors
 ///
-/// Where a growth was refused or no place for a row is left; and where a rule asks for a name that the script does not have, as no rule does of a
-/// script that is read.
+/// Where a growth was refused or no place for a row is left.
 pub fn sweep(subject: &Subject<'_>, draft: &mut Draft) -> Result<(), AllocError>
     requires { IsReady subject.now draft.old.certificate draft.old.probe.count }
     ensures { IfOk result (λ unit. IsSwept subject.now draft.old.certificate draft.new.certificate draft.new.probe.count) }

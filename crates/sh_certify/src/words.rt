@@ -34,8 +34,7 @@ use std::alloc::AllocError;
 ///
 /// # Errors
 ///
-/// Where a growth was refused or no place for a row is left; and where a rule asks for a name that the script does not have, as no rule does of a
-/// script that is read.
+/// Where a growth was refused or no place for a row is left.
 #[cycle(sweep)]
 pub fn sweep_elements(
     subject: &Subject<'_>,
@@ -86,8 +85,7 @@ fn sweep_element(
 ///
 /// # Errors
 ///
-/// Where a growth was refused or no place for a row is left; and where a rule asks for a name that the script does not have, as no rule does of a
-/// script that is read.
+/// Where a growth was refused or no place for a row is left.
 #[cycle(sweep)]
 pub fn sweep_redirections(
     subject: &Subject<'_>,
@@ -149,8 +147,7 @@ fn pass_target(
 ///
 /// # Errors
 ///
-/// Where a growth was refused or no place for a row is left; and where a rule asks for a name that the script does not have, as no rule does of a
-/// script that is read.
+/// Where a growth was refused or no place for a row is left.
 #[cycle(sweep)]
 pub fn sweep_for_words(
     subject: &Subject<'_>,
@@ -192,8 +189,7 @@ fn sweep_words(
 ///
 /// # Errors
 ///
-/// Where a growth was refused or no place for a row is left; and where a rule asks for a name that the script does not have, as no rule does of a
-/// script that is read.
+/// Where a growth was refused or no place for a row is left.
 #[cycle(sweep)]
 pub fn sweep_patterns(
     subject: &Subject<'_>,
@@ -216,8 +212,7 @@ pub fn sweep_patterns(
 ///
 /// # Errors
 ///
-/// Where a growth was refused or no place for a row is left; and where a rule asks for a name that the script does not have, as no rule does of a
-/// script that is read.
+/// Where a growth was refused or no place for a row is left.
 #[cycle(sweep)]
 pub fn pass_word(
     subject: &Subject<'_>,
