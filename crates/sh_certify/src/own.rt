@@ -22,7 +22,7 @@ use sh_rules::around::Around;
 use sh_rules::claims::Claims;
 use sh_rules::rules::Rules;
 use sh_rules::walk::Visitor;
-use sh_tree::tree::Command;
+use sh_tree::tree::{Command, Kind};
 use std::alloc::AllocError;
 
 // With what the flow rules ask at a command.
@@ -138,4 +138,85 @@ pub fn lower_own(
     }
     lower_once(subject, draft, by, around, known, command, next)?;
     Ok(false)
+}
+
+fn is_loop(kind: &Kind) -> bool {
+    matches!(kind, Kind::Loop { .. } | Kind::For { .. })
+}
+
+/// Lowers what is claimed at each turn of a loop.
+///
+/// # Errors
+///
+/// Where a growth was refused or no place for a row is left; and where a rule asks for a name that the script does not have, as no rule does of a
+/// script that is read.
+pub fn lower_head(
+    subject: &Subject<'_>,
+    draft: &mut Draft,
+    by: FlowRule,
+    around: &Around<'_>,
+    known: &Knowledge,
+    command: &Command,
+) -> Result<(), AllocError>
+    requires ready { IsReady subject.now draft.old.certificate draft.old.probe.count }
+    requires placed { IsCommand subject.now by (walks.around subject.now.script.now around.now) (knowledge_facts subject.now.names.now known.now) command.now }
+    ensures swept { IfOk result (λ unit. IsSwept subject.now draft.old.certificate draft.new.certificate draft.new.probe.count) }
+{
+    if !is_loop(&command.kind) {
+        return Ok(());
+    }
+    lower_own(subject, draft, by, around, known, command, Part::Head)?;
+    Ok(())
+}
+
+/// Lowers what is claimed behind a command.
+///
+/// # Errors
+///
+/// Where a growth was refused or no place for a row is left; and where a rule asks for a name that the script does not have, as no rule does of a
+/// script that is read.
+pub fn lower_behind(
+    subject: &Subject<'_>,
+    draft: &mut Draft,
+    by: FlowRule,
+    around: &Around<'_>,
+    known: &Knowledge,
+    command: &Command,
+) -> Result<(), AllocError>
+    requires ready { IsReady subject.now draft.old.certificate draft.old.probe.count }
+    requires placed { IsCommand subject.now by (walks.around subject.now.script.now around.now) (knowledge_facts subject.now.names.now known.now) command.now }
+    ensures swept { IfOk result (λ unit. IsSwept subject.now draft.old.certificate draft.new.certificate draft.new.probe.count) }
+{
+    let kept = lower_own(subject, draft, by, around, known, command, Part::Zero)?;
+    if kept {
+        return Ok(());
+    }
+    lower_own(subject, draft, by, around, known, command, Part::Nonzero)?;
+    Ok(())
+}
+
+/// Lowers the certificate where a command is entered and behind it.
+///
+/// # Errors
+///
+/// Where a growth was refused or no place for a row is left; and where a rule asks for a name that the script does not have, as no rule does of a
+/// script that is read.
+pub fn lower_command(
+    subject: &Subject<'_>,
+    draft: &mut Draft,
+    by: FlowRule,
+    around: &Around<'_>,
+    known: &Knowledge,
+    command: &Command,
+) -> Result<(), AllocError>
+    requires ready { IsReady subject.now draft.old.certificate draft.old.probe.count }
+    requires placed { IsCommand subject.now by (walks.around subject.now.script.now around.now) (knowledge_facts subject.now.names.now known.now) command.now }
+    ensures swept { IfOk result (λ unit. IsSwept subject.now draft.old.certificate draft.new.certificate draft.new.probe.count) }
+{
+    let kept = lower_own(subject, draft, by, around, known, command, Part::Before)?;
+    if kept {
+        return Ok(());
+    }
+    lower_behind(subject, draft, by, around, known, command)?;
+    Ok(())
 }

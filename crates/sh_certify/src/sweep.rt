@@ -24,7 +24,7 @@ use crate::known::{
     behind_link, behind_pipe, entry_of, head_of, inside_of, pass_on, process_of, started_in,
     turn_of,
 };
-use crate::own::lower_own;
+use crate::own::{lower_behind, lower_command, lower_head, lower_own};
 use crate::place::Part;
 use crate::subject::Subject;
 use crate::words::{
@@ -334,74 +334,8 @@ fn sweep_compound(
     Ok(())
 }
 
-// Lowers the certificate where a command is entered and behind it.
-fn lower_command(
-    subject: &Subject<'_>,
-    draft: &mut Draft,
-    by: FlowRule,
-    around: &Around<'_>,
-    known: &Knowledge,
-    command: &Command,
-) -> Result<(), AllocError>
-    requires ready { IsReady subject.now draft.old.certificate draft.old.probe.count }
-    requires placed { IsCommand subject.now by (walks.around subject.now.script.now around.now) (knowledge_facts subject.now.names.now known.now) command.now }
-    ensures swept { IfOk result (λ unit. IsSwept subject.now draft.old.certificate draft.new.certificate draft.new.probe.count) }
-{
-    let kept = lower_own(subject, draft, by, around, known, command, Part::Before)?;
-    if kept {
-        return Ok(());
-    }
-    lower_behind(subject, draft, by, around, known, command)?;
-    Ok(())
-}
-
 fn is_simple(kind: &Kind) -> bool {
     matches!(kind, Kind::Simple(_))
-}
-
-fn is_loop(kind: &Kind) -> bool {
-    matches!(kind, Kind::Loop { .. } | Kind::For { .. })
-}
-
-// Lowers what is claimed at each turn of a loop.
-fn lower_head(
-    subject: &Subject<'_>,
-    draft: &mut Draft,
-    by: FlowRule,
-    around: &Around<'_>,
-    known: &Knowledge,
-    command: &Command,
-) -> Result<(), AllocError>
-    requires ready { IsReady subject.now draft.old.certificate draft.old.probe.count }
-    requires placed { IsCommand subject.now by (walks.around subject.now.script.now around.now) (knowledge_facts subject.now.names.now known.now) command.now }
-    ensures swept { IfOk result (λ unit. IsSwept subject.now draft.old.certificate draft.new.certificate draft.new.probe.count) }
-{
-    if !is_loop(&command.kind) {
-        return Ok(());
-    }
-    lower_own(subject, draft, by, around, known, command, Part::Head)?;
-    Ok(())
-}
-
-// Lowers what is claimed behind a command.
-fn lower_behind(
-    subject: &Subject<'_>,
-    draft: &mut Draft,
-    by: FlowRule,
-    around: &Around<'_>,
-    known: &Knowledge,
-    command: &Command,
-) -> Result<(), AllocError>
-    requires ready { IsReady subject.now draft.old.certificate draft.old.probe.count }
-    requires placed { IsCommand subject.now by (walks.around subject.now.script.now around.now) (knowledge_facts subject.now.names.now known.now) command.now }
-    ensures swept { IfOk result (λ unit. IsSwept subject.now draft.old.certificate draft.new.certificate draft.new.probe.count) }
-{
-    let kept = lower_own(subject, draft, by, around, known, command, Part::Zero)?;
-    if kept {
-        return Ok(());
-    }
-    lower_own(subject, draft, by, around, known, command, Part::Nonzero)?;
-    Ok(())
 }
 
 // Lowers the certificate at the commands in the redirections of a command, and at those in it.
