@@ -3,6 +3,7 @@ use Rattle.std.proofs.Common.{◌≡◌, true, List, [], ◌∷◌, ◌++◌, ap
 use Rattle.std.specs.List.{list_all}
 use Rattle.std.proofs.lemmas.Bool.{and_parts}
 use Rattle.std.proofs.lemmas.Grind.{flat_map-append}
+use Rattle.std.proofs.lemmas.List.Folds.{list_all-append}
 use Rattle.sh_tree.specs.program.Syntax as p
 use Rattle.sh_tree.specs.program.Trees.{script_of}
 use Rattle.sh_facts.specs.declared.certificate.Certificate as kept
@@ -17,13 +18,13 @@ use Rattle.sh_facts.specs.Rules.{Constraint, bounds}
 use Rattle.sh_facts.specs.Sheets.{Sheet}
 use Rattle.sh_facts.specs.Views.{Slot}
 use Rattle.sh_facts.proofs.EachLemmas.{none_both, each_none, each_of_all, each_parts}
-use Rattle.sh_rules.specs.Above.{Allows, Anything, Ask, Does, DoesAsked, KeepsThere, OfFunction, OfPlace, ask}
+use Rattle.sh_rules.specs.Above.{Allows, Ask, DoesAsked, KeepsThere, OfFunction, OfPlace, ask}
 use Rattle.sh_rules.specs.Asked.{has_numbered_prefixes}
 use Rattle.sh_rules.specs.CommandBounds.{command_told}
 use Rattle.sh_rules.specs.Meaning.{met_at}
 use Rattle.sh_rules.specs.Settings.{Setting, claimed_at}
 use Rattle.sh_rules.specs.Visits.{command_by}
-use Rattle.sh_rules.proofs.AboveLemmas.{Above, Any, Unbroken, Whatever, all_parts, allowed, anything, command_asked}
+use Rattle.sh_rules.proofs.AboveLemmas.{stays_above}
 use Rattle.sh_rules.proofs.PrefixLemmas.{prefixes_are_numbered, table_defines}
 use Rattle.sh_rules.proofs.RuleLemmas.{visits_do_asked}
 use Rattle.sh_rules.proofs.ScriptLemmas.{script_asks}
@@ -100,13 +101,15 @@ module _ (s : Subject) (admitted : IsAdmitted s.script.now s.policy.now s.tree.n
       none_both (flat_map f ks) (flat_map f ls) (sym (flat_map-append f ks ls) ∙ sym (ap (flat_map f) (flat_map-append (bounds functions) es fs)) ∙ none)
 
   module _ (es : List Entered) (part : IsPart s es) where
-    does_here : (c : kept.Certificate) → Does gathering (setting_by s c) functions (command_by gathering (setting_by s c)) es
-    does_here c =
-        let asked = each_parts (by_table c) es part.back (each_parts (by_table c) part.front (es ++ part.back) (subst (Each (by_table c)) part.whole (all_does c))).1 in
-        let prefixes =
-        all_parts (has_numbered_prefixes s.names.now) es part.back
-        (all_parts (has_numbered_prefixes s.names.now) part.front (es ++ part.back) (subst (λ fs. list_all (has_numbered_prefixes s.names.now) fs ≡ true) part.whole all_numbered)).1 in
-        record { asked = asked.0; prefixes = prefixes.0 }
+    does_here : (c : kept.Certificate) → Each (by_table c) es
+    does_here c = (each_parts (by_table c) es part.back (each_parts (by_table c) part.front (es ++ part.back) (subst (Each (by_table c)) part.whole (all_does c))).1).0
+
+    prefixes_here : list_all (has_numbered_prefixes s.names.now) es ≡ true
+    prefixes_here =
+        let f = has_numbered_prefixes s.names.now in
+        let whole = subst (λ fs. list_all f fs ≡ true) part.whole all_numbered in
+        let behind = (and_parts (list_all f part.front) (list_all f (es ++ part.back)) (sym (list_all-append f part.front (es ++ part.back)) ∙ whole)).1 in
+        (and_parts (list_all f es) (list_all f part.back) (sym (list_all-append f es part.back) ∙ behind)).0
 
     keeps_here : (other : Sheet) → Keeps s other → KeepsThere s.policy.now (claims_in s.script.now s.tree.now other) functions es
     keeps_here other keeps =
@@ -122,26 +125,19 @@ module _ (s : Subject) (admitted : IsAdmitted s.script.now s.policy.now s.tree.n
 
     same_told : new ≡ command_told gathering (setting_by s c) functions old (met_at e k)
     unfolding Each
-    same_told = (does_here (e ∷ []) part c).asked.0 k old
+    same_told = (does_here (e ∷ []) part c).0 k old
 
     prefixed : has_numbered_prefixes s.names.now e ≡ true
-    prefixed = (and_parts (has_numbered_prefixes s.names.now e) true (does_here (e ∷ []) part c).prefixes).0
+    prefixed = (and_parts (has_numbered_prefixes s.names.now e) true (prefixes_here (e ∷ []) part)).0
 
     pub one_numbers : AreNumbers (length s.names.now) old → AreNumbers (length s.names.now) new
     one_numbers a =
-        let asks =
-        command_asked gathering (setting_by s c) names_numbered s.policy.now (by_constraints (setting_by s c) names_numbered s.policy.now) Whatever Any Anything (anything (setting_by s c) s.policy.now) functions e k old tt
-        prefixed (each_of_all (λ x. tt) _) in
+        let asks = (stays_above gathering).asks (setting_by s c) s.policy.now (by_constraints (setting_by s c) names_numbered s.policy.now) functions names_numbered e k old prefixed in
         subst (AreNumbers (length s.names.now)) (sym same_told) (subst (AreNumbers (length s.names.now)) (sym asks.reached) (asks_numbered s c asks.asks old a))
 
     pub one_stands : IsOver s c → Knows s e.seen k → (other : Sheet) → Keeps s other → Stands s.names.now other old → Stands s.names.now other new
     one_stands over knows other keeps st =
-        let d = s.policy.now in
-        let x : Setting = setting_by s c in
-        let oc = claims_in s.script.now s.tree.now other in
-        let below = over other keeps in
         let asks =
-        command_asked gathering x names_numbered d (by_constraints x names_numbered d) (Above x names_numbered d oc below) (Unbroken x names_numbered d oc below) (Allows s.names.now oc)
-        (allowed x names_numbered d oc below) functions e k old (knows other keeps) prefixed
-        (subst (Each (Unbroken x names_numbered d oc below)) (append-nil (bounds functions e)) (each_none (broken d oc) _ (keeps_here (e ∷ []) part other keeps))) in
+        (stays_above gathering).allows (setting_by s c) s.policy.now (by_constraints (setting_by s c) names_numbered s.policy.now) functions (claims_in s.script.now s.tree.now other) names_numbered
+        (over other keeps) e k old prefixed (knows other keeps) (keeps_here (e ∷ []) part other keeps) in
         subst (Stands s.names.now other) (sym same_told) (subst (Stands s.names.now other) (sym asks.reached) (asks_stand s c other keeps asks.asks old asks.each st))

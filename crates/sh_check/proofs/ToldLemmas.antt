@@ -193,22 +193,6 @@ pub kind_step-Define : (f : Teller) (b : List ℕ) (s : Bool) (ps : List Place) 
 unfolding kind_step command_step items_told
 kind_step-Define f b s ps at c = ap (kind_told f s ps) (rules.kind_of-Define b at c)
 
--- without words, and with these
-pub told_without : {X E : Type 0} (r : Result X E) (f : Teller) (b : List ℕ) (s : Bool) (k : Kind) (at : Span) (o : Option (List Word)) (t : Script) (old new : List Place)
-    → k ≡ kind.For at o t → o ≡ None → OnOk r (new ≡ script_step f b s old t) → OnOk r (new ≡ kind_step f b s old k)
-unfolding listed_step
-told_without (Ok x) f b s k at o t old new e n h =
-    h ∙ sym (ap (kind_step f b s old) e ∙ kind_step-For f b s old at o t ∙ ap (λ w. script_step f b s (listed_step f b old w) t) n)
-told_without (Err x) f b s k at o t old new e n h = tt
-
-pub told_with : {X E : Type 0} (r : Result X E) (f : Teller) (b : List ℕ) (s : Bool) (k : Kind) (at : Span) (o : Option (List Word)) (ws : List Word) (t : Script) (old mid new : List Place)
-    → k ≡ kind.For at o t → o ≡ Some ws → mid ≡ fold (word_step f b) old ws → OnOk r (new ≡ script_step f b s mid t) → OnOk r (new ≡ kind_step f b s old k)
-unfolding listed_step
-told_with (Ok x) f b s k at o ws t old mid new e n m h =
-    h ∙ ap (λ qs. script_step f b s qs t) m
-    ∙ sym (ap (kind_step f b s old) e ∙ kind_step-For f b s old at o t ∙ ap (λ w. script_step f b s (listed_step f b old w) t) n)
-told_with (Err x) f b s k at o ws t old mid new e n m h = tt
-
 pub ruleset kinds = (kind_step-Simple, kind_step-Group, kind_step-Subshell, kind_step-Cond, kind_step-Loop, kind_step-For, kind_step-Branches, kind_step-Define)
 
 -- elements, targets and parts

@@ -17,6 +17,7 @@ use sh_facts::certificate::Certificate;
 use sh_facts::names::Names;
 use sh_facts::numbered::in_byte_order;
 use sh_table::table::CallTable;
+use sh_tree::Items;
 use sh_tree::place::Place;
 use sh_tree::tree::{
     AndOr, Binary, Branch, Clause, Command, Element, Expr, Item, Kind, Link, ParameterOperator,
@@ -234,13 +235,10 @@ fn tell_kind(
             tell_script(shares, condition, script, source, places)?;
             tell_script(shares, body, script, source, places)
         }
-        Kind::For { words, body, .. } => match words {
-            Some(words) => {
-                tell_words(words.as_slice(), script, source, places)?;
-                tell_script(shares, body, script, source, places)
-            }
-            None => tell_script(shares, body, script, source, places),
-        },
+        Kind::For { words, body, .. } => {
+            tell_listed(words, script, source, places)?;
+            tell_script(shares, body, script, source, places)
+        }
         Kind::Branches { word, clauses } => {
             tell_word(word, script, source, places)?;
             tell_clauses(shares, clauses.as_slice(), script, source, places)
@@ -262,6 +260,22 @@ fn tell_otherwise(
 {
     match otherwise {
         Some(list) => tell_script(shares, list, script, source, places),
+        None => Ok(()),
+    }
+}
+
+#[cycle(tell)]
+#[tactic(auto, unfolding(crate::specs::ToldWalks::listed_step))]
+fn tell_listed(
+    words: &Option<Items<Word>>,
+    script: &[u8],
+    source: &Source<'_, '_>,
+    places: &mut Vec<Place>,
+) -> Result<(), AllocError>
+    ensures { OnOk result (places.new.items ≡ walks.listed_step (command_places source.now) script.now places.old.items words.now) }
+{
+    match words {
+        Some(words) => tell_words(words.as_slice(), script, source, places),
         None => Ok(()),
     }
 }

@@ -44,7 +44,6 @@ pub fn run<R: Feed, C: Feed, W: Outlet>(
     requires script_room { HasRoom (R.tally script.old) }
     requires cert_room { HasRoom (C.tally cert.old) }
     requires out_room { HasRoom (W.tally out.old) }
-
     // What was written is the text of the answer on the bytes read, and nothing else.
     ensures text { IfOk result (λ status. (b t : List ℕ) → Had (R.remaining script.old) SCRIPT_READ b → HadText task.now.action (C.remaining cert.old) CERTIFICATE_READ t
         → WritesAnswer task.now b t (W.contents out.old) (W.contents out.new) status) }
@@ -57,13 +56,11 @@ pub fn run<R: Feed, C: Feed, W: Outlet>(
     ensures cert_whole { OnOk result (task.now.action ≡ actions.Check → TookWhole (C.tally cert.old) (C.tally cert.new) (C.remaining cert.old) (C.remaining cert.new) CERTIFICATE_READ) }
     ensures cert_written { IsErrOf result Fault.Write → task.now.action ≡ actions.Check → TookWhole (C.tally cert.old) (C.tally cert.new) (C.remaining cert.old) (C.remaining cert.new) CERTIFICATE_READ }
     ensures cert_lost { OnErr result (task.now.action ≡ actions.Check → TookAtMost (C.remaining cert.old) (C.remaining cert.new) CERTIFICATE_READ) }
-
     // After a failed write a front of that text was written, and otherwise nothing.
     ensures front { IsErrOf result Fault.Write → (b t : List ℕ) → Had (R.remaining script.old) SCRIPT_READ b → HadText task.now.action (C.remaining cert.old) CERTIFICATE_READ t
         → WritesFront task.now b t (W.contents out.old) (W.contents out.new) }
     ensures memory { IsErrOf result Fault.Memory → out.new ≡ out.old }
     ensures read { IsErrOf result Fault.Read → out.new ≡ out.old }
-
     // A fault is told where that end failed, and only there. After a refused growth no reader had failed.
     ensures wrote { OnOk result (BoreOnly (W.tally out.old) (W.tally out.new)) }
     ensures memory_read { IsErrOf result Fault.Memory → BoreAll (R.tally script.old) (R.tally script.new) × BoreAll (C.tally cert.old) (C.tally cert.new) }

@@ -1,4 +1,4 @@
--- A walk over more than is seen asks no less of a certificate below.
+-- More than is seen asks no less of a certificate below.
 use Rattle.std.proofs.Common.{◌≡◌, ℕ, Bool, true, List, [], ◌∷◌, ◌++◌, append-nil, flat_map, fold, refl, sym, ap, ◌∙◌, subst}
 use Rattle.std.specs.List.{list_all}
 use Rattle.std.proofs.lemmas.Bool.{and_parts, and_from}
@@ -30,15 +30,14 @@ use Rattle.sh_check.specs.Knowing as knowing
 use Rattle.sh_rules.specs.Settings.{Setting, certificate, known_at, gained, without_job}
 use Rattle.sh_rules.specs.Asking.{Asking}
 use Rattle.sh_rules.specs.Asked.{ByConstraints, has_numbered_prefixes}
-use Rattle.sh_rules.specs.Behind.{Behind, both, item_behind}
+use Rattle.sh_rules.specs.Behind.{both}
 use Rattle.sh_rules.specs.Bounds.{fault, redirects_told}
 use Rattle.sh_rules.specs.CommandBounds as commands
 use Rattle.sh_rules.specs.CommandBounds.{claims_told, command_told, prefixes_in}
 use Rattle.sh_rules.specs.Meaning.{sees, knows, met_at}
-use Rattle.sh_rules.specs.Walked.{Met, course, items_walked}
-use Rattle.sh_rules.specs.Above.{Ask, OfPlace, OfFunction, ask, Asks, Anything, Allows, SeesWithin, DoesAsked, Does, KeepsThere, item_entered, item_walked, StaysAbove}
+use Rattle.sh_rules.specs.Above.{Ask, OfPlace, OfFunction, ask, Asks, Anything, Allows, SeesWithin, KeepsThere, StaysAbove}
 use Rattle.sh_rules.proofs.GainLemmas.{both_gained}
-use Rattle.sh_rules.proofs.LedLemmas.{Follows, Stands, Leads, item_stands, item_led, items_led}
+use Rattle.sh_rules.proofs.LedLemmas.{Follows}
 use Rattle.sh_rules.proofs.MeaningLemmas.{meet_last, start_sees, gain_seen, job_seen, joined_seen, interprets}
 use Rattle.sh_rules.proofs.BoundLemmas.{redirects_same}
 use Rattle.sh_rules.proofs.CommandLemmas.{claims_behind, counted_same}
@@ -58,15 +57,6 @@ among_grows names (Known v f a) (Known w g b) h =
 
 below_itself : (c : Certificate) → IsBelow c c
 below_itself c = record { claimed = λ s. within_itself _; dropped = λ f. record { vars = λ t m. m; functions = λ t m. m } }
-
--- a test of all of two lists
-
-pub all_parts : (f : Entered → Bool) (es fs : List Entered) → list_all f (es ++ fs) ≡ true → (list_all f es ≡ true) × (list_all f fs ≡ true)
-all_parts f [] fs h = (refl, h)
-all_parts f (y ∷ es) fs h =
-    let own = and_parts (f y) (list_all f (es ++ fs)) h in
-    let others = all_parts f es fs own.1 in
-    (and_from (f y) (list_all f es) own.0 others.0, others.1)
 
 -- What is known follows what a certificate below sees
 
@@ -177,7 +167,7 @@ module _ {K : Type 0} (a : Asking K) (x : Setting) (h : AreNumbered x.names) (d 
         (subst (Asks a x Q three) (counted_same a x h d i functions by z s n offset rs z.drops kind three named) (constraints_asked counted three last.1))
 
     -- a whole command
-    pub command_asked : (y : Entered) (k : Facts) (kept : K) → R y.seen k → has_numbered_prefixes x.names y ≡ true → Each E (bounds functions y)
+    command_asked : (y : Entered) (k : Facts) (kept : K) → R y.seen k → has_numbered_prefixes x.names y ≡ true → Each E (bounds functions y)
         → Asks a x Q kept (command_told a x functions kept (met_at y k))
     unfolding has_numbered_prefixes
     command_asked y k kept w named all = by_command y.command y.rule y.around y.seen w named all
@@ -187,32 +177,12 @@ module _ {K : Type 0} (a : Asking K) (x : Setting) (h : AreNumbered x.names) (d 
             → Asks a x Q kept (command_told a x functions kept (met_at (record { command = m; rule = by; around = z; seen = s }) k))
         by_command (p.command n offset kind rs) by z s w named all = parts_asked n offset kind rs by z s k kept w named all
 
-    module _ (w : K → Met → K) where
-      abbrev Leading : List Entered → K → K → Type 0
-      Leading es s t = Does a x functions w es → Each E (flat_map (bounds functions) es) → Asks a x Q s t
-
-      one_asked : (y : Entered) (k : Facts) (s : K) → R y.seen k → Leading (y ∷ []) s (w s (met_at y k))
-      unfolding Each
-      one_asked y k s v does all =
-          subst (Asks a x Q s) (sym (does.asked.0 k s))
-          (command_asked y k s v (and_parts (has_numbered_prefixes x.names y) true does.prefixes).0 (subst (Each E) (append-nil (bounds functions y)) all))
-
-      more_asked : (es fs : List Entered) (s t u : K) → Leading es s t → Leading fs t u → Leading (es ++ fs) s u
-      more_asked es fs s t u l m does all =
-          let asked = each_parts (DoesAsked a x functions w) es fs does.asked in
-          let prefixes = all_parts (has_numbered_prefixes x.names) es fs does.prefixes in
-          let both = each_parts E (flat_map (bounds functions) es) (flat_map (bounds functions) fs) (subst (Each E) (flat_map-append (bounds functions) es fs) all) in
-          asked_then a x Q s t u (l (record { asked = asked.0; prefixes = prefixes.0 }) both.0) (m (record { asked = asked.1; prefixes = prefixes.1 }) both.1)
-
-      leading : Leads R w Leading
-      leading = record { none = λ s does all. nothing_asked a x Q s; one = one_asked; more = more_asked }
-
 -- Whatever is known
 
-abbrev pub Whatever : Seen → Facts → Type 0
+abbrev Whatever : Seen → Facts → Type 0
 Whatever s k = Unit {0}
 
-abbrev pub Any : Constraint → Type 0
+abbrev Any : Constraint → Type 0
 Any k = Unit {0}
 
 whatever : (x : Setting) → Follows x Whatever
@@ -226,20 +196,18 @@ whatever x = record {
   nothing = tt;
 }
 
-pub anything : (x : Setting) (d : Declared) → Judges x d Whatever Any Anything
+anything : (x : Setting) (d : Declared) → Judges x d Whatever Any Anything
 anything x d = record { place = λ slot n rule s k w all. tt; view = λ slot n rule v q. tt; loss = λ function n l q. tt }
 
-item_asks : {K : Type 0} (a : Asking K) (x : Setting) (d : Declared) (i : ByConstraints K a x d) (functions : List Text) (w : K → Met → K) → AreNumbered x.names
-    → (by : FlowRule) (y : Around) (o : After) (b : Behind) (kept : K) (background : Bool) (list : p.AndOr)
-    → Does a x functions w (item_entered by y o background list) → Asks a x Anything kept (item_walked x w y (course by b kept) background list)
-item_asks {K} a x d i functions w h by y o b kept background list does =
-    item_led x Whatever (whatever x) w (Leading a x h d i Whatever Any Anything (anything x d) functions w) (leading a x h d i Whatever Any Anything (anything x d) functions w)
-    by y o b (record { zero = tt; nonzero = tt }) kept list background does (each_of_all (λ k. tt) _)
+command_asks : {K : Type 0} (a : Asking K) (x : Setting) (d : Declared) (i : ByConstraints K a x d) (functions : List Text) → AreNumbered x.names
+    → (y : Entered) (k : Facts) (kept : K) → has_numbered_prefixes x.names y ≡ true → Asks a x Anything kept (command_told a x functions kept (met_at y k))
+command_asks a x d i functions h y k kept named =
+    command_asked a x h d i Whatever Any Anything (anything x d) functions y k kept tt named (each_of_all (λ k. tt) _)
 
 -- What a certificate below allows
 
 module _ (x : Setting) (h : AreNumbered x.names) (d : Declared) (c : Certificate) (below : IsBelow c (certificate x)) where
-  abbrev pub Unbroken : Constraint → Type 0
+  abbrev Unbroken : Constraint → Type 0
   Unbroken k = broken d c k ≡ []
 
   -- what is claimed where it is entered is within all that is seen there
@@ -263,33 +231,15 @@ module _ (x : Setting) (h : AreNumbered x.names) (d : Declared) (c : Certificate
   unfolding Allows Fits
   loss_allowed function n l none = fits_below d c (certificate x) (Counted function n l) below none
 
-  pub allowed : Judges x d (Above x h d c below) Unbroken (Allows x.names c)
+  allowed : Judges x d (Above x h d c below) Unbroken (Allows x.names c)
   allowed = record { place = place_allowed; view = view_allowed; loss = loss_allowed }
 
-  module _ {K : Type 0} (a : Asking K) (i : ByConstraints K a x d) (functions : List Text) (w : K → Met → K) (by : FlowRule) (y : Around) (o : After) (b : Behind) (kept : K) (known : SeesWithin x.names d c o b) where
-    abbrev Allowing : List Entered → K → K → Type 0
-    Allowing es s t = Leading a x h d i (Above x h d c below) Unbroken (Allows x.names c) allowed functions w es s t
-
-    allowing : Leads (Above x h d c below) w Allowing
-    allowing = leading a x h d i (Above x h d c below) Unbroken (Allows x.names c) allowed functions w
-
-    stands : Stands (Above x h d c below) o b
-    stands = record { zero = known.zero; nonzero = known.nonzero }
-
-    item_above : (background : Bool) (list : p.AndOr) → Does a x functions w (item_entered by y o background list) → KeepsThere d c functions (item_entered by y o background list)
-        → Asks a x (Allows x.names c) kept (item_walked x w y (course by b kept) background list)
-        × SeesWithin x.names d c (e.item_after (views.in_any_case o) background list) (item_behind x b background list)
-    item_above background list does none =
-        let behind = item_stands x (Above x h d c below) (above x h d c below) o b stands background list in (
-          item_led x (Above x h d c below) (above x h d c below) w Allowing allowing by y o b stands kept list background does (each_none (broken d c) _ none),
-          record { zero = behind.zero; nonzero = behind.nonzero },
-        )
-
-    items_above : (t : p.Items) → Does a x functions w (e.items_entered by y o t) → KeepsThere d c functions (e.items_entered by y o t)
-        → Asks a x (Allows x.names c) kept (items_walked x w y (course by b kept) t).kept × SeesWithin x.names d c (e.items_after o t) (items_walked x w y (course by b kept) t).behind
-    items_above t does none =
-        let ran = items_led x (Above x h d c below) (above x h d c below) w Allowing allowing by y o b stands kept t in
-        (ran.kept does (each_none (broken d c) _ none), record { zero = ran.behind.zero; nonzero = ran.behind.nonzero })
+  command_allowed : {K : Type 0} (a : Asking K) (i : ByConstraints K a x d) (functions : List Text) (y : Entered) (k : Facts) (kept : K)
+      → has_numbered_prefixes x.names y ≡ true → Above x h d c below y.seen k → KeepsThere d c functions (y ∷ [])
+      → Asks a x (Allows x.names c) kept (command_told a x functions kept (met_at y k))
+  command_allowed a i functions y k kept named w none =
+      command_asked a x h d i (Above x h d c below) Unbroken (Allows x.names c) allowed functions y k kept w named
+      (subst (Each Unbroken) (append-nil (bounds functions y)) (each_none (broken d c) _ none))
 
 sees_start : (names : List Text) (d : Declared) (c : Certificate) → SeesWithin names d c (Both at_start) (both (among names (start_facts d)))
 unfolding if_zero if_nonzero
@@ -300,7 +250,6 @@ sees_start names d c =
 pub stays_above : {K : Type 0} (a : Asking K) → StaysAbove K a
 stays_above a = record {
   start = sees_start;
-  asks = λ x d i functions w h by y o b kept background list does. item_asks a x d i functions w h by y o b kept background list does;
-  item = λ x d i functions w c h below by y o b kept background list s does none. item_above x h d c below a i functions w by y o b kept s background list does none;
-  items = λ x d i functions w c h below by y o b kept t s does none. items_above x h d c below a i functions w by y o b kept s t does none;
+  asks = λ x d i functions h y k kept named. command_asks a x d i functions h y k kept named;
+  allows = λ x d i functions c h below y k kept named w none. command_allowed x h d c below a i functions y k kept named w none;
 }

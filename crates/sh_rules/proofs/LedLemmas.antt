@@ -363,10 +363,3 @@ module _ (x : Setting) (R : Seen → Facts → Type 0) (f : Follows x R) where
           let u = expression_led q t h a in
           let others = operands_led (gaining (expanded_gains a) q) (expression_walked x w t a) u.known rest in
           record { known = f.gains (expanded_gains a) (operands_gains rest) q _ others.known; kept = l.more _ _ _ _ _ u.kept others.kept }
-
-    pub item_led : (by : FlowRule) (y : Around) (o : After) (b : Behind) → Stands R o b → (s : K) (t : p.AndOr) (background : Bool)
-        → L (e.list_entered (e.item_rule background by) (e.item_around background y) (e.item_seen background (views.in_any_case o)) t) s
-        (list_walked x w (e.item_rule background by) (e.item_around background y) (started x background (in_any_case b)) s t)
-    item_led by y o b h s t background =
-        list_led (e.item_rule background by) (e.item_around background y) (e.item_seen background (views.in_any_case o)) (started x background (in_any_case b))
-        (started_led background (views.in_any_case o) (in_any_case b) (any_led o b h)) s t

@@ -43,9 +43,9 @@ pub fn texts<A: Asked>()
     ensures { TextsTell A.Kept A.asked }
 {}
 
-/// A walk over more than is seen asks no less of a certificate below. Where a certificate that breaks no rule at the commands of an item, or of a
-/// list, claims no more than the one that is asked, and sees no more than is known before it, it allows all that is asked there, and sees no
-/// more than is known behind it. So a certificate may be lowered item by item, and stays above each one that keeps the rules.
+/// More than is seen asks no less of a certificate below. Whatever is known at a command, nothing is asked there but what its rules ask; and where a
+/// certificate that breaks none of them claims no more than the one that is asked, and sees no more than is known there, it allows all that is
+/// asked. So a certificate may be lowered command by command, and stays above each one that keeps the rules.
 pub fn above<A: Asked>()
     ensures { StaysAbove A.Kept A.asked }
 {}

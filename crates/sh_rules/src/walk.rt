@@ -316,11 +316,7 @@ fn walk_kind<V: Visitor>(
         Kind::Cond {
             branches,
             otherwise,
-        } => {
-            let mut left = *known;
-            walk_branches(claims, around, &mut left, branches.as_slice(), visitor);
-            walk_otherwise(claims, around, &left, otherwise, visitor);
-        }
+        } => walk_if(claims, around, known, branches.as_slice(), otherwise, visitor),
         Kind::Loop {
             kind: turns,
             condition,
@@ -477,6 +473,22 @@ fn walk_element<V: Visitor>(
             walk_target(claims, &mut aside, &redirect.target, visitor);
         }
     }
+}
+
+#[cycle(walk)]
+fn walk_if<V: Visitor>(
+    claims: &Claims<'_>,
+    around: &Around<'_>,
+    known: &Knowledge,
+    branches: &[Branch],
+    otherwise: &Option<Script>,
+    visitor: &mut V,
+)
+    ensures { V.kept visitor.new ≡ steps.otherwise_kept (setting claims.now) (V.with_met (setting claims.now)) (walks.around (setting claims.now).script around.now) (fold (steps.branch_step (setting claims.now) (V.with_met (setting claims.now)) (walks.around (setting claims.now).script around.now)) (trail (facts_in (setting claims.now) known.now) (V.kept visitor.old)) branches.now) otherwise.now }
+{
+    let mut left = *known;
+    walk_branches(claims, around, &mut left, branches, visitor);
+    walk_otherwise(claims, around, &left, otherwise, visitor);
 }
 
 #[cycle(walk)]
@@ -711,18 +723,4 @@ pub fn walk<V: Visitor>(claims: &Claims<'_>, start: &Knowledge, list: &Script, v
 {
     let outside = alone();
     walk_from(claims, &outside, FlowRule::F1, start, list, visitor);
-}
-
-/// Visits each command of an item of a list, those in its words included, from where the walk is in the list, and goes on behind the item. It
-/// takes no memory.
-pub fn walk_over<V: Visitor>(
-    claims: &Claims<'_>,
-    around: &Around<'_>,
-    course: &mut Course,
-    item: &Item,
-    visitor: &mut V,
-)
-    ensures { steps.ran (setting claims.now) course.new (V.kept visitor.new) ≡ steps.item_step (setting claims.now) (V.with_met (setting claims.now)) (walks.around (setting claims.now).script around.now) (steps.ran (setting claims.now) course.old (V.kept visitor.old)) item.now }
-{
-    walk_item(claims, around, course, item, visitor);
 }
