@@ -19,3 +19,6 @@ pub mod PlacedLemmas
 pub mod KnownLemmas
 pub mod ThereLemmas
 pub mod WordLemmas
+pub mod SeenLemmas
+pub mod DefineLemmas
+pub mod FunctionLemmas
