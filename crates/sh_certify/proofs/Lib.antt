@@ -19,3 +19,5 @@ pub mod PlacedLemmas
 pub mod KnownLemmas
 pub mod ThereLemmas
 pub mod WordLemmas
+pub mod LostLemmas
+pub mod IdleLemmas

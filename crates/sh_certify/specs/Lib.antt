@@ -10,3 +10,5 @@ pub mod Together
 pub mod Spots
 pub mod Sweeps
 pub mod There
+pub mod Next
+pub mod Idle
