@@ -15,7 +15,7 @@ use Rattle.sh_facts.specs.declared.certificate.Drops.{Drops}
 use Rattle.sh_facts.specs.declared.certificate.Facts as value
 use Rattle.sh_facts.specs.declared.certificate.Facts.TheVariants as value_kind
 use Rattle.sh_facts.specs.declared.rule.FlowRule.TheVariants.{F13}
-use Rattle.sh_facts.specs.Facts.{Facts, NotReached, Known, Variable, facts, within, claims as holds, Declared}
+use Rattle.sh_facts.specs.Facts.{Claim, Facts, NotReached, Known, Variable, facts, within, claims as holds, Declared}
 use Rattle.sh_facts.specs.Faults.{are_among, broken, told}
 use Rattle.sh_facts.specs.Forms.{is_variable}
 use Rattle.sh_facts.specs.Inclusions.{Each}
@@ -40,7 +40,7 @@ use Rattle.sh_certify.specs.declared.gather.Gather.{Gather}
 use Rattle.sh_certify.specs.declared.gather.Target.{Target}
 use Rattle.sh_certify.specs.declared.place.Place.{Place}
 use Rattle.sh_certify.specs.Gathered.{Gathered, is_at, is_number, bounded, counted, gathered, all_gathered}
-use Rattle.sh_certify.specs.Idle.{ClaimStays, DropsStay, IsIdle, KnowsNames, BoundsNames}
+use Rattle.sh_certify.specs.Idle.{ClaimStays, DropsStay, IsIdle, ClaimsNames, KnowsNames, BoundsNames}
 use Rattle.sh_certify.specs.Next.{stands_at, IsKeptAt}
 use Rattle.sh_certify.specs.Numbers.{name_passes, by_number, by_name, named, is_dropped, numbers_in}
 use Rattle.sh_certify.specs.Places.{same, place_of, kept_at, drops_at, claim_there, drops_there}
@@ -334,6 +334,47 @@ module _ (names functions : List Text) (h : AreNumbered names) (loops : List Boo
   lost_known n (OfUnseen vars v) numbered = record {
     vars = λ x e. among_all (is_one_of names) (filter (λ y. not (holds (view_facts d own v) (Variable y))) vars) (filter_all (is_one_of names) (λ y. not (holds (view_facts d own v) (Variable y))) vars numbered) x e;
     functions = λ x e. absurd (true≢false (sym e));
+  }
+
+  -- the functions that it claims, and lets a function drop, are names
+
+  at_named : (v : ℕ → Bool) (x : Text) → ((k : ℕ) (t : Text) → slice_get names k ≡ Some t → v k ≡ true → is_name t ≡ true) → at_number v (number_of names x) ≡ true → is_name x ≡ true
+  unfolding at_number
+  at_named v x each e = go (number_of names x) refl e
+    where
+      go : (o : Option ℕ) → number_of names x ≡ o → at_number v o ≡ true → is_name x ≡ true
+      go None is e = absurd (true≢false (sym e))
+      go (Some k) is e = each k x (stands_there names k x is) e
+
+  named_names : (f : number.Facts) → IsWritten names (names_of f) → KnowsNames (by_name names f)
+  unfolding names_of by_name KnowsNames
+  named_names number.NotReached written = tt
+  named_names (number.Known v p a) written = λ x e. at_named p x written.functions e
+
+  claimed_names : (p : Place) (o : Option number.Facts) → claims c p ≡ o → KnowsNames (named names o)
+  unfolding named KnowsNames
+  claimed_names p None is = tt
+  claimed_names p (Some f) is = named_names f (claim_written names loops m c w p f is).0
+
+  there_names : (o : Option Place) → KnowsNames (facts (claim_there (sheet_by names c) o))
+  unfolding claim_there facts KnowsNames
+  there_names None = tt
+  there_names (Some p) = subst KnowsNames (sym (claimed names h loops m c w p)) (claimed_names p (claims c p) refl)
+
+  dropped_names : (i : ℕ) (o : Option Sets) (x : Text) → dropped c i ≡ o → is_dropped (λ s. s.functions) names o x ≡ true → is_name x ≡ true
+  unfolding is_dropped
+  dropped_names i None x is e = absurd (true≢false (sym e))
+  dropped_names i (Some s) x is e = at_named s.functions x (drops_written names loops m c w i s is).0.functions e
+
+  lost_names : (o : Option ℕ) (x : Text) → is_one_of (drops_there (sheet_by names c) o).functions x ≡ true → is_name x ≡ true
+  unfolding drops_there
+  lost_names None x e = absurd (true≢false (sym e))
+  lost_names (Some i) x e = dropped_names i (dropped c i) x refl (sym (drops_functions names h loops m c w i x) ∙ e)
+
+  pub claims_names : ClaimsNames own
+  claims_names = record {
+    known = λ slot. subst (λ (x : Claim). KnowsNames (facts x)) (sym (placed functions (sheet_by names c) slot)) (there_names (place_of functions slot));
+    lost = λ f x e. lost_names (number_of functions f) x (sym (ap (λ (n : Names). is_one_of n.functions x) (drops_placed functions (sheet_by names c) f)) ∙ e);
   }
 
   module _ (may : Sets) (all : HasWritable names MAX_NAMES may) (g : Gathered) (numbers : AreNumbers (length names) g) (known : IsWritten names (names_of g.known)) (sets : IsWritten names g.sets) (idle : IsIdle c may g) where

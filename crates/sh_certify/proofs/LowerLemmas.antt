@@ -19,10 +19,11 @@ use Rattle.sh_facts.specs.RoundTrips.{FactsPass, SetsPass}
 use Rattle.sh_find.specs.declared.number_set.NumberSet.{NumberSet}
 use Rattle.sh_find.specs.declared.sight.Sight.{Sight}
 use Rattle.sh_find.specs.Facts.{Facts, NotReached, Known, IsWithin, meet}
-use Rattle.sh_find.specs.Kept.{numbers_of, sight_facts, fact_of, IsNamed, IsPlaced}
+use Rattle.sh_find.specs.Kept.{numbers_of, sight_facts, seen_of, fact_of, IsNamed, IsPlaced}
 use Rattle.sh_find.proofs.SolutionLemmas.{stays_there, stays_placed, stays_same, meet_numbered}
 use Rattle.sh_find.specs.Lowers.{IsNumbered}
 use Rattle.sh_find.proofs.NamedLemmas.{met_named}
+use Rattle.sh_find.proofs.OrderLemmas.{within_nowhere}
 use Rattle.sh_facts.specs.declared.certificate.FunctionEntry.{FunctionEntry}
 use Rattle.sh_certify.specs.declared.place.Part.TheVariants.{Head}
 use Rattle.sh_certify.specs.declared.place.Place.{Place}
@@ -286,6 +287,11 @@ dropped_is c i d at s e = let same : Some (sets_of c.rows d) ≡ Some s = sym (a
 pub union_within : (rows : KeptRows) (d : Drops) (old new z : Sets) → ((k : ℕ) → new.vars k ≡ (holds_at rows.rows d.vars.index k || old.vars k))
     → ((k : ℕ) → new.functions k ≡ (holds_at rows.rows d.functions.index k || old.functions k)) → AreWithin (joined old (sets_of rows d)) z → AreWithin new z
 union_within rows d old new z v f w = record { vars = λ k e. w.vars k (sym (v k) ∙ e); functions = λ k e. w.functions k (sym (f k) ∙ e) }
+
+-- where no run comes, anything may be claimed
+pub nowhere_stays : (c : Certificate) (p : Place) (known : Option Sight) (may : Sets) → known ≡ None → ClaimStays c p (seen_of known) may
+unfolding seen_of
+nowhere_stays c p known may none = subst (λ o. ClaimStays c p (seen_of o) may) (sym none) (record { within = λ f e w. within_nowhere f })
 
 pub idle_both : (old mid : Certificate) (may : Sets) (g : Gathered) → mid ≡ old → ClaimStays old g.place g.known may → DropsStay mid g.function g.sets may → IsIdle old may g
 idle_both old mid may g same claim drops = record { claim = claim; drops = subst (λ c. DropsStay c g.function g.sets may) same drops }
