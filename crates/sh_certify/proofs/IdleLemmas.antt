@@ -250,8 +250,7 @@ module _ (names functions : List Text) (d : Declared) (c : Certificate) where
   unfolding Each
   all_taken [] g = tt
   all_taken (k ∷ ks) g =
-      let next = gathered names functions d c g k in
-      (
+      let next = gathered names functions d c g k in (
         one_taken k g (all_gathered names functions d c g (k ∷ ks)) (place_stays names functions d c (k ∷ ks) g) (function_stays names functions d c (k ∷ ks) g) (all_less ks next) (all_more ks next),
         all_taken ks next,
       )
