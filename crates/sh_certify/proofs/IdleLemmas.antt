@@ -40,7 +40,8 @@ use Rattle.sh_certify.specs.declared.gather.Gather.{Gather}
 use Rattle.sh_certify.specs.declared.gather.Target.{Target}
 use Rattle.sh_certify.specs.declared.place.Place.{Place}
 use Rattle.sh_certify.specs.Gathered.{Gathered, is_at, is_number, bounded, counted, gathered, all_gathered}
-use Rattle.sh_certify.specs.Idle.{ClaimStays, DropsStay, IsIdle, ClaimsNames, KnowsNames, BoundsNames}
+use Rattle.sh_certify.specs.Functions.{ClaimsNames, KnowsNames, LosesNames, BoundsNames}
+use Rattle.sh_certify.specs.Idle.{IsIdle}
 use Rattle.sh_certify.specs.Next.{stands_at, IsKeptAt}
 use Rattle.sh_certify.specs.Numbers.{name_passes, by_number, by_name, named, is_dropped, numbers_in}
 use Rattle.sh_certify.specs.Places.{same, place_of, kept_at, drops_at, claim_there, drops_there}
@@ -48,6 +49,7 @@ use Rattle.sh_certify.specs.There.{HasPlace, HasDrops, AsksThere}
 use Rattle.sh_certify.specs.Turns.{AreNumbers, IsNew, gathered_of, sheet_by}
 use Rattle.sh_certify.specs.Working.{Sets, sets_of, names_of, joined, claims, dropped, AreWithin, AreBelow, IsFine, AreFine, IsWorking}
 use Rattle.sh_certify.specs.Writable.{IsWritten, HasWritable}
+use Rattle.sh_certify.proofs.FunctionLemmas.{rules_know_names}
 use Rattle.sh_certify.proofs.GatherLemmas.{among_less, place_stays, function_stays, numbered_only}
 use Rattle.sh_certify.proofs.GreatestLemmas.{numbered}
 use Rattle.sh_certify.proofs.KeptLemmas.{place_same}
@@ -159,7 +161,7 @@ module _ (names : List Text) where
     known_written NotReached k = none_written
     known_written (Known v f a) k = record { vars = λ n t is e. variable n t is; functions = λ n t is e. k t (sym (ap (name_passes f) is) ∙ e) }
 
-    lost_written : (lost : Names) → ((x : Text) → is_one_of lost.functions x ≡ true → is_name x ≡ true) → IsWritten names (numbers_in names lost)
+    lost_written : (lost : Names) → LosesNames lost → IsWritten names (numbers_in names lost)
     unfolding name_passes
     lost_written lost k = record { vars = λ n t is e. variable n t is; functions = λ n t is e. k t (sym (ap (name_passes (is_one_of lost.functions)) is) ∙ e) }
 
@@ -454,9 +456,11 @@ module _ (names functions : List Text) (h : AreNumbered names) (loops : List Boo
 
 -- of a script that is admitted
 pub idle_keeps : (b : List ℕ) (d : Declared) (t : Script) (names : List Text) → IsAdmitted b d t names → list_all is_variable names ≡ true → (loops : List Bool) → AreLoops t loops
-    → (c : kept.Certificate) → IsWorking names loops (length (functions_in b t)) c → Each (BoundsNames d (claims_in b t (sheet_by names c))) (script_bounds (script_of b t))
+    → (c : kept.Certificate) → IsWorking names loops (length (functions_in b t)) c
     → (target : Target) (first : Gather) → IsNew target first → (g : Gathered) → g ≡ all_gathered names (functions_in b t) d (claims_in b t (sheet_by names c)) (gathered_of first) (script_bounds (script_of b t))
     → (may : Sets) → HasWritable names MAX_NAMES may → IsIdle c may g → Each (IsKeptAt (functions_in b t) d (claims_in b t (sheet_by names c)) g.place g.function) (script_bounds (script_of b t))
-idle_keeps b d t names a variables loops are c w asks target first new g is may all idle =
-    all_idle names (functions_in b t) (numbered b d t names a) loops (length (functions_in b t)) c w d target first new variables (script_bounds (script_of b t)) g is (all_lost b d t names a.numbered.0)
-    (rules_ask_there b d t names loops c a are w) asks may all idle
+idle_keeps b d t names a variables loops are c w target first new g is may all idle =
+    let functions = functions_in b t in
+    let h = numbered b d t names a in
+    all_idle names functions h loops (length functions) c w d target first new variables (script_bounds (script_of b t)) g is (all_lost b d t names a.numbered.0) (rules_ask_there b d t names loops c a are w)
+    (rules_know_names b d t names (claims_in b t (sheet_by names c)) a (claims_names names functions h loops (length functions) c w d)) may all idle

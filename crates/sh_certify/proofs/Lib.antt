@@ -19,5 +19,8 @@ pub mod PlacedLemmas
 pub mod KnownLemmas
 pub mod ThereLemmas
 pub mod WordLemmas
+pub mod SeenLemmas
+pub mod DefineLemmas
+pub mod FunctionLemmas
 pub mod LostLemmas
 pub mod IdleLemmas
