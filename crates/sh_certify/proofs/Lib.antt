@@ -22,3 +22,5 @@ pub mod WordLemmas
 pub mod SeenLemmas
 pub mod DefineLemmas
 pub mod FunctionLemmas
+pub mod LostLemmas
+pub mod IdleLemmas
