@@ -1,5 +1,5 @@
 -- What is told of a piece of a tree, by the pieces one level below it.
-use Rattle.std.proofs.Common.{◌≡◌, ℕ, Result, Ok, Err, OnOk, nat_lt, Bool, true, false, Option, Some, None, List, [], ◌∷◌, fold, length, refl, sym, ap, ◌∙◌, arith}
+use Rattle.std.proofs.Common.{◌≡◌, ℕ, nat_lt, Bool, true, false, Option, Some, None, List, [], ◌∷◌, fold, length, refl, sym, ap, ◌∙◌, arith}
 use Rattle.std.proofs.lemmas.Bool.Decides.{nat_tests}
 use Rattle.sh_tree.specs.declared.place.Place.{Place}
 use Rattle.sh_tree.specs.declared.tree.Action.{Action}
@@ -16,7 +16,6 @@ use Rattle.sh_tree.specs.declared.tree.Expr.{Expr}
 use Rattle.sh_tree.specs.declared.tree.Expr.TheVariants as expression
 use Rattle.sh_tree.specs.declared.tree.HereDoc.{HereDoc}
 use Rattle.sh_tree.specs.declared.tree.Item.{Item}
-use Rattle.sh_tree.specs.declared.tree.Kind.{Kind}
 use Rattle.sh_tree.specs.declared.tree.Kind.TheVariants as kind
 use Rattle.sh_tree.specs.declared.tree.Link.{Link}
 use Rattle.sh_tree.specs.declared.tree.LoopKind.{LoopKind}

@@ -17,7 +17,6 @@ use sh_facts::certificate::Certificate;
 use sh_facts::names::Names;
 use sh_facts::numbered::in_byte_order;
 use sh_table::table::CallTable;
-use sh_tree::Items;
 use sh_tree::place::Place;
 use sh_tree::tree::{
     AndOr, Binary, Branch, Clause, Command, Element, Expr, Item, Kind, Link, ParameterOperator,
@@ -206,7 +205,7 @@ fn tell_redirects(
 }
 
 #[cycle(tell)]
-#[tactic(auto, using(crate::proofs::ToldLemmas::kinds))]
+#[tactic(auto, using(crate::proofs::ToldLemmas::kinds), unfolding(crate::specs::ToldWalks::listed_step))]
 fn tell_kind(
     shares: bool,
     kind: &Kind,
@@ -236,7 +235,9 @@ fn tell_kind(
             tell_script(shares, body, script, source, places)
         }
         Kind::For { words, body, .. } => {
-            tell_listed(words, script, source, places)?;
+            if let Some(words) = words {
+                tell_words(words.as_slice(), script, source, places)?;
+            }
             tell_script(shares, body, script, source, places)
         }
         Kind::Branches { word, clauses } => {
@@ -260,22 +261,6 @@ fn tell_otherwise(
 {
     match otherwise {
         Some(list) => tell_script(shares, list, script, source, places),
-        None => Ok(()),
-    }
-}
-
-#[cycle(tell)]
-#[tactic(auto, unfolding(crate::specs::ToldWalks::listed_step))]
-fn tell_listed(
-    words: &Option<Items<Word>>,
-    script: &[u8],
-    source: &Source<'_, '_>,
-    places: &mut Vec<Place>,
-) -> Result<(), AllocError>
-    ensures { OnOk result (places.new.items ≡ walks.listed_step (command_places source.now) script.now places.old.items words.now) }
-{
-    match words {
-        Some(words) => tell_words(words.as_slice(), script, source, places),
         None => Ok(()),
     }
 }
