@@ -47,7 +47,7 @@ use Rattle.sh_facts.specs.Table as table
 use Rattle.sh_facts.specs.Views.{Slot, Before, AfterZero, AfterNonzero, Head, Entry, ReturnsZero, ReturnsNonzero, Seen, After, Both, Loss, OfNames, OfFunction, OfUnseen, at, gaining, gaining_names, if_nonzero, if_zero, in_any_case, stepped, Call, Count, Define}
 use Rattle.sh_facts.proofs.EnteredWalk.{script_walked}
 use Rattle.sh_check.proofs.ReachLemmas.{seen_reach}
-use Rattle.sh_check.proofs.StandLemmas.{all_stand}
+use Rattle.sh_facts.proofs.StandLemmas.{all_stand}
 use Rattle.sh_rules.specs.Asked.{has_numbered_prefixes}
 use Rattle.sh_rules.specs.CommandBounds.{prefixes_in}
 use Rattle.sh_rules.proofs.PrefixLemmas.{prefixes_are_numbered}
