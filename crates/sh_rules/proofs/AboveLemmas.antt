@@ -1,15 +1,13 @@
 -- More than is seen asks no less of a certificate below.
-use Rattle.std.proofs.Common.{◌≡◌, ℕ, Bool, true, List, [], ◌∷◌, ◌++◌, append-nil, flat_map, fold, refl, sym, ap, ◌∙◌, subst}
+use Rattle.std.proofs.Common.{◌≡◌, ℕ, true, List, [], ◌∷◌, ◌++◌, append-nil, fold, refl, sym, ap, ◌∙◌, subst}
 use Rattle.std.specs.List.{list_all}
 use Rattle.std.proofs.lemmas.Bool.{and_parts, and_from}
-use Rattle.std.proofs.lemmas.Grind.{flat_map-append}
 use Rattle.std.proofs.lemmas.List.Sums.{fold-append}
 use Rattle.sh_tree.specs.program.Syntax as p
 use Rattle.sh_tree.specs.program.Syntax.{Text}
 use Rattle.sh_table.specs.runs.Environment.{is_one_of}
 use Rattle.sh_facts.specs.declared.rule.FlowRule.{FlowRule}
 use Rattle.sh_facts.specs.declared.rule.FlowRule.TheVariants.{F13}
-use Rattle.sh_facts.specs.Entries as e
 use Rattle.sh_facts.specs.Entries.{Around, Entered, behind_redirects}
 use Rattle.sh_facts.specs.Facts.{Facts, NotReached, Known, Declared, facts, meet, start_facts}
 use Rattle.sh_facts.specs.Faults.{Fault, broken}

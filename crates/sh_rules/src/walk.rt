@@ -316,7 +316,11 @@ fn walk_kind<V: Visitor>(
         Kind::Cond {
             branches,
             otherwise,
-        } => walk_if(claims, around, known, branches.as_slice(), otherwise, visitor),
+        } => {
+            let mut left = *known;
+            walk_branches(claims, around, &mut left, branches.as_slice(), visitor);
+            walk_otherwise(claims, around, &left, otherwise, visitor);
+        }
         Kind::Loop {
             kind: turns,
             condition,
@@ -473,22 +477,6 @@ fn walk_element<V: Visitor>(
             walk_target(claims, &mut aside, &redirect.target, visitor);
         }
     }
-}
-
-#[cycle(walk)]
-fn walk_if<V: Visitor>(
-    claims: &Claims<'_>,
-    around: &Around<'_>,
-    known: &Knowledge,
-    branches: &[Branch],
-    otherwise: &Option<Script>,
-    visitor: &mut V,
-)
-    ensures { V.kept visitor.new ≡ steps.otherwise_kept (setting claims.now) (V.with_met (setting claims.now)) (walks.around (setting claims.now).script around.now) (fold (steps.branch_step (setting claims.now) (V.with_met (setting claims.now)) (walks.around (setting claims.now).script around.now)) (trail (facts_in (setting claims.now) known.now) (V.kept visitor.old)) branches.now) otherwise.now }
-{
-    let mut left = *known;
-    walk_branches(claims, around, &mut left, branches, visitor);
-    walk_otherwise(claims, around, &left, otherwise, visitor);
 }
 
 #[cycle(walk)]
