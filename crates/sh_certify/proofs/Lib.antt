@@ -18,4 +18,5 @@ pub mod MetLemmas
 pub mod PlacedLemmas
 pub mod KnownLemmas
 pub mod ThereLemmas
+pub mod NextLemmas
 pub mod WordLemmas

@@ -10,3 +10,4 @@ pub mod Together
 pub mod Spots
 pub mod Sweeps
 pub mod There
+pub mod Next
