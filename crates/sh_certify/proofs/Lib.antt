@@ -20,3 +20,8 @@ pub mod KnownLemmas
 pub mod ThereLemmas
 pub mod NextLemmas
 pub mod WordLemmas
+pub mod SeenLemmas
+pub mod DefineLemmas
+pub mod FunctionLemmas
+pub mod LostLemmas
+pub mod IdleLemmas

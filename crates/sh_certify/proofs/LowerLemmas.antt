@@ -1,8 +1,9 @@
 -- A claim that is lowered, and drops that are added to.
-use Rattle.std.proofs.Common.{◌≡◌, ℕ, ◌+◌, ◌<◌, ◌==◌, eqb, nat_eq, Bool, true, false, ◌&&◌, ◌||◌, Option, Some, None, option_map, List, length, slice_get, unwrap_or, is_some, refl, sym, ap, ap₂, ◌∙◌, subst, arith, inl, inr, true≢false}
+use Rattle.std.proofs.Common.{◌≡◌, ℕ, min, ◌+◌, ◌<◌, ◌≤◌, ◌==◌, eqb, nat_eq, Bool, true, false, ◌&&◌, ◌||◌, Option, Some, None, option_map, List, length, slice_get, unwrap_or, is_some, refl, sym, ap, ap₂, ◌∙◌, subst, arith, inl, inr, true≢false}
 use Rattle.std.proofs.Math.Bool.{or-false}
 use Rattle.std.proofs.Math.Path.{fun_ext}
-use Rattle.std.proofs.lemmas.Bool.{cases_Bool, or_cases, eqb-true}
+use Rattle.std.proofs.lemmas.Bool.{cases_Bool, cases_lt, and_from, or_cases, or_left, or_right, eqb-true, eq-eqb}
+use Rattle.std.proofs.lemmas.Option.{slice_get_within}
 use Rattle.indexmap.specs.IndexMap.{get}
 use Rattle.sh_tree.specs.program.Syntax.{Text}
 use Rattle.sh_tree.specs.language.Bytes.{is_name}
@@ -18,16 +19,19 @@ use Rattle.sh_facts.specs.RoundTrips.{FactsPass, SetsPass}
 use Rattle.sh_find.specs.declared.number_set.NumberSet.{NumberSet}
 use Rattle.sh_find.specs.declared.sight.Sight.{Sight}
 use Rattle.sh_find.specs.Facts.{Facts, NotReached, Known, IsWithin, meet}
-use Rattle.sh_find.specs.Kept.{numbers_of, sight_facts, fact_of, IsNamed, IsPlaced}
+use Rattle.sh_find.specs.Kept.{numbers_of, sight_facts, seen_of, fact_of, IsNamed, IsPlaced}
 use Rattle.sh_find.proofs.SolutionLemmas.{stays_there, stays_placed, stays_same, meet_numbered}
 use Rattle.sh_find.specs.Lowers.{IsNumbered}
 use Rattle.sh_find.proofs.NamedLemmas.{met_named}
+use Rattle.sh_find.proofs.OrderLemmas.{within_nowhere}
 use Rattle.sh_facts.specs.declared.certificate.FunctionEntry.{FunctionEntry}
 use Rattle.sh_certify.specs.declared.place.Part.TheVariants.{Head}
 use Rattle.sh_certify.specs.declared.place.Place.{Place}
+use Rattle.sh_certify.specs.Gathered.{Gathered}
+use Rattle.sh_certify.specs.Idle.{ClaimStays, DropsStay, IsIdle}
 use Rattle.sh_certify.specs.Places.{same, at, is_of_command, is_of_function, kept_at, drops_at, IsPut, IsDropped}
 use Rattle.sh_certify.specs.Working.{Sets, sets_of, names_of, joined, claims, dropped, AreWithin, AreBelow, IsFine, AreFine, IsWorking, IsLowered, IsCounted}
-use Rattle.sh_certify.specs.Writable.{sets_in, IsWritten}
+use Rattle.sh_certify.specs.Writable.{sets_in, HasWritable, IsWritten}
 use Rattle.sh_certify.proofs.KeptLemmas.{place_same}
 
 -- Rows of drops
@@ -94,6 +98,36 @@ written_more names old new n t v f at is_v is_f vars functions w = record {
     one k u is passes is_one true same was e = was refl
     one k u is passes true false same was e = sym (same (same_text k u is (eqb-true k n (sym (or-false (k == n)) ∙ e))))
     one k u is passes false false same was e = absurd (true≢false (sym e))
+
+-- all names that may stand
+
+pub has_none : (names : List Text) (s : Sets) → HasWritable names 0 s
+has_none names s = record { vars = λ k t l is e. absurd (omega (arith, l)); functions = λ k t l is e. absurd (omega (arith, l)) }
+
+pub has_more : (names : List Text) (old new : Sets) (n : ℕ) (t : Text) (v f : Bool) → slice_get names n ≡ Some t → v ≡ is_variable t → f ≡ is_name t
+    → ((k : ℕ) → new.vars k ≡ ((v && (k == n)) || old.vars k)) → ((k : ℕ) → new.functions k ≡ ((f && (k == n)) || old.functions k)) → HasWritable names n old → HasWritable names (n + 1) new
+has_more names old new n t v f at is_v is_f vars functions h = record {
+  vars = λ k u l is e. vars k ∙ one k u l is (is_variable u) v (old.vars k) (λ same. is_v ∙ ap is_variable same) (λ m. h.vars k u m is e) e;
+  functions = λ k u l is e. functions k ∙ one k u l is (is_name u) f (old.functions k) (λ same. is_f ∙ ap is_name same) (λ m. h.functions k u m is e) e;
+}
+  where
+    same_text : (k : ℕ) (u : Text) → slice_get names k ≡ Some u → k ≡ n → t ≡ u
+    same_text k u is e = ap (λ o. unwrap_or o t) (sym at ∙ ap (slice_get names) (sym e) ∙ is)
+
+    one : (k : ℕ) (u : Text) → k < n + 1 → slice_get names k ≡ Some u → (passes is_one before : Bool) → (t ≡ u → is_one ≡ passes) → (k < n → before ≡ true) → passes ≡ true → ((is_one && (k == n)) || before) ≡ true
+    one k u l is passes is_one before same was e = elim (cases_lt k n) [
+      | inl less ↦ or_right (is_one && (k == n)) before (was less)
+      | inr far ↦
+          let own : k ≡ n = omega (arith, l, far) in
+          or_left (is_one && (k == n)) before (and_from is_one (k == n) (same (same_text k u is own) ∙ e) (eq-eqb k n own))
+    ]
+
+-- there are none behind the last name
+pub has_all : (names : List Text) (most n : ℕ) (s : Sets) → min (length names) most ≤ n → HasWritable names n s → HasWritable names most s
+has_all names most n s all h = record {
+  vars = λ k t low is e. h.vars k t (let l = slice_get_within names k t is in omega (arith, l, low, all)) is e;
+  functions = λ k t low is e. h.functions k t (let l = slice_get_within names k t is in omega (arith, l, low, all)) is e;
+}
 
 -- Rows that grow
 
@@ -253,6 +287,14 @@ dropped_is c i d at s e = let same : Some (sets_of c.rows d) ≡ Some s = sym (a
 pub union_within : (rows : KeptRows) (d : Drops) (old new z : Sets) → ((k : ℕ) → new.vars k ≡ (holds_at rows.rows d.vars.index k || old.vars k))
     → ((k : ℕ) → new.functions k ≡ (holds_at rows.rows d.functions.index k || old.functions k)) → AreWithin (joined old (sets_of rows d)) z → AreWithin new z
 union_within rows d old new z v f w = record { vars = λ k e. w.vars k (sym (v k) ∙ e); functions = λ k e. w.functions k (sym (f k) ∙ e) }
+
+-- where no run comes, anything may be claimed
+pub nowhere_stays : (c : Certificate) (p : Place) (known : Option Sight) (may : Sets) → known ≡ None → ClaimStays c p (seen_of known) may
+unfolding seen_of
+nowhere_stays c p known may none = subst (λ o. ClaimStays c p (seen_of o) may) (sym none) (record { within = λ f e w. within_nowhere f })
+
+pub idle_both : (old mid : Certificate) (may : Sets) (g : Gathered) → mid ≡ old → ClaimStays old g.place g.known may → DropsStay mid g.function g.sets may → IsIdle old may g
+idle_both old mid may g same claim drops = record { claim = claim; drops = subst (λ c. DropsStay c g.function g.sets may) same drops }
 
 -- Drops that are added to
 

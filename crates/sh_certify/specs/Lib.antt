@@ -11,3 +11,5 @@ pub mod Spots
 pub mod Sweeps
 pub mod There
 pub mod Next
+pub mod Functions
+pub mod Idle

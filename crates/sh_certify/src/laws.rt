@@ -1,4 +1,5 @@
-//! How what is gathered goes by constraints, and of what the rules ask.
+//! How what is gathered goes by constraints, of what the rules ask, and which functions they know.
+ghost use Rattle.sh_certify.specs.Functions.{RulesDefineNames, RulesKnowNames};
 ghost use Rattle.sh_certify.specs.There.{RulesAskThere};
 ghost use Rattle.sh_certify.specs.Together.{GatheredTogether};
 
@@ -12,4 +13,11 @@ pub fn together()
 /// certificate that has as many commands and functions as the script, and heads at its loops.
 pub fn places()
     ensures { RulesAskThere }
+{}
+
+/// The flow rules of a script that is admitted define no function without a name (XBD 3.216), and list none to be lost. So where a certificate claims only
+/// names to be defined functions and to be dropped ones, what bounds its claims and what its commands drop has only names too: `!` is known as no function.
+pub fn functions()
+    ensures defined { RulesDefineNames }
+    ensures known { RulesKnowNames }
 {}

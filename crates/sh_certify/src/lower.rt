@@ -1,13 +1,12 @@
 //! What a certificate claims at a place is lowered to what is known there, and what a function may drop is added to.
-ghost use Rattle.std.specs.Prelude.{◌≡◌, ◌<◌, ◌≤◌, ◌&&◌, ℕ, List, Bool, true, false, not, length, Some, IfOk};
+ghost use Rattle.std.specs.Prelude.{◌≡◌, ◌<◌, ◌≤◌, ℕ, List, Bool, true, false, length, Some, IfOk};
 ghost use Rattle.sh_tree.specs.declared.limits.TheConstants.{MAX_NAMES};
 ghost use Rattle.sh_facts.specs.KeptRows.{Stay, holds_at};
 ghost use Rattle.sh_find.specs.Kept.{numbers_of, sight_facts, IsNamed};
 ghost use Rattle.sh_facts.specs.declared.certificate.Drops as drops;
 ghost use Rattle.sh_certify.specs.Places.{drops_at};
-ghost use Rattle.sh_find.specs.Facts as fact;
-ghost use Rattle.sh_find.specs.Facts.{IsWithin, meet};
-ghost use Rattle.sh_certify.specs.Working.{AreBelow, AreFine, AreWithin, IsCounted, IsLowered, IsWorking, Sets, claims, dropped, joined, names_of, sets_of};
+ghost use Rattle.sh_certify.specs.Idle.{ClaimStays, DropsStay};
+ghost use Rattle.sh_certify.specs.Working.{AreBelow, AreFine, AreWithin, IsCounted, IsLowered, IsWorking, sets_of};
 ghost use Rattle.sh_certify.specs.Writable.{IsWritten, sets_in};
 
 use crate::kept::{drops_of, facts_at, put, put_drops};
@@ -45,8 +44,7 @@ pub fn lower(
         → IsLowered certificate.old certificate.new place (sight_facts known) changed) }
     ensures working { IfOk result (λ changed. (loops : List Bool) (functions : ℕ) → IsWorking names.now loops functions certificate.old
         → IsWorking names.now loops functions certificate.new) }
-    ensures idle { IfOk result (λ changed. changed ≡ false → (f : fact.Facts) → claims certificate.old place ≡ Some f → ¬ (IsWithin f (sight_facts known))
-        → ¬ (AreWithin (names_of (meet f (sight_facts known))) (sets_in writable.now.vars writable.now.functions))) }
+    ensures idle { IfOk result (λ changed. changed ≡ false → ClaimStays certificate.old place (sight_facts known) (sets_in writable.now.vars writable.now.functions)) }
     ensures probed { IfOk result (λ changed. probe.new.count ≡ length names.now) }
 {
     let Some(facts) = facts_at(certificate, place) else {
@@ -129,8 +127,7 @@ pub fn count(
         → IsCounted certificate.old certificate.new index (sets_in vars functions) changed) }
     ensures working { IfOk result (λ changed. (loops : List Bool) (defined : ℕ) → IsWorking names.now loops defined certificate.old
         → IsWorking names.now loops defined certificate.new) }
-    ensures idle { IfOk result (λ changed. changed ≡ false → (s : Sets) → dropped certificate.old index ≡ Some s → ¬ (AreWithin (sets_in vars functions) s)
-        → ¬ (AreWithin (joined (sets_in vars functions) s) (sets_in writable.now.vars writable.now.functions))) }
+    ensures idle { IfOk result (λ changed. changed ≡ false → DropsStay certificate.old index (sets_in vars functions) (sets_in writable.now.vars writable.now.functions)) }
     ensures probed { IfOk result (λ changed. probe.new.count ≡ length names.now) }
 {
     let Some(drops) = drops_of(certificate, index) else {

@@ -1,7 +1,8 @@
 //! A script of which a certificate is sought.
 ghost use Rattle.std.specs.Prelude.{◌≡◌};
+ghost use Rattle.sh_tree.specs.declared.limits.TheConstants.{MAX_NAMES};
 ghost use Rattle.sh_table.specs.Calls.{table_of};
-ghost use Rattle.sh_certify.specs.Writable.{IsWritten, sets_in};
+ghost use Rattle.sh_certify.specs.Writable.{HasWritable, IsWritten, sets_in};
 
 use crate::writable::Writable;
 use sh_facts::names::Names;
@@ -21,4 +22,5 @@ pub struct Subject<'a> {
     pub writable: &'a Writable,
     ghost listed: { table.now ≡ table_of script.now tree.now },
     ghost written: { IsWritten names.now (sets_in writable.now.vars writable.now.functions) },
+    ghost all_writable: { HasWritable names.now MAX_NAMES (sets_in writable.now.vars writable.now.functions) },
 }

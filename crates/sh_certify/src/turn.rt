@@ -10,6 +10,7 @@ ghost use Rattle.sh_facts.specs.Sheets.{Sheet};
 ghost use Rattle.sh_find.specs.Kept.{seen_of, IsNamed};
 ghost use Rattle.sh_accept.specs.Accepted.{IsAdmitted, claims_in, functions_in};
 ghost use Rattle.sh_certify.specs.declared.place.Place as place;
+ghost use Rattle.sh_certify.specs.Idle.{ClaimStays, IsIdle};
 ghost use Rattle.sh_certify.specs.Places.{claim_there};
 ghost use Rattle.sh_certify.specs.Next.{IsBroken, IsOfScript};
 ghost use Rattle.sh_certify.specs.Turns.{AreNumbers, IsSunk, IsTurn, Stands, gathered_of, sheet_by};
@@ -65,6 +66,7 @@ fn lower_known(
         → IsLowered certificate.old certificate.new place (seen_of known) changed) }
     ensures working { IfOk result (λ changed. (loops : List Bool) (functions : ℕ) → IsWorking names.now loops functions certificate.old
         → IsWorking names.now loops functions certificate.new) }
+    ensures idle { IfOk result (λ changed. changed ≡ false → ClaimStays certificate.old place (seen_of known) (sets_in writable.now.vars writable.now.functions)) }
     ensures probed { IfOk result (λ changed. probe.new.count ≡ length names.now) }
 {
     match known {
@@ -92,6 +94,7 @@ pub fn lower_gathered(
     requires numbers { AreNumbers (length names.now) (gathered_of gather.now) }
     ensures sunk { IfOk result (λ changed. (loops : List Bool) (functions : ℕ) → IsWorking names.now loops functions certificate.old
         → IsSunk names.now loops functions certificate.old certificate.new (gathered_of gather.now) changed) }
+    ensures idle { IfOk result (λ changed. changed ≡ false → IsIdle certificate.old (sets_in writable.now.vars writable.now.functions) (gathered_of gather.now)) }
     ensures probed { IfOk result (λ changed. probe.new.count ≡ length names.now) }
 {
     let target = gather.target;

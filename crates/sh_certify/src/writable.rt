@@ -6,7 +6,7 @@ ghost use Rattle.sh_tree.specs.program.Syntax.{Text};
 ghost use Rattle.sh_facts.specs.Forms as form;
 ghost use Rattle.sh_find.specs.Kept.{numbers_of};
 ghost use Rattle.sh_certify.specs.Working.{AreWithin};
-ghost use Rattle.sh_certify.specs.Writable.{IsWritten, sets_in};
+ghost use Rattle.sh_certify.specs.Writable.{HasWritable, IsWritten, sets_in};
 
 use sh_facts::names::Names;
 use sh_find::number_set::NumberSet;
@@ -39,7 +39,8 @@ fn add_if(set: &mut NumberSet, is_one: bool, number: u32)
 impl Writable {
     /// Of the names of a script.
     pub fn of(names: &Names) -> Writable
-        ensures { IsWritten names.now (sets_in result.vars result.functions) }
+        ensures written { IsWritten names.now (sets_in result.vars result.functions) }
+        ensures all { HasWritable names.now MAX_NAMES (sets_in result.vars result.functions) }
     {
         let mut vars = NumberSet::new();
         let mut functions = NumberSet::new();

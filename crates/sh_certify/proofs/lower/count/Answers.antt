@@ -32,18 +32,24 @@ returns-clause-working c = λ loops defined working.
     (c.has.ensures.written c.if-not-has.false c.args.names.now c.requires.written))
 
 pub returns-in_default-clause-idle : goal.returns-in_default-clause-idle
-returns-in_default-clause-idle c = λ e s at_i. λ out. λ w.
-    let none : c.drops_of.result ≡ None = search rules in
-    nothing_dropped c.args.certificate.now c.args.index c.drops_of.result c.drops_of.ensures none s at_i
+returns-in_default-clause-idle c = λ e. record {
+  within = λ s at_i w.
+      let none : c.drops_of.result ≡ None = search rules in
+      absurd (nothing_dropped c.args.certificate.now c.args.index c.drops_of.result c.drops_of.ensures none s at_i);
+}
 
 pub returns-then-are_in_rows-clause-idle : goal.returns-then-are_in_rows-clause-idle
-returns-then-are_in_rows-clause-idle c = λ e s at_i. λ out. λ w.
-    let same = dropped_is c.args.certificate.now c.args.index c.in-Some.drops (sym c.drops_of.ensures ∙ c.in-Some.is) s at_i in
-    out (subst (AreWithin (sets_in c.args.vars c.args.functions)) same (c.are_in_rows.ensures.there c.if-are_in_rows.true))
+returns-then-are_in_rows-clause-idle c = λ e. record {
+  within = λ s at_i w.
+      let same = dropped_is c.args.certificate.now c.args.index c.in-Some.drops (sym c.drops_of.ensures ∙ c.in-Some.is) s at_i in
+      subst (AreWithin (sets_in c.args.vars c.args.functions)) same (c.are_in_rows.ensures.there c.if-are_in_rows.true);
+}
 
 pub returns-then-not-has-clause-idle : goal.returns-then-not-has-clause-idle
-returns-then-not-has-clause-idle c = λ e s at_i. λ out. λ w.
-    let same = dropped_is c.args.certificate.now c.args.index c.in-Some.drops (sym c.drops_of.ensures ∙ c.in-Some.is) s at_i in
-    let may : Sets = sets_in c.args.writable.now.vars c.args.writable.now.functions in
-    let all = subst (λ (z : Sets). AreWithin (joined (sets_in c.args.vars c.args.functions) z) may) (sym same) w in
-    true≢false (sym (c.has.ensures.all (union_within c.args.certificate.now.rows c.in-Some.drops (sets_in c.args.vars c.args.functions) (sets_in c.join_row.new.self c.join_row-2.new.self) may c.join_row.ensures c.join_row-2.ensures all)) ∙ c.if-not-has.true)
+returns-then-not-has-clause-idle c = λ e. record {
+  within = λ s at_i w.
+      let same = dropped_is c.args.certificate.now c.args.index c.in-Some.drops (sym c.drops_of.ensures ∙ c.in-Some.is) s at_i in
+      let may : Sets = sets_in c.args.writable.now.vars c.args.writable.now.functions in
+      let all = subst (λ (z : Sets). AreWithin (joined (sets_in c.args.vars c.args.functions) z) may) (sym same) w in
+      absurd (true≢false (sym (c.has.ensures.all (union_within c.args.certificate.now.rows c.in-Some.drops (sets_in c.args.vars c.args.functions) (sets_in c.join_row.new.self c.join_row-2.new.self) may c.join_row.ensures c.join_row-2.ensures all)) ∙ c.if-not-has.true));
+}

@@ -26,17 +26,23 @@ returns-clause-working c = λ loops functions working.
     (sight_passes c.args.names.now c.keep.new.rows c.in_ok-kept.kept c.meet_facts.new.sight c.in_ok-kept.ensures.facts (c.has.ensures.written c.if-not-has.false c.args.names.now c.requires.written))
 
 pub returns-in_default-clause-idle : goal.returns-in_default-clause-idle
-returns-in_default-clause-idle c = λ e f at_p. λ out. λ w.
-    let none : c.facts_at.result ≡ None = search rules in
-    nothing_claimed c.args.certificate.now c.args.place c.facts_at.result c.facts_at.ensures none f at_p
+returns-in_default-clause-idle c = λ e. record {
+  within = λ f at_p w.
+      let none : c.facts_at.result ≡ None = search rules in
+      absurd (nothing_claimed c.args.certificate.now c.args.place c.facts_at.result c.facts_at.ensures none f at_p);
+}
 
 pub returns-then-is_within-clause-idle : goal.returns-then-is_within-clause-idle
-returns-then-is_within-clause-idle c = λ e f at_p. λ out. λ w.
-    let same = claimed_is c.args.certificate.now c.args.place c.in-Some.facts (sym c.facts_at.ensures ∙ c.in-Some.is) f at_p in
-    out (subst (λ (g : Facts). IsWithin g (sight_facts c.args.known)) same (c.is_within.ensures.0 c.if-is_within.true))
+returns-then-is_within-clause-idle c = λ e. record {
+  within = λ f at_p w.
+      let same = claimed_is c.args.certificate.now c.args.place c.in-Some.facts (sym c.facts_at.ensures ∙ c.in-Some.is) f at_p in
+      subst (λ (g : Facts). IsWithin g (sight_facts c.args.known)) same (c.is_within.ensures.0 c.if-is_within.true);
+}
 
 pub returns-then-not-has-clause-idle : goal.returns-then-not-has-clause-idle
-returns-then-not-has-clause-idle c = λ e f at_p. λ out. λ w.
-    let same = claimed_is c.args.certificate.now c.args.place c.in-Some.facts (sym c.facts_at.ensures ∙ c.in-Some.is) f at_p in
-    let met = c.meet_facts.ensures ∙ ap (λ (g : Facts). meet g (sight_facts c.args.known)) same in
-    true≢false (sym (c.has.ensures.all (names_within c.meet_facts.new.sight (meet f (sight_facts c.args.known)) (sets_in c.args.writable.now.vars c.args.writable.now.functions) met w)) ∙ c.if-not-has.true)
+returns-then-not-has-clause-idle c = λ e. record {
+  within = λ f at_p w.
+      let same = claimed_is c.args.certificate.now c.args.place c.in-Some.facts (sym c.facts_at.ensures ∙ c.in-Some.is) f at_p in
+      let met = c.meet_facts.ensures ∙ ap (λ (g : Facts). meet g (sight_facts c.args.known)) same in
+      absurd (true≢false (sym (c.has.ensures.all (names_within c.meet_facts.new.sight (meet f (sight_facts c.args.known)) (sets_in c.args.writable.now.vars c.args.writable.now.functions) met w)) ∙ c.if-not-has.true));
+}

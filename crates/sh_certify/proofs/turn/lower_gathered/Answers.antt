@@ -1,4 +1,7 @@
+use Rattle.std.proofs.Common.{sym, ◌∙◌, true≢false}
 use Rattle.sh_certify.specs.Turns.{gathered_of}
+use Rattle.sh_certify.specs.Writable.{sets_in}
+use Rattle.sh_certify.proofs.LowerLemmas.{idle_both}
 use Rattle.sh_certify.proofs.TurnLemmas.{sunk_both, sunk_then, sunk_else}
 use Rattle.sh_certify.proofs.turn.lower_gathered.Goals as goal
 
@@ -28,3 +31,13 @@ returns-else-lowered-clause-sunk c = λ loops m working.
     sunk_else c.args.names.now loops m c.args.certificate.now c.count.new.certificate (gathered_of c.args.gather.now) c.in_ok-lowered.lowered c.in_ok-counted.counted c.if-lowered.false
     (sunk_both c.args.names.now loops m c.args.certificate.now c.lower_known.new.certificate c.count.new.certificate (gathered_of c.args.gather.now) c.in_ok-lowered.lowered c.in_ok-counted.counted working between
     (c.in_ok-counted.ensures.working loops m between) (c.in_ok-lowered.ensures.lowered loops m working) (c.in_ok-counted.ensures.counted loops m between) c.requires.numbers)
+
+pub returns-then-lowered-clause-idle : goal.returns-then-lowered-clause-idle
+returns-then-lowered-clause-idle c = λ e. absurd (true≢false (sym c.if-lowered.true ∙ e))
+
+pub returns-else-lowered-clause-idle : goal.returns-else-lowered-clause-idle
+unfolding gathered_of
+returns-else-lowered-clause-idle c = λ e.
+    let r = c.requires.working in
+    idle_both c.args.certificate.now c.lower_known.new.certificate (sets_in c.args.writable.now.vars c.args.writable.now.functions) (gathered_of c.args.gather.now)
+    ((c.in_ok-lowered.ensures.lowered r.0 r.1 r.2).stays c.if-lowered.false) (c.in_ok-lowered.ensures.idle c.if-lowered.false) (c.in_ok-counted.ensures.idle e)
