@@ -1,8 +1,10 @@
 //! Turns of the search: a walk over the script, and what is lowered by it.
 ghost use Rattle.std.specs.Prelude.{◌≡◌, ◌≤◌, ◌⊎◌, ℕ, List, Bool, true, false, [], length, flat_map, Option, IfOk};
+ghost use Rattle.std.specs.List.{list_all};
 ghost use Rattle.sh_tree.specs.declared.limits.TheConstants.{MAX_NAMES};
 ghost use Rattle.sh_tree.specs.program.Trees.{script_of};
 ghost use Rattle.sh_facts.specs.Faults.{broken};
+ghost use Rattle.sh_facts.specs.Forms.{is_variable};
 ghost use Rattle.sh_facts.specs.Order.{IsBelow};
 ghost use Rattle.sh_facts.specs.Reading.{claim_fits};
 ghost use Rattle.sh_facts.specs.Rules.{script_bounds};
@@ -42,6 +44,8 @@ fn asked(subject: &Subject<'_>, certificate: &Certificate, target: Target) -> Ga
         → Stands subject.now.names.now d (gathered_of result) }
     ensures next { result.kept ≡ false → IsOfScript subject.now certificate.now
         → IsBroken subject.now certificate.now target ⊎ IsBroken subject.now certificate.now result.next }
+    ensures idle { list_all is_variable subject.now.names.now ≡ true → IsOfScript subject.now certificate.now
+        → IsIdle certificate.now (sets_in subject.now.writable.now.vars subject.now.writable.now.functions) (gathered_of result) → IsBroken subject.now certificate.now target → ⊥ }
 {
     let gather = Gather::new(target);
     ask(subject, certificate, gather)
@@ -118,7 +122,7 @@ pub fn lower_gathered(
     Ok(lowered || counted)
 }
 
-// Lowers a certificate at a place and a function, and says of which others more was asked.
+// Lowers a certificate at a place and a function where it breaks a flow rule, and says of which others more was asked.
 fn lower_next(
     subject: &Subject<'_>,
     certificate: &mut Certificate,
@@ -126,7 +130,9 @@ fn lower_next(
     target: Target,
 ) -> Result<Target, AllocError>
     requires admitted { IsAdmitted subject.now.script.now subject.now.policy.now subject.now.tree.now subject.now.names.now }
+    requires variables { list_all is_variable subject.now.names.now ≡ true }
     requires working { IsOfScript subject.now certificate.old }
+    requires breaks { IsBroken subject.now certificate.old target }
     requires probed { probe.old.count ≡ length subject.now.names.now }
     ensures turn { IfOk result (λ next. (loops : List Bool) (functions : ℕ) → IsWorking subject.now.names.now loops functions certificate.old
         → IsTurn subject.now.names.now loops functions subject.now.policy.now (functions_in subject.now.script.now subject.now.tree.now)
@@ -134,10 +140,8 @@ fn lower_next(
     ensures probed { IfOk result (λ next. probe.new.count ≡ length subject.now.names.now) }
 {
     let gather = asked(subject, certificate, target);
-    if lower_gathered(subject.names, subject.writable, certificate, probe, &gather)? {
-        return Ok(gather.next);
-    }
-    Err(AllocError)
+    lower_gathered(subject.names, subject.writable, certificate, probe, &gather)?;
+    Ok(gather.next)
 }
 
 /// Lowers a certificate where it does not keep all flow rules, and says whether it keeps them. The next turn begins at a place and a function of which more
@@ -145,8 +149,7 @@ fn lower_next(
 ///
 /// # Errors
 ///
-/// Where a growth was refused or no place for a row is left; and where nothing is lowered twice though not all is kept. A flow rule is broken at one of the
-/// two places and functions (`asked`, clause `next`).
+/// Where a growth was refused or no place for a row is left.
 pub fn turn(
     subject: &Subject<'_>,
     certificate: &mut Certificate,
@@ -154,6 +157,7 @@ pub fn turn(
     target: &mut Target,
 ) -> Result<bool, AllocError>
     requires admitted { IsAdmitted subject.now.script.now subject.now.policy.now subject.now.tree.now subject.now.names.now }
+    requires variables { list_all is_variable subject.now.names.now ≡ true }
     requires working { IsOfScript subject.now certificate.old }
     requires probed { probe.old.count ≡ length subject.now.names.now }
     ensures turn { IfOk result (λ kept. (loops : List Bool) (functions : ℕ) → IsWorking subject.now.names.now loops functions certificate.old

@@ -1,4 +1,3 @@
-use Rattle.std.proofs.Common.{sym, ◌∙◌, true≢false}
 use Rattle.sh_tree.specs.program.Trees.{script_of}
 use Rattle.sh_facts.specs.Rules.{script_bounds}
 use Rattle.sh_accept.specs.Accepted.{functions_in}
@@ -10,8 +9,10 @@ use Rattle.sh_certify.proofs.turn.lower_next.Goals as goal
 pub asked-gather-requires-clause-sized : goal.asked-gather-requires-clause-sized
 asked-gather-requires-clause-sized c = c.requires.working.working.count
 
-pub returns-then-branch-clause-turn : goal.returns-then-branch-clause-turn
-returns-then-branch-clause-turn c = λ loops m working.
+pub returns-clause-turn : goal.returns-clause-turn
+returns-clause-turn c = λ loops m working.
     let s = c.args.subject.now in
-    sunk_turn s.names.now loops m s.policy.now (functions_in s.script.now s.tree.now) (script_bounds (script_of s.script.now s.tree.now)) (numbered s.script.now s.policy.now s.tree.now s.names.now c.requires.admitted)
-    c.args.certificate.now c.lower_gathered.new.certificate (gathered_of c.asked-gather.result) c.asked-gather.ensures.stands _ (λ e. true≢false (sym c.if-branch.true ∙ e)) (c.in_ok-lower_gathered.ensures.sunk loops m working)
+    let q = c.requires in
+    sunk_turn s.names.now loops m s.policy.now (functions_in s.script.now s.tree.now) (script_bounds (script_of s.script.now s.tree.now)) (numbered s.script.now s.policy.now s.tree.now s.names.now q.admitted)
+    c.args.certificate.now c.lower_gathered.new.certificate (gathered_of c.asked-gather.result) c.asked-gather.ensures.stands _ (λ e. c.asked-gather.ensures.idle q.variables q.working (c.in_ok-lower_gathered.ensures.idle e) q.breaks)
+    (c.in_ok-lower_gathered.ensures.sunk loops m working)

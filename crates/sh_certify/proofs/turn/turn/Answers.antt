@@ -1,9 +1,9 @@
-use Rattle.std.proofs.Common.{◌≡◌, false, sym, subst, true≢false, ◌∙◌}
+use Rattle.std.proofs.Common.{◌≡◌, false, inl, inr, sym, subst, true≢false, ◌∙◌}
 use Rattle.sh_tree.specs.program.Trees.{script_of}
 use Rattle.sh_facts.specs.declared.certificate.Certificate.{Certificate}
 use Rattle.sh_facts.specs.Rules.{script_bounds}
 use Rattle.sh_accept.specs.Accepted.{functions_in}
-use Rattle.sh_certify.specs.Next.{IsOfScript}
+use Rattle.sh_certify.specs.Next.{IsBroken, IsOfScript}
 use Rattle.sh_certify.specs.Turns.{IsTurn, gathered_of}
 use Rattle.sh_certify.specs.Working.{IsWorking}
 use Rattle.sh_certify.proofs.GreatestLemmas.{numbered}
@@ -31,3 +31,13 @@ returns-clause-turn c = λ loops m working.
     let same : c.lower_gathered.new.certificate ≡ c.args.certificate.now = (c.in_ok-lower_gathered.ensures.sunk loops m working).stays c.if-branch.false in
     subst (λ (x : Certificate). IsTurn s.names.now loops m s.policy.now (functions_in s.script.now s.tree.now) (script_bounds (script_of s.script.now s.tree.now)) x c.lower_next.new.certificate false) same
     (c.in_ok-target.ensures.turn loops m (subst (λ (x : Certificate). IsWorking s.names.now loops m x) (sym same) working))
+
+pub lower_next-requires-clause-breaks : goal.lower_next-requires-clause-breaks
+lower_next-requires-clause-breaks c =
+    let s = c.args.subject.now in
+    let r = c.requires.working in
+    let same : c.lower_gathered.new.certificate ≡ c.args.certificate.now = (c.in_ok-lower_gathered.ensures.sunk r.loops _ r.working).stays c.if-branch.false in
+    elim (c.asked-gather.ensures.next c.if-gather.false r) [
+      | inl b ↦ absurd (c.asked-gather.ensures.idle c.requires.variables r (c.in_ok-lower_gathered.ensures.idle c.if-branch.false) b)
+      | inr b ↦ subst (λ (x : Certificate). IsBroken s x c.asked-gather.result.next) (sym same) b
+    ]
