@@ -1,9 +1,9 @@
 -- Where nothing is lowered at a place and a function, each constraint is kept that asks something there.
-use Rattle.std.proofs.Common.{◌≡◌, ℕ, ◌+◌, ◌<◌, ◌≤◌, ◌==◌, eqb, Bool, true, false, ◌&&◌, ◌||◌, if◌then◌else◌, Option, Some, None, option_map, List, [], ◌∷◌, length, get_or, slice_get, unwrap_or, is_some, refl, sym, ap, ◌∙◌, subst, arith, inl, inr, true≢false}
+use Rattle.std.proofs.Common.{◌≡◌, ℕ, ◌≤◌, eqb, Bool, true, false, if◌then◌else◌, Option, Some, None, option_map, List, [], ◌∷◌, length, slice_get, unwrap_or, is_some, refl, sym, ap, ◌∙◌, subst, arith, inl, inr, true≢false}
 use Rattle.std.specs.List.{list_all}
 use Rattle.std.specs.Prelude.{filter, not}
-use Rattle.std.proofs.lemmas.Bool.{cases_Bool, and_parts, or_cases, or_left, or_right, eqb-true}
-use Rattle.std.proofs.lemmas.Option.{slice_get-get_or, slice_get_within}
+use Rattle.std.proofs.lemmas.Bool.{and_parts, or_cases, or_left, or_right, eqb-true}
+use Rattle.std.proofs.lemmas.Option.{slice_get-get_or}
 use Rattle.sh_tree.specs.declared.limits.TheConstants.{MAX_NAMES}
 use Rattle.sh_tree.specs.language.Bytes.{is_name}
 use Rattle.sh_tree.specs.declared.tree.Script.{Script}
@@ -23,11 +23,11 @@ use Rattle.sh_facts.specs.KeptRows.{KeptRows}
 use Rattle.sh_facts.specs.Knowledge.{AreNumbered, among, at_number}
 use Rattle.sh_facts.specs.Names.{number_of}
 use Rattle.sh_facts.specs.Operands.{Names}
-use Rattle.sh_facts.specs.Order.{IsWithin, AreAmong}
+use Rattle.sh_facts.specs.Order.{IsWithin}
 use Rattle.sh_facts.specs.RoundTrips.{FactsPass, SetsPass}
 use Rattle.sh_facts.specs.Reading.{AreLoops}
 use Rattle.sh_facts.specs.Rules.{Constraint, Within, Counted, script_bounds}
-use Rattle.sh_facts.specs.Sheets.{Sheet, certificate_of, claim_at, function_at}
+use Rattle.sh_facts.specs.Sheets.{certificate_of, claim_at}
 use Rattle.sh_facts.specs.Views.{Certificate, Slot, Before, Loss, OfNames, OfFunction, OfUnseen, view_facts, lost, where_reached}
 use Rattle.sh_facts.proofs.KnowledgeLemmas.{has_number, stands_there}
 use Rattle.sh_facts.proofs.OrderLemmas.{within_through, within_nowhere, within_test, among_test, among_all, known_within}
@@ -47,7 +47,7 @@ use Rattle.sh_certify.specs.Numbers.{name_passes, by_number, by_name, named, is_
 use Rattle.sh_certify.specs.Places.{same, place_of, kept_at, drops_at, claim_there, drops_there}
 use Rattle.sh_certify.specs.There.{HasPlace, HasDrops, AsksThere}
 use Rattle.sh_certify.specs.Turns.{AreNumbers, IsNew, gathered_of, sheet_by}
-use Rattle.sh_certify.specs.Working.{Sets, sets_of, names_of, joined, claims, dropped, AreWithin, AreBelow, IsFine, AreFine, IsWorking}
+use Rattle.sh_certify.specs.Working.{Sets, sets_of, names_of, joined, claims, dropped, AreWithin, AreBelow, IsFine, IsWorking}
 use Rattle.sh_certify.specs.Writable.{IsWritten, HasWritable}
 use Rattle.sh_certify.proofs.FunctionLemmas.{rules_know_names}
 use Rattle.sh_certify.proofs.GatherLemmas.{among_less, place_stays, function_stays, numbered_only}

@@ -1,23 +1,21 @@
 -- The names that a rule asks a function to drop are numbered: those of `unset`, of prefix assignments, and OPTARG.
-use Rattle.std.proofs.Common.{◌≡◌, ◌==◌, ℕ, Bool, true, false, not, ◌&&◌, ◌||◌, if◌then◌else◌, cond, Option, Some, None, List, [], ◌∷◌, ◌++◌, fold, flat_map, map, refl, sym, ap, ◌∙◌, subst, inl, inr, true≢false}
+use Rattle.std.proofs.Common.{◌≡◌, ◌==◌, ℕ, Bool, true, false, not, ◌&&◌, ◌||◌, if◌then◌else◌, cond, Option, Some, None, List, [], ◌∷◌, ◌++◌, fold, flat_map, map, refl, sym, ap, ◌∙◌, true≢false}
 use Rattle.std.specs.Prelude.{codes, drop, filter}
-use Rattle.std.specs.List.{list_all, cons_option, filter_map}
+use Rattle.std.specs.List.{list_all, cons_option}
 use Rattle.std.specs.Str.{bytes_eq}
-use Rattle.std.proofs.lemmas.Bool.{cases_Bool, and_from, and_parts, or_cases, or_left, or_right}
+use Rattle.std.proofs.lemmas.Bool.{and_from, and_parts, or_left}
 use Rattle.std.proofs.lemmas.List.{append_assoc}
 use Rattle.std.proofs.lemmas.List.Folds.{list_all-append, list_any-append}
 use Rattle.std.proofs.lemmas.List.Sums.{fold-append}
 use Rattle.std.proofs.lemmas.Slice.Eq.{bytes_eq-Decides}
 use Rattle.sh_tree.specs.declared.known.KnownName.TheVariants as known
 use Rattle.sh_tree.specs.declared.tree.Command.{Command, out-Command}
-use Rattle.sh_tree.specs.declared.tree.Element.{Element}
 use Rattle.sh_tree.specs.declared.tree.Kind as tree
 use Rattle.sh_tree.specs.declared.tree.Kind.{Simple', items-the_row-Element}
-use Rattle.sh_tree.specs.declared.tree.Redirect.{Redirect}
 use Rattle.sh_tree.specs.declared.tree.Script.{Script}
 use Rattle.sh_tree.specs.declared.tree.Word as tree_word
 use Rattle.sh_tree.specs.language.Bytes.{is_name}
-use Rattle.sh_tree.specs.program.Lists.{elements_from, parts_from, redirects_from, words_from}
+use Rattle.sh_tree.specs.program.Lists.{parts_from, redirects_from, words_from}
 use Rattle.sh_tree.specs.program.Syntax as p
 use Rattle.sh_tree.specs.program.Syntax.{Text, Word}
 use Rattle.sh_tree.specs.program.Trees as trees
@@ -43,10 +41,10 @@ use Rattle.sh_facts.specs.Operands.{Names, removed, statics, total, unset_names}
 use Rattle.sh_facts.specs.Rules as r
 use Rattle.sh_facts.specs.Rules.{Constraint, Within, Counted, bound, bounds, builtin_losses, leaves, losses, losses_by, script_bounds, utility_losses}
 use Rattle.sh_facts.specs.Sights as sights
-use Rattle.sh_facts.specs.Sights.{Sight, behind_options, if_name, in_command, in_element, in_kind, in_redirect, named_sights, operand_sights, placed, static_sight, static_sights, that_are_names, unset_sights}
+use Rattle.sh_facts.specs.Sights.{Sight, behind_options, in_command, in_element, in_kind, in_redirect, named_sights, operand_sights, placed, static_sights, that_are_names, unset_sights}
 use Rattle.sh_facts.specs.Table.{Manner, Nameless, Utility, behind_words, is_redirected, is_special, manner, manner_of_name, manner_of_words, operands, prefixes}
 use Rattle.sh_facts.specs.Table as table
-use Rattle.sh_facts.specs.Views.{Slot, Before, AfterZero, AfterNonzero, Head, Entry, ReturnsZero, ReturnsNonzero, Seen, After, Both, Loss, OfNames, OfFunction, OfUnseen, View, at, gaining, gaining_names, if_nonzero, if_zero, in_any_case, stepped, Call, Count, Define}
+use Rattle.sh_facts.specs.Views.{Slot, Before, AfterZero, AfterNonzero, Head, Entry, ReturnsZero, ReturnsNonzero, Seen, After, Both, Loss, OfNames, OfFunction, OfUnseen, at, gaining, gaining_names, if_nonzero, if_zero, in_any_case, stepped, Call, Count, Define}
 use Rattle.sh_facts.proofs.EnteredWalk.{script_walked}
 use Rattle.sh_check.proofs.ReachLemmas.{seen_reach}
 use Rattle.sh_check.proofs.StandLemmas.{all_stand}

@@ -101,9 +101,6 @@ written_more names old new n t v f at is_v is_f vars functions w = record {
 
 -- all names that may stand
 
-pub has_none : (names : List Text) (s : Sets) → HasWritable names 0 s
-has_none names s = record { vars = λ k t l is e. absurd (omega (arith, l)); functions = λ k t l is e. absurd (omega (arith, l)) }
-
 pub has_more : (names : List Text) (old new : Sets) (n : ℕ) (t : Text) (v f : Bool) → slice_get names n ≡ Some t → v ≡ is_variable t → f ≡ is_name t
     → ((k : ℕ) → new.vars k ≡ ((v && (k == n)) || old.vars k)) → ((k : ℕ) → new.functions k ≡ ((f && (k == n)) || old.functions k)) → HasWritable names n old → HasWritable names (n + 1) new
 has_more names old new n t v f at is_v is_f vars functions h = record {

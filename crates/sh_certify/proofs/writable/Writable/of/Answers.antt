@@ -1,7 +1,7 @@
 use Rattle.std.proofs.Common.{arith}
 use Rattle.sh_tree.specs.declared.limits.TheConstants.{MAX_NAMES}
 use Rattle.sh_certify.specs.Writable.{sets_in}
-use Rattle.sh_certify.proofs.LowerLemmas.{has_none, has_more, has_all, written_more}
+use Rattle.sh_certify.proofs.LowerLemmas.{has_more, has_all, written_more}
 use Rattle.sh_certify.proofs.writable.Writable.of.Goals as goal
 
 pub loop-number-preserved : goal.loop-number-preserved
