@@ -1,4 +1,3 @@
-pub mod CountedLemmas
 pub mod LoopsLemmas
 pub mod AroundLemmas
 pub mod KeptLemmas

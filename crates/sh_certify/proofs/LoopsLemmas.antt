@@ -25,11 +25,11 @@ use Rattle.sh_table.specs.Surroundings.{Located, outside, items_located}
 use Rattle.sh_facts.specs.Entries.{Entered, script_entered}
 use Rattle.sh_facts.specs.Reading.{AreLoops, is_loop, kind_loops}
 use Rattle.sh_facts.specs.Readings.{command_number}
-use Rattle.sh_facts.proofs.NumberCounts.{held}
+use Rattle.sh_facts.proofs.CountedLemmas.{tree_given, as_many}
+use Rattle.sh_facts.proofs.NumberCounts.{next_given, held}
 use Rattle.sh_facts.proofs.NumberLemmas.{read_given}
+use Rattle.sh_facts.proofs.StandLemmas.{all_stand}
 use Rattle.sh_check.proofs.LocatedLemmas.{script_listed}
-use Rattle.sh_check.proofs.StandLemmas.{all_stand}
-use Rattle.sh_certify.proofs.CountedLemmas.{all_weigh, as_many}
 
 -- Numbers in order
 
@@ -39,9 +39,6 @@ one_if t = cond t 1 0
 -- a number that is given among so many
 abbrev given : ℕ → ℕ → ℕ
 given k count = one_if (nat_le k count)
-
-given_next : (k i : ℕ) → one_if (i + 1 == k) + given k i ≡ given k (i + 1)
-given_next k i = grind (arith, nat_tests)
 
 other : (k n : ℕ) → k < n → one_if (n == k) ≡ 0
 other k n l = grind (arith, nat_tests, l)
@@ -96,7 +93,7 @@ module _ {X : Type 0} (f : X → ℕ) where
       rest : (k : ℕ) → times k xs + given k (a + 1) ≡ given k b
       rest k =
           let both = more_times k x xs in
-          let next = given_next k a in
+          let next = next_given k a in
           let one : one_if (f x == k) ≡ one_if (a + 1 == k) = ap (λ n. one_if (n == k)) first in
           let all = h k in
           omega arith
@@ -130,7 +127,7 @@ module _ (b : List ℕ) (t : Script) (count : ℕ) (read : ReadsTo b MAX_NESTING
 
   each_once : (cs : List (Bor Command)) → IsPermutation (commands_of t) (map (λ (c : Bor Command). c.now) cs) → (k : ℕ) → times number_of k cs + given k 0 ≡ given k count
   each_once cs same k =
-      let all = all_weigh (λ n. one_if (n == k)) (given k) (given_next k) b t MAX_NESTING count read in
+      let all = tree_given b t MAX_NESTING count read k in
       let order = sum_by-IsPermutation (λ c. one_if ((out-Command c).number == k)) (commands_of t) (map (λ (c : Bor Command). c.now) cs) same in
       let mapped = sum_mapped (λ c. one_if ((out-Command c).number == k)) (λ (c : Bor Command). c.now) cs in
       omega arith
@@ -162,7 +159,7 @@ module _ (b : List ℕ) (t : Script) (count : ℕ) (read : ReadsTo b MAX_NESTING
       own n m e = few n m (one_if (n == n)) e (itself n)
 
   pub numbers_there : list_all (λ (e : Entered). numbered count e.command) (script_entered (trees.script_of b t)) ≡ true
-  numbers_there = sym (script_listed (numbered count) (trees.script_of b t)) ∙ all_numbered (items_located outside (trees.script_of b t)) (read_given b t MAX_NESTING count read)
+  numbers_there = sym (script_listed (numbered count) (trees.script_of b t)) ∙ all_numbered (items_located outside (trees.script_of b t)) (λ k. let exact = read_given b t MAX_NESTING count read k in omega arith)
 
 -- Loops, where it is told of each command whether it is one
 

@@ -16,6 +16,5 @@ pub mod TextLemmas
 pub mod LossLemmas
 pub mod DropLemmas
 pub mod WholeLemmas
-pub mod StandLemmas
 pub mod SightLemmas
 pub mod ReachLemmas

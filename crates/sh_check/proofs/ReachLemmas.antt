@@ -27,7 +27,7 @@ use Rattle.sh_facts.proofs.EnteredWalk.{script_walked}
 use Rattle.sh_check.specs.Numbered.{NamesReach}
 use Rattle.sh_check.specs.Within.{command_within, redirects_within, kind_within}
 use Rattle.sh_check.proofs.SightLemmas.{command_seen}
-use Rattle.sh_check.proofs.StandLemmas.{all_stand}
+use Rattle.sh_facts.proofs.StandLemmas.{all_stand}
 
 -- What holds of each of a row holds of each in any other order
 

@@ -3,9 +3,9 @@ ghost use Rattle.std.specs.Prelude.{◌≡◌, IfOk, Ok, length};
 ghost use Rattle.sh_facts.specs.Facts.{Declared};
 ghost use Rattle.sh_report.specs.declared.verdict.Verdict.TheVariants as verdicts;
 ghost use Rattle.sh_accept.specs.Answers.{Checks, places};
+ghost use Rattle.sh_accept.specs.Theorem.{IsSafe};
 ghost use Rattle.sh_engine.specs.Judged.{Judges, TellsFault};
 ghost use Rattle.sh_engine.specs.Prepared.{IsPrepared, sheet_in};
-ghost use Rattle.sh_engine.specs.Promises.{Promises};
 
 use crate::prepared::{Prepared, certified, prepare};
 use crate::told::verdict_of;
@@ -125,8 +125,10 @@ fn check_prepared(
 #[tactic(auto, using(crate::proofs::RefusalLemmas::widened, crate::proofs::PromiseLemmas::checked))]
 pub fn check(alloc: Global, script: &[u8], policy: &Policy, text: &[u8]) -> Result<Verdict, Refusal>
     ensures answers { Checks script.now policy.now text.now result }
-    ensures headline { result ≡ Ok verdicts.Pass → Promises script.now policy.now }
+    ensures headline { result ≡ Ok verdicts.Pass → IsSafe script.now policy.now }
 {
+    // Its clause says that each is a name, which a pass rests on.
+    let _declared = policy.names();
     let prepared = prepare(alloc, script, policy)?;
     check_prepared(alloc, script, policy, &prepared, text)
 }

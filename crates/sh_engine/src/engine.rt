@@ -70,6 +70,8 @@ pub fn run<R: Feed, C: Feed, W: Outlet>(
     ensures read_failed { IsErrOf result Fault.Read → (FailedBetween (R.tally script.old) (R.tally script.new) × (cert.new ≡ cert.old)) ⊎ FailedBetween (C.tally cert.old) (C.tally cert.new) }
     ensures write_failed { IsErrOf result Fault.Write → RefusedBetween (W.tally out.old) (W.tally out.new) }
 {
+    // As in `check`.
+    let _declared = task.policy.names();
     let bytes = read_all(alloc, script, SCRIPT_READ)?;
     let text = read_certificate(alloc, task.action, cert)?;
     let Ok(answer) = answer_of(alloc, task, &bytes, &text) else {

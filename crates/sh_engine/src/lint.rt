@@ -2,8 +2,8 @@
 ghost use Rattle.std.specs.Prelude.{◌≡◌, Ok, IfOk};
 ghost use Rattle.sh_report.specs.declared.verdict.Verdict.TheVariants as verdicts;
 ghost use Rattle.sh_accept.specs.Answers.{Certifies, IsGreatest, Lints};
+ghost use Rattle.sh_accept.specs.Theorem.{IsSafe};
 ghost use Rattle.sh_engine.specs.Prepared.{IsPrepared, sheet_in};
-ghost use Rattle.sh_engine.specs.Promises.{Promises};
 
 use crate::check::places_of;
 use crate::prepared::{Prepared, prepare};
@@ -66,8 +66,10 @@ fn lint_prepared(
 #[tactic(auto, using(crate::proofs::LintLemmas::exhausted, crate::proofs::PromiseLemmas::linted))]
 pub fn lint(alloc: Global, script: &[u8], policy: &Policy) -> Result<Verdict, Refusal>
     ensures answers { Lints script.now policy.now result }
-    ensures headline { result ≡ Ok verdicts.Pass → Promises script.now policy.now }
+    ensures headline { result ≡ Ok verdicts.Pass → IsSafe script.now policy.now }
 {
+    // As in `check`.
+    let _declared = policy.names();
     let prepared = prepare(alloc, script, policy)?;
     let verdict = lint_prepared(alloc, script, policy, &prepared)?;
     Ok(verdict)

@@ -28,7 +28,12 @@ pub mod SignLemmas
 pub mod FieldLemmas
 pub mod ReadLemmas
 pub mod NumberCounts
+pub mod DelimiterLemmas
 pub mod NumberLemmas
+pub mod CountedLemmas
+pub mod StandLemmas
+pub mod NamedLemmas
+pub mod VariableLemmas
 pub mod DifferLemmas
 pub mod TotalLemmas
 pub mod SplitLemmas

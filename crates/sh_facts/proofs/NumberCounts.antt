@@ -1,6 +1,7 @@
 -- How many commands of a piece of a program have a number, by the pieces in it.
-use Rattle.std.proofs.Common.{◌≡◌, ℕ, zero, suc, ◌+◌, ◌<◌, ◌≤◌, ◌==◌, Bool, cond, List, [], ◌∷◌, ◌++◌, map, length, get_or, Option, refl, ap, ◌∙◌, arith, eq-eqb, true≢false, sym, true, false}
+use Rattle.std.proofs.Common.{◌≡◌, ℕ, zero, suc, ◌+◌, ◌<◌, ◌≤◌, ◌==◌, Bool, cond, nat_le, List, [], ◌∷◌, ◌++◌, map, length, get_or, Option, refl, ap, ◌∙◌, arith, eq-eqb, true≢false, sym, true, false}
 use Rattle.std.specs.List.{Contains}
+use Rattle.std.proofs.lemmas.Bool.Decides.{nat_tests}
 use Rattle.sh_tree.specs.declared.tree.Action.{Action}
 use Rattle.sh_tree.specs.declared.tree.Binary.{Binary}
 use Rattle.sh_tree.specs.declared.tree.ClauseEnd.{ClauseEnd}
@@ -20,6 +21,10 @@ use Rattle.sh_reads.specs.Spots.{EachOnce}
 unfoldable pub held : ℕ → List Located → ℕ
 held n [] = 0
 held n (l ∷ ls) = cond (command_number l == n) 1 0 + held n ls
+
+-- one more number is given
+pub next_given : (n count : ℕ) → cond (count + 1 == n) 1 0 + cond (nat_le n count) 1 0 ≡ cond (nat_le n (count + 1)) 1 0
+next_given n count = grind (arith, nat_tests)
 
 -- where no number is held twice, no two commands have one
 

@@ -1,4 +1,4 @@
--- No two commands of a script that is read have one number: a case for each production.
+-- Each number up to their count stands once among the commands of a script that is read: a case for each production.
 --
 -- Numbers do not rise along a program either, so they are counted as spots are (OnceLemmas); what passes them is the count of commands.
 use Rattle.std.proofs.Common.{◌≡◌, ℕ, zero, suc, ◌+◌, ◌-◌, ◌==◌, Bool, true, false, if◌then◌else◌, Option, List, [], ◌∷◌, ◌++◌, refl, ap, subst, ◌∙◌, ◌≤◌, length, arith, length-append, cond, nat_le}
@@ -44,10 +44,10 @@ use Rattle.sh_tree.proofs.ProgramRules.{parts_from-empty, parts_from-more, words
 use Rattle.sh_reads.proofs.ProgramTrees.{script_made, items_made, and_or_made, pipe_made, command_made, branches_made, clauses_made}
 use Rattle.std.proofs.lemmas.Bool.{true≢false}
 use Rattle.sh_tree.specs.language.Parts.{is_quoted_word}
-use Rattle.std.proofs.lemmas.Bool.Decides.{nat_tests}
 use Rattle.sh_table.specs.Surroundings.{Surroundings, outside, in_loop, in_function, in_part, in_item, items_located, list_located, links_located, pipeline_located, commands_located, command_located, kind_located, elements_located, redirect_located, redirects_located, branches_located, otherwise_located, for_words_located, words_located, clauses_located, word_located, part_located, expression_located, operands_located}
 use Rattle.sh_facts.specs.Readings.{ReadNumbersDiffer}
-use Rattle.sh_facts.proofs.NumberCounts.{numbers_from_held, held, held_command, held_no_parts, held_parts, held_plain, held_escaped, held_single, held_joined, held_tilde, held_double, held_expansion, held_arithmetic, held_substitution, held_value, held_length, held_use, held_remove, held_constant, held_name, held_expanded, held_parenthesis, held_signed, held_chain, held_choice, held_assigned, held_no_operands, held_operands, held_no_words, held_words, held_every, held_listed, held_file, held_here, held_no_redirects, held_redirects, held_no_elements, held_assignment, held_operand, held_redirection, held_simple, held_group, held_subshell, held_conditional, held_loop, held_for, held_case, held_define, held_no_branches, held_branches, held_no_else, held_else, held_no_clauses, held_clauses, held_no_commands, held_commands, held_pipeline, held_no_links, held_links, held_list, held_no_items, held_items}
+use Rattle.sh_facts.proofs.DelimiterLemmas.{delimiter_bare}
+use Rattle.sh_facts.proofs.NumberCounts.{next_given, numbers_from_held, held, held_command, held_no_parts, held_parts, held_plain, held_escaped, held_single, held_joined, held_tilde, held_double, held_expansion, held_arithmetic, held_substitution, held_value, held_length, held_use, held_remove, held_constant, held_name, held_expanded, held_parenthesis, held_signed, held_chain, held_choice, held_assigned, held_no_operands, held_operands, held_no_words, held_words, held_every, held_listed, held_file, held_here, held_no_redirects, held_redirects, held_no_elements, held_assignment, held_operand, held_redirection, held_simple, held_group, held_subshell, held_conditional, held_loop, held_for, held_case, held_define, held_no_branches, held_branches, held_no_else, held_else, held_no_clauses, held_clauses, held_no_commands, held_commands, held_pipeline, held_no_links, held_links, held_list, held_no_items, held_items}
 
 module _ (whole : List ℕ) (n : ℕ) where
   -- Here-documents
@@ -110,28 +110,28 @@ module _ (whole : List ℕ) (n : ℕ) where
       go true = omega arith
       go false = omega arith
 
-  given_next : (count : ℕ) → cond (count + 1 == n) 1 0 + given count ≤ given (count + 1)
+  given_next : (count : ℕ) → cond (count + 1 == n) 1 0 + given count ≡ given (count + 1)
   unfolding given
-  given_next count = grind (arith, nat_tests)
+  given_next count = next_given n count
 
   -- what is read where the count goes from i to j has the number h times; the bodies that come meanwhile ku - ks times, and those of the operators cu - cs times
   record Gives (i j h ks cs ku cu : ℕ) : Type 0 where
-    bound : h + ku + cs + given i ≤ ks + cu + given j
+    exact : h + ku + cs + given i ≡ ks + cu + given j
 
   gives_is : {i j h h' ks cs ku cu : ℕ} → h' ≡ h → Gives i j h ks cs ku cu → Gives i j h' ks cs ku cu
-  gives_is e s = record { bound = (let b = s.bound in omega arith) }
+  gives_is e s = record { exact = (let b = s.exact in omega arith) }
 
   gives_none : {i ks cs : ℕ} → Gives i i 0 ks cs ks cs
-  gives_none = record { bound = omega arith }
+  gives_none = record { exact = omega arith }
 
   gives_then : {i j l h h' ks cs kv cv ku cu : ℕ} → Gives i j h ks cs kv cv → Gives j l h' kv cv ku cu → Gives i l (h + h') ks cs ku cu
-  gives_then s t = record { bound = (let a = s.bound in let b = t.bound in omega arith) }
+  gives_then s t = record { exact = (let a = s.exact in let b = t.exact in omega arith) }
 
   gives_among : {i j h : ℕ} (k c : ℕ) → Gives i j h 0 0 0 0 → Gives i j h k c k c
-  gives_among k c s = record { bound = (let b = s.bound in omega arith) }
+  gives_among k c s = record { exact = (let b = s.exact in omega arith) }
 
   gives_own : {i j h ks cs ku cu : ℕ} → Gives (i + 1) j h ks cs ku cu → Gives i j (cond (i + 1 == n) 1 0 + h) ks cs ku cu
-  gives_own {i = i} s = record { bound = (let b = s.bound in let own = given_next i in omega arith) }
+  gives_own {i = i} s = record { exact = (let b = s.exact in let own = given_next i in omega arith) }
 
   abbrev Passes : Spot → Spot → ℕ → Type 0
   Passes s u h = Gives s.count u.count h 0 0 0 0
@@ -228,10 +228,11 @@ module _ (whole : List ℕ) (n : ℕ) where
         rw (target_of-File whole d w) (gives_is (held_file n _) (gives_among (in_bodies s.bodies) (of_operators body (document_count s)) (word_gives i)))
     redirect_gives {b = b} {body = body} (r.here_document {s = s} {u = u} {strip = strip} {w = w} h t k i d) =
         let inside = word_gives i in
-        let bound = inside.bound in
+        let exact = inside.exact in
+        let bare = delimiter_bare whole b w n d in
         let mark : Mark = record { strip = strip; quoted = is_quoted_word w; delimiter = delimiter_of b w; depth = s.spot.depth } in
         let more = operators_push body (document_count s) (length s.bodies + length (s.pending ++ mark ∷ [])) (omega (arith, length-append s.pending (mark ∷ []))) in
-        rw (target_of-Here whole (tree.here_doc strip w (body (document_count s)).text (body (document_count s)).end)) (gives_is (held_here n _) (record { bound = omega arith }))
+        rw (target_of-Here whole (tree.here_doc strip w (body (document_count s)).text (body (document_count s)).end)) (gives_is (held_here n _) (record { exact = omega arith }))
 
     redirects_give : {limit : ℕ} {b : List ℕ} {body : ℕ → Document} {s u : State} {ys : List Redirect} → ReadsRedirects limit b body s u ys
         → Goes body s u (held n (redirects_located (redirects_from whole ys)))
@@ -245,13 +246,13 @@ module _ (whole : List ℕ) (n : ℕ) where
     documents_give (r.more_bodies {s = s} {l = l} {ps = ps} h a k i e j) c =
         let d : Document = record { text = tree.word s.spot.at l.start ps; end = l } in
         let inside = parts_give i in
-        let bound = inside.bound in
+        let exact = inside.exact in
         let rest = documents_give j c in
-        let behind = rest.0.bound in
+        let behind = rest.0.exact in
         let push = bodies_push s.bodies d in
         let pushed = length-append s.bodies (d ∷ []) in
         let count = rest.1 in
-        (record { bound = omega arith }, omega arith, rest.2)
+        (record { exact = omega arith }, omega arith, rest.2)
 
     breaks_give : {limit : ℕ} {b : List ℕ} {s u : State} → (body : ℕ → Document) → ReadsBreaks limit b s u → Goes body s u 0
     breaks_give body (r.no_break h) = gives_none
@@ -260,10 +261,10 @@ module _ (whole : List ℕ) (n : ℕ) where
         let count = documents.1 in
         let none = ap length documents.2 in
         let same : of_operators body (document_count u) ≡ of_operators body (document_count s) = ap (of_operators body) (omega arith) in
-        let first = documents.0.bound in
+        let first = documents.0.exact in
         let rest = breaks_give body j in
-        let second = rest.bound in
-        record { bound = omega arith }
+        let second = rest.exact in
+        record { exact = omega arith }
 
     -- Commands
 
@@ -441,22 +442,22 @@ module _ (whole : List ℕ) (n : ℕ) where
         let same : of_operators (nth u.bodies) (document_count u) ≡ of_operators (nth u.bodies) (length u.bodies) = ap (of_operators (nth u.bodies)) (omega arith) in
         let first = no_operators (nth u.bodies) in
         let before = no_bodies in
-        let bound = inside.bound in
-        record { bound = omega arith }
+        let exact = inside.exact in
+        record { exact = omega arith }
 
--- where so many commands are read, a number is held once at most, and then it is one from 1 to that count
+-- where so many commands are read, each number from 1 to that count is held once, and no other
 pub read_given : (b : List ℕ) (t : Script) (limit count : ℕ) → ReadsTo b limit count t → (n : ℕ)
-    → held n (items_located outside (script_of b t)) + cond (nat_le n 0) 1 0 ≤ cond (nat_le n count) 1 0
+    → held n (items_located outside (script_of b t)) + cond (nat_le n 0) 1 0 ≡ cond (nat_le n count) 1 0
 unfolding given
 read_given b t limit count h n =
     let found = script_gives b n outside h.script in
-    let bound = found.bound in
-    subst (λ k. held n (items_located outside (script_of b t)) + cond (nat_le n 0) 1 0 ≤ cond (nat_le n k) 1 0) h.commands (omega arith)
+    let exact = found.exact in
+    subst (λ k. held n (items_located outside (script_of b t)) + cond (nat_le n 0) 1 0 ≡ cond (nat_le n k) 1 0) h.commands (omega arith)
 
 pub read_held : (b : List ℕ) (t : Script) → Reads b t → (n : ℕ) → held n (items_located outside (script_of b t)) ≤ 1
 read_held b t reads n =
     let found = script_gives b n outside reads.2.script in
-    let bound = found.bound in
+    let exact = found.exact in
     let most = given_most b n reads.2.end.count in
     omega arith
 

@@ -110,5 +110,5 @@ rows_length b t =
 
 pub read_has_few_commands : ReadHasFewCommands
 read_has_few_commands b t h =
-    let few = few_given h.0 (items_located outside (script_of b t)) (read_given b t MAX_NESTING h.0 h.1) in
+    let few = few_given h.0 (items_located outside (script_of b t)) (λ n. let exact = read_given b t MAX_NESTING h.0 h.1 n in omega arith) in
     subst (λ n. n ≤ MAX_COMMANDS) (sym (rows_length b t)) (le_trans few h.2)

@@ -1,8 +1,10 @@
--- What every script that is read has: its program is formed, its words give fields, its runs have rows, and each number of it stands once.
+-- What every script that is read has: its program is formed, its words give fields, its runs have rows, each number of it stands once, and its names are names.
 -- POSIX.1-2024, XCU 2.10 (shell grammar).
-use Rattle.std.specs.Prelude.{◌≡◌, ◌≤◌, ℕ, true, List, length, Some, None, map}
+use Rattle.std.specs.Prelude.{◌≡◌, ◌≤◌, ℕ, true, List, length, Some, None, Ok, map}
+use Rattle.std.specs.List.{list_all}
 use Rattle.sh_tree.specs.declared.limits.TheConstants.{MAX_COMMANDS}
 use Rattle.sh_tree.specs.declared.tree.Script.{Script}
+use Rattle.sh_tree.specs.language.Bytes.{is_name}
 use Rattle.sh_tree.specs.language.Reading.{Reads, ReadsWithin}
 use Rattle.sh_tree.specs.program.Syntax.{Text}
 use Rattle.sh_tree.specs.program.Trees.{script_of}
@@ -15,7 +17,10 @@ use Rattle.sh_table.specs.Sites.{site_of}
 use Rattle.sh_table.specs.Surroundings.{Located, outside, items_located}
 use Rattle.sh_table.specs.runs.Environment.{Environment, Frame}
 use Rattle.sh_table.specs.runs.Worlds.{Process, World, Move, run, start_world}
+use Rattle.sh_facts.specs.Facts.{Declared}
+use Rattle.sh_facts.specs.Forms.{is_variable}
 use Rattle.sh_facts.specs.Inclusions.{is_formed}
+use Rattle.sh_facts.specs.Names.{Numbers}
 
 -- whatever text is read as whatever tree
 abbrev pub ReadIsFormed : Type 0
@@ -47,3 +52,9 @@ ReadIsNumbered = (b : List ℕ) (t : Script) → Reads b t → is_numbered (scri
 -- Within the limits the call table has no more commands than a script may have.
 abbrev pub ReadHasFewCommands : Type 0
 ReadHasFewCommands = (b : List ℕ) (t : Script) → ReadsWithin b t → length (table_of b t).rows ≤ MAX_COMMANDS
+
+-- Where each declared name is a name, each that is numbered is one or `!`.
+abbrev pub ReadNamesVariables : Type 0
+ReadNamesVariables =
+    (b : List ℕ) (t : Script) (d : Declared) (names : List Text) → Reads b t → list_all is_name d.names ≡ true → Numbers b t d (Ok names)
+    → list_all is_variable names ≡ true

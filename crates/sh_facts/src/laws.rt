@@ -10,7 +10,7 @@ ghost use Rattle.sh_facts.specs.Slots.{EveryCertificateClaims};
 ghost use Rattle.sh_facts.specs.RoundTrips.{ReadIsWritten, WrittenReadsBack};
 ghost use Rattle.sh_facts.specs.Spelling.{HasOneText};
 ghost use Rattle.sh_facts.specs.Places.{PlacesStandOnce, ReadPlacesStandOnce};
-ghost use Rattle.sh_facts.specs.Readings.{ReadGivesFields, ReadHasFewCommands, ReadHasRows, ReadIsFormed, ReadIsNumbered, ReadNumbersDiffer};
+ghost use Rattle.sh_facts.specs.Readings.{ReadGivesFields, ReadHasFewCommands, ReadHasRows, ReadIsFormed, ReadIsNumbered, ReadNamesVariables, ReadNumbersDiffer};
 ghost use Rattle.sh_facts.specs.SpotExamples.{SpotsAsExpected};
 ghost use Rattle.sh_facts.specs.TextExamples.{TextsAsExpected};
 
@@ -92,10 +92,12 @@ pub fn round_trips()
 {}
 
 /// The names that are numbered of a script are enough: each has a number of its own, those of the start have one, and what is known
-/// of them stays known of them alone where one of them is set or defined. Names that are lost together may be lost one by one.
+/// of them stays known of them alone where one of them is set or defined. Names that are lost together may be lost one by one. Of a script that is
+/// read each of them is a name or `!` where each declared one is a name, as those of a `Policy` are.
 pub fn names()
     ensures law { NamesSuffice }
     ensures losses { LostOneByOne }
+    ensures variables { ReadNamesVariables }
     ensures examples { KnowledgeAsExpected }
 {}
 

@@ -1,5 +1,6 @@
 //! What is set when a script starts.
-ghost use Rattle.std.specs.Prelude.{◌≡◌, not, map, position, IfOk};
+ghost use Rattle.std.specs.Prelude.{◌≡◌, true, not, map, position, IfOk};
+ghost use Rattle.std.specs.List.{list_all};
 ghost use Rattle.sh_tree.specs.language.Bytes as bytes;
 
 use sh_tree::name::is_name;
@@ -46,12 +47,16 @@ pub struct Policy {
 }
 
 impl Model for Policy {
-    ghost use Rattle.std.specs.Prelude.{map};
+    ghost use Rattle.std.specs.Prelude.{◌≡◌, true, map};
+    ghost use Rattle.std.specs.List.{list_all};
+    ghost use Rattle.sh_tree.specs.language.Bytes as bytes;
     ghost use Rattle.sh_facts.specs.Facts.{Declared};
 
     ghost Value = { Declared };
 
     ghost view = { λ p. record { names = map (λ v. v.items) p.names.items; args = p.args } };
+
+    ghost invariant = { λ p. list_all bytes.is_name (map (λ v. v.items) p.names.items) ≡ true };
 }
 
 impl Policy {
@@ -63,7 +68,7 @@ impl Policy {
     ///
     /// `BadName` with the index of the first text that is no name, whatever memory there is; `Memory` where a growth was
     /// refused.
-    #[tactic(auto, using(crate::proofs::PolicyLemmas::first_bad_mapped))]
+    #[tactic(auto, using(crate::proofs::PolicyLemmas::first_bad_mapped, crate::proofs::PolicyLemmas::copies_named))]
     pub fn new(alloc: Global, names: &[&[u8]], args: u16) -> Result<Policy, PolicyFault>
         ensures { Makes (map (λ s. s.now) names.now) args result }
     {
@@ -76,9 +81,10 @@ impl Policy {
         }
     }
 
-    /// The declared names, as they were given.
+    /// The declared names, as they were given. Each is a name (XBD 3.216).
     pub fn names(&self) -> &[Vec<u8>]
-        ensures { map (λ v. v.items) result.now ≡ self.now.names }
+        ensures texts { map (λ v. v.items) result.now ≡ self.now.names }
+        ensures named { list_all bytes.is_name self.now.names ≡ true }
     {
         &self.names
     }

@@ -21,7 +21,7 @@ use Rattle.sh_facts.specs.Table.{prefixes}
 use Rattle.sh_facts.proofs.EnteredWalk.{script_walked}
 use Rattle.sh_check.proofs.DefinedLemmas.{functions_same}
 use Rattle.sh_check.proofs.ReachLemmas.{seen_reach}
-use Rattle.sh_check.proofs.StandLemmas.{all_stand}
+use Rattle.sh_facts.proofs.StandLemmas.{all_stand}
 use Rattle.sh_rules.specs.CommandBounds.{prefixes_in}
 use Rattle.sh_rules.specs.Asked.{PrefixesAreNumbered, TableDefines, has_numbered_prefixes}
 

@@ -2,7 +2,7 @@
 --
 -- Numbers do not rise along a tree, since the bodies of here-documents come behind their operators; so what commands weigh by their numbers is summed, and
 -- what passes the sum is the weight of all numbers that were given.
-use Rattle.std.proofs.Common.{◌≡◌, ℕ, zero, suc, ◌+◌, ◌-◌, Bool, true, false, if◌then◌else◌, Option, List, [], ◌∷◌, ◌++◌, flat_map, refl, ap, ◌∙◌, subst, length, arith, length-append, true≢false}
+use Rattle.std.proofs.Common.{◌≡◌, ℕ, zero, suc, ◌+◌, ◌-◌, ◌==◌, cond, nat_le, Bool, true, false, if◌then◌else◌, Option, List, [], ◌∷◌, ◌++◌, flat_map, refl, ap, ◌∙◌, subst, length, arith, length-append, true≢false}
 use Rattle.std.specs.List.{sum_by}
 use Rattle.std.specs.Option.{option_map_or}
 use Rattle.std.proofs.lemmas.List.Sums.{sum_by-append, sum_by-cons}
@@ -48,6 +48,7 @@ use Rattle.sh_tree.specs.language.States.{Spot, State, Document, nth, document_c
 use Rattle.sh_tree.specs.language.Trees as tree
 use Rattle.sh_tree.specs.language.Trees.{span}
 use Rattle.sh_commands.specs.Commands.{commands_of, of_script, of_item, of_and_or, of_link, of_pipe, of_command, of_redirect, of_step, of_kind, of_element, of_branch, of_word, of_clause, of_part, of_expression}
+use Rattle.sh_facts.proofs.NumberCounts.{next_given}
 use Rattle.sh_commands.proofs.CommandLemmas.{script_out, item_out, and_or_out, pipe_out, command_out, branch_out, clause_out, of_kind-Simple, of_kind-Group, of_kind-Subshell, of_kind-Cond, of_kind-Loop, of_kind-For, of_kind-Branches, of_kind-Define, of_element-Assignment, of_element-Word, of_element-Redirection, of_target-File, of_target-Here, of_part-Double, of_part-Param, of_part-Arith, of_part-Command, of_operator-Value, of_operator-Length, of_operator-Use, of_operator-Remove, of_expression-Expansion, of_expression-Parenthesis, of_expression-Unary, of_expression-Chain, of_expression-Choice, of_expression-Assign}
 
 -- Pieces without commands
@@ -488,11 +489,16 @@ module _ (w : ℕ → ℕ) where
           record { exact = omega arith }
 
     -- all commands together weigh what the numbers from 1 to their count do
-    pub all_weigh : (b : List ℕ) (t : Script) (limit count : ℕ) → ReadsTo b limit count t → weight (commands_of t) + given 0 ≡ given count
+    all_weigh : (b : List ℕ) (t : Script) (limit count : ℕ) → ReadsTo b limit count t → weight (commands_of t) + given 0 ≡ given count
     all_weigh b t limit count h =
         let found = script_gives h.script in
         let exact = found.exact in
         subst (λ k. weight (commands_of t) + given 0 ≡ given k) h.commands (omega arith)
+
+-- each number from 1 to their count stands once among them, and no other
+pub tree_given : (b : List ℕ) (t : Script) (limit count : ℕ) → ReadsTo b limit count t → (n : ℕ)
+    → sum_by (λ c. cond ((out-Command c).number == n) 1 0) (commands_of t) + cond (nat_le n 0) 1 0 ≡ cond (nat_le n count) 1 0
+tree_given b t limit count h n = all_weigh (λ m. cond (m == n) 1 0) (λ k. cond (nat_le n k) 1 0) (next_given n) b t limit count h
 
 -- so there are as many as were counted
 pub as_many : (b : List ℕ) (t : Script) (limit count : ℕ) → ReadsTo b limit count t → length (commands_of t) ≡ count
