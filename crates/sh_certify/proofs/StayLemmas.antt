@@ -9,7 +9,6 @@ use Rattle.sh_facts.specs.Rules.{Constraint, script_bounds}
 use Rattle.sh_accept.specs.Accepted.{IsAdmitted, claims_in, functions_in}
 use Rattle.sh_certify.specs.declared.gather.Gather.{Gather}
 use Rattle.sh_certify.specs.declared.gather.Target.{Target}
-use Rattle.sh_certify.specs.declared.place.Place.{Place}
 use Rattle.sh_certify.specs.declared.subject.Subject.{Subject}
 use Rattle.sh_certify.specs.Gathered.{Gathered, all_gathered}
 use Rattle.sh_certify.specs.Idle.{IsIdle}
