@@ -1,5 +1,6 @@
 -- What is gathered of what the flow rules ask, one thing after the other, and by a walk over a script.
 use Rattle.std.proofs.Common.{◌≡◌, ℕ, ◌<◌, ◌≤◌, nat_lt, eqb, Bool, true, false, ◌&&◌, ◌||◌, if◌then◌else◌, Option, Some, None, option_map, List, [], ◌∷◌, length, slice_get, unwrap_or, is_some, refl, sym, ap, ap₂, ◌∙◌, subst, arith, inl, inr, true≢false}
+use Rattle.std.specs.Prelude.{option_and_then}
 use Rattle.std.proofs.Math.Path.{fun_ext}
 use Rattle.std.proofs.lemmas.Bool.{lt-ltb, le-ltb, eqb-true, false_from_ne_true}
 use Rattle.std.proofs.lemmas.Option.{slice_get_within, slice_get_cases}
@@ -56,8 +57,8 @@ use Rattle.sh_rules.proofs.ScriptLemmas.{script_told}
 use Rattle.sh_rules.proofs.SlotLemmas.{entries, head_claim}
 use Rattle.sh_accept.specs.Accepted.{IsAdmitted, claims_in, functions_in}
 use Rattle.sh_certify.specs.declared.place.Place.{Place}
-use Rattle.sh_certify.specs.Gathered.{Gathered, is_at, is_number, bounded, counted, gathered, all_gathered}
-use Rattle.sh_certify.specs.Gathering.{tested, met, with_sets, gathering, and_true, or_false, none_passes}
+use Rattle.sh_certify.specs.Gathered.{Gathered, fitting, fitting_place, is_at, is_number, next_of, bounded, counted, gathered, all_gathered}
+use Rattle.sh_certify.specs.Gathering.{tested_at, tested_by, met, with_sets, gathering, and_true, or_false, none_passes}
 use Rattle.sh_certify.specs.Numbers.{name_passes, by_number, numbers_in}
 use Rattle.sh_certify.specs.Places.{place_of}
 use Rattle.sh_certify.specs.Turns.{sheet_by}
@@ -150,25 +151,19 @@ module _ (names : List Text) (h : AreNumbered names) where
 
 -- One thing more
 
-pub all_kept : (g : Gathered) → g ≡ tested true g
-all_kept g = ap (λ b. record { kept = b; place = g.place; known = g.known; function = g.function; sets = g.sets }) (sym (and_true g.kept))
-
-pub one_broken : (g : Gathered) → record { kept = false; place = g.place; known = g.known; function = g.function; sets = g.sets } ≡ tested false g
-one_broken g = ap (λ b. record { kept = b; place = g.place; known = g.known; function = g.function; sets = g.sets }) (sym (and_none g.kept))
-
 pub nothing_met : (g : Gathered) → g ≡ met number.NotReached g
 unfolding number.meet
-nothing_met g = ap (λ f. record { kept = g.kept; place = g.place; known = f; function = g.function; sets = g.sets }) (with_nothing g.known)
+nothing_met g = ap (λ f. record g { known = f }) (with_nothing g.known)
   where
     with_nothing : (f : number.Facts) → f ≡ number.meet f number.NotReached
     with_nothing number.NotReached = refl
     with_nothing (number.Known v f a) = refl
 
-pub known_put : (g : Gathered) (f h : number.Facts) → h ≡ number.meet g.known f → record { kept = g.kept; place = g.place; known = h; function = g.function; sets = g.sets } ≡ met f g
-known_put g f h e = ap (λ k. record { kept = g.kept; place = g.place; known = k; function = g.function; sets = g.sets }) e
+pub known_put : (g : Gathered) (f h : number.Facts) → h ≡ number.meet g.known f → record g { known = h } ≡ met f g
+known_put g f h e = ap (λ k. record g { known = k }) e
 
 abbrev pub sets_put : Gathered → (ℕ → Bool) → (ℕ → Bool) → Gathered
-sets_put g v f = record { kept = g.kept; place = g.place; known = g.known; function = g.function; sets = record { vars = v; functions = f } }
+sets_put g v f = record g { sets = record { vars = v; functions = f } }
 
 pub sets_joined : (g : Gathered) (z : Sets) (v f : ℕ → Bool) → ((k : ℕ) → v k ≡ (g.sets.vars k || z.vars k)) → ((k : ℕ) → f k ≡ (g.sets.functions k || z.functions k)) → sets_put g v f ≡ with_sets z g
 sets_joined g z v f vars functions = ap₂ (sets_put g) (fun_ext vars) (fun_ext functions)
@@ -183,18 +178,19 @@ nothing_lost names g = sets_joined g (numbers_in names no_names) g.sets.vars g.s
 -- What a place and a function are asked
 
 module _ (x : Setting) where
-  abbrev part_of : Gathered → Bool → number.Facts → Sets → Gathered
-  part_of g kept known sets = record { kept = g.kept && kept; place = g.place; known = known; function = g.function; sets = sets }
-
   module _ (slot : Slot) (c : Claim) (k : Facts) (o : Option Place) (kept here : Bool) (old mid : Gathered) (claim : c ≡ claimed_at x slot) (test : kept ≡ within c k)
-      (found : o ≡ place_of x.functions slot) (is : here ≡ is_at o old.place) (between : mid ≡ tested kept old) where
-    at_slot : (b : Bool) → here ≡ b → is_at (place_of x.functions slot) old.place ≡ b
-    at_slot b e = ap (λ p. is_at p old.place) (sym found) ∙ sym is ∙ e
+      (found : o ≡ place_of x.functions slot) (is : here ≡ is_at o old.place) (between : mid ≡ tested_at o kept old) where
+    abbrev bound_of : Option Place → Bool → Bool → Gathered
+    bound_of p t i = record old {
+      kept = old.kept && t;
+      known = if i then number.meet old.known (by_number x.names k) else old.known;
+      next_place = next_of (t || is_at p old.place) (option_and_then fitting_place p) old.next_place;
+    }
 
-    bounds : (b : Bool) → here ≡ b → part_of old kept (if b then number.meet old.known (by_number x.names k) else old.known) old.sets ≡ bounded x.names x.functions slot (claimed_at x slot) k old
+    bounds : (b : Bool) → here ≡ b → bound_of o kept b ≡ bounded x.names x.functions slot (claimed_at x slot) k old
     unfolding bounded
     bounds b e =
-        ap₂ (λ (t i : Bool). part_of old t (if i then number.meet old.known (by_number x.names k) else old.known) old.sets) (test ∙ ap (λ d. within d k) claim) (sym (at_slot b e))
+        ap (bound_of o kept) (sym e ∙ is) ∙ ap₂ (λ (p : Option Place) (t : Bool). bound_of p t (is_at p old.place)) found (test ∙ ap (λ d. within d k) claim)
 
     pub bound_here : (new : Gathered) → here ≡ true → new ≡ met (by_number x.names k) mid → new ≡ bounded x.names x.functions slot (claimed_at x slot) k old
     bound_here new e last = last ∙ ap (met (by_number x.names k)) between ∙ bounds true e
@@ -203,13 +199,17 @@ module _ (x : Setting) where
     bound_away e = between ∙ bounds false e
 
   module _ (name : Text) (lost : Names) (o : Option ℕ) (kept here : Bool) (old mid : Gathered) (test : kept ≡ are_among lost ((certificate x).drops name))
-      (found : o ≡ number_of x.functions name) (is : here ≡ is_number o old.function) (between : mid ≡ tested kept old) where
-    at_function : (b : Bool) → here ≡ b → is_number (number_of x.functions name) old.function ≡ b
-    at_function b e = ap (λ p. is_number p old.function) (sym found) ∙ sym is ∙ e
+      (found : o ≡ number_of x.functions name) (is : here ≡ is_number o old.function) (between : mid ≡ tested_by o kept old) where
+    abbrev drop_of : Option ℕ → Bool → Bool → Gathered
+    drop_of i t b = record old {
+      kept = old.kept && t;
+      sets = if b then joined (numbers_in x.names lost) old.sets else old.sets;
+      next_function = next_of (t || is_number i old.function) (option_and_then fitting i) old.next_function;
+    }
 
-    drops : (b : Bool) → here ≡ b → part_of old kept old.known (if b then joined (numbers_in x.names lost) old.sets else old.sets) ≡ counted x.names x.functions name ((certificate x).drops name) lost old
+    drops : (b : Bool) → here ≡ b → drop_of o kept b ≡ counted x.names x.functions name ((certificate x).drops name) lost old
     unfolding counted
-    drops b e = ap₂ (λ (t i : Bool). part_of old t old.known (if i then joined (numbers_in x.names lost) old.sets else old.sets)) test (sym (at_function b e))
+    drops b e = ap (drop_of o kept) (sym e ∙ is) ∙ ap₂ (λ (i : Option ℕ) (t : Bool). drop_of i t (is_number i old.function)) found test
 
     pub drop_here : (new : Gathered) → here ≡ true → new ≡ with_sets (numbers_in x.names lost) mid → new ≡ counted x.names x.functions name ((certificate x).drops name) lost old
     drop_here new e last = last ∙ ap (with_sets (numbers_in x.names lost)) between ∙ drops true e

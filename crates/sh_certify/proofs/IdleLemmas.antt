@@ -1,5 +1,5 @@
 -- Where nothing is lowered at a place and a function, each constraint is kept that asks something there.
-use Rattle.std.proofs.Common.{◌≡◌, ℕ, ◌≤◌, eqb, Bool, true, false, if◌then◌else◌, Option, Some, None, option_map, List, [], ◌∷◌, length, slice_get, unwrap_or, is_some, refl, sym, ap, ◌∙◌, subst, arith, inl, inr, true≢false}
+use Rattle.std.proofs.Common.{◌≡◌, ℕ, ◌≤◌, Bool, true, false, if◌then◌else◌, Option, Some, None, option_map, List, [], ◌∷◌, length, slice_get, unwrap_or, is_some, refl, sym, ap, ◌∙◌, subst, arith, inl, inr, true≢false}
 use Rattle.std.specs.List.{list_all}
 use Rattle.std.specs.Prelude.{filter, not}
 use Rattle.std.proofs.lemmas.Bool.{and_parts, or_cases, or_left, or_right, eqb-true}
@@ -20,7 +20,7 @@ use Rattle.sh_facts.specs.Faults.{are_among, broken, told}
 use Rattle.sh_facts.specs.Forms.{is_variable}
 use Rattle.sh_facts.specs.Inclusions.{Each}
 use Rattle.sh_facts.specs.KeptRows.{KeptRows}
-use Rattle.sh_facts.specs.Knowledge.{AreNumbered, among, at_number}
+use Rattle.sh_facts.specs.Knowledge.{AreNumbered, at_number}
 use Rattle.sh_facts.specs.Names.{number_of}
 use Rattle.sh_facts.specs.Operands.{Names}
 use Rattle.sh_facts.specs.Order.{IsWithin}

@@ -17,9 +17,11 @@ pub mod MetLemmas
 pub mod PlacedLemmas
 pub mod KnownLemmas
 pub mod ThereLemmas
+pub mod NextLemmas
 pub mod WordLemmas
 pub mod SeenLemmas
 pub mod DefineLemmas
 pub mod FunctionLemmas
 pub mod LostLemmas
 pub mod IdleLemmas
+pub mod StayLemmas

@@ -1,5 +1,6 @@
 -- What is gathered goes by constraints: several views at a place ask what is known there, and names together what they ask one after the other.
-use Rattle.std.proofs.Common.{◌≡◌, ℕ, Bool, true, false, ◌&&◌, if◌then◌else◌, min, List, [], ◌∷◌, ◌++◌, refl, sym, ap, ap₂, ◌∙◌, arith}
+use Rattle.std.proofs.Common.{◌≡◌, ℕ, Bool, true, false, ◌&&◌, ◌||◌, if◌then◌else◌, min, List, [], ◌∷◌, ◌++◌, refl, sym, ap, ap₂, ◌∙◌, arith}
+use Rattle.std.specs.Prelude.{option_and_then}
 use Rattle.std.proofs.Math.Path.{fun_ext}
 use Rattle.std.proofs.lemmas.Bool.{and_parts, and_from}
 use Rattle.std.proofs.lemmas.List.Sums.{fold-append}
@@ -14,8 +15,9 @@ use Rattle.sh_facts.specs.Views.{Certificate, Slot, Seen, view_facts}
 use Rattle.sh_facts.proofs.KnowledgeLemmas.{same_tests}
 use Rattle.sh_facts.proofs.OrderLemmas.{within_through, within_test, meet_first, meet_second, meet_greatest}
 use Rattle.sh_find.specs.Facts as number
-use Rattle.sh_certify.specs.Gathered.{Gathered, is_at, bounded, gathered, all_gathered}
-use Rattle.sh_certify.specs.Gathering.{and_true, drops_nothing, drops_both}
+use Rattle.sh_certify.specs.declared.place.Place.{Place}
+use Rattle.sh_certify.specs.Gathered.{Gathered, fitting_place, is_at, next_of, bounded, gathered, all_gathered}
+use Rattle.sh_certify.specs.Gathering.{and_over, and_true, three, next_twice, drops_nothing, drops_both}
 use Rattle.sh_certify.specs.Numbers.{by_number}
 use Rattle.sh_certify.specs.Places.{place_of}
 use Rattle.sh_certify.specs.Together.{GatheredTogether}
@@ -23,10 +25,6 @@ use Rattle.sh_certify.proofs.GatherLemmas.{among_less, within_among}
 use Rattle.sh_certify.proofs.NumberLemmas.{meet_numbered, among_numbered}
 
 module _ (names functions : List Text) where
-  and_over : (a b c : Bool) → ((a && b) && c) ≡ (a && (b && c))
-  and_over true b c = refl
-  and_over false b c = refl
-
   -- Views of a place
 
   within_both : (c : Claim) (f g : Facts) → within c (meet f g) ≡ (within c f && within c g)
@@ -70,19 +68,27 @@ module _ (names functions : List Text) where
   module _ (h : AreNumbered names) (d : Declared) (c : Certificate) (slot : Slot) (fit : claim_fits names (c.claim slot) ≡ true) where
     -- the views of a place together ask what is known where all are seen
     pub seen_together : (n : ℕ) (rule : FlowRule) (s : Seen) (g : Gathered) → all_gathered names functions d c g (bound slot n rule s) ≡ bounded names functions slot (c.claim slot) (among names (seen_facts d c s)) g
-    unfolding gathered bounded seen_facts within among by_number
+    unfolding gathered bounded next_of seen_facts within among by_number
     seen_together n rule [] g =
-        ap₂ (λ (k : Bool) (f : number.Facts). record { kept = k; place = g.place; known = f; function = g.function; sets = g.sets }) (sym (and_true g.kept)) (nothing_met (is_at (place_of functions slot) g.place) g.known)
+        ap₂ (λ (k : Bool) (f : number.Facts). record g { kept = k; known = f }) (sym (and_true g.kept)) (nothing_met (is_at (place_of functions slot) g.place) g.known)
     seen_together n rule (v ∷ s) g =
+        let first = within (c.claim slot) (view_facts d c v) in
+        let last = within (c.claim slot) (among names (seen_facts d c s)) in
+        let both : within (c.claim slot) (among names (meet (view_facts d c v) (seen_facts d c s))) ≡ (first && last) =
+        within_same (c.claim slot) (meet (view_facts d c v) (seen_facts d c s)) fit
+        ∙ within_both (c.claim slot) (view_facts d c v) (seen_facts d c s)
+        ∙ ap (λ b. first && b) (sym (within_same (c.claim slot) (seen_facts d c s) fit)) in
+        let t = is_at (place_of functions slot) g.place in
         seen_together n rule s (bounded names functions slot (c.claim slot) (view_facts d c v) g)
-        ∙ ap₂ (λ (k : Bool) (f : number.Facts). record { kept = k; place = g.place; known = f; function = g.function; sets = g.sets })
-        (ap (λ b. (g.kept && within (c.claim slot) (view_facts d c v)) && b) (within_same (c.claim slot) (seen_facts d c s) fit)
-        ∙ and_over g.kept (within (c.claim slot) (view_facts d c v)) (within (c.claim slot) (seen_facts d c s))
-        ∙ ap (λ b. g.kept && b) (sym (within_same (c.claim slot) (meet (view_facts d c v) (seen_facts d c s)) fit ∙ within_both (c.claim slot) (view_facts d c v) (seen_facts d c s))))
-        (if_meet (is_at (place_of functions slot) g.place) g.known (by_number names (view_facts d c v)) (by_number names (among names (seen_facts d c s))) (by_number names (among names (meet (view_facts d c v) (seen_facts d c s))))
+        ∙ three (λ (k : Bool) (f : number.Facts) (p : Place). record g { kept = k; known = f; next_place = p })
+        (and_over g.kept first last ∙ ap (λ b. g.kept && b) (sym both))
+        (if_meet t g.known (by_number names (view_facts d c v)) (by_number names (among names (seen_facts d c s))) (by_number names (among names (meet (view_facts d c v) (seen_facts d c s))))
         (ap (number.meet (number.meet g.known (by_number names (view_facts d c v)))) (among_numbered names h (seen_facts d c s))
         ∙ meets_grouped g.known (by_number names (view_facts d c v)) (by_number names (seen_facts d c s))
         ∙ ap (number.meet g.known) (sym (among_numbered names h (meet (view_facts d c v) (seen_facts d c s)) ∙ meet_numbered names (view_facts d c v) (seen_facts d c s)))))
+        (sym
+        (ap (λ b. next_of (b || t) (option_and_then fitting_place (place_of functions slot)) g.next_place) both
+        ∙ next_twice t first last (option_and_then fitting_place (place_of functions slot)) g.next_place))
 
 -- lists of constraints ask what they ask one after the other
 lists : (names functions : List Text) (d : Declared) (c : Certificate) (g : Gathered) (ks ls : List Constraint)

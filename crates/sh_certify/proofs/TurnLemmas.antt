@@ -17,12 +17,10 @@ use Rattle.sh_find.specs.Kept.{numbers_of, IsNamed}
 use Rattle.sh_certify.specs.declared.gather.Gather.{Gather}
 use Rattle.sh_certify.specs.declared.gather.Target.{Target}
 use Rattle.sh_certify.specs.declared.place.Place.{Place}
-use Rattle.sh_certify.specs.declared.turn.Outcome.{Outcome}
-use Rattle.sh_certify.specs.declared.turn.Outcome.TheVariants.{Kept, Lowered, Stays}
 use Rattle.sh_certify.specs.Gathered.{Gathered, all_gathered}
 use Rattle.sh_certify.specs.Numbers.{by_name}
 use Rattle.sh_certify.specs.Places.{claim_there}
-use Rattle.sh_certify.specs.Turns.{gathered_of, IsNew, AreNumbers, Stands, sheet_by, IsSunk, IsAttempt, IsTurn}
+use Rattle.sh_certify.specs.Turns.{gathered_of, IsNew, AreNumbers, Stands, sheet_by, IsSunk, IsTurn}
 use Rattle.sh_certify.specs.Working.{IsWorking, IsLowered, IsCounted, height}
 use Rattle.sh_certify.proofs.AboveLemmas.{lowered_above, counted_above}
 use Rattle.sh_certify.proofs.GatherLemmas.{all_kept, numbered_only, stands_all}
@@ -134,55 +132,20 @@ pub sunk_else : (names : List Text) (loops : List Bool) (m : ℕ) (old new : kep
 sunk_else names loops m old new g true y e s = absurd (true≢false e)
 sunk_else names loops m old new g false y e s = s
 
--- Attempts
-
-pub sunk_attempt : (names : List Text) (loops : List Bool) (m : ℕ) (declared : Declared) (defined : List Text) (ks : List Constraint) (old new : kept.Certificate) (g : Gathered) → AreNumbered names
-    → ((d : Sheet) → ((o : Option Place) → claim_fits names (claim_there d o) ≡ true) → flat_map (broken declared (certificate_of defined d)) ks ≡ []
-    → IsBelow (certificate_of defined d) (certificate_of defined (sheet_by names old)) → Stands names d g)
-    → (b : Bool) (outcome : Outcome) → (outcome ≡ Kept → ⊥) → (outcome ≡ Lowered → b ≡ true) → (outcome ≡ Stays → b ≡ false) → IsSunk names loops m old new g b
-    → IsAttempt names loops m declared defined ks old new outcome
-sunk_attempt names loops m declared defined ks old new g h stands b outcome none low same sunk = record {
-  working = sunk.working;
-  rules = λ e. absurd (none e);
-  less = λ e. sunk.less (low e);
-  stays = λ e. sunk.stays (same e);
-  above = λ d fit kept below. sunk.above h defined d (stands d fit kept below) below;
-}
-
-pub lowered_attempt : (names : List Text) (loops : List Bool) (m : ℕ) (declared : Declared) (defined : List Text) (ks : List Constraint) (old new : kept.Certificate) (g : Gathered) → AreNumbered names
-    → ((d : Sheet) → ((o : Option Place) → claim_fits names (claim_there d o) ≡ true) → flat_map (broken declared (certificate_of defined d)) ks ≡ []
-    → IsBelow (certificate_of defined d) (certificate_of defined (sheet_by names old)) → Stands names d g)
-    → IsSunk names loops m old new g true → IsAttempt names loops m declared defined ks old new Lowered
-lowered_attempt names loops m declared defined ks old new g h stands sunk =
-    sunk_attempt names loops m declared defined ks old new g h stands true Lowered (λ e. cc) (λ e. refl) (λ e. cc) sunk
-
-pub idle_attempt : (names : List Text) (loops : List Bool) (m : ℕ) (declared : Declared) (defined : List Text) (ks : List Constraint) (old new : kept.Certificate) (g : Gathered) → AreNumbered names
-    → ((d : Sheet) → ((o : Option Place) → claim_fits names (claim_there d o) ≡ true) → flat_map (broken declared (certificate_of defined d)) ks ≡ []
-    → IsBelow (certificate_of defined d) (certificate_of defined (sheet_by names old)) → Stands names d g)
-    → IsSunk names loops m old new g false → IsAttempt names loops m declared defined ks old new Stays
-idle_attempt names loops m declared defined ks old new g h stands sunk =
-    sunk_attempt names loops m declared defined ks old new g h stands false Stays (λ e. cc) (λ e. cc) (λ e. refl) sunk
-
-pub kept_attempt : (names : List Text) (loops : List Bool) (m : ℕ) (declared : Declared) (defined : List Text) (ks : List Constraint) (c : kept.Certificate) → IsWorking names loops m c
-    → flat_map (broken declared (certificate_of defined (sheet_by names c))) ks ≡ [] → IsAttempt names loops m declared defined ks c c Kept
-kept_attempt names loops m declared defined ks c working rules =
-    record { working = working; rules = λ e. rules; less = λ e. cc; stays = λ e. cc; above = λ d fit kept below. below }
-
 -- Turns
 
 module _ (names : List Text) (loops : List Bool) (m : ℕ) (declared : Declared) (defined : List Text) (ks : List Constraint) where
-  pub kept_turn : (old new : kept.Certificate) (o : Outcome) → o ≡ Kept → IsAttempt names loops m declared defined ks old new o → IsTurn names loops m declared defined ks old new true
-  kept_turn old new o e a = record { working = a.working; rules = λ x. a.rules e; less = λ x. absurd (true≢false x); above = a.above }
+  pub kept_turn : (c : kept.Certificate) → IsWorking names loops m c → flat_map (broken declared (certificate_of defined (sheet_by names c))) ks ≡ [] → IsTurn names loops m declared defined ks c c true
+  kept_turn c working rules = record { working = working; rules = λ e. rules; less = λ e. absurd (true≢false e); above = λ d fit kept below. below }
 
-  pub lowered_turn : (old new : kept.Certificate) (o : Outcome) → o ≡ Lowered → IsAttempt names loops m declared defined ks old new o → IsTurn names loops m declared defined ks old new false
-  lowered_turn old new o e a = record { working = a.working; rules = λ x. absurd (true≢false (sym x)); less = λ x. a.less e; above = a.above }
-
-  -- behind an attempt that left all as it was
-  pub later_turn : (old mid new : kept.Certificate) (o : Outcome) (kept : Bool) → o ≡ Stays → IsAttempt names loops m declared defined ks old mid o → IsTurn names loops m declared defined ks mid new kept
-      → IsTurn names loops m declared defined ks old new kept
-  later_turn old mid new o kept e a t = record {
-    working = t.working;
-    rules = t.rules;
-    less = λ x. subst (λ c. height (length names) (length loops) m new < height (length names) (length loops) m c) (a.stays e) (t.less x);
-    above = λ d fit none below. t.above d fit none (a.above d fit none below);
+  pub sunk_turn : AreNumbered names → (old new : kept.Certificate) (g : Gathered)
+      → ((d : Sheet) → ((o : Option Place) → claim_fits names (claim_there d o) ≡ true) → flat_map (broken declared (certificate_of defined d)) ks ≡ []
+      → IsBelow (certificate_of defined d) (certificate_of defined (sheet_by names old)) → Stands names d g)
+      → (changed : Bool) → (changed ≡ false → ⊥) → IsSunk names loops m old new g changed → IsTurn names loops m declared defined ks old new false
+  sunk_turn h old new g stands false none sunk = absurd (none refl)
+  sunk_turn h old new g stands true none sunk = record {
+    working = sunk.working;
+    rules = λ e. absurd (true≢false (sym e));
+    less = λ e. sunk.less refl;
+    above = λ d fit kept below. sunk.above h defined d (stands d fit kept below) below;
   }

@@ -1,7 +1,7 @@
 -- What is gathered of one thing that the flow rules ask.
 -- The standard has no such rules: what is claimed of a place has to be known there in every run.
-use Rattle.std.specs.Prelude.{◌≡◌, ℕ, Bool, true, false, ◌&&◌, ◌||◌, if◌then◌else◌, List, [], ◌++◌, Option, Some, None, slice_get}
-use Rattle.std.proofs.Common.{refl, ap, ap₂, ◌∙◌}
+use Rattle.std.specs.Prelude.{◌≡◌, ℕ, Bool, true, false, ◌&&◌, ◌||◌, if◌then◌else◌, List, [], ◌++◌, Option, Some, None, option_and_then, slice_get}
+use Rattle.std.proofs.Common.{refl, sym, ap, ap₂, ◌∙◌}
 use Rattle.std.specs.List.{list_all}
 use Rattle.std.specs.Str.{bytes_eq}
 use Rattle.std.proofs.Math.Path.{fun_ext}
@@ -14,23 +14,46 @@ use Rattle.sh_facts.specs.Operands.{Names, no_names}
 use Rattle.sh_find.specs.Facts as number
 use Rattle.sh_rules.specs.Asking.{Asking}
 use Rattle.sh_rules.specs.Settings.{certificate, claimed_at}
-use Rattle.sh_certify.specs.Gathered.{Gathered, is_number, bounded, counted}
+use Rattle.sh_certify.specs.declared.place.Place.{Place}
+use Rattle.sh_certify.specs.Gathered.{Gathered, fitting, is_number, next_of, next_place_of, next_function_of, bounded, counted}
 use Rattle.sh_certify.specs.Numbers.{name_passes, numbers_in}
 use Rattle.sh_certify.specs.Working.{Sets, joined}
 
 -- Clauses of private functions
 
--- something more is asked, which is kept or not
-abbrev pub tested : Bool → Gathered → Gathered
-tested kept g = record { kept = g.kept && kept; place = g.place; known = g.known; function = g.function; sets = g.sets }
+-- something more is asked of a place, or of a function, which is kept or not
+abbrev pub tested_at : Option Place → Bool → Gathered → Gathered
+tested_at o kept g = record g { kept = g.kept && kept; next_place = next_place_of o kept g }
+
+abbrev pub tested_by : Option ℕ → Bool → Gathered → Gathered
+tested_by o kept g = record g { kept = g.kept && kept; next_function = next_function_of o kept g }
 
 -- this is known at the place too
 abbrev pub met : number.Facts → Gathered → Gathered
-met f g = record { kept = g.kept; place = g.place; known = number.meet g.known f; function = g.function; sets = g.sets }
+met f g = record g { known = number.meet g.known f }
 
 -- the function has to drop these too
 abbrev pub with_sets : Sets → Gathered → Gathered
-with_sets z g = record { kept = g.kept; place = g.place; known = g.known; function = g.function; sets = joined z g.sets }
+with_sets z g = record g { sets = joined z g.sets }
+
+-- Things that are asked together
+
+pub and_over : (a b c : Bool) → ((a && b) && c) ≡ (a && (b && c))
+and_over true b c = refl
+and_over false b c = refl
+
+pub three : {A B C D : Type 0} (f : A → B → C → D) {a b : A} {c d : B} {e g : C} → a ≡ b → c ≡ d → e ≡ g → f a c e ≡ f b d g
+three f {b = b} {d = d} {e = e} x y z = ap₂ (λ p q. f p q e) x y ∙ ap (f b d) z
+
+-- what is next is the same again
+pub next_twice : {A : Type 0} (t x y : Bool) (o : Option A) (n : A) → next_of ((x && y) || t) o n ≡ next_of (y || t) o (next_of (x || t) o n)
+unfolding next_of
+next_twice t true y o n = refl
+next_twice true false true o n = refl
+next_twice true false false o n = refl
+next_twice false false true o n = refl
+next_twice false false false None n = refl
+next_twice false false false (Some a) n = refl
 
 -- Names that are dropped together
 
@@ -59,10 +82,8 @@ module _ (names functions : List Text) where
   same_if false x y e = refl
 
   pub drops_nothing : (f : Text) (may : Names) (g : Gathered) → counted names functions f may no_names g ≡ g
-  unfolding counted are_among
-  drops_nothing f may g =
-      ap₂ (λ (k : Bool) (s : Sets). record { kept = k; place = g.place; known = g.known; function = g.function; sets = s }) (and_true g.kept)
-      (same_if (is_number (number_of functions f) g.function) _ g.sets (no_more g.sets))
+  unfolding counted are_among next_of
+  drops_nothing f may g = ap₂ (λ (k : Bool) (s : Sets). record g { kept = k; sets = s }) (and_true g.kept) (same_if (is_number (number_of functions f) g.function) _ g.sets (no_more g.sets))
 
   -- a name that is lost of two lists
   both_pass : (ts us : List Text) (o : Option Text) → name_passes (is_one_of (ts ++ us)) o ≡ (name_passes (is_one_of ts) o || name_passes (is_one_of us) o)
@@ -81,15 +102,22 @@ module _ (names functions : List Text) where
       (fun_ext (λ k. ap (λ b. s.vars k || b) (both_pass v w (slice_get names k)) ∙ or_grouped (s.vars k) _ _))
       (fun_ext (λ k. ap (λ b. s.functions k || b) (both_pass x y (slice_get names k)) ∙ or_grouped (s.functions k) _ _))
 
-  regrouped : (g v w x y : Bool) → (g && ((v && w) && (x && y))) ≡ ((g && (v && x)) && (w && y))
-  regrouped false v w x y = refl
-  regrouped true false w x y = refl
-  regrouped true true w false y = and_none w
+  regrouped : (v w x y : Bool) → ((v && w) && (x && y)) ≡ ((v && x) && (w && y))
+  regrouped false w x y = refl
+  regrouped true w false y = and_none w
     where
       and_none : (b : Bool) → (b && false) ≡ false
       and_none true = refl
       and_none false = refl
-  regrouped true true w true y = refl
+  regrouped true w true y = refl
+
+  among_both : (may : Names) (v w x y : List Text)
+      → are_among (record { vars = v ++ w; functions = x ++ y }) may ≡ (are_among (record { vars = v; functions = x }) may && are_among (record { vars = w; functions = y }) may)
+  unfolding are_among
+  among_both may v w x y =
+      ap (λ b. b && list_all (is_one_of may.functions) (x ++ y)) (list_all-append (is_one_of may.vars) v w)
+      ∙ ap (λ b. (list_all (is_one_of may.vars) v && list_all (is_one_of may.vars) w) && b) (list_all-append (is_one_of may.functions) x y)
+      ∙ regrouped (list_all (is_one_of may.vars) v) (list_all (is_one_of may.vars) w) (list_all (is_one_of may.functions) x) (list_all (is_one_of may.functions) y)
 
   if_both : {A : Type 0} (b : Bool) (f g : A → A) (h : A → A) (x : A) → ((y : A) → h y ≡ g (f y)) → (if b then h x else x) ≡ (if b then g (if b then f x else x) else (if b then f x else x))
   if_both true f g h x e = e x
@@ -99,14 +127,16 @@ module _ (names functions : List Text) where
   pub drops_both : (f : Text) (may : Names) (v w x y : List Text) (g : Gathered)
       → counted names functions f may (record { vars = v ++ w; functions = x ++ y }) g
       ≡ counted names functions f may (record { vars = w; functions = y }) (counted names functions f may (record { vars = v; functions = x }) g)
-  unfolding counted are_among
+  unfolding counted
   drops_both f may v w x y g =
-      ap₂ (λ (k : Bool) (s : Sets). record { kept = k; place = g.place; known = g.known; function = g.function; sets = s })
-      (ap (λ b. g.kept && (b && list_all (is_one_of may.functions) (x ++ y))) (list_all-append (is_one_of may.vars) v w)
-      ∙ ap (λ b. g.kept && ((list_all (is_one_of may.vars) v && list_all (is_one_of may.vars) w) && b)) (list_all-append (is_one_of may.functions) x y)
-      ∙ regrouped g.kept (list_all (is_one_of may.vars) v) (list_all (is_one_of may.vars) w) (list_all (is_one_of may.functions) x) (list_all (is_one_of may.functions) y))
-      (if_both (is_number (number_of functions f) g.function) (joined (numbers_in names (record { vars = v; functions = x }))) (joined (numbers_in names (record { vars = w; functions = y })))
+      let first = are_among (record { vars = v; functions = x }) may in
+      let last = are_among (record { vars = w; functions = y }) may in
+      let both : are_among (record { vars = v ++ w; functions = x ++ y }) may ≡ (first && last) = among_both may v w x y in
+      let t = is_number (number_of functions f) g.function in
+      three (λ (k : Bool) (s : Sets) (n : ℕ). record g { kept = k; sets = s; next_function = n }) (ap (λ b. g.kept && b) both ∙ sym (and_over g.kept first last))
+      (if_both t (joined (numbers_in names (record { vars = v; functions = x }))) (joined (numbers_in names (record { vars = w; functions = y })))
       (joined (numbers_in names (record { vars = v ++ w; functions = x ++ y }))) g.sets (both_joined v w x y))
+      (ap (λ b. next_of (b || t) (option_and_then fitting (number_of functions f)) g.next_function) both ∙ next_twice t first last (option_and_then fitting (number_of functions f)) g.next_function)
 
 -- what is gathered of a place and of a function
 abbrev pub gathering : Asking Gathered

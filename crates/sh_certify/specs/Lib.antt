@@ -10,6 +10,6 @@ pub mod Together
 pub mod Spots
 pub mod Sweeps
 pub mod There
-pub mod Functions
 pub mod Next
+pub mod Functions
 pub mod Idle

@@ -1,15 +1,23 @@
--- Where a constraint stands that is broken.
+-- Where a constraint stands that is broken, and a certificate while it is lowered, of a script.
 -- The standard has no such rules: what is claimed of a place has to be known there in every run.
-use Rattle.std.specs.Prelude.{◌≡◌, ℕ, Bool, true, List, [], ◌∷◌, ◌++◌}
+use Rattle.std.specs.Prelude.{◌≡◌, ℕ, Bool, true, List, [], ◌∷◌, ◌++◌, length}
 use Rattle.sh_tree.specs.program.Syntax.{Text}
+use Rattle.sh_tree.specs.program.Trees.{script_of}
+use Rattle.sh_facts.specs.declared.certificate.Certificate as kept
 use Rattle.sh_facts.specs.Facts.{Declared}
 use Rattle.sh_facts.specs.Faults.{broken}
 use Rattle.sh_facts.specs.Names.{number_of}
-use Rattle.sh_facts.specs.Rules.{Constraint, Within, Counted}
+use Rattle.sh_facts.specs.Reading.{AreLoops}
+use Rattle.sh_facts.specs.Rules.{Constraint, Within, Counted, script_bounds}
 use Rattle.sh_facts.specs.Views.{Certificate}
+use Rattle.sh_accept.specs.Accepted.{claims_in, functions_in}
+use Rattle.sh_certify.specs.declared.gather.Target.{Target}
 use Rattle.sh_certify.specs.declared.place.Place.{Place}
+use Rattle.sh_certify.specs.declared.subject.Subject.{Subject}
 use Rattle.sh_certify.specs.Gathered.{is_at, is_number}
 use Rattle.sh_certify.specs.Places.{place_of}
+use Rattle.sh_certify.specs.Turns.{sheet_by}
+use Rattle.sh_certify.specs.Working.{IsWorking}
 
 -- a constraint asks something of the place, or of the function of the index
 unfoldable pub stands_at : List Text → Place → ℕ → Constraint → Bool
@@ -28,3 +36,15 @@ pub record BrokenAt (functions : List Text) (d : Declared) (c : Certificate) (ks
   pub one : ks ≡ front ++ (constraint ∷ back)
   pub there : stands_at functions p i constraint ≡ true
   pub breaks : ¬ (broken d c constraint ≡ [])
+
+module _ (s : Subject) where
+  -- a certificate that is lowered, with as many commands and functions as the script has, and heads at its loops
+  pub record IsOfScript (c : kept.Certificate) : Type 0 where
+    pub loops : List Bool
+    pub are_loops : AreLoops s.tree.now loops
+    pub working : IsWorking s.names.now loops (length (functions_in s.script.now s.tree.now)) c
+
+  -- it breaks a flow rule that asks something of the place or of the function
+  abbrev pub IsBroken : kept.Certificate → Target → Type 0
+  IsBroken c target =
+      BrokenAt (functions_in s.script.now s.tree.now) s.policy.now (claims_in s.script.now s.tree.now (sheet_by s.names.now c)) (script_bounds (script_of s.script.now s.tree.now)) target.place target.function

@@ -18,8 +18,6 @@ use Rattle.sh_find.specs.Kept.{seen_of, numbers_of, IsNamed}
 use Rattle.sh_certify.specs.declared.gather.Gather.{Gather}
 use Rattle.sh_certify.specs.declared.gather.Target.{Target}
 use Rattle.sh_certify.specs.declared.place.Place.{Place}
-use Rattle.sh_certify.specs.declared.turn.Outcome.{Outcome}
-use Rattle.sh_certify.specs.declared.turn.Outcome.TheVariants.{Kept, Lowered, Stays}
 use Rattle.sh_certify.specs.Gathered.{Gathered}
 use Rattle.sh_certify.specs.Numbers.{by_name}
 use Rattle.sh_certify.specs.Places.{claim_there, drops_there}
@@ -28,7 +26,15 @@ use Rattle.sh_certify.specs.Writable.{sets_in}
 
 -- what is gathered, by numbers
 unfoldable pub gathered_of : Gather → Gathered
-gathered_of g = record { kept = g.kept; place = g.target.place; known = seen_of g.known; function = g.target.function; sets = sets_in g.vars g.functions }
+gathered_of g = record {
+  kept = g.kept;
+  place = g.target.place;
+  known = seen_of g.known;
+  function = g.target.function;
+  sets = sets_in g.vars g.functions;
+  next_place = g.next.place;
+  next_function = g.next.function;
+}
 
 -- nothing was asked
 pub record IsNew (target : Target) (g : Gather) : Type 0 where
@@ -66,15 +72,6 @@ pub record IsTurn (names : List Text) (loops : List Bool) (m : ℕ) (declared : 
   pub working : IsWorking names loops m new
   pub rules : kept ≡ true → flat_map (broken declared (certificate_of defined (sheet_by names new))) ks ≡ []
   pub less : kept ≡ false → height (length names) (length loops) m new < height (length names) (length loops) m old
-  pub above : (d : Sheet) → ((o : Option Place) → claim_fits names (claim_there d o) ≡ true) → flat_map (broken declared (certificate_of defined d)) ks ≡ []
-      → IsBelow (certificate_of defined d) (certificate_of defined (sheet_by names old)) → IsBelow (certificate_of defined d) (certificate_of defined (sheet_by names new))
-
--- one attempt at a turn, which may leave all as it was
-pub record IsAttempt (names : List Text) (loops : List Bool) (m : ℕ) (declared : Declared) (defined : List Text) (ks : List Constraint) (old new : Certificate) (outcome : Outcome) : Type 0 where
-  pub working : IsWorking names loops m new
-  pub rules : outcome ≡ Kept → flat_map (broken declared (certificate_of defined (sheet_by names new))) ks ≡ []
-  pub less : outcome ≡ Lowered → height (length names) (length loops) m new < height (length names) (length loops) m old
-  pub stays : outcome ≡ Stays → new ≡ old
   pub above : (d : Sheet) → ((o : Option Place) → claim_fits names (claim_there d o) ≡ true) → flat_map (broken declared (certificate_of defined d)) ks ≡ []
       → IsBelow (certificate_of defined d) (certificate_of defined (sheet_by names old)) → IsBelow (certificate_of defined d) (certificate_of defined (sheet_by names new))
 

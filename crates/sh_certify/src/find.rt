@@ -1,9 +1,12 @@
 //! The search for the greatest certificate.
-ghost use Rattle.std.specs.Prelude.{◌≡◌, ◌≤◌, ℕ, List, Bool, length, IfOk, OnOk};
+ghost use Rattle.std.specs.Prelude.{◌≡◌, ◌≤◌, ℕ, List, Bool, true, length, IfOk, OnOk};
+ghost use Rattle.std.specs.List.{list_all};
 ghost use Rattle.sh_tree.specs.program.Trees.{script_of};
+ghost use Rattle.sh_facts.specs.Forms.{is_variable};
 ghost use Rattle.sh_facts.specs.Rules.{script_bounds};
 ghost use Rattle.sh_accept.specs.Accepted.{IsAdmitted, functions_in};
 ghost use Rattle.sh_accept.specs.Answers.{IsGreatest};
+ghost use Rattle.sh_certify.specs.Next.{IsOfScript};
 ghost use Rattle.sh_certify.specs.Sweeps.{IsReady};
 ghost use Rattle.sh_certify.specs.Turns.{IsSettled, sheet_by};
 ghost use Rattle.sh_certify.specs.Working.{IsWorking};
@@ -23,7 +26,9 @@ use std::alloc::{AllocError, Global};
 // Sweeps over the commands, and takes a turn, until the certificate keeps all flow rules. Each time there are twice as many sweeps, so of a script that takes
 // many there are few turns.
 fn settle(subject: &Subject<'_>, draft: &mut Draft) -> Result<(), AllocError>
-    requires { IsReady subject.now draft.old.certificate draft.old.probe.count }
+    requires ready { IsReady subject.now draft.old.certificate draft.old.probe.count }
+    requires variables { list_all is_variable subject.now.names.now ≡ true }
+    requires working { IsOfScript subject.now draft.old.certificate }
     ensures { OnOk result ((loops : List Bool) (functions : ℕ) → IsWorking subject.now.names.now loops functions draft.old.certificate
         → IsSettled subject.now.names.now loops functions subject.now.policy.now (functions_in subject.now.script.now subject.now.tree.now)
         (script_bounds (script_of subject.now.script.now subject.now.tree.now)) draft.old.certificate draft.new.certificate) }
@@ -49,11 +54,13 @@ fn settle(subject: &Subject<'_>, draft: &mut Draft) -> Result<(), AllocError>
 ///
 /// # Errors
 ///
-/// Where a growth was refused or no place for a row is left; and where a turn lowers nothing though not all is kept (`turn`).
+/// Where a growth was refused or no place for a row is left.
 pub fn find(alloc: Global, subject: &Subject<'_>) -> Result<Certificate, AllocError>
     requires { IsAdmitted subject.now.script.now subject.now.policy.now subject.now.tree.now subject.now.names.now }
     ensures { IfOk result (λ c. IsGreatest subject.now.script.now subject.now.policy.now subject.now.tree.now subject.now.names.now (sheet_by subject.now.names.now c)) }
 {
+    // Its clause says that each is a name, so all that is known may be written.
+    let _declared = subject.policy.names();
     let commands = commands(alloc, subject.tree)?;
     let count = subject.names.count();
     let functions = subject.table.functions().len();

@@ -1,5 +1,5 @@
 //! What is gathered of all that the flow rules ask of a certificate.
-ghost use Rattle.std.specs.Prelude.{◌≡◌, length, option_map};
+ghost use Rattle.std.specs.Prelude.{◌≡◌, length, option_and_then, option_map};
 ghost use Rattle.std.specs.Option.{option_copied};
 ghost use Rattle.sh_facts.specs.Certificates.{drops_of, in_byte_order};
 ghost use Rattle.sh_facts.specs.Knowledge.{AreNumbered, knowledge_facts};
@@ -7,7 +7,7 @@ ghost use Rattle.sh_facts.specs.Slots.{entry_of};
 ghost use Rattle.sh_rules.specs.Asking.{one_function, one_variable};
 ghost use Rattle.sh_rules.specs.Settings.{certificate};
 ghost use Rattle.sh_rules.specs.Walks.{setting};
-ghost use Rattle.sh_certify.specs.Gathered.{is_at, is_number};
+ghost use Rattle.sh_certify.specs.Gathered.{fitting, fitting_place, is_at, is_number, next_of};
 ghost use Rattle.sh_certify.specs.Gathering as gathering;
 ghost use Rattle.sh_certify.specs.Numbers.{by_number, numbers_in};
 ghost use Rattle.sh_certify.specs.Spots.{place_at};
@@ -15,7 +15,7 @@ ghost use Rattle.sh_certify.specs.Turns.{IsNew, gathered_of};
 
 use crate::place::{Part, Place};
 use crate::sights::{add_name, add_row, met, sight_of};
-use crate::spot::{Spot, index_of};
+use crate::spot::{Spot, fitting, index_of};
 use sh_facts::certificate::{Drops, FunctionEntry};
 use sh_facts::knowledge::Knowledge;
 use sh_facts::names::Names;
@@ -38,7 +38,7 @@ pub struct Gather {
     pub known: Option<Sight>,
     pub vars: NumberSet,
     pub functions: NumberSet,
-    /// Something else was asked of these that is not kept.
+    /// Of these others something was asked that is not kept.
     pub next: Target,
 }
 
@@ -53,25 +53,28 @@ impl Target {
             function: 0,
         }
     }
+}
 
-    // With this place, if there is one.
-    fn at_place(self, spot: Option<Spot>) -> Target {
-        match spot.and_then(Spot::place) {
-            Some(place) => Target { place, ..self },
-            None => self,
-        }
+// The place that is next: this one, if it is one, unless it is passed over.
+#[tactic(auto, unfolding(crate::specs::Gathered::next_of))]
+fn next_place(is_passed: bool, spot: Option<Spot>, next: Place) -> Place
+    ensures { result ≡ next_of is_passed (option_and_then fitting_place (option_map place_at spot)) next }
+{
+    if is_passed {
+        return next;
     }
+    spot.and_then(Spot::place).unwrap_or(next)
+}
 
-    // With the function of this index, if there is one.
-    fn at_function(self, index: Option<usize>) -> Target {
-        match index {
-            Some(index) => Target {
-                function: u16::try_from(index).unwrap_or(self.function),
-                ..self
-            },
-            None => self,
-        }
+// The index of the function that is next: this one, if it is one, unless it is passed over.
+#[tactic(auto, unfolding(crate::specs::Gathered::next_of))]
+fn next_function(is_passed: bool, index: Option<usize>, next: u16) -> u16
+    ensures { result ≡ next_of is_passed (option_and_then fitting index) next }
+{
+    if is_passed {
+        return next;
     }
+    index.and_then(fitting).unwrap_or(next)
 }
 
 // Whether this is the place.
@@ -121,42 +124,27 @@ impl Gather {
         }
     }
 
-    // Something is asked, which is kept or not; where it is not, this is next.
-    fn test(&mut self, is_kept: bool, next: Target)
-        ensures { gathered_of self.new ≡ gathering.tested is_kept (gathered_of self.old) }
-    {
-        if is_kept {
-            return;
-        }
-        self.kept = false;
-        self.next = next;
-    }
-
     /// Something is asked of a place, which is kept or not; says whether this is the one that is sought.
     #[tactic(auto, unfolding(crate::specs::Turns::gathered_of))]
     pub fn see_place(&mut self, spot: Option<Spot>, is_kept: bool) -> bool
-        ensures kept { gathered_of self.new ≡ gathering.tested is_kept (gathered_of self.old) }
+        ensures kept { gathered_of self.new ≡ gathering.tested_at (option_map place_at spot) is_kept (gathered_of self.old) }
         ensures here { result ≡ is_at (option_map place_at spot) (gathered_of self.old).place }
     {
         let is_here = is_place(spot, self.target.place);
-        let next = if is_here {
-            self.next
-        } else {
-            self.next.at_place(spot)
-        };
-        self.test(is_kept, next);
+        self.kept &= is_kept;
+        self.next.place = next_place(is_kept | is_here, spot, self.next.place);
         is_here
     }
 
     /// Something is asked of the function of an index, which is kept or not; says whether this is the one that is sought.
     #[tactic(auto, unfolding(crate::specs::Turns::gathered_of))]
     pub fn see_function(&mut self, index: Option<usize>, is_kept: bool) -> bool
-        ensures kept { gathered_of self.new ≡ gathering.tested is_kept (gathered_of self.old) }
+        ensures kept { gathered_of self.new ≡ gathering.tested_by index is_kept (gathered_of self.old) }
         ensures here { result ≡ is_number index (gathered_of self.old).function }
     {
         let is_here = is_index(index, self.target.function);
-        let next = self.next.at_function(index);
-        self.test(is_kept, next);
+        self.kept &= is_kept;
+        self.next.function = next_function(is_kept | is_here, index, self.next.function);
         is_here
     }
 

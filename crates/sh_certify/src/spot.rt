@@ -4,6 +4,7 @@ ghost use Rattle.std.specs.Str.{bytes_eq};
 ghost use Rattle.sh_facts.specs.Names.{number_of};
 ghost use Rattle.sh_rules.specs.Places.{slot_of};
 ghost use Rattle.sh_rules.specs.Walks.{setting};
+ghost use Rattle.sh_certify.specs.Gathered.{fitting, fitting_place};
 ghost use Rattle.sh_certify.specs.Places as spec;
 ghost use Rattle.sh_certify.specs.Spots.{place_at};
 
@@ -18,6 +19,14 @@ pub struct Spot {
     pub index: usize,
 }
 
+/// The index, if a script may have a command or a function of it.
+#[tactic(auto, unfolding(crate::specs::Gathered::fitting))]
+pub fn fitting(index: usize) -> Option<u16>
+    ensures { result ≡ fitting index }
+{
+    u16::try_from(index).ok()
+}
+
 impl Spot {
     /// Whether this is that place.
     pub fn is(self, place: Place) -> bool
@@ -26,9 +35,12 @@ impl Spot {
         self.index == place.index as usize && self.part.rank() == place.part.rank()
     }
 
-    /// The place, if its index is that of a command or a function that may be.
-    pub fn place(self) -> Option<Place> {
-        let index = u16::try_from(self.index).ok()?;
+    /// The place, if a script may have a command or a function of its index.
+    #[tactic(auto, unfolding(crate::specs::Gathered::fitting_place))]
+    pub fn place(self) -> Option<Place>
+        ensures { result ≡ fitting_place (place_at self) }
+    {
+        let index = fitting(self.index)?;
         Some(Place {
             part: self.part,
             index,

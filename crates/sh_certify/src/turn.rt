@@ -1,8 +1,10 @@
 //! Turns of the search: a walk over the script, and what is lowered by it.
-ghost use Rattle.std.specs.Prelude.{◌≡◌, ◌≤◌, ℕ, List, Bool, true, false, [], length, flat_map, Option, IfOk};
+ghost use Rattle.std.specs.Prelude.{◌≡◌, ◌≤◌, ◌⊎◌, ℕ, List, Bool, true, false, [], length, flat_map, Option, IfOk};
+ghost use Rattle.std.specs.List.{list_all};
 ghost use Rattle.sh_tree.specs.declared.limits.TheConstants.{MAX_NAMES};
 ghost use Rattle.sh_tree.specs.program.Trees.{script_of};
 ghost use Rattle.sh_facts.specs.Faults.{broken};
+ghost use Rattle.sh_facts.specs.Forms.{is_variable};
 ghost use Rattle.sh_facts.specs.Order.{IsBelow};
 ghost use Rattle.sh_facts.specs.Reading.{claim_fits};
 ghost use Rattle.sh_facts.specs.Rules.{script_bounds};
@@ -12,7 +14,8 @@ ghost use Rattle.sh_accept.specs.Accepted.{IsAdmitted, claims_in, functions_in};
 ghost use Rattle.sh_certify.specs.declared.place.Place as place;
 ghost use Rattle.sh_certify.specs.Idle.{ClaimStays, IsIdle};
 ghost use Rattle.sh_certify.specs.Places.{claim_there};
-ghost use Rattle.sh_certify.specs.Turns.{AreNumbers, IsAttempt, IsSunk, IsTurn, Stands, gathered_of, sheet_by};
+ghost use Rattle.sh_certify.specs.Next.{IsBroken, IsOfScript};
+ghost use Rattle.sh_certify.specs.Turns.{AreNumbers, IsSunk, IsTurn, Stands, gathered_of, sheet_by};
 ghost use Rattle.sh_certify.specs.Working.{IsLowered, IsWorking};
 ghost use Rattle.sh_certify.specs.Writable.{IsWritten, sets_in};
 
@@ -28,17 +31,6 @@ use sh_find::sight::Sight;
 use sh_rows::bits::BitRow;
 use std::alloc::AllocError;
 
-/// What became of a certificate.
-#[derive(Clone, Copy, Debug)]
-pub enum Outcome {
-    /// It keeps all flow rules.
-    Kept,
-    /// It claims less, or lets a function drop more.
-    Lowered,
-    /// It is as it was.
-    Stays,
-}
-
 // All that is asked of the certificate, gathered for a place and a function.
 fn asked(subject: &Subject<'_>, certificate: &Certificate, target: Target) -> Gather
     requires sized { certificate.now.rows.count ≡ length subject.now.names.now }
@@ -50,6 +42,10 @@ fn asked(subject: &Subject<'_>, certificate: &Certificate, target: Target) -> Ga
         → flat_map (broken subject.now.policy.now (claims_in subject.now.script.now subject.now.tree.now d)) (script_bounds (script_of subject.now.script.now subject.now.tree.now)) ≡ []
         → IsBelow (claims_in subject.now.script.now subject.now.tree.now d) (claims_in subject.now.script.now subject.now.tree.now (sheet_by subject.now.names.now certificate.now))
         → Stands subject.now.names.now d (gathered_of result) }
+    ensures next { result.kept ≡ false → IsOfScript subject.now certificate.now
+        → IsBroken subject.now certificate.now target ⊎ IsBroken subject.now certificate.now result.next }
+    ensures idle { list_all is_variable subject.now.names.now ≡ true → IsOfScript subject.now certificate.now
+        → IsIdle certificate.now (sets_in subject.now.writable.now.vars subject.now.writable.now.functions) (gathered_of result) → IsBroken subject.now certificate.now target → ⊥ }
 {
     let gather = Gather::new(target);
     ask(subject, certificate, gather)
@@ -126,38 +122,34 @@ pub fn lower_gathered(
     Ok(lowered || counted)
 }
 
-// Asks all of the certificate, and lowers it where it does not keep that. The next attempt is at a place and a function of which more was asked.
-fn attempt(
+// Lowers a certificate at a place and a function where it breaks a flow rule, and says of which others more was asked.
+fn lower_next(
     subject: &Subject<'_>,
     certificate: &mut Certificate,
     probe: &mut BitRow,
-    target: &mut Target,
-) -> Result<Outcome, AllocError>
+    target: Target,
+) -> Result<Target, AllocError>
     requires admitted { IsAdmitted subject.now.script.now subject.now.policy.now subject.now.tree.now subject.now.names.now }
-    requires working { (loops : List Bool) × (functions : ℕ) × IsWorking subject.now.names.now loops functions certificate.old }
+    requires variables { list_all is_variable subject.now.names.now ≡ true }
+    requires working { IsOfScript subject.now certificate.old }
+    requires breaks { IsBroken subject.now certificate.old target }
     requires probed { probe.old.count ≡ length subject.now.names.now }
-    ensures attempt { IfOk result (λ outcome. (loops : List Bool) (functions : ℕ) → IsWorking subject.now.names.now loops functions certificate.old
-        → IsAttempt subject.now.names.now loops functions subject.now.policy.now (functions_in subject.now.script.now subject.now.tree.now)
-        (script_bounds (script_of subject.now.script.now subject.now.tree.now)) certificate.old certificate.new outcome) }
-    ensures probed { IfOk result (λ outcome. probe.new.count ≡ length subject.now.names.now) }
+    ensures turn { IfOk result (λ next. (loops : List Bool) (functions : ℕ) → IsWorking subject.now.names.now loops functions certificate.old
+        → IsTurn subject.now.names.now loops functions subject.now.policy.now (functions_in subject.now.script.now subject.now.tree.now)
+        (script_bounds (script_of subject.now.script.now subject.now.tree.now)) certificate.old certificate.new false) }
+    ensures probed { IfOk result (λ next. probe.new.count ≡ length subject.now.names.now) }
 {
-    let gather = asked(subject, certificate, *target);
-    if gather.kept {
-        return Ok(Outcome::Kept);
-    }
-    *target = gather.next;
-    if lower_gathered(subject.names, subject.writable, certificate, probe, &gather)? {
-        return Ok(Outcome::Lowered);
-    }
-    Ok(Outcome::Stays)
+    let gather = asked(subject, certificate, target);
+    lower_gathered(subject.names, subject.writable, certificate, probe, &gather)?;
+    Ok(gather.next)
 }
 
-/// Lowers a certificate where it does not keep all flow rules, and says whether it keeps them.
+/// Lowers a certificate where it does not keep all flow rules, and says whether it keeps them. The next turn begins at a place and a function of which more
+/// was asked.
 ///
 /// # Errors
 ///
-/// Where a growth was refused or no place for a row is left; and where nothing is lowered twice though not all is kept. Each place of which a rule asks
-/// is there (`laws::places`), so no script that is read is known to come to that, but it is not proved that none does.
+/// Where a growth was refused or no place for a row is left.
 pub fn turn(
     subject: &Subject<'_>,
     certificate: &mut Certificate,
@@ -165,20 +157,22 @@ pub fn turn(
     target: &mut Target,
 ) -> Result<bool, AllocError>
     requires admitted { IsAdmitted subject.now.script.now subject.now.policy.now subject.now.tree.now subject.now.names.now }
-    requires working { (loops : List Bool) × (functions : ℕ) × IsWorking subject.now.names.now loops functions certificate.old }
+    requires variables { list_all is_variable subject.now.names.now ≡ true }
+    requires working { IsOfScript subject.now certificate.old }
     requires probed { probe.old.count ≡ length subject.now.names.now }
     ensures turn { IfOk result (λ kept. (loops : List Bool) (functions : ℕ) → IsWorking subject.now.names.now loops functions certificate.old
         → IsTurn subject.now.names.now loops functions subject.now.policy.now (functions_in subject.now.script.now subject.now.tree.now)
         (script_bounds (script_of subject.now.script.now subject.now.tree.now)) certificate.old certificate.new kept) }
     ensures probed { IfOk result (λ kept. probe.new.count ≡ length subject.now.names.now) }
 {
-    match attempt(subject, certificate, probe, target)? {
-        Outcome::Kept => Ok(true),
-        Outcome::Lowered => Ok(false),
-        Outcome::Stays => match attempt(subject, certificate, probe, target)? {
-            Outcome::Kept => Ok(true),
-            Outcome::Lowered => Ok(false),
-            Outcome::Stays => Err(AllocError),
-        },
+    let gather = asked(subject, certificate, *target);
+    if gather.kept {
+        return Ok(true);
     }
+    if lower_gathered(subject.names, subject.writable, certificate, probe, &gather)? {
+        *target = gather.next;
+        return Ok(false);
+    }
+    *target = lower_next(subject, certificate, probe, gather.next)?;
+    Ok(false)
 }

@@ -1,3 +1,4 @@
+use Rattle.std.proofs.Common.{length}
 use Rattle.sh_tree.specs.program.Trees.{script_of}
 use Rattle.sh_facts.specs.Rules.{script_bounds}
 use Rattle.sh_accept.specs.Accepted.{functions_in}
@@ -6,17 +7,19 @@ use Rattle.sh_certify.proofs.SweepLemmas.{settled, swept_turn, turned_more}
 use Rattle.sh_certify.proofs.find.settle.Goals as goal
 
 pub turn-requires-clause-admitted : goal.turn-requires-clause-admitted
-turn-requires-clause-admitted c = c.requires.admitted
+turn-requires-clause-admitted c = c.requires.ready.admitted
 
 pub turn-requires-clause-working : goal.turn-requires-clause-working
 turn-requires-clause-working c =
-    let r = c.requires in
-    (r.loops, r.functions, c.in_ok-sweep_often.ensures.working r.loops r.functions (c.turns.invariant.turned.working r.loops r.functions r.working))
+    let s = c.args.subject.now in
+    let r = c.requires.working in
+    let m = length (functions_in s.script.now s.tree.now) in
+    record { loops = r.loops; are_loops = r.are_loops; working = c.in_ok-sweep_often.ensures.working r.loops m (c.turns.invariant.turned.working r.loops m r.working) }
 
 pub turns-smaller : goal.turns-smaller
 turns-smaller c =
     let s = c.args.subject.now in
-    let r = c.requires in
+    let r = c.requires.ready in
     let now = c.turns.invariant.turned.working r.loops r.functions r.working in
     less_left s.names.now r.loops r.functions s.policy.now (functions_in s.script.now s.tree.now) (script_bounds (script_of s.script.now s.tree.now)) c.turns.draft.certificate c.turn.new.certificate c.turns.kept c.in_ok-kept.kept c.turns-test.true now
     (swept_turn s r.loops r.functions c.turns.draft.certificate c.sweep_often.new.draft.certificate c.turn.new.certificate _ c.in_ok-kept.kept now c.in_ok-sweep_often.ensures
@@ -24,7 +27,7 @@ turns-smaller c =
 
 pub turns-preserved : goal.turns-preserved
 turns-preserved c = record {
-  turned = turned_more c.args.subject.now c.args.draft.now.certificate c.turns.draft.certificate c.sweep_often.new.draft.certificate c.turn.new.certificate _ _ _ _ c.turns.kept c.in_ok-kept.kept c.requires c.turns.invariant.turned
+  turned = turned_more c.args.subject.now c.args.draft.now.certificate c.turns.draft.certificate c.sweep_often.new.draft.certificate c.turn.new.certificate _ _ _ _ c.turns.kept c.in_ok-kept.kept c.requires.ready c.turns.invariant.turned
       c.in_ok-sweep_often.ensures c.in_ok-kept.ensures.turn c.in_ok-kept.ensures.probed;
 }
 
