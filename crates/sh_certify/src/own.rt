@@ -20,8 +20,7 @@ use sh_facts::knowledge::Knowledge;
 use sh_facts::rule::FlowRule;
 use sh_rules::around::Around;
 use sh_rules::claims::Claims;
-use sh_rules::rules::Rules;
-use sh_rules::walk::Visitor;
+use sh_rules::rules::tell_command;
 use sh_tree::tree::{Command, Kind};
 use std::alloc::AllocError;
 
@@ -45,10 +44,9 @@ fn visit(
         calls: subject.table,
         certificate,
     };
-    let mut rules = Rules { asked: gather };
-    rules.visit(&claims, by, around, known, command);
-    let Rules { asked } = rules;
-    asked
+    let mut gather = gather;
+    tell_command(&claims, by, around, known, command, &mut gather);
+    gather
 }
 
 // What the flow rules ask at a command, gathered for a place and a function.

@@ -14,4 +14,4 @@ invariant_of-claims c =
 pub returns : goal.returns
 returns c =
     let s = c.args.subject.now in
-    met_by_table _ s.tree.now s.listed c.args.by c.args.around.now c.args.known.now c.args.command.now (gathered_of c.args.gather) _ c.visit.ensures
+    met_by_table _ s.tree.now s.listed c.args.by c.args.around.now c.args.known.now c.args.command.now (gathered_of c.args.gather) _ c.tell_command.ensures
