@@ -151,13 +151,13 @@ module _ (names : List Text) (h : AreNumbered names) where
 
 -- One thing more
 
-pub nothing_met : (g : Gathered) → g ≡ met number.NotReached g
+pub with_nothing : (f : number.Facts) → f ≡ number.meet f number.NotReached
 unfolding number.meet
+with_nothing number.NotReached = refl
+with_nothing (number.Known v f a) = refl
+
+pub nothing_met : (g : Gathered) → g ≡ met number.NotReached g
 nothing_met g = ap (λ f. record g { known = f }) (with_nothing g.known)
-  where
-    with_nothing : (f : number.Facts) → f ≡ number.meet f number.NotReached
-    with_nothing number.NotReached = refl
-    with_nothing (number.Known v f a) = refl
 
 pub known_put : (g : Gathered) (f h : number.Facts) → h ≡ number.meet g.known f → record g { known = h } ≡ met f g
 known_put g f h e = ap (λ k. record g { known = k }) e

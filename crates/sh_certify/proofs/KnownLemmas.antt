@@ -22,6 +22,7 @@ use Rattle.sh_rules.specs.declared.behind.Behind as code
 use Rattle.sh_rules.specs.declared.claims.Claims.{Claims}
 use Rattle.sh_rules.specs.declared.walk.Course.{Course}
 use Rattle.sh_rules.specs.Behind.{Behind, started}
+use Rattle.sh_rules.specs.Asking.{Asking}
 use Rattle.sh_rules.specs.Settings.{Setting, gained, known_at}
 use Rattle.sh_rules.specs.Steps.{met_in}
 use Rattle.sh_rules.specs.Visits.{command_by}
@@ -30,8 +31,6 @@ use Rattle.sh_rules.specs.Walks.{behind_in, facts_in, item_left, setting}
 use Rattle.sh_rules.proofs.LedLemmas.{Follows, item_stands, next_stands, pipeline_stands, started_led}
 use Rattle.sh_accept.specs.Accepted.{functions_in}
 use Rattle.sh_certify.specs.declared.subject.Subject.{Subject}
-use Rattle.sh_certify.specs.Gathered.{Gathered}
-use Rattle.sh_certify.specs.Gathering.{gathering}
 use Rattle.sh_certify.specs.Sweeps.{IsOver, IsPassed, Knows, KnowsBehind, known_behind, setting_by}
 use Rattle.sh_certify.proofs.SweepLemmas.{behind_of, knows_follow, setting_is, stands_of}
 
@@ -47,9 +46,9 @@ module _ (c : Claims) (t : Script) (table : c.calls.now ≡ table_of c.script.no
   pub behind_by_table : (F : Setting → Behind) (o : code.Behind) → behind_in (setting c) o ≡ F (setting c) → behind_in by_table o ≡ F by_table
   behind_by_table F o is = subst (λ x. behind_in x o ≡ F x) (setting_is c t table) is
 
-  pub met_by_table : (by : FlowRule) (y : Around) (k : Knowledge) (m : Command) (old new : Gathered) → new ≡ command_by gathering (setting c) old (met_in (setting c) by y k m)
-      → new ≡ command_by gathering by_table old (met_in by_table by y k m)
-  met_by_table by y k m old new is = subst (λ x. new ≡ command_by gathering x old (met_in x by y k m)) (setting_is c t table) is
+  pub met_by_table : {K : Type 0} (a : Asking K) (by : FlowRule) (y : Around) (k : Knowledge) (m : Command) (old new : K) → new ≡ command_by a (setting c) old (met_in (setting c) by y k m)
+      → new ≡ command_by a by_table old (met_in by_table by y k m)
+  met_by_table a by y k m old new is = subst (λ x. new ≡ command_by a x old (met_in x by y k m)) (setting_is c t table) is
 
 -- What is known
 

@@ -25,3 +25,4 @@ pub mod FunctionLemmas
 pub mod LostLemmas
 pub mod IdleLemmas
 pub mod StayLemmas
+pub mod SideLemmas

@@ -18,8 +18,9 @@ use Rattle.sh_facts.specs.Rules.{Constraint, bounds}
 use Rattle.sh_facts.specs.Sheets.{Sheet}
 use Rattle.sh_facts.specs.Views.{Slot}
 use Rattle.sh_facts.proofs.EachLemmas.{none_both, each_none, each_of_all, each_parts}
-use Rattle.sh_rules.specs.Above.{Allows, Ask, DoesAsked, KeepsThere, OfFunction, OfPlace, ask}
-use Rattle.sh_rules.specs.Asked.{has_numbered_prefixes}
+use Rattle.sh_rules.specs.Above.{Allows, Anything, Ask, Asks, DoesAsked, KeepsThere, OfFunction, OfPlace, ask}
+use Rattle.sh_rules.specs.Asked.{ByConstraints, has_numbered_prefixes}
+use Rattle.sh_rules.specs.Asking.{Asking}
 use Rattle.sh_rules.specs.CommandBounds.{command_told}
 use Rattle.sh_rules.specs.Meaning.{met_at}
 use Rattle.sh_rules.specs.Settings.{Setting, claimed_at}
@@ -50,7 +51,7 @@ module _ (s : Subject) (c : kept.Certificate) where
   asks_numbered (OfFunction function f lost ∷ qs) g a = asks_numbered qs _ (drop_numbered s.names.now (functions_in s.script.now s.tree.now) s.policy.now function _ lost g a)
 
   module _ (other : Sheet) (keeps : Keeps s other) where
-    named_claim : (slot : Slot) → among s.names.now (facts ((claims_in s.script.now s.tree.now other).claim slot)) ≡ facts ((claims_in s.script.now s.tree.now other).claim slot)
+    pub named_claim : (slot : Slot) → among s.names.now (facts ((claims_in s.script.now s.tree.now other).claim slot)) ≡ facts ((claims_in s.script.now s.tree.now other).claim slot)
     named_claim slot =
         claim_among s.names.now _
         (ap (claim_fits s.names.now) (placed (functions_in s.script.now s.tree.now) other slot) ∙ keeps.fit (place_of (functions_in s.script.now s.tree.now) slot))
@@ -74,15 +75,15 @@ module _ (s : Subject) (admitted : IsAdmitted s.script.now s.policy.now s.tree.n
   abbrev functions : List p.Text
   functions = functions_in s.script.now s.tree.now
 
-  abbrev by_table : kept.Certificate → Entered → Type 0
-  by_table c e = DoesAsked gathering (setting_by s c) functions (command_by gathering (setting_by s c)) e
+  abbrev by_table : {K : Type 0} → Asking K → kept.Certificate → Entered → Type 0
+  by_table a c e = DoesAsked a (setting_by s c) functions (command_by a (setting_by s c)) e
 
-  names_numbered : AreNumbered s.names.now
+  pub names_numbered : AreNumbered s.names.now
   names_numbered = numbered s.script.now s.policy.now s.tree.now s.names.now admitted
 
-  all_does : (c : kept.Certificate) → Each (by_table c) commands
-  all_does c =
-      visits_do_asked gathering (setting_by s c) s.script.now s.tree.now refl (commands_numbered s.script.now s.policy.now s.tree.now s.names.now admitted)
+  all_does : {K : Type 0} (a : Asking K) (c : kept.Certificate) → Each (by_table a c) commands
+  all_does a c =
+      visits_do_asked a (setting_by s c) s.script.now s.tree.now refl (commands_numbered s.script.now s.policy.now s.tree.now s.names.now admitted)
       (few_commands s.script.now s.policy.now s.tree.now s.names.now admitted)
 
   all_numbered : list_all (has_numbered_prefixes s.names.now) commands ≡ true
@@ -101,8 +102,8 @@ module _ (s : Subject) (admitted : IsAdmitted s.script.now s.policy.now s.tree.n
       none_both (flat_map f ks) (flat_map f ls) (sym (flat_map-append f ks ls) ∙ sym (ap (flat_map f) (flat_map-append (bounds functions) es fs)) ∙ none)
 
   module _ (es : List Entered) (part : IsPart s es) where
-    does_here : (c : kept.Certificate) → Each (by_table c) es
-    does_here c = (each_parts (by_table c) es part.back (each_parts (by_table c) part.front (es ++ part.back) (subst (Each (by_table c)) part.whole (all_does c))).1).0
+    does_here : {K : Type 0} (a : Asking K) (c : kept.Certificate) → Each (by_table a c) es
+    does_here a c = (each_parts (by_table a c) es part.back (each_parts (by_table a c) part.front (es ++ part.back) (subst (Each (by_table a c)) part.whole (all_does a c))).1).0
 
     prefixes_here : list_all (has_numbered_prefixes s.names.now) es ≡ true
     prefixes_here =
@@ -117,27 +118,43 @@ module _ (s : Subject) (admitted : IsAdmitted s.script.now s.policy.now s.tree.n
         subst (KeepsThere s.policy.now (claims_in s.script.now s.tree.now other) functions) part.whole (all_kept other keeps) in
         (kept_parts other es part.back (kept_parts other part.front (es ++ part.back) all).1).0
 
-  -- one command by itself
+  -- one command by itself, whatever is done with what it asks
+
+  module _ {K : Type 0} (a : Asking K) (e : Entered) (part : IsPart s (e ∷ [])) (c : kept.Certificate) (by : ByConstraints K a (setting_by s c) s.policy.now) (k : Facts) (old : K) where
+    abbrev visited : K
+    visited = command_by a (setting_by s c) old (met_at e k)
+
+    same_told : visited ≡ command_told a (setting_by s c) functions old (met_at e k)
+    unfolding Each
+    same_told = (does_here (e ∷ []) part a c).0 k old
+
+    prefixed : has_numbered_prefixes s.names.now e ≡ true
+    prefixed = (and_parts (has_numbered_prefixes s.names.now e) true (prefixes_here (e ∷ []) part)).0
+
+    pub one_asks : Asks a (setting_by s c) Anything old visited
+    one_asks = subst (Asks a (setting_by s c) Anything old) (sym same_told) ((stays_above a).asks (setting_by s c) s.policy.now by functions names_numbered e k old prefixed)
+
+    pub one_allows : IsOver s c → Knows s e.seen k → (other : Sheet) → Keeps s other → Asks a (setting_by s c) (Allows s.names.now (claims_in s.script.now s.tree.now other)) old visited
+    one_allows over knows other keeps =
+        subst (Asks a (setting_by s c) (Allows s.names.now (claims_in s.script.now s.tree.now other)) old) (sym same_told)
+        ((stays_above a).allows (setting_by s c) s.policy.now by functions (claims_in s.script.now s.tree.now other) names_numbered (over other keeps) e k old prefixed (knows other keeps)
+        (keeps_here (e ∷ []) part other keeps))
+
+  -- what is gathered of it
 
   module _ (e : Entered) (part : IsPart s (e ∷ [])) (c : kept.Certificate) (k : Facts) (old : Gathered) where
     abbrev new : Gathered
     new = command_by gathering (setting_by s c) old (met_at e k)
 
-    same_told : new ≡ command_told gathering (setting_by s c) functions old (met_at e k)
-    unfolding Each
-    same_told = (does_here (e ∷ []) part c).0 k old
-
-    prefixed : has_numbered_prefixes s.names.now e ≡ true
-    prefixed = (and_parts (has_numbered_prefixes s.names.now e) true (prefixes_here (e ∷ []) part)).0
+    abbrev constraints : ByConstraints Gathered gathering (setting_by s c) s.policy.now
+    constraints = by_constraints (setting_by s c) names_numbered s.policy.now
 
     pub one_numbers : AreNumbers (length s.names.now) old → AreNumbers (length s.names.now) new
     one_numbers a =
-        let asks = (stays_above gathering).asks (setting_by s c) s.policy.now (by_constraints (setting_by s c) names_numbered s.policy.now) functions names_numbered e k old prefixed in
-        subst (AreNumbers (length s.names.now)) (sym same_told) (subst (AreNumbers (length s.names.now)) (sym asks.reached) (asks_numbered s c asks.asks old a))
+        let asks = one_asks gathering e part c constraints k old in
+        subst (AreNumbers (length s.names.now)) (sym asks.reached) (asks_numbered s c asks.asks old a)
 
     pub one_stands : IsOver s c → Knows s e.seen k → (other : Sheet) → Keeps s other → Stands s.names.now other old → Stands s.names.now other new
     one_stands over knows other keeps st =
-        let asks =
-        (stays_above gathering).allows (setting_by s c) s.policy.now (by_constraints (setting_by s c) names_numbered s.policy.now) functions (claims_in s.script.now s.tree.now other) names_numbered
-        (over other keeps) e k old prefixed (knows other keeps) (keeps_here (e ∷ []) part other keeps) in
-        subst (Stands s.names.now other) (sym same_told) (subst (Stands s.names.now other) (sym asks.reached) (asks_stand s c other keeps asks.asks old asks.each st))
+        let asks = one_allows gathering e part c constraints k old over knows other keeps in
+        subst (Stands s.names.now other) (sym asks.reached) (asks_stand s c other keeps asks.asks old asks.each st)

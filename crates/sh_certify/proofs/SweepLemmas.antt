@@ -1,12 +1,15 @@
 -- A sweep over the commands of a script stays above each certificate that keeps the rules.
-use Rattle.std.proofs.Common.{◌≡◌, ℕ, ◌≤◌, Bool, true, false, List, [], ◌++◌, append_assoc, length, flat_map, refl, sym, ap, ◌∙◌, subst, arith, true≢false}
+use Rattle.std.proofs.Common.{◌≡◌, ℕ, ◌≤◌, Bool, true, false, Some, List, [], ◌++◌, append_assoc, length, flat_map, refl, sym, ap, ◌∙◌, subst, arith, true≢false}
 use Rattle.sh_facts.specs.declared.certificate.Certificate as kept
 use Rattle.sh_facts.specs.Entries.{Entered}
+use Rattle.sh_facts.specs.Facts.{facts}
 use Rattle.sh_facts.specs.Faults.{broken}
 use Rattle.sh_facts.specs.Knowledge.{AreNumbered}
+use Rattle.sh_facts.specs.Order.{IsBelow, IsWithin}
 use Rattle.sh_facts.specs.Rules.{script_bounds}
 use Rattle.sh_facts.specs.Sheets.{Sheet}
 use Rattle.sh_facts.specs.Views.{After}
+use Rattle.sh_find.specs.Facts as number
 use Rattle.sh_rules.specs.Behind.{Behind}
 use Rattle.sh_rules.proofs.AboveLemmas.{above}
 use Rattle.sh_rules.proofs.LedLemmas as led
@@ -18,11 +21,16 @@ use Rattle.sh_tree.specs.program.Trees.{script_of}
 use Rattle.sh_rules.specs.declared.claims.Claims.{Claims}
 use Rattle.sh_rules.specs.Walks.{setting}
 use Rattle.sh_certify.specs.declared.subject.Subject.{Subject}
+use Rattle.sh_certify.specs.declared.place.Place.{Place}
+use Rattle.sh_certify.specs.Numbers.{by_name}
+use Rattle.sh_certify.specs.Places.{claim_there}
 use Rattle.sh_certify.specs.Sweeps.{setting_by, Keeps, IsOver, Knows, KnowsBehind, IsPart, IsReady, IsSwept}
 use Rattle.sh_certify.specs.Gathered.{Gathered}
 use Rattle.sh_certify.specs.Turns.{IsSettled, IsSunk, IsTurn, Stands, sheet_by}
-use Rattle.sh_certify.specs.Working.{IsWorking, height}
+use Rattle.sh_certify.specs.Working.{IsLowered, IsWorking, height}
+use Rattle.sh_certify.proofs.AboveLemmas.{lowered_above}
 use Rattle.sh_certify.proofs.GreatestLemmas.{numbered}
+use Rattle.sh_certify.proofs.HeightLemmas.{lowered_less}
 
 module _ (s : Subject) where
   -- One after the other
@@ -163,3 +171,31 @@ sunk_swept s old new g changed n k r sunk stand probe =
         → height (length s.names.now) (length loops) m new ≤ height (length s.names.now) (length loops) m old
     lower loops m i true e = let l = i.less e in omega (arith, l)
     lower loops m i false e = subst (λ c. height (length s.names.now) (length loops) m new ≤ height (length s.names.now) (length loops) m c) (i.stays e) (same _)
+
+-- a place that is lowered to what is known there
+pub lowered_swept : (s : Subject) (old new : kept.Certificate) (p : Place) (known : number.Facts) (changed : Bool) (n k : ℕ) → IsReady s old n
+    → ((loops : List Bool) (m : ℕ) → IsWorking s.names.now loops m old → IsLowered old new p known changed)
+    → ((loops : List Bool) (m : ℕ) → IsWorking s.names.now loops m old → IsWorking s.names.now loops m new)
+    → ((other : Sheet) → Keeps s other → IsWithin (facts (claim_there other (Some p))) (by_name s.names.now known)) → k ≡ length s.names.now → IsSwept s old new k
+lowered_swept s old new p known changed n k r low works stand probe =
+    record {
+      working = works;
+      no_more = λ loops m w. lower loops m w (low loops m w) changed refl;
+      over = λ other keeps. above other keeps changed refl;
+      probe = probe;
+    }
+  where
+    same : (h : ℕ) → h ≤ h
+    same h = omega arith
+
+    lower : (loops : List Bool) (m : ℕ) → IsWorking s.names.now loops m old → IsLowered old new p known changed → (x : Bool) → changed ≡ x
+        → height (length s.names.now) (length loops) m new ≤ height (length s.names.now) (length loops) m old
+    lower loops m w i true e = let l = lowered_less s.names.now loops m old new p known w (works loops m w) (subst (IsLowered old new p known) e i) in omega (arith, l)
+    lower loops m w i false e = subst (λ c. height (length s.names.now) (length loops) m new ≤ height (length s.names.now) (length loops) m c) (i.stays e) (same _)
+
+    above : (other : Sheet) → Keeps s other → (x : Bool) → changed ≡ x → IsBelow (claims_in s.script.now s.tree.now other) (claims_in s.script.now s.tree.now (sheet_by s.names.now new))
+    above other keeps true e =
+        lowered_above s.names.now (names_numbered s old n r) (functions_in s.script.now s.tree.now) r.loops r.functions old new r.working (works r.loops r.functions r.working) other (r.over other keeps) p known
+        (subst (IsLowered old new p known) e (low r.loops r.functions r.working)) (stand other keeps)
+    above other keeps false e =
+        subst (λ c. IsBelow (claims_in s.script.now s.tree.now other) (claims_in s.script.now s.tree.now (sheet_by s.names.now c))) (sym ((low r.loops r.functions r.working).stays e)) (r.over other keeps)

@@ -48,18 +48,18 @@ module _ (names functions : List Text) where
   min_over : (a b c : ℕ) → min (min a b) c ≡ min a (min b c)
   min_over a b c = omega arith
 
-  meets_grouped : (f g h : number.Facts) → number.meet (number.meet f g) h ≡ number.meet f (number.meet g h)
+  pub meets_grouped : (f g h : number.Facts) → number.meet (number.meet f g) h ≡ number.meet f (number.meet g h)
   unfolding number.meet
   meets_grouped number.NotReached g h = refl
   meets_grouped (number.Known v f a) number.NotReached h = refl
   meets_grouped (number.Known v f a) (number.Known w g b) number.NotReached = refl
   meets_grouped (number.Known v f a) (number.Known w g b) (number.Known x h c) = known_of _ _ _ _ _ _ (min_over a b c) (fun_ext (λ k. and_over (v k) (w k) (x k))) (fun_ext (λ k. and_over (f k) (g k) (h k)))
 
-  if_meet : (b : Bool) (g f k fk : number.Facts) → number.meet (number.meet g f) k ≡ number.meet g fk → (if b then number.meet (if b then number.meet g f else g) k else (if b then number.meet g f else g)) ≡ (if b then number.meet g fk else g)
+  pub if_meet : (b : Bool) (g f k fk : number.Facts) → number.meet (number.meet g f) k ≡ number.meet g fk → (if b then number.meet (if b then number.meet g f else g) k else (if b then number.meet g f else g)) ≡ (if b then number.meet g fk else g)
   if_meet true g f k fk e = e
   if_meet false g f k fk e = refl
 
-  nothing_met : (b : Bool) (g : number.Facts) → g ≡ (if b then number.meet g number.NotReached else g)
+  pub nothing_met : (b : Bool) (g : number.Facts) → g ≡ (if b then number.meet g number.NotReached else g)
   unfolding number.meet
   nothing_met true number.NotReached = refl
   nothing_met true (number.Known v f a) = refl

@@ -13,3 +13,4 @@ pub mod There
 pub mod Next
 pub mod Functions
 pub mod Idle
+pub mod Sides

@@ -77,9 +77,9 @@ fn next_function(is_passed: bool, index: Option<usize>, next: u16) -> u16
     index.and_then(fitting).unwrap_or(next)
 }
 
-// Whether this is the place.
+/// Whether this is the place.
 #[tactic(auto, unfolding(crate::specs::Gathered::is_at))]
-fn is_place(spot: Option<Spot>, place: Place) -> bool
+pub fn is_place(spot: Option<Spot>, place: Place) -> bool
     ensures { result ≡ is_at (option_map place_at spot) place }
 {
     match spot {

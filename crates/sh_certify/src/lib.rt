@@ -2,6 +2,7 @@
 #![tactic(auto)]
 
 pub mod asked;
+pub mod before;
 pub mod draft;
 pub mod find;
 pub mod first;
@@ -14,6 +15,7 @@ pub mod laws;
 pub mod lower;
 pub mod own;
 pub mod place;
+pub mod sides;
 pub mod sights;
 pub mod spot;
 pub mod subject;

@@ -7,22 +7,49 @@ ghost use Rattle.sh_rules.specs.Visits.{command_by};
 ghost use Rattle.sh_rules.specs.Walks as walks;
 ghost use Rattle.sh_accept.specs.Accepted.{IsAdmitted};
 ghost use Rattle.sh_certify.specs.Gathering.{gathering};
+ghost use Rattle.sh_certify.specs.Sides.{AreNumbersBeside, StandsBeside, sided_of};
 ghost use Rattle.sh_certify.specs.Sweeps.{IsCommand, IsReady, IsSwept, Keeps, setting_by};
 ghost use Rattle.sh_certify.specs.Turns.{AreNumbers, Stands, gathered_of};
 
+use crate::before::lower_at;
 use crate::draft::Draft;
 use crate::gather::{Gather, Target};
 use crate::place::{Part, Place};
+use crate::sides::Sides;
 use crate::subject::Subject;
 use crate::turn::lower_gathered;
 use sh_facts::certificate::Certificate;
 use sh_facts::knowledge::Knowledge;
 use sh_facts::rule::FlowRule;
 use sh_rules::around::Around;
+use sh_rules::asked::Asked;
 use sh_rules::claims::Claims;
 use sh_rules::rules::tell_command;
 use sh_tree::tree::{Command, Kind};
 use std::alloc::AllocError;
+
+// What the flow rules ask at a command is done with this.
+fn tell<A: Asked>(
+    subject: &Subject<'_>,
+    certificate: &Certificate,
+    by: FlowRule,
+    around: &Around<'_>,
+    known: &Knowledge,
+    command: &Command,
+    asked: &mut A,
+)
+    requires sized { certificate.now.rows.count ≡ length subject.now.names.now }
+    requires admitted { IsAdmitted subject.now.script.now subject.now.policy.now subject.now.tree.now subject.now.names.now }
+    ensures { A.kept asked.new ≡ command_by A.asked (setting_by subject.now certificate.now) (A.kept asked.old) (met_in (setting_by subject.now certificate.now) by around.now known.now command.now) }
+{
+    let claims = Claims {
+        script: subject.script,
+        names: subject.names,
+        calls: subject.table,
+        certificate,
+    };
+    tell_command(&claims, by, around, known, command, asked);
+}
 
 // With what the flow rules ask at a command.
 fn visit(
@@ -38,14 +65,16 @@ fn visit(
     requires admitted { IsAdmitted subject.now.script.now subject.now.policy.now subject.now.tree.now subject.now.names.now }
     ensures { gathered_of result ≡ command_by gathering (setting_by subject.now certificate.now) (gathered_of gather) (met_in (setting_by subject.now certificate.now) by around.now known.now command.now) }
 {
-    let claims = Claims {
-        script: subject.script,
-        names: subject.names,
-        calls: subject.table,
-        certificate,
-    };
     let mut gather = gather;
-    tell_command(&claims, by, around, known, command, &mut gather);
+    tell(
+        subject,
+        certificate,
+        by,
+        around,
+        known,
+        command,
+        &mut gather,
+    );
     gather
 }
 
@@ -190,7 +219,99 @@ pub fn lower_head(
     Ok(())
 }
 
-/// Lowers what is claimed behind a command.
+// What the flow rules ask at a command, gathered for both places behind it.
+fn asked_behind(
+    subject: &Subject<'_>,
+    certificate: &Certificate,
+    by: FlowRule,
+    around: &Around<'_>,
+    known: &Knowledge,
+    command: &Command,
+    index: u16,
+) -> Sides
+    requires ready { (probed : ℕ) × IsReady subject.now certificate.now probed }
+    requires placed { IsCommand subject.now by (walks.around subject.now.script.now around.now) (knowledge_facts subject.now.names.now known.now) command.now }
+    ensures numbers { AreNumbersBeside (length subject.now.names.now) (sided_of result) }
+    ensures stands { (other : Sheet) → Keeps subject.now other → StandsBeside subject.now.names.now other (sided_of result) }
+{
+    let part = Part::Zero;
+    let place = Place { part, index };
+    let target = Target { place, function: 0 };
+    let part = Part::Nonzero;
+    let place = Place { part, index };
+    let gather = Gather::new(target);
+    let mut sides = Sides {
+        gather,
+        place,
+        known: None,
+    };
+    tell(subject, certificate, by, around, known, command, &mut sides);
+    sides
+}
+
+// Lowers what is claimed at the first of two places, and what a function may drop, by what was gathered.
+fn lower_first(subject: &Subject<'_>, draft: &mut Draft, sides: &Sides) -> Result<(), AllocError>
+    requires ready { IsReady subject.now draft.old.certificate draft.old.probe.count }
+    requires numbers { AreNumbersBeside (length subject.now.names.now) (sided_of sides.now) }
+    requires stands { (other : Sheet) → Keeps subject.now other → StandsBeside subject.now.names.now other (sided_of sides.now) }
+    ensures swept { IfOk result (λ unit. IsSwept subject.now draft.old.certificate draft.new.certificate draft.new.probe.count) }
+{
+    let is_lowered = lower_gathered(
+        subject.names,
+        subject.writable,
+        &mut draft.certificate,
+        &mut draft.probe,
+        &sides.gather,
+    )?;
+    draft.lowered = draft.lowered.saturating_add(u64::from(is_lowered));
+    Ok(())
+}
+
+// Lowers what is claimed at the second of two places, where any run comes to it.
+fn lower_second(subject: &Subject<'_>, draft: &mut Draft, sides: &Sides) -> Result<(), AllocError>
+    requires ready { IsReady subject.now draft.old.certificate draft.old.probe.count }
+    requires numbers { AreNumbersBeside (length subject.now.names.now) (sided_of sides.now) }
+    requires stands { (other : Sheet) → Keeps subject.now other → StandsBeside subject.now.names.now other (sided_of sides.now) }
+    ensures swept { IfOk result (λ unit. IsSwept subject.now draft.old.certificate draft.new.certificate draft.new.probe.count) }
+{
+    match &sides.known {
+        None => Ok(()),
+        Some(sight) => lower_at(subject, draft, sides.place, sight),
+    }
+}
+
+// Lowers what is claimed at both places behind a command by one visit; says whether all of it was kept, and of what more was asked.
+fn lower_sides(
+    subject: &Subject<'_>,
+    draft: &mut Draft,
+    by: FlowRule,
+    around: &Around<'_>,
+    known: &Knowledge,
+    command: &Command,
+    index: u16,
+) -> Result<(bool, Target), AllocError>
+    requires ready { IsReady subject.now draft.old.certificate draft.old.probe.count }
+    requires placed { IsCommand subject.now by (walks.around subject.now.script.now around.now) (knowledge_facts subject.now.names.now known.now) command.now }
+    ensures swept { IfOk result (λ answer. IsSwept subject.now draft.old.certificate draft.new.certificate draft.new.probe.count) }
+{
+    let sides = asked_behind(
+        subject,
+        &draft.certificate,
+        by,
+        around,
+        known,
+        command,
+        index,
+    );
+    if sides.gather.kept {
+        return Ok((true, sides.gather.next));
+    }
+    lower_first(subject, draft, &sides)?;
+    lower_second(subject, draft, &sides)?;
+    Ok((false, sides.gather.next))
+}
+
+/// Lowers what is claimed behind a command; and what is claimed elsewhere or a function may drop, where the command asks for more of that.
 ///
 /// # Errors
 ///
@@ -207,10 +328,11 @@ pub fn lower_behind(
     requires placed { IsCommand subject.now by (walks.around subject.now.script.now around.now) (knowledge_facts subject.now.names.now known.now) command.now }
     ensures swept { IfOk result (λ unit. IsSwept subject.now draft.old.certificate draft.new.certificate draft.new.probe.count) }
 {
-    let kept = lower_own(subject, draft, by, around, known, command, Part::Zero)?;
-    if kept {
+    let index = u16::try_from(command.number.saturating_sub(1)).unwrap_or(0);
+    let (kept, next) = lower_sides(subject, draft, by, around, known, command, index)?;
+    if kept || is_own(next, index) {
         return Ok(());
     }
-    lower_own(subject, draft, by, around, known, command, Part::Nonzero)?;
+    lower_once(subject, draft, by, around, known, command, next)?;
     Ok(())
 }
