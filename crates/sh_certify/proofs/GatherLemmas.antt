@@ -103,7 +103,7 @@ module _ (names functions : List Text) (d : Declared) where
       go None is e = absurd (true≢false (sym e))
       go (Some t) is e = slice_get_within names k t is
 
-  number_named : (f : Facts) → IsNamed (length names) (by_number names f)
+  pub number_named : (f : Facts) → IsNamed (length names) (by_number names f)
   unfolding IsNamed by_number
   number_named NotReached = tt
   number_named (Known v f a) = record { vars = passes_below v; functions = passes_below f }

@@ -26,3 +26,4 @@ pub mod LostLemmas
 pub mod IdleLemmas
 pub mod StayLemmas
 pub mod SideLemmas
+pub mod BeforeLemmas

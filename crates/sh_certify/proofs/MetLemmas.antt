@@ -112,7 +112,7 @@ module _ (s : Subject) (admitted : IsAdmitted s.script.now s.policy.now s.tree.n
         let behind = (and_parts (list_all f part.front) (list_all f (es ++ part.back)) (sym (list_all-append f part.front (es ++ part.back)) ∙ whole)).1 in
         (and_parts (list_all f es) (list_all f part.back) (sym (list_all-append f es part.back) ∙ behind)).0
 
-    keeps_here : (other : Sheet) → Keeps s other → KeepsThere s.policy.now (claims_in s.script.now s.tree.now other) functions es
+    pub keeps_here : (other : Sheet) → Keeps s other → KeepsThere s.policy.now (claims_in s.script.now s.tree.now other) functions es
     keeps_here other keeps =
         let all : KeepsThere s.policy.now (claims_in s.script.now s.tree.now other) functions (part.front ++ (es ++ part.back)) =
         subst (KeepsThere s.policy.now (claims_in s.script.now s.tree.now other) functions) part.whole (all_kept other keeps) in

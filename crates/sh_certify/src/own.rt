@@ -11,7 +11,7 @@ ghost use Rattle.sh_certify.specs.Sides.{AreNumbersBeside, StandsBeside, sided_o
 ghost use Rattle.sh_certify.specs.Sweeps.{IsCommand, IsReady, IsSwept, Keeps, setting_by};
 ghost use Rattle.sh_certify.specs.Turns.{AreNumbers, Stands, gathered_of};
 
-use crate::before::lower_at;
+use crate::before::{lower_at, lower_before};
 use crate::draft::Draft;
 use crate::gather::{Gather, Target};
 use crate::place::{Part, Place};
@@ -102,6 +102,13 @@ fn is_own(target: Target, index: u16) -> bool {
     target.function == 0 && target.place.index == index && !target.place.part.is_of_function()
 }
 
+// Whether these are one place and one function.
+fn is_same(target: Target, other: Target) -> bool {
+    let is_place = target.place.part.rank() == other.place.part.rank()
+        && target.place.index == other.place.index;
+    is_place && target.function == other.function
+}
+
 // Lowers what is claimed at a place, and what a function may drop, by what a command asks; says whether all of it was kept, and of what more was asked.
 fn lower_once(
     subject: &Subject<'_>,
@@ -183,10 +190,7 @@ pub fn lower_command(
     requires placed { IsCommand subject.now by (walks.around subject.now.script.now around.now) (knowledge_facts subject.now.names.now known.now) command.now }
     ensures swept { IfOk result (λ unit. IsSwept subject.now draft.old.certificate draft.new.certificate draft.new.probe.count) }
 {
-    let kept = lower_own(subject, draft, by, around, known, command, Part::Before)?;
-    if kept {
-        return Ok(());
-    }
+    lower_before(subject, draft, known, command)?;
     lower_behind(subject, draft, by, around, known, command)?;
     Ok(())
 }
@@ -311,6 +315,29 @@ fn lower_sides(
     Ok((false, sides.gather.next))
 }
 
+// Lowers what is claimed elsewhere, and what a function may drop, by what the command of an index asks, here and at one more place.
+fn lower_others(
+    subject: &Subject<'_>,
+    draft: &mut Draft,
+    by: FlowRule,
+    around: &Around<'_>,
+    known: &Knowledge,
+    command: &Command,
+    index: u16,
+    target: Target,
+) -> Result<(), AllocError>
+    requires ready { IsReady subject.now draft.old.certificate draft.old.probe.count }
+    requires placed { IsCommand subject.now by (walks.around subject.now.script.now around.now) (knowledge_facts subject.now.names.now known.now) command.now }
+    ensures swept { IfOk result (λ unit. IsSwept subject.now draft.old.certificate draft.new.certificate draft.new.probe.count) }
+{
+    let (kept, next) = lower_once(subject, draft, by, around, known, command, target)?;
+    if kept || is_own(next, index) || is_same(next, target) {
+        return Ok(());
+    }
+    lower_once(subject, draft, by, around, known, command, next)?;
+    Ok(())
+}
+
 /// Lowers what is claimed behind a command; and what is claimed elsewhere or a function may drop, where the command asks for more of that.
 ///
 /// # Errors
@@ -333,6 +360,6 @@ pub fn lower_behind(
     if kept || is_own(next, index) {
         return Ok(());
     }
-    lower_once(subject, draft, by, around, known, command, next)?;
+    lower_others(subject, draft, by, around, known, command, index, next)?;
     Ok(())
 }

@@ -48,8 +48,8 @@ impl Spot {
     }
 }
 
-// A part of the command of a number.
-fn of_command(part: Part, number: u32) -> Spot
+/// A part of the command of a number.
+pub fn of_command(part: Part, number: u32) -> Spot
     ensures { place_at result ≡ spec.at part (number - 1) }
 {
     Spot {

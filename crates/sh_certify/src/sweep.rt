@@ -18,13 +18,14 @@ ghost use Rattle.sh_facts.specs.Views.{After, Seen, gaining};
 ghost use Rattle.sh_rules.specs.Walks as walks;
 ghost use Rattle.sh_certify.specs.Sweeps.{AreBranches, AreClauses, AreItems, AreLinks, AreParts, IsAndOr, IsCommand, IsIn, IsInside, IsKind, IsList, IsPart, IsPassed, IsPipe, IsReady, IsSwept, KnowsBehind, known_behind};
 
+use crate::before::lower_before;
 use crate::draft::Draft;
 use crate::inner::is_in_elements;
 use crate::known::{
     behind_link, behind_pipe, entry_of, head_of, inside_of, pass_on, process_of, started_in,
     turn_of,
 };
-use crate::own::{lower_behind, lower_command, lower_head, lower_own};
+use crate::own::{lower_behind, lower_command, lower_head};
 use crate::place::Part;
 use crate::subject::Subject;
 use crate::words::{
@@ -282,12 +283,10 @@ fn sweep_simple(
     requires placed { IsCommand subject.now by (walks.around subject.now.script.now around.now) (knowledge_facts subject.now.names.now known.now) command.now }
     ensures swept { IfOk result (λ unit. IsSwept subject.now draft.old.certificate draft.new.certificate draft.new.probe.count) }
 {
-    let kept = lower_own(subject, draft, by, around, known, command, Part::Before)?;
+    lower_before(subject, draft, known, command)?;
     sweep_held(subject, draft, levels, around, command)?;
-    if kept {
-        return Ok(());
-    }
-    lower_behind(subject, draft, by, around, known, command)
+    lower_behind(subject, draft, by, around, known, command)?;
+    Ok(())
 }
 
 // Lowers the certificate at the commands in the words of a simple command, if it holds any.
@@ -324,7 +323,7 @@ fn sweep_compound(
     requires placed { IsCommand subject.now by (walks.around subject.now.script.now around.now) (knowledge_facts subject.now.names.now known.now) command.now }
     ensures swept { IfOk result (λ unit. IsSwept subject.now draft.old.certificate draft.new.certificate draft.new.probe.count) }
 {
-    lower_own(subject, draft, by, around, known, command, Part::Before)?;
+    lower_before(subject, draft, known, command)?;
     lower_head(subject, draft, by, around, known, command)?;
     sweep_inside(subject, draft, levels, around, command)?;
     lower_head(subject, draft, by, around, known, command)?;

@@ -186,7 +186,7 @@ sweep::sweep_compound-sweep_inside-requires t c =
     let s = c.args.subject.now in
     let r = c.requires.ready in
     let y = walks.around s.script.now c.args.around.now in
-    let ready : IsReady s c.lower_head.new.draft.certificate c.lower_head.new.draft.probe.count = ready_again s _ _ _ _ (ready_again s _ _ _ _ r c.in_ok-lower_own.ensures.swept) c.in_ok-lower_head.ensures.swept in
+    let ready : IsReady s c.lower_head.new.draft.certificate c.lower_head.new.draft.probe.count = ready_again s _ _ _ _ (ready_again s _ _ _ _ r c.in_ok-lower_before.ensures.swept) c.in_ok-lower_head.ensures.swept in
     let placed : IsInside s y c.args.command.now = inside_placed s c.args.by y (knowledge_facts s.names.now c.args.known.now) c.args.command.now c.requires.placed in
     search std_rules
 
@@ -194,20 +194,20 @@ pub sweep::sweep_compound-lower_head-requires-2-clause-ready : goal.sweep::sweep
 sweep::sweep_compound-lower_head-requires-2-clause-ready t c =
     let s = c.args.subject.now in
     let r = c.requires.ready in
-    ready_again s _ _ _ _ (ready_again s _ _ _ _ (ready_again s _ _ _ _ r c.in_ok-lower_own.ensures.swept) c.in_ok-lower_head.ensures.swept) c.in_ok-sweep_inside.ensures.swept
+    ready_again s _ _ _ _ (ready_again s _ _ _ _ (ready_again s _ _ _ _ r c.in_ok-lower_before.ensures.swept) c.in_ok-lower_head.ensures.swept) c.in_ok-sweep_inside.ensures.swept
 
 pub sweep::sweep_compound-lower_behind-requires-clause-ready : goal.sweep::sweep_compound-lower_behind-requires-clause-ready
 sweep::sweep_compound-lower_behind-requires-clause-ready t c =
     let s = c.args.subject.now in
     let r = c.requires.ready in
-    ready_again s _ _ _ _ (ready_again s _ _ _ _ (ready_again s _ _ _ _ (ready_again s _ _ _ _ r c.in_ok-lower_own.ensures.swept) c.in_ok-lower_head.ensures.swept) c.in_ok-sweep_inside.ensures.swept) c.in_ok-lower_head-2.ensures.swept
+    ready_again s _ _ _ _ (ready_again s _ _ _ _ (ready_again s _ _ _ _ (ready_again s _ _ _ _ r c.in_ok-lower_before.ensures.swept) c.in_ok-lower_head.ensures.swept) c.in_ok-sweep_inside.ensures.swept) c.in_ok-lower_head-2.ensures.swept
 
 pub sweep::sweep_compound-returns : goal.sweep::sweep_compound-returns
 sweep::sweep_compound-returns t c =
     let s = c.args.subject.now in
     record {
       swept = swept_more s _ _ _ _ _
-          (swept_more s _ _ _ _ _ (swept_more s _ _ _ _ _ (swept_more s _ _ _ _ _ c.in_ok-lower_own.ensures.swept c.in_ok-lower_head.ensures.swept) c.in_ok-sweep_inside.ensures.swept) c.in_ok-lower_head-2.ensures.swept)
+          (swept_more s _ _ _ _ _ (swept_more s _ _ _ _ _ (swept_more s _ _ _ _ _ c.in_ok-lower_before.ensures.swept c.in_ok-lower_head.ensures.swept) c.in_ok-sweep_inside.ensures.swept) c.in_ok-lower_head-2.ensures.swept)
           c.in_ok-lower_behind.ensures.swept;
     }
 
@@ -537,7 +537,7 @@ sweep::sweep_simple-sweep_held-requires t c =
     let s = c.args.subject.now in
     let r = c.requires.ready in
     let y = walks.around s.script.now c.args.around.now in
-    let ready : IsReady s c.lower_own.new.draft.certificate c.lower_own.new.draft.probe.count = ready_again s _ _ _ _ r c.in_ok-kept.ensures.swept in
+    let ready : IsReady s c.lower_before.new.draft.certificate c.lower_before.new.draft.probe.count = ready_again s _ _ _ _ r c.in_ok-lower_before.ensures.swept in
     let placed : IsInside s y c.args.command.now = inside_placed s c.args.by y (knowledge_facts s.names.now c.args.known.now) c.args.command.now c.requires.placed in
     search std_rules
 
@@ -1228,5 +1228,7 @@ words::pass_expression-returns-then-levels-eq0-clause-gained t c =
 pub sweep::sweep_clause-returns-clause-swept : goal.sweep::sweep_clause-returns-clause-swept
 sweep::sweep_clause-returns-clause-swept t c = if_ok c.sweep_body.result _ _ (λ u h. swept_more c.args.subject.now _ _ _ _ _ c.in_ok-sweep_patterns.ensures.swept h) c.sweep_body.ensures.swept
 
-pub sweep::sweep_simple-returns-then-kept : goal.sweep::sweep_simple-returns-then-kept
-sweep::sweep_simple-returns-then-kept t c = record { swept = swept_more c.args.subject.now _ _ _ _ _ c.in_ok-kept.ensures.swept c.in_ok-sweep_held.ensures.swept }
+pub sweep::sweep_simple-returns : goal.sweep::sweep_simple-returns
+sweep::sweep_simple-returns t c =
+    let s = c.args.subject.now in
+    record { swept = swept_more s _ _ _ _ _ (swept_more s _ _ _ _ _ c.in_ok-lower_before.ensures.swept c.in_ok-sweep_held.ensures.swept) c.in_ok-lower_behind.ensures.swept }
