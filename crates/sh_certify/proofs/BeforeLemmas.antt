@@ -3,7 +3,6 @@ use Rattle.std.proofs.Common.{◌≡◌, ℕ, ◌-◌, Option, Some, None, List,
 use Rattle.sh_tree.specs.declared.tree.Command.{Command, out-Command}
 use Rattle.sh_tree.specs.program.Syntax as p
 use Rattle.sh_tree.specs.program.Syntax.{Text}
-use Rattle.sh_tree.specs.program.Trees as trees
 use Rattle.sh_tree.proofs.ProgramRules as rules
 use Rattle.sh_facts.specs.declared.rule.FlowRule.{FlowRule}
 use Rattle.sh_facts.specs.Entries.{Around, Entered, behind_redirects}
@@ -33,7 +32,7 @@ use Rattle.sh_certify.specs.declared.subject.Subject.{Subject}
 use Rattle.sh_certify.specs.Gathered.{fitting, fitting_place}
 use Rattle.sh_certify.specs.Numbers.{by_name, by_number}
 use Rattle.sh_certify.specs.Places.{at, claim_there, place_of}
-use Rattle.sh_certify.specs.Sweeps.{IsCommand, IsPart, Keeps}
+use Rattle.sh_certify.specs.Sweeps.{IsCommand, Keeps}
 use Rattle.sh_certify.proofs.GatherLemmas.{claim_among, number_named, within_among}
 use Rattle.sh_certify.proofs.MetLemmas.{keeps_here}
 use Rattle.sh_certify.proofs.NumberLemmas.{back}

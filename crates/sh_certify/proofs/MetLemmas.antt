@@ -1,5 +1,5 @@
 -- What is asked at a command no certificate that keeps the rules breaks.
-use Rattle.std.proofs.Common.{◌≡◌, true, List, [], ◌∷◌, ◌++◌, append-nil, length, flat_map, fold, refl, sym, ap, ◌∙◌, subst}
+use Rattle.std.proofs.Common.{◌≡◌, true, List, [], ◌∷◌, ◌++◌, length, flat_map, fold, refl, sym, ap, ◌∙◌, subst}
 use Rattle.std.specs.List.{list_all}
 use Rattle.std.proofs.lemmas.Bool.{and_parts}
 use Rattle.std.proofs.lemmas.Grind.{flat_map-append}
@@ -17,13 +17,13 @@ use Rattle.sh_facts.specs.Reading.{claim_fits}
 use Rattle.sh_facts.specs.Rules.{Constraint, bounds}
 use Rattle.sh_facts.specs.Sheets.{Sheet}
 use Rattle.sh_facts.specs.Views.{Slot}
-use Rattle.sh_facts.proofs.EachLemmas.{none_both, each_none, each_of_all, each_parts}
+use Rattle.sh_facts.proofs.EachLemmas.{none_both, each_parts}
 use Rattle.sh_rules.specs.Above.{Allows, Anything, Ask, Asks, DoesAsked, KeepsThere, OfFunction, OfPlace, ask}
 use Rattle.sh_rules.specs.Asked.{ByConstraints, has_numbered_prefixes}
 use Rattle.sh_rules.specs.Asking.{Asking}
 use Rattle.sh_rules.specs.CommandBounds.{command_told}
 use Rattle.sh_rules.specs.Meaning.{met_at}
-use Rattle.sh_rules.specs.Settings.{Setting, claimed_at}
+use Rattle.sh_rules.specs.Settings.{claimed_at}
 use Rattle.sh_rules.specs.Visits.{command_by}
 use Rattle.sh_rules.proofs.AboveLemmas.{stays_above}
 use Rattle.sh_rules.proofs.PrefixLemmas.{prefixes_are_numbered, table_defines}

@@ -17,7 +17,7 @@ use Rattle.sh_facts.specs.Views.{Certificate, Slot, Seen, view_facts}
 use Rattle.sh_facts.proofs.OrderLemmas.{within_nowhere}
 use Rattle.sh_find.specs.Facts as number
 use Rattle.sh_find.specs.Kept.{IsNamed, seen_of}
-use Rattle.sh_rules.specs.Above.{Allows, Anything, Ask, OfFunction, OfPlace, ask}
+use Rattle.sh_rules.specs.Above.{Allows, Ask, OfFunction, OfPlace, ask}
 use Rattle.sh_rules.specs.Asked.{ByConstraints}
 use Rattle.sh_rules.specs.Meaning.{knows, met_at}
 use Rattle.sh_rules.specs.Settings.{Setting, certificate, claimed_at}

@@ -26,7 +26,6 @@ use crate::known::{
     turn_of,
 };
 use crate::own::{lower_behind, lower_command, lower_head};
-use crate::place::Part;
 use crate::subject::Subject;
 use crate::words::{
     pass_word, sweep_elements, sweep_for_words, sweep_patterns, sweep_redirections,

@@ -4,7 +4,7 @@ use Rattle.sh_facts.specs.Knowledge.{knowledge_facts}
 use Rattle.sh_rules.specs.Walks as walks
 use Rattle.sh_rules.specs.Walks.{facts_in}
 use Rattle.sh_tree.specs.program.Trees as trees
-use Rattle.sh_certify.specs.Sides.{AreNumbersBeside, StandsBeside, sided_of}
+use Rattle.sh_certify.specs.Sides.{AreNumbersBeside, StandsBeside}
 use Rattle.sh_certify.proofs.PlacedLemmas.{own_part}
 use Rattle.sh_certify.proofs.SideLemmas.{begun_numbers, begun_stands, sides_numbers, sides_stand}
 use Rattle.sh_certify.proofs.own.asked_behind.Goals as goal

@@ -1,5 +1,5 @@
 use Rattle.std.proofs.Common.{sym, ap, ◌∙◌}
-use Rattle.sh_facts.specs.Knowledge.{assured_facts, knowledge_facts}
+use Rattle.sh_facts.specs.Knowledge.{knowledge_facts}
 use Rattle.sh_find.specs.Facts.{meet}
 use Rattle.sh_find.specs.Kept.{seen_of}
 use Rattle.sh_certify.specs.Numbers.{by_number}

@@ -1,5 +1,3 @@
-use Rattle.sh_find.specs.Kept.{seen_of}
-use Rattle.sh_rules.specs.Settings.{claimed_at}
 use Rattle.sh_rules.specs.Walks.{facts_in, setting}
 use Rattle.sh_certify.specs.Sides.{sided_of}
 use Rattle.sh_certify.specs.Turns.{gathered_of}
