@@ -1,5 +1,5 @@
 -- What is known behind a piece of a tree, by the pieces one level below it.
-use Rattle.std.proofs.Common.{◌≡◌, true, false, Option, Some, None, unwrap_or, List, [], ◌∷◌, fold, refl, ap, ◌∙◌}
+use Rattle.std.proofs.Common.{◌≡◌, ℕ, zero, suc, ◌<◌, Bool, true, false, not, ◌&&◌, true≢false, Option, Some, None, is_some, unwrap_or, List, [], ◌∷◌, length, get_or, drop, fold, refl, sym, ap, ◌∙◌, arith}
 use Rattle.sh_tree.specs.declared.tree.AndOr.{AndOr, out-AndOr}
 use Rattle.sh_tree.specs.declared.tree.Command.{Command, out-Command}
 use Rattle.sh_tree.specs.declared.tree.Item.{Item, out-Item}
@@ -15,10 +15,10 @@ use Rattle.sh_facts.specs.Facts.{Facts, NotReached}
 use Rattle.sh_facts.specs.Gains.{job, named}
 use Rattle.sh_facts.specs.Views.{AfterZero, AfterNonzero}
 use Rattle.sh_rules.specs.Settings.{Setting, known_at, gained}
-use Rattle.sh_rules.specs.Behind.{Behind, both, either, in_any_case, swapped, link_known, linked, parts_behind, pipeline_behind, links_behind, list_behind, item_behind, items_behind}
+use Rattle.sh_rules.specs.Behind.{Behind, both, either, in_any_case, swapped, link_known, linked, parts_behind, pipeline_behind, links_behind, list_behind, behind_known, items_behind}
 use Rattle.sh_facts.specs.declared.knowledge.Knowledge.TheVariants as knowledge
 use Rattle.sh_facts.specs.Knowledge.{knowledge_facts}
-use Rattle.sh_rules.specs.Walks.{facts_in, commands_behind, pipe_behind, link_left, and_or_behind, item_left, script_behind}
+use Rattle.sh_rules.specs.Walks.{facts_in, commands_behind, pipe_behind, link_left, and_or_behind, behind_item, item_left, is_settled, script_behind}
 
 -- parts
 
@@ -39,25 +39,37 @@ more_parts : (x : Setting) (k : Facts) (c d : Command) (cs : List Command) → c
 unfolding commands_behind commands_from
 more_parts x k c d cs = more x k (trees.command_of x.script c) (trees.command_of x.script d) (commands_from x.script cs)
 
-pub lone : (x : Setting) (k : Facts) (cs : List Command) (c : Command) → lone_part cs ≡ Some c
+lone_parts : (x : Setting) (k : Facts) (cs : List Command) (c : Command) → lone_part cs ≡ Some c
     → commands_behind x k cs ≡ either (known_at x (AfterZero (out-Command c).number)) (known_at x (AfterNonzero (out-Command c).number))
 unfolding lone_part
-lone x k [] c e = cc
-lone x k (d ∷ []) c e = one_part x k d ∙ ap (λ (o : Option Command). left (unwrap_or o d)) e
+lone_parts x k [] c e = cc
+lone_parts x k (d ∷ []) c e = one_part x k d ∙ ap (λ (o : Option Command). left (unwrap_or o d)) e
   where
     left : Command → Behind
     left c = either (known_at x (AfterZero (out-Command c).number)) (known_at x (AfterNonzero (out-Command c).number))
-lone x k (d ∷ f ∷ cs) c e = cc
+lone_parts x k (d ∷ f ∷ cs) c e = cc
 
-pub not_lone : (x : Setting) (k : Facts) (cs : List Command) → lone_part cs ≡ None → commands_behind x k cs ≡ both k
+other_parts : (x : Setting) (k : Facts) (cs : List Command) → lone_part cs ≡ None → commands_behind x k cs ≡ both k
 unfolding lone_part
-not_lone x k [] e = no_part x k
-not_lone x k (d ∷ []) e = cc
-not_lone x k (d ∷ f ∷ cs) e = more_parts x k d f cs
+other_parts x k [] e = no_part x k
+other_parts x k (d ∷ []) e = cc
+other_parts x k (d ∷ f ∷ cs) e = more_parts x k d f cs
 
-pub pipe_out : (x : Setting) (k : Facts) (q : Pipe) → pipe_behind x k q ≡ swapped (out-Pipe q).negated (commands_behind x k (out-Pipe q).parts)
+pipe_out : (x : Setting) (k : Facts) (q : Pipe) → pipe_behind x k q ≡ swapped (out-Pipe q).negated (commands_behind x k (out-Pipe q).parts)
 unfolding pipe_behind pipeline_behind commands_behind
 pipe_out x k q = ap (pipeline_behind x k) (rules.pipeline_of-out x.script q)
+
+pub lone : (x : Setting) (k : Facts) (q : Pipe) (c : Command) → lone_part (out-Pipe q).parts ≡ Some c
+    → pipe_behind x k q ≡ swapped (out-Pipe q).negated (either (known_at x (AfterZero (out-Command c).number)) (known_at x (AfterNonzero (out-Command c).number)))
+lone x k q c e = pipe_out x k q ∙ ap (swapped (out-Pipe q).negated) (lone_parts x k (out-Pipe q).parts c e)
+
+swapped_both : (b : Bool) (k : Facts) → swapped b (both k) ≡ both k
+unfolding swapped
+swapped_both true k = refl
+swapped_both false k = refl
+
+pub not_lone : (x : Setting) (k : Facts) (q : Pipe) → lone_part (out-Pipe q).parts ≡ None → pipe_behind x k q ≡ both k
+not_lone x k q e = pipe_out x k q ∙ ap (swapped (out-Pipe q).negated) (other_parts x k (out-Pipe q).parts e) ∙ swapped_both (out-Pipe q).negated k
 
 pub link_out : (x : Setting) (o : Behind) (l : Link) (q : Pipe) → link_left x o (l, q) ≡ linked l o (pipe_behind x (link_known l o) q)
 unfolding pipe_behind
@@ -74,14 +86,24 @@ pub and_or_out : (x : Setting) (k : Facts) (l : AndOr) → and_or_behind x k l �
 unfolding and_or_behind list_behind pipe_behind
 and_or_out x k l = ap (list_behind x k) (rules.and_or_of-out x.script l) ∙ links_folded x (pipe_behind x k (out-AndOr l).first) (out-AndOr l).rest
 
-pub foreground : (x : Setting) (o : Behind) (i : Item) → (out-Item i).background ≡ false → item_left x o i ≡ and_or_behind x (in_any_case o) (out-Item i).list
-unfolding item_left item_behind and_or_behind
-foreground x o i e = ap (λ b. item_behind x o b (trees.and_or_of x.script (out-Item i).list)) e
+no_turn : (x : Setting) (o : Behind) (ls : List (Link × Pipe)) → length ls < 1 → fold (link_left x) o ls ≡ o
+no_turn x o [] h = refl
+no_turn x o (l ∷ ls) h = absurd (omega (arith, h))
 
-pub background : (x : Setting) (o : Behind) (i : Item) → (out-Item i).background ≡ true
-    → item_left x o i ≡ either (gained x (named (job ∷ [])) (in_any_case o)) NotReached
-unfolding item_left item_behind
-background x o i e = ap (λ b. item_behind x o b (trees.and_or_of x.script (out-Item i).list)) e
+pub no_links : (x : Setting) (k : Facts) (l : AndOr) → length (out-AndOr l).rest < 1 → and_or_behind x k l ≡ pipe_behind x k (out-AndOr l).first
+no_links x k l h = and_or_out x k l ∙ no_turn x (pipe_behind x k (out-AndOr l).first) (out-AndOr l).rest h
+
+pub foreground : (x : Setting) (k : Facts) (i : Item) → (out-Item i).background ≡ false → behind_item x k i ≡ and_or_behind x k (out-Item i).list
+unfolding behind_item behind_known and_or_behind
+foreground x k i e = ap (λ b. behind_known x k b (trees.and_or_of x.script (out-Item i).list)) e
+
+pub background : (x : Setting) (k : Facts) (i : Item) → (out-Item i).background ≡ true → behind_item x k i ≡ either (gained x (named (job ∷ [])) k) NotReached
+unfolding behind_item behind_known
+background x k i e = ap (λ b. behind_known x k b (trees.and_or_of x.script (out-Item i).list)) e
+
+pub item_out : (x : Setting) (o : Behind) (i : Item) → item_left x o i ≡ behind_item x (in_any_case o) i
+unfolding item_left behind_item
+item_out x o i = refl
 
 items_folded : (x : Setting) (o : Behind) (is : List Item) → items_behind x o (items_from x.script is) ≡ fold (item_left x) o is
 unfolding items_behind items_from item_left
@@ -91,6 +113,46 @@ items_folded x o (i ∷ is) = items_folded x (item_left x o i) is
 pub script_out : (x : Setting) (o : Behind) (t : Script) → script_behind x o t ≡ fold (item_left x) o (out-Script t).items
 unfolding script_behind
 script_out x o t = ap (items_behind x o) (rules.script_of-out x.script t) ∙ items_folded x o (out-Script t).items
+
+-- what an item settles
+
+alike_parts : (x : Setting) (j k : Facts) (cs : List Command) → is_some (lone_part cs) ≡ true → commands_behind x j cs ≡ commands_behind x k cs
+unfolding lone_part
+alike_parts x j k [] e = cc
+alike_parts x j k (c ∷ []) e = one_part x j c ∙ sym (one_part x k c)
+alike_parts x j k (c ∷ d ∷ cs) e = cc
+
+alike_pipe : (x : Setting) (j k : Facts) (q : Pipe) → is_some (lone_part (out-Pipe q).parts) ≡ true → pipe_behind x j q ≡ pipe_behind x k q
+alike_pipe x j k q e = pipe_out x j q ∙ ap (swapped (out-Pipe q).negated) (alike_parts x j k (out-Pipe q).parts e) ∙ sym (pipe_out x k q)
+
+alike_list : (x : Setting) (j k : Facts) (l : AndOr) → is_some (lone_part (out-Pipe (out-AndOr l).first).parts) ≡ true → and_or_behind x j l ≡ and_or_behind x k l
+alike_list x j k l e =
+    and_or_out x j l ∙ ap (λ o. fold (link_left x) o (out-AndOr l).rest) (alike_pipe x j k (out-AndOr l).first e) ∙ sym (and_or_out x k l)
+
+both_hold : (a b : Bool) → (not a && b) ≡ true → (a ≡ false) × (b ≡ true)
+both_hold true b h = absurd (true≢false (sym h))
+both_hold false b h = (refl, h)
+
+alike : (x : Setting) (o p : Behind) (i : Item) → is_settled i ≡ true → item_left x o i ≡ item_left x p i
+unfolding is_settled
+alike x o p i e =
+    let both = both_hold (out-Item i).background (is_some (lone_part (out-Pipe (out-AndOr (out-Item i).list).first).parts)) e in
+    item_out x o i ∙ foreground x (in_any_case o) i both.0
+    ∙ alike_list x (in_any_case o) (in_any_case p) (out-Item i).list both.1
+    ∙ sym (foreground x (in_any_case p) i both.0) ∙ sym (item_out x p i)
+
+from_any : (x : Setting) (o p : Behind) (n : ℕ) (is : List Item) (i : Item) → n < length is → i ≡ get_or is n i → is_settled i ≡ true
+    → fold (item_left x) o (drop n is) ≡ fold (item_left x) p (drop n is)
+from_any x o p n [] i l h e = absurd (omega arith)
+from_any x o p zero (j ∷ js) i l h e = ap (λ q. fold (item_left x) q js) (alike x o p j (ap is_settled (sym h) ∙ e))
+from_any x o p (suc n) (j ∷ js) i l h e = from_any x o p n js i (omega (arith, l)) h e
+
+pub settled_there : (x : Setting) (o : Behind) (n : ℕ) (is : List Item) (i : Item) → n < length is → i ≡ get_or is n i → is_settled i ≡ true
+    → fold (item_left x) o (drop n is) ≡ fold (item_left x) o is
+settled_there x o n [] i l h e = absurd (omega arith)
+settled_there x o zero (j ∷ js) i l h e = refl
+settled_there x o (suc n) (j ∷ js) i l h e =
+    from_any x o (item_left x o j) n js i (omega (arith, l)) h e ∙ settled_there x (item_left x o j) n js i (omega (arith, l)) h e
 
 -- where no run comes
 

@@ -21,7 +21,7 @@ use Rattle.sh_facts.specs.Views as views
 use Rattle.sh_check.specs.Judged.{inner_gains}
 use Rattle.sh_check.specs.Knowing.{action_gains}
 use Rattle.sh_rules.specs.Settings.{Setting, known_at, gained, without_job}
-use Rattle.sh_rules.specs.Behind.{Behind, both, either, in_any_case, swapped, link_known, linked, turns, falls, started, parts_behind, pipeline_behind, link_behind, links_behind, list_behind, item_behind, items_behind}
+use Rattle.sh_rules.specs.Behind.{Behind, both, either, in_any_case, swapped, link_known, linked, turns, falls, started, parts_behind, pipeline_behind, link_behind, links_behind, list_behind, behind_known, item_behind, items_behind}
 use Rattle.sh_rules.specs.Walked.{Met, Trail, trail, trail_gained, Course, course, branch_body, branch_left, clause_body, clause_left, nothing_falls, items_walked, list_walked, links_walked, pipeline_walked, commands_walked, command_walked, kind_walked, elements_walked, redirect_walked, redirects_walked, branches_walked, otherwise_walked, for_words_walked, words_walked, clauses_walked, patterns_walked, word_walked, part_walked, operator_walked, expression_walked, operands_walked}
 use Rattle.sh_rules.specs.Meaning.{met_at}
 use Rattle.sh_rules.proofs.GainLemmas.{none_gained}
@@ -112,7 +112,7 @@ module _ (x : Setting) (R : Seen → Facts → Type 0) (f : Follows x R) where
 
   pub item_stands : (o : After) (b : Behind) → Stands R o b → (background : Bool) (t : p.AndOr)
       → Stands R (e.item_after (views.in_any_case o) background t) (item_behind x b background t)
-  unfolding item_behind e.item_after
+  unfolding behind_known e.item_after
   item_stands o b h false t = list_stands _ _ (any_led o b h) t
   item_stands o b h true t = each_stand _ _ _ _ (f.gain (named (job ∷ [])) _ _ (any_led o b h)) f.nothing
 

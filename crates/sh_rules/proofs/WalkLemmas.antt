@@ -1,5 +1,5 @@
 -- What a walk keeps of a piece of a tree, by the pieces one level below it.
-use Rattle.std.proofs.Common.{◌≡◌, ℕ, Bool, true, Option, Some, None, List, [], ◌∷◌, length, nat_lt, fold, refl, sym, ap, ap₂, ◌∙◌, arith}
+use Rattle.std.proofs.Common.{◌≡◌, ℕ, ◌<◌, ◌≤◌, Bool, true, false, Option, Some, None, List, [], ◌∷◌, length, get_or, nat_lt, fold, refl, sym, ap, ap₂, ◌∙◌, arith}
 use Rattle.std.proofs.lemmas.Bool.Decides.{nat_tests}
 use Rattle.sh_tree.specs.declared.tree.Action.{Action}
 use Rattle.sh_tree.specs.declared.tree.AndOr.{AndOr, out-AndOr}
@@ -38,7 +38,7 @@ use Rattle.sh_tree.specs.program.Syntax as p
 use Rattle.sh_tree.specs.program.Trees as trees
 use Rattle.sh_tree.proofs.ProgramRules as rules
 use Rattle.sh_facts.specs.declared.rule.FlowRule.{FlowRule}
-use Rattle.sh_facts.specs.declared.rule.FlowRule.TheVariants.{F1, F2, F3, F6, F7, F9, F10, F11, F13}
+use Rattle.sh_facts.specs.declared.rule.FlowRule.TheVariants.{F1, F2, F3, F6, F7, F9, F10, F11, F12, F13}
 use Rattle.sh_facts.specs.Entries.{Around, alone, in_function, is_long, item_rule, item_around, part_rule, part_around}
 use Rattle.sh_facts.specs.Facts.{Facts, meet}
 use Rattle.sh_facts.specs.Gains.{named, assigned_in}
@@ -48,12 +48,12 @@ use Rattle.sh_check.specs.Knowing.{action_gains}
 use Rattle.sh_rules.specs.Settings.{Setting, known_at, gained, without_job}
 use Rattle.sh_rules.specs.Behind.{Behind, both, falls, in_any_case, link_known, started, turns}
 use Rattle.sh_rules.specs.Walked.{Met, Trail, trail, trail_gained, Course, course, branch_body, branch_left, clause_body, clause_left, nothing_falls, items_walked, list_walked, links_walked, pipeline_walked, commands_walked, command_walked, kind_walked, elements_walked, redirect_walked, redirects_walked, branches_walked, otherwise_walked, for_words_walked, words_walked, clauses_walked, patterns_walked, word_walked, part_walked, operator_walked, expression_walked, operands_walked, script_walked}
-use Rattle.sh_rules.specs.Walks.{pipe_behind, link_left, item_left}
-use Rattle.sh_rules.specs.Steps.{and_or_kept, pipe_kept, command_kept, script_ran, item_step, link_step, kind_kept, target_step, redirect_step, element_step, element_gained, part_step, word_step, pattern_step, operator_step, expression_step, operand_step, branch_step, otherwise_kept, clause_step, from_kept, condition_ran, loop_kept, for_kept, for_words_kept, simple_kept}
+use Rattle.sh_rules.specs.Walks.{pipe_behind, link_left, behind_item, item_left}
+use Rattle.sh_rules.specs.Steps.{and_or_kept, pipe_kept, command_kept, script_ran, item_kept, item_step, link_step, kind_kept, target_step, redirect_step, element_step, element_gained, part_step, word_step, pattern_step, operator_step, expression_step, operand_step, branch_step, otherwise_kept, clause_step, from_kept, condition_ran, loop_kept, for_kept, for_words_kept, simple_kept}
 use Rattle.sh_rules.proofs.GainLemmas.{elements_gained}
 
 items_folded : {K : Type 0} (x : Setting) (w : K → Met → K) (y : Around) (c : Course K) (is : List Item) → items_walked x w y c (items_from x.script is) ≡ fold (item_step x w y) c is
-unfolding items_walked items_from item_step and_or_kept item_left
+unfolding items_walked items_from item_kept item_step and_or_kept item_left
 items_folded x w y c [] = refl
 items_folded x w y c (i ∷ is) = items_folded x w y (item_step x w y c i) is
 
@@ -61,10 +61,20 @@ pub script_out : {K : Type 0} (x : Setting) (w : K → Met → K) (y : Around) (
 unfolding script_ran
 script_out x w y c t = ap (items_walked x w y c) (rules.script_of-out x.script t) ∙ items_folded x w y c (out-Script t).items
 
-pub item_out : {K : Type 0} (x : Setting) (w : K → Met → K) (y : Around) (c : Course K) (i : Item) → item_step x w y c i ≡ course F2 (item_left x c.behind i)
-    (and_or_kept x w (item_rule (out-Item i).background c.by) (item_around (out-Item i).background y) (started x (out-Item i).background (in_any_case c.behind)) c.kept (out-Item i).list)
-unfolding item_step
+pub item_out : {K : Type 0} (x : Setting) (w : K → Met → K) (y : Around) (c : Course K) (i : Item)
+    → item_step x w y c i ≡ course F2 (behind_item x (in_any_case c.behind) i) (item_kept x w c.by y (in_any_case c.behind) c.kept i)
+unfolding item_step item_left behind_item
 item_out x w y c i = refl
+
+pub foreground : {K : Type 0} (x : Setting) (w : K → Met → K) (by : FlowRule) (y : Around) (k : Facts) (s : K) (i : Item) → (out-Item i).background ≡ false
+    → item_kept x w by y k s i ≡ and_or_kept x w by y k s (out-Item i).list
+unfolding item_kept item_rule item_around started
+foreground x w by y k s i e = ap (λ b. and_or_kept x w (item_rule b by) (item_around b y) (started x b k) s (out-Item i).list) e
+
+pub background : {K : Type 0} (x : Setting) (w : K → Met → K) (by : FlowRule) (y : Around) (k : Facts) (s : K) (i : Item) → (out-Item i).background ≡ true
+    → item_kept x w by y k s i ≡ and_or_kept x w F11 alone (without_job x k) s (out-Item i).list
+unfolding item_kept item_rule item_around started
+background x w by y k s i e = ap (λ b. and_or_kept x w (item_rule b by) (item_around b y) (started x b k) s (out-Item i).list) e
 
 links_folded : {K : Type 0} (x : Setting) (w : K → Met → K) (y : Around) (c : Course K) (ls : List (Link × Pipe)) → links_walked x w y c (links_from x.script ls) ≡ fold (link_step x w y) c ls
 unfolding items_walked links_from link_step pipe_kept
@@ -77,6 +87,16 @@ unfolding items_walked and_or_kept pipe_kept pipe_behind
 and_or_out x w by y k s l =
     ap (list_walked x w by y k s) (rules.and_or_of-out x.script l)
     ∙ ap (λ (c : Course _). c.kept) (links_folded x w y (course F3 (pipe_behind x k (out-AndOr l).first) (pipe_kept x w by y k s (out-AndOr l).first)) (out-AndOr l).rest)
+
+no_turn : {K : Type 0} (x : Setting) (w : K → Met → K) (y : Around) (c : Course K) (ls : List (Link × Pipe)) → length ls < 1 → fold (link_step x w y) c ls ≡ c
+no_turn x w y c [] h = refl
+no_turn x w y c (l ∷ ls) h = absurd (omega (arith, h))
+
+pub no_links : {K : Type 0} (x : Setting) (w : K → Met → K) (by : FlowRule) (y : Around) (k : Facts) (s : K) (l : AndOr) → length (out-AndOr l).rest < 1
+    → and_or_kept x w by y k s l ≡ pipe_kept x w by y k s (out-AndOr l).first
+no_links x w by y k s l h =
+    and_or_out x w by y k s l
+    ∙ ap (λ (c : Course _). c.kept) (no_turn x w y (course F3 (pipe_behind x k (out-AndOr l).first) (pipe_kept x w by y k s (out-AndOr l).first)) (out-AndOr l).rest h)
 
 pub link_out : {K : Type 0} (x : Setting) (w : K → Met → K) (y : Around) (c : Course K) (l : Link) (q : Pipe) → link_step x w y c (l, q) ≡ course c.by (link_left x c.behind (l, q)) (pipe_kept x w c.by y (link_known l c.behind) c.kept q)
 unfolding link_step
@@ -93,7 +113,7 @@ unfolding items_walked commands_from command_kept
 commands_folded x w by y k s [] = refl
 commands_folded x w by y k s (c ∷ cs) = commands_folded x w by y k (command_kept x w by y k s c) cs
 
-pub pipe_out : {K : Type 0} (x : Setting) (w : K → Met → K) (by : FlowRule) (y : Around) (k : Facts) (s : K) (q : Pipe) → pipe_kept x w by y k s q
+pipe_out : {K : Type 0} (x : Setting) (w : K → Met → K) (by : FlowRule) (y : Around) (k : Facts) (s : K) (q : Pipe) → pipe_kept x w by y k s q
     ≡ fold (command_kept x w (part_rule (nat_lt 1 (length (out-Pipe q).parts)) by) (part_around (nat_lt 1 (length (out-Pipe q).parts)) y) (started x (nat_lt 1 (length (out-Pipe q).parts)) k)) s
     (out-Pipe q).parts
 unfolding items_walked pipe_kept
@@ -101,6 +121,43 @@ pipe_out x w by y k s q =
     ap (pipeline_walked x w by y k s) (rules.pipeline_of-out x.script q)
     ∙ ap (λ l. commands_walked x w (part_rule l by) (part_around l y) (started x l k) s (commands_from x.script (out-Pipe q).parts)) (long_parts x.script (out-Pipe q).parts)
     ∙ commands_folded x w _ _ _ s (out-Pipe q).parts
+
+-- the parts by how many they are
+parts_kept : {K : Type 0} → Setting → (K → Met → K) → FlowRule → Around → Facts → K → List Command → K
+parts_kept x w by y k s cs = fold (command_kept x w (part_rule (nat_lt 1 (length cs)) by) (part_around (nat_lt 1 (length cs)) y) (started x (nat_lt 1 (length cs)) k)) s cs
+
+none_kept : {K : Type 0} (x : Setting) (w : K → Met → K) (by : FlowRule) (y : Around) (k : Facts) (s : K) (cs : List Command) → length cs < 1 → parts_kept x w by y k s cs ≡ s
+unfolding parts_kept
+none_kept x w by y k s [] h = refl
+none_kept x w by y k s (c ∷ cs) h = absurd (omega (arith, h))
+
+one_kept : {K : Type 0} (x : Setting) (w : K → Met → K) (by : FlowRule) (y : Around) (k : Facts) (s : K) (cs : List Command) (c : Command) → 1 ≤ length cs → length cs < 2 → c ≡ get_or cs 0 c
+    → parts_kept x w by y k s cs ≡ command_kept x w by y k s c
+unfolding part_rule part_around started parts_kept
+one_kept x w by y k s [] c l h e = absurd (omega (arith, l))
+one_kept x w by y k s (d ∷ []) c l h e = ap (command_kept x w by y k s) (sym e)
+one_kept x w by y k s (d ∷ f ∷ cs) c l h e = absurd (omega (arith, h))
+
+more_kept : {K : Type 0} (x : Setting) (w : K → Met → K) (by : FlowRule) (y : Around) (k : Facts) (s : K) (cs : List Command) → 2 ≤ length cs
+    → parts_kept x w by y k s cs ≡ fold (command_kept x w F12 (part_around true y) (without_job x k)) s cs
+unfolding part_rule started parts_kept
+more_kept x w by y k s cs h =
+    let more : nat_lt 1 (length cs) ≡ true = grind (arith, nat_tests) in
+    ap (λ l. fold (command_kept x w (part_rule l by) (part_around l y) (started x l k)) s cs) more
+
+pub no_parts : {K : Type 0} (x : Setting) (w : K → Met → K) (by : FlowRule) (y : Around) (k : Facts) (s : K) (q : Pipe) → length (out-Pipe q).parts < 1 → pipe_kept x w by y k s q ≡ s
+unfolding parts_kept
+no_parts x w by y k s q h = pipe_out x w by y k s q ∙ none_kept x w by y k s (out-Pipe q).parts h
+
+pub one_part : {K : Type 0} (x : Setting) (w : K → Met → K) (by : FlowRule) (y : Around) (k : Facts) (s : K) (q : Pipe) (c : Command)
+    → 1 ≤ length (out-Pipe q).parts → length (out-Pipe q).parts < 2 → c ≡ get_or (out-Pipe q).parts 0 c → pipe_kept x w by y k s q ≡ command_kept x w by y k s c
+unfolding parts_kept
+one_part x w by y k s q c l h e = pipe_out x w by y k s q ∙ one_kept x w by y k s (out-Pipe q).parts c l h e
+
+pub more_parts : {K : Type 0} (x : Setting) (w : K → Met → K) (by : FlowRule) (y : Around) (k : Facts) (s : K) (q : Pipe) → 2 ≤ length (out-Pipe q).parts
+    → pipe_kept x w by y k s q ≡ fold (command_kept x w F12 (part_around true y) (without_job x k)) s (out-Pipe q).parts
+unfolding parts_kept
+more_parts x w by y k s q h = pipe_out x w by y k s q ∙ more_kept x w by y k s (out-Pipe q).parts h
 
 parts_folded : {K : Type 0} (x : Setting) (w : K → Met → K) (t : Trail K) (ps : List Part) → word_walked x w t (parts_from x.script ps) ≡ fold (part_step x w) t ps
 unfolding items_walked parts_from part_step

@@ -76,10 +76,13 @@ links_behind x o (p.more_links l q rest) = links_behind x (link_behind x o l q) 
 unfoldable pub list_behind : Setting → Facts → p.AndOr → Behind
 list_behind x k (p.and_or first rest) = links_behind x (pipeline_behind x k first) rest
 
--- behind an asynchronous item `!` is set, and its status is zero
-unfoldable pub item_behind : Setting → Behind → Bool → p.AndOr → Behind
-item_behind x o false list = list_behind x (in_any_case o) list
-item_behind x o true list = either (gained x (named (job ∷ [])) (in_any_case o)) NotReached
+-- behind an item before which this is known in any case: behind an asynchronous one `!` is set, and its status is zero
+unfoldable pub behind_known : Setting → Facts → Bool → p.AndOr → Behind
+behind_known x k false list = list_behind x k list
+behind_known x k true list = either (gained x (named (job ∷ [])) k) NotReached
+
+abbrev pub item_behind : Setting → Behind → Bool → p.AndOr → Behind
+item_behind x o background list = behind_known x (in_any_case o) background list
 
 unfoldable pub items_behind : Setting → Behind → p.Items → Behind
 items_behind x o p.no_items = o

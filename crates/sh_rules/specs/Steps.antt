@@ -59,10 +59,13 @@ command_kept x w by y k s c = command_walked x w by y k s (trees.command_of x.sc
 unfoldable pub script_ran : {K : Type 0} → Setting → (K → Met → K) → entries.Around → Course K → Script → Course K
 script_ran x w y c t = items_walked x w y c (trees.script_of x.script t)
 
+-- an item before which this is known in any case
+unfoldable pub item_kept : {K : Type 0} → Setting → (K → Met → K) → FlowRule → entries.Around → Facts → K → Item → K
+item_kept x w by y k s i =
+    and_or_kept x w (item_rule (out-Item i).background by) (item_around (out-Item i).background y) (started x (out-Item i).background k) s (out-Item i).list
+
 unfoldable pub item_step : {K : Type 0} → Setting → (K → Met → K) → entries.Around → Course K → Item → Course K
-item_step x w y c i =
-    course F2 (item_left x c.behind i)
-    (and_or_kept x w (item_rule (out-Item i).background c.by) (item_around (out-Item i).background y) (started x (out-Item i).background (in_any_case c.behind)) c.kept (out-Item i).list)
+item_step x w y c i = course F2 (item_left x c.behind i) (item_kept x w c.by y (in_any_case c.behind) c.kept i)
 
 unfoldable pub link_step : {K : Type 0} → Setting → (K → Met → K) → entries.Around → Course K → Link × Pipe → Course K
 link_step x w y c l = course c.by (link_left x c.behind l) (pipe_kept x w c.by y (link_known l.0 c.behind) c.kept l.1)

@@ -1,13 +1,14 @@
 -- Clauses of private functions: what stands round a piece of a tree, and what is known behind it.
 -- POSIX.1-2024, XCU 2.9.2 (pipelines), 2.9.3 (lists).
-use Rattle.std.specs.Prelude.{ℕ, ◌-◌, max, nat_eq, slice_get, List, [], ◌∷◌, Option, Some, None, option_map}
-use Rattle.sh_tree.specs.declared.tree.AndOr.{AndOr}
+use Rattle.std.specs.Prelude.{ℕ, Bool, not, ◌&&◌, is_some, ◌-◌, max, nat_eq, slice_get, List, [], ◌∷◌, Option, Some, None, option_map}
+use Rattle.sh_tree.specs.declared.tree.AndOr.{AndOr, out-AndOr}
 use Rattle.sh_tree.specs.declared.tree.Command.{Command}
 use Rattle.sh_tree.specs.declared.tree.Item.{Item, out-Item}
 use Rattle.sh_tree.specs.declared.tree.Link.{Link}
-use Rattle.sh_tree.specs.declared.tree.Pipe.{Pipe}
+use Rattle.sh_tree.specs.declared.tree.Pipe.{Pipe, out-Pipe}
 use Rattle.sh_tree.specs.declared.tree.Script.{Script}
 use Rattle.sh_tree.specs.Tree.{text_of}
+use Rattle.sh_tree.specs.Words.{lone_part}
 use Rattle.sh_tree.specs.program.Lists.{commands_from}
 use Rattle.sh_tree.specs.program.Trees as trees
 use Rattle.sh_facts.specs.Entries as entries
@@ -23,7 +24,7 @@ use Rattle.sh_rules.specs.declared.around.Loops.{Loops, Outside, Inside'}
 use Rattle.sh_rules.specs.declared.behind.Behind as code
 use Rattle.sh_rules.specs.declared.claims.Claims.{Claims}
 use Rattle.sh_rules.specs.Settings.{Setting}
-use Rattle.sh_rules.specs.Behind.{Behind, parts_behind, pipeline_behind, link_behind, list_behind, item_behind, items_behind}
+use Rattle.sh_rules.specs.Behind.{Behind, parts_behind, pipeline_behind, link_behind, list_behind, behind_known, item_behind, items_behind}
 
 -- what a check goes by
 unfoldable pub setting : Claims → Setting
@@ -66,8 +67,15 @@ link_left x o l = link_behind x o l.0 (trees.pipeline_of x.script l.1)
 unfoldable pub and_or_behind : Setting → Facts → AndOr → Behind
 and_or_behind x k l = list_behind x k (trees.and_or_of x.script l)
 
+unfoldable pub behind_item : Setting → Facts → Item → Behind
+behind_item x k i = behind_known x k (out-Item i).background (trees.and_or_of x.script (out-Item i).list)
+
 unfoldable pub item_left : Setting → Behind → Item → Behind
 item_left x o i = item_behind x o (out-Item i).background (trees.and_or_of x.script (out-Item i).list)
+
+-- an item that is not asynchronous and begins with a command alone: what is known behind it hangs on nothing before it
+unfoldable pub is_settled : Item → Bool
+is_settled i = not (out-Item i).background && is_some (lone_part (out-Pipe (out-AndOr (out-Item i).list).first).parts)
 
 unfoldable pub script_behind : Setting → Behind → Script → Behind
 script_behind x o t = items_behind x o (trees.script_of x.script t)

@@ -75,20 +75,6 @@ impl Behind {
         met(&self.zero, &self.nonzero)
     }
 
-    #[tactic(auto, unfolding(crate::specs::Behind::swapped))]
-    fn swapped(&self, is_negated: bool) -> Behind
-        ensures { (x : Setting) → walks.behind_in x result ≡ spec.swapped is_negated (walks.behind_in x self.now) }
-    {
-        if is_negated {
-            Behind {
-                zero: self.nonzero,
-                nonzero: self.zero,
-            }
-        } else {
-            *self
-        }
-    }
-
     /// What the pipeline behind `&&` or `||` is entered with.
     #[tactic(auto, unfolding(crate::specs::Behind::link_known))]
     pub fn at_link(&self, link: Link) -> Knowledge
@@ -161,33 +147,33 @@ fn lone_part(parts: &[Command]) -> Option<&Command>
     }
 }
 
-// Behind a command alone.
-fn command_behind(claims: &Claims<'_>, number: u32) -> Behind
-    ensures { walks.behind_in (setting claims.now) result ≡ spec.either (known_at (setting claims.now) (AfterZero number)) (known_at (setting claims.now) (AfterNonzero number)) }
+// Behind a command alone, whose status `!` turns.
+#[tactic(auto, unfolding(crate::specs::Behind::swapped))]
+fn command_behind(claims: &Claims<'_>, number: u32, is_negated: bool) -> Behind
+    ensures { walks.behind_in (setting claims.now) result ≡ spec.swapped is_negated (spec.either (known_at (setting claims.now) (AfterZero number)) (known_at (setting claims.now) (AfterNonzero number))) }
 {
-    Behind {
-        zero: claims.zero(number),
-        nonzero: claims.nonzero(number),
-    }
-}
-
-// Behind the parts of a pipeline.
-#[tactic(auto, using(crate::proofs::BehindLemmas::lone, crate::proofs::BehindLemmas::not_lone))]
-fn parts_behind(claims: &Claims<'_>, known: &Knowledge, parts: &[Command]) -> Behind
-    ensures { walks.behind_in (setting claims.now) result ≡ walks.commands_behind (setting claims.now) (facts_in (setting claims.now) known.now) parts.now }
-{
-    match lone_part(parts) {
-        Some(command) => command_behind(claims, command.number),
-        None => Behind::both(known),
+    if is_negated {
+        Behind {
+            zero: claims.nonzero(number),
+            nonzero: claims.zero(number),
+        }
+    } else {
+        Behind {
+            zero: claims.zero(number),
+            nonzero: claims.nonzero(number),
+        }
     }
 }
 
 /// Behind a pipeline.
-#[tactic(auto, using(crate::proofs::BehindLemmas::pipe_out))]
+#[tactic(auto, using(crate::proofs::BehindLemmas::lone, crate::proofs::BehindLemmas::not_lone))]
 pub fn pipe_behind(claims: &Claims<'_>, known: &Knowledge, pipe: &Pipe) -> Behind
     ensures { walks.behind_in (setting claims.now) result ≡ walks.pipe_behind (setting claims.now) (facts_in (setting claims.now) known.now) pipe.now }
 {
-    parts_behind(claims, known, pipe.parts.as_slice()).swapped(pipe.negated)
+    match lone_part(pipe.parts.as_slice()) {
+        Some(command) => command_behind(claims, command.number, pipe.negated),
+        None => Behind::both(known),
+    }
 }
 
 /// Behind the pipeline that follows `&&` or `||`.
@@ -211,12 +197,17 @@ fn links_behind(claims: &Claims<'_>, first: Behind, links: &[(Link, Pipe)]) -> B
 }
 
 /// Behind an and-or list.
-#[tactic(auto, using(crate::proofs::BehindLemmas::and_or_out))]
+#[tactic(auto, using(crate::proofs::BehindLemmas::and_or_out, crate::proofs::BehindLemmas::no_links))]
 pub fn and_or_behind(claims: &Claims<'_>, known: &Knowledge, list: &AndOr) -> Behind
     ensures { walks.behind_in (setting claims.now) result ≡ walks.and_or_behind (setting claims.now) (facts_in (setting claims.now) known.now) list.now }
 {
-    let first = pipe_behind(claims, known, &list.first);
-    links_behind(claims, first, list.rest.as_slice())
+    match list.rest.as_slice() {
+        [] => pipe_behind(claims, known, &list.first),
+        links => {
+            let first = pipe_behind(claims, known, &list.first);
+            links_behind(claims, first, links)
+        }
+    }
 }
 
 // Behind an asynchronous item, whose status is zero.
@@ -232,17 +223,25 @@ fn background_behind(claims: &Claims<'_>, known: &Knowledge) -> Behind
     }
 }
 
-/// Behind an item: an asynchronous one has status zero, and sets `!`.
+/// Behind an item before which this is known in any case: an asynchronous one has status zero, and sets `!`.
 #[tactic(auto, using(crate::proofs::BehindLemmas::foreground, crate::proofs::BehindLemmas::background))]
+pub fn behind_item(claims: &Claims<'_>, known: &Knowledge, item: &Item) -> Behind
+    ensures { walks.behind_in (setting claims.now) result ≡ walks.behind_item (setting claims.now) (facts_in (setting claims.now) known.now) item.now }
+{
+    if item.background {
+        background_behind(claims, known)
+    } else {
+        and_or_behind(claims, known, &item.list)
+    }
+}
+
+/// Behind an item, whatever the status before it.
+#[tactic(auto, using(crate::proofs::BehindLemmas::item_out))]
 pub fn item_behind(claims: &Claims<'_>, behind: &Behind, item: &Item) -> Behind
     ensures { walks.behind_in (setting claims.now) result ≡ walks.item_left (setting claims.now) (walks.behind_in (setting claims.now) behind.now) item.now }
 {
     let known = behind.in_any_case();
-    if item.background {
-        background_behind(claims, &known)
-    } else {
-        and_or_behind(claims, &known, &item.list)
-    }
+    behind_item(claims, &known, item)
 }
 
 fn items_behind(claims: &Claims<'_>, first: Behind, items: &[Item]) -> Behind
@@ -255,10 +254,37 @@ fn items_behind(claims: &Claims<'_>, first: Behind, items: &[Item]) -> Behind
     behind
 }
 
+// Whether what is known behind an item hangs on its own commands alone.
+#[tactic(auto, unfolding(crate::specs::Walks::is_settled))]
+fn is_settled(item: &Item) -> bool
+    ensures { result ≡ walks.is_settled item.now }
+{
+    !item.background && lone_part(item.list.first.parts.as_slice()).is_some()
+}
+
+// The items from the last one on that settles what is known behind it, or all of them.
+#[tactic(auto, using(crate::proofs::BehindLemmas::settled_there))]
+fn settled_from(items: &[Item]) -> &[Item]
+    ensures { (x : Setting) (o : spec.Behind) → fold (walks.item_left x) o result.now ≡ fold (walks.item_left x) o items.now }
+{
+    let mut from = items.len();
+    while from > 0 {
+        from -= 1;
+        if is_settled(&items[from]) {
+            return &items[from..];
+        }
+    }
+    items
+}
+
 /// Behind a list, of which this is known at its start; an empty one passes it on.
 #[tactic(auto, using(crate::proofs::BehindLemmas::script_out))]
 pub fn script_behind(claims: &Claims<'_>, known: &Knowledge, list: &Script) -> Behind
     ensures { walks.behind_in (setting claims.now) result ≡ walks.script_behind (setting claims.now) (spec.both (facts_in (setting claims.now) known.now)) list.now }
 {
-    items_behind(claims, Behind::both(known), list.items.as_slice())
+    items_behind(
+        claims,
+        Behind::both(known),
+        settled_from(list.items.as_slice()),
+    )
 }

@@ -12,7 +12,7 @@ ghost use Rattle.sh_rules.specs.Walks as walks;
 ghost use Rattle.sh_rules.specs.Walks.{facts_in, setting};
 
 use crate::around::{Around, alone, in_function};
-use crate::behind::{Behind, item_behind, link_behind, met, pipe_behind, started, without_job};
+use crate::behind::{Behind, behind_item, link_behind, met, pipe_behind, without_job};
 use crate::claims::Claims;
 use crate::gains::{enter_operator, gain_action, gain_assigned, gain_variable, gain_word};
 use sh_facts::knowledge::Knowledge;
@@ -140,16 +140,35 @@ fn walk_item<V: Visitor>(
     ensures { steps.ran (setting claims.now) course.new (V.kept visitor.new) ≡ steps.item_step (setting claims.now) (V.with_met (setting claims.now)) (walks.around (setting claims.now).script around.now) (steps.ran (setting claims.now) course.old (V.kept visitor.old)) item.now }
 {
     let seen = course.behind.in_any_case();
-    let known = started(claims, item.background, &seen);
-    let by = item_rule(item.background, course.by);
-    let inner = around.round_item(item.background);
-    walk_and_or(claims, by, &inner, &known, &item.list, visitor);
-    course.behind = item_behind(claims, &course.behind, item);
+    enter_item(claims, around, course.by, &seen, item, visitor);
+    course.behind = behind_item(claims, &seen, item);
     course.by = FlowRule::F2;
 }
 
+// The list of an item before which this is known in any case.
 #[cycle(walk)]
-#[tactic(auto, using(crate::proofs::WalkLemmas::and_or_out))]
+#[tactic(auto, using(crate::proofs::WalkLemmas::foreground, crate::proofs::WalkLemmas::background))]
+fn enter_item<V: Visitor>(
+    claims: &Claims<'_>,
+    around: &Around<'_>,
+    by: FlowRule,
+    known: &Knowledge,
+    item: &Item,
+    visitor: &mut V,
+)
+    ensures { V.kept visitor.new ≡ steps.item_kept (setting claims.now) (V.with_met (setting claims.now)) by (walks.around (setting claims.now).script around.now) (facts_in (setting claims.now) known.now) (V.kept visitor.old) item.now }
+{
+    if item.background {
+        let inner = alone();
+        let seen = without_job(claims, known);
+        walk_and_or(claims, FlowRule::F11, &inner, &seen, &item.list, visitor);
+    } else {
+        walk_and_or(claims, by, around, known, &item.list, visitor);
+    }
+}
+
+#[cycle(walk)]
+#[tactic(auto, using(crate::proofs::WalkLemmas::and_or_out, crate::proofs::WalkLemmas::no_links))]
 fn walk_and_or<V: Visitor>(
     claims: &Claims<'_>,
     by: FlowRule,
@@ -161,11 +180,16 @@ fn walk_and_or<V: Visitor>(
     ensures { V.kept visitor.new ≡ steps.and_or_kept (setting claims.now) (V.with_met (setting claims.now)) by (walks.around (setting claims.now).script around.now) (facts_in (setting claims.now) known.now) (V.kept visitor.old) list.now }
 {
     walk_pipe(claims, by, around, known, &list.first, visitor);
-    let mut course = Course {
-        by: FlowRule::F3,
-        behind: pipe_behind(claims, known, &list.first),
-    };
-    walk_links(claims, around, &mut course, list.rest.as_slice(), visitor);
+    match list.rest.as_slice() {
+        [] => (),
+        links => {
+            let mut course = Course {
+                by: FlowRule::F3,
+                behind: pipe_behind(claims, known, &list.first),
+            };
+            walk_links(claims, around, &mut course, links, visitor);
+        }
+    }
 }
 
 #[cycle(walk)]
@@ -201,7 +225,7 @@ fn walk_link<V: Visitor>(
 }
 
 #[cycle(walk)]
-#[tactic(auto, using(crate::proofs::WalkLemmas::pipe_out))]
+#[tactic(auto, using(crate::proofs::WalkLemmas::no_parts, crate::proofs::WalkLemmas::one_part, crate::proofs::WalkLemmas::more_parts))]
 fn walk_pipe<V: Visitor>(
     claims: &Claims<'_>,
     by: FlowRule,
@@ -212,18 +236,16 @@ fn walk_pipe<V: Visitor>(
 )
     ensures { V.kept visitor.new ≡ steps.pipe_kept (setting claims.now) (V.with_met (setting claims.now)) by (walks.around (setting claims.now).script around.now) (facts_in (setting claims.now) known.now) (V.kept visitor.old) pipe.now }
 {
-    let parts = pipe.parts.as_slice();
-    let is_long = parts.len() > 1;
-    let inner = around.round_parts(is_long);
-    let seen = started(claims, is_long, known);
-    walk_commands(
-        claims,
-        part_rule(is_long, by),
-        &inner,
-        &seen,
-        parts,
-        visitor,
-    );
+    match pipe.parts.as_slice() {
+        [] => (),
+        [command] => walk_command(claims, by, around, known, command, visitor),
+        [_, _, ..] => {
+            let inner = around.round_parts(true);
+            let seen = without_job(claims, known);
+            let parts = pipe.parts.as_slice();
+            walk_commands(claims, FlowRule::F12, &inner, &seen, parts, visitor);
+        }
+    }
 }
 
 #[cycle(walk)]
