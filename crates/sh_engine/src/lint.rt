@@ -61,8 +61,7 @@ fn lint_prepared(
 ///
 /// # Errors
 ///
-/// The refusal of the script, of its profile or of its names, in that order; `Memory` where a growth was refused, and where no certificate was
-/// found (`sh_certify::find`).
+/// The refusal of the script, of its profile or of its names, in that order; `Memory` where a growth was refused.
 #[tactic(auto, using(crate::proofs::LintLemmas::exhausted, crate::proofs::PromiseLemmas::linted))]
 pub fn lint(alloc: Global, script: &[u8], policy: &Policy) -> Result<Verdict, Refusal>
     ensures answers { Lints script.now policy.now result }
