@@ -71,8 +71,9 @@ def script_of(lines, size):
     for line in lines:
         length += len(line) + 1
         if length > size:
-            return "\n".join(chosen) + "\n"
+            break
         chosen.append(line)
+    return "\n".join(chosen) + "\n"
 
 
 def word_of(head, piece, tail, size):
@@ -121,11 +122,12 @@ def nested_loops(depth):
 
 
 def calling_functions():
-    """Functions that each call the next, in the order in which they are defined."""
-    number = 0
-    while True:
-        yield f'f{number}() {{ x{number % 3000}=1; f{number + 1} "$@"; }}'
-        number += 1
+    """Functions that each call the next, in the order in which they are defined: as many as have names, with twelve commands before each call."""
+    body = 'x=1; echo "some words $x"; ' * 6
+    for number in range(2900):
+        yield f"f{number}() {{ {body}f{number + 1}; }}"
+    yield "f2900() { :; }"
+    yield "f0"
 
 
 def one_function(size):
