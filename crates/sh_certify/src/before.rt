@@ -15,6 +15,7 @@ ghost use Rattle.sh_certify.specs.Places.{claim_there};
 ghost use Rattle.sh_certify.specs.Sweeps.{IsCommand, IsReady, IsSwept, Keeps};
 
 use crate::draft::Draft;
+use crate::kept::facts_at;
 use crate::lower::lower;
 use crate::place::{Part, Place};
 use crate::sights::sight_of;
@@ -47,7 +48,7 @@ pub fn lower_at(
         &mut draft.certificate,
         &mut draft.probe,
         place,
-        *known,
+        known,
     )?;
     draft.lowered = draft.lowered.saturating_add(u64::from(is_lowered));
     Ok(())
@@ -58,6 +59,19 @@ fn place_before(number: u32) -> Option<Place>
     ensures { result ≡ fitting_place (spec.at Before (number - 1)) }
 {
     of_command(Part::Before, number).place()
+}
+
+fn is_there(draft: &Draft, place: Place, assured: &Assured) -> bool {
+    match facts_at(&draft.certificate, place) {
+        Some(facts) => assured.includes(&draft.certificate.rows, &facts),
+        None => true,
+    }
+}
+
+#[inline(never)]
+fn lower_there(subject: &Subject<'_>, draft: &mut Draft, assured: &Assured, place: Place) -> Result<(), AllocError> {
+    let sight = sight_of(subject.names, assured);
+    lower_at(subject, draft, place, &sight)
 }
 
 // Lowers what is claimed where the command of a number is entered, where this is assured.
@@ -74,8 +88,10 @@ fn lower_entered(
     let Some(place) = place_before(number) else {
         return Ok(());
     };
-    let sight = sight_of(subject.names, assured);
-    lower_at(subject, draft, place, &sight)
+    if is_there(&*draft, place, assured) {
+        return Ok(());
+    }
+    lower_there(subject, draft, assured, place)
 }
 
 /// Lowers what is claimed where a command is entered to what is known there, where any run comes.

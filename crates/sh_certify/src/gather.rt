@@ -14,7 +14,7 @@ ghost use Rattle.sh_certify.specs.Spots.{place_at};
 ghost use Rattle.sh_certify.specs.Turns.{IsNew, gathered_of};
 
 use crate::place::{Part, Place};
-use crate::sights::{add_name, add_row, met, sight_of};
+use crate::sights::{add_name, add_row, meet_assured};
 use crate::spot::{Spot, fitting, index_of};
 use sh_facts::certificate::{Drops, FunctionEntry};
 use sh_facts::knowledge::Knowledge;
@@ -156,7 +156,7 @@ impl Gather {
         match known {
             Knowledge::NotReached => {}
             Knowledge::Known(assured) => {
-                self.known = Some(met(self.known, sight_of(names, assured)));
+                meet_assured(&mut self.known, names, assured);
             }
         }
     }

@@ -19,7 +19,7 @@ use sh_check::own::gain_operands;
 use sh_facts::certificate::Certificate;
 use sh_facts::knowledge::Knowledge;
 use sh_facts::rule::FlowRule;
-use sh_rules::behind::{Behind, item_behind, link_behind, pipe_behind, started};
+use sh_rules::behind::{Behind, pipe_behind, started};
 use sh_rules::claims::Claims;
 use sh_rules::gains::{
     enter_operator, gain_action, gain_assigned, gain_redirects, gain_variable, gain_word,
@@ -123,16 +123,16 @@ pub fn behind_pipe(
     pipe_behind(&claims, known, pipe)
 }
 
-/// Behind the pipeline that follows `&&` or `||`.
-pub fn behind_link(
+/// Goes on behind the pipeline that follows `&&` or `||`.
+pub fn pass_link(
     subject: &Subject<'_>,
     certificate: &Certificate,
-    behind: &Behind,
+    behind: &mut Behind,
     link: &(Link, Pipe),
-) -> Behind
+)
     requires { (probed : ℕ) × IsReady subject.now certificate.now probed }
-    ensures { (o : After) → KnowsBehind subject.now o (known_behind subject.now behind.now)
-        → KnowsBehind subject.now (linked link.now.0 o (pipeline_after (link_seen link.now.0 o) (trees.pipeline_of subject.now.script.now link.now.1))) (known_behind subject.now result) }
+    ensures { (o : After) → KnowsBehind subject.now o (known_behind subject.now behind.old)
+        → KnowsBehind subject.now (linked link.now.0 o (pipeline_after (link_seen link.now.0 o) (trees.pipeline_of subject.now.script.now link.now.1))) (known_behind subject.now behind.new) }
 {
     let claims = Claims {
         script: subject.script,
@@ -140,7 +140,7 @@ pub fn behind_link(
         calls: subject.table,
         certificate,
     };
-    link_behind(&claims, behind, link.0, &link.1)
+    behind.pass_link(&claims, link.0, &link.1);
 }
 
 /// At each turn of a loop.
@@ -335,6 +335,6 @@ pub fn pass_on(subject: &Subject<'_>, certificate: &Certificate, course: &mut Co
         calls: subject.table,
         certificate,
     };
-    course.behind = item_behind(&claims, &course.behind, item);
+    course.behind.pass_item(&claims, item);
     course.by = FlowRule::F2;
 }

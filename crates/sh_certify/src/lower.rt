@@ -33,31 +33,44 @@ pub fn lower(
     certificate: &mut Certificate,
     probe: &mut BitRow,
     place: Place,
-    mut known: Sight,
+    known: &Sight,
 ) -> Result<bool, AllocError>
     requires few { length names.now ≤ MAX_NAMES }
     requires written { IsWritten names.now (sets_in writable.now.vars writable.now.functions) }
     requires count { certificate.old.rows.count ≡ length names.now }
     requires probed { probe.old.count ≡ length names.now }
-    requires named { IsNamed (length names.now) (sight_facts known) }
+    requires named { IsNamed (length names.now) (sight_facts known.now) }
     ensures lowered { IfOk result (λ changed. (loops : List Bool) (functions : ℕ) → IsWorking names.now loops functions certificate.old
-        → IsLowered certificate.old certificate.new place (sight_facts known) changed) }
+        → IsLowered certificate.old certificate.new place (sight_facts known.now) changed) }
     ensures working { IfOk result (λ changed. (loops : List Bool) (functions : ℕ) → IsWorking names.now loops functions certificate.old
         → IsWorking names.now loops functions certificate.new) }
-    ensures idle { IfOk result (λ changed. changed ≡ false → ClaimStays certificate.old place (sight_facts known) (sets_in writable.now.vars writable.now.functions)) }
+    ensures idle { IfOk result (λ changed. changed ≡ false → ClaimStays certificate.old place (sight_facts known.now) (sets_in writable.now.vars writable.now.functions)) }
     ensures probed { IfOk result (λ changed. probe.new.count ≡ length names.now) }
 {
     let Some(facts) = facts_at(certificate, place) else {
         return Ok(false);
     };
-    if is_within(&certificate.rows, facts, &known) {
+    if is_within(&certificate.rows, facts, known) {
         return Ok(false);
     }
-    meet_facts(&certificate.rows, facts, &mut known);
-    if !writable.has(&known.vars, &known.functions) {
+    lower_to(writable, certificate, probe, place, facts, known)
+}
+
+#[inline(never)]
+fn lower_to(
+    writable: &Writable,
+    certificate: &mut Certificate,
+    probe: &mut BitRow,
+    place: Place,
+    facts: Facts,
+    known: &Sight,
+) -> Result<bool, AllocError> {
+    let mut left = *known;
+    meet_facts(&certificate.rows, facts, &mut left);
+    if !writable.has(&left.vars, &left.functions) {
         return Ok(false);
     }
-    let kept = keep(&mut certificate.rows, probe, &known)?;
+    let kept = keep(&mut certificate.rows, probe, &left)?;
     put(certificate, place, kept)?;
     Ok(true)
 }
@@ -114,8 +127,8 @@ pub fn count(
     certificate: &mut Certificate,
     probe: &mut BitRow,
     index: u16,
-    mut vars: NumberSet,
-    mut functions: NumberSet,
+    vars: &NumberSet,
+    functions: &NumberSet,
 ) -> Result<bool, AllocError>
     requires few { length names.now ≤ MAX_NAMES }
     requires written { IsWritten names.now (sets_in writable.now.vars writable.now.functions) }
@@ -133,9 +146,24 @@ pub fn count(
     let Some(drops) = drops_of(certificate, index) else {
         return Ok(false);
     };
-    if are_in_rows(&certificate.rows, drops, &vars, &functions) {
+    if are_in_rows(&certificate.rows, drops, vars, functions) {
         return Ok(false);
     }
+    count_more(writable, certificate, probe, index, drops, vars, functions)
+}
+
+#[inline(never)]
+fn count_more(
+    writable: &Writable,
+    certificate: &mut Certificate,
+    probe: &mut BitRow,
+    index: u16,
+    drops: Drops,
+    vars: &NumberSet,
+    functions: &NumberSet,
+) -> Result<bool, AllocError> {
+    let mut vars = *vars;
+    let mut functions = *functions;
     vars.join_row(&certificate.rows, drops.vars);
     functions.join_row(&certificate.rows, drops.functions);
     if !writable.has(&vars, &functions) {

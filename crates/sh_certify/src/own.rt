@@ -59,23 +59,13 @@ fn visit(
     around: &Around<'_>,
     known: &Knowledge,
     command: &Command,
-    gather: Gather,
-) -> Gather
+    gather: &mut Gather,
+)
     requires sized { certificate.now.rows.count ≡ length subject.now.names.now }
     requires admitted { IsAdmitted subject.now.script.now subject.now.policy.now subject.now.tree.now subject.now.names.now }
     ensures { gathered_of result ≡ command_by gathering (setting_by subject.now certificate.now) (gathered_of gather) (met_in (setting_by subject.now certificate.now) by around.now known.now command.now) }
 {
-    let mut gather = gather;
-    tell(
-        subject,
-        certificate,
-        by,
-        around,
-        known,
-        command,
-        &mut gather,
-    );
-    gather
+    tell(subject, certificate, by, around, known, command, gather);
 }
 
 // What the flow rules ask at a command, gathered for a place and a function.
@@ -93,8 +83,9 @@ fn asked_of(
     ensures numbers { AreNumbers (length subject.now.names.now) (gathered_of result) }
     ensures stands { (other : Sheet) → Keeps subject.now other → Stands subject.now.names.now other (gathered_of result) }
 {
-    let gather = Gather::new(target);
-    visit(subject, certificate, by, around, known, command, gather)
+    let mut gather = Gather::new(target);
+    visit(subject, certificate, by, around, known, command, &mut gather);
+    gather
 }
 
 // Whether a place is one of the command of an index, and the function the first.

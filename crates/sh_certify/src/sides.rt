@@ -7,7 +7,7 @@ ghost use Rattle.sh_certify.specs.Numbers.{by_number};
 
 use crate::gather::{Gather, is_place};
 use crate::place::Place;
-use crate::sights::{met, sight_of};
+use crate::sights::meet_assured;
 use crate::spot::spot_of;
 use sh_facts::knowledge::Knowledge;
 use sh_facts::names::Names;
@@ -35,9 +35,7 @@ fn meet_known(seen: &mut Option<Sight>, names: &Names, known: &Knowledge)
 {
     match known {
         Knowledge::NotReached => {}
-        Knowledge::Known(assured) => {
-            *seen = Some(met(*seen, sight_of(names, assured)));
-        }
+        Knowledge::Known(assured) => meet_assured(seen, names, assured),
     }
 }
 

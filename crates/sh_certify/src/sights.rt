@@ -28,25 +28,28 @@ pub fn sight_of(names: &Names, assured: &Assured) -> Sight
     }
 }
 
+// Leaves of what is known what is assured too.
 #[tactic(auto, unfolding(sh_find::specs::Facts::meet))]
-fn both(known: Sight, mut sight: Sight) -> Sight
-    ensures { sight_facts result ≡ meet (sight_facts known) (sight_facts sight) }
+fn meet(known: &mut Sight, sight: &Sight)
+    ensures { sight_facts known.new ≡ meet (sight_facts known.old) (sight_facts sight.now) }
 {
-    sight.vars.meet(&known.vars);
-    sight.functions.meet(&known.functions);
-    sight.args = sight.args.min(known.args);
-    sight
+    known.vars.meet(&sight.vars);
+    known.functions.meet(&sight.functions);
+    known.args = known.args.min(sight.args);
 }
 
-/// What both claim; where nothing is known, no run comes, and all is claimed.
+/// Leaves of what is known what is assured of these names too; where nothing was known, no run came, and all was claimed.
+#[inline(never)]
 #[tactic(auto, unfolding(sh_find::specs::Kept::seen_of, sh_find::specs::Facts::meet))]
-pub fn met(known: Option<Sight>, sight: Sight) -> Sight
-    ensures { sight_facts result ≡ meet (seen_of known) (sight_facts sight) }
+pub fn meet_assured(known: &mut Option<Sight>, names: &Names, assured: &Assured)
+    requires { AreNumbered names.now }
+    ensures { seen_of known.new ≡ meet (seen_of known.old) (by_number names.now (assured_facts names.now assured.now)) }
 {
-    let Some(known) = known else {
-        return sight;
-    };
-    both(known, sight)
+    let sight = sight_of(names, assured);
+    match known {
+        Some(known) => meet(known, &sight),
+        None => *known = Some(sight),
+    }
 }
 
 /// Adds a name, if it is one of these.

@@ -58,17 +58,11 @@ pub fn of_command(part: Part, number: u32) -> Spot
     }
 }
 
-fn position_of(name: &[u8], names: &[Vec<u8>]) -> Option<usize>
-    ensures { result ≡ position (λ v. bytes_eq v.items name.now) names.now }
-{
-    names.iter().position(|other| other.as_slice() == name)
-}
-
 /// The index of a function, if it is one of the script.
 pub fn index_of(claims: &Claims<'_>, name: &[u8]) -> Option<usize>
     ensures { result ≡ number_of (setting claims.now).functions name.now }
 {
-    position_of(name, claims.calls.functions())
+    claims.calls.function_place(name)
 }
 
 // A part of a function, if it is one of the script.

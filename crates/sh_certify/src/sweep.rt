@@ -22,7 +22,7 @@ use crate::before::lower_before;
 use crate::draft::Draft;
 use crate::inner::is_in_elements;
 use crate::known::{
-    behind_link, behind_pipe, entry_of, head_of, inside_of, pass_on, process_of, started_in,
+    behind_pipe, pass_link, entry_of, head_of, inside_of, pass_on, process_of, started_in,
     turn_of,
 };
 use crate::own::{lower_behind, lower_command, lower_head};
@@ -34,7 +34,7 @@ use sh_facts::knowledge::Knowledge;
 use sh_facts::rule::FlowRule;
 use sh_rules::around::{Around, alone, in_function};
 use sh_rules::behind::{Behind, met};
-use sh_rules::walk::{Course, begun, item_rule, part_rule};
+use sh_rules::walk::{Course, begun};
 use sh_tree::tree::{
     AndOr, Branch, Clause, Command, Item, Kind, Link, LoopKind, Pipe, Script, Span, Word,
 };
@@ -109,10 +109,25 @@ fn enter_item(
     ensures swept { IfOk result (λ unit. IsSwept subject.now draft.old.certificate draft.new.certificate draft.new.probe.count) }
 {
     let seen = course.behind.in_any_case();
-    let known = started_in(subject, &draft.certificate, item.background, &seen);
-    let inner = around.round_item(item.background);
-    let by = item_rule(item.background, course.by);
-    sweep_and_or(subject, draft, levels, by, &inner, &known, &item.list)
+    if item.background {
+        return enter_background(subject, draft, levels, &seen, item);
+    }
+    sweep_and_or(subject, draft, levels, course.by, around, &seen, &item.list)
+}
+
+// Lowers the certificate at the commands of an asynchronous item.
+#[cycle(sweep)]
+fn enter_background(
+    subject: &Subject<'_>,
+    draft: &mut Draft,
+    levels: u32,
+    seen: &Knowledge,
+    item: &Item,
+) -> Result<(), AllocError>
+{
+    let known = started_in(subject, &draft.certificate, true, seen);
+    let inner = alone();
+    sweep_and_or(subject, draft, levels, FlowRule::F11, &inner, &known, &item.list)
 }
 
 #[cycle(sweep)]
@@ -180,17 +195,16 @@ fn sweep_link(
         → AreLinks subject.now (walks.around subject.now.script.now around.now) (known_behind subject.now behind.old) (link.now ∷ others)
         → AreLinks subject.now (walks.around subject.now.script.now around.now) (known_behind subject.now behind.new) others) }
 {
-    let known = behind.at_link(link.0);
     sweep_pipe(
         subject,
         draft,
         levels,
         FlowRule::F3,
         around,
-        &known,
+        behind.at_link(link.0),
         &link.1,
     )?;
-    *behind = behind_link(subject, &draft.certificate, &*behind, link);
+    pass_link(subject, &draft.certificate, behind, link);
     Ok(())
 }
 
@@ -208,19 +222,26 @@ fn sweep_pipe(
     requires placed { IsPipe subject.now by (walks.around subject.now.script.now around.now) (knowledge_facts subject.now.names.now known.now) pipe.now }
     ensures swept { IfOk result (λ unit. IsSwept subject.now draft.old.certificate draft.new.certificate draft.new.probe.count) }
 {
-    let parts = pipe.parts.as_slice();
-    let is_long = parts.len() > 1;
-    let inner = around.round_parts(is_long);
-    let seen = started_in(subject, &draft.certificate, is_long, known);
-    sweep_parts(
-        subject,
-        draft,
-        levels,
-        part_rule(is_long, by),
-        &inner,
-        &seen,
-        parts,
-    )
+    match pipe.parts.as_slice() {
+        [command] => sweep_command(subject, draft, levels, by, around, known, command),
+        parts => sweep_processes(subject, draft, levels, around, known, parts),
+    }
+}
+
+// Lowers the certificate at the parts of a pipeline of two or more.
+#[cycle(sweep)]
+fn sweep_processes(
+    subject: &Subject<'_>,
+    draft: &mut Draft,
+    levels: u32,
+    around: &Around<'_>,
+    known: &Knowledge,
+    parts: &[Command],
+) -> Result<(), AllocError>
+{
+    let inner = around.round_parts(true);
+    let seen = started_in(subject, &draft.certificate, true, known);
+    sweep_parts(subject, draft, levels, FlowRule::F12, &inner, &seen, parts)
 }
 
 #[cycle(sweep)]
@@ -552,8 +573,15 @@ fn sweep_loop(
         &mut course,
         condition.items.as_slice(),
     )?;
-    let turn = course.behind.at_turn(kind);
-    sweep_list(subject, draft, levels, &inner, FlowRule::F7, &turn, body)?;
+    sweep_list(
+        subject,
+        draft,
+        levels,
+        &inner,
+        FlowRule::F7,
+        course.behind.at_turn(kind),
+        body,
+    )?;
     Ok(())
 }
 

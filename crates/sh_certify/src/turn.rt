@@ -59,18 +59,18 @@ fn lower_known(
     certificate: &mut Certificate,
     probe: &mut BitRow,
     place: Place,
-    known: Option<Sight>,
+    known: &Option<Sight>,
 ) -> Result<bool, AllocError>
     requires few { length names.now ≤ MAX_NAMES }
     requires written { IsWritten names.now (sets_in writable.now.vars writable.now.functions) }
     requires count { certificate.old.rows.count ≡ length names.now }
     requires probed { probe.old.count ≡ length names.now }
-    requires named { IsNamed (length names.now) (seen_of known) }
+    requires named { IsNamed (length names.now) (seen_of known.now) }
     ensures lowered { IfOk result (λ changed. (loops : List Bool) (functions : ℕ) → IsWorking names.now loops functions certificate.old
-        → IsLowered certificate.old certificate.new place (seen_of known) changed) }
+        → IsLowered certificate.old certificate.new place (seen_of known.now) changed) }
     ensures working { IfOk result (λ changed. (loops : List Bool) (functions : ℕ) → IsWorking names.now loops functions certificate.old
         → IsWorking names.now loops functions certificate.new) }
-    ensures idle { IfOk result (λ changed. changed ≡ false → ClaimStays certificate.old place (seen_of known) (sets_in writable.now.vars writable.now.functions)) }
+    ensures idle { IfOk result (λ changed. changed ≡ false → ClaimStays certificate.old place (seen_of known.now) (sets_in writable.now.vars writable.now.functions)) }
     ensures probed { IfOk result (λ changed. probe.new.count ≡ length names.now) }
 {
     match known {
@@ -108,7 +108,7 @@ pub fn lower_gathered(
         certificate,
         probe,
         target.place,
-        gather.known,
+        &gather.known,
     )?;
     let counted = count(
         names,
@@ -116,8 +116,8 @@ pub fn lower_gathered(
         certificate,
         probe,
         target.function,
-        gather.vars,
-        gather.functions,
+        &gather.vars,
+        &gather.functions,
     )?;
     Ok(lowered || counted)
 }

@@ -194,7 +194,7 @@ all_placed_any q ys (x ∷ xs) = all_placed_any q (placed ys x) xs ∙ ap (λ b.
     turned false true c = refl
     turned false false c = refl
 
-or_none : (b : Bool) → (b || false) ≡ b
+pub or_none : (b : Bool) → (b || false) ≡ b
 or_none true = refl
 or_none false = refl
 
@@ -312,14 +312,14 @@ module _ (names : List Text) (h : AreNumbered names) where
   in_row rows id t = row_names names h (λ k. holds_at rows.rows id.index k) t
 
   -- a set with the numbers of a row
-  pub row_set : (rows : KeptRows) (id : RowId) (none new : ℕ → Bool) → ((k : ℕ) → none k ≡ false) → ((k : ℕ) → k < 4096 → new k ≡ (holds_at rows.rows id.index k || none k))
+  pub row_set : (rows : KeptRows) (id : RowId) (new : ℕ → Bool) → ((k : ℕ) → k < 4096 → new k ≡ holds_at rows.rows id.index k)
       → (t : Text) → at_number new (number_of names t) ≡ is_one_of (names_at (in_byte_order names) rows id) t
   unfolding at_number
-  row_set rows id none new n e t = by_number (number_of names t) refl ∙ sym (in_row rows id t)
+  row_set rows id new e t = by_number (number_of names t) refl ∙ sym (in_row rows id t)
     where
       by_number : (o : Option ℕ) → number_of names t ≡ o → at_number new o ≡ at_number (λ k. holds_at rows.rows id.index k) o
       by_number None is = refl
-      by_number (Some k) is = e k (few_numbers names h k t is) ∙ ap (λ b. holds_at rows.rows id.index k || b) (n k) ∙ or_none (holds_at rows.rows id.index k)
+      by_number (Some k) is = e k (few_numbers names h k t is)
 
   -- what is left without a row
   pub row_left : (rows : KeptRows) (id : RowId) (old new : ℕ → Bool) → ((k : ℕ) → new k ≡ (not (holds_at rows.rows id.index k) && old k))

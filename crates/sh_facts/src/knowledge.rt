@@ -6,6 +6,7 @@ ghost use Rattle.sh_rows.specs.Numbers.{has_bit};
 ghost use Rattle.sh_tree.specs.program.Syntax.{Text};
 ghost use Rattle.sh_table.specs.runs.Environment.{is_one_of};
 ghost use Rattle.sh_table.specs.runs.Worlds.{start_names};
+ghost use Rattle.sh_facts.specs.declared.certificate.Facts.TheVariants as fact;
 ghost use Rattle.sh_facts.specs.Facts as spec;
 ghost use Rattle.sh_facts.specs.Faults.{are_among};
 ghost use Rattle.sh_facts.specs.Gains.{with_gains, named};
@@ -136,10 +137,25 @@ impl NameSet {
     fn with_row(mut self, rows: &Rows, id: RowId) -> NameSet
         ensures { (k : ℕ) → k < MAX_NAMES → has_bit k result.words ≡ (holds_at rows.now.rows id.index k || has_bit k self.words) }
     {
+        self.join_row(rows, id);
+        self
+    }
+
+    // Adds the numbers that are in the row of a place.
+    fn join_row(&mut self, rows: &Rows, id: RowId)
+        ensures { (k : ℕ) → k < MAX_NAMES → has_bit k self.new.words ≡ (holds_at rows.now.rows id.index k || has_bit k self.old.words) }
+    {
         if let Some(row) = rows.row(id) {
             join_words(&mut self.words, row.words());
         }
-        self
+    }
+
+    // Becomes the set of the numbers that are in the row of a place.
+    fn set_row(&mut self, rows: &Rows, id: RowId)
+        ensures { (k : ℕ) → k < MAX_NAMES → has_bit k self.new.words ≡ holds_at rows.now.rows id.index k }
+    {
+        *self = NameSet::new();
+        self.join_row(rows, id);
     }
 
     // Whether each name of the row of a place is here.
@@ -176,8 +192,8 @@ impl Assured {
         self.args
     }
 
-    // Whether all that a certificate claims by a fact is assured.
-    fn includes(&self, rows: &Rows, facts: &Facts) -> bool
+    /// Whether all that a certificate claims by a fact is assured.
+    pub fn includes(&self, rows: &Rows, facts: &Facts) -> bool
         ensures { (names : List Text) → AreNumbered names → rows.now.count ≡ length names
             → result ≡ spec.within (claim_of (in_byte_order names) rows.now facts.now) (assured_facts names self.now) }
     {
@@ -193,6 +209,28 @@ impl Assured {
                     && *args <= self.args
             }
         }
+    }
+
+    // The variables and the functions of these rows, and so many positional parameters.
+    fn of_rows(rows: &Rows, vars: RowId, functions: RowId, args: u16) -> Assured
+        ensures { (names : List Text) → AreNumbered names → assured_facts names result ≡ spec.facts (claim_of (in_byte_order names) rows.now (fact.Known vars functions args)) }
+    {
+        let mut assured = Assured {
+            vars: NameSet::new(),
+            functions: NameSet::new(),
+            args,
+        };
+        assured.set_rows(rows, vars, functions, args);
+        assured
+    }
+
+    // Becomes the variables and the functions of these rows, and so many positional parameters.
+    fn set_rows(&mut self, rows: &Rows, vars: RowId, functions: RowId, args: u16)
+        ensures { (names : List Text) → AreNumbered names → assured_facts names self.new ≡ spec.facts (claim_of (in_byte_order names) rows.now (fact.Known vars functions args)) }
+    {
+        self.vars.set_row(rows, vars);
+        self.functions.set_row(rows, functions);
+        self.args = args;
     }
 
     // What is there with both.
@@ -276,17 +314,35 @@ impl Knowledge {
     pub fn claimed(rows: &Rows, facts: &Facts) -> Knowledge
         ensures { (names : List Text) → AreNumbered names → knowledge_facts names result ≡ spec.facts (claim_of (in_byte_order names) rows.now facts.now) }
     {
+        let mut known = Knowledge::NotReached;
+        known.claim(rows, facts);
+        known
+    }
+
+    /// Becomes what a certificate claims by a fact.
+    pub fn claim(&mut self, rows: &Rows, facts: &Facts)
+        ensures { (names : List Text) → AreNumbered names → knowledge_facts names self.new ≡ spec.facts (claim_of (in_byte_order names) rows.now facts.now) }
+    {
         match facts {
-            Facts::NotReached => Knowledge::NotReached,
+            Facts::NotReached => *self = Knowledge::NotReached,
             Facts::Known {
                 vars,
                 functions,
                 args,
-            } => Knowledge::Known(Assured {
-                vars: NameSet::new().with_row(rows, *vars),
-                functions: NameSet::new().with_row(rows, *functions),
-                args: *args,
-            }),
+            } => self.set_rows(rows, *vars, *functions, *args),
+        }
+    }
+
+    // Becomes the variables and the functions of these rows, and so many positional parameters.
+    #[tactic(auto, unfolding(crate::specs::Knowledge::knowledge_facts))]
+    fn set_rows(&mut self, rows: &Rows, vars: RowId, functions: RowId, args: u16)
+        ensures { (names : List Text) → AreNumbered names → knowledge_facts names self.new ≡ spec.facts (claim_of (in_byte_order names) rows.now (fact.Known vars functions args)) }
+    {
+        match self {
+            Knowledge::NotReached => {
+                *self = Knowledge::Known(Assured::of_rows(rows, vars, functions, args));
+            }
+            Knowledge::Known(assured) => assured.set_rows(rows, vars, functions, args),
         }
     }
 
@@ -530,7 +586,9 @@ fn is_row_within(rows: &Rows, part: RowId, whole: RowId) -> bool
     if part.index == whole.index {
         return true;
     }
-    NameSet::new().with_row(rows, whole).includes(rows, part)
+    let mut names = NameSet::new();
+    names.set_row(rows, whole);
+    names.includes(rows, part)
 }
 
 fn is_in_row(names: &Names, rows: &Rows, id: RowId, name: &[u8]) -> bool

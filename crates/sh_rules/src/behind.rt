@@ -58,6 +58,14 @@ pub fn started(claims: &Claims<'_>, is_started: bool, known: &Knowledge) -> Know
 }
 
 impl Behind {
+    /// Where no run comes.
+    pub fn nowhere() -> Behind {
+        Behind {
+            zero: Knowledge::NotReached,
+            nonzero: Knowledge::NotReached,
+        }
+    }
+
     /// The same after each status.
     pub fn both(known: &Knowledge) -> Behind
         ensures { (x : Setting) → walks.behind_in x result ≡ spec.both (facts_in x known.now) }
@@ -75,53 +83,41 @@ impl Behind {
         met(&self.zero, &self.nonzero)
     }
 
-    /// What the pipeline behind `&&` or `||` is entered with.
-    #[tactic(auto, unfolding(crate::specs::Behind::link_known))]
-    pub fn at_link(&self, link: Link) -> Knowledge
-        ensures { (x : Setting) → facts_in x result ≡ spec.link_known link (walks.behind_in x self.now) }
-    {
-        match link {
-            Link::AndThen => self.zero,
-            Link::OrElse => self.nonzero,
-        }
+    /// At zero, whatever the status was.
+    pub fn join(&mut self) {
+        self.zero.meet(&self.nonzero);
     }
 
-    /// With the pipeline behind `&&` or `||`.
-    #[tactic(auto, unfolding(crate::specs::Behind::linked))]
-    fn linked(&self, link: Link, next: &Behind) -> Behind
-        ensures { (x : Setting) → walks.behind_in x result ≡ spec.linked link (walks.behind_in x self.now) (walks.behind_in x next.now) }
+    /// What the pipeline behind `&&` or `||` is entered with.
+    #[tactic(auto, unfolding(crate::specs::Behind::link_known))]
+    pub fn at_link(&self, link: Link) -> &Knowledge
+        ensures { (x : Setting) → facts_in x result.now ≡ spec.link_known link (walks.behind_in x self.now) }
     {
         match link {
-            Link::AndThen => Behind {
-                zero: next.zero,
-                nonzero: met(&self.nonzero, &next.nonzero),
-            },
-            Link::OrElse => Behind {
-                zero: met(&self.zero, &next.zero),
-                nonzero: next.nonzero,
-            },
+            Link::AndThen => &self.zero,
+            Link::OrElse => &self.nonzero,
         }
     }
 
     /// Where the condition of a loop has it take a turn.
     #[tactic(auto, unfolding(crate::specs::Behind::turns))]
-    pub fn at_turn(&self, kind: LoopKind) -> Knowledge
-        ensures { (x : Setting) → facts_in x result ≡ spec.turns kind (walks.behind_in x self.now) }
+    pub fn at_turn(&self, kind: LoopKind) -> &Knowledge
+        ensures { (x : Setting) → facts_in x result.now ≡ spec.turns kind (walks.behind_in x self.now) }
     {
         match kind {
-            LoopKind::While => self.zero,
-            LoopKind::Until => self.nonzero,
+            LoopKind::While => &self.zero,
+            LoopKind::Until => &self.nonzero,
         }
     }
 
     /// Where the condition of a loop ends it.
     #[tactic(auto, unfolding(crate::specs::Bounds::ends))]
-    pub fn at_end(&self, kind: LoopKind) -> Knowledge
-        ensures { (x : Setting) → facts_in x result ≡ bounds.ends kind (walks.behind_in x self.now) }
+    pub fn at_end(&self, kind: LoopKind) -> &Knowledge
+        ensures { (x : Setting) → facts_in x result.now ≡ bounds.ends kind (walks.behind_in x self.now) }
     {
         match kind {
-            LoopKind::While => self.nonzero,
-            LoopKind::Until => self.zero,
+            LoopKind::While => &self.nonzero,
+            LoopKind::Until => &self.zero,
         }
     }
 
@@ -147,110 +143,133 @@ fn lone_part(parts: &[Command]) -> Option<&Command>
     }
 }
 
-// Behind a command alone, whose status `!` turns.
-#[tactic(auto, unfolding(crate::specs::Behind::swapped))]
-fn command_behind(claims: &Claims<'_>, number: u32, is_negated: bool) -> Behind
-    ensures { walks.behind_in (setting claims.now) result ≡ spec.swapped is_negated (spec.either (known_at (setting claims.now) (AfterZero number)) (known_at (setting claims.now) (AfterNonzero number))) }
-{
-    if is_negated {
-        Behind {
-            zero: claims.nonzero(number),
-            nonzero: claims.zero(number),
+impl Behind {
+    // Goes on behind a command alone, whose status `!` turns.
+    #[tactic(auto, unfolding(crate::specs::Behind::swapped))]
+    fn pass_command(&mut self, claims: &Claims<'_>, number: u32, is_negated: bool)
+        ensures { walks.behind_in (setting claims.now) self.new ≡ spec.swapped is_negated (spec.either (known_at (setting claims.now) (AfterZero number)) (known_at (setting claims.now) (AfterNonzero number))) }
+    {
+        if is_negated {
+            claims.nonzero_into(number, &mut self.zero);
+            claims.zero_into(number, &mut self.nonzero);
+        } else {
+            claims.zero_into(number, &mut self.zero);
+            claims.nonzero_into(number, &mut self.nonzero);
         }
-    } else {
-        Behind {
-            zero: claims.zero(number),
-            nonzero: claims.nonzero(number),
+    }
+
+    // The same after each status.
+    fn set_both(&mut self, known: &Knowledge)
+        ensures { (x : Setting) → walks.behind_in x self.new ≡ spec.both (facts_in x known.now) }
+    {
+        self.zero = *known;
+        self.nonzero = *known;
+    }
+
+    /// Goes on behind a pipeline, before which this is known.
+    #[tactic(auto, using(crate::proofs::BehindLemmas::lone, crate::proofs::BehindLemmas::not_lone))]
+    pub fn pass_pipe(&mut self, claims: &Claims<'_>, known: &Knowledge, pipe: &Pipe)
+        ensures { walks.behind_in (setting claims.now) self.new ≡ walks.pipe_behind (setting claims.now) (facts_in (setting claims.now) known.now) pipe.now }
+    {
+        match lone_part(pipe.parts.as_slice()) {
+            Some(command) => self.pass_command(claims, command.number, pipe.negated),
+            None => self.set_both(known),
+        }
+    }
+
+    /// Goes on behind the pipeline that follows `&&` or `||`.
+    #[tactic(auto, using(crate::proofs::BehindLemmas::link_out))]
+    pub fn pass_link(&mut self, claims: &Claims<'_>, link: Link, pipe: &Pipe)
+        ensures { walks.behind_in (setting claims.now) self.new ≡ walks.link_left (setting claims.now) (walks.behind_in (setting claims.now) self.old) (link, pipe.now) }
+    {
+        let mut before = *self;
+        match link {
+            Link::AndThen => {
+                self.pass_pipe(claims, &before.zero, pipe);
+                before.nonzero.meet(&self.nonzero);
+                self.nonzero = before.nonzero;
+            }
+            Link::OrElse => {
+                self.pass_pipe(claims, &before.nonzero, pipe);
+                before.zero.meet(&self.zero);
+                self.zero = before.zero;
+            }
+        }
+    }
+
+    fn pass_links(&mut self, claims: &Claims<'_>, links: &[(Link, Pipe)])
+        ensures { walks.behind_in (setting claims.now) self.new ≡ fold (walks.link_left (setting claims.now)) (walks.behind_in (setting claims.now) self.old) links.now }
+    {
+        for link in links {
+            self.pass_link(claims, link.0, &link.1);
+        }
+    }
+
+    // Goes on behind an and-or list, before which this is known.
+    #[tactic(auto, using(crate::proofs::BehindLemmas::and_or_out))]
+    fn pass_and_or(&mut self, claims: &Claims<'_>, known: &Knowledge, list: &AndOr)
+        ensures { walks.behind_in (setting claims.now) self.new ≡ walks.and_or_behind (setting claims.now) (facts_in (setting claims.now) known.now) list.now }
+    {
+        self.pass_pipe(claims, known, &list.first);
+        self.pass_links(claims, list.rest.as_slice());
+    }
+
+    // Goes on behind an asynchronous item, whose status is zero.
+    #[tactic(auto, using(crate::proofs::BehindLemmas::nothing_known))]
+    fn pass_background(&mut self, claims: &Claims<'_>, known: &Knowledge)
+        ensures { walks.behind_in (setting claims.now) self.new ≡ spec.either (gained (setting claims.now) (named (job ∷ [])) (facts_in (setting claims.now) known.now)) NotReached }
+    {
+        self.zero = *known;
+        gain_variable(claims, b"!", &mut self.zero);
+        self.nonzero = Knowledge::NotReached;
+    }
+
+    /// Goes on behind an item before which this is known in any case: an asynchronous one has status zero, and sets `!`.
+    #[tactic(auto, using(crate::proofs::BehindLemmas::foreground, crate::proofs::BehindLemmas::background))]
+    pub fn pass_known(&mut self, claims: &Claims<'_>, known: &Knowledge, item: &Item)
+        ensures { walks.behind_in (setting claims.now) self.new ≡ walks.behind_item (setting claims.now) (facts_in (setting claims.now) known.now) item.now }
+    {
+        if item.background {
+            self.pass_background(claims, known);
+        } else {
+            self.pass_and_or(claims, known, &item.list);
+        }
+    }
+
+    /// Goes on behind an item, whatever the status before it.
+    #[tactic(auto, using(crate::proofs::BehindLemmas::item_out))]
+    pub fn pass_item(&mut self, claims: &Claims<'_>, item: &Item)
+        ensures { walks.behind_in (setting claims.now) self.new ≡ walks.item_left (setting claims.now) (walks.behind_in (setting claims.now) self.old) item.now }
+    {
+        if is_settled(item) {
+            self.pass_settled(claims, item);
+        } else {
+            let known = self.in_any_case();
+            self.pass_known(claims, &known, item);
+        }
+    }
+
+    // Goes on behind an item behind which what is known hangs on its own commands alone.
+    fn pass_settled(&mut self, claims: &Claims<'_>, item: &Item) {
+        let nowhere = Knowledge::NotReached;
+        self.pass_and_or(claims, &nowhere, &item.list);
+    }
+
+    fn pass_items(&mut self, claims: &Claims<'_>, items: &[Item])
+        ensures { walks.behind_in (setting claims.now) self.new ≡ fold (walks.item_left (setting claims.now)) (walks.behind_in (setting claims.now) self.old) items.now }
+    {
+        for item in items {
+            self.pass_item(claims, item);
         }
     }
 }
 
 /// Behind a pipeline.
-#[tactic(auto, using(crate::proofs::BehindLemmas::lone, crate::proofs::BehindLemmas::not_lone))]
 pub fn pipe_behind(claims: &Claims<'_>, known: &Knowledge, pipe: &Pipe) -> Behind
     ensures { walks.behind_in (setting claims.now) result ≡ walks.pipe_behind (setting claims.now) (facts_in (setting claims.now) known.now) pipe.now }
 {
-    match lone_part(pipe.parts.as_slice()) {
-        Some(command) => command_behind(claims, command.number, pipe.negated),
-        None => Behind::both(known),
-    }
-}
-
-/// Behind the pipeline that follows `&&` or `||`.
-#[tactic(auto, using(crate::proofs::BehindLemmas::link_out))]
-pub fn link_behind(claims: &Claims<'_>, behind: &Behind, link: Link, pipe: &Pipe) -> Behind
-    ensures { walks.behind_in (setting claims.now) result ≡ walks.link_left (setting claims.now) (walks.behind_in (setting claims.now) behind.now) (link, pipe.now) }
-{
-    let known = behind.at_link(link);
-    let next = pipe_behind(claims, &known, pipe);
-    behind.linked(link, &next)
-}
-
-fn links_behind(claims: &Claims<'_>, first: Behind, links: &[(Link, Pipe)]) -> Behind
-    ensures { walks.behind_in (setting claims.now) result ≡ fold (walks.link_left (setting claims.now)) (walks.behind_in (setting claims.now) first) links.now }
-{
-    let mut behind = first;
-    for link in links {
-        behind = link_behind(claims, &behind, link.0, &link.1);
-    }
-    behind
-}
-
-/// Behind an and-or list.
-#[tactic(auto, using(crate::proofs::BehindLemmas::and_or_out, crate::proofs::BehindLemmas::no_links))]
-pub fn and_or_behind(claims: &Claims<'_>, known: &Knowledge, list: &AndOr) -> Behind
-    ensures { walks.behind_in (setting claims.now) result ≡ walks.and_or_behind (setting claims.now) (facts_in (setting claims.now) known.now) list.now }
-{
-    match list.rest.as_slice() {
-        [] => pipe_behind(claims, known, &list.first),
-        links => {
-            let first = pipe_behind(claims, known, &list.first);
-            links_behind(claims, first, links)
-        }
-    }
-}
-
-// Behind an asynchronous item, whose status is zero.
-#[tactic(auto, using(crate::proofs::BehindLemmas::nothing_known))]
-fn background_behind(claims: &Claims<'_>, known: &Knowledge) -> Behind
-    ensures { walks.behind_in (setting claims.now) result ≡ spec.either (gained (setting claims.now) (named (job ∷ [])) (facts_in (setting claims.now) known.now)) NotReached }
-{
-    let mut zero = *known;
-    gain_variable(claims, b"!", &mut zero);
-    Behind {
-        zero,
-        nonzero: Knowledge::NotReached,
-    }
-}
-
-/// Behind an item before which this is known in any case: an asynchronous one has status zero, and sets `!`.
-#[tactic(auto, using(crate::proofs::BehindLemmas::foreground, crate::proofs::BehindLemmas::background))]
-pub fn behind_item(claims: &Claims<'_>, known: &Knowledge, item: &Item) -> Behind
-    ensures { walks.behind_in (setting claims.now) result ≡ walks.behind_item (setting claims.now) (facts_in (setting claims.now) known.now) item.now }
-{
-    if item.background {
-        background_behind(claims, known)
-    } else {
-        and_or_behind(claims, known, &item.list)
-    }
-}
-
-/// Behind an item, whatever the status before it.
-#[tactic(auto, using(crate::proofs::BehindLemmas::item_out))]
-pub fn item_behind(claims: &Claims<'_>, behind: &Behind, item: &Item) -> Behind
-    ensures { walks.behind_in (setting claims.now) result ≡ walks.item_left (setting claims.now) (walks.behind_in (setting claims.now) behind.now) item.now }
-{
-    let known = behind.in_any_case();
-    behind_item(claims, &known, item)
-}
-
-fn items_behind(claims: &Claims<'_>, first: Behind, items: &[Item]) -> Behind
-    ensures { walks.behind_in (setting claims.now) result ≡ fold (walks.item_left (setting claims.now)) (walks.behind_in (setting claims.now) first) items.now }
-{
-    let mut behind = first;
-    for item in items {
-        behind = item_behind(claims, &behind, item);
-    }
+    let mut behind = Behind::nowhere();
+    behind.pass_pipe(claims, known, pipe);
     behind
 }
 
@@ -262,29 +281,40 @@ fn is_settled(item: &Item) -> bool
     !item.background && lone_part(item.list.first.parts.as_slice()).is_some()
 }
 
-// The items from the last one on that settles what is known behind it, or all of them.
-#[tactic(auto, using(crate::proofs::BehindLemmas::settled_there))]
-fn settled_from(items: &[Item]) -> &[Item]
-    ensures { (x : Setting) (o : spec.Behind) → fold (walks.item_left x) o result.now ≡ fold (walks.item_left x) o items.now }
-{
+// The place behind the last item that settles what is known behind it, from which on nothing before counts; none where no item does.
+fn settled_at(items: &[Item]) -> Option<usize> {
     let mut from = items.len();
     while from > 0 {
         from -= 1;
         if is_settled(&items[from]) {
-            return &items[from..];
+            return Some(from);
         }
     }
-    items
+    None
+}
+
+impl Behind {
+    /// Goes on behind a list, of which this is known at its start; an empty one passes it on.
+    #[tactic(auto, using(crate::proofs::BehindLemmas::script_out))]
+    pub fn pass_script(&mut self, claims: &Claims<'_>, known: &Knowledge, list: &Script)
+        ensures { walks.behind_in (setting claims.now) self.new ≡ walks.script_behind (setting claims.now) (spec.both (facts_in (setting claims.now) known.now)) list.now }
+    {
+        let items = list.items.as_slice();
+        match settled_at(items) {
+            Some(from) => self.pass_items(claims, &items[from..]),
+            None => {
+                self.set_both(known);
+                self.pass_items(claims, items);
+            }
+        }
+    }
 }
 
 /// Behind a list, of which this is known at its start; an empty one passes it on.
-#[tactic(auto, using(crate::proofs::BehindLemmas::script_out))]
 pub fn script_behind(claims: &Claims<'_>, known: &Knowledge, list: &Script) -> Behind
     ensures { walks.behind_in (setting claims.now) result ≡ walks.script_behind (setting claims.now) (spec.both (facts_in (setting claims.now) known.now)) list.now }
 {
-    items_behind(
-        claims,
-        Behind::both(known),
-        settled_from(list.items.as_slice()),
-    )
+    let mut behind = Behind::nowhere();
+    behind.pass_script(claims, known, list);
+    behind
 }

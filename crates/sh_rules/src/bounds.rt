@@ -32,6 +32,12 @@ pub fn tell_leaves<A: Asked>(claims: &Claims<'_>, fault: Fault, behind: &Behind,
     asked.bound(claims, Place::Nonzero(fault.number), fault, &behind.nonzero);
 }
 
+/// Behind a command, whatever its status was.
+pub fn tell_both<A: Asked>(claims: &Claims<'_>, fault: Fault, known: &Knowledge, asked: &mut A) {
+    asked.bound(claims, Place::Zero(fault.number), fault, known);
+    asked.bound(claims, Place::Nonzero(fault.number), fault, known);
+}
+
 // A condition, and its list where it is zero.
 #[tactic(auto, unfolding(crate::specs::Tells::branch_told))]
 fn tell_branch<A: Asked>(
@@ -43,11 +49,13 @@ fn tell_branch<A: Asked>(
 )
     ensures { trail (facts_in (setting claims.now) known.new) (A.kept asked.new) ≡ tells.branch_told A.asked (setting claims.now) number (trail (facts_in (setting claims.now) known.old) (A.kept asked.old)) branch.now }
 {
-    let condition = script_behind(claims, &*known, &branch.condition);
-    let body = script_behind(claims, &condition.zero, &branch.body);
+    let mut behind = Behind::nowhere();
+    behind.pass_script(claims, &*known, &branch.condition);
+    *known = behind.nonzero;
+    let zero = behind.zero;
+    behind.pass_script(claims, &zero, &branch.body);
     let rule = FlowRule::F6;
-    tell_leaves(claims, Fault { number, rule }, &body, asked);
-    *known = condition.nonzero;
+    tell_leaves(claims, Fault { number, rule }, &behind, asked);
 }
 
 fn tell_branches<A: Asked>(
@@ -118,8 +126,7 @@ fn tell_subshell<A: Asked>(claims: &Claims<'_>, number: u32, asked: &mut A)
     ensures { A.kept asked.new ≡ bounds.leaves_told A.asked (setting claims.now) (bounds.fault number F11) (both (known_at (setting claims.now) (Before number))) (A.kept asked.old) }
 {
     let rule = FlowRule::F11;
-    let behind = Behind::both(&claims.before(number));
-    tell_leaves(claims, Fault { number, rule }, &behind, asked);
+    tell_both(claims, Fault { number, rule }, &claims.before(number), asked);
 }
 
 // The head of a loop is entered from before it and from the end of each turn.
@@ -137,11 +144,14 @@ fn tell_loop<A: Asked>(
 {
     let rule = FlowRule::F7;
     let fault = Fault { number, rule };
-    let tested = script_behind(claims, &claims.head(number), condition);
-    let turn = script_behind(claims, &tested.at_turn(kind), body);
+    let mut tested = Behind::nowhere();
+    tested.pass_script(claims, &claims.head(number), condition);
+    let mut turn = Behind::nowhere();
+    turn.pass_script(claims, tested.at_turn(kind), body);
+    turn.join();
     asked.bound(claims, Place::Head(number), fault, known);
-    asked.bound(claims, Place::Head(number), fault, &turn.in_any_case());
-    tell_leaves(claims, fault, &Behind::both(&tested.at_end(kind)), asked);
+    asked.bound(claims, Place::Head(number), fault, &turn.zero);
+    tell_both(claims, fault, tested.at_end(kind), asked);
 }
 
 #[tactic(auto, unfolding(crate::specs::Bounds::for_told))]
@@ -160,10 +170,12 @@ fn tell_for<A: Asked>(
     let head = claims.head(number);
     let mut inside = head;
     gain_variable(claims, (&*claims).text(name), &mut inside);
-    let turn = script_behind(claims, &inside, body);
+    let mut turn = Behind::nowhere();
+    turn.pass_script(claims, &inside, body);
+    turn.join();
     asked.bound(claims, Place::Head(number), fault, known);
-    asked.bound(claims, Place::Head(number), fault, &turn.in_any_case());
-    tell_leaves(claims, fault, &Behind::both(&head), asked);
+    asked.bound(claims, Place::Head(number), fault, &turn.zero);
+    tell_both(claims, fault, &head, asked);
 }
 
 // Behind words.

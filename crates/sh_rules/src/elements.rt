@@ -30,8 +30,9 @@ pub fn behind(claims: &Claims<'_>, number: u32, elements: &[Element]) -> Knowled
 {
     let mut behind = Known {
         names: claims.names,
-        knowledge: claims.before(number),
+        knowledge: Knowledge::NotReached,
     };
+    claims.before_into(number, &mut behind.knowledge);
     own::gain_operands(elements, claims.script, &mut behind);
     behind.knowledge
 }

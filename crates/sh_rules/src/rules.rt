@@ -77,7 +77,7 @@ fn tell_claims<A: Asked>(
     claims: &Claims<'_>,
     around: &Around<'_>,
     number: u32,
-    known: &Knowledge,
+    redirects: &[Redirect],
     kind: &Kind,
     asked: &mut A,
 )
@@ -89,7 +89,7 @@ fn tell_claims<A: Asked>(
             let is_call = claims.is_call(number);
             tell_simple(claims, around, number, texts, is_call, elements, asked);
         }
-        None => tell_compound(claims, number, known, kind, asked),
+        None => tell_inside(claims, number, redirects, kind, asked),
     }
 }
 
@@ -161,6 +161,18 @@ fn behind_redirects(claims: &Claims<'_>, number: u32, redirects: &[Redirect]) ->
     known
 }
 
+// What a compound command claims behind it.
+fn tell_inside<A: Asked>(
+    claims: &Claims<'_>,
+    number: u32,
+    redirects: &[Redirect],
+    kind: &Kind,
+    asked: &mut A,
+) {
+    let known = behind_redirects(claims, number, redirects);
+    tell_compound(claims, number, &known, kind, asked);
+}
+
 /// What a command asks, as it is entered by this rule with this round it and this known there: that it is entered so, what it claims behind it
 /// by its kind, where its redirections fail, and what a function drops by it.
 #[tactic(auto, using(crate::proofs::VisitLemmas::command_out))]
@@ -178,8 +190,7 @@ pub fn tell_command<A: Asked>(
     let redirects = command.redirects.as_slice();
     let fault = Fault { number, rule: by };
     asked.bound(claims, Place::Before(number), fault, known);
-    let behind = behind_redirects(claims, number, redirects);
-    tell_claims(claims, around, number, &behind, &command.kind, asked);
+    tell_claims(claims, around, number, redirects, &command.kind, asked);
     tell_redirects(claims, number, is_redirected(redirects), asked);
     tell_counted(claims, around, number, &command.kind, asked);
 }

@@ -8,17 +8,42 @@ ghost use Rattle.sh_rules.specs.Walks.{setting};
 
 use crate::around::Around;
 use crate::asked::Asked;
-use crate::bounds::tell_leaves;
+use crate::bounds::{tell_both, tell_leaves};
 use crate::calls::tell_call;
 use crate::claims::Claims;
 use crate::elements::behind;
 use crate::fault::Fault;
 use crate::jumps::tell_jumps;
+use sh_facts::knowledge::Knowledge;
 use crate::utilities::{nameless_behind, settled, utility_behind};
 use sh_facts::rule::FlowRule;
 use sh_table::kind::{Kind, kind_of};
 use sh_table::word_text::WordText;
 use sh_tree::tree::Element;
+
+fn is_neutral(kind: Kind) -> bool {
+    match kind {
+        Kind::Cd | Kind::Command | Kind::Refused(_) | Kind::Utility => true,
+        _ => false,
+    }
+}
+
+fn tell_other<A: Asked>(
+    claims: &Claims<'_>,
+    around: &Around<'_>,
+    number: u32,
+    kind: Kind,
+    operands: &[WordText],
+    elements: &[Element],
+    known: &Knowledge,
+    asked: &mut A,
+) {
+    let rule = FlowRule::F4;
+    let left = utility_behind(claims, kind, elements, operands, known);
+    tell_leaves(claims, Fault { number, rule }, &left, asked);
+    let jumps = settled(claims, elements, known);
+    tell_jumps(claims, around, number, kind, operands, &jumps, asked);
+}
 
 #[tactic(auto, unfolding(crate::specs::TextTells::told_by))]
 fn tell_utility<A: Asked>(
@@ -34,10 +59,11 @@ fn tell_utility<A: Asked>(
 {
     let rule = FlowRule::F4;
     let known = behind(claims, number, elements);
-    let left = utility_behind(claims, kind, elements, operands, &known);
-    tell_leaves(claims, Fault { number, rule }, &left, asked);
-    let jumps = settled(claims, elements, &known);
-    tell_jumps(claims, around, number, kind, operands, &jumps, asked);
+    if is_neutral(kind) {
+        tell_both(claims, Fault { number, rule }, &known, asked);
+    } else {
+        tell_other(claims, around, number, kind, operands, elements, &known, asked);
+    }
 }
 
 fn tell_nameless<A: Asked>(claims: &Claims<'_>, number: u32, elements: &[Element], asked: &mut A)

@@ -49,35 +49,62 @@ impl Claims<'_> {
     }
 
     /// What is claimed before a command.
-    #[tactic(auto, using(crate::proofs::SlotLemmas::before_known, crate::proofs::SlotLemmas::before_nowhere))]
     pub fn before(&self, number: u32) -> Knowledge
         ensures { facts_in (setting self.now) result ≡ known_at (setting self.now) (views.Before number) }
     {
+        let mut known = Knowledge::NotReached;
+        self.before_into(number, &mut known);
+        known
+    }
+
+    /// Has this be what is claimed before a command.
+    #[tactic(auto, using(crate::proofs::SlotLemmas::before_known, crate::proofs::SlotLemmas::before_nowhere))]
+    pub fn before_into(&self, number: u32, known: &mut Knowledge)
+        ensures { facts_in (setting self.now) known.new ≡ known_at (setting self.now) (views.Before number) }
+    {
         match self.entry(number) {
-            Some(entry) => Knowledge::claimed(&self.certificate.rows, &entry.before),
-            None => Knowledge::NotReached,
+            Some(entry) => known.claim(&self.certificate.rows, &entry.before),
+            None => *known = Knowledge::NotReached,
         }
     }
 
     /// What is claimed after a command, where its status is zero.
-    #[tactic(auto, using(crate::proofs::SlotLemmas::zero_known, crate::proofs::SlotLemmas::zero_nowhere))]
     pub fn zero(&self, number: u32) -> Knowledge
         ensures { facts_in (setting self.now) result ≡ known_at (setting self.now) (views.AfterZero number) }
     {
+        let mut known = Knowledge::NotReached;
+        self.zero_into(number, &mut known);
+        known
+    }
+
+    /// Has this be what is claimed after a command, where its status is zero.
+    #[tactic(auto, using(crate::proofs::SlotLemmas::zero_known, crate::proofs::SlotLemmas::zero_nowhere))]
+    pub fn zero_into(&self, number: u32, known: &mut Knowledge)
+        ensures { facts_in (setting self.now) known.new ≡ known_at (setting self.now) (views.AfterZero number) }
+    {
         match self.entry(number) {
-            Some(entry) => Knowledge::claimed(&self.certificate.rows, &entry.zero),
-            None => Knowledge::NotReached,
+            Some(entry) => known.claim(&self.certificate.rows, &entry.zero),
+            None => *known = Knowledge::NotReached,
         }
     }
 
     /// What is claimed after a command, where its status is another one.
-    #[tactic(auto, using(crate::proofs::SlotLemmas::nonzero_known, crate::proofs::SlotLemmas::nonzero_nowhere))]
     pub fn nonzero(&self, number: u32) -> Knowledge
         ensures { facts_in (setting self.now) result ≡ known_at (setting self.now) (views.AfterNonzero number) }
     {
+        let mut known = Knowledge::NotReached;
+        self.nonzero_into(number, &mut known);
+        known
+    }
+
+    /// Has this be what is claimed after a command, where its status is another one.
+    #[tactic(auto, using(crate::proofs::SlotLemmas::nonzero_known, crate::proofs::SlotLemmas::nonzero_nowhere))]
+    pub fn nonzero_into(&self, number: u32, known: &mut Knowledge)
+        ensures { facts_in (setting self.now) known.new ≡ known_at (setting self.now) (views.AfterNonzero number) }
+    {
         match self.entry(number) {
-            Some(entry) => Knowledge::claimed(&self.certificate.rows, &entry.nonzero),
-            None => Knowledge::NotReached,
+            Some(entry) => known.claim(&self.certificate.rows, &entry.nonzero),
+            None => *known = Knowledge::NotReached,
         }
     }
 
@@ -108,7 +135,7 @@ impl Claims<'_> {
     fn function(&self, name: &[u8]) -> Option<&FunctionEntry>
         ensures { option_copied result ≡ slots.entry_of (setting self.now).kept (setting self.now).functions name.now }
     {
-        let place = place_of(name, self.calls.functions())?;
+        let place = self.calls.function_place(name)?;
         self.certificate.functions.get(place)
     }
 
@@ -324,17 +351,4 @@ fn is_row_empty(rows: &Rows, id: RowId) -> bool
     ensures { (names : List Text) → AreNumbered names → rows.now.count ≡ length names → result ≡ list_all (is_one_of []) (names_at (in_byte_order names) rows.now id) }
 {
     holds_none(rows, id)
-}
-
-fn position_of(name: &[u8], names: &[Vec<u8>]) -> Option<usize>
-    ensures { result ≡ position (λ v. bytes_eq v.items name.now) names.now }
-{
-    names.iter().position(|other| other.as_slice() == name)
-}
-
-// The place of a name among others, if it is there.
-fn place_of(name: &[u8], names: &[Vec<u8>]) -> Option<usize>
-    ensures { result ≡ number_of (map (λ v. v.items) names.now) name.now }
-{
-    position_of(name, names)
 }

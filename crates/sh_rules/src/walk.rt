@@ -12,7 +12,7 @@ ghost use Rattle.sh_rules.specs.Walks as walks;
 ghost use Rattle.sh_rules.specs.Walks.{facts_in, setting};
 
 use crate::around::{Around, alone, in_function};
-use crate::behind::{Behind, behind_item, link_behind, met, pipe_behind, without_job};
+use crate::behind::{Behind, met, pipe_behind, without_job};
 use crate::claims::Claims;
 use crate::gains::{enter_operator, gain_action, gain_assigned, gain_variable, gain_word};
 use sh_facts::knowledge::Knowledge;
@@ -99,6 +99,49 @@ fn gain_operands(claims: &Claims<'_>, elements: &[Element], known: &mut Knowledg
     }
 }
 
+fn is_flat_part(part: &Part) -> bool {
+    match part {
+        Part::Double(_, parts) => parts.as_slice().iter().all(|it| is_flat_inner(it)),
+        it => is_flat_inner(it),
+    }
+}
+
+fn is_flat_inner(part: &Part) -> bool {
+    match part {
+        Part::Param(param) => matches!(param.operator, ParameterOperator::Value | ParameterOperator::Length),
+        Part::Double(_, _) => false,
+        Part::Arith(_, _) => false,
+        Part::Command(_, _, _) => false,
+        Part::Plain(_) => true,
+        Part::Escaped(_) => true,
+        Part::Single(_, _) => true,
+        Part::Tilde(_) => true,
+        Part::Joined(_) => true,
+    }
+}
+
+fn is_flat_word(word: &Word) -> bool {
+    word.parts.as_slice().iter().all(|it| is_flat_part(it))
+}
+
+fn is_flat_element(element: &Element) -> bool {
+    match element {
+        Element::Assignment { value, .. } => is_flat_word(value),
+        Element::Word(word) => is_flat_word(word),
+        Element::Redirection(redirect) => match &redirect.target {
+            Target::File(_, word) => is_flat_word(word),
+            Target::Here(here) => is_flat_word(&here.body),
+        },
+    }
+}
+
+fn is_flat(kind: &Kind) -> bool {
+    match kind {
+        Kind::Simple(elements) => elements.as_slice().iter().all(|it| is_flat_element(it)),
+        _ => false,
+    }
+}
+
 #[cycle(walk)]
 #[tactic(auto, using(crate::proofs::WalkLemmas::script_out))]
 fn walk_script<V: Visitor>(
@@ -141,7 +184,7 @@ fn walk_item<V: Visitor>(
 {
     let seen = course.behind.in_any_case();
     enter_item(claims, around, course.by, &seen, item, visitor);
-    course.behind = behind_item(claims, &seen, item);
+    course.behind.pass_known(claims, &seen, item);
     course.by = FlowRule::F2;
 }
 
@@ -219,9 +262,8 @@ fn walk_link<V: Visitor>(
 )
     ensures { steps.ran (setting claims.now) course.new (V.kept visitor.new) ≡ steps.link_step (setting claims.now) (V.with_met (setting claims.now)) (walks.around (setting claims.now).script around.now) (steps.ran (setting claims.now) course.old (V.kept visitor.old)) (link, pipe.now) }
 {
-    let known = course.behind.at_link(link);
-    walk_pipe(claims, course.by, around, &known, pipe, visitor);
-    course.behind = link_behind(claims, &course.behind, link, pipe);
+    walk_pipe(claims, course.by, around, course.behind.at_link(link), pipe, visitor);
+    course.behind.pass_link(claims, link, pipe);
 }
 
 #[cycle(walk)]
@@ -277,6 +319,9 @@ fn walk_command<V: Visitor>(
     ensures { V.kept visitor.new ≡ steps.command_kept (setting claims.now) (V.with_met (setting claims.now)) by (walks.around (setting claims.now).script around.now) (facts_in (setting claims.now) known.now) (V.kept visitor.old) command.now }
 {
     visitor.visit(claims, by, around, known, command);
+    if is_flat(&command.kind) {
+        return;
+    }
     let mut inside = claims.before(command.number);
     walk_redirects(claims, &mut inside, command.redirects.as_slice(), visitor);
     walk_kind(
@@ -419,7 +464,7 @@ fn walk_condition<V: Visitor>(
     let head = claims.head(number);
     let mut course = begun(FlowRule::F7, &head);
     walk_script(claims, around, &mut course, condition, visitor);
-    course.behind.at_turn(kind)
+    *course.behind.at_turn(kind)
 }
 
 #[cycle(walk)]

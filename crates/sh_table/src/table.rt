@@ -1,6 +1,8 @@
 //! The call table of a script.
 ghost use Rattle.std.specs.Prelude.{◌≡◌, ℕ, List, true, ◌<◌, ◌≤◌, ◌-◌, ◌++◌, [], ◌∷◌, length, map, option_map, slice_get, Some, IfErr, IfOk, OnOk};
+ghost use Rattle.std.specs.List.{position_from};
 ghost use Rattle.std.specs.Option.{option_copied};
+ghost use Rattle.std.specs.Str.{bytes_eq};
 ghost use Rattle.sh_table.specs.Calls as calls;
 ghost use Rattle.sh_tree.specs.declared.tree.Script.{Script};
 ghost use Rattle.sh_tree.specs.program.Trees.{script_of};
@@ -172,6 +174,13 @@ impl<'s> CallTable<'s> {
         ensures few { length result.now ≤ MAX_COMMANDS }
     {
         self.functions.names()
+    }
+
+    /// The place of a function of this name, if the script has one (XCU 2.9.5).
+    pub fn function_place(&self, name: &[u8]) -> Option<usize>
+        ensures { result ≡ position_from (λ other. bytes_eq other name.now) 0 self.now.functions.names }
+    {
+        self.functions.place(name)
     }
 
     /// The numbers of the commands that define a function.

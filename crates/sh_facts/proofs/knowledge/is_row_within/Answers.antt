@@ -15,6 +15,6 @@ pub returns : goal.returns
 returns c names h count =
     let rows = c.args.rows.now in
     let order = in_byte_order names in
-    let same : contains names c.with_row.result ≡ is_one_of (names_at order rows c.args.whole) =
-    fun_ext (λ t. row_set names h rows c.args.whole (λ k. has_bit k c.new.result.words) (λ k. has_bit k c.with_row.result.words) c.new.ensures.numbers c.with_row.ensures t) in
+    let same : contains names c.set_row.new.self ≡ is_one_of (names_at order rows c.args.whole) =
+    fun_ext (λ t. row_set names h rows c.args.whole (λ k. has_bit k c.set_row.new.self.words) c.set_row.ensures t) in
     c.includes.ensures names h count ∙ ap (λ p. list_all p (names_at order rows c.args.part)) same
