@@ -1,5 +1,5 @@
 -- Where a sweep is in a command, by where it is before it: a lemma for each kind of command (XCU 2.9).
-use Rattle.std.proofs.Common.{◌≡◌, ℕ, zero, suc, ◌+◌, ◌-◌, ◌<◌, ◌≤◌, Bool, Option, Some, List, [], ◌∷◌, ◌++◌, append_assoc, append-nil, drop, get_or, length, nat_lt, refl, sym, ap, ◌∙◌, subst, arith}
+use Rattle.std.proofs.Common.{◌≡◌, ℕ, zero, suc, ◌+◌, ◌-◌, ◌<◌, ◌≤◌, Bool, true, false, Option, Some, List, [], ◌∷◌, ◌++◌, append_assoc, append-nil, drop, get_or, length, nat_lt, refl, sym, ap, ◌∙◌, subst, arith}
 use Rattle.std.proofs.Math.Seq.{drop-cons}
 use Rattle.sh_tree.specs.declared.tree.AndOr.{AndOr, out-AndOr}
 use Rattle.sh_tree.specs.declared.tree.Branch.{Branch, out-Branch}
@@ -17,7 +17,7 @@ use Rattle.sh_tree.specs.program.Trees.{script_of}
 use Rattle.sh_tree.proofs.ProgramRules as rules
 use Rattle.sh_facts.specs.declared.certificate.Certificate as kept
 use Rattle.sh_facts.specs.declared.rule.FlowRule.{FlowRule}
-use Rattle.sh_facts.specs.declared.rule.FlowRule.TheVariants.{F1, F2, F3, F6, F7, F8, F9, F10, F11, F13}
+use Rattle.sh_facts.specs.declared.rule.FlowRule.TheVariants.{F1, F2, F3, F6, F7, F8, F9, F10, F11, F12, F13}
 use Rattle.sh_facts.specs.Entries as e
 use Rattle.sh_facts.specs.Entries.{Around, Entered, behind_redirects}
 use Rattle.sh_facts.specs.Facts.{Facts, NotReached, meet, start_facts}
@@ -314,6 +314,26 @@ module _ (s : Subject) where
             (any_led (setting_by s c) (Knows s) (knows_follow s c h over) here.seen (known_behind s at.behind) (stands_of s here.seen (known_behind s at.behind) here.knows));
       }
 
+  -- the list of an item that is no asynchronous one, and of one that is
+  pub foreground_placed : (y : Around) (at : Course) (i : Item) (is : List Item) (k : Facts) → (out-Item i).background ≡ false → k ≡ in_any_case (known_behind s at.behind)
+      → (c : kept.Certificate) → AreNumbered s.names.now → IsOver s c → AreItems s at.by y (known_behind s at.behind) (i ∷ is) → IsAndOr s at.by y k (out-Item i).list
+  unfolding e.item_rule e.item_around e.item_seen
+  foreground_placed y at i is k own same c h over here =
+      subst (λ b. IsAndOr s (e.item_rule b at.by) (e.item_around b y) k (out-Item i).list) own
+      (and_or_placed y at i is k
+      (subst (λ b. (q : Seen) → Knows s q (in_any_case (known_behind s at.behind)) → Knows s (e.item_seen b q) k) (sym own) (λ q w. subst (Knows s q) (sym same) w))
+      c h over here)
+
+  pub background_placed : (y : Around) (at : Course) (i : Item) (is : List Item) (k : Facts) → (out-Item i).background ≡ true
+      → ((q : Seen) → Knows s q (in_any_case (known_behind s at.behind)) → Knows s (views.without_job q) k)
+      → (c : kept.Certificate) → AreNumbered s.names.now → IsOver s c → AreItems s at.by y (known_behind s at.behind) (i ∷ is) → IsAndOr s F11 e.alone k (out-Item i).list
+  unfolding e.item_rule e.item_around e.item_seen
+  background_placed y at i is k own known c h over here =
+      subst (λ b. IsAndOr s (e.item_rule b at.by) (e.item_around b y) k (out-Item i).list) own
+      (and_or_placed y at i is k
+      (subst (λ b. (q : Seen) → Knows s q (in_any_case (known_behind s at.behind)) → Knows s (e.item_seen b q) k) (sym own) known)
+      c h over here)
+
   -- its pipelines
   list_parts : (by : FlowRule) (y : Around) (q : Seen) (l : AndOr) → IsPart s (e.list_entered by y q (trees.and_or_of s.script.now l))
       → IsPart s (e.pipeline_entered by y q (trees.pipeline_of s.script.now (out-AndOr l).first)
@@ -360,6 +380,16 @@ module _ (s : Subject) where
         (long_parts s.script.now (out-Pipe l).parts ∙ sym long) (subst (λ z. IsPart s (e.pipeline_entered by y here.seen z)) (rules.pipeline_of-out s.script.now l) here.part);
     knows = known here.seen here.knows;
   }
+
+  -- the parts by how many they are
+  pub long_placed : (by : FlowRule) (y : Around) (k k' : Facts) (l : Pipe) → nat_lt 1 (length (out-Pipe l).parts) ≡ true
+      → ((q : Seen) → Knows s q k → Knows s (views.without_job q) k') → IsPipe s by y k l → AreParts s F12 (e.part_around true y) k' (out-Pipe l).parts
+  unfolding e.part_rule e.item_seen
+  long_placed by y k k' l long known here = parts_placed by y k k' l true (sym long) known here
+
+  pub short_placed : (by : FlowRule) (y : Around) (k : Facts) (l : Pipe) → nat_lt 1 (length (out-Pipe l).parts) ≡ false → IsPipe s by y k l → AreParts s by y k (out-Pipe l).parts
+  unfolding e.part_rule e.part_around e.item_seen
+  short_placed by y k l short here = parts_placed by y k k l false (sym short) (λ q w. w) here
 
   pub command_placed : (by : FlowRule) (y : Around) (k : Facts) (c : Command) (cs : List Command) → AreParts s by y k (c ∷ cs) → IsCommand s by y k c
   unfolding e.items_entered commands_from

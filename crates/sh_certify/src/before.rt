@@ -61,17 +61,12 @@ fn place_before(number: u32) -> Option<Place>
     of_command(Part::Before, number).place()
 }
 
-fn is_there(draft: &Draft, place: Place, assured: &Assured) -> bool {
+// Whether no more than this is claimed at a place: a hint.
+fn is_lowered(draft: &Draft, place: Place, assured: &Assured) -> bool {
     match facts_at(&draft.certificate, place) {
         Some(facts) => assured.includes(&draft.certificate.rows, &facts),
         None => true,
     }
-}
-
-#[inline(never)]
-fn lower_there(subject: &Subject<'_>, draft: &mut Draft, assured: &Assured, place: Place) -> Result<(), AllocError> {
-    let sight = sight_of(subject.names, assured);
-    lower_at(subject, draft, place, &sight)
 }
 
 // Lowers what is claimed where the command of a number is entered, where this is assured.
@@ -88,10 +83,12 @@ fn lower_entered(
     let Some(place) = place_before(number) else {
         return Ok(());
     };
-    if is_there(&*draft, place, assured) {
+    draft.looks = draft.looks.saturating_add(1);
+    if is_lowered(&*draft, place, assured) {
         return Ok(());
     }
-    lower_there(subject, draft, assured, place)
+    let sight = sight_of(subject.names, assured);
+    lower_at(subject, draft, place, &sight)
 }
 
 /// Lowers what is claimed where a command is entered to what is known there, where any run comes.

@@ -10,4 +10,6 @@ pub struct Draft {
     pub probe: BitRow,
     /// How often it was lowered so far: a hint.
     pub lowered: u64,
+    /// How often the flow rules of a command were gone through so far: it is told, and nothing goes by it.
+    pub looks: u64,
 }

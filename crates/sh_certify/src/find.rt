@@ -7,7 +7,7 @@ ghost use Rattle.sh_facts.specs.Rules.{script_bounds};
 ghost use Rattle.sh_accept.specs.Accepted.{IsAdmitted, functions_in};
 ghost use Rattle.sh_accept.specs.Answers.{IsGreatest};
 ghost use Rattle.sh_certify.specs.Next.{IsOfScript};
-ghost use Rattle.sh_certify.specs.Sweeps.{IsReady};
+ghost use Rattle.sh_certify.specs.Sweeps.{IsReady, IsSwept};
 ghost use Rattle.sh_certify.specs.Turns.{IsSettled, sheet_by};
 ghost use Rattle.sh_certify.specs.Working.{IsWorking};
 
@@ -16,6 +16,7 @@ use crate::first::unreached;
 use crate::functions::sweep_often;
 use crate::gather::Target;
 use crate::subject::Subject;
+use crate::sweep::sweep;
 use crate::turn::turn;
 use sh_commands::commands;
 use sh_facts::certificate::Certificate;
@@ -23,9 +24,33 @@ use sh_rows::bits::BitRow;
 use sh_rows::row::Row;
 use std::alloc::{AllocError, Global};
 
-// Sweeps over the commands, and takes a turn, until the certificate keeps all flow rules. Each time there are twice as many sweeps, so of a script that takes
-// many there are few turns.
-fn settle(subject: &Subject<'_>, draft: &mut Draft) -> Result<(), AllocError>
+/// How a search sweeps over a script between its turns.
+#[derive(Clone, Copy, Debug, PartialEq, Eq)]
+enum Way {
+    /// Once, from the front to the back.
+    ByRounds,
+    /// As long as something is lowered, at most twice as often each time, and each time over the functions from the last to the first too.
+    ByNeed,
+}
+
+// Sweeps over the commands of a script between two turns.
+fn sweep_so(
+    subject: &Subject<'_>,
+    draft: &mut Draft,
+    way: Way,
+    times: u32,
+) -> Result<(), AllocError>
+    requires { IsReady subject.now draft.old.certificate draft.old.probe.count }
+    ensures { IfOk result (λ unit. IsSwept subject.now draft.old.certificate draft.new.certificate draft.new.probe.count) }
+{
+    match way {
+        Way::ByRounds => sweep(subject, draft),
+        Way::ByNeed => sweep_often(subject, draft, times),
+    }
+}
+
+// Sweeps over the commands, and takes a turn, until the certificate keeps all flow rules.
+fn settle(subject: &Subject<'_>, draft: &mut Draft, way: Way) -> Result<(), AllocError>
     requires ready { IsReady subject.now draft.old.certificate draft.old.probe.count }
     requires variables { list_all is_variable subject.now.names.now ≡ true }
     requires working { IsOfScript subject.now draft.old.certificate }
@@ -36,9 +61,11 @@ fn settle(subject: &Subject<'_>, draft: &mut Draft) -> Result<(), AllocError>
     let mut target = Target::first();
     let mut kept = false;
     let mut times: u32 = 1;
+    let commands = subject.table.rows().len() as u64;
     'turns: while !kept {
-        sweep_often(subject, draft, times)?;
+        sweep_so(subject, draft, way, times)?;
         times = times.saturating_mul(2);
+        draft.looks = draft.looks.saturating_add(commands);
         kept = turn(
             subject,
             &mut draft.certificate,
@@ -49,15 +76,14 @@ fn settle(subject: &Subject<'_>, draft: &mut Draft) -> Result<(), AllocError>
     Ok(())
 }
 
-/// The greatest certificate of a script that is admitted: it keeps all flow rules, and claims at each place what any other one does that
-/// keeps them.
-///
-/// # Errors
-///
-/// Where a growth was refused or no place for a row is left.
-pub fn find(alloc: Global, subject: &Subject<'_>) -> Result<Certificate, AllocError>
+// The greatest certificate of a script that is admitted, and how often the flow rules of a command were gone through.
+fn search(
+    alloc: Global,
+    subject: &Subject<'_>,
+    way: Way,
+) -> Result<(Certificate, u64), AllocError>
     requires { IsAdmitted subject.now.script.now subject.now.policy.now subject.now.tree.now subject.now.names.now }
-    ensures { IfOk result (λ c. IsGreatest subject.now.script.now subject.now.policy.now subject.now.tree.now subject.now.names.now (sheet_by subject.now.names.now c)) }
+    ensures { IfOk result (λ found. IsGreatest subject.now.script.now subject.now.policy.now subject.now.tree.now subject.now.names.now (sheet_by subject.now.names.now found.0)) }
 {
     // Its clause says that each is a name, so all that is known may be written.
     let _declared = subject.policy.names();
@@ -70,7 +96,51 @@ pub fn find(alloc: Global, subject: &Subject<'_>) -> Result<Certificate, AllocEr
         certificate,
         probe,
         lowered: 0,
+        looks: 0,
     };
-    settle(subject, &mut draft)?;
-    Ok(draft.certificate)
+    settle(subject, &mut draft, way)?;
+    let looks = draft.looks;
+    Ok((draft.certificate, looks))
+}
+
+/// The greatest certificate of a script that is admitted: it keeps all flow rules, and claims at each place what any other one does that
+/// keeps them.
+///
+/// # Errors
+///
+/// Where a growth was refused or no place for a row is left.
+pub fn find(alloc: Global, subject: &Subject<'_>) -> Result<Certificate, AllocError>
+    requires { IsAdmitted subject.now.script.now subject.now.policy.now subject.now.tree.now subject.now.names.now }
+    ensures { IfOk result (λ c. IsGreatest subject.now.script.now subject.now.policy.now subject.now.tree.now subject.now.names.now (sheet_by subject.now.names.now c)) }
+{
+    let (certificate, _looks) = search(alloc, subject, Way::ByNeed)?;
+    Ok(certificate)
+}
+
+/// As `find`, and how often the flow rules of a command were gone through, at most `u64::MAX`.
+///
+/// # Errors
+///
+/// As `find`.
+pub fn find_counted(
+    alloc: Global,
+    subject: &Subject<'_>,
+) -> Result<(Certificate, u64), AllocError>
+    requires { IsAdmitted subject.now.script.now subject.now.policy.now subject.now.tree.now subject.now.names.now }
+    ensures { IfOk result (λ found. IsGreatest subject.now.script.now subject.now.policy.now subject.now.tree.now subject.now.names.now (sheet_by subject.now.names.now found.0)) }
+{
+    search(alloc, subject, Way::ByNeed)
+}
+
+/// As `find`, by rounds over the whole script: the plain way, which takes longer where functions call each other.
+///
+/// # Errors
+///
+/// As `find`.
+pub fn find_by_rounds(alloc: Global, subject: &Subject<'_>) -> Result<Certificate, AllocError>
+    requires { IsAdmitted subject.now.script.now subject.now.policy.now subject.now.tree.now subject.now.names.now }
+    ensures { IfOk result (λ c. IsGreatest subject.now.script.now subject.now.policy.now subject.now.tree.now subject.now.names.now (sheet_by subject.now.names.now c)) }
+{
+    let (certificate, _looks) = search(alloc, subject, Way::ByRounds)?;
+    Ok(certificate)
 }

@@ -53,18 +53,6 @@ pub fn lower(
     if is_within(&certificate.rows, facts, known) {
         return Ok(false);
     }
-    lower_to(writable, certificate, probe, place, facts, known)
-}
-
-#[inline(never)]
-fn lower_to(
-    writable: &Writable,
-    certificate: &mut Certificate,
-    probe: &mut BitRow,
-    place: Place,
-    facts: Facts,
-    known: &Sight,
-) -> Result<bool, AllocError> {
     let mut left = *known;
     meet_facts(&certificate.rows, facts, &mut left);
     if !writable.has(&left.vars, &left.functions) {
@@ -134,13 +122,13 @@ pub fn count(
     requires written { IsWritten names.now (sets_in writable.now.vars writable.now.functions) }
     requires count { certificate.old.rows.count ≡ length names.now }
     requires probed { probe.old.count ≡ length names.now }
-    requires below { AreBelow (length names.now) (sets_in vars functions) }
+    requires below { AreBelow (length names.now) (sets_in vars.now functions.now) }
     requires fine { (d : drops.Drops) → drops_at certificate.old index ≡ Some d → AreFine names.now certificate.old.rows d }
     ensures counted { IfOk result (λ changed. (loops : List Bool) (defined : ℕ) → IsWorking names.now loops defined certificate.old
-        → IsCounted certificate.old certificate.new index (sets_in vars functions) changed) }
+        → IsCounted certificate.old certificate.new index (sets_in vars.now functions.now) changed) }
     ensures working { IfOk result (λ changed. (loops : List Bool) (defined : ℕ) → IsWorking names.now loops defined certificate.old
         → IsWorking names.now loops defined certificate.new) }
-    ensures idle { IfOk result (λ changed. changed ≡ false → DropsStay certificate.old index (sets_in vars functions) (sets_in writable.now.vars writable.now.functions)) }
+    ensures idle { IfOk result (λ changed. changed ≡ false → DropsStay certificate.old index (sets_in vars.now functions.now) (sets_in writable.now.vars writable.now.functions)) }
     ensures probed { IfOk result (λ changed. probe.new.count ≡ length names.now) }
 {
     let Some(drops) = drops_of(certificate, index) else {
@@ -149,19 +137,6 @@ pub fn count(
     if are_in_rows(&certificate.rows, drops, vars, functions) {
         return Ok(false);
     }
-    count_more(writable, certificate, probe, index, drops, vars, functions)
-}
-
-#[inline(never)]
-fn count_more(
-    writable: &Writable,
-    certificate: &mut Certificate,
-    probe: &mut BitRow,
-    index: u16,
-    drops: Drops,
-    vars: &NumberSet,
-    functions: &NumberSet,
-) -> Result<bool, AllocError> {
     let mut vars = *vars;
     let mut functions = *functions;
     vars.join_row(&certificate.rows, drops.vars);

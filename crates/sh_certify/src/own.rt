@@ -84,7 +84,15 @@ fn asked_of(
     ensures stands { (other : Sheet) → Keeps subject.now other → Stands subject.now.names.now other (gathered_of result) }
 {
     let mut gather = Gather::new(target);
-    visit(subject, certificate, by, around, known, command, &mut gather);
+    visit(
+        subject,
+        certificate,
+        by,
+        around,
+        known,
+        command,
+        &mut gather,
+    );
     gather
 }
 
@@ -131,16 +139,17 @@ fn lower_once(
         &gather,
     )?;
     draft.lowered = draft.lowered.saturating_add(u64::from(is_lowered));
+    draft.looks = draft.looks.saturating_add(1);
     Ok((gather.kept, gather.next))
 }
 
-/// Lowers what is claimed at a part of a command by what the command asks; and what is claimed elsewhere or a function may drop, where it asks for
-/// more of that. Says whether it kept all before.
-///
-/// # Errors
-///
-/// Where a growth was refused or no place for a row is left.
-pub fn lower_own(
+// Lowers what is claimed at a part of a command by what the command asks; and what is claimed elsewhere or a function may drop, where it asks for
+// more of that. Says whether it kept all before.
+//
+// # Errors
+//
+// Where a growth was refused or no place for a row is left.
+fn lower_own(
     subject: &Subject<'_>,
     draft: &mut Draft,
     by: FlowRule,
@@ -298,6 +307,7 @@ fn lower_sides(
         command,
         index,
     );
+    draft.looks = draft.looks.saturating_add(1);
     if sides.gather.kept {
         return Ok((true, sides.gather.next));
     }

@@ -1,5 +1,5 @@
 //! A sweep of the search over the commands of a list: each command is lowered where the sweep comes to it, before those behind it (XCU 2.9).
-ghost use Rattle.std.specs.Prelude.{◌≡◌, ◌∷◌, ◌++◌, [], ℕ, List, IfOk};
+ghost use Rattle.std.specs.Prelude.{◌≡◌, ◌∷◌, ◌++◌, [], ℕ, List, true, IfOk};
 ghost use Rattle.sh_tree.specs.Tree.{text_of};
 ghost use Rattle.sh_tree.specs.declared.tree.Branch as if_branch;
 ghost use Rattle.sh_tree.specs.declared.tree.Clause as case_clause;
@@ -9,21 +9,21 @@ ghost use Rattle.sh_tree.specs.declared.tree.Pipe as pipeline;
 ghost use Rattle.sh_tree.specs.program.Lists.{branches_from, clauses_from, for_words_from, items_from, otherwise_from, parts_from};
 ghost use Rattle.sh_tree.specs.program.Syntax as p;
 ghost use Rattle.sh_tree.specs.program.Trees as trees;
+ghost use Rattle.sh_facts.specs.declared.rule.FlowRule.TheVariants.{F11, F12};
 ghost use Rattle.sh_facts.specs.Entries as entries;
-ghost use Rattle.sh_facts.specs.Entries.{clauses_entered, items_after, kind_entered, word_entered};
-ghost use Rattle.sh_facts.specs.Facts.{NotReached};
+ghost use Rattle.sh_facts.specs.Entries.{clauses_entered, items_after, kind_entered, part_around, word_entered};
+ghost use Rattle.sh_facts.specs.Facts.{Facts, NotReached};
 ghost use Rattle.sh_facts.specs.Gains.{word_gains};
 ghost use Rattle.sh_facts.specs.Knowledge.{knowledge_facts};
-ghost use Rattle.sh_facts.specs.Views.{After, Seen, gaining};
+ghost use Rattle.sh_facts.specs.Views.{After, Seen, gaining, without_job};
 ghost use Rattle.sh_rules.specs.Walks as walks;
-ghost use Rattle.sh_certify.specs.Sweeps.{AreBranches, AreClauses, AreItems, AreLinks, AreParts, IsAndOr, IsCommand, IsIn, IsInside, IsKind, IsList, IsPart, IsPassed, IsPipe, IsReady, IsSwept, KnowsBehind, known_behind};
+ghost use Rattle.sh_certify.specs.Sweeps.{AreBranches, AreClauses, AreItems, AreLinks, AreParts, IsAndOr, IsCommand, IsIn, IsInside, IsKind, IsList, IsPart, IsPassed, IsPipe, IsReady, IsSwept, Knows, KnowsBehind, known_behind};
 
 use crate::before::lower_before;
 use crate::draft::Draft;
 use crate::inner::is_in_elements;
 use crate::known::{
-    behind_pipe, pass_link, entry_of, head_of, inside_of, pass_on, process_of, started_in,
-    turn_of,
+    behind_pipe, entry_of, head_of, inside_of, pass_link, pass_on, process_of, started_in, turn_of,
 };
 use crate::own::{lower_behind, lower_command, lower_head};
 use crate::subject::Subject;
@@ -110,24 +110,35 @@ fn enter_item(
 {
     let seen = course.behind.in_any_case();
     if item.background {
-        return enter_background(subject, draft, levels, &seen, item);
+        return enter_process(subject, draft, levels, &seen, &item.list);
     }
     sweep_and_or(subject, draft, levels, course.by, around, &seen, &item.list)
 }
 
-// Lowers the certificate at the commands of an asynchronous item.
+// Lowers the certificate at the commands of an asynchronous item, before which this is known.
 #[cycle(sweep)]
-fn enter_background(
+fn enter_process(
     subject: &Subject<'_>,
     draft: &mut Draft,
     levels: u32,
-    seen: &Knowledge,
-    item: &Item,
+    known: &Knowledge,
+    list: &AndOr,
 ) -> Result<(), AllocError>
+    requires ready { IsReady subject.now draft.old.certificate draft.old.probe.count }
+    requires placed { (k : Facts) → ((q : Seen) → Knows subject.now q (knowledge_facts subject.now.names.now known.now) → Knows subject.now (without_job q) k) → IsAndOr subject.now F11 entries.alone k list.now }
+    ensures swept { IfOk result (λ unit. IsSwept subject.now draft.old.certificate draft.new.certificate draft.new.probe.count) }
 {
-    let known = started_in(subject, &draft.certificate, true, seen);
-    let inner = alone();
-    sweep_and_or(subject, draft, levels, FlowRule::F11, &inner, &known, &item.list)
+    let inside = started_in(subject, &draft.certificate, true, known);
+    let outside = alone();
+    sweep_and_or(
+        subject,
+        draft,
+        levels,
+        FlowRule::F11,
+        &outside,
+        &inside,
+        list,
+    )
 }
 
 #[cycle(sweep)]
@@ -222,13 +233,14 @@ fn sweep_pipe(
     requires placed { IsPipe subject.now by (walks.around subject.now.script.now around.now) (knowledge_facts subject.now.names.now known.now) pipe.now }
     ensures swept { IfOk result (λ unit. IsSwept subject.now draft.old.certificate draft.new.certificate draft.new.probe.count) }
 {
-    match pipe.parts.as_slice() {
-        [command] => sweep_command(subject, draft, levels, by, around, known, command),
-        parts => sweep_processes(subject, draft, levels, around, known, parts),
+    let parts = pipe.parts.as_slice();
+    if parts.len() > 1 {
+        return sweep_processes(subject, draft, levels, around, known, parts);
     }
+    sweep_parts(subject, draft, levels, by, around, known, parts)
 }
 
-// Lowers the certificate at the parts of a pipeline of two or more.
+// Lowers the certificate at the parts of a pipeline of two or more, before which this is known.
 #[cycle(sweep)]
 fn sweep_processes(
     subject: &Subject<'_>,
@@ -238,6 +250,9 @@ fn sweep_processes(
     known: &Knowledge,
     parts: &[Command],
 ) -> Result<(), AllocError>
+    requires ready { IsReady subject.now draft.old.certificate draft.old.probe.count }
+    requires placed { (k : Facts) → ((q : Seen) → Knows subject.now q (knowledge_facts subject.now.names.now known.now) → Knows subject.now (without_job q) k) → AreParts subject.now F12 (part_around true (walks.around subject.now.script.now around.now)) k parts.now }
+    ensures swept { IfOk result (λ unit. IsSwept subject.now draft.old.certificate draft.new.certificate draft.new.probe.count) }
 {
     let inner = around.round_parts(true);
     let seen = started_in(subject, &draft.certificate, true, known);
@@ -303,6 +318,9 @@ fn sweep_simple(
     requires placed { IsCommand subject.now by (walks.around subject.now.script.now around.now) (knowledge_facts subject.now.names.now known.now) command.now }
     ensures swept { IfOk result (λ unit. IsSwept subject.now draft.old.certificate draft.new.certificate draft.new.probe.count) }
 {
+    if !known.is_reached() {
+        return Ok(());
+    }
     lower_before(subject, draft, known, command)?;
     sweep_held(subject, draft, levels, around, command)?;
     lower_behind(subject, draft, by, around, known, command)?;

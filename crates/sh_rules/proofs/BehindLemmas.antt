@@ -86,13 +86,6 @@ pub and_or_out : (x : Setting) (k : Facts) (l : AndOr) → and_or_behind x k l �
 unfolding and_or_behind list_behind pipe_behind
 and_or_out x k l = ap (list_behind x k) (rules.and_or_of-out x.script l) ∙ links_folded x (pipe_behind x k (out-AndOr l).first) (out-AndOr l).rest
 
-no_turn : (x : Setting) (o : Behind) (ls : List (Link × Pipe)) → length ls < 1 → fold (link_left x) o ls ≡ o
-no_turn x o [] h = refl
-no_turn x o (l ∷ ls) h = absurd (omega (arith, h))
-
-pub no_links : (x : Setting) (k : Facts) (l : AndOr) → length (out-AndOr l).rest < 1 → and_or_behind x k l ≡ pipe_behind x k (out-AndOr l).first
-no_links x k l h = and_or_out x k l ∙ no_turn x (pipe_behind x k (out-AndOr l).first) (out-AndOr l).rest h
-
 pub foreground : (x : Setting) (k : Facts) (i : Item) → (out-Item i).background ≡ false → behind_item x k i ≡ and_or_behind x k (out-Item i).list
 unfolding behind_item behind_known and_or_behind
 foreground x k i e = ap (λ b. behind_known x k b (trees.and_or_of x.script (out-Item i).list)) e
@@ -141,18 +134,21 @@ alike x o p i e =
     ∙ alike_list x (in_any_case o) (in_any_case p) (out-Item i).list both.1
     ∙ sym (foreground x (in_any_case p) i both.0) ∙ sym (item_out x p i)
 
-from_any : (x : Setting) (o p : Behind) (n : ℕ) (is : List Item) (i : Item) → n < length is → i ≡ get_or is n i → is_settled i ≡ true
-    → fold (item_left x) o (drop n is) ≡ fold (item_left x) p (drop n is)
-from_any x o p n [] i l h e = absurd (omega arith)
-from_any x o p zero (j ∷ js) i l h e = ap (λ q. fold (item_left x) q js) (alike x o p j (ap is_settled (sym h) ∙ e))
-from_any x o p (suc n) (j ∷ js) i l h e = from_any x o p n js i (omega (arith, l)) h e
+pub settled_there : (x : Setting) (o p : Behind) (n : ℕ) (is : List Item) (i : Item) → n < length is → i ≡ get_or is n i → is_settled i ≡ true
+    → fold (item_left x) o (drop n is) ≡ fold (item_left x) p is
+settled_there x o p n [] i l h e = absurd (omega arith)
+settled_there x o p zero (j ∷ js) i l h e = ap (λ q. fold (item_left x) q js) (alike x o p j (ap is_settled (sym h) ∙ e))
+settled_there x o p (suc n) (j ∷ js) i l h e = settled_there x o (item_left x p j) n js i (omega (arith, l)) h e
 
-pub settled_there : (x : Setting) (o : Behind) (n : ℕ) (is : List Item) (i : Item) → n < length is → i ≡ get_or is n i → is_settled i ≡ true
-    → fold (item_left x) o (drop n is) ≡ fold (item_left x) o is
-settled_there x o n [] i l h e = absurd (omega arith)
-settled_there x o zero (j ∷ js) i l h e = refl
-settled_there x o (suc n) (j ∷ js) i l h e =
-    from_any x o (item_left x o j) n js i (omega (arith, l)) h e ∙ settled_there x (item_left x o j) n js i (omega (arith, l)) h e
+-- the list of an item that is no asynchronous one
+
+pub lone_out : (x : Setting) (k : Facts) (l : AndOr) (c : Command) → lone_part (out-Pipe (out-AndOr l).first).parts ≡ Some c
+    → and_or_behind x k l
+    ≡ fold (link_left x) (swapped (out-Pipe (out-AndOr l).first).negated (either (known_at x (AfterZero (out-Command c).number)) (known_at x (AfterNonzero (out-Command c).number)))) (out-AndOr l).rest
+lone_out x k l c e = and_or_out x k l ∙ ap (λ o. fold (link_left x) o (out-AndOr l).rest) (lone x k (out-AndOr l).first c e)
+
+pub foreground_out : (x : Setting) (o : Behind) (i : Item) → (out-Item i).background ≡ false → item_left x o i ≡ and_or_behind x (in_any_case o) (out-Item i).list
+foreground_out x o i e = item_out x o i ∙ foreground x (in_any_case o) i e
 
 -- where no run comes
 

@@ -1,5 +1,5 @@
 -- What is gained, of the names that are numbered.
-use Rattle.std.proofs.Common.{◌≡◌, List, [], ◌∷◌, fold, refl, sym, ap, ◌∙◌}
+use Rattle.std.proofs.Common.{◌≡◌, ◌<◌, List, [], ◌∷◌, length, fold, refl, sym, ap, ◌∙◌, arith}
 use Rattle.sh_tree.specs.declared.tree.Action.{Action}
 use Rattle.sh_tree.specs.declared.tree.Action.TheVariants as action
 use Rattle.sh_tree.specs.declared.tree.Element.{Element, Assignment', Word', Redirection'}
@@ -81,6 +81,11 @@ assigned_known c ms k l v e = facts_gained (setting c) ms k l (named (assigned_i
 pub none_gained : (x : Setting) (f : Facts) → gained x no_gains f ≡ f
 unfolding gained knowing.gained
 none_gained x f = ap (λ (z : Knowing). z.facts) (gained_none (known x.names f))
+
+pub no_redirects : (x : Setting) (rs : List Redirect) (f : Facts) → length rs < 1 → f ≡ gained x (redirects_gains (redirects_from x.script rs)) f
+unfolding redirects_from redirects_gains
+no_redirects x [] f h = sym (none_gained x f)
+no_redirects x (r ∷ rs) f h = absurd (omega (arith, h))
 
 pub both_gained : (x : Setting) (g h : Gains) (f : Facts) → gained x (and_gains g h) f ≡ gained x h (gained x g f)
 unfolding gained knowing.gained

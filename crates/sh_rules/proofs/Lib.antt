@@ -12,6 +12,7 @@ pub mod CommandLemmas
 pub mod ScriptLemmas
 pub mod PrefixLemmas
 pub mod NestLemmas
+pub mod NeutralLemmas
 pub mod AskedLemmas
 pub mod AboveLemmas
 pub mod ClaimLemmas

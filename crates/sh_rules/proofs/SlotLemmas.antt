@@ -148,15 +148,3 @@ entry_known c f k e h s held = held c.names.now h ∙ sym (function_some (settin
 pub entry_nowhere : (c : Claims) (f : Text) → entry_of (setting c).kept (setting c).functions f ≡ None → facts_in (setting c) knowledge.NotReached ≡ known_at (setting c) (Entered f)
 unfolding facts_in knowledge_facts
 entry_nowhere c f s = sym (function_none (setting c) f s)
-
--- the place of a name
-
-same_place : (ts : List (Vec ℕ Global)) (t : Text) (i : ℕ) → position_from (λ v. bytes_eq v.items t) i ts ≡ position_from (λ n. bytes_eq n t) i (map (λ v. v.items) ts)
-same_place [] t i = refl
-same_place (v ∷ vs) t i = elim (cases_Bool (bytes_eq v.items t)) [
-  | inl s ↦ rw s refl
-  | inr s ↦ rw s (same_place vs t (i + 1))
-]
-
-pub placed : (ts : List (Vec ℕ Global)) (t : Text) → position (λ v. bytes_eq v.items t) ts ≡ number_of (map (λ v. v.items) ts) t
-placed ts t = position_from-zero (λ (v : Vec ℕ Global). bytes_eq v.items t) ts ∙ same_place ts t 0

@@ -31,6 +31,14 @@ calls_by functions [] = false
 calls_by functions (None ∷ ts) = false
 calls_by functions (Some t ∷ ts) = is_one_of functions t && not (is_special (kind_of t))
 
+-- Whether a utility of this kind leaves what is known behind its words, and does not jump
+unfoldable pub is_neutral : Kind → Bool
+is_neutral kind.Cd = true
+is_neutral kind.Command = true
+is_neutral (kind.Refused name) = true
+is_neutral kind.Utility = true
+is_neutral _ = false
+
 -- Jumps, over at most 4,294,967,295 loops
 
 module _ {K : Type 0} (a : Asking K) (x : Setting) (n : ℕ) (k : Facts) (y : Around) where

@@ -1,9 +1,13 @@
 //! What is known behind lists, by their status (XCU 2.9.2, 2.9.3).
-ghost use Rattle.std.specs.Prelude.{◌≡◌, fold, [], ◌∷◌, List};
+ghost use Rattle.std.specs.Prelude.{◌≡◌, fold, [], ◌∷◌, List, Some, false, IfSome};
+ghost use Rattle.sh_tree.specs.declared.tree.AndOr.{out-AndOr};
+ghost use Rattle.sh_tree.specs.declared.tree.Item.{out-Item};
+ghost use Rattle.sh_tree.specs.declared.tree.Link.TheVariants as link;
+ghost use Rattle.sh_tree.specs.declared.tree.Pipe.{out-Pipe};
 ghost use Rattle.sh_tree.specs.program.Syntax.{Text};
 ghost use Rattle.std.specs.Option.{option_copied};
 ghost use Rattle.sh_tree.specs.Words.{lone_part};
-ghost use Rattle.sh_facts.specs.Facts.{NotReached, meet};
+ghost use Rattle.sh_facts.specs.Facts.{Facts, NotReached, meet};
 ghost use Rattle.sh_facts.specs.Gains.{job, named};
 ghost use Rattle.sh_facts.specs.Knowledge.{knowledge_facts};
 ghost use Rattle.sh_facts.specs.Views.{AfterNonzero, AfterZero};
@@ -25,13 +29,20 @@ pub struct Behind {
     pub nonzero: Knowledge,
 }
 
-/// What is known both here and there.
+// Leaves of what is known here what is known there too.
 #[tactic(auto, unfolding(crate::specs::Walks::facts_in))]
+fn meet(known: &mut Knowledge, other: &Knowledge)
+    ensures { (x : Setting) → facts_in x known.new ≡ meet (facts_in x known.old) (facts_in x other.now) }
+{
+    known.meet(other);
+}
+
+/// What is known both here and there.
 pub fn met(known: &Knowledge, other: &Knowledge) -> Knowledge
     ensures { (x : Setting) → facts_in x result ≡ meet (facts_in x known.now) (facts_in x other.now) }
 {
     let mut both = *known;
-    both.meet(other);
+    meet(&mut both, other);
     both
 }
 
@@ -59,7 +70,10 @@ pub fn started(claims: &Claims<'_>, is_started: bool, known: &Knowledge) -> Know
 
 impl Behind {
     /// Where no run comes.
-    pub fn nowhere() -> Behind {
+    #[tactic(auto, unfolding(crate::specs::Walks::facts_in, sh_facts::specs::Knowledge::knowledge_facts))]
+    pub fn nowhere() -> Behind
+        ensures { (x : Setting) → walks.behind_in x result ≡ spec.both NotReached }
+    {
         Behind {
             zero: Knowledge::NotReached,
             nonzero: Knowledge::NotReached,
@@ -83,9 +97,11 @@ impl Behind {
         met(&self.zero, &self.nonzero)
     }
 
-    /// At zero, whatever the status was.
-    pub fn join(&mut self) {
-        self.zero.meet(&self.nonzero);
+    /// Has what is known at zero be what is known whatever the status was.
+    pub fn join(&mut self)
+        ensures { (x : Setting) → facts_in x self.new.zero ≡ spec.in_any_case (walks.behind_in x self.old) }
+    {
+        meet(&mut self.zero, &self.nonzero);
     }
 
     /// What the pipeline behind `&&` or `||` is entered with.
@@ -177,23 +193,36 @@ impl Behind {
         }
     }
 
+    // Goes on behind the pipeline that follows `&&`.
+    #[tactic(auto, unfolding(crate::specs::Behind::linked))]
+    fn pass_and(&mut self, claims: &Claims<'_>, pipe: &Pipe)
+        ensures { walks.behind_in (setting claims.now) self.new ≡ spec.linked link.AndThen (walks.behind_in (setting claims.now) self.old) (walks.pipe_behind (setting claims.now) (facts_in (setting claims.now) self.old.zero) pipe.now) }
+    {
+        let mut before = *self;
+        self.pass_pipe(claims, &before.zero, pipe);
+        meet(&mut before.nonzero, &self.nonzero);
+        self.nonzero = before.nonzero;
+    }
+
+    // Goes on behind the pipeline that follows `||`.
+    #[tactic(auto, unfolding(crate::specs::Behind::linked))]
+    fn pass_or(&mut self, claims: &Claims<'_>, pipe: &Pipe)
+        ensures { walks.behind_in (setting claims.now) self.new ≡ spec.linked link.OrElse (walks.behind_in (setting claims.now) self.old) (walks.pipe_behind (setting claims.now) (facts_in (setting claims.now) self.old.nonzero) pipe.now) }
+    {
+        let mut before = *self;
+        self.pass_pipe(claims, &before.nonzero, pipe);
+        meet(&mut before.zero, &self.zero);
+        self.zero = before.zero;
+    }
+
     /// Goes on behind the pipeline that follows `&&` or `||`.
-    #[tactic(auto, using(crate::proofs::BehindLemmas::link_out))]
+    #[tactic(auto, using(crate::proofs::BehindLemmas::link_out), unfolding(crate::specs::Behind::link_known))]
     pub fn pass_link(&mut self, claims: &Claims<'_>, link: Link, pipe: &Pipe)
         ensures { walks.behind_in (setting claims.now) self.new ≡ walks.link_left (setting claims.now) (walks.behind_in (setting claims.now) self.old) (link, pipe.now) }
     {
-        let mut before = *self;
         match link {
-            Link::AndThen => {
-                self.pass_pipe(claims, &before.zero, pipe);
-                before.nonzero.meet(&self.nonzero);
-                self.nonzero = before.nonzero;
-            }
-            Link::OrElse => {
-                self.pass_pipe(claims, &before.nonzero, pipe);
-                before.zero.meet(&self.zero);
-                self.zero = before.zero;
-            }
+            Link::AndThen => self.pass_and(claims, pipe),
+            Link::OrElse => self.pass_or(claims, pipe),
         }
     }
 
@@ -236,23 +265,46 @@ impl Behind {
         }
     }
 
-    /// Goes on behind an item, whatever the status before it.
+    // Goes on behind an and-or list that begins with a command alone.
+    #[tactic(auto, using(crate::proofs::BehindLemmas::lone_out))]
+    fn pass_lone(&mut self, claims: &Claims<'_>, command: &Command, list: &AndOr)
+        requires { lone_part (out-Pipe (out-AndOr list.now).first).parts ≡ Some command.now }
+        ensures { (k : Facts) → walks.behind_in (setting claims.now) self.new ≡ walks.and_or_behind (setting claims.now) k list.now }
+    {
+        self.pass_command(claims, command.number, list.first.negated);
+        self.pass_links(claims, list.rest.as_slice());
+    }
+
+    // Goes on behind an item by what is known before it.
     #[tactic(auto, using(crate::proofs::BehindLemmas::item_out))]
-    pub fn pass_item(&mut self, claims: &Claims<'_>, item: &Item)
+    fn pass_any(&mut self, claims: &Claims<'_>, item: &Item)
         ensures { walks.behind_in (setting claims.now) self.new ≡ walks.item_left (setting claims.now) (walks.behind_in (setting claims.now) self.old) item.now }
     {
-        if is_settled(item) {
-            self.pass_settled(claims, item);
-        } else {
-            let known = self.in_any_case();
-            self.pass_known(claims, &known, item);
+        let known = self.in_any_case();
+        self.pass_known(claims, &known, item);
+    }
+
+    // Goes on behind an item that is no asynchronous one.
+    #[tactic(auto, using(crate::proofs::BehindLemmas::foreground_out))]
+    fn pass_foreground(&mut self, claims: &Claims<'_>, item: &Item)
+        requires { (out-Item item.now).background ≡ false }
+        ensures { walks.behind_in (setting claims.now) self.new ≡ walks.item_left (setting claims.now) (walks.behind_in (setting claims.now) self.old) item.now }
+    {
+        match lone_part(item.list.first.parts.as_slice()) {
+            Some(command) => self.pass_lone(claims, command, &item.list),
+            None => self.pass_any(claims, item),
         }
     }
 
-    // Goes on behind an item behind which what is known hangs on its own commands alone.
-    fn pass_settled(&mut self, claims: &Claims<'_>, item: &Item) {
-        let nowhere = Knowledge::NotReached;
-        self.pass_and_or(claims, &nowhere, &item.list);
+    /// Goes on behind an item, whatever the status before it.
+    pub fn pass_item(&mut self, claims: &Claims<'_>, item: &Item)
+        ensures { walks.behind_in (setting claims.now) self.new ≡ walks.item_left (setting claims.now) (walks.behind_in (setting claims.now) self.old) item.now }
+    {
+        if item.background {
+            self.pass_any(claims, item);
+        } else {
+            self.pass_foreground(claims, item);
+        }
     }
 
     fn pass_items(&mut self, claims: &Claims<'_>, items: &[Item])
@@ -281,13 +333,16 @@ fn is_settled(item: &Item) -> bool
     !item.background && lone_part(item.list.first.parts.as_slice()).is_some()
 }
 
-// The place behind the last item that settles what is known behind it, from which on nothing before counts; none where no item does.
-fn settled_at(items: &[Item]) -> Option<usize> {
+// The items from the last one on that settles what is known behind it, if one does.
+#[tactic(auto, using(crate::proofs::BehindLemmas::settled_there))]
+fn settled_from(items: &[Item]) -> Option<&[Item]>
+    ensures { IfSome result (λ rest. (x : Setting) (o p : spec.Behind) → fold (walks.item_left x) o rest.now ≡ fold (walks.item_left x) p items.now) }
+{
     let mut from = items.len();
     while from > 0 {
         from -= 1;
         if is_settled(&items[from]) {
-            return Some(from);
+            return Some(&items[from..]);
         }
     }
     None
@@ -300,8 +355,8 @@ impl Behind {
         ensures { walks.behind_in (setting claims.now) self.new ≡ walks.script_behind (setting claims.now) (spec.both (facts_in (setting claims.now) known.now)) list.now }
     {
         let items = list.items.as_slice();
-        match settled_at(items) {
-            Some(from) => self.pass_items(claims, &items[from..]),
+        match settled_from(items) {
+            Some(rest) => self.pass_items(claims, rest),
             None => {
                 self.set_both(known);
                 self.pass_items(claims, items);

@@ -33,7 +33,10 @@ pub fn tell_leaves<A: Asked>(claims: &Claims<'_>, fault: Fault, behind: &Behind,
 }
 
 /// Behind a command, whatever its status was.
-pub fn tell_both<A: Asked>(claims: &Claims<'_>, fault: Fault, known: &Knowledge, asked: &mut A) {
+#[tactic(auto, unfolding(crate::specs::Bounds::leaves_told))]
+pub fn tell_both<A: Asked>(claims: &Claims<'_>, fault: Fault, known: &Knowledge, asked: &mut A)
+    ensures { A.kept asked.new ≡ bounds.leaves_told A.asked (setting claims.now) (fault_of fault) (both (facts_in (setting claims.now) known.now)) (A.kept asked.old) }
+{
     asked.bound(claims, Place::Zero(fault.number), fault, known);
     asked.bound(claims, Place::Nonzero(fault.number), fault, known);
 }
@@ -126,7 +129,12 @@ fn tell_subshell<A: Asked>(claims: &Claims<'_>, number: u32, asked: &mut A)
     ensures { A.kept asked.new ≡ bounds.leaves_told A.asked (setting claims.now) (bounds.fault number F11) (both (known_at (setting claims.now) (Before number))) (A.kept asked.old) }
 {
     let rule = FlowRule::F11;
-    tell_both(claims, Fault { number, rule }, &claims.before(number), asked);
+    tell_both(
+        claims,
+        Fault { number, rule },
+        &claims.before(number),
+        asked,
+    );
 }
 
 // The head of a loop is entered from before it and from the end of each turn.

@@ -12,7 +12,7 @@ use crate::claims::Claims;
 use sh_check::gains as words;
 use sh_check::known::Known;
 use sh_facts::knowledge::Knowledge;
-use sh_tree::tree::{Action, Expr, ParameterOperator, Part, Redirect, Subject, Word};
+use sh_tree::tree::{Action, Expr, Redirect, Subject, Word};
 
 /// A variable is set from here on.
 #[tactic(auto, using(crate::proofs::GainLemmas::name_gained))]
@@ -22,37 +22,11 @@ pub fn gain_variable(claims: &Claims<'_>, name: &[u8], known: &mut Knowledge)
     known.gain(claims.names, name);
 }
 
-fn is_idle_part(part: &Part) -> bool {
-    match part {
-        Part::Double(_, parts) => is_idle(parts.as_slice()),
-        Part::Param(param) => !matches!(param.operator, ParameterOperator::Use { .. }),
-        Part::Arith(_, _) => false,
-        Part::Command(_, _, _) => true,
-        Part::Plain(_) => true,
-        Part::Escaped(_) => true,
-        Part::Single(_, _) => true,
-        Part::Tilde(_) => true,
-        Part::Joined(_) => true,
-    }
-}
-
-fn is_idle(parts: &[Part]) -> bool {
-    for part in parts {
-        if !is_idle_part(part) {
-            return false;
-        }
-    }
-    true
-}
-
 /// What is known behind a word.
 #[tactic(auto, using(crate::proofs::GainLemmas::word_known))]
 pub fn gain_word(claims: &Claims<'_>, word: &Word, known: &mut Knowledge)
     ensures { facts_in (setting claims.now) known.new ≡ gained (setting claims.now) (word_gains (parts_from (setting claims.now).script word.now.parts)) (facts_in (setting claims.now) known.old) }
 {
-    if is_idle(word.parts.as_slice()) {
-        return;
-    }
     let mut behind = Known {
         names: claims.names,
         knowledge: *known,
@@ -61,20 +35,28 @@ pub fn gain_word(claims: &Claims<'_>, word: &Word, known: &mut Knowledge)
     *known = behind.knowledge;
 }
 
-/// What is known behind redirections.
+// What is known behind redirections.
 #[tactic(auto, using(crate::proofs::GainLemmas::redirects_known))]
-pub fn gain_redirects(claims: &Claims<'_>, redirects: &[Redirect], known: &mut Knowledge)
+fn gain_all(claims: &Claims<'_>, redirects: &[Redirect], known: &mut Knowledge)
     ensures { facts_in (setting claims.now) known.new ≡ gained (setting claims.now) (redirects_gains (redirects_from (setting claims.now).script redirects.now)) (facts_in (setting claims.now) known.old) }
 {
-    if redirects.is_empty() {
-        return;
-    }
     let mut behind = Known {
         names: claims.names,
         knowledge: *known,
     };
     words::gain_redirects(redirects, claims.script, &mut behind);
     *known = behind.knowledge;
+}
+
+/// What is known behind redirections.
+#[tactic(auto, using(crate::proofs::GainLemmas::no_redirects))]
+pub fn gain_redirects(claims: &Claims<'_>, redirects: &[Redirect], known: &mut Knowledge)
+    ensures { facts_in (setting claims.now) known.new ≡ gained (setting claims.now) (redirects_gains (redirects_from (setting claims.now).script redirects.now)) (facts_in (setting claims.now) known.old) }
+{
+    match redirects {
+        [] => (),
+        [_, ..] => gain_all(claims, redirects, known),
+    }
 }
 
 /// The parameter is set.

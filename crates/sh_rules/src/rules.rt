@@ -16,6 +16,7 @@ ghost use Rattle.sh_rules.specs.Bounds as bounds;
 ghost use Rattle.sh_rules.specs.CommandBounds as commands;
 ghost use Rattle.sh_rules.specs.Visits as spec;
 ghost use Rattle.sh_rules.specs.Steps as steps;
+ghost use Rattle.sh_rules.specs.Tells as tells;
 ghost use Rattle.sh_rules.specs.Tells.{fault_of};
 ghost use Rattle.sh_rules.specs.Walks as walks;
 ghost use Rattle.sh_rules.specs.Walks.{facts_in, setting};
@@ -72,6 +73,20 @@ fn elements_in(kind: &Kind) -> Option<&[Element]>
     }
 }
 
+// What a compound command claims behind it.
+fn tell_inside<A: Asked>(
+    claims: &Claims<'_>,
+    number: u32,
+    redirects: &[Redirect],
+    kind: &Kind,
+    asked: &mut A,
+)
+    ensures { A.kept asked.new ≡ tells.kind_told A.asked (setting claims.now) number (commands.redirected (setting claims.now) number (redirects_from (setting claims.now).script redirects.now)) kind.now (A.kept asked.old) }
+{
+    let known = behind_redirects(claims, number, redirects);
+    tell_compound(claims, number, &known, kind, asked);
+}
+
 // What the command claims behind it.
 fn tell_claims<A: Asked>(
     claims: &Claims<'_>,
@@ -81,7 +96,7 @@ fn tell_claims<A: Asked>(
     kind: &Kind,
     asked: &mut A,
 )
-    ensures { A.kept asked.new ≡ spec.claims_by A.asked (setting claims.now) number (walks.around (setting claims.now).script around.now) (facts_in (setting claims.now) known.now) (trees.kind_of (setting claims.now).script kind.now) (A.kept asked.old) }
+    ensures { A.kept asked.new ≡ spec.claims_by A.asked (setting claims.now) number (walks.around (setting claims.now).script around.now) (commands.redirected (setting claims.now) number (redirects_from (setting claims.now).script redirects.now)) (trees.kind_of (setting claims.now).script kind.now) (A.kept asked.old) }
 {
     match elements_in(kind) {
         Some(elements) => {
@@ -159,18 +174,6 @@ fn behind_redirects(claims: &Claims<'_>, number: u32, redirects: &[Redirect]) ->
     let mut known = claims.before(number);
     gain_redirects(claims, redirects, &mut known);
     known
-}
-
-// What a compound command claims behind it.
-fn tell_inside<A: Asked>(
-    claims: &Claims<'_>,
-    number: u32,
-    redirects: &[Redirect],
-    kind: &Kind,
-    asked: &mut A,
-) {
-    let known = behind_redirects(claims, number, redirects);
-    tell_compound(claims, number, &known, kind, asked);
 }
 
 /// What a command asks, as it is entered by this rule with this round it and this known there: that it is entered so, what it claims behind it

@@ -2,9 +2,12 @@
 ghost use Rattle.std.specs.Prelude.{◌≡◌, map};
 ghost use Rattle.sh_tree.specs.program.Lists.{elements_from};
 ghost use Rattle.sh_table.specs.WordTexts.{text_in};
+ghost use Rattle.sh_facts.specs.declared.rule.FlowRule.TheVariants.{F4};
+ghost use Rattle.sh_rules.specs.Bounds.{fault, leaves_told};
+ghost use Rattle.sh_rules.specs.TextBounds.{settled, utility_by};
 ghost use Rattle.sh_rules.specs.TextTells as spec;
 ghost use Rattle.sh_rules.specs.Walks as walks;
-ghost use Rattle.sh_rules.specs.Walks.{setting};
+ghost use Rattle.sh_rules.specs.Walks.{facts_in, setting};
 
 use crate::around::Around;
 use crate::asked::Asked;
@@ -14,21 +17,33 @@ use crate::claims::Claims;
 use crate::elements::behind;
 use crate::fault::Fault;
 use crate::jumps::tell_jumps;
-use sh_facts::knowledge::Knowledge;
 use crate::utilities::{nameless_behind, settled, utility_behind};
+use sh_facts::knowledge::Knowledge;
 use sh_facts::rule::FlowRule;
 use sh_table::kind::{Kind, kind_of};
 use sh_table::word_text::WordText;
 use sh_tree::tree::Element;
 
-fn is_neutral(kind: Kind) -> bool {
+// Whether a utility of this kind leaves what is known behind its words, and does not jump.
+#[tactic(auto, unfolding(crate::specs::TextTells::is_neutral))]
+fn is_neutral(kind: Kind) -> bool
+    ensures { result ≡ spec.is_neutral kind }
+{
     match kind {
-        Kind::Cd | Kind::Command | Kind::Refused(_) | Kind::Utility => true,
-        _ => false,
+        Kind::Special(_) => false,
+        Kind::True => false,
+        Kind::False => false,
+        Kind::Read => false,
+        Kind::Getopts => false,
+        Kind::Cd => true,
+        Kind::Command => true,
+        Kind::Refused(_) => true,
+        Kind::Utility => true,
     }
 }
 
-fn tell_other<A: Asked>(
+// Of a utility of this kind behind whose words this is known.
+fn tell_kind<A: Asked>(
     claims: &Claims<'_>,
     around: &Around<'_>,
     number: u32,
@@ -37,7 +52,11 @@ fn tell_other<A: Asked>(
     elements: &[Element],
     known: &Knowledge,
     asked: &mut A,
-) {
+)
+    ensures { A.kept asked.new ≡ spec.jumps_by A.asked (setting claims.now) number (settled (setting claims.now) (facts_in (setting claims.now) known.now) (elements_from (setting claims.now).script elements.now))
+        (walks.around (setting claims.now).script around.now) kind (map (text_in (setting claims.now).script) operands.now)
+        (leaves_told A.asked (setting claims.now) (fault number F4) (utility_by (setting claims.now) (facts_in (setting claims.now) known.now) (map (text_in (setting claims.now).script) operands.now) (elements_from (setting claims.now).script elements.now) kind) (A.kept asked.old)) }
+{
     let rule = FlowRule::F4;
     let left = utility_behind(claims, kind, elements, operands, known);
     tell_leaves(claims, Fault { number, rule }, &left, asked);
@@ -45,7 +64,7 @@ fn tell_other<A: Asked>(
     tell_jumps(claims, around, number, kind, operands, &jumps, asked);
 }
 
-#[tactic(auto, unfolding(crate::specs::TextTells::told_by))]
+#[tactic(auto, using(crate::proofs::NeutralLemmas::neutral_told), unfolding(crate::specs::TextTells::told_by))]
 fn tell_utility<A: Asked>(
     claims: &Claims<'_>,
     around: &Around<'_>,
@@ -57,12 +76,14 @@ fn tell_utility<A: Asked>(
 )
     ensures { A.kept asked.new ≡ spec.told_by A.asked (setting claims.now) number (walks.around (setting claims.now).script around.now) (elements_from (setting claims.now).script elements.now) kind (map (text_in (setting claims.now).script) operands.now) (A.kept asked.old) }
 {
-    let rule = FlowRule::F4;
     let known = behind(claims, number, elements);
     if is_neutral(kind) {
+        let rule = FlowRule::F4;
         tell_both(claims, Fault { number, rule }, &known, asked);
     } else {
-        tell_other(claims, around, number, kind, operands, elements, &known, asked);
+        tell_kind(
+            claims, around, number, kind, operands, elements, &known, asked,
+        );
     }
 }
 

@@ -318,13 +318,6 @@ fn colon_behind(settled: &Knowledge) -> Behind
     }
 }
 
-#[tactic(auto, unfolding(crate::specs::Walks::facts_in, sh_facts::specs::Knowledge::knowledge_facts))]
-fn nothing_behind() -> Behind
-    ensures { (x : Setting) → behind_in x result ≡ both NotReached }
-{
-    Behind::both(&Knowledge::NotReached)
-}
-
 // Behind a special built-in utility.
 #[tactic(auto, unfolding(crate::specs::TextBounds::special_by))]
 fn special_behind(
@@ -343,10 +336,10 @@ fn special_behind(
         KnownName::Unset => unset_behind(claims, elements, operands, known),
         KnownName::Set => set_behind(claims, elements, operands, known),
         KnownName::Shift => shift_behind(claims, elements, operands, known),
-        KnownName::Exit => nothing_behind(),
-        KnownName::Break => nothing_behind(),
-        KnownName::Continue => nothing_behind(),
-        KnownName::Return => nothing_behind(),
+        KnownName::Exit => Behind::nowhere(),
+        KnownName::Break => Behind::nowhere(),
+        KnownName::Continue => Behind::nowhere(),
+        KnownName::Return => Behind::nowhere(),
         KnownName::Exec => {
             let is_sure = is_sure_to_run(claims, operands);
             exec_behind(is_sure, &settled(claims, elements, known))

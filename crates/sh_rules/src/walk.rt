@@ -99,49 +99,6 @@ fn gain_operands(claims: &Claims<'_>, elements: &[Element], known: &mut Knowledg
     }
 }
 
-fn is_flat_part(part: &Part) -> bool {
-    match part {
-        Part::Double(_, parts) => parts.as_slice().iter().all(|it| is_flat_inner(it)),
-        it => is_flat_inner(it),
-    }
-}
-
-fn is_flat_inner(part: &Part) -> bool {
-    match part {
-        Part::Param(param) => matches!(param.operator, ParameterOperator::Value | ParameterOperator::Length),
-        Part::Double(_, _) => false,
-        Part::Arith(_, _) => false,
-        Part::Command(_, _, _) => false,
-        Part::Plain(_) => true,
-        Part::Escaped(_) => true,
-        Part::Single(_, _) => true,
-        Part::Tilde(_) => true,
-        Part::Joined(_) => true,
-    }
-}
-
-fn is_flat_word(word: &Word) -> bool {
-    word.parts.as_slice().iter().all(|it| is_flat_part(it))
-}
-
-fn is_flat_element(element: &Element) -> bool {
-    match element {
-        Element::Assignment { value, .. } => is_flat_word(value),
-        Element::Word(word) => is_flat_word(word),
-        Element::Redirection(redirect) => match &redirect.target {
-            Target::File(_, word) => is_flat_word(word),
-            Target::Here(here) => is_flat_word(&here.body),
-        },
-    }
-}
-
-fn is_flat(kind: &Kind) -> bool {
-    match kind {
-        Kind::Simple(elements) => elements.as_slice().iter().all(|it| is_flat_element(it)),
-        _ => false,
-    }
-}
-
 #[cycle(walk)]
 #[tactic(auto, using(crate::proofs::WalkLemmas::script_out))]
 fn walk_script<V: Visitor>(
@@ -262,7 +219,14 @@ fn walk_link<V: Visitor>(
 )
     ensures { steps.ran (setting claims.now) course.new (V.kept visitor.new) ≡ steps.link_step (setting claims.now) (V.with_met (setting claims.now)) (walks.around (setting claims.now).script around.now) (steps.ran (setting claims.now) course.old (V.kept visitor.old)) (link, pipe.now) }
 {
-    walk_pipe(claims, course.by, around, course.behind.at_link(link), pipe, visitor);
+    walk_pipe(
+        claims,
+        course.by,
+        around,
+        course.behind.at_link(link),
+        pipe,
+        visitor,
+    );
     course.behind.pass_link(claims, link, pipe);
 }
 
@@ -319,9 +283,6 @@ fn walk_command<V: Visitor>(
     ensures { V.kept visitor.new ≡ steps.command_kept (setting claims.now) (V.with_met (setting claims.now)) by (walks.around (setting claims.now).script around.now) (facts_in (setting claims.now) known.now) (V.kept visitor.old) command.now }
 {
     visitor.visit(claims, by, around, known, command);
-    if is_flat(&command.kind) {
-        return;
-    }
     let mut inside = claims.before(command.number);
     walk_redirects(claims, &mut inside, command.redirects.as_slice(), visitor);
     walk_kind(

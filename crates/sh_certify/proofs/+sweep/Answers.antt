@@ -1,4 +1,4 @@
-use Rattle.std.proofs.Common.{rules as std_rules, ap, Bool, length, nat_lt, ◌≡◌, ◌+◌, ◌∷◌, ◌++◌, ◌∙◌, [], ℕ, List, drop, refl, sym, subst}
+use Rattle.std.proofs.Common.{rules as std_rules, ap, Bool, true, false, length, nat_lt, ◌≡◌, ◌+◌, ◌∷◌, ◌++◌, ◌∙◌, [], ℕ, List, drop, refl, sym, subst}
 use Rattle.std.proofs.lemmas.List.{drop_all}
 use Rattle.sh_tree.specs.Tree.{text_of}
 use Rattle.sh_tree.specs.declared.tree.AndOr.{out-AndOr}
@@ -14,23 +14,36 @@ use Rattle.sh_tree.specs.program.Syntax as p
 use Rattle.sh_tree.specs.program.Trees as trees
 use Rattle.sh_tree.specs.program.Trees.{expression_of, operator_of, parameter_of, part_of, script_of, target_of}
 use Rattle.sh_tree.proofs.ProgramRules as program
-use Rattle.sh_facts.specs.declared.rule.FlowRule.TheVariants.{F3, F6, F7, F8, F9, F10, F11, F13}
+use Rattle.sh_facts.specs.declared.rule.FlowRule.TheVariants.{F3, F6, F7, F8, F9, F10, F11, F12, F13}
 use Rattle.sh_facts.specs.Entries as entries
 use Rattle.sh_facts.specs.Entries.{Around}
-use Rattle.sh_facts.specs.Facts.{NotReached, meet}
+use Rattle.sh_facts.specs.Facts.{Facts, NotReached, meet}
 use Rattle.sh_facts.specs.Gains.{and_gains, assigned_in, expanded_gains, named, operands_gains, operator_gains, part_gains, redirect_gains, word_gains}
 use Rattle.sh_facts.specs.Knowledge.{knowledge_facts}
 use Rattle.sh_facts.specs.Table.{behind_words}
-use Rattle.sh_facts.specs.Views.{Before, Both, Head, Seen, at, gaining}
+use Rattle.sh_facts.specs.Views.{Before, Both, Head, Seen, at, gaining, without_job}
 use Rattle.sh_rules.specs.Behind.{both, in_any_case}
 use Rattle.sh_rules.specs.Walks as walks
 use Rattle.sh_rules.specs.Walks.{facts_in}
 use Rattle.sh_rules.proofs.LedLemmas.{turns_led}
 use Rattle.sh_certify.specs.Sweeps.{AreBranches, AreClauses, AreElements, AreItems, AreLinks, AreParts, Gained, IsAndOr, IsCommand, IsIn, IsInside, IsKind, IsList, IsPart, IsPipe, IsReady, IsWord, Knows, known_behind, setting_by}
-use Rattle.sh_certify.proofs.PlacedLemmas.{GoesOn, and_or_placed, at_index, begun_at, body_placed, branch_body, branch_condition, branches_next, branches_placed, case_placed, clause_list, clauses_next, clauses_placed, command_placed, condition_placed, definition_placed, else_placed, for_placed, goes_last, goes_next, group_placed, inside_placed, items_next, known_after, link_placed, links_next, links_placed, parts_next, parts_placed, pipe_placed, subshell_placed}
+use Rattle.sh_certify.proofs.PlacedLemmas.{at_index, background_placed, begun_at, body_placed, branch_body, branch_condition, branches_next, branches_placed, case_placed, clause_list, clauses_next, clauses_placed, command_placed, condition_placed, definition_placed, else_placed, for_placed, foreground_placed, goes_last, goes_next, GoesOn, group_placed, inside_placed, items_next, known_after, link_placed, links_next, links_placed, long_placed, parts_next, pipe_placed, short_placed, subshell_placed}
 use Rattle.sh_certify.proofs.SweepLemmas.{knows_follow, names_numbered, ready_again, stands_of, swept_more, swept_none}
 use Rattle.sh_certify.proofs.WordLemmas.{Along, along_first, along_no_operands, along_no_parts, along_operands, along_parts, arithmetic_gained, arithmetic_placed, assigned_gained, assigned_placed, both_gained, case_word, chain_first, chain_gained, chain_rest, choice_condition, choice_gained, choice_no, choice_yes, clause_patterns, double_gained, double_placed, element_as, elements_first, elements_placed, expanded_gained, expanded_placed, expansion_gained, expansion_placed, expression_as, expression_gained, file_gained, file_placed, for_words_placed, gained_nowhere, here_gained, here_placed, if_ok, kind_as, kind_placed, link_expression, listed_placed, literal_gained, nothing_gained, operand_inside, operand_next, operand_placed, operands_next, parenthesis_gained, parenthesis_placed, part_as, part_gained, part_placed, pattern_placed, patterns_next, pieces_next, plain_gained, redirect_placed, redirection_next, redirection_placed, redirections_placed, redirects_next, remove_placed, signed_gained, signed_placed, substitution_placed, use_gained, use_placed, value_next, value_placed, word_placed, words_next}
 use Rattle.sh_certify.proofs.+sweep.Goals as goal
+
+pub sweep::enter_item-enter_process-requires : goal.sweep::enter_item-enter_process-requires
+unfolding facts_in
+sweep::enter_item-enter_process-requires t c =
+    let s = c.args.subject.now in
+    let r = c.requires.ready in
+    let at = c.args.course.now in
+    let i = c.args.item.now in
+    let y = walks.around s.script.now c.args.around.now in
+    let any : knowledge_facts s.names.now c.in_any_case-seen.result ≡ in_any_case (known_behind s at.behind) = c.in_any_case-seen.ensures (setting_by s c.args.draft.now.certificate) in
+    let placed : (k : Facts) → ((q : Seen) → Knows s q (knowledge_facts s.names.now c.in_any_case-seen.result) → Knows s (without_job q) k) → IsAndOr s F11 entries.alone k (out-Item i).list =
+    λ k known. background_placed s y at i c.requires.placed.0 k c.if-item.true (λ q w. known q (subst (Knows s q) (sym any) w)) _ (names_numbered s _ _ r) r.over c.requires.placed.1 in
+    search std_rules
 
 pub sweep::enter_item-sweep_and_or-requires : goal.sweep::enter_item-sweep_and_or-requires
 unfolding facts_in
@@ -40,12 +53,18 @@ sweep::enter_item-sweep_and_or-requires t c =
     let at = c.args.course.now in
     let i = c.args.item.now in
     let y = walks.around s.script.now c.args.around.now in
-    let k = knowledge_facts s.names.now c.started_in-known.result in
-    let any : knowledge_facts s.names.now c.in_any_case-seen.result ≡ in_any_case (known_behind s at.behind) = c.in_any_case-seen.ensures (setting_by s c.args.draft.now.certificate) in
-    let first = and_or_placed s y at i c.requires.placed.0 k (λ q w. c.started_in-known.ensures q (subst (Knows s q) (sym any) w)) _ (names_numbered s _ _ r) r.over c.requires.placed.1 in
-    let placed : IsAndOr s c.item_rule-by.result (walks.around s.script.now c.round_item-inner.result) k (out-Item i).list =
-    subst (λ by. IsAndOr s by (walks.around s.script.now c.round_item-inner.result) k (out-Item i).list) (sym c.item_rule-by.ensures)
-    (subst (λ z. IsAndOr s (entries.item_rule (out-Item i).background at.by) z k (out-Item i).list) (sym (c.round_item-inner.ensures s.script.now)) first) in
+    let k = knowledge_facts s.names.now c.in_any_case-seen.result in
+    let any : k ≡ in_any_case (known_behind s at.behind) = c.in_any_case-seen.ensures (setting_by s c.args.draft.now.certificate) in
+    let placed : IsAndOr s at.by y k (out-Item i).list = foreground_placed s y at i c.requires.placed.0 k c.if-item.false any _ (names_numbered s _ _ r) r.over c.requires.placed.1 in
+    search std_rules
+
+pub sweep::enter_process-sweep_and_or-requires : goal.sweep::enter_process-sweep_and_or-requires
+unfolding entries.item_seen
+sweep::enter_process-sweep_and_or-requires t c =
+    let s = c.args.subject.now in
+    let k = knowledge_facts s.names.now c.started_in-inside.result in
+    let placed : IsAndOr s F11 (walks.around s.script.now c.alone-outside.result) k c.args.list.now =
+    subst (λ z. IsAndOr s F11 z k c.args.list.now) (sym (c.alone-outside.ensures s.script.now)) (c.requires.placed k c.started_in-inside.ensures) in
     search std_rules
 
 pub sweep::sweep_and_or-sweep_pipe-requires : goal.sweep::sweep_and_or-sweep_pipe-requires
@@ -279,8 +298,8 @@ sweep::sweep_link-sweep_pipe-requires t c =
     let r = c.requires.ready in
     let y = walks.around s.script.now c.args.around.now in
     let b = known_behind s c.args.behind.now in
-    let k = knowledge_facts s.names.now c.at_link-known.result in
-    let placed : IsPipe s F3 y k c.args.link.now.1 = link_placed s y b k c.args.link.now c.requires.placed.0 (c.at_link-known.ensures (setting_by s c.args.draft.now.certificate)) _ (names_numbered s _ _ r) r.over c.requires.placed.1 in
+    let k = knowledge_facts s.names.now c.at_link.result.now in
+    let placed : IsPipe s F3 y k c.args.link.now.1 = link_placed s y b k c.args.link.now c.requires.placed.0 (c.at_link.ensures (setting_by s c.args.draft.now.certificate)) _ (names_numbered s _ _ r) r.over c.requires.placed.1 in
     search std_rules
 
 pub sweep::sweep_link-returns-clause-passed : goal.sweep::sweep_link-returns-clause-passed
@@ -288,7 +307,7 @@ sweep::sweep_link-returns-clause-passed t c =
     λ others here.
     let s = c.args.subject.now in
     let y = walks.around s.script.now c.args.around.now in
-    links_next s y (known_behind s c.args.behind.now) _ c.args.link.now others c.behind_link.ensures here
+    links_next s y (known_behind s c.args.behind.now) _ c.args.link.now others c.pass_link.ensures here
 
 pub sweep::sweep_links-sweep_link-requires : goal.sweep::sweep_links-sweep_link-requires
 sweep::sweep_links-sweep_link-requires t c =
@@ -348,9 +367,9 @@ sweep::sweep_loop-sweep_list-requires t c =
     let ready : IsReady s c.sweep_items.new.draft.certificate c.sweep_items.new.draft.probe.count = ready_again s _ _ _ _ r c.in_ok-sweep_items.ensures.swept in
     let after = known_after s k c.begun-course.result c.sweep_items.new.course c.args.condition.now c.as_slice.result.now begun c.as_slice.ensures c.in_ok-sweep_items.ensures.behind in
     let o = entries.items_after (Both (at (Head c.args.number))) (script_of s.script.now c.args.condition.now) in
-    let turn = knowledge_facts s.names.now c.at_turn-turn.result in
+    let turn = knowledge_facts s.names.now c.at_turn.result.now in
     let known : Knows s (entries.turns c.args.kind o) turn =
-    subst (Knows s (entries.turns c.args.kind o)) (sym (c.at_turn-turn.ensures (setting_by s c.args.draft.now.certificate)))
+    subst (Knows s (entries.turns c.args.kind o)) (sym (c.at_turn.ensures (setting_by s c.args.draft.now.certificate)))
     (turns_led (setting_by s c.args.draft.now.certificate) (Knows s) (knows_follow s _ (names_numbered s _ _ r) r.over) c.args.kind o (known_behind s c.sweep_items.new.course.behind) (stands_of s o _ (after (at (Head c.args.number)) c.head_of-head.ensures))) in
     let placed : IsList s F7 (walks.around s.script.now c.in_loop-inner.result) turn (script_of s.script.now c.args.body.now) =
     subst (λ z. IsList s F7 z turn (script_of s.script.now c.args.body.now)) (sym inner)
@@ -380,21 +399,34 @@ sweep::sweep_parts-loop-command-preserved t c =
       placed = parts_next s c.args.by y (knowledge_facts s.names.now c.args.known.now) c.command-item.result _ here;
     }
 
+pub sweep::sweep_pipe-sweep_processes-requires : goal.sweep::sweep_pipe-sweep_processes-requires
+sweep::sweep_pipe-sweep_processes-requires t c =
+    let s = c.args.subject.now in
+    let y = walks.around s.script.now c.args.around.now in
+    let k = knowledge_facts s.names.now c.args.known.now in
+    let ps = (out-Pipe c.args.pipe.now).parts in
+    let long : nat_lt 1 (length ps) ≡ true = ap (λ cs. nat_lt 1 (length cs)) (sym c.as_slice-parts.ensures) ∙ c.if-parts.true in
+    let placed : (k' : Facts) → ((q : Seen) → Knows s q k → Knows s (without_job q) k') → AreParts s F12 (entries.part_around true y) k' c.as_slice-parts.result.now =
+    λ k' known. subst (AreParts s F12 (entries.part_around true y) k') (sym c.as_slice-parts.ensures) (long_placed s c.args.by y k k' c.args.pipe.now long known c.requires.placed) in
+    search std_rules
+
 pub sweep::sweep_pipe-sweep_parts-requires : goal.sweep::sweep_pipe-sweep_parts-requires
 sweep::sweep_pipe-sweep_parts-requires t c =
     let s = c.args.subject.now in
     let y = walks.around s.script.now c.args.around.now in
     let k = knowledge_facts s.names.now c.args.known.now in
-    let k' = knowledge_facts s.names.now c.started_in-seen.result in
     let ps = (out-Pipe c.args.pipe.now).parts in
-    let is_long : Bool = nat_lt 1 (length ps) in
-    let long : nat_lt 1 (length c.as_slice-parts.result.now) ≡ is_long = ap (λ cs. nat_lt 1 (length cs)) c.as_slice-parts.ensures in
-    let one = parts_placed s c.args.by y k k' c.args.pipe.now (nat_lt 1 (length c.as_slice-parts.result.now)) long c.started_in-seen.ensures c.requires.placed in
-    let two : AreParts s (entries.part_rule (nat_lt 1 (length c.as_slice-parts.result.now)) c.args.by) (entries.part_around (nat_lt 1 (length c.as_slice-parts.result.now)) y) k' c.as_slice-parts.result.now =
-    subst (AreParts s (entries.part_rule (nat_lt 1 (length c.as_slice-parts.result.now)) c.args.by) (entries.part_around (nat_lt 1 (length c.as_slice-parts.result.now)) y) k') (sym c.as_slice-parts.ensures) one in
-    let three : AreParts s c.part_rule.result (entries.part_around (nat_lt 1 (length c.as_slice-parts.result.now)) y) k' c.as_slice-parts.result.now = subst (λ by. AreParts s by (entries.part_around (nat_lt 1 (length c.as_slice-parts.result.now)) y) k' c.as_slice-parts.result.now) (sym c.part_rule.ensures) two in
-    let placed : AreParts s c.part_rule.result (walks.around s.script.now c.round_parts-inner.result) k' c.as_slice-parts.result.now =
-    subst (λ z. AreParts s c.part_rule.result z k' c.as_slice-parts.result.now) (sym (c.round_parts-inner.ensures s.script.now)) three in
+    let short : nat_lt 1 (length ps) ≡ false = ap (λ cs. nat_lt 1 (length cs)) (sym c.as_slice-parts.ensures) ∙ c.if-parts.false in
+    let placed : AreParts s c.args.by y k c.as_slice-parts.result.now = subst (AreParts s c.args.by y k) (sym c.as_slice-parts.ensures) (short_placed s c.args.by y k c.args.pipe.now short c.requires.placed) in
+    search std_rules
+
+pub sweep::sweep_processes-sweep_parts-requires : goal.sweep::sweep_processes-sweep_parts-requires
+unfolding entries.item_seen
+sweep::sweep_processes-sweep_parts-requires t c =
+    let s = c.args.subject.now in
+    let k = knowledge_facts s.names.now c.started_in-seen.result in
+    let placed : AreParts s F12 (walks.around s.script.now c.round_parts-inner.result) k c.args.parts.now =
+    subst (λ z. AreParts s F12 z k c.args.parts.now) (sym (c.round_parts-inner.ensures s.script.now)) (c.requires.placed k c.started_in-seen.ensures) in
     search std_rules
 
 pub sweep::sweep_subshell-sweep_list-requires : goal.sweep::sweep_subshell-sweep_list-requires

@@ -19,4 +19,4 @@ returns c =
     let r = c.requires.1 in
     let h = numbered s.script.now s.policy.now s.tree.now s.names.now r.admitted in
     passed_on s c.args.certificate.now h r.over c.args.course.now _ c.args.item.now refl
-    (behind_by_table _ s.tree.now s.listed (λ x. item_left x (behind_in x c.args.course.now.behind) c.args.item.now) _ c.item_behind-course.ensures)
+    (behind_by_table _ s.tree.now s.listed (λ x. item_left x (behind_in x c.args.course.now.behind) c.args.item.now) _ c.pass_item.ensures)

@@ -7,7 +7,7 @@ use Rattle.sh_certify.proofs.lower.count.Goals as goal
 pub keep_drops-requires-clause-below : goal.keep_drops-requires-clause-below
 keep_drops-requires-clause-below c =
     subst (λ n. AreBelow n (sets_in c.join_row.new.self c.join_row-2.new.self)) (sym c.requires.count)
-    (union_below c.args.names.now c.args.certificate.now.rows c.in-Some.drops (sets_in c.args.vars c.args.functions) (sets_in c.join_row.new.self c.join_row-2.new.self)
+    (union_below c.args.names.now c.args.certificate.now.rows c.in-Some.drops (sets_in c.args.vars.now c.args.functions.now) (sets_in c.join_row.new.self c.join_row-2.new.self)
     (c.requires.fine c.in-Some.drops (sym c.drops_of.ensures ∙ c.in-Some.is)).below c.requires.below c.join_row.ensures c.join_row-2.ensures)
 
 pub put_drops-requires : goal.put_drops-requires
@@ -15,19 +15,19 @@ put_drops-requires c = drops_there c.args.certificate.now.functions.items c.args
 
 pub returns-clause-counted : goal.returns-clause-counted
 returns-clause-counted c = λ loops defined working.
-    is_counted c.args.names.now loops defined c.args.certificate.now _ c.put_drops.new.certificate c.args.index c.in-Some.drops c.in_ok-kept.kept (sets_in c.args.vars c.args.functions) (sym c.drops_of.ensures ∙ c.in-Some.is)
+    is_counted c.args.names.now loops defined c.args.certificate.now _ c.put_drops.new.certificate c.args.index c.in-Some.drops c.in_ok-kept.kept (sets_in c.args.vars.now c.args.functions.now) (sym c.drops_of.ensures ∙ c.in-Some.is)
     c.in_ok-kept.ensures.stay c.in_ok-kept.ensures.count refl refl refl c.put_drops.ensures
-    (union_kept c.args.certificate.now.rows c.keep_drops.new.rows c.in-Some.drops c.in_ok-kept.kept (sets_in c.args.vars c.args.functions) (sets_in c.join_row.new.self c.join_row-2.new.self) c.in_ok-kept.ensures.sets c.join_row.ensures c.join_row-2.ensures)
+    (union_kept c.args.certificate.now.rows c.keep_drops.new.rows c.in-Some.drops c.in_ok-kept.kept (sets_in c.args.vars.now c.args.functions.now) (sets_in c.join_row.new.self c.join_row-2.new.self) c.in_ok-kept.ensures.sets c.join_row.ensures c.join_row-2.ensures)
     working (λ h. true≢false (sym (c.are_in_rows.ensures.all h) ∙ c.if-are_in_rows.false))
 
 pub returns-clause-working : goal.returns-clause-working
 returns-clause-working c = λ loops defined working.
-    counting_works c.args.names.now loops defined c.args.certificate.now _ c.put_drops.new.certificate c.args.index c.in-Some.drops c.in_ok-kept.kept (sets_in c.args.vars c.args.functions) (sym c.drops_of.ensures ∙ c.in-Some.is)
+    counting_works c.args.names.now loops defined c.args.certificate.now _ c.put_drops.new.certificate c.args.index c.in-Some.drops c.in_ok-kept.kept (sets_in c.args.vars.now c.args.functions.now) (sym c.drops_of.ensures ∙ c.in-Some.is)
     c.in_ok-kept.ensures.stay c.in_ok-kept.ensures.count refl refl refl c.put_drops.ensures
-    (union_kept c.args.certificate.now.rows c.keep_drops.new.rows c.in-Some.drops c.in_ok-kept.kept (sets_in c.args.vars c.args.functions) (sets_in c.join_row.new.self c.join_row-2.new.self) c.in_ok-kept.ensures.sets c.join_row.ensures c.join_row-2.ensures)
+    (union_kept c.args.certificate.now.rows c.keep_drops.new.rows c.in-Some.drops c.in_ok-kept.kept (sets_in c.args.vars.now c.args.functions.now) (sets_in c.join_row.new.self c.join_row-2.new.self) c.in_ok-kept.ensures.sets c.join_row.ensures c.join_row-2.ensures)
     working
     (fine_drops c.args.names.now c.keep_drops.new.rows c.in_ok-kept.kept (sets_in c.join_row.new.self c.join_row-2.new.self) c.in_ok-kept.ensures.sets c.in_ok-kept.ensures.vars c.in_ok-kept.ensures.functions
-    (union_below c.args.names.now c.args.certificate.now.rows c.in-Some.drops (sets_in c.args.vars c.args.functions) (sets_in c.join_row.new.self c.join_row-2.new.self)
+    (union_below c.args.names.now c.args.certificate.now.rows c.in-Some.drops (sets_in c.args.vars.now c.args.functions.now) (sets_in c.join_row.new.self c.join_row-2.new.self)
     (c.requires.fine c.in-Some.drops (sym c.drops_of.ensures ∙ c.in-Some.is)).below c.requires.below c.join_row.ensures c.join_row-2.ensures)
     (c.has.ensures.written c.if-not-has.false c.args.names.now c.requires.written))
 
@@ -42,7 +42,7 @@ pub returns-then-are_in_rows-clause-idle : goal.returns-then-are_in_rows-clause-
 returns-then-are_in_rows-clause-idle c = λ e. record {
   within = λ s at_i w.
       let same = dropped_is c.args.certificate.now c.args.index c.in-Some.drops (sym c.drops_of.ensures ∙ c.in-Some.is) s at_i in
-      subst (AreWithin (sets_in c.args.vars c.args.functions)) same (c.are_in_rows.ensures.there c.if-are_in_rows.true);
+      subst (AreWithin (sets_in c.args.vars.now c.args.functions.now)) same (c.are_in_rows.ensures.there c.if-are_in_rows.true);
 }
 
 pub returns-then-not-has-clause-idle : goal.returns-then-not-has-clause-idle
@@ -50,6 +50,6 @@ returns-then-not-has-clause-idle c = λ e. record {
   within = λ s at_i w.
       let same = dropped_is c.args.certificate.now c.args.index c.in-Some.drops (sym c.drops_of.ensures ∙ c.in-Some.is) s at_i in
       let may : Sets = sets_in c.args.writable.now.vars c.args.writable.now.functions in
-      let all = subst (λ (z : Sets). AreWithin (joined (sets_in c.args.vars c.args.functions) z) may) (sym same) w in
-      absurd (true≢false (sym (c.has.ensures.all (union_within c.args.certificate.now.rows c.in-Some.drops (sets_in c.args.vars c.args.functions) (sets_in c.join_row.new.self c.join_row-2.new.self) may c.join_row.ensures c.join_row-2.ensures all)) ∙ c.if-not-has.true));
+      let all = subst (λ (z : Sets). AreWithin (joined (sets_in c.args.vars.now c.args.functions.now) z) may) (sym same) w in
+      absurd (true≢false (sym (c.has.ensures.all (union_within c.args.certificate.now.rows c.in-Some.drops (sets_in c.args.vars.now c.args.functions.now) (sets_in c.join_row.new.self c.join_row-2.new.self) may c.join_row.ensures c.join_row-2.ensures all)) ∙ c.if-not-has.true));
 }

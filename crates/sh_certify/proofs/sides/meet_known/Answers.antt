@@ -16,4 +16,4 @@ pub returns-in-Known : goal.returns-in-Known
 unfolding seen_of knowledge_facts
 returns-in-Known c =
     let f = seen_of c.args.seen.now in
-    c.met.ensures ∙ ap (meet f) c.sight_of.ensures ∙ ap (λ k. meet f (by_number c.args.names.now (knowledge_facts c.args.names.now k))) (sym c.in-Known.is)
+    c.meet_assured.ensures ∙ ap (λ k. meet f (by_number c.args.names.now (knowledge_facts c.args.names.now k))) (sym c.in-Known.is)

@@ -1,6 +1,5 @@
 use Rattle.std.proofs.Common.{sym, ap, ◌∙◌}
 use Rattle.sh_facts.specs.Knowledge.{assured_facts, knowledge_facts}
-use Rattle.sh_find.specs.Facts.{meet}
 use Rattle.sh_find.specs.Kept.{seen_of}
 use Rattle.sh_certify.specs.Gathering.{met}
 use Rattle.sh_certify.specs.Numbers.{by_number}
@@ -18,5 +17,5 @@ pub returns-in-Known : goal.returns-in-Known
 unfolding gathered_of seen_of knowledge_facts
 returns-in-Known c =
     let g = gathered_of c.args.self.now in
-    known_put g (by_number c.args.names.now (assured_facts c.args.names.now c.in-Known.assured)) _ (c.met.ensures ∙ ap (λ f. meet g.known f) c.sight_of.ensures)
+    known_put g (by_number c.args.names.now (assured_facts c.args.names.now c.in-Known.assured)) _ c.meet_assured.ensures
     ∙ ap (λ k. met (by_number c.args.names.now (knowledge_facts c.args.names.now k)) g) (sym c.in-Known.is)

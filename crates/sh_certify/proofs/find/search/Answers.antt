@@ -11,7 +11,7 @@ use Rattle.sh_accept.specs.Accepted.{functions_in}
 use Rattle.sh_certify.specs.Working.{IsWorking}
 use Rattle.sh_certify.proofs.AboveLemmas.{first_above}
 use Rattle.sh_certify.proofs.GreatestLemmas.{few_commands, is_greatest_of, numbered}
-use Rattle.sh_certify.proofs.find.find.Goals as goal
+use Rattle.sh_certify.proofs.find.search.Goals as goal
 
 pub unreached-requires : goal.unreached-requires
 unreached-requires c =

@@ -1,7 +1,0 @@
-use Rattle.std.proofs.Common.{◌≡◌, fold, take}
-use Rattle.sh_rules.specs.Walks as walks
-use Rattle.sh_rules.proofs.behind.links_behind.Given as goal
-
--- what is known so far is what the links so far leave
-abbrev pub invariant-loop-link : goal.invariant-loop-link
-invariant-loop-link l = walks.behind_in (walks.setting l.claims) l.behind ≡ fold (walks.link_left (walks.setting l.claims)) (walks.behind_in (walks.setting l.claims) l.fn.first) (take l.link-index l.links)

@@ -1,0 +1,39 @@
+//! How often the search goes through the rules of a command, of functions that each call the next.
+
+use crate::found::counted;
+use sh_engine::prepared::prepare;
+use sh_facts::policy::Policy;
+use std::alloc::{AllocError, Global};
+use std::test::Fail;
+
+/// How many functions there are.
+const FUNCTIONS: u32 = 200;
+/// Sixteen for each of the 601 commands and the 200 functions.
+const MOST_LOOKS: u64 = 12_816;
+
+/// A script of so many functions that each call the next, of which the first is called.
+fn calls(alloc: Global, count: u32) -> Result<String, AllocError> {
+    let mut script = String::new(alloc);
+    for number in 1..count {
+        let next = number + 1;
+        let line = format!(in alloc; "f{number}() {{ f{next}; }}\n")?;
+        script.push_str(&line)?;
+    }
+    let last = format!(in alloc; "f{count}() {{ :; }}\nf1\n")?;
+    script.push_str(&last)?;
+    Ok(script)
+}
+
+#[test]
+fn looks_at_functions_that_call_each_other(rt: HostRuntime) -> Result<(), Fail> {
+    let script = calls(rt.alloc(), FUNCTIONS)?;
+    let policy = Policy::new(rt.alloc(), &[], 0)?;
+    let prepared = prepare(rt.alloc(), script.as_bytes(), &policy)?;
+    let (certificate, looks) = counted(rt.alloc(), script.as_bytes(), &policy, &prepared)?;
+    assert!(rt;
+        certificate.entries.len() == 601 && looks <= MOST_LOOKS,
+        "{looks}",
+        looks = looks
+    );
+    Ok(())
+}
