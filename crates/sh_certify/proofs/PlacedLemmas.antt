@@ -1,5 +1,6 @@
 -- Where a sweep is in a command, by where it is before it: a lemma for each kind of command (XCU 2.9).
 use Rattle.std.proofs.Common.{◌≡◌, ℕ, zero, suc, ◌+◌, ◌-◌, ◌<◌, ◌≤◌, Bool, true, false, Option, Some, List, [], ◌∷◌, ◌++◌, append_assoc, append-nil, drop, get_or, length, nat_lt, refl, sym, ap, ◌∙◌, subst, arith}
+use Rattle.std.proofs.lemmas.Bool.Decides.{nat_tests}
 use Rattle.std.proofs.Math.Seq.{drop-cons}
 use Rattle.sh_tree.specs.declared.tree.AndOr.{AndOr, out-AndOr}
 use Rattle.sh_tree.specs.declared.tree.Branch.{Branch, out-Branch}
@@ -382,14 +383,18 @@ module _ (s : Subject) where
   }
 
   -- the parts by how many they are
-  pub long_placed : (by : FlowRule) (y : Around) (k k' : Facts) (l : Pipe) → nat_lt 1 (length (out-Pipe l).parts) ≡ true
+  pub long_placed : (by : FlowRule) (y : Around) (k k' : Facts) (l : Pipe) → 1 < length (out-Pipe l).parts
       → ((q : Seen) → Knows s q k → Knows s (views.without_job q) k') → IsPipe s by y k l → AreParts s F12 (e.part_around true y) k' (out-Pipe l).parts
   unfolding e.part_rule e.item_seen
-  long_placed by y k k' l long known here = parts_placed by y k k' l true (sym long) known here
+  long_placed by y k k' l long known here =
+      let is : nat_lt 1 (length (out-Pipe l).parts) ≡ true = grind (arith, nat_tests, long) in
+      parts_placed by y k k' l true (sym is) known here
 
-  pub short_placed : (by : FlowRule) (y : Around) (k : Facts) (l : Pipe) → nat_lt 1 (length (out-Pipe l).parts) ≡ false → IsPipe s by y k l → AreParts s by y k (out-Pipe l).parts
+  pub short_placed : (by : FlowRule) (y : Around) (k : Facts) (l : Pipe) → length (out-Pipe l).parts ≤ 1 → IsPipe s by y k l → AreParts s by y k (out-Pipe l).parts
   unfolding e.part_rule e.part_around e.item_seen
-  short_placed by y k l short here = parts_placed by y k k l false (sym short) (λ q w. w) here
+  short_placed by y k l short here =
+      let is : nat_lt 1 (length (out-Pipe l).parts) ≡ false = grind (arith, nat_tests, short) in
+      parts_placed by y k k l false (sym is) (λ q w. w) here
 
   pub command_placed : (by : FlowRule) (y : Around) (k : Facts) (c : Command) (cs : List Command) → AreParts s by y k (c ∷ cs) → IsCommand s by y k c
   unfolding e.items_entered commands_from

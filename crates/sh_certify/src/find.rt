@@ -77,11 +77,7 @@ fn settle(subject: &Subject<'_>, draft: &mut Draft, way: Way) -> Result<(), Allo
 }
 
 // The greatest certificate of a script that is admitted, and how often the flow rules of a command were gone through.
-fn search(
-    alloc: Global,
-    subject: &Subject<'_>,
-    way: Way,
-) -> Result<(Certificate, u64), AllocError>
+fn search(alloc: Global, subject: &Subject<'_>, way: Way) -> Result<(Certificate, u64), AllocError>
     requires { IsAdmitted subject.now.script.now subject.now.policy.now subject.now.tree.now subject.now.names.now }
     ensures { IfOk result (λ found. IsGreatest subject.now.script.now subject.now.policy.now subject.now.tree.now subject.now.names.now (sheet_by subject.now.names.now found.0)) }
 {
@@ -122,10 +118,7 @@ pub fn find(alloc: Global, subject: &Subject<'_>) -> Result<Certificate, AllocEr
 /// # Errors
 ///
 /// As `find`.
-pub fn find_counted(
-    alloc: Global,
-    subject: &Subject<'_>,
-) -> Result<(Certificate, u64), AllocError>
+pub fn find_counted(alloc: Global, subject: &Subject<'_>) -> Result<(Certificate, u64), AllocError>
     requires { IsAdmitted subject.now.script.now subject.now.policy.now subject.now.tree.now subject.now.names.now }
     ensures { IfOk result (λ found. IsGreatest subject.now.script.now subject.now.policy.now subject.now.tree.now subject.now.names.now (sheet_by subject.now.names.now found.0)) }
 {

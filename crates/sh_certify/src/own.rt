@@ -51,23 +51,6 @@ fn tell<A: Asked>(
     tell_command(&claims, by, around, known, command, asked);
 }
 
-// With what the flow rules ask at a command.
-fn visit(
-    subject: &Subject<'_>,
-    certificate: &Certificate,
-    by: FlowRule,
-    around: &Around<'_>,
-    known: &Knowledge,
-    command: &Command,
-    gather: &mut Gather,
-)
-    requires sized { certificate.now.rows.count ≡ length subject.now.names.now }
-    requires admitted { IsAdmitted subject.now.script.now subject.now.policy.now subject.now.tree.now subject.now.names.now }
-    ensures { gathered_of result ≡ command_by gathering (setting_by subject.now certificate.now) (gathered_of gather) (met_in (setting_by subject.now certificate.now) by around.now known.now command.now) }
-{
-    tell(subject, certificate, by, around, known, command, gather);
-}
-
 // What the flow rules ask at a command, gathered for a place and a function.
 fn asked_of(
     subject: &Subject<'_>,
@@ -84,7 +67,7 @@ fn asked_of(
     ensures stands { (other : Sheet) → Keeps subject.now other → Stands subject.now.names.now other (gathered_of result) }
 {
     let mut gather = Gather::new(target);
-    visit(
+    tell(
         subject,
         certificate,
         by,

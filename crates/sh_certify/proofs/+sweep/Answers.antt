@@ -1,4 +1,4 @@
-use Rattle.std.proofs.Common.{rules as std_rules, ap, Bool, true, false, length, nat_lt, ◌≡◌, ◌+◌, ◌∷◌, ◌++◌, ◌∙◌, [], ℕ, List, drop, refl, sym, subst}
+use Rattle.std.proofs.Common.{rules as std_rules, ap, length, true, ◌≡◌, ◌<◌, ◌≤◌, ◌+◌, ◌∷◌, ◌++◌, ◌∙◌, [], ℕ, List, drop, refl, sym, subst}
 use Rattle.std.proofs.lemmas.List.{drop_all}
 use Rattle.sh_tree.specs.Tree.{text_of}
 use Rattle.sh_tree.specs.declared.tree.AndOr.{out-AndOr}
@@ -405,7 +405,7 @@ sweep::sweep_pipe-sweep_processes-requires t c =
     let y = walks.around s.script.now c.args.around.now in
     let k = knowledge_facts s.names.now c.args.known.now in
     let ps = (out-Pipe c.args.pipe.now).parts in
-    let long : nat_lt 1 (length ps) ≡ true = ap (λ cs. nat_lt 1 (length cs)) (sym c.as_slice-parts.ensures) ∙ c.if-parts.true in
+    let long : 1 < length ps = subst (λ cs. 1 < length cs) c.as_slice-parts.ensures c.if-parts-gt1.true in
     let placed : (k' : Facts) → ((q : Seen) → Knows s q k → Knows s (without_job q) k') → AreParts s F12 (entries.part_around true y) k' c.as_slice-parts.result.now =
     λ k' known. subst (AreParts s F12 (entries.part_around true y) k') (sym c.as_slice-parts.ensures) (long_placed s c.args.by y k k' c.args.pipe.now long known c.requires.placed) in
     search std_rules
@@ -416,7 +416,7 @@ sweep::sweep_pipe-sweep_parts-requires t c =
     let y = walks.around s.script.now c.args.around.now in
     let k = knowledge_facts s.names.now c.args.known.now in
     let ps = (out-Pipe c.args.pipe.now).parts in
-    let short : nat_lt 1 (length ps) ≡ false = ap (λ cs. nat_lt 1 (length cs)) (sym c.as_slice-parts.ensures) ∙ c.if-parts.false in
+    let short : length ps ≤ 1 = subst (λ cs. length cs ≤ 1) c.as_slice-parts.ensures c.if-parts-gt1.false in
     let placed : AreParts s c.args.by y k c.as_slice-parts.result.now = subst (AreParts s c.args.by y k) (sym c.as_slice-parts.ensures) (short_placed s c.args.by y k c.args.pipe.now short c.requires.placed) in
     search std_rules
 

@@ -86,151 +86,157 @@ invariant-words::pass_operands-loop-link l = record {
 -- Each level that is gone into takes one of the levels, and within a level each call is a step further in.
 
 abbrev pub decreases-sweep::sweep_simple : goal.decreases-sweep::sweep_simple
-decreases-sweep::sweep_simple l = l.levels * 32 + 20
+decreases-sweep::sweep_simple l = l.levels * 64 + 40
 
 abbrev pub decreases-sweep::sweep_compound : goal.decreases-sweep::sweep_compound
-decreases-sweep::sweep_compound l = l.levels * 32 + 20
+decreases-sweep::sweep_compound l = l.levels * 64 + 40
 
 abbrev pub decreases-sweep::sweep_held : goal.decreases-sweep::sweep_held
-decreases-sweep::sweep_held l = l.levels * 32 + 19
+decreases-sweep::sweep_held l = l.levels * 64 + 38
 
 abbrev pub decreases-sweep::sweep_inside : goal.decreases-sweep::sweep_inside
-decreases-sweep::sweep_inside l = l.levels * 32 + 18
+decreases-sweep::sweep_inside l = l.levels * 64 + 36
 
 abbrev pub decreases-sweep::sweep_kind : goal.decreases-sweep::sweep_kind
-decreases-sweep::sweep_kind l = l.levels * 32 + 17
+decreases-sweep::sweep_kind l = l.levels * 64 + 34
 
 abbrev pub decreases-sweep::sweep_conditional : goal.decreases-sweep::sweep_conditional
-decreases-sweep::sweep_conditional l = l.levels * 32 + 16
+decreases-sweep::sweep_conditional l = l.levels * 64 + 32
 
 abbrev pub decreases-sweep::sweep_iteration : goal.decreases-sweep::sweep_iteration
-decreases-sweep::sweep_iteration l = l.levels * 32 + 15
+decreases-sweep::sweep_iteration l = l.levels * 64 + 30
 
 abbrev pub decreases-sweep::sweep_cond : goal.decreases-sweep::sweep_cond
-decreases-sweep::sweep_cond l = l.levels * 32 + 14
+decreases-sweep::sweep_cond l = l.levels * 64 + 28
 
 abbrev pub decreases-sweep::sweep_case : goal.decreases-sweep::sweep_case
-decreases-sweep::sweep_case l = l.levels * 32 + 14
+decreases-sweep::sweep_case l = l.levels * 64 + 28
 
 abbrev pub decreases-sweep::sweep_clauses : goal.decreases-sweep::sweep_clauses
-decreases-sweep::sweep_clauses l = l.levels * 32 + 13
+decreases-sweep::sweep_clauses l = l.levels * 64 + 26
 
 abbrev pub decreases-sweep::sweep_loop : goal.decreases-sweep::sweep_loop
-decreases-sweep::sweep_loop l = l.levels * 32 + 13
+decreases-sweep::sweep_loop l = l.levels * 64 + 26
 
 abbrev pub decreases-sweep::sweep_for : goal.decreases-sweep::sweep_for
-decreases-sweep::sweep_for l = l.levels * 32 + 13
+decreases-sweep::sweep_for l = l.levels * 64 + 26
 
 abbrev pub decreases-sweep::sweep_subshell : goal.decreases-sweep::sweep_subshell
-decreases-sweep::sweep_subshell l = l.levels * 32 + 13
+decreases-sweep::sweep_subshell l = l.levels * 64 + 26
 
 abbrev pub decreases-sweep::sweep_definition : goal.decreases-sweep::sweep_definition
-decreases-sweep::sweep_definition l = l.levels * 32 + 13
+decreases-sweep::sweep_definition l = l.levels * 64 + 26
 
 abbrev pub decreases-words::open_part : goal.decreases-words::open_part
-decreases-words::open_part l = l.levels * 32 + 12
+decreases-words::open_part l = l.levels * 64 + 24
 
 abbrev pub decreases-sweep::sweep_clause : goal.decreases-sweep::sweep_clause
-decreases-sweep::sweep_clause l = l.levels * 32 + 12
+decreases-sweep::sweep_clause l = l.levels * 64 + 24
 
 abbrev pub decreases-sweep::sweep_branches : goal.decreases-sweep::sweep_branches
-decreases-sweep::sweep_branches l = l.levels * 32 + 12
+decreases-sweep::sweep_branches l = l.levels * 64 + 24
 
 abbrev pub decreases-words::sweep_substitution : goal.decreases-words::sweep_substitution
-decreases-words::sweep_substitution l = l.levels * 32 + 11
+decreases-words::sweep_substitution l = l.levels * 64 + 22
 
 abbrev pub decreases-sweep::sweep_body : goal.decreases-sweep::sweep_body
-decreases-sweep::sweep_body l = l.levels * 32 + 11
+decreases-sweep::sweep_body l = l.levels * 64 + 22
 
 abbrev pub decreases-sweep::sweep_branch : goal.decreases-sweep::sweep_branch
-decreases-sweep::sweep_branch l = l.levels * 32 + 11
+decreases-sweep::sweep_branch l = l.levels * 64 + 22
 
 abbrev pub decreases-sweep::sweep_list : goal.decreases-sweep::sweep_list
-decreases-sweep::sweep_list l = l.levels * 32 + 10
+decreases-sweep::sweep_list l = l.levels * 64 + 20
 
 abbrev pub decreases-sweep::sweep_items : goal.decreases-sweep::sweep_items
-decreases-sweep::sweep_items l = l.levels * 32 + 9
+decreases-sweep::sweep_items l = l.levels * 64 + 18
 
 abbrev pub decreases-sweep::sweep_item : goal.decreases-sweep::sweep_item
-decreases-sweep::sweep_item l = l.levels * 32 + 8
+decreases-sweep::sweep_item l = l.levels * 64 + 16
 
 abbrev pub decreases-words::sweep_elements : goal.decreases-words::sweep_elements
-decreases-words::sweep_elements l = l.levels * 32 + 7
+decreases-words::sweep_elements l = l.levels * 64 + 14
 
 abbrev pub decreases-words::sweep_redirections : goal.decreases-words::sweep_redirections
-decreases-words::sweep_redirections l = l.levels * 32 + 7
+decreases-words::sweep_redirections l = l.levels * 64 + 14
 
 abbrev pub decreases-sweep::enter_item : goal.decreases-sweep::enter_item
-decreases-sweep::enter_item l = l.levels * 32 + 7
+decreases-sweep::enter_item l = l.levels * 64 + 14
+
+abbrev pub decreases-sweep::enter_process : goal.decreases-sweep::enter_process
+decreases-sweep::enter_process l = l.levels * 64 + 13
+
+abbrev pub decreases-sweep::sweep_processes : goal.decreases-sweep::sweep_processes
+decreases-sweep::sweep_processes l = l.levels * 64 + 5
 
 abbrev pub decreases-words::sweep_element : goal.decreases-words::sweep_element
-decreases-words::sweep_element l = l.levels * 32 + 6
+decreases-words::sweep_element l = l.levels * 64 + 12
 
 abbrev pub decreases-words::sweep_redirects : goal.decreases-words::sweep_redirects
-decreases-words::sweep_redirects l = l.levels * 32 + 6
+decreases-words::sweep_redirects l = l.levels * 64 + 12
 
 abbrev pub decreases-words::sweep_for_words : goal.decreases-words::sweep_for_words
-decreases-words::sweep_for_words l = l.levels * 32 + 6
+decreases-words::sweep_for_words l = l.levels * 64 + 12
 
 abbrev pub decreases-sweep::sweep_and_or : goal.decreases-sweep::sweep_and_or
-decreases-sweep::sweep_and_or l = l.levels * 32 + 6
+decreases-sweep::sweep_and_or l = l.levels * 64 + 12
 
 abbrev pub decreases-words::pass_operator : goal.decreases-words::pass_operator
-decreases-words::pass_operator l = l.levels * 32 + 5
+decreases-words::pass_operator l = l.levels * 64 + 10
 
 abbrev pub decreases-words::pass_target : goal.decreases-words::pass_target
-decreases-words::pass_target l = l.levels * 32 + 5
+decreases-words::pass_target l = l.levels * 64 + 10
 
 abbrev pub decreases-words::sweep_words : goal.decreases-words::sweep_words
-decreases-words::sweep_words l = l.levels * 32 + 5
+decreases-words::sweep_words l = l.levels * 64 + 10
 
 abbrev pub decreases-sweep::sweep_links : goal.decreases-sweep::sweep_links
-decreases-sweep::sweep_links l = l.levels * 32 + 5
+decreases-sweep::sweep_links l = l.levels * 64 + 10
 
 abbrev pub decreases-words::pass_word : goal.decreases-words::pass_word
-decreases-words::pass_word l = l.levels * 32 + 4
+decreases-words::pass_word l = l.levels * 64 + 8
 
 abbrev pub decreases-words::sweep_patterns : goal.decreases-words::sweep_patterns
-decreases-words::sweep_patterns l = l.levels * 32 + 4
+decreases-words::sweep_patterns l = l.levels * 64 + 8
 
 abbrev pub decreases-words::pass_action : goal.decreases-words::pass_action
-decreases-words::pass_action l = l.levels * 32 + 4
+decreases-words::pass_action l = l.levels * 64 + 8
 
 abbrev pub decreases-words::open_expression : goal.decreases-words::open_expression
-decreases-words::open_expression l = l.levels * 32 + 4
+decreases-words::open_expression l = l.levels * 64 + 8
 
 abbrev pub decreases-sweep::sweep_link : goal.decreases-sweep::sweep_link
-decreases-sweep::sweep_link l = l.levels * 32 + 4
+decreases-sweep::sweep_link l = l.levels * 64 + 8
 
 abbrev pub decreases-words::pass_chain : goal.decreases-words::pass_chain
-decreases-words::pass_chain l = l.levels * 32 + 3
+decreases-words::pass_chain l = l.levels * 64 + 6
 
 abbrev pub decreases-words::sweep_word : goal.decreases-words::sweep_word
-decreases-words::sweep_word l = l.levels * 32 + 3
+decreases-words::sweep_word l = l.levels * 64 + 6
 
 abbrev pub decreases-sweep::sweep_pipe : goal.decreases-sweep::sweep_pipe
-decreases-sweep::sweep_pipe l = l.levels * 32 + 3
+decreases-sweep::sweep_pipe l = l.levels * 64 + 6
 
 abbrev pub decreases-words::pass_parts : goal.decreases-words::pass_parts
-decreases-words::pass_parts l = l.levels * 32 + 2
+decreases-words::pass_parts l = l.levels * 64 + 4
 
 abbrev pub decreases-words::pass_operands : goal.decreases-words::pass_operands
-decreases-words::pass_operands l = l.levels * 32 + 2
+decreases-words::pass_operands l = l.levels * 64 + 4
 
 abbrev pub decreases-words::pass_choice : goal.decreases-words::pass_choice
-decreases-words::pass_choice l = l.levels * 32 + 2
+decreases-words::pass_choice l = l.levels * 64 + 4
 
 abbrev pub decreases-words::pass_arithmetic : goal.decreases-words::pass_arithmetic
-decreases-words::pass_arithmetic l = l.levels * 32 + 2
+decreases-words::pass_arithmetic l = l.levels * 64 + 4
 
 abbrev pub decreases-sweep::sweep_parts : goal.decreases-sweep::sweep_parts
-decreases-sweep::sweep_parts l = l.levels * 32 + 2
+decreases-sweep::sweep_parts l = l.levels * 64 + 4
 
 abbrev pub decreases-words::pass_part : goal.decreases-words::pass_part
-decreases-words::pass_part l = l.levels * 32 + 1
+decreases-words::pass_part l = l.levels * 64 + 2
 
 abbrev pub decreases-words::pass_expression : goal.decreases-words::pass_expression
-decreases-words::pass_expression l = l.levels * 32 + 1
+decreases-words::pass_expression l = l.levels * 64 + 2
 
 abbrev pub decreases-sweep::sweep_command : goal.decreases-sweep::sweep_command
-decreases-sweep::sweep_command l = l.levels * 32 + 1
+decreases-sweep::sweep_command l = l.levels * 64 + 2

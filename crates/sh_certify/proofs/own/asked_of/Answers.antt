@@ -10,11 +10,11 @@ use Rattle.sh_certify.proofs.PlacedLemmas.{own_part}
 use Rattle.sh_certify.proofs.TurnLemmas.{new_numbers, new_stands}
 use Rattle.sh_certify.proofs.own.asked_of.Goals as goal
 
-pub visit-requires-clause-sized : goal.visit-requires-clause-sized
-visit-requires-clause-sized c = c.requires.ready.1.working.count
+pub tell-requires-clause-sized : goal.tell-requires-clause-sized
+tell-requires-clause-sized c = c.requires.ready.1.working.count
 
-pub visit-requires-clause-admitted : goal.visit-requires-clause-admitted
-visit-requires-clause-admitted c = c.requires.ready.1.admitted
+pub tell-requires-clause-admitted : goal.tell-requires-clause-admitted
+tell-requires-clause-admitted c = c.requires.ready.1.admitted
 
 pub returns-clause-numbers : goal.returns-clause-numbers
 unfolding facts_in
@@ -23,7 +23,7 @@ returns-clause-numbers c =
     let y = walks.around s.script.now c.args.around.now in
     let k = knowledge_facts s.names.now c.args.known.now in
     let e : Entered = record { command = trees.command_of s.script.now c.args.command.now; rule = c.args.by; around = y; seen = c.requires.placed.seen } in
-    subst (AreNumbers (length s.names.now)) (sym c.visit.ensures)
+    subst (AreNumbers (length s.names.now)) (sym c.tell.ensures)
     (one_numbers s c.requires.ready.1.admitted e (own_part s c.args.by y k c.args.command.now c.requires.placed) c.args.certificate.now k (gathered_of c.new-gather.result)
     (new_numbers c.args.target c.new-gather.result c.new-gather.ensures (length s.names.now)))
 
@@ -34,6 +34,6 @@ returns-clause-stands c = λ other keeps.
     let y = walks.around s.script.now c.args.around.now in
     let k = knowledge_facts s.names.now c.args.known.now in
     let e : Entered = record { command = trees.command_of s.script.now c.args.command.now; rule = c.args.by; around = y; seen = c.requires.placed.seen } in
-    subst (Stands s.names.now other) (sym c.visit.ensures)
+    subst (Stands s.names.now other) (sym c.tell.ensures)
     (one_stands s c.requires.ready.1.admitted e (own_part s c.args.by y k c.args.command.now c.requires.placed) c.args.certificate.now k (gathered_of c.new-gather.result) c.requires.ready.1.over c.requires.placed.knows other keeps
     (new_stands c.args.target c.new-gather.result c.new-gather.ensures s.names.now other))

@@ -3,4 +3,4 @@ use Rattle.sh_certify.proofs.LowerLemmas.{nowhere_stays}
 use Rattle.sh_certify.proofs.turn.lower_known.Goals as goal
 
 pub returns-in-None-clause-idle : goal.returns-in-None-clause-idle
-returns-in-None-clause-idle c = λ e. nowhere_stays c.args.certificate.now c.args.place c.args.known (sets_in c.args.writable.now.vars c.args.writable.now.functions) c.in-None.is
+returns-in-None-clause-idle c = λ e. nowhere_stays c.args.certificate.now c.args.place c.args.known.now (sets_in c.args.writable.now.vars c.args.writable.now.functions) c.in-None.is
