@@ -137,7 +137,9 @@ fn are_met(alloc: Global, names: &Names, first: Model, second: Model) -> Result<
     let others = facts_of(alloc, &mut certificate, second)?;
     let mut known = Knowledge::claimed(&certificate.rows, &facts);
     let other = Knowledge::claimed(&certificate.rows, &others);
-    let is_claimed = agrees(names, &known, first) && agrees(names, &other, second);
+    let mut over = other;
+    over.claim(&certificate.rows, &facts);
+    let is_claimed = agrees(names, &known, first) && agrees(names, &other, second) && over == known;
     let wanted = is_within(names.count(), second, first) && second.args <= first.args;
     let is_compared = known.includes(&certificate.rows, &others) == wanted;
     known.meet(&other);

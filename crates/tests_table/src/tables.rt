@@ -8,7 +8,7 @@ use std::test::Fail;
 
 const SCRIPT: &[u8] = b"f() { g a; }; g() { :; }; f 'b'; f() { x$y; }; set; set() { :; }; a";
 
-/// Whether the function of a number has the name, and these commands define it.
+/// Whether the function of a number has the name, is found by it, and these commands define it.
 fn has_function(table: &CallTable, number: u32, name: &[u8], definitions: &[u32]) -> bool {
     let functions = table.functions();
     if number == 0 || number as usize > functions.len() {
@@ -16,7 +16,8 @@ fn has_function(table: &CallTable, number: u32, name: &[u8], definitions: &[u32]
     }
     let named = functions[number as usize - 1].as_slice() == name;
     let defined = table.definitions(number) == definitions;
-    named && defined
+    let placed = table.function_place(name) == Some(number as usize - 1);
+    named && defined && placed
 }
 
 #[test]
@@ -28,6 +29,7 @@ fn functions(rt: HostRuntime) -> Result<(), Fail> {
     assert!(rt; has_function(&table, 1, b"f", &[1, 8]));
     assert!(rt; has_function(&table, 2, b"g", &[4]));
     assert!(rt; has_function(&table, 3, b"set", &[12]));
+    assert!(rt; table.function_place(b"a").is_none());
     Ok(())
 }
 
