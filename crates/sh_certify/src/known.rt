@@ -4,7 +4,7 @@ ghost use Rattle.sh_tree.specs.Tree.{text_of};
 ghost use Rattle.sh_tree.specs.declared.tree.Command.{out-Command};
 ghost use Rattle.sh_tree.specs.program.Lists.{elements_from, parts_from, redirects_from};
 ghost use Rattle.sh_tree.specs.program.Trees as trees;
-ghost use Rattle.sh_facts.specs.Entries.{behind_redirects, item_seen, link_seen, linked, operand_seen, pipeline_after};
+ghost use Rattle.sh_facts.specs.Entries.{behind_redirects, link_seen, linked, operand_seen, pipeline_after};
 ghost use Rattle.sh_facts.specs.Gains.{assigned_in, named, redirects_gains, word_gains};
 ghost use Rattle.sh_facts.specs.Knowledge.{knowledge_facts};
 ghost use Rattle.sh_facts.specs.Table.{behind_words};
@@ -19,7 +19,7 @@ use sh_check::own::gain_operands;
 use sh_facts::certificate::Certificate;
 use sh_facts::knowledge::Knowledge;
 use sh_facts::rule::FlowRule;
-use sh_rules::behind::{Behind, pipe_behind, started};
+use sh_rules::behind::{Behind, pipe_behind, without_job};
 use sh_rules::claims::Claims;
 use sh_rules::gains::{
     enter_operator, gain_action, gain_assigned, gain_redirects, gain_variable, gain_word,
@@ -81,18 +81,13 @@ pub fn process_of(subject: &Subject<'_>, certificate: &Certificate, number: u32)
     ensures { Knows subject.now (views.without_job (at (views.Before number))) (knowledge_facts subject.now.names.now result) }
 {
     let outside = before_of(subject, certificate, number);
-    started_in(subject, certificate, true, &outside)
+    started_in(subject, certificate, &outside)
 }
 
-/// Where a process may be started.
-pub fn started_in(
-    subject: &Subject<'_>,
-    certificate: &Certificate,
-    is_started: bool,
-    known: &Knowledge,
-) -> Knowledge
+/// In a process that is started.
+pub fn started_in(subject: &Subject<'_>, certificate: &Certificate, known: &Knowledge) -> Knowledge
     requires { (probed : ℕ) × IsReady subject.now certificate.now probed }
-    ensures { (q : Seen) → Knows subject.now q (knowledge_facts subject.now.names.now known.now) → Knows subject.now (item_seen is_started q) (knowledge_facts subject.now.names.now result) }
+    ensures { (q : Seen) → Knows subject.now q (knowledge_facts subject.now.names.now known.now) → Knows subject.now (views.without_job q) (knowledge_facts subject.now.names.now result) }
 {
     let claims = Claims {
         script: subject.script,
@@ -100,7 +95,7 @@ pub fn started_in(
         calls: subject.table,
         certificate,
     };
-    started(&claims, is_started, known)
+    without_job(&claims, known)
 }
 
 /// Behind a pipeline.

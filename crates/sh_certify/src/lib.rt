@@ -3,6 +3,7 @@
 
 pub mod asked;
 pub mod before;
+pub mod choices;
 pub mod draft;
 pub mod find;
 pub mod first;

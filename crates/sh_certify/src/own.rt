@@ -6,7 +6,6 @@ ghost use Rattle.sh_rules.specs.Steps.{met_in};
 ghost use Rattle.sh_rules.specs.Visits.{command_by};
 ghost use Rattle.sh_rules.specs.Walks as walks;
 ghost use Rattle.sh_accept.specs.Accepted.{IsAdmitted};
-ghost use Rattle.sh_certify.specs.Gathering.{gathering};
 ghost use Rattle.sh_certify.specs.Sides.{AreNumbersBeside, StandsBeside, sided_of};
 ghost use Rattle.sh_certify.specs.Sweeps.{IsCommand, IsReady, IsSwept, Keeps, setting_by};
 ghost use Rattle.sh_certify.specs.Turns.{AreNumbers, Stands, gathered_of};

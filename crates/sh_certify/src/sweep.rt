@@ -1,25 +1,23 @@
 //! A sweep of the search over the commands of a list: each command is lowered where the sweep comes to it, before those behind it (XCU 2.9).
-ghost use Rattle.std.specs.Prelude.{◌≡◌, ◌∷◌, ◌++◌, [], ℕ, List, true, IfOk};
+ghost use Rattle.std.specs.Prelude.{◌∷◌, ℕ, List, true, IfOk};
 ghost use Rattle.sh_tree.specs.Tree.{text_of};
-ghost use Rattle.sh_tree.specs.declared.tree.Branch as if_branch;
-ghost use Rattle.sh_tree.specs.declared.tree.Clause as case_clause;
 ghost use Rattle.sh_tree.specs.declared.tree.Item as tree;
 ghost use Rattle.sh_tree.specs.declared.tree.Link as list_link;
 ghost use Rattle.sh_tree.specs.declared.tree.Pipe as pipeline;
-ghost use Rattle.sh_tree.specs.program.Lists.{branches_from, clauses_from, for_words_from, items_from, otherwise_from, parts_from};
+ghost use Rattle.sh_tree.specs.program.Lists.{items_from};
 ghost use Rattle.sh_tree.specs.program.Syntax as p;
 ghost use Rattle.sh_tree.specs.program.Trees as trees;
 ghost use Rattle.sh_facts.specs.declared.rule.FlowRule.TheVariants.{F11, F12};
 ghost use Rattle.sh_facts.specs.Entries as entries;
-ghost use Rattle.sh_facts.specs.Entries.{clauses_entered, items_after, kind_entered, part_around, word_entered};
-ghost use Rattle.sh_facts.specs.Facts.{Facts, NotReached};
-ghost use Rattle.sh_facts.specs.Gains.{word_gains};
+ghost use Rattle.sh_facts.specs.Entries.{items_after, kind_entered, part_around};
+ghost use Rattle.sh_facts.specs.Facts.{Facts};
 ghost use Rattle.sh_facts.specs.Knowledge.{knowledge_facts};
-ghost use Rattle.sh_facts.specs.Views.{After, Seen, gaining, without_job};
+ghost use Rattle.sh_facts.specs.Views.{After, Seen, without_job};
 ghost use Rattle.sh_rules.specs.Walks as walks;
-ghost use Rattle.sh_certify.specs.Sweeps.{AreBranches, AreClauses, AreItems, AreLinks, AreParts, IsAndOr, IsCommand, IsIn, IsInside, IsKind, IsList, IsPart, IsPassed, IsPipe, IsReady, IsSwept, Knows, KnowsBehind, known_behind};
+ghost use Rattle.sh_certify.specs.Sweeps.{AreItems, AreLinks, AreParts, IsAndOr, IsCommand, IsInside, IsKind, IsList, IsPart, IsPassed, IsPipe, IsReady, IsSwept, Knows, KnowsBehind, known_behind};
 
 use crate::before::lower_before;
+use crate::choices::{sweep_case, sweep_cond};
 use crate::draft::Draft;
 use crate::inner::is_in_elements;
 use crate::known::{
@@ -27,17 +25,13 @@ use crate::known::{
 };
 use crate::own::{lower_behind, lower_command, lower_head};
 use crate::subject::Subject;
-use crate::words::{
-    pass_word, sweep_elements, sweep_for_words, sweep_patterns, sweep_redirections,
-};
+use crate::words::{sweep_elements, sweep_for_words, sweep_redirections};
 use sh_facts::knowledge::Knowledge;
 use sh_facts::rule::FlowRule;
 use sh_rules::around::{Around, alone, in_function};
-use sh_rules::behind::{Behind, met};
+use sh_rules::behind::Behind;
 use sh_rules::walk::{Course, begun};
-use sh_tree::tree::{
-    AndOr, Branch, Clause, Command, Item, Kind, Link, LoopKind, Pipe, Script, Span, Word,
-};
+use sh_tree::tree::{AndOr, Command, Item, Kind, Link, LoopKind, Pipe, Script, Span};
 use std::alloc::AllocError;
 
 /// How many levels are gone into: of commands, of parts of words, and of expressions in arithmetic. No script that is read has more, since of 64
@@ -128,7 +122,7 @@ fn enter_process(
     requires placed { (k : Facts) → ((q : Seen) → Knows subject.now q (knowledge_facts subject.now.names.now known.now) → Knows subject.now (without_job q) k) → IsAndOr subject.now F11 entries.alone k list.now }
     ensures swept { IfOk result (λ unit. IsSwept subject.now draft.old.certificate draft.new.certificate draft.new.probe.count) }
 {
-    let inside = started_in(subject, &draft.certificate, true, known);
+    let inside = started_in(subject, &draft.certificate, known);
     let outside = alone();
     sweep_and_or(
         subject,
@@ -255,7 +249,7 @@ fn sweep_processes(
     ensures swept { IfOk result (λ unit. IsSwept subject.now draft.old.certificate draft.new.certificate draft.new.probe.count) }
 {
     let inner = around.round_parts(true);
-    let seen = started_in(subject, &draft.certificate, true, known);
+    let seen = started_in(subject, &draft.certificate, known);
     sweep_parts(subject, draft, levels, FlowRule::F12, &inner, &seen, parts)
 }
 
@@ -621,192 +615,6 @@ fn sweep_for(
     let inner = (&*around).in_loop(number);
     let turn = turn_of(subject, &draft.certificate, number, name);
     sweep_list(subject, draft, levels, &inner, FlowRule::F8, &turn, body)
-}
-
-#[cycle(sweep)]
-fn sweep_cond(
-    subject: &Subject<'_>,
-    draft: &mut Draft,
-    levels: u32,
-    around: &Around<'_>,
-    known: &Knowledge,
-    branches: &[Branch],
-    otherwise: &Option<Script>,
-) -> Result<(), AllocError>
-    requires ready { IsReady subject.now draft.old.certificate draft.old.probe.count }
-    requires placed { AreBranches subject.now (walks.around subject.now.script.now around.now) (knowledge_facts subject.now.names.now known.now)
-        (branches_from subject.now.script.now branches.now) (otherwise_from subject.now.script.now otherwise.now) }
-    ensures swept { IfOk result (λ unit. IsSwept subject.now draft.old.certificate draft.new.certificate draft.new.probe.count) }
-{
-    let mut left = *known;
-    sweep_branches(
-        subject, draft, levels, around, &mut left, branches, otherwise,
-    )?;
-    match otherwise {
-        None => Ok(()),
-        Some(list) => sweep_list(subject, draft, levels, around, FlowRule::F6, &left, list),
-    }
-}
-
-// Lowers the certificate at the branches; what is known behind the last condition, where it was not zero, is left for `else`.
-#[cycle(sweep)]
-fn sweep_branches(
-    subject: &Subject<'_>,
-    draft: &mut Draft,
-    levels: u32,
-    around: &Around<'_>,
-    known: &mut Knowledge,
-    branches: &[Branch],
-    otherwise: &Option<Script>,
-) -> Result<(), AllocError>
-    requires ready { IsReady subject.now draft.old.certificate draft.old.probe.count }
-    requires placed { AreBranches subject.now (walks.around subject.now.script.now around.now) (knowledge_facts subject.now.names.now known.old)
-        (branches_from subject.now.script.now branches.now) (otherwise_from subject.now.script.now otherwise.now) }
-    ensures swept { IfOk result (λ unit. IsSwept subject.now draft.old.certificate draft.new.certificate draft.new.probe.count) }
-    ensures left { IfOk result (λ unit. AreBranches subject.now (walks.around subject.now.script.now around.now) (knowledge_facts subject.now.names.now known.new)
-        (branches_from subject.now.script.now []) (otherwise_from subject.now.script.now otherwise.now)) }
-{
-    for branch in branches {
-        sweep_branch(subject, draft, levels, around, known, branch)?;
-    }
-    Ok(())
-}
-
-#[cycle(sweep)]
-fn sweep_branch(
-    subject: &Subject<'_>,
-    draft: &mut Draft,
-    levels: u32,
-    around: &Around<'_>,
-    known: &mut Knowledge,
-    branch: &Branch,
-) -> Result<(), AllocError>
-    requires ready { IsReady subject.now draft.old.certificate draft.old.probe.count }
-    requires placed { (others : List if_branch.Branch) × (z : p.Otherwise) × AreBranches subject.now (walks.around subject.now.script.now around.now) (knowledge_facts subject.now.names.now known.old)
-        (branches_from subject.now.script.now (branch.now ∷ others)) z }
-    ensures swept { IfOk result (λ unit. IsSwept subject.now draft.old.certificate draft.new.certificate draft.new.probe.count) }
-    ensures passed { IfOk result (λ unit. (others : List if_branch.Branch) (z : p.Otherwise)
-        → AreBranches subject.now (walks.around subject.now.script.now around.now) (knowledge_facts subject.now.names.now known.old) (branches_from subject.now.script.now (branch.now ∷ others)) z
-        → AreBranches subject.now (walks.around subject.now.script.now around.now) (knowledge_facts subject.now.names.now known.new) (branches_from subject.now.script.now others) z) }
-{
-    let mut course = begun(FlowRule::F6, &*known);
-    sweep_items(
-        subject,
-        draft,
-        levels,
-        around,
-        &mut course,
-        branch.condition.items.as_slice(),
-    )?;
-    let zero = course.behind.zero;
-    sweep_list(
-        subject,
-        draft,
-        levels,
-        around,
-        FlowRule::F6,
-        &zero,
-        &branch.body,
-    )?;
-    *known = course.behind.nonzero;
-    Ok(())
-}
-
-#[cycle(sweep)]
-fn sweep_case(
-    subject: &Subject<'_>,
-    draft: &mut Draft,
-    levels: u32,
-    around: &Around<'_>,
-    known: &Knowledge,
-    word: &Word,
-    clauses: &[Clause],
-) -> Result<(), AllocError>
-    requires ready { IsReady subject.now draft.old.certificate draft.old.probe.count }
-    requires placed { IsIn subject.now (λ q. word_entered q (parts_from subject.now.script.now word.now.parts)
-        ++ clauses_entered (walks.around subject.now.script.now around.now) (gaining (word_gains (parts_from subject.now.script.now word.now.parts)) q) [] (clauses_from subject.now.script.now clauses.now))
-        (knowledge_facts subject.now.names.now known.now) }
-    ensures swept { IfOk result (λ unit. IsSwept subject.now draft.old.certificate draft.new.certificate draft.new.probe.count) }
-{
-    let mut behind = *known;
-    pass_word(subject, draft, levels, &mut behind, word)?;
-    sweep_clauses(subject, draft, levels, around, &behind, clauses)
-}
-
-#[cycle(sweep)]
-fn sweep_clauses(
-    subject: &Subject<'_>,
-    draft: &mut Draft,
-    levels: u32,
-    around: &Around<'_>,
-    behind: &Knowledge,
-    clauses: &[Clause],
-) -> Result<(), AllocError>
-    requires ready { IsReady subject.now draft.old.certificate draft.old.probe.count }
-    requires placed { AreClauses subject.now (walks.around subject.now.script.now around.now) (knowledge_facts subject.now.names.now behind.now)
-        NotReached (clauses_from subject.now.script.now clauses.now) }
-    ensures swept { IfOk result (λ unit. IsSwept subject.now draft.old.certificate draft.new.certificate draft.new.probe.count) }
-{
-    let mut fallen = Knowledge::NotReached;
-    for clause in clauses {
-        sweep_clause(subject, draft, levels, around, behind, &mut fallen, clause)?;
-    }
-    Ok(())
-}
-
-#[cycle(sweep)]
-fn sweep_clause(
-    subject: &Subject<'_>,
-    draft: &mut Draft,
-    levels: u32,
-    around: &Around<'_>,
-    behind: &Knowledge,
-    fallen: &mut Knowledge,
-    clause: &Clause,
-) -> Result<(), AllocError>
-    requires ready { IsReady subject.now draft.old.certificate draft.old.probe.count }
-    requires placed { (others : List case_clause.Clause) × AreClauses subject.now (walks.around subject.now.script.now around.now) (knowledge_facts subject.now.names.now behind.now)
-        (knowledge_facts subject.now.names.now fallen.old) (clauses_from subject.now.script.now (clause.now ∷ others)) }
-    ensures swept { IfOk result (λ unit. IsSwept subject.now draft.old.certificate draft.new.certificate draft.new.probe.count) }
-    ensures passed { IfOk result (λ unit. (others : List case_clause.Clause)
-        → AreClauses subject.now (walks.around subject.now.script.now around.now) (knowledge_facts subject.now.names.now behind.now) (knowledge_facts subject.now.names.now fallen.old) (clauses_from subject.now.script.now (clause.now ∷ others))
-        → AreClauses subject.now (walks.around subject.now.script.now around.now) (knowledge_facts subject.now.names.now behind.now) (knowledge_facts subject.now.names.now fallen.new) (clauses_from subject.now.script.now others)) }
-{
-    sweep_patterns(subject, draft, levels, behind, clause.patterns.as_slice())?;
-    sweep_body(subject, draft, levels, around, behind, fallen, clause)
-}
-
-// Lowers the certificate at the list of a clause, and goes on behind it.
-#[cycle(sweep)]
-fn sweep_body(
-    subject: &Subject<'_>,
-    draft: &mut Draft,
-    levels: u32,
-    around: &Around<'_>,
-    behind: &Knowledge,
-    fallen: &mut Knowledge,
-    clause: &Clause,
-) -> Result<(), AllocError>
-    requires ready { IsReady subject.now draft.old.certificate draft.old.probe.count }
-    requires placed { (others : List case_clause.Clause) × AreClauses subject.now (walks.around subject.now.script.now around.now) (knowledge_facts subject.now.names.now behind.now)
-        (knowledge_facts subject.now.names.now fallen.old) (clauses_from subject.now.script.now (clause.now ∷ others)) }
-    ensures swept { IfOk result (λ unit. IsSwept subject.now draft.old.certificate draft.new.certificate draft.new.probe.count) }
-    ensures passed { IfOk result (λ unit. (others : List case_clause.Clause)
-        → AreClauses subject.now (walks.around subject.now.script.now around.now) (knowledge_facts subject.now.names.now behind.now) (knowledge_facts subject.now.names.now fallen.old) (clauses_from subject.now.script.now (clause.now ∷ others))
-        → AreClauses subject.now (walks.around subject.now.script.now around.now) (knowledge_facts subject.now.names.now behind.now) (knowledge_facts subject.now.names.now fallen.new) (clauses_from subject.now.script.now others)) }
-{
-    let known = met(behind, &*fallen);
-    let mut course = begun(FlowRule::F9, &known);
-    sweep_items(
-        subject,
-        draft,
-        levels,
-        around,
-        &mut course,
-        clause.body.items.as_slice(),
-    )?;
-    *fallen = course.behind.falling(clause.end);
-    Ok(())
 }
 
 /// Lowers a certificate command by command, each where the sweep comes to it, with what is known there then.

@@ -339,7 +339,7 @@ fn sweep_substitution(
     ensures swept { IfOk result (λ unit. IsSwept subject.now draft.old.certificate draft.new.certificate draft.new.probe.count) }
 {
     let outside = alone();
-    let seen = started_in(subject, &draft.certificate, true, known);
+    let seen = started_in(subject, &draft.certificate, known);
     sweep_list(subject, draft, levels, &outside, FlowRule::F11, &seen, list)
 }
 

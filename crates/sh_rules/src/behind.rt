@@ -56,18 +56,6 @@ pub fn without_job(claims: &Claims<'_>, known: &Knowledge) -> Knowledge
     left
 }
 
-/// What is known where a process may be started.
-#[tactic(auto, unfolding(crate::specs::Behind::started))]
-pub fn started(claims: &Claims<'_>, is_started: bool, known: &Knowledge) -> Knowledge
-    ensures { facts_in (setting claims.now) result ≡ spec.started (setting claims.now) is_started (facts_in (setting claims.now) known.now) }
-{
-    if is_started {
-        without_job(claims, known)
-    } else {
-        *known
-    }
-}
-
 impl Behind {
     /// Where no run comes.
     #[tactic(auto, unfolding(crate::specs::Walks::facts_in, sh_facts::specs::Knowledge::knowledge_facts))]

@@ -85,9 +85,9 @@ sweep::sweep_and_or-sweep_links-requires t c =
     (links_placed s c.args.by y (knowledge_facts s.names.now c.args.known.now) c.args.list.now (known_behind s c.behind_pipe-behind.result) c.behind_pipe-behind.ensures c.requires.placed) in
     search std_rules
 
-pub sweep::sweep_branch-sweep_items-requires : goal.sweep::sweep_branch-sweep_items-requires
+pub choices::sweep_branch-sweep_items-requires : goal.choices::sweep_branch-sweep_items-requires
 unfolding facts_in
-sweep::sweep_branch-sweep_items-requires t c =
+choices::sweep_branch-sweep_items-requires t c =
     let s = c.args.subject.now in
     let r = c.requires.ready in
     let y = walks.around s.script.now c.args.around.now in
@@ -98,9 +98,9 @@ sweep::sweep_branch-sweep_items-requires t c =
     begun_at s y k c.begun-course.result F6 (out-Branch c.args.branch.now).condition c.as_slice.result.now c.begun-course.ensures.by begun c.as_slice.ensures (branch_condition s y k c.args.branch.now w.0 w.1 w.2) in
     search std_rules
 
-pub sweep::sweep_branch-sweep_list-requires : goal.sweep::sweep_branch-sweep_list-requires
+pub choices::sweep_branch-sweep_list-requires : goal.choices::sweep_branch-sweep_list-requires
 unfolding facts_in
-sweep::sweep_branch-sweep_list-requires t c =
+choices::sweep_branch-sweep_list-requires t c =
     let s = c.args.subject.now in
     let r = c.requires.ready in
     let y = walks.around s.script.now c.args.around.now in
@@ -113,13 +113,13 @@ sweep::sweep_branch-sweep_list-requires t c =
     branch_body s y k _ c.args.branch.now w.0 w.1 (λ q w other keeps. (after q w other keeps).zero) w.2 in
     search std_rules
 
-pub sweep::sweep_branch-returns-clause-swept : goal.sweep::sweep_branch-returns-clause-swept
-sweep::sweep_branch-returns-clause-swept t c =
+pub choices::sweep_branch-returns-clause-swept : goal.choices::sweep_branch-returns-clause-swept
+choices::sweep_branch-returns-clause-swept t c =
     swept_more c.args.subject.now _ _ _ _ _ c.in_ok-sweep_items.ensures.swept c.in_ok-sweep_list.ensures.swept
 
-pub sweep::sweep_branch-returns-clause-passed : goal.sweep::sweep_branch-returns-clause-passed
+pub choices::sweep_branch-returns-clause-passed : goal.choices::sweep_branch-returns-clause-passed
 unfolding facts_in
-sweep::sweep_branch-returns-clause-passed t c =
+choices::sweep_branch-returns-clause-passed t c =
     λ others z here.
     let s = c.args.subject.now in
     let y = walks.around s.script.now c.args.around.now in
@@ -128,8 +128,8 @@ sweep::sweep_branch-returns-clause-passed t c =
     let after = known_after s k c.begun-course.result c.sweep_items.new.course (out-Branch c.args.branch.now).condition c.as_slice.result.now begun c.as_slice.ensures c.in_ok-sweep_items.ensures.behind in
     branches_next s y k _ c.args.branch.now others z (λ q w other keeps. (after q w other keeps).nonzero) here
 
-pub sweep::sweep_branches-sweep_branch-requires : goal.sweep::sweep_branches-sweep_branch-requires
-sweep::sweep_branches-sweep_branch-requires t c =
+pub choices::sweep_branches-sweep_branch-requires : goal.choices::sweep_branches-sweep_branch-requires
+choices::sweep_branches-sweep_branch-requires t c =
     let s = c.args.subject.now in
     let r = c.requires.ready in
     let y = walks.around s.script.now c.args.around.now in
@@ -138,22 +138,22 @@ sweep::sweep_branches-sweep_branch-requires t c =
     let placed : (others : List Branch) × (z : p.Otherwise) × AreBranches s y (knowledge_facts s.names.now c.loop-branch.known) (branches_from s.script.now (c.branch-item.result ∷ others)) z = (_, _, here) in
     search std_rules
 
-pub sweep::sweep_branches-loop-branch-preserved : goal.sweep::sweep_branches-loop-branch-preserved
-sweep::sweep_branches-loop-branch-preserved t c =
+pub choices::sweep_branches-loop-branch-preserved : goal.choices::sweep_branches-loop-branch-preserved
+choices::sweep_branches-loop-branch-preserved t c =
     let s = c.args.subject.now in
     let y = walks.around s.script.now c.args.around.now in
     let here : AreBranches s y (knowledge_facts s.names.now c.loop-branch.known) (branches_from s.script.now (c.branch-item.result ∷ drop (c.loop-branch.branch-index + 1) c.args.branches.now)) (otherwise_from s.script.now c.args.otherwise.now) = subst (λ bs. AreBranches s y (knowledge_facts s.names.now c.loop-branch.known) (branches_from s.script.now bs) (otherwise_from s.script.now c.args.otherwise.now)) (at_index c.args.branches.now c.loop-branch.branch-index c.branch-item.result c.loop-branch-test.true c.branch-item.is) c.loop-branch.invariant.placed in
     record { swept = swept_more s _ _ _ _ _ c.loop-branch.invariant.swept c.in_ok-sweep_branch.ensures.swept; placed = c.in_ok-sweep_branch.ensures.passed _ _ here }
 
-pub sweep::sweep_clauses-loop-clause-init : goal.sweep::sweep_clauses-loop-clause-init
+pub choices::sweep_clauses-loop-clause-init : goal.choices::sweep_clauses-loop-clause-init
 unfolding knowledge_facts
-sweep::sweep_clauses-loop-clause-init t c =
+choices::sweep_clauses-loop-clause-init t c =
     let s = c.args.subject.now in
     let r = c.requires.ready in
     record { swept = swept_none s _ _ r; placed = c.requires.placed }
 
-pub sweep::sweep_clauses-sweep_clause-requires : goal.sweep::sweep_clauses-sweep_clause-requires
-sweep::sweep_clauses-sweep_clause-requires t c =
+pub choices::sweep_clauses-sweep_clause-requires : goal.choices::sweep_clauses-sweep_clause-requires
+choices::sweep_clauses-sweep_clause-requires t c =
     let s = c.args.subject.now in
     let r = c.requires.ready in
     let y = walks.around s.script.now c.args.around.now in
@@ -162,16 +162,16 @@ sweep::sweep_clauses-sweep_clause-requires t c =
     let placed : (others : List Clause) × AreClauses s y (knowledge_facts s.names.now c.args.behind.now) (knowledge_facts s.names.now c.loop-clause.fallen) (clauses_from s.script.now (c.clause-item.result ∷ others)) = (_, here) in
     search std_rules
 
-pub sweep::sweep_clauses-loop-clause-preserved : goal.sweep::sweep_clauses-loop-clause-preserved
-sweep::sweep_clauses-loop-clause-preserved t c =
+pub choices::sweep_clauses-loop-clause-preserved : goal.choices::sweep_clauses-loop-clause-preserved
+choices::sweep_clauses-loop-clause-preserved t c =
     let s = c.args.subject.now in
     let y = walks.around s.script.now c.args.around.now in
     let here : AreClauses s y (knowledge_facts s.names.now c.args.behind.now) (knowledge_facts s.names.now c.loop-clause.fallen) (clauses_from s.script.now (c.clause-item.result ∷ drop (c.loop-clause.clause-index + 1) c.args.clauses.now)) = subst (λ cs. AreClauses s y (knowledge_facts s.names.now c.args.behind.now) (knowledge_facts s.names.now c.loop-clause.fallen) (clauses_from s.script.now cs)) (at_index c.args.clauses.now c.loop-clause.clause-index c.clause-item.result c.loop-clause-test.true c.clause-item.is) c.loop-clause.invariant.placed in
     record { swept = swept_more s _ _ _ _ _ c.loop-clause.invariant.swept c.in_ok-sweep_clause.ensures.swept; placed = c.in_ok-sweep_clause.ensures.passed _ here }
 
-pub sweep::sweep_body-sweep_items-requires : goal.sweep::sweep_body-sweep_items-requires
+pub choices::sweep_body-sweep_items-requires : goal.choices::sweep_body-sweep_items-requires
 unfolding facts_in
-sweep::sweep_body-sweep_items-requires t c =
+choices::sweep_body-sweep_items-requires t c =
     let s = c.args.subject.now in
     let r = c.requires.ready in
     let y = walks.around s.script.now c.args.around.now in
@@ -185,9 +185,9 @@ sweep::sweep_body-sweep_items-requires t c =
     (clause_list s y k old known c.args.clause.now c.requires.placed.0 same _ (names_numbered s _ _ r) r.over c.requires.placed.1) in
     search std_rules
 
-pub sweep::sweep_body-returns-clause-passed : goal.sweep::sweep_body-returns-clause-passed
+pub choices::sweep_body-returns-clause-passed : goal.choices::sweep_body-returns-clause-passed
 unfolding facts_in
-sweep::sweep_body-returns-clause-passed t c =
+choices::sweep_body-returns-clause-passed t c =
     λ others here.
     let s = c.args.subject.now in
     let r = c.requires.ready in
@@ -230,8 +230,8 @@ sweep::sweep_compound-returns t c =
           c.in_ok-lower_behind.ensures.swept;
     }
 
-pub sweep::sweep_cond-sweep_list-requires : goal.sweep::sweep_cond-sweep_list-requires
-sweep::sweep_cond-sweep_list-requires t c =
+pub choices::sweep_cond-sweep_list-requires : goal.choices::sweep_cond-sweep_list-requires
+choices::sweep_cond-sweep_list-requires t c =
     let s = c.args.subject.now in
     let r = c.requires.ready in
     let y = walks.around s.script.now c.args.around.now in
@@ -573,8 +573,8 @@ sweep::sweep_simple-sweep_held-requires t c =
     let placed : IsInside s y c.args.command.now = inside_placed s c.args.by y (knowledge_facts s.names.now c.args.known.now) c.args.command.now c.requires.placed in
     search std_rules
 
-pub sweep::sweep_case-pass_word-requires : goal.sweep::sweep_case-pass_word-requires
-sweep::sweep_case-pass_word-requires t c =
+pub choices::sweep_case-pass_word-requires : goal.choices::sweep_case-pass_word-requires
+choices::sweep_case-pass_word-requires t c =
     let s = c.args.subject.now in
     let r = c.requires.ready in
     let y = walks.around s.script.now c.args.around.now in
@@ -582,8 +582,8 @@ sweep::sweep_case-pass_word-requires t c =
     let placed : IsWord s k (parts_from s.script.now c.args.word.now.parts) = case_word s y k (parts_from s.script.now c.args.word.now.parts) (clauses_from s.script.now c.args.clauses.now) c.requires.placed in
     search std_rules
 
-pub sweep::sweep_case-sweep_clauses-requires : goal.sweep::sweep_case-sweep_clauses-requires
-sweep::sweep_case-sweep_clauses-requires t c =
+pub choices::sweep_case-sweep_clauses-requires : goal.choices::sweep_case-sweep_clauses-requires
+choices::sweep_case-sweep_clauses-requires t c =
     let s = c.args.subject.now in
     let r = c.requires.ready in
     let y = walks.around s.script.now c.args.around.now in
@@ -594,8 +594,8 @@ sweep::sweep_case-sweep_clauses-requires t c =
     c.in_ok-pass_word.ensures.gained c.requires.placed _ (names_numbered s _ _ r) r.over in
     search std_rules
 
-pub sweep::sweep_clause-sweep_patterns-requires : goal.sweep::sweep_clause-sweep_patterns-requires
-sweep::sweep_clause-sweep_patterns-requires t c =
+pub choices::sweep_clause-sweep_patterns-requires : goal.choices::sweep_clause-sweep_patterns-requires
+choices::sweep_clause-sweep_patterns-requires t c =
     let s = c.args.subject.now in
     let r = c.requires.ready in
     let y = walks.around s.script.now c.args.around.now in
@@ -862,6 +862,7 @@ words::open_part-returns-in-Joined-clause-gained t c =
     plain_gained s _ (names_numbered s _ _ r) r.over k c.args.part.now _ _ c.in-Joined.is (program.part_of-Joined s.script.now _) refl
 
 pub words::sweep_substitution-sweep_list-requires : goal.words::sweep_substitution-sweep_list-requires
+unfolding entries.item_seen
 words::sweep_substitution-sweep_list-requires t c =
     let s = c.args.subject.now in
     let r = c.requires.ready in
@@ -1257,8 +1258,8 @@ words::pass_expression-returns-then-levels-eq0-clause-gained t c =
     let s = c.args.subject.now in
     gained_nowhere s (expanded_gains (expression_of s.script.now c.args.expression.now)) (knowledge_facts s.names.now c.args.known.now)
 
-pub sweep::sweep_clause-returns-clause-swept : goal.sweep::sweep_clause-returns-clause-swept
-sweep::sweep_clause-returns-clause-swept t c = if_ok c.sweep_body.result _ _ (λ u h. swept_more c.args.subject.now _ _ _ _ _ c.in_ok-sweep_patterns.ensures.swept h) c.sweep_body.ensures.swept
+pub choices::sweep_clause-returns-clause-swept : goal.choices::sweep_clause-returns-clause-swept
+choices::sweep_clause-returns-clause-swept t c = if_ok c.sweep_body.result _ _ (λ u h. swept_more c.args.subject.now _ _ _ _ _ c.in_ok-sweep_patterns.ensures.swept h) c.sweep_body.ensures.swept
 
 pub sweep::sweep_simple-returns : goal.sweep::sweep_simple-returns
 sweep::sweep_simple-returns t c =

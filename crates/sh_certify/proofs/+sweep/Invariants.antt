@@ -31,15 +31,15 @@ invariant-sweep::sweep_parts-loop-command l = record {
   placed : AreParts l.subject l.by (walks.around l.subject.script.now l.around) (knowledge_facts l.subject.names.now l.known) (drop l.command-index l.parts);
 }
 
-abbrev pub invariant-sweep::sweep_branches-loop-branch : goal.invariant-sweep::sweep_branches-loop-branch
-invariant-sweep::sweep_branches-loop-branch l = record {
+abbrev pub invariant-choices::sweep_branches-loop-branch : goal.invariant-choices::sweep_branches-loop-branch
+invariant-choices::sweep_branches-loop-branch l = record {
   swept : IsSwept l.subject l.initial.draft.certificate l.draft.certificate l.draft.probe.count;
   placed : AreBranches l.subject (walks.around l.subject.script.now l.around) (knowledge_facts l.subject.names.now l.known)
       (branches_from l.subject.script.now (drop l.branch-index l.branches)) (otherwise_from l.subject.script.now l.otherwise);
 }
 
-abbrev pub invariant-sweep::sweep_clauses-loop-clause : goal.invariant-sweep::sweep_clauses-loop-clause
-invariant-sweep::sweep_clauses-loop-clause l = record {
+abbrev pub invariant-choices::sweep_clauses-loop-clause : goal.invariant-choices::sweep_clauses-loop-clause
+invariant-choices::sweep_clauses-loop-clause l = record {
   swept : IsSwept l.subject l.initial.draft.certificate l.draft.certificate l.draft.probe.count;
   placed : AreClauses l.subject (walks.around l.subject.script.now l.around) (knowledge_facts l.subject.names.now l.behind) (knowledge_facts l.subject.names.now l.fallen)
       (clauses_from l.subject.script.now (drop l.clause-index l.clauses));
@@ -106,14 +106,14 @@ decreases-sweep::sweep_conditional l = l.levels * 64 + 32
 abbrev pub decreases-sweep::sweep_iteration : goal.decreases-sweep::sweep_iteration
 decreases-sweep::sweep_iteration l = l.levels * 64 + 30
 
-abbrev pub decreases-sweep::sweep_cond : goal.decreases-sweep::sweep_cond
-decreases-sweep::sweep_cond l = l.levels * 64 + 28
+abbrev pub decreases-choices::sweep_cond : goal.decreases-choices::sweep_cond
+decreases-choices::sweep_cond l = l.levels * 64 + 28
 
-abbrev pub decreases-sweep::sweep_case : goal.decreases-sweep::sweep_case
-decreases-sweep::sweep_case l = l.levels * 64 + 28
+abbrev pub decreases-choices::sweep_case : goal.decreases-choices::sweep_case
+decreases-choices::sweep_case l = l.levels * 64 + 28
 
-abbrev pub decreases-sweep::sweep_clauses : goal.decreases-sweep::sweep_clauses
-decreases-sweep::sweep_clauses l = l.levels * 64 + 26
+abbrev pub decreases-choices::sweep_clauses : goal.decreases-choices::sweep_clauses
+decreases-choices::sweep_clauses l = l.levels * 64 + 26
 
 abbrev pub decreases-sweep::sweep_loop : goal.decreases-sweep::sweep_loop
 decreases-sweep::sweep_loop l = l.levels * 64 + 26
@@ -130,20 +130,20 @@ decreases-sweep::sweep_definition l = l.levels * 64 + 26
 abbrev pub decreases-words::open_part : goal.decreases-words::open_part
 decreases-words::open_part l = l.levels * 64 + 24
 
-abbrev pub decreases-sweep::sweep_clause : goal.decreases-sweep::sweep_clause
-decreases-sweep::sweep_clause l = l.levels * 64 + 24
+abbrev pub decreases-choices::sweep_clause : goal.decreases-choices::sweep_clause
+decreases-choices::sweep_clause l = l.levels * 64 + 24
 
-abbrev pub decreases-sweep::sweep_branches : goal.decreases-sweep::sweep_branches
-decreases-sweep::sweep_branches l = l.levels * 64 + 24
+abbrev pub decreases-choices::sweep_branches : goal.decreases-choices::sweep_branches
+decreases-choices::sweep_branches l = l.levels * 64 + 24
 
 abbrev pub decreases-words::sweep_substitution : goal.decreases-words::sweep_substitution
 decreases-words::sweep_substitution l = l.levels * 64 + 22
 
-abbrev pub decreases-sweep::sweep_body : goal.decreases-sweep::sweep_body
-decreases-sweep::sweep_body l = l.levels * 64 + 22
+abbrev pub decreases-choices::sweep_body : goal.decreases-choices::sweep_body
+decreases-choices::sweep_body l = l.levels * 64 + 22
 
-abbrev pub decreases-sweep::sweep_branch : goal.decreases-sweep::sweep_branch
-decreases-sweep::sweep_branch l = l.levels * 64 + 22
+abbrev pub decreases-choices::sweep_branch : goal.decreases-choices::sweep_branch
+decreases-choices::sweep_branch l = l.levels * 64 + 22
 
 abbrev pub decreases-sweep::sweep_list : goal.decreases-sweep::sweep_list
 decreases-sweep::sweep_list l = l.levels * 64 + 20

@@ -1,4 +1,5 @@
-use Rattle.std.proofs.Common.{ap}
+use Rattle.std.proofs.Common.{true, ap}
+use Rattle.sh_facts.specs.Entries.{item_seen}
 use Rattle.sh_rules.specs.Behind.{started}
 use Rattle.sh_rules.specs.Walks.{facts_in}
 use Rattle.sh_table.specs.Calls.{Table, table_of}
@@ -14,9 +15,10 @@ invariant_of-claims c =
     record { numbered = numbered s.script.now s.policy.now s.tree.now s.names.now r.admitted; sized = r.working.count; read = ap (λ (t : Table). t.script) s.listed }
 
 pub returns : goal.returns
+unfolding started item_seen
 returns c =
     let s = c.args.subject.now in
     let r = c.requires.1 in
     let h = numbered s.script.now s.policy.now s.tree.now s.names.now r.admitted in
-    started_known s c.args.certificate.now h r.over c.args.is_started c.args.known.now _
-    (facts_by_table _ s.tree.now s.listed (λ x. started x c.args.is_started (facts_in x c.args.known.now)) _ c.started.ensures)
+    started_known s c.args.certificate.now h r.over true c.args.known.now _
+    (facts_by_table _ s.tree.now s.listed (λ x. started x true (facts_in x c.args.known.now)) _ c.without_job.ensures)
