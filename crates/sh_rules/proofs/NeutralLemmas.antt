@@ -1,5 +1,5 @@
 -- Of utilities that leave what is known behind their words, and do not jump.
-use Rattle.std.proofs.Common.{◌≡◌, ℕ, Bool, true, false, true≢false, List, refl, sym}
+use Rattle.std.proofs.Common.{◌≡◌, ℕ, true, true≢false, List, refl, sym}
 use Rattle.sh_tree.specs.program.Syntax as p
 use Rattle.sh_table.specs.Profile.{Static}
 use Rattle.sh_table.specs.declared.kind.Kind.{Kind}

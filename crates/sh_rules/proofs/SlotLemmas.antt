@@ -1,9 +1,5 @@
 -- What the certificate that the rules are asked of claims at each place, by the entry that is there.
-use Rattle.std.proofs.Common.{◌≡◌, ℕ, zero, suc, ◌+◌, ◌-◌, max, nat_eq, Option, Some, None, List, [], ◌∷◌, option_map, slice_get, unwrap_or, map, position, inl, inr, Vec, Global, refl, sym, ap, ◌∙◌, arith}
-use Rattle.std.proofs.lemmas.Bool.{cases_Bool}
-use Rattle.std.proofs.lemmas.Iterator.Adapters.{position_from-zero}
-use Rattle.std.specs.List.{position_from}
-use Rattle.std.specs.Str.{bytes_eq}
+use Rattle.std.proofs.Common.{◌≡◌, ℕ, zero, suc, ◌+◌, ◌-◌, max, nat_eq, Option, Some, None, List, [], ◌∷◌, option_map, slice_get, unwrap_or, refl, sym, ap, ◌∙◌, arith}
 use Rattle.indexmap.specs.IndexMap.{get}
 use Rattle.sh_tree.specs.program.Syntax.{Text}
 use Rattle.sh_facts.specs.declared.certificate.Entry.{Entry}
@@ -14,7 +10,6 @@ use Rattle.sh_facts.specs.Certificates.{claim_of, commands_from, in_byte_order}
 use Rattle.sh_facts.specs.declared.knowledge.Knowledge.{Knowledge}
 use Rattle.sh_facts.specs.declared.knowledge.Knowledge.TheVariants as knowledge
 use Rattle.sh_facts.specs.Knowledge.{AreNumbered, knowledge_facts}
-use Rattle.sh_facts.specs.Names.{number_of}
 use Rattle.sh_facts.specs.Facts.{NotReached, Claim, Unreached, facts}
 use Rattle.sh_facts.specs.Sheets.{claim_at, nowhere}
 use Rattle.sh_facts.specs.Slots.{ClaimsAreEntries, entry_of}
