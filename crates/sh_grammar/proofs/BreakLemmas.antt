@@ -1,12 +1,12 @@
 -- Newlines between commands, and what stands behind blanks.
-use Rattle.std.proofs.Common.{◌≡◌, ℕ, Bool, suc, ◌+◌, ◌≤◌, true, false, not, ◌&&◌, List, [], ◌∷◌, length, drop, Some, None, Ok, refl, sym, ap, subst, ◌∙◌, ⊎_elim, le_refl, ◌<◌, arith}
+use Rattle.std.proofs.Common.{◌≡◌, ℕ, Bool, suc, ◌+◌, ◌≤◌, true, false, not, List, [], ◌∷◌, length, drop, Some, None, Ok, refl, sym, ap, subst, ◌∙◌, ⊎_elim, le_refl, ◌<◌, arith}
 use Rattle.std.proofs.lemmas.Bool.{true≢false, cases_Bool, cond-true, cond-false, eqb-true}
 use Rattle.std.proofs.lemmas.List.{drop-drop}
 use Rattle.std.proofs.lemmas.List.Sums.{take_while-cons}
 use Rattle.sh_tree.specs.declared.token.command.Stage.TheVariants.{First}
-use Rattle.sh_tree.specs.language.Bytes.{is_blank, is_newline, is_backslash, is_first}
+use Rattle.sh_tree.specs.language.Bytes.{is_newline, is_first}
 use Rattle.sh_tree.specs.language.Commands.{gap_length, comment_length, is_comment, blank_length, blanks, lead_at, is_newline_lead}
-use Rattle.sh_tree.specs.language.Reading.{ReadsBreaks, ReadsDocuments, parted, is_some}
+use Rattle.sh_tree.specs.language.Reading.{ReadsBreaks, ReadsDocuments, is_some}
 use Rattle.sh_tree.specs.language.Reading as r
 use Rattle.sh_tree.specs.language.States as states
 use Rattle.sh_tree.specs.language.States.{next, on_line}
@@ -15,6 +15,7 @@ use Rattle.sh_tree.specs.declared.refusal.Refusal.{Refusal}
 use Rattle.sh_tree.specs.declared.refusal.Refusal.TheVariants.{LeftOut}
 use Rattle.sh_tree.proofs.Inversions.{no_breaks, some_breaks}
 use Rattle.sh_tree.proofs.Counts.{breaks_count}
+use Rattle.sh_reads.proofs.GapLemmas.{gap_settles}
 use Rattle.sh_grammar.specs.Documents.{DocumentsFrom, Passes}
 use Rattle.sh_grammar.specs.Breaks.{BreaksTo, BreaksFrom, Line, LineFrom, LineTo}
 use Rattle.sh_grammar.specs.declared.state.State.{State}
@@ -23,27 +24,6 @@ use Rattle.sh_grammar.specs.States.{IsIn, Lies, here, moved, pending_of, Stands}
 use Rattle.sh_grammar.proofs.ReaderLemmas.{refused_by}
 
 -- Behind blanks stand none
-
-gap_settles : (cs : List ℕ) → gap_length (drop (gap_length cs) cs) ≡ 0
-unfolding gap_length
-gap_settles [] = refl
-gap_settles (c ∷ []) = ⊎_elim
-    (λ blank. ap (λ n. gap_length (drop n (c ∷ []))) (cond-true _ _ _ blank))
-    (λ other. ap (λ n. gap_length (drop n (c ∷ []))) (cond-false _ _ _ other) ∙ cond-false _ _ _ other)
-    (cases_Bool (is_blank c))
-gap_settles (c ∷ d ∷ cs) = ⊎_elim
-    (λ blank.
-    let more : gap_length (c ∷ d ∷ cs) ≡ suc (gap_length (d ∷ cs)) = cond-true _ _ _ blank ∙ omega arith in
-    ap (λ n. gap_length (drop n (c ∷ d ∷ cs))) more ∙ gap_settles (d ∷ cs))
-    (λ other. ⊎_elim
-    (λ joins.
-    let more : gap_length (c ∷ d ∷ cs) ≡ suc (suc (gap_length cs)) = cond-false _ _ _ other ∙ cond-true _ _ _ joins ∙ omega arith in
-    ap (λ n. gap_length (drop n (c ∷ d ∷ cs))) more ∙ gap_settles cs)
-    (λ last.
-    let none : gap_length (c ∷ d ∷ cs) ≡ 0 = cond-false _ _ _ other ∙ cond-false _ _ _ last in
-    ap (λ n. gap_length (drop n (c ∷ d ∷ cs))) none ∙ none)
-    (cases_Bool (is_backslash c && is_newline d)))
-    (cases_Bool (is_blank c))
 
 no_blanks : (joins : Bool) (cs : List ℕ) → gap_length cs ≡ 0 → is_comment joins cs ≡ false → blank_length joins cs ≡ 0
 unfolding blank_length
@@ -177,9 +157,3 @@ line_lies b s first stands below is = subst (Lies b) (sym is) (record {
   around = stands.around;
   behind = tt;
 })
-
-pub parted_is : (b : List ℕ) (s : State) → is_newline_lead (lead_at b First s.at) ≡ false → here (moved b (s.at + 1) s) ≡ parted b (here s)
-parted_is b s other = sym (cond-false _ _ _ other)
-
-pub parted_line : (b : List ℕ) (s : State) → is_newline_lead (lead_at b First s.at) ≡ true → here s ≡ parted b (here s)
-parted_line b s line = sym (cond-true _ _ _ line)

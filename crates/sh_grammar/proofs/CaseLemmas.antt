@@ -1,5 +1,5 @@
 -- `case`, its patterns and its clauses.
-use Rattle.std.proofs.Common.{◌≡◌, ℕ, ◌+◌, ◌<◌, ◌≤◌, ◌⊎◌, inl, inr, Bool, true, false, List, [], ◌∷◌, ◌++◌, codes, cond, Some, None, refl, sym, ap, subst, ◌∙◌, arith}
+use Rattle.std.proofs.Common.{◌≡◌, ℕ, ◌+◌, ◌<◌, ◌≤◌, ◌⊎◌, inl, inr, true, false, List, [], ◌∷◌, ◌++◌, codes, Some, None, refl, sym, ap, subst, ◌∙◌, arith}
 use Rattle.std.proofs.lemmas.Bool.{cond-true, cond-false, false_from_ne_true, true≢false}
 use Rattle.sh_tree.specs.declared.token.command.Stage.TheVariants.{First, Named}
 use Rattle.sh_tree.specs.declared.token.command.Lead.{Lead}
@@ -152,13 +152,6 @@ unopened_with b s is = sym (cond-true _ _ _ (ap is_open is))
 
 pub unopened_without : (b : List ℕ) (s : State) → (lead_at b (Named false) s.at ≡ lead.Operator op.LeftParenthesis → ⊥) → here s ≡ unopened b (here s)
 unopened_without b s none = sym (cond-false _ _ _ (false_from_ne_true (is_open (lead_at b (Named false) s.at)) (λ some. none (open_is _ some))))
-
-unopened_same : (b : List ℕ) (s : states.State) → (unopened b s).spot.count ≡ s.spot.count
-unopened_same b s = go _
-  where
-    go : (t : Bool) → (cond t (skip b 1 s) s).spot.count ≡ s.spot.count
-    go true = refl
-    go false = refl
 
 module _ (b : List ℕ) (s p : State) (at : here p ≡ unopened b (here s)) where
   pub clause_refused : (e : Refusal) → Refused b (PatternsFrom b p) e → Refused b (ClauseFrom b s) e

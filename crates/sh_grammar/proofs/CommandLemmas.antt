@@ -6,14 +6,13 @@ use Rattle.sh_tree.specs.declared.token.command.Stage.TheVariants.{First}
 use Rattle.sh_tree.specs.declared.token.command.Lead.{Lead}
 use Rattle.sh_tree.specs.declared.token.command.Lead.TheVariants as lead
 use Rattle.sh_tree.specs.declared.token.command.Operator.TheVariants as op
-use Rattle.sh_tree.specs.declared.token.command.Reserved.TheVariants as word
 use Rattle.sh_tree.specs.declared.tree.Element.{Element}
 use Rattle.sh_tree.specs.declared.tree.Redirect.{Redirect}
 use Rattle.sh_tree.specs.declared.tree.Kind.{Kind}
 use Rattle.sh_tree.specs.declared.tree.Kind.TheVariants as kind
 use Rattle.sh_tree.specs.declared.tree.Command.{Command}
 use Rattle.sh_tree.specs.declared.refusal.Refusal.{Refusal}
-use Rattle.sh_tree.specs.language.Commands.{lead_at, begins_simple, begins_compound, begins_command, begins_pipeline, is_redirection, redirects}
+use Rattle.sh_tree.specs.language.Commands.{lead_at, begins_simple, begins_compound, begins_command, is_redirection, redirects}
 use Rattle.sh_tree.specs.language.Reading as r
 use Rattle.sh_tree.specs.language.Reading.{ReadsElements, ReadsRedirects, ReadsCompound, ReadsCommand, lead_here, is_empty}
 use Rattle.sh_tree.specs.language.States as states
@@ -44,11 +43,6 @@ compound_command_begins : (l : Lead) → begins_compound l ≡ true → begins_c
 unfolding begins_command
 compound_command_begins lead.Definition h = refl
 compound_command_begins l h = or_right (begins_simple l) (begins_compound l) h
-
-pub command_pipeline : (l : Lead) → begins_command l ≡ true → begins_pipeline l ≡ true
-unfolding begins_pipeline
-command_pipeline (lead.Reserved word.Bang) h = refl
-command_pipeline _ h = h
 
 pub command_begins : {limit : ℕ} {b : List ℕ} {body : ℕ → Document} {s v : states.State} {c : Command} → ReadsCommand limit b body s v c → begins_command (lead_here b s) ≡ true
 unfolding begins_command

@@ -1,5 +1,5 @@
 -- Bodies of here-documents: one, and all that wait at a newline.
-use Rattle.std.proofs.Common.{◌≡◌, ℕ, ◌<◌, ◌≤◌, true, false, not, List, [], ◌∷◌, ◌++◌, ◌-◌, length, get_or, map, take, drop, arith, Some, None, refl, sym, ap, subst, ◌∙◌, le_refl, le_trans, lt_of_lt_of_le}
+use Rattle.std.proofs.Common.{◌≡◌, ℕ, ◌<◌, ◌≤◌, true, false, not, List, [], ◌∷◌, ◌++◌, ◌-◌, length, get_or, map, take, drop, arith, Some, refl, sym, ap, subst, ◌∙◌, le_refl, le_trans, lt_of_lt_of_le}
 use Rattle.std.proofs.lemmas.Bool.{true≢false}
 use Rattle.std.proofs.lemmas.List.{map-append, take_all}
 use Rattle.sh_tree.specs.declared.refusal.Refusal.{Refusal}
@@ -39,18 +39,10 @@ refused_in R t b _ within h = h
 -- One body
 
 module _ (b : List ℕ) (m : Mark) (s : State) where
-  -- no line ends it
-  pub document_unended : None ≡ end_line (mark_of m) b s.at → Nothing (DocumentFrom b m s)
-  document_unended none limit k x l = let no_line : None ≡ Some l.0 = none ∙ l.3 in cc
-
   module _ (line : Span) (is : Some line ≡ end_line (mark_of m) b s.at) where
     -- the line is the one that a reading finds
     same_line : (l : Span) → end_line (mark_of m) b s.at ≡ Some l → l ≡ line
     same_line l e = some_one (sym e ∙ sym is)
-
-    -- its lines are read in two ways
-    pub document_unkept : (IsKept b m s line → ⊥) → Nothing (DocumentFrom b m s)
-    document_unkept none limit k x l = none (subst (λ y. IsKept b m s y) (same_line l.0 l.3) l.4)
 
     pub document_refused : (e : Refusal) → Refused b (BodyFrom b m line.start s) e → Refused b (DocumentFrom b m s) e
     document_refused e h = refused_by b (BodyFrom b m line.start s) (DocumentFrom b m s) e

@@ -19,11 +19,12 @@ use Rattle.sh_tree.specs.language.States.{Spot, Document, to, facing, past, wait
 use Rattle.sh_tree.specs.language.Trees.{span}
 use Rattle.sh_tree.proofs.Inversions.{apart}
 use Rattle.sh_tree.proofs.Counts.{elements_count}
+use Rattle.sh_reads.proofs.BeginningLemmas.{word_goes}
+use Rattle.sh_reads.proofs.GapLemmas.{settled_gap}
 use Rattle.sh_grammar.specs.declared.state.State.{State}
 use Rattle.sh_grammar.specs.States.{here, Stands}
 use Rattle.sh_grammar.specs.Modes.{Begins}
-use Rattle.sh_grammar.specs.Readers.{One, Refused, WordAt, RedirectFrom, ElementsFrom, unread}
-use Rattle.sh_grammar.proofs.BeginningLemmas.{word_goes}
+use Rattle.sh_grammar.specs.Readers.{One, Refused, Steps, WordAt, RedirectFrom, ElementsFrom, unread}
 use Rattle.sh_grammar.proofs.ReaderLemmas.{refused_by, Behind, nothing_yet, one_more, all_found, refused_behind}
 
 -- What elements begin with
@@ -91,6 +92,72 @@ first_redirect is (r.assigned_element h w e) = absurd (apart is_redirection h is
 first_redirect is (r.word_element h w e) = absurd (apart is_redirection h is refl)
 first_redirect is (r.redirect_element {u = u} {r = q} {es = fs} h read e) = (u, q, fs, refl, read, e)
 
+-- The first element
+
+module _ (b : List ℕ) (g : Stage) (s : State) where
+  module _ (is : lead.Word ≡ lead_at b g s.at) where
+    pub element_word : (w : Word) (v : State) (j : Stage) → j ≡ stage_behind b g s.at → One (WordAt b (in_stage b g s.at) s.at s) (here v) w
+        → Steps (ElementsFrom b) (g, s) (element.Word w) (j, v)
+    unfolding waits
+    element_word w v j stage one = subst (λ t. Steps (ElementsFrom b) (g, s) (element.Word w) (t, v)) (sym stage) (record {
+      forth = λ limit k es l.
+          let f = first_word {s = here s} (sym is) l in
+          let o = one.only limit (past b f.0 (here s)) f.1 (f.0, f.4, refl) in
+          (f.2, f.3 ∙ ap (λ x. element.Word x ∷ f.2) o.1, subst (λ u. ReadsElements limit b unread (stage_behind b g s.at) u k f.2) o.0 f.5);
+      back = λ k es l.
+          let t = one.reads in
+          r.word_element {s = here s} {u = t.0} (sym is) t.1 (subst (λ u. ReadsElements 64 b unread (stage_behind b g s.at) u k es) t.2 l);
+    })
+
+    pub element_word_none : (e : Refusal) → Refused b (WordAt b (in_stage b g s.at) s.at s) e → Refused b (ElementsFrom b (g, s)) e
+    unfolding waits
+    element_word_none e none = refused_by b (WordAt b (in_stage b g s.at) s.at s) (ElementsFrom b (g, s)) e
+        (λ limit k es l. let f = first_word {s = here s} (sym is) l in (past b f.0 (here s), f.1, (f.0, f.4, refl), elements_count f.5)) none
+
+  module _ (is : lead.Assignment ≡ lead_at b g s.at) (e : ℕ) (name : e ≡ name_end b s.at) where
+    pub element_assignment : (w : Word) (v : State) → One (WordAt b (in_value (e + 1)) (e + 1) s) (here v) w
+        → Steps (ElementsFrom b) (g, s) (element.Assignment (span s.at e) w) (Prefixed, v)
+    unfolding waits
+    element_assignment w v read =
+        let one = subst (λ i. One (WordAt b (in_value (i + 1)) (i + 1) s) (here v) w) name read in
+        subst (λ i. Steps (ElementsFrom b) (g, s) (element.Assignment (span s.at i) w) (Prefixed, v)) (sym name) (record {
+          forth = λ limit k es l.
+              let f = first_assignment {s = here s} (sym is) l in
+              let o = one.only limit (past b f.0 (here s)) f.1 (f.0, f.4, refl) in (
+                f.2,
+                f.3 ∙ ap (λ x. element.Assignment (span s.at (name_end b s.at)) x ∷ f.2) o.1,
+                subst (λ u. ReadsElements limit b unread Prefixed u k f.2) o.0 f.5,
+              );
+          back = λ k es l.
+              let t = one.reads in
+              r.assigned_element {s = here s} {u = t.0} (sym is) t.1 (subst (λ u. ReadsElements 64 b unread Prefixed u k es) t.2 l);
+        })
+
+    pub element_assignment_none : (f : Refusal) → Refused b (WordAt b (in_value (e + 1)) (e + 1) s) f → Refused b (ElementsFrom b (g, s)) f
+    unfolding waits
+    element_assignment_none f none = refused_by b (WordAt b (in_value (name_end b s.at + 1)) (name_end b s.at + 1) s) (ElementsFrom b (g, s)) f
+        (λ limit k es l. let t = first_assignment {s = here s} (sym is) l in (past b t.0 (here s), t.1, (t.0, t.4, refl), elements_count t.5))
+        (subst (λ i. Refused b (WordAt b (in_value (i + 1)) (i + 1) s) f) name none)
+
+  module _ (is : is_redirection (lead_at b g s.at) ≡ true) where
+    pub element_redirect : (q : Redirect) (v : State) (j : Stage) → j ≡ redirected g → One (RedirectFrom b s) (here v) q
+        → Steps (ElementsFrom b) (g, s) (element.Redirection q) (j, v)
+    element_redirect q v j stage one = subst (λ t. Steps (ElementsFrom b) (g, s) (element.Redirection q) (t, v)) (sym stage) (record {
+      forth = λ limit k es l.
+          let f = first_redirect {s = here s} is l in
+          let o = one.only limit f.0 f.1 f.4 in
+          (f.2, f.3 ∙ ap (λ x. element.Redirection x ∷ f.2) o.1, subst (λ u. ReadsElements limit b unread (redirected g) u k f.2) o.0 f.5);
+      back = λ k es l. r.redirect_element {s = here s} is one.reads l;
+    })
+
+    pub element_redirect_none : (e : Refusal) → Refused b (RedirectFrom b s) e → Refused b (ElementsFrom b (g, s)) e
+    element_redirect_none e none = refused_by b (RedirectFrom b s) (ElementsFrom b (g, s)) e
+        (λ limit k es l. let f = first_redirect {s = here s} is l in (f.0, f.1, f.4, elements_count f.5)) none
+
+-- where a word begins, its context does not end
+pub begins_word : (b : List ℕ) (g : Stage) (s : State) → lead.Word ≡ lead_at b g s.at → Stands b s → Begins b (in_stage b g s.at) s.at s
+begins_word b g s is stands = word_goes b g s.at (sym is) (settled_gap s.joins b s.at stands.settled)
+
 -- The loop of the reader
 
 -- the elements from the state s on are those that were found, and then those at `next`
@@ -115,86 +182,8 @@ module _ (b : List ℕ) (s next : State) (g : Stage) (found : List Element) (h :
   elements_end none = all_found (ElementsFrom b) (First, s) (g, next) found (here next) h.behind
       (record { reads = r.no_element {s = here next} none; only = λ limit k es l. no_elements {s = here next} none l })
 
-  pub elements_moved : begins_simple (lead_at b First s.at) ≡ true → begins_simple (lead_at b g next.at) ≡ false → Moved s g next → s.at < next.at
-  elements_moved some none m = go m.so
-    where
-      go : ((g ≡ First) × (next ≡ s)) ⊎ (s.at < next.at) → s.at < next.at
-      go (inl at) = absurd (true≢false (sym some ∙ sym (ap (λ f. begins_simple (lead_at b f s.at)) at.0) ∙ sym (ap (λ v. begins_simple (lead_at b g v.at)) at.1) ∙ none))
-      go (inr below) = below
+  pub elements_more : (x : Element) (j : Stage) (v : State) → Steps (ElementsFrom b) (g, next) x (j, v) → Found b s (found ++ x ∷ []) j v
+  elements_more x j v steps = record { behind = one_more (ElementsFrom b) (First, s) (g, next) (j, v) found x h.behind steps }
 
-  module _ (is : lead.Word ≡ lead_at b g next.at) where
-    pub elements_word : (w : Word) (after : State) (j : Stage) → j ≡ stage_behind b g next.at → One (WordAt b (in_stage b g next.at) next.at next) (here after) w
-        → Found b s (found ++ element.Word w ∷ []) j after
-    unfolding waits
-    elements_word w after j stage one = subst (λ t. Found b s (found ++ element.Word w ∷ []) t after) (sym stage) (record {
-      behind = one_more (ElementsFrom b) (First, s) (g, next) (stage_behind b g next.at, after) found (element.Word w) h.behind (record {
-        forth = λ limit k es l.
-            let f = first_word {s = here next} (sym is) l in
-            let o = one.only limit (past b f.0 (here next)) f.1 (f.0, f.4, refl) in
-            (f.2, f.3 ∙ ap (λ v. element.Word v ∷ f.2) o.1, subst (λ u. ReadsElements limit b unread (stage_behind b g next.at) u k f.2) o.0 f.5);
-        back = λ k es l.
-            let t = one.reads in
-            r.word_element {s = here next} {u = t.0} (sym is) t.1 (subst (λ u. ReadsElements 64 b unread (stage_behind b g next.at) u k es) t.2 l);
-      });
-    })
-
-    pub elements_word_none : (e : Refusal) → Refused b (WordAt b (in_stage b g next.at) next.at next) e → Refused b (ElementsFrom b (First, s)) e
-    unfolding waits
-    elements_word_none e none =
-        refused_behind (ElementsFrom b) b (First, s) (g, next) found e h.behind
-        (refused_by b (WordAt b (in_stage b g next.at) next.at next) (ElementsFrom b (g, next)) e (λ limit k es l.
-        let f = first_word {s = here next} (sym is) l in
-        (past b f.0 (here next), f.1, (f.0, f.4, refl), elements_count f.5)) none)
-
-  module _ (is : lead.Assignment ≡ lead_at b g next.at) (e : ℕ) (name : e ≡ name_end b next.at) where
-    pub elements_assignment : (w : Word) (after : State) → One (WordAt b (in_value (e + 1)) (e + 1) next) (here after) w
-        → Found b s (found ++ element.Assignment (span next.at e) w ∷ []) Prefixed after
-    unfolding waits
-    elements_assignment w after read =
-        let one = subst (λ v. One (WordAt b (in_value (v + 1)) (v + 1) next) (here after) w) name read in
-        subst (λ v. Found b s (found ++ element.Assignment (span next.at v) w ∷ []) Prefixed after) (sym name) (record {
-          behind = one_more (ElementsFrom b) (First, s) (g, next) (Prefixed, after) found (element.Assignment (span next.at (name_end b next.at)) w) h.behind (record {
-            forth = λ limit k es l.
-                let f = first_assignment {s = here next} (sym is) l in
-                let o = one.only limit (past b f.0 (here next)) f.1 (f.0, f.4, refl) in (
-                  f.2,
-                  f.3 ∙ ap (λ v. element.Assignment (span next.at (name_end b next.at)) v ∷ f.2) o.1,
-                  subst (λ u. ReadsElements limit b unread Prefixed u k f.2) o.0 f.5,
-                );
-            back = λ k es l.
-                let t = one.reads in
-                r.assigned_element {s = here next} {u = t.0} (sym is) t.1 (subst (λ u. ReadsElements 64 b unread Prefixed u k es) t.2 l);
-          });
-        })
-
-    pub elements_assignment_none : (f : Refusal) → Refused b (WordAt b (in_value (e + 1)) (e + 1) next) f → Refused b (ElementsFrom b (First, s)) f
-    unfolding waits
-    elements_assignment_none f none =
-        refused_behind (ElementsFrom b) b (First, s) (g, next) found f h.behind
-        (refused_by b (WordAt b (in_value (name_end b next.at + 1)) (name_end b next.at + 1) next) (ElementsFrom b (g, next)) f (λ limit k es l.
-        let t = first_assignment {s = here next} (sym is) l in
-        (past b t.0 (here next), t.1, (t.0, t.4, refl), elements_count t.5)) (subst (λ v. Refused b (WordAt b (in_value (v + 1)) (v + 1) next) f) name none))
-
-  module _ (is : is_redirection (lead_at b g next.at) ≡ true) where
-    pub elements_redirect : (q : Redirect) (after : State) (j : Stage) → j ≡ redirected g → One (RedirectFrom b next) (here after) q
-        → Found b s (found ++ element.Redirection q ∷ []) j after
-    elements_redirect q after j stage one = subst (λ t. Found b s (found ++ element.Redirection q ∷ []) t after) (sym stage) (record {
-      behind = one_more (ElementsFrom b) (First, s) (g, next) (redirected g, after) found (element.Redirection q) h.behind (record {
-        forth = λ limit k es l.
-            let f = first_redirect {s = here next} is l in
-            let o = one.only limit f.0 f.1 f.4 in
-            (f.2, f.3 ∙ ap (λ v. element.Redirection v ∷ f.2) o.1, subst (λ u. ReadsElements limit b unread (redirected g) u k f.2) o.0 f.5);
-        back = λ k es l. r.redirect_element {s = here next} is one.reads l;
-      });
-    })
-
-    pub elements_redirect_none : (e : Refusal) → Refused b (RedirectFrom b next) e → Refused b (ElementsFrom b (First, s)) e
-    elements_redirect_none e none =
-        refused_behind (ElementsFrom b) b (First, s) (g, next) found e h.behind
-        (refused_by b (RedirectFrom b next) (ElementsFrom b (g, next)) e (λ limit k es l.
-        let f = first_redirect {s = here next} is l in
-        (f.0, f.1, f.4, elements_count f.5)) none)
-
--- where a word begins, its context does not end
-pub begins_word : (b : List ℕ) (g : Stage) (s : State) → lead.Word ≡ lead_at b g s.at → Stands b s → Begins b (in_stage b g s.at) s.at s
-begins_word b g s is stands = word_goes s.joins b g s.at (sym is) stands.settled
+  pub elements_refused : (e : Refusal) → Refused b (ElementsFrom b (g, next)) e → Refused b (ElementsFrom b (First, s)) e
+  elements_refused e = refused_behind (ElementsFrom b) b (First, s) (g, next) found e h.behind

@@ -20,6 +20,8 @@ use Rattle.sh_tree.specs.language.States.{Spot, Document, facing, past, waits, l
 use Rattle.sh_tree.specs.language.Trees.{span}
 use Rattle.sh_tree.proofs.Inversions.{no_breaks}
 use Rattle.sh_tree.proofs.Counts.{words_count, breaks_count, do_count}
+use Rattle.sh_reads.proofs.BeginningLemmas.{word_goes}
+use Rattle.sh_reads.proofs.GapLemmas.{settled_gap}
 use Rattle.sh_grammar.specs.Breaks.{BreaksTo, BreaksFrom}
 use Rattle.sh_grammar.specs.declared.state.State.{State}
 use Rattle.sh_grammar.specs.States.{here, moved, Stands}
@@ -27,19 +29,15 @@ use Rattle.sh_grammar.specs.Fors.{WordsFrom, ListedFrom, ForWordsFrom, for_named
 use Rattle.sh_grammar.specs.Modes.{Begins}
 use Rattle.sh_grammar.specs.Phrases.{behind_reserved, entered, DoFrom}
 use Rattle.sh_grammar.specs.Readers.{One, Nothing, Refused, WordAt, CompoundFrom, unread}
-use Rattle.sh_grammar.proofs.BeginningLemmas.{word_goes}
+use Rattle.sh_grammar.proofs.RedirectLemmas.{word_is}
 use Rattle.sh_grammar.proofs.ReaderLemmas.{refused_by, Behind, nothing_yet, one_more, all_found, refused_behind}
 
 -- Words
 
-word_is : (l : Lead) → is_word l ≡ true → l ≡ lead.Word
-word_is lead.Word h = refl
-word_is _ h = absurd (true≢false (sym h))
-
 -- where a word begins, its context does not end
 pub word_begins : (b : List ℕ) (s : State) → is_word (lead_at b (Named false) s.at) ≡ true → Stands b s → Begins b (in_word s.at) s.at s
 unfolding in_stage
-word_begins b s some stands = word_goes s.joins b (Named false) s.at (word_is _ some) stands.settled
+word_begins b s some stands = word_goes b (Named false) s.at (word_is _ some) (settled_gap s.joins b s.at stands.settled)
 
 words_end : {limit : ℕ} {b : List ℕ} {s v : states.State} {ws : List Word} → is_word (lead_of b (Named false) s) ≡ false → ReadsWords limit b s v ws → (v ≡ s) × (ws ≡ [])
 words_end none (r.no_word h) = (refl, refl)

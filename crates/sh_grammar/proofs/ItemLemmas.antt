@@ -1,11 +1,10 @@
 -- Where the text ends, and how long tokens are.
-use Rattle.std.proofs.Common.{not, ◌&&◌, ◌==◌, ◌∙◌, ◌≡◌, ℕ, ◌<◌, ◌≤◌, Bool, true, false, cond, List, length, drop, nat_le, Option, Some, None, refl, sym, ap, arith}
-use Rattle.std.proofs.lemmas.Bool.{cond-true, cond-false, true≢false}
+use Rattle.std.proofs.Common.{not, ◌&&◌, ◌==◌, ◌∙◌, ◌≡◌, ℕ, ◌<◌, Bool, true, false, cond, List, length, drop, nat_le, Option, Some, None, refl, sym, ap, arith}
+use Rattle.std.proofs.lemmas.Bool.{cond-false, true≢false}
 use Rattle.std.proofs.lemmas.Bool.Decides.{nat_tests}
-use Rattle.std.proofs.lemmas.List.{drop_all}
 use Rattle.sh_tree.specs.declared.token.command.Stage.TheVariants.{First, Prefixed, Named}
 use Rattle.sh_tree.specs.declared.token.command.Lead.TheVariants as lead
-use Rattle.sh_tree.specs.language.Bytes.{longest, is_first, is_digit, is_newline, behind_joined, run}
+use Rattle.sh_tree.specs.language.Bytes.{is_first, is_digit, is_newline, behind_joined, run}
 use Rattle.sh_tree.specs.language.Characters as byte
 use Rattle.sh_tree.specs.declared.refusal.Form.TheVariants as form
 use Rattle.sh_tree.specs.declared.refusal.Form.{Form}
@@ -16,12 +15,6 @@ use Rattle.sh_tree.specs.declared.token.command.Reserved.{Reserved}
 use Rattle.sh_tree.specs.declared.token.command.Reserved.TheVariants as word
 use Rattle.sh_tree.specs.declared.token.command.Stage.{Stage}
 use Rattle.sh_tree.specs.language.Commands.{operator_of, lead_at, lead_of, operator_lead, whole_operator, opening, reserved_lead, first_lead, name_lead, word_lead, number_lead, other_lead, bare_word, is_parenthesis, is_definition, is_split, is_assignment, is_angle, is_named, entry_of, left_out_names, reserved_words}
-
-pub end_lead : (b : List ℕ) (i : ℕ) → length b ≤ i → lead_at b First i ≡ lead.End
-unfolding lead_at lead_of operator_of longest
-end_lead b i ended =
-    let over : nat_le (length b) i ≡ true = grind (arith, nat_tests) in
-    ap (λ cs. lead_of b First i (operator_of cs)) (drop_all i b ended) ∙ cond-true _ _ _ over
 
 -- Inside the text no token ends it
 

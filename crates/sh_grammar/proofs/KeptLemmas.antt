@@ -1,17 +1,13 @@
 -- Line continuations, tabs and single quotes in bodies.
 use Rattle.std.proofs.Common.{◌≡◌, ℕ, suc, ◌+◌, ◌<◌, ◌≤◌, Bool, true, false, not, ◌&&◌, ◌||◌, List, [], ◌∷◌, ◌++◌, length, drop, get_or, Option, Some, None, refl, sym, ap, subst, ◌∙◌, arith, length-drop}
 use Rattle.std.proofs.Math.Seq.{drop-cons}
-use Rattle.std.specs.List.{list_any}
 use Rattle.std.specs.Option.{option_or}
-use Rattle.std.proofs.lemmas.Bool.{and_right, cond-true, cond-false, eqb-true, false_from_ne_true, true≢false}
+use Rattle.std.proofs.lemmas.Bool.{cond-true, cond-false, eqb-true, false_from_ne_true, true≢false}
 use Rattle.std.proofs.lemmas.List.{drop-drop, drop_all}
 use Rattle.sh_tree.specs.Tree.{text_of}
-use Rattle.sh_tree.specs.Words.{parts_text}
 use Rattle.sh_tree.specs.declared.tree.Span.{Span}
-use Rattle.sh_tree.specs.declared.tree.Word.{Word}
 use Rattle.sh_tree.specs.language.Bytes.{is_newline, is_tab, is_backslash, is_first}
-use Rattle.sh_tree.specs.language.HereDocuments.{has_joined, has_tabbed_line, is_split_text, is_delimiter, delimiter_of, is_static, or_none}
-use Rattle.sh_grammar.specs.Delimiters.{delimiter_in}
+use Rattle.sh_tree.specs.language.HereDocuments.{has_joined, has_tabbed_line, is_split_text}
 use Rattle.sh_grammar.specs.Lines.{joined_step, is_joined}
 use Rattle.sh_grammar.specs.Quotes.{SplitsIn, all_kept}
 
@@ -120,9 +116,6 @@ asked_none asked t h = sym (ap (λ v. v && t) h)
 pub record Left (b : List ℕ) (rest all : List Span) : Type 0 where
   pub whole : (o : Option ℕ) → SplitsIn b rest o → SplitsIn b all o
 
-pub left_first : (b : List ℕ) (ss : List Span) → Left b ss ss
-left_first b ss = record { whole = λ o h. h }
-
 kept_append : (b : List ℕ) (ss ts : List Span) → all_kept b (ss ++ ts) ≡ (all_kept b ss && all_kept b ts)
 kept_append b [] ts = refl
 kept_append b (s ∷ ss) ts = ap (λ v. not (is_split_text (text_of b s)) && v) (kept_append b ss ts) ∙ and_both (not (is_split_text (text_of b s))) (all_kept b ss) (all_kept b ts)
@@ -143,23 +136,3 @@ before_split b ss ts at h = (kept_append b ss ts ∙ ap (λ v. v && all_kept b t
 pub either_split : (b : List ℕ) (ss ts : List Span) (o p : Option ℕ) → SplitsIn b ss o → SplitsIn b ts p → SplitsIn b (ss ++ ts) (option_or o p)
 either_split b ss ts None p h k = behind_kept b ss ts p h k
 either_split b ss ts (Some at) p h k = before_split b ss ts at h
-
--- Delimiters
-
--- a newline stands in the word
-pub delimiter_split : (b : List ℕ) (w : Word) → true ≡ list_any is_newline (text_of b w.span) → None ≡ delimiter_in b w
-unfolding is_delimiter
-delimiter_split b w line =
-    let none : (is_static (parts_text b w.parts) && not (list_any is_newline (text_of b w.span))) ≡ false = and_right (is_static (parts_text b w.parts)) _ (ap not (sym line)) in
-    sym (cond-false _ _ _ none)
-
--- none does
-pub delimiter_whole : (b : List ℕ) (w : Word) (o : Option (List ℕ)) → false ≡ list_any is_newline (text_of b w.span) → o ≡ parts_text b w.parts → o ≡ delimiter_in b w
-unfolding is_delimiter delimiter_of is_static
-delimiter_whole b w o none is = is ∙ go (parts_text b w.parts) refl
-  where
-    go : (p : Option (List ℕ)) → parts_text b w.parts ≡ p → p ≡ delimiter_in b w
-    go None e = sym (cond-false _ _ _ (ap (λ q. is_static q && not (list_any is_newline (text_of b w.span))) e))
-    go (Some t) e =
-        let all : is_delimiter b w ≡ true = ap (λ q. is_static q && not (list_any is_newline (text_of b w.span))) e ∙ ap not (sym none) in
-        ap Some (ap or_none (sym e)) ∙ sym (cond-true _ _ _ all)

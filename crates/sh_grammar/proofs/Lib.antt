@@ -1,4 +1,3 @@
-pub mod BeginningLemmas
 pub mod BodyLemmas
 pub mod BreakLemmas
 pub mod CommandLemmas

@@ -5,7 +5,7 @@ use Rattle.sh_tree.specs.declared.refusal.Refusal.{Refusal}
 use Rattle.sh_tree.specs.declared.refusal.Refusal.TheVariants.{TooLong, NulByte, Syntax, LeftOut, TooDeep, TooMany, Memory, Profile, CertSyntax, CertShape}
 use Rattle.sh_tree.specs.language.States as states
 use Rattle.sh_grammar.specs.Faults.{IsFault}
-use Rattle.sh_grammar.specs.Readers.{Reading, One, Nothing, Refused}
+use Rattle.sh_grammar.specs.Readers.{Reading, One, Nothing, Refused, Steps}
 
 -- A refusal of one thing is one of another, where the first is read in each reading of the other and ends behind no more commands.
 pub refused_by : {A B : Type 0} (b : List ℕ) (R : Reading A) (Q : Reading B) (e : Refusal)
@@ -33,15 +33,10 @@ module _ {S A : Type 0} (R : S → Reading (List A)) where
     pub forth : (limit : ℕ) (k : states.State) (xs : List A) → R s limit k xs → (ys : List A) × (xs ≡ found ++ ys) × R next limit k ys
     pub back : (k : states.State) (ys : List A) → R next 64 k ys → R s 64 k (found ++ ys)
 
-  -- the elements from s on are x, and then those from `next` on
-  pub record Steps (s : S) (x : A) (next : S) : Type 0 where
-    pub forth : (limit : ℕ) (k : states.State) (xs : List A) → R s limit k xs → (ys : List A) × (xs ≡ x ∷ ys) × R next limit k ys
-    pub back : (k : states.State) (ys : List A) → R next 64 k ys → R s 64 k (x ∷ ys)
-
   pub nothing_yet : (s : S) → Behind s [] s
   nothing_yet s = record { forth = λ limit k xs l. (xs, refl, l); back = λ k ys l. l }
 
-  pub one_more : (s next after : S) (found : List A) (x : A) → Behind s found next → Steps next x after → Behind s (found ++ x ∷ []) after
+  pub one_more : (s next after : S) (found : List A) (x : A) → Behind s found next → Steps R next x after → Behind s (found ++ x ∷ []) after
   one_more s next after found x behind steps = record {
     forth = λ limit k xs l.
         let t = behind.forth limit k xs l in

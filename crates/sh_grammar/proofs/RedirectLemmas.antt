@@ -24,16 +24,16 @@ use Rattle.sh_tree.specs.language.Trees as tree
 use Rattle.sh_tree.specs.language.HereDocuments as documents
 use Rattle.sh_tree.specs.language.HereDocuments.{is_delimiter, delimiter_of}
 use Rattle.sh_tree.specs.language.Parts.{is_quoted_word}
-use Rattle.sh_tree.proofs.Inversions.{some_one, word_parts}
+use Rattle.sh_tree.proofs.Inversions.{some_one, word_parts, redirects_end, redirects_first}
 use Rattle.sh_tree.proofs.Counts.{redirects_count}
+use Rattle.sh_reads.proofs.BeginningLemmas.{word_takes}
+use Rattle.sh_reads.proofs.GapLemmas.{blanks_gap}
 use Rattle.sh_grammar.specs.declared.state.State.{State}
 use Rattle.sh_grammar.specs.declared.mark.Mark.{Mark}
 use Rattle.sh_grammar.specs.States.{AreIn, Stands, here}
 use Rattle.sh_grammar.specs.Delimiters.{DelimiterIn}
 use Rattle.sh_grammar.specs.Marks.{mark_of}
 use Rattle.sh_grammar.specs.Targets.{TargetFrom}
-use Rattle.sh_grammar.proofs.BeginningLemmas.{word_takes}
-use Rattle.sh_grammar.proofs.BreakLemmas.{blanks_settle}
 use Rattle.sh_grammar.specs.Readers.{One, Nothing, Refused, WordAt, RedirectFrom, RedirectsFrom, unread}
 use Rattle.sh_grammar.proofs.ReaderLemmas.{refused_by, Behind, nothing_yet, one_more, all_found, refused_behind}
 
@@ -123,9 +123,9 @@ document_is {limit = limit} {b = b} {body = body} {s = s} at strip is way (r.her
 
 -- The word behind an operator that ends at i
 
-is_lead : (l : Lead) → is_word l ≡ true → l ≡ lead.Word
-is_lead lead.Word h = refl
-is_lead _ h = absurd (true≢false (sym h))
+pub word_is : (l : Lead) → is_word l ≡ true → l ≡ lead.Word
+word_is lead.Word h = refl
+word_is _ h = absurd (true≢false (sym h))
 
 module _ (b : List ℕ) (i : ℕ) (s : State) where
   pub target_none : is_word (lead_at b (Named false) (blanks s.joins b i)) ≡ false → Nothing (TargetFrom b i s)
@@ -142,7 +142,7 @@ module _ (b : List ℕ) (i : ℕ) (s : State) where
   target_begins w v limit l =
       let j = blanks s.joins b i in
       let parts = word_parts l.1.1 in
-      let inside = (word_takes s.joins b (Named false) j (is_lead (lead_at b (Named false) j) l.0) (blanks_settle s.joins b i)).0 in
+      let inside = (word_takes b (Named false) j (word_is (lead_at b (Named false) j) l.0) (blanks_gap s.joins b i)).0 in
       subst (λ (x : Word). x.span.start < length b) (sym parts.1) inside
 
 -- Redirections by their operators
@@ -227,17 +227,6 @@ awaiting_stands b v m h inside shallow = record {
 }
 
 -- Redirections behind a compound command
-
-redirects_end : {limit : ℕ} {b : List ℕ} {body : ℕ → Document} {s v : states.State} {qs : List Redirect} → is_redirection (lead_of b (Named false) s) ≡ false
-    → ReadsRedirects limit b body s v qs → (v ≡ s) × (qs ≡ [])
-redirects_end none (r.no_redirect h) = (refl, refl)
-redirects_end none (r.more_redirects h q l) = absurd (true≢false (sym h ∙ none))
-
-redirects_first : {limit : ℕ} {b : List ℕ} {body : ℕ → Document} {s v : states.State} {qs : List Redirect} → is_redirection (lead_of b (Named false) s) ≡ true
-    → ReadsRedirects limit b body s v qs
-    → (u : states.State) × (q : Redirect) × (others : List Redirect) × (qs ≡ q ∷ others) × ReadsRedirect limit b body s u q × ReadsRedirects limit b body u v others
-redirects_first some (r.no_redirect h) = absurd (true≢false (sym some ∙ h))
-redirects_first some (r.more_redirects {u = u} {r = q} {rs = others} h read l) = (u, q, others, refl, read, l)
 
 pub record RedirectsFound (b : List ℕ) (s : State) (found : List Redirect) (v : State) : Type 0 where
   pub behind : Behind (RedirectsFrom b) s found v

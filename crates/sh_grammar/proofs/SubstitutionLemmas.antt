@@ -7,7 +7,7 @@ use Rattle.sh_tree.specs.declared.tree.Script.{Script}
 use Rattle.sh_tree.specs.language.Arithmetic.{is_closed}
 use Rattle.sh_tree.specs.language.Commands.{blanks}
 use Rattle.sh_tree.specs.language.Reading as r
-use Rattle.sh_tree.specs.language.Reading.{ReadsScript, ReadsSequence}
+use Rattle.sh_tree.specs.language.Reading.{ReadsSequence}
 use Rattle.sh_tree.specs.language.States as states
 use Rattle.sh_tree.specs.language.States.{Spot, document_count, nth, waits, within}
 use Rattle.sh_bodies.specs.declared.Document.{Document}
@@ -16,7 +16,7 @@ use Rattle.sh_bodies.proofs.ReadingLemmas.{bodies, sequence_from}
 use Rattle.sh_grammar.specs.declared.mark.Mark.{Mark}
 use Rattle.sh_grammar.specs.declared.state.State.{State}
 use Rattle.sh_grammar.specs.Marks.{mark_of}
-use Rattle.sh_grammar.specs.States.{AreIn, IsIn, Lies, here, Stands, substituted, waiting}
+use Rattle.sh_grammar.specs.States.{AreIn, IsIn, Lies, here, Stands, waiting}
 use Rattle.sh_grammar.specs.Readers.{One, Nothing, Refused, SequenceFrom, unread}
 use Rattle.sh_grammar.specs.Substitutions.{ClosedFrom, IsLevel}
 use Rattle.sh_grammar.proofs.BodyLemmas.{Level, level_of, sequence_with}
@@ -39,10 +39,6 @@ substituted_stands b i n at s o ms ds lies is inside shallow first none bare = r
   around = subst (IsIn b) (sym first) (first_of_all b s.outer s.pending lies.around lies.behind);
   behind = subst (AreIn b) (sym none) tt;
 }
-
--- a substitution begins a level
-pub substituted_level : (b : List ℕ) (i n : ℕ) (s v : State) → v ≡ substituted b i n s → IsLevel v
-substituted_level b i n s v is = subst IsLevel (sym is) refl
 
 -- none waits
 pub none_waits : (ms : List Mark) → None ≡ waiting None ms → waits (map mark_of ms) ≡ false

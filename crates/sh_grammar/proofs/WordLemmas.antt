@@ -1,8 +1,7 @@
 -- A whole word, by what a builder answers.
-use Rattle.std.proofs.Common.{◌≡◌, ℕ, ◌+◌, ◌-◌, ◌<◌, ◌≤◌, ◌⊎◌, inl, inr, true, false, not, ◌&&◌, ◌||◌, Bool, List, [], ◌∷◌, length, map, Option, Some, None, nat_le, Ok, Err, refl, sym, ap, ◌∙◌, subst, le_refl, le_trans, lt_of_lt_of_le, arith}
+use Rattle.std.proofs.Common.{◌≡◌, ℕ, ◌+◌, ◌-◌, ◌<◌, ◌≤◌, ◌⊎◌, inl, inr, true, false, not, ◌&&◌, ◌||◌, List, [], ◌∷◌, length, map, Option, Some, None, nat_le, Ok, Err, refl, sym, ap, ◌∙◌, subst, le_refl, le_trans, lt_of_lt_of_le, arith}
 use Rattle.std.proofs.lemmas.Bool.{true≢false, and_parts}
 use Rattle.std.proofs.lemmas.Bool.Decides.{nat_tests}
-use Rattle.std.proofs.lemmas.List.{take_all}
 use Rattle.sh_tree.specs.declared.tree.Part.{Part}
 use Rattle.sh_tree.specs.declared.tree.Script.{Script}
 use Rattle.sh_tree.specs.declared.tree.Word.{Word}
@@ -39,7 +38,7 @@ use Rattle.sh_words.proofs.OperationLemmas.{closed_inside}
 use Rattle.sh_grammar.specs.declared.state.State.{State}
 use Rattle.sh_grammar.specs.declared.mark.Mark.{Mark}
 use Rattle.sh_grammar.specs.Marks.{mark_of}
-use Rattle.sh_grammar.specs.States.{Lies, Stands, here, moved, pending_of, spot_of, substituted, waiting}
+use Rattle.sh_grammar.specs.States.{Lies, here, moved, pending_of, spot_of, substituted, waiting}
 use Rattle.sh_grammar.specs.Readers.{One, Nothing, Reading, Refused, WordAt}
 use Rattle.sh_grammar.specs.Modes.{BeginsBehind, IsWhole, PartsAt, Whole}
 use Rattle.sh_grammar.specs.Substitutions.{ClosedFrom, Counted}
@@ -81,10 +80,6 @@ whole_prior mode.Unsplit h = refl
 whole_prior mode.Value h = refl
 whole_prior mode.Operand h = refl
 whole_prior (mode.Body end strip quoted) h = absurd h
-
--- a body sees the text that ends where it does
-pub body_seen : (b : List ℕ) (end : ℕ) (strip quoted : Bool) → length b ≤ end → seen b (mode.Body end strip quoted) ≡ b
-body_seen b end strip quoted over = take_all end b over
 
 -- what is around a word: no body of a here-document
 abbrev around : State → Around
@@ -315,17 +310,6 @@ pub word_unread : (b : List ℕ) (m : Mode) (i : ℕ) (s : State) (e : Refusal) 
     → Refused b (WordAt b (context_of b m i) i s) e
 word_unread b m i s e whole h = refused_by b (PartsAt b (context_of b m i) (first_prior m) i s) (WordAt b (context_of b m i) i s) e
     (λ limit k y q. let f = parts_of_word b m i s whole limit k y q in (k, f.0, f.1, le_refl k.spot.count)) h
-
--- behind a word the state is a token's as before it
-pub counted_stands : (b : List ℕ) (s v : State) → Stands b s → Counted b s v → Stands b v
-counted_stands b s v stands c = record {
-  inside = c.lies.inside;
-  settled = subst (λ (x : State). blanks x.joins b x.at ≡ x.at) (sym c.same) stands.settled;
-  few = c.lies.few;
-  shallow = c.lies.shallow;
-  around = c.lies.around;
-  behind = c.lies.behind;
-}
 
 module _ (b : List ℕ) (m : Mode) (whole : IsWhole m) (i : ℕ) (s v : State) (w : Word) (h : Whole b (context_of b m i) (first_prior m) i s w v) where
   -- its parts are the only ones behind no byte

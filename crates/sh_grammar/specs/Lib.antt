@@ -9,6 +9,7 @@ pub mod Items
 pub mod Brackets
 pub mod Phrases
 pub mod Definitions
+pub mod Elements
 pub mod Fors
 pub mod Branches
 pub mod Cases

@@ -1,6 +1,6 @@
 -- What the readers of the whole language answer: the one thing that the bytes from a place on are, or why they are nothing.
 -- POSIX.1-2024, XCU 2.10: a rule of the grammar holds in one way or in none.
-use Rattle.std.specs.Prelude.{◌≡◌, ℕ, ◌<◌, ◌≤◌, List, [], length, Result, Ok, Err}
+use Rattle.std.specs.Prelude.{◌≡◌, ℕ, ◌<◌, ◌≤◌, List, [], ◌∷◌, length, Result, Ok, Err}
 use Rattle.sh_tree.specs.declared.limits.TheConstants.{MAX_COMMANDS}
 use Rattle.sh_tree.specs.declared.token.command.Lead.{Lead}
 use Rattle.sh_tree.specs.declared.token.command.Stage.{Stage}
@@ -70,6 +70,11 @@ pub record To {A : Type 0} (b : List ℕ) (R : Reading A) (least : ℕ) (x : A) 
 abbrev pub Answers : {A : Type 0} → List ℕ → Reading A → ℕ → Result (A × State) Refusal → Type 0
 Answers b R least (Ok r) = To b R least r.0 r.1
 Answers b R least (Err e) = Refused b R e
+
+-- what is read from s on is x, and then what is read from `next` on
+pub record Steps {S A : Type 0} (R : S → Reading (List A)) (s : S) (x : A) (next : S) : Type 0 where
+  pub forth : (limit : ℕ) (k : states.State) (xs : List A) → R s limit k xs → (ys : List A) × (xs ≡ x ∷ ys) × R next limit k ys
+  pub back : (k : states.State) (ys : List A) → R next 64 k ys → R s 64 k (x ∷ ys)
 
 -- What is read from a state on
 

@@ -15,7 +15,7 @@ use sh_tree::token::{Lead, Stage};
 use sh_tree::tree::Script;
 use std::alloc::Global;
 
-pub fn is_newline(lead: Lead) -> bool
+fn is_newline(lead: Lead) -> bool
     ensures { result ≡ commands.is_newline_lead lead }
 {
     matches!(lead, Lead::Newline)

@@ -1,5 +1,6 @@
 //! The elements of simple commands (XCU 2.9.1).
 ghost use Rattle.std.specs.Prelude.{◌-◌, ◌≡◌, ◌+◌, ◌≤◌, true, length};
+ghost use Rattle.sh_grammar.specs.Elements.{FirstElement};
 ghost use Rattle.sh_grammar.specs.Nests.{Nests};
 ghost use Rattle.sh_grammar.specs.States.{Stands};
 ghost use Rattle.sh_grammar.specs.Readers.{Answers, ElementsFrom};
@@ -43,8 +44,47 @@ fn redirected(stage: Stage) -> Stage
 }
 
 impl<F: Fn(Global, &[u8], Cursor) -> Result<(Script, Cursor), Refusal>> Grammar<F> {
+    /// The element at a token that begins one, and the stage behind it.
+    #[tactic(auto, using(sh_reads::proofs::BeginningLemmas::name_within))]
+    fn element_at(
+        &self,
+        script: &[u8],
+        lead: Lead,
+        stage: Stage,
+        from: Cursor,
+    ) -> Result<(Element, Stage, Cursor), Refusal>
+        requires small { length script.now ≤ MAX_SCRIPT }
+        requires stands { Stands script.now from }
+        requires is { lead ≡ commands.lead_at script.now stage from.at }
+        requires begins { commands.begins_simple lead ≡ true }
+        requires further { length script.now - from.at ≤ self.now.left }
+        requires nests { Nests self.now.left (F.pre self.now.nested) (F.post self.now.nested) }
+        ensures { FirstElement script.now (stage, from) result }
+    {
+        let at = from.at();
+        match lead {
+            Lead::Assignment => {
+                let equals = name_at(script, at);
+                let name = Span {
+                    start: at,
+                    end: equals,
+                };
+                let (value, behind) = self.word_at(script, Mode::Value, equals + 1, from)?;
+                Ok((Element::Assignment { name, value }, Stage::Prefixed, behind))
+            }
+            Lead::Word => {
+                let (word, behind) = self.word(script, mode_of(stage), from)?;
+                Ok((Element::Word(word), stage_behind(script, stage, at), behind))
+            }
+            _ => {
+                let (redirect, behind) = self.redirect_at(script, from)?;
+                Ok((Element::Redirection(redirect), redirected(stage), behind))
+            }
+        }
+    }
+
     /// The elements of the simple command at a token.
-    #[tactic(auto, using(crate::proofs::ElementLemmas::found_none, crate::proofs::ElementLemmas::not_moved, crate::proofs::ElementLemmas::moved_on, crate::proofs::ElementLemmas::elements_end, crate::proofs::BeginningLemmas::name_within))]
+    #[tactic(auto, using(crate::proofs::ElementLemmas::found_none, crate::proofs::ElementLemmas::not_moved, crate::proofs::ElementLemmas::moved_on, crate::proofs::ElementLemmas::elements_end, crate::proofs::ElementLemmas::elements_more, crate::proofs::ElementLemmas::elements_refused))]
     pub fn elements_at(
         &self,
         script: &[u8],
@@ -65,32 +105,10 @@ impl<F: Fn(Global, &[u8], Cursor) -> Result<(Script, Cursor), Refusal>> Grammar<
             if !begins_simple(lead) {
                 return Ok((elements, next));
             }
-            let at = next.at();
-            match lead {
-                Lead::Assignment => {
-                    let equals = name_at(script, at);
-                    let name = Span {
-                        start: at,
-                        end: equals,
-                    };
-                    let (value, behind) = self.word_at(script, Mode::Value, equals + 1, next)?;
-                    stage = Stage::Prefixed;
-                    next = behind;
-                    elements.push(Element::Assignment { name, value })?;
-                }
-                Lead::Word => {
-                    let (word, behind) = self.word(script, mode_of(stage), next)?;
-                    stage = stage_behind(script, stage, at);
-                    next = behind;
-                    elements.push(Element::Word(word))?;
-                }
-                _ => {
-                    let (redirect, behind) = self.redirect_at(script, next)?;
-                    stage = redirected(stage);
-                    next = behind;
-                    elements.push(Element::Redirection(redirect))?;
-                }
-            }
+            let (element, after, behind) = self.element_at(script, lead, stage, next)?;
+            elements.push(element)?;
+            stage = after;
+            next = behind;
         }
     }
 }

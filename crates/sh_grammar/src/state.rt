@@ -50,7 +50,7 @@ impl State {
     }
 
     /// The operator of the first here-document that waits, those outside first.
-    pub fn first_waiting(&self) -> Option<u32>
+    fn first_waiting(&self) -> Option<u32>
         ensures { result ≡ waiting self.now.outer self.now.pending }
     {
         match self.outer {

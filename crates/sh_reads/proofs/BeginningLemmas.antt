@@ -25,7 +25,7 @@ use Rattle.sh_tree.specs.declared.token.command.Lead.TheVariants as lead
 use Rattle.sh_tree.specs.language.Bytes.{is_blank, is_newline, is_backslash, is_operator_byte, is_digit, is_name_start, is_name_byte, is_name, ends_token, run, is_first, name_length, longest}
 use Rattle.sh_tree.specs.language.Words as words
 use Rattle.sh_tree.specs.language.Words.{ends_joined}
-use Rattle.sh_tree.specs.language.Commands.{gap_length, blank_length, blanks, operator_of, operator_lead, whole_operator, opening, reserved_lead, first_lead, name_lead, word_lead, number_lead, other_lead, lead_of, lead_at, is_assignment, name_end, is_bare, bare_word, is_definition, is_parenthesis, entry_of, reserved_words, left_out_names}
+use Rattle.sh_tree.specs.language.Commands.{gap_length, blanks, operator_of, operator_lead, whole_operator, opening, reserved_lead, first_lead, name_lead, word_lead, number_lead, other_lead, lead_of, lead_at, is_assignment, name_end, is_bare, bare_word, is_definition, is_parenthesis, entry_of, reserved_words, left_out_names}
 use Rattle.sh_tree.specs.language.Contexts.{in_word, in_value, in_operand, in_stage}
 
 -- Tests
@@ -157,14 +157,6 @@ no_gap c (d ∷ cs) h =
     let blank = zero_not (is_blank c) (1 + gap_length (d ∷ cs)) (cond (is_backslash c && is_newline d) (2 + gap_length cs) 0) (omega arith) h in
     (blank.0, (zero_not (is_backslash c && is_newline d) (2 + gap_length cs) 0 (omega arith) blank.1).0)
 
-settled_gap : (b : List ℕ) (i : ℕ) → blanks false b i ≡ i → gap_length (drop i b) ≡ 0
-unfolding blanks blank_length
-settled_gap b i h = go _ (gap_length (drop i b)) _ h
-  where
-    go : (t : Bool) (g k : ℕ) → i + cond t (g + k) g ≡ i → g ≡ 0
-    go true g k e = omega arith
-    go false g k e = omega arith
-
 -- Operators
 
 abbrev Each : (ℕ → Type 0) → List ℕ → Type 0
@@ -259,10 +251,9 @@ word_takes b s i is settled =
           (never (in_stage b s i) i (drop i b) (stage_site b s i) some settled at.no_operator at.no_newline),
     )
 
-pub word_goes : (b : List ℕ) (s : Stage) (i : ℕ) → lead_at b s i ≡ lead.Word → blanks false b i ≡ i → (words.token b (in_stage b s i) 0 i).sign ≡ sign.Stop → ⊥
+pub word_goes : (b : List ℕ) (s : Stage) (i : ℕ) → lead_at b s i ≡ lead.Word → gap_length (drop i b) ≡ 0 → (words.token b (in_stage b s i) 0 i).sign ≡ sign.Stop → ⊥
 unfolding words.token
-word_goes b s i is settled stop =
-    true≢false (sym (ap (λ g. takes_none g (words.sign_of (in_stage b s i) 0 i (drop i b)).1) stop) ∙ (word_takes b s i is (settled_gap b i settled)).1)
+word_goes b s i is settled stop = true≢false (sym (ap (λ g. takes_none g (words.sign_of (in_stage b s i) 0 i (drop i b)).1) stop) ∙ (word_takes b s i is settled).1)
 
 -- Assignments
 

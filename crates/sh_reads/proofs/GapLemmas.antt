@@ -65,3 +65,6 @@ blank_gap joins cs =
 pub blanks_gap : (joins : Bool) (b : List ℕ) (i : ℕ) → gap_length (drop (blanks joins b i) b) ≡ 0
 unfolding blanks
 blanks_gap joins b i = ap gap_length (sym (drop-drop (blank_length joins (drop i b)) i b)) ∙ blank_gap joins (drop i b)
+
+pub settled_gap : (joins : Bool) (b : List ℕ) (i : ℕ) → blanks joins b i ≡ i → gap_length (drop i b) ≡ 0
+settled_gap joins b i h = ap (λ j. gap_length (drop j b)) (sym h) ∙ blanks_gap joins b i

@@ -37,7 +37,7 @@ use Rattle.sh_tree.specs.language.Commands.{blanks, name_end, lead_at, is_newlin
 use Rattle.sh_tree.specs.language.Contexts.{in_stage}
 use Rattle.sh_tree.specs.language.HereDocuments.{Mark, behind_line, delimiter_of}
 use Rattle.sh_tree.specs.language.Reading as r
-use Rattle.sh_tree.specs.language.Reading.{after, figure_at, figure_span, over, lead_of, lead_here, skip, behind_name, parted, unopened, ReadsParts, ReadsPart, ReadsExpression, ReadsConditional, ReadsLevel, ReadsOperands, ReadsUnary, ReadsWord, ReadsRedirect, ReadsRedirects, ReadsDocuments, ReadsBreaks, ReadsElements, ReadsCommand, ReadsCompound, ReadsDo, ReadsBranches, ReadsElse, ReadsForWords, ReadsWords, ReadsClauses, ReadsPatterns, ReadsPipeline, ReadsCommands, ReadsAndOr, ReadsLinks, ReadsItems, ReadsList, ReadsSequence, ReadsScript, Reads, sign_at}
+use Rattle.sh_tree.specs.language.Reading.{figure_at, figure_span, over, lead_of, lead_here, skip, behind_name, parted, unopened, ReadsParts, ReadsPart, ReadsExpression, ReadsConditional, ReadsLevel, ReadsOperands, ReadsUnary, ReadsWord, ReadsRedirect, ReadsRedirects, ReadsDocuments, ReadsBreaks, ReadsElements, ReadsCommand, ReadsCompound, ReadsDo, ReadsBranches, ReadsElse, ReadsForWords, ReadsWords, ReadsClauses, ReadsPatterns, ReadsPipeline, ReadsCommands, ReadsAndOr, ReadsLinks, ReadsItems, ReadsList, ReadsSequence, ReadsScript, Reads, sign_at}
 use Rattle.sh_tree.specs.language.States.{Spot, State, Document, nth, to, next, facing, begun, document_count, waits}
 use Rattle.sh_tree.specs.language.Trees as tree
 use Rattle.sh_tree.specs.language.Trees.{span}
@@ -150,16 +150,6 @@ module _ (whole : List ℕ) (q : Place) where
   -- words go on among any operators
   among : {long i j h : ℕ} (c : ℕ) → Spans q long i j h 0 0 → Spans q long i j h c c
   among c s = record { moves = s.moves; bound = λ m k. let b = s.bound m k in omega arith }
-
-  either_at : (t : Bool) (i : ℕ) (s u : State) → i ≤ s.spot.at → i ≤ u.spot.at → i ≤ (if t then s else u).spot.at
-  either_at true i s u h k = h
-  either_at false i s u h k = k
-
-  parted_at : (b : List ℕ) (s : State) → s.spot.at ≤ (parted b s).spot.at
-  parted_at b s = either_at (is_newline_lead (lead_here b s)) s.spot.at s (skip b 1 s) (le_refl _) (let moved = blanks_move s.spot.joins b (s.spot.at + 1) in omega arith)
-
-  unopened_at : (b : List ℕ) (s : State) → s.spot.at ≤ (unopened b s).spot.at
-  unopened_at b s = either_at (is_open (lead_of b (Named false) s)) s.spot.at (skip b 1 s) s (let moved = blanks_move s.spot.joins b (s.spot.at + 1) in omega arith) (le_refl _)
 
   either_goes : (b : List ℕ) (body : ℕ → Document) (t : Bool) (r s u : State) → Goes b body r s 0 → Goes b body r u 0 → Goes b body r (if t then s else u) 0
   either_goes b body true r s u h k = h

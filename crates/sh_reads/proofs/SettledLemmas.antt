@@ -14,11 +14,10 @@ use Rattle.sh_tree.specs.declared.tree.Script.{Script}
 use Rattle.sh_tree.specs.declared.tree.Word.{Word}
 use Rattle.sh_tree.specs.declared.token.command.Lead.{Lead}
 use Rattle.sh_tree.specs.declared.token.command.Stage.{Stage}
-use Rattle.sh_tree.specs.declared.token.command.Stage.TheVariants.{Named}
-use Rattle.sh_tree.specs.language.Commands.{gap_length, is_newline_lead, is_open}
+use Rattle.sh_tree.specs.language.Commands.{gap_length, is_newline_lead}
 use Rattle.sh_tree.specs.language.States.{Spot, State, Document, next, past, begun}
 use Rattle.sh_tree.specs.language.Reading as r
-use Rattle.sh_tree.specs.language.Reading.{lead_of, lead_here, skip, behind_name, parted, unopened, ReadsRedirect, ReadsRedirects, ReadsBreaks, ReadsElements, ReadsCommand, ReadsCompound, ReadsDo, ReadsBranches, ReadsElse, ReadsForWords, ReadsWords, ReadsClauses, ReadsPipeline, ReadsCommands, ReadsAndOr, ReadsLinks, ReadsItems, ReadsList, ReadsSequence}
+use Rattle.sh_tree.specs.language.Reading.{lead_here, skip, behind_name, parted, ReadsRedirect, ReadsRedirects, ReadsBreaks, ReadsElements, ReadsCommand, ReadsCompound, ReadsDo, ReadsBranches, ReadsElse, ReadsForWords, ReadsWords, ReadsClauses, ReadsPipeline, ReadsCommands, ReadsAndOr, ReadsLinks, ReadsItems, ReadsList}
 use Rattle.sh_reads.proofs.GapLemmas.{blanks_gap}
 
 -- neither a blank nor a line continuation stands there
@@ -37,9 +36,6 @@ either_settled b false s u h k = k
 
 pub settled_parted : (b : List ℕ) (s : State) → IsSettled b s.spot → IsSettled b (parted b s).spot
 settled_parted b s h = either_settled b (is_newline_lead (lead_here b s)) s (skip b 1 s) h (settled_next b (s.spot.at + 1) s)
-
-pub settled_unopened : (b : List ℕ) (s : State) → IsSettled b s.spot → IsSettled b (unopened b s).spot
-settled_unopened b s h = either_settled b (is_open (lead_of b (Named false) s)) (skip b 1 s) s (settled_next b (s.spot.at + 1) s) h
 
 pub redirect_settled : {limit : ℕ} {b : List ℕ} {body : ℕ → Document} {s u : State} {q : Redirect} → ReadsRedirect limit b body s u q → IsSettled b u.spot
 redirect_settled {b = b} {s = s} (r.file {u = u} {r = o} h d k w) = settled_past b u (next b o.end s)
@@ -125,7 +121,3 @@ items_settled {b = b} here (r.more_items {u = u} l h k e is) = items_settled (br
 
 pub list_settled : {limit : ℕ} {b : List ℕ} {body : ℕ → Document} {s u : State} {t : Script} → IsSettled b s.spot → ReadsList limit b body s u t → IsSettled b u.spot
 list_settled here (r.list k h is) = items_settled (breaks_settled here k) is
-
-pub sequence_settled : {limit : ℕ} {b : List ℕ} {body : ℕ → Document} {s u : State} {t : Script} → IsSettled b s.spot → ReadsSequence limit b body s u t → IsSettled b u.spot
-sequence_settled here (r.nothing k h) = breaks_settled here k
-sequence_settled here (r.sequence t) = list_settled here t
