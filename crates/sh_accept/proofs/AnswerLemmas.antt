@@ -29,6 +29,7 @@ use Rattle.sh_accept.specs.Accepted.{IsAdmitted, claims_in, functions_in, IsAcce
 use Rattle.sh_accept.specs.Answers.{Checks, Refuses, IsCertified, IsForged, HasFindings, RefusesText, places}
 use Rattle.sh_accept.specs.Computed.{Answer, Passes, Finds, Breaks, Tells, shown, in_order, of_findings, of_fault, of_certificate, of_fit, of_claims, of_count, of_profile, computed, IsRead, is_refusal, is_told, HasOneAnswer}
 use Rattle.sh_accept.proofs.FindingLemmas.{found_in_order}
+use Rattle.sh_accept.proofs.LoopLemmas.{one_order}
 use Rattle.sh_accept.proofs.NumberingLemmas.{same_names, same_count, same_fit}
 
 module _ (b : List ℕ) (d : Declared) (t : Script) (names : List Text) (loops : List Bool) (text : Text) (read : IsRead b d t names loops) where
@@ -39,6 +40,10 @@ module _ (b : List ℕ) (d : Declared) (t : Script) (names : List Text) (loops :
   -- what is read is the tree
   pub tree_is : (u : Script) → Parses b (Ok u) → u ≡ t
   tree_is u h = read.reading.2 u (MAX_NESTING, h.1.0, h.1.1)
+
+  -- and its loops are told in one way
+  pub loops_are : (others : List Bool) → AreLoops t others → others ≡ loops
+  loops_are others are = one_order b t MAX_NESTING read.reading.1.0 read.reading.1.1 loops others read.are_loops are
 
   -- the rest of the answer behind each step
   abbrev behind_names : Answer
@@ -62,7 +67,7 @@ module _ (b : List ℕ) (d : Declared) (t : Script) (names : List Text) (loops :
   fit_is : (others : List Text) → IsNumbering b t d others → (ls : List Bool) → AreLoops t ls → (c : Sheet) → fits names loops (length (functions_in b t)) c ≡ fits others ls (length (functions_in b t)) c
   fit_is others n ls l c =
       same_fit names others (same_names b t d names others read.numbering n) loops (length (functions_in b t)) c
-      ∙ ap (λ k. fits others k (length (functions_in b t)) c) (sym (read.one_order ls l))
+      ∙ ap (λ k. fits others k (length (functions_in b t)) c) (sym (loops_are ls l))
 
   certified : (c : Sheet) → IsCertified b d text t c → answer ≡ of_certificate b d (script_of b t) (functions_in b t) c
   unfolding of_claims of_fit

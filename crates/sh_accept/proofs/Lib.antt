@@ -4,6 +4,7 @@ pub mod HeadlineLemmas
 pub mod PartLemmas
 pub mod FindingLemmas
 pub mod NumberingLemmas
+pub mod LoopLemmas
 pub mod AnswerLemmas
 pub mod ExampleLemmas
 pub mod DemandLemmas

@@ -60,9 +60,6 @@ led t u (v ∷ us) l h = go (bytes_eq v u) refl h (λ k. led t u us l.1 k)
 not_behind_itself : (t : Text) (ts : List Text) → Leads t ts → is_one_of ts t ≡ true → ⊥
 not_behind_itself t ts l h = true≢false (sym (led t t ts l h) ∙ precedes_self t)
 
-Has : List Text → List Text → Type 0
-Has xs ys = (t : Text) → is_one_of xs t ≡ true → is_one_of ys t ≡ true
-
 later : (b c : Bool) → b ≡ false → (b || c) ≡ true → c ≡ true
 later true c e h = absurd (true≢false e)
 later false c e h = h

@@ -25,7 +25,7 @@ use Rattle.sh_accept.specs.Accepted.{IsAdmitted, functions_in}
 use Rattle.sh_accept.specs.Answers.{Refuses, RefusesText, NoRefusal, IsBest, HasLeastFindings, Lints, Certifies, places}
 use Rattle.sh_accept.specs.Computed.{Answer, Passes, Finds, Breaks, Tells, shown, in_order, computed, IsRead, is_refusal, is_told}
 use Rattle.sh_accept.specs.Single.{HasOneGreatest}
-use Rattle.sh_accept.proofs.AnswerLemmas.{malformed, of_refusal, tree_is}
+use Rattle.sh_accept.proofs.AnswerLemmas.{loops_are, malformed, of_refusal, tree_is}
 use Rattle.sh_accept.proofs.DistinctLemmas.{distinct_fold}
 use Rattle.sh_accept.proofs.FindingLemmas.{found_in_order}
 use Rattle.sh_accept.proofs.GreatestLemmas.{renamed, failed}
@@ -41,7 +41,7 @@ module _ (b : List ℕ) (d : Declared) (t : Script) (names : List Text) (loops :
   fits_read c h =
       let f = h.greatest.fit in
       same_fit names h.names (same_names b t d names h.names read.numbering h.admitted.numbered.0) loops (length (functions_in b t)) c
-      ∙ ap (λ ls. fits h.names ls (length (functions_in b t)) c) (sym (read.one_order f.loops f.are_loops))
+      ∙ ap (λ ls. fits h.names ls (length (functions_in b t)) c) (sym (loops_are b d t names loops [] read f.loops f.are_loops))
       ∙ f.fit
 
   one : (c e : Sheet) → IsBest b d t c → IsBest b d t e → c ≡ e

@@ -1,9 +1,9 @@
 -- Of rows with the same elements only one is in order, where the order tells all elements apart.
 use Rattle.std.proofs.Common.{◌≡◌, ℕ, suc, ◌≤◌, ◌<◌, ◌+◌, true, false, cond, List, [], ◌∷◌, length, map, get_or, refl, sym, ◌∙◌, ap, arith}
 use Rattle.std.specs.List.{sum_by}
-use Rattle.std.specs.List.Sorted.{IsPermutation, IsSortedByKey}
+use Rattle.std.specs.List.Sorted.{IsSortedByKey}
 use Rattle.std.specs.Cmp.{IsTotalOrder}
-use Rattle.std.proofs.lemmas.List.Sorted.{ranks_by, sorted_far, sum_by-IsPermutation}
+use Rattle.std.proofs.lemmas.List.Sorted.{ranks_by, sorted_far}
 use Rattle.std.specs.Ordering.{is_lt, is_eq, ordering_reverse}
 use Rattle.std.specs.declared.cmp.Ordering.{Ordering}
 use Rattle.std.specs.declared.cmp.Ordering.TheVariants.{Less, Equal, Greater}
@@ -108,9 +108,3 @@ module _ {K : Type 0} (cmp : K → K → Ordering) (order : IsTotalOrder cmp) (e
 
     pub rises_sorted : (fs : List F) → IsSortedByKey key cmp fs → Rises (map key fs)
     rises_sorted fs h = rises_by fs (sorted_far (λ x y. is_lt (cmp (key x) (key y))) (ranks_by order key) fs h)
-
-    -- rows in order, of the same keys
-    pub same_sorted : (ks : List K) (fs gs : List F) → IsPermutation ks (map key fs) → IsPermutation ks (map key gs) → IsSortedByKey key cmp fs → IsSortedByKey key cmp gs → map key fs ≡ map key gs
-    same_sorted ks fs gs p q r s =
-        one_order (map key fs) (map key gs) (rises_sorted fs r) (rises_sorted gs s)
-        (λ x. sum_by-IsPermutation (λ w. cond (is_eq (cmp x w)) 1 0) ks (map key fs) p ∙ sym (sum_by-IsPermutation (λ w. cond (is_eq (cmp x w)) 1 0) ks (map key gs) q))

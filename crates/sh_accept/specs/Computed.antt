@@ -89,12 +89,11 @@ computed b d p functions names loops text =
 
 -- Where it is the answer
 
--- The tree is the one reading, these are its names, and these are its loops, in the one order of its commands by number.
+-- The tree is the one reading, these are its names, and these are its loops.
 pub record IsRead (b : List ℕ) (d : Declared) (t : Script) (names : List Text) (loops : List Bool) : Type 0 where
   pub reading : Parses b (Ok t)
   pub numbering : IsNumbering b t d names
   pub are_loops : AreLoops t loops
-  pub one_order : (others : List Bool) → AreLoops t others → others ≡ loops
 
 -- no want of memory
 unfoldable pub is_refusal : Refusal → Bool

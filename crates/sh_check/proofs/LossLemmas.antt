@@ -28,12 +28,12 @@ abbrev pub names_lost : Declared → Certificate → ℕ → List Loss → List 
 names_lost d c n ls = flat_map (λ l. l.vars ++ l.functions) (map (lost d c n) ls)
 
 -- operands that are static
-texts_listed : (ws : List Word) → listed (map static_of ws) ≡ statics ws
+pub texts_listed : (ws : List Word) → listed (map static_of ws) ≡ statics ws
 texts_listed [] = refl
 texts_listed (w ∷ ws) = ap (cons_option (static_of w)) (texts_listed ws)
 
 -- special built-in utilities
-special_same : (k : Kind) → is_special k ≡ kinds.is_special k
+pub special_same : (k : Kind) → is_special k ≡ kinds.is_special k
 unfolding is_special kinds.is_special
 special_same (kind.Special name) = refl
 special_same k = refl

@@ -20,12 +20,6 @@ use Rattle.sh_check.proofs.TellLemmas.{both_pass, word_pass, gained_whole, facts
 
 -- names that pass
 
-words_pass : (q : Text → Bool) (ws : p.Words) → words_within q ws ≡ true → list_all q (words_gains ws).names ≡ true
-unfolding words_within words_gains
-words_pass q p.no_words h = refl
-words_pass q (p.more_words w ws) h =
-    let both = and_parts (word_within q w) (words_within q ws) h in both_pass q (word_gains w).names (words_gains ws).names (word_pass q w both.0) (words_pass q ws both.1)
-
 pub elements_pass : (q : Text → Bool) (es : p.Elements) → elements_within q es ≡ true → list_all q (words_gains (operands_in es)).names ≡ true
 unfolding elements_within words_gains operands_in
 elements_pass q p.no_elements h = refl

@@ -79,7 +79,7 @@ comes : (names : List Text) (x t : Text) (b : Bool) → is_one_of names x ≡ b 
 comes names x t true e h = ap (is_one_of names) (sym ((bytes_eq-Decides x t).0 h)) ∙ e
 comes names x t false e h = list_any-append (λ n. bytes_eq n t) names (x ∷ []) ∙ or_right (is_one_of names t) (is_one_of (x ∷ []) t) (or_left (bytes_eq x t) false h)
 
-all_stay : (names xs : List Text) (t : Text) → is_one_of names t ≡ true → is_one_of (fold with_text names xs) t ≡ true
+pub all_stay : (names xs : List Text) (t : Text) → is_one_of names t ≡ true → is_one_of (fold with_text names xs) t ≡ true
 all_stay names [] t h = h
 all_stay names (x ∷ xs) t h = all_stay (with_text names x) xs t (stays names x t (is_one_of names x) h)
 

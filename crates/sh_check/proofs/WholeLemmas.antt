@@ -16,7 +16,6 @@ use Rattle.sh_table.specs.Numbering.{is_numbered}
 use Rattle.sh_table.specs.runs.Environment.{is_one_of}
 use Rattle.sh_table.proofs.FunctionLemmas.{place_later}
 use Rattle.sh_facts.specs.declared.certificate.Certificate as kept
-use Rattle.sh_facts.specs.declared.certificate.Drops.{Drops}
 use Rattle.sh_facts.specs.declared.certificate.Entry.{Entry}
 use Rattle.sh_facts.specs.declared.certificate.FunctionEntry.{FunctionEntry}
 use Rattle.sh_facts.specs.declared.rule.FlowRule.{FlowRule}
@@ -63,20 +62,6 @@ pub drops_kept : (names : List Text) (c : kept.Certificate) (x : Table) (k : ℕ
     → function_drops (source_of names c x) k
     ≡ unwrap_or (option_map (λ (e : FunctionEntry). drops_of (in_byte_order names) c.rows e.drops) (slice_get c.functions.items (k - 1))) no_names
 drops_kept names c x k = ap (λ o. unwrap_or o no_names) (slice_get-map (λ (e : FunctionEntry). drops_of (in_byte_order names) c.rows e.drops) c.functions.items (k - 1))
-
-drops_found : (names : List Text) (c : kept.Certificate) (o : Option FunctionEntry) (y : Option Drops) → y ≡ option_map (λ (e : FunctionEntry). e.drops) o
-    → unwrap_or (option_map (λ (e : FunctionEntry). drops_of (in_byte_order names) c.rows e.drops) o) no_names ≡ unwrap_or (option_map (drops_of (in_byte_order names) c.rows) y) no_names
-drops_found names c None y h = ap (λ z. unwrap_or (option_map (drops_of (in_byte_order names) c.rows) z) no_names) (sym h)
-drops_found names c (Some e) y h = ap (λ z. unwrap_or (option_map (drops_of (in_byte_order names) c.rows) z) no_names) (sym h)
-
--- by the entry that is there
-pub function_kept : (names : List Text) (c : kept.Certificate) (x : Table) (k : ℕ) (y z : Option Drops)
-    → y ≡ option_map (λ (e : FunctionEntry). e.drops) (slice_get c.functions.items (k - 1)) → y ≡ z
-    → function_drops (source_of names c x) k ≡ unwrap_or (option_map (drops_of (in_byte_order names) c.rows) z) no_names
-function_kept names c x k y z h e =
-    drops_kept names c x k
-    ∙ drops_found names c (slice_get c.functions.items (k - 1)) y h
-    ∙ ap (λ w. unwrap_or (option_map (drops_of (in_byte_order names) c.rows) w) no_names) e
 
 claimed : (functions names : List Text) (c : kept.Certificate) (x : Table) (n : ℕ)
     → (known_before (source_of names c x) n).facts ≡ facts ((certificate_of functions (sheet_of (in_byte_order names) c)).claim (Before n))
@@ -206,7 +191,7 @@ table_functions : (b : List ℕ) (t : Script) (u : Text) → is_one_of (table_of
 unfolding table_of calls.functions_of
 table_functions b t u = functions_same (script_of b t) u
 
-table_texts : (b : List ℕ) (t : Script) → is_numbered (script_of b t) ≡ true
+pub table_texts : (b : List ℕ) (t : Script) → is_numbered (script_of b t) ≡ true
     → list_all (λ (e : Entered). has_texts (table_of b t).rows e.command) (script_entered (script_of b t)) ≡ true
 unfolding table_of
 table_texts b t h = entered_have (script_of b t) h

@@ -24,13 +24,23 @@ use sh_tree::place::{Code, Place};
 use sh_tree::tree::Element;
 use std::alloc::AllocError;
 
+// The places from `start` on.
+fn places_from(places: &[Place], start: usize) -> &[Place]
+    ensures { result.now ≡ drop start places.now }
+{
+    if start < places.len() {
+        &places[start..]
+    } else {
+        &[]
+    }
+}
+
 // Whether a place from `start` on is about the name.
 fn is_told(places: &[Place], start: usize, name: &[u8]) -> bool
     ensures { result ≡ list_any (λ x. bytes_eq x.subject name.now) (drop start places.now) }
 {
-    places
+    places_from(places, start)
         .iter()
-        .skip(start)
         .any(|place| place.subject.as_slice() == name)
 }
 

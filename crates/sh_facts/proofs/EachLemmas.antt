@@ -9,14 +9,6 @@ pub none_both : {A : Type 0} (xs ys : List A) → xs ++ ys ≡ [] → (xs ≡ []
 none_both [] ys e = (refl, e)
 none_both (x ∷ xs) ys e = cc
 
-pub each_nil : {A : Type 0} (P : A → Type 0) → Each P []
-unfolding Each
-each_nil P = tt
-
-pub each_cons : {A : Type 0} (P : A → Type 0) (x : A) (xs : List A) → P x → Each P xs → Each P (x ∷ xs)
-unfolding Each
-each_cons P x xs h k = (h, k)
-
 pub each_join : {A : Type 0} (P : A → Type 0) (xs ys : List A) → Each P xs → Each P ys → Each P (xs ++ ys)
 unfolding Each
 each_join P [] ys h k = k

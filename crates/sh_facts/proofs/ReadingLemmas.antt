@@ -6,8 +6,6 @@ use Rattle.std.specs.Str.{bytes_eq}
 use Rattle.std.proofs.lemmas.Bool.{and_parts}
 use Rattle.std.proofs.lemmas.Option.{slice_get_within}
 use Rattle.sh_rows.specs.declared.bits.BitRow.{BitRow}
-use Rattle.sh_tree.specs.declared.refusal.Refusal.{Refusal}
-use Rattle.sh_tree.specs.declared.refusal.Refusal.TheVariants.{TooLong, NulByte, Syntax, LeftOut, TooDeep, TooMany, Memory, Profile, CertSyntax, CertShape}
 use Rattle.sh_tree.specs.program.Syntax.{Text}
 use Rattle.sh_table.specs.runs.Environment.{is_one_of}
 use Rattle.sh_facts.specs.declared.rows.RowId.{RowId}
@@ -30,7 +28,7 @@ use Rattle.sh_facts.specs.Forms.{pieces, is_rising}
 use Rattle.sh_facts.specs.KeptRows.{KeptRows, Stay, bits_of, bits_in, holds_at}
 use Rattle.sh_facts.specs.Names.{are_distinct, number_of}
 use Rattle.sh_facts.specs.Reading.{are_known, claim_fits, head_fits}
-use Rattle.sh_facts.specs.ReadParts.{is_name_of, is_among, IsRowOf, IsRead, ReadsSets, ReadsFacts, ReadsHead, ReadsCommand, ReadsFunction, Misfits}
+use Rattle.sh_facts.specs.ReadParts.{is_name_of, is_among, IsRowOf, IsRead, ReadsSets, ReadsFacts, ReadsHead, ReadsCommand, ReadsFunction}
 use Rattle.sh_facts.proofs.SpellingLemmas.{none_some}
 use Rattle.sh_facts.proofs.RowReadLemmas.{or_shuffle, placed_number, named_row}
 
@@ -139,19 +137,6 @@ read_says e h x = record { few = x.few; count = x.count; stay = x.stay; fit = sy
 
 pub nothing_read : (n : ℕ) (a : KeptRows) (Q : KeptRows → Type 0) → ((r : KeptRows) → Q r) → IsRead n a a true Q
 nothing_read n a Q h = record { few = omega arith; count = refl; stay = λ i l. refl; fit = refl; lasting = λ later s. h later }
-
--- what a part misses, the whole misses
-pub weaken : (f g : Bool) (e : Refusal) → (f ≡ false → g ≡ false) → Misfits f e → Misfits g e
-weaken f g TooMany i h = absurd h
-weaken f g Memory i h = tt
-weaken f g TooLong i h = absurd h
-weaken f g (NulByte a) i h = absurd h
-weaken f g (Syntax x a) i h = absurd h
-weaken f g (LeftOut x a) i h = absurd h
-weaken f g (TooDeep a) i h = absurd h
-weaken f g (Profile r a) i h = absurd h
-weaken f g (CertSyntax a) i h = absurd h
-weaken f g CertShape i h = i h
 
 -- Facts, commands, functions
 

@@ -67,7 +67,7 @@ no_claims : (i : ℕ) (o : Option ℕ) → uncalled ≡ unwrap_or (option_and_th
 no_claims i None = refl
 no_claims i (Some k) = refl
 
-function_of : (functions : List Text) (claims : List FunctionClaims) (i : ℕ) (t : Text)
+pub function_of : (functions : List Text) (claims : List FunctionClaims) (i : ℕ) (t : Text)
     → function_at functions claims t ≡ unwrap_or (option_and_then (λ k. slice_get claims (k - i)) (position_from (λ f. bytes_eq f t) i functions)) uncalled
 unfolding function_at
 function_of [] claims i t = refl

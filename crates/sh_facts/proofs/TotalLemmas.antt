@@ -22,11 +22,6 @@ own : ℕ → ℕ → ℕ
 own zero k = 0
 own (suc n) k = cond (k == suc n) 1 0 + own n k
 
-among_none : (n : ℕ) → among n [] ≡ 0
-unfolding among held
-among_none zero = refl
-among_none (suc n) = let rest = among_none n in omega arith
-
 among_more : (n : ℕ) (l : Located) (ls : List Located) → among n (l ∷ ls) ≡ own n (command_number l) + among n ls
 unfolding among own held
 among_more zero l ls = refl
