@@ -53,9 +53,6 @@ heads_on commands j old new c l low is loop heads here others = record {
     at_j : slice_get (loops_of commands) j ≡ Some (is_loop c.now)
     at_j = slice_get-map (λ (x : Bor Command). is_loop x.now) commands j ∙ ap (option_map (λ (x : Bor Command). is_loop x.now)) (slice_get-get_or commands j c low ∙ ap Some (sym is))
 
-pub no_heads : (loops : List Bool) (heads : ℕ → Option value.Facts) → ((k : ℕ) → heads k ≡ None) → AreHeads loops 0 heads
-no_heads loops heads h = record { none = h 0; far = λ i l. absurd (omega (arith, l)); past = λ i l. h (i + 1) }
-
 -- Entries
 
 some_one : {A : Type 0} (x y : A) → Some x ≡ Some y → x ≡ y

@@ -49,9 +49,6 @@ place_same p q e =
     let s : p.part ≡ q.part = part_same p.part q.part both.1 in
     ap₂ at s i
 
-itself : (n : ℕ) → eqb n n ≡ true
-itself n = eq-eqb n n refl
-
 -- Entries
 
 entry_put : (p : Part) (f : value.Facts) (e : Entry) → is_of_command p ≡ true → entry_part (entry_with p f e) p ≡ Some f

@@ -3,9 +3,9 @@ use Rattle.std.proofs.Common.{◌≡◌, ◌==◌, ℕ, Bool, true, false, not, 
 use Rattle.std.specs.Prelude.{codes, drop, filter}
 use Rattle.std.specs.List.{list_all, cons_option}
 use Rattle.std.specs.Str.{bytes_eq}
-use Rattle.std.proofs.lemmas.Bool.{and_from, and_parts, or_left}
+use Rattle.std.proofs.lemmas.Bool.{and_from, and_parts}
 use Rattle.std.proofs.lemmas.List.{append_assoc}
-use Rattle.std.proofs.lemmas.List.Folds.{list_all-append, list_any-append}
+use Rattle.std.proofs.lemmas.List.Folds.{list_all-append}
 use Rattle.std.proofs.lemmas.List.Sums.{fold-append}
 use Rattle.std.proofs.lemmas.Slice.Eq.{bytes_eq-Decides}
 use Rattle.sh_tree.specs.declared.known.KnownName.TheVariants as known
@@ -46,7 +46,8 @@ use Rattle.sh_facts.specs.Table.{Manner, Nameless, Utility, behind_words, is_red
 use Rattle.sh_facts.specs.Table as table
 use Rattle.sh_facts.specs.Views.{Slot, Before, AfterZero, AfterNonzero, Head, Entry, ReturnsZero, ReturnsNonzero, Seen, After, Both, Loss, OfNames, OfFunction, OfUnseen, at, gaining, gaining_names, if_nonzero, if_zero, in_any_case, stepped, Call, Count, Define}
 use Rattle.sh_facts.proofs.EnteredWalk.{script_walked}
-use Rattle.sh_check.proofs.ReachLemmas.{seen_reach}
+use Rattle.sh_check.proofs.ReachLemmas.{all_stay, seen_reach}
+use Rattle.sh_check.proofs.SightLemmas.{Seen as Seen_by, front, rest_of}
 use Rattle.sh_facts.proofs.StandLemmas.{all_stand}
 use Rattle.sh_rules.specs.Asked.{has_numbered_prefixes}
 use Rattle.sh_rules.specs.CommandBounds.{prefixes_in}
@@ -381,42 +382,33 @@ module _ (b : List ℕ) where
       ∙ ap (filter is_name) (behind_same [] (static_sights b ws) ∙ ap (λ ts. (unset_from [] ts).1) (statics_same ws))
 
   module _ (q : Text → Bool) where
-    abbrev Seen_by : List Sight → Type 0
-    Seen_by ss = list_all (λ (s : Sight). q s.name) ss ≡ true
-
-    unset_seen : (rest : List Sight) (ws : List tree_word.Word) (c : Bool) → Seen_by (if c then unset_sights b ws else rest) → list_all q (if c then unset_texts (statics (words_in (words_from b ws))) else []) ≡ true
+    unset_seen : (rest : List Sight) (ws : List tree_word.Word) (c : Bool) → Seen_by q (if c then unset_sights b ws else rest) → list_all q (if c then unset_texts (statics (words_in (words_from b ws))) else []) ≡ true
     unset_seen rest ws true h = ap (list_all q) (sym (unset_same ws)) ∙ seen_names q (unset_sights b ws) h
     unset_seen rest ws false h = refl
 
-    named_seen : (o : Option Text) (ws : List tree_word.Word) → Seen_by (sights.by_name b o ws) → list_all q (unset_by o (words_in (words_from b ws))) ≡ true
+    named_seen : (o : Option Text) (ws : List tree_word.Word) → Seen_by q (sights.by_name b o ws) → list_all q (unset_by o (words_in (words_from b ws))) ≡ true
     unfolding sights.by_name named_sights unset_by
     named_seen None ws h = refl
     named_seen (Some t) ws h = unset_seen _ ws (bytes_eq (codes "unset") t) h
 
-    words_seen : (ws : List tree_word.Word) → Seen_by (operand_sights b ws) → list_all q (unset_of (words_in (words_from b ws))) ≡ true
+    words_seen : (ws : List tree_word.Word) → Seen_by q (operand_sights b ws) → list_all q (unset_of (words_in (words_from b ws))) ≡ true
     unfolding operand_sights words_in words_from unset_of
     words_seen [] h = refl
     words_seen (w ∷ ws) h = ap (λ o. list_all q (unset_by o (words_in (words_from b ws)))) (static_of_parts b w.parts) ∙ named_seen (static_text b w.parts) ws h
 
-    front : (ss ts : List Sight) → Seen_by (ss ++ ts) → Seen_by ss
-    front ss ts h = (and_parts _ _ (sym (list_all-append (λ (s : Sight). q s.name) ss ts) ∙ h)).0
-
-    rest_of : (ss ts : List Sight) → Seen_by (ss ++ ts) → Seen_by ts
-    rest_of ss ts h = (and_parts _ _ (sym (list_all-append (λ (s : Sight). q s.name) ss ts) ∙ h)).1
-
-    kind_seen : (n offset : ℕ) (rs : p.Redirects) (k : tree.Kind) → Seen_by (in_kind b k) → list_all q (unset_in (p.command n offset (trees.kind_of b k) rs)) ≡ true
+    kind_seen : (n offset : ℕ) (rs : p.Redirects) (k : tree.Kind) → Seen_by q (in_kind b k) → list_all q (unset_in (p.command n offset (trees.kind_of b k) rs)) ≡ true
     unfolding in_kind trees.part_of unset_in
     kind_seen n offset rs (Simple' shape row) h =
         let es = items-the_row-Element _ row in
         ap (λ x. list_all q (unset_of (words_in (operands_in x)))) (rules.elements_listed b row)
         ∙ ap (λ x. list_all q (unset_of (words_in x))) (operands_of_elements b es)
-        ∙ words_seen (words_of es) (rest_of (flat_map (in_element b) es) (operand_sights b (words_of es)) h)
+        ∙ words_seen (words_of es) (rest_of q (flat_map (in_element b) es) (operand_sights b (words_of es)) h)
     kind_seen n offset rs _ h = refl
 
-    command_seen : (c : Command) → Seen_by (in_command b c) → list_all q (unset_in (trees.command_of b c)) ≡ true
+    command_seen : (c : Command) → Seen_by q (in_command b c) → list_all q (unset_in (trees.command_of b c)) ≡ true
     command_seen c h =
         ap (λ m. list_all q (unset_in m)) (rules.command_of-out b c)
-        ∙ kind_seen _ _ (redirects_from b (out-Command c).redirects) (out-Command c).kind (front (in_kind b (out-Command c).kind) (flat_map (in_redirect b) (out-Command c).redirects) h)
+        ∙ kind_seen _ _ (redirects_from b (out-Command c).redirects) (out-Command c).kind (front q (in_kind b (out-Command c).kind) (flat_map (in_redirect b) (out-Command c).redirects) h)
 
 empty_seen : (q : Text → Bool) → list_all q (unset_in (p.command 0 0 (p.Group p.no_items) p.no_redirects)) ≡ true
 unfolding unset_in
@@ -430,14 +422,6 @@ unset_numbered b d t names n =
     (all_stand b (λ (c : Command). list_all (λ (s : Sight). q s.name) (in_command b c)) (λ c. list_all q (unset_in c)) (command_seen b q) (empty_seen q) outside t (seen_reach b t d names n))
 
 -- OPTARG is one of the first names
-
-stays : (names : List Text) (x t : Text) (c : Bool) → is_one_of names t ≡ true → is_one_of (if c then names else names ++ x ∷ []) t ≡ true
-stays names x t true h = h
-stays names x t false h = list_any-append (λ n. bytes_eq n t) names (x ∷ []) ∙ or_left (is_one_of names t) (is_one_of (x ∷ []) t) h
-
-all_stay : (names xs : List Text) (t : Text) → is_one_of names t ≡ true → is_one_of (fold with_text names xs) t ≡ true
-all_stay names [] t h = h
-all_stay names (x ∷ xs) t h = all_stay (with_text names x) xs t (stays names x t (is_one_of names x) h)
 
 first_optarg : is_one_of (fold with_text [] first_names) (codes "OPTARG") ≡ true
 first_optarg = refl

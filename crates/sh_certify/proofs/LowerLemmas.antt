@@ -23,7 +23,7 @@ use Rattle.sh_find.specs.Kept.{numbers_of, sight_facts, seen_of, fact_of, IsName
 use Rattle.sh_find.proofs.SolutionLemmas.{stays_there, stays_placed, stays_same, meet_numbered}
 use Rattle.sh_find.specs.Lowers.{IsNumbered}
 use Rattle.sh_find.proofs.NamedLemmas.{met_named}
-use Rattle.sh_find.proofs.OrderLemmas.{within_nowhere}
+use Rattle.sh_find.proofs.OrderLemmas.{meet_second, within_nowhere}
 use Rattle.sh_facts.specs.declared.certificate.FunctionEntry.{FunctionEntry}
 use Rattle.sh_certify.specs.declared.place.Part.TheVariants.{Head}
 use Rattle.sh_certify.specs.declared.place.Place.{Place}
@@ -161,6 +161,16 @@ drops_still names old new d stay fine = record {
   passes = passes_still names old new d.vars d.functions stay fine.vars fine.functions fine.passes;
 }
 
+claims_still : (names : List Text) (old new : KeptRows) → Stay old.rows new.rows → (o : Option value.Facts) → ((f : value.Facts) → o ≡ Some f → IsFine names old f)
+    → option_map (fact_of new.rows) o ≡ option_map (fact_of old.rows) o
+claims_still names old new stay None h = refl
+claims_still names old new stay (Some f) h = ap Some (stays_same old.rows new.rows f stay (h f refl).placed)
+
+dropped_still : (names : List Text) (old new : KeptRows) → Stay old.rows new.rows → (o : Option Drops) → ((d : Drops) → o ≡ Some d → AreFine names old d)
+    → option_map (sets_of new) o ≡ option_map (sets_of old) o
+dropped_still names old new stay None h = refl
+dropped_still names old new stay (Some d) h = ap Some (sets_still old new d stay (h d refl).vars (h d refl).functions)
+
 -- What is kept depends on no rows
 
 pub kept_still : (c d : Certificate) (q : Place) → d.entries ≡ c.entries → d.heads ≡ c.heads → d.functions ≡ c.functions → kept_at d q ≡ kept_at c q
@@ -208,14 +218,6 @@ module _ (names : List Text) (loops : List Bool) (m : ℕ) (old mid new : Certif
   drops_same : (i : ℕ) → drops_at new i ≡ drops_at old i
   drops_same i = put.drops i ∙ ap (λ v. option_map (λ (e : FunctionEntry). e.drops) (slice_get v.items i)) functions
 
-  claims_still : (o : Option value.Facts) → ((g : value.Facts) → o ≡ Some g → IsFine names old.rows g) → option_map (fact_of new.rows.rows) o ≡ option_map (fact_of old.rows.rows) o
-  claims_still None h = refl
-  claims_still (Some g) h = ap Some (stays_same old.rows.rows new.rows.rows g grown (h g refl).placed)
-
-  dropped_still : (o : Option Drops) → ((d : Drops) → o ≡ Some d → AreFine names old.rows d) → option_map (sets_of new.rows) o ≡ option_map (sets_of old.rows) o
-  dropped_still None h = refl
-  dropped_still (Some d) h = ap Some (sets_still old.rows new.rows d grown (h d refl).vars (h d refl).functions)
-
   pub is_lowered : ¬ (IsWithin (fact_of old.rows.rows f) known) → IsLowered old new p known true
   unfolding claims dropped
   is_lowered fails = record {
@@ -223,8 +225,8 @@ module _ (names : List Text) (loops : List Bool) (m : ℕ) (old mid new : Certif
     there = λ e. is_there (fact_of old.rows.rows) (kept_at old p) f is;
     fails = λ e g at_p. λ w. fails (subst (λ h. IsWithin h known) (some_same _ _ (sym at_p ∙ ap (option_map (fact_of old.rows.rows)) is)) w);
     here = λ e. ap (option_map (fact_of new.rows.rows)) put.here ∙ ap (λ (r : KeptRows). Some (fact_of r.rows kept)) same_rows ∙ ap Some met ∙ sym (ap (λ o. option_map (λ g. meet g known) (option_map (fact_of old.rows.rows) o)) is);
-    elsewhere = λ q n. ap (option_map (fact_of new.rows.rows)) (elsewhere q n) ∙ claims_still (kept_at old q) (working.facts q);
-    drops = λ i. ap (option_map (sets_of new.rows)) (drops_same i) ∙ dropped_still (drops_at old i) (working.drops i);
+    elsewhere = λ q n. ap (option_map (fact_of new.rows.rows)) (elsewhere q n) ∙ claims_still names old.rows new.rows grown (kept_at old q) (working.facts q);
+    drops = λ i. ap (option_map (sets_of new.rows)) (drops_same i) ∙ dropped_still names old.rows new.rows grown (drops_at old i) (working.drops i);
   }
     where
       some_same : (x y : Facts) → Some x ≡ Some y → x ≡ y
@@ -293,6 +295,28 @@ nowhere_stays c p known may none = subst (λ o. ClaimStays c p (seen_of o) may) 
 pub idle_both : (old mid : Certificate) (may : Sets) (g : Gathered) → mid ≡ old → ClaimStays old g.place g.known may → DropsStay mid g.function g.sets may → IsIdle old may g
 idle_both old mid may g same claim drops = record { claim = claim; drops = subst (λ c. DropsStay c g.function g.sets may) same drops }
 
+-- What is left fits
+
+-- what a claim and what is known both claim
+pub met_fits_known : (mid new : Certificate) (p : Place) (kept : value.Facts) (before known : Facts) (may : Sets) → IsPut mid new p kept → fact_of mid.rows.rows kept ≡ meet before known → ClaimStays new p known may
+met_fits_known mid new p kept before known may put met = record {
+  within = λ f e w.
+      let left : meet before known ≡ f = sym met ∙ ap (λ (r : KeptRows). fact_of r.rows kept) (sym put.rows) ∙ claimed_is new p kept put.here f e in
+      subst (λ (g : Facts). IsWithin g known) left (meet_second before known);
+}
+
+-- what may be dropped, with these too
+pub union_has_both : (mid new : Certificate) (i : ℕ) (kept : Drops) (sets before may : Sets) → IsDropped mid new i kept → sets_of mid.rows kept ≡ joined sets before → DropsStay new i sets may
+union_has_both mid new i kept sets before may put union = record {
+  within = λ s e w.
+      let left : joined sets before ≡ s = sym union ∙ ap (λ (r : KeptRows). sets_of r kept) (sym put.rows) ∙ dropped_is new i kept put.here s e in
+      subst (AreWithin sets) left (record { vars = λ k h. or_right (before.vars k) (sets.vars k) h; functions = λ k h. or_right (before.functions k) (sets.functions k) h });
+}
+
+-- a claim that is lowered, and then drops that are added to
+pub both_fit : (mid new : Certificate) (may : Sets) (g : Gathered) → claims new g.place ≡ claims mid g.place → ClaimStays mid g.place g.known may → DropsStay new g.function g.sets may → IsIdle new may g
+both_fit mid new may g same claim drops = record { claim = record { within = λ f e w. claim.within f (sym same ∙ e) w }; drops = drops }
+
 -- Drops that are added to
 
 pub union_below : (names : List Text) (rows : KeptRows) (d : Drops) (old : Sets) (new : Sets) → AreBelow (length names) (sets_of rows d) → AreBelow (length names) old
@@ -318,14 +342,6 @@ module _ (names : List Text) (loops : List Bool) (m : ℕ) (old mid new : Certif
   facts_same : (q : Place) → kept_at new q ≡ kept_at old q
   facts_same q = put.facts q ∙ kept_still old mid q entries heads functions
 
-  facts_kept : (o : Option value.Facts) → ((g : value.Facts) → o ≡ Some g → IsFine names old.rows g) → option_map (fact_of new.rows.rows) o ≡ option_map (fact_of old.rows.rows) o
-  facts_kept None h = refl
-  facts_kept (Some g) h = ap Some (stays_same old.rows.rows new.rows.rows g rows_grown (h g refl).placed)
-
-  sets_kept : (o : Option Drops) → ((x : Drops) → o ≡ Some x → AreFine names old.rows x) → option_map (sets_of new.rows) o ≡ option_map (sets_of old.rows) o
-  sets_kept None h = refl
-  sets_kept (Some x) h = ap Some (sets_still old.rows new.rows x rows_grown (h x refl).vars (h x refl).functions)
-
   pub is_counted : ¬ (AreWithin sets (sets_of old.rows d)) → IsCounted old new i sets true
   unfolding claims dropped
   is_counted fails = record {
@@ -333,8 +349,8 @@ module _ (names : List Text) (loops : List Bool) (m : ℕ) (old mid new : Certif
     there = λ e. is_there (sets_of old.rows) (drops_at old i) d is;
     fails = λ e s at_i. λ w. fails (subst (AreWithin sets) (some_sets _ _ (sym at_i ∙ ap (option_map (sets_of old.rows)) is)) w);
     here = λ e. ap (option_map (sets_of new.rows)) put.here ∙ ap (λ (r : KeptRows). Some (sets_of r kept)) rows_same ∙ ap Some union ∙ sym (ap (λ o. option_map (joined sets) (option_map (sets_of old.rows) o)) is);
-    elsewhere = λ j n. ap (option_map (sets_of new.rows)) (others j n) ∙ sets_kept (drops_at old j) (working.drops j);
-    claims = λ q. ap (option_map (fact_of new.rows.rows)) (facts_same q) ∙ facts_kept (kept_at old q) (working.facts q);
+    elsewhere = λ j n. ap (option_map (sets_of new.rows)) (others j n) ∙ dropped_still names old.rows new.rows rows_grown (drops_at old j) (working.drops j);
+    claims = λ q. ap (option_map (fact_of new.rows.rows)) (facts_same q) ∙ claims_still names old.rows new.rows rows_grown (kept_at old q) (working.facts q);
   }
     where
       some_sets : (x y : Sets) → Some x ≡ Some y → x ≡ y

@@ -1,16 +1,14 @@
 -- Where not all is kept, a constraint is broken at the place or the function that is sought, or at those that are next.
-use Rattle.std.proofs.Common.{◌≡◌, ℕ, suc, ◌+◌, ◌<◌, ◌≤◌, Bool, true, false, ◌&&◌, ◌||◌, if◌then◌else◌, Option, Some, None, option_map, is_some, unwrap_or, List, [], ◌∷◌, ◌++◌, map, fold, length, slice_get, refl, sym, ap, ◌∙◌, subst, arith, inl, inr, ◌⊎◌, true≢false, eq-eqb}
+use Rattle.std.proofs.Common.{◌≡◌, ℕ, ◌<◌, ◌≤◌, Bool, true, false, ◌&&◌, ◌||◌, Option, Some, None, option_map, is_some, unwrap_or, List, [], ◌∷◌, length, slice_get, refl, sym, ap, ◌∙◌, subst, arith, inl, inr, ◌⊎◌, true≢false, eq-eqb}
 use Rattle.std.specs.Prelude.{option_and_then}
-use Rattle.std.specs.List.{filter_map, cons_option}
 use Rattle.std.proofs.lemmas.Bool.{cases_Bool, lt-ltb}
-use Rattle.std.proofs.lemmas.List.{length-map, length-append}
+use Rattle.std.proofs.lemmas.List.{length-map}
 use Rattle.std.proofs.lemmas.Option.{slice_get_within}
 use Rattle.sh_tree.specs.declared.tree.Script.{Script}
 use Rattle.sh_tree.specs.program.Syntax.{Text}
 use Rattle.sh_tree.specs.program.Trees.{script_of}
-use Rattle.sh_table.specs.Calls.{defined, functions_of, names_of, row_of, table_of, with_name}
-use Rattle.sh_table.specs.Sites.{Site, sites_of}
-use Rattle.sh_table.specs.runs.Environment.{is_one_of}
+use Rattle.sh_table.specs.Calls.{table_of}
+use Rattle.sh_table.proofs.TableLemmas.{names_few}
 use Rattle.sh_facts.specs.declared.certificate.Certificate as kept
 use Rattle.sh_facts.specs.declared.certificate.Facts.TheVariants as value_kind
 use Rattle.sh_facts.specs.declared.rule.FlowRule.{FlowRule}
@@ -238,37 +236,6 @@ module _ (names : List Text) (loops : List Bool) (functions : List Text) (c : ke
   fitting_there (Within slot n rule v ∷ ks) h = ((h.0.place, h.0.at, place_low h.0.place h.0.there), fitting_there ks h.1)
   fitting_there (Counted f n loss ∷ ks) h = ((h.0.index, h.0.at, index_low h.0.index h.0.there), fitting_there ks h.1)
 
--- A script has no more functions than commands
-
-one_name : (ns : List Text) (t : Text) → length (with_name ns t) ≤ length ns + 1
-unfolding with_name
-one_name ns t = go (is_one_of ns t)
-  where
-    go : (b : Bool) → length (if b then ns else ns ++ (t ∷ [])) ≤ length ns + 1
-    go true = omega arith
-    go false = let long = length-append ns (t ∷ []) in omega (arith, long)
-
-few_names : (ns ts : List Text) → length (fold with_name ns ts) ≤ length ns + length ts
-few_names ns [] = omega arith
-few_names ns (t ∷ ts) = let rest = few_names (with_name ns t) ts in let one = one_name ns t in omega (arith, rest, one)
-
-one_given : {B : Type 0} (o : Option B) (ys : List B) (n : ℕ) → length ys ≤ n → length (cons_option o ys) ≤ suc n
-one_given None ys n l = omega (arith, l)
-one_given (Some y) ys n l = omega (arith, l)
-
-few_given : {A B : Type 0} (f : A → Option B) (xs : List A) → length (filter_map f xs) ≤ length xs
-few_given f [] = omega arith
-few_given f (x ∷ xs) = one_given (f x) (filter_map f xs) (length xs) (few_given f xs)
-
-no_more_functions : (b : List ℕ) (t : Script) → length (functions_in b t) ≤ length (table_of b t).rows
-unfolding table_of functions_of names_of
-no_more_functions b t =
-    let ss = sites_of (script_of b t) in
-    let names = few_names [] (filter_map (λ (s : Site). defined s.form) ss) in
-    let given = few_given (λ (s : Site). defined s.form) ss in
-    let long : length (map row_of ss) ≡ length ss = length-map ss _ in
-    omega (arith, names, given, long)
-
 -- each constraint of a script that is admitted asks something of an index that may be
 pub all_fitting : (b : List ℕ) (d : Declared) (t : Script) (names : List Text) (loops : List Bool) (c : kept.Certificate) → IsAdmitted b d t names → AreLoops t loops
     → IsWorking names loops (length (functions_in b t)) c → Each (AsksFitting (functions_in b t)) (script_bounds (script_of b t))
@@ -276,5 +243,5 @@ all_fitting b d t names loops c a are w =
     let long : length loops ≡ length are.commands = ap length are.each ∙ length-map are.commands _ in
     let few = greatest.few_commands b d t names a are.commands are.all in
     let rows : length (table_of b t).rows ≤ 65535 = few_commands b d t names a in
-    let functions = no_more_functions b t in
+    let functions = names_few b t in
     fitting_there names loops (functions_in b t) c w (omega (arith, long, few)) (omega (arith, functions, rows)) (script_bounds (script_of b t)) (rules_ask_there b d t names loops c a are w)

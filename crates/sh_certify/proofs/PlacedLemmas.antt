@@ -1,5 +1,5 @@
 -- Where a sweep is in a command, by where it is before it: a lemma for each kind of command (XCU 2.9).
-use Rattle.std.proofs.Common.{◌≡◌, ℕ, zero, suc, ◌+◌, ◌-◌, ◌<◌, ◌≤◌, Bool, true, false, Option, Some, List, [], ◌∷◌, ◌++◌, append_assoc, append-nil, drop, get_or, length, nat_lt, refl, sym, ap, ◌∙◌, subst, arith}
+use Rattle.std.proofs.Common.{◌≡◌, ℕ, zero, suc, ◌+◌, ◌-◌, ◌<◌, ◌≤◌, Bool, true, false, Option, Some, List, [], ◌∷◌, ◌++◌, append_assoc, append-nil, drop, get_or, length, nat_lt, sym, ap, ◌∙◌, subst, arith}
 use Rattle.std.proofs.lemmas.Bool.Decides.{nat_tests}
 use Rattle.std.proofs.Math.Seq.{drop-cons}
 use Rattle.sh_tree.specs.declared.tree.AndOr.{AndOr, out-AndOr}
@@ -146,9 +146,6 @@ module _ (s : Subject) where
     pub seen : After
     pub knows : KnowsBehind s seen known
     pub same : e.items_after seen (items_from s.script.now rest) ≡ e.items_after o (items_from s.script.now all)
-
-  pub goes_first : (o : After) (known : Behind) (all : List Item) → KnowsBehind s o known → GoesOn o known all all
-  goes_first o known all k = record { seen = o; knows = k; same = refl }
 
   pub goes_next : (o : After) (old new : Course) (all : List Item) (i : Item) (is : List Item) → GoesOn o (known_behind s old.behind) all (i ∷ is) → IsPassed s old new i
       → GoesOn o (known_behind s new.behind) all is

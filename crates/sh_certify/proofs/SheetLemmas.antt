@@ -1,9 +1,8 @@
 -- What a sheet claims at each place, and what that of a kept certificate does.
 use Rattle.std.proofs.Common.{◌≡◌, ℕ, zero, suc, ◌+◌, ◌-◌, ◌<◌, ◌≤◌, nat_eq, Bool, true, false, ◌&&◌, Option, Some, None, option_map, List, [], ◌∷◌, length, map, slice_get, is_some, refl, sym, ap, ◌∙◌, subst, arith, inl, inr, true≢false}
 use Rattle.std.specs.Prelude.{option_and_then, unwrap_or}
-use Rattle.std.specs.List.{list_all, position_from}
-use Rattle.std.specs.Str.{bytes_eq}
-use Rattle.std.proofs.lemmas.Bool.{cases_Bool, cases_lt, and_parts, and_from, eq-eqb}
+use Rattle.std.specs.List.{list_all}
+use Rattle.std.proofs.lemmas.Bool.{cases_lt, and_parts, and_from, eq-eqb}
 use Rattle.std.proofs.lemmas.List.{length-map}
 use Rattle.std.proofs.lemmas.List.Elements.{All-from_get_or}
 use Rattle.std.proofs.lemmas.Option.{slice_get-map, slice_get_past, slice_get-get_or}
@@ -24,7 +23,8 @@ use Rattle.sh_facts.specs.RoundTrips.{FactsPass, EntryPasses, FunctionPasses, Ha
 use Rattle.sh_facts.specs.Sheets.{Sheet, CommandClaims, FunctionClaims, claim_at, function_at, nowhere, uncalled}
 use Rattle.sh_facts.specs.Views as views
 use Rattle.sh_facts.specs.Views.{Slot}
-use Rattle.sh_facts.proofs.KnowledgeLemmas.{in_row, place_of as stands_at}
+use Rattle.sh_facts.proofs.KnowledgeLemmas.{in_row}
+use Rattle.sh_facts.proofs.SlotLemmas.{function_of}
 use Rattle.sh_find.specs.Kept.{fact_of}
 use Rattle.sh_certify.specs.declared.place.Part.{Part}
 use Rattle.sh_certify.specs.declared.place.Part.TheVariants.{Before, Zero, Nonzero, Head, Entered, ReturnZero, ReturnNonzero}
@@ -37,31 +37,9 @@ use Rattle.sh_certify.proofs.NumberLemmas.{claim_named, claim_known, sets_known}
 
 -- The function of a name is that of its number
 
-later : (fs : List FunctionClaims) (x : FunctionClaims) (i : ℕ) (o : Option ℕ) → ((k : ℕ) → o ≡ Some k → i < k)
-    → option_and_then (λ k. slice_get fs (k - (i + 1))) o ≡ option_and_then (λ k. slice_get (x ∷ fs) (k - i)) o
-later fs x i None h = refl
-later fs x i (Some k) h = let far = h k refl in let same : suc (k - (i + 1)) ≡ k - i = omega arith in ap (slice_get (x ∷ fs)) same
-
-none_there : (i : ℕ) (o : Option ℕ) → uncalled ≡ unwrap_or (option_and_then (λ k. slice_get {X = FunctionClaims} [] (k - i)) o) uncalled
-none_there i None = refl
-none_there i (Some k) = refl
-
-function_from : (functions : List Text) (fs : List FunctionClaims) (i : ℕ) (t : Text)
-    → function_at functions fs t ≡ unwrap_or (option_and_then (λ k. slice_get fs (k - i)) (position_from (λ f. bytes_eq f t) i functions)) uncalled
-unfolding function_at
-function_from [] fs i t = refl
-function_from (f ∷ functions) [] i t = none_there i (position_from (λ g. bytes_eq g t) i (f ∷ functions))
-function_from (f ∷ functions) (x ∷ fs) i t = elim (cases_Bool (bytes_eq f t)) [
-  | inl s ↦ let here : 0 ≡ i - i = omega arith in rw s (ap (λ k. unwrap_or (slice_get (x ∷ fs) k) uncalled) here)
-  | inr s ↦ rw s (
-      function_from functions fs (i + 1) t
-      ∙ ap (λ o. unwrap_or o uncalled)
-      (later fs x i (position_from (λ g. bytes_eq g t) (i + 1) functions) (λ k e. let place = stands_at functions (i + 1) k t e in let far = place.1 in omega arith)))
-]
-
 function_part_at : {C : Type 0} (s : Sheet) (functions : List Text) (part : FunctionClaims → C) (t : Text) (of : Option ℕ → C)
     → of None ≡ part uncalled → ((k : ℕ) → of (Some k) ≡ part (unwrap_or (slice_get s.functions k) uncalled)) → part (function_at functions s.functions t) ≡ of (number_of functions t)
-function_part_at s functions part t of none some = ap part (function_from functions s.functions 0 t) ∙ by (number_of functions t)
+function_part_at s functions part t of none some = ap part (function_of functions s.functions 0 t) ∙ by (number_of functions t)
   where
     by : (o : Option ℕ) → part (unwrap_or (option_and_then (λ k. slice_get s.functions (k - 0)) o) uncalled) ≡ of o
     by None = sym none

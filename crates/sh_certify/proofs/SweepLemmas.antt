@@ -1,5 +1,5 @@
 -- A sweep over the commands of a script stays above each certificate that keeps the rules.
-use Rattle.std.proofs.Common.{◌≡◌, ℕ, ◌≤◌, Bool, true, false, Some, List, [], ◌++◌, append_assoc, length, flat_map, refl, sym, ap, ◌∙◌, subst, arith, true≢false}
+use Rattle.std.proofs.Common.{◌≡◌, ℕ, ◌≤◌, Bool, true, false, Some, List, [], ◌++◌, append_assoc, length, flat_map, refl, sym, ap, ◌∙◌, subst, arith}
 use Rattle.sh_facts.specs.declared.certificate.Certificate as kept
 use Rattle.sh_facts.specs.Entries.{Entered}
 use Rattle.sh_facts.specs.Facts.{facts}
@@ -106,9 +106,6 @@ module _ (s : Subject) where
   abbrev Turns : List Bool → ℕ → kept.Certificate → kept.Certificate → Bool → Type 0
   Turns loops m old new done = IsTurn s.names.now loops m s.policy.now (functions_in s.script.now s.tree.now) (script_bounds (script_of s.script.now s.tree.now)) old new done
 
-  pub turned_none : (c : kept.Certificate) (n : ℕ) → IsReady s c n → IsTurned c c n false
-  turned_none c n r = record { working = λ loops m w. w; over = r.over; probe = r.probe; rules = λ e. absurd (true≢false (sym e)) }
-
   pub turned_more : (old mid swept new : kept.Certificate) (n h k l : ℕ) (was done : Bool) → IsReady s old n → IsTurned old mid h was → IsSwept s mid swept k
       → ((loops : List Bool) (m : ℕ) → IsWorking s.names.now loops m swept → Turns loops m swept new done) → l ≡ length s.names.now → IsTurned old new l done
   turned_more old mid swept new n h k l was done r t w turn probe =
@@ -119,16 +116,6 @@ module _ (s : Subject) where
         probe = probe;
         rules = first.rules;
       }
-
-  pub ready_turned : (old new : kept.Certificate) (n k : ℕ) (done : Bool) → IsReady s old n → IsTurned old new k done → IsReady s new k
-  ready_turned old new n k done r t = record {
-    admitted = r.admitted;
-    loops = r.loops;
-    functions = r.functions;
-    working = t.working r.loops r.functions r.working;
-    over = t.over;
-    probe = t.probe;
-  }
 
   -- a turn behind a sweep, as one
   pub swept_turn : (loops : List Bool) (m : ℕ) (old mid new : kept.Certificate) (n : ℕ) (done : Bool) → IsWorking s.names.now loops m old → IsSwept s old mid n → Turns loops m mid new done → Turns loops m old new done

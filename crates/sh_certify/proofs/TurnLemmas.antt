@@ -12,7 +12,6 @@ use Rattle.sh_facts.specs.Reading.{claim_fits}
 use Rattle.sh_facts.specs.Rules.{Constraint}
 use Rattle.sh_facts.specs.Sheets.{Sheet, certificate_of}
 use Rattle.sh_facts.proofs.OrderLemmas.{within_nowhere}
-use Rattle.sh_find.specs.Facts as number
 use Rattle.sh_find.specs.Kept.{numbers_of, IsNamed}
 use Rattle.sh_certify.specs.declared.gather.Gather.{Gather}
 use Rattle.sh_certify.specs.declared.gather.Target.{Target}
@@ -71,16 +70,6 @@ module _ (target : Target) (g : Gather) (new : IsNew target g) where
 
 -- A certificate that is lowered twice
 
-pub not_lowered : (c : kept.Certificate) (p : Place) (known : number.Facts) → IsLowered c c p known false
-not_lowered c p known = record {
-  stays = λ e. refl;
-  there = λ e. absurd (true≢false (sym e));
-  fails = λ e. absurd (true≢false (sym e));
-  here = λ e. absurd (true≢false (sym e));
-  elsewhere = λ q n. refl;
-  drops = λ i. refl;
-}
-
 module _ (names : List Text) (loops : List Bool) (m : ℕ) (old mid new : kept.Certificate) (g : Gathered) (x y : Bool) (before : IsWorking names loops m old) (between : IsWorking names loops m mid)
     (after : IsWorking names loops m new) (first : IsLowered old mid g.place g.known x) (second : IsCounted mid new g.function g.sets y) (numbers : AreNumbers (length names) g) where
   abbrev tall : kept.Certificate → ℕ
@@ -135,9 +124,6 @@ sunk_else names loops m old new g false y e s = s
 -- Turns
 
 module _ (names : List Text) (loops : List Bool) (m : ℕ) (declared : Declared) (defined : List Text) (ks : List Constraint) where
-  pub kept_turn : (c : kept.Certificate) → IsWorking names loops m c → flat_map (broken declared (certificate_of defined (sheet_by names c))) ks ≡ [] → IsTurn names loops m declared defined ks c c true
-  kept_turn c working rules = record { working = working; rules = λ e. rules; less = λ e. absurd (true≢false e); above = λ d fit kept below. below }
-
   pub sunk_turn : AreNumbered names → (old new : kept.Certificate) (g : Gathered)
       → ((d : Sheet) → ((o : Option Place) → claim_fits names (claim_there d o) ≡ true) → flat_map (broken declared (certificate_of defined d)) ks ≡ []
       → IsBelow (certificate_of defined d) (certificate_of defined (sheet_by names old)) → Stands names d g)

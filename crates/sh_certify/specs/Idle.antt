@@ -1,4 +1,4 @@
--- Where nothing is lowered at a place and a function.
+-- Where nothing is left to be lowered at a place and a function.
 -- The standard has no such thing: what is claimed of a place has to be known there in every run.
 use Rattle.std.specs.Prelude.{◌≡◌, ℕ, Some}
 use Rattle.sh_facts.specs.declared.certificate.Certificate as kept
@@ -15,7 +15,7 @@ pub record ClaimStays (c : kept.Certificate) (p : Place) (known : number.Facts) 
 pub record DropsStay (c : kept.Certificate) (i : ℕ) (sets may : Sets) : Type 0 where
   pub within : (s : Sets) → dropped c i ≡ Some s → AreWithin (joined sets s) may → AreWithin sets s
 
--- nothing of what was gathered was to be lowered, but what may not be written
+-- nothing of what was gathered is to be lowered, but what may not be written
 pub record IsIdle (c : kept.Certificate) (may : Sets) (g : Gathered) : Type 0 where
   pub claim : ClaimStays c g.place g.known may
   pub drops : DropsStay c g.function g.sets may

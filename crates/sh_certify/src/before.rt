@@ -9,10 +9,12 @@ ghost use Rattle.sh_facts.specs.Sheets.{Sheet};
 ghost use Rattle.sh_find.specs.Kept.{sight_facts, IsNamed};
 ghost use Rattle.sh_certify.specs.declared.place.Part.TheVariants.{Before};
 ghost use Rattle.sh_certify.specs.Gathered.{fitting_place};
+ghost use Rattle.sh_certify.specs.Idle.{ClaimStays};
 ghost use Rattle.sh_certify.specs.Numbers.{by_name};
 ghost use Rattle.sh_certify.specs.Places as spec;
 ghost use Rattle.sh_certify.specs.Places.{claim_there};
 ghost use Rattle.sh_certify.specs.Sweeps.{IsCommand, IsReady, IsSwept, Keeps};
+ghost use Rattle.sh_certify.specs.Writable.{sets_in};
 
 use crate::draft::Draft;
 use crate::kept::facts_at;
@@ -26,7 +28,7 @@ use sh_find::sight::Sight;
 use sh_tree::tree::Command;
 use std::alloc::AllocError;
 
-/// Lowers what is claimed at a place to what is known there.
+/// Lowers what is claimed at a place to what is known there, if a text of a certificate may name what is left.
 ///
 /// # Errors
 ///
@@ -41,6 +43,7 @@ pub fn lower_at(
     requires named { IsNamed (length subject.now.names.now) (sight_facts known.now) }
     requires stands { (other : Sheet) → Keeps subject.now other → IsWithin (facts (claim_there other (Some place))) (by_name subject.now.names.now (sight_facts known.now)) }
     ensures swept { IfOk result (λ unit. IsSwept subject.now draft.old.certificate draft.new.certificate draft.new.probe.count) }
+    ensures fits { IfOk result (λ unit. ClaimStays draft.new.certificate place (sight_facts known.now) (sets_in subject.now.writable.now.vars subject.now.writable.now.functions)) }
 {
     let is_lowered = lower(
         subject.names,

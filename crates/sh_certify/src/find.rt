@@ -58,7 +58,7 @@ fn settle(subject: &Subject<'_>, draft: &mut Draft, way: Way) -> Result<(), Allo
         → IsSettled subject.now.names.now loops functions subject.now.policy.now (functions_in subject.now.script.now subject.now.tree.now)
         (script_bounds (script_of subject.now.script.now subject.now.tree.now)) draft.old.certificate draft.new.certificate) }
 {
-    let mut target = Target::first();
+    let mut target = Target::FIRST;
     let mut kept = false;
     let mut times: u32 = 1;
     let commands = subject.table.rows().len() as u64;

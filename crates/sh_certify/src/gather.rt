@@ -24,7 +24,7 @@ use sh_find::sight::Sight;
 use sh_rules::claims::Claims;
 
 /// A place, and the function of an index.
-#[derive(Clone, Copy, Debug)]
+#[derive(Clone, Copy, Debug, PartialEq, Eq)]
 pub struct Target {
     pub place: Place,
     pub function: u16,
@@ -43,16 +43,14 @@ pub struct Gather {
 }
 
 impl Target {
-    /// Of the first command and the first function.
-    pub fn first() -> Target {
-        Target {
-            place: Place {
-                part: Part::Before,
-                index: 0,
-            },
-            function: 0,
-        }
-    }
+    /// Where the first command is entered, and the first function.
+    pub const FIRST: Target = Target {
+        place: Place {
+            part: Part::Before,
+            index: 0,
+        },
+        function: 0,
+    };
 }
 
 // The place that is next: this one, if it is one, unless it is passed over.

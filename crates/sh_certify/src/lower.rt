@@ -45,6 +45,7 @@ pub fn lower(
     ensures working { IfOk result (λ changed. (loops : List Bool) (functions : ℕ) → IsWorking names.now loops functions certificate.old
         → IsWorking names.now loops functions certificate.new) }
     ensures idle { IfOk result (λ changed. changed ≡ false → ClaimStays certificate.old place (sight_facts known.now) (sets_in writable.now.vars writable.now.functions)) }
+    ensures fits { IfOk result (λ changed. ClaimStays certificate.new place (sight_facts known.now) (sets_in writable.now.vars writable.now.functions)) }
     ensures probed { IfOk result (λ changed. probe.new.count ≡ length names.now) }
 {
     let Some(facts) = facts_at(certificate, place) else {
@@ -124,11 +125,10 @@ pub fn count(
     requires probed { probe.old.count ≡ length names.now }
     requires below { AreBelow (length names.now) (sets_in vars.now functions.now) }
     requires fine { (d : drops.Drops) → drops_at certificate.old index ≡ Some d → AreFine names.now certificate.old.rows d }
-    ensures counted { IfOk result (λ changed. (loops : List Bool) (defined : ℕ) → IsWorking names.now loops defined certificate.old
-        → IsCounted certificate.old certificate.new index (sets_in vars.now functions.now) changed) }
-    ensures working { IfOk result (λ changed. (loops : List Bool) (defined : ℕ) → IsWorking names.now loops defined certificate.old
-        → IsWorking names.now loops defined certificate.new) }
+    ensures counted { IfOk result (λ changed. (loops : List Bool) (defined : ℕ) → IsWorking names.now loops defined certificate.old → IsCounted certificate.old certificate.new index (sets_in vars.now functions.now) changed) }
+    ensures working { IfOk result (λ changed. (loops : List Bool) (defined : ℕ) → IsWorking names.now loops defined certificate.old → IsWorking names.now loops defined certificate.new) }
     ensures idle { IfOk result (λ changed. changed ≡ false → DropsStay certificate.old index (sets_in vars.now functions.now) (sets_in writable.now.vars writable.now.functions)) }
+    ensures fits { IfOk result (λ changed. DropsStay certificate.new index (sets_in vars.now functions.now) (sets_in writable.now.vars writable.now.functions)) }
     ensures probed { IfOk result (λ changed. probe.new.count ≡ length names.now) }
 {
     let Some(drops) = drops_of(certificate, index) else {

@@ -78,16 +78,14 @@ fn asked_of(
     gather
 }
 
-// Whether a place is one of the command of an index, and the function the first.
-fn is_own(target: Target, index: u16) -> bool {
-    target.function == 0 && target.place.index == index && !target.place.part.is_of_function()
+// The index of a command, or the first where a script may not have its number: a hint.
+fn index_of(command: &Command) -> u16 {
+    u16::try_from(command.number.saturating_sub(1)).unwrap_or(0)
 }
 
-// Whether these are one place and one function.
-fn is_same(target: Target, other: Target) -> bool {
-    let is_place = target.place.part.rank() == other.place.part.rank()
-        && target.place.index == other.place.index;
-    is_place && target.function == other.function
+// Whether a place is one of the command of an index, and the function the first: a hint.
+fn is_own(target: Target, index: u16) -> bool {
+    target.function == 0 && target.place.index == index && !target.place.part.is_of_function()
 }
 
 // Lowers what is claimed at a place, and what a function may drop, by what a command asks; says whether all of it was kept, and of what more was asked.
@@ -144,7 +142,7 @@ fn lower_own(
     requires placed { IsCommand subject.now by (walks.around subject.now.script.now around.now) (knowledge_facts subject.now.names.now known.now) command.now }
     ensures swept { IfOk result (λ kept. IsSwept subject.now draft.old.certificate draft.new.certificate draft.new.probe.count) }
 {
-    let index = u16::try_from(command.number.saturating_sub(1)).unwrap_or(0);
+    let index = index_of(command);
     let place = Place { part, index };
     let own = Target { place, function: 0 };
     let (kept, next) = lower_once(subject, draft, by, around, known, command, own)?;
@@ -314,7 +312,7 @@ fn lower_others(
     ensures swept { IfOk result (λ unit. IsSwept subject.now draft.old.certificate draft.new.certificate draft.new.probe.count) }
 {
     let (kept, next) = lower_once(subject, draft, by, around, known, command, target)?;
-    if kept || is_own(next, index) || is_same(next, target) {
+    if kept || is_own(next, index) || next == target {
         return Ok(());
     }
     lower_once(subject, draft, by, around, known, command, next)?;
@@ -338,7 +336,7 @@ pub fn lower_behind(
     requires placed { IsCommand subject.now by (walks.around subject.now.script.now around.now) (knowledge_facts subject.now.names.now known.now) command.now }
     ensures swept { IfOk result (λ unit. IsSwept subject.now draft.old.certificate draft.new.certificate draft.new.probe.count) }
 {
-    let index = u16::try_from(command.number.saturating_sub(1)).unwrap_or(0);
+    let index = index_of(command);
     let (kept, next) = lower_sides(subject, draft, by, around, known, command, index)?;
     if kept || is_own(next, index) {
         return Ok(());

@@ -4,7 +4,7 @@ ghost use Rattle.sh_certify.specs.Places as spec;
 
 /// What is claimed of: a command, where it is entered and behind it by its status; each turn of a loop; a function, where it is entered and
 /// where it returns by its status.
-#[derive(Clone, Copy, Debug)]
+#[derive(Clone, Copy, Debug, PartialEq, Eq)]
 pub enum Part {
     Before,
     Zero,
@@ -16,7 +16,7 @@ pub enum Part {
 }
 
 /// A part of the command or the function of an index, which is its number less one.
-#[derive(Clone, Copy, Debug)]
+#[derive(Clone, Copy, Debug, PartialEq, Eq)]
 pub struct Place {
     pub part: Part,
     pub index: u16,

@@ -248,7 +248,7 @@ fn sweep_processes(
     requires placed { (k : Facts) → ((q : Seen) → Knows subject.now q (knowledge_facts subject.now.names.now known.now) → Knows subject.now (without_job q) k) → AreParts subject.now F12 (part_around true (walks.around subject.now.script.now around.now)) k parts.now }
     ensures swept { IfOk result (λ unit. IsSwept subject.now draft.old.certificate draft.new.certificate draft.new.probe.count) }
 {
-    let inner = around.round_parts(true);
+    let inner = around.round_parts();
     let seen = started_in(subject, &draft.certificate, known);
     sweep_parts(subject, draft, levels, FlowRule::F12, &inner, &seen, parts)
 }
@@ -482,7 +482,12 @@ fn sweep_iteration(
             sweep_for_words(subject, draft, levels, known, words)?;
             sweep_for(subject, draft, levels, around, number, *name, body)
         }
-        _ => Ok(()),
+        Kind::Simple(_)
+        | Kind::Group(_)
+        | Kind::Subshell(_)
+        | Kind::Cond { .. }
+        | Kind::Branches { .. }
+        | Kind::Define { .. } => Ok(()),
     }
 }
 
@@ -617,7 +622,8 @@ fn sweep_for(
     sweep_list(subject, draft, levels, &inner, FlowRule::F8, &turn, body)
 }
 
-/// Lowers a certificate command by command, each where the sweep comes to it, with what is known there then.
+/// Lowers a certificate command by command, each where the sweep comes to it, with what is known there then. A sweep is a hint: its clause holds of one
+/// that lowers nothing too, and what it leaves is lowered by the turns between sweeps, which also tell whether all flow rules are kept.
 ///
 /// # Errors
 ///

@@ -71,6 +71,7 @@ fn lower_known(
     ensures working { IfOk result (λ changed. (loops : List Bool) (functions : ℕ) → IsWorking names.now loops functions certificate.old
         → IsWorking names.now loops functions certificate.new) }
     ensures idle { IfOk result (λ changed. changed ≡ false → ClaimStays certificate.old place (seen_of known.now) (sets_in writable.now.vars writable.now.functions)) }
+    ensures fits { IfOk result (λ changed. ClaimStays certificate.new place (seen_of known.now) (sets_in writable.now.vars writable.now.functions)) }
     ensures probed { IfOk result (λ changed. probe.new.count ≡ length names.now) }
 {
     match known {
@@ -99,6 +100,7 @@ pub fn lower_gathered(
     ensures sunk { IfOk result (λ changed. (loops : List Bool) (functions : ℕ) → IsWorking names.now loops functions certificate.old
         → IsSunk names.now loops functions certificate.old certificate.new (gathered_of gather.now) changed) }
     ensures idle { IfOk result (λ changed. changed ≡ false → IsIdle certificate.old (sets_in writable.now.vars writable.now.functions) (gathered_of gather.now)) }
+    ensures fits { IfOk result (λ changed. IsIdle certificate.new (sets_in writable.now.vars writable.now.functions) (gathered_of gather.now)) }
     ensures probed { IfOk result (λ changed. probe.new.count ≡ length names.now) }
 {
     let target = gather.target;

@@ -183,17 +183,6 @@ Whatever s k = Unit {0}
 abbrev Any : Constraint → Type 0
 Any k = Unit {0}
 
-whatever : (x : Setting) → Follows x Whatever
-whatever x = record {
-  slot = λ s. tt;
-  gain = λ g s k w. tt;
-  gains = λ g j s k w. tt;
-  job = λ s k w. tt;
-  joined = λ s t k l w v. tt;
-  twice = λ s k l w v. tt;
-  nothing = tt;
-}
-
 anything : (x : Setting) (d : Declared) → Judges x d Whatever Any Anything
 anything x d = record { place = λ slot n rule s k w all. tt; view = λ slot n rule v q. tt; loss = λ function n l q. tt }
 

@@ -7,24 +7,17 @@ use Rattle.sh_table.specs.Calls.{called, static_at}
 use Rattle.sh_table.specs.Kinds as kinds
 use Rattle.sh_table.specs.Kinds.{kind_of}
 use Rattle.sh_table.specs.Profile.{Static}
-use Rattle.sh_table.specs.declared.kind.Kind.{Kind}
-use Rattle.sh_table.specs.declared.kind.Kind.TheVariants as kind
 use Rattle.sh_table.specs.runs.Environment.{is_one_of}
 use Rattle.sh_facts.specs.Table.{is_special}
-use Rattle.sh_check.proofs.LossLemmas.{found}
+use Rattle.sh_check.proofs.LossLemmas.{special_same, found}
 use Rattle.sh_rules.specs.TextTells.{calls_by}
-
-special_same : (k : Kind) → kinds.is_special k ≡ is_special k
-unfolding kinds.is_special is_special
-special_same (kind.Special name) = refl
-special_same _ = refl
 
 -- the table has a function for a command where one is called
 pub one_called : (names : List Text) (ts : List Static) → is_some (called names (static_at ts 0)) ≡ calls_by names ts
 unfolding called static_at calls_by
 one_called names [] = refl
 one_called names (None ∷ ts) = refl
-one_called names (Some t ∷ ts) = go (kinds.is_special (kind_of t)) (special_same (kind_of t)) (found names t 1)
+one_called names (Some t ∷ ts) = go (kinds.is_special (kind_of t)) (sym (special_same (kind_of t))) (found names t 1)
   where
     go : (b : Bool) → b ≡ is_special (kind_of t) → is_some (position_from (λ n. bytes_eq n t) 1 names) ≡ is_one_of names t
         → is_some (if b then None else position_from (λ n. bytes_eq n t) 1 names) ≡ (is_one_of names t && not (is_special (kind_of t)))

@@ -1,5 +1,5 @@
 -- What is gained, of the names that are numbered.
-use Rattle.std.proofs.Common.{◌≡◌, ◌<◌, List, [], ◌∷◌, length, fold, refl, sym, ap, ◌∙◌, arith}
+use Rattle.std.proofs.Common.{◌≡◌, ◌<◌, false, List, [], ◌∷◌, cond, length, fold, refl, sym, ap, ◌∙◌, arith}
 use Rattle.sh_tree.specs.declared.tree.Action.{Action}
 use Rattle.sh_tree.specs.declared.tree.Action.TheVariants as action
 use Rattle.sh_tree.specs.declared.tree.Element.{Element, Assignment', Word', Redirection'}
@@ -15,6 +15,7 @@ use Rattle.sh_tree.specs.program.Syntax.{Text}
 use Rattle.sh_tree.specs.program.Trees as trees
 use Rattle.sh_tree.specs.program.Words.{operands_in}
 use Rattle.sh_tree.proofs.ProgramRules as rules
+use Rattle.sh_table.specs.runs.Environment.{is_one_of}
 use Rattle.sh_facts.specs.Facts.{Facts}
 use Rattle.sh_facts.specs.Gains.{Gains, no_gains, and_gains, named, sure, assigned_in, word_gains, words_gains, redirects_gains, with_gains}
 use Rattle.sh_facts.specs.Knowledge as knowledge
@@ -86,6 +87,11 @@ pub no_redirects : (x : Setting) (rs : List Redirect) (f : Facts) → length rs 
 unfolding redirects_from redirects_gains
 no_redirects x [] f h = sym (none_gained x f)
 no_redirects x (r ∷ rs) f h = absurd (omega (arith, h))
+
+-- a name that is none of the script's
+pub other_gained : (x : Setting) (t : Text) (f : Facts) → is_one_of x.names t ≡ false → gained x (named (t ∷ [])) f ≡ f
+unfolding gained
+other_gained x t f h = ap (λ b. with_gains (record { names = cond b (t ∷ []) []; args = 0 }) f) h ∙ none_gained x f
 
 pub both_gained : (x : Setting) (g h : Gains) (f : Facts) → gained x (and_gains g h) f ≡ gained x h (gained x g f)
 unfolding gained knowing.gained

@@ -1,6 +1,6 @@
 -- What operands say by their static texts is what they say by their words.
 use Rattle.std.proofs.Common.{◌≡◌, ℕ, suc, ◌≤◌, ◌==◌, Bool, true, false, not, ◌&&◌, if◌then◌else◌, cond, List, [], ◌∷◌, drop, filter, fold, map, codes, Option, Some, None, is_some, unwrap_or, option_map, option_and_then, inl, inr, refl, sym, ap, ◌∙◌, arith, true≢false}
-use Rattle.std.specs.List.{cons_option, list_all}
+use Rattle.std.specs.List.{list_all}
 use Rattle.std.proofs.lemmas.Bool.{cases_lt, le-ltb}
 use Rattle.std.proofs.lemmas.List.Folds.{fold-map, list_all-map}
 use Rattle.sh_tree.specs.language.Bytes.{is_first, is_name}
@@ -19,6 +19,7 @@ use Rattle.sh_facts.specs.Views.{Lose, step, where_known}
 use Rattle.sh_facts.proofs.KnownNameLemmas.{lost_one_by_one}
 use Rattle.sh_facts.proofs.MeetLemmas.{known_same}
 use Rattle.sh_check.specs.Drops.{listed}
+use Rattle.sh_check.proofs.LossLemmas.{texts_listed}
 use Rattle.sh_operands.specs.declared.options.Letters.{Letters}
 use Rattle.sh_operands.specs.Numerals.{capped}
 use Rattle.sh_operands.specs.Texts.{no_letters, removal_in, takes_variables, takes_functions, unset_behind, positional_at}
@@ -184,22 +185,14 @@ read_computed ts h = ap (λ b. if b then unwrap_or (o.read_names (listed ts)) []
 
 -- By words
 
-listed_words : (ws : List Word) → listed (map static_of ws) ≡ statics ws
-listed_words [] = refl
-listed_words (w ∷ ws) = go (static_of w) (listed_words ws)
-  where
-    go : (t : Static) → listed (map static_of ws) ≡ statics ws → cons_option t (listed (map static_of ws)) ≡ cons_option t (statics ws)
-    go None h = h
-    go (Some t) h = ap (λ us. t ∷ us) h
-
 pub unset_words : (ws : List Word) → unset_by (map static_of ws) ≡ unset_names ws
 unfolding unset_by unset_names
-unset_words ws = ap (λ us. removed (unset_operands us).0 (filter is_name (unset_operands us).1)) (listed_words ws)
+unset_words ws = ap (λ us. removed (unset_operands us).0 (filter is_name (unset_operands us).1)) (texts_listed ws)
 
 pub read_words : (ws : List Word) → read_by (map static_of ws) ≡ read_names ws
 unfolding read_by read_names
 read_words ws =
-    ap (λ us. if list_all is_some (map static_of ws) then unwrap_or (o.read_names us) [] else []) (listed_words ws)
+    ap (λ us. if list_all is_some (map static_of ws) then unwrap_or (o.read_names us) [] else []) (texts_listed ws)
     ∙ ap (λ b. if b then unwrap_or (o.read_names (statics ws)) [] else []) (list_all-map is_some static_of ws)
 
 pub getopts_words : (ws : List Word) → and_optind (getopts_name (map static_of ws)) ≡ getopts_names ws

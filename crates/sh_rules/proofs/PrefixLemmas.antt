@@ -1,8 +1,7 @@
 -- The names of prefix assignments, and the functions, of a script are those of its text.
-use Rattle.std.proofs.Common.{◌≡◌, ℕ, true, Bool, List, ◌∷◌, ◌++◌, flat_map, refl, sym, ap, ◌∙◌}
+use Rattle.std.proofs.Common.{◌≡◌, ℕ, true, Bool, List, ◌∷◌, flat_map, refl, ap, ◌∙◌}
 use Rattle.std.specs.List.{list_all}
 use Rattle.std.proofs.lemmas.Bool.{and_parts, and_from}
-use Rattle.std.proofs.lemmas.List.Folds.{list_all-append}
 use Rattle.sh_tree.specs.declared.tree.Command.{Command, out-Command}
 use Rattle.sh_tree.specs.declared.tree.Element.{Assignment', Word', Redirection'}
 use Rattle.sh_tree.specs.declared.tree.Kind.{Kind, Simple', Row_of-Element, end_of-Element, more_of-Element, items-the_row-Element}
@@ -21,43 +20,35 @@ use Rattle.sh_facts.specs.Table.{prefixes}
 use Rattle.sh_facts.proofs.EnteredWalk.{script_walked}
 use Rattle.sh_check.proofs.DefinedLemmas.{functions_same}
 use Rattle.sh_check.proofs.ReachLemmas.{seen_reach}
+use Rattle.sh_check.proofs.SightLemmas.{Seen, front, rest_of}
 use Rattle.sh_facts.proofs.StandLemmas.{all_stand}
 use Rattle.sh_rules.specs.CommandBounds.{prefixes_in}
 use Rattle.sh_rules.specs.Asked.{PrefixesAreNumbered, TableDefines, has_numbered_prefixes}
 
 module _ (b : List ℕ) (q : Text → Bool) where
-  abbrev Seen : List Sight → Type 0
-  Seen ss = list_all (λ (s : Sight). q s.name) ss ≡ true
-
-  front : (ss ts : List Sight) → Seen (ss ++ ts) → Seen ss
-  front ss ts h = (and_parts _ _ (sym (list_all-append (λ (s : Sight). q s.name) ss ts) ∙ h)).0
-
-  rest_of : (ss ts : List Sight) → Seen (ss ++ ts) → Seen ts
-  rest_of ss ts h = (and_parts _ _ (sym (list_all-append (λ (s : Sight). q s.name) ss ts) ∙ h)).1
-
-  elements_named : {m : _} (row : Row_of-Element m) → Seen (flat_map (in_element b) (items-the_row-Element _ row)) → list_all q (prefixes (trees.elements_of b row)) ≡ true
+  elements_named : {m : _} (row : Row_of-Element m) → Seen q (flat_map (in_element b) (items-the_row-Element _ row)) → list_all q (prefixes (trees.elements_of b row)) ≡ true
   unfolding in_element trees.part_of assignments_in
   elements_named end_of-Element h = refl
   elements_named (more_of-Element (Assignment' name span shape parts) rest) h =
       let one = sight b name ∷ in_row b parts in
       let more = flat_map (in_element b) (items-the_row-Element _ rest) in
-      and_from _ _ (and_parts _ _ (front one more h)).0 (elements_named rest (rest_of one more h))
+      and_from _ _ (and_parts _ _ (front q one more h)).0 (elements_named rest (rest_of q one more h))
   elements_named (more_of-Element (Word' span shape parts) rest) h =
-      elements_named rest (rest_of (in_row b parts) (flat_map (in_element b) (items-the_row-Element _ rest)) h)
+      elements_named rest (rest_of q (in_row b parts) (flat_map (in_element b) (items-the_row-Element _ rest)) h)
   elements_named (more_of-Element (Redirection' at number target) rest) h =
-      elements_named rest (rest_of (in_target b target) (flat_map (in_element b) (items-the_row-Element _ rest)) h)
+      elements_named rest (rest_of q (in_target b target) (flat_map (in_element b) (items-the_row-Element _ rest)) h)
 
-  kind_named : (n offset : ℕ) (rs : p.Redirects) (k : Kind) → Seen (in_kind b k) → list_all q (prefixes_in (p.command n offset (trees.kind_of b k) rs)) ≡ true
+  kind_named : (n offset : ℕ) (rs : p.Redirects) (k : Kind) → Seen q (in_kind b k) → list_all q (prefixes_in (p.command n offset (trees.kind_of b k) rs)) ≡ true
   unfolding in_kind trees.part_of prefixes_in
   kind_named n offset rs (Simple' shape row) h =
-      elements_named row (front (flat_map (in_element b) (items-the_row-Element _ row)) (operand_sights b (words_of (items-the_row-Element _ row))) h)
+      elements_named row (front q (flat_map (in_element b) (items-the_row-Element _ row)) (operand_sights b (words_of (items-the_row-Element _ row))) h)
   kind_named n offset rs _ h = refl
 
-  command_named : (c : Command) → Seen (in_command b c) → list_all q (prefixes_in (trees.command_of b c)) ≡ true
+  command_named : (c : Command) → Seen q (in_command b c) → list_all q (prefixes_in (trees.command_of b c)) ≡ true
   command_named c h =
       ap (λ m. list_all q (prefixes_in m)) (rules.command_of-out b c)
       ∙ kind_named _ _ (redirects_from b (out-Command c).redirects) (out-Command c).kind
-      (front (in_kind b (out-Command c).kind) (flat_map (in_redirect b) (out-Command c).redirects) h)
+      (front q (in_kind b (out-Command c).kind) (flat_map (in_redirect b) (out-Command c).redirects) h)
 
 empty_named : (q : Text → Bool) → list_all q (prefixes_in (p.command 0 0 (p.Group p.no_items) p.no_redirects)) ≡ true
 unfolding prefixes_in

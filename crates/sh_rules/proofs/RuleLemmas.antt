@@ -24,7 +24,8 @@ use Rattle.sh_facts.specs.Table.{is_redirected}
 use Rattle.sh_facts.specs.Views.{Before}
 use Rattle.sh_facts.proofs.TotalLemmas.{rows_length}
 use Rattle.sh_check.specs.Whole.{kept_claims}
-use Rattle.sh_check.proofs.TextLemmas.{has_texts, own_texts, entered_have}
+use Rattle.sh_check.proofs.TextLemmas.{has_texts, own_texts}
+use Rattle.sh_check.proofs.WholeLemmas.{table_texts}
 use Rattle.sh_operands.specs.Numerals.{most}
 use Rattle.sh_rules.specs.declared.claims.Claims.{Claims}
 use Rattle.sh_rules.specs.Asking.{Asking}
@@ -131,11 +132,6 @@ module _ {K : Type 0} (a : Asking K) (x : Setting) where
 
 -- A script
 
-have_texts : (b : List ℕ) (t : Script) → is_numbered (script_of b t) ≡ true
-    → list_all (λ (e : Entered). has_texts (table_of b t).rows e.command) (script_entered (script_of b t)) ≡ true
-unfolding table_of
-have_texts b t numbered = entered_have (script_of b t) numbered
-
 few_loops_in : (b : List ℕ) (t : Script) → length (table_of b t).rows ≤ MAX_COMMANDS
     → list_all (λ (e : Entered). nat_le (length e.around.loops) most) (script_entered (script_of b t)) ≡ true
 few_loops_in b t few =
@@ -147,7 +143,7 @@ few_loops_in b t few =
 pub visits_do_asked : {K : Type 0} (a : Asking K) → VisitsDoAsked K a
 visits_do_asked a x b t rows numbered few =
     each_does a x (script_entered (script_of b t))
-    (ap (λ rs. list_all (λ (e : Entered). has_texts rs e.command) (script_entered (script_of b t))) rows ∙ have_texts b t numbered)
+    (ap (λ rs. list_all (λ (e : Entered). has_texts rs e.command) (script_entered (script_of b t))) rows ∙ table_texts b t numbered)
     (few_loops_in b t few)
 
 -- what a walk over facts tells is the least fault
@@ -156,7 +152,7 @@ told : (x : Setting) (d : Declared) (b : List ℕ) (t : Script) → AreNumbered 
     → script_walked x (command_by least_told x) (among x.names (start_facts d)) None (script_of b t) ≡ least (faults d (certificate x) (script_of b t))
 told x d b t h script functions rows numbered few names =
     walk_same least_told x d h (script_of b t) None
-    (ap (λ rs. list_all (λ (e : Entered). has_texts rs e.command) (script_entered (script_of b t))) rows ∙ have_texts b t numbered)
+    (ap (λ rs. list_all (λ (e : Entered). has_texts rs e.command) (script_entered (script_of b t))) rows ∙ table_texts b t numbered)
     (few_loops_in b t few)
     ∙ least_of_scripts x d (script_of b t) h (subst (λ fs. AreDefined fs (script_of b t)) (sym functions) (table_defines b t)) (prefixes_are_numbered b t d x.names names)
 

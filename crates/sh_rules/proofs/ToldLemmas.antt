@@ -15,13 +15,14 @@ use Rattle.sh_facts.specs.Order.{IsWithin, seen_facts}
 use Rattle.sh_facts.specs.Rules.{Constraint, Counted, bound}
 use Rattle.sh_facts.specs.Views.{Slot, Seen, Loss, view_facts, lost}
 use Rattle.sh_facts.proofs.KnowledgeLemmas.{same_tests}
-use Rattle.sh_facts.proofs.OrderLemmas.{known_within, known_parts, within_nowhere, nowhere_known, within_itself, within_through, within_test, meet_first, meet_second, meet_greatest}
+use Rattle.sh_facts.proofs.OrderLemmas.{known_within, within_itself, within_through, within_test, meet_first, meet_second, meet_greatest}
 use Rattle.sh_rules.specs.Settings.{Setting, certificate, claimed_at, known_at}
 use Rattle.sh_rules.specs.Meaning.{knows}
 use Rattle.sh_rules.specs.Bounds.{fault}
 use Rattle.sh_rules.specs.LeastFault.{with_test, is_within, tests_joined, least_told}
 use Rattle.sh_rules.specs.Asked.{ByConstraints, LeastOfConstraints, with_all}
 use Rattle.sh_rules.proofs.MeaningLemmas.{slot_named}
+use Rattle.sh_rules.proofs.AboveLemmas.{among_grows}
 
 -- Tests of claims
 
@@ -39,17 +40,6 @@ unfolding among
 among_less ns NotReached = within_itself NotReached
 among_less ns (Known v f a) =
     known_within _ _ _ _ a a (λ t e. (and_parts (is_one_of ns t) (v t) e).1) (λ t e. (and_parts (is_one_of ns t) (f t) e).1) (omega arith)
-
-among_grows : (ns : List Text) (f g : Facts) → IsWithin f g → IsWithin (among ns f) (among ns g)
-unfolding among
-among_grows ns f NotReached h = within_nowhere _
-among_grows ns NotReached (Known w g b) h = absurd (nowhere_known w g b h)
-among_grows ns (Known v f a) (Known w g b) h =
-    let s = known_parts v w f g a b h in
-    known_within _ _ _ _ a b
-    (λ t e. let both = and_parts (is_one_of ns t) (v t) e in and_from _ _ both.0 (s.vars t both.1))
-    (λ t e. let both = and_parts (is_one_of ns t) (f t) e in and_from _ _ both.0 (s.functions t both.1))
-    s.args
 
 within_among : (ns : List Text) (c : Claim) (f : Facts) → among ns (facts c) ≡ facts c → within c (among ns f) ≡ within c f
 within_among ns c f named = same_tests _ _

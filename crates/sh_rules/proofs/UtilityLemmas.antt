@@ -1,6 +1,7 @@
 -- What is known behind a utility, piece by piece.
-use Rattle.std.proofs.Common.{◌≡◌, ℕ, ◌<◌, ◌≤◌, ◌-◌, max, length, Bool, true, false, ◌||◌, if◌then◌else◌, cond, List, [], ◌∷◌, take, drop, get_or, filter, fold, map, codes, Option, Some, None, is_some, option_map, refl, sym, ap, ap₂, ◌∙◌, arith}
+use Rattle.std.proofs.Common.{◌≡◌, ℕ, ◌<◌, ◌≤◌, ◌-◌, max, length, Bool, true, false, ◌&&◌, ◌||◌, if◌then◌else◌, cond, List, [], ◌∷◌, take, drop, get_or, filter, fold, map, codes, Option, Some, None, is_some, option_map, refl, sym, ap, ap₂, ◌∙◌, inl, inr, arith}
 use Rattle.std.specs.List.{cons_option, list_all, filter_map}
+use Rattle.std.proofs.lemmas.Bool.{and_parts, cases_Bool}
 use Rattle.std.proofs.lemmas.List.{take_rest}
 use Rattle.std.proofs.lemmas.Option.{same_Some}
 use Rattle.sh_tree.specs.declared.tree.Element.{Element, Assignment', Word', Redirection'}
@@ -23,23 +24,26 @@ use Rattle.sh_table.specs.Profile.{Static}
 use Rattle.sh_table.specs.WordTexts.{text_in}
 use Rattle.sh_table.specs.declared.word_text.WordText.{WordText}
 use Rattle.sh_table.specs.runs.Environment.{is_one_of}
+use Rattle.sh_facts.specs.declared.knowledge.NameSet.{NameSet}
 use Rattle.sh_facts.specs.Facts.{Facts, NotReached, Known, meet}
 use Rattle.sh_facts.specs.Gains.{Gains, named, with_gains}
+use Rattle.sh_facts.specs.Knowledge.{contains}
 use Rattle.sh_facts.specs.Operands.{Total, declared_names, total}
 use Rattle.sh_facts.specs.Parameters.{with_parameters_of}
 use Rattle.sh_facts.specs.Table.{operands}
 use Rattle.sh_facts.specs.Views.{Count, Shift, step, where_known, counted_by}
+use Rattle.sh_facts.proofs.KnowledgeLemmas.{numbered_only}
 use Rattle.sh_check.specs.Drops.{listed}
 use Rattle.sh_operands.specs.Numerals.{capped}
 use Rattle.sh_operands.specs.Texts.{positional_at}
 use Rattle.sh_rules.specs.Settings.{Setting, gained}
 use Rattle.sh_rules.specs.Behind.{Behind, both, either}
 use Rattle.sh_rules.specs.Elements.{declared_gained, front_name, declared_name, declared_by, is_word}
-use Rattle.sh_rules.specs.Losses.{name_gained, if_wanted, texts_with, is_free, unless_prefixed, free_gained, free_names}
+use Rattle.sh_rules.specs.Losses.{ArePrefixes, name_gained, if_wanted, texts_with, is_free, unless_prefixed, free_gained, free_names}
 use Rattle.sh_rules.specs.SimpleBounds.{stepped, left}
 use Rattle.sh_rules.specs.TextBounds.{behind_name, counted, words_set, set_by, shifted_by}
 use Rattle.sh_rules.specs.Texts.{names_behind, read_behind, read_by, and_optind, positional_by}
-use Rattle.sh_rules.proofs.GainLemmas.{none_gained, both_gained}
+use Rattle.sh_rules.proofs.GainLemmas.{none_gained, other_gained, both_gained}
 use Rattle.sh_rules.proofs.OperandLemmas.{kept_fold, read_static, read_computed}
 
 -- names one after the other
@@ -60,6 +64,26 @@ filtered_fold q g k (t ∷ ts) = go (q t) (filtered_fold q g (g k t) ts) (filter
 free_folded : (x : Setting) (es : p.Elements) (ts : List Text) (f : Facts) → free_names x es ts f ≡ fold (free_gained x es) f ts
 unfolding free_gained
 free_folded x es ts f = names_folded x (unless_prefixed es ts) f ∙ filtered_fold (is_free es) (name_gained x) f ts
+
+-- one of them, where the prefix assignments' names are a set
+pub free_passed : (x : Setting) (es : p.Elements) (s : NameSet) (f : Facts) (t : Text) → ArePrefixes x es s → contains x.names s t ≡ true → f ≡ free_gained x es f t
+unfolding free_gained
+free_passed x es s f t h has =
+    let only : contains x.names s t ≡ (is_one_of x.names t && contains x.names s t) = numbered_only x.names _ t in
+    let numbered : is_one_of x.names t ≡ true = (and_parts (is_one_of x.names t) (contains x.names s t) (sym only ∙ has)).0 in
+    rw (sym (h t numbered) ∙ has) refl
+
+same_if : (b : Bool) (f g : Facts) → g ≡ f → f ≡ (if b then g else f)
+same_if true f g e = sym e
+same_if false f g e = refl
+
+pub free_taken : (x : Setting) (es : p.Elements) (s : NameSet) (f g : Facts) (t : Text) → ArePrefixes x es s → contains x.names s t ≡ false
+    → g ≡ gained x (named (t ∷ [])) f → g ≡ free_gained x es f t
+unfolding free_gained
+free_taken x es s f g t h has e = elim (cases_Bool (is_one_of x.names t)) [
+  | inl n ↦ e ∙ rw (sym (h t n) ∙ has) refl
+  | inr n ↦ e ∙ other_gained x t f n ∙ same_if (is_free es t) f (name_gained x f t) (other_gained x t f n)
+]
 
 -- `read`
 

@@ -2,7 +2,7 @@
 use Rattle.std.proofs.Common.{◌≡◌, ℕ, ◌<◌, ◌≤◌, Bool, true, false, List, [], ◌∷◌, length, map, Option, Some, None, is_some, option_map, refl, sym, ap, ap₂, ◌∙◌, arith}
 use Rattle.sh_tree.specs.declared.tree.Branch.{Branch}
 use Rattle.sh_tree.specs.declared.tree.Clause.{Clause}
-use Rattle.sh_tree.specs.declared.tree.Command.{Command, out-Command}
+use Rattle.sh_tree.specs.declared.tree.Command.{Command}
 use Rattle.sh_tree.specs.declared.tree.Element.{Element}
 use Rattle.sh_tree.specs.declared.tree.Kind.TheVariants as kind
 use Rattle.sh_tree.specs.declared.tree.LoopKind.{LoopKind}
@@ -25,13 +25,11 @@ use Rattle.sh_facts.specs.declared.rule.FlowRule.{FlowRule}
 use Rattle.sh_facts.specs.Entries as e
 use Rattle.sh_facts.specs.Facts.{Facts}
 use Rattle.sh_facts.specs.Table.{is_redirected}
-use Rattle.sh_facts.specs.Views.{Before}
 use Rattle.sh_rules.specs.declared.around.Around.{Around}
 use Rattle.sh_rules.specs.declared.claims.Claims.{Claims}
 use Rattle.sh_rules.specs.Asking.{Asking}
 use Rattle.sh_rules.specs.Settings.{Setting}
-use Rattle.sh_rules.specs.Bounds.{fault, compound_told, redirects_told}
-use Rattle.sh_rules.specs.CommandBounds.{redirected}
+use Rattle.sh_rules.specs.Bounds.{compound_told}
 use Rattle.sh_rules.specs.Steps.{met_in}
 use Rattle.sh_rules.specs.TextTells.{simple_by, drops_by}
 use Rattle.sh_rules.specs.Visits.{calls_at, simple_in, claims_as, claims_by, drops_as, counted_by, command_by, visited}
@@ -136,24 +134,3 @@ pub command_out : {K : Type 0} (a : Asking K) (x : Setting) (by : FlowRule) (y :
 unfolding command_by
 command_out a x by y k c kept =
     ap (λ m. command_by a x kept (record { command = m; rule = by; around = around x.script y; known = facts_in x k })) (rules.command_of-out x.script c)
-
-pub command_made : {K : Type 0} (a : Asking K) (x : Setting) (by : FlowRule) (y : Around) (k : Knowledge) (c : Command) (rs : List Redirect) (kept one two three new : K) (behind : Facts) (b : Bool)
-    → rs ≡ (out-Command c).redirects
-    → one ≡ a.bound x (Before (out-Command c).number) (fault (out-Command c).number by) (facts_in x k) kept
-    → behind ≡ redirected x (out-Command c).number (redirects_from x.script rs)
-    → two ≡ claims_by a x (out-Command c).number (around x.script y) behind (trees.kind_of x.script (out-Command c).kind) one
-    → b ≡ is_redirected (redirects_from x.script rs)
-    → three ≡ redirects_told a x (out-Command c).number b two
-    → new ≡ counted_by a x (out-Command c).number (option_map (text_of x.script) y.drops) (trees.kind_of x.script (out-Command c).kind) three
-    → new ≡ command_by a x kept (met_in x by y k c)
-command_made a x by y k c rs kept one two three new behind b same entered known claimed tested failed dropped =
-    let n = (out-Command c).number in
-    let kind = trees.kind_of x.script (out-Command c).kind in
-    let left = redirects_from x.script (out-Command c).redirects in
-    let behind_same : behind ≡ redirected x n left = known ∙ ap (λ qs. redirected x n (redirects_from x.script qs)) same in
-    let tested_same : b ≡ is_redirected left = tested ∙ ap (λ qs. is_redirected (redirects_from x.script qs)) same in
-    let claims : two ≡ claims_by a x n (around x.script y) (redirected x n left) kind (a.bound x (Before n) (fault n by) (facts_in x k) kept) =
-    claimed ∙ ap₂ (λ f m. claims_by a x n (around x.script y) f kind m) behind_same entered in
-    dropped
-    ∙ ap (counted_by a x n (option_map (text_of x.script) y.drops) kind) (failed ∙ ap₂ (redirects_told a x n) tested_same claims)
-    ∙ sym (command_out a x by y k c kept)

@@ -126,10 +126,6 @@ module _ {K : Type 0} (a : Asking K) (x : Setting) (n : ℕ) where
       jumps_same (settled x (behind x n es) es) y kd (behind_name es) (leaves_told a x (fault n F4) (utility_by x (behind x n es) (map static_of (behind_name es)) es kd) kept) h
       ∙ ap (λ o. jumps_told a x n (settled x (behind x n es) es) y kd (behind_name es) (leaves_told a x (fault n F4) o kept)) (utility_same x (behind x n es) es kd)
 
-  nameless_same : (es : p.Elements) → nameless_by x (behind x n es) es ≡ nameless_behind x (behind x n es) [] (table.assignments_gains es) (prefixes es) (redirected es)
-  unfolding nameless_by nameless_behind unless_failed
-  nameless_same es = refl
-
   pub simple_same : (functions : List Text) (y : Around) (es : p.Elements) (kept : K) → length y.loops ≤ most
       → simple_by a x n y es (calls_by functions (map static_of (operands es))) (map static_of (operands es)) kept ≡ simple_told a x n y es (manner functions es) kept
   unfolding simple_by named_by calls_by simple_told manner_of_words manner_of_name nameless_by nameless_behind unless_failed

@@ -1,6 +1,6 @@
 -- Names that are lost or gained one after the other, by the static texts of operands.
 -- POSIX.1-2024, XCU 2.15 (unset), 3 (read).
-use Rattle.std.specs.Prelude.{Bool, true, false, not, filter, if◌then◌else◌, List, [], ◌∷◌, fold, Some, None}
+use Rattle.std.specs.Prelude.{◌≡◌, Bool, true, false, not, filter, if◌then◌else◌, List, [], ◌∷◌, fold, Some, None}
 use Rattle.sh_tree.specs.language.Bytes.{is_name}
 use Rattle.sh_tree.specs.program.Syntax as p
 use Rattle.sh_tree.specs.program.Syntax.{Text}
@@ -8,8 +8,10 @@ use Rattle.sh_table.specs.Profile.{Static}
 use Rattle.sh_table.specs.WordTexts.{text_in}
 use Rattle.sh_table.specs.declared.word_text.WordText.{WordText}
 use Rattle.sh_table.specs.runs.Environment.{is_one_of}
+use Rattle.sh_facts.specs.declared.knowledge.NameSet.{NameSet}
 use Rattle.sh_facts.specs.Facts.{Facts}
 use Rattle.sh_facts.specs.Gains.{named}
+use Rattle.sh_facts.specs.Knowledge.{contains}
 use Rattle.sh_facts.specs.Table.{prefixes}
 use Rattle.sh_facts.specs.Views.{Lose}
 use Rattle.sh_rules.specs.Settings.{Setting, gained}
@@ -51,6 +53,10 @@ unless_prefixed es ts = filter (is_free es) ts
 
 unfoldable pub free_gained : Setting → p.Elements → Facts → Text → Facts
 free_gained x es f t = if_wanted (is_free es) (name_gained x) f t
+
+-- the names of prefix assignments, of those that are numbered, as a set
+abbrev pub ArePrefixes : Setting → p.Elements → NameSet → Type 0
+ArePrefixes x es s = (t : Text) → is_one_of x.names t ≡ true → contains x.names s t ≡ is_one_of (prefixes es) t
 
 abbrev pub free_names : Setting → p.Elements → List Text → Facts → Facts
 free_names x es ts f = gained x (named (unless_prefixed es ts)) f

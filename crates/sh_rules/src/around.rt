@@ -1,5 +1,5 @@
 //! What stands round a command (XCU 2.9.5, 2.15).
-ghost use Rattle.std.specs.Prelude.{◌≡◌, ℕ, List};
+ghost use Rattle.std.specs.Prelude.{◌≡◌, ℕ, List, true};
 ghost use Rattle.sh_tree.specs.Tree.{text_of};
 ghost use Rattle.sh_facts.specs.Entries as entries;
 ghost use Rattle.sh_rules.specs.Walks as walks;
@@ -63,28 +63,16 @@ impl<'a> Around<'a> {
         }
     }
 
-    /// Round an item, of which an asynchronous one is a process of its own.
-    #[tactic(auto, unfolding(sh_facts::specs::Entries::item_around))]
-    pub fn round_item(&self, background: bool) -> Around<'a>
-        ensures { (b : List ℕ) → walks.around b result ≡ entries.item_around background (walks.around b self.entry.now) }
-    {
-        if background { alone() } else { *self }
-    }
-
-    /// Round the parts of a pipeline, of which two or more are processes of their own.
+    /// Round the parts of a pipeline of two or more, which are processes of their own.
     #[tactic(auto, unfolding(crate::specs::Walks::loops_of, sh_facts::specs::Entries::part_around))]
-    pub fn round_parts(&self, are_processes: bool) -> Around<'a>
-        ensures { (b : List ℕ) → walks.around b result ≡ entries.part_around are_processes (walks.around b self.entry.now) }
+    pub fn round_parts(&self) -> Around<'a>
+        ensures { (b : List ℕ) → walks.around b result ≡ entries.part_around true (walks.around b self.entry.now) }
     {
-        if are_processes {
-            Around {
-                loops: Loops::Outside,
-                function: None,
-                drops: self.drops,
-                shares: true,
-            }
-        } else {
-            *self
+        Around {
+            loops: Loops::Outside,
+            function: None,
+            drops: self.drops,
+            shares: true,
         }
     }
 }

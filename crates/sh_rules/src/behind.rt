@@ -87,7 +87,8 @@ impl Behind {
 
     /// Has what is known at zero be what is known whatever the status was.
     pub fn join(&mut self)
-        ensures { (x : Setting) → facts_in x self.new.zero ≡ spec.in_any_case (walks.behind_in x self.old) }
+        ensures zero { (x : Setting) → facts_in x self.new.zero ≡ spec.in_any_case (walks.behind_in x self.old) }
+        ensures nonzero { self.new.nonzero ≡ self.old.nonzero }
     {
         meet(&mut self.zero, &self.nonzero);
     }
@@ -170,9 +171,9 @@ impl Behind {
         self.nonzero = *known;
     }
 
-    /// Goes on behind a pipeline, before which this is known.
+    // Goes on behind a pipeline, before which this is known.
     #[tactic(auto, using(crate::proofs::BehindLemmas::lone, crate::proofs::BehindLemmas::not_lone))]
-    pub fn pass_pipe(&mut self, claims: &Claims<'_>, known: &Knowledge, pipe: &Pipe)
+    fn pass_pipe(&mut self, claims: &Claims<'_>, known: &Knowledge, pipe: &Pipe)
         ensures { walks.behind_in (setting claims.now) self.new ≡ walks.pipe_behind (setting claims.now) (facts_in (setting claims.now) known.now) pipe.now }
     {
         match lone_part(pipe.parts.as_slice()) {

@@ -162,33 +162,6 @@ pub fn is_redirected(elements: &[Element]) -> bool
 
 // Prefix assignments
 
-#[tactic(auto, unfolding(crate::specs::Elements::assigns))]
-fn assigns(element: &Element, script: &[u8], name: &[u8]) -> bool
-    ensures { result ≡ spec.assigns script.now name.now element.now }
-{
-    match element {
-        Element::Assignment { name: variable, .. } => variable.text(script) == name,
-        Element::Word(_) => false,
-        Element::Redirection(_) => false,
-    }
-}
-
-fn any_assigns(elements: &[Element], script: &[u8], name: &[u8]) -> bool
-    ensures { result ≡ list_any (spec.assigns script.now name.now) elements.now }
-{
-    elements
-        .iter()
-        .any(|element| assigns(element, script, name))
-}
-
-/// Whether a prefix assignment has this name.
-#[tactic(auto, using(crate::proofs::ElementLemmas::assigned))]
-pub fn is_prefix(elements: &[Element], script: &[u8], name: &[u8]) -> bool
-    ensures { result ≡ is_one_of (prefixes (elements_from script.now elements.now)) name.now }
-{
-    any_assigns(elements, script, name)
-}
-
 #[tactic(auto, using(crate::proofs::ElementLemmas::added), unfolding(crate::specs::Walks::setting))]
 fn add_prefix(claims: &Claims<'_>, element: &Element, names: &mut NameSet)
     ensures { (t : Text) → contains (setting claims.now).names names.new t ≡ spec.prefix_added (setting claims.now) t (contains (setting claims.now).names names.old t) element.now }

@@ -2,7 +2,7 @@
 ghost use Rattle.std.specs.Prelude.{◌≡◌, ℕ, List, drop, false, fold, map, not, option_map, if◌then◌else◌};
 ghost use Rattle.std.specs.Prelude.{Option};
 ghost use Rattle.sh_tree.specs.program.Lists.{elements_from};
-ghost use Rattle.sh_tree.specs.program.Syntax.{Text};
+ghost use Rattle.sh_tree.specs.program.Syntax.{Elements, Text};
 ghost use Rattle.sh_table.specs.WordTexts.{text_in};
 ghost use Rattle.sh_facts.specs.Facts.{NotReached};
 ghost use Rattle.sh_facts.specs.Gains.{named};
@@ -22,11 +22,11 @@ ghost use Rattle.sh_rules.specs.Walks.{behind_in, facts_in, setting};
 
 use crate::behind::{Behind, met};
 use crate::claims::Claims;
-use crate::elements::{gain_assignments, gain_left, is_prefix, is_redirected};
+use crate::elements::{gain_assignments, gain_left, is_redirected, prefix_set};
 use crate::gains::gain_variable;
 use crate::steps::{count_none, count_words, lose_variable, shift, take_parameters};
 use crate::texts::{first_number, getopts_name, lose_unset, read_behind, runs_command};
-use sh_facts::knowledge::Knowledge;
+use sh_facts::knowledge::{Knowledge, NameSet};
 use sh_operands::options::positional_at;
 use sh_table::kind::Kind;
 use sh_table::operands::{are_static, name_length};
@@ -37,32 +37,34 @@ use sh_tree::tree::{Element, Part, Word};
 
 // Names that utilities set
 
-// The name, unless a prefix assignment has it.
-#[tactic(auto, unfolding(crate::specs::Losses::free_gained, crate::specs::Walks::setting))]
-fn gain_free(claims: &Claims<'_>, elements: &[Element], name: &[u8], known: &mut Knowledge)
-    ensures { facts_in (setting claims.now) known.new ≡ losses.free_gained (setting claims.now) (elements_from (setting claims.now).script elements.now) (facts_in (setting claims.now) known.old) name.now }
+// The name, unless it is one of the prefix assignments' names.
+fn gain_free(claims: &Claims<'_>, prefixes: &NameSet, name: &[u8], known: &mut Knowledge)
+    ensures { (es : Elements) → losses.ArePrefixes (setting claims.now) es prefixes.now
+        → facts_in (setting claims.now) known.new ≡ losses.free_gained (setting claims.now) es (facts_in (setting claims.now) known.old) name.now }
 {
-    if !is_prefix(elements, claims.script, name) {
+    if !prefixes.has(claims.names, name) {
         gain_variable(claims, name, known);
     }
 }
 
 #[tactic(auto, unfolding(crate::specs::Losses::by_name, crate::specs::Walks::setting))]
-fn gain_text(claims: &Claims<'_>, elements: &[Element], text: &WordText, known: &mut Knowledge)
-    ensures { facts_in (setting claims.now) known.new ≡ losses.by_name (losses.free_gained (setting claims.now) (elements_from (setting claims.now).script elements.now)) (facts_in (setting claims.now) known.old) (text_in (setting claims.now).script text.now) }
+fn gain_text(claims: &Claims<'_>, prefixes: &NameSet, text: &WordText, known: &mut Knowledge)
+    ensures { (es : Elements) → losses.ArePrefixes (setting claims.now) es prefixes.now
+        → facts_in (setting claims.now) known.new ≡ losses.by_name (losses.free_gained (setting claims.now) es) (facts_in (setting claims.now) known.old) (text_in (setting claims.now).script text.now) }
 {
     if let Some(name) = text.get(claims.script) {
         if is_name(name) {
-            gain_free(claims, elements, name, known);
+            gain_free(claims, prefixes, name, known);
         }
     }
 }
 
-fn gain_texts(claims: &Claims<'_>, elements: &[Element], texts: &[WordText], known: &mut Knowledge)
-    ensures { facts_in (setting claims.now) known.new ≡ fold (losses.texts_with (setting claims.now) (losses.free_gained (setting claims.now) (elements_from (setting claims.now).script elements.now))) (facts_in (setting claims.now) known.old) texts.now }
+fn gain_texts(claims: &Claims<'_>, prefixes: &NameSet, texts: &[WordText], known: &mut Knowledge)
+    ensures { (es : Elements) → losses.ArePrefixes (setting claims.now) es prefixes.now
+        → facts_in (setting claims.now) known.new ≡ fold (losses.texts_with (setting claims.now) (losses.free_gained (setting claims.now) es)) (facts_in (setting claims.now) known.old) texts.now }
 {
     for text in texts {
-        gain_text(claims, elements, text, known);
+        gain_text(claims, prefixes, text, known);
     }
 }
 
@@ -76,7 +78,8 @@ fn gain_behind(
     ensures { facts_in (setting claims.now) known.new ≡ losses.free_names (setting claims.now) (elements_from (setting claims.now).script elements.now) (reads.names_behind (reads.read_behind false (map (text_in (setting claims.now).script) operands.now))) (facts_in (setting claims.now) known.old) }
 {
     if let Some(names) = read_behind(operands, claims.script) {
-        gain_texts(claims, elements, names, known);
+        let prefixes = prefix_set(claims, elements);
+        gain_texts(claims, &prefixes, names, known);
     }
 }
 
@@ -104,8 +107,9 @@ fn gain_getopts(
     ensures { facts_in (setting claims.now) known.new ≡ losses.free_names (setting claims.now) (elements_from (setting claims.now).script elements.now) (reads.and_optind (reads.getopts_name (map (text_in (setting claims.now).script) operands.now))) (facts_in (setting claims.now) known.old) }
 {
     if let Some(name) = getopts_name(operands, claims.script) {
-        gain_free(claims, elements, name, known);
-        gain_free(claims, elements, b"OPTIND", known);
+        let prefixes = prefix_set(claims, elements);
+        gain_free(claims, &prefixes, name, known);
+        gain_free(claims, &prefixes, b"OPTIND", known);
     }
 }
 

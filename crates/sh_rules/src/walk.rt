@@ -2,7 +2,6 @@
 //! known there (XCU 2.9, 2.13).
 ghost use Rattle.std.specs.Prelude.{◌≡◌, fold};
 ghost use Rattle.sh_tree.specs.program.Trees.{script_of};
-ghost use Rattle.sh_facts.specs.Entries as entries;
 ghost use Rattle.sh_rules.specs.Behind.{both, turns};
 ghost use Rattle.sh_rules.specs.Settings.{Setting};
 ghost use Rattle.sh_rules.specs.Walked as spec;
@@ -61,22 +60,6 @@ pub fn begun(by: FlowRule, known: &Knowledge) -> Course
         by,
         behind: Behind::both(known),
     }
-}
-
-/// The rule that enters an item: an asynchronous one is a process of its own.
-#[tactic(auto, unfolding(sh_facts::specs::Entries::item_rule))]
-pub fn item_rule(background: bool, by: FlowRule) -> FlowRule
-    ensures { result ≡ entries.item_rule background by }
-{
-    if background { FlowRule::F11 } else { by }
-}
-
-/// The rule that enters the parts of a pipeline, of which two or more are processes of their own.
-#[tactic(auto, unfolding(sh_facts::specs::Entries::part_rule))]
-pub fn part_rule(is_long: bool, by: FlowRule) -> FlowRule
-    ensures { result ≡ entries.part_rule is_long by }
-{
-    if is_long { FlowRule::F12 } else { by }
 }
 
 #[tactic(auto, using(crate::proofs::GainLemmas::operand_elements))]
@@ -246,7 +229,7 @@ fn walk_pipe<V: Visitor>(
         [] => (),
         [command] => walk_command(claims, by, around, known, command, visitor),
         [_, _, ..] => {
-            let inner = around.round_parts(true);
+            let inner = around.round_parts();
             let seen = without_job(claims, known);
             let parts = pipe.parts.as_slice();
             walk_commands(claims, FlowRule::F12, &inner, &seen, parts, visitor);

@@ -1,7 +1,7 @@
 use Rattle.std.proofs.Common.{sym, ◌∙◌, true≢false}
 use Rattle.sh_certify.specs.Turns.{gathered_of}
 use Rattle.sh_certify.specs.Writable.{sets_in}
-use Rattle.sh_certify.proofs.LowerLemmas.{idle_both}
+use Rattle.sh_certify.proofs.LowerLemmas.{both_fit, idle_both}
 use Rattle.sh_certify.proofs.TurnLemmas.{sunk_both, sunk_then, sunk_else}
 use Rattle.sh_certify.proofs.turn.lower_gathered.Goals as goal
 
@@ -41,3 +41,19 @@ returns-else-lowered-clause-idle c = λ e.
     let r = c.requires.working in
     idle_both c.args.certificate.now c.lower_known.new.certificate (sets_in c.args.writable.now.vars c.args.writable.now.functions) (gathered_of c.args.gather.now)
     ((c.in_ok-lowered.ensures.lowered r.0 r.1 r.2).stays c.if-lowered.false) (c.in_ok-lowered.ensures.idle c.if-lowered.false) (c.in_ok-counted.ensures.idle e)
+
+pub returns-then-lowered-clause-fits : goal.returns-then-lowered-clause-fits
+unfolding gathered_of
+returns-then-lowered-clause-fits c =
+    let r = c.requires.working in
+    let between = c.in_ok-lowered.ensures.working r.0 r.1 r.2 in
+    both_fit c.lower_known.new.certificate c.count.new.certificate (sets_in c.args.writable.now.vars c.args.writable.now.functions) (gathered_of c.args.gather.now)
+    ((c.in_ok-counted.ensures.counted r.0 r.1 between).claims c.args.gather.now.target.place) c.in_ok-lowered.ensures.fits c.in_ok-counted.ensures.fits
+
+pub returns-else-lowered-clause-fits : goal.returns-else-lowered-clause-fits
+unfolding gathered_of
+returns-else-lowered-clause-fits c =
+    let r = c.requires.working in
+    let between = c.in_ok-lowered.ensures.working r.0 r.1 r.2 in
+    both_fit c.lower_known.new.certificate c.count.new.certificate (sets_in c.args.writable.now.vars c.args.writable.now.functions) (gathered_of c.args.gather.now)
+    ((c.in_ok-counted.ensures.counted r.0 r.1 between).claims c.args.gather.now.target.place) c.in_ok-lowered.ensures.fits c.in_ok-counted.ensures.fits

@@ -8,7 +8,7 @@ unfolding setting
 returns-in-Some c =
     let x = setting c.args.claims.now in
     some_read x (elements_from x.script c.args.elements.now) (facts_in x c.args.known.now) (facts_in x c.gain_texts.new.known)
-    c.in-Some.names.now _ c.in-Some.ensures c.gain_texts.ensures
+    c.in-Some.names.now _ c.in-Some.ensures (c.gain_texts.ensures _ c.prefix_set-prefixes.ensures)
 
 pub returns-in_default : goal.returns-in_default
 unfolding setting

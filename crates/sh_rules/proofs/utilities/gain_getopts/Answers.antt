@@ -8,7 +8,7 @@ unfolding setting
 returns-in-Some c =
     let x = setting c.args.claims.now in
     some_option x (elements_from x.script c.args.elements.now) (facts_in x c.args.known.now) (facts_in x c.gain_free.new.known) (facts_in x c.gain_free-in-Some.new.known)
-    c.in-Some.name.now _ c.in-Some.ensures c.gain_free.ensures c.gain_free-in-Some.ensures
+    c.in-Some.name.now _ c.in-Some.ensures (c.gain_free.ensures _ c.prefix_set-prefixes.ensures) (c.gain_free-in-Some.ensures _ c.prefix_set-prefixes.ensures)
 
 pub returns-in_default : goal.returns-in_default
 unfolding setting
