@@ -1,5 +1,5 @@
 -- The readings of texts with commands of each kind.
-use Rattle.std.proofs.Common.{◌≡◌, ◌+◌, ◌<◌, [], ◌∷◌, Some, None, refl, arith}
+use Rattle.std.proofs.Common.{[], Some, None, refl, arith}
 use Rattle.sh_tree.proofs.LanguageLemmas.{whole, at_word, at_token, at_close, no_bodies, alone_reads, computes}
 use Rattle.sh_tree.specs.declared.token.command.Lead.TheVariants as lead
 use Rattle.sh_tree.specs.declared.token.command.Reserved.TheVariants as reserved

@@ -1,5 +1,5 @@
 -- The number of commands never goes down in a reading, and goes up where a command is read.
-use Rattle.std.proofs.Common.{ℕ, ◌+◌, ◌<◌, ◌≤◌, Bool, true, false, if◌then◌else◌, List, Option, le_refl, le_trans, lt_of_lt_of_le, arith}
+use Rattle.std.proofs.Common.{ℕ, ◌+◌, ◌<◌, ◌≤◌, Bool, true, false, if◌then◌else◌, List, Option, le_refl, le_trans, arith}
 use Rattle.sh_tree.specs.declared.tree.AndOr.{AndOr}
 use Rattle.sh_tree.specs.declared.tree.Binary.{Binary}
 use Rattle.sh_tree.specs.declared.tree.Branch.{Branch}
@@ -194,20 +194,3 @@ pub command_count_more : {limit : ℕ} {b : List ℕ} {body : ℕ → Document} 
 command_count_more (r.simple_command h es) = one_more (elements_count es)
 command_count_more (r.compound_command l k qs) = one_more (le_trans (compound_count k) (redirects_count qs))
 command_count_more (r.definition h o p k i c) = one_more (le_trans (breaks_count k) (command_count c))
-
-pub commands_count_more : {limit : ℕ} {b : List ℕ} {body : ℕ → Document} {s u : State} {cs : List Command} → ReadsCommands limit b body s u cs → s.spot.count < u.spot.count
-commands_count_more (r.last_command c h) = command_count_more c
-commands_count_more (r.more_commands c h k cs) = lt_of_lt_of_le (command_count_more c) (le_trans (breaks_count k) (commands_count cs))
-
-pub pipeline_count_more : {limit : ℕ} {b : List ℕ} {body : ℕ → Document} {s u : State} {p : Pipe} → ReadsPipeline limit b body s u p → s.spot.count < u.spot.count
-pipeline_count_more (r.negated h cs) = commands_count_more cs
-pipeline_count_more (r.straight h cs) = commands_count_more cs
-
-pub and_or_count_more : {limit : ℕ} {b : List ℕ} {body : ℕ → Document} {s u : State} {l : AndOr} → ReadsAndOr limit b body s u l → s.spot.count < u.spot.count
-and_or_count_more (r.linked p ps) = lt_of_lt_of_le (pipeline_count_more p) (links_count ps)
-
-pub items_count_more : {limit : ℕ} {b : List ℕ} {body : ℕ → Document} {s u : State} {is : List Item} → ReadsItems limit b body s u is → s.spot.count < u.spot.count
-items_count_more (r.last_item l h k) = and_or_count_more l
-items_count_more {b = b} (r.ended_item {u = u} l h k e) = lt_of_lt_of_le (and_or_count_more l) (le_trans (parted_count b u) (breaks_count k))
-items_count_more {b = b} (r.more_items {u = u} l h k e is) =
-    lt_of_lt_of_le (and_or_count_more l) (le_trans (parted_count b u) (le_trans (breaks_count k) (items_count is)))

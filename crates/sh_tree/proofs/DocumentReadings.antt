@@ -1,5 +1,5 @@
 -- The readings of texts with here-documents.
-use Rattle.std.proofs.Common.{◌≡◌, ℕ, ◌+◌, ◌<◌, true, false, [], ◌∷◌, None, take, codes, refl, arith}
+use Rattle.std.proofs.Common.{ℕ, true, false, [], ◌∷◌, None, take, codes, refl, arith}
 use Rattle.sh_tree.proofs.LanguageLemmas.{whole, at_word, at_token, at_close, no_bodies, alone_reads, computes}
 use Rattle.sh_tree.specs.declared.token.command.Lead.TheVariants as lead
 use Rattle.sh_tree.specs.declared.token.command.Reserved.TheVariants as reserved

@@ -1,8 +1,7 @@
 -- Texts of so many levels: they are read within a limit that is no less, and only there.
-use Rattle.std.proofs.Common.{◌≡◌, ◌==◌, ℕ, zero, suc, ◌+◌, ◌-◌, ◌<◌, ◌≤◌, Bool, true, false, ◌&&◌, List, [], ◌∷◌, Option, Some, None, length, codes, take, refl, sym, ap, ◌∙◌, subst, arith}
+use Rattle.std.proofs.Common.{◌≡◌, ◌==◌, ℕ, zero, suc, ◌+◌, ◌-◌, ◌<◌, ◌≤◌, Bool, true, false, ◌&&◌, List, [], ◌∷◌, codes, take, refl, sym, ◌∙◌, subst, arith}
 use Rattle.std.proofs.lemmas.Bool.{true≢false, and_parts, eqb-true}
 use Rattle.sh_tree.specs.declared.tree.Action.TheVariants as action
-use Rattle.sh_tree.specs.declared.tree.Element.{Element}
 use Rattle.sh_tree.specs.declared.tree.Element.TheVariants as element
 use Rattle.sh_tree.specs.declared.tree.Expr.{Expr}
 use Rattle.sh_tree.specs.declared.tree.Expr.TheVariants as expr
@@ -13,7 +12,6 @@ use Rattle.sh_tree.specs.declared.tree.Script.{Script}
 use Rattle.sh_tree.specs.declared.tree.Subject.{Subject}
 use Rattle.sh_tree.specs.declared.tree.Subject.TheVariants.{Name}
 use Rattle.sh_tree.specs.declared.tree.Unary.TheVariants as unary
-use Rattle.sh_tree.specs.declared.tree.Word.{Word}
 use Rattle.sh_tree.specs.declared.token.arithmetic.Figure.{Figure}
 use Rattle.sh_tree.specs.declared.token.arithmetic.Figure.TheVariants as figure
 use Rattle.sh_tree.specs.declared.token.command.Stage.TheVariants.{First}
@@ -21,16 +19,14 @@ use Rattle.sh_tree.specs.declared.token.word.Context.{Context}
 use Rattle.sh_tree.specs.declared.token.word.Sign.{Sign}
 use Rattle.sh_tree.specs.declared.token.word.Sign.TheVariants as sign
 use Rattle.sh_tree.specs.declared.token.word.Site.TheVariants as site
-use Rattle.sh_tree.specs.language.Arithmetic.{lexeme, unary_level, unary_of, assignment_of}
+use Rattle.sh_tree.specs.language.Arithmetic.{lexeme, unary_level, unary_of}
 use Rattle.sh_tree.specs.language.Contexts.{in_document_of, in_unsplit, in_word}
-use Rattle.sh_tree.specs.language.States.{Document, Spot, State, deeper, nth, to}
+use Rattle.sh_tree.specs.language.States.{Document, Spot, deeper, nth}
 use Rattle.sh_tree.specs.language.Words.{in_arithmetic, in_use}
-use Rattle.sh_tree.specs.language.Trees.{command, here_doc, item_of, param, redirect, script, span, word}
+use Rattle.sh_tree.specs.language.Trees.{param, span, word}
 use Rattle.sh_tree.specs.language.Reading as r
 use Rattle.sh_tree.specs.language.Reading.{Reads, ReadsAndOr, ReadsBreaks, ReadsCommand, ReadsCompound, ReadsConditional, ReadsDocuments, ReadsElements, ReadsExpression, ReadsLevel, ReadsList, ReadsParts, ReadsRedirect, ReadsScript, ReadsTo, ReadsUnary, ReadsWithin, ReadsWord, after, figure_at, over, sign_at}
 use Rattle.sh_tree.specs.declared.tree.CommandStyle.TheVariants.{Paren}
-use Rattle.sh_tree.specs.declared.tree.Kind.TheVariants as kind
-use Rattle.sh_tree.specs.declared.tree.Target.TheVariants.{Here}
 use Rattle.sh_tree.specs.declared.token.command.Lead.TheVariants as lead
 use Rattle.sh_tree.specs.declared.token.command.Reserved.TheVariants as reserved
 use Rattle.sh_tree.specs.language.HereDocuments.{Mark}

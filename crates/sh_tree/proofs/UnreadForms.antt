@@ -1,5 +1,5 @@
 -- Texts of forms that are left out by name, and bodies whose lines shells join in two ways: no script reads them.
-use Rattle.std.proofs.Common.{◌≡◌, ℕ, Bool, true, ◌<◌, false, not, ◌&&◌, ◌||◌, List, [], ◌∷◌, Some, None, length, take, codes, refl, sym, ap, ◌∙◌, subst, arith}
+use Rattle.std.proofs.Common.{◌≡◌, ℕ, true, ◌<◌, false, not, ◌&&◌, List, [], ◌∷◌, Some, None, length, take, codes, refl, sym, ap, ◌∙◌, subst, arith}
 use Rattle.std.proofs.lemmas.Bool.{true≢false}
 use Rattle.sh_tree.specs.declared.refusal.Form.TheVariants as form
 use Rattle.sh_tree.specs.declared.tree.Action.TheVariants as action
@@ -16,7 +16,7 @@ use Rattle.sh_tree.specs.declared.token.command.Redirection.{Redirection}
 use Rattle.sh_tree.specs.declared.token.word.Context.{Context}
 use Rattle.sh_tree.specs.declared.token.word.Sign.TheVariants as sign
 use Rattle.sh_tree.specs.language.Arithmetic.{is_closed}
-use Rattle.sh_tree.specs.language.Commands.{begins_pipeline, direction_of, is_bar, is_location, is_newline_lead, link_of, redirection, separator, strip_of}
+use Rattle.sh_tree.specs.language.Commands.{begins_pipeline, direction_of, is_bar, is_location, is_newline_lead, link_of, redirection, separator}
 use Rattle.sh_tree.specs.language.Contexts.{in_document_of, in_unsplit}
 use Rattle.sh_tree.specs.language.HereDocuments.{Mark, behind_line, is_ambiguous, is_delimiter, keeps_document}
 use Rattle.sh_tree.specs.language.Parts.{keeps_lines}
@@ -26,7 +26,7 @@ use Rattle.sh_tree.specs.language.Reading as r
 use Rattle.sh_tree.specs.language.Reading.{ReadsParts, ReadsRedirect, ReadsScript, ReadsSequence, ReadsWord, lead_here, start}
 use Rattle.sh_tree.specs.language.Examples.{IsUnread, bare, plain}
 use Rattle.sh_tree.specs.language.UnreadExamples.{across_text, backquoted_text, dollar_single_text, double_bracket_text, double_parenthesis_text, expanded_delimiter_text, joined_tab_text, location_text, negated_parenthesis_text, other_braced_text, split_comment_text, split_end_text, split_quotes_text, tilde_delimiter_text, unsplit_text}
-use Rattle.sh_tree.proofs.Inversions.{bare_command_ends, bare_word_ends, document_is, elements_word, first_part, items_end, items_first, no_sequence, nothing_at, one_part_word, opening_document, opening_operator, opening_redirect, opening_word, redirect_document, script_is, sequence_items, some_breaks, some_one, word_parts}
+use Rattle.sh_tree.proofs.Inversions.{bare_command_ends, bare_word_ends, document_is, elements_word, first_part, items_end, items_first, no_sequence, nothing_at, one_part_word, opening_document, opening_operator, opening_redirect, opening_word, script_is, sequence_items, some_breaks, some_one, word_parts}
 use Rattle.sh_tree.proofs.LanguageLemmas.{at_token, at_word, computes, the_mark}
 use Rattle.sh_tree.proofs.UnreadLemmas.{ends_before, tabs_mark}
 

@@ -1,5 +1,5 @@
 -- The readings of texts with expansions of each kind.
-use Rattle.std.proofs.Common.{◌≡◌, ◌+◌, ◌<◌, false, [], ◌∷◌, refl, arith}
+use Rattle.std.proofs.Common.{false, [], ◌∷◌, refl, arith}
 use Rattle.sh_tree.proofs.LanguageLemmas.{whole, at_word, at_token, no_bodies, alone_reads, computes, loosest_level}
 use Rattle.sh_tree.specs.declared.tree.Action.TheVariants as action
 use Rattle.sh_tree.specs.declared.tree.Expr.TheVariants as expr

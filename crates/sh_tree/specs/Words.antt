@@ -1,51 +1,29 @@
--- What definitions read off a tree: the command of an item, the elements of a command, the expansions and the static text of a word.
+-- What definitions read off a tree: the lone command of a pipeline, the elements of a command and the static text of a word.
 -- POSIX.1-2024, XCU 2.6 (word expansions), 2.9.1 (simple commands).
-use Rattle.std.specs.Prelude.{◌≡◌, ℕ, Bool, true, false, not, ◌&&◌, ◌||◌, ◌==◌, ◌-◌, length, take, drop, if◌then◌else◌, List, [], ◌∷◌, ◌++◌, Option, Some, None, refl}
+use Rattle.std.specs.Prelude.{◌≡◌, ℕ, Bool, false, not, ◌&&◌, ◌||◌, ◌==◌, ◌-◌, length, take, drop, if◌then◌else◌, List, [], ◌∷◌, ◌++◌, Option, Some, None, refl}
 use Rattle.std.proofs.Common.{◌∙◌, ap}
 use Rattle.std.specs.List.{filter_map, list_any}
 use Rattle.std.specs.Str.{bytes_eq}
 use Rattle.sh_tree.specs.declared.tree.Span.{Span}
-use Rattle.sh_tree.specs.declared.tree.Script.{Script, out-Script}
-use Rattle.sh_tree.specs.declared.tree.Link.{Link}
-use Rattle.sh_tree.specs.declared.tree.Item.{Item, out-Item}
-use Rattle.sh_tree.specs.declared.tree.AndOr.{AndOr, out-AndOr}
-use Rattle.sh_tree.specs.declared.tree.Pipe.{Pipe, out-Pipe}
 use Rattle.sh_tree.specs.declared.tree.Command.{Command}
 use Rattle.sh_tree.specs.declared.tree.Kind.{Kind, Simple, Simple', items-the_row-Element}
 use Rattle.sh_tree.specs.declared.tree.Redirect.{Redirect}
 use Rattle.sh_tree.specs.declared.tree.Element.{Element, Assignment', Word', Redirection'}
 use Rattle.sh_tree.specs.declared.tree.Element.TheVariants as element
 use Rattle.sh_tree.specs.declared.tree.Word.{Word}
-use Rattle.sh_tree.specs.declared.tree.Param.{Param}
-use Rattle.sh_tree.specs.declared.tree.Subject.{Subject}
-use Rattle.sh_tree.specs.declared.tree.Subject.TheVariants.{Name, Positional, Special}
 use Rattle.sh_tree.specs.declared.tree.SingleStyle.{SingleStyle}
 use Rattle.sh_tree.specs.declared.tree.SingleStyle.TheVariants as single
-use Rattle.sh_tree.specs.declared.tree.Part.{Part, Plain, Escaped, Single, Joined, Double, Double', Param', Row_of-Part, end_of-Part, more_of-Part, items-the_row-Part}
+use Rattle.sh_tree.specs.declared.tree.Part.{Part, Plain, Escaped, Single, Joined, Double, Double', Row_of-Part, end_of-Part, more_of-Part, items-the_row-Part}
 use Rattle.sh_tree.specs.declared.tree.Element.TheBlock.{hidden-the_row-Part-0, items_hidden-the_row-Part-0, items_hidden-the_row-Element-3}
 use Rattle.sh_tree.specs.Tree.{text_of}
 
 -- Commands
 
+-- the command of a pipeline of one
 unfoldable pub lone_part : List Command → Option Command
 lone_part [] = None
 lone_part (c ∷ []) = Some c
 lone_part (c ∷ d ∷ cs) = None
-
-unfoldable pub lone_pipe : Pipe → List (Link × Pipe) → Option Command
-lone_pipe p [] = if (out-Pipe p).negated then None else lone_part (out-Pipe p).parts
-lone_pipe p (x ∷ xs) = None
-
-unfoldable pub lone_list : AndOr → Option Command
-lone_list l = lone_pipe (out-AndOr l).first (out-AndOr l).rest
-
--- the command of an item that is one command alone, in the foreground
-unfoldable pub lone_command : Item → Option Command
-lone_command i = if (out-Item i).background then None else lone_list (out-Item i).list
-
--- the lone commands of a script, in their order
-abbrev pub lone_commands : Script → List Command
-lone_commands t = filter_map lone_command (out-Script t).items
 
 -- the elements of a simple command; other commands have none
 unfoldable pub elements_of : Kind → List Element
@@ -89,57 +67,6 @@ word_of e = word_in (form_of e)
 -- the command name and the operands
 abbrev pub words_of : List Element → List Word
 words_of es = filter_map word_of es
-
--- an assignment's name and value
-unfoldable pub assignment_in : List ℕ → Form → Option (List ℕ × Word)
-assignment_in b (Assigns s w) = Some (text_of b s, w)
-assignment_in b _ = None
-
-abbrev pub assignment_of : List ℕ → Element → Option (List ℕ × Word)
-assignment_of b e = assignment_in b (form_of e)
-
-abbrev pub assignments_of : List ℕ → List Element → List (List ℕ × Word)
-assignments_of b es = filter_map (assignment_of b) es
-
--- Expansions
-
--- the name, the digits or the byte of the parameter
-abbrev pub subject_text : List ℕ → Subject → List ℕ
-subject_text b (Name s) = text_of b s
-subject_text b (Positional n s) = text_of b s
-subject_text b (Special c s) = text_of b s
-
--- a parameter expansion, and whether double quotes stand round it
-pub record Expansion : Type 0 where
-  pub param : Param
-  pub quoted : Bool
-
--- the parameter expansions of a straight part, in the order of the text, where quotes stand round it or not
-unfoldable mutual
-  pub expansions_in : Bool → Part → List Expansion
-  expansions_in q (Plain s) = []
-  expansions_in q (Double' s shape row) = row_expansions true row
-  expansions_in q (Param' s subject operator) = record { param = record { span = s; subject = subject; operator = operator }; quoted = q } ∷ []
-  expansions_in q _ = []
-
-  pub row_expansions : {m : _} → Bool → Row_of-Part m → List Expansion
-  row_expansions q end_of-Part = []
-  row_expansions q (more_of-Part x rest) = expansions_in q x ++ row_expansions q rest
-
--- the expansions of parts
-unfoldable pub expansions : Bool → List Part → List Expansion
-expansions q [] = []
-expansions q (x ∷ xs) = expansions_in q x ++ expansions q xs
-
-row_expansions-items : (m : _) (q : Bool) (row : Row_of-Part m) → row_expansions q row ≡ expansions q (items-the_row-Part m row)
-unfolding row_expansions expansions
-row_expansions-items m q end_of-Part = refl
-row_expansions-items m q (more_of-Part x rest) = ap (λ es. expansions_in q x ++ es) (row_expansions-items _ q rest)
-
--- those of a double-quoted part are those of its parts
-pub expansions_in-Double : (q : Bool) (s : Span) (ps : List Part) → expansions_in q (Double s ps) ≡ expansions true ps
-unfolding expansions_in
-expansions_in-Double q s ps = row_expansions-items _ true (hidden-the_row-Part-0 ps) ∙ ap (expansions true) (items_hidden-the_row-Part-0 ps)
 
 -- Static text
 

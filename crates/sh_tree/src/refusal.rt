@@ -246,7 +246,7 @@ pub enum Refusal {
     Memory,
     /// A command breaks a rule of the profile; the offset of the command.
     Profile(Rule, u32),
-    /// A line of a certificate, by its number from 1, is none of the format.
+    /// A line of a certificate, by its number from 1, is none of the format; 0 where its text is longer than it may be.
     CertSyntax(u32),
     /// A certificate that is well-formed speaks of another script.
     CertShape,

@@ -1,8 +1,7 @@
 //! The tree. Literal text is a span of the script.
 ghost use Rattle.std.specs.Prelude.{◌≡◌};
-ghost use Rattle.std.specs.Option.{option_copied};
 ghost use Rattle.sh_tree.specs.Tree.{text_of};
-ghost use Rattle.sh_tree.specs.Words.{elements_of, lone_command, lone_list, subject_text};
+ghost use Rattle.sh_tree.specs.Words.{elements_of};
 ghost use Rattle.sh_tree.specs.declared.tree.Command.{out-Command};
 
 use crate::boxed::Boxed;
@@ -41,19 +40,6 @@ pub struct Item {
     pub background: bool,
 }
 
-impl Item {
-    /// The command of an item that is one command alone, in the foreground.
-    #[tactic(auto, unfolding(crate::specs::Words::lone_command))]
-    pub fn lone_command(&self) -> Option<&Command>
-        ensures { option_copied result ≡ lone_command self.now }
-    {
-        if self.background {
-            return None;
-        }
-        self.list.lone_command()
-    }
-}
-
 /// What joins two pipelines: `&&` or `||`.
 #[derive(Clone, Copy, Debug, PartialEq, Eq)]
 pub enum Link {
@@ -67,21 +53,6 @@ pub enum Link {
 pub struct AndOr {
     pub first: Pipe,
     pub rest: Items<(Link, Pipe)>,
-}
-
-impl AndOr {
-    #[tactic(auto, unfolding(crate::specs::Words::lone_list, crate::specs::Words::lone_pipe, crate::specs::Words::lone_part))]
-    fn lone_command(&self) -> Option<&Command>
-        ensures { option_copied result ≡ lone_list self.now }
-    {
-        if !self.rest.is_empty() || self.first.negated {
-            return None;
-        }
-        match self.first.parts.as_slice() {
-            [command] => Some(command),
-            _ => None,
-        }
-    }
 }
 
 /// A pipeline, and whether `!` stands before it (XCU 2.9.2).
@@ -253,7 +224,7 @@ pub struct HereDoc {
     pub end: Span,
 }
 
-/// A word: its bytes and its parts. The word behind the operator of a braced expansion may have none.
+/// A word: its bytes and its parts. That behind the operator of a braced expansion, a value and a body may have none.
 #[cycle(tree)]
 #[derive(Drop)]
 pub struct Word {
@@ -342,19 +313,6 @@ pub enum Special {
     Exclamation,
     /// `0`
     Zero,
-}
-
-impl Subject {
-    /// The name, the digits or the byte of the parameter.
-    pub fn text(self, script: &[u8]) -> &[u8]
-        ensures { result.now ≡ subject_text script.entry.now self }
-    {
-        match self {
-            Subject::Name(span) | Subject::Positional(_, span) | Subject::Special(_, span) => {
-                span.text(script)
-            }
-        }
-    }
 }
 
 /// What an expansion does with the parameter's value (XCU 2.6.2).

@@ -1,6 +1,6 @@
 -- Texts with commands of each kind, and their trees.
 -- POSIX.1-2024, XCU 2.7 (redirection), 2.9 (commands).
-use Rattle.std.specs.Prelude.{ℕ, List, [], ◌∷◌, ◌+◌, codes, Some, None}
+use Rattle.std.specs.Prelude.{ℕ, List, [], ◌∷◌, codes, Some, None}
 use Rattle.sh_tree.specs.declared.tree.ClauseEnd.TheVariants.{Break}
 use Rattle.sh_tree.specs.declared.tree.Direction.TheVariants as direction
 use Rattle.sh_tree.specs.declared.tree.Element.TheVariants as element
@@ -10,7 +10,7 @@ use Rattle.sh_tree.specs.declared.tree.Script.{Script}
 use Rattle.sh_tree.specs.declared.tree.Target.TheVariants.{File}
 use Rattle.sh_tree.specs.language.Examples.{bare, simple, utility, lone}
 use Rattle.sh_tree.specs.language.Reading.{Reads}
-use Rattle.sh_tree.specs.language.Trees.{redirect, command, clause, span, word}
+use Rattle.sh_tree.specs.language.Trees.{redirect, command, clause, span}
 
 -- a loop on one line
 abbrev pub while_text : List ℕ

@@ -1,6 +1,6 @@
 -- Texts with here-documents, and their trees.
 -- POSIX.1-2024, XCU 2.7.4 (here-document).
-use Rattle.std.specs.Prelude.{ℕ, true, false, List, [], ◌∷◌, ◌+◌, codes, None}
+use Rattle.std.specs.Prelude.{ℕ, true, false, List, [], ◌∷◌, codes, None}
 use Rattle.sh_tree.specs.declared.tree.CommandStyle.TheVariants.{Paren}
 use Rattle.sh_tree.specs.declared.tree.Element.TheVariants as element
 use Rattle.sh_tree.specs.declared.tree.Kind.TheVariants as kind

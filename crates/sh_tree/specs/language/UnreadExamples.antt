@@ -1,6 +1,6 @@
 -- More texts that nothing reads: forms that are left out by name, and what is asked of bodies.
 -- POSIX.1-2024, XCU 2.2 (quoting), 2.6 (word expansions), 2.7 (redirection), 2.7.4 (here-document).
-use Rattle.std.specs.Prelude.{ℕ, List, [], ◌∷◌, codes}
+use Rattle.std.specs.Prelude.{ℕ, List, codes}
 use Rattle.sh_tree.specs.language.Examples.{IsUnread}
 
 -- what begins no command

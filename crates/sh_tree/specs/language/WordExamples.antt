@@ -1,6 +1,6 @@
 -- Texts with expansions of each kind, and their trees.
 -- POSIX.1-2024, XCU 2.6 (word expansions).
-use Rattle.std.specs.Prelude.{ℕ, false, List, [], ◌∷◌, ◌+◌, codes}
+use Rattle.std.specs.Prelude.{ℕ, false, List, [], ◌∷◌, codes}
 use Rattle.sh_tree.specs.declared.tree.Action.TheVariants as action
 use Rattle.sh_tree.specs.declared.tree.Element.TheVariants as element
 use Rattle.sh_tree.specs.declared.tree.Expr.TheVariants as expr
