@@ -1,5 +1,5 @@
 -- Rows that are kept once: the row that is found, and the rows that stay.
-use Rattle.std.proofs.Common.{◌≡◌, ℕ, zero, suc, ◌<◌, ◌≤◌, Bool, true, false, ◌&&◌, if◌then◌else◌, Some, None, List, [], ◌∷◌, ◌++◌, length, get_or, position, refl, sym, ◌∙◌, ap, arith, rules, eqb, slice_get, subst, unwrap_or, IsTrue, ◌↔◌}
+use Rattle.std.proofs.Common.{◌≡◌, ℕ, zero, suc, ◌<◌, ◌≤◌, Bool, true, false, ◌&&◌, if◌then◌else◌, Some, None, List, [], ◌∷◌, ◌++◌, length, get_or, position, refl, sym, ◌∙◌, ap, arith, rules, eqb, slice_get, subst, unwrap_or}
 use Rattle.std.specs.List.{All, list_any}
 use Rattle.std.proofs.lemmas.Grind.{common_steps}
 use Rattle.std.proofs.lemmas.List.{get_or_append_left, length-append}
@@ -26,9 +26,6 @@ pointwise_itself : (ws : List ℕ) → pointwise eqb ws ws ≡ true
 pointwise_itself [] = refl
 pointwise_itself (w ∷ ws) = rw (eqb_itself w, pointwise_itself ws) refl
 
-equal_itself : (a : BitRow) → equal a a ≡ true
-equal_itself a = rw (pointwise_itself a.words.items, eqb_itself a.count) refl
-
 -- the row at a place that is known
 pub bits_at : (rows : List BitRow) (i : ℕ) (r : BitRow) → slice_get rows i ≡ Some r → (k : ℕ) → holds_at rows i k ≡ bits_of r k
 unfolding bits_in
@@ -45,12 +42,15 @@ found_bits rows row i h k =
     let words : row.words.items ≡ (get_or rows i row).words.items = equal_words row (get_or rows i row) p.1 in
     bits_at rows i (get_or rows i row) (slice_get-get_or rows i row p.0) k ∙ ap (λ ws. has_bit k ws) (sym words)
 
--- a row that is not found is not there
-pub not_there : (rows : List BitRow) (row : BitRow) (i : ℕ) → false ≡ list_any (equal row) rows → slice_get rows i ≡ Some row → ⊥
-not_there rows row i h e =
-    let lt : i < length rows = slice_get_within rows i row e in
-    let same : get_or rows i row ≡ row = sym (unwrap_or-slice_get rows i row) ∙ ap (λ o. unwrap_or o row) e in
-    let found : list_any (equal row) rows ≡ true = list_any_at (equal row) rows i row lt (ap (equal row) same ∙ equal_itself row) in
+-- where a row is not found, none of its words is there
+pub not_there : (rows : List BitRow) (row : BitRow) (i : ℕ) (r : BitRow) (n : ℕ) → false ≡ list_any (equal row) rows → All (λ s. s.count ≡ n) rows → row.count ≡ n
+    → slice_get rows i ≡ Some r → r.words.items ≡ row.words.items → ⊥
+not_there rows row i r n h all own e words =
+    let lt : i < length rows = slice_get_within rows i r e in
+    let same : get_or rows i row ≡ r = sym (unwrap_or-slice_get rows i row) ∙ ap (λ o. unwrap_or o row) e in
+    let count : r.count ≡ row.count = subst (λ (s : BitRow). s.count ≡ n) same (All-get_or (λ s. s.count ≡ n) rows i row lt all) ∙ sym own in
+    let alike : equal row r ≡ true = rw (words, count, pointwise_itself row.words.items, eqb_itself row.count) refl in
+    let found : list_any (equal row) rows ≡ true = list_any_at (equal row) rows i row lt (ap (equal row) same ∙ alike) in
     cc
 
 -- the row that is stored has the numbers of the one that was handed in
@@ -88,11 +88,3 @@ past_count rows i n k r all e le below =
     go : (b : Bool) → bits_of r k ≡ b → false ≡ holds_at rows i k
     go true b = let under : k < r.count = below k b in absurd (omega (arith, all_at))
     go false b = sym (bits_at rows i r e k ∙ b)
-
--- a row within another, by their places
-pub within_at : (rows : List BitRow) (i j : ℕ) (a b : BitRow) (t : Bool) → i < length rows → j < length rows → a ≡ get_or rows i a → b ≡ get_or rows j b
-    → (IsTrue t ↔ ((k : ℕ) → bits_of a k ≡ true → bits_of b k ≡ true)) → (IsTrue t ↔ ((k : ℕ) → holds_at rows i k ≡ true → holds_at rows j k ≡ true))
-within_at rows i j a b t u v e f w =
-    let first : slice_get rows i ≡ Some a = slice_get-get_or rows i a u ∙ ap Some (sym e) in
-    let second : slice_get rows j ≡ Some b = slice_get-get_or rows j b v ∙ ap Some (sym f) in
-    (λ h k x. bits_at rows j b second k ∙ w.0 h k (sym (bits_at rows i a first k) ∙ x), λ h. w.1 (λ k x. sym (bits_at rows j b second k) ∙ h k (bits_at rows i a first k ∙ x)))

@@ -33,8 +33,8 @@ impl Model for Names {
 
 impl Names {
     /// The names of a script, which was read from these bytes: first IFS, OPTIND, PPID, OPTARG and `!`, then the policy's, then those in
-    /// the text, by their offsets: of parameters, assignments, arithmetic, `for` and definitions, and the operands by which `unset`,
-    /// `read` and `getopts` name them.
+    /// the text, by their offsets: of parameters, assignments, the operands of `export` and `readonly` in assignment form, arithmetic, `for` and definitions, and
+    /// the operands by which `unset`, `read` and `getopts` name them.
     ///
     /// # Errors
     ///

@@ -1,6 +1,7 @@
 //! Rows that are kept once.
-ghost use Rattle.std.specs.Prelude.{◌≡◌, ◌<◌, ◌≤◌, ◌+◌, ◌-◌, ◌^◌, ◌↔◌, ℕ, true, [], Some, length, slice_get, IfOk, IfSome, OnErr, IsOk, IsTrue};
+ghost use Rattle.std.specs.Prelude.{◌≡◌, ◌<◌, ◌≤◌, ◌+◌, ◌-◌, ◌^◌, ℕ, [], Some, length, slice_get, IfOk, IfSome, OnErr, IsOk};
 ghost use Rattle.std.specs.Option.{option_copied};
+ghost use Rattle.sh_rows.specs.declared.bits.BitRow.{BitRow};
 ghost use Rattle.sh_facts.specs.KeptRows.{Stay, bits_of, holds_at};
 
 use indexmap::IndexSet;
@@ -72,8 +73,8 @@ impl Rows {
         ensures known { IfOk result (λ id. id.index < length self.new.rows) }
         ensures kept { Stay self.old.rows self.new.rows }
         ensures more { length self.new.rows ≤ length self.old.rows + 1 }
-        ensures there { (i : ℕ) → slice_get self.old.rows i ≡ Some row.now → IsOk result }
-        ensures once { (i : ℕ) → slice_get self.old.rows i ≡ Some row.now → self.new.rows ≡ self.old.rows }
+        ensures there { (i : ℕ) (r : BitRow) → slice_get self.old.rows i ≡ Some r → r.words.items ≡ row.now.words.items → IsOk result }
+        ensures once { (i : ℕ) (r : BitRow) → slice_get self.old.rows i ≡ Some r → r.words.items ≡ row.now.words.items → self.new.rows ≡ self.old.rows }
         ensures err { OnErr result (self.new.rows ≡ self.old.rows) }
         ensures count { self.new.count ≡ self.old.count }
     {
@@ -105,18 +106,5 @@ impl Rows {
         ensures sized { IfSome result (λ r. r.now.count ≡ self.now.count) }
     {
         self.set.get_index(id.index as usize)
-    }
-
-    /// Whether each number of the first row is in the second. Equal places are so at once.
-    pub fn is_within(&self, part: RowId, whole: RowId) -> bool
-        requires part { part.index < length self.now.rows }
-        requires whole { whole.index < length self.now.rows }
-        ensures { IsTrue result ↔ ((k : ℕ) → holds_at self.now.rows part.index k ≡ true → holds_at self.now.rows whole.index k ≡ true) }
-    {
-        if part.index == whole.index {
-            return true;
-        }
-        let rows = self.set.as_slice();
-        rows[part.index as usize].within(&rows[whole.index as usize])
     }
 }

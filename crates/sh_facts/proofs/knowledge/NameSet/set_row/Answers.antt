@@ -1,4 +1,4 @@
-use Rattle.std.proofs.Common.{◌≡◌, false, ◌||◌, ap, ◌∙◌}
+use Rattle.std.proofs.Common.{◌||◌, ap, ◌∙◌}
 use Rattle.sh_facts.specs.KeptRows.{holds_at}
 use Rattle.sh_facts.proofs.KnowledgeLemmas.{or_none}
 use Rattle.sh_facts.proofs.knowledge.NameSet.set_row.Goals as goal

@@ -7,13 +7,13 @@ pub returns-in-Some-clause-found : goal.returns-in-Some-clause-found
 returns-in-Some-clause-found c = rw (← c.self.view_is) (found_bits c.self.inside.set.keys c.args.row.now c.in-Some.index c.in-Some.ensures.index)
 
 pub returns-in_err-own-clause-there : goal.returns-in_err-own-clause-there
-returns-in_err-own-clause-there c = rw (← c.self.view_is) (λ i e. absurd (not_there c.self.inside.set.keys c.args.row.now i c.in_default.ensures.found e))
+returns-in_err-own-clause-there c = rw (← c.self.view_is) (λ i r e w. absurd (not_there c.self.inside.set.keys c.args.row.now i r c.self.inside.count c.in_default.ensures.found c.self.invariant (c.requires.sized ∙ sym (ap (λ (k : KeptRows). k.count) c.self.view_is)) e w))
 
 pub returns-in_err-index-clause-there : goal.returns-in_err-index-clause-there
-returns-in_err-index-clause-there c = rw (← c.self.view_is) (λ i e. absurd (not_there c.self.inside.set.keys c.args.row.now i c.in_default.ensures.found e))
+returns-in_err-index-clause-there c = rw (← c.self.view_is) (λ i r e w. absurd (not_there c.self.inside.set.keys c.args.row.now i r c.self.inside.count c.in_default.ensures.found c.self.invariant (c.requires.sized ∙ sym (ap (λ (k : KeptRows). k.count) c.self.view_is)) e w))
 
 pub returns-clause-once : goal.returns-clause-once
-returns-clause-once c = rw (← c.self.view_is) (λ i e. absurd (not_there c.self.inside.set.keys c.args.row.now i c.in_default.ensures.found e))
+returns-clause-once c = rw (← c.self.view_is) (λ i r e w. absurd (not_there c.self.inside.set.keys c.args.row.now i r c.self.inside.count c.in_default.ensures.found c.self.invariant (c.requires.sized ∙ sym (ap (λ (k : KeptRows). k.count) c.self.view_is)) e w))
 
 pub invariant_of-self-2 : goal.invariant_of-self-2
 invariant_of-self-2 c =
