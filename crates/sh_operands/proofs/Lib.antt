@@ -1,3 +1,4 @@
 pub mod NumeralLemmas
 pub mod TextLemmas
 pub mod FieldLemmas
+pub mod MeaningLemmas

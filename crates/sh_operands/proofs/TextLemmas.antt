@@ -1,10 +1,11 @@
 -- Options by the static texts of operands are those of the texts alone.
 use Rattle.std.proofs.Common.{◌≡◌, ℕ, suc, ◌+◌, ◌==◌, Bool, true, false, not, ◌&&◌, ◌||◌, if◌then◌else◌, List, [], ◌∷◌, ◌++◌, drop, Option, Some, None, option_map, refl, sym, ap, ap₂, ◌∙◌, arith, true≢false}
-use Rattle.std.specs.List.{list_all, filter_map}
+use Rattle.std.specs.List.{list_all}
 use Rattle.sh_tree.specs.program.Syntax.{Text}
 use Rattle.sh_table.specs.Profile.{Static}
 use Rattle.sh_table.specs.runs.Operands.{Removal, OfVariables, OfFunctions, OfEither, OfAny, removal_of, unset_from, ends_options, is_dashed, is_set_option, ends_in_o}
 use Rattle.sh_operands.specs.declared.options.Letters.{Letters}
+use Rattle.sh_operands.specs.Meaning.{listed}
 use Rattle.sh_operands.specs.Texts.{no_letters, with_option, removal_in, takes_variables, takes_functions, unset_behind, positional_at, positional_from}
 
 taken_variables : (l : Letters) → (not l.any || l.only_variables || not l.only_functions) ≡ takes_variables (removal_in l)
@@ -109,9 +110,6 @@ option_told [] (d ∷ e ∷ es) h = refl
 option_told (c ∷ cs) (d ∷ e ∷ es) h =
     ap₂ (λ v f. record { any = true; only_variables = v; only_functions = f })
     (all_both (λ x. x == 118) (c ∷ cs) (e ∷ es)) (all_both (λ x. x == 102) (c ∷ cs) (e ∷ es))
-
-abbrev listed : List Static → List Text
-listed ts = filter_map (λ t. t) ts
 
 abbrev told : Letters × List Static → Removal × List Text
 told p = (removal_in p.0, listed p.1)

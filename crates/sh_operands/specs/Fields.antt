@@ -1,4 +1,4 @@
--- Clauses of private functions: how many fields a piece of a tree gives at least.
+-- How many fields words give at least, and in clauses of private functions the pieces of a tree.
 -- POSIX.1-2024, XCU 2.5.2 (special parameters), 2.6.2 (parameter expansion), 2.6.5 (field splitting).
 use Rattle.std.specs.Prelude.{ℕ, zero, suc, ◌+◌, Bool, true, false, not, ◌&&◌, List, [], ◌∷◌, fold, Option, Some, None}
 use Rattle.sh_tree.specs.declared.tree.Action.{Action}

@@ -1,3 +1,4 @@
 pub mod Numerals
 pub mod Texts
 pub mod Fields
+pub mod Meaning

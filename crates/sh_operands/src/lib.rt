@@ -2,5 +2,6 @@
 #![tactic(auto)]
 
 pub mod counts;
+pub mod laws;
 pub mod numbers;
 pub mod options;
