@@ -22,7 +22,7 @@ const UNARY_LEVEL: u8 = 10;
 
 impl WordBuilder {
     /// An expression begins.
-    pub fn expression_step(&mut self, script: &[u8]) -> Result<Option<Next>, Refusal>
+    pub(crate) fn expression_step(&mut self, script: &[u8]) -> Result<Option<Next>, Refusal>
         requires small { length script.now ≤ MAX_SCRIPT }
         requires inside { self.old.at ≤ length script.now }
         requires sound { IsSound script.now (focused self.old Focus.Expression) }
@@ -51,14 +51,14 @@ impl WordBuilder {
     }
 
     /// An expression begins that is no assignment.
-    pub fn conditional_step(&mut self) -> Result<(), Refusal>
+    pub(crate) fn conditional_step(&mut self) -> Result<(), Refusal>
         ensures { MatchResult result (λ _. self.new ≡ operating self.old Operation.Condition self.old.depth (Focus.Level 0) self.old.at) (λ e. e ≡ Refusal.Memory) }
     {
         self.operate(Operation::Condition, self.depth, Focus::Level(0), self.at)
     }
 
     /// An expression of a level begins.
-    pub fn level_step(&mut self, script: &[u8], level: u8) -> Result<Option<Next>, Refusal>
+    pub(crate) fn level_step(&mut self, script: &[u8], level: u8) -> Result<Option<Next>, Refusal>
         requires small { length script.now ≤ MAX_SCRIPT }
         requires inside { self.old.at ≤ length script.now }
         requires sound { IsSound script.now (focused self.old (Focus.Level level)) }

@@ -35,7 +35,7 @@ impl WordBuilder {
 
     /// No part begins with the sign of the token at `start`.
     #[tactic(auto, unfolding(crate::specs::Faults::no_part))]
-    pub fn no_part(&self, token: Token, start: u32) -> Refusal
+    pub(crate) fn no_part(&self, token: Token, start: u32) -> Refusal
         ensures { result ≡ faults.no_part self.now.frames token.sign start token.end }
     {
         match token.sign {
@@ -48,7 +48,7 @@ impl WordBuilder {
 
     /// The token has no place in the expression.
     #[tactic(auto, unfolding(crate::specs::Faults::bad))]
-    pub fn bad(&self, lexeme: Lexeme) -> Refusal
+    pub(crate) fn bad(&self, lexeme: Lexeme) -> Refusal
         ensures { result ≡ faults.bad self.now.holder lexeme.figure lexeme.start }
     {
         match lexeme.figure {

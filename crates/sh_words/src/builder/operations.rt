@@ -58,7 +58,7 @@ impl Frame {
 
 impl WordBuilder {
     /// An expression was read.
-    pub fn have_step(&mut self, script: &[u8], expr: Expr) -> Result<Option<Next>, Refusal>
+    pub(crate) fn have_step(&mut self, script: &[u8], expr: Expr) -> Result<Option<Next>, Refusal>
         requires small { length script.now ≤ MAX_SCRIPT }
         requires inside { self.old.at ≤ length script.now }
         requires sound { IsSound script.now (focused self.old (Focus.Have expr)) }

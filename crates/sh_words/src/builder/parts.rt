@@ -24,7 +24,7 @@ use std::mem;
 
 impl WordBuilder {
     /// The word begins.
-    pub fn start_step(&mut self, script: &[u8])
+    pub(crate) fn start_step(&mut self, script: &[u8])
         requires small { length script.now ≤ MAX_SCRIPT }
         requires inside { self.old.at ≤ length script.now }
         requires sound { IsSound script.now (focused self.old Focus.Start) }
@@ -43,7 +43,7 @@ impl WordBuilder {
     }
 
     /// Reads what stands at `at` among parts.
-    pub fn parts_step(&mut self, script: &[u8]) -> Result<Option<Next>, Refusal>
+    pub(crate) fn parts_step(&mut self, script: &[u8]) -> Result<Option<Next>, Refusal>
         requires small { length script.now ≤ MAX_SCRIPT }
         requires inside { self.old.at ≤ length script.now }
         requires sound { IsSound script.now (focused self.old Focus.Parts) }
@@ -68,7 +68,7 @@ impl WordBuilder {
     }
 
     /// Reads the part at `start`, which begins with the sign of the token.
-    pub fn part_step(
+    pub(crate) fn part_step(
         &mut self,
         script: &[u8],
         token: Token,

@@ -82,7 +82,7 @@ impl Opening {
 
 impl WordBuilder {
     /// Whether as many levels are open as may be.
-    pub fn is_deep(&self) -> bool
+    pub(crate) fn is_deep(&self) -> bool
         ensures yes { result ≡ true → 64 ≤ self.now.depth }
         ensures no { result ≡ false → self.now.depth < 64 }
     {
@@ -90,7 +90,7 @@ impl WordBuilder {
     }
 
     /// The part was read, up to `end`; `next` is its last byte where that is plain, else 0.
-    pub fn give(&mut self, next: u8, part: Part, end: u32) -> Result<(), Refusal>
+    pub(crate) fn give(&mut self, next: u8, part: Part, end: u32) -> Result<(), Refusal>
         ensures { MatchResult result (λ _. self.new ≡ given self.old next part end) (λ e. e ≡ Refusal.Memory) }
     {
         match &mut self.holder {
@@ -106,7 +106,7 @@ impl WordBuilder {
     }
 
     /// The expression was read, up to `end`.
-    pub fn have(&mut self, depth: u8, expr: Expr, end: u32)
+    pub(crate) fn have(&mut self, depth: u8, expr: Expr, end: u32)
         ensures { self.new ≡ had self.old depth expr end }
     {
         self.focus = Focus::Have(expr);
@@ -126,7 +126,7 @@ impl WordBuilder {
     }
 
     /// An operand of the operation is read from `end` on.
-    pub fn operate(
+    pub(crate) fn operate(
         &mut self,
         operation: Operation,
         depth: u8,
@@ -139,7 +139,7 @@ impl WordBuilder {
     }
 
     /// The same one level deeper. The level begins at `place`.
-    pub fn enter(
+    pub(crate) fn enter(
         &mut self,
         operation: Operation,
         focus: Focus,
@@ -156,7 +156,7 @@ impl WordBuilder {
     }
 
     /// Opens a part at `start`, whose inside begins at `inside`.
-    pub fn open_part(
+    pub(crate) fn open_part(
         &mut self,
         opening: Opening,
         context: Context,
@@ -185,7 +185,7 @@ impl WordBuilder {
     }
 
     /// Asks for the commands of the substitution at `start`, which begin behind `end`.
-    pub fn ask(&mut self, start: u32, end: u32) -> Result<Option<Next>, Refusal>
+    pub(crate) fn ask(&mut self, start: u32, end: u32) -> Result<Option<Next>, Refusal>
         ensures { Asked self.old start end self.new result }
     {
         if self.is_deep() {
@@ -200,7 +200,7 @@ impl WordBuilder {
     }
 
     /// Skips tabs that are no part of the text.
-    pub fn skip_tabs(&mut self, end: u32)
+    pub(crate) fn skip_tabs(&mut self, end: u32)
         ensures { self.new ≡ skipped self.old end }
     {
         if let Holder::Parts { prior, .. } = &mut self.holder {
