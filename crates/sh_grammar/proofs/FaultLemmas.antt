@@ -1,13 +1,16 @@
 -- What is told at the end of a text, and where here-documents wait.
-use Rattle.std.proofs.Common.{◌≡◌, ◌<◌, ◌≤◌, ℕ, List, [], ◌∷◌, length, Some, None, refl, sym, ap, subst, arith}
+use Rattle.std.proofs.Common.{◌≡◌, ◌<◌, ◌≤◌, ℕ, false, List, [], ◌∷◌, drop, length, Some, None, refl, sym, ap, subst, ◌∙◌, le_refl, true≢false, arith}
 use Rattle.sh_tree.specs.declared.refusal.Fault.TheVariants as fault
+use Rattle.sh_tree.specs.declared.refusal.Form.{Form}
+use Rattle.sh_tree.specs.declared.refusal.Form.TheVariants as form
 use Rattle.sh_tree.specs.declared.refusal.Refusal.{Refusal}
 use Rattle.sh_tree.specs.declared.refusal.Refusal.TheVariants.{Syntax}
 use Rattle.sh_tree.specs.declared.token.command.Lead.{Lead}
 use Rattle.sh_tree.specs.declared.token.command.Lead.TheVariants as lead
 use Rattle.sh_grammar.specs.declared.mark.Mark.{Mark}
 use Rattle.sh_grammar.specs.declared.state.State.{State}
-use Rattle.sh_grammar.specs.Faults.{Tells, TellsAt, ended}
+use Rattle.sh_tree.specs.language.HereDocuments.{is_split_text}
+use Rattle.sh_grammar.specs.Faults.{IsPlace, Tells, TellsAt, ended}
 use Rattle.sh_grammar.specs.States.{AreIn, waiting}
 use Rattle.sh_grammar.specs.Substitutions.{unclosed}
 
@@ -43,3 +46,7 @@ unclosed_open (m ∷ ms) start at is = ap (λ v. Syntax fault.OpenHereDoc v) (so
 pub tells_inside : (b : List ℕ) (l : Lead) (s : State) (e : Refusal) → (l ≡ lead.End → ⊥) → TellsAt b l s e → Tells b l s.at e
 tells_inside b lead.End s e none h = absurd (none refl)
 tells_inside b _ s e none h = h
+
+-- where no line continuation stands behind the token's begin, it is told there
+pub no_continuation : (b : List ℕ) (f : Form) (i : ℕ) → f ≡ form.Continuation → i < length b → false ≡ is_split_text (drop i b) → IsPlace b f i i
+no_continuation b f i is lt none = subst (λ g. IsPlace b g i i) (sym is) (le_refl i, lt, λ split. absurd (true≢false (sym split ∙ sym none)))

@@ -1,6 +1,6 @@
 -- What is told of a token that has no place.
 -- POSIX.1-2024, XCU 2.10 (shell grammar).
-use Rattle.std.specs.Prelude.{◌≡◌, ℕ, ◌<◌, ◌≤◌, Bool, true, false, List, [], ◌∷◌, length, Result, Ok, Err}
+use Rattle.std.specs.Prelude.{◌≡◌, ℕ, ◌<◌, ◌≤◌, Bool, true, false, List, [], ◌∷◌, drop, length, Result, Ok, Err}
 use Rattle.sh_tree.specs.declared.limits.TheConstants.{MAX_COMMANDS, MAX_NESTING}
 use Rattle.sh_tree.specs.declared.refusal.Fault.TheVariants as fault
 use Rattle.sh_tree.specs.declared.refusal.Form.{Form}
@@ -13,11 +13,13 @@ use Rattle.sh_tree.specs.declared.token.command.Lead.{Lead}
 use Rattle.sh_tree.specs.declared.token.command.Lead.TheVariants as lead
 use Rattle.sh_tree.specs.declared.tree.Script.{Script}
 use Rattle.sh_tree.specs.language.Commands.{lead_at}
+use Rattle.sh_tree.specs.language.HereDocuments.{is_split_text}
 use Rattle.sh_tree.specs.language.Reading.{ReadsSequence}
 use Rattle.sh_tree.specs.language.States as states
 use Rattle.sh_tree.specs.language.States.{Document}
 use Rattle.sh_grammar.specs.declared.mark.Mark.{Mark}
 use Rattle.sh_grammar.specs.declared.state.State.{State}
+use Rattle.sh_grammar.specs.Lines.{is_joined}
 use Rattle.sh_grammar.specs.States.{here, first_of}
 
 -- a fault of syntax or a form that is left out, at its place in the text
@@ -26,9 +28,9 @@ IsFault b (Syntax f at) = at ≤ length b
 IsFault b (LeftOut f at) = at < length b
 IsFault b _ = ⊥
 
--- Where a form is told that the token at i is: a line continuation behind the token's first bytes.
+-- Where a form is told that the token at i is: a line continuation behind the token's first bytes, where one stands there.
 abbrev pub IsPlace : List ℕ → Form → ℕ → ℕ → Type 0
-IsPlace b form.Continuation i at = (i ≤ at) × (at < length b)
+IsPlace b form.Continuation i at = (i ≤ at) × (at < length b) × (is_split_text (drop i b) ≡ true → is_joined false (drop at b) ≡ true)
 IsPlace b _ i at = at ≡ i
 
 -- what is told of the token at i, which has no place there

@@ -37,8 +37,7 @@ fn redirected(stage: Stage) -> Stage
     ensures { result ≡ reading.redirected stage }
 {
     match stage {
-        Stage::First => Stage::Prefixed,
-        Stage::Prefixed => Stage::Prefixed,
+        Stage::First | Stage::Prefixed => Stage::Prefixed,
         Stage::Named(declares) => Stage::Named(declares),
     }
 }

@@ -4,14 +4,14 @@ ghost use Rattle.sh_tree.specs.language.Commands as commands;
 ghost use Rattle.sh_grammar.specs.Faults.{IsFault, IsPlace, TellsAt, ended, stage_at};
 ghost use Rattle.sh_grammar.specs.States.{Stands};
 
+use super::kept::joined_in;
 use super::state::{Cursor, State};
-use memchr::memchr;
 use sh_scan::lead_at;
 use sh_tree::limits::MAX_SCRIPT;
 use sh_tree::refusal::{Fault, Form, Refusal};
 use sh_tree::token::{Lead, Stage};
 
-/// Where a form that is left out is told, which the token at `at` is: a line continuation at its backslash.
+/// Where a form that is left out is told, which the token at `at` is: a line continuation at its backslash, the first behind the token's begin.
 fn place_of(script: &[u8], form: Form, at: u32) -> u32
     requires small { length script.now ≤ MAX_SCRIPT }
     requires inside { at < length script.now }
@@ -19,8 +19,8 @@ fn place_of(script: &[u8], form: Form, at: u32) -> u32
     ensures within { result < length script.now }
 {
     match form {
-        Form::Continuation => match memchr(b'\\', &script[at as usize..]) {
-            Some(further) => at + further as u32,
+        Form::Continuation => match joined_in(&script[at as usize..], false) {
+            Some(further) => at + further,
             None => at,
         },
         _ => at,

@@ -1,5 +1,5 @@
 //! Line continuations and tabs in the bodies of here-documents, where shells read a text in two ways (XCU 2.7.4).
-ghost use Rattle.std.specs.Prelude.{◌≡◌, ◌≤◌, ◌<◌, ◌+◌, ◌||◌, ◌&&◌, ◌∷◌, [], not, true, length, ℕ, IfSome};
+ghost use Rattle.std.specs.Prelude.{◌≡◌, ◌≤◌, ◌<◌, ◌+◌, ◌||◌, ◌&&◌, ◌∷◌, [], not, true, drop, length, ℕ, IfSome};
 ghost use Rattle.sh_grammar.specs.Quotes.{Splits, SplitsIn, chained};
 ghost use Rattle.sh_grammar.specs.Lines as lines;
 ghost use Rattle.sh_tree.specs.language.Bytes.{is_first, is_tab};
@@ -47,9 +47,10 @@ fn is_joined(rest: &[u8], tabbed: bool) -> bool
 }
 
 /// Where the first line continuation stands, or the first one before a tab.
-fn joined_in(text: &[u8], tabbed: bool) -> Option<u32>
+pub fn joined_in(text: &[u8], tabbed: bool) -> Option<u32>
     requires small { length text.now ≤ MAX_SCRIPT }
     ensures value { is_some result ≡ documents.has_joined (λ rest. not tabbed || is_first is_tab rest) text.now }
+    ensures here { IfSome result (λ at. lines.is_joined tabbed (drop at text.now) ≡ true) }
     ensures within { IfSome result (λ at. at + 1 < length text.now) }
 {
     let mut at = 0;

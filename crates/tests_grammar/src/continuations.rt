@@ -110,6 +110,14 @@ fn in_operators(rt: HostRuntime) -> Result<(), Fail> {
 const IN_EXPANSIONS: &[Row] = &[
     ("$(\\\na)", "1@0[w0-6(c0-6{2@4[w4-5(p4-5)]})]"),
     ("$(\\\n(a))", "LeftOut(Continuation, 2)"),
+    (
+        "cat <<E\n$(: # a\\b c\\\n)\nE\n",
+        "LeftOut(Continuation, 19)",
+    ),
+    (
+        "cat <<E\n$(: # a\\\\b c\\\n)\nE\n",
+        "LeftOut(Continuation, 20)",
+    ),
 ];
 
 #[test]

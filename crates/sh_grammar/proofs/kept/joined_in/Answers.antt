@@ -21,6 +21,11 @@ returns-then-is_joined-clause-value c =
     let so = sym (c.is_joined.ensures ∙ ap (λ cs. is_joined c.args.tabbed cs) (take_rest text at.at)) ∙ c.if-is_joined.true in
     joined_found c.args.tabbed text at.at at.invariant so
 
+pub returns-then-is_joined-clause-here : goal.returns-then-is_joined-clause-here
+returns-then-is_joined-clause-here c =
+    let at = c.loop-rest in
+    sym (c.is_joined.ensures ∙ ap (λ cs. is_joined c.args.tabbed cs) (take_rest c.args.text.now at.at)) ∙ c.if-is_joined.true
+
 pub returns-then-is_joined-clause-within : goal.returns-then-is_joined-clause-within
 returns-then-is_joined-clause-within c =
     let at = c.loop-rest in
