@@ -7,8 +7,8 @@ ghost use Rattle.sh_accept.specs.Single.{HasOneGreatest};
 ghost use Rattle.sh_accept.specs.Theorem.{Headline};
 
 /// Where a certificate is accepted, so where a check or a lint passes, the script has exactly one reading, and no run of that, from any start
-/// that the policy allows, with any results of the commands, any choice and any order of the processes, expands a parameter that is not set
-/// or gives an expansion's value to field splitting or pathname expansion that could change it (XCU 2.6.2, 2.6.5, 2.6.6).
+/// that the policy allows, with any results of the commands, any choice and any order of the processes, expands an unset parameter
+/// without a default or gives an expansion's value to field splitting or pathname expansion that could change it (XCU 2.6.2, 2.6.5, 2.6.6).
 pub fn headline()
     ensures { Headline }
 {}

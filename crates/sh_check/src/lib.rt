@@ -1,4 +1,4 @@
-//! The check of a certificate: whether the rules and the demands of a script hold of what it claims.
+//! The demands of a script that a certificate leaves unmet, and what words and utilities leave known.
 #![tactic(auto)]
 
 pub mod demands;

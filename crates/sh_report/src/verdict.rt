@@ -7,7 +7,7 @@ use sh_facts::rule::FlowRule;
 use sh_tree::place::Code;
 use std::alloc::AllocError;
 
-/// A demand that is unmet, at its line and column, each from 1, with the name that it is about, or nothing.
+/// What is told at a place: a demand that is unmet or an unquoted expansion, at its line and column, each from 1, with the name that it is about, or nothing.
 #[derive(Debug, Drop, PartialEq, Eq, PartialOrd, Ord)]
 pub struct Finding {
     pub line: u32,
@@ -25,9 +25,9 @@ pub struct Report {
 /// What is told of a script that is not refused.
 #[derive(Debug, Drop)]
 pub enum Verdict {
-    /// Every demand is met.
+    /// Every demand is met, and no expansion is told as unquoted.
     Pass,
-    /// Some demand is unmet.
+    /// Some demand is unmet, or some expansion is told as unquoted.
     Fail(Report),
     /// The certificate breaks a flow rule at the command of this number.
     Forged(u32, FlowRule),

@@ -2,15 +2,15 @@
 ghost use Rattle.sh_sound.specs.Theorem.{RulesSuffice, ScriptsExpandNothingUnset, HaveNoEvents, ScriptsHaveNoEvents};
 
 /// Where a program is admitted and formed as those that are read, and a certificate breaks no rule and leaves no demand unmet, no step of
-/// a run before which nothing was split expands a parameter that is not set: from any start that the policy allows, with any results of
+/// a run before which nothing was split expands an unset parameter without a default: from any start that the policy allows, with any results of
 /// the commands, any choice and any order of the processes (XCU 2.6.2). The program of every script that is read is so formed.
 pub fn no_unset()
     ensures programs { RulesSuffice }
     ensures scripts { ScriptsExpandNothingUnset }
 {}
 
-/// Where moreover the rules of quoting tell no place, no step of any run has an event: it expands no parameter that is not set, and gives
-/// no expansion's value to field splitting or pathname expansion that could change it (XCU 2.6.2, 2.6.5, 2.6.6). So it is of every script
+/// Where moreover the rules of quoting tell no place, no step of any run has an event: it expands no unset parameter without a default, and
+/// gives no expansion's value to field splitting or pathname expansion that could change it (XCU 2.6.2, 2.6.5, 2.6.6). So it is of every script
 /// that is read and admitted.
 pub fn no_event()
     ensures programs { HaveNoEvents }

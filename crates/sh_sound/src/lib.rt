@@ -1,4 +1,4 @@
-//! Why no run of a script whose rules and demands hold expands a parameter that is not set: definitions in `specs/`, and the `laws`.
+//! Why no run of a script whose rules and demands hold expands an unset parameter without a default before it has split a value: definitions in `specs/`, and the `laws`.
 #![tactic(auto)]
 
 pub mod laws;

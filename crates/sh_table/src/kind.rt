@@ -138,7 +138,7 @@ fn of_length(length: usize) -> &'static [Kind]
     }
 }
 
-/// Whether the kind is that of the name, of which the first byte is asked first.
+/// Whether the kind is that of the name.
 fn has_name(kind: Kind, name: &[u8]) -> bool
     ensures { result ≡ bytes_eq (kinds.name_of kind) name.now }
 {

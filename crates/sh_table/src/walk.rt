@@ -465,8 +465,8 @@ fn walk_expression<V: Visitor>(
     }
 }
 
-/// Visits each command of a script, those in its words included: a command before those in it, and those in its words before
-/// those in its redirections. It takes no memory.
+/// Visits each command of a script, those in its words included: a command before those in it; those in the elements of a simple command in their
+/// order, and those in the redirections of a compound command behind all else in it. It takes no memory.
 ///
 /// # Errors
 ///
