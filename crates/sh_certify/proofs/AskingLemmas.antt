@@ -13,9 +13,10 @@ use Rattle.sh_tree.specs.declared.limits.TheConstants.{MAX_COMMANDS, MAX_NESTING
 use Rattle.sh_tree.specs.declared.tree.Script.{Script}
 use Rattle.sh_tree.specs.program.Syntax.{Text}
 use Rattle.sh_tree.specs.program.Trees.{script_of}
-use Rattle.sh_table.specs.Calls.{Table, table_of}
+use Rattle.sh_table.specs.Calls.{table_of}
 use Rattle.sh_table.specs.Numbering.{is_numbered}
 use Rattle.sh_table.specs.runs.Environment.{is_one_of}
+use Rattle.sh_facts.specs.declared.certificate.Certificate as kept
 use Rattle.sh_facts.specs.declared.certificate.Entry.{Entry}
 use Rattle.sh_facts.specs.declared.certificate.Facts as value
 use Rattle.sh_facts.specs.declared.certificate.FunctionEntry.{FunctionEntry}
@@ -32,7 +33,6 @@ use Rattle.sh_facts.specs.Names.{IsNumbering, number_of}
 use Rattle.sh_facts.specs.Operands.{Names, no_names}
 use Rattle.sh_facts.specs.Reading.{claim_fits}
 use Rattle.sh_facts.specs.Rules.{script_bounds}
-use Rattle.sh_facts.specs.Sheets.{certificate_of}
 use Rattle.sh_facts.specs.Slots.{entry_of}
 use Rattle.sh_facts.specs.Views as views
 use Rattle.sh_facts.specs.Views.{Slot}
@@ -61,6 +61,8 @@ use Rattle.sh_certify.specs.Gathered.{Gathered, fitting, fitting_place, is_at, i
 use Rattle.sh_certify.specs.Gathering.{tested_at, tested_by, met, with_sets, gathering, and_true, or_false, none_passes}
 use Rattle.sh_certify.specs.Numbers.{name_passes, by_number, numbers_in}
 use Rattle.sh_certify.specs.Places.{place_of}
+use Rattle.sh_certify.specs.declared.subject.Subject.{Subject}
+use Rattle.sh_certify.specs.Sweeps.{setting_by}
 use Rattle.sh_certify.specs.Turns.{sheet_by}
 use Rattle.sh_certify.specs.Working.{Sets, joined}
 use Rattle.sh_certify.proofs.NumberLemmas.{claim_known}
@@ -274,12 +276,13 @@ module _ (b : List ℕ) (d : Declared) (t : Script) (names : List Text) (a : IsA
       (prefixes_are_numbered b t d x.names (subst (IsNumbering b t d) (sym same) a.numbered.0))
 
 -- all that is asked of a certificate of it is gathered by a walk
-pub walk_asks : (c : Claims) (d : Declared) (t : Script) (start : Knowledge) (old new : Gathered) → c.calls.now ≡ table_of c.script.now t → IsAdmitted c.script.now d t c.names.now
-    → knowledge_facts c.names.now start ≡ among c.names.now (start_facts d) → new ≡ script_walked (setting c) (command_by gathering (setting c)) (facts_in (setting c) start) old (script_of (setting c).script t)
-    → new ≡ all_gathered c.names.now (functions_in c.script.now t) d (claims_in c.script.now t (sheet_by c.names.now c.certificate.now)) old (script_bounds (script_of c.script.now t))
-unfolding setting facts_in
-walk_asks c d t start old new table admitted begun walked =
-    walked
-    ∙ ap (λ k. script_walked (setting c) (command_by gathering (setting c)) k old (script_of c.script.now t)) begun
-    ∙ walk_gathers c.script.now d t c.names.now admitted (setting c) old c.numbered refl (ap (λ (y : Table). y.functions.names) table) (ap (λ (y : Table). y.rows) table)
-    ∙ ap (λ (y : Table). all_gathered c.names.now y.functions.names d (certificate_of y.functions.names (sheet_by c.names.now c.certificate.now)) old (script_bounds (script_of c.script.now t))) table
+pub walk_asks : (s : Subject) (c : kept.Certificate) (z : Claims) → setting z ≡ setting_by s c → (start : Knowledge) (old new : Gathered)
+    → AreNumbered s.names.now → IsAdmitted s.script.now s.policy.now s.tree.now s.names.now
+    → knowledge_facts s.names.now start ≡ among s.names.now (start_facts s.policy.now) → new ≡ script_walked (setting z) (command_by gathering (setting z)) (facts_in (setting z) start) old (script_of (setting z).script s.tree.now)
+    → new ≡ all_gathered s.names.now (functions_in s.script.now s.tree.now) s.policy.now (claims_in s.script.now s.tree.now (sheet_by s.names.now c)) old (script_bounds (script_of s.script.now s.tree.now))
+unfolding facts_in
+walk_asks s c z same start old new h admitted begun walked =
+    let x = setting_by s c in
+    subst (λ y. new ≡ script_walked y (command_by gathering y) (facts_in y start) old (script_of y.script s.tree.now)) same walked
+    ∙ ap (λ k. script_walked x (command_by gathering x) k old (script_of s.script.now s.tree.now)) begun
+    ∙ walk_gathers s.script.now s.policy.now s.tree.now s.names.now admitted x old h refl refl refl

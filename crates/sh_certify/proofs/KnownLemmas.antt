@@ -4,9 +4,7 @@ use Rattle.sh_tree.specs.declared.tree.Item.{Item, out-Item}
 use Rattle.sh_tree.specs.declared.tree.Command.{Command}
 use Rattle.sh_tree.specs.declared.tree.Link.{Link}
 use Rattle.sh_tree.specs.declared.tree.Pipe.{Pipe}
-use Rattle.sh_tree.specs.declared.tree.Script.{Script}
 use Rattle.sh_tree.specs.program.Trees as trees
-use Rattle.sh_table.specs.Calls.{table_of}
 use Rattle.sh_facts.specs.declared.certificate.Certificate as kept
 use Rattle.sh_facts.specs.declared.knowledge.Knowledge.{Knowledge}
 use Rattle.sh_facts.specs.declared.rule.FlowRule.{FlowRule}
@@ -29,26 +27,22 @@ use Rattle.sh_rules.specs.Visits.{command_by}
 use Rattle.sh_rules.specs.Walks as walks
 use Rattle.sh_rules.specs.Walks.{behind_in, facts_in, item_left, setting}
 use Rattle.sh_rules.proofs.LedLemmas.{Follows, item_stands, next_stands, pipeline_stands, started_led}
-use Rattle.sh_accept.specs.Accepted.{functions_in}
 use Rattle.sh_certify.specs.declared.subject.Subject.{Subject}
 use Rattle.sh_certify.specs.Sweeps.{IsOver, IsPassed, Knows, KnowsBehind, known_behind, setting_by}
-use Rattle.sh_certify.proofs.SweepLemmas.{behind_of, knows_follow, setting_is, stands_of}
+use Rattle.sh_certify.proofs.SweepLemmas.{behind_of, knows_follow, stands_of}
 
--- By the table of a script
+-- By what the flow rules go by
 
-module _ (c : Claims) (t : Script) (table : c.calls.now ≡ table_of c.script.now t) where
-  abbrev by_table : Setting
-  by_table = record { script = c.script.now; names = c.names.now; functions = functions_in c.script.now t; rows = (table_of c.script.now t).rows; kept = c.certificate.now }
+module _ (s : Subject) (c : kept.Certificate) (z : Claims) (same : setting z ≡ setting_by s c) where
+  pub facts_by : (F : Setting → Facts) (k : Knowledge) → facts_in (setting z) k ≡ F (setting z) → facts_in (setting_by s c) k ≡ F (setting_by s c)
+  facts_by F k is = subst (λ x. facts_in x k ≡ F x) same is
 
-  pub facts_by_table : (F : Setting → Facts) (k : Knowledge) → facts_in (setting c) k ≡ F (setting c) → facts_in by_table k ≡ F by_table
-  facts_by_table F k is = subst (λ x. facts_in x k ≡ F x) (setting_is c t table) is
+  pub behind_by : (F : Setting → Behind) (o : code.Behind) → behind_in (setting z) o ≡ F (setting z) → behind_in (setting_by s c) o ≡ F (setting_by s c)
+  behind_by F o is = subst (λ x. behind_in x o ≡ F x) same is
 
-  pub behind_by_table : (F : Setting → Behind) (o : code.Behind) → behind_in (setting c) o ≡ F (setting c) → behind_in by_table o ≡ F by_table
-  behind_by_table F o is = subst (λ x. behind_in x o ≡ F x) (setting_is c t table) is
-
-  pub met_by_table : {K : Type 0} (a : Asking K) (by : FlowRule) (y : Around) (k : Knowledge) (m : Command) (old new : K) → new ≡ command_by a (setting c) old (met_in (setting c) by y k m)
-      → new ≡ command_by a by_table old (met_in by_table by y k m)
-  met_by_table a by y k m old new is = subst (λ x. new ≡ command_by a x old (met_in x by y k m)) (setting_is c t table) is
+  pub met_by : {K : Type 0} (a : Asking K) (by : FlowRule) (y : Around) (k : Knowledge) (m : Command) (old new : K) → new ≡ command_by a (setting z) old (met_in (setting z) by y k m)
+      → new ≡ command_by a (setting_by s c) old (met_in (setting_by s c) by y k m)
+  met_by a by y k m old new is = subst (λ x. new ≡ command_by a x old (met_in x by y k m)) same is
 
 -- What is known
 

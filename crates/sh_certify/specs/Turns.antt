@@ -40,6 +40,7 @@ gathered_of g = record {
 pub record IsNew (target : Target) (g : Gather) : Type 0 where
   pub kept : g.kept ≡ true
   pub at : g.target ≡ target
+  pub next : g.next ≡ target
   pub known : seen_of g.known ≡ number.NotReached
   pub vars : (k : ℕ) → numbers_of g.vars k ≡ false
   pub functions : (k : ℕ) → numbers_of g.functions k ≡ false

@@ -72,12 +72,7 @@ pub fn ask(subject: &Subject<'_>, certificate: &Certificate, gather: Gather) -> 
         (claims_in subject.now.script.now subject.now.tree.now (sheet_by subject.now.names.now certificate.now)) (gathered_of gather)
         (script_bounds (script_of subject.now.script.now subject.now.tree.now)) }
 {
-    let claims = Claims {
-        script: subject.script,
-        names: subject.names,
-        calls: subject.table,
-        certificate,
-    };
+    let claims = subject.claims(certificate);
     let start = Knowledge::start(subject.names, subject.policy);
     let mut rules = Rules { asked: gather };
     walk(&claims, &start, subject.tree, &mut rules);

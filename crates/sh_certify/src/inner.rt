@@ -5,11 +5,8 @@ use sh_tree::tree::{Binary, Element, Expr, ParameterOperator, Part, Redirect, Ta
 #[cycle(holds)]
 fn holds(part: &Part) -> bool {
     match part {
-        Part::Plain(_) => false,
-        Part::Escaped(_) => false,
-        Part::Single(_, _) => false,
-        Part::Tilde(_) => false,
-        Part::Joined(_) => false,
+        Part::Plain(_) | Part::Escaped(_) | Part::Single(_, _) | Part::Tilde(_) | Part::Joined(_) =>
+            false,
         Part::Double(_, parts) => is_one_holding(parts.as_slice()),
         Part::Param(param) => is_in_operator(&param.operator),
         Part::Arith(_, expression) => is_in_expression(expression.get()),
@@ -30,8 +27,7 @@ fn is_one_holding(parts: &[Part]) -> bool {
 #[cycle(holds)]
 fn is_in_operator(operator: &ParameterOperator) -> bool {
     match operator {
-        ParameterOperator::Value => false,
-        ParameterOperator::Length => false,
+        ParameterOperator::Value | ParameterOperator::Length => false,
         ParameterOperator::Use { word, .. } => is_one_holding(word.parts.as_slice()),
         ParameterOperator::Remove { pattern, .. } => is_one_holding(pattern.parts.as_slice()),
     }
@@ -40,8 +36,7 @@ fn is_in_operator(operator: &ParameterOperator) -> bool {
 #[cycle(holds)]
 fn is_in_expression(expression: &Expr) -> bool {
     match expression {
-        Expr::Constant(_) => false,
-        Expr::Variable(_) => false,
+        Expr::Constant(_) | Expr::Variable(_) => false,
         Expr::Expansion(part) => holds(part),
         Expr::Parenthesis(inner) => is_in_expression(inner.get()),
         Expr::Unary { operand, .. } => is_in_expression(operand.get()),

@@ -20,7 +20,6 @@ use sh_facts::certificate::Certificate;
 use sh_facts::knowledge::Knowledge;
 use sh_facts::rule::FlowRule;
 use sh_rules::behind::{Behind, pipe_behind, without_job};
-use sh_rules::claims::Claims;
 use sh_rules::gains::{
     enter_operator, gain_action, gain_assigned, gain_redirects, gain_variable, gain_word,
 };
@@ -34,12 +33,7 @@ pub fn before_of(subject: &Subject<'_>, certificate: &Certificate, number: u32) 
     requires { (probed : ℕ) × IsReady subject.now certificate.now probed }
     ensures { Knows subject.now (at (views.Before number)) (knowledge_facts subject.now.names.now result) }
 {
-    let claims = Claims {
-        script: subject.script,
-        names: subject.names,
-        calls: subject.table,
-        certificate,
-    };
+    let claims = subject.claims(certificate);
     let entered = claims.before(number);
     entered
 }
@@ -55,12 +49,7 @@ fn behind_redirections(
     ensures { (q : Seen) → Knows subject.now q (knowledge_facts subject.now.names.now known.now)
         → Knows subject.now (gaining (redirects_gains (redirects_from subject.now.script.now redirects.now)) q) (knowledge_facts subject.now.names.now result) }
 {
-    let claims = Claims {
-        script: subject.script,
-        names: subject.names,
-        calls: subject.table,
-        certificate,
-    };
+    let claims = subject.claims(certificate);
     let mut behind = *known;
     gain_redirects(&claims, redirects, &mut behind);
     behind
@@ -89,12 +78,7 @@ pub fn started_in(subject: &Subject<'_>, certificate: &Certificate, known: &Know
     requires { (probed : ℕ) × IsReady subject.now certificate.now probed }
     ensures { (q : Seen) → Knows subject.now q (knowledge_facts subject.now.names.now known.now) → Knows subject.now (views.without_job q) (knowledge_facts subject.now.names.now result) }
 {
-    let claims = Claims {
-        script: subject.script,
-        names: subject.names,
-        calls: subject.table,
-        certificate,
-    };
+    let claims = subject.claims(certificate);
     without_job(&claims, known)
 }
 
@@ -109,12 +93,7 @@ pub fn behind_pipe(
     ensures { (q : Seen) → Knows subject.now q (knowledge_facts subject.now.names.now known.now)
         → KnowsBehind subject.now (pipeline_after q (trees.pipeline_of subject.now.script.now pipe.now)) (known_behind subject.now result) }
 {
-    let claims = Claims {
-        script: subject.script,
-        names: subject.names,
-        calls: subject.table,
-        certificate,
-    };
+    let claims = subject.claims(certificate);
     pipe_behind(&claims, known, pipe)
 }
 
@@ -129,12 +108,7 @@ pub fn pass_link(
     ensures { (o : After) → KnowsBehind subject.now o (known_behind subject.now behind.old)
         → KnowsBehind subject.now (linked link.now.0 o (pipeline_after (link_seen link.now.0 o) (trees.pipeline_of subject.now.script.now link.now.1))) (known_behind subject.now behind.new) }
 {
-    let claims = Claims {
-        script: subject.script,
-        names: subject.names,
-        calls: subject.table,
-        certificate,
-    };
+    let claims = subject.claims(certificate);
     behind.pass_link(&claims, link.0, &link.1);
 }
 
@@ -143,12 +117,7 @@ pub fn head_of(subject: &Subject<'_>, certificate: &Certificate, number: u32) ->
     requires { (probed : ℕ) × IsReady subject.now certificate.now probed }
     ensures { Knows subject.now (at (views.Head number)) (knowledge_facts subject.now.names.now result) }
 {
-    let claims = Claims {
-        script: subject.script,
-        names: subject.names,
-        calls: subject.table,
-        certificate,
-    };
+    let claims = subject.claims(certificate);
     claims.head(number)
 }
 
@@ -163,12 +132,7 @@ fn behind_name(
     ensures { (q : Seen) → Knows subject.now q (knowledge_facts subject.now.names.now known.now)
         → Knows subject.now (gaining_names (name.now ∷ []) q) (knowledge_facts subject.now.names.now result) }
 {
-    let claims = Claims {
-        script: subject.script,
-        names: subject.names,
-        calls: subject.table,
-        certificate,
-    };
+    let claims = subject.claims(certificate);
     let mut behind = *known;
     gain_variable(&claims, name, &mut behind);
     behind
@@ -193,12 +157,7 @@ fn entry_by(subject: &Subject<'_>, certificate: &Certificate, name: &[u8]) -> Kn
     requires { (probed : ℕ) × IsReady subject.now certificate.now probed }
     ensures { Knows subject.now (at (views.Entry name.now)) (knowledge_facts subject.now.names.now result) }
 {
-    let claims = Claims {
-        script: subject.script,
-        names: subject.names,
-        calls: subject.table,
-        certificate,
-    };
+    let claims = subject.claims(certificate);
     claims.function_entry(name)
 }
 
@@ -221,12 +180,7 @@ pub fn behind_word(
     ensures { (q : Seen) → Knows subject.now q (knowledge_facts subject.now.names.now known.now)
         → Knows subject.now (gaining (word_gains (parts_from subject.now.script.now word.now.parts)) q) (knowledge_facts subject.now.names.now result) }
 {
-    let claims = Claims {
-        script: subject.script,
-        names: subject.names,
-        calls: subject.table,
-        certificate,
-    };
+    let claims = subject.claims(certificate);
     let mut behind = *known;
     gain_word(&claims, word, &mut behind);
     behind
@@ -263,12 +217,7 @@ pub fn operand_of(
     ensures { (q : Seen) → Knows subject.now q (knowledge_facts subject.now.names.now known.now)
         → Knows subject.now (operand_seen action (trees.parameter_of subject.now.script.now parameter) q) (knowledge_facts subject.now.names.now result) }
 {
-    let claims = Claims {
-        script: subject.script,
-        names: subject.names,
-        calls: subject.table,
-        certificate,
-    };
+    let claims = subject.claims(certificate);
     let mut inside = *known;
     enter_operator(&claims, action, parameter, &mut inside);
     inside
@@ -286,12 +235,7 @@ pub fn behind_action(
     ensures { (q : Seen) → Knows subject.now q (knowledge_facts subject.now.names.now known.now)
         → Knows subject.now (gaining (action_gains (trees.parameter_of subject.now.script.now parameter) action) q) (knowledge_facts subject.now.names.now result) }
 {
-    let claims = Claims {
-        script: subject.script,
-        names: subject.names,
-        calls: subject.table,
-        certificate,
-    };
+    let claims = subject.claims(certificate);
     let mut behind = *known;
     gain_action(&claims, action, parameter, &mut behind);
     behind
@@ -308,12 +252,7 @@ pub fn behind_assigned(
     ensures { (q : Seen) → Knows subject.now q (knowledge_facts subject.now.names.now known.now)
         → Knows subject.now (gaining (named (assigned_in (trees.expression_of subject.now.script.now expression.now))) q) (knowledge_facts subject.now.names.now result) }
 {
-    let claims = Claims {
-        script: subject.script,
-        names: subject.names,
-        calls: subject.table,
-        certificate,
-    };
+    let claims = subject.claims(certificate);
     let mut behind = *known;
     gain_assigned(&claims, expression, &mut behind);
     behind
@@ -324,12 +263,7 @@ pub fn pass_on(subject: &Subject<'_>, certificate: &Certificate, course: &mut Co
     requires { (probed : ℕ) × IsReady subject.now certificate.now probed }
     ensures { IsPassed subject.now course.old course.new item.now }
 {
-    let claims = Claims {
-        script: subject.script,
-        names: subject.names,
-        calls: subject.table,
-        certificate,
-    };
+    let claims = subject.claims(certificate);
     course.behind.pass_item(&claims, item);
     course.by = FlowRule::F2;
 }

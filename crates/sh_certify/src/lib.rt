@@ -4,6 +4,7 @@
 pub mod asked;
 pub mod before;
 pub mod choices;
+pub mod claims;
 pub mod draft;
 pub mod find;
 pub mod first;

@@ -22,7 +22,6 @@ use sh_facts::knowledge::Knowledge;
 use sh_facts::rule::FlowRule;
 use sh_rules::around::Around;
 use sh_rules::asked::Asked;
-use sh_rules::claims::Claims;
 use sh_rules::rules::tell_command;
 use sh_tree::tree::{Command, Kind};
 use std::alloc::AllocError;
@@ -41,12 +40,7 @@ fn tell<A: Asked>(
     requires admitted { IsAdmitted subject.now.script.now subject.now.policy.now subject.now.tree.now subject.now.names.now }
     ensures { A.kept asked.new ≡ command_by A.asked (setting_by subject.now certificate.now) (A.kept asked.old) (met_in (setting_by subject.now certificate.now) by around.now known.now command.now) }
 {
-    let claims = Claims {
-        script: subject.script,
-        names: subject.names,
-        calls: subject.table,
-        certificate,
-    };
+    let claims = subject.claims(certificate);
     tell_command(&claims, by, around, known, command, asked);
 }
 
@@ -123,36 +117,6 @@ fn lower_once(
     Ok((gather.kept, gather.next))
 }
 
-// Lowers what is claimed at a part of a command by what the command asks; and what is claimed elsewhere or a function may drop, where it asks for
-// more of that. Says whether it kept all before.
-//
-// # Errors
-//
-// Where a growth was refused or no place for a row is left.
-fn lower_own(
-    subject: &Subject<'_>,
-    draft: &mut Draft,
-    by: FlowRule,
-    around: &Around<'_>,
-    known: &Knowledge,
-    command: &Command,
-    part: Part,
-) -> Result<bool, AllocError>
-    requires ready { IsReady subject.now draft.old.certificate draft.old.probe.count }
-    requires placed { IsCommand subject.now by (walks.around subject.now.script.now around.now) (knowledge_facts subject.now.names.now known.now) command.now }
-    ensures swept { IfOk result (λ kept. IsSwept subject.now draft.old.certificate draft.new.certificate draft.new.probe.count) }
-{
-    let index = index_of(command);
-    let place = Place { part, index };
-    let own = Target { place, function: 0 };
-    let (kept, next) = lower_once(subject, draft, by, around, known, command, own)?;
-    if kept || is_own(next, index) {
-        return Ok(kept);
-    }
-    lower_once(subject, draft, by, around, known, command, next)?;
-    Ok(false)
-}
-
 /// Lowers the certificate where a command is entered and behind it.
 ///
 /// # Errors
@@ -199,7 +163,11 @@ pub fn lower_head(
     if !is_loop(&command.kind) {
         return Ok(());
     }
-    lower_own(subject, draft, by, around, known, command, Part::Head)?;
+    let index = index_of(command);
+    let part = Part::Head;
+    let place = Place { part, index };
+    let target = Target { place, function: 0 };
+    lower_others(subject, draft, by, around, known, command, index, target)?;
     Ok(())
 }
 

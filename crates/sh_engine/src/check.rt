@@ -65,14 +65,7 @@ fn fault_of(
         calls: &prepared.table,
         certificate,
     };
-    let fault = check_rules(&claims, policy, &prepared.tree);
-    let Claims {
-        script: _script,
-        names: _names,
-        calls: _calls,
-        certificate: _certificate,
-    } = claims;
-    fault
+    check_rules(&claims, policy, &prepared.tree)
 }
 
 // What is told of a certificate.
@@ -116,8 +109,8 @@ fn check_prepared(
 
 /// What is told of a certificate's text: a pass exactly where it is accepted, the least flow rule that it breaks, or the findings in order. Behind a pass
 /// the script has exactly one reading, and no run of it, from any start that the policy allows, with any results of the commands, any choice and any
-/// order of the processes, expands a parameter that is not set or gives an expansion's value to field splitting or pathname expansion that could change
-/// it (XCU 2.6.2, 2.6.5, 2.6.6).
+/// order of the processes, expands an unset parameter without a default or gives an expansion's value to field splitting or pathname expansion that could
+/// change it (XCU 2.6.2, 2.6.5, 2.6.6).
 ///
 /// # Errors
 ///

@@ -27,13 +27,14 @@ pub const SCRIPT_READ: usize = MAX_SCRIPT + 1;
 pub const CERTIFICATE_READ: usize = MAX_CERTIFICATE + 1;
 
 /// Reads the script, at most `SCRIPT_READ` bytes of it, and then for a check the certificate, at most `CERTIFICATE_READ` bytes of it; does the task,
-/// and writes the text of the answer: the whole text is made before its first byte is written. The result is the exit status: 0 clean, 1
-/// findings or a certificate that breaks a flow rule, 2 refused. A lint or a check that ends with 0 promises what a pass does. No other action reads `cert`.
+/// and writes the text of the answer on the bytes read, and nothing else: the whole text is made before its first byte is written. The result is the exit
+/// status: 0 clean, 1 findings or a certificate that breaks a flow rule, 2 refused. A lint or a check that ends with 0 promises what a pass does. No other
+/// action reads `cert`.
 ///
 /// # Errors
 ///
 /// `Memory` where a growth was refused and `Read` where a reader failed, each with nothing written; `Write` where the writer
-/// failed, with a front of the text written.
+/// failed, with a front of the text written. A fault is told where that end failed, and only there; after a refused growth no reader had failed.
 pub fn run<R: Feed, C: Feed, W: Outlet>(
     alloc: Global,
     task: &Task,
@@ -44,7 +45,6 @@ pub fn run<R: Feed, C: Feed, W: Outlet>(
     requires script_room { HasRoom (R.tally script.old) }
     requires cert_room { HasRoom (C.tally cert.old) }
     requires out_room { HasRoom (W.tally out.old) }
-    // What was written is the text of the answer on the bytes read, and nothing else.
     ensures text { IfOk result (λ status. (b t : List ℕ) → Had (R.remaining script.old) SCRIPT_READ b → HadText task.now.action (C.remaining cert.old) CERTIFICATE_READ t
         → WritesAnswer task.now b t (W.contents out.old) (W.contents out.new) status) }
     ensures headline { IfOk result (λ status. (b t : List ℕ) → Had (R.remaining script.old) SCRIPT_READ b → HadText task.now.action (C.remaining cert.old) CERTIFICATE_READ t
@@ -56,12 +56,10 @@ pub fn run<R: Feed, C: Feed, W: Outlet>(
     ensures cert_whole { OnOk result (task.now.action ≡ actions.Check → TookWhole (C.tally cert.old) (C.tally cert.new) (C.remaining cert.old) (C.remaining cert.new) CERTIFICATE_READ) }
     ensures cert_written { IsErrOf result Fault.Write → task.now.action ≡ actions.Check → TookWhole (C.tally cert.old) (C.tally cert.new) (C.remaining cert.old) (C.remaining cert.new) CERTIFICATE_READ }
     ensures cert_lost { OnErr result (task.now.action ≡ actions.Check → TookAtMost (C.remaining cert.old) (C.remaining cert.new) CERTIFICATE_READ) }
-    // After a failed write a front of that text was written, and otherwise nothing.
     ensures front { IsErrOf result Fault.Write → (b t : List ℕ) → Had (R.remaining script.old) SCRIPT_READ b → HadText task.now.action (C.remaining cert.old) CERTIFICATE_READ t
         → WritesFront task.now b t (W.contents out.old) (W.contents out.new) }
     ensures memory { IsErrOf result Fault.Memory → out.new ≡ out.old }
     ensures read { IsErrOf result Fault.Read → out.new ≡ out.old }
-    // A fault is told where that end failed, and only there. After a refused growth no reader had failed.
     ensures wrote { OnOk result (BoreOnly (W.tally out.old) (W.tally out.new)) }
     ensures memory_read { IsErrOf result Fault.Memory → BoreAll (R.tally script.old) (R.tally script.new) × BoreAll (C.tally cert.old) (C.tally cert.new) }
     ensures read_failed { IsErrOf result Fault.Read → (FailedBetween (R.tally script.old) (R.tally script.new) × (cert.new ≡ cert.old)) ⊎ FailedBetween (C.tally cert.old) (C.tally cert.new) }

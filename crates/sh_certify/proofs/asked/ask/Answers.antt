@@ -1,17 +1,10 @@
-use Rattle.std.proofs.Common.{ap}
-use Rattle.sh_table.specs.Calls.{Table, table_of}
 use Rattle.sh_certify.specs.Turns.{gathered_of}
 use Rattle.sh_certify.proofs.AskingLemmas.{walk_asks}
 use Rattle.sh_certify.proofs.GreatestLemmas.{numbered}
 use Rattle.sh_certify.proofs.asked.ask.Goals as goal
 
-pub invariant_of-claims : goal.invariant_of-claims
-unfolding table_of
-invariant_of-claims c =
-    let s = c.args.subject.now in
-    record { numbered = numbered s.script.now s.policy.now s.tree.now s.names.now c.requires.admitted; sized = c.requires.sized; read = ap (λ (t : Table). t.script) s.listed }
-
 pub returns : goal.returns
 returns c =
     let s = c.args.subject.now in
-    walk_asks _ s.policy.now s.tree.now _ (gathered_of c.args.gather) _ s.listed c.requires.admitted c.start-start.ensures c.walk.ensures
+    let h = numbered s.script.now s.policy.now s.tree.now s.names.now c.requires.admitted in
+    walk_asks s c.args.certificate.now _ c.claims-claims.ensures _ (gathered_of c.args.gather) _ h c.requires.admitted c.start-start.ensures c.walk.ensures

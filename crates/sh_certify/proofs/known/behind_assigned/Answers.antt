@@ -1,19 +1,10 @@
-use Rattle.std.proofs.Common.{ap}
 use Rattle.sh_tree.specs.program.Trees.{expression_of}
 use Rattle.sh_facts.specs.Gains.{assigned_in, named}
 use Rattle.sh_rules.specs.Settings.{gained}
 use Rattle.sh_rules.specs.Walks.{facts_in}
-use Rattle.sh_table.specs.Calls.{Table, table_of}
 use Rattle.sh_certify.proofs.GreatestLemmas.{numbered}
-use Rattle.sh_certify.proofs.KnownLemmas.{facts_by_table, gains_known}
+use Rattle.sh_certify.proofs.KnownLemmas.{facts_by, gains_known}
 use Rattle.sh_certify.proofs.known.behind_assigned.Goals as goal
-
-pub invariant_of-claims : goal.invariant_of-claims
-unfolding table_of
-invariant_of-claims c =
-    let s = c.args.subject.now in
-    let r = c.requires.1 in
-    record { numbered = numbered s.script.now s.policy.now s.tree.now s.names.now r.admitted; sized = r.working.count; read = ap (λ (t : Table). t.script) s.listed }
 
 pub returns : goal.returns
 returns c =
@@ -21,4 +12,4 @@ returns c =
     let r = c.requires.1 in
     let h = numbered s.script.now s.policy.now s.tree.now s.names.now r.admitted in
     gains_known s c.args.certificate.now h r.over (named (assigned_in (expression_of s.script.now c.args.expression.now))) c.args.known.now _
-    (facts_by_table _ s.tree.now s.listed (λ x. gained x (named (assigned_in (expression_of x.script c.args.expression.now))) (facts_in x c.args.known.now)) _ c.gain_assigned.ensures)
+    (facts_by s c.args.certificate.now _ c.claims-claims.ensures (λ x. gained x (named (assigned_in (expression_of x.script c.args.expression.now))) (facts_in x c.args.known.now)) _ c.gain_assigned.ensures)

@@ -1,18 +1,10 @@
-use Rattle.std.proofs.Common.{[], ◌∷◌, ap}
+use Rattle.std.proofs.Common.{[], ◌∷◌}
 use Rattle.sh_facts.specs.Gains.{named}
 use Rattle.sh_rules.specs.Settings.{gained}
 use Rattle.sh_rules.specs.Walks.{facts_in}
-use Rattle.sh_table.specs.Calls.{Table, table_of}
 use Rattle.sh_certify.proofs.GreatestLemmas.{numbered}
-use Rattle.sh_certify.proofs.KnownLemmas.{facts_by_table, gains_known}
+use Rattle.sh_certify.proofs.KnownLemmas.{facts_by, gains_known}
 use Rattle.sh_certify.proofs.known.behind_name.Goals as goal
-
-pub invariant_of-claims : goal.invariant_of-claims
-unfolding table_of
-invariant_of-claims c =
-    let s = c.args.subject.now in
-    let r = c.requires.1 in
-    record { numbered = numbered s.script.now s.policy.now s.tree.now s.names.now r.admitted; sized = r.working.count; read = ap (λ (t : Table). t.script) s.listed }
 
 pub returns : goal.returns
 returns c =
@@ -20,4 +12,4 @@ returns c =
     let r = c.requires.1 in
     let h = numbered s.script.now s.policy.now s.tree.now s.names.now r.admitted in
     gains_known s c.args.certificate.now h r.over (named (c.args.name.now ∷ [])) c.args.known.now _
-    (facts_by_table _ s.tree.now s.listed (λ x. gained x (named (c.args.name.now ∷ [])) (facts_in x c.args.known.now)) _ c.gain_variable.ensures)
+    (facts_by s c.args.certificate.now _ c.claims-claims.ensures (λ x. gained x (named (c.args.name.now ∷ [])) (facts_in x c.args.known.now)) _ c.gain_variable.ensures)

@@ -1,17 +1,8 @@
-use Rattle.std.proofs.Common.{ap}
 use Rattle.sh_rules.specs.Walks as walks
 use Rattle.sh_rules.specs.Walks.{facts_in}
-use Rattle.sh_table.specs.Calls.{Table, table_of}
 use Rattle.sh_certify.proofs.GreatestLemmas.{numbered}
-use Rattle.sh_certify.proofs.KnownLemmas.{behind_by_table, pipe_known}
+use Rattle.sh_certify.proofs.KnownLemmas.{behind_by, pipe_known}
 use Rattle.sh_certify.proofs.known.behind_pipe.Goals as goal
-
-pub invariant_of-claims : goal.invariant_of-claims
-unfolding table_of
-invariant_of-claims c =
-    let s = c.args.subject.now in
-    let r = c.requires.1 in
-    record { numbered = numbered s.script.now s.policy.now s.tree.now s.names.now r.admitted; sized = r.working.count; read = ap (λ (t : Table). t.script) s.listed }
 
 pub returns : goal.returns
 returns c =
@@ -19,4 +10,4 @@ returns c =
     let r = c.requires.1 in
     let h = numbered s.script.now s.policy.now s.tree.now s.names.now r.admitted in
     pipe_known s c.args.certificate.now h r.over c.args.known.now c.args.pipe.now _
-    (behind_by_table _ s.tree.now s.listed (λ x. walks.pipe_behind x (facts_in x c.args.known.now) c.args.pipe.now) _ c.pipe_behind.ensures)
+    (behind_by s c.args.certificate.now _ c.claims-claims.ensures (λ x. walks.pipe_behind x (facts_in x c.args.known.now) c.args.pipe.now) _ c.pipe_behind.ensures)

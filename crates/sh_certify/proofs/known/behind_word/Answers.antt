@@ -1,19 +1,10 @@
-use Rattle.std.proofs.Common.{ap}
 use Rattle.sh_tree.specs.program.Lists.{parts_from}
 use Rattle.sh_facts.specs.Gains.{word_gains}
 use Rattle.sh_rules.specs.Settings.{gained}
 use Rattle.sh_rules.specs.Walks.{facts_in}
-use Rattle.sh_table.specs.Calls.{Table, table_of}
 use Rattle.sh_certify.proofs.GreatestLemmas.{numbered}
-use Rattle.sh_certify.proofs.KnownLemmas.{facts_by_table, gains_known}
+use Rattle.sh_certify.proofs.KnownLemmas.{facts_by, gains_known}
 use Rattle.sh_certify.proofs.known.behind_word.Goals as goal
-
-pub invariant_of-claims : goal.invariant_of-claims
-unfolding table_of
-invariant_of-claims c =
-    let s = c.args.subject.now in
-    let r = c.requires.1 in
-    record { numbered = numbered s.script.now s.policy.now s.tree.now s.names.now r.admitted; sized = r.working.count; read = ap (λ (t : Table). t.script) s.listed }
 
 pub returns : goal.returns
 returns c =
@@ -21,4 +12,4 @@ returns c =
     let r = c.requires.1 in
     let h = numbered s.script.now s.policy.now s.tree.now s.names.now r.admitted in
     gains_known s c.args.certificate.now h r.over (word_gains (parts_from s.script.now c.args.word.now.parts)) c.args.known.now _
-    (facts_by_table _ s.tree.now s.listed (λ x. gained x (word_gains (parts_from x.script c.args.word.now.parts)) (facts_in x c.args.known.now)) _ c.gain_word.ensures)
+    (facts_by s c.args.certificate.now _ c.claims-claims.ensures (λ x. gained x (word_gains (parts_from x.script c.args.word.now.parts)) (facts_in x c.args.known.now)) _ c.gain_word.ensures)

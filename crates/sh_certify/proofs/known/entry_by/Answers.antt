@@ -1,21 +1,12 @@
-use Rattle.std.proofs.Common.{ap}
 use Rattle.sh_facts.specs.Views.{Entry}
 use Rattle.sh_rules.specs.Settings.{known_at}
-use Rattle.sh_table.specs.Calls.{Table, table_of}
 use Rattle.sh_certify.proofs.GreatestLemmas.{numbered}
-use Rattle.sh_certify.proofs.KnownLemmas.{facts_by_table, slot_known}
+use Rattle.sh_certify.proofs.KnownLemmas.{facts_by, slot_known}
 use Rattle.sh_certify.proofs.known.entry_by.Goals as goal
-
-pub invariant_of-claims : goal.invariant_of-claims
-unfolding table_of
-invariant_of-claims c =
-    let s = c.args.subject.now in
-    let r = c.requires.1 in
-    record { numbered = numbered s.script.now s.policy.now s.tree.now s.names.now r.admitted; sized = r.working.count; read = ap (λ (t : Table). t.script) s.listed }
 
 pub returns : goal.returns
 returns c =
     let s = c.args.subject.now in
     let r = c.requires.1 in
     let h = numbered s.script.now s.policy.now s.tree.now s.names.now r.admitted in
-    slot_known s c.args.certificate.now h r.over (Entry c.args.name.now) _ (facts_by_table _ s.tree.now s.listed (λ x. known_at x (Entry c.args.name.now)) _ c.function_entry.ensures)
+    slot_known s c.args.certificate.now h r.over (Entry c.args.name.now) _ (facts_by s c.args.certificate.now _ c.claims-claims.ensures (λ x. known_at x (Entry c.args.name.now)) _ c.function_entry.ensures)

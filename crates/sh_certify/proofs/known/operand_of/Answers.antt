@@ -1,20 +1,11 @@
-use Rattle.std.proofs.Common.{ap}
 use Rattle.sh_tree.specs.program.Trees.{parameter_of}
 use Rattle.sh_check.specs.Judged.{inner_gains}
 use Rattle.sh_rules.specs.Settings.{gained}
 use Rattle.sh_rules.specs.Walks.{facts_in}
-use Rattle.sh_table.specs.Calls.{Table, table_of}
 use Rattle.sh_certify.proofs.GreatestLemmas.{numbered}
-use Rattle.sh_certify.proofs.KnownLemmas.{facts_by_table}
+use Rattle.sh_certify.proofs.KnownLemmas.{facts_by}
 use Rattle.sh_certify.proofs.WordLemmas.{operand_entered}
 use Rattle.sh_certify.proofs.known.operand_of.Goals as goal
-
-pub invariant_of-claims : goal.invariant_of-claims
-unfolding table_of
-invariant_of-claims c =
-    let s = c.args.subject.now in
-    let r = c.requires.1 in
-    record { numbered = numbered s.script.now s.policy.now s.tree.now s.names.now r.admitted; sized = r.working.count; read = ap (λ (t : Table). t.script) s.listed }
 
 pub returns : goal.returns
 returns c =
@@ -22,4 +13,4 @@ returns c =
     let r = c.requires.1 in
     let h = numbered s.script.now s.policy.now s.tree.now s.names.now r.admitted in
     operand_entered s c.args.certificate.now h r.over c.args.action (parameter_of s.script.now c.args.parameter) c.args.known.now _
-    (facts_by_table _ s.tree.now s.listed (λ x. gained x (inner_gains (parameter_of x.script c.args.parameter) c.args.action) (facts_in x c.args.known.now)) _ c.enter_operator.ensures)
+    (facts_by s c.args.certificate.now _ c.claims-claims.ensures (λ x. gained x (inner_gains (parameter_of x.script c.args.parameter) c.args.action) (facts_in x c.args.known.now)) _ c.enter_operator.ensures)

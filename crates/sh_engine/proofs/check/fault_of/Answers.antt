@@ -10,8 +10,8 @@ invariant_of-claims c =
       read = script_prepared c.args.script.now c.args.policy.now c.args.prepared.now c.requires.prepared;
     }
 
-pub check_rules-fault-requires-clause-numbered : goal.check_rules-fault-requires-clause-numbered
-check_rules-fault-requires-clause-numbered c = numbered_prepared c.args.script.now c.args.policy.now c.args.prepared.now c.requires.prepared
+pub check_rules-requires-clause-numbered : goal.check_rules-requires-clause-numbered
+check_rules-requires-clause-numbered c = numbered_prepared c.args.script.now c.args.policy.now c.args.prepared.now c.requires.prepared
 
-pub check_rules-fault-requires-clause-few : goal.check_rules-fault-requires-clause-few
-check_rules-fault-requires-clause-few c = few_prepared c.args.script.now c.args.policy.now c.args.prepared.now c.requires.prepared
+pub check_rules-requires-clause-few : goal.check_rules-requires-clause-few
+check_rules-requires-clause-few c = few_prepared c.args.script.now c.args.policy.now c.args.prepared.now c.requires.prepared
