@@ -6,6 +6,8 @@ mod bodies;
 #[cfg(test)]
 mod certificates;
 #[cfg(test)]
+mod changed;
+#[cfg(test)]
 mod knowledge;
 #[cfg(test)]
 mod names;
@@ -13,15 +15,5 @@ mod names;
 mod rows;
 #[cfg(test)]
 mod samples;
-#[cfg(test)]
-mod samples_1;
-#[cfg(test)]
-mod samples_2;
-#[cfg(test)]
-mod samples_3;
-#[cfg(test)]
-mod samples_4;
-#[cfg(test)]
-mod samples_5;
 #[cfg(test)]
 mod texts;

@@ -44,13 +44,6 @@ fn place_of(alloc: Global, rows: &mut Rows, numbers: &[u32]) -> Result<Option<Ro
     Ok(Some(id))
 }
 
-/// Whether the first row is within the second.
-fn is_within(rows: &Rows, part: u32, whole: u32) -> bool {
-    (part as usize) < rows.len()
-        && (whole as usize) < rows.len()
-        && rows.is_within(RowId { index: part }, RowId { index: whole })
-}
-
 #[test]
 fn kept_once(rt: HostRuntime) -> Result<(), Fail> {
     let mut rows = Rows::new(rt.alloc(), COUNT);
@@ -59,8 +52,6 @@ fn kept_once(rt: HostRuntime) -> Result<(), Fail> {
         assert!(rt; place == Some(RowId { index: *index }));
     }
     assert!(rt; rows.len() == 4);
-    assert!(rt; is_within(&rows, 3, 1) && is_within(&rows, 0, 2) && is_within(&rows, 2, 2));
-    assert!(rt; !is_within(&rows, 1, 3) && !is_within(&rows, 2, 1));
     assert!(rt; rows.has(RowId { index: 1 }, 63) && !rows.has(RowId { index: 1 }, 62));
     assert!(rt; !rows.has(RowId { index: 4 }, 0) && !rows.has(RowId { index: 0 }, COUNT));
     Ok(())

@@ -5,7 +5,3 @@
 mod faults;
 #[cfg(test)]
 mod rules;
-#[cfg(test)]
-mod samples_1;
-#[cfg(test)]
-mod samples_2;

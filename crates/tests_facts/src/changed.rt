@@ -2,7 +2,7 @@
 use crate::samples::{NONE, Sample, X, X_Y, check};
 use std::test::Fail;
 
-const SAMPLES_41: &[Sample] = &[
+const SAMPLES_1: &[Sample] = &[
     (
         b"f() {\ngetopts ab y\nreturn 0\nread() {\nread -r x >a 2>\"${x=1}\" <\"$x\"\n}\n}\ng() {\ncmd 2>\"$x\"\n}\nh() {\nreadonly z=1\n}\nx=1\nf a || echo \"$y\"\nf() {\nf() {\ncat <<E\n${y?}\nE\n}\nz=$((${x-0})) f\n}\necho $#\necho \"$HOME\"\n",
         NONE,
@@ -70,11 +70,11 @@ const SAMPLES_41: &[Sample] = &[
 ];
 
 #[test]
-fn samples_41(rt: HostRuntime) -> Result<(), Fail> {
-    check(&rt, rt.alloc(), SAMPLES_41)
+fn samples_1(rt: HostRuntime) -> Result<(), Fail> {
+    check(&rt, rt.alloc(), SAMPLES_1)
 }
 
-const SAMPLES_42: &[Sample] = &[
+const SAMPLES_2: &[Sample] = &[
     (
         b"f() (\ny=1 set -- \"$x\" \"$((x))\"\n)\ng() {\ngetopts ab x || ! y=1 g\n}\necho \"$x\" || cmd\nf() {\nfor x in \"${x=1}\" b\ndo\nset -- \"$x\" a\ncat <<E >\"$x\"\n$x\nE\n! x=\"$x\" set -- ${#x} $# &\ndone\ngetopts :a x\n}\necho \"$x\" \"${#y}\"\necho \"$y\"\n",
         X,
@@ -141,11 +141,11 @@ const SAMPLES_42: &[Sample] = &[
 ];
 
 #[test]
-fn samples_42(rt: HostRuntime) -> Result<(), Fail> {
-    check(&rt, rt.alloc(), SAMPLES_42)
+fn samples_2(rt: HostRuntime) -> Result<(), Fail> {
+    check(&rt, rt.alloc(), SAMPLES_2)
 }
 
-const SAMPLES_43: &[Sample] = &[
+const SAMPLES_3: &[Sample] = &[
     (
         b"f() {\nshift &\n}\nx=1\ncat <<E >\"$x\"\n${x:=1}\nE\necho $((x)) \"${#x}\"\ntrue() {\nunset x f\n}\necho \"$x\"\n",
         NONE,
@@ -213,11 +213,11 @@ const SAMPLES_43: &[Sample] = &[
 ];
 
 #[test]
-fn samples_43(rt: HostRuntime) -> Result<(), Fail> {
-    check(&rt, rt.alloc(), SAMPLES_43)
+fn samples_3(rt: HostRuntime) -> Result<(), Fail> {
+    check(&rt, rt.alloc(), SAMPLES_3)
 }
 
-const SAMPLES_44: &[Sample] = &[
+const SAMPLES_4: &[Sample] = &[
     (
         b"f() {\nshift\n}\ncat <<E >\"$x\"\n$(\necho \"$2\"\n)\nE\nreadonly x\necho \"$x\"\n",
         NONE,
@@ -281,11 +281,11 @@ const SAMPLES_44: &[Sample] = &[
 ];
 
 #[test]
-fn samples_44(rt: HostRuntime) -> Result<(), Fail> {
-    check(&rt, rt.alloc(), SAMPLES_44)
+fn samples_4(rt: HostRuntime) -> Result<(), Fail> {
+    check(&rt, rt.alloc(), SAMPLES_4)
 }
 
-const SAMPLES_45: &[Sample] = &[
+const SAMPLES_5: &[Sample] = &[
     (
         b"f() {\ng \"${y}\" \"$x\"\nf\nset -- \n}\ntrue() if cmd\nthen\ng \"$x\" a &\nf &\nfi\nread -r x\necho \"$!\" \"$1\"\n{\nread -r x\nshift && x=1 x=1\ncat <<E\n$x\nE\n}\necho \"$!\"\n",
         X_Y,
@@ -361,11 +361,11 @@ const SAMPLES_45: &[Sample] = &[
 ];
 
 #[test]
-fn samples_45(rt: HostRuntime) -> Result<(), Fail> {
-    check(&rt, rt.alloc(), SAMPLES_45)
+fn samples_5(rt: HostRuntime) -> Result<(), Fail> {
+    check(&rt, rt.alloc(), SAMPLES_5)
 }
 
-const SAMPLES_46: &[Sample] = &[
+const SAMPLES_6: &[Sample] = &[
     (
         b"f() (\ncat <<E >\"$x\"\n$x\nE\n)\ng() {\nunset -v x\n}\n! case \"$x\" in\n(* | \"$x\")\n;;\nesac && unset y\necho \"$x\"\n",
         X,
@@ -391,6 +391,6 @@ const SAMPLES_46: &[Sample] = &[
 ];
 
 #[test]
-fn samples_46(rt: HostRuntime) -> Result<(), Fail> {
-    check(&rt, rt.alloc(), SAMPLES_46)
+fn samples_6(rt: HostRuntime) -> Result<(), Fail> {
+    check(&rt, rt.alloc(), SAMPLES_6)
 }
