@@ -1,4 +1,4 @@
--- What an accepted certificate is good for: the script has one reading, and no run of it expands a parameter that is not set or splits a value.
+-- What an accepted certificate is good for: the script has one reading, and no run of it expands an unset parameter without a default or splits a value.
 -- POSIX.1-2024, XCU 2.3 (token recognition), 2.10 (shell grammar), 2.6.2 (parameter expansion), 2.6.5 (field splitting), 2.6.6 (pathname expansion).
 use Rattle.std.specs.Prelude.{◌≡◌, ℕ, true, false, List, Some, Ok}
 use Rattle.std.specs.List.{list_all}

@@ -146,8 +146,8 @@ fn lower_next(
     Ok(gather.next)
 }
 
-/// Lowers a certificate where it does not keep all flow rules, and says whether it keeps them. What is left as the target is where the next turn begins: one of which
-/// more was asked, where there is any, which is a hint.
+/// Lowers a certificate where it does not keep all flow rules, and says whether it keeps them. The target is left at a place and a function of which more was
+/// asked, where there are any: a hint where the next turn begins.
 ///
 /// # Errors
 ///

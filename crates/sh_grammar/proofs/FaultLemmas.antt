@@ -47,6 +47,6 @@ pub tells_inside : (b : List ℕ) (l : Lead) (s : State) (e : Refusal) → (l �
 tells_inside b lead.End s e none h = absurd (none refl)
 tells_inside b _ s e none h = h
 
--- where no line continuation stands behind the token's begin, it is told there
+-- where no line continuation stands from the token's beginning on, the form is told there
 pub no_continuation : (b : List ℕ) (f : Form) (i : ℕ) → f ≡ form.Continuation → i < length b → false ≡ is_split_text (drop i b) → IsPlace b f i i
 no_continuation b f i is lt none = subst (λ g. IsPlace b g i i) (sym is) (le_refl i, lt, λ split. absurd (true≢false (sym split ∙ sym none)))

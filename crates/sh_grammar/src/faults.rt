@@ -11,7 +11,7 @@ use sh_tree::limits::MAX_SCRIPT;
 use sh_tree::refusal::{Fault, Form, Refusal};
 use sh_tree::token::{Lead, Stage};
 
-/// Where a form that is left out is told, which the token at `at` is: a line continuation at its backslash, the first behind the token's begin.
+/// Where a form that is left out is told, which the token at `at` is: a line continuation at its backslash, the first from the token's beginning on.
 fn place_of(script: &[u8], form: Form, at: u32) -> u32
     requires small { length script.now ≤ MAX_SCRIPT }
     requires inside { at < length script.now }

@@ -1,4 +1,4 @@
-//! Sets of bits in words, most of them four words at a time: what a row of bits does to another. Each kernel does to each word what its
+//! Sets of bits in words: what a row of bits does to another, mostly four words at a time. Each kernel does to each word what its
 //! first clause says, whatever the lengths: past its end a slice has words of zeros. The second clause says it of the bits.
 ghost use Rattle.std.specs.Prelude.{◌≡◌, ◌+◌, ◌-◌, ◌/◌, ◌<◌, ◌≤◌, ◌&&◌, ◌||◌, ◌==◌, ◌↔◌, ℕ, true, not, nat_lt, length, bit_and, bit_or, slice_index, IsTrue, IfSome, IfNone, IfOk, replicate};
 ghost use Rattle.sh_rows.specs.Numbers.{has_bit};

@@ -1,4 +1,4 @@
--- What rules, demands and quoting are good for: no run expands a parameter that is not set, or splits a value.
+-- What rules, demands and quoting are good for: no run expands an unset parameter without a default, or splits a value.
 -- POSIX.1-2024, XCU 2.6.2 (parameter expansion), 2.6.5 (field splitting), 2.6.6 (pathname expansion).
 use Rattle.std.specs.Prelude.{◌≡◌, ℕ, Bool, true, false, ◌||◌, List, [], ◌∷◌, Some, unwrap_or, option_map}
 use Rattle.std.specs.List.{list_all}
@@ -23,7 +23,7 @@ splits [] w = false
 splits (m ∷ ms) w = has_split_event w m || unwrap_or (option_map (splits ms) (step w m)) false
 
 -- Where a program is admitted and formed as those that are read, and a certificate breaks no rule and leaves no demand unmet, then in
--- every run from a start that the policy allows, a step before which nothing was split expands no parameter that is not set.
+-- every run from a start that the policy allows, a step before which nothing was split expands no unset parameter without a default.
 abbrev pub RulesSuffice : Type 0
 RulesSuffice =
     (d : Declared) (c : Certificate) (t : Items) → list_all is_name d.names ≡ true → is_admitted t ≡ true → is_formed t ≡ true
@@ -32,7 +32,7 @@ RulesSuffice =
     → (moves : List Move) (w : World) → run moves (start_world e f t) ≡ Some w → splits moves (start_world e f t) ≡ false
     → (m : Move) → has_unset_event w m ≡ false
 
--- Where moreover no place is told by the rules of quoting, no step of any run has an event: it expands no parameter that is not set, and
+-- Where moreover no place is told by the rules of quoting, no step of any run has an event: it expands no unset parameter without a default, and
 -- gives no value of an expansion to splitting or pathname expansion that could change it.
 abbrev pub HaveNoEvents : Type 0
 HaveNoEvents =

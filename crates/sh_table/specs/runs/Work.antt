@@ -78,7 +78,7 @@ pub record Effect : Type 0 where
   pub next : Option (ℕ × List Work)
   -- the processes that it starts
   pub starts : List Start
-  -- it expands a parameter that is not set
+  -- it expands an unset parameter without a default
   pub unset : Bool
   -- it gives an expansion's value to splitting or pathname expansion that could change it
   pub split : Bool

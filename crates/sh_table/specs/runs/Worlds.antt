@@ -140,7 +140,7 @@ run (m ∷ ms) w = option_and_then (run ms) (step w m)
 
 -- Events
 
--- the step expands a parameter that is not set
+-- the step expands an unset parameter without a default
 unfoldable pub has_unset_event : World → Move → Bool
 has_unset_event w m = unwrap_or (option_map (λ r. (effect_of w m r).unset) (stepping w m)) false
 
