@@ -26,7 +26,10 @@ use Rattle.sh_table.specs.Profile.{Static}
 use Rattle.sh_table.specs.WordTexts.{text_in}
 use Rattle.sh_table.specs.declared.word_text.WordText.{WordText}
 use Rattle.sh_table.specs.runs.Environment.{is_one_of}
-use Rattle.sh_table.specs.runs.Operands.{Removal, OfVariables, OfFunctions, OfEither, OfAny, removal_of, unset_from, ends_options, is_dashed}
+use Rattle.sh_table.specs.runs.Operands.{Removal, OfVariables, OfFunctions, OfEither, OfAny}
+use Rattle.sh_operands.specs.declared.options.Letters.{Letters}
+use Rattle.sh_operands.specs.Texts.{no_letters, removal_in, takes_variables, takes_functions, unset_behind}
+use Rattle.sh_operands.proofs.MeaningLemmas.{unset_reads}
 use Rattle.sh_facts.specs.declared.numbered.Numbered.{Numbered}
 use Rattle.sh_facts.specs.declared.rows.RowId.{RowId}
 use Rattle.sh_facts.specs.Certificates.{names_at}
@@ -36,7 +39,7 @@ use Rattle.sh_facts.specs.Numbered.{pair_of}
 use Rattle.sh_facts.specs.Operands.{removed}
 use Rattle.sh_facts.specs.Table.{prefixes}
 use Rattle.sh_check.specs.Drops.{once_told, all_told, listed, unset_drops, unseen}
-use Rattle.sh_check.specs.DropWalks.{told_if, variable_told, function_told, variable_step, function_step, unset_by, has_variables, has_functions, removed_told, numbered_step, unseen_told, prefix_step, elements_step, reached_step}
+use Rattle.sh_check.specs.DropWalks.{told_if, variable_told, function_told, variable_step, function_step, removed_told, numbered_step, unseen_told, prefix_step, elements_step, reached_step}
 use Rattle.sh_check.specs.Places.{Source, reached_sharing}
 
 -- names one after the other
@@ -101,8 +104,8 @@ functions_told b names k at ps (w ∷ ws) = go (text_in b w) ∙ functions_told 
 
 removal_told : (b : List ℕ) (names : List Text) (r : Removal) (k at : ℕ) (ps : List Place) (ws : List WordText)
     → all_told k at ps ((removed r (filter is_name (listed (map (text_in b) ws)))).vars ++ filter (is_one_of names) (removed r (filter is_name (listed (map (text_in b) ws)))).functions)
-    ≡ removed_told b names (has_variables r) (has_functions r) k at ps ws
-unfolding removed has_variables has_functions removed_told
+    ≡ removed_told b names (takes_variables r) (takes_functions r) k at ps ws
+unfolding removed takes_variables takes_functions removed_told
 removal_told b names OfVariables k at ps ws =
     told_both k at ps (filter is_name (listed (map (text_in b) ws))) [] ∙ variables_told b k at ps ws
 removal_told b names OfFunctions k at ps ws = functions_told b names k at ps ws
@@ -115,65 +118,14 @@ removal_told b names OfAny k at ps ws =
     ∙ functions_told b names k at (all_told k at ps (filter is_name (listed (map (text_in b) ws)))) ws
     ∙ ap (λ qs. fold (function_step b names k at) qs ws) (variables_told b k at ps ws)
 
-by_texts : (letters : Text) (ts : List Static) → unset_from letters (listed ts) ≡ ((unset_by letters ts).0, listed (unset_by letters ts).1)
-unfolding unset_from unset_by
-by_texts letters [] = refl
-by_texts letters (None ∷ ts) = by_texts letters ts
-by_texts letters (Some t ∷ ts) = go (by_texts (letters ++ drop 1 t) ts) (ends_options t) (is_dashed t)
-  where
-    go : unset_from (letters ++ drop 1 t) (listed ts) ≡ ((unset_by (letters ++ drop 1 t) ts).0, listed (unset_by (letters ++ drop 1 t) ts).1) → (x y : Bool)
-        → (if x then (removal_of letters, listed ts) else (if y then unset_from (letters ++ drop 1 t) (listed ts) else (removal_of letters, t ∷ listed ts)))
-        ≡ (
-          (if x then (removal_of letters, ts) else (if y then unset_by (letters ++ drop 1 t) ts else (removal_of letters, Some t ∷ ts))).0,
-          listed (if x then (removal_of letters, ts) else (if y then unset_by (letters ++ drop 1 t) ts else (removal_of letters, Some t ∷ ts))).1,
-        )
-    go h true y = refl
-    go h false true = h
-    go h false false = refl
-
-pub unset_told : (b : List ℕ) (names : List Text) (letters : Text) (k at : ℕ) (ps : List Place) (operands ws : List WordText)
-    → unset_by [] (map (text_in b) operands) ≡ (removal_of letters, map (text_in b) ws)
-    → removed_told b names (has_variables (removal_of letters)) (has_functions (removal_of letters)) k at ps ws
+pub unset_told : (b : List ℕ) (names : List Text) (l : Letters) (k at : ℕ) (ps : List Place) (operands ws : List WordText)
+    → unset_behind no_letters (map (text_in b) operands) ≡ (l, map (text_in b) ws)
+    → removed_told b names (takes_variables (removal_in l)) (takes_functions (removal_in l)) k at ps ws
     ≡ all_told k at ps (unset_drops names (listed (map (text_in b) operands)))
-unset_told b names letters k at ps operands ws h =
-    sym (removal_told b names (removal_of letters) k at ps ws)
+unset_told b names l k at ps operands ws h =
+    sym (removal_told b names (removal_in l) k at ps ws)
     ∙ ap (λ (x : Removal × List Text). all_told k at ps ((removed x.0 (filter is_name x.1)).vars ++ filter (is_one_of names) (removed x.0 (filter is_name x.1)).functions))
-    (sym (by_texts [] (map (text_in b) operands) ∙ ap (λ (x : Removal × List Static). (x.0, listed x.1)) h))
-
--- what `unset` takes, by the letters of its options
-
-by_functions : (v f : Bool) → has_functions (if v then OfVariables else (if f then OfFunctions else OfAny)) ≡ not v
-unfolding has_functions
-by_functions true f = refl
-by_functions false true = refl
-by_functions false false = refl
-
-by_variables : (v f : Bool) → has_variables (if v then OfVariables else (if f then OfFunctions else OfAny)) ≡ (v || not f)
-unfolding has_variables
-by_variables true f = refl
-by_variables false true = refl
-by_variables false false = refl
-
-pub functions_always : (ls : Text) → length ls ≡ 0 → true ≡ has_functions (removal_of ls)
-unfolding has_functions removal_of
-functions_always [] h = refl
-functions_always (c ∷ cs) h = cc
-
-pub functions_taken : (ls : Text) (v : Bool) → 0 < length ls → v ≡ list_all (λ d. d == 118) ls → not v ≡ has_functions (removal_of ls)
-unfolding removal_of
-functions_taken [] v h e = absurd (omega (arith, h))
-functions_taken (c ∷ cs) v h e = ap not e ∙ sym (by_functions (list_all (λ d. d == 118) (c ∷ cs)) (list_all (λ d. d == 102) (c ∷ cs)))
-
-pub variables_always : (ls : Text) → length ls ≡ 0 → true ≡ has_variables (removal_of ls)
-unfolding has_variables removal_of
-variables_always [] h = refl
-variables_always (c ∷ cs) h = cc
-
-pub variables_taken : (ls : Text) (v f : Bool) → 0 < length ls → v ≡ list_all (λ d. d == 118) ls → f ≡ list_all (λ d. d == 102) ls → (v || not f) ≡ has_variables (removal_of ls)
-unfolding removal_of
-variables_taken [] v f h e g = absurd (omega (arith, h))
-variables_taken (c ∷ cs) v f h e g =
-    ap₂ (λ a b. a || not b) e g ∙ sym (by_variables (list_all (λ d. d == 118) (c ∷ cs)) (list_all (λ d. d == 102) (c ∷ cs)))
+    (sym (unset_reads (map (text_in b) operands) ∙ ap (λ (x : Letters × List Static). (removal_in x.0, listed x.1)) h))
 
 -- the functions of a script
 pub functions_listed : (names : List (Vec ℕ Global)) (t : Text) → is_one_of (map (λ v. v.items) names) t ≡ list_any (λ (v : Vec ℕ Global). bytes_eq v.items t) names

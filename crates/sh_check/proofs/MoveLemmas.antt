@@ -1,5 +1,5 @@
 -- A command that changes the positional parameters, by the static texts of its words.
-use Rattle.std.proofs.Common.{◌≡◌, Bool, true, false, not, ◌&&◌, if◌then◌else◌, List, [], ◌∷◌, map, Option, Some, None, is_some, refl, sym, true≢false}
+use Rattle.std.proofs.Common.{◌≡◌, ℕ, suc, Bool, true, false, not, ◌&&◌, if◌then◌else◌, List, [], ◌∷◌, map, Option, Some, None, is_some, option_map, refl, sym, ◌∙◌, true≢false}
 use Rattle.sh_tree.specs.declared.known.KnownName.TheVariants as known
 use Rattle.sh_tree.specs.program.Syntax.{Text, Word}
 use Rattle.sh_tree.specs.program.Words.{static_of}
@@ -11,24 +11,30 @@ use Rattle.sh_table.specs.runs.Operands.{ends_options, is_set_option, ends_in_o}
 use Rattle.sh_facts.specs.Demands.{kind_moves, moves, command_moves}
 use Rattle.sh_facts.specs.Operands.{words_from}
 use Rattle.sh_facts.specs.Table.{Utility, Call, operands, is_special, manner_of_name, manner_of_words}
-use Rattle.sh_check.specs.Moves.{MovesTell, positional_by, kind_moves_by, moves_by}
+use Rattle.sh_operands.specs.Texts.{positional_at}
+use Rattle.sh_check.specs.Moves.{MovesTell, kind_moves_by, moves_by}
 
-choice : {A : Type 0} (a b r : Bool) (x y : A) (o : Option A) → r ≡ is_some o → (if a then true else (if b then r else true)) ≡ is_some (if a then Some x else (if b then o else Some y))
-choice true b r x y o h = refl
-choice false true r x y o h = h
-choice false false r x y o h = refl
+mapped : (i : Option ℕ) → is_some (option_map suc i) ≡ is_some i
+mapped None = refl
+mapped (Some i) = refl
 
-positional : (takes : Bool) (ws : List Word) → positional_by takes (map static_of ws) ≡ is_some (words_from takes ws)
-unfolding positional_by words_from
+choice : {A : Type 0} (a b : Bool) (x y : A) (i : Option ℕ) (o : Option A) → is_some i ≡ is_some o
+    → is_some (if a then Some 1 else (if b then option_map suc i else Some 0)) ≡ is_some (if a then Some x else (if b then o else Some y))
+choice true b x y i o h = refl
+choice false true x y i o h = mapped i ∙ h
+choice false false x y i o h = refl
+
+positional : (takes : Bool) (ws : List Word) → is_some (positional_at takes (map static_of ws)) ≡ is_some (words_from takes ws)
+unfolding positional_at words_from
 positional true [] = refl
 positional false [] = refl
-positional true (w ∷ ws) = positional false ws
+positional true (w ∷ ws) = mapped (positional_at false (map static_of ws)) ∙ positional false ws
 positional false (w ∷ ws) = go (λ takes. positional takes ws) (static_of w) refl
   where
-    go : ((takes : Bool) → positional_by takes (map static_of ws) ≡ is_some (words_from takes ws)) → (x : Option Text) → static_of w ≡ x
-        → positional_by false (map static_of (w ∷ ws)) ≡ is_some (words_from false (w ∷ ws))
+    go : ((takes : Bool) → is_some (positional_at takes (map static_of ws)) ≡ is_some (words_from takes ws)) → (x : Option Text) → static_of w ≡ x
+        → is_some (positional_at false (map static_of (w ∷ ws))) ≡ is_some (words_from false (w ∷ ws))
     go h None e = rw e refl
-    go h (Some t) e = rw e (choice (ends_options t) (is_set_option t) (positional_by (ends_in_o t) (map static_of ws)) ws (w ∷ ws) (words_from (ends_in_o t) ws) (h (ends_in_o t)))
+    go h (Some t) e = rw e (choice (ends_options t) (is_set_option t) ws (w ∷ ws) (positional_at (ends_in_o t) (map static_of ws)) (words_from (ends_in_o t) ws) (h (ends_in_o t)))
 
 kind_same : (k : Kind) (ws : List Word) → kind_moves_by k (map static_of ws) ≡ kind_moves k ws
 unfolding kind_moves_by kind_moves

@@ -1,6 +1,6 @@
 -- Clauses of private functions: the places of names that a command may drop, by the pieces that name them.
 -- POSIX.1-2024, XCU 2.9.1 (simple commands), 2.15 (unset).
-use Rattle.std.specs.Prelude.{ℕ, Bool, true, false, ◌&&◌, if◌then◌else◌, List, [], ◌∷◌, ◌++◌, drop, fold, Some, None}
+use Rattle.std.specs.Prelude.{ℕ, Bool, true, false, ◌&&◌, if◌then◌else◌, List, fold, Some, None}
 use Rattle.sh_tree.specs.declared.place.Place.{Place}
 use Rattle.sh_tree.specs.declared.tree.Element.{Element}
 use Rattle.sh_tree.specs.declared.tree.Kind.{Kind}
@@ -13,7 +13,6 @@ use Rattle.sh_table.specs.Profile.{Static}
 use Rattle.sh_table.specs.WordTexts.{text_in}
 use Rattle.sh_table.specs.declared.word_text.WordText.{WordText}
 use Rattle.sh_table.specs.runs.Environment.{is_one_of}
-use Rattle.sh_table.specs.runs.Operands.{Removal, OfVariables, OfFunctions, removal_of, ends_options, is_dashed}
 use Rattle.sh_facts.specs.declared.numbered.Numbered.{Numbered}
 use Rattle.sh_facts.specs.declared.rows.RowId.{RowId}
 use Rattle.sh_facts.specs.Demands.{is_reached}
@@ -41,23 +40,6 @@ variable_step b k at ps w = variable_told k at ps (text_in b w)
 
 abbrev pub function_step : List ℕ → List Text → (k at : ℕ) → List Place → WordText → List Place
 function_step b functions k at ps w = function_told functions k at ps (text_in b w)
-
--- the options of `unset`, by texts: what its operands are, and those behind the options
-unfoldable pub unset_by : Text → List Static → Removal × List Static
-unset_by letters [] = (removal_of letters, [])
-unset_by letters (None ∷ ts) = unset_by letters ts
-unset_by letters (Some t ∷ ts) =
-    if ends_options t then (removal_of letters, ts)
-    else (if is_dashed t then unset_by (letters ++ drop 1 t) ts else (removal_of letters, Some t ∷ ts))
-
--- whether `unset` takes variables, and functions
-unfoldable pub has_variables : Removal → Bool
-has_variables OfFunctions = false
-has_variables _ = true
-
-unfoldable pub has_functions : Removal → Bool
-has_functions OfVariables = false
-has_functions _ = true
 
 -- the variables, then the functions
 unfoldable pub removed_told : List ℕ → List Text → (variables functions : Bool) → (k at : ℕ) → List Place → List WordText → List Place

@@ -1,11 +1,10 @@
 //! The names that a command may drop: each is told once, at the start of the command (XCU 2.9.1, 2.15).
-ghost use Rattle.std.specs.Prelude.{◌≡◌, ◌++◌, ◌==◌, ◌&&◌, drop, fold, map, OnOk, IfOk};
-ghost use Rattle.std.specs.List.{list_all, list_any};
+ghost use Rattle.std.specs.Prelude.{◌≡◌, ◌++◌, ◌&&◌, drop, fold, map, OnOk};
+ghost use Rattle.std.specs.List.{list_any};
 ghost use Rattle.std.specs.Str.{bytes_eq};
 ghost use Rattle.sh_tree.specs.program.Lists.{elements_from};
 ghost use Rattle.sh_table.specs.WordTexts.{text_in};
 ghost use Rattle.sh_table.specs.runs.Environment.{is_one_of};
-ghost use Rattle.sh_table.specs.runs.Operands as options;
 ghost use Rattle.sh_tree.specs.language.Bytes as bytes;
 ghost use Rattle.sh_facts.specs.Certificates as claims;
 ghost use Rattle.sh_facts.specs.Numbered.{pair_of};
@@ -17,6 +16,7 @@ use crate::known::Known;
 use sh_facts::certificate::Drops;
 use sh_facts::numbered::Numbered;
 use sh_facts::rows::{RowId, Rows};
+use sh_operands::options::unset_operands;
 use sh_table::word_text::WordText;
 use sh_tree::Items;
 use sh_tree::name::is_name;
@@ -210,86 +210,6 @@ fn tell_functions(
     Ok(())
 }
 
-fn ends_options(text: &[u8]) -> bool
-    ensures { result ≡ options.ends_options text.now }
-{
-    matches!(text, b"--")
-}
-
-#[tactic(auto, unfolding(sh_table::specs::runs::Operands::is_dashed))]
-fn is_dashed(text: &[u8]) -> bool
-    ensures { result ≡ options.is_dashed text.now }
-{
-    matches!(text, [b'-', _, ..])
-}
-
-// The letters of an option.
-fn push_letters(text: &[u8], letters: &mut Vec<u8>) -> Result<(), AllocError>
-    ensures { OnOk result (letters.new.items ≡ letters.old.items ++ drop 1 text.now) }
-{
-    match text {
-        [] => Ok(()),
-        [_, rest @ ..] => letters.extend_from_slice(rest),
-    }
-}
-
-// The operands behind the options, whose letters are added to those so far.
-#[tactic(auto, unfolding(crate::specs::DropWalks::unset_by))]
-fn behind_options<'a>(
-    operands: &'a [WordText],
-    script: &[u8],
-    letters: &mut Vec<u8>,
-) -> Result<&'a [WordText], AllocError>
-    ensures { IfOk result (λ rest. walks.unset_by letters.old.items (map (text_in script.now) operands.entry.now) ≡ (options.removal_of letters.new.items, map (text_in script.now) rest.now)) }
-{
-    let mut rest = operands;
-    while let [first, others @ ..] = rest {
-        if let Some(text) = first.get(script) {
-            if ends_options(text) {
-                return Ok(others);
-            }
-            if !is_dashed(text) {
-                return Ok(rest);
-            }
-            push_letters(text, letters)?;
-        }
-        rest = others;
-    }
-    Ok(rest)
-}
-
-fn are_all(letters: &[u8], letter: u8) -> bool
-    ensures { result ≡ list_all (λ c. c == letter) letters.now }
-{
-    letters.iter().all(|other| *other == letter)
-}
-
-// Whether `unset` with these letters of options takes variables.
-fn takes_variables(letters: &[u8]) -> bool
-    ensures { result ≡ walks.has_variables (options.removal_of letters.now) }
-{
-    match letters {
-        [] => true,
-        [_, ..] => {
-            let only_variables = are_all(letters, b'v');
-            let only_functions = are_all(letters, b'f');
-            only_variables || !only_functions
-        }
-    }
-}
-
-fn takes_functions(letters: &[u8]) -> bool
-    ensures { result ≡ walks.has_functions (options.removal_of letters.now) }
-{
-    match letters {
-        [] => true,
-        [_, ..] => {
-            let only_variables = are_all(letters, b'v');
-            !only_variables
-        }
-    }
-}
-
 #[tactic(auto, unfolding(crate::specs::DropWalks::removed_told))]
 fn tell_removed(
     variables: bool,
@@ -328,13 +248,10 @@ pub fn tell_unset(
 ) -> Result<(), AllocError>
     ensures { OnOk result (places.new.items ≡ spec.all_told start at places.old.items (spec.unset_drops (map (λ v. v.items) functions.now) (spec.listed (map (text_in script.now) operands.now)))) }
 {
-    let mut letters = Vec::new(*places.allocator());
-    let names = behind_options(operands, script, &mut letters)?;
-    let variables = takes_variables(&letters);
-    let has_functions = takes_functions(&letters);
+    let (letters, names) = unset_operands(operands, script);
     tell_removed(
-        variables,
-        has_functions,
+        letters.takes_variables(),
+        letters.takes_functions(),
         names,
         script,
         functions,

@@ -12,6 +12,7 @@ pub mod MeetLemmas
 pub mod MonotoneLemmas
 pub mod NameLemmas
 pub mod OrderLemmas
+pub mod PlaceLemmas
 pub mod RoundTripLemmas
 pub mod RowLemmas
 pub mod PolicyLemmas

@@ -34,15 +34,8 @@ unfolding placed
 inserted [] x = refl
 inserted (y ∷ ys) x = inserted_step y ys x (place x ys) (precedes x.name.now y.name.now) (inserted ys x)
 
-place_by : (b : Bool) (n l : ℕ) → nat_lt n l ≡ b → n ≤ l → unwrap_or (cond b (Some n) None) l ≡ n
-place_by true n l e le = refl
-place_by false n l e le = let past : l ≤ n = grind (arith, nat_tests) in omega arith
-
-pub is_place : (p : Numbered → Bool) (xs : List Numbered) → unwrap_or (position p xs) (length xs) ≡ position_or_len p xs
-is_place p xs = place_by (nat_lt (position_or_len p xs) (length xs)) (position_or_len p xs) (length xs) refl (prefix_len-le-length (λ x. not (p x)) xs)
-
-pub within_place : (p : Numbered → Bool) (xs : List Numbered) → unwrap_or (position p xs) (length xs) ≤ length xs
-within_place p xs = let e = is_place p xs in let l = prefix_len-le-length (λ x. not (p x)) xs in omega (arith, e, l)
+pub within_place : (p : Numbered → Bool) (xs : List Numbered) → position_or_len p xs ≤ length xs
+within_place p xs = prefix_len-le-length (λ x. not (p x)) xs
 
 length_numbered : (k : ℕ) (ts : List Text) → length (numbered k ts) ≡ length ts
 unfolding numbered
@@ -56,13 +49,13 @@ at_numbered k zero n (x ∷ ts) t d e h = let same : x ≡ t = cc in let number 
 at_numbered k (suc i) n (x ∷ ts) t d e h = at_numbered (k + 1) i n ts t d (omega arith) h
 
 pub next_in_order : (names : List Text) (i : ℕ) (old new : List Numbered) (x : Numbered) (at : ℕ) → slice_get names i ≡ Some x.name.now → x.number ≡ i
-    → map pair_of old ≡ fold placed [] (take i (numbered 0 names)) → at ≡ unwrap_or (position (λ other. precedes x.name.now other.name.now) old) (length old) → new ≡ insert old at x
+    → map pair_of old ≡ fold placed [] (take i (numbered 0 names)) → at ≡ position_or_len (λ other. precedes x.name.now other.name.now) old → new ≡ insert old at x
     → map pair_of new ≡ fold placed [] (take (i + 1) (numbered 0 names))
 next_in_order names i old new x at h e inv p n =
     let lt : i < length (numbered 0 names) = let l : i < length names = slice_get_within names i x.name.now h in omega (arith, length_numbered 0 names) in
     let more : take (i + 1) (numbered 0 names) ≡ take i (numbered 0 names) ++ pair_of x ∷ [] =
     take_more (numbered 0 names) i (pair_of x) lt ∙ ap (λ y. take i (numbered 0 names) ++ y ∷ []) (at_numbered 0 i x.number names x.name.now (pair_of x) (omega arith) h) in
-    ap (map pair_of) (n ∙ ap (λ m. insert old m x) (p ∙ is_place (λ other. precedes x.name.now other.name.now) old))
+    ap (map pair_of) (n ∙ ap (λ m. insert old m x) p)
     ∙ inserted old x
     ∙ ap (λ o. placed o (pair_of x)) inv
     ∙ sym (ap (fold placed []) more ∙ fold-append placed [] (take i (numbered 0 names)) (pair_of x ∷ []))

@@ -1,5 +1,7 @@
 //! Names with their numbers, in rising byte order.
-ghost use Rattle.std.specs.Prelude.{◌≡◌, map, position, IfOk};
+ghost use Rattle.std.specs.Prelude.{◌≡◌, map, not, IfOk};
+ghost use Rattle.std.specs.List.{position_or_len};
+ghost use Rattle.std.specs.List.Sorted.{IsPartitionedBy};
 ghost use Rattle.sh_facts.specs.Sheets as text;
 ghost use Rattle.sh_facts.specs.Certificates as claims;
 ghost use Rattle.sh_facts.specs.Numbered.{pair_of};
@@ -26,17 +28,18 @@ pub fn in_byte_order(alloc: Global, names: &Names) -> Result<Vec<Numbered<'_>>, 
     let mut order: Vec<Numbered<'_>> = Vec::new(alloc);
     for number in 0..names.count() {
         let name = names.name(number);
-        let at = first_behind(&order, name).unwrap_or(order.len());
+        let at = first_behind(&order, name);
         order.insert(at, Numbered { name, number })?;
     }
     Ok(order)
 }
 
-// The index of the first name that this one precedes.
-fn first_behind(order: &[Numbered<'_>], name: &[u8]) -> Option<usize>
-    ensures { result ≡ position (λ other. text.precedes name.now other.name.now) order.now }
+// The index of the first name that this one precedes, or their count, where they are in rising byte order.
+fn first_behind(order: &[Numbered<'_>], name: &[u8]) -> usize
+    requires { IsPartitionedBy (λ other. not (text.precedes name.now other.name.now)) order.now }
+    ensures { result ≡ position_or_len (λ other. text.precedes name.now other.name.now) order.now }
 {
-    order.iter().position(|other| precedes(name, other.name))
+    order.partition_point(|other| !precedes(name, other.name))
 }
 
 // Whether the first text comes before the second by their bytes.

@@ -3,8 +3,9 @@ ghost use Rattle.std.specs.Prelude.{◌≡◌, false, option_map};
 ghost use Rattle.sh_facts.specs.Sights as spec;
 ghost use Rattle.sh_facts.specs.SightWalks.{seen_in};
 
-use crate::options::{ends_options, is_dashed, option_takes};
+use crate::options::option_takes;
 use crate::sights::Seen;
+use sh_table::operands::{ends_options, is_dashed};
 
 /// The operands of `unset` behind its options.
 #[tactic(auto, unfolding(crate::specs::Sights::behind_options))]

@@ -3,21 +3,6 @@ ghost use Rattle.std.specs.Prelude.{◌≡◌};
 ghost use Rattle.sh_table.specs.runs.Operands as o;
 ghost use Rattle.sh_facts.specs.Sights as spec;
 
-/// Whether the text begins with `-` and is longer.
-#[tactic(auto, unfolding(sh_table::specs::runs::Operands::is_dashed))]
-pub fn is_dashed(text: &[u8]) -> bool
-    ensures { result ≡ o.is_dashed text.now }
-{
-    matches!(text, [b'-', _, ..])
-}
-
-/// Whether the text is `--`, which ends the options.
-pub fn ends_options(text: &[u8]) -> bool
-    ensures { result ≡ o.ends_options text.now }
-{
-    text == b"--".as_slice()
-}
-
 /// Whether an option of `read` takes the next operand, if it is one of the standard's (XCU 3, read).
 pub fn option_takes(text: &[u8]) -> Option<bool>
     ensures { result ≡ spec.option_takes text.now }

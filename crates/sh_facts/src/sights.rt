@@ -7,7 +7,8 @@ ghost use Rattle.sh_facts.specs.Sights as spec;
 ghost use Rattle.sh_facts.specs.SightWalks.{as_sight, seen_in, listed_word};
 
 use crate::operands::{behind_options, read_behind};
-use sh_tree::name::{is_name, is_name_byte, is_name_start};
+use sh_table::operands::name_length;
+use sh_tree::name::is_name;
 use sh_tree::text::static_text;
 use sh_tree::tree::{
     Binary, Clause, Command, Element, Expr, Kind, ParameterOperator, Part, Redirect, Span, Subject,
@@ -496,35 +497,5 @@ fn add_front(at: u32, text: &[u8], found: &mut Vec<Seen>) -> Result<(), AllocErr
         push(at, &text[..length], found)
     } else {
         Ok(())
-    }
-}
-
-#[tactic(auto, unfolding(sh_tree::specs::language::Bytes::is_first))]
-fn begins_name(text: &[u8]) -> bool
-    ensures { result ≡ bytes.is_first bytes.is_name_start text.now }
-{
-    match text {
-        [] => false,
-        [first, ..] => is_name_start(*first),
-    }
-}
-
-fn name_bytes(text: &[u8]) -> usize
-    ensures value { result ≡ bytes.run bytes.is_name_byte text.now }
-    ensures within { result ≤ length text.now }
-{
-    text.iter().take_while(|byte| is_name_byte(**byte)).count()
-}
-
-// How long the name at the front is.
-#[tactic(auto, unfolding(sh_tree::specs::language::Bytes::name_length))]
-fn name_length(text: &[u8]) -> usize
-    ensures value { result ≡ bytes.name_length text.now }
-    ensures within { result ≤ length text.now }
-{
-    if begins_name(text) {
-        name_bytes(text)
-    } else {
-        0
     }
 }

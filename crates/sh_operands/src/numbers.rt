@@ -1,32 +1,9 @@
 //! Numbers that operands write.
-ghost use Rattle.std.specs.Prelude.{◌≡◌, fold, option_map, true, false};
-ghost use Rattle.std.specs.List.{list_all};
-ghost use Rattle.sh_tree.specs.language.Bytes as bytes;
+ghost use Rattle.std.specs.Prelude.{◌≡◌, fold, option_map};
 ghost use Rattle.sh_table.specs.runs.Numbers as numbers;
 ghost use Rattle.sh_operands.specs.Numerals.{capped, with_digit};
 
-fn is_digit(byte: u8) -> bool
-    ensures { result ≡ bytes.is_digit byte }
-{
-    matches!(byte, b'0'..=b'9')
-}
-
-fn are_digits(text: &[u8]) -> bool
-    ensures { result ≡ list_all bytes.is_digit text.now }
-{
-    text.iter().all(|byte| is_digit(*byte))
-}
-
-// Whether the text is a decimal numeral.
-#[tactic(auto, unfolding(sh_table::specs::runs::Numbers::is_number))]
-fn is_number(text: &[u8]) -> bool
-    ensures { result ≡ numbers.is_number text.now }
-{
-    match text {
-        [] => false,
-        _ => are_digits(text),
-    }
-}
+use sh_table::operands::is_number;
 
 #[tactic(auto, unfolding(crate::specs::Numerals::with_digit))]
 fn with_digit(value: u32, byte: u8) -> u32

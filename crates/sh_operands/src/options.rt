@@ -2,9 +2,9 @@
 ghost use Rattle.std.specs.Prelude.{IfSome, ◌≡◌, ◌==◌, ◌≤◌, length, drop, map, false};
 ghost use Rattle.std.specs.List.{list_all};
 ghost use Rattle.sh_table.specs.WordTexts.{text_in};
-ghost use Rattle.sh_table.specs.runs.Operands as operands;
 ghost use Rattle.sh_operands.specs.Texts as spec;
 
+use sh_table::operands::{ends_in_o, ends_options, is_dashed, is_set_option};
 use sh_table::word_text::WordText;
 
 /// The letters of the options of `unset`: whether there are some, and whether all of them are `v`, or all `f`.
@@ -13,19 +13,6 @@ pub struct Letters {
     any: bool,
     only_variables: bool,
     only_functions: bool,
-}
-
-fn ends_options(text: &[u8]) -> bool
-    ensures { result ≡ operands.ends_options text.now }
-{
-    matches!(text, b"--")
-}
-
-#[tactic(auto, unfolding(sh_table::specs::runs::Operands::is_dashed))]
-fn is_dashed(text: &[u8]) -> bool
-    ensures { result ≡ operands.is_dashed text.now }
-{
-    matches!(text, [b'-', _, ..])
 }
 
 fn are_all(letters: &[u8], letter: u8) -> bool
@@ -123,26 +110,6 @@ pub fn unset_operands<'a>(operands: &'a [WordText], script: &[u8]) -> (Letters, 
 }
 
 // `set`
-
-#[tactic(auto, using(sh_table::proofs::OperandTests::last_o))]
-fn ends_in_o(text: &[u8]) -> bool
-    ensures { result ≡ operands.ends_in_o text.now }
-{
-    match text {
-        [] => false,
-        [.., last] => *last == b'o',
-    }
-}
-
-#[tactic(auto, unfolding(sh_table::specs::runs::Operands::is_set_option))]
-fn is_set_option(text: &[u8]) -> bool
-    ensures { result ≡ operands.is_set_option text.now }
-{
-    match text {
-        [first, _, ..] => *first == b'-' || *first == b'+',
-        _ => false,
-    }
-}
 
 #[tactic(auto, unfolding(crate::specs::Texts::positional_from))]
 fn find_positional(words: &[WordText], script: &[u8]) -> Option<usize>

@@ -1,4 +1,4 @@
-//! What the profile asks of the operands of a command.
+//! Operands of commands: what the profile asks of them, and what options and names are.
 ghost use Rattle.std.specs.Prelude.{◌≡◌, ◌≤◌, ◌<◌, ◌==◌, true, ◌||◌, length, drop, map, is_some, Some, nat_lt, false};
 ghost use Rattle.std.specs.List.{list_all, list_any};
 ghost use Rattle.sh_tree.specs.language.Bytes as bytes;
@@ -25,7 +25,7 @@ fn are_digits(text: &[u8]) -> bool
 
 /// Whether the text is a decimal numeral.
 #[tactic(auto, unfolding(crate::specs::runs::Numbers::is_number))]
-fn is_number(text: &[u8]) -> bool
+pub fn is_number(text: &[u8]) -> bool
     ensures { result ≡ numbers.is_number text.now }
 {
     match text {
@@ -148,15 +148,19 @@ fn runs_utility(words: &[WordText], script: &[u8]) -> bool
     }
 }
 
-/// Whether the text is `-` and more.
+/// Whether the text is `--`, which ends the options (XBD 12.2).
+pub fn ends_options(text: &[u8]) -> bool
+    ensures { result ≡ operands.ends_options text.now }
+{
+    matches!(text, b"--")
+}
+
+/// Whether the text is `-` and more, as options are (XBD 12.2).
 #[tactic(auto, unfolding(crate::specs::runs::Operands::is_dashed))]
-fn is_dashed(text: &[u8]) -> bool
+pub fn is_dashed(text: &[u8]) -> bool
     ensures { result ≡ operands.is_dashed text.now }
 {
-    match text {
-        [first, _, ..] => *first == b'-',
-        _ => false,
-    }
+    matches!(text, [b'-', _, ..])
 }
 
 fn is_command_letter(byte: u8) -> bool
@@ -197,7 +201,7 @@ pub fn commands_utility(words: &[WordText], script: &[u8]) -> bool
         let Some(text) = first.get(script) else {
             return false;
         };
-        if matches!(text, b"--") {
+        if ends_options(text) {
             return runs_utility(others, script);
         }
         if !is_dashed(text) {
@@ -225,8 +229,9 @@ fn has_inner_o(text: &[u8]) -> bool
     }
 }
 
+/// Whether the text ends in `o`, as an option of `set` does that takes the next operand (XCU 2.15, set).
 #[tactic(auto, using(crate::proofs::OperandTests::last_o))]
-fn ends_in_o(text: &[u8]) -> bool
+pub fn ends_in_o(text: &[u8]) -> bool
     ensures { result ≡ operands.ends_in_o text.now }
 {
     match text {
@@ -245,14 +250,12 @@ fn is_signed(text: &[u8]) -> bool
     }
 }
 
+/// Whether the text is `-` or `+` and more, as options of `set` are (XCU 2.15, set).
 #[tactic(auto, unfolding(crate::specs::runs::Operands::is_set_option))]
-fn is_set_option(text: &[u8]) -> bool
+pub fn is_set_option(text: &[u8]) -> bool
     ensures { result ≡ operands.is_set_option text.now }
 {
-    match text {
-        [first, _, ..] => *first == b'-' || *first == b'+',
-        _ => false,
-    }
+    matches!(text, [b'-' | b'+', _, ..])
 }
 
 fn has_inner_letter_o(text: &[u8]) -> bool
@@ -281,7 +284,7 @@ pub fn sets_known(words: &[WordText], script: &[u8]) -> bool
             }
             takes = false;
         } else {
-            if matches!(text, b"--") {
+            if ends_options(text) {
                 return true;
             }
             if !is_set_option(text) {
