@@ -15,11 +15,12 @@ use Rattle.sh_facts.specs.declared.certificate.Facts.TheVariants as value_kind
 use Rattle.sh_facts.specs.declared.rows.RowId.{RowId}
 use Rattle.sh_facts.specs.Forms.{is_variable}
 use Rattle.sh_facts.specs.KeptRows.{KeptRows, Stay, bits_in, holds_at}
+use Rattle.sh_facts.specs.declared.number_set.NumberSet.{NumberSet}
+use Rattle.sh_facts.specs.NumberSets.{numbers_of}
 use Rattle.sh_facts.specs.RoundTrips.{FactsPass, SetsPass}
-use Rattle.sh_find.specs.declared.number_set.NumberSet.{NumberSet}
 use Rattle.sh_find.specs.declared.sight.Sight.{Sight}
 use Rattle.sh_find.specs.Facts.{Facts, NotReached, Known, IsWithin, meet}
-use Rattle.sh_find.specs.Kept.{numbers_of, sight_facts, seen_of, fact_of, IsNamed, IsPlaced}
+use Rattle.sh_find.specs.Kept.{sight_facts, seen_of, fact_of, IsNamed, IsPlaced}
 use Rattle.sh_find.proofs.SolutionLemmas.{stays_there, stays_placed, stays_same, meet_numbered}
 use Rattle.sh_find.specs.Lowers.{IsNumbered}
 use Rattle.sh_find.proofs.NamedLemmas.{met_named}
@@ -35,6 +36,9 @@ use Rattle.sh_certify.specs.Writable.{sets_in, HasWritable, IsWritten}
 use Rattle.sh_certify.proofs.KeptLemmas.{place_same}
 
 -- Rows of drops
+
+pub rows_few : {m n : ℕ} → m ≡ n → n ≤ 4096 → m ≤ 4096
+rows_few same few = omega (arith, same, few)
 
 pub drops_named : (names : ℕ) (vars functions : NumberSet) (a : ℕ) → AreBelow names (sets_in vars functions) → IsNamed names (Known (numbers_of vars) (numbers_of functions) a)
 unfolding IsNamed

@@ -7,12 +7,13 @@ use Rattle.sh_facts.specs.Facts.{facts, Declared}
 use Rattle.sh_facts.specs.Faults.{broken}
 use Rattle.sh_facts.specs.Knowledge.{AreNumbered, at_number}
 use Rattle.sh_facts.specs.Names.{number_of}
+use Rattle.sh_facts.specs.NumberSets.{numbers_of}
 use Rattle.sh_facts.specs.Order.{IsWithin, IsBelow}
 use Rattle.sh_facts.specs.Reading.{claim_fits}
 use Rattle.sh_facts.specs.Rules.{Constraint}
 use Rattle.sh_facts.specs.Sheets.{Sheet, certificate_of}
 use Rattle.sh_facts.proofs.OrderLemmas.{within_nowhere}
-use Rattle.sh_find.specs.Kept.{numbers_of, IsNamed}
+use Rattle.sh_find.specs.Kept.{IsNamed}
 use Rattle.sh_certify.specs.declared.gather.Gather.{Gather}
 use Rattle.sh_certify.specs.declared.gather.Target.{Target}
 use Rattle.sh_certify.specs.declared.place.Place.{Place}

@@ -4,8 +4,8 @@ use Rattle.std.specs.Prelude.{◌≡◌, ◌<◌, ℕ, true, List, Some, slice_g
 use Rattle.sh_tree.specs.language.Bytes.{is_name}
 use Rattle.sh_tree.specs.program.Syntax.{Text}
 use Rattle.sh_facts.specs.Forms.{is_variable}
-use Rattle.sh_find.specs.declared.number_set.NumberSet.{NumberSet}
-use Rattle.sh_find.specs.Kept.{numbers_of}
+use Rattle.sh_facts.specs.declared.number_set.NumberSet.{NumberSet}
+use Rattle.sh_facts.specs.NumberSets.{numbers_of}
 use Rattle.sh_certify.specs.Working.{Sets}
 
 abbrev pub sets_in : NumberSet → NumberSet → Sets

@@ -19,7 +19,7 @@ use crate::spot::{Spot, fitting, index_of};
 use sh_facts::certificate::{Drops, FunctionEntry};
 use sh_facts::knowledge::Knowledge;
 use sh_facts::names::Names;
-use sh_find::number_set::NumberSet;
+use sh_facts::number_set::NumberSet;
 use sh_find::sight::Sight;
 use sh_rules::claims::Claims;
 

@@ -5,14 +5,15 @@ ghost use Rattle.sh_tree.specs.program.Syntax.{Text};
 ghost use Rattle.sh_table.specs.runs.Environment.{is_one_of};
 ghost use Rattle.sh_facts.specs.Certificates.{in_byte_order, names_at};
 ghost use Rattle.sh_facts.specs.Knowledge.{AreNumbered, assured_facts};
+ghost use Rattle.sh_facts.specs.NumberSets.{numbers_of};
 ghost use Rattle.sh_find.specs.Facts.{meet};
-ghost use Rattle.sh_find.specs.Kept.{numbers_of, seen_of, sight_facts};
+ghost use Rattle.sh_find.specs.Kept.{seen_of, sight_facts};
 ghost use Rattle.sh_certify.specs.Numbers.{by_number, name_passes};
 
 use sh_facts::knowledge::Assured;
 use sh_facts::names::Names;
+use sh_facts::number_set::NumberSet;
 use sh_facts::rows::{RowId, Rows};
-use sh_find::number_set::NumberSet;
 use sh_find::sight::Sight;
 
 /// What is assured of these names.
@@ -20,10 +21,14 @@ pub fn sight_of(names: &Names, assured: &Assured) -> Sight
     requires { AreNumbered names.now }
     ensures { sight_facts result ≡ by_number names.now (assured_facts names.now assured.now) }
 {
-    let count = names.count();
+    let all = NumberSet::below(names.count());
+    let mut vars = all;
+    vars.meet(assured.vars());
+    let mut functions = all;
+    functions.meet(assured.functions());
     Sight {
-        vars: NumberSet::from_words(assured.vars().words(), count),
-        functions: NumberSet::from_words(assured.functions().words(), count),
+        vars,
+        functions,
         args: assured.args(),
     }
 }

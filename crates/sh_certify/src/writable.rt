@@ -4,12 +4,12 @@ ghost use Rattle.sh_tree.specs.declared.limits.TheConstants.{MAX_NAMES};
 ghost use Rattle.sh_tree.specs.language.Bytes.{is_name};
 ghost use Rattle.sh_tree.specs.program.Syntax.{Text};
 ghost use Rattle.sh_facts.specs.Forms as form;
-ghost use Rattle.sh_find.specs.Kept.{numbers_of};
+ghost use Rattle.sh_facts.specs.NumberSets.{numbers_of};
 ghost use Rattle.sh_certify.specs.Working.{AreWithin};
 ghost use Rattle.sh_certify.specs.Writable.{HasWritable, IsWritten, sets_in};
 
 use sh_facts::names::Names;
-use sh_find::number_set::NumberSet;
+use sh_facts::number_set::NumberSet;
 use sh_tree::limits::MAX_NAMES;
 use sh_tree::name::is_name;
 

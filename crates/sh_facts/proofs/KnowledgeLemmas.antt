@@ -6,12 +6,11 @@ use Rattle.std.proofs.lemmas.Bool.{and_parts, and_from, or_cases, or_left, or_ri
 use Rattle.std.specs.Prelude.{codes}
 use Rattle.std.proofs.lemmas.Option.{slice_get_within, slice_get-get_or}
 use Rattle.std.proofs.lemmas.Slice.Eq.{bytes_eq-Decides}
-use Rattle.sh_rows.specs.Numbers.{has_bit}
 use Rattle.sh_tree.specs.program.Syntax.{Text}
 use Rattle.sh_tree.proofs.ListLemmas.{text_same}
 use Rattle.sh_table.specs.runs.Environment.{is_one_of}
 use Rattle.sh_facts.specs.declared.knowledge.Assured.{Assured}
-use Rattle.sh_facts.specs.declared.knowledge.NameSet.{NameSet}
+use Rattle.sh_facts.specs.declared.number_set.NumberSet.{NumberSet}
 use Rattle.sh_facts.specs.declared.rows.RowId.{RowId}
 use Rattle.sh_facts.specs.Certificates.{in_byte_order, names_at, numbered, placed}
 use Rattle.sh_facts.specs.Facts.{meet}
@@ -19,6 +18,7 @@ use Rattle.sh_facts.specs.Gains.{named, with_gains}
 use Rattle.sh_facts.specs.KeptRows.{KeptRows, holds_at}
 use Rattle.sh_facts.specs.Knowledge.{AreNumbered, among, assured_facts, at_number, contains}
 use Rattle.sh_facts.specs.Names.{number_of}
+use Rattle.sh_facts.specs.NumberSets.{numbers_of}
 use Rattle.sh_facts.specs.Sheets.{precedes}
 use Rattle.sh_facts.specs.Views.{Certificate, Define, Lose, left, passes, step, where_known}
 use Rattle.sh_facts.proofs.MeetLemmas.{known_same}
@@ -253,20 +253,20 @@ and_true : (b : Bool) → b ≡ (b && true)
 and_true true = refl
 and_true false = refl
 
-pub gained : (names : List Text) (name : Text) (s : Assured) (v : NameSet) → ((t : Text) → contains names v t ≡ (is_one_of names t && (bytes_eq name t || contains names s.vars t)))
+pub gained : (names : List Text) (name : Text) (s : Assured) (v : NumberSet) → ((t : Text) → contains names v t ≡ (is_one_of names t && (bytes_eq name t || contains names s.vars t)))
     → assured_facts names (record s { vars = v }) ≡ among names (with_gains (named (name ∷ [])) (assured_facts names s))
 unfolding among with_gains
 gained names name s v h = known_same _ _ _ _ _ _
     (λ t. h t ∙ ap (λ b. is_one_of names t && (b || contains names s.vars t)) (sym (or_none (bytes_eq name t))))
-    (λ t. numbered_only names (λ k. has_bit k s.functions.words) t)
+    (λ t. numbered_only names (numbers_of s.functions) t)
     (omega arith)
 
-pub defined : (names : List Text) (c : Certificate) (name : Text) (s : Assured) (f : NameSet) → ((t : Text) → contains names f t ≡ (is_one_of names t && (bytes_eq name t || contains names s.functions t)))
+pub defined : (names : List Text) (c : Certificate) (name : Text) (s : Assured) (f : NumberSet) → ((t : Text) → contains names f t ≡ (is_one_of names t && (bytes_eq name t || contains names s.functions t)))
     → assured_facts names (record s { functions = f }) ≡ among names (step c (Define name) (assured_facts names s))
 unfolding among step where_known
-defined names c name s f h = known_same _ _ _ _ _ _ (λ t. numbered_only names (λ k. has_bit k s.vars.words) t) h refl
+defined names c name s f h = known_same _ _ _ _ _ _ (λ t. numbered_only names (numbers_of s.vars) t) h refl
 
-pub variable_lost : (names : List Text) (c : Certificate) (name : Text) (s : Assured) (v : NameSet) → ((t : Text) → contains names v t ≡ (contains names s.vars t && not (bytes_eq name t)))
+pub variable_lost : (names : List Text) (c : Certificate) (name : Text) (s : Assured) (v : NumberSet) → ((t : Text) → contains names v t ≡ (contains names s.vars t && not (bytes_eq name t)))
     → assured_facts names (record s { vars = v }) ≡ step c (Lose (record { vars = name ∷ []; functions = [] })) (assured_facts names s)
 unfolding step where_known
 variable_lost names c name s v h = known_same _ _ _ _ _ _
@@ -274,7 +274,7 @@ variable_lost names c name s v h = known_same _ _ _ _ _ _
     (λ t. and_true (contains names s.functions t))
     refl
 
-pub function_lost : (names : List Text) (c : Certificate) (name : Text) (s : Assured) (f : NameSet) → ((t : Text) → contains names f t ≡ (contains names s.functions t && not (bytes_eq name t)))
+pub function_lost : (names : List Text) (c : Certificate) (name : Text) (s : Assured) (f : NumberSet) → ((t : Text) → contains names f t ≡ (contains names s.functions t && not (bytes_eq name t)))
     → assured_facts names (record s { functions = f }) ≡ step c (Lose (record { vars = []; functions = name ∷ [] })) (assured_facts names s)
 unfolding step where_known
 function_lost names c name s f h = known_same _ _ _ _ _ _
@@ -295,13 +295,13 @@ both_at a b new h (Some k) = h k ∙ turned (b k) (a k)
     turned false true = refl
     turned false false = refl
 
-pub met : (names : List Text) (s u w : Assured) → ((k : ℕ) → has_bit k w.vars.words ≡ (has_bit k u.vars.words && has_bit k s.vars.words))
-    → ((k : ℕ) → has_bit k w.functions.words ≡ (has_bit k u.functions.words && has_bit k s.functions.words)) → w.args ≡ min s.args u.args
+pub met : (names : List Text) (s u w : Assured) → ((k : ℕ) → numbers_of w.vars k ≡ (numbers_of u.vars k && numbers_of s.vars k))
+    → ((k : ℕ) → numbers_of w.functions k ≡ (numbers_of u.functions k && numbers_of s.functions k)) → w.args ≡ min s.args u.args
     → assured_facts names w ≡ meet (assured_facts names s) (assured_facts names u)
 unfolding meet
 met names s u w v f a = known_same _ _ _ _ _ _
-    (λ t. both_at (λ k. has_bit k s.vars.words) (λ k. has_bit k u.vars.words) (λ k. has_bit k w.vars.words) v (number_of names t))
-    (λ t. both_at (λ k. has_bit k s.functions.words) (λ k. has_bit k u.functions.words) (λ k. has_bit k w.functions.words) f (number_of names t))
+    (λ t. both_at (numbers_of s.vars) (numbers_of u.vars) (numbers_of w.vars) v (number_of names t))
+    (λ t. both_at (numbers_of s.functions) (numbers_of u.functions) (numbers_of w.functions) f (number_of names t))
     a
 
 -- Calls
@@ -392,11 +392,11 @@ either_without function t mid new kept g e m = rw g (e ∙ m ∙ and_true kept)
 -- Inclusion
 
 -- a row is within a set where its names are in it
-pub row_within : (names : List Text) → AreNumbered names → (rows : KeptRows) (id : RowId) (s : ℕ → Bool) (b : Bool) → (b ≡ true) ↔ ((k : ℕ) → holds_at rows.rows id.index k ≡ true → s k ≡ true)
+pub names_within : (names : List Text) → AreNumbered names → (rows : KeptRows) (id : RowId) (s : ℕ → Bool) (b : Bool) → (b ≡ true) ↔ ((k : ℕ) → holds_at rows.rows id.index k ≡ true → s k ≡ true)
     → ((k : ℕ) → holds_at rows.rows id.index k ≡ true → k < length names)
     → b ≡ list_all (λ t. at_number s (number_of names t)) (names_at (in_byte_order names) rows id)
 unfolding at_number
-row_within names h rows id s b test below = same_tests b _
+names_within names h rows id s b test below = same_tests b _
     (λ e. all_among _ _ (λ t there. here e t (number_of names t) refl (sym (in_row names h rows id t) ∙ there)))
     (λ all. test.1 (λ k there.
     let lt = below k there in

@@ -6,6 +6,7 @@ pub mod EachLemmas
 pub mod InclusionLemmas
 pub mod KnowledgeExampleLemmas
 pub mod KnowledgeLemmas
+pub mod NumberSetLemmas
 pub mod KnownNameLemmas
 pub mod LeastLemmas
 pub mod MeetLemmas

@@ -2,7 +2,6 @@
 -- The standard has no such thing: the variables that are set and the functions that are defined (XCU 2.5, 2.9.5), by their numbers.
 use Rattle.std.specs.Prelude.{◌≡◌, ◌≤◌, ℕ, Bool, true, false, ◌&&◌, List, [], ◌∷◌, filter, length, Option, Some, None, slice_get}
 use Rattle.std.specs.List.{list_all}
-use Rattle.sh_rows.specs.Numbers.{has_bit}
 use Rattle.sh_tree.specs.declared.limits.TheConstants.{MAX_NAMES}
 use Rattle.sh_tree.specs.declared.tree.Script.{Script}
 use Rattle.sh_tree.specs.program.Syntax.{Text}
@@ -10,10 +9,11 @@ use Rattle.sh_table.specs.runs.Environment.{is_one_of}
 use Rattle.sh_facts.specs.declared.knowledge.Assured.{Assured}
 use Rattle.sh_facts.specs.declared.knowledge.Knowledge.{Knowledge}
 use Rattle.sh_facts.specs.declared.knowledge.Knowledge.TheVariants as kind
-use Rattle.sh_facts.specs.declared.knowledge.NameSet.{NameSet}
+use Rattle.sh_facts.specs.declared.number_set.NumberSet.{NumberSet}
 use Rattle.sh_facts.specs.Facts.{Facts, NotReached, Known, Declared, start_facts}
 use Rattle.sh_facts.specs.Gains.{Gains, with_gains}
 use Rattle.sh_facts.specs.Names.{IsNumbering, number_of}
+use Rattle.sh_facts.specs.NumberSets.{numbers_of}
 use Rattle.sh_facts.specs.Views.{Certificate, Define, Lose, step}
 
 -- the test of a name's number, which fails where it has none
@@ -22,8 +22,8 @@ at_number p None = false
 at_number p (Some k) = p k
 
 -- the name is in the set, by its number
-abbrev pub contains : List Text → NameSet → Text → Bool
-contains names s t = at_number (λ k. has_bit k s.words) (number_of names t)
+abbrev pub contains : List Text → NumberSet → Text → Bool
+contains names s t = at_number (numbers_of s) (number_of names t)
 
 -- the facts that these names' numbers stand for
 abbrev pub assured_facts : List Text → Assured → Facts

@@ -5,7 +5,7 @@ use Rattle.sh_rows.specs.Numbers.{has_bit}
 use Rattle.sh_tree.specs.program.Syntax.{Text}
 use Rattle.sh_facts.specs.declared.knowledge.Knowledge.{Knowledge}
 use Rattle.sh_facts.specs.declared.knowledge.Knowledge.TheVariants as kind
-use Rattle.sh_facts.specs.declared.knowledge.NameSet.{NameSet}
+use Rattle.sh_facts.specs.declared.number_set.NumberSet.{NumberSet}
 use Rattle.sh_facts.specs.Facts.{Known, Variable, Function, Parameters, claims}
 use Rattle.sh_facts.specs.Knowledge.{among, at_number, contains, knowledge_facts}
 
@@ -13,11 +13,11 @@ abbrev pub three_names : List Text
 three_names = codes "a" ∷ codes "b" ∷ codes "c" ∷ []
 
 -- the numbers 0 and 2
-abbrev pub outer : NameSet
+abbrev pub outer : NumberSet
 outer = record { words = 5 ∷ [] }
 
 -- the number 1
-abbrev pub middle : NameSet
+abbrev pub middle : NumberSet
 middle = record { words = 2 ∷ [] }
 
 abbrev pub sample : Knowledge

@@ -2,7 +2,6 @@
 ghost use Rattle.std.specs.Prelude.{◌≡◌, ◌≤◌, ◌&&◌, ◌||◌, ◌<◌, ◌-◌, ℕ, List, [], ◌∷◌, true, false, not, length, map, codes};
 ghost use Rattle.std.specs.List.{list_all};
 ghost use Rattle.std.specs.Str.{bytes_eq};
-ghost use Rattle.sh_rows.specs.Numbers.{has_bit};
 ghost use Rattle.sh_tree.specs.program.Syntax.{Text};
 ghost use Rattle.sh_table.specs.runs.Environment.{is_one_of};
 ghost use Rattle.sh_table.specs.runs.Worlds.{start_names};
@@ -11,29 +10,21 @@ ghost use Rattle.sh_facts.specs.Facts as spec;
 ghost use Rattle.sh_facts.specs.Faults.{are_among};
 ghost use Rattle.sh_facts.specs.Gains.{with_gains, named};
 ghost use Rattle.sh_facts.specs.Views as views;
-ghost use Rattle.sh_facts.specs.KeptRows.{holds_at};
 ghost use Rattle.sh_facts.specs.Certificates.{claim_of, drops_of, in_byte_order, names_at};
 ghost use Rattle.sh_facts.specs.Knowledge.{AreNumbered, among, assured_facts, contains, knowledge_facts};
 ghost use Rattle.sh_facts.specs.Parameters.{with_parameters_of};
 
 use crate::certificate::{Drops, Facts};
 use crate::names::Names;
+use crate::number_set::NumberSet;
 use crate::policy::Policy;
 use crate::rows::{RowId, Rows};
-use sh_rows::kernels::{is_set, join_words, meet_words, remove_words, set, unset, within_words};
-use sh_tree::limits::MAX_NAMES;
-
-/// Names of a script, as the set of their numbers.
-#[derive(Clone, Copy, Debug, PartialEq, Eq)]
-pub struct NameSet {
-    words: [u64; 64],
-}
 
 /// What is surely there: variables that are set, functions that are defined, and so many positional parameters at least.
 #[derive(Clone, Copy, Debug, PartialEq, Eq)]
 pub struct Assured {
-    vars: NameSet,
-    functions: NameSet,
+    vars: NumberSet,
+    functions: NumberSet,
     args: u16,
 }
 
@@ -53,133 +44,16 @@ pub struct Return {
     pub facts: Facts,
 }
 
-impl NameSet {
-    /// No names.
-    pub fn new() -> NameSet
-        ensures names { (names : List Text) (t : Text) → contains names result t ≡ false }
-        ensures numbers { (k : ℕ) → has_bit k result.words ≡ false }
-    {
-        NameSet { words: [0; 64] }
-    }
-
-    /// The words: number n is bit n modulo 64 of word n divided by 64.
-    pub fn words(&self) -> &[u64; 64]
-        ensures { result.now ≡ self.now.words }
-    {
-        &self.words
-    }
-
-    /// Whether a name is in the set, which a name without a number never is.
-    pub fn has(&self, names: &Names, name: &[u8]) -> bool
-        ensures { result ≡ contains names.now self.now name.now }
-    {
-        match names.number(name) {
-            Some(number) => is_set(&self.words, number),
-            None => false,
-        }
-    }
-
-    /// Adds a name, if it has a number.
-    pub fn add(&mut self, names: &Names, name: &[u8])
-        ensures { (t : Text) → contains names.now self.new t ≡ (is_one_of names.now t && (bytes_eq name.now t || contains names.now self.old t)) }
-    {
-        if let Some(number) = names.number(name) {
-            set(&mut self.words, number);
-        }
-    }
-
-    /// Takes a name out.
-    pub fn remove(&mut self, names: &Names, name: &[u8])
-        ensures { (t : Text) → contains names.now self.new t ≡ (contains names.now self.old t && not (bytes_eq name.now t)) }
-    {
-        if let Some(number) = names.number(name) {
-            unset(&mut self.words, number);
-        }
-    }
-}
-
-impl NameSet {
-    // Adds those of the texts that have numbers.
-    fn add_all(&mut self, names: &Names, texts: &[Vec<u8>])
-        ensures { (t : Text) → contains names.now self.new t ≡ (is_one_of names.now t && (is_one_of (map (λ v. v.items) texts.now) t || contains names.now self.old t)) }
-    {
-        for text in texts {
-            self.add(names, text);
-        }
-    }
-
-    // The numbers that are in both.
-    fn meet(&mut self, other: &NameSet)
-        ensures { (k : ℕ) → has_bit k self.new.words ≡ (has_bit k other.now.words && has_bit k self.old.words) }
-    {
-        meet_words(&mut self.words, &other.words);
-    }
-
-    // The numbers that are not in the other.
-    fn without(mut self, other: &NameSet) -> NameSet
-        ensures { (k : ℕ) → has_bit k result.words ≡ (not (has_bit k other.now.words) && has_bit k self.words) }
-    {
-        remove_words(&mut self.words, &other.words);
-        self
-    }
-
-    // The numbers that are not in the row of a place.
-    fn without_row(mut self, rows: &Rows, id: RowId) -> NameSet
-        ensures { (k : ℕ) → has_bit k result.words ≡ (not (holds_at rows.now.rows id.index k) && has_bit k self.words) }
-    {
-        if let Some(row) = rows.row(id) {
-            remove_words(&mut self.words, row.words());
-        }
-        self
-    }
-
-    // The numbers that are here or in the row of a place.
-    fn with_row(mut self, rows: &Rows, id: RowId) -> NameSet
-        ensures { (k : ℕ) → k < MAX_NAMES → has_bit k result.words ≡ (holds_at rows.now.rows id.index k || has_bit k self.words) }
-    {
-        self.join_row(rows, id);
-        self
-    }
-
-    // Adds the numbers that are in the row of a place.
-    fn join_row(&mut self, rows: &Rows, id: RowId)
-        ensures { (k : ℕ) → k < MAX_NAMES → has_bit k self.new.words ≡ (holds_at rows.now.rows id.index k || has_bit k self.old.words) }
-    {
-        if let Some(row) = rows.row(id) {
-            join_words(&mut self.words, row.words());
-        }
-    }
-
-    // Becomes the set of the numbers that are in the row of a place.
-    fn set_row(&mut self, rows: &Rows, id: RowId)
-        ensures { (k : ℕ) → k < MAX_NAMES → has_bit k self.new.words ≡ holds_at rows.now.rows id.index k }
-    {
-        *self = NameSet::new();
-        self.join_row(rows, id);
-    }
-
-    // Whether each name of the row of a place is here.
-    fn includes(&self, rows: &Rows, id: RowId) -> bool
-        ensures { (names : List Text) → AreNumbered names → rows.now.count ≡ length names
-            → result ≡ list_all (contains names self.now) (names_at (in_byte_order names) rows.now id) }
-    {
-        match rows.row(id) {
-            Some(row) => within_words(row.words(), &self.words),
-            None => true,
-        }
-    }
-}
-
 impl Assured {
     /// The variables that are set.
-    pub fn vars(&self) -> &NameSet
+    pub fn vars(&self) -> &NumberSet
         ensures { result.now ≡ self.now.vars }
     {
         &self.vars
     }
 
     /// The functions that are defined.
-    pub fn functions(&self) -> &NameSet
+    pub fn functions(&self) -> &NumberSet
         ensures { result.now ≡ self.now.functions }
     {
         &self.functions
@@ -216,8 +90,8 @@ impl Assured {
         ensures { (names : List Text) → AreNumbered names → assured_facts names result ≡ spec.facts (claim_of (in_byte_order names) rows.now (fact.Known vars functions args)) }
     {
         let mut assured = Assured {
-            vars: NameSet::new(),
-            functions: NameSet::new(),
+            vars: NumberSet::new(),
+            functions: NumberSet::new(),
             args,
         };
         assured.set_rows(rows, vars, functions, args);
@@ -244,7 +118,7 @@ impl Assured {
 
     // What a function leaves that was surely called: what it does not drop, and what is claimed of its return, without the
     // prefix names that were not set before.
-    fn after_return(&self, rows: &Rows, returned: &Return, prefixes: &NameSet) -> Knowledge
+    fn after_return(&self, rows: &Rows, returned: &Return, prefixes: &NumberSet) -> Knowledge
         ensures { (names before : List Text) → AreNumbered names
             → ((t : Text) → is_one_of names t ≡ true → contains names prefixes.now t ≡ is_one_of before t)
             → knowledge_facts names result
@@ -258,18 +132,17 @@ impl Assured {
                 vars,
                 functions,
                 ..
-            } => Knowledge::Known(Assured {
-                vars: self
-                    .vars
-                    .without_row(rows, returned.drops.vars)
-                    .with_row(rows, vars)
-                    .without(&prefixes.without(&self.vars)),
-                functions: self
-                    .functions
-                    .without_row(rows, returned.drops.functions)
-                    .with_row(rows, functions),
-                args: self.args,
-            }),
+            } => {
+                let mut lost = *prefixes;
+                lost.remove(&self.vars);
+                let mut left = *self;
+                left.vars.remove_row(rows, returned.drops.vars);
+                left.vars.join_row(rows, vars);
+                left.vars.remove(&lost);
+                left.functions.remove_row(rows, returned.drops.functions);
+                left.functions.join_row(rows, functions);
+                Knowledge::Known(left)
+            }
         }
     }
 
@@ -281,13 +154,16 @@ impl Assured {
             ≡ views.left (drops_of (in_byte_order names.now) rows.now drops.now) function.now
             (contains names.now self.now.vars) (contains names.now self.now.functions) self.now.args }
     {
-        let mut vars = self.vars.without_row(rows, drops.vars);
+        let mut vars = self.vars;
+        vars.remove_row(rows, drops.vars);
         if is_getopts(function) {
-            vars.remove(names, b"OPTARG");
+            vars.remove_name(names, b"OPTARG");
         }
+        let mut functions = self.functions;
+        functions.remove_row(rows, drops.functions);
         Assured {
             vars,
-            functions: self.functions.without_row(rows, drops.functions),
+            functions,
             args: self.args,
         }
     }
@@ -298,14 +174,14 @@ impl Knowledge {
     pub fn start(names: &Names, policy: &Policy) -> Knowledge
         ensures { knowledge_facts names.now result ≡ among names.now (spec.start_facts policy.now) }
     {
-        let mut vars = NameSet::new();
-        vars.add(names, b"IFS");
-        vars.add(names, b"OPTIND");
-        vars.add(names, b"PPID");
-        vars.add_all(names, policy.names());
+        let mut vars = NumberSet::new();
+        vars.add_name(names, b"IFS");
+        vars.add_name(names, b"OPTIND");
+        vars.add_name(names, b"PPID");
+        vars.add_names(names, policy.names());
         Knowledge::Known(Assured {
             vars,
-            functions: NameSet::new(),
+            functions: NumberSet::new(),
             args: policy.args(),
         })
     }
@@ -376,7 +252,7 @@ impl Knowledge {
     {
         match self {
             Knowledge::NotReached => true,
-            Knowledge::Known(assured) => assured.vars.has(names, name),
+            Knowledge::Known(assured) => assured.vars.has_name(names, name),
         }
     }
 
@@ -387,7 +263,7 @@ impl Knowledge {
     {
         match self {
             Knowledge::NotReached => true,
-            Knowledge::Known(assured) => assured.functions.has(names, name),
+            Knowledge::Known(assured) => assured.functions.has_name(names, name),
         }
     }
 
@@ -409,7 +285,7 @@ impl Knowledge {
     {
         match self {
             Knowledge::NotReached => {}
-            Knowledge::Known(assured) => assured.vars.add(names, name),
+            Knowledge::Known(assured) => assured.vars.add_name(names, name),
         }
     }
 
@@ -431,7 +307,7 @@ impl Knowledge {
     {
         match self {
             Knowledge::NotReached => {}
-            Knowledge::Known(assured) => assured.functions.add(names, function),
+            Knowledge::Known(assured) => assured.functions.add_name(names, function),
         }
     }
 
@@ -443,7 +319,7 @@ impl Knowledge {
     {
         match self {
             Knowledge::NotReached => {}
-            Knowledge::Known(assured) => assured.vars.remove(names, name),
+            Knowledge::Known(assured) => assured.vars.remove_name(names, name),
         }
     }
 
@@ -455,7 +331,7 @@ impl Knowledge {
     {
         match self {
             Knowledge::NotReached => {}
-            Knowledge::Known(assured) => assured.functions.remove(names, name),
+            Knowledge::Known(assured) => assured.functions.remove_name(names, name),
         }
     }
 
@@ -519,7 +395,7 @@ impl Knowledge {
         function: &[u8],
         rows: &Rows,
         returned: &Return,
-        prefixes: &NameSet,
+        prefixes: &NumberSet,
     )
         ensures { (c : views.Certificate) (r : views.Slot) (before : List Text) → AreNumbered names.now
             → c.drops function.now ≡ drops_of (in_byte_order names.now) rows.now returned.now.drops
@@ -528,7 +404,7 @@ impl Knowledge {
             → knowledge_facts names.now self.new ≡ views.step c (views.Call function.now r before) (knowledge_facts names.now self.old) }
     {
         if let Knowledge::Known(assured) = self {
-            *self = if assured.functions.has(names, function) {
+            *self = if assured.functions.has_name(names, function) {
                 assured.after_return(rows, returned, prefixes)
             } else {
                 Knowledge::Known(assured.after_either(names, function, rows, &returned.drops))
@@ -586,7 +462,7 @@ fn is_row_within(rows: &Rows, part: RowId, whole: RowId) -> bool
     if part.index == whole.index {
         return true;
     }
-    let mut names = NameSet::new();
+    let mut names = NumberSet::new();
     names.set_row(rows, whole);
     names.includes(rows, part)
 }

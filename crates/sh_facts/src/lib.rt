@@ -9,6 +9,7 @@ pub mod laws;
 pub mod limits;
 mod lines;
 pub mod names;
+pub mod number_set;
 pub mod numbered;
 mod operands;
 pub mod options;

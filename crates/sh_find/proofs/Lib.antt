@@ -1,6 +1,5 @@
 pub mod OrderLemmas
 pub mod HeightLemmas
-pub mod NumberSetLemmas
 pub mod NamedLemmas
 pub mod SolutionLemmas
 pub mod SeenLemmas

@@ -4,6 +4,7 @@ use Rattle.std.specs.Prelude.{nat_lt}
 use Rattle.std.specs.List.{All}
 use Rattle.std.proofs.lemmas.Bool.{and_parts}
 use Rattle.sh_rows.specs.Numbers.{has_number}
+use Rattle.sh_facts.specs.NumberSets.{numbers_of}
 use Rattle.sh_find.specs.declared.constraint.Source.{Source}
 use Rattle.sh_find.specs.declared.constraint.Source.TheVariants.{Start, At}
 use Rattle.sh_find.specs.declared.constraint.Step.{Step}
@@ -15,7 +16,7 @@ use Rattle.sh_find.specs.Facts.{Facts, NotReached, Known, Variable, Function, cl
 use Rattle.sh_find.specs.Steps.{where_known, kept, returned, called, step, steps, source_facts, seen_facts}
 use Rattle.sh_find.specs.Lowers.{IsNumbered}
 use Rattle.sh_find.proofs.SeenLemmas.{sight_seen}
-use Rattle.sh_find.specs.Kept.{numbers_of, sight_facts, seen_of, AreNamed, IsNamed, IsFormed, AreFormed}
+use Rattle.sh_find.specs.Kept.{sight_facts, seen_of, AreNamed, IsNamed, IsFormed, AreFormed}
 
 -- Numbers
 

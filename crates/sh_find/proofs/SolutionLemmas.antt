@@ -11,10 +11,11 @@ use Rattle.sh_facts.specs.declared.rows.RowId.{RowId}
 use Rattle.sh_facts.specs.declared.certificate.Facts as value
 use Rattle.sh_facts.specs.declared.certificate.Facts.TheVariants as value_kind
 use Rattle.sh_facts.specs.KeptRows.{KeptRows, Stay, bits_in, holds_at}
+use Rattle.sh_facts.specs.NumberSets.{numbers_of}
 use Rattle.sh_find.specs.declared.sight.Sight.{Sight}
 use Rattle.sh_find.specs.Facts.{Facts, NotReached, Known, IsWithin, meet}
 use Rattle.sh_find.specs.Lowers.{IsNumbered, Sinks}
-use Rattle.sh_find.specs.Kept.{numbers_of, sight_facts, fact_of, claims_in, IsPlaced, IsKept}
+use Rattle.sh_find.specs.Kept.{sight_facts, fact_of, claims_in, IsPlaced, IsKept}
 use Rattle.sh_find.proofs.OrderLemmas.{known_within, known_parts, nowhere_known}
 
 -- Rows

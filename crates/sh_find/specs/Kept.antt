@@ -3,21 +3,16 @@
 use Rattle.std.specs.Prelude.{◌≡◌, ℕ, ◌<◌, Bool, true, List, [], ◌∷◌, length, slice_index_or, Option, Some, None}
 use Rattle.std.specs.List.{All}
 use Rattle.sh_rows.specs.declared.bits.BitRow.{BitRow}
-use Rattle.sh_rows.specs.Numbers.{has_bit}
 use Rattle.sh_facts.specs.KeptRows.{KeptRows, holds_at}
 use Rattle.sh_facts.specs.declared.certificate.Facts as value
 use Rattle.sh_facts.specs.declared.certificate.Facts.TheVariants as value_kind
-use Rattle.sh_find.specs.declared.number_set.NumberSet.{NumberSet}
+use Rattle.sh_facts.specs.NumberSets.{numbers_of}
 use Rattle.sh_find.specs.declared.sight.Sight.{Sight}
 use Rattle.sh_find.specs.declared.constraint.Step.{Step}
 use Rattle.sh_find.specs.declared.constraint.Step.TheVariants.{Gain, Define, Lose, Call, Spare}
 use Rattle.sh_find.specs.declared.constraint.Constraint.{Constraint}
 use Rattle.sh_find.specs.Facts.{Facts, NotReached, Known, Claims}
 use Rattle.sh_find.specs.Lowers.{IsNumbered}
-
--- the number is in the set
-abbrev pub numbers_of : NumberSet → ℕ → Bool
-numbers_of s k = has_bit k s.words
 
 -- what is seen, by its sets
 abbrev pub sight_facts : Sight → Facts

@@ -5,7 +5,6 @@
 pub mod constraint;
 pub mod laws;
 pub mod lower;
-pub mod number_set;
 pub mod problem;
 pub mod rounds;
 pub mod seen;

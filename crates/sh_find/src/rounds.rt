@@ -1,9 +1,10 @@
 //! The search by rounds.
 ghost use Rattle.std.specs.Prelude.{◌≡◌, ◌≤◌, length, IfOk, OnOk};
 ghost use Rattle.sh_tree.specs.declared.limits.TheConstants.{MAX_NAMES};
+ghost use Rattle.sh_facts.specs.NumberSets.{numbers_of};
 ghost use Rattle.sh_find.specs.Facts.{Claims, IsBelow};
 ghost use Rattle.sh_find.specs.Greatest.{Satisfies, IsGreatest};
-ghost use Rattle.sh_find.specs.Kept.{numbers_of, sight_facts, fact_of, claims_in, AreNamed, IsKept, IsProblem};
+ghost use Rattle.sh_find.specs.Kept.{sight_facts, fact_of, claims_in, AreNamed, IsKept, IsProblem};
 
 use crate::constraint::Constraint;
 use crate::lower::round;

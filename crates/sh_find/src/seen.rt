@@ -4,17 +4,18 @@ ghost use Rattle.std.specs.List.{All};
 ghost use Rattle.sh_rows.specs.Numbers.{has_number};
 ghost use Rattle.sh_tree.specs.declared.limits.TheConstants.{MAX_NAMES};
 ghost use Rattle.sh_facts.specs.KeptRows.{holds_at};
+ghost use Rattle.sh_facts.specs.NumberSets.{numbers_of};
 ghost use Rattle.sh_find.specs.Facts.{Known, Variable, Function, claims};
 ghost use Rattle.sh_find.specs.Steps.{called, step, steps, source_facts, seen_facts};
-ghost use Rattle.sh_find.specs.Kept.{numbers_of, sight_facts, seen_of, fact_of, claims_in, IsFormed, AreFormed};
+ghost use Rattle.sh_find.specs.Kept.{sight_facts, seen_of, fact_of, claims_in, IsFormed, AreFormed};
 
 use crate::constraint::{Constraint, FunctionCall, Source, Step};
-use crate::number_set::NumberSet;
 use crate::setting::Setting;
 use crate::sight::Sight;
 use crate::solution::{Solution, fact_at, loaded};
 use crate::steps::{counted, defined, gained, spared, without};
 use sh_facts::certificate::Facts;
+use sh_facts::number_set::NumberSet;
 use sh_facts::rows::{RowId, Rows};
 
 // Leaves the names that facts claim too.

@@ -1,10 +1,11 @@
 //! What a search starts with.
 ghost use Rattle.std.specs.Prelude.{◌≡◌, ◌<◌, ◌≤◌, ℕ, true, nat_lt};
 ghost use Rattle.sh_tree.specs.declared.limits.TheConstants.{MAX_NAMES};
-ghost use Rattle.sh_find.specs.Kept.{numbers_of, AreNamed};
+ghost use Rattle.sh_facts.specs.NumberSets.{numbers_of};
+ghost use Rattle.sh_find.specs.Kept.{AreNamed};
 
-use crate::number_set::NumberSet;
 use crate::sight::Sight;
+use sh_facts::number_set::NumberSet;
 use std::alloc::Global;
 
 /// What a search starts with: how many names there are, the set of all their numbers, and what is known at the start.

@@ -3,14 +3,15 @@ ghost use Rattle.std.specs.Prelude.{◌≡◌, ◌<◌, ◌≤◌, ◌+◌, ◌^
 ghost use Rattle.sh_tree.specs.declared.limits.TheConstants.{MAX_NAMES};
 ghost use Rattle.sh_facts.specs.declared.certificate.Facts.TheVariants.{NotReached};
 ghost use Rattle.sh_facts.specs.KeptRows.{Stay, holds_at};
+ghost use Rattle.sh_facts.specs.NumberSets.{numbers_of};
 ghost use Rattle.sh_find.specs.Facts as spec;
 ghost use Rattle.sh_find.specs.Facts.{IsWithin, meet};
 ghost use Rattle.sh_find.specs.Lowers.{Sinks};
-ghost use Rattle.sh_find.specs.Kept.{numbers_of, sight_facts, seen_of, fact_of, claims_in, IsNamed, IsPlaced, IsKept};
+ghost use Rattle.sh_find.specs.Kept.{sight_facts, seen_of, fact_of, claims_in, IsNamed, IsPlaced, IsKept};
 
-use crate::number_set::NumberSet;
 use crate::sight::Sight;
 use sh_facts::certificate::Facts;
+use sh_facts::number_set::NumberSet;
 use sh_facts::rows::{RowId, Rows};
 use sh_rows::bits::BitRow;
 use sh_rows::row::Row;

@@ -3,12 +3,13 @@ ghost use Rattle.std.specs.Prelude.{◌≡◌, ◌<◌, ◌≤◌, ◌+◌, ◌*
 ghost use Rattle.std.specs.List.{All};
 ghost use Rattle.sh_rows.specs.Numbers.{has_number};
 ghost use Rattle.sh_tree.specs.declared.limits.TheConstants.{MAX_NAMES};
+ghost use Rattle.sh_facts.specs.NumberSets.{numbers_of};
 ghost use Rattle.sh_find.specs.Facts.{Known};
 ghost use Rattle.sh_find.specs.Steps.{kept, spared, most};
-ghost use Rattle.sh_find.specs.Kept.{numbers_of, sight_facts, AreNamed};
+ghost use Rattle.sh_find.specs.Kept.{sight_facts, AreNamed};
 
-use crate::number_set::NumberSet;
 use crate::sight::Sight;
+use sh_facts::number_set::NumberSet;
 
 /// The greatest count of positional parameters.
 pub const MOST_FIELDS: u32 = 65_535;

@@ -1,11 +1,12 @@
 //! The search by a list of the constraints that wait.
 ghost use Rattle.std.specs.Prelude.{◌≡◌, ◌<◌, ◌≤◌, ◌&&◌, ◌||◌, ℕ, true, false, Some, [], length, slice_get, IfOk, OnOk};
 ghost use Rattle.sh_tree.specs.declared.limits.TheConstants.{MAX_NAMES};
+ghost use Rattle.sh_facts.specs.NumberSets.{numbers_of};
 ghost use Rattle.sh_find.specs.declared.constraint.Constraint as one;
 ghost use Rattle.sh_find.specs.Facts.{Claims, IsBelow};
 ghost use Rattle.sh_find.specs.Greatest.{Satisfies, IsGreatest};
 ghost use Rattle.sh_find.specs.Lowers.{Lowers};
-ghost use Rattle.sh_find.specs.Kept.{numbers_of, sight_facts, claims_in, AreNamed, IsKept, IsProblem};
+ghost use Rattle.sh_find.specs.Kept.{sight_facts, claims_in, AreNamed, IsKept, IsProblem};
 ghost use Rattle.sh_find.specs.Waits.{is_marked, is_listed, sees_at, AreUsers};
 
 use crate::constraint::Constraint;

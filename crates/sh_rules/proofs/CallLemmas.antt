@@ -7,7 +7,7 @@ use Rattle.sh_tree.specs.program.Syntax.{Text}
 use Rattle.sh_table.specs.runs.Environment.{is_one_of}
 use Rattle.sh_facts.specs.declared.knowledge.Knowledge.{Knowledge}
 use Rattle.sh_facts.specs.declared.knowledge.Knowledge.TheVariants as knowledge
-use Rattle.sh_facts.specs.declared.knowledge.NameSet.{NameSet}
+use Rattle.sh_facts.specs.declared.number_set.NumberSet.{NumberSet}
 use Rattle.sh_facts.specs.declared.knowledge.Return.{Return}
 use Rattle.sh_facts.specs.Certificates.{claim_of, drops_of, in_byte_order}
 use Rattle.sh_facts.specs.Facts.{Facts, NotReached, Known, Function, claims, facts}
@@ -105,7 +105,7 @@ unknown_passed c f r ps old new h u e =
 
 -- of one that it has
 
-pub returned_known : (c : Claims) (f : Text) (r : Slot) (ret : Return) (ps : List Text) (old new : Knowledge) (set : NameSet)
+pub returned_known : (c : Claims) (f : Text) (r : Slot) (ret : Return) (ps : List Text) (old new : Knowledge) (set : NumberSet)
     → AreNumbered c.names.now → IsReturn (setting c) f r ret
     → ((t : Text) → is_one_of (setting c).names t ≡ true → contains (setting c).names set t ≡ is_one_of ps t)
     → ((d : Certificate) (s : Slot) (before : List Text) → AreNumbered c.names.now

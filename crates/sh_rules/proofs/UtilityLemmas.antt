@@ -24,7 +24,7 @@ use Rattle.sh_table.specs.Profile.{Static}
 use Rattle.sh_table.specs.WordTexts.{text_in}
 use Rattle.sh_table.specs.declared.word_text.WordText.{WordText}
 use Rattle.sh_table.specs.runs.Environment.{is_one_of}
-use Rattle.sh_facts.specs.declared.knowledge.NameSet.{NameSet}
+use Rattle.sh_facts.specs.declared.number_set.NumberSet.{NumberSet}
 use Rattle.sh_facts.specs.Facts.{Facts, NotReached, Known, meet}
 use Rattle.sh_facts.specs.Gains.{Gains, named, with_gains}
 use Rattle.sh_facts.specs.Knowledge.{contains}
@@ -66,7 +66,7 @@ unfolding free_gained
 free_folded x es ts f = names_folded x (unless_prefixed es ts) f ∙ filtered_fold (is_free es) (name_gained x) f ts
 
 -- one of them, where the prefix assignments' names are a set
-pub free_passed : (x : Setting) (es : p.Elements) (s : NameSet) (f : Facts) (t : Text) → ArePrefixes x es s → contains x.names s t ≡ true → f ≡ free_gained x es f t
+pub free_passed : (x : Setting) (es : p.Elements) (s : NumberSet) (f : Facts) (t : Text) → ArePrefixes x es s → contains x.names s t ≡ true → f ≡ free_gained x es f t
 unfolding free_gained
 free_passed x es s f t h has =
     let only : contains x.names s t ≡ (is_one_of x.names t && contains x.names s t) = numbered_only x.names _ t in
@@ -77,7 +77,7 @@ same_if : (b : Bool) (f g : Facts) → g ≡ f → f ≡ (if b then g else f)
 same_if true f g e = sym e
 same_if false f g e = refl
 
-pub free_taken : (x : Setting) (es : p.Elements) (s : NameSet) (f g : Facts) (t : Text) → ArePrefixes x es s → contains x.names s t ≡ false
+pub free_taken : (x : Setting) (es : p.Elements) (s : NumberSet) (f g : Facts) (t : Text) → ArePrefixes x es s → contains x.names s t ≡ false
     → g ≡ gained x (named (t ∷ [])) f → g ≡ free_gained x es f t
 unfolding free_gained
 free_taken x es s f g t h has e = elim (cases_Bool (is_one_of x.names t)) [

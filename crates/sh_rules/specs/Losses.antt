@@ -8,7 +8,7 @@ use Rattle.sh_table.specs.Profile.{Static}
 use Rattle.sh_table.specs.WordTexts.{text_in}
 use Rattle.sh_table.specs.declared.word_text.WordText.{WordText}
 use Rattle.sh_table.specs.runs.Environment.{is_one_of}
-use Rattle.sh_facts.specs.declared.knowledge.NameSet.{NameSet}
+use Rattle.sh_facts.specs.declared.number_set.NumberSet.{NumberSet}
 use Rattle.sh_facts.specs.Facts.{Facts}
 use Rattle.sh_facts.specs.Gains.{named}
 use Rattle.sh_facts.specs.Knowledge.{contains}
@@ -55,7 +55,7 @@ unfoldable pub free_gained : Setting → p.Elements → Facts → Text → Facts
 free_gained x es f t = if_wanted (is_free es) (name_gained x) f t
 
 -- the names of prefix assignments, of those that are numbered, as a set
-abbrev pub ArePrefixes : Setting → p.Elements → NameSet → Type 0
+abbrev pub ArePrefixes : Setting → p.Elements → NumberSet → Type 0
 ArePrefixes x es s = (t : Text) → is_one_of x.names t ≡ true → contains x.names s t ≡ is_one_of (prefixes es) t
 
 abbrev pub free_names : Setting → p.Elements → List Text → Facts → Facts

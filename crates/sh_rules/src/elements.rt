@@ -20,7 +20,8 @@ use crate::gains::{gain_variable, gain_word};
 use sh_check::gains::gain_target;
 use sh_check::known::Known;
 use sh_check::own;
-use sh_facts::knowledge::{Knowledge, NameSet};
+use sh_facts::knowledge::Knowledge;
+use sh_facts::number_set::NumberSet;
 use sh_tree::tree::{Element, Target};
 
 /// What is known behind the words of a simple command, where its redirections and its values are judged.
@@ -163,20 +164,20 @@ pub fn is_redirected(elements: &[Element]) -> bool
 // Prefix assignments
 
 #[tactic(auto, using(crate::proofs::ElementLemmas::added), unfolding(crate::specs::Walks::setting))]
-fn add_prefix(claims: &Claims<'_>, element: &Element, names: &mut NameSet)
+fn add_prefix(claims: &Claims<'_>, element: &Element, names: &mut NumberSet)
     ensures { (t : Text) → contains (setting claims.now).names names.new t ≡ spec.prefix_added (setting claims.now) t (contains (setting claims.now).names names.old t) element.now }
 {
     match element {
-        Element::Assignment { name, .. } => names.add(claims.names, name.text(claims.script)),
+        Element::Assignment { name, .. } => names.add_name(claims.names, name.text(claims.script)),
         Element::Word(_) => (),
         Element::Redirection(_) => (),
     }
 }
 
-fn add_prefixes(claims: &Claims<'_>, elements: &[Element]) -> NameSet
+fn add_prefixes(claims: &Claims<'_>, elements: &[Element]) -> NumberSet
     ensures { (t : Text) → contains (setting claims.now).names result t ≡ fold (spec.prefix_added (setting claims.now) t) false elements.now }
 {
-    let mut names = NameSet::new();
+    let mut names = NumberSet::new();
     for element in elements {
         add_prefix(claims, element, &mut names);
     }
@@ -185,7 +186,7 @@ fn add_prefixes(claims: &Claims<'_>, elements: &[Element]) -> NameSet
 
 /// The names of the prefix assignments, of those that are numbered.
 #[tactic(auto, using(crate::proofs::ElementLemmas::all_added))]
-pub fn prefix_set(claims: &Claims<'_>, elements: &[Element]) -> NameSet
+pub fn prefix_set(claims: &Claims<'_>, elements: &[Element]) -> NumberSet
     ensures { (t : Text) → is_one_of (setting claims.now).names t ≡ true → contains (setting claims.now).names result t ≡ is_one_of (prefixes (elements_from (setting claims.now).script elements.now)) t }
 {
     add_prefixes(claims, elements)

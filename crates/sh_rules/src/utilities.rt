@@ -26,7 +26,8 @@ use crate::elements::{gain_assignments, gain_left, is_redirected, prefix_set};
 use crate::gains::gain_variable;
 use crate::steps::{count_none, count_words, lose_variable, shift, take_parameters};
 use crate::texts::{first_number, getopts_name, lose_unset, read_behind, runs_command};
-use sh_facts::knowledge::{Knowledge, NameSet};
+use sh_facts::knowledge::Knowledge;
+use sh_facts::number_set::NumberSet;
 use sh_operands::options::positional_at;
 use sh_table::kind::Kind;
 use sh_table::operands::{are_static, name_length};
@@ -38,17 +39,17 @@ use sh_tree::tree::{Element, Part, Word};
 // Names that utilities set
 
 // The name, unless it is one of the prefix assignments' names.
-fn gain_free(claims: &Claims<'_>, prefixes: &NameSet, name: &[u8], known: &mut Knowledge)
+fn gain_free(claims: &Claims<'_>, prefixes: &NumberSet, name: &[u8], known: &mut Knowledge)
     ensures { (es : Elements) → losses.ArePrefixes (setting claims.now) es prefixes.now
         → facts_in (setting claims.now) known.new ≡ losses.free_gained (setting claims.now) es (facts_in (setting claims.now) known.old) name.now }
 {
-    if !prefixes.has(claims.names, name) {
+    if !prefixes.has_name(claims.names, name) {
         gain_variable(claims, name, known);
     }
 }
 
 #[tactic(auto, unfolding(crate::specs::Losses::by_name, crate::specs::Walks::setting))]
-fn gain_text(claims: &Claims<'_>, prefixes: &NameSet, text: &WordText, known: &mut Knowledge)
+fn gain_text(claims: &Claims<'_>, prefixes: &NumberSet, text: &WordText, known: &mut Knowledge)
     ensures { (es : Elements) → losses.ArePrefixes (setting claims.now) es prefixes.now
         → facts_in (setting claims.now) known.new ≡ losses.by_name (losses.free_gained (setting claims.now) es) (facts_in (setting claims.now) known.old) (text_in (setting claims.now).script text.now) }
 {
@@ -59,7 +60,7 @@ fn gain_text(claims: &Claims<'_>, prefixes: &NameSet, text: &WordText, known: &m
     }
 }
 
-fn gain_texts(claims: &Claims<'_>, prefixes: &NameSet, texts: &[WordText], known: &mut Knowledge)
+fn gain_texts(claims: &Claims<'_>, prefixes: &NumberSet, texts: &[WordText], known: &mut Knowledge)
     ensures { (es : Elements) → losses.ArePrefixes (setting claims.now) es prefixes.now
         → facts_in (setting claims.now) known.new ≡ fold (losses.texts_with (setting claims.now) (losses.free_gained (setting claims.now) es)) (facts_in (setting claims.now) known.old) texts.now }
 {

@@ -2,8 +2,9 @@
 use crate::names::{declaring, names_of};
 use crate::texts::keep;
 use sh_facts::certificate::{Certificate, Drops, Facts};
-use sh_facts::knowledge::{Knowledge, NameSet, Return};
+use sh_facts::knowledge::{Knowledge, Return};
 use sh_facts::names::Names;
+use sh_facts::number_set::NumberSet;
 use sh_facts::policy::Policy;
 use sh_facts::rows::{RowId, Rows};
 use std::alloc::{AllocError, Global};
@@ -241,13 +242,13 @@ fn is_added(names: &Names, one: u32) -> bool {
         return true;
     }
     let name = names.name(one);
-    let mut set = NameSet::new();
-    let is_absent = !set.has(names, name);
-    set.add(names, name);
-    set.add(names, b"unnumbered");
-    let is_present = set.has(names, name) && !set.has(names, b"unnumbered");
-    set.remove(names, name);
-    is_absent && is_present && set == NameSet::new()
+    let mut set = NumberSet::new();
+    let is_absent = !set.has_name(names, name);
+    set.add_name(names, name);
+    set.add_name(names, b"unnumbered");
+    let is_present = set.has_name(names, name) && !set.has_name(names, b"unnumbered");
+    set.remove_name(names, name);
+    is_absent && is_present && set == NumberSet::new()
 }
 
 #[test]
@@ -321,11 +322,11 @@ fn parameters_are_counted(rt: HostRuntime) -> Result<(), Fail> {
 }
 
 /// The names of a mask as a set.
-fn prefixes_of(names: &Names, mask: u8) -> NameSet {
-    let mut set = NameSet::new();
+fn prefixes_of(names: &Names, mask: u8) -> NumberSet {
+    let mut set = NumberSet::new();
     for number in 0..names.count() {
         if is_in(mask, number) {
-            set.add(names, names.name(number));
+            set.add_name(names, names.name(number));
         }
     }
     set
@@ -470,7 +471,7 @@ fn is_nowhere(names: &Names, start: &Knowledge, returned: &Return, rows: &Rows) 
     known.gain_args(1);
     known.count(1, 1);
     known.shift(1);
-    known.call(names, b"IFS", rows, returned, &NameSet::new());
+    known.call(names, b"IFS", rows, returned, &NumberSet::new());
     known.meet(&Knowledge::NotReached);
     let stays = !known.is_reached() && known.has_args(65_535);
     let has_all = known.has_variable(names, b"x") && known.has_function(names, b"x");
@@ -490,7 +491,7 @@ fn is_left_for_good(names: &Names, start: &Knowledge, rows: &Rows, drops: Drops)
     };
     let mut known = *start;
     known.define(names, b"x");
-    known.call(names, b"x", rows, &returned, &NameSet::new());
+    known.call(names, b"x", rows, &returned, &NumberSet::new());
     !start.includes(rows, &Facts::NotReached) && !known.is_reached()
 }
 

@@ -1,5 +1,5 @@
 use Rattle.std.proofs.Common.{sym, ◌∙◌}
-use Rattle.sh_find.specs.Kept.{numbers_of}
+use Rattle.sh_facts.specs.NumberSets.{numbers_of}
 use Rattle.sh_certify.proofs.AskingLemmas.{name_added, name_unknown}
 use Rattle.sh_certify.proofs.sights.add_name.Goals as goal
 

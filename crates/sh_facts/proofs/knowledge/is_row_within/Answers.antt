@@ -1,10 +1,10 @@
 use Rattle.std.proofs.Common.{◌≡◌, sym, ◌∙◌, ap}
 use Rattle.std.specs.List.{list_all}
 use Rattle.std.proofs.Math.Path.{fun_ext}
-use Rattle.sh_rows.specs.Numbers.{has_bit}
 use Rattle.sh_table.specs.runs.Environment.{is_one_of}
 use Rattle.sh_facts.specs.Certificates.{in_byte_order, names_at}
 use Rattle.sh_facts.specs.Knowledge.{contains}
+use Rattle.sh_facts.specs.NumberSets.{numbers_of}
 use Rattle.sh_facts.proofs.KnowledgeLemmas.{row_set, same_row}
 use Rattle.sh_facts.proofs.knowledge.is_row_within.Goals as goal
 
@@ -16,5 +16,5 @@ returns c names h count =
     let rows = c.args.rows.now in
     let order = in_byte_order names in
     let same : contains names c.set_row.new.self ≡ is_one_of (names_at order rows c.args.whole) =
-    fun_ext (λ t. row_set names h rows c.args.whole (λ k. has_bit k c.set_row.new.self.words) c.set_row.ensures t) in
-    c.includes.ensures names h count ∙ ap (λ p. list_all p (names_at order rows c.args.part)) same
+    fun_ext (λ t. row_set names h rows c.args.whole (numbers_of c.set_row.new.self) c.set_row.ensures t) in
+    c.includes.ensures.names names h count ∙ ap (λ p. list_all p (names_at order rows c.args.part)) same

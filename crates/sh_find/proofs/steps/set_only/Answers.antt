@@ -8,5 +8,5 @@ of-requires c = few_more c.args.names _ c.args.vars.now c.requires.few c.require
 pub returns-clause-named : goal.returns-clause-named
 returns-clause-named c = record {
   vars = λ x e. has_below c.args.names c.args.vars.now x c.requires.vars (sym (c.of.ensures x) ∙ e);
-  functions = λ x e. absurd (true≢false (sym e ∙ c.new.ensures x));
+  functions = λ x e. absurd (true≢false (sym e ∙ c.new.ensures.numbers x));
 }

@@ -1,5 +1,5 @@
 use Rattle.sh_facts.specs.Certificates.{drops_of, in_byte_order}
-use Rattle.sh_find.specs.Kept.{numbers_of}
+use Rattle.sh_facts.specs.NumberSets.{numbers_of}
 use Rattle.sh_rules.specs.Walks.{setting}
 use Rattle.sh_certify.specs.Numbers.{numbers_in}
 use Rattle.sh_certify.specs.Turns.{gathered_of}

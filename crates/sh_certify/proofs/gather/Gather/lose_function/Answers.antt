@@ -1,4 +1,4 @@
-use Rattle.sh_find.specs.Kept.{numbers_of}
+use Rattle.sh_facts.specs.NumberSets.{numbers_of}
 use Rattle.sh_rules.specs.Asking.{one_function}
 use Rattle.sh_certify.specs.Numbers.{numbers_in}
 use Rattle.sh_certify.specs.Turns.{gathered_of}

@@ -1,8 +1,8 @@
 use Rattle.std.proofs.Common.{◌≡◌, true, false, refl, sym, ◌∙◌, ap}
 use Rattle.std.specs.Prelude.{codes}
 use Rattle.std.specs.Str.{bytes_eq}
-use Rattle.sh_rows.specs.Numbers.{has_bit}
 use Rattle.sh_facts.specs.Knowledge.{contains}
+use Rattle.sh_facts.specs.NumberSets.{numbers_of}
 use Rattle.sh_facts.proofs.KnowledgeLemmas.{either_with, either_without, row_left}
 use Rattle.sh_facts.proofs.MeetLemmas.{known_same}
 use Rattle.sh_facts.proofs.knowledge.Assured.after_either.Goals.{then-is_getopts, else-is_getopts}
@@ -14,18 +14,18 @@ returns c h =
     let rows = c.args.rows.now in
     let drops = c.args.drops.now in
     let old = c.args.self.now in
-    let mid = c.without_row-vars.result in
+    let mid = c.remove_row.new.self in
     let function = c.args.function.now in
     known_same _ _ _ _ _ _
     (λ t.
-    let kept = row_left names h rows drops.vars (λ k. has_bit k old.vars.words) (λ k. has_bit k mid.words) c.without_row-vars.ensures t in
+    let kept = row_left names h rows drops.vars (numbers_of old.vars) (numbers_of mid) c.remove_row.ensures t in
     elim c.if-is_getopts.branch [
       | then-is_getopts w ↦
           let is : bytes_eq function (codes "getopts") ≡ true = sym c.is_getopts.ensures ∙ w.if-is_getopts.true in
-          either_with function t (contains names mid t) _ _ is (ap (λ s. contains names s t) w.vars-is ∙ w.remove.ensures t) kept
+          either_with function t (contains names mid t) _ _ is (ap (λ s. contains names s t) w.vars-is ∙ w.remove_name.ensures t) kept
       | else-is_getopts w ↦
           let is : bytes_eq function (codes "getopts") ≡ false = sym c.is_getopts.ensures ∙ w.if-is_getopts.false in
           either_without function t (contains names mid t) _ _ is (ap (λ s. contains names s t) w.vars-is) kept
     ])
-    (λ t. row_left names h rows drops.functions (λ k. has_bit k old.functions.words) (λ k. has_bit k c.without_row.result.words) c.without_row.ensures t)
+    (λ t. row_left names h rows drops.functions (numbers_of old.functions) (numbers_of c.remove_row-2.new.self) c.remove_row-2.ensures t)
     refl

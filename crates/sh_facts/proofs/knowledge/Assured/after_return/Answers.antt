@@ -1,10 +1,10 @@
-use Rattle.std.proofs.Common.{ℕ, ◌&&◌, ◌||◌, not, refl, sym, ◌∙◌, ap}
-use Rattle.sh_rows.specs.Numbers.{has_bit}
+use Rattle.std.proofs.Common.{◌&&◌, ◌||◌, not, refl, sym, ◌∙◌, ap}
 use Rattle.sh_table.specs.runs.Environment.{is_one_of}
 use Rattle.sh_facts.specs.Certificates.{claim_of, drops_of, in_byte_order}
 use Rattle.sh_facts.specs.Facts.{facts}
 use Rattle.sh_facts.specs.Knowledge.{contains, knowledge_facts}
 use Rattle.sh_facts.specs.Views.{returned}
+use Rattle.sh_facts.specs.NumberSets.{numbers_of}
 use Rattle.sh_facts.proofs.KnowledgeLemmas.{row_back, row_prefixes}
 use Rattle.sh_facts.proofs.MeetLemmas.{known_same}
 use Rattle.sh_facts.proofs.knowledge.Assured.after_return.Goals as goal
@@ -24,12 +24,11 @@ returns-in-Known c names before h p =
     let rows = c.args.rows.now in
     let old = c.args.self.now in
     let drops = c.args.returned.now.drops in
-    let bits = λ (ws : _). λ (k : ℕ). has_bit k ws in
     known_same _ _ _ _ _ _
     (λ t.
-    row_prefixes names h (bits old.vars.words) (bits c.with_row.result.words) (bits c.without-in-Known.result.words) (bits c.args.prefixes.now.words) (bits c.without.result.words) before c.without.ensures c.without-in-Known.ensures p t
+    row_prefixes names h (numbers_of old.vars) (numbers_of c.join_row.new.self) (numbers_of c.remove-in-Known.new.self) (numbers_of c.args.prefixes.now) (numbers_of c.remove.new.self) before c.remove.ensures c.remove-in-Known.ensures p t
     ∙ ap (λ b. b && (contains names old.vars t || not (is_one_of before t)))
-    (row_back names h rows drops.vars c.in-Known.vars (bits old.vars.words) (bits c.without_row.result.words) (bits c.with_row.result.words) c.without_row.ensures c.with_row.ensures t))
-    (λ t. row_back names h rows drops.functions c.in-Known.functions (bits old.functions.words) (bits c.without_row-in-Known.result.words) (bits c.with_row-in-Known.result.words) c.without_row-in-Known.ensures c.with_row-in-Known.ensures t)
+    (row_back names h rows drops.vars c.in-Known.vars (numbers_of old.vars) (numbers_of c.remove_row.new.self) (numbers_of c.join_row.new.self) c.remove_row.ensures c.join_row.ensures.below t))
+    (λ t. row_back names h rows drops.functions c.in-Known.functions (numbers_of old.functions) (numbers_of c.remove_row-in-Known.new.self) (numbers_of c.join_row-in-Known.new.self) c.remove_row-in-Known.ensures c.join_row-in-Known.ensures.below t)
     refl
     ∙ sym (ap (λ f. returned (drops_of order rows drops) before (facts (claim_of order rows f)) (contains names old.vars) (contains names old.functions) old.args) c.in-Known.is)

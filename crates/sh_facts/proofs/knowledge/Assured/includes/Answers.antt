@@ -20,7 +20,7 @@ returns-then-includes-2 c names h count =
       | then-includes w ↦
           let first : c.includes.result ≡ true = w.if-includes.true in
           let second : w.includes-then-includes.result ≡ true = sym w.value-is ∙ c.if-includes-2.true in
-          ap₂ (λ a b. (a && b) && args) (sym first ∙ c.includes.ensures names h count) (sym second ∙ w.includes-then-includes.ensures names h count)
+          ap₂ (λ a b. (a && b) && args) (sym first ∙ c.includes.ensures.names names h count) (sym second ∙ w.includes-then-includes.ensures.names names h count)
       | else-includes w ↦ absurd (true≢false (sym c.if-includes-2.true ∙ w.value-is ∙ w.if-includes.false))
     ]
     ∙ sym (ap (λ f. within (claim_of (in_byte_order names) c.args.rows.now f) (assured_facts names c.args.self.now)) c.in-Known.is)
@@ -33,9 +33,9 @@ returns-else-includes-2 c names h count =
       | then-includes w ↦
           let first : c.includes.result ≡ true = w.if-includes.true in
           let second : w.includes-then-includes.result ≡ false = sym w.value-is ∙ c.if-includes-2.false in
-          c.if-includes-2.false ∙ ap₂ (λ a b. (a && b) && args) (sym first ∙ c.includes.ensures names h count) (sym second ∙ w.includes-then-includes.ensures names h count)
+          c.if-includes-2.false ∙ ap₂ (λ a b. (a && b) && args) (sym first ∙ c.includes.ensures.names names h count) (sym second ∙ w.includes-then-includes.ensures.names names h count)
       | else-includes w ↦
           let first : c.includes.result ≡ false = w.if-includes.false in
-          c.if-includes-2.false ∙ ap (λ a. (a && list_all (contains names c.args.self.now.functions) (names_at (in_byte_order names) c.args.rows.now c.in-Known.functions)) && args) (sym first ∙ c.includes.ensures names h count)
+          c.if-includes-2.false ∙ ap (λ a. (a && list_all (contains names c.args.self.now.functions) (names_at (in_byte_order names) c.args.rows.now c.in-Known.functions)) && args) (sym first ∙ c.includes.ensures.names names h count)
     ]
     ∙ sym (ap (λ f. within (claim_of (in_byte_order names) c.args.rows.now f) (assured_facts names c.args.self.now)) c.in-Known.is)

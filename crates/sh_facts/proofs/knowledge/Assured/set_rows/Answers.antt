@@ -1,7 +1,7 @@
 use Rattle.std.proofs.Common.{refl}
-use Rattle.sh_rows.specs.Numbers.{has_bit}
 use Rattle.sh_facts.specs.Certificates.{claim_of}
 use Rattle.sh_facts.specs.Facts.{facts}
+use Rattle.sh_facts.specs.NumberSets.{numbers_of}
 use Rattle.sh_facts.proofs.KnowledgeLemmas.{row_set}
 use Rattle.sh_facts.proofs.MeetLemmas.{known_same}
 use Rattle.sh_facts.proofs.knowledge.Assured.set_rows.Goals as goal
@@ -11,6 +11,6 @@ unfolding facts claim_of
 returns c names h =
     let rows = c.args.rows.now in
     known_same _ _ _ _ _ _
-    (λ t. row_set names h rows c.args.vars (λ k. has_bit k c.set_row.new.self.words) c.set_row.ensures t)
-    (λ t. row_set names h rows c.args.functions (λ k. has_bit k c.set_row-2.new.self.words) c.set_row-2.ensures t)
+    (λ t. row_set names h rows c.args.vars (numbers_of c.set_row.new.self) c.set_row.ensures t)
+    (λ t. row_set names h rows c.args.functions (numbers_of c.set_row-2.new.self) c.set_row-2.ensures t)
     refl

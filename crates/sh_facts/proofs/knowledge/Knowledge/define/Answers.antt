@@ -8,5 +8,5 @@ pub returns-in-Known : goal.returns-in-Known
 unfolding knowledge_facts
 returns-in-Known c cert =
     let names = c.args.names.now in
-    defined names cert c.args.function.now c.in-Known.assured c.add.new.self c.add.ensures
+    defined names cert c.args.function.now c.in-Known.assured c.add_name.new.self c.add_name.ensures
     ∙ ap (λ k. among names (step cert (Define c.args.function.now) (knowledge_facts names k))) (sym c.in-Known.is)

@@ -17,8 +17,8 @@ returns c =
     (λ t.
     let i = is_one_of names t in
     started i (contains names c.new-vars.result t) (bytes_eq (codes "IFS") t) (bytes_eq (codes "OPTIND") t) (bytes_eq (codes "PPID") t) (is_one_of (map (λ v. v.items) c.names.result.now) t)
-    (contains names c.add.new.self t) (contains names c.add-2.new.self t) (contains names c.add-3.new.self t) (contains names c.add_all.new.self t)
-    (c.new-vars.ensures.names names t) (c.add.ensures t) (c.add-2.ensures t) (c.add-3.ensures t) (c.add_all.ensures t)
+    (contains names c.add_name.new.self t) (contains names c.add_name-2.new.self t) (contains names c.add_name-3.new.self t) (contains names c.add_names.new.self t)
+    (c.new-vars.ensures.names names t) (c.add_name.ensures t) (c.add_name-2.ensures t) (c.add_name-3.ensures t) (c.add_names.ensures t)
     ∙ ap (λ (ns : List Text). i && (is_one_of (codes "IFS" ∷ codes "OPTIND" ∷ codes "PPID" ∷ []) t || is_one_of ns t)) c.names.ensures.texts)
     (λ t. c.new.ensures.names names t ∙ sym (and_none (is_one_of names t)))
     c.args-2.ensures
