@@ -4,52 +4,61 @@ use Rattle.sh_tree.specs.declared.refusal.Refusal.{Refusal}
 use Rattle.sh_tree.specs.declared.refusal.Refusal.TheVariants as refusal
 use Rattle.sh_tree.specs.declared.refusal.Rule.{Rule}
 use Rattle.sh_tree.specs.declared.tree.Script.{Script}
-use Rattle.sh_tree.specs.Words.{words_of}
 use Rattle.sh_tree.specs.program.Syntax as p
 use Rattle.sh_tree.specs.program.Trees.{script_of}
-use Rattle.sh_table.specs.declared.site.Form as declared
-use Rattle.sh_table.specs.declared.site.Form.TheVariants as form
 use Rattle.sh_table.specs.declared.site.Site as site
 use Rattle.sh_table.specs.declared.table.Row as row
-use Rattle.sh_table.specs.Admits.{Admits, text_rule, is_quoted, form_rule, rule_of, refused_site, or_refused, first_of, refusal_of, told_from}
+use Rattle.sh_table.specs.Admits.{Admits, form_rule, rule_of, refused_site, or_refused, first_of, refusal_of, told_from}
 use Rattle.sh_table.specs.Calls.{Table, Row, row_of, row_in, table_of}
 use Rattle.sh_table.specs.Profile.{Static, Refused, first_refused}
-use Rattle.sh_table.specs.Sites.{statics, sites_of}
+use Rattle.sh_table.specs.Sites.{Form, Simple, Defines, Other, Site, statics, sites_of}
 use Rattle.sh_table.specs.Surroundings.{Surroundings}
-use Rattle.sh_table.specs.Walks.{around, seen, seen_form}
+use Rattle.sh_table.specs.Walks.{Outline, shape_of, outline_of, seen}
 use Rattle.sh_table.specs.WordTexts.{text_in}
 use Rattle.sh_table.proofs.RuleLemmas.{rule_of_words, first_by_number}
 
-rule_kept : (b : List ℕ) (x : Surroundings) (f : declared.Form) (ts : List Static) → ts ≡ statics (seen_form b f) → rule_of x f ts ≡ form_rule x (seen_form b f)
-unfolding rule_of form_rule seen_form
-rule_kept b x (form.Simple es) ts e = ap (text_rule x (is_quoted (words_of es.now))) e ∙ rule_of_words b x es.now
-rule_kept b x (form.Defines t) ts e = refl
-rule_kept b x form.Other ts e = refl
+rule_kept : (x : Surroundings) (f : Form) → rule_of x (shape_of f) (statics f) ≡ form_rule x f
+unfolding rule_of form_rule shape_of statics
+rule_kept x (Simple ws) = rule_of_words x ws
+rule_kept x (Defines t) = refl
+rule_kept x Other = refl
 
-abbrev first_texts : List Row → List Static
-first_texts [] = []
-first_texts (r ∷ rs) = r.1
+same_first : {A : Type 0} (x y : A) (xs ys : List A) → x ∷ xs ≡ y ∷ ys → x ≡ y
+same_first x y xs ys e = cc
 
-abbrev later_rows : List Row → List Row
-later_rows [] = []
-later_rows (r ∷ rs) = rs
+same_rest : {A : Type 0} (x y : A) (xs ys : List A) → x ∷ xs ≡ y ∷ ys → xs ≡ ys
+same_rest x y xs ys e = cc
 
-told_kept : (b : List ℕ) (ss : List site.Site) (rs : List row.Row) → map (row_in b) rs ≡ map row_of (map (seen b) ss) → told_from b ss rs ≡ first_of (map (seen b) ss)
-unfolding told_from first_of refused_site seen row_of
-told_kept b [] rs e = refl
-told_kept b (s ∷ ss) [] e = cc
-told_kept b (s ∷ ss) (r ∷ rs) e =
-    ap₂ or_refused
-    (ap (option_map (λ (y : Rule). record { number = s.number; at = s.at; rule = y })) (rule_kept b (around s.around) s.form (map (text_in b) r.texts.items) (ap first_texts e)))
-    (told_kept b ss rs (ap later_rows e))
+-- what is told of a command with these texts
+abbrev told_of : Outline → List Static → Option Refused
+told_of o ts = option_map (λ (r : Rule). record { number = o.number; at = o.at; rule = r }) (rule_of o.surroundings o.shape ts)
 
-pub told_whole : (b : List ℕ) (t : Script) (table : Table) (rs : List row.Row) (ss : List site.Site) → table ≡ table_of b t → map (row_in table.script) rs ≡ table.rows
-    → map (seen b) ss ≡ sites_of (script_of b t) → first_refused (script_of b t) ≡ told_from b ss rs
+told_site : (o : Outline) (ts : List Static) (s : Site) → o ≡ outline_of s → ts ≡ statics s.form → told_of o ts ≡ refused_site s
+unfolding refused_site outline_of
+told_site o ts s e h =
+    ap₂ told_of e h ∙ ap (option_map (λ (r : Rule). record { number = s.number; at = s.at; rule = r })) (rule_kept s.surroundings s.form)
+
+row_texts : (b : List ℕ) (r : row.Row) (s : Site) → row_in b r ≡ row_of s → map (text_in b) r.texts.items ≡ statics s.form
+unfolding row_of
+row_texts b r s e = ap (λ (x : Row). x.1) e
+
+told_kept : (b : List ℕ) (xs : List site.Site) (rs : List row.Row) (ss : List Site) → map (row_in b) rs ≡ map row_of ss → map (seen b) xs ≡ map outline_of ss → told_from b xs rs ≡ first_of ss
+unfolding told_from first_of seen
+told_kept b [] rs [] e h = refl
+told_kept b [] rs (s ∷ ss) e h = cc
+told_kept b (x ∷ xs) rs [] e h = cc
+told_kept b (x ∷ xs) [] (s ∷ ss) e h = cc
+told_kept b (x ∷ xs) (r ∷ rs) (s ∷ ss) e h =
+    ap₂ or_refused (told_site (seen b x) (map (text_in b) r.texts.items) s (same_first _ _ _ _ h) (row_texts b r s (same_first _ _ _ _ e)))
+    (told_kept b xs rs ss (same_rest _ _ _ _ e) (same_rest _ _ _ _ h))
+
+pub told_whole : (b : List ℕ) (t : Script) (table : Table) (rs : List row.Row) (xs : List site.Site) → table ≡ table_of b t → map (row_in table.script) rs ≡ table.rows
+    → map (seen b) xs ≡ map outline_of (sites_of (script_of b t)) → first_refused (script_of b t) ≡ told_from b xs rs
 unfolding table_of
-told_whole b t table rs ss e r h =
+told_whole b t table rs xs e r h =
     let same : table.script ≡ b = ap (λ (x : Table). x.script) e in
     let rows : map (row_in b) rs ≡ map row_of (sites_of (script_of b t)) = ap (λ c. map (row_in c) rs) (sym same) ∙ r ∙ ap (λ (x : Table). x.rows) e in
-    first_by_number (script_of b t) ∙ ap first_of (sym h) ∙ sym (told_kept b ss rs (rows ∙ ap (map row_of) (sym h)))
+    first_by_number (script_of b t) ∙ sym (told_kept b xs rs (sites_of (script_of b t)) rows h)
 
 -- the refusal that is told
 

@@ -27,7 +27,7 @@ use Rattle.sh_table.specs.WordTexts.{text_in}
 use Rattle.sh_table.specs.declared.functions.Definition as declared
 use Rattle.sh_table.specs.declared.site.Around.{Around}
 use Rattle.sh_table.specs.declared.table.Row as row
-use Rattle.sh_table.proofs.OrderLemmas.{made_in_order}
+use Rattle.sh_table.proofs.OrderLemmas.{made_in_order, all_made_in_order}
 use Rattle.sh_table.proofs.SiteLemmas.{site_located}
 
 -- one command
@@ -86,13 +86,9 @@ found_in_turn rs ds (l ∷ ls) =
 
 -- sorted
 
-rows_made : (ss : List Site) → filter_map (λ s. Some (row_of s)) ss ≡ map row_of ss
-rows_made [] = refl
-rows_made (s ∷ ss) = ap (λ rs. row_of s ∷ rs) (rows_made ss)
-
-row_numbered : (s : Site) (r : Row) → Some (row_of s) ≡ Some r → r.0 ≡ s.number
+row_numbered : (s : Site) → (row_of s).0 ≡ s.number
 unfolding row_of
-row_numbered s r e = ap (λ (x : Row). x.0) (sym (same_Some _ _ e))
+row_numbered s = refl
 
 definition_numbered : (s : Site) (d : Definition) → definition_of s ≡ Some d → d.0 ≡ s.number
 unfolding definition_of
@@ -105,8 +101,7 @@ definition_numbered s d e = go (defined s.form) e
 pub rows_in_order : (b : List ℕ) (xs ys : List row.Row) (ss : List Site) → IsNonDecreasingBy (λ (x : row.Row). x.number) ys → IsStableByKey (λ (x : row.Row). x.number) nat_cmp xs ys
     → map (row_in b) xs ≡ map row_of ss → map (row_in b) ys ≡ map row_of (by_number ss)
 rows_in_order b xs ys ss up stable e =
-    made_in_order (λ (x : row.Row). x.number) (row_in b) (λ (r : Row). r.0) (λ x. refl) (λ s. Some (row_of s)) row_numbered xs ys ss up stable (e ∙ sym (rows_made ss))
-    ∙ rows_made (by_number ss)
+    all_made_in_order (λ (x : row.Row). x.number) (row_in b) (λ (r : Row). r.0) (λ x. refl) row_of row_numbered xs ys ss up stable e
 
 pub definitions_in_order : (b : List ℕ) (xs ys : List declared.Definition) (ss : List Site) → IsNonDecreasingBy (λ (x : declared.Definition). x.number) ys
     → IsStableByKey (λ (x : declared.Definition). x.number) nat_cmp xs ys → map (definition_in b) xs ≡ filter_map definition_of ss

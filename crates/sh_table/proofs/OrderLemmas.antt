@@ -3,12 +3,11 @@ use Rattle.std.proofs.Common.{◌≡◌, ℕ, suc, ◌<◌, ◌≤◌, ◌==◌,
 use Rattle.std.proofs.Math.Path.{fun_ext}
 use Rattle.std.proofs.lemmas.Bool.{cases_order}
 use Rattle.std.proofs.lemmas.Bool.Decides.{nat_tests}
+use Rattle.std.proofs.lemmas.Option.{same_Some}
 use Rattle.std.specs.List.{cons_option, filter, filter_map}
 use Rattle.std.specs.List.Sorted.{IsNonDecreasingBy, IsStableByKey}
 use Rattle.std.specs.Ordering.{nat_cmp, is_lt}
-use Rattle.sh_table.specs.declared.site.Site as site
 use Rattle.sh_table.specs.Sites.{Site, placed, by_number}
-use Rattle.sh_table.specs.Walks.{seen}
 
 -- each has at least this number
 abbrev pub Above : {A : Type 0} → (A → ℕ) → ℕ → List A → Type 0
@@ -162,6 +161,11 @@ module _ {A : Type 0} (number : A → ℕ) (make : Site → Option A) (same : (s
   numbered_sorted : (n : ℕ) (ss : List Site) → numbered number n (filter_map make ss) ≡ numbered number n (filter_map make (by_number ss))
   numbered_sorted n ss = numbered_made n ss ∙ ap (filter_map make) (sym (numbered_by_number n ss)) ∙ sym (numbered_made n (by_number ss))
 
+-- what is made of all of them
+made_all : {A : Type 0} (make : Site → A) (ss : List Site) → filter_map (λ s. Some (make s)) ss ≡ map make ss
+made_all make [] = refl
+made_all make (s ∷ ss) = ap (λ xs. make s ∷ xs) (made_all make ss)
+
 -- what a sort by the numbers gives
 
 tie : (m n : ℕ) → (not (is_lt (nat_cmp n m)) && not (is_lt (nat_cmp m n))) ≡ (m == n)
@@ -243,9 +247,8 @@ module _ {T A : Type 0} (key : T → ℕ) (view : T → A) (number : A → ℕ) 
       sorted_is xs ys (filter_map make (by_number ss)) up stable (rises_made number make keyed (by_number ss) (rises_by_number ss))
       (λ n. ap (numbered number n) e ∙ numbered_sorted number make keyed n ss)
 
-pub in_order : (b : List ℕ) (xs ys : List site.Site) → IsNonDecreasingBy (λ (x : site.Site). x.number) ys → IsStableByKey (λ (x : site.Site). x.number) nat_cmp xs ys
-    → map (seen b) ys ≡ by_number (map (seen b) xs)
-unfolding seen
-in_order b xs ys up stable =
-    sorted_is (λ (x : site.Site). x.number) (seen b) number_of (λ x. refl) xs ys (by_number (map (seen b) xs)) up stable (rises_by_number (map (seen b) xs))
-    (λ n. sym (numbered_by_number n (map (seen b) xs)))
+  pub all_made_in_order : (make : Site → A) → ((s : Site) → number (make s) ≡ s.number) → (xs ys : List T) (ss : List Site) → IsNonDecreasingBy key ys → IsStableByKey key nat_cmp xs ys
+      → map view xs ≡ map make ss → map view ys ≡ map make (by_number ss)
+  all_made_in_order make keyed xs ys ss up stable e =
+      made_in_order (λ s. Some (make s)) (λ s x h. subst (λ y. number y ≡ s.number) (same_Some _ _ h) (keyed s)) xs ys ss up stable (e ∙ sym (made_all make ss))
+      ∙ made_all make (by_number ss)

@@ -1,82 +1,46 @@
 -- The rule that a command breaks, by what is kept of it.
-use Rattle.std.proofs.Common.{◌≡◌, ℕ, ◌≤◌, Bool, true, false, not, cond, if◌then◌else◌, List, [], ◌∷◌, map, nat_lt, Option, Some, None, option_map, slice_get, refl, sym, ap, ap₂, ◌∙◌, arith}
+use Rattle.std.proofs.Common.{◌≡◌, ℕ, ◌≤◌, Bool, true, false, not, cond, if◌then◌else◌, List, [], ◌∷◌, ◌++◌, map, nat_lt, Option, Some, None, option_map, refl, sym, ap, ap₂, ◌∙◌, arith}
 use Rattle.std.proofs.lemmas.Bool.Decides.{nat_tests}
+use Rattle.std.proofs.lemmas.List.{append-nil}
 use Rattle.std.proofs.lemmas.Slice.Eq.{bytes_eq-Decides}
 use Rattle.std.specs.List.{filter_map, cons_option}
 use Rattle.std.specs.Str.{bytes_eq}
 use Rattle.sh_tree.specs.declared.refusal.Rule.{Rule}
-use Rattle.sh_tree.specs.declared.tree.Element.{Element, Assignment', Word', Redirection'}
-use Rattle.sh_tree.specs.declared.tree.Part.{Part, Plain}
-use Rattle.sh_tree.specs.declared.tree.Word.{Word}
-use Rattle.sh_tree.specs.Tree.{text_of}
-use Rattle.sh_tree.specs.Words.{words_of, form_of as element_form, word_in, static_text}
-use Rattle.sh_tree.specs.program.Lists.{parts_from, words_from, elements_from, element_from}
 use Rattle.sh_tree.specs.program.Syntax as p
 use Rattle.sh_tree.specs.program.Syntax.{Text}
-use Rattle.sh_tree.specs.program.Trees.{part_of}
-use Rattle.sh_tree.specs.program.Words.{operands_in, static_of, words_in, is_plainly}
-use Rattle.sh_tree.proofs.ProgramRules.{parts_listed}
-use Rattle.sh_tree.proofs.ProgramWords.{static_of_parts}
-use Rattle.sh_table.proofs.WordTextLemmas.{plain_static}
-use Rattle.sh_table.specs.Admits.{is_lone_plain, text_rule, is_quoted, form_rule, refused_site, or_refused, first_of}
+use Rattle.sh_tree.specs.program.Words.{static_of, words_in, is_pattern, is_plainly, part_text}
+use Rattle.sh_table.specs.Admits.{text_rule, form_rule, refused_site, or_refused, first_of}
 use Rattle.sh_table.specs.Profile.{Static, Refused, named_rule, words_rule, command_rule, refused_at, least_refused, first_refused}
-use Rattle.sh_table.specs.Sites.{Site, Simple, statics, site_of, form_of, placed, by_number, sites_of}
+use Rattle.sh_table.specs.Sites.{Site, site_of, form_of, placed, by_number, sites_of}
 use Rattle.sh_table.specs.Surroundings.{Surroundings, Located, outside, items_located}
-use Rattle.sh_table.specs.WordTexts.{has_pattern}
+use Rattle.sh_table.specs.Walks.{is_plain, is_quoted}
 use Rattle.sh_table.proofs.OrderLemmas.{Above, Rises, number_of, rises_by_number}
-
--- the words of a command
-
-operands_listed : (b : List ℕ) (es : List Element) → operands_in (elements_from b es) ≡ words_from b (words_of es)
-unfolding operands_in elements_from element_from words_from element_form word_in
-operands_listed b [] = refl
-operands_listed b (Assignment' n t shape row ∷ es) = operands_listed b es
-operands_listed b (Word' t shape row ∷ es) = rw (parts_listed b row, operands_listed b es) refl
-operands_listed b (Redirection' at n t ∷ es) = operands_listed b es
 
 -- a static word is plainly its text where it is plain bytes alone
 
-plain_is : (u t : Text) → cond (has_pattern u) None (Some u) ≡ Some t → bytes_eq u t ≡ true
-plain_is u t h = go (has_pattern u) h
-  where
-    go : (b : Bool) → cond b None (Some u) ≡ Some t → bytes_eq u t ≡ true
-    go true e = cc
-    go false e = let same : u ≡ t = cc in (bytes_eq-Decides u t).1 same
+plain_is : (u t : Text) (pattern : Bool) → cond pattern None (Some (u ++ [])) ≡ Some t → bytes_eq u t ≡ true
+plain_is u t true e = cc
+plain_is u t false e = let same : u ++ [] ≡ t = cc in (bytes_eq-Decides u t).1 (sym (append-nil u) ∙ same)
 
-plainly : (b : List ℕ) (ps : List Part) (t : Text) → static_text b ps ≡ Some t → is_plainly t (parts_from b ps) ≡ is_lone_plain ps
-unfolding is_plainly parts_from part_of is_lone_plain
-plainly b [] t h = refl
-plainly b (Plain s ∷ []) t h = plain_is (text_of b s) t (sym (plain_static b s) ∙ h)
-plainly b (Plain s ∷ y ∷ ys) t h = refl
-plainly b (x ∷ xs) t h = refl
+plainly : (w : p.Word) (t : Text) → static_of w ≡ Some t → is_plainly t w ≡ is_plain w
+unfolding is_plainly is_plain static_of part_text
+plainly p.no_parts t h = refl
+plainly (p.more_parts (p.Plain u) p.no_parts) t h = plain_is u t (is_pattern (p.more_parts (p.Plain u) p.no_parts)) h
+plainly (p.more_parts (p.Plain u) (p.more_parts y ys)) t h = refl
+plainly (p.more_parts y ys) t h = refl
 
-named : (b : List ℕ) (x : Surroundings) (w : Word) (ts : List Static) → named_rule x (parts_from b w.parts) (static_of (parts_from b w.parts)) ts
-    ≡ text_rule x (not (is_lone_plain w.parts)) (static_of (parts_from b w.parts) ∷ ts)
+named : (x : Surroundings) (w : p.Word) (ts : List Static) → named_rule x w (static_of w) ts ≡ text_rule x (not (is_plain w)) (static_of w ∷ ts)
 unfolding named_rule text_rule
-named b x w ts = go (static_of (parts_from b w.parts)) refl
+named x w ts = go (static_of w) refl
   where
-    go : (o : Static) → static_of (parts_from b w.parts) ≡ o → named_rule x (parts_from b w.parts) o ts ≡ text_rule x (not (is_lone_plain w.parts)) (o ∷ ts)
+    go : (o : Static) → static_of w ≡ o → named_rule x w o ts ≡ text_rule x (not (is_plain w)) (o ∷ ts)
     go None e = refl
-    go (Some t) e = rw (plainly b w.parts t (sym (static_of_parts b w.parts) ∙ e)) refl
+    go (Some t) e = rw (plainly w t e) refl
 
-pub rule_of_words : (b : List ℕ) (x : Surroundings) (es : List Element)
-    → text_rule x (is_quoted (words_of es)) (statics (Simple (operands_in (elements_from b es)))) ≡ words_rule x (operands_in (elements_from b es))
-unfolding text_rule is_quoted statics words_from words_in words_rule
-rule_of_words b x es = rw (operands_listed b es) (go (words_of es))
-  where
-    go : (ws : List Word) → text_rule x (is_quoted ws) (statics (Simple (words_from b ws))) ≡ words_rule x (words_from b ws)
-    go [] = refl
-    go (w ∷ ws) = sym (named b x w (map static_of (words_in (words_from b ws))))
-
-pub quoted_some : (ws : List Word) (w : Word) → Some w ≡ slice_get ws 0 → not (is_lone_plain w.parts) ≡ is_quoted ws
-unfolding is_quoted
-quoted_some [] w e = cc
-quoted_some (v ∷ ws) w e = let same : w ≡ v = cc in rw same refl
-
-pub quoted_none : (ws : List Word) → None ≡ slice_get ws 0 → false ≡ is_quoted ws
-unfolding is_quoted
-quoted_none [] e = refl
-quoted_none (v ∷ ws) e = cc
+pub rule_of_words : (x : Surroundings) (ws : p.Words) → text_rule x (is_quoted ws) (map static_of (words_in ws)) ≡ words_rule x ws
+unfolding text_rule is_quoted words_in words_rule
+rule_of_words x p.no_words = refl
+rule_of_words x (p.more_words w ws) = sym (named x w (map static_of (words_in ws)))
 
 -- the refused command with the least number is the first one by numbers
 

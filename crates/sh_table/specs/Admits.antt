@@ -1,25 +1,20 @@
 -- Which script is admitted: the answer by the first refused command, over the commands by their numbers.
 -- POSIX.1-2024, XCU 2.9.1 (simple commands), 2.9.5 (function definitions).
-use Rattle.std.specs.Prelude.{◌≡◌, ℕ, Bool, true, false, not, List, [], ◌∷◌, map, Option, Some, None, option_map, Result, Ok, Err}
+use Rattle.std.specs.Prelude.{◌≡◌, ℕ, Bool, not, List, [], ◌∷◌, map, Option, Some, None, option_map, Result, Ok, Err}
 use Rattle.sh_tree.specs.declared.refusal.Refusal.{Refusal}
 use Rattle.sh_tree.specs.declared.refusal.Refusal.TheVariants.{Memory}
 use Rattle.sh_tree.specs.declared.refusal.Refusal.TheVariants as refusal
 use Rattle.sh_tree.specs.declared.refusal.Rule.{Rule}
 use Rattle.sh_tree.specs.declared.refusal.Rule.TheVariants as rule
-use Rattle.sh_tree.specs.declared.tree.Part.{Part, Plain}
-use Rattle.sh_tree.specs.declared.tree.Word.{Word}
-use Rattle.sh_tree.specs.Words.{words_of}
 use Rattle.sh_tree.specs.program.Syntax as p
 use Rattle.sh_tree.specs.program.Syntax.{Text}
-use Rattle.sh_table.specs.declared.site.Form as declared
-use Rattle.sh_table.specs.declared.site.Form.TheVariants as form
 use Rattle.sh_table.specs.declared.site.Site as site
 use Rattle.sh_table.specs.declared.table.Row as row
 use Rattle.sh_table.specs.Kinds.{kind_of}
 use Rattle.sh_table.specs.Profile.{Static, Refused, unless, or_rule, kind_rule, words_rule, told_name, function_rule, is_append, first_refused}
 use Rattle.sh_table.specs.Sites.{Form, Simple, Defines, Other, Site}
 use Rattle.sh_table.specs.Surroundings.{Surroundings}
-use Rattle.sh_table.specs.Walks.{around}
+use Rattle.sh_table.specs.Walks.{Shape, Called, Named, Compound, around, seen_form}
 use Rattle.sh_table.specs.WordTexts.{text_in}
 
 -- `Ok` exactly where no command breaks the profile, and otherwise the refusal of the one with the least number; or want of memory
@@ -31,11 +26,6 @@ Admits t (Err _) = ⊥
 
 -- Clauses of private functions
 
--- the word is plain bytes alone
-unfoldable pub is_lone_plain : List Part → Bool
-is_lone_plain (Plain s ∷ []) = true
-is_lone_plain _ = false
-
 -- of a command with this static name
 abbrev pub static_rule : Surroundings → Bool → Text → List Static → Option Rule
 static_rule x quoted t ts = or_rule (kind_rule x quoted (kind_of t) ts) (unless (not (is_append t)) rule.Append)
@@ -46,11 +36,6 @@ text_rule x quoted [] = None
 text_rule x quoted (None ∷ ts) = Some rule.ComputedName
 text_rule x quoted (Some t ∷ ts) = static_rule x quoted t ts
 
--- whether a command name is more than plain bytes
-unfoldable pub is_quoted : List Word → Bool
-is_quoted [] = false
-is_quoted (w ∷ ws) = not (is_lone_plain w.parts)
-
 -- the rule that a command breaks
 unfoldable pub form_rule : Surroundings → Form → Option Rule
 form_rule x (Simple ws) = words_rule x ws
@@ -58,10 +43,10 @@ form_rule x (Defines name) = function_rule (told_name (kind_of name))
 form_rule x Other = None
 
 -- the same, by what is kept of a command and of its words
-unfoldable pub rule_of : Surroundings → declared.Form → List Static → Option Rule
-rule_of x (form.Simple es) ts = text_rule x (is_quoted (words_of es.now)) ts
-rule_of x (form.Defines t) ts = function_rule (told_name (kind_of t.now))
-rule_of x form.Other ts = None
+unfoldable pub rule_of : Surroundings → Shape → List Static → Option Rule
+rule_of x (Called quoted) ts = text_rule x quoted ts
+rule_of x (Named t) ts = function_rule (told_name (kind_of t))
+rule_of x Compound ts = None
 
 unfoldable pub refused_site : Site → Option Refused
 refused_site s = option_map (λ (r : Rule). record { number = s.number; at = s.at; rule = r }) (form_rule s.surroundings s.form)
@@ -85,5 +70,5 @@ unfoldable pub told_from : List ℕ → List site.Site → List row.Row → Opti
 told_from b [] rs = None
 told_from b (s ∷ ss) [] = None
 told_from b (s ∷ ss) (r ∷ rs) =
-    or_refused (option_map (λ (y : Rule). record { number = s.number; at = s.at; rule = y }) (rule_of (around s.around) s.form (map (text_in b) r.texts.items)))
+    or_refused (option_map (λ (y : Rule). record { number = s.number; at = s.at; rule = y }) (rule_of (around s.around) (seen_form b s.form) (map (text_in b) r.texts.items)))
     (told_from b ss rs)

@@ -1,6 +1,6 @@
 -- Clauses of private functions: the commands in each piece of a tree, in the order of the walk.
 -- POSIX.1-2024, XCU 2.9 (shell commands), 2.6.3 (command substitution), 2.7.4 (here-documents).
-use Rattle.std.specs.Prelude.{ℕ, nat_lt, Bool, true, false, if◌then◌else◌, List, [], ◌∷◌, ◌++◌, Option, Some, None}
+use Rattle.std.specs.Prelude.{ℕ, nat_lt, Bool, true, false, not, if◌then◌else◌, List, [], ◌∷◌, ◌++◌, Option, Some, None}
 use Rattle.std.specs.List.{flat_map}
 use Rattle.sh_tree.specs.declared.tree.AndOr.{AndOr}
 use Rattle.sh_tree.specs.declared.tree.Binary.{Binary}
@@ -13,16 +13,17 @@ use Rattle.sh_tree.specs.declared.tree.Item.{Item, out-Item}
 use Rattle.sh_tree.specs.declared.tree.Kind.{Kind}
 use Rattle.sh_tree.specs.declared.tree.Link.{Link}
 use Rattle.sh_tree.specs.declared.tree.ParameterOperator.{ParameterOperator}
-use Rattle.sh_tree.specs.declared.tree.Part.{Part}
+use Rattle.sh_tree.specs.declared.tree.Part.{Part, Plain}
 use Rattle.sh_tree.specs.declared.tree.Pipe.{Pipe}
 use Rattle.sh_tree.specs.declared.tree.Redirect.{Redirect}
 use Rattle.sh_tree.specs.declared.tree.Script.{Script}
 use Rattle.sh_tree.specs.declared.tree.Target.{Target}
 use Rattle.sh_tree.specs.declared.tree.Word.{Word}
-use Rattle.sh_tree.specs.program.Lists.{elements_from, element_from}
+use Rattle.sh_tree.specs.Tree.{text_of}
+use Rattle.sh_tree.specs.program.Lists.{element_from}
 use Rattle.sh_tree.specs.program.Syntax as p
+use Rattle.sh_tree.specs.program.Syntax.{Text}
 use Rattle.sh_tree.specs.program.Trees as trees
-use Rattle.sh_tree.specs.program.Words.{operands_in}
 use Rattle.sh_table.specs.declared.site.Around.{Around}
 use Rattle.sh_table.specs.declared.site.Form as declared
 use Rattle.sh_table.specs.declared.site.Site as site
@@ -32,14 +33,46 @@ use Rattle.sh_table.specs.Surroundings.{Surroundings, Located, items_located, li
 abbrev pub around : Around → Surroundings
 around x = record { loop = x.in_loop; function = x.in_function }
 
--- the commands that a walk has found
-unfoldable pub seen_form : List ℕ → declared.Form → Form
-seen_form b (declared.TheVariants.Simple es) = Simple (operands_in (elements_from b es.now))
-seen_form b (declared.TheVariants.Defines t) = Defines t.now
-seen_form b declared.TheVariants.Other = Other
+-- What the profile asks of a command, beside the texts of its words
 
-unfoldable pub seen : List ℕ → site.Site → Site
-seen b s = record { number = s.number; at = s.at; surroundings = around s.around; form = seen_form b s.form }
+-- a simple command, and whether its name is more than plain bytes; the name that a definition defines; or another command
+pub data Shape : Type 0 where
+  Called : Bool → Shape
+  Named : Text → Shape
+  Compound : Shape
+
+pub record Outline : Type 0 where
+  pub number : ℕ
+  pub at : ℕ
+  pub surroundings : Surroundings
+  pub shape : Shape
+
+-- the word is plain bytes alone
+unfoldable pub is_plain : p.Word → Bool
+is_plain (p.more_parts (p.Plain t) p.no_parts) = true
+is_plain _ = false
+
+-- whether a command name is more than plain bytes
+unfoldable pub is_quoted : p.Words → Bool
+is_quoted p.no_words = false
+is_quoted (p.more_words w ws) = not (is_plain w)
+
+unfoldable pub shape_of : Form → Shape
+shape_of (Simple ws) = Called (is_quoted ws)
+shape_of (Defines t) = Named t
+shape_of Other = Compound
+
+unfoldable pub outline_of : Site → Outline
+outline_of s = record { number = s.number; at = s.at; surroundings = s.surroundings; shape = shape_of s.form }
+
+-- the commands that a walk has found
+unfoldable pub seen_form : List ℕ → declared.Form → Shape
+seen_form b (declared.TheVariants.Simple quoted) = Called quoted
+seen_form b (declared.TheVariants.Defines name) = Named (text_of b name)
+seen_form b declared.TheVariants.Other = Compound
+
+unfoldable pub seen : List ℕ → site.Site → Outline
+seen b s = record { number = s.number; at = s.at; surroundings = around s.around; shape = seen_form b s.form }
 
 -- round the parts of a pipeline, and round an item
 abbrev pub outer : Around
@@ -119,12 +152,18 @@ abbrev pub located : List ℕ → Around → Command → Located
 located b x c = record { command = trees.command_of b c; surroundings = around x }
 
 -- what is read off one command
+
+-- the word is plain bytes alone
+unfoldable pub is_lone_plain : List Part → Bool
+is_lone_plain (Plain s ∷ []) = true
+is_lone_plain _ = false
+
 unfoldable pub form_in : List ℕ → Kind → Form
 form_in b k = form_of (trees.kind_of b k)
 
 unfoldable pub site_in : List ℕ → Around → Command → Site
 site_in b x c = record { number = (out-Command c).number; at = (out-Command c).at; surroundings = around x; form = form_in b (out-Command c).kind }
 
--- the sites of commands, with one more
-abbrev pub with_site : List Site → Located → List Site
-with_site ss l = ss ++ site_of l ∷ []
+-- the outlines of commands, with one more
+abbrev pub with_outline : List Outline → Located → List Outline
+with_outline os l = os ++ outline_of (site_of l) ∷ []

@@ -1,6 +1,5 @@
 //! The rule of the profile that a command breaks.
 ghost use Rattle.std.specs.Prelude.{◌≡◌, Bool, not, map};
-ghost use Rattle.sh_tree.specs.Words.{words_of};
 ghost use Rattle.sh_table.specs.Admits as admits;
 ghost use Rattle.sh_table.specs.Kinds as kinds;
 ghost use Rattle.sh_table.specs.Profile as profile;
@@ -16,8 +15,6 @@ use crate::site::{Around, Form, Site};
 use crate::word_text::WordText;
 use sh_tree::known::{Declaration, KnownName};
 use sh_tree::refusal::Rule;
-use sh_tree::tree::{Element, Part, Word};
-use sh_tree::words::command_name;
 
 /// The rule, unless the test holds.
 #[tactic(auto, unfolding(crate::specs::Profile::unless))]
@@ -127,25 +124,6 @@ fn named_rule(
     }
 }
 
-/// Whether the word is plain bytes alone.
-#[tactic(auto, unfolding(crate::specs::Admits::is_lone_plain))]
-fn is_plain(word: &Word) -> bool
-    ensures { result ≡ admits.is_lone_plain word.now.parts }
-{
-    matches!(word.parts.as_slice(), [Part::Plain(_)])
-}
-
-/// Whether the name of a simple command, if it has one, is more than plain bytes.
-#[tactic(auto, using(crate::proofs::RuleLemmas::quoted_some, crate::proofs::RuleLemmas::quoted_none))]
-fn is_quoted(elements: &[Element]) -> bool
-    ensures { result ≡ admits.is_quoted (words_of elements.now) }
-{
-    match command_name(elements) {
-        Some(word) => !is_plain(word),
-        None => false,
-    }
-}
-
 #[tactic(auto, unfolding(crate::specs::Admits::text_rule))]
 fn text_rule(around: Around, quoted: bool, texts: &[WordText], script: &[u8]) -> Option<Rule>
     ensures { result ≡ admits.text_rule (walks.around around) quoted (map (text_in script.now) texts.now) }
@@ -177,13 +155,13 @@ fn function_rule(name: &[u8]) -> Option<Rule>
 }
 
 /// The first rule that the command breaks, whose words have these texts.
-#[tactic(auto, unfolding(crate::specs::Admits::rule_of))]
+#[tactic(auto, unfolding(crate::specs::Admits::rule_of, crate::specs::Walks::seen_form))]
 pub fn site_rule(site: &Site, texts: &[WordText], script: &[u8]) -> Option<Rule>
-    ensures { result ≡ admits.rule_of (walks.around site.now.around) site.now.form (map (text_in script.now) texts.now) }
+    ensures { result ≡ admits.rule_of (walks.around site.now.around) (walks.seen_form script.now site.now.form) (map (text_in script.now) texts.now) }
 {
     match site.form {
-        Form::Simple(elements) => text_rule(site.around, is_quoted(elements), texts, script),
-        Form::Defines(name) => function_rule(name),
+        Form::Simple { quoted } => text_rule(site.around, quoted, texts, script),
+        Form::Defines(name) => function_rule(name.text(script)),
         Form::Other => None,
     }
 }

@@ -1,6 +1,6 @@
 //! The commands of a script, each with what stands round it.
 
-use sh_tree::tree::Element;
+use sh_tree::tree::Span;
 
 /// Whether a loop, and a function, stand round a place, with no started process, part of a pipeline or other definition
 /// between (XCU 2.15, break and return).
@@ -10,22 +10,22 @@ pub struct Around {
     pub in_function: bool,
 }
 
-/// What a command is to the profile and to the calls.
+/// What a command is to the profile, beside the texts of its words.
 #[derive(Clone, Copy)]
-pub enum Form<'t> {
-    /// A simple command, by its elements.
-    Simple(&'t [Element]),
+pub enum Form {
+    /// A simple command, and whether its name is more than plain bytes.
+    Simple { quoted: bool },
     /// A function definition, by the function's name.
-    Defines(&'t [u8]),
+    Defines(Span),
     /// Another compound command.
     Other,
 }
 
 /// A command: its number, the offset at which it starts, and what stands round it.
 #[derive(Clone, Copy)]
-pub struct Site<'t> {
+pub struct Site {
     pub number: u32,
     pub at: u32,
     pub around: Around,
-    pub form: Form<'t>,
+    pub form: Form,
 }

@@ -33,20 +33,20 @@ pub trait Visitor {
 }
 
 /// Round the list of a started process, and round the script.
-pub const OUTSIDE: Around = Around {
+const OUTSIDE: Around = Around {
     in_loop: false,
     in_function: false,
 };
 
 /// Round the body of a function.
-pub const IN_FUNCTION: Around = Around {
+const IN_FUNCTION: Around = Around {
     in_loop: false,
     in_function: true,
 };
 
 impl Around {
     /// Round the condition and the body of a loop.
-    pub fn inside_loop(self) -> Around
+    fn inside_loop(self) -> Around
         ensures { result ≡ walks.inside_loop self }
     {
         Around {
@@ -56,14 +56,14 @@ impl Around {
     }
 
     /// Round the parts of a pipeline, of which two or more are processes of their own.
-    pub fn round_parts(self, count: usize) -> Around
+    fn round_parts(self, count: usize) -> Around
         ensures { result ≡ walks.round_parts self count }
     {
         if count > 1 { OUTSIDE } else { self }
     }
 
     /// Round an item, of which an asynchronous one is a process of its own.
-    pub fn round_item(self, background: bool) -> Around
+    fn round_item(self, background: bool) -> Around
         ensures { result ≡ walks.round_item self background }
     {
         if background { OUTSIDE } else { self }
