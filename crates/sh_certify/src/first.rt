@@ -3,7 +3,6 @@ ghost use Rattle.std.specs.Prelude.{◌≡◌, ◌+◌, ◌≤◌, ℕ, List, fa
 ghost use Rattle.indexmap.specs.IndexMap.{get};
 ghost use Rattle.sh_tree.specs.program.Syntax.{Text};
 ghost use Rattle.sh_facts.specs.KeptRows.{holds_at};
-ghost use Rattle.sh_facts.specs.Reading as fit;
 ghost use Rattle.sh_facts.specs.ReadParts.{loops_of};
 ghost use Rattle.sh_find.specs.Facts.{NotReached};
 ghost use Rattle.sh_certify.specs.First.{AreHeads, ClaimsAll, DropsNothing, head_if};
@@ -11,26 +10,12 @@ ghost use Rattle.sh_certify.specs.Working.{IsWorking};
 
 use indexmap::IndexMap;
 use sh_facts::certificate::{Certificate, Drops, Entry, Facts, FunctionEntry};
+use sh_facts::reading::is_loop;
 use sh_facts::rows::{RowId, Rows};
 use sh_rows::bits::BitRow;
 use sh_rows::row::Row;
-use sh_tree::tree::{Command, Kind};
+use sh_tree::tree::Command;
 use std::alloc::{AllocError, Global};
-
-#[tactic(auto, unfolding(sh_facts::specs::Reading::kind_loops))]
-fn is_loop(command: &Command) -> bool
-    ensures { result ≡ fit.is_loop command.now }
-{
-    match &command.kind {
-        Kind::Loop { .. } | Kind::For { .. } => true,
-        Kind::Simple(_)
-        | Kind::Group(_)
-        | Kind::Subshell(_)
-        | Kind::Cond { .. }
-        | Kind::Branches { .. }
-        | Kind::Define { .. } => false,
-    }
-}
 
 // A head to which no run comes, if it is a loop's.
 #[tactic(auto, unfolding(crate::specs::First::head_if))]

@@ -19,11 +19,12 @@ use crate::subject::Subject;
 use crate::turn::lower_gathered;
 use sh_facts::certificate::Certificate;
 use sh_facts::knowledge::Knowledge;
+use sh_facts::reading::is_loop;
 use sh_facts::rule::FlowRule;
 use sh_rules::around::Around;
 use sh_rules::asked::Asked;
 use sh_rules::rules::tell_command;
-use sh_tree::tree::{Command, Kind};
+use sh_tree::tree::Command;
 use std::alloc::AllocError;
 
 // What the flow rules ask at a command is done with this.
@@ -139,10 +140,6 @@ pub fn lower_command(
     Ok(())
 }
 
-fn is_loop(kind: &Kind) -> bool {
-    matches!(kind, Kind::Loop { .. } | Kind::For { .. })
-}
-
 /// Lowers what is claimed at each turn of a loop.
 ///
 /// # Errors
@@ -160,7 +157,7 @@ pub fn lower_head(
     requires placed { IsCommand subject.now by (walks.around subject.now.script.now around.now) (knowledge_facts subject.now.names.now known.now) command.now }
     ensures swept { IfOk result (λ unit. IsSwept subject.now draft.old.certificate draft.new.certificate draft.new.probe.count) }
 {
-    if !is_loop(&command.kind) {
+    if !is_loop(command) {
         return Ok(());
     }
     let index = index_of(command);

@@ -1,5 +1,5 @@
 -- Where a name belongs among names in byte order: there is one place, before it all that do not come after the name.
-use Rattle.std.proofs.Common.{◌≡◌, ℕ, zero, suc, ◌<◌, ◌≤◌, Bool, true, false, not, if◌then◌else◌, List, [], ◌∷◌, length, get_or, take, map, fold, refl, sym, ap, ◌∙◌, arith, absurd, subst, true≢false}
+use Rattle.std.proofs.Common.{◌≡◌, ℕ, zero, suc, ◌<◌, ◌≤◌, Bool, true, false, not, if◌then◌else◌, List, [], ◌∷◌, length, get_or, take, map, fold, refl, sym, ap, arith, subst, true≢false}
 use Rattle.std.specs.Cmp.{IsStrictWeakOrder}
 use Rattle.std.specs.List.{position_or_len}
 use Rattle.std.specs.List.Sorted.{IsPartitionPoint, IsPartitionedBy}
@@ -32,20 +32,20 @@ follow_on x y (z ∷ zs) e f = (in_order.chain z.1 y.1 x.1 f.0 e, follow_on x y 
 follow_placed : (x y : ℕ × Text) (zs : List (ℕ × Text)) → Follow y zs → precedes x.1 y.1 ≡ false → Follow y (placed zs x)
 unfolding placed
 follow_placed x y [] f e = (e, tt)
-follow_placed x y (z ∷ zs) f e = go (precedes x.1 z.1)
+follow_placed x y (z ∷ zs) f e = go (precedes x.1 z.1) (follow_placed x y zs f.1 e)
   where
-    go : (b : Bool) → Follow y (if b then x ∷ z ∷ zs else z ∷ placed zs x)
-    go true = (e, f)
-    go false = (f.0, follow_placed x y zs f.1 e)
+    go : (b : Bool) → Follow y (placed zs x) → Follow y (if b then x ∷ z ∷ zs else z ∷ placed zs x)
+    go true others = (e, f)
+    go false others = (f.0, others)
 
 ordered_placed : (x : ℕ × Text) (ys : List (ℕ × Text)) → Ordered ys → Ordered (placed ys x)
 unfolding placed
 ordered_placed x [] o = (tt, tt)
-ordered_placed x (y ∷ ys) o = go (precedes x.1 y.1) refl
+ordered_placed x (y ∷ ys) o = go (precedes x.1 y.1) refl (ordered_placed x ys o.1)
   where
-    go : (b : Bool) → precedes x.1 y.1 ≡ b → Ordered (if b then x ∷ y ∷ ys else y ∷ placed ys x)
-    go true e = let back = in_order.one_way x.1 y.1 e in ((back, follow_on x y ys back o.0), o)
-    go false e = (follow_placed x y ys o.0 e, ordered_placed x ys o.1)
+    go : (b : Bool) → precedes x.1 y.1 ≡ b → Ordered (placed ys x) → Ordered (if b then x ∷ y ∷ ys else y ∷ placed ys x)
+    go true e others = let back = in_order.one_way x.1 y.1 e in ((back, follow_on x y ys back o.0), o)
+    go false e others = (follow_placed x y ys o.0 e, others)
 
 all_ordered : (ys xs : List (ℕ × Text)) → Ordered ys → Ordered (fold placed ys xs)
 all_ordered ys [] o = o

@@ -135,8 +135,9 @@ fn read_commands<'t>(
     })
 }
 
+/// Whether a certificate has a head for the command, as for each loop (XCU 2.9.4.2, 2.9.4.5, 2.9.4.6).
 #[tactic(auto, unfolding(crate::specs::Reading::kind_loops))]
-fn is_loop(command: &Command) -> bool
+pub fn is_loop(command: &Command) -> bool
     ensures { result ≡ fit.is_loop command.now }
 {
     match &command.kind {

@@ -1,4 +1,4 @@
-use Rattle.std.proofs.Common.{◌≡◌, ap, ◌∙◌}
+use Rattle.std.proofs.Common.{ap, ◌∙◌}
 use Rattle.std.specs.List.{position_from}
 use Rattle.std.specs.Str.{bytes_eq}
 use Rattle.sh_table.specs.Calls.{Table}
