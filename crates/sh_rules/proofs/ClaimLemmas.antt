@@ -7,12 +7,12 @@ use Rattle.sh_facts.specs.declared.certificate.Facts.TheVariants as value_kind
 use Rattle.sh_facts.specs.declared.certificate.FunctionEntry.{FunctionEntry}
 use Rattle.sh_facts.specs.declared.knowledge.Knowledge.{Knowledge}
 use Rattle.sh_facts.specs.Certificates.{claim_of, in_byte_order}
-use Rattle.sh_facts.specs.Facts.{Claim, Unreached, within}
+use Rattle.sh_facts.specs.Facts.{Claim, Unreached, facts, within}
 use Rattle.sh_facts.specs.Knowledge.{AreNumbered, knowledge_facts}
 use Rattle.sh_facts.specs.Slots.{entry_of}
-use Rattle.sh_facts.specs.Views.{Before, AfterZero, AfterNonzero, Head, Entry as Entered, ReturnsZero, ReturnsNonzero}
+use Rattle.sh_facts.specs.Views.{Slot, Before, AfterZero, AfterNonzero, Head, Entry as Entered, ReturnsZero, ReturnsNonzero}
 use Rattle.sh_rules.specs.declared.claims.Claims.{Claims}
-use Rattle.sh_rules.specs.Settings.{Setting, claimed_at}
+use Rattle.sh_rules.specs.Settings.{Setting, claimed_at, known_at}
 use Rattle.sh_rules.specs.Walks.{facts_in, head_of, setting}
 use Rattle.sh_rules.specs.Tells.{claim_in}
 use Rattle.sh_rules.proofs.SlotLemmas.{entries, head_claim}
@@ -78,6 +78,13 @@ return_nonzero_there x f e s = some_claims (λ (d : FunctionEntry). claim_in x d
 pub return_nonzero_away : (x : Setting) (f : Text) → entry_of x.kept x.functions f ≡ None → claim_in x value_kind.NotReached ≡ claimed_at x (ReturnsNonzero f)
 unfolding claim_in claimed_at claim_of
 return_nonzero_away x f s = none_claims (λ (d : FunctionEntry). claim_in x d.nonzero) (entry_of x.kept x.functions f) _ ((entries x).returns_nonzero f) s
+
+-- what is known where a kept fact is claimed
+
+pub claim_known : (c : Claims) (s : Slot) (f : value.Facts) (k : Knowledge) → AreNumbered c.names.now → claim_in (setting c) f ≡ claimed_at (setting c) s
+    → ((names : List Text) → AreNumbered names → knowledge_facts names k ≡ facts (claim_of (in_byte_order names) c.certificate.now.rows f)) → facts_in (setting c) k ≡ known_at (setting c) s
+unfolding claim_in claimed_at known_at facts_in setting
+claim_known c s f k h e held = held c.names.now h ∙ ap facts e
 
 -- whether a kept fact is known
 

@@ -155,13 +155,13 @@ module _ {K : Type 0} (a : Asking K) (x : Setting) (n : ℕ) where
 
   -- drops
 
-  utility_drops_same : (function : Text) (es : p.Elements) (kd : Kind) (vs : List Word) (kept : K)
-      → utility_drops_by a x n function es kd (map static_of vs) kept ≡ utility_drops_told a x n function x.functions kd vs kept
+  utility_drops_same : (function : Text) (kd : Kind) (vs : List Word) (kept : K)
+      → utility_drops_by a x n function kd (map static_of vs) kept ≡ utility_drops_told a x n function x.functions kd vs kept
   unfolding utility_drops_by utility_drops_told
-  utility_drops_same function es (kind.Special known.Unset) vs kept =
+  utility_drops_same function (kind.Special known.Unset) vs kept =
       ap (λ names. loses_told a x n function (record { vars = names.vars; functions = filter (is_one_of x.functions) names.functions }) kept) (unset_words vs)
-  utility_drops_same function es kind.Getopts vs kept = refl
-  utility_drops_same function es _ vs kept = refl
+  utility_drops_same function kind.Getopts vs kept = refl
+  utility_drops_same function _ vs kept = refl
 
   pub drops_same : (function : Text) (es : p.Elements) (kept : K)
       → drops_by a x n function es (calls_by x.functions (map static_of (operands es))) (map static_of (operands es)) kept
@@ -172,7 +172,7 @@ module _ {K : Type 0} (a : Asking K) (x : Setting) (n : ℕ) where
       of_name : (t : Text) (vs : List Word) (b : Bool)
           → named_drops_by a x n function es b t (map static_of vs) kept ≡ simple_drops_told a x n function x.functions es (if b then table.Call t vs else Utility (kind_of t) vs) kept
       of_name t vs true = refl
-      of_name t vs false = utility_drops_same function es (kind_of t) vs kept
+      of_name t vs false = utility_drops_same function (kind_of t) vs kept
 
       by_static : (w : Word) (vs : List Word) (s : Static) → static_of w ≡ s
           → drops_by a x n function es (calls_by x.functions (map static_of (w ∷ vs))) (map static_of (w ∷ vs)) kept

@@ -71,7 +71,7 @@ module _ {K : Type 0} (a : Asking K) (x : Setting) (n : ℕ) (y : Around) (es : 
 
 -- Drops of this function
 
-module _ {K : Type 0} (a : Asking K) (x : Setting) (n : ℕ) (function : Text) (es : p.Elements) where
+module _ {K : Type 0} (a : Asking K) (x : Setting) (n : ℕ) (function : Text) where
   -- a utility of this kind; of functions those that the script defines
   unfoldable pub utility_drops_by : Kind → List Static → K → K
   utility_drops_by (kind.Special known.Unset) ts kept =
@@ -79,6 +79,7 @@ module _ {K : Type 0} (a : Asking K) (x : Setting) (n : ℕ) (function : Text) (
   utility_drops_by kind.Getopts ts kept = loses_told a x n function option_argument kept
   utility_drops_by _ ts kept = kept
 
+module _ {K : Type 0} (a : Asking K) (x : Setting) (n : ℕ) (function : Text) (es : p.Elements) where
   -- a call
   unfoldable pub call_drops_by : Text → K → K
   call_drops_by t kept =
@@ -87,7 +88,7 @@ module _ {K : Type 0} (a : Asking K) (x : Setting) (n : ℕ) (function : Text) (
 
   unfoldable pub named_drops_by : Bool → Text → List Static → K → K
   named_drops_by true t ts kept = call_drops_by t kept
-  named_drops_by false t ts kept = utility_drops_by (kind_of t) ts kept
+  named_drops_by false t ts kept = utility_drops_by a x n function (kind_of t) ts kept
 
   unfoldable pub drops_by : Bool → List Static → K → K
   drops_by calls [] kept = kept

@@ -253,10 +253,9 @@ fn tell_utility<A: Asked>(
     function: &[u8],
     kind: Kind,
     operands: &[WordText],
-    elements: &[Element],
     asked: &mut A,
 )
-    ensures { A.kept asked.new ≡ tells.utility_drops_by A.asked (setting claims.now) number function.now (elements_from (setting claims.now).script elements.now) kind (map (text_in (setting claims.now).script) operands.now) (A.kept asked.old) }
+    ensures { A.kept asked.new ≡ tells.utility_drops_by A.asked (setting claims.now) number function.now kind (map (text_in (setting claims.now).script) operands.now) (A.kept asked.old) }
 {
     match kind {
         Kind::Special(KnownName::Unset) => tell_unset(claims, number, function, operands, asked),
@@ -406,15 +405,7 @@ fn tell_named<A: Asked>(
     if is_call {
         tell_call(claims, number, function, name, elements, asked);
     } else {
-        tell_utility(
-            claims,
-            number,
-            function,
-            kind_of(name),
-            operands,
-            elements,
-            asked,
-        );
+        tell_utility(claims, number, function, kind_of(name), operands, asked);
     }
 }
 

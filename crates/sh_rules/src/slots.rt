@@ -48,66 +48,6 @@ impl Claims<'_> {
             .get(number.saturating_sub(1) as usize)
     }
 
-    /// What is claimed before a command.
-    pub fn before(&self, number: u32) -> Knowledge
-        ensures { facts_in (setting self.now) result ≡ known_at (setting self.now) (views.Before number) }
-    {
-        let mut known = Knowledge::NotReached;
-        self.before_into(number, &mut known);
-        known
-    }
-
-    /// Has this be what is claimed before a command.
-    #[tactic(auto, using(crate::proofs::SlotLemmas::before_known, crate::proofs::SlotLemmas::before_nowhere))]
-    pub fn before_into(&self, number: u32, known: &mut Knowledge)
-        ensures { facts_in (setting self.now) known.new ≡ known_at (setting self.now) (views.Before number) }
-    {
-        match self.entry(number) {
-            Some(entry) => known.claim(&self.certificate.rows, &entry.before),
-            None => *known = Knowledge::NotReached,
-        }
-    }
-
-    /// What is claimed after a command, where its status is zero.
-    pub fn zero(&self, number: u32) -> Knowledge
-        ensures { facts_in (setting self.now) result ≡ known_at (setting self.now) (views.AfterZero number) }
-    {
-        let mut known = Knowledge::NotReached;
-        self.zero_into(number, &mut known);
-        known
-    }
-
-    /// Has this be what is claimed after a command, where its status is zero.
-    #[tactic(auto, using(crate::proofs::SlotLemmas::zero_known, crate::proofs::SlotLemmas::zero_nowhere))]
-    pub fn zero_into(&self, number: u32, known: &mut Knowledge)
-        ensures { facts_in (setting self.now) known.new ≡ known_at (setting self.now) (views.AfterZero number) }
-    {
-        match self.entry(number) {
-            Some(entry) => known.claim(&self.certificate.rows, &entry.zero),
-            None => *known = Knowledge::NotReached,
-        }
-    }
-
-    /// What is claimed after a command, where its status is another one.
-    pub fn nonzero(&self, number: u32) -> Knowledge
-        ensures { facts_in (setting self.now) result ≡ known_at (setting self.now) (views.AfterNonzero number) }
-    {
-        let mut known = Knowledge::NotReached;
-        self.nonzero_into(number, &mut known);
-        known
-    }
-
-    /// Has this be what is claimed after a command, where its status is another one.
-    #[tactic(auto, using(crate::proofs::SlotLemmas::nonzero_known, crate::proofs::SlotLemmas::nonzero_nowhere))]
-    pub fn nonzero_into(&self, number: u32, known: &mut Knowledge)
-        ensures { facts_in (setting self.now) known.new ≡ known_at (setting self.now) (views.AfterNonzero number) }
-    {
-        match self.entry(number) {
-            Some(entry) => known.claim(&self.certificate.rows, &entry.nonzero),
-            None => *known = Knowledge::NotReached,
-        }
-    }
-
     // The facts at the head of the loop of a number.
     #[tactic(auto, unfolding(crate::specs::Walks::head_where, crate::specs::Walks::setting))]
     fn head_facts(&self, number: u32) -> Option<&Facts>
@@ -119,17 +59,6 @@ impl Claims<'_> {
         }
     }
 
-    /// What is claimed at each turn of a loop.
-    #[tactic(auto, using(crate::proofs::SlotLemmas::head_known, crate::proofs::SlotLemmas::head_nowhere))]
-    pub fn head(&self, number: u32) -> Knowledge
-        ensures { facts_in (setting self.now) result ≡ known_at (setting self.now) (views.Head number) }
-    {
-        match self.head_facts(number) {
-            Some(facts) => Knowledge::claimed(&self.certificate.rows, facts),
-            None => Knowledge::NotReached,
-        }
-    }
-
     // The facts round the function of a name.
     #[tactic(auto, unfolding(crate::specs::Walks::setting))]
     fn function(&self, name: &[u8]) -> Option<&FunctionEntry>
@@ -138,29 +67,10 @@ impl Claims<'_> {
         let place = self.calls.function_place(name)?;
         self.certificate.functions.get(place)
     }
-
-    /// What is claimed where a function is entered.
-    #[tactic(auto, using(crate::proofs::SlotLemmas::entry_known, crate::proofs::SlotLemmas::entry_nowhere))]
-    pub fn function_entry(&self, name: &[u8]) -> Knowledge
-        ensures { facts_in (setting self.now) result ≡ known_at (setting self.now) (views.Entry name.now) }
-    {
-        match self.function(name) {
-            Some(entry) => Knowledge::claimed(&self.certificate.rows, &entry.before),
-            None => Knowledge::NotReached,
-        }
-    }
 }
 
 // What is claimed at each place, as the certificate keeps it.
 impl Claims<'_> {
-    /// Whether all that is claimed by this fact is known.
-    #[tactic(auto, using(crate::proofs::ClaimLemmas::claim_tested))]
-    pub fn is_known(&self, facts: &Facts, known: &Knowledge) -> bool
-        ensures { result ≡ within (claim_in (setting self.now) facts.now) (facts_in (setting self.now) known.now) }
-    {
-        known.includes(&self.certificate.rows, facts)
-    }
-
     // Before a command.
     #[tactic(auto, using(crate::proofs::ClaimLemmas::before_there, crate::proofs::ClaimLemmas::before_away))]
     fn before_facts(&self, number: u32) -> Facts
@@ -237,9 +147,7 @@ impl Claims<'_> {
             None => Facts::NotReached,
         }
     }
-}
 
-impl Claims<'_> {
     /// What is claimed at a place, as the certificate keeps it.
     pub fn facts_at(&self, place: Place<'_>) -> Facts
         ensures { claim_in (setting self.now) result ≡ claimed_at (setting self.now) (slot_of place.entry) }
@@ -253,6 +161,89 @@ impl Claims<'_> {
             Place::ReturnZero(name) => self.return_zero_facts(name),
             Place::ReturnNonzero(name) => self.return_nonzero_facts(name),
         }
+    }
+}
+
+// What is known where a run comes to a place, by what is claimed there.
+impl Claims<'_> {
+    /// What is claimed before a command.
+    pub fn before(&self, number: u32) -> Knowledge
+        ensures { facts_in (setting self.now) result ≡ known_at (setting self.now) (views.Before number) }
+    {
+        let mut known = Knowledge::NotReached;
+        self.before_into(number, &mut known);
+        known
+    }
+
+    /// Has this be what is claimed before a command.
+    #[tactic(auto, using(crate::proofs::ClaimLemmas::claim_known))]
+    pub fn before_into(&self, number: u32, known: &mut Knowledge)
+        ensures { facts_in (setting self.now) known.new ≡ known_at (setting self.now) (views.Before number) }
+    {
+        let facts = self.before_facts(number);
+        known.claim(&self.certificate.rows, &facts);
+    }
+
+    /// What is claimed after a command, where its status is zero.
+    pub fn zero(&self, number: u32) -> Knowledge
+        ensures { facts_in (setting self.now) result ≡ known_at (setting self.now) (views.AfterZero number) }
+    {
+        let mut known = Knowledge::NotReached;
+        self.zero_into(number, &mut known);
+        known
+    }
+
+    /// Has this be what is claimed after a command, where its status is zero.
+    #[tactic(auto, using(crate::proofs::ClaimLemmas::claim_known))]
+    pub fn zero_into(&self, number: u32, known: &mut Knowledge)
+        ensures { facts_in (setting self.now) known.new ≡ known_at (setting self.now) (views.AfterZero number) }
+    {
+        let facts = self.zero_facts(number);
+        known.claim(&self.certificate.rows, &facts);
+    }
+
+    /// What is claimed after a command, where its status is another one.
+    pub fn nonzero(&self, number: u32) -> Knowledge
+        ensures { facts_in (setting self.now) result ≡ known_at (setting self.now) (views.AfterNonzero number) }
+    {
+        let mut known = Knowledge::NotReached;
+        self.nonzero_into(number, &mut known);
+        known
+    }
+
+    /// Has this be what is claimed after a command, where its status is another one.
+    #[tactic(auto, using(crate::proofs::ClaimLemmas::claim_known))]
+    pub fn nonzero_into(&self, number: u32, known: &mut Knowledge)
+        ensures { facts_in (setting self.now) known.new ≡ known_at (setting self.now) (views.AfterNonzero number) }
+    {
+        let facts = self.nonzero_facts(number);
+        known.claim(&self.certificate.rows, &facts);
+    }
+
+    /// What is claimed at each turn of a loop.
+    #[tactic(auto, using(crate::proofs::ClaimLemmas::claim_known))]
+    pub fn head(&self, number: u32) -> Knowledge
+        ensures { facts_in (setting self.now) result ≡ known_at (setting self.now) (views.Head number) }
+    {
+        let facts = self.turn_facts(number);
+        Knowledge::claimed(&self.certificate.rows, &facts)
+    }
+
+    /// What is claimed where a function is entered.
+    #[tactic(auto, using(crate::proofs::ClaimLemmas::claim_known))]
+    pub fn function_entry(&self, name: &[u8]) -> Knowledge
+        ensures { facts_in (setting self.now) result ≡ known_at (setting self.now) (views.Entry name.now) }
+    {
+        let facts = self.entry_facts(name);
+        Knowledge::claimed(&self.certificate.rows, &facts)
+    }
+
+    /// Whether all that is claimed by this fact is known.
+    #[tactic(auto, using(crate::proofs::ClaimLemmas::claim_tested))]
+    pub fn is_known(&self, facts: &Facts, known: &Knowledge) -> bool
+        ensures { result ≡ within (claim_in (setting self.now) facts.now) (facts_in (setting self.now) known.now) }
+    {
+        known.includes(&self.certificate.rows, facts)
     }
 }
 
