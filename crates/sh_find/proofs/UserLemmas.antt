@@ -1,7 +1,6 @@
 -- Who looks at a slot.
-use Rattle.std.proofs.Common.{◌≡◌, ◌≢◌, ℕ, zero, suc, ◌+◌, ◌<◌, ◌≤◌, Bool, true, false, ◌&&◌, ◌||◌, List, [], ◌∷◌, ◌++◌, Option, Some, None, length, get_or, slice_get, set, take, refl, sym, ◌∙◌, ap, subst, arith, add-one, eqb, eqb-true, eq-eqb, inl, inr, lt-ltb, le-ltb, true≢false, Vec, Global}
+use Rattle.std.proofs.Common.{◌≡◌, ◌≢◌, ℕ, zero, suc, ◌+◌, ◌<◌, ◌≤◌, Bool, true, false, ◌&&◌, ◌||◌, List, [], ◌∷◌, ◌++◌, Some, length, get_or, slice_get, set, refl, sym, ◌∙◌, ap, subst, arith, eqb, eq-eqb, inl, inr, lt-ltb, le-ltb, true≢false, Vec, Global}
 use Rattle.std.specs.Prelude.{nat_lt}
-use Rattle.std.specs.List.{list_any}
 use Rattle.std.proofs.lemmas.Bool.{cases_lt, cases_eq, ne_eqb}
 use Rattle.std.proofs.lemmas.List.Folds.{list_any-append}
 use Rattle.sh_rows.specs.Numbers.{has_number}

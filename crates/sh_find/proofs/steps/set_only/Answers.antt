@@ -1,4 +1,4 @@
-use Rattle.std.proofs.Common.{◌≡◌, sym, ◌∙◌, true≢false}
+use Rattle.std.proofs.Common.{sym, ◌∙◌, true≢false}
 use Rattle.sh_find.proofs.NamedLemmas.{has_below, few_more}
 use Rattle.sh_find.proofs.steps.set_only.Goals as goal
 

@@ -1,6 +1,6 @@
-use Rattle.std.proofs.Common.{◌≡◌, ◌+◌, ◌<◌, ◌++◌, ◌∷◌, [], ℕ, true, false, cond, length, set, sym, ◌∙◌, subst, arith}
+use Rattle.std.proofs.Common.{◌≡◌, true, false, cond, set, sym, subst, arith}
 use Rattle.std.proofs.lemmas.List.{length-set}
-use Rattle.sh_find.specs.Waits.{times, marked, is_marked}
+use Rattle.sh_find.specs.Waits.{times, is_marked}
 use Rattle.sh_find.proofs.WaitLemmas.{mark_read, marked_more, marked_room, once_more}
 use Rattle.sh_find.proofs.waiting.Waiting.put.Goals as goal
 
