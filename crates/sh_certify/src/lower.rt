@@ -2,7 +2,6 @@
 ghost use Rattle.std.specs.Prelude.{◌≡◌, ◌<◌, ◌≤◌, ℕ, List, Bool, true, false, length, Some, IfOk};
 ghost use Rattle.sh_tree.specs.declared.limits.TheConstants.{MAX_NAMES};
 ghost use Rattle.sh_facts.specs.KeptRows.{Stay, holds_at};
-ghost use Rattle.sh_facts.specs.NumberSets.{numbers_of};
 ghost use Rattle.sh_find.specs.Kept.{sight_facts, IsNamed};
 ghost use Rattle.sh_facts.specs.declared.certificate.Drops as drops;
 ghost use Rattle.sh_certify.specs.Places.{drops_at};
