@@ -15,9 +15,10 @@ ghost use Rattle.sh_rules.specs.Walks.{facts_in, setting};
 use crate::claims::Claims;
 use crate::steps::{lose_function, lose_variable};
 use sh_facts::knowledge::Knowledge;
-use sh_facts::options::{ends_options, is_dashed, option_takes};
+use sh_facts::options::option_takes;
 use sh_operands::numbers::number_in;
 use sh_operands::options::unset_operands;
+use sh_table::operands::{ends_options, is_dashed};
 use sh_table::word_text::WordText;
 use sh_tree::name::is_name;
 
