@@ -27,3 +27,4 @@ pub mod IdleLemmas
 pub mod StayLemmas
 pub mod SideLemmas
 pub mod BeforeLemmas
+pub mod InnerLemmas

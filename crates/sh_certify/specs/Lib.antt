@@ -14,3 +14,4 @@ pub mod Next
 pub mod Functions
 pub mod Idle
 pub mod Sides
+pub mod Inner

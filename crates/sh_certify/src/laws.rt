@@ -1,5 +1,6 @@
 //! How what is gathered goes by constraints, of what the rules ask, and which functions they know.
 ghost use Rattle.sh_certify.specs.Functions.{RulesDefineNames, RulesKnowNames};
+ghost use Rattle.sh_certify.specs.Inner.{EntersNothing};
 ghost use Rattle.sh_certify.specs.There.{RulesAskThere};
 ghost use Rattle.sh_certify.specs.Together.{GatheredTogether};
 
@@ -20,4 +21,10 @@ pub fn places()
 pub fn functions()
     ensures defined { RulesDefineNames }
     ensures known { RulesKnowNames }
+{}
+
+/// Where no command substitution stands in a word, in redirections or in the words of a simple command, no command of these is entered. So words without
+/// any may be passed over.
+pub fn words()
+    ensures { EntersNothing }
 {}

@@ -174,11 +174,14 @@ unfolding row_of
 site_numbers [] = refl
 site_numbers (s ∷ ss) = ap (λ l. s.number ∷ l) (site_numbers ss)
 
+-- whether the rows of a table rise is told by the numbers that are kept
+pub rises_kept : (x : Table) (c : List ℕ) (rs : List declared.Row) → map (row_in c) rs ≡ x.rows
+    → numbers_rise (map (λ q. q.number) rs) ≡ numbers_rise (map (λ q. q.0) x.rows)
+rises_kept x c rs k = ap numbers_rise (sym (kept_numbers c rs) ∙ ap (map (λ q. q.0)) k)
+
 -- the rows of a script's table rise only where no two of its commands have one number
-pub rises_numbered : (x : Table) (c : List ℕ) (rs : List declared.Row) (r : Bool) → map (row_in c) rs ≡ x.rows → r ≡ numbers_rise (map (λ q. q.number) rs)
-    → (b : List ℕ) (t : Script) → x ≡ table_of b t → r ≡ true → is_numbered (script_of b t) ≡ true
+pub rises_numbered : (x : Table) → numbers_rise (map (λ q. q.0) x.rows) ≡ true → (b : List ℕ) (t : Script) → x ≡ table_of b t → is_numbered (script_of b t) ≡ true
 unfolding table_of
-rises_numbered x c rs r k h b t e y =
-    let same : map (λ q. q.number) rs ≡ numbers (sites_of (script_of b t)) =
-    sym (kept_numbers c rs) ∙ ap (map (λ q. q.0)) (k ∙ ap (λ z. z.rows) e) ∙ site_numbers (sites_of (script_of b t)) in
-    rising_numbered (script_of b t) (ap numbers_rise (sym same) ∙ sym h ∙ y)
+rises_numbered x h b t e =
+    let same : map (λ q. q.0) x.rows ≡ numbers (sites_of (script_of b t)) = ap (λ z. map (λ q. q.0) z.rows) e ∙ site_numbers (sites_of (script_of b t)) in
+    rising_numbered (script_of b t) (ap numbers_rise (sym same) ∙ h)

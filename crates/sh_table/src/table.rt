@@ -141,9 +141,11 @@ impl<'s> CallTable<'s> {
         first_with(&self.rows[at..], command)
     }
 
-    /// Whether each command of the script has a number of its own, as those have of a script that was read.
+    /// Whether the numbers of the simple commands and of the definitions rise, as those do of a script that was read. Then each command of the script has a
+    /// number of its own.
     pub fn is_numbered(&self) -> bool
-        ensures { (b : List ℕ) (t : Script) → self.now ≡ calls.table_of b t → result ≡ true → numbering.is_numbered (script_of b t) ≡ true }
+        ensures rises { result ≡ numbering.numbers_rise (map (λ row. row.0) self.now.rows) }
+        ensures numbered { (b : List ℕ) (t : Script) → self.now ≡ calls.table_of b t → result ≡ true → numbering.is_numbered (script_of b t) ≡ true }
     {
         numbers_rise(self.rows.as_slice())
     }
