@@ -141,7 +141,7 @@ impl<'s> CallTable<'s> {
         first_with(&self.rows[at..], command)
     }
 
-    /// Whether the numbers of the simple commands and of the definitions rise, as those do of a script that was read. Then each command of the script has a
+    /// Whether the numbers of the commands rise, each above the one before it, as those of a script that was read do. Then each command of the script has a
     /// number of its own.
     pub fn is_numbered(&self) -> bool
         ensures rises { result ≡ numbering.numbers_rise (map (λ row. row.0) self.now.rows) }
