@@ -49,6 +49,15 @@ fn sweep_so(
     }
 }
 
+// How often a script is swept over before the first turn: where there are functions, what they need and what they give is known after two times.
+fn first_times(subject: &Subject<'_>) -> u32 {
+    if subject.table.functions().is_empty() {
+        1
+    } else {
+        2
+    }
+}
+
 // Sweeps over the commands, and takes a turn, until the certificate keeps all flow rules.
 fn settle(subject: &Subject<'_>, draft: &mut Draft, way: Way) -> Result<(), AllocError>
     requires ready { IsReady subject.now draft.old.certificate draft.old.probe.count }
@@ -60,7 +69,7 @@ fn settle(subject: &Subject<'_>, draft: &mut Draft, way: Way) -> Result<(), Allo
 {
     let mut target = Target::FIRST;
     let mut kept = false;
-    let mut times: u32 = 1;
+    let mut times: u32 = first_times(subject);
     let commands = subject.table.rows().len() as u64;
     'turns: while !kept {
         sweep_so(subject, draft, way, times)?;

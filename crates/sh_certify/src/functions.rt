@@ -5,15 +5,17 @@ ghost use Rattle.sh_facts.specs.declared.rule.FlowRule.TheVariants.{F2};
 ghost use Rattle.sh_facts.specs.Entries.{alone};
 ghost use Rattle.sh_facts.specs.Facts.{NotReached};
 ghost use Rattle.sh_rules.specs.Behind.{both};
-ghost use Rattle.sh_certify.specs.Sweeps.{AreItems, IsReady, IsSwept};
+ghost use Rattle.sh_rules.specs.Walks as walks;
+ghost use Rattle.sh_certify.specs.Sweeps.{AreItems, IsPassed, IsReady, IsSwept, known_behind};
 
 use crate::draft::Draft;
+use crate::known::pass_on;
 use crate::subject::Subject;
 use crate::sweep::{LEVELS, sweep, sweep_item};
 use sh_facts::knowledge::Knowledge;
 use sh_facts::rule::FlowRule;
-use sh_rules::around::alone;
-use sh_rules::walk::begun;
+use sh_rules::around::{Around, alone};
+use sh_rules::walk::{Course, begun};
 use sh_tree::tree::{Item, Kind};
 use std::alloc::AllocError;
 
@@ -51,13 +53,77 @@ fn sweep_functions(subject: &Subject<'_>, draft: &mut Draft) -> Result<(), Alloc
     Ok(())
 }
 
-// Lowers the certificate command by command, and then once more at the functions, the last first.
-fn sweep_both_ways(subject: &Subject<'_>, draft: &mut Draft) -> Result<(), AllocError>
+// Goes on behind an item, and lowers the certificate there unless the item is passed over.
+fn sweep_or_pass(
+    subject: &Subject<'_>,
+    draft: &mut Draft,
+    around: &Around<'_>,
+    course: &mut Course,
+    item: &Item,
+    is_passed: bool,
+) -> Result<(), AllocError>
+    requires ready { IsReady subject.now draft.old.certificate draft.old.probe.count }
+    requires placed { (others : List tree.Item) × AreItems subject.now course.old.by (walks.around subject.now.script.now around.now) (known_behind subject.now course.old.behind) (item.now ∷ others) }
+    ensures swept { IfOk result (λ unit. IsSwept subject.now draft.old.certificate draft.new.certificate draft.new.probe.count) }
+    ensures passed { IfOk result (λ unit. IsPassed subject.now course.old course.new item.now) }
+{
+    if is_passed {
+        pass_on(subject, &draft.certificate, course, item);
+        return Ok(());
+    }
+    sweep_item(subject, draft, LEVELS, around, course, item)
+}
+
+// Lowers the certificate at the first of these items, and at the others that define no functions.
+fn sweep_calls(
+    subject: &Subject<'_>,
+    draft: &mut Draft,
+    around: &Around<'_>,
+    course: &mut Course,
+    items: &[Item],
+) -> Result<(), AllocError>
+    requires ready { IsReady subject.now draft.old.certificate draft.old.probe.count }
+    requires placed { AreItems subject.now course.old.by (walks.around subject.now.script.now around.now) (known_behind subject.now course.old.behind) items.now }
+    ensures swept { IfOk result (λ unit. IsSwept subject.now draft.old.certificate draft.new.certificate draft.new.probe.count) }
+{
+    let mut is_first = true;
+    for item in items {
+        let is_passed = !is_first && is_definition(item);
+        sweep_or_pass(subject, draft, around, course, item, is_passed)?;
+        is_first = false;
+    }
+    Ok(())
+}
+
+// Lowers the certificate at the functions, the last first, and then at the commands outside functions.
+fn sweep_back(subject: &Subject<'_>, draft: &mut Draft) -> Result<(), AllocError>
     requires { IsReady subject.now draft.old.certificate draft.old.probe.count }
     ensures { IfOk result (λ unit. IsSwept subject.now draft.old.certificate draft.new.certificate draft.new.probe.count) }
 {
+    sweep_functions(subject, draft)?;
+    let start = Knowledge::start(subject.names, subject.policy);
+    let mut course = begun(FlowRule::F1, &start);
+    let outside = alone();
+    let items = subject.tree.items.as_slice();
+    sweep_calls(subject, draft, &outside, &mut course, items)?;
+    Ok(())
+}
+
+// Lowers the certificate command by command; and where that lowers something, once more at the functions, the last first, and then at the commands outside of
+// them. Says whether anything was lowered.
+fn sweep_both_ways(subject: &Subject<'_>, draft: &mut Draft) -> Result<bool, AllocError>
+    requires { IsReady subject.now draft.old.certificate draft.old.probe.count }
+    ensures { IfOk result (λ is_lowered. IsSwept subject.now draft.old.certificate draft.new.certificate draft.new.probe.count) }
+{
+    let before = draft.lowered;
     sweep(subject, draft)?;
-    sweep_functions(subject, draft)
+    if draft.lowered == before {
+        return Ok(false);
+    }
+    if !subject.table.functions().is_empty() {
+        sweep_back(subject, draft)?;
+    }
+    Ok(true)
 }
 
 /// Lowers a certificate by so many sweeps over the commands of its script at most, until one lowers nothing.
@@ -70,9 +136,7 @@ pub fn sweep_often(subject: &Subject<'_>, draft: &mut Draft, times: u32) -> Resu
     ensures { IfOk result (λ unit. IsSwept subject.now draft.old.certificate draft.new.certificate draft.new.probe.count) }
 {
     for _time in 0..times {
-        let before = draft.lowered;
-        sweep_both_ways(subject, draft)?;
-        if draft.lowered == before {
+        if !sweep_both_ways(subject, draft)? {
             return Ok(());
         }
     }

@@ -8,8 +8,8 @@ use std::test::Fail;
 
 /// How many functions there are.
 const FUNCTIONS: u32 = 200;
-/// Sixteen for each of the 601 commands and the 200 functions.
-const MOST_LOOKS: u64 = 12_816;
+/// Eight for each of the 601 commands.
+const MOST_LOOKS: u64 = 4_808;
 
 /// A script of so many functions that each call the next, of which the first is called.
 fn calls(alloc: Global, count: u32) -> Result<String, AllocError> {
