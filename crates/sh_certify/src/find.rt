@@ -13,7 +13,7 @@ ghost use Rattle.sh_certify.specs.Working.{IsWorking};
 
 use crate::draft::Draft;
 use crate::first::unreached;
-use crate::functions::sweep_often;
+use crate::functions::{definitions_of, sweep_often};
 use crate::gather::Target;
 use crate::subject::Subject;
 use crate::sweep::sweep;
@@ -102,6 +102,8 @@ fn search(alloc: Global, subject: &Subject<'_>, way: Way) -> Result<(Certificate
         probe,
         lowered: 0,
         looks: 0,
+        entered: 0,
+        definitions: definitions_of(alloc, subject)?,
     };
     settle(subject, &mut draft, way)?;
     let looks = draft.looks;

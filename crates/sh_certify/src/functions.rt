@@ -11,20 +11,50 @@ ghost use Rattle.sh_certify.specs.Sweeps.{AreItems, IsPassed, IsReady, IsSwept, 
 use crate::draft::Draft;
 use crate::known::pass_on;
 use crate::subject::Subject;
-use crate::sweep::{LEVELS, sweep, sweep_item};
+use crate::sweep::{LEVELS, sweep, sweep_anywhere, sweep_item};
 use sh_facts::knowledge::Knowledge;
 use sh_facts::rule::FlowRule;
 use sh_rules::around::{Around, alone};
 use sh_rules::walk::{Course, begun};
 use sh_tree::tree::{Item, Kind};
-use std::alloc::AllocError;
+use std::alloc::{AllocError, Global};
 
-// Whether an item begins with the definition of a function: a hint.
-fn is_definition(item: &Item) -> bool {
+// The index of the function that an item defines, if it begins with a definition: a hint.
+fn defined(subject: &Subject<'_>, item: &Item) -> Option<usize> {
     match item.list.first.parts.as_slice() {
-        [command] => matches!(command.kind, Kind::Define { .. }),
-        _ => false,
+        [command] => match &command.kind {
+            Kind::Define { name, .. } => subject.table.function_place(name.text(subject.script)),
+            _ => None,
+        },
+        _ => None,
     }
+}
+
+// So many places that are 0.
+fn no_places(alloc: Global, count: usize) -> Result<Vec<usize>, AllocError> {
+    let mut places = Vec::new(alloc);
+    for _ in 0..count {
+        places.push(0)?;
+    }
+    Ok(places)
+}
+
+/// By the index of each function, the place of an item of the script that defines it, and otherwise 0: a hint, of which no clause speaks.
+///
+/// # Errors
+///
+/// Where a growth was refused.
+pub fn definitions_of(alloc: Global, subject: &Subject<'_>) -> Result<Vec<usize>, AllocError> {
+    let mut places = no_places(alloc, subject.table.functions().len())?;
+    let items = subject.tree.items.as_slice();
+    for index in 0..items.len() {
+        if let Some(function) = defined(subject, &items[index]) {
+            if let Some(place) = places.get_mut(function) {
+                *place = index;
+            }
+        }
+    }
+    Ok(places)
 }
 
 // Lowers the certificate at an item that defines a function, whatever is known before it.
@@ -33,12 +63,10 @@ fn sweep_function(subject: &Subject<'_>, draft: &mut Draft, item: &Item) -> Resu
     requires placed { (others : List tree.Item) × AreItems subject.now F2 alone (both NotReached) (item.now ∷ others) }
     ensures swept { IfOk result (λ unit. IsSwept subject.now draft.old.certificate draft.new.certificate draft.new.probe.count) }
 {
-    if !is_definition(item) {
+    if defined(subject, item).is_none() {
         return Ok(());
     }
-    let outside = alone();
-    let mut course = begun(FlowRule::F2, &Knowledge::NotReached);
-    sweep_item(subject, draft, LEVELS, &outside, &mut course, item)
+    sweep_anywhere(subject, draft, LEVELS, item)
 }
 
 // Lowers the certificate at the functions that the script defines outside compound commands, the last first. What its first item is, is left out.
@@ -88,7 +116,7 @@ fn sweep_calls(
 {
     let mut is_first = true;
     for item in items {
-        let is_passed = !is_first && is_definition(item);
+        let is_passed = !is_first && defined(subject, item).is_some();
         sweep_or_pass(subject, draft, around, course, item, is_passed)?;
         is_first = false;
     }

@@ -113,7 +113,9 @@ fn lower_once(
         &mut draft.probe,
         &gather,
     )?;
+    let is_entered = is_lowered && target.place.part == Part::Entered;
     draft.lowered = draft.lowered.saturating_add(u64::from(is_lowered));
+    draft.entered = draft.entered.saturating_add(u64::from(is_entered));
     draft.looks = draft.looks.saturating_add(1);
     Ok((gather.kept, gather.next))
 }

@@ -7,12 +7,13 @@ ghost use Rattle.sh_tree.specs.declared.tree.Pipe as pipeline;
 ghost use Rattle.sh_tree.specs.program.Lists.{items_from};
 ghost use Rattle.sh_tree.specs.program.Syntax as p;
 ghost use Rattle.sh_tree.specs.program.Trees as trees;
-ghost use Rattle.sh_facts.specs.declared.rule.FlowRule.TheVariants.{F11, F12};
+ghost use Rattle.sh_facts.specs.declared.rule.FlowRule.TheVariants.{F2, F11, F12};
 ghost use Rattle.sh_facts.specs.Entries as entries;
 ghost use Rattle.sh_facts.specs.Entries.{items_after, kind_entered, part_around};
-ghost use Rattle.sh_facts.specs.Facts.{Facts};
+ghost use Rattle.sh_facts.specs.Facts.{Facts, NotReached};
 ghost use Rattle.sh_facts.specs.Knowledge.{knowledge_facts};
 ghost use Rattle.sh_facts.specs.Views.{After, Seen, without_job};
+ghost use Rattle.sh_rules.specs.Behind.{both};
 ghost use Rattle.sh_rules.specs.Walks as walks;
 ghost use Rattle.sh_certify.specs.Sweeps.{AreItems, AreLinks, AreParts, IsAndOr, IsCommand, IsInside, IsKind, IsList, IsPart, IsPassed, IsPipe, IsReady, IsSwept, Knows, KnowsBehind, known_behind};
 
@@ -37,6 +38,9 @@ use std::alloc::AllocError;
 /// How many levels are gone into: of commands, of parts of words, and of expressions in arithmetic. No script that is read has more, since of 64
 /// levels at most each is a few of these.
 pub const LEVELS: u32 = 2048;
+
+// How many of them are gone into at most where a call is followed.
+const CALLS: u32 = 64;
 
 /// Lowers the certificate at each item of a list, and goes on behind the last. So many levels are gone into; what stands further in is left to turns.
 ///
@@ -317,7 +321,76 @@ fn sweep_simple(
     }
     lower_before(subject, draft, known, command)?;
     sweep_held(subject, draft, levels, around, command)?;
+    let entered = draft.entered;
     lower_behind(subject, draft, by, around, known, command)?;
+    if draft.entered == entered {
+        return Ok(());
+    }
+    sweep_called(subject, draft, levels, by, around, known, command)?;
+    Ok(())
+}
+
+// The place of an item that defines the function which a command calls, where calls are followed so far in: a hint.
+fn definition_of(
+    subject: &Subject<'_>,
+    draft: &Draft,
+    levels: u32,
+    command: &Command,
+) -> Option<usize> {
+    if levels < LEVELS - CALLS {
+        return None;
+    }
+    let function = subject.table.callee(command.number)?;
+    let index = (function as usize).checked_sub(1)?;
+    draft.definitions.get(index).copied()
+}
+
+// Lowers the certificate in the function that a command calls, and then behind the command once more.
+#[cycle(sweep)]
+fn sweep_called(
+    subject: &Subject<'_>,
+    draft: &mut Draft,
+    levels: u32,
+    by: FlowRule,
+    around: &Around<'_>,
+    known: &Knowledge,
+    command: &Command,
+) -> Result<(), AllocError>
+    requires ready { IsReady subject.now draft.old.certificate draft.old.probe.count }
+    requires placed { IsCommand subject.now by (walks.around subject.now.script.now around.now) (knowledge_facts subject.now.names.now known.now) command.now }
+    ensures swept { IfOk result (λ unit. IsSwept subject.now draft.old.certificate draft.new.certificate draft.new.probe.count) }
+{
+    let Some(place) = definition_of(subject, &*draft, levels, command) else {
+        return Ok(());
+    };
+    let items = subject.tree.items.as_slice();
+    if place == 0 || place >= items.len() {
+        return Ok(());
+    }
+    sweep_anywhere(subject, draft, levels, &items[place])?;
+    lower_behind(subject, draft, by, around, known, command)?;
+    Ok(())
+}
+
+/// Lowers the certificate at an item that is not the first of the script, whatever is known before it.
+///
+/// # Errors
+///
+/// Where a growth was refused or no place for a row is left.
+#[cycle(sweep)]
+pub fn sweep_anywhere(
+    subject: &Subject<'_>,
+    draft: &mut Draft,
+    levels: u32,
+    item: &Item,
+) -> Result<(), AllocError>
+    requires ready { IsReady subject.now draft.old.certificate draft.old.probe.count }
+    requires placed { (others : List tree.Item) × AreItems subject.now F2 entries.alone (both NotReached) (item.now ∷ others) }
+    ensures swept { IfOk result (λ unit. IsSwept subject.now draft.old.certificate draft.new.certificate draft.new.probe.count) }
+{
+    let outside = alone();
+    let mut course = begun(FlowRule::F2, &Knowledge::NotReached);
+    sweep_item(subject, draft, levels, &outside, &mut course, item)?;
     Ok(())
 }
 

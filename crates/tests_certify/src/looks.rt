@@ -8,8 +8,10 @@ use std::test::Fail;
 
 /// How many functions there are.
 const FUNCTIONS: u32 = 200;
-/// Eight for each of the 601 commands.
-const MOST_LOOKS: u64 = 4_808;
+/// Nine for each of the 601 commands.
+const MOST_LOOKS: u64 = 5_409;
+/// Eight for each of the 620 commands.
+const MOST_LOOKS_IN_TURN: u64 = 4_960;
 
 /// A script of so many functions that each call the next, of which the first is called.
 fn calls(alloc: Global, count: u32) -> Result<String, AllocError> {
@@ -32,6 +34,40 @@ fn looks_at_functions_that_call_each_other(rt: HostRuntime) -> Result<(), Fail> 
     let (certificate, looks) = counted(rt.alloc(), script.as_bytes(), &policy, &prepared)?;
     assert!(rt;
         certificate.entries.len() == 601 && looks <= MOST_LOOKS,
+        "{looks}",
+        looks = looks
+    );
+    Ok(())
+}
+
+/// A script of so many tens of functions, each of which calls the one before it but for the first of each ten, and of the calls of the last of each ten.
+fn calls_in_turn(alloc: Global, tens: u32) -> Result<String, AllocError> {
+    let mut script = String::new(alloc);
+    for number in 0..10 * tens {
+        let before = number.saturating_sub(1);
+        let line = if number % 10 == 0 {
+            format!(in alloc; "f{number}() {{ :; }}\n")?
+        } else {
+            format!(in alloc; "f{number}() {{ f{before}; }}\n")?
+        };
+        script.push_str(&line)?;
+    }
+    for ten in 0..tens {
+        let last = 10 * ten + 9;
+        let line = format!(in alloc; "f{last} a\n")?;
+        script.push_str(&line)?;
+    }
+    Ok(script)
+}
+
+#[test]
+fn looks_at_functions_that_are_called_in_turn(rt: HostRuntime) -> Result<(), Fail> {
+    let script = calls_in_turn(rt.alloc(), 20)?;
+    let policy = Policy::new(rt.alloc(), &[], 0)?;
+    let prepared = prepare(rt.alloc(), script.as_bytes(), &policy)?;
+    let (certificate, looks) = counted(rt.alloc(), script.as_bytes(), &policy, &prepared)?;
+    assert!(rt;
+        certificate.entries.len() == 620 && looks <= MOST_LOOKS_IN_TURN,
         "{looks}",
         looks = looks
     );

@@ -1,6 +1,6 @@
 mod Choices
 mod Words
-use Rattle.std.proofs.Common.{rules as std_rules, ap, length, true, ◌≡◌, ◌<◌, ◌≤◌, ◌+◌, ◌∷◌, ◌++◌, ◌∙◌, [], ℕ, List, drop, refl, sym, subst}
+use Rattle.std.proofs.Common.{rules as std_rules, arith, ap, length, true, ◌≡◌, ◌<◌, ◌≤◌, ◌+◌, ◌∷◌, ◌++◌, ◌∙◌, [], ℕ, List, drop, refl, sym, subst}
 use Rattle.std.proofs.lemmas.List.{drop_all}
 use Rattle.sh_tree.specs.Tree.{text_of}
 use Rattle.sh_tree.specs.declared.tree.AndOr.{out-AndOr}
@@ -16,7 +16,7 @@ use Rattle.sh_tree.specs.program.Syntax as p
 use Rattle.sh_tree.specs.program.Trees as trees
 use Rattle.sh_tree.specs.program.Trees.{expression_of, operator_of, parameter_of, part_of, script_of, target_of}
 use Rattle.sh_tree.proofs.ProgramRules as program
-use Rattle.sh_facts.specs.declared.rule.FlowRule.TheVariants.{F3, F6, F7, F8, F9, F10, F11, F12, F13}
+use Rattle.sh_facts.specs.declared.rule.FlowRule.TheVariants.{F2, F3, F6, F7, F8, F9, F10, F11, F12, F13}
 use Rattle.sh_facts.specs.Entries as entries
 use Rattle.sh_facts.specs.Entries.{Around}
 use Rattle.sh_facts.specs.Facts.{Facts, NotReached, meet}
@@ -29,7 +29,7 @@ use Rattle.sh_rules.specs.Walks as walks
 use Rattle.sh_rules.specs.Walks.{facts_in}
 use Rattle.sh_rules.proofs.LedLemmas.{turns_led}
 use Rattle.sh_certify.specs.Sweeps.{AreBranches, AreClauses, AreElements, AreItems, AreLinks, AreParts, Gained, IsAndOr, IsCommand, IsIn, IsInside, IsKind, IsList, IsPart, IsPipe, IsReady, IsWord, Knows, known_behind, setting_by}
-use Rattle.sh_certify.proofs.PlacedLemmas.{at_index, background_placed, begun_at, body_placed, branch_body, branch_condition, branches_next, branches_placed, case_placed, clause_list, clauses_next, clauses_placed, command_placed, condition_placed, definition_placed, else_placed, for_placed, foreground_placed, goes_last, goes_next, GoesOn, group_placed, inside_placed, items_next, known_after, link_placed, links_next, links_placed, long_placed, parts_next, pipe_placed, short_placed, subshell_placed}
+use Rattle.sh_certify.proofs.PlacedLemmas.{at_index, background_placed, begun_at, body_placed, branch_body, branch_condition, branches_next, branches_placed, case_placed, clause_list, clauses_next, clauses_placed, command_placed, condition_placed, definition_placed, else_placed, for_placed, foreground_placed, goes_last, goes_next, GoesOn, group_placed, inside_placed, item_placed, items_next, known_after, link_placed, links_next, links_placed, long_placed, parts_next, pipe_placed, short_placed, subshell_placed}
 use Rattle.sh_certify.proofs.SweepLemmas.{knows_follow, names_numbered, ready_again, stands_of, swept_more, swept_none}
 use Rattle.sh_certify.proofs.WordLemmas.{Along, along_first, along_no_operands, along_no_parts, along_operands, along_parts, arithmetic_gained, arithmetic_placed, assigned_gained, assigned_placed, both_gained, case_word, chain_first, chain_gained, chain_rest, choice_condition, choice_gained, choice_no, choice_yes, clause_patterns, double_gained, double_placed, element_as, elements_first, elements_placed, expanded_gained, expanded_placed, expansion_gained, expansion_placed, expression_as, expression_gained, file_gained, file_placed, for_words_placed, gained_nowhere, here_gained, here_placed, if_ok, kind_as, kind_placed, link_expression, listed_placed, literal_gained, nothing_gained, operand_inside, operand_next, operand_placed, operands_next, parenthesis_gained, parenthesis_placed, part_as, part_gained, part_placed, pattern_placed, patterns_next, pieces_next, plain_gained, redirect_placed, redirection_next, redirection_placed, redirections_placed, redirects_next, remove_placed, signed_gained, signed_placed, substitution_placed, use_gained, use_placed, value_next, value_placed, word_placed, words_next}
 use Rattle.sh_certify.proofs.+sweep.Goals as goal
@@ -725,7 +725,47 @@ words::pass_expression-returns-then-levels-eq0-clause-gained = words.pass_expres
 pub choices::sweep_clause-returns-clause-swept : goal.choices::sweep_clause-returns-clause-swept
 choices::sweep_clause-returns-clause-swept = choices.sweep_clause-returns-clause-swept
 
+pub sweep::sweep_simple-sweep_called-requires : goal.sweep::sweep_simple-sweep_called-requires
+sweep::sweep_simple-sweep_called-requires t c =
+    let s = c.args.subject.now in
+    let r = c.requires.ready in
+    let swept = swept_more s _ _ _ _ _ (swept_more s _ _ _ _ _ c.in_ok-lower_before.ensures.swept c.in_ok-sweep_held.ensures.swept) c.in_ok-lower_behind.ensures.swept in
+    let ready : IsReady s c.lower_behind.new.draft.certificate c.lower_behind.new.draft.probe.count = ready_again s _ _ _ _ r swept in
+    search std_rules
+
+pub sweep::sweep_simple-returns-then-draft-entered : goal.sweep::sweep_simple-returns-then-draft-entered
+sweep::sweep_simple-returns-then-draft-entered t c =
+    let s = c.args.subject.now in
+    record { swept = swept_more s _ _ _ _ _ (swept_more s _ _ _ _ _ c.in_ok-lower_before.ensures.swept c.in_ok-sweep_held.ensures.swept) c.in_ok-lower_behind.ensures.swept }
+
 pub sweep::sweep_simple-returns : goal.sweep::sweep_simple-returns
 sweep::sweep_simple-returns t c =
     let s = c.args.subject.now in
-    record { swept = swept_more s _ _ _ _ _ (swept_more s _ _ _ _ _ c.in_ok-lower_before.ensures.swept c.in_ok-sweep_held.ensures.swept) c.in_ok-lower_behind.ensures.swept }
+    record { swept = swept_more s _ _ _ _ _ (swept_more s _ _ _ _ _ (swept_more s _ _ _ _ _ c.in_ok-lower_before.ensures.swept c.in_ok-sweep_held.ensures.swept) c.in_ok-lower_behind.ensures.swept) c.in_ok-sweep_called.ensures.swept }
+
+pub sweep::sweep_called-sweep_anywhere-requires : goal.sweep::sweep_called-sweep_anywhere-requires
+sweep::sweep_called-sweep_anywhere-requires t c =
+    let s = c.args.subject.now in
+    let r = c.requires.ready in
+    let past = c.if-place-eq0.false in
+    let placed : (others : List Item) × AreItems s F2 entries.alone (both NotReached) (c.index-items-place.result ∷ others) =
+    item_placed s c.as_slice-items.result.now c.in-Some.place c.index-items-place.result c.as_slice-items.ensures (omega arith) c.if-place-items.false c.index-items-place.is in
+    search std_rules
+
+pub sweep::sweep_called-returns : goal.sweep::sweep_called-returns
+sweep::sweep_called-returns t c = record { swept = swept_more c.args.subject.now _ _ _ _ _ c.in_ok-sweep_anywhere.ensures.swept c.in_ok-lower_behind.ensures.swept }
+
+pub sweep::sweep_anywhere-sweep_item-requires : goal.sweep::sweep_anywhere-sweep_item-requires
+unfolding facts_in knowledge_facts
+sweep::sweep_anywhere-sweep_item-requires t c =
+    let s = c.args.subject.now in
+    let r = c.requires.ready in
+    let at = c.begun-course.result in
+    let is = c.args.item.now ∷ c.requires.placed.0 in
+    let known : known_behind s at.behind ≡ both NotReached = c.begun-course.ensures.behind (setting_by s c.args.draft.now.certificate) in
+    let placed : (others : List Item) × AreItems s at.by (walks.around s.script.now c.alone-outside.result) (known_behind s at.behind) (c.args.item.now ∷ others) = (
+      c.requires.placed.0,
+      subst (λ y. AreItems s at.by y (known_behind s at.behind) is) (sym (c.alone-outside.ensures s.script.now))
+          (subst (λ b. AreItems s at.by entries.alone b is) (sym known) (subst (λ by. AreItems s by entries.alone (both NotReached) is) (sym c.begun-course.ensures.by) c.requires.placed.1)),
+    ) in
+    search std_rules

@@ -91,6 +91,12 @@ decreases-sweep::sweep_simple l = l.levels * 64 + 40
 abbrev pub decreases-sweep::sweep_compound : goal.decreases-sweep::sweep_compound
 decreases-sweep::sweep_compound l = l.levels * 64 + 40
 
+abbrev pub decreases-sweep::sweep_called : goal.decreases-sweep::sweep_called
+decreases-sweep::sweep_called l = l.levels * 64 + 38
+
+abbrev pub decreases-sweep::sweep_anywhere : goal.decreases-sweep::sweep_anywhere
+decreases-sweep::sweep_anywhere l = l.levels * 64 + 36
+
 abbrev pub decreases-sweep::sweep_held : goal.decreases-sweep::sweep_held
 decreases-sweep::sweep_held l = l.levels * 64 + 38
 
