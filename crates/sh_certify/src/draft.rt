@@ -12,7 +12,7 @@ pub struct Draft {
     pub lowered: u64,
     /// How often the flow rules of a command were gone through so far: it is told, and nothing goes by it.
     pub looks: u64,
-    /// How often what a function is entered with was lowered so far: a hint.
+    /// How often a function was entered so far that had not been: a hint.
     pub entered: u64,
     /// By the index of each function, the place of an item of the script that defines it, and otherwise 0: a hint.
     pub definitions: Vec<usize>,

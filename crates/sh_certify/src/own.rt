@@ -13,11 +13,12 @@ ghost use Rattle.sh_certify.specs.Turns.{AreNumbers, Stands, gathered_of};
 use crate::before::{lower_at, lower_before};
 use crate::draft::Draft;
 use crate::gather::{Gather, Target};
+use crate::kept::facts_at;
 use crate::place::{Part, Place};
 use crate::sides::Sides;
 use crate::subject::Subject;
 use crate::turn::lower_gathered;
-use sh_facts::certificate::Certificate;
+use sh_facts::certificate::{Certificate, Facts};
 use sh_facts::knowledge::Knowledge;
 use sh_facts::reading::is_loop;
 use sh_facts::rule::FlowRule;
@@ -83,6 +84,12 @@ fn is_own(target: Target, index: u16) -> bool {
     target.function == 0 && target.place.index == index && !target.place.part.is_of_function()
 }
 
+// Whether a function is entered here, and was not yet: a hint.
+fn is_unentered(draft: &Draft, place: Place) -> bool {
+    place.part == Part::Entered
+        && matches!(facts_at(&draft.certificate, place), Some(Facts::NotReached))
+}
+
 // Lowers what is claimed at a place, and what a function may drop, by what a command asks; says whether all of it was kept, and of what more was asked.
 fn lower_once(
     subject: &Subject<'_>,
@@ -97,6 +104,7 @@ fn lower_once(
     requires placed { IsCommand subject.now by (walks.around subject.now.script.now around.now) (knowledge_facts subject.now.names.now known.now) command.now }
     ensures swept { IfOk result (λ answer. IsSwept subject.now draft.old.certificate draft.new.certificate draft.new.probe.count) }
 {
+    let is_first = is_unentered(&*draft, target.place);
     let gather = asked_of(
         subject,
         &draft.certificate,
@@ -113,9 +121,10 @@ fn lower_once(
         &mut draft.probe,
         &gather,
     )?;
-    let is_entered = is_lowered && target.place.part == Part::Entered;
     draft.lowered = draft.lowered.saturating_add(u64::from(is_lowered));
-    draft.entered = draft.entered.saturating_add(u64::from(is_entered));
+    draft.entered = draft
+        .entered
+        .saturating_add(u64::from(is_lowered && is_first));
     draft.looks = draft.looks.saturating_add(1);
     Ok((gather.kept, gather.next))
 }
