@@ -40,7 +40,7 @@ use std::alloc::AllocError;
 pub const LEVELS: u32 = 2048;
 
 // How many of them are gone into at most where a call is followed.
-const CALLS: u32 = 256;
+const CALLS: u32 = 128;
 
 /// Lowers the certificate at each item of a list, and goes on behind the last. So many levels are gone into; what stands further in is left to turns.
 ///
