@@ -43,7 +43,7 @@ fn looks_at_functions_that_call_each_other(rt: HostRuntime) -> Result<(), Fail> 
 /// A script of so many tens of functions, each of which calls the one before it but for the first of each ten, and of the calls of the last of each ten.
 fn calls_in_turn(alloc: Global, tens: u32) -> Result<String, AllocError> {
     let mut script = String::new(alloc);
-    for number in 0..10 * tens {
+    for number in 0..tens.saturating_mul(10) {
         let before = number.saturating_sub(1);
         let line = if number % 10 == 0 {
             format!(in alloc; "f{number}() {{ :; }}\n")?
@@ -53,7 +53,7 @@ fn calls_in_turn(alloc: Global, tens: u32) -> Result<String, AllocError> {
         script.push_str(&line)?;
     }
     for ten in 0..tens {
-        let last = 10 * ten + 9;
+        let last = ten.saturating_mul(10).saturating_add(9);
         let line = format!(in alloc; "f{last} a\n")?;
         script.push_str(&line)?;
     }
