@@ -40,7 +40,10 @@ fn no_places(alloc: Global, count: usize) -> Result<Vec<usize>, AllocError> {
 }
 
 // By the index of each function, the place of an item of the script that defines it, and otherwise 0: a hint, of which no clause speaks.
-pub(crate) fn definitions_of(alloc: Global, subject: &Subject<'_>) -> Result<Vec<usize>, AllocError> {
+pub(crate) fn definitions_of(
+    alloc: Global,
+    subject: &Subject<'_>,
+) -> Result<Vec<usize>, AllocError> {
     let mut places = no_places(alloc, subject.table.functions().len())?;
     let items = subject.tree.items.as_slice();
     for index in 0..items.len() {
