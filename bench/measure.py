@@ -14,9 +14,6 @@ program is built.
 The kind `kernels` is another: what rows of 4,096 bits do to each other, by `sh_rows` and by plain loops in C at -O3, in seconds for as
 many rounds, and how many times as long the former take. It wants the program of crates/rows_timer built, and `cc`.
 
-The kind `finder` searches lists of constraints as scripts of a form give them, by the worklist and by rounds: constraints, looks, seconds,
-microseconds a constraint, how many times as long that is as in a straight line, and megabytes. It wants the program of crates/find_timer built.
-
 The kind `table` tells of scripts of 1 MB how many milliseconds and megabytes more their call table takes, once they are read, and the
 profile behind it; two kinds of scripts are added that have as many words as fit. It wants the program of crates/table_timer built.
 """
@@ -38,10 +35,6 @@ HERE = os.path.dirname(os.path.abspath(__file__))
 PROGRAM = os.path.join(HERE, "..", "crates", "shset", "out", "shset")
 TIMER = os.path.join(HERE, "..", "crates", "rows_timer", "out", "rows_timer")
 ROUNDS = "10000000"
-FINDER = os.path.join(HERE, "..", "crates", "find_timer", "out", "find_timer")
-# A form, how many of it, and how often.
-LISTS = (("line", 60_000, 1), ("pipelines", 20_000, 1), ("repeated", 20_000, 1), ("reversed", 60_000, 1),
-         ("loops", 60, 200), ("functions", 2_000, 1), ("shifts", 65_535, 1))
 TABLE_TIMER = os.path.join(HERE, "..", "crates", "table_timer", "out", "table_timer")
 # Other processes disturb so short a time, so it is the least of more runs.
 TABLE_RUNS = 15
@@ -290,26 +283,6 @@ def measure_kernels(folder):
         print(f"{kernel:<14} {ROUNDS:>9}  {own:>9.3f} {other:>9.3f}  {own / other:>5.2f}")
 
 
-def measure_finder():
-    if not os.access(FINDER, os.X_OK):
-        sys.exit("build crates/find_timer first, by `rt run` there")
-    print(f"{'list':<10} {'times':>5}  {'way':<8} {'constraints':>11} {'looks':>9}  {'seconds':>8} {'us each':>8}  {'ratio':>6}  {'MB':>6}")
-    line = None
-    for form, count, times in LISTS:
-        for way in ("worklist", "rounds"):
-            words = [FINDER, form, str(count), str(times), way]
-            result = best(words)
-            if result is None:
-                print(f"{form:<10} {times:>5}  {way:<8} {'':>11} {'':>9}  {'> ' + str(LIMIT_SECONDS):>8}")
-                continue
-            said = subprocess.run(words, stdout=subprocess.PIPE, check=True).stdout.split()
-            constraints, looks = int(said[0]), said[1].decode() if said[1:] else ""
-            seconds, kilobytes = result
-            each = seconds / times / constraints * 1e6
-            line = line or each
-            print(f"{form:<10} {times:>5}  {way:<8} {constraints:>11} {looks:>9}  {seconds:>8.3f} {each:>8.3f}  {each / line:>6.1f}  {kilobytes / 1024:>6.1f}")
-
-
 def measure_table(folder):
     if not os.access(TABLE_TIMER, os.X_OK):
         sys.exit("build crates/table_timer first, by `rt run` there")
@@ -332,9 +305,6 @@ def main():
         with tempfile.TemporaryDirectory() as folder:
             measure_table(folder)
         return
-    if sys.argv[1:] == ["finder"]:
-        measure_finder()
-        return
     if sys.argv[1:] == ["kernels"]:
         with tempfile.TemporaryDirectory() as folder:
             measure_kernels(folder)
@@ -345,7 +315,7 @@ def main():
         sys.exit("install GNU time first: Debian's package time")
     kinds = sys.argv[1:] or list(KINDS)
     if not set(kinds) <= set(KINDS):
-        sys.exit("kinds: " + ", ".join(KINDS) + "; or kernels, finder or table alone")
+        sys.exit("kinds: " + ", ".join(KINDS) + "; or kernels or table alone")
     print(f"{'kind':<14} {'bytes':>9}  {'tool':<11} {'seconds':>9} {'MB':>8}  {'time ratio':>10} {'memory ratio':>12}  {'time growth':>11} {'memory growth':>13}")
     with tempfile.TemporaryDirectory() as folder:
         for kind in kinds:

@@ -2,7 +2,7 @@
 //! often the first was within the second. `bench/measure.py kernels` takes the time of it.
 #![tactic(auto)]
 
-use sh_rows::kernels::{meet_words, remove_words, within_words};
+use sh_rows::{meet_words, remove_words, within_words};
 use std::rt::Env;
 use std::{env, io};
 

@@ -9,23 +9,24 @@ use Rattle.sh_tree.specs.declared.refusal.Refusal.{Refusal}
 use Rattle.sh_tree.specs.declared.refusal.Refusal.TheVariants.{TooLong, NulByte, Syntax, LeftOut, TooDeep, TooMany, Memory, Profile, CertSyntax, CertShape}
 use Rattle.sh_tree.specs.declared.refusal.Rule.{Rule}
 use Rattle.sh_tree.specs.declared.tree.Script.{Script}
-use Rattle.sh_tree.specs.program.Syntax.{Text}
-use Rattle.sh_tree.specs.program.Trees.{script_of}
+use Rattle.sh_tree.specs.standard.program.Syntax.{Text}
+use Rattle.sh_tree.specs.standard.program.Trees.{script_of}
 use Rattle.sh_table.specs.Admits.{Admits}
 use Rattle.sh_table.specs.Profile.{first_refused}
-use Rattle.sh_facts.specs.Facts.{Declared}
-use Rattle.sh_facts.specs.Faults.{Fault, faults, least}
-use Rattle.sh_facts.specs.Forms.{read_text}
-use Rattle.sh_facts.specs.Names.{IsNumbering, HasTooMany}
-use Rattle.sh_facts.specs.Reading.{AreLoops, IsOther, fits}
-use Rattle.sh_facts.specs.Sheets.{Sheet}
-use Rattle.sh_facts.specs.declared.rule.FlowRule.{FlowRule}
-use Rattle.sh_report.specs.Findings.{AreFindings, contents_at}
-use Rattle.sh_report.specs.Verdicts.{Contents, contents_of}
-use Rattle.sh_report.specs.declared.verdict.Finding.{Finding}
-use Rattle.sh_report.specs.declared.verdict.Verdict.{Verdict}
-use Rattle.sh_report.specs.declared.verdict.Verdict.TheVariants.{Pass, Fail, Forged}
-use Rattle.sh_accept.specs.Accepted.{IsAdmitted, claims_in, functions_in, IsAcceptedText}
+use Rattle.sh_domain.specs.Facts.{Declared}
+use Rattle.sh_domain.specs.Faults.{Fault, faults, least}
+use Rattle.sh_domain.specs.Forms.{read_text}
+use Rattle.sh_domain.specs.Names.{IsNumbering, HasTooMany}
+use Rattle.sh_domain.specs.Reading.{AreLoops, IsOther, fits}
+use Rattle.sh_domain.specs.Sheets.{Sheet}
+use Rattle.sh_domain.specs.declared.rule.FlowRule.{FlowRule}
+use Rattle.sh_answers.specs.Findings.{AreFindings, contents_at}
+use Rattle.sh_answers.specs.Verdicts.{Contents, contents_of}
+use Rattle.sh_answers.specs.declared.verdict.Finding.{Finding}
+use Rattle.sh_answers.specs.declared.verdict.Verdict.{Verdict}
+use Rattle.sh_answers.specs.declared.verdict.Verdict.TheVariants.{Pass, Fail, Forged}
+use Rattle.sh_domain.specs.Admitted.{IsAdmitted, claims_in, functions_in}
+use Rattle.sh_accept.specs.Accepted.{IsAcceptedText}
 use Rattle.sh_accept.specs.Answers.{Checks, Refuses, IsCertified, IsForged, HasFindings, RefusesText, places}
 use Rattle.sh_accept.specs.Computed.{Answer, Passes, Finds, Breaks, Tells, shown, in_order, of_findings, of_fault, of_certificate, of_fit, of_claims, of_count, of_profile, computed, IsRead, is_refusal, is_told, HasOneAnswer}
 use Rattle.sh_accept.proofs.FindingLemmas.{found_in_order}

@@ -9,23 +9,23 @@ use Rattle.sh_tree.specs.declared.place.Code.{Code}
 use Rattle.sh_tree.specs.declared.place.Place.{Place}
 use Rattle.sh_tree.specs.declared.tree.Action.TheVariants as action
 use Rattle.sh_tree.specs.declared.tree.Special.TheVariants as special
-use Rattle.sh_tree.specs.program.Syntax as p
-use Rattle.sh_tree.specs.program.Syntax.{Text}
-use Rattle.sh_tree.specs.program.Words.{operands_in}
-use Rattle.sh_table.specs.runs.Environment.{is_one_of}
-use Rattle.sh_facts.specs.Demands.{elements_unmet, clauses_unmet, for_words_unmet, kind_unmet, with_text, dropped, command_moves, drop_at, move_at, is_reached, shared_unmet, unmet, demands}
-use Rattle.sh_facts.specs.Entries.{Around, Entered, script_entered}
-use Rattle.sh_facts.specs.Facts.{Facts, Declared, Nowhere, Variable, Parameters, claims, facts, Unreached}
-use Rattle.sh_facts.specs.Gains.{Gains, sure, part_gains, expanded_gains, word_gains, words_gains, redirect_gains, redirects_gains, with_gains, job}
-use Rattle.sh_facts.specs.Needs.{wanted, covers, needed, name_needed, target_needed, reads_unmet, operands_read, part_unmet, word_unmet, operator_unmet, expanded_unmet, operands_expanded, words_unmet, patterns_unmet, redirect_unmet, redirects_unmet}
-use Rattle.sh_facts.specs.Operands.{Names, no_names}
-use Rattle.sh_facts.specs.Order.{IsWithin, IsBelow, AreAmong}
-use Rattle.sh_facts.specs.Rules.{functions_of, losses}
-use Rattle.sh_facts.specs.Views.{Certificate, Before, Gain, Loss, lost, step}
-use Rattle.sh_facts.specs.declared.rule.FlowRule.{FlowRule}
-use Rattle.sh_facts.specs.Views.{Seen}
-use Rattle.sh_facts.proofs.MonotoneLemmas.{step_grows, loss_falls}
-use Rattle.sh_facts.proofs.OrderLemmas.{within_itself}
+use Rattle.sh_tree.specs.standard.program.Syntax as p
+use Rattle.sh_tree.specs.standard.program.Syntax.{Text}
+use Rattle.sh_tree.specs.standard.program.Words.{operands_in}
+use Rattle.sh_table.specs.standard.runs.Environment.{is_one_of}
+use Rattle.sh_domain.specs.Demands.{elements_unmet, clauses_unmet, for_words_unmet, kind_unmet, with_text, dropped, command_moves, drop_at, move_at, is_reached, shared_unmet, unmet, demands}
+use Rattle.sh_domain.specs.Entries.{Around, Entered, script_entered}
+use Rattle.sh_domain.specs.Facts.{Facts, Declared, Nowhere, Variable, Parameters, claims, facts, Unreached}
+use Rattle.sh_domain.specs.Gains.{Gains, sure, part_gains, expanded_gains, word_gains, words_gains, redirect_gains, redirects_gains, with_gains, job}
+use Rattle.sh_domain.specs.Needs.{wanted, covers, needed, name_needed, target_needed, reads_unmet, operands_read, part_unmet, word_unmet, operator_unmet, expanded_unmet, operands_expanded, words_unmet, patterns_unmet, redirect_unmet, redirects_unmet}
+use Rattle.sh_domain.specs.Operands.{Names, no_names}
+use Rattle.sh_domain.specs.Order.{IsWithin, IsBelow, AreAmong}
+use Rattle.sh_domain.specs.Rules.{functions_of, losses}
+use Rattle.sh_domain.specs.Views.{Certificate, Before, Gain, Loss, lost, step}
+use Rattle.sh_domain.specs.declared.rule.FlowRule.{FlowRule}
+use Rattle.sh_domain.specs.Views.{Seen}
+use Rattle.sh_domain.proofs.MonotoneLemmas.{step_grows, loss_falls}
+use Rattle.sh_domain.proofs.OrderLemmas.{within_itself}
 use Rattle.sh_accept.proofs.DistinctLemmas.{in_fold}
 
 -- all that stands in the second row stands in the first

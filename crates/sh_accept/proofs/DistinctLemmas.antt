@@ -5,9 +5,9 @@ use Rattle.std.specs.Str.{bytes_eq}
 use Rattle.std.proofs.lemmas.Bool.{true≢false}
 use Rattle.std.proofs.lemmas.List.Folds.{list_any-append}
 use Rattle.std.proofs.lemmas.Slice.Eq.{bytes_eq-Decides}
-use Rattle.sh_tree.specs.program.Syntax.{Text}
-use Rattle.sh_table.specs.runs.Environment.{is_one_of}
-use Rattle.sh_facts.specs.Names.{with_text, are_distinct}
+use Rattle.sh_tree.specs.standard.program.Syntax.{Text}
+use Rattle.sh_table.specs.standard.runs.Environment.{is_one_of}
+use Rattle.sh_domain.specs.Names.{with_text, are_distinct}
 
 -- Tests
 

@@ -4,14 +4,14 @@ use Rattle.sh_scan.specs.Places.{place_of}
 use Rattle.sh_table.specs.Calls.{defined, with_name, names_of}
 use Rattle.sh_table.specs.Sites.{form_of, site_of, placed as site_placed, by_number, sites_of}
 use Rattle.sh_table.proofs.ProfileLemmas.{computes as profile}
-use Rattle.sh_facts.proofs.AnswerLemmas.{computes as rules}
-use Rattle.sh_facts.proofs.TextLemmas.{computes as texts}
-use Rattle.sh_facts.specs.Forms.{read_text}
-use Rattle.sh_facts.specs.Reading.{claim_fits, head_fits, commands_fit}
-use Rattle.sh_facts.specs.Sheets.{claim_at, function_at}
+use Rattle.sh_domain.proofs.AnswerLemmas.{computes as rules}
+use Rattle.sh_domain.proofs.TextLemmas.{computes as texts}
+use Rattle.sh_domain.specs.Forms.{read_text}
+use Rattle.sh_domain.specs.Reading.{claim_fits, head_fits, commands_fit}
+use Rattle.sh_domain.specs.Sheets.{claim_at, function_at}
 use Rattle.sh_quote.proofs.QuoteLemmas.{computes as quoting}
 use Rattle.sh_accept.specs.Computed.{placed, in_order, of_findings, of_fault, of_fit, of_claims, of_count, of_profile}
-use Rattle.sh_accept.specs.Examples.{AnswersAsExpected}
+use Rattle.sh_accept.specs.examples.Answers.{AnswersAsExpected}
 
 -- what the answer to a known text computes
 unfoldable computes : Unit {0}

@@ -13,15 +13,15 @@ use Rattle.std.proofs.lemmas.Map.Lookups.{CmpEqualImpliesEq, exact_unsigned, exa
 use Rattle.sh_tree.specs.declared.place.Code.{Code}
 use Rattle.sh_tree.specs.declared.place.Code.TheVariants.{P1, P2, Q1, U1, U2, U3}
 use Rattle.sh_tree.specs.declared.place.Place.{Place}
-use Rattle.sh_report.specs.Findings.{AreFindings, contents_at}
-use Rattle.sh_report.specs.Verdicts.{Contents, contents_of, contents_cmp, code_index}
-use Rattle.sh_report.specs.declared.verdict.Finding.{Finding}
+use Rattle.sh_answers.specs.Findings.{AreFindings, contents_at}
+use Rattle.sh_answers.specs.Verdicts.{Contents, contents_of, contents_cmp, code_index}
+use Rattle.sh_answers.specs.declared.verdict.Finding.{Finding}
 use Rattle.sh_accept.specs.Computed.{placed, in_order}
 use Rattle.sh_accept.proofs.SortLemmas.{Least, Rises, times, one_order, rises_sorted}
 
 -- The order tells all findings apart
 
-contents_total : IsTotalOrder contents_cmp
+pub contents_total : IsTotalOrder contents_cmp
 contents_total =
     then_total (on_total (λ (f : Contents). f.line) nat_cmp_total) (then_total (on_total (λ (f : Contents). f.column) nat_cmp_total)
     (then_total (on_total (λ (f : Contents). code_index f.code) nat_cmp_total) (on_texts (λ (f : Contents). f.subject))))
@@ -54,7 +54,7 @@ same_code c e h = sym (code_back c) ∙ ap code_at h ∙ code_back e
 same_contents : (x y : Contents) → x.line ≡ y.line → x.column ≡ y.column → x.code ≡ y.code → x.subject ≡ y.subject → x ≡ y
 same_contents x y l c k s = λ i. record { line = l i; column = c i; code = k i; subject = s i }
 
-contents_exact : CmpEqualImpliesEq contents_cmp
+pub contents_exact : CmpEqualImpliesEq contents_cmp
 contents_exact x y e =
     let a = second_equal (nat_cmp x.line y.line) _ e in
     let c = second_equal (nat_cmp x.column y.column) _ a in

@@ -5,20 +5,22 @@ use Rattle.std.proofs.lemmas.List.Sorted.{length_permutation}
 use Rattle.sh_tree.specs.declared.limits.TheConstants.{MAX_NESTING}
 use Rattle.sh_tree.specs.declared.place.Place.{Place}
 use Rattle.sh_tree.specs.declared.tree.Script.{Script}
-use Rattle.sh_tree.specs.program.Syntax.{Text}
-use Rattle.sh_tree.specs.program.Trees.{script_of}
-use Rattle.sh_facts.specs.Facts.{Declared}
-use Rattle.sh_facts.specs.Names.{IsNumbering}
-use Rattle.sh_facts.specs.Order.{IsBelow}
-use Rattle.sh_facts.specs.Sheets.{Sheet}
+use Rattle.sh_tree.specs.standard.program.Syntax.{Text}
+use Rattle.sh_tree.specs.standard.program.Trees.{script_of}
+use Rattle.sh_domain.specs.Facts.{Declared}
+use Rattle.sh_domain.specs.Names.{IsNumbering}
+use Rattle.sh_domain.specs.Order.{IsBelow}
+use Rattle.sh_domain.specs.Sheets.{Sheet}
 use Rattle.sh_quote.specs.Places.{unquoted}
-use Rattle.sh_report.specs.Findings.{AreFindings, contents_at}
-use Rattle.sh_report.specs.Verdicts.{contents_of}
-use Rattle.sh_report.specs.declared.verdict.Finding.{Finding}
-use Rattle.sh_report.specs.declared.verdict.Report.{Report}
-use Rattle.sh_report.specs.declared.verdict.Verdict.TheVariants.{Fail}
-use Rattle.sh_accept.specs.Accepted.{IsAdmitted, Fits, KeepsRules, MeetsDemands, IsQuoted, IsAccepted, claims_in, functions_in}
-use Rattle.sh_accept.specs.Answers.{IsGreatest, IsBest, Lints, places}
+use Rattle.sh_answers.specs.Findings.{AreFindings, contents_at}
+use Rattle.sh_answers.specs.Verdicts.{contents_of}
+use Rattle.sh_answers.specs.declared.verdict.Finding.{Finding}
+use Rattle.sh_answers.specs.declared.verdict.Report.{Report}
+use Rattle.sh_answers.specs.declared.verdict.Verdict.TheVariants.{Fail}
+use Rattle.sh_domain.specs.Admitted.{IsAdmitted, Fits, KeepsRules, claims_in, functions_in}
+use Rattle.sh_accept.specs.Accepted.{MeetsDemands, IsQuoted, IsAccepted}
+use Rattle.sh_domain.specs.Admitted.{IsGreatest}
+use Rattle.sh_accept.specs.Answers.{IsBest, Lints, places}
 use Rattle.sh_accept.specs.Greatest.{AreAmong, GreatestIsBest}
 use Rattle.sh_accept.proofs.DemandLemmas.{Falls, demands_fall, nothing_left, same, join}
 use Rattle.sh_accept.proofs.NumberingLemmas.{same_names, same_fit}
@@ -46,7 +48,7 @@ meets b d t c other best a =
     let below : IsBelow (claims_in b t other) (claims_in b t c) = best.greatest.above other fit (subst (λ u. KeepsRules b d u other) e a.rules) in
     (nothing_left _ _ (demands_fall d (claims_in b t other) (claims_in b t c) below (script_of b t)) (subst (λ u. MeetsDemands b d u other) e a.met), subst (λ u. IsQuoted b u) e a.quoted)
 
-accepted : (b : List ℕ) (d : Declared) (t : Script) (c other : Sheet) → IsBest b d t c → IsAccepted b d other → IsAccepted b d c
+pub accepted : (b : List ℕ) (d : Declared) (t : Script) (c other : Sheet) → IsBest b d t c → IsAccepted b d other → IsAccepted b d c
 accepted b d t c other best a =
     let m = meets b d t c other best a in
     record {

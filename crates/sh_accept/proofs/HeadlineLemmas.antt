@@ -3,17 +3,18 @@ use Rattle.std.proofs.Common.{◌≡◌, ℕ, true, not, None, List, is_some, ap
 use Rattle.std.specs.List.{list_all}
 use Rattle.sh_tree.specs.declared.limits.TheConstants.{MAX_NESTING}
 use Rattle.sh_tree.specs.declared.tree.Script.{Script}
-use Rattle.sh_tree.specs.language.Bytes.{is_name}
-use Rattle.sh_tree.specs.language.Reading.{Reads, ReadsWithin}
-use Rattle.sh_tree.specs.program.Syntax.{Items}
-use Rattle.sh_tree.specs.program.Trees.{script_of}
+use Rattle.sh_tree.specs.standard.language.Bytes.{is_name}
+use Rattle.sh_tree.specs.standard.language.Reading.{Reads, ReadsWithin}
+use Rattle.sh_tree.specs.standard.program.Syntax.{Items}
+use Rattle.sh_tree.specs.standard.program.Trees.{script_of}
 use Rattle.sh_table.specs.Admitted.{is_admitted}
 use Rattle.sh_table.specs.Profile.{first_refused}
 use Rattle.sh_table.proofs.AdmittedLemmas.{admitted_as_listed}
-use Rattle.sh_facts.specs.Facts.{Declared}
-use Rattle.sh_facts.specs.Sheets.{Sheet}
+use Rattle.sh_domain.specs.Facts.{Declared}
+use Rattle.sh_domain.specs.Sheets.{Sheet}
 use Rattle.sh_sound.proofs.ScriptLemmas.{scripts_have_no_events}
-use Rattle.sh_accept.specs.Accepted.{IsAccepted, claims_in}
+use Rattle.sh_accept.specs.Accepted.{IsAccepted}
+use Rattle.sh_domain.specs.Admitted.{claims_in}
 use Rattle.sh_accept.specs.Theorem.{IsSafe, Headline}
 
 -- what is read within the limits is read

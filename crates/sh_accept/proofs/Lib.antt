@@ -12,3 +12,10 @@ pub mod GreatestLemmas
 pub mod SheetLemmas
 pub mod OneGreatestLemmas
 pub mod SingleLemmas
+pub mod ReadLemmas
+pub mod PassedLemmas
+pub mod WrittenLemmas
+pub mod StartLemmas
+pub mod InsideLemmas
+pub mod CodeLemmas
+pub mod OnceLemmas

@@ -10,10 +10,10 @@ use Rattle.std.proofs.lemmas.List.Sums.{sum-map, sum_by-cons}
 use mathlib.Core.List.{map-map}
 use Rattle.sh_tree.specs.declared.tree.Command.{Command, out-Command}
 use Rattle.sh_tree.specs.declared.tree.Script.{Script}
-use Rattle.sh_tree.specs.language.Reading.{ReadsTo}
-use Rattle.sh_commands.specs.Commands.{commands_of}
-use Rattle.sh_facts.specs.Reading.{AreLoops, is_loop}
-use Rattle.sh_facts.proofs.CountedLemmas.{tree_given}
+use Rattle.sh_tree.specs.standard.language.Reading.{ReadsTo}
+use Rattle.sh_tree.specs.Commands.{commands_of}
+use Rattle.sh_domain.specs.Reading.{AreLoops, is_loop}
+use Rattle.sh_domain.proofs.CountedLemmas.{tree_given}
 
 abbrev one_if : Bool → ℕ
 one_if t = cond t 1 0

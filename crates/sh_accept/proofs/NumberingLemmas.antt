@@ -5,15 +5,15 @@ use Rattle.std.specs.Str.{bytes_eq}
 use Rattle.std.proofs.lemmas.List.Folds.{list_any-append}
 use Rattle.std.proofs.lemmas.List.Sorted.{list_any-IsPermutation}
 use Rattle.sh_tree.specs.declared.tree.Script.{Script}
-use Rattle.sh_tree.specs.program.Syntax.{Text}
-use Rattle.sh_commands.specs.Commands.{commands_of}
-use Rattle.sh_table.specs.runs.Environment.{is_one_of}
-use Rattle.sh_facts.specs.Facts.{Claim, Unreached, Claimed, Declared}
-use Rattle.sh_facts.specs.Names.{IsNumbering, IsInTextOrder, numbering, first_names, are_distinct}
-use Rattle.sh_facts.specs.Operands.{Names}
-use Rattle.sh_facts.specs.Reading.{are_known, sets_fit, claim_fits, head_fits, command_fits, commands_fit, function_fits, fits}
-use Rattle.sh_facts.specs.Sheets.{Sheet, CommandClaims, FunctionClaims}
-use Rattle.sh_facts.specs.Sights.{Sight, in_command}
+use Rattle.sh_tree.specs.standard.program.Syntax.{Text}
+use Rattle.sh_tree.specs.Commands.{commands_of}
+use Rattle.sh_table.specs.standard.runs.Environment.{is_one_of}
+use Rattle.sh_domain.specs.Facts.{Claim, Unreached, Claimed, Declared}
+use Rattle.sh_domain.specs.Names.{IsNumbering, IsInTextOrder, numbering, first_names, are_distinct}
+use Rattle.sh_domain.specs.Operands.{Names}
+use Rattle.sh_domain.specs.Reading.{are_known, sets_fit, claim_fits, head_fits, command_fits, commands_fit, function_fits, fits}
+use Rattle.sh_domain.specs.Sheets.{Sheet, CommandClaims, FunctionClaims}
+use Rattle.sh_domain.specs.Sights.{Sight, in_command}
 use Rattle.sh_accept.proofs.DistinctLemmas.{in_fold, distinct_fold, no_longer}
 
 -- The names in the text

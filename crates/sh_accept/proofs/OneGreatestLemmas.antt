@@ -5,15 +5,15 @@ use Rattle.std.specs.Str.{bytes_eq}
 use Rattle.std.proofs.lemmas.Bool.{true≢false, and_parts}
 use Rattle.std.proofs.lemmas.Bool.Decides.{nat_tests}
 use Rattle.std.proofs.lemmas.Slice.Eq.{bytes_eq-Decides}
-use Rattle.sh_tree.specs.program.Syntax.{Text}
-use Rattle.sh_table.specs.runs.Environment.{is_one_of}
-use Rattle.sh_facts.specs.Facts.{Claim, Unreached, facts}
-use Rattle.sh_facts.specs.Names.{are_distinct}
-use Rattle.sh_facts.specs.Order.{IsWithin, IsBelow, AreAmong}
-use Rattle.sh_facts.specs.Reading.{head_fits, command_fits, commands_fit, functions_fit, function_fits, claim_fits, fits}
-use Rattle.sh_facts.specs.Sheets.{Sheet, CommandClaims, FunctionClaims, nowhere, command_at, function_at, claim_at, certificate_of}
-use Rattle.sh_facts.specs.Spelling.{IsSheet, is_writable, is_writable_head, are_writable, is_command, is_function}
-use Rattle.sh_facts.specs.Views.{Before, AfterZero, AfterNonzero, Head, Entry, ReturnsZero, ReturnsNonzero}
+use Rattle.sh_tree.specs.standard.program.Syntax.{Text}
+use Rattle.sh_table.specs.standard.runs.Environment.{is_one_of}
+use Rattle.sh_domain.specs.Facts.{Claim, Unreached, facts}
+use Rattle.sh_domain.specs.Names.{are_distinct}
+use Rattle.sh_domain.specs.Order.{IsWithin, IsBelow, AreAmong}
+use Rattle.sh_domain.specs.Reading.{head_fits, command_fits, commands_fit, functions_fit, function_fits, claim_fits, fits}
+use Rattle.sh_domain.specs.Sheets.{Sheet, CommandClaims, FunctionClaims, nowhere, command_at, function_at, claim_at, certificate_of}
+use Rattle.sh_domain.specs.Spelling.{IsSheet, is_writable, is_writable_head, are_writable, is_command, is_function}
+use Rattle.sh_domain.specs.Views.{Before, AfterZero, AfterNonzero, Head, Entry, ReturnsZero, ReturnsNonzero}
 use Rattle.sh_accept.proofs.SheetLemmas.{same_claim, same_drops}
 
 -- Rows

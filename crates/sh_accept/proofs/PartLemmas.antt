@@ -4,19 +4,19 @@ use Rattle.sh_tree.specs.Answers.{Parses}
 use Rattle.sh_tree.specs.declared.refusal.Refusal.{Refusal}
 use Rattle.sh_tree.specs.declared.refusal.Refusal.TheVariants.{TooLong, NulByte, Syntax, LeftOut, TooDeep, TooMany, Memory, Profile, CertSyntax, CertShape}
 use Rattle.sh_tree.specs.declared.tree.Script.{Script}
-use Rattle.sh_tree.specs.program.Syntax.{Text}
-use Rattle.sh_tree.specs.program.Trees.{script_of}
+use Rattle.sh_tree.specs.standard.program.Syntax.{Text}
+use Rattle.sh_tree.specs.standard.program.Trees.{script_of}
 use Rattle.sh_table.specs.Admits.{Admits}
 use Rattle.sh_table.specs.Profile.{first_refused}
-use Rattle.sh_facts.specs.Certificates.{in_byte_order, sheet_of}
-use Rattle.sh_facts.specs.Facts.{Declared}
-use Rattle.sh_facts.specs.Names.{Numbers}
-use Rattle.sh_facts.specs.Reading.{Reads}
-use Rattle.sh_facts.specs.Sheets.{Sheet}
-use Rattle.sh_facts.specs.declared.certificate.Certificate.{Certificate}
-use Rattle.sh_facts.proofs.EachLemmas.{none_both}
-use Rattle.sh_report.specs.declared.verdict.Verdict.TheVariants.{Pass}
-use Rattle.sh_accept.specs.Accepted.{IsAdmitted, KeepsRules, functions_in}
+use Rattle.sh_domain.specs.Certificates.{in_byte_order, sheet_of}
+use Rattle.sh_domain.specs.Facts.{Declared}
+use Rattle.sh_domain.specs.Names.{Numbers}
+use Rattle.sh_domain.specs.Reading.{Reads}
+use Rattle.sh_domain.specs.Sheets.{Sheet}
+use Rattle.sh_domain.specs.declared.certificate.Certificate.{Certificate}
+use Rattle.sh_domain.proofs.EachLemmas.{none_both}
+use Rattle.sh_answers.specs.declared.verdict.Verdict.TheVariants.{Pass}
+use Rattle.sh_domain.specs.Admitted.{IsAdmitted, KeepsRules, functions_in}
 use Rattle.sh_accept.specs.Answers.{Checks, IsCertified, places}
 use Rattle.sh_accept.specs.Parts.{PartsAlwaysAnswer}
 

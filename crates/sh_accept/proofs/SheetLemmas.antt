@@ -4,17 +4,17 @@ use Rattle.std.specs.List.{list_all}
 use Rattle.std.specs.Str.{bytes_eq}
 use Rattle.std.proofs.lemmas.Bool.{true≢false, and_parts}
 use Rattle.std.proofs.lemmas.Slice.Eq.{bytes_eq-Decides}
-use Rattle.sh_tree.specs.language.Bytes.{is_name}
-use Rattle.sh_tree.specs.program.Syntax.{Text}
-use Rattle.sh_table.specs.runs.Environment.{is_one_of}
-use Rattle.sh_facts.specs.Facts.{Claim, Unreached, Claimed, facts}
-use Rattle.sh_facts.specs.Forms.{is_rising, is_variable, are_rising}
-use Rattle.sh_facts.specs.Operands.{Names}
-use Rattle.sh_facts.specs.Order.{IsWithin, AreAmong}
-use Rattle.sh_facts.specs.Sheets.{precedes}
-use Rattle.sh_facts.specs.Spelling.{is_writable, are_writable}
-use Rattle.sh_facts.proofs.OrderLemmas.{known_parts, nowhere_known}
-use Rattle.sh_facts.proofs.RowReadLemmas.{precedes_trans, precedes_self, precedes_other}
+use Rattle.sh_tree.specs.standard.language.Bytes.{is_name}
+use Rattle.sh_tree.specs.standard.program.Syntax.{Text}
+use Rattle.sh_table.specs.standard.runs.Environment.{is_one_of}
+use Rattle.sh_domain.specs.Facts.{Claim, Unreached, Claimed, facts}
+use Rattle.sh_domain.specs.Forms.{is_rising, is_variable, are_rising}
+use Rattle.sh_domain.specs.Operands.{Names}
+use Rattle.sh_domain.specs.Order.{IsWithin, AreAmong}
+use Rattle.sh_domain.specs.Sheets.{precedes}
+use Rattle.sh_domain.specs.Spelling.{is_writable, are_writable}
+use Rattle.sh_domain.proofs.OrderLemmas.{known_parts, nowhere_known}
+use Rattle.sh_domain.proofs.RowReadLemmas.{precedes_trans, precedes_self, precedes_other}
 
 -- Rising names
 

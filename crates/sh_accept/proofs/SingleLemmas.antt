@@ -6,22 +6,22 @@ use Rattle.std.specs.declared.alloc.Global.{Global}
 use Rattle.sh_tree.specs.declared.refusal.Refusal.{Refusal}
 use Rattle.sh_tree.specs.declared.refusal.Refusal.TheVariants.{TooLong, NulByte, Syntax, LeftOut, TooDeep, TooMany, Memory, Profile, CertSyntax, CertShape}
 use Rattle.sh_tree.specs.declared.tree.Script.{Script}
-use Rattle.sh_tree.specs.program.Syntax.{Text}
-use Rattle.sh_tree.specs.program.Trees.{script_of}
+use Rattle.sh_tree.specs.standard.program.Syntax.{Text}
+use Rattle.sh_tree.specs.standard.program.Trees.{script_of}
 use Rattle.sh_table.specs.Calls.{table_of, functions_of, names_of, with_name, defined}
 use Rattle.sh_table.specs.Sites.{sites_of}
-use Rattle.sh_facts.specs.Facts.{Declared}
-use Rattle.sh_facts.specs.Forms.{read_text}
-use Rattle.sh_facts.specs.Names.{are_distinct}
-use Rattle.sh_facts.specs.Reading.{fits}
-use Rattle.sh_facts.specs.Sheets.{Sheet, certificate_text}
-use Rattle.sh_facts.proofs.TextLemmas.{computes as texts}
-use Rattle.sh_report.specs.Findings.{contents_at}
-use Rattle.sh_report.specs.Verdicts.{contents_of}
-use Rattle.sh_report.specs.declared.verdict.Finding.{Finding}
-use Rattle.sh_report.specs.declared.verdict.Verdict.{Verdict}
-use Rattle.sh_report.specs.declared.verdict.Verdict.TheVariants.{Pass, Fail, Forged}
-use Rattle.sh_accept.specs.Accepted.{IsAdmitted, functions_in}
+use Rattle.sh_domain.specs.Facts.{Declared}
+use Rattle.sh_domain.specs.Forms.{read_text}
+use Rattle.sh_domain.specs.Names.{are_distinct}
+use Rattle.sh_domain.specs.Reading.{fits}
+use Rattle.sh_domain.specs.Sheets.{Sheet, certificate_text}
+use Rattle.sh_domain.proofs.TextLemmas.{computes as texts}
+use Rattle.sh_answers.specs.Findings.{contents_at}
+use Rattle.sh_answers.specs.Verdicts.{contents_of}
+use Rattle.sh_answers.specs.declared.verdict.Finding.{Finding}
+use Rattle.sh_answers.specs.declared.verdict.Verdict.{Verdict}
+use Rattle.sh_answers.specs.declared.verdict.Verdict.TheVariants.{Pass, Fail, Forged}
+use Rattle.sh_domain.specs.Admitted.{IsAdmitted, functions_in}
 use Rattle.sh_accept.specs.Answers.{Refuses, RefusesText, NoRefusal, IsBest, HasLeastFindings, Lints, Certifies, places}
 use Rattle.sh_accept.specs.Computed.{Answer, Passes, Finds, Breaks, Tells, shown, in_order, computed, IsRead, is_refusal, is_told}
 use Rattle.sh_accept.specs.Single.{HasOneGreatest}
@@ -44,7 +44,7 @@ module _ (b : List ℕ) (d : Declared) (t : Script) (names : List Text) (loops :
       ∙ ap (λ ls. fits h.names ls (length (functions_in b t)) c) (sym (loops_are b d t names loops [] read f.loops f.are_loops))
       ∙ f.fit
 
-  one : (c e : Sheet) → IsBest b d t c → IsBest b d t e → c ≡ e
+  pub one : (c e : Sheet) → IsBest b d t c → IsBest b d t e → c ≡ e
   one c e h k =
       same_sheet names (functions_in b t) loops c e
       (k.greatest.above c (renamed b d t h.names k.names c h.admitted.numbered.0 k.admitted.numbered.0 h.greatest.fit) h.greatest.rules)
@@ -52,7 +52,7 @@ module _ (b : List ℕ) (d : Declared) (t : Script) (names : List Text) (loops :
       (fits_read c h) (fits_read e k) h.greatest.spelled k.greatest.spelled (functions_differ b t)
 
   -- along the one reading
-  best_read : (u : Script) (c : Sheet) → IsBest b d u c → IsBest b d t c
+  pub best_read : (u : Script) (c : Sheet) → IsBest b d u c → IsBest b d t c
   best_read u c h = subst (λ v. IsBest b d v c) (tree_is b d t names loops [] read u h.admitted.reading) h
 
   findings : (fs : List Finding) → HasLeastFindings b d fs → (gs : List Finding) → HasLeastFindings b d gs → map contents_of fs ≡ map contents_of gs
@@ -83,7 +83,7 @@ module _ (b : List ℕ) (d : Declared) (t : Script) (names : List Text) (loops :
   abbrev checked : Answer
   checked = computed b d (script_of b t) (functions_in b t) names loops []
 
-  of_error : (e : Refusal) → Refuses b d NoRefusal e → is_refusal e ≡ true → checked ≡ Tells e
+  pub of_error : (e : Refusal) → Refuses b d NoRefusal e → is_refusal e ≡ true → checked ≡ Tells e
   of_error e h k = of_refusal b d t names loops [] read e (as_checked e h) k
 
   nothing : read_text [] ≡ Err 1
@@ -100,11 +100,11 @@ module _ (b : List ℕ) (d : Declared) (t : Script) (names : List Text) (loops :
   refusal_in (Finds fs) = Memory
   refusal_in (Breaks n r) = Memory
 
-  same_refusal : (e f : Refusal) → Tells e ≡ Tells f → e ≡ f
+  pub same_refusal : (e f : Refusal) → Tells e ≡ Tells f → e ≡ f
   unfolding refusal_in
   same_refusal e f h = ap refusal_in h
 
-  not_both : (e : Refusal) (u : Script) (others : List Text) → Refuses b d NoRefusal e → is_refusal e ≡ true → IsAdmitted b d u others → ⊥
+  pub not_both : (e : Refusal) (u : Script) (others : List Text) → Refuses b d NoRefusal e → is_refusal e ≡ true → IsAdmitted b d u others → ⊥
   not_both e u others h k a = subst (Refuses b d NoRefusal) (same_refusal e (CertSyntax 1) (sym (of_error e h k) ∙ of_admitted u others a)) h
 
   linted : (x y : Result Verdict Refusal) → Lints b d x → Lints b d y → is_told x ≡ true → is_told y ≡ true → shown x ≡ shown y

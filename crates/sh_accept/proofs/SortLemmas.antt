@@ -1,15 +1,16 @@
 -- Of rows with the same elements only one is in order, where the order tells all elements apart.
-use Rattle.std.proofs.Common.{◌≡◌, ℕ, suc, ◌≤◌, ◌<◌, ◌+◌, true, false, cond, List, [], ◌∷◌, length, map, get_or, refl, sym, ◌∙◌, ap, arith}
-use Rattle.std.specs.List.{sum_by}
-use Rattle.std.specs.List.Sorted.{IsSortedByKey}
+use Rattle.std.proofs.Common.{◌≡◌, ℕ, zero, suc, ◌≤◌, ◌<◌, ◌+◌, Bool, true, false, cond, List, [], ◌∷◌, length, map, get_or, inl, inr, refl, sym, ◌∙◌, ap, arith}
+use Rattle.std.specs.List.{Contains, sum_by}
+use Rattle.std.specs.List.Sorted.{IsPermutation, IsSortedByKey}
 use Rattle.std.specs.Cmp.{IsTotalOrder}
-use Rattle.std.proofs.lemmas.List.Sorted.{ranks_by, sorted_far}
+use Rattle.std.proofs.lemmas.List.Sorted.{ranks_by, sorted_far, sum_by-IsPermutation}
 use Rattle.std.specs.Ordering.{is_lt, is_eq, ordering_reverse}
 use Rattle.std.specs.declared.cmp.Ordering.{Ordering}
 use Rattle.std.specs.declared.cmp.Ordering.TheVariants.{Less, Equal, Greater}
-use Rattle.std.proofs.lemmas.Bool.{true≢false}
+use Rattle.std.proofs.lemmas.Bool.{cases_Bool, true≢false}
 use Rattle.std.proofs.lemmas.List.Sums.{sum_by-cons}
 use Rattle.std.proofs.lemmas.Map.Lookups.{CmpEqualImpliesEq}
+use Rattle.sh_reads.specs.Spots.{EachOnce}
 
 module _ {K : Type 0} (cmp : K → K → Ordering) (order : IsTotalOrder cmp) (exact : CmpEqualImpliesEq cmp) where
   -- an element is no greater than each of a row
@@ -92,6 +93,71 @@ module _ {K : Type 0} (cmp : K → K → Ordering) (order : IsTotalOrder cmp) (e
       go Less e others = absurd (less e)
       go Equal e others = let first : x ≡ y = exact x y e in ap (λ z. z ∷ xs) first ∙ ap (λ zs. y ∷ zs) (others first)
       go Greater e others = absurd (more (order.antisymm y x ∙ ap ordering_reverse e))
+
+  -- Rows in which each stands once
+
+  abbrev one_if : Bool → ℕ
+  one_if b = cond b 1 0
+
+  equal : (o : Ordering) → is_eq o ≡ true → o ≡ Equal
+  equal Less e = absurd (true≢false (sym e))
+  equal Equal e = refl
+  equal Greater e = absurd (true≢false (sym e))
+
+  more_times : (z x : K) (xs : List K) → times z (x ∷ xs) ≡ one_if (is_eq (cmp z x)) + times z xs
+  more_times z x xs = sum_by-cons (λ w. one_if (is_eq (cmp z w))) x xs
+
+  none_there : (x : K) (xs : List K) → (Contains xs x → ⊥) → times x xs ≡ 0
+  none_there x [] h = refl
+  none_there x (y ∷ ys) h = elim (cases_Bool (is_eq (cmp x y))) [
+    | inl t ↦ absurd (h (0, omega arith, sym (exact x y (equal (cmp x y) t))))
+    | inr t ↦
+        let first : one_if (is_eq (cmp x y)) ≡ 0 = ap one_if t in
+        let rest = none_there x ys (λ k. h (suc k.0, (let l = k.1 in omega arith), k.2)) in
+        let both = more_times x y ys in
+        omega arith
+  ]
+
+  some_there : (x : K) (xs : List K) → Contains xs x → 0 < times x xs
+  some_there x xs h = go xs h.0 h.1 h.2
+    where
+      go : (ys : List K) (k : ℕ) → k < length ys → get_or ys k x ≡ x → 0 < times x ys
+      go [] k l e = absurd (omega arith)
+      go (y ∷ ys) zero l e =
+          let here : one_if (is_eq (cmp x y)) ≡ 1 = ap (λ z. one_if (is_eq (cmp x z))) e ∙ ap one_if (same_itself x) in
+          let both = more_times x y ys in
+          omega arith
+      go (y ∷ ys) (suc k) l e = let rest = go ys k (omega arith) e in let both = more_times x y ys in omega arith
+
+  counted_once : (xs : List K) → EachOnce xs → (z : K) → times z xs ≤ 1
+  unfolding EachOnce
+  counted_once [] h z = omega arith
+  counted_once (x ∷ xs) h z = elim (cases_Bool (is_eq (cmp z x))) [
+    | inl t ↦
+        let is : z ≡ x = exact z x (equal (cmp z x) t) in
+        let first : one_if (is_eq (cmp z x)) ≡ 1 = ap one_if t in
+        let rest : times z xs ≡ 0 = ap (λ w. times w xs) is ∙ none_there x xs h.0 in
+        let both = more_times z x xs in
+        omega arith
+    | inr t ↦
+        let first : one_if (is_eq (cmp z x)) ≡ 0 = ap one_if t in
+        let rest = counted_once xs h.1 z in
+        let both = more_times z x xs in
+        omega arith
+  ]
+
+  once_counted : (xs : List K) → ((z : K) → times z xs ≤ 1) → EachOnce xs
+  unfolding EachOnce
+  once_counted [] h = tt
+  once_counted (x ∷ xs) h = (
+    (λ k. let some = some_there x xs k in let both = present x xs in let most = h x in absurd (omega arith)),
+    once_counted xs (λ z. let both = more_times z x xs in let most = h z in omega arith),
+  )
+
+  -- in whatever order
+  pub once_reordered : (xs ys : List K) → IsPermutation xs ys → EachOnce xs → EachOnce ys
+  once_reordered xs ys same h =
+      once_counted ys (λ z. let most = counted_once xs h z in let as_often = sum_by-IsPermutation (λ w. one_if (is_eq (cmp z w))) xs ys same in omega arith)
 
   -- Rows by their keys
 

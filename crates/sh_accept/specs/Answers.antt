@@ -7,27 +7,26 @@ use Rattle.sh_tree.specs.declared.place.Place.{Place}
 use Rattle.sh_tree.specs.declared.refusal.Refusal.{Refusal}
 use Rattle.sh_tree.specs.declared.refusal.Refusal.TheVariants.{TooLong, NulByte, Syntax, LeftOut, TooDeep, TooMany, Memory, Profile, CertSyntax, CertShape}
 use Rattle.sh_tree.specs.declared.tree.Script.{Script}
-use Rattle.sh_tree.specs.program.Syntax.{Text}
-use Rattle.sh_tree.specs.program.Trees.{script_of}
+use Rattle.sh_tree.specs.standard.program.Syntax.{Text}
+use Rattle.sh_tree.specs.standard.program.Trees.{script_of}
 use Rattle.sh_table.specs.Admits.{Admits}
 use Rattle.sh_table.specs.Profile.{first_refused}
-use Rattle.sh_facts.specs.Demands.{demands}
-use Rattle.sh_facts.specs.Facts.{Declared}
-use Rattle.sh_facts.specs.Faults.{faults, least}
-use Rattle.sh_facts.specs.Forms.{read_text}
-use Rattle.sh_facts.specs.Names.{Numbers}
-use Rattle.sh_facts.specs.Order.{IsBelow}
-use Rattle.sh_facts.specs.Reading.{Reads}
-use Rattle.sh_facts.specs.Sheets.{Sheet, certificate_text}
-use Rattle.sh_facts.specs.Spelling.{IsSheet}
-use Rattle.sh_facts.specs.declared.limits.TheConstants.{MAX_CERTIFICATE}
-use Rattle.sh_facts.specs.declared.rule.FlowRule.{FlowRule}
+use Rattle.sh_domain.specs.Demands.{demands}
+use Rattle.sh_domain.specs.Facts.{Declared}
+use Rattle.sh_domain.specs.Faults.{faults, least}
+use Rattle.sh_domain.specs.Forms.{read_text}
+use Rattle.sh_domain.specs.Names.{Numbers}
+use Rattle.sh_domain.specs.Reading.{Reads}
+use Rattle.sh_domain.specs.Sheets.{Sheet, certificate_text}
+use Rattle.sh_domain.specs.declared.limits.TheConstants.{MAX_CERTIFICATE}
+use Rattle.sh_domain.specs.declared.rule.FlowRule.{FlowRule}
 use Rattle.sh_quote.specs.Places.{unquoted}
-use Rattle.sh_report.specs.Findings.{AreFindings}
-use Rattle.sh_report.specs.declared.verdict.Finding.{Finding}
-use Rattle.sh_report.specs.declared.verdict.Verdict.{Verdict}
-use Rattle.sh_report.specs.declared.verdict.Verdict.TheVariants.{Pass, Fail, Forged}
-use Rattle.sh_accept.specs.Accepted.{IsAdmitted, Fits, KeepsRules, claims_in, functions_in, IsAccepted, IsAcceptedText}
+use Rattle.sh_answers.specs.Findings.{AreFindings}
+use Rattle.sh_answers.specs.declared.verdict.Finding.{Finding}
+use Rattle.sh_answers.specs.declared.verdict.Verdict.{Verdict}
+use Rattle.sh_answers.specs.declared.verdict.Verdict.TheVariants.{Pass, Fail, Forged}
+use Rattle.sh_domain.specs.Admitted.{IsAdmitted, IsGreatest, KeepsRules, Fits, claims_in, functions_in}
+use Rattle.sh_accept.specs.Accepted.{IsAccepted, IsAcceptedText}
 
 -- Refusals, in the order script, profile, names, certificate: of the latter P says which come
 
@@ -84,14 +83,6 @@ Checks b d text (Ok (Forged k f)) = IsForged b d text k f
 Checks b d text (Err r) = Refuses b d (RefusesText b d text) r
 
 -- Of all certificates of a script
-
--- The certificate fits, breaks no rule, and claims at each place what any other such one does; no function drops more by it. Its names stand as
--- its text has them.
-pub record IsGreatest (b : List ℕ) (d : Declared) (t : Script) (names : List Text) (c : Sheet) : Type 0 where
-  pub fit : Fits b t names c
-  pub rules : KeepsRules b d t c
-  pub above : (other : Sheet) → Fits b t names other → KeepsRules b d t other → IsBelow (claims_in b t other) (claims_in b t c)
-  pub spelled : IsSheet c
 
 -- the greatest certificate of a script that is admitted
 pub record IsBest (b : List ℕ) (d : Declared) (t : Script) (c : Sheet) : Type 0 where

@@ -7,23 +7,23 @@ use Rattle.sh_tree.specs.declared.limits.TheConstants.{MAX_NAMES}
 use Rattle.sh_tree.specs.declared.refusal.Refusal.{Refusal}
 use Rattle.sh_tree.specs.declared.refusal.Refusal.TheVariants.{TooMany, Memory, Profile, CertSyntax, CertShape}
 use Rattle.sh_tree.specs.declared.tree.Script.{Script}
-use Rattle.sh_tree.specs.program.Syntax.{Text, Items}
-use Rattle.sh_tree.specs.program.Trees.{script_of}
+use Rattle.sh_tree.specs.standard.program.Syntax.{Text, Items}
+use Rattle.sh_tree.specs.standard.program.Trees.{script_of}
 use Rattle.sh_table.specs.Profile.{Refused, first_refused}
-use Rattle.sh_facts.specs.Demands.{demands}
-use Rattle.sh_facts.specs.Facts.{Declared}
-use Rattle.sh_facts.specs.Faults.{Fault, faults, least}
-use Rattle.sh_facts.specs.Forms.{read_text}
-use Rattle.sh_facts.specs.Names.{IsNumbering}
-use Rattle.sh_facts.specs.Reading.{AreLoops, fits}
-use Rattle.sh_facts.specs.Sheets.{Sheet, certificate_of}
-use Rattle.sh_facts.specs.declared.rule.FlowRule.{FlowRule}
+use Rattle.sh_domain.specs.Demands.{demands}
+use Rattle.sh_domain.specs.Facts.{Declared}
+use Rattle.sh_domain.specs.Faults.{Fault, faults, least}
+use Rattle.sh_domain.specs.Forms.{read_text}
+use Rattle.sh_domain.specs.Names.{IsNumbering}
+use Rattle.sh_domain.specs.Reading.{AreLoops, fits}
+use Rattle.sh_domain.specs.Sheets.{Sheet, certificate_of}
+use Rattle.sh_domain.specs.declared.rule.FlowRule.{FlowRule}
 use Rattle.sh_quote.specs.Places.{unquoted}
-use Rattle.sh_report.specs.Findings.{contents_at}
-use Rattle.sh_report.specs.Verdicts.{Contents, contents_of, contents_cmp}
-use Rattle.sh_report.specs.declared.verdict.Verdict.{Verdict}
-use Rattle.sh_report.specs.declared.verdict.Verdict.TheVariants.{Pass, Fail, Forged}
-use Rattle.sh_accept.specs.Accepted.{functions_in}
+use Rattle.sh_answers.specs.Findings.{contents_at}
+use Rattle.sh_answers.specs.Verdicts.{Contents, contents_of, contents_cmp}
+use Rattle.sh_answers.specs.declared.verdict.Verdict.{Verdict}
+use Rattle.sh_answers.specs.declared.verdict.Verdict.TheVariants.{Pass, Fail, Forged}
+use Rattle.sh_domain.specs.Admitted.{functions_in}
 use Rattle.sh_accept.specs.Answers.{Checks}
 
 -- an answer by what it shows

@@ -4,13 +4,15 @@ use Rattle.std.specs.Prelude.{◌≡◌, ℕ, Bool, true, List, Ok}
 use Rattle.std.specs.List.{list_any}
 use Rattle.sh_tree.specs.declared.place.Place.{Place}
 use Rattle.sh_tree.specs.declared.tree.Script.{Script}
-use Rattle.sh_tree.specs.program.Syntax.{Text}
-use Rattle.sh_facts.specs.Facts.{Declared}
-use Rattle.sh_facts.specs.Sheets.{Sheet}
-use Rattle.sh_report.specs.declared.verdict.Report.{Report}
-use Rattle.sh_report.specs.declared.verdict.Verdict.TheVariants.{Fail}
-use Rattle.sh_accept.specs.Accepted.{Fits, KeepsRules, IsAccepted}
-use Rattle.sh_accept.specs.Answers.{IsGreatest, IsBest, Lints, places}
+use Rattle.sh_tree.specs.standard.program.Syntax.{Text}
+use Rattle.sh_domain.specs.Facts.{Declared}
+use Rattle.sh_domain.specs.Sheets.{Sheet}
+use Rattle.sh_answers.specs.declared.verdict.Report.{Report}
+use Rattle.sh_answers.specs.declared.verdict.Verdict.TheVariants.{Fail}
+use Rattle.sh_domain.specs.Admitted.{Fits, KeepsRules}
+use Rattle.sh_accept.specs.Accepted.{IsAccepted}
+use Rattle.sh_domain.specs.Admitted.{IsGreatest}
+use Rattle.sh_accept.specs.Answers.{IsBest, Lints, places}
 
 -- whatever is told of the first places is told of the second
 abbrev pub AreAmong : List Place → List Place → Type 0

@@ -3,6 +3,10 @@ pub mod Answers
 pub mod Parts
 pub mod Theorem
 pub mod Computed
-pub mod Examples
+pub mod examples
 pub mod Greatest
 pub mod Single
+pub mod Passed
+pub mod Written
+pub mod Inside
+pub mod Once

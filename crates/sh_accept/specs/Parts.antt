@@ -4,21 +4,21 @@ use Rattle.std.specs.Prelude.{◌≡◌, ◌<◌, ℕ, List, [], length, None, S
 use Rattle.sh_tree.specs.Answers.{Parses}
 use Rattle.sh_tree.specs.declared.refusal.Refusal.{Refusal}
 use Rattle.sh_tree.specs.declared.tree.Script.{Script}
-use Rattle.sh_tree.specs.program.Syntax.{Text}
-use Rattle.sh_tree.specs.program.Trees.{script_of}
+use Rattle.sh_tree.specs.standard.program.Syntax.{Text}
+use Rattle.sh_tree.specs.standard.program.Trees.{script_of}
 use Rattle.sh_table.specs.Admits.{Admits}
 use Rattle.sh_table.specs.Profile.{first_refused}
-use Rattle.sh_facts.specs.Certificates.{in_byte_order, sheet_of}
-use Rattle.sh_facts.specs.Facts.{Declared}
-use Rattle.sh_facts.specs.Faults.{Fault, faults, least}
-use Rattle.sh_facts.specs.Names.{Numbers}
-use Rattle.sh_facts.specs.Reading.{Reads}
-use Rattle.sh_facts.specs.Sheets.{Sheet}
-use Rattle.sh_facts.specs.declared.certificate.Certificate.{Certificate}
-use Rattle.sh_report.specs.Findings.{AreFindings}
-use Rattle.sh_report.specs.declared.verdict.Report.{Report}
-use Rattle.sh_report.specs.declared.verdict.Verdict.TheVariants.{Pass, Fail, Forged}
-use Rattle.sh_accept.specs.Accepted.{IsAdmitted, KeepsRules, claims_in, functions_in}
+use Rattle.sh_domain.specs.Certificates.{in_byte_order, sheet_of}
+use Rattle.sh_domain.specs.Facts.{Declared}
+use Rattle.sh_domain.specs.Faults.{Fault, faults, least}
+use Rattle.sh_domain.specs.Names.{Numbers}
+use Rattle.sh_domain.specs.Reading.{Reads}
+use Rattle.sh_domain.specs.Sheets.{Sheet}
+use Rattle.sh_domain.specs.declared.certificate.Certificate.{Certificate}
+use Rattle.sh_answers.specs.Findings.{AreFindings}
+use Rattle.sh_answers.specs.declared.verdict.Report.{Report}
+use Rattle.sh_answers.specs.declared.verdict.Verdict.TheVariants.{Pass, Fail, Forged}
+use Rattle.sh_domain.specs.Admitted.{IsAdmitted, KeepsRules, claims_in, functions_in}
 use Rattle.sh_accept.specs.Answers.{Checks, IsCertified, places}
 
 -- The refusal of each part is that of the check; what is read of the text is a certificate's; and of that, no fault and no place pass, the least fault

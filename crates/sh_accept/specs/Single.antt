@@ -4,10 +4,10 @@ use Rattle.std.specs.Prelude.{◌≡◌, ℕ, Bool, true, List, Result, Ok, Vec}
 use Rattle.std.specs.declared.alloc.Global.{Global}
 use Rattle.sh_tree.specs.declared.refusal.Refusal.{Refusal}
 use Rattle.sh_tree.specs.declared.tree.Script.{Script}
-use Rattle.sh_tree.specs.program.Syntax.{Text}
-use Rattle.sh_facts.specs.Facts.{Declared}
-use Rattle.sh_facts.specs.Sheets.{Sheet}
-use Rattle.sh_report.specs.declared.verdict.Verdict.{Verdict}
+use Rattle.sh_tree.specs.standard.program.Syntax.{Text}
+use Rattle.sh_domain.specs.Facts.{Declared}
+use Rattle.sh_domain.specs.Sheets.{Sheet}
+use Rattle.sh_answers.specs.declared.verdict.Verdict.{Verdict}
 use Rattle.sh_accept.specs.Answers.{IsBest, Lints, Certifies}
 use Rattle.sh_accept.specs.Computed.{IsRead, shown, is_told}
 

@@ -1,10 +1,14 @@
 //! What an accepted certificate is good for, and what holds of the answers that `specs/` defines.
 ghost use Rattle.sh_accept.specs.Computed.{HasOneAnswer};
-ghost use Rattle.sh_accept.specs.Examples.{AnswersAsExpected};
+ghost use Rattle.sh_accept.specs.examples.Answers.{AnswersAsExpected};
 ghost use Rattle.sh_accept.specs.Greatest.{GreatestIsBest};
+ghost use Rattle.sh_accept.specs.Inside.{RefusalsStandInside};
+ghost use Rattle.sh_accept.specs.Once.{PlacesStandOnce};
 ghost use Rattle.sh_accept.specs.Parts.{PartsAlwaysAnswer};
+ghost use Rattle.sh_accept.specs.Passed.{LintedIsChecked};
 ghost use Rattle.sh_accept.specs.Single.{HasOneGreatest};
 ghost use Rattle.sh_accept.specs.Theorem.{Headline};
+ghost use Rattle.sh_accept.specs.Written.{TellsOneAnswer};
 
 /// Where a certificate is accepted, so where a check or a lint passes, the script has exactly one reading, and no run of that, from any start
 /// that the policy allows, with any results of the commands, any choice and any order of the processes, expands an unset parameter
@@ -40,4 +44,27 @@ pub fn greatest()
 /// text of the certificate that is shown.
 pub fn single()
     ensures { HasOneGreatest }
+{}
+
+/// Where a lint passes, a check of the certificate's text that is shown of the script passes.
+pub fn passed()
+    ensures { LintedIsChecked }
+{}
+
+/// Of a script that is read, what may be written of one action, one certificate's bytes and one
+/// policy is one text with one exit status.
+pub fn written()
+    ensures { TellsOneAnswer }
+{}
+
+/// The place that a refusal names is before the end of the script's text, or at its end for a
+/// fault of syntax and for a level too many.
+pub fn inside()
+    ensures { RefusalsStandInside }
+{}
+
+/// Of a script that is read no place is told twice, neither of an unmet demand nor of an
+/// expansion outside quotes; so no finding of a report stands twice.
+pub fn once()
+    ensures { PlacesStandOnce }
 {}

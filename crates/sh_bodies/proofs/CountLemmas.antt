@@ -2,11 +2,11 @@
 use Rattle.std.proofs.Common.{◌≡◌, ℕ, suc, ◌+◌, Bool, true, false, if◌then◌else◌, List, [], ◌∷◌, ◌++◌, length, Option, refl, ◌∙◌, arith, length-append}
 use Rattle.sh_tree.specs.declared.token.command.Stage.TheVariants.{Named}
 use Rattle.sh_tree.specs.declared.tree.Word.{Word}
-use Rattle.sh_tree.specs.language.Commands.{is_newline_lead, is_open}
-use Rattle.sh_tree.specs.language.HereDocuments.{Mark}
-use Rattle.sh_tree.specs.language.Reading as r
-use Rattle.sh_tree.specs.language.Reading.{lead_of, lead_here, skip, parted, unopened, ReadsDocuments, ReadsBreaks, ReadsForWords, ReadsWords, ReadsPatterns}
-use Rattle.sh_tree.specs.language.States.{Document, State, document_count}
+use Rattle.sh_tree.specs.standard.language.Commands.{is_newline_lead, is_open}
+use Rattle.sh_tree.specs.standard.language.HereDocuments.{Mark}
+use Rattle.sh_tree.specs.standard.language.Reading as r
+use Rattle.sh_tree.specs.standard.language.Reading.{lead_of, lead_here, skip, parted, unopened, ReadsDocuments, ReadsBreaks, ReadsForWords, ReadsWords, ReadsPatterns}
+use Rattle.sh_tree.specs.standard.language.States.{Document, State, document_count}
 
 -- a body that came waits no more
 one_came : (ds : List Document) (d : Document) (pending : ℕ) (m : Mark) (ms : List Mark) → length (ds ++ d ∷ []) + pending + length ms ≡ length ds + pending + length (m ∷ ms)

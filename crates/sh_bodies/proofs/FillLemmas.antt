@@ -23,7 +23,7 @@ use Rattle.sh_tree.specs.declared.tree.ClauseEnd.{ClauseEnd}
 use Rattle.sh_tree.specs.declared.tree.Element.{Element}
 use Rattle.sh_tree.specs.declared.tree.Element.TheVariants as element
 use Rattle.sh_tree.specs.declared.tree.Element.TheBlock.{items_hidden-the_row-Part-0, items_hidden-the_row-Element-3, items_hidden-the_row-Branch-4, hidden-the_row-Branch-4, back-Kind-Cond-1, items_shown-the_row-Word-5, items_hidden-the_row-Clause-6, hidden-the_row-Clause-6, shape-the_row-Command-7, hidden-the_row-Command-7, items_shown-the_row-AndOr-rest-2-8, items_shown-the_row-Redirect-9, items_shown-the_row-Command-10, items_shown-the_row-Item-11}
-use Rattle.sh_tree.specs.language.Trees as tree
+use Rattle.sh_tree.specs.standard.language.Trees as tree
 use Rattle.sh_bodies.specs.Fill.{Filled, thread, fill, fill_target, fill_redirect, fill_element, fill_script, fill_items, fill_item, fill_and_or, fill_links, fill_link, fill_pipe, fill_commands, fill_command, fill_kind, fill_branches, fill_branch, fill_held, fill_otherwise, fill_clauses, fill_clause}
 
 -- lists

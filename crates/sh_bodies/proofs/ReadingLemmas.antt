@@ -24,12 +24,12 @@ use Rattle.sh_tree.specs.declared.tree.Span.{Span}
 use Rattle.sh_tree.specs.declared.tree.Target.{Target}
 use Rattle.sh_tree.specs.declared.tree.Target.TheVariants.{File, Here}
 use Rattle.sh_tree.specs.declared.tree.Word.{Word}
-use Rattle.sh_tree.specs.language.Reading as r
-use Rattle.sh_tree.specs.language.Reading.{ReadsRedirect, ReadsRedirects, ReadsElements, ReadsCommand, ReadsCompound, ReadsDo, ReadsBranches, ReadsElse, ReadsClauses, ReadsPipeline, ReadsCommands, ReadsAndOr, ReadsLinks, ReadsItems, ReadsList, ReadsSequence, behind_token, is_empty}
-use Rattle.sh_tree.specs.language.Commands.{name_end}
-use Rattle.sh_tree.specs.language.States as states
-use Rattle.sh_tree.specs.language.States.{State, closing, document_count, no_document, nth}
-use Rattle.sh_tree.specs.language.Trees as tree
+use Rattle.sh_tree.specs.standard.language.Reading as r
+use Rattle.sh_tree.specs.standard.language.Reading.{ReadsRedirect, ReadsRedirects, ReadsElements, ReadsCommand, ReadsCompound, ReadsDo, ReadsBranches, ReadsElse, ReadsClauses, ReadsPipeline, ReadsCommands, ReadsAndOr, ReadsLinks, ReadsItems, ReadsList, ReadsSequence, behind_token, is_empty}
+use Rattle.sh_tree.specs.standard.language.Commands.{name_end}
+use Rattle.sh_tree.specs.standard.language.States as states
+use Rattle.sh_tree.specs.standard.language.States.{State, closing, document_count, no_document, nth}
+use Rattle.sh_tree.specs.standard.language.Trees as tree
 use Rattle.sh_bodies.specs.Fill.{Filled, document_of, thread, fill_target, fill_redirect, fill_element, fill_script, fill_item, fill_and_or, fill_link, fill_pipe, fill_command, fill_kind, fill_branch, fill_otherwise, fill_clause}
 use Rattle.sh_bodies.proofs.CountLemmas.{one_waits, breaks_kept, parted_kept, for_words_kept, patterns_kept}
 use Rattle.sh_bodies.proofs.FillLemmas.{script_filled, item_filled, and_or_filled, pipe_filled, command_filled, branch_filled, clause_filled, fill_Simple, fill_Group, fill_Subshell, fill_Cond, fill_Loop, fill_For, fill_Branches, fill_Define, fill_File, fill_Here, fill_none, fill_Assignment, fill_Word, fill_Redirection}

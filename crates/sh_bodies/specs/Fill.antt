@@ -18,8 +18,8 @@ use Rattle.sh_tree.specs.declared.tree.Redirect.{Redirect}
 use Rattle.sh_tree.specs.declared.tree.Script.{Script, Script', Row_of-Item, end_of-Item, more_of-Item}
 use Rattle.sh_tree.specs.declared.tree.Target.{Target, Here'}
 use Rattle.sh_tree.specs.declared.tree.Target.TheVariants.{Here}
-use Rattle.sh_tree.specs.language.States as states
-use Rattle.sh_tree.specs.language.Trees as tree
+use Rattle.sh_tree.specs.standard.language.States as states
+use Rattle.sh_tree.specs.standard.language.Trees as tree
 
 -- a body that was read
 abbrev pub document_of : Document → states.Document

@@ -5,11 +5,10 @@ ghost use Rattle.std.specs.Prelude.{◌≡◌, IfOk};
 ghost use Rattle.std.specs.Option.{option_map_or};
 ghost use Rattle.sh_bodies.specs.Fill as spec;
 
-use sh_tree::tree::{
-    AndOr, Branch, Clause, Command, Element, HereDoc, Item, Kind, Link, Pipe, Redirect, Script,
-    Span, Target, Word,
+use sh_tree::{
+    AndOr, Boxed, Branch, Clause, Command, Element, HereDoc, Item, Items, Kind, Link, Pipe,
+    Redirect, Script, Span, Target, Word,
 };
-use sh_tree::{Boxed, Items};
 use std::alloc::{AllocError, Global};
 use std::collections::VecDeque;
 

@@ -9,26 +9,27 @@ use Rattle.indexmap.specs.IndexMap.{get}
 use Rattle.sh_tree.specs.declared.refusal.Refusal.{Refusal}
 use Rattle.sh_tree.specs.declared.refusal.Refusal.TheVariants.{TooLong, NulByte, Syntax, LeftOut, TooDeep, TooMany, Memory, Profile, CertSyntax, CertShape}
 use Rattle.sh_tree.specs.declared.tree.Command.{Command}
-use Rattle.sh_tree.specs.program.Syntax.{Text}
-use Rattle.sh_facts.specs.declared.certificate.Certificate.{Certificate}
-use Rattle.sh_facts.specs.declared.certificate.Facts as value
-use Rattle.sh_facts.specs.declared.certificate.Entry.{Entry}
-use Rattle.sh_facts.specs.declared.certificate.FunctionEntry.{FunctionEntry}
+use Rattle.sh_tree.specs.standard.program.Syntax.{Text}
+use Rattle.sh_domain.specs.declared.certificate.Certificate.{Certificate}
+use Rattle.sh_domain.specs.declared.certificate.Facts as value
+use Rattle.sh_domain.specs.declared.certificate.Entry.{Entry}
+use Rattle.sh_domain.specs.declared.certificate.FunctionEntry.{FunctionEntry}
 use Rattle.sh_facts.specs.declared.forms.CommandTexts.{CommandTexts}
 use Rattle.sh_facts.specs.declared.forms.FunctionTexts.{FunctionTexts}
-use Rattle.sh_facts.specs.Certificates.{in_byte_order, commands_from, command_claims, function_claims}
+use Rattle.sh_domain.specs.Certificates.{in_byte_order, commands_from, command_claims, function_claims}
 use Rattle.sh_facts.specs.Fields as field
 use Rattle.sh_facts.specs.Fields.{line_of, line_in}
-use Rattle.sh_facts.specs.Forms.{Reading, behind, read_lines, cut_at, pieces, command_in, function_in}
-use Rattle.sh_facts.specs.KeptRows.{KeptRows, Stay}
-use Rattle.sh_facts.specs.Reading.{is_loop, command_fits, commands_fit, function_fits}
-use Rattle.sh_facts.specs.ReadParts.{loops_of, ReadsCommand, ReadsFunction, ReadsCommands, ReadsFunctions, NoneFit, NoFunctionsFit, Misfits, Misses}
-use Rattle.sh_facts.specs.Sheets.{CommandClaims, FunctionClaims}
-use Rattle.sh_facts.proofs.SpellingLemmas.{err_ok, none_some, map_some}
-use Rattle.sh_facts.proofs.FormLemmas.{command_writable, function_writable}
+use Rattle.sh_domain.specs.Forms.{Reading, behind, read_lines, cut_at, pieces, command_in, function_in}
+use Rattle.sh_domain.specs.KeptRows.{KeptRows, Stay}
+use Rattle.sh_domain.specs.Reading.{is_loop, command_fits, commands_fit, function_fits}
+use Rattle.sh_domain.specs.Reading.{loops_of}
+use Rattle.sh_facts.specs.ReadParts.{ReadsCommand, ReadsFunction, ReadsCommands, ReadsFunctions, NoneFit, NoFunctionsFit, Misfits, Misses}
+use Rattle.sh_domain.specs.Sheets.{CommandClaims, FunctionClaims}
+use Rattle.sh_domain.proofs.SpellingLemmas.{err_ok, none_some, map_some}
+use Rattle.sh_domain.proofs.WritableLemmas.{command_writable, function_writable}
 use Rattle.sh_facts.proofs.LineLemmas.{line_read, line_refused}
 use Rattle.sh_facts.proofs.ReadingLemmas.{stay_on}
-use Rattle.sh_facts.proofs.WritingLemmas.{commands_append}
+use Rattle.sh_domain.proofs.WritingLemmas.{commands_append}
 
 -- Lines behind others
 

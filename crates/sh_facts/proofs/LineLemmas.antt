@@ -1,9 +1,9 @@
 -- The lines of a text, one after the other.
 use Rattle.std.proofs.Common.{◌≡◌, ℕ, suc, ◌+◌, ◌-◌, ◌<◌, ◌≤◌, List, [], ◌∷◌, length, Option, Some, None, option_map, Ok, Err, refl, sym, ap, ◌∙◌, arith}
-use Rattle.sh_tree.specs.program.Syntax.{Text}
+use Rattle.sh_tree.specs.standard.program.Syntax.{Text}
 use Rattle.sh_facts.specs.Fields.{line_of, line_in, left_of, outcome}
-use Rattle.sh_facts.specs.Forms.{Reading, formed, whole_line, behind, read_line, read_lines, cut_at, is_first, counts_in, command_in, function_in, ended, read_sheet}
-use Rattle.sh_facts.proofs.SpellingLemmas.{err_ok, none_some}
+use Rattle.sh_domain.specs.Forms.{Reading, formed, whole_line, behind, read_line, read_lines, cut_at, is_first, counts_in, command_in, function_in, ended, read_sheet}
+use Rattle.sh_domain.proofs.SpellingLemmas.{err_ok, none_some}
 
 -- One line
 

@@ -6,31 +6,32 @@ use Rattle.std.specs.Str.{bytes_eq}
 use Rattle.std.proofs.lemmas.Bool.{and_parts}
 use Rattle.std.proofs.lemmas.Option.{slice_get_within}
 use Rattle.sh_rows.specs.declared.bits.BitRow.{BitRow}
-use Rattle.sh_tree.specs.program.Syntax.{Text}
-use Rattle.sh_table.specs.runs.Environment.{is_one_of}
-use Rattle.sh_facts.specs.declared.rows.RowId.{RowId}
-use Rattle.sh_facts.specs.declared.certificate.Drops.{Drops}
-use Rattle.sh_facts.specs.declared.certificate.Facts as value
-use Rattle.sh_facts.specs.declared.certificate.Facts.TheVariants as value_kind
+use Rattle.sh_tree.specs.standard.program.Syntax.{Text}
+use Rattle.sh_table.specs.standard.runs.Environment.{is_one_of}
+use Rattle.sh_domain.specs.declared.rows.RowId.{RowId}
+use Rattle.sh_domain.specs.declared.certificate.Drops.{Drops}
+use Rattle.sh_domain.specs.declared.certificate.Facts as value
+use Rattle.sh_domain.specs.declared.certificate.Facts.TheVariants as value_kind
 use Rattle.sh_facts.specs.declared.forms.SetTexts.{SetTexts}
 use Rattle.sh_facts.specs.declared.forms.FactText.{FactText}
 use Rattle.sh_facts.specs.declared.forms.FactText.TheVariants as fact
 use Rattle.sh_facts.specs.declared.forms.CommandTexts.{CommandTexts}
 use Rattle.sh_facts.specs.declared.forms.FunctionTexts.{FunctionTexts}
-use Rattle.sh_facts.specs.Certificates as claims
-use Rattle.sh_facts.specs.Certificates.{in_byte_order, names_at}
-use Rattle.sh_facts.specs.Facts.{Claimed}
+use Rattle.sh_domain.specs.Certificates as claims
+use Rattle.sh_domain.specs.Certificates.{in_byte_order, names_at}
+use Rattle.sh_domain.specs.Facts.{Claimed}
 use Rattle.sh_facts.specs.Fields as field
 use Rattle.sh_facts.specs.Fields.{pieces_left, split}
-use Rattle.sh_facts.specs.Operands.{Names}
-use Rattle.sh_facts.specs.Spelling.{is_writable, is_writable_head, are_writable}
-use Rattle.sh_facts.specs.Forms.{pieces, is_rising}
-use Rattle.sh_facts.specs.KeptRows.{KeptRows, Stay, bits_of, bits_in, holds_at}
-use Rattle.sh_facts.specs.Names.{are_distinct, number_of}
-use Rattle.sh_facts.specs.Reading.{are_known, claim_fits, head_fits}
-use Rattle.sh_facts.specs.ReadParts.{is_name_of, is_among, IsRowOf, IsRead, ReadsSets, ReadsFacts, ReadsHead, ReadsCommand, ReadsFunction}
-use Rattle.sh_facts.proofs.SpellingLemmas.{none_some}
-use Rattle.sh_facts.proofs.RowReadLemmas.{or_shuffle, placed_number, named_row}
+use Rattle.sh_domain.specs.Operands.{Names}
+use Rattle.sh_domain.specs.Spelling.{is_writable, is_writable_head, are_writable}
+use Rattle.sh_domain.specs.Forms.{pieces, is_rising}
+use Rattle.sh_domain.specs.KeptRows.{KeptRows, Stay, bits_of, bits_in, holds_at}
+use Rattle.sh_domain.specs.Names.{are_distinct, number_of}
+use Rattle.sh_domain.specs.Reading.{are_known, claim_fits, head_fits}
+use Rattle.sh_domain.specs.Names.{is_name_of, is_among}
+use Rattle.sh_facts.specs.ReadParts.{IsRowOf, IsRead, ReadsSets, ReadsFacts, ReadsHead, ReadsCommand, ReadsFunction}
+use Rattle.sh_domain.proofs.SpellingLemmas.{none_some}
+use Rattle.sh_domain.proofs.RowReadLemmas.{or_shuffle, placed_number, named_row}
 
 -- The names of a set
 

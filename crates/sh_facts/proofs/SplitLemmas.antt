@@ -1,37 +1,83 @@
 -- A text cut at a byte, and its pieces.
-use Rattle.std.proofs.Common.{◌≡◌, ℕ, zero, suc, ◌+◌, ◌<◌, ◌==◌, Bool, true, false, if◌then◌else◌, List, [], ◌∷◌, length, take, drop, Option, Some, None, refl, sym, ap, ◌∙◌, arith, slice_index}
-use Rattle.std.proofs.lemmas.Bool.{false_from_ne_true}
-use Rattle.memchr.specs.Find.{IsFirstByte, is_byte}
-use Rattle.sh_tree.specs.program.Syntax.{Text}
-use Rattle.sh_facts.specs.Forms.{onto_first, pieces, onto_front, cut_at}
-use Rattle.sh_facts.specs.Sheets.{joined}
-use Rattle.sh_facts.proofs.SpellingLemmas.{none_some, joined_pieces, some_pieces}
+use Rattle.std.proofs.Common.{◌≡◌, ℕ, zero, suc, ◌+◌, ◌-◌, ◌<◌, option_map, IfSome, IfNone, length-drop, ◌==◌, nat_le, ◌&&◌, Bool, true, false, if◌then◌else◌, List, [], ◌∷◌, length, take, drop, Option, Some, None, refl, sym, ap, ◌∙◌, arith, slice_index}
+use Rattle.std.specs.Str.{bytes_eq}
+use Rattle.std.proofs.lemmas.Bool.{eqb-true, eq-eqb, le-leb, leb-true, and_from, and_parts}
+use Rattle.std.proofs.lemmas.Slice.Eq.{bytes_eq-Decides}
+use Rattle.std.specs.Borrow.{Bor}
+use Rattle.bstr.specs.Find.{first_of, occurs_at, matches, matches_from}
+use Rattle.bstr.specs.Text.{SplitsOnce}
+use Rattle.sh_tree.specs.standard.program.Syntax.{Text}
+use Rattle.sh_domain.specs.Forms.{onto_first, pieces, onto_front, cut_at}
+use Rattle.sh_domain.specs.Sheets.{joined}
+use Rattle.sh_domain.proofs.SpellingLemmas.{none_some, joined_pieces, some_pieces}
+use Rattle.sh_facts.specs.Fields.{sides_of}
 
--- Where the byte stands
+-- The first match of a needle of one byte is where that byte first stands
 
-cut_behind : (c : ℕ) (t : Text) (k : ℕ) → k < length t → ((j : ℕ) → j < k → (slice_index t j == c) ≡ false) → (slice_index t k == c) ≡ true → cut_at c t ≡ Some (take k t, drop (suc k) t)
-unfolding cut_at onto_front
-cut_behind c [] k lt none here = absurd (omega arith)
-cut_behind c (d ∷ t) zero lt none here = let h : (d == c) ≡ true = here in rw h refl
-cut_behind c (d ∷ t) (suc k) lt none here =
-    let other : (d == c) ≡ false = none 0 (omega arith) in
-    rw (other, cut_behind c t k (omega arith) (λ j l. none (suc j) (omega arith)) here) refl
+bool_same : (a b : Bool) → (a ≡ true → b ≡ true) → (b ≡ true → a ≡ true) → a ≡ b
+bool_same true true f g = refl
+bool_same true false f g = sym (f refl)
+bool_same false true f g = g refl
+bool_same false false f g = refl
 
-uncut : (c : ℕ) (t : Text) → ((j : ℕ) → j < length t → (slice_index t j == c) ≡ false) → cut_at c t ≡ None
-unfolding cut_at onto_front
-uncut c [] none = refl
-uncut c (d ∷ t) none =
-    let other : (d == c) ≡ false = none 0 (omega arith) in
-    rw (other, uncut c t (λ j l. none (suc j) (omega arith))) refl
+occurs_first : (c d : ℕ) (t : Text) → occurs_at (d ∷ t) (c ∷ []) 0 ≡ (d == c)
+occurs_first c d t =
+    bool_same _ _
+    (λ e.
+    let same : (d ∷ []) ≡ (c ∷ []) = (bytes_eq-Decides (d ∷ []) (c ∷ [])).0 (and_parts (nat_le 1 (length (d ∷ t))) (bytes_eq (d ∷ []) (c ∷ [])) e).1 in
+    eq-eqb d c (ap (λ (l : Text). slice_index l 0) same))
+    (λ e. and_from (nat_le 1 (length (d ∷ t))) (bytes_eq (d ∷ []) (c ∷ [])) (le-leb _ _ (omega arith)) ((bytes_eq-Decides (d ∷ []) (c ∷ [])).1 (ap (λ x. x ∷ []) (eqb-true d c e))))
 
-pub found_cut : (c : ℕ) (t : Text) (k : ℕ) → IsFirstByte (is_byte c) t (Some k) → cut_at c t ≡ Some (take k t, drop (k + 1) t)
-found_cut c t k found =
-    let first = found.0 in
-    let next : suc k ≡ k + 1 = omega arith in
-    cut_behind c t k (let h : k < length t = first.high in h) (λ j l. false_from_ne_true _ (first.before j (omega arith) l)) found.1 ∙ ap (λ n. Some (take k t, drop n t)) next
+le_later : (a b : ℕ) → nat_le (suc a + 1) (suc b) ≡ nat_le (a + 1) b
+le_later a b = bool_same _ _ (λ e. le-leb _ _ (omega (arith, leb-true _ _ e))) (λ e. le-leb _ _ (omega (arith, leb-true _ _ e)))
 
-pub found_none : (c : ℕ) (t : Text) → IsFirstByte (is_byte c) t None → cut_at c t ≡ None
-found_none c t none = uncut c t (λ j l. false_from_ne_true _ (none j (omega arith) l))
+occurs_later : (c d : ℕ) (t : Text) (k : ℕ) → occurs_at (d ∷ t) (c ∷ []) (suc k) ≡ occurs_at t (c ∷ []) k
+occurs_later c d t k = ap (λ b. b && bytes_eq (take 1 (drop k t)) (c ∷ [])) (le_later k (length t))
+
+later_step : (a b : Bool) (i j : ℕ) (ks ls ms ns : List ℕ) → a ≡ b → j ≡ suc i → first_of ms ≡ option_map suc (first_of ns)
+    → first_of (if a then j ∷ ks else ms) ≡ option_map suc (first_of (if b then i ∷ ls else ns))
+unfolding first_of
+later_step true true i j ks ls ms ns e f h = ap Some f
+later_step true false i j ks ls ms ns e f h = absurd (cc)
+later_step false true i j ks ls ms ns e f h = absurd (cc)
+later_step false false i j ks ls ms ns e f h = h
+
+-- after the first byte the matches are those of the rest, one place later
+later : (c d : ℕ) (t : Text) (i j n : ℕ) → j ≡ suc i → first_of (matches_from (d ∷ t) (c ∷ []) 0 j n) ≡ option_map suc (first_of (matches_from t (c ∷ []) 0 i n))
+unfolding matches_from first_of
+later c d t i j zero e = refl
+later c d t i j (suc n) e =
+    let same : occurs_at (d ∷ t) (c ∷ []) j ≡ occurs_at t (c ∷ []) i = ap (λ k. occurs_at (d ∷ t) (c ∷ []) k) e ∙ occurs_later c d t i in
+    later_step _ _ i j _ _ _ _ same e (later c d t (i + 1) (j + 1) n (omega (arith, e)))
+
+-- what stands before the place, and what behind it
+abbrev sides_at : Text → Option ℕ → Option (Text × Text)
+sides_at t r = option_map (λ k. (take k t, drop (suc k) t)) r
+
+first_step : (a b : Bool) (d : ℕ) (t : Text) (r : Option ℕ) (ks ms : List ℕ) → a ≡ b → first_of ms ≡ option_map suc r → sides_at (d ∷ t) (first_of (if a then 0 ∷ ks else ms)) ≡ (if b then Some ([], t) else onto_front d (sides_at t r))
+unfolding first_of onto_front
+first_step true true d t r ks ms e h = refl
+first_step true false d t r ks ms e h = absurd (cc)
+first_step false true d t r ks ms e h = absurd (cc)
+first_step false false d t None ks ms e h = ap (sides_at (d ∷ t)) h
+first_step false false d t (Some k) ks ms e h = ap (sides_at (d ∷ t)) h
+
+-- a text is cut at the first match
+first_cut : (c : ℕ) (t : Text) (n : ℕ) → n ≡ length t + 1 → sides_at t (first_of (matches_from t (c ∷ []) 0 0 n)) ≡ cut_at c t
+unfolding matches_from first_of cut_at
+first_cut c t zero e = absurd (omega (arith, e))
+first_cut c [] (suc zero) e = refl
+first_cut c [] (suc (suc n)) e = absurd (omega (arith, e))
+first_cut c (d ∷ t) (suc n) e =
+    first_step _ _ d t (first_of (matches_from t (c ∷ []) 0 0 n)) _ _ (occurs_first c d t) (later c d t 0 1 n refl)
+    ∙ ap (λ o. if d == c then Some ([], t) else onto_front d o) (first_cut c t n (omega (arith, e)))
+
+pub split_cut : (c : ℕ) (t : Text) (o : Option (Bor (List ℕ) × Bor (List ℕ))) → SplitsOnce t (c ∷ []) (first_of (matches t (c ∷ []) 0)) o → option_map sides_of o ≡ cut_at c t
+split_cut c t None none = ap (sides_at t) (sym none) ∙ first_cut c t (length t + 1 - 0) (omega arith)
+split_cut c t (Some x) (k, at, before, behind) =
+    let next : k + 1 ≡ suc k = omega arith in
+    let rest : x.1.now ≡ drop (suc k) t = behind ∙ ap (λ n. drop n t) next in
+    rw (before, rest) (ap (sides_at t) (sym at) ∙ first_cut c t (length t + 1 - 0) (omega arith))
 
 -- The pieces of a text that is cut
 
@@ -63,6 +109,25 @@ pub whole_piece : (c : ℕ) (t : Text) → cut_at c t ≡ None → pieces c t �
 unfolding cut_at pieces
 whole_piece c [] e = refl
 whole_piece c (d ∷ t) e = whole_step c d t (d == c) (cut_at c t) (whole_piece c t) e
+
+-- What a cut gives
+
+pub two_pieces : (c : ℕ) (t : Text) (o : Option (Bor (List ℕ) × Bor (List ℕ))) → option_map sides_of o ≡ cut_at c t → IfSome o (λ x. pieces c t ≡ x.0.now ∷ pieces c x.1.now)
+two_pieces c t None e = tt
+two_pieces c t (Some x) e = cut_pieces c t (sides_of x) (sym e)
+
+pub one_piece : (c : ℕ) (t : Text) (o : Option (Bor (List ℕ) × Bor (List ℕ))) → option_map sides_of o ≡ cut_at c t → IfNone o (pieces c t ≡ t ∷ [])
+one_piece c t None e = whole_piece c t (sym e)
+one_piece c t (Some x) e = tt
+
+less_left : (k : ℕ) (d : ℕ) (t : Text) → length (drop (k + 1) (d ∷ t)) < length (d ∷ t)
+less_left k d t = omega (arith, length-drop (k + 1) (d ∷ t))
+
+pub less : (c : ℕ) (t : Text) (o : Option (Bor (List ℕ) × Bor (List ℕ))) → SplitsOnce t (c ∷ []) (first_of (matches t (c ∷ []) 0)) o → IfSome o (λ x. length x.1.now < length t)
+unfolding cut_at
+less c t None s = tt
+less c [] (Some x) s = absurd (some_none (split_cut c [] (Some x) s))
+less c (d ∷ t) (Some x) (k, at, before, behind) = rw behind (less_left k d t)
 
 -- A form that only a text of one piece has is the form of its one piece
 pub sole : {A : Type 0} (c : ℕ) (f : Text → Option A) (g : List Text → Option A) → ((t : Text) → g (t ∷ []) ≡ f t) → ((t u : Text) (ts : List Text) → g (t ∷ u ∷ ts) ≡ None)

@@ -6,20 +6,21 @@ use Rattle.std.proofs.lemmas.Bool.Decides.{nat_tests}
 use Rattle.sh_tree.specs.declared.refusal.Refusal.{Refusal}
 use Rattle.sh_tree.specs.declared.refusal.Refusal.TheVariants.{TooLong, NulByte, Syntax, LeftOut, TooDeep, TooMany, Memory, Profile, CertSyntax, CertShape}
 use Rattle.sh_tree.specs.declared.tree.Script.{Script}
-use Rattle.sh_tree.specs.program.Syntax.{Text}
-use Rattle.sh_facts.specs.declared.certificate.Certificate.{Certificate}
-use Rattle.sh_facts.specs.declared.certificate.Entry.{Entry}
-use Rattle.sh_facts.specs.declared.certificate.Facts as value
-use Rattle.sh_facts.specs.declared.limits.TheConstants.{MAX_CERTIFICATE}
+use Rattle.sh_tree.specs.standard.program.Syntax.{Text}
+use Rattle.sh_domain.specs.declared.certificate.Certificate.{Certificate}
+use Rattle.sh_domain.specs.declared.certificate.Entry.{Entry}
+use Rattle.sh_domain.specs.declared.certificate.Facts as value
+use Rattle.sh_domain.specs.declared.limits.TheConstants.{MAX_CERTIFICATE}
 use Rattle.indexmap.specs.IndexMap.{get}
-use Rattle.sh_facts.specs.Certificates.{in_byte_order, commands_from, function_claims, sheet_of}
+use Rattle.sh_domain.specs.Certificates.{in_byte_order, commands_from, function_claims, sheet_of}
 use Rattle.sh_facts.specs.Fields.{left_of, outcome}
-use Rattle.sh_facts.specs.Forms.{read_line, read_lines, is_first, counts_in, command_in, function_in, read_sheet, read_text}
-use Rattle.sh_facts.specs.KeptRows.{KeptRows}
-use Rattle.sh_facts.specs.Reading.{AreLoops, IsTextOf, IsOther, Answers, Reads, fits, commands_fit, functions_fit, function_fits}
+use Rattle.sh_domain.specs.Forms.{read_line, read_lines, is_first, counts_in, command_in, function_in, read_sheet, read_text}
+use Rattle.sh_domain.specs.KeptRows.{KeptRows}
+use Rattle.sh_domain.specs.Reading.{AreLoops, IsTextOf, IsOther, Answers, Reads, fits, commands_fit, functions_fit, function_fits}
 use Rattle.sh_facts.specs.ReadParts.{ReadsCommands, ReadsFunctions, NoneFit, NoFunctionsFit, Misses}
-use Rattle.sh_facts.specs.Sheets.{Sheet, CommandClaims, FunctionClaims, command_fields, function_fields}
-use Rattle.sh_facts.proofs.SpellingLemmas.{err_ok, behind_ok, ended_some, lines_spelled, command_spelled, function_spelled}
+use Rattle.sh_domain.specs.Sheets.{Sheet, CommandClaims, FunctionClaims, command_fields, function_fields}
+use Rattle.sh_domain.proofs.SpellingLemmas.{err_ok, behind_ok, ended_some, lines_spelled, command_spelled, function_spelled}
+use Rattle.sh_domain.proofs.WritableLemmas.{short, within, ok_same, ok_err}
 
 -- The form
 
@@ -33,12 +34,6 @@ and_false : (a : Bool) → (a && false) ≡ false
 and_false true = refl
 and_false false = refl
 
-pub ok_same : {A : Type 0} {x y : A} → ◌≡◌ {A = Result A ℕ} (Ok x) (Ok y) → x ≡ y
-ok_same h = cc
-
-pub ok_err : {A B : Type 0} {x : A} {y : B} → Ok x ≡ Err y → ⊥
-ok_err e = cc
-
 has_sheet : (r : Result Sheet ℕ) → outcome r ≡ Ok (tt {0}) → (s : Sheet) × (r ≡ Ok s)
 unfolding outcome
 has_sheet (Ok s) e = (s, refl)
@@ -49,10 +44,6 @@ unfolding outcome
 refused_so (Ok s) k e = absurd (ok_err e)
 refused_so (Err j) k e = let same : j ≡ k = cc in ap Err same
 
-pub short : (t : Text) → length t ≤ MAX_CERTIFICATE → read_text t ≡ read_sheet t
-unfolding read_text
-short t l = let small : nat_le (length t) MAX_CERTIFICATE ≡ true = grind (arith, nat_tests) in rw small refl
-
 pub too_long : (t : Text) → MAX_CERTIFICATE < length t → read_text t ≡ Err 0
 unfolding read_text
 too_long t l = let past : nat_le (length t) MAX_CERTIFICATE ≡ false = grind (arith, nat_tests) in rw past refl
@@ -62,14 +53,6 @@ faulty t k l e = short t l ∙ refused_so (read_sheet t) k (sym e)
 
 pub has_form : (t : Text) → length t ≤ MAX_CERTIFICATE → Ok (tt {0}) ≡ outcome (read_sheet t) → outcome (read_text t) ≡ Ok (tt {0})
 has_form t l e = ap outcome (short t l) ∙ sym e
-
-pub within : (t : Text) (s : Sheet) → read_text t ≡ Ok s → read_sheet t ≡ Ok s
-unfolding read_text
-within t s e = by (nat_le (length t) MAX_CERTIFICATE) e
-  where
-    by : (b : Bool) → (if b then read_sheet t else Err 0) ≡ Ok s → read_sheet t ≡ Ok s
-    by true h = h
-    by false h = absurd (err_ok h)
 
 -- The parts of a text that has the form
 

@@ -4,8 +4,8 @@ use Rattle.std.specs.Prelude.{ℕ, Bool, List, [], ◌∷◌, Option, Some, None
 use Rattle.std.specs.Borrow.{Bor}
 use Rattle.std.specs.Fmt.{decimal}
 use Rattle.std.specs.Str.{bytes_eq}
-use Rattle.sh_tree.specs.language.Bytes.{is_name}
-use Rattle.sh_tree.specs.program.Syntax.{Text}
+use Rattle.sh_tree.specs.standard.language.Bytes.{is_name}
+use Rattle.sh_tree.specs.standard.program.Syntax.{Text}
 use Rattle.sh_facts.specs.declared.forms.Held.{Held}
 use Rattle.sh_facts.specs.declared.forms.Held.TheVariants as held
 use Rattle.sh_facts.specs.declared.forms.SetTexts.{SetTexts}
@@ -14,10 +14,10 @@ use Rattle.sh_facts.specs.declared.forms.FactText.TheVariants as fact
 use Rattle.sh_facts.specs.declared.forms.CommandTexts.{CommandTexts}
 use Rattle.sh_facts.specs.declared.forms.FunctionTexts.{FunctionTexts}
 use Rattle.sh_facts.specs.declared.forms.Counts.{Counts}
-use Rattle.sh_facts.specs.Facts.{Claim, Unreached, Claimed}
-use Rattle.sh_facts.specs.Forms.{Reading, pieces, cut_at, is_variable, claim_in, drops_in, claims_of, head_of, function_claims_of}
-use Rattle.sh_facts.specs.Operands.{Names}
-use Rattle.sh_facts.specs.Sheets.{CommandClaims, FunctionClaims}
+use Rattle.sh_domain.specs.Facts.{Claim, Unreached, Claimed}
+use Rattle.sh_domain.specs.Forms.{Reading, pieces, cut_at, is_variable, claim_in, drops_in, claims_of, head_of, function_claims_of}
+use Rattle.sh_domain.specs.Operands.{Names}
+use Rattle.sh_domain.specs.Sheets.{CommandClaims, FunctionClaims}
 
 -- Pieces
 

@@ -1,45 +1,33 @@
 -- Clauses of private functions: what is read of a part of a text, and which rows stand then.
 -- The standard has no such thing: parts of the text of a certificate, and rows of the numbers of names.
-use Rattle.std.specs.Prelude.{◌≡◌, ℕ, ◌+◌, ◌*◌, ◌≤◌, nat_eq, Bool, true, false, List, length, map, Ok, Option, Some, None, option_map, slice_get}
-use Rattle.std.specs.Borrow.{Bor}
-use Rattle.std.specs.List.{list_all, list_any}
-use Rattle.std.specs.Str.{bytes_eq}
+use Rattle.std.specs.Prelude.{◌≡◌, ℕ, ◌+◌, ◌*◌, ◌≤◌, nat_eq, Bool, true, false, List, length, map, Ok, Option, option_map}
+use Rattle.std.specs.List.{list_all}
 use Rattle.indexmap.specs.IndexMap.{get}
 use Rattle.sh_rows.specs.declared.bits.BitRow.{BitRow}
 use Rattle.sh_tree.specs.declared.refusal.Refusal.{Refusal}
 use Rattle.sh_tree.specs.declared.refusal.Refusal.TheVariants.{Memory, CertShape}
-use Rattle.sh_tree.specs.declared.tree.Command.{Command}
-use Rattle.sh_tree.specs.program.Syntax.{Text}
-use Rattle.sh_facts.specs.declared.certificate.Certificate.{Certificate}
-use Rattle.sh_facts.specs.declared.certificate.Facts as value
-use Rattle.sh_facts.specs.declared.certificate.Drops.{Drops}
-use Rattle.sh_facts.specs.declared.certificate.Entry.{Entry}
-use Rattle.sh_facts.specs.declared.certificate.FunctionEntry.{FunctionEntry}
-use Rattle.sh_facts.specs.declared.rows.RowId.{RowId}
+use Rattle.sh_tree.specs.standard.program.Syntax.{Text}
+use Rattle.sh_domain.specs.declared.certificate.Certificate.{Certificate}
+use Rattle.sh_domain.specs.declared.certificate.Facts as value
+use Rattle.sh_domain.specs.declared.certificate.Drops.{Drops}
+use Rattle.sh_domain.specs.declared.certificate.Entry.{Entry}
+use Rattle.sh_domain.specs.declared.certificate.FunctionEntry.{FunctionEntry}
+use Rattle.sh_domain.specs.declared.rows.RowId.{RowId}
 use Rattle.sh_facts.specs.declared.forms.SetTexts.{SetTexts}
 use Rattle.sh_facts.specs.declared.forms.FactText.{FactText}
 use Rattle.sh_facts.specs.declared.forms.CommandTexts.{CommandTexts}
 use Rattle.sh_facts.specs.declared.forms.FunctionTexts.{FunctionTexts}
-use Rattle.sh_facts.specs.Certificates as claims
-use Rattle.sh_facts.specs.Certificates.{in_byte_order, names_at, commands_from}
+use Rattle.sh_domain.specs.Certificates as claims
+use Rattle.sh_domain.specs.Certificates.{in_byte_order, names_at, commands_from}
 use Rattle.sh_facts.specs.Fields.{split, sets_of, claim_of, command_of, function_of}
-use Rattle.sh_facts.specs.Forms.{is_rising, read_lines, command_in, function_in}
-use Rattle.sh_facts.specs.KeptRows.{KeptRows, Stay, bits_of}
-use Rattle.sh_facts.specs.Names.{are_distinct}
-use Rattle.sh_facts.specs.Reading.{are_known, sets_fit, claim_fits, is_loop, head_fits, command_fits, commands_fit, function_fits}
-use Rattle.sh_facts.specs.Sheets.{CommandClaims, FunctionClaims}
-use Rattle.sh_facts.specs.Spelling.{is_writable, is_writable_head, are_writable, is_command, is_function}
+use Rattle.sh_domain.specs.Forms.{is_rising, read_lines, command_in, function_in}
+use Rattle.sh_domain.specs.KeptRows.{KeptRows, Stay, bits_of}
+use Rattle.sh_domain.specs.Names.{are_distinct, is_among}
+use Rattle.sh_domain.specs.Reading.{are_known, sets_fit, claim_fits, head_fits, command_fits, commands_fit, function_fits}
+use Rattle.sh_domain.specs.Sheets.{CommandClaims, FunctionClaims}
+use Rattle.sh_domain.specs.Spelling.{is_writable, is_writable_head, are_writable, is_command, is_function}
 
 -- What is read
-
--- the number is that of the name
-unfoldable pub is_name_of : Option Text → Text → Bool
-is_name_of None t = false
-is_name_of (Some n) t = bytes_eq t n
-
--- the number is that of one of these
-abbrev pub is_among : List Text → List Text → ℕ → Bool
-is_among names ts k = list_any (λ t. is_name_of (slice_get names k) t) ts
 
 -- the row of the names of a text
 pub record IsRowOf (names : List Text) (t : Text) (row : BitRow) : Type 0 where
@@ -89,9 +77,6 @@ abbrev pub Misses : Type 0 → Refusal → Type 0
 Misses P CertShape = P
 Misses P Memory = Unit {0}
 Misses P _ = ⊥
-
-abbrev pub loops_of : List (Bor Command) → List Bool
-loops_of cs = map (λ (c : Bor Command). is_loop c.now) cs
 
 -- the lines of the commands, told whether each is a loop, and what is behind them
 pub record ReadsCommands (names : List Text) (loops : List Bool) (t : Text) (entries : List Entry) (heads : ℕ → Option value.Facts) (left : Text) (rows : KeptRows) : Type 0 where

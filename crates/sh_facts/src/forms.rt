@@ -4,12 +4,12 @@ ghost use Rattle.std.specs.Char.{is_ascii_digit};
 ghost use Rattle.std.specs.Fmt.{decimal};
 ghost use Rattle.std.specs.Str.{bytes_eq};
 ghost use Rattle.sh_facts.specs.Fields as field;
-ghost use Rattle.sh_facts.specs.Forms as form;
-ghost use Rattle.sh_facts.specs.Sheets as text;
+ghost use Rattle.sh_domain.specs.Forms as form;
+ghost use Rattle.sh_domain.specs.Sheets as text;
 
-use crate::numbered::precedes;
 use crate::splits::{cut, first_piece};
-use sh_tree::name::is_name;
+use sh_domain::precedes;
+use sh_tree::is_name;
 
 /// The numbers of commands and of functions in a second line.
 #[derive(Clone, Copy, Debug, PartialEq, Eq)]
@@ -78,7 +78,7 @@ fn is_counts(first: &[u8], second: &[u8]) -> bool
     matches!(first, b"commands") && matches!(second, b"functions")
 }
 
-#[tactic(auto, unfolding(crate::specs::Forms::both))]
+#[tactic(auto, unfolding(sh_domain::specs::Forms::both))]
 fn counts_of(commands: &[u8], functions: &[u8]) -> Option<Counts>
     ensures { option_map field.counts_of result ≡ form.both (λ x y. (x, y)) (form.number_in commands.now) (form.number_in functions.now) }
 {
@@ -139,7 +139,7 @@ fn command_facts(text: &[u8]) -> Option<CommandTexts<'_>>
     command_texts(before, zero, nonzero, head)
 }
 
-#[tactic(auto, unfolding(crate::specs::Forms::claims_of))]
+#[tactic(auto, unfolding(sh_domain::specs::Forms::claims_of))]
 fn command_texts<'t>(
     before: &'t [u8],
     zero: &'t [u8],
@@ -156,7 +156,7 @@ fn command_texts<'t>(
     })
 }
 
-#[tactic(auto, using(crate::proofs::FormLemmas::head_sole), unfolding(crate::specs::Forms::head_of, crate::specs::Fields::pieces_left))]
+#[tactic(auto, using(crate::proofs::FormLemmas::head_sole), unfolding(sh_domain::specs::Forms::head_of, crate::specs::Fields::pieces_left))]
 fn head_in(text: Option<&[u8]>) -> Option<Option<FactText<'_>>>
     ensures { option_map (option_map field.claim_of) result ≡ form.head_of (field.pieces_left 32 text.entry) }
 {
@@ -175,7 +175,7 @@ fn function_facts(text: &[u8]) -> Option<FunctionTexts<'_>>
     function_texts(before, drops, zero, nonzero)
 }
 
-#[tactic(auto, unfolding(crate::specs::Forms::function_claims_of))]
+#[tactic(auto, unfolding(sh_domain::specs::Forms::function_claims_of))]
 fn function_texts<'t>(
     before: &'t [u8],
     drops: &'t [u8],
@@ -193,7 +193,7 @@ fn function_texts<'t>(
 }
 
 // `-`, or the count of parameters and the two sets.
-#[tactic(auto, unfolding(crate::specs::Forms::claim_in))]
+#[tactic(auto, unfolding(sh_domain::specs::Forms::claim_in))]
 fn fact_in(text: &[u8]) -> Option<FactText<'_>>
     ensures { option_map field.claim_of result ≡ form.claim_in text.now }
 {
@@ -204,7 +204,7 @@ fn fact_in(text: &[u8]) -> Option<FactText<'_>>
     known_in(args, sets)
 }
 
-#[tactic(auto, unfolding(crate::specs::Forms::both, crate::specs::Fields::claim_of))]
+#[tactic(auto, unfolding(sh_domain::specs::Forms::both, crate::specs::Fields::claim_of))]
 fn known_in<'t>(args: &[u8], sets: &'t [u8]) -> Option<FactText<'t>>
     ensures { option_map field.claim_of result ≡ form.both field.known (form.number_in args.now) (form.drops_in sets.entry.now) }
 {
@@ -226,7 +226,7 @@ fn sets_in(text: &[u8]) -> Option<SetTexts<'_>>
 }
 
 // Whether these are names with commas between them, or nothing.
-#[tactic(auto, unfolding(crate::specs::Forms::names_in))]
+#[tactic(auto, unfolding(sh_domain::specs::Forms::names_in))]
 fn are_names(held: Held, text: &[u8]) -> bool
     ensures { result ≡ is_some (form.names_in (field.test_of held) text.now) }
 {
@@ -284,7 +284,7 @@ fn with_digit(value: u16, byte: u8) -> Option<u16>
     value.checked_mul(10)?.checked_add((byte - b'0') as u16)
 }
 
-#[tactic(auto, unfolding(crate::specs::Forms::leads_no_zero))]
+#[tactic(auto, unfolding(sh_domain::specs::Forms::leads_no_zero))]
 fn leads_no_zero(text: &[u8]) -> bool
     ensures { result ≡ form.leads_no_zero text.now }
 {

@@ -1,22 +1,19 @@
-//! What is surely set before and after each command of a script: policies, the names of a script, and the rules and the demands
-//! that a checker has to test. The latter are definitions, in `specs/`; `laws` holds them against known scripts.
+//! Certificates as texts: how they are written, read and measured. The policies, names and facts that they speak of are
+//! those of `sh_domain`.
 #![tactic(auto)]
 
-pub mod certificate;
 mod forms;
-pub mod knowledge;
-pub mod laws;
-pub mod limits;
+mod length;
 mod lines;
-pub mod names;
-pub mod number_set;
-pub mod numbered;
-mod operands;
-pub mod options;
-pub mod policy;
-pub mod reading;
-pub mod rows;
-pub mod rule;
-pub mod sights;
+mod reading;
+mod row_length;
 mod splits;
-pub mod texts;
+mod texts;
+
+pub use length::is_too_long;
+pub use reading::read_certificate;
+pub use sh_domain::{
+    Assured, Certificate, Drops, Entry, Facts, FlowRule, FunctionEntry, Knowledge, MAX_CERTIFICATE,
+    Names, NumberSet, Policy, PolicyFault, RowId, Rows, laws,
+};
+pub use texts::write_certificate;

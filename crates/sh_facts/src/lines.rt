@@ -2,8 +2,8 @@
 ghost use Rattle.std.specs.Prelude.{◌≡◌, ◌+◌, ◌≤◌, length, option_map, IfOk, IfErr, Ok, Err};
 ghost use Rattle.std.specs.Str.{bytes_eq};
 ghost use Rattle.sh_facts.specs.Fields as field;
-ghost use Rattle.sh_facts.specs.Forms as form;
-ghost use Rattle.sh_facts.specs.Sheets.{first_line};
+ghost use Rattle.sh_domain.specs.Forms as form;
+ghost use Rattle.sh_domain.specs.Sheets.{first_line};
 
 use crate::forms::{CommandTexts, Counts, FunctionTexts, command_in, counts_in, function_in};
 use crate::splits::cut;

@@ -2,26 +2,22 @@
 ghost use Rattle.std.specs.Prelude.{◌≡◌, ℕ, ◌+◌, ◌*◌, ◌<◌, ◌≤◌, ◌^◌, ◌||◌, nat_eq, true, false, [], length, map, option_map, None, Ok, OnOk, IfOk, IfErr};
 ghost use Rattle.indexmap.specs.IndexMap.{get};
 ghost use Rattle.sh_facts.specs.Fields as field;
-ghost use Rattle.sh_facts.specs.Forms as form;
-ghost use Rattle.sh_facts.specs.KeptRows.{bits_of};
-ghost use Rattle.sh_facts.specs.Names.{are_distinct};
-ghost use Rattle.sh_facts.specs.Reading as fit;
+ghost use Rattle.sh_domain.specs.Forms as form;
+ghost use Rattle.sh_domain.specs.KeptRows.{bits_of};
+ghost use Rattle.sh_domain.specs.Names.{are_distinct, is_among};
+ghost use Rattle.sh_domain.specs.Reading as fit;
 ghost use Rattle.sh_facts.specs.ReadParts as part;
 
-use crate::certificate::{Certificate, Drops, Entry, Facts, FunctionEntry};
 use crate::forms::{CommandTexts, FactText, FunctionTexts, SetTexts};
-use crate::limits::MAX_CERTIFICATE;
 use crate::lines::{behind_counts, behind_first, command_line, function_line, test_lines};
-use crate::names::Names;
-use crate::rows::{RowId, Rows};
 use crate::splits::first_piece;
 use indexmap::IndexMap;
-use sh_commands::commands;
-use sh_rows::bits::BitRow;
-use sh_rows::row::Row;
-use sh_table::table::CallTable;
-use sh_tree::refusal::Refusal;
-use sh_tree::tree::{Command, Kind, Script};
+use sh_domain::{
+    Certificate, Drops, Entry, Facts, FunctionEntry, MAX_CERTIFICATE, Names, RowId, Rows, is_loop,
+};
+use sh_rows::{BitRow, Row};
+use sh_table::CallTable;
+use sh_tree::{Command, Kind, Refusal, Script, commands};
 use std::alloc::{AllocError, Global};
 
 /// The certificate of a text, version 1, for a script with these calls and these names.
@@ -60,7 +56,7 @@ fn read_lines(
     names: &Names,
 ) -> Result<Certificate, Refusal>
     requires form { field.outcome (form.read_text text.now) ≡ Ok tt }
-    ensures reads { fit.Answers text.now names.now (part.loops_of commands.now) functions result }
+    ensures reads { fit.Answers text.now names.now (fit.loops_of commands.now) functions result }
     ensures sized { IfOk result (λ c. c.rows.count ≡ length names.now) }
 {
     let Ok(left) = behind_first(text) else {
@@ -111,8 +107,8 @@ fn read_commands<'t>(
     requires few { length commands.now ≤ 65535 }
     requires none { length rows.old.rows ≡ 0 }
     requires count { rows.old.count ≡ length names.now }
-    ensures ok { IfOk result (λ x. part.ReadsCommands names.now (part.loops_of commands.now) text.entry.now x.entries.items (get nat_eq x.heads) x.left.now rows.new) }
-    ensures refusal { IfErr result (part.Misses (part.NoneFit names.now (part.loops_of commands.now) text.entry.now)) }
+    ensures ok { IfOk result (λ x. part.ReadsCommands names.now (fit.loops_of commands.now) text.entry.now x.entries.items (get nat_eq x.heads) x.left.now rows.new) }
+    ensures refusal { IfErr result (part.Misses (part.NoneFit names.now (fit.loops_of commands.now) text.entry.now)) }
 {
     let mut left = text;
     let mut entries = Vec::new(alloc);
@@ -133,22 +129,6 @@ fn read_commands<'t>(
         heads,
         left,
     })
-}
-
-/// Whether a certificate has a head for the command, as for each loop (XCU 2.9.4.2, 2.9.4.5, 2.9.4.6).
-#[tactic(auto, unfolding(crate::specs::Reading::kind_loops))]
-pub fn is_loop(command: &Command) -> bool
-    ensures { result ≡ fit.is_loop command.now }
-{
-    match &command.kind {
-        Kind::Loop { .. } | Kind::For { .. } => true,
-        Kind::Simple(_)
-        | Kind::Group(_)
-        | Kind::Subshell(_)
-        | Kind::Cond { .. }
-        | Kind::Branches { .. }
-        | Kind::Define { .. } => false,
-    }
 }
 
 fn put_head(
@@ -325,7 +305,7 @@ fn row_of(alloc: Global, names: &Names, text: &[u8]) -> Result<BitRow, Refusal>
 fn add_names(names: &Names, row: &mut BitRow, text: &[u8]) -> Result<(), Refusal>
     requires distinct { are_distinct names.now ≡ true }
     requires count { row.old.count ≡ length names.now }
-    ensures numbers { OnOk result ((k : ℕ) → bits_of row.new k ≡ (bits_of row.old k || part.is_among names.now (form.pieces 44 text.now) k)) }
+    ensures numbers { OnOk result ((k : ℕ) → bits_of row.new k ≡ (bits_of row.old k || is_among names.now (form.pieces 44 text.now) k)) }
     ensures count { row.new.count ≡ row.old.count }
     ensures known { OnOk result (fit.are_known names.now (form.pieces 44 text.now) ≡ true) }
     ensures refusal { IfErr result (part.Misfits (fit.are_known names.now (form.pieces 44 text.now))) }

@@ -1,9 +1,9 @@
 //! Pieces of a text between bytes.
 ghost use Rattle.std.specs.Prelude.{◌≡◌, ◌<◌, ◌∷◌, [], length, option_map, IfSome, IfNone};
 ghost use Rattle.sh_facts.specs.Fields.{sides_of, pieces_left};
-ghost use Rattle.sh_facts.specs.Forms as form;
+ghost use Rattle.sh_domain.specs.Forms as form;
 
-use memchr::memchr;
+use bstr::ByteSlice;
 
 /// What stands before the first such byte, and what behind it.
 pub fn cut(text: &[u8], byte: u8) -> Option<(&[u8], &[u8])>
@@ -12,8 +12,7 @@ pub fn cut(text: &[u8], byte: u8) -> Option<(&[u8], &[u8])>
     ensures one { IfNone result (form.pieces byte text.now ≡ text.now ∷ []) }
     ensures less { IfSome result (λ x. length x.1.now < length text.now) }
 {
-    let at = memchr(byte, text)?;
-    Some((&text[..at], &text[at + 1..]))
+    text.split_once_str(&[byte])
 }
 
 /// The piece before the first such byte, and what is behind that byte, if it is there.

@@ -1,17 +1,14 @@
 //! The text of a certificate.
 ghost use Rattle.std.specs.Prelude.{◌≡◌, ◌++◌, ◌^◌, ◌<◌, ◌∷◌, ◌&&◌, [], length, map, not, Ok, OnOk, IfOk};
 ghost use Rattle.std.specs.Option.{option_copied};
-ghost use Rattle.sh_facts.specs.Sheets as text;
-ghost use Rattle.sh_facts.specs.Certificates as claims;
-ghost use Rattle.sh_facts.specs.KeptRows.{holds_at};
-ghost use Rattle.sh_facts.specs.Forms.{read_sheet};
-ghost use Rattle.sh_facts.specs.Numbered.{pair_of, next_if, next_name};
-ghost use Rattle.sh_facts.specs.RoundTrips.{HasText, claimed};
+ghost use Rattle.sh_domain.specs.Sheets as text;
+ghost use Rattle.sh_domain.specs.Certificates as claims;
+ghost use Rattle.sh_domain.specs.KeptRows.{holds_at};
+ghost use Rattle.sh_domain.specs.Forms.{read_sheet};
+ghost use Rattle.sh_domain.specs.Numbered.{next_if, next_name};
+ghost use Rattle.sh_domain.specs.RoundTrips.{HasText, claimed};
 
-use crate::certificate::{Certificate, Drops, Entry, Facts, FunctionEntry};
-use crate::names::Names;
-use crate::numbered::{Numbered, in_byte_order};
-use crate::rows::{RowId, Rows};
+use sh_domain::{Certificate, Drops, Entry, Facts, FunctionEntry, Names, RowId, Rows};
 use std::alloc::{AllocError, Global};
 use std::io::Write;
 
@@ -32,7 +29,6 @@ pub fn write_certificate(
     ensures text { IfOk result (λ t. t.items ≡ text.certificate_text (claims.sheet_of (claims.in_byte_order names.now) certificate.now)) }
     ensures back { IfOk result (λ t. HasText names.now certificate.now → read_sheet t.items ≡ Ok (claimed names.now certificate.now)) }
 {
-    let order = in_byte_order(alloc, names)?;
     let mut out = Vec::new(alloc);
     push_first(&mut out)?;
     push_counts(
@@ -40,12 +36,12 @@ pub fn write_certificate(
         certificate.entries.len(),
         certificate.functions.len(),
     )?;
-    push_entries(&mut out, certificate, &order)?;
-    push_functions(&mut out, &certificate.rows, &order, &certificate.functions)?;
+    push_entries(&mut out, certificate, names)?;
+    push_functions(&mut out, &certificate.rows, names, &certificate.functions)?;
     Ok(out)
 }
 
-#[tactic(auto, unfolding(crate::specs::Sheets::joined))]
+#[tactic(auto, unfolding(sh_domain::specs::Sheets::joined))]
 fn push_first(out: &mut Vec<u8>) -> Result<(), AllocError>
     ensures { OnOk result (out.new.items ≡ out.old.items ++ text.line (text.first_line ∷ [])) }
 {
@@ -53,7 +49,7 @@ fn push_first(out: &mut Vec<u8>) -> Result<(), AllocError>
     Ok(())
 }
 
-#[tactic(auto, unfolding(crate::specs::Sheets::joined))]
+#[tactic(auto, unfolding(sh_domain::specs::Sheets::joined))]
 fn push_counts(out: &mut Vec<u8>, commands: usize, functions: usize) -> Result<(), AllocError>
     ensures { OnOk result (out.new.items ≡ out.old.items ++ text.line (text.count_fields commands functions)) }
 {
@@ -66,37 +62,37 @@ fn push_counts(out: &mut Vec<u8>, commands: usize, functions: usize) -> Result<(
 fn push_entries(
     out: &mut Vec<u8>,
     certificate: &Certificate,
-    order: &[Numbered<'_>],
+    names: &Names,
 ) -> Result<(), AllocError>
     requires { length certificate.now.entries.items < 2 ^ 32 }
-    ensures { OnOk result (out.new.items ≡ out.old.items ++ text.numbered_lines text.command_fields 1 (claims.commands_from (map pair_of order.now) certificate.now 1 certificate.now.entries.items)) }
+    ensures { OnOk result (out.new.items ≡ out.old.items ++ text.numbered_lines text.command_fields 1 (claims.commands_from (claims.in_byte_order names.now) certificate.now 1 certificate.now.entries.items)) }
 {
     let mut number: u32 = 0;
     for entry in &certificate.entries {
         number += 1;
         let head = certificate.head(number);
-        push_entry(out, &certificate.rows, order, number, entry, head)?;
+        push_entry(out, &certificate.rows, names, number, entry, head)?;
     }
     Ok(())
 }
 
-#[tactic(auto, unfolding(crate::specs::Sheets::joined, crate::specs::Sheets::head_fields))]
+#[tactic(auto, unfolding(sh_domain::specs::Sheets::joined, sh_domain::specs::Sheets::head_fields))]
 fn push_entry(
     out: &mut Vec<u8>,
     rows: &Rows,
-    order: &[Numbered<'_>],
+    names: &Names,
     number: u32,
     entry: &Entry,
     head: Option<&Facts>,
 ) -> Result<(), AllocError>
-    ensures { OnOk result (out.new.items ≡ out.old.items ++ text.line (text.command_fields number (claims.command_claims (map pair_of order.now) rows.now entry.now (option_copied head.entry)))) }
+    ensures { OnOk result (out.new.items ≡ out.old.items ++ text.line (text.command_fields number (claims.command_claims (claims.in_byte_order names.now) rows.now entry.now (option_copied head.entry)))) }
 {
     write!(out, "c {number}").map_err(|_error| AllocError)?;
-    push_fact(out, rows, order, entry.before)?;
-    push_fact(out, rows, order, entry.zero)?;
-    push_fact(out, rows, order, entry.nonzero)?;
+    push_fact(out, rows, names, entry.before)?;
+    push_fact(out, rows, names, entry.zero)?;
+    push_fact(out, rows, names, entry.nonzero)?;
     if let Some(head) = head {
-        push_fact(out, rows, order, *head)?;
+        push_fact(out, rows, names, *head)?;
     }
     out.push(b'\n')?;
     Ok(())
@@ -105,48 +101,43 @@ fn push_entry(
 fn push_functions(
     out: &mut Vec<u8>,
     rows: &Rows,
-    order: &[Numbered<'_>],
+    names: &Names,
     functions: &[FunctionEntry],
 ) -> Result<(), AllocError>
     requires { length functions.now < 2 ^ 32 }
-    ensures { OnOk result (out.new.items ≡ out.old.items ++ text.numbered_lines text.function_fields 1 (map (claims.function_claims (map pair_of order.now) rows.now) functions.now)) }
+    ensures { OnOk result (out.new.items ≡ out.old.items ++ text.numbered_lines text.function_fields 1 (map (claims.function_claims (claims.in_byte_order names.now) rows.now) functions.now)) }
 {
     let mut number: u32 = 0;
     for entry in functions {
         number += 1;
-        push_function(out, rows, order, number, entry)?;
+        push_function(out, rows, names, number, entry)?;
     }
     Ok(())
 }
 
-#[tactic(auto, unfolding(crate::specs::Sheets::joined, crate::specs::Sheets::head_fields))]
+#[tactic(auto, unfolding(sh_domain::specs::Sheets::joined, sh_domain::specs::Sheets::head_fields))]
 fn push_function(
     out: &mut Vec<u8>,
     rows: &Rows,
-    order: &[Numbered<'_>],
+    names: &Names,
     number: u32,
     entry: &FunctionEntry,
 ) -> Result<(), AllocError>
-    ensures { OnOk result (out.new.items ≡ out.old.items ++ text.line (text.function_fields number (claims.function_claims (map pair_of order.now) rows.now entry.now))) }
+    ensures { OnOk result (out.new.items ≡ out.old.items ++ text.line (text.function_fields number (claims.function_claims (claims.in_byte_order names.now) rows.now entry.now))) }
 {
     write!(out, "f {number}").map_err(|_error| AllocError)?;
-    push_fact(out, rows, order, entry.before)?;
-    push_drops(out, rows, order, entry.drops)?;
-    push_fact(out, rows, order, entry.zero)?;
-    push_fact(out, rows, order, entry.nonzero)?;
+    push_fact(out, rows, names, entry.before)?;
+    push_drops(out, rows, names, entry.drops)?;
+    push_fact(out, rows, names, entry.zero)?;
+    push_fact(out, rows, names, entry.nonzero)?;
     out.push(b'\n')?;
     Ok(())
 }
 
 // A blank, and the facts.
-#[tactic(auto, unfolding(crate::specs::Sheets::joined, crate::specs::Sheets::claim_text, crate::specs::Certificates::claim_of))]
-fn push_fact(
-    out: &mut Vec<u8>,
-    rows: &Rows,
-    order: &[Numbered<'_>],
-    facts: Facts,
-) -> Result<(), AllocError>
-    ensures { OnOk result (out.new.items ≡ out.old.items ++ 32 ∷ text.claim_text (claims.claim_of (map pair_of order.now) rows.now facts)) }
+#[tactic(auto, unfolding(sh_domain::specs::Sheets::joined, sh_domain::specs::Sheets::claim_text, sh_domain::specs::Certificates::claim_of))]
+fn push_fact(out: &mut Vec<u8>, rows: &Rows, names: &Names, facts: Facts) -> Result<(), AllocError>
+    ensures { OnOk result (out.new.items ≡ out.old.items ++ 32 ∷ text.claim_text (claims.claim_of (claims.in_byte_order names.now) rows.now facts)) }
 {
     match facts {
         Facts::NotReached => {
@@ -160,76 +151,68 @@ fn push_fact(
         } => {
             write!(out, " {args}").map_err(|_error| AllocError)?;
             out.push(b':')?;
-            push_sets(out, rows, order, vars, functions)
+            push_sets(out, rows, names, vars, functions)
         }
     }
 }
 
-#[tactic(auto, unfolding(crate::specs::Sheets::joined))]
-fn push_drops(
-    out: &mut Vec<u8>,
-    rows: &Rows,
-    order: &[Numbered<'_>],
-    drops: Drops,
-) -> Result<(), AllocError>
-    ensures { OnOk result (out.new.items ≡ out.old.items ++ 32 ∷ text.drops_text (claims.drops_of (map pair_of order.now) rows.now drops)) }
+#[tactic(auto, unfolding(sh_domain::specs::Sheets::joined))]
+fn push_drops(out: &mut Vec<u8>, rows: &Rows, names: &Names, drops: Drops) -> Result<(), AllocError>
+    ensures { OnOk result (out.new.items ≡ out.old.items ++ 32 ∷ text.drops_text (claims.drops_of (claims.in_byte_order names.now) rows.now drops)) }
 {
     out.push(b' ')?;
-    push_sets(out, rows, order, drops.vars, drops.functions)
+    push_sets(out, rows, names, drops.vars, drops.functions)
 }
 
-#[tactic(auto, unfolding(crate::specs::Sheets::joined))]
+#[tactic(auto, unfolding(sh_domain::specs::Sheets::joined))]
 fn push_sets(
     out: &mut Vec<u8>,
     rows: &Rows,
-    order: &[Numbered<'_>],
+    names: &Names,
     vars: RowId,
     functions: RowId,
 ) -> Result<(), AllocError>
-    ensures { OnOk result (out.new.items ≡ out.old.items ++ text.drops_text (record { vars = claims.names_at (map pair_of order.now) rows.now vars; functions = claims.names_at (map pair_of order.now) rows.now functions })) }
+    ensures { OnOk result (out.new.items ≡ out.old.items ++ text.drops_text (record { vars = claims.names_at (claims.in_byte_order names.now) rows.now vars; functions = claims.names_at (claims.in_byte_order names.now) rows.now functions })) }
 {
-    push_row(out, rows, order, vars)?;
+    push_row(out, rows, names, vars)?;
     out.push(b':')?;
-    push_row(out, rows, order, functions)
+    push_row(out, rows, names, functions)
 }
 
 // The names of a row, with commas between them.
-fn push_row(
-    out: &mut Vec<u8>,
-    rows: &Rows,
-    order: &[Numbered<'_>],
-    row: RowId,
-) -> Result<(), AllocError>
-    ensures { OnOk result (out.new.items ≡ out.old.items ++ text.names_text (claims.names_at (map pair_of order.now) rows.now row)) }
+fn push_row(out: &mut Vec<u8>, rows: &Rows, names: &Names, row: RowId) -> Result<(), AllocError>
+    ensures { OnOk result (out.new.items ≡ out.old.items ++ text.names_text (claims.names_at (claims.in_byte_order names.now) rows.now row)) }
 {
+    let numbers = names.in_byte_order();
     let mut is_first = true;
-    for numbered in order {
-        is_first = push_numbered(out, rows, row, is_first, *numbered)?;
+    for number in numbers {
+        is_first = push_numbered(out, rows, row, is_first, *number, names.name(*number))?;
     }
     Ok(())
 }
 
 // The name, if its number is in the row, and whether the next one is still the first.
-#[tactic(auto, unfolding(crate::specs::Numbered::next_if))]
+#[tactic(auto, unfolding(sh_domain::specs::Numbered::next_if))]
 fn push_numbered(
     out: &mut Vec<u8>,
     rows: &Rows,
     row: RowId,
     is_first: bool,
-    numbered: Numbered<'_>,
+    number: u32,
+    name: &[u8],
 ) -> Result<bool, AllocError>
-    ensures text { OnOk result (out.new.items ≡ out.old.items ++ next_if (holds_at rows.now.rows row.index numbered.entry.number) is_first numbered.entry.name.now) }
-    ensures first { IfOk result (λ first. first ≡ (is_first && not (holds_at rows.now.rows row.index numbered.entry.number))) }
+    ensures text { OnOk result (out.new.items ≡ out.old.items ++ next_if (holds_at rows.now.rows row.index number) is_first name.now) }
+    ensures first { IfOk result (λ first. first ≡ (is_first && not (holds_at rows.now.rows row.index number))) }
 {
-    if !rows.has(row, numbered.number) {
+    if !rows.has(row, number) {
         return Ok(is_first);
     }
-    push_name(out, is_first, numbered.name)?;
+    push_name(out, is_first, name)?;
     Ok(false)
 }
 
 // The name, behind a comma unless it is the first.
-#[tactic(auto, unfolding(crate::specs::Numbered::next_name))]
+#[tactic(auto, unfolding(sh_domain::specs::Numbered::next_name))]
 fn push_name(out: &mut Vec<u8>, is_first: bool, name: &[u8]) -> Result<(), AllocError>
     ensures { OnOk result (out.new.items ≡ out.old.items ++ next_name is_first name.now) }
 {

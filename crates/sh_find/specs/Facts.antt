@@ -32,11 +32,3 @@ unfoldable pub meet : Facts → Facts → Facts
 meet NotReached g = g
 meet (Known v f a) NotReached = Known v f a
 meet (Known v f a) (Known w g n) = Known (λ x. v x && w x) (λ x. f x && g x) (min a n)
-
--- what is claimed at each slot
-abbrev pub Claims : Type 0
-Claims = ℕ → Facts
-
--- at each slot the first claims no more than the second
-pub record IsBelow (c d : Claims) : Type 0 where
-  pub claimed : (slot : ℕ) → IsWithin (c slot) (d slot)

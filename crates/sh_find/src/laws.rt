@@ -1,30 +1,30 @@
-//! What holds of facts, of what is seen and of the greatest claims.
-ghost use Rattle.std.specs.Prelude.{ℕ, List};
-ghost use Rattle.sh_find.specs.Examples.{SeenAsExpected};
-ghost use Rattle.sh_find.specs.Facts.{Facts, Claims};
-ghost use Rattle.sh_find.specs.Greatest.{IsGreatest, NoneCanRise, Monotone};
-ghost use Rattle.sh_find.specs.Joins.{JoinGives, JoinTakes, JoinKeepsGreatest};
-ghost use Rattle.sh_find.specs.declared.constraint.Constraint.{Constraint};
+//! How what is gathered goes by constraints, of what the rules ask, and which functions they know.
+ghost use Rattle.sh_find.specs.Functions.{RulesDefineNames, RulesKnowNames};
+ghost use Rattle.sh_find.specs.Inner.{EntersNothing};
+ghost use Rattle.sh_find.specs.There.{RulesAskThere};
+ghost use Rattle.sh_find.specs.Together.{GatheredTogether};
 
-/// Known facts are as they should be behind each step.
-pub fn examples()
-    ensures { SeenAsExpected }
+/// What is gathered of several views at a place is gathered of what is known there, of the names that are numbered; and what is gathered of names,
+/// or of constraints, together is what is gathered of them one after the other. So whoever asks may ask a place once.
+pub fn together()
+    ensures { GatheredTogether }
 {}
 
-/// Where more is claimed, each step leaves more, and more is seen.
-pub fn monotone()
-    ensures { Monotone }
+/// The flow rules of a script that is admitted ask of nothing but its commands, the turns of its loops and its functions: each of these has its place in a
+/// certificate that has as many commands and functions as the script, and heads at its loops.
+pub fn places()
+    ensures { RulesAskThere }
 {}
 
-/// Of the greatest claims none can be raised alone.
-pub fn none_can_rise()
-    ensures { (names : ℕ) (start : Facts) (ks : List Constraint) (c : Claims) → IsGreatest names start ks c → NoneCanRise names start ks c }
+/// The flow rules of a script that is admitted define no function without a name (XBD 3.216), and list none to be lost. So where a certificate claims only
+/// names to be defined functions and to be dropped ones, what bounds its claims and what its commands drop has only names too: `!` is known as no function.
+pub fn functions()
+    ensures defined { RulesDefineNames }
+    ensures known { RulesKnowNames }
 {}
 
-/// A slot of its own for what several places give changes what nothing else may claim: where all constraints hold with it, all hold that
-/// stand for it, and claims of which these hold are, but at that slot, claims of which all hold with it. So the greatest stay the greatest.
-pub fn joins()
-    ensures gives { JoinGives }
-    ensures takes { JoinTakes }
-    ensures greatest { JoinKeepsGreatest }
+/// Where no command substitution stands in a word, in redirections or in the words of a simple command, no command of these is entered. So words without
+/// any may be passed over.
+pub fn words()
+    ensures { EntersNothing }
 {}

@@ -1,17 +1,32 @@
-//! The search for the facts that say most: of all that meet a list of constraints the greatest. Names, functions and places are numbers
-//! here, and no tree is.
+//! The greatest certificate of a script: the search begins with the one that claims everything, and lowers what breaks a flow
+//! rule until nothing does.
 #![tactic(auto)]
 
-pub mod constraint;
+mod asked;
+mod before;
+mod choices;
+mod claims;
+mod draft;
+mod first;
+mod functions;
+mod gather;
+mod inner;
+mod kept;
+mod kept_rows;
+mod known;
 pub mod laws;
-pub mod lower;
-pub mod problem;
-pub mod rounds;
-pub mod seen;
-pub mod setting;
-pub mod sight;
-pub mod solution;
-pub mod steps;
-pub mod users;
-pub mod waiting;
-pub mod worklist;
+mod lower;
+mod own;
+mod place;
+mod search;
+mod sides;
+mod sight;
+mod sights;
+mod spot;
+mod subject;
+mod sweep;
+mod turn;
+mod words;
+mod writable;
+
+pub use search::{find, find_by_rounds, find_counted};

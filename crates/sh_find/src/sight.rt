@@ -1,7 +1,7 @@
 //! What is seen, as sets that take no memory.
 ghost use Rattle.std.specs.Prelude.{◌≤◌};
 
-use sh_facts::number_set::NumberSet;
+use sh_domain::NumberSet;
 
 /// What is seen where a run may come: these variables are set, these functions are defined, and there are so many positional parameters at
 /// least.

@@ -13,10 +13,10 @@ use Rattle.sh_tree.specs.declared.tree.Link.{Link}
 use Rattle.sh_tree.specs.declared.tree.Pipe.{Pipe}
 use Rattle.sh_tree.specs.declared.tree.Redirect.{Redirect}
 use Rattle.sh_tree.specs.declared.tree.Script.{Script}
-use Rattle.sh_tree.specs.language.Reading as r
-use Rattle.sh_tree.specs.language.Reading.{ReadsRedirect, ReadsRedirects, ReadsElements, ReadsCommand, ReadsCompound, ReadsDo, ReadsBranches, ReadsElse, ReadsClauses, ReadsPipeline, ReadsCommands, ReadsAndOr, ReadsLinks, ReadsItems, ReadsList, ReadsSequence, ReadsScript, is_empty}
-use Rattle.sh_tree.specs.language.States.{Spot, State, Document, closing, nth, waits, within}
-use Rattle.sh_tree.specs.language.Trees as tree
+use Rattle.sh_tree.specs.standard.language.Reading as r
+use Rattle.sh_tree.specs.standard.language.Reading.{ReadsRedirect, ReadsRedirects, ReadsElements, ReadsCommand, ReadsCompound, ReadsDo, ReadsBranches, ReadsElse, ReadsClauses, ReadsPipeline, ReadsCommands, ReadsAndOr, ReadsLinks, ReadsItems, ReadsList, ReadsSequence, ReadsScript, is_empty}
+use Rattle.sh_tree.specs.standard.language.States.{Spot, State, Document, closing, nth, waits, within}
+use Rattle.sh_tree.specs.standard.language.Trees as tree
 use Rattle.sh_tree.proofs.Inversions.{script_is}
 use Rattle.sh_grammar.specs.Readers.{unread}
 

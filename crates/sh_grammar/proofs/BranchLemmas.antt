@@ -10,12 +10,12 @@ use Rattle.sh_tree.specs.declared.tree.Script.{Script}
 use Rattle.sh_tree.specs.declared.tree.Kind.{Kind}
 use Rattle.sh_tree.specs.declared.tree.Kind.TheVariants as kind
 use Rattle.sh_tree.specs.declared.refusal.Refusal.{Refusal}
-use Rattle.sh_tree.specs.language.Commands.{lead_at}
-use Rattle.sh_tree.specs.language.Reading as r
-use Rattle.sh_tree.specs.language.Reading.{ReadsList, ReadsBranches, ReadsElse, ReadsCompound, lead_here, behind_token}
-use Rattle.sh_tree.specs.language.States as states
-use Rattle.sh_tree.specs.language.States.{Document, lower, as_deep}
-use Rattle.sh_tree.specs.language.Trees.{branch}
+use Rattle.sh_tree.specs.standard.language.Commands.{lead_at}
+use Rattle.sh_tree.specs.standard.language.Reading as r
+use Rattle.sh_tree.specs.standard.language.Reading.{ReadsList, ReadsBranches, ReadsElse, ReadsCompound, lead_here, behind_token}
+use Rattle.sh_tree.specs.standard.language.States as states
+use Rattle.sh_tree.specs.standard.language.States.{Document, lower, as_deep}
+use Rattle.sh_tree.specs.standard.language.Trees.{branch}
 use Rattle.sh_tree.proofs.Counts.{list_count, else_count}
 use Rattle.sh_grammar.specs.declared.state.State.{State}
 use Rattle.sh_grammar.specs.States.{here}

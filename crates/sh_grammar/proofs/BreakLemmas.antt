@@ -4,12 +4,12 @@ use Rattle.std.proofs.lemmas.Bool.{true≢false, cases_Bool, cond-true, cond-fal
 use Rattle.std.proofs.lemmas.List.{drop-drop}
 use Rattle.std.proofs.lemmas.List.Sums.{take_while-cons}
 use Rattle.sh_tree.specs.declared.token.command.Stage.TheVariants.{First}
-use Rattle.sh_tree.specs.language.Bytes.{is_newline, is_first}
-use Rattle.sh_tree.specs.language.Commands.{gap_length, comment_length, is_comment, blank_length, blanks, lead_at, is_newline_lead}
-use Rattle.sh_tree.specs.language.Reading.{ReadsBreaks, ReadsDocuments, is_some}
-use Rattle.sh_tree.specs.language.Reading as r
-use Rattle.sh_tree.specs.language.States as states
-use Rattle.sh_tree.specs.language.States.{next, on_line}
+use Rattle.sh_tree.specs.standard.language.Bytes.{is_newline, is_first}
+use Rattle.sh_tree.specs.standard.language.Commands.{gap_length, comment_length, is_comment, blank_length, blanks, lead_at, is_newline_lead}
+use Rattle.sh_tree.specs.standard.language.Reading.{ReadsBreaks, ReadsDocuments, is_some}
+use Rattle.sh_tree.specs.standard.language.Reading as r
+use Rattle.sh_tree.specs.standard.language.States as states
+use Rattle.sh_tree.specs.standard.language.States.{next, on_line}
 use Rattle.sh_tree.specs.declared.refusal.Form.TheVariants as form
 use Rattle.sh_tree.specs.declared.refusal.Refusal.{Refusal}
 use Rattle.sh_tree.specs.declared.refusal.Refusal.TheVariants.{LeftOut}

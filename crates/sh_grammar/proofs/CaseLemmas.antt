@@ -14,13 +14,13 @@ use Rattle.sh_tree.specs.declared.tree.ClauseEnd.TheVariants.{Break}
 use Rattle.sh_tree.specs.declared.tree.Kind.{Kind}
 use Rattle.sh_tree.specs.declared.tree.Kind.TheVariants as kind
 use Rattle.sh_tree.specs.declared.refusal.Refusal.{Refusal}
-use Rattle.sh_tree.specs.language.Commands.{lead_at, is_word, is_open, is_esac, clause_end_of}
-use Rattle.sh_tree.specs.language.Contexts.{in_unsplit}
-use Rattle.sh_tree.specs.language.Reading as r
-use Rattle.sh_tree.specs.language.Reading.{ReadsWord, ReadsPatterns, ReadsSequence, ReadsBreaks, ReadsClauses, ReadsCompound, lead_here, lead_of, skip, unopened, behind_token}
-use Rattle.sh_tree.specs.language.States as states
-use Rattle.sh_tree.specs.language.States.{Spot, Document, facing, past, waits, lower, as_deep}
-use Rattle.sh_tree.specs.language.Trees.{clause}
+use Rattle.sh_tree.specs.standard.language.Commands.{lead_at, is_word, is_open, is_esac, clause_end_of}
+use Rattle.sh_tree.specs.standard.language.Contexts.{in_unsplit}
+use Rattle.sh_tree.specs.standard.language.Reading as r
+use Rattle.sh_tree.specs.standard.language.Reading.{ReadsWord, ReadsPatterns, ReadsSequence, ReadsBreaks, ReadsClauses, ReadsCompound, lead_here, lead_of, skip, unopened, behind_token}
+use Rattle.sh_tree.specs.standard.language.States as states
+use Rattle.sh_tree.specs.standard.language.States.{Spot, Document, facing, past, waits, lower, as_deep}
+use Rattle.sh_tree.specs.standard.language.Trees.{clause}
 use Rattle.sh_tree.proofs.Counts.{patterns_count, sequence_count, breaks_count, clauses_count}
 use Rattle.sh_grammar.specs.Breaks.{BreaksTo, BreaksFrom}
 use Rattle.sh_grammar.specs.Cases.{UnsplitFrom, PatternsFrom, ReadsClause, ClauseFrom, ClausesFrom, ReadsClauseTail}

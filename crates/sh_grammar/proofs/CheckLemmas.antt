@@ -1,11 +1,11 @@
 -- Lines of here-documents that are read in two ways, by what was asked of them.
 use Rattle.std.proofs.Common.{◌≡◌, ℕ, ◌+◌, ◌<◌, Bool, true, false, not, ◌&&◌, ◌||◌, ◌-◌, List, length, drop, refl, sym, ap, subst, ◌∙◌, arith, length-take, length-drop}
 use Rattle.std.proofs.lemmas.Bool.{true≢false}
-use Rattle.sh_tree.specs.Tree.{text_of}
+use Rattle.sh_tree.specs.standard.Tree.{text_of}
 use Rattle.sh_tree.specs.declared.tree.Span.{Span}
-use Rattle.sh_tree.specs.language.Bytes.{is_first, is_tab}
-use Rattle.sh_tree.specs.language.HereDocuments.{behind_line, has_joined, has_tabbed_line, is_split_text, keeps_document}
-use Rattle.sh_tree.specs.language.Trees.{span}
+use Rattle.sh_tree.specs.standard.language.Bytes.{is_first, is_tab}
+use Rattle.sh_tree.specs.standard.language.HereDocuments.{behind_line, has_joined, has_tabbed_line, is_split_text, keeps_document}
+use Rattle.sh_tree.specs.standard.language.Trees.{span}
 use Rattle.sh_grammar.specs.declared.mark.Mark.{Mark}
 use Rattle.sh_grammar.specs.declared.state.State.{State}
 use Rattle.sh_grammar.specs.Documents.{IsKept}

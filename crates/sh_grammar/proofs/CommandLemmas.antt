@@ -12,12 +12,12 @@ use Rattle.sh_tree.specs.declared.tree.Kind.{Kind}
 use Rattle.sh_tree.specs.declared.tree.Kind.TheVariants as kind
 use Rattle.sh_tree.specs.declared.tree.Command.{Command}
 use Rattle.sh_tree.specs.declared.refusal.Refusal.{Refusal}
-use Rattle.sh_tree.specs.language.Commands.{lead_at, begins_simple, begins_compound, begins_command, is_redirection, redirects}
-use Rattle.sh_tree.specs.language.Reading as r
-use Rattle.sh_tree.specs.language.Reading.{ReadsElements, ReadsRedirects, ReadsCompound, ReadsCommand, lead_here, is_empty}
-use Rattle.sh_tree.specs.language.States as states
-use Rattle.sh_tree.specs.language.States.{Document, begun, closing}
-use Rattle.sh_tree.specs.language.Trees as tree
+use Rattle.sh_tree.specs.standard.language.Commands.{lead_at, begins_simple, begins_compound, begins_command, is_redirection, redirects}
+use Rattle.sh_tree.specs.standard.language.Reading as r
+use Rattle.sh_tree.specs.standard.language.Reading.{ReadsElements, ReadsRedirects, ReadsCompound, ReadsCommand, lead_here, is_empty}
+use Rattle.sh_tree.specs.standard.language.States as states
+use Rattle.sh_tree.specs.standard.language.States.{Document, begun, closing}
+use Rattle.sh_tree.specs.standard.language.Trees as tree
 use Rattle.sh_tree.proofs.Inversions.{apart, compound_begins}
 use Rattle.sh_tree.proofs.Counts.{command_count_more, redirects_count}
 use Rattle.sh_grammar.specs.declared.state.State.{State}

@@ -11,12 +11,12 @@ use Rattle.sh_tree.specs.declared.tree.Script.{Script, out-Script, out-roll-Scri
 use Rattle.sh_tree.specs.declared.tree.Kind.{Kind}
 use Rattle.sh_tree.specs.declared.tree.Kind.TheVariants as kind
 use Rattle.sh_tree.specs.declared.refusal.Refusal.{Refusal}
-use Rattle.sh_tree.specs.language.Commands.{lead_at}
-use Rattle.sh_tree.specs.language.Reading as r
-use Rattle.sh_tree.specs.language.Reading.{ReadsItems, ReadsList, ReadsSequence, ReadsCompound, lead_here, skip}
-use Rattle.sh_tree.specs.language.States as states
-use Rattle.sh_tree.specs.language.States.{Document, lower, as_deep}
-use Rattle.sh_tree.specs.language.Trees as tree
+use Rattle.sh_tree.specs.standard.language.Commands.{lead_at}
+use Rattle.sh_tree.specs.standard.language.Reading as r
+use Rattle.sh_tree.specs.standard.language.Reading.{ReadsItems, ReadsList, ReadsSequence, ReadsCompound, lead_here, skip}
+use Rattle.sh_tree.specs.standard.language.States as states
+use Rattle.sh_tree.specs.standard.language.States.{Document, lower, as_deep}
+use Rattle.sh_tree.specs.standard.language.Trees as tree
 use Rattle.sh_grammar.specs.declared.state.State.{State}
 use Rattle.sh_grammar.specs.States.{here}
 use Rattle.sh_grammar.specs.Readers.{One, Nothing, Refused, SequenceFrom, ListFrom, CompoundFrom, unread}

@@ -7,13 +7,13 @@ use Rattle.sh_tree.specs.declared.token.command.Operator.TheVariants as op
 use Rattle.sh_tree.specs.declared.tree.Kind.TheVariants as kind
 use Rattle.sh_tree.specs.declared.tree.Command.{Command}
 use Rattle.sh_tree.specs.declared.refusal.Refusal.{Refusal}
-use Rattle.sh_tree.specs.language.Commands.{lead_at, begins_simple, begins_compound, is_redirection, name_end}
-use Rattle.sh_tree.specs.language.Reading as r
-use Rattle.sh_tree.specs.language.Reading.{ReadsBreaks, ReadsCommand, lead_here, lead_of, skip, behind_name}
-use Rattle.sh_tree.specs.language.States as states
-use Rattle.sh_tree.specs.language.States.{Document, begun}
-use Rattle.sh_tree.specs.language.Trees as tree
-use Rattle.sh_tree.specs.language.Trees.{span}
+use Rattle.sh_tree.specs.standard.language.Commands.{lead_at, begins_simple, begins_compound, is_redirection, name_end}
+use Rattle.sh_tree.specs.standard.language.Reading as r
+use Rattle.sh_tree.specs.standard.language.Reading.{ReadsBreaks, ReadsCommand, lead_here, lead_of, skip, behind_name}
+use Rattle.sh_tree.specs.standard.language.States as states
+use Rattle.sh_tree.specs.standard.language.States.{Document, begun}
+use Rattle.sh_tree.specs.standard.language.Trees as tree
+use Rattle.sh_tree.specs.standard.language.Trees.{span}
 use Rattle.sh_tree.proofs.Inversions.{apart, compound_begins}
 use Rattle.sh_tree.proofs.Counts.{command_count}
 use Rattle.sh_grammar.specs.Breaks.{BreaksTo, BreaksFrom}

@@ -2,12 +2,12 @@
 use Rattle.std.proofs.Common.{◌≡◌, Bool, true, false, not, ◌&&◌, cond, ◌<◌, List, length, Option, Some, None, ℕ, refl, sym, ap, ◌∙◌}
 use Rattle.std.specs.List.{list_any}
 use Rattle.std.proofs.lemmas.Bool.{and_right, cond-true, cond-false}
-use Rattle.sh_tree.specs.Tree.{text_of}
-use Rattle.sh_tree.specs.Words.{parts_text}
+use Rattle.sh_tree.specs.standard.Tree.{text_of}
+use Rattle.sh_tree.specs.standard.Words.{parts_text}
 use Rattle.sh_tree.specs.declared.tree.Word.{Word}
-use Rattle.sh_tree.specs.language.Bytes.{is_newline}
-use Rattle.sh_tree.specs.language.HereDocuments.{is_delimiter, delimiter_of, is_static, or_none}
-use Rattle.sh_tree.specs.language.States as states
+use Rattle.sh_tree.specs.standard.language.Bytes.{is_newline}
+use Rattle.sh_tree.specs.standard.language.HereDocuments.{is_delimiter, delimiter_of, is_static, or_none}
+use Rattle.sh_tree.specs.standard.language.States as states
 use Rattle.sh_tree.specs.declared.refusal.Form.TheVariants as form
 use Rattle.sh_tree.specs.declared.refusal.Refusal.TheVariants.{LeftOut}
 use Rattle.sh_grammar.specs.Delimiters.{DelimiterIn, delimiter_in}

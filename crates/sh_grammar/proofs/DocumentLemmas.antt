@@ -7,15 +7,15 @@ use Rattle.sh_tree.specs.declared.refusal.Refusal.TheVariants.{LeftOut, Syntax, 
 use Rattle.sh_tree.specs.declared.tree.Part.{Part}
 use Rattle.sh_tree.specs.declared.tree.Span.{Span}
 use Rattle.sh_tree.specs.declared.tree.Word.{Word}
-use Rattle.sh_tree.specs.language.Contexts.{in_document_of}
-use Rattle.sh_tree.specs.language.HereDocuments as documents
-use Rattle.sh_tree.specs.language.HereDocuments.{end_line, behind_line}
-use Rattle.sh_tree.specs.language.Parts.{keeps_lines}
-use Rattle.sh_tree.specs.language.Reading as r
-use Rattle.sh_tree.specs.language.Reading.{ReadsParts, ReadsDocuments, is_some}
-use Rattle.sh_tree.specs.language.States as states
-use Rattle.sh_tree.specs.language.States.{Spot, in_document, past, waits, with_document}
-use Rattle.sh_tree.specs.language.Trees.{word}
+use Rattle.sh_tree.specs.standard.language.Contexts.{in_document_of}
+use Rattle.sh_tree.specs.standard.language.HereDocuments as documents
+use Rattle.sh_tree.specs.standard.language.HereDocuments.{end_line, behind_line}
+use Rattle.sh_tree.specs.standard.language.Parts.{keeps_lines}
+use Rattle.sh_tree.specs.standard.language.Reading as r
+use Rattle.sh_tree.specs.standard.language.Reading.{ReadsParts, ReadsDocuments, is_some}
+use Rattle.sh_tree.specs.standard.language.States as states
+use Rattle.sh_tree.specs.standard.language.States.{Spot, in_document, past, waits, with_document}
+use Rattle.sh_tree.specs.standard.language.Trees.{word}
 use Rattle.sh_tree.proofs.Inversions.{some_one}
 use Rattle.sh_tree.proofs.Counts.{documents_count}
 use Rattle.sh_bodies.specs.declared.Document.{Document}

@@ -10,13 +10,13 @@ use Rattle.sh_tree.specs.declared.tree.Redirect.{Redirect}
 use Rattle.sh_tree.specs.declared.tree.Element.{Element}
 use Rattle.sh_tree.specs.declared.tree.Element.TheVariants as element
 use Rattle.sh_tree.specs.declared.refusal.Refusal.{Refusal}
-use Rattle.sh_tree.specs.language.Commands.{lead_at, begins_simple, is_redirection, name_end}
-use Rattle.sh_tree.specs.language.Contexts.{in_value, in_stage}
-use Rattle.sh_tree.specs.language.Reading as r
-use Rattle.sh_tree.specs.language.Reading.{ReadsWord, ReadsElements, ReadsRedirect, lead_of, stage_behind, redirected}
-use Rattle.sh_tree.specs.language.States as states
-use Rattle.sh_tree.specs.language.States.{Spot, Document, to, facing, past, waits}
-use Rattle.sh_tree.specs.language.Trees.{span}
+use Rattle.sh_tree.specs.standard.language.Commands.{lead_at, begins_simple, is_redirection, name_end}
+use Rattle.sh_tree.specs.standard.language.Contexts.{in_value, in_stage}
+use Rattle.sh_tree.specs.standard.language.Reading as r
+use Rattle.sh_tree.specs.standard.language.Reading.{ReadsWord, ReadsElements, ReadsRedirect, lead_of, stage_behind, redirected}
+use Rattle.sh_tree.specs.standard.language.States as states
+use Rattle.sh_tree.specs.standard.language.States.{Spot, Document, to, facing, past, waits}
+use Rattle.sh_tree.specs.standard.language.Trees.{span}
 use Rattle.sh_tree.proofs.Inversions.{apart}
 use Rattle.sh_tree.proofs.Counts.{elements_count}
 use Rattle.sh_reads.proofs.BeginningLemmas.{word_goes}

@@ -9,7 +9,7 @@ use Rattle.sh_tree.specs.declared.token.command.Lead.{Lead}
 use Rattle.sh_tree.specs.declared.token.command.Lead.TheVariants as lead
 use Rattle.sh_grammar.specs.declared.mark.Mark.{Mark}
 use Rattle.sh_grammar.specs.declared.state.State.{State}
-use Rattle.sh_tree.specs.language.HereDocuments.{is_split_text}
+use Rattle.sh_tree.specs.standard.language.HereDocuments.{is_split_text}
 use Rattle.sh_grammar.specs.Faults.{IsPlace, Tells, TellsAt, ended}
 use Rattle.sh_grammar.specs.States.{AreIn, waiting}
 use Rattle.sh_grammar.specs.Substitutions.{unclosed}

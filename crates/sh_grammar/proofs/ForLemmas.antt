@@ -11,13 +11,13 @@ use Rattle.sh_tree.specs.declared.tree.Script.{Script}
 use Rattle.sh_tree.specs.declared.tree.Kind.{Kind}
 use Rattle.sh_tree.specs.declared.tree.Kind.TheVariants as kind
 use Rattle.sh_tree.specs.declared.refusal.Refusal.{Refusal}
-use Rattle.sh_tree.specs.language.Commands.{lead_at, is_word, is_newline_lead, separator, is_bare_name, name_end}
-use Rattle.sh_tree.specs.language.Contexts.{in_word, in_stage}
-use Rattle.sh_tree.specs.language.Reading as r
-use Rattle.sh_tree.specs.language.Reading.{ReadsWord, ReadsWords, ReadsForWords, ReadsBreaks, ReadsDo, ReadsCompound, lead_here, lead_of, skip, parted, behind_token, behind_name}
-use Rattle.sh_tree.specs.language.States as states
-use Rattle.sh_tree.specs.language.States.{Spot, Document, facing, past, waits, lower, as_deep}
-use Rattle.sh_tree.specs.language.Trees.{span}
+use Rattle.sh_tree.specs.standard.language.Commands.{lead_at, is_word, is_newline_lead, separator, is_bare_name, name_end}
+use Rattle.sh_tree.specs.standard.language.Contexts.{in_word, in_stage}
+use Rattle.sh_tree.specs.standard.language.Reading as r
+use Rattle.sh_tree.specs.standard.language.Reading.{ReadsWord, ReadsWords, ReadsForWords, ReadsBreaks, ReadsDo, ReadsCompound, lead_here, lead_of, skip, parted, behind_token, behind_name}
+use Rattle.sh_tree.specs.standard.language.States as states
+use Rattle.sh_tree.specs.standard.language.States.{Spot, Document, facing, past, waits, lower, as_deep}
+use Rattle.sh_tree.specs.standard.language.Trees.{span}
 use Rattle.sh_tree.proofs.Inversions.{no_breaks}
 use Rattle.sh_tree.proofs.Counts.{words_count, breaks_count, do_count}
 use Rattle.sh_reads.proofs.BeginningLemmas.{word_goes}

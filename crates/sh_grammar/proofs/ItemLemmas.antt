@@ -4,8 +4,8 @@ use Rattle.std.proofs.lemmas.Bool.{cond-false, true≢false}
 use Rattle.std.proofs.lemmas.Bool.Decides.{nat_tests}
 use Rattle.sh_tree.specs.declared.token.command.Stage.TheVariants.{First, Prefixed, Named}
 use Rattle.sh_tree.specs.declared.token.command.Lead.TheVariants as lead
-use Rattle.sh_tree.specs.language.Bytes.{is_first, is_digit, is_newline, behind_joined, run}
-use Rattle.sh_tree.specs.language.Characters as byte
+use Rattle.sh_tree.specs.standard.language.Bytes.{is_first, is_digit, is_newline, behind_joined, run}
+use Rattle.sh_tree.specs.standard.language.Characters as byte
 use Rattle.sh_tree.specs.declared.refusal.Form.TheVariants as form
 use Rattle.sh_tree.specs.declared.refusal.Form.{Form}
 use Rattle.sh_tree.specs.declared.token.command.Lead.{Lead}
@@ -14,7 +14,7 @@ use Rattle.sh_tree.specs.declared.token.command.Operator.TheVariants as op
 use Rattle.sh_tree.specs.declared.token.command.Reserved.{Reserved}
 use Rattle.sh_tree.specs.declared.token.command.Reserved.TheVariants as word
 use Rattle.sh_tree.specs.declared.token.command.Stage.{Stage}
-use Rattle.sh_tree.specs.language.Commands.{operator_of, lead_at, lead_of, operator_lead, whole_operator, opening, reserved_lead, first_lead, name_lead, word_lead, number_lead, other_lead, bare_word, is_parenthesis, is_definition, is_split, is_assignment, is_angle, is_named, entry_of, left_out_names, reserved_words}
+use Rattle.sh_tree.specs.standard.language.Commands.{operator_of, lead_at, lead_of, operator_lead, whole_operator, opening, reserved_lead, first_lead, name_lead, word_lead, number_lead, other_lead, bare_word, is_parenthesis, is_definition, is_split, is_assignment, is_angle, is_named, entry_of, left_out_names, reserved_words}
 
 -- Inside the text no token ends it
 

@@ -4,10 +4,10 @@ use Rattle.std.proofs.Math.Seq.{drop-cons}
 use Rattle.std.specs.Option.{option_or}
 use Rattle.std.proofs.lemmas.Bool.{cond-true, cond-false, eqb-true, false_from_ne_true, true≢false}
 use Rattle.std.proofs.lemmas.List.{drop-drop, drop_all}
-use Rattle.sh_tree.specs.Tree.{text_of}
+use Rattle.sh_tree.specs.standard.Tree.{text_of}
 use Rattle.sh_tree.specs.declared.tree.Span.{Span}
-use Rattle.sh_tree.specs.language.Bytes.{is_newline, is_tab, is_backslash, is_first}
-use Rattle.sh_tree.specs.language.HereDocuments.{has_joined, has_tabbed_line, is_split_text}
+use Rattle.sh_tree.specs.standard.language.Bytes.{is_newline, is_tab, is_backslash, is_first}
+use Rattle.sh_tree.specs.standard.language.HereDocuments.{has_joined, has_tabbed_line, is_split_text}
 use Rattle.sh_grammar.specs.Lines.{joined_step, is_joined}
 use Rattle.sh_grammar.specs.Quotes.{SplitsIn, all_kept}
 

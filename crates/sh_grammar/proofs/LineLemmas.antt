@@ -6,9 +6,9 @@ use Rattle.std.specs.Str.{bytes_eq}
 use Rattle.std.proofs.lemmas.Bool.{and_parts, and_right, cases_Bool, cond-true, cond-false, eqb-true, true≢false}
 use Rattle.std.proofs.lemmas.Bool.Decides.{nat_tests}
 use Rattle.std.proofs.lemmas.List.Sums.{take_while-cons}
-use Rattle.sh_tree.specs.language.Bytes.{is_newline, is_tab, is_backslash, run}
-use Rattle.sh_tree.specs.language.HereDocuments.{Mark, line_text, line_end, end_line, end_line_within, behind_line, end_candidate}
-use Rattle.sh_tree.specs.language.Trees.{span}
+use Rattle.sh_tree.specs.standard.language.Bytes.{is_newline, is_tab, is_backslash, run}
+use Rattle.sh_tree.specs.standard.language.HereDocuments.{Mark, line_text, line_end, end_line, end_line_within, behind_line, end_candidate}
+use Rattle.sh_tree.specs.standard.language.Trees.{span}
 use Rattle.sh_grammar.specs.Lines.{piece_step, piece_kept, strip_step, ends}
 
 -- Pieces

@@ -12,12 +12,12 @@ use Rattle.sh_tree.specs.declared.tree.AndOr.{AndOr}
 use Rattle.sh_tree.specs.declared.tree.Item.{Item}
 use Rattle.sh_tree.specs.declared.tree.Script.{Script}
 use Rattle.sh_tree.specs.declared.refusal.Refusal.{Refusal}
-use Rattle.sh_tree.specs.language.Commands.{lead_at, begins_simple, begins_compound, is_redirection, begins_command, begins_pipeline, separator, link_of, is_bar, is_reserved}
-use Rattle.sh_tree.specs.language.Reading as r
-use Rattle.sh_tree.specs.language.Reading.{ReadsBreaks, ReadsCommand, ReadsCommands, ReadsPipeline, ReadsLinks, ReadsAndOr, ReadsItems, ReadsSequence, lead_here, skip, parted}
-use Rattle.sh_tree.specs.language.States as states
-use Rattle.sh_tree.specs.language.States.{Document}
-use Rattle.sh_tree.specs.language.Trees.{script, item, and_or, pipe}
+use Rattle.sh_tree.specs.standard.language.Commands.{lead_at, begins_simple, begins_compound, is_redirection, begins_command, begins_pipeline, separator, link_of, is_bar, is_reserved}
+use Rattle.sh_tree.specs.standard.language.Reading as r
+use Rattle.sh_tree.specs.standard.language.Reading.{ReadsBreaks, ReadsCommand, ReadsCommands, ReadsPipeline, ReadsLinks, ReadsAndOr, ReadsItems, ReadsSequence, lead_here, skip, parted}
+use Rattle.sh_tree.specs.standard.language.States as states
+use Rattle.sh_tree.specs.standard.language.States.{Document}
+use Rattle.sh_tree.specs.standard.language.Trees.{script, item, and_or, pipe}
 use Rattle.sh_tree.proofs.Counts.{commands_count, breaks_count, links_count, items_count, pipeline_count}
 use Rattle.sh_grammar.specs.declared.state.State.{State}
 use Rattle.sh_grammar.specs.States.{here, moved}

@@ -2,7 +2,7 @@
 use Rattle.std.proofs.Common.{◌≡◌, ℕ, suc, ◌+◌, ◌-◌, ◌<◌, ◌≤◌, ◌⊎◌, inl, inr, Bool, true, false, not, ◌&&◌, List, [], ◌∷◌, ◌++◌, length, drop, get_or, Option, Some, None, refl, sym, ap, subst, ◌∙◌, arith, length-drop, length-take}
 use Rattle.std.proofs.Math.Seq.{drop-cons}
 use Rattle.std.proofs.lemmas.List.{append-nil, drop_all}
-use Rattle.sh_tree.specs.Tree.{text_of}
+use Rattle.sh_tree.specs.standard.Tree.{text_of}
 use Rattle.sh_tree.specs.declared.tree.Action.{Action}
 use Rattle.sh_tree.specs.declared.tree.Binary.{Binary}
 use Rattle.sh_tree.specs.declared.tree.Element.TheBlock.{items_hidden-the_row-Part-0, hidden-the_row-Part-0, shape-the_row-Expr-1, hidden-the_row-Expr-1, items_hidden-the_row-Expr-Chain-1-2-2, hidden-the_row-Expr-Chain-1-2-2}
@@ -17,8 +17,8 @@ use Rattle.sh_tree.specs.declared.tree.Removal.{Removal}
 use Rattle.sh_tree.specs.declared.tree.Span.{Span}
 use Rattle.sh_tree.specs.declared.tree.Unary.{Unary}
 use Rattle.sh_tree.specs.declared.tree.Word.{Word}
-use Rattle.sh_tree.specs.language.HereDocuments.{is_split_text}
-use Rattle.sh_tree.specs.language.Parts.{keeps_lines, singles, singles_in, row_singles, operator_singles, expression_singles, row_expression_singles, chain_singles}
+use Rattle.sh_tree.specs.standard.language.HereDocuments.{is_split_text}
+use Rattle.sh_tree.specs.standard.language.Parts.{keeps_lines, singles, singles_in, row_singles, operator_singles, expression_singles, row_expression_singles, chain_singles}
 use Rattle.sh_grammar.specs.Quotes.{Splits, SplitsIn, chained}
 use Rattle.sh_grammar.proofs.KeptLemmas.{Left, behind_kept, before_split}
 

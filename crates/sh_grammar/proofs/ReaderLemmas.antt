@@ -3,7 +3,7 @@ use Rattle.std.proofs.Common.{◌≡◌, ℕ, ◌≤◌, List, [], ◌∷◌, �
 use Rattle.std.proofs.lemmas.List.{append-nil, append_assoc}
 use Rattle.sh_tree.specs.declared.refusal.Refusal.{Refusal}
 use Rattle.sh_tree.specs.declared.refusal.Refusal.TheVariants.{TooLong, NulByte, Syntax, LeftOut, TooDeep, TooMany, Memory, Profile, CertSyntax, CertShape}
-use Rattle.sh_tree.specs.language.States as states
+use Rattle.sh_tree.specs.standard.language.States as states
 use Rattle.sh_grammar.specs.Faults.{IsFault}
 use Rattle.sh_grammar.specs.Readers.{Reading, One, Nothing, Refused, Steps}
 

@@ -14,16 +14,16 @@ use Rattle.sh_tree.specs.declared.tree.Target.TheVariants.{File, Here}
 use Rattle.sh_tree.specs.declared.refusal.Refusal.{Refusal}
 use Rattle.sh_tree.specs.declared.token.command.Operator.{Operator}
 use Rattle.sh_tree.specs.declared.token.command.Operator.TheVariants as op
-use Rattle.sh_tree.specs.language.Commands.{blanks, lead_at, redirection, direction_of, strip_of, is_redirection, is_word}
-use Rattle.sh_tree.specs.language.Contexts.{in_unsplit}
-use Rattle.sh_tree.specs.language.Reading as r
-use Rattle.sh_tree.specs.language.Reading.{ReadsWord, ReadsRedirect, ReadsRedirects, lead_of}
-use Rattle.sh_tree.specs.language.States as states
-use Rattle.sh_tree.specs.language.States.{Spot, Document, document_count, facing, next, no_document, nth, past, waits, with_mark}
-use Rattle.sh_tree.specs.language.Trees as tree
-use Rattle.sh_tree.specs.language.HereDocuments as documents
-use Rattle.sh_tree.specs.language.HereDocuments.{is_delimiter, delimiter_of}
-use Rattle.sh_tree.specs.language.Parts.{is_quoted_word}
+use Rattle.sh_tree.specs.standard.language.Commands.{blanks, lead_at, redirection, direction_of, strip_of, is_redirection, is_word}
+use Rattle.sh_tree.specs.standard.language.Contexts.{in_unsplit}
+use Rattle.sh_tree.specs.standard.language.Reading as r
+use Rattle.sh_tree.specs.standard.language.Reading.{ReadsWord, ReadsRedirect, ReadsRedirects, lead_of}
+use Rattle.sh_tree.specs.standard.language.States as states
+use Rattle.sh_tree.specs.standard.language.States.{Spot, Document, document_count, facing, next, no_document, nth, past, waits, with_mark}
+use Rattle.sh_tree.specs.standard.language.Trees as tree
+use Rattle.sh_tree.specs.standard.language.HereDocuments as documents
+use Rattle.sh_tree.specs.standard.language.HereDocuments.{is_delimiter, delimiter_of}
+use Rattle.sh_tree.specs.standard.language.Parts.{is_quoted_word}
 use Rattle.sh_tree.proofs.Inversions.{some_one, word_parts, redirects_end, redirects_first}
 use Rattle.sh_tree.proofs.Counts.{redirects_count}
 use Rattle.sh_reads.proofs.BeginningLemmas.{word_takes}

@@ -12,8 +12,8 @@ use Rattle.sh_tree.specs.declared.token.command.Reserved.{Reserved}
 use Rattle.sh_tree.specs.declared.token.command.Reserved.TheVariants as word
 use Rattle.sh_tree.specs.declared.refusal.Form.{Form}
 use Rattle.sh_tree.specs.declared.refusal.Form.TheVariants as form
-use Rattle.sh_tree.specs.language.Bytes.{is_digit, run}
-use Rattle.sh_tree.specs.language.Commands.{operator_of, operator_lead, whole_operator, opening, other_lead, lead_of, lead_at, number_lead, word_lead, first_lead, reserved_lead, name_lead, entry_of, reserved_words, left_out_names, bare_word}
+use Rattle.sh_tree.specs.standard.language.Bytes.{is_digit, run}
+use Rattle.sh_tree.specs.standard.language.Commands.{operator_of, operator_lead, whole_operator, opening, other_lead, lead_of, lead_at, number_lead, word_lead, first_lead, reserved_lead, name_lead, entry_of, reserved_words, left_out_names, bare_word}
 use Rattle.sh_tree.proofs.Inversions.{some_one}
 use Rattle.sh_grammar.specs.Phrases.{reserved_text}
 

@@ -7,11 +7,11 @@ use Rattle.sh_tree.specs.declared.refusal.Refusal.{Refusal}
 use Rattle.sh_tree.specs.declared.refusal.Refusal.TheVariants.{TooLong, NulByte, Syntax, LeftOut, TooDeep, TooMany, Memory}
 use Rattle.sh_tree.specs.declared.tree.Script.{Script}
 use Rattle.sh_tree.specs.Answers.{IsText, Parses, first_nul}
-use Rattle.sh_tree.specs.language.Commands.{blanks, lead_at}
-use Rattle.sh_tree.specs.language.Reading as r
-use Rattle.sh_tree.specs.language.Reading.{is_some, ReadsSequence, ReadsTo, Reads, ReadsWithin}
-use Rattle.sh_tree.specs.language.States as states
-use Rattle.sh_tree.specs.language.States.{Document, nth, waits}
+use Rattle.sh_tree.specs.standard.language.Commands.{blanks, lead_at}
+use Rattle.sh_tree.specs.standard.language.Reading as r
+use Rattle.sh_tree.specs.standard.language.Reading.{is_some, ReadsSequence, ReadsTo, Reads, ReadsWithin}
+use Rattle.sh_tree.specs.standard.language.States as states
+use Rattle.sh_tree.specs.standard.language.States.{Document, nth, waits}
 use Rattle.sh_tree.proofs.Inversions.{apart}
 use Rattle.sh_bodies.specs.Fill.{document_of, fill}
 use Rattle.sh_bodies.proofs.ReadingLemmas.{bodies}

@@ -4,12 +4,12 @@ use Rattle.std.proofs.lemmas.Bool.{true≢false}
 use Rattle.sh_tree.specs.declared.limits.TheConstants.{MAX_NESTING}
 use Rattle.sh_tree.specs.declared.refusal.Refusal.{Refusal}
 use Rattle.sh_tree.specs.declared.tree.Script.{Script}
-use Rattle.sh_tree.specs.language.Arithmetic.{is_closed}
-use Rattle.sh_tree.specs.language.Commands.{blanks}
-use Rattle.sh_tree.specs.language.Reading as r
-use Rattle.sh_tree.specs.language.Reading.{ReadsSequence}
-use Rattle.sh_tree.specs.language.States as states
-use Rattle.sh_tree.specs.language.States.{Spot, document_count, nth, waits, within}
+use Rattle.sh_tree.specs.standard.language.Arithmetic.{is_closed}
+use Rattle.sh_tree.specs.standard.language.Commands.{blanks}
+use Rattle.sh_tree.specs.standard.language.Reading as r
+use Rattle.sh_tree.specs.standard.language.Reading.{ReadsSequence}
+use Rattle.sh_tree.specs.standard.language.States as states
+use Rattle.sh_tree.specs.standard.language.States.{Spot, document_count, nth, waits, within}
 use Rattle.sh_bodies.specs.declared.Document.{Document}
 use Rattle.sh_bodies.specs.Fill.{Filled, document_of, fill, fill_script}
 use Rattle.sh_bodies.proofs.ReadingLemmas.{bodies, sequence_from}

@@ -14,8 +14,8 @@ use Rattle.sh_tree.specs.declared.token.command.Reserved.TheVariants as word
 use Rattle.sh_tree.specs.declared.refusal.Form.{Form}
 use Rattle.sh_tree.specs.declared.tree.ClauseEnd.{ClauseEnd}
 use Rattle.sh_tree.specs.declared.tree.Link.{Link}
-use Rattle.sh_tree.specs.language.Bytes.{longest, is_digit, run}
-use Rattle.sh_tree.specs.language.Commands.{long_operators, short_operators, operator_of, operator_lead, whole_operator, opening, other_lead, lead_of, lead_at, link_of, clause_end_of, number_lead, word_lead, first_lead, reserved_lead, name_lead, entry_of, reserved_words, left_out_names, bare_word}
+use Rattle.sh_tree.specs.standard.language.Bytes.{longest, is_digit, run}
+use Rattle.sh_tree.specs.standard.language.Commands.{long_operators, short_operators, operator_of, operator_lead, whole_operator, opening, other_lead, lead_of, lead_at, link_of, clause_end_of, number_lead, word_lead, first_lead, reserved_lead, name_lead, entry_of, reserved_words, left_out_names, bare_word}
 
 -- the texts of a table are as long as `width` says
 abbrev Wide : (Operator → ℕ) → List (List ℕ × Operator) → Type 0

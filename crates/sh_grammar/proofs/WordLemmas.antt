@@ -10,15 +10,15 @@ use Rattle.sh_tree.specs.declared.refusal.Refusal.TheVariants.{TooLong, NulByte,
 use Rattle.sh_tree.specs.declared.token.word.Context.{Context}
 use Rattle.sh_tree.specs.declared.token.word.Sign.{Sign}
 use Rattle.sh_tree.specs.declared.token.word.Sign.TheVariants as sign
-use Rattle.sh_tree.specs.language.Arithmetic.{is_closed}
-use Rattle.sh_tree.specs.language.Commands.{blanks, is_location}
-use Rattle.sh_tree.specs.language.Parts.{keeps_lines}
-use Rattle.sh_tree.specs.language.Reading as r
-use Rattle.sh_tree.specs.language.Reading.{ReadsParts, ReadsPart, ReadsScript, ReadsWord, is_some}
-use Rattle.sh_tree.specs.language.States as states
-use Rattle.sh_tree.specs.language.States.{Spot, past, waits, within}
-use Rattle.sh_tree.specs.language.Trees.{word}
-use Rattle.sh_tree.specs.language.Words.{token}
+use Rattle.sh_tree.specs.standard.language.Arithmetic.{is_closed}
+use Rattle.sh_tree.specs.standard.language.Commands.{blanks, is_location}
+use Rattle.sh_tree.specs.standard.language.Parts.{keeps_lines}
+use Rattle.sh_tree.specs.standard.language.Reading as r
+use Rattle.sh_tree.specs.standard.language.Reading.{ReadsParts, ReadsPart, ReadsScript, ReadsWord, is_some}
+use Rattle.sh_tree.specs.standard.language.States as states
+use Rattle.sh_tree.specs.standard.language.States.{Spot, past, waits, within}
+use Rattle.sh_tree.specs.standard.language.Trees.{word}
+use Rattle.sh_tree.specs.standard.language.Words.{token}
 use Rattle.sh_tree.proofs.Inversions.{word_parts}
 use Rattle.sh_words.specs.declared.mode.Mode.{Mode}
 use Rattle.sh_words.specs.declared.mode.Mode.TheVariants as mode

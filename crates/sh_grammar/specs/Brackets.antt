@@ -3,9 +3,9 @@
 use Rattle.std.specs.Prelude.{◌≡◌, ℕ, ◌+◌, List}
 use Rattle.sh_tree.specs.declared.token.command.Lead.{Lead}
 use Rattle.sh_tree.specs.declared.tree.Script.{Script}
-use Rattle.sh_tree.specs.language.Reading.{ReadsList, lead_here, skip}
-use Rattle.sh_tree.specs.language.States as states
-use Rattle.sh_tree.specs.language.States.{lower, as_deep}
+use Rattle.sh_tree.specs.standard.language.Reading.{ReadsList, lead_here, skip}
+use Rattle.sh_tree.specs.standard.language.States as states
+use Rattle.sh_tree.specs.standard.language.States.{lower, as_deep}
 use Rattle.sh_grammar.specs.declared.state.State.{State}
 use Rattle.sh_grammar.specs.States.{here, moved}
 use Rattle.sh_grammar.specs.Readers.{Reading, unread}

@@ -4,9 +4,9 @@ use Rattle.std.specs.Prelude.{◌≡◌, ℕ, List, [], Option}
 use Rattle.sh_tree.specs.declared.token.command.Reserved.TheVariants as word
 use Rattle.sh_tree.specs.declared.tree.Branch.{Branch}
 use Rattle.sh_tree.specs.declared.tree.Script.{Script}
-use Rattle.sh_tree.specs.language.Reading.{ReadsList, ReadsBranches, ReadsElse}
-use Rattle.sh_tree.specs.language.States as states
-use Rattle.sh_tree.specs.language.Trees.{branch}
+use Rattle.sh_tree.specs.standard.language.Reading.{ReadsList, ReadsBranches, ReadsElse}
+use Rattle.sh_tree.specs.standard.language.States as states
+use Rattle.sh_tree.specs.standard.language.Trees.{branch}
 use Rattle.sh_grammar.specs.declared.state.State.{State}
 use Rattle.sh_grammar.specs.States.{here}
 use Rattle.sh_grammar.specs.Phrases.{ListBefore}

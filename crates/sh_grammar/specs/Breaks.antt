@@ -3,10 +3,10 @@
 use Rattle.std.specs.Prelude.{◌≡◌, ◌≤◌, ◌<◌, ℕ, ◌+◌, false, List, Result, Ok, Err}
 use Rattle.sh_tree.specs.declared.refusal.Refusal.{Refusal}
 use Rattle.sh_tree.specs.declared.token.command.Stage.TheVariants.{First}
-use Rattle.sh_tree.specs.language.Commands.{lead_at, is_newline_lead}
-use Rattle.sh_tree.specs.language.Reading.{ReadsBreaks, ReadsDocuments}
-use Rattle.sh_tree.specs.language.States as states
-use Rattle.sh_tree.specs.language.States.{next, on_line}
+use Rattle.sh_tree.specs.standard.language.Commands.{lead_at, is_newline_lead}
+use Rattle.sh_tree.specs.standard.language.Reading.{ReadsBreaks, ReadsDocuments}
+use Rattle.sh_tree.specs.standard.language.States as states
+use Rattle.sh_tree.specs.standard.language.States.{next, on_line}
 use Rattle.sh_grammar.specs.declared.state.State.{State}
 use Rattle.sh_grammar.specs.States.{here, Stands}
 use Rattle.sh_grammar.specs.Readers.{Reading, Refused}

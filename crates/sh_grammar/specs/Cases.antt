@@ -10,12 +10,12 @@ use Rattle.sh_tree.specs.declared.tree.ClauseEnd.{ClauseEnd}
 use Rattle.sh_tree.specs.declared.tree.ClauseEnd.TheVariants.{Break}
 use Rattle.sh_tree.specs.declared.tree.Script.{Script}
 use Rattle.sh_tree.specs.declared.tree.Word.{Word}
-use Rattle.sh_tree.specs.language.Commands.{lead_at, is_word, clause_end_of}
-use Rattle.sh_tree.specs.language.Contexts.{in_unsplit}
-use Rattle.sh_tree.specs.language.Reading.{ReadsPatterns, ReadsSequence, ReadsBreaks, ReadsClauses, lead_here, unopened, behind_token}
-use Rattle.sh_tree.specs.language.States as states
-use Rattle.sh_tree.specs.language.States.{Document}
-use Rattle.sh_tree.specs.language.Trees.{clause}
+use Rattle.sh_tree.specs.standard.language.Commands.{lead_at, is_word, clause_end_of}
+use Rattle.sh_tree.specs.standard.language.Contexts.{in_unsplit}
+use Rattle.sh_tree.specs.standard.language.Reading.{ReadsPatterns, ReadsSequence, ReadsBreaks, ReadsClauses, lead_here, unopened, behind_token}
+use Rattle.sh_tree.specs.standard.language.States as states
+use Rattle.sh_tree.specs.standard.language.States.{Document}
+use Rattle.sh_tree.specs.standard.language.Trees.{clause}
 use Rattle.sh_grammar.specs.declared.state.State.{State}
 use Rattle.sh_grammar.specs.Faults.{IsFault, TellsAt}
 use Rattle.sh_grammar.specs.Phrases.{behind_reserved}

@@ -3,8 +3,8 @@
 use Rattle.std.specs.Prelude.{◌≡◌, ℕ, Bool, true, if◌then◌else◌, List, Option, Some, None, Result, Ok, Err}
 use Rattle.sh_tree.specs.declared.refusal.Refusal.{Refusal}
 use Rattle.sh_tree.specs.declared.tree.Word.{Word}
-use Rattle.sh_tree.specs.language.HereDocuments.{is_delimiter, delimiter_of}
-use Rattle.sh_tree.specs.language.Parts.{is_quoted_word}
+use Rattle.sh_tree.specs.standard.language.HereDocuments.{is_delimiter, delimiter_of}
+use Rattle.sh_tree.specs.standard.language.Parts.{is_quoted_word}
 use Rattle.sh_grammar.specs.declared.mark.Mark.{Mark}
 use Rattle.sh_grammar.specs.Marks.{mark_of}
 use Rattle.sh_grammar.specs.Readers.{Reading, Refused}

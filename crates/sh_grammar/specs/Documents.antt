@@ -5,13 +5,13 @@ use Rattle.sh_tree.specs.declared.refusal.Refusal.{Refusal}
 use Rattle.sh_tree.specs.declared.tree.Part.{Part}
 use Rattle.sh_tree.specs.declared.tree.Span.{Span}
 use Rattle.sh_tree.specs.declared.limits.TheConstants.{MAX_COMMANDS}
-use Rattle.sh_tree.specs.language.Contexts.{in_document_of}
-use Rattle.sh_tree.specs.language.HereDocuments.{end_line, behind_line, is_ambiguous, keeps_document}
-use Rattle.sh_tree.specs.language.Parts.{keeps_lines}
-use Rattle.sh_tree.specs.language.Reading.{ReadsParts, ReadsDocuments}
-use Rattle.sh_tree.specs.language.States.{Spot, in_document, no_document, with_document}
-use Rattle.sh_tree.specs.language.States as states
-use Rattle.sh_tree.specs.language.Trees.{span, word}
+use Rattle.sh_tree.specs.standard.language.Contexts.{in_document_of}
+use Rattle.sh_tree.specs.standard.language.HereDocuments.{end_line, behind_line, is_ambiguous, keeps_document}
+use Rattle.sh_tree.specs.standard.language.Parts.{keeps_lines}
+use Rattle.sh_tree.specs.standard.language.Reading.{ReadsParts, ReadsDocuments}
+use Rattle.sh_tree.specs.standard.language.States.{Spot, in_document, no_document, with_document}
+use Rattle.sh_tree.specs.standard.language.States as states
+use Rattle.sh_tree.specs.standard.language.Trees.{span, word}
 use Rattle.sh_grammar.specs.declared.mark.Mark.{Mark}
 use Rattle.sh_grammar.specs.declared.state.State.{State}
 use Rattle.sh_grammar.specs.Faults.{IsFault}

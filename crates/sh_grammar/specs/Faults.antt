@@ -12,11 +12,11 @@ use Rattle.sh_tree.specs.declared.token.command.Stage.TheVariants.{First, Prefix
 use Rattle.sh_tree.specs.declared.token.command.Lead.{Lead}
 use Rattle.sh_tree.specs.declared.token.command.Lead.TheVariants as lead
 use Rattle.sh_tree.specs.declared.tree.Script.{Script}
-use Rattle.sh_tree.specs.language.Commands.{lead_at}
-use Rattle.sh_tree.specs.language.HereDocuments.{is_split_text}
-use Rattle.sh_tree.specs.language.Reading.{ReadsSequence}
-use Rattle.sh_tree.specs.language.States as states
-use Rattle.sh_tree.specs.language.States.{Document}
+use Rattle.sh_tree.specs.standard.language.Commands.{lead_at}
+use Rattle.sh_tree.specs.standard.language.HereDocuments.{is_split_text}
+use Rattle.sh_tree.specs.standard.language.Reading.{ReadsSequence}
+use Rattle.sh_tree.specs.standard.language.States as states
+use Rattle.sh_tree.specs.standard.language.States.{Document}
 use Rattle.sh_grammar.specs.declared.mark.Mark.{Mark}
 use Rattle.sh_grammar.specs.declared.state.State.{State}
 use Rattle.sh_grammar.specs.Lines.{is_joined}

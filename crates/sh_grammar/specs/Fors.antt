@@ -3,9 +3,9 @@
 use Rattle.std.specs.Prelude.{◌≡◌, ℕ, false, List, Option, Some}
 use Rattle.sh_tree.specs.declared.token.command.Reserved.TheVariants as word
 use Rattle.sh_tree.specs.declared.tree.Word.{Word}
-use Rattle.sh_tree.specs.language.Commands.{separator, name_end}
-use Rattle.sh_tree.specs.language.Reading.{ReadsWords, ReadsForWords, ReadsBreaks, lead_here, parted}
-use Rattle.sh_tree.specs.language.States as states
+use Rattle.sh_tree.specs.standard.language.Commands.{separator, name_end}
+use Rattle.sh_tree.specs.standard.language.Reading.{ReadsWords, ReadsForWords, ReadsBreaks, lead_here, parted}
+use Rattle.sh_tree.specs.standard.language.States as states
 use Rattle.sh_grammar.specs.declared.state.State.{State}
 use Rattle.sh_grammar.specs.States.{here, moved}
 use Rattle.sh_grammar.specs.Phrases.{entered}

@@ -3,11 +3,11 @@
 use Rattle.std.specs.Prelude.{◌≡◌, ◌⊎◌, ℕ, Bool, false, true, not, ◌||◌, List, [], ◌∷◌, None, Some}
 use Rattle.sh_tree.specs.declared.tree.AndOr.{AndOr}
 use Rattle.sh_tree.specs.declared.tree.Item.{Item}
-use Rattle.sh_tree.specs.language.Commands.{begins_pipeline, separator, is_reserved}
-use Rattle.sh_tree.specs.language.Reading.{ReadsItems, ReadsBreaks, lead_here, parted}
-use Rattle.sh_tree.specs.language.States as states
-use Rattle.sh_tree.specs.language.States.{Document}
-use Rattle.sh_tree.specs.language.Trees.{item}
+use Rattle.sh_tree.specs.standard.language.Commands.{begins_pipeline, separator, is_reserved}
+use Rattle.sh_tree.specs.standard.language.Reading.{ReadsItems, ReadsBreaks, lead_here, parted}
+use Rattle.sh_tree.specs.standard.language.States as states
+use Rattle.sh_tree.specs.standard.language.States.{Document}
+use Rattle.sh_tree.specs.standard.language.Trees.{item}
 use Rattle.sh_grammar.specs.declared.state.State.{State}
 use Rattle.sh_grammar.specs.States.{here}
 use Rattle.sh_grammar.specs.Readers.{Reading, unread}

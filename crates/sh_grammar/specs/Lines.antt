@@ -2,8 +2,8 @@
 -- POSIX.1-2024, XCU 2.2.1 (line continuation), 2.7.4 (here-document).
 use Rattle.std.specs.Prelude.{ℕ, Bool, false, not, ◌&&◌, ◌||◌, if◌then◌else◌, List, [], ◌∷◌, drop}
 use Rattle.std.specs.Str.{bytes_eq}
-use Rattle.sh_tree.specs.language.Bytes.{is_newline, is_tab, is_backslash, run, is_first}
-use Rattle.sh_tree.specs.language.HereDocuments.{Mark, line_text}
+use Rattle.sh_tree.specs.standard.language.Bytes.{is_newline, is_tab, is_backslash, run, is_first}
+use Rattle.sh_tree.specs.standard.language.HereDocuments.{Mark, line_text}
 
 -- how many bytes the first piece of a line takes: where lines are joined, a backslash and the byte behind it are one
 unfoldable pub piece_step : Bool → List ℕ → ℕ

@@ -6,9 +6,9 @@ use Rattle.sh_tree.specs.declared.tree.Part.{Part}
 use Rattle.sh_tree.specs.declared.tree.Word.{Word}
 use Rattle.sh_tree.specs.declared.token.word.Context.{Context}
 use Rattle.sh_tree.specs.declared.token.word.Sign.TheVariants as sign
-use Rattle.sh_tree.specs.language.Reading.{ReadsParts, sign_at}
-use Rattle.sh_tree.specs.language.States.{Spot, past}
-use Rattle.sh_tree.specs.language.Trees.{word}
+use Rattle.sh_tree.specs.standard.language.Reading.{ReadsParts, sign_at}
+use Rattle.sh_tree.specs.standard.language.States.{Spot, past}
+use Rattle.sh_tree.specs.standard.language.Trees.{word}
 use Rattle.sh_words.specs.Modes.{context_of, first_prior}
 use Rattle.sh_words.specs.declared.mode.Mode.{Mode}
 use Rattle.sh_words.specs.declared.mode.Mode.TheVariants as mode

@@ -9,9 +9,9 @@ use Rattle.sh_tree.specs.declared.refusal.Refusal.{Refusal}
 use Rattle.sh_tree.specs.declared.tree.LoopKind.{LoopKind}
 use Rattle.sh_tree.specs.declared.tree.LoopKind.TheVariants as loop
 use Rattle.sh_tree.specs.declared.tree.Script.{Script}
-use Rattle.sh_tree.specs.language.Commands.{lead_at}
-use Rattle.sh_tree.specs.language.Reading.{ReadsList, ReadsDo, lead_here, behind_token}
-use Rattle.sh_tree.specs.language.States as states
+use Rattle.sh_tree.specs.standard.language.Commands.{lead_at}
+use Rattle.sh_tree.specs.standard.language.Reading.{ReadsList, ReadsDo, lead_here, behind_token}
+use Rattle.sh_tree.specs.standard.language.States as states
 use Rattle.sh_grammar.specs.declared.state.State.{State}
 use Rattle.sh_grammar.specs.States.{here, moved, Stands}
 use Rattle.sh_grammar.specs.Faults.{IsFault, TellsAt, stage_at}

@@ -2,11 +2,11 @@
 -- POSIX.1-2024, XCU 2.10 (shell grammar).
 use Rattle.std.specs.Prelude.{◌≡◌, ◌<◌, ℕ, ◌≤◌, Bool, true, false, not, ◌||◌, List, [], ◌∷◌, length, map, Option, Some, None}
 use Rattle.sh_tree.specs.declared.limits.TheConstants.{MAX_COMMANDS, MAX_NESTING}
-use Rattle.sh_tree.specs.language.Commands.{blanks}
-use Rattle.sh_tree.specs.language.HereDocuments as documents
-use Rattle.sh_tree.specs.language.Reading.{is_some}
-use Rattle.sh_tree.specs.language.States as states
-use Rattle.sh_tree.specs.language.States.{waits}
+use Rattle.sh_tree.specs.standard.language.Commands.{blanks}
+use Rattle.sh_tree.specs.standard.language.HereDocuments as documents
+use Rattle.sh_tree.specs.standard.language.Reading.{is_some}
+use Rattle.sh_tree.specs.standard.language.States as states
+use Rattle.sh_tree.specs.standard.language.States.{waits}
 use Rattle.sh_grammar.specs.declared.mark.Mark.{Mark}
 use Rattle.sh_grammar.specs.declared.state.State.{State}
 use Rattle.sh_bodies.specs.Fill.{document_of}

@@ -5,9 +5,9 @@ use Rattle.sh_tree.specs.declared.refusal.Fault.TheVariants.{OpenSubstitution, O
 use Rattle.sh_tree.specs.declared.refusal.Refusal.{Refusal}
 use Rattle.sh_tree.specs.declared.refusal.Refusal.TheVariants.{Syntax}
 use Rattle.sh_tree.specs.declared.tree.Script.{Script}
-use Rattle.sh_tree.specs.language.Arithmetic.{is_closed}
-use Rattle.sh_tree.specs.language.Reading.{ReadsScript}
-use Rattle.sh_tree.specs.language.States.{within}
+use Rattle.sh_tree.specs.standard.language.Arithmetic.{is_closed}
+use Rattle.sh_tree.specs.standard.language.Reading.{ReadsScript}
+use Rattle.sh_tree.specs.standard.language.States.{within}
 use Rattle.sh_grammar.specs.declared.mark.Mark.{Mark}
 use Rattle.sh_grammar.specs.declared.state.State.{State}
 use Rattle.sh_grammar.specs.States.{here, Lies}

@@ -3,8 +3,8 @@
 use Rattle.std.specs.Prelude.{◌≡◌, ℕ, true, false, List}
 use Rattle.sh_tree.specs.declared.token.command.Stage.TheVariants.{Named}
 use Rattle.sh_tree.specs.declared.tree.Word.{Word}
-use Rattle.sh_tree.specs.language.Commands.{blanks, lead_at, is_word}
-use Rattle.sh_tree.specs.language.Contexts.{in_unsplit}
+use Rattle.sh_tree.specs.standard.language.Commands.{blanks, lead_at, is_word}
+use Rattle.sh_tree.specs.standard.language.Contexts.{in_unsplit}
 use Rattle.sh_grammar.specs.declared.state.State.{State}
 use Rattle.sh_grammar.specs.Readers.{Reading, WordAt}
 

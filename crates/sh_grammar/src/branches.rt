@@ -5,17 +5,15 @@ ghost use Rattle.sh_grammar.specs.Nests.{Nests};
 ghost use Rattle.sh_grammar.specs.States.{Stands};
 ghost use Rattle.sh_grammar.specs.Readers.{Answers, CompoundFrom};
 ghost use Rattle.sh_tree.specs.declared.token.command.Stage.TheVariants.{First};
-ghost use Rattle.sh_tree.specs.language.Commands as tokens;
+ghost use Rattle.sh_tree.specs.standard.language.Commands as tokens;
 
 use super::compounds::is_same;
 use super::grammar::Grammar;
 use super::reserved::{enter, expect, skip};
 use super::state::Cursor;
-use sh_tree::Items;
-use sh_tree::limits::{MAX_NESTING, MAX_SCRIPT};
-use sh_tree::refusal::Refusal;
-use sh_tree::token::{Lead, Reserved, Stage};
-use sh_tree::tree::{Branch, Kind, Script};
+use sh_tree::{
+    Branch, Items, Kind, Lead, MAX_NESTING, MAX_SCRIPT, Refusal, Reserved, Script, Stage,
+};
 use std::alloc::Global;
 
 impl<F: Fn(Global, &[u8], Cursor) -> Result<(Script, Cursor), Refusal>> Grammar<F> {

@@ -1,7 +1,7 @@
 //! Newlines between commands (XCU 2.10).
 ghost use Rattle.std.specs.Prelude.{◌-◌, ◌≡◌, ◌≤◌, ◌<◌, length};
-ghost use Rattle.sh_tree.specs.language.Commands as commands;
-ghost use Rattle.sh_tree.specs.language.Reading as reading;
+ghost use Rattle.sh_tree.specs.standard.language.Commands as commands;
+ghost use Rattle.sh_tree.specs.standard.language.Reading as reading;
 ghost use Rattle.sh_tree.specs.declared.token.command.Stage.TheVariants.{First};
 ghost use Rattle.sh_grammar.specs.Nests.{Nests};
 ghost use Rattle.sh_grammar.specs.States.{Stands, here};
@@ -9,10 +9,7 @@ ghost use Rattle.sh_grammar.specs.Breaks.{Breaks, Line};
 
 use super::grammar::Grammar;
 use super::state::Cursor;
-use sh_tree::limits::MAX_SCRIPT;
-use sh_tree::refusal::{Form, Refusal};
-use sh_tree::token::{Lead, Stage};
-use sh_tree::tree::Script;
+use sh_tree::{Form, Lead, MAX_SCRIPT, Refusal, Script, Stage};
 use std::alloc::Global;
 
 fn is_newline(lead: Lead) -> bool

@@ -5,8 +5,8 @@ ghost use Rattle.sh_grammar.specs.Nests.{Nests};
 ghost use Rattle.sh_grammar.specs.States.{Stands, here};
 ghost use Rattle.sh_grammar.specs.Readers.{Answers, CompoundFrom};
 ghost use Rattle.sh_tree.specs.declared.token.command.Stage.TheVariants.{First};
-ghost use Rattle.sh_tree.specs.language.Commands as tokens;
-ghost use Rattle.sh_tree.specs.language.Reading as reading;
+ghost use Rattle.sh_tree.specs.standard.language.Commands as tokens;
+ghost use Rattle.sh_tree.specs.standard.language.Reading as reading;
 
 use super::compounds::is_same;
 use super::grammar::Grammar;
@@ -14,11 +14,10 @@ use super::redirects::is_word;
 use super::reserved::{enter, expect, skip};
 use super::state::Cursor;
 use sh_scan::clause_end_of;
-use sh_tree::Items;
-use sh_tree::limits::{MAX_NESTING, MAX_SCRIPT};
-use sh_tree::refusal::Refusal;
-use sh_tree::token::{Lead, Operator, Reserved, Stage};
-use sh_tree::tree::{Clause, ClauseEnd, Kind, Script, Word};
+use sh_tree::{
+    Clause, ClauseEnd, Items, Kind, Lead, MAX_NESTING, MAX_SCRIPT, Operator, Refusal, Reserved,
+    Script, Stage, Word,
+};
 use sh_words::Mode;
 use std::alloc::Global;
 

@@ -5,21 +5,20 @@ ghost use Rattle.sh_grammar.specs.States.{Stands};
 ghost use Rattle.sh_grammar.specs.Readers.{Answers, CommandFrom};
 ghost use Rattle.sh_grammar.specs.Redirected.{RedirectedFrom};
 ghost use Rattle.sh_tree.specs.declared.token.command.Stage.TheVariants.{First};
-ghost use Rattle.sh_tree.specs.language.Commands as tokens;
-ghost use Rattle.sh_tree.specs.language.Reading as reading;
+ghost use Rattle.sh_tree.specs.standard.language.Commands as tokens;
+ghost use Rattle.sh_tree.specs.standard.language.Reading as reading;
 
 use super::grammar::Grammar;
 use super::state::Cursor;
 use sh_scan::{begins_command, begins_compound, begins_simple};
-use sh_tree::Items;
-use sh_tree::limits::{MAX_COMMANDS, MAX_NESTING, MAX_SCRIPT};
-use sh_tree::refusal::Refusal;
-use sh_tree::token::{Lead, Stage};
-use sh_tree::tree::{Command, Kind, Redirect, Script};
+use sh_tree::{
+    Command, Items, Kind, Lead, MAX_COMMANDS, MAX_NESTING, MAX_SCRIPT, Redirect, Refusal, Script,
+    Stage,
+};
 use std::alloc::Global;
 
 /// Whether there are no redirections.
-#[tactic(auto, unfolding(sh_tree::specs::language::Reading::is_empty))]
+#[tactic(auto, unfolding(sh_tree::specs::standard::language::Reading::is_empty))]
 fn is_bare(redirects: &Items<Redirect>) -> bool
     ensures { result ≡ reading.is_empty redirects.now }
 {

@@ -1,7 +1,7 @@
 //! Groups and subshells (XCU 2.9.4.1).
 ghost use Rattle.std.specs.Prelude.{◌-◌, ◌≡◌, ◌≢◌, ◌+◌, ◌<◌, ◌≤◌, true, false, length};
 ghost use Rattle.sh_tree.specs.declared.token.command.Stage.TheVariants.{First};
-ghost use Rattle.sh_tree.specs.language.Commands as tokens;
+ghost use Rattle.sh_tree.specs.standard.language.Commands as tokens;
 ghost use Rattle.sh_grammar.specs.Brackets.{BracketFrom, inner, outer};
 ghost use Rattle.sh_grammar.specs.Nests.{Nests};
 ghost use Rattle.sh_grammar.specs.States.{Stands};
@@ -9,10 +9,9 @@ ghost use Rattle.sh_grammar.specs.Readers.{Answers, CompoundFrom};
 
 use super::grammar::Grammar;
 use super::state::Cursor;
-use sh_tree::limits::{MAX_NESTING, MAX_SCRIPT};
-use sh_tree::refusal::Refusal;
-use sh_tree::token::{Lead, Operator, Reserved, Stage};
-use sh_tree::tree::{Kind, LoopKind, Script};
+use sh_tree::{
+    Kind, Lead, LoopKind, MAX_NESTING, MAX_SCRIPT, Operator, Refusal, Reserved, Script, Stage,
+};
 use std::alloc::Global;
 
 /// Whether the tokens are the same.

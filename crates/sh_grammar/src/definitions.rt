@@ -6,17 +6,16 @@ ghost use Rattle.sh_grammar.specs.States.{Stands};
 ghost use Rattle.sh_grammar.specs.Readers.{Answers, CommandFrom};
 ghost use Rattle.sh_tree.specs.declared.token.command.Lead.TheVariants as lead;
 ghost use Rattle.sh_tree.specs.declared.token.command.Stage.TheVariants.{First};
-ghost use Rattle.sh_tree.specs.language.Commands as tokens;
+ghost use Rattle.sh_tree.specs.standard.language.Commands as tokens;
 
 use super::compounds::is_same;
 use super::grammar::Grammar;
 use super::state::Cursor;
 use sh_scan::{begins_compound, name_at};
-use sh_tree::limits::{MAX_COMMANDS, MAX_SCRIPT};
-use sh_tree::refusal::Refusal;
-use sh_tree::token::{Lead, Operator, Stage};
-use sh_tree::tree::{Command, Kind, Script, Span};
-use sh_tree::{Boxed, Items};
+use sh_tree::{
+    Boxed, Command, Items, Kind, Lead, MAX_COMMANDS, MAX_SCRIPT, Operator, Refusal, Script, Span,
+    Stage,
+};
 use std::alloc::Global;
 
 /// Behind the two parentheses that are wanted here.

@@ -1,15 +1,12 @@
 //! The words behind the operators of here-documents (XCU 2.7.4).
 ghost use Rattle.std.specs.Prelude.{◌≡◌, ◌<◌, length, IfOk, option_map};
 ghost use Rattle.sh_grammar.specs.Delimiters.{Awaits, delimiter_in};
-ghost use Rattle.sh_tree.specs.language.Parts as parts;
-ghost use Rattle.sh_tree.specs.language.States.{no_document};
-ghost use Rattle.sh_tree.specs.language.Trees.{here_doc};
+ghost use Rattle.sh_tree.specs.standard.language.Parts as parts;
+ghost use Rattle.sh_tree.specs.standard.language.States.{no_document};
+ghost use Rattle.sh_tree.specs.standard.language.Trees.{here_doc};
 
 use super::mark::Mark;
-use sh_tree::Items;
-use sh_tree::refusal::{Form, Refusal};
-use sh_tree::text::unquoted_text;
-use sh_tree::tree::{HereDoc, Part, Span, Word};
+use sh_tree::{Form, HereDoc, Items, Part, Refusal, Span, Word, unquoted_text};
 use std::alloc::{AllocError, Global};
 
 /// The delimiter that the word is: its text without its quoting, or nothing where it holds an expansion, a tilde-prefix or a
@@ -29,7 +26,7 @@ fn delimiter_of(alloc: Global, script: &[u8], word: &Word) -> Result<Option<Vec<
 }
 
 /// Whether the part is quoting.
-#[tactic(auto, unfolding(sh_tree::specs::language::Parts::is_quotation))]
+#[tactic(auto, unfolding(sh_tree::specs::standard::language::Parts::is_quotation))]
 fn is_quotation(part: &Part) -> bool
     ensures { result ≡ parts.is_quotation part.now }
 {
@@ -40,7 +37,7 @@ fn is_quotation(part: &Part) -> bool
 }
 
 /// Whether a part of the word is quoted.
-#[tactic(auto, unfolding(sh_tree::specs::language::Parts::is_quoted_word))]
+#[tactic(auto, unfolding(sh_tree::specs::standard::language::Parts::is_quoted_word))]
 fn is_quoted(word: &Word) -> bool
     ensures { result ≡ parts.is_quoted_word word.now }
 {

@@ -11,10 +11,7 @@ use super::kept::{joined_if, split_at, tabbed_if};
 use super::mark::Mark;
 use super::state::{Cursor, State};
 use sh_bodies::Document;
-use sh_tree::Items;
-use sh_tree::limits::MAX_SCRIPT;
-use sh_tree::refusal::{Fault, Form, Refusal};
-use sh_tree::tree::{Part, Script, Span, Word};
+use sh_tree::{Fault, Form, Items, MAX_SCRIPT, Part, Refusal, Script, Span, Word};
 use sh_words::Mode;
 use std::alloc::Global;
 

@@ -5,18 +5,14 @@ ghost use Rattle.sh_grammar.specs.Nests.{Nests};
 ghost use Rattle.sh_grammar.specs.States.{Stands};
 ghost use Rattle.sh_grammar.specs.Readers.{Answers, ElementsFrom};
 ghost use Rattle.sh_tree.specs.declared.token.command.Stage.TheVariants.{First};
-ghost use Rattle.sh_tree.specs.language.Commands as commands;
-ghost use Rattle.sh_tree.specs.language.Reading as reading;
+ghost use Rattle.sh_tree.specs.standard.language.Commands as commands;
+ghost use Rattle.sh_tree.specs.standard.language.Reading as reading;
 
 use super::grammar::Grammar;
 use super::state::Cursor;
 use super::words::mode_of;
 use sh_scan::{begins_simple, declares_at, name_at};
-use sh_tree::Items;
-use sh_tree::limits::MAX_SCRIPT;
-use sh_tree::refusal::Refusal;
-use sh_tree::token::{Lead, Stage};
-use sh_tree::tree::{Element, Script, Span};
+use sh_tree::{Element, Items, Lead, MAX_SCRIPT, Refusal, Script, Span, Stage};
 use sh_words::Mode;
 use std::alloc::Global;
 

@@ -3,13 +3,12 @@ ghost use Rattle.std.specs.Prelude.{◌≡◌, ◌<◌, ◌≤◌, ◌&&◌, Boo
 ghost use Rattle.std.specs.Str.{bytes_eq};
 ghost use Rattle.sh_grammar.specs.Lines as lines;
 ghost use Rattle.sh_grammar.specs.Marks.{mark_of};
-ghost use Rattle.sh_tree.specs.language.Bytes.{is_tab, run};
-ghost use Rattle.sh_tree.specs.language.HereDocuments as documents;
+ghost use Rattle.sh_tree.specs.standard.language.Bytes.{is_tab, run};
+ghost use Rattle.sh_tree.specs.standard.language.HereDocuments as documents;
 
 use super::mark::Mark;
 use sh_scan::here_line;
-use sh_tree::limits::MAX_SCRIPT;
-use sh_tree::tree::Span;
+use sh_tree::{MAX_SCRIPT, Span};
 
 /// The line behind the one that ends at `end`.
 pub fn behind_line(script: &[u8], end: u32) -> u32

@@ -1,15 +1,13 @@
 //! What is told of a token that has no place (XCU 2.10).
 ghost use Rattle.std.specs.Prelude.{◌≡◌, ◌<◌, ◌≤◌, length};
-ghost use Rattle.sh_tree.specs.language.Commands as commands;
+ghost use Rattle.sh_tree.specs.standard.language.Commands as commands;
 ghost use Rattle.sh_grammar.specs.Faults.{IsFault, IsPlace, TellsAt, ended, stage_at};
 ghost use Rattle.sh_grammar.specs.States.{Stands};
 
 use super::kept::joined_in;
 use super::state::{Cursor, State};
 use sh_scan::lead_at;
-use sh_tree::limits::MAX_SCRIPT;
-use sh_tree::refusal::{Fault, Form, Refusal};
-use sh_tree::token::{Lead, Stage};
+use sh_tree::{Fault, Form, Lead, MAX_SCRIPT, Refusal, Stage};
 
 /// Where a form that is left out is told, which the token at `at` is: a line continuation at its backslash, the first from the token's beginning on.
 fn place_of(script: &[u8], form: Form, at: u32) -> u32

@@ -5,7 +5,7 @@ ghost use Rattle.sh_grammar.specs.Nests.{Nests};
 ghost use Rattle.sh_grammar.specs.States.{Stands};
 ghost use Rattle.sh_grammar.specs.Readers.{Answers, CompoundFrom};
 ghost use Rattle.sh_tree.specs.declared.token.command.Stage.TheVariants.{First};
-ghost use Rattle.sh_tree.specs.language.Commands as tokens;
+ghost use Rattle.sh_tree.specs.standard.language.Commands as tokens;
 
 use super::breaks::parted;
 use super::compounds::is_same;
@@ -14,11 +14,10 @@ use super::redirects::is_word;
 use super::reserved::{enter, skip};
 use super::state::Cursor;
 use sh_scan::{is_bare_name_at, name_at, separator};
-use sh_tree::Items;
-use sh_tree::limits::{MAX_NESTING, MAX_SCRIPT};
-use sh_tree::refusal::Refusal;
-use sh_tree::token::{Lead, Operator, Reserved, Stage};
-use sh_tree::tree::{Kind, Script, Span, Word};
+use sh_tree::{
+    Items, Kind, Lead, MAX_NESTING, MAX_SCRIPT, Operator, Refusal, Reserved, Script, Span, Stage,
+    Word,
+};
 use sh_words::Mode;
 use std::alloc::Global;
 

@@ -5,9 +5,7 @@ ghost use Rattle.sh_grammar.specs.States.{Stands};
 ghost use Rattle.sh_grammar.specs.Readers.{Answers, ListFrom, SequenceFrom};
 
 use super::state::Cursor;
-use sh_tree::limits::MAX_SCRIPT;
-use sh_tree::refusal::Refusal;
-use sh_tree::tree::Script;
+use sh_tree::{MAX_SCRIPT, Refusal, Script};
 use std::alloc::Global;
 
 /// The rules that read a sequence.

@@ -2,13 +2,12 @@
 ghost use Rattle.std.specs.Prelude.{◌≡◌, ◌≤◌, ◌<◌, ◌+◌, ◌||◌, ◌&&◌, ◌∷◌, [], not, true, drop, length, ℕ, IfSome};
 ghost use Rattle.sh_grammar.specs.Quotes.{Splits, SplitsIn, chained};
 ghost use Rattle.sh_grammar.specs.Lines as lines;
-ghost use Rattle.sh_tree.specs.language.Bytes.{is_first, is_tab};
-ghost use Rattle.sh_tree.specs.language.HereDocuments as documents;
-ghost use Rattle.sh_tree.specs.language.Parts as quotes;
-ghost use Rattle.sh_tree.specs.language.Reading.{is_some};
+ghost use Rattle.sh_tree.specs.standard.language.Bytes.{is_first, is_tab};
+ghost use Rattle.sh_tree.specs.standard.language.HereDocuments as documents;
+ghost use Rattle.sh_tree.specs.standard.language.Parts as quotes;
+ghost use Rattle.sh_tree.specs.standard.language.Reading.{is_some};
 
-use sh_tree::limits::MAX_SCRIPT;
-use sh_tree::tree::{Binary, Expr, ParameterOperator, Part, Span};
+use sh_tree::{Binary, Expr, MAX_SCRIPT, ParameterOperator, Part, Span};
 
 /// How far on a line continuation may begin next.
 #[tactic(auto, unfolding(crate::specs::Lines::joined_step))]
@@ -22,7 +21,7 @@ fn joined_step(rest: &[u8]) -> usize
     }
 }
 
-#[tactic(auto, unfolding(sh_tree::specs::language::Bytes::is_first))]
+#[tactic(auto, unfolding(sh_tree::specs::standard::language::Bytes::is_first))]
 fn begins_with_tab(rest: &[u8]) -> bool
     ensures { result ≡ is_first is_tab rest.now }
 {

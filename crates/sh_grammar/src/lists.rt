@@ -5,17 +5,16 @@ ghost use Rattle.sh_grammar.specs.Nests.{Nests};
 ghost use Rattle.sh_grammar.specs.States.{Stands};
 ghost use Rattle.sh_grammar.specs.Readers.{Answers, AndOrFrom, CommandsFrom, LinksFrom, PipelineFrom, SequenceFrom};
 ghost use Rattle.sh_tree.specs.declared.token.command.Stage.TheVariants.{First};
-ghost use Rattle.sh_tree.specs.language.Commands as tokens;
+ghost use Rattle.sh_tree.specs.standard.language.Commands as tokens;
 
 use super::breaks::parted;
 use super::grammar::Grammar;
 use super::state::Cursor;
 use sh_scan::{begins_pipeline, link_of, separator};
-use sh_tree::Items;
-use sh_tree::limits::MAX_SCRIPT;
-use sh_tree::refusal::Refusal;
-use sh_tree::token::{Lead, Operator, Reserved, Stage};
-use sh_tree::tree::{AndOr, Command, Item, Link, Pipe, Script};
+use sh_tree::{
+    AndOr, Command, Item, Items, Lead, Link, MAX_SCRIPT, Operator, Pipe, Refusal, Reserved, Script,
+    Stage,
+};
 use std::alloc::Global;
 
 fn is_bang(lead: Lead) -> bool

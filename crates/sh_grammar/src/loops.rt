@@ -5,15 +5,12 @@ ghost use Rattle.sh_grammar.specs.Phrases.{DoFrom, loop_word};
 ghost use Rattle.sh_grammar.specs.States.{Stands};
 ghost use Rattle.sh_grammar.specs.Readers.{Answers, CompoundFrom};
 ghost use Rattle.sh_tree.specs.declared.token.command.Stage.TheVariants.{First};
-ghost use Rattle.sh_tree.specs.language.Commands as tokens;
+ghost use Rattle.sh_tree.specs.standard.language.Commands as tokens;
 
 use super::grammar::Grammar;
 use super::reserved::{enter, expect};
 use super::state::Cursor;
-use sh_tree::limits::{MAX_NESTING, MAX_SCRIPT};
-use sh_tree::refusal::Refusal;
-use sh_tree::token::{Lead, Reserved};
-use sh_tree::tree::{Kind, LoopKind, Script};
+use sh_tree::{Kind, Lead, LoopKind, MAX_NESTING, MAX_SCRIPT, Refusal, Reserved, Script};
 use std::alloc::Global;
 
 fn word_of(kind: LoopKind) -> Reserved

@@ -1,6 +1,6 @@
 //! Redirections (XCU 2.7).
 ghost use Rattle.std.specs.Prelude.{◌-◌, ◌≡◌, ◌+◌, ◌≤◌, ◌<◌, length, Some, IfOk};
-ghost use Rattle.sh_tree.specs.language.Commands as commands;
+ghost use Rattle.sh_tree.specs.standard.language.Commands as commands;
 ghost use Rattle.sh_grammar.specs.Nests.{Nests};
 ghost use Rattle.sh_grammar.specs.States.{Stands};
 ghost use Rattle.sh_grammar.specs.Readers.{Answers, RedirectFrom, RedirectsFrom};
@@ -10,11 +10,9 @@ use super::delimiters::{awaited, mark_at};
 use super::grammar::Grammar;
 use super::state::Cursor;
 use sh_scan::{direction_of, is_redirection, redirection_at, strip_of};
-use sh_tree::Items;
-use sh_tree::limits::MAX_SCRIPT;
-use sh_tree::refusal::Refusal;
-use sh_tree::token::{Lead, Redirection, Stage};
-use sh_tree::tree::{Direction, Redirect, Script, Target, Word};
+use sh_tree::{
+    Direction, Items, Lead, MAX_SCRIPT, Redirect, Redirection, Refusal, Script, Stage, Target, Word,
+};
 use sh_words::Mode;
 use std::alloc::Global;
 

@@ -5,15 +5,12 @@ ghost use Rattle.sh_grammar.specs.Phrases.{Expects, ListBefore, behind_reserved,
 ghost use Rattle.sh_grammar.specs.States.{Stands};
 ghost use Rattle.sh_grammar.specs.Readers.{Answers};
 ghost use Rattle.sh_tree.specs.declared.token.command.Stage.TheVariants.{First};
-ghost use Rattle.sh_tree.specs.language.Commands as tokens;
+ghost use Rattle.sh_tree.specs.standard.language.Commands as tokens;
 
 use super::compounds::is_same;
 use super::grammar::Grammar;
 use super::state::Cursor;
-use sh_tree::limits::{MAX_NESTING, MAX_SCRIPT};
-use sh_tree::refusal::Refusal;
-use sh_tree::token::{Lead, Reserved, Stage};
-use sh_tree::tree::Script;
+use sh_tree::{Lead, MAX_NESTING, MAX_SCRIPT, Refusal, Reserved, Script, Stage};
 use std::alloc::Global;
 
 /// How many bytes the word has.

@@ -10,10 +10,7 @@ use super::state::{Cursor, State};
 use memchr::memchr;
 use sh_bodies::filled;
 use sh_scan::blanks_at;
-use sh_tree::Items;
-use sh_tree::limits::MAX_SCRIPT;
-use sh_tree::refusal::{Fault, Refusal};
-use sh_tree::tree::Script;
+use sh_tree::{Fault, Items, MAX_SCRIPT, Refusal, Script};
 use std::alloc::Global;
 
 /// The sequence at a token.

@@ -2,14 +2,12 @@
 ghost use Rattle.std.specs.Prelude.{◌≡◌, ◌≢◌, ◌≤◌, ◌<◌, ◌+◌, [], ◌∷◌, ◌++◌, length, false, None, IfOk};
 ghost use Rattle.std.specs.Option.{option_copied};
 ghost use Rattle.sh_grammar.specs.States.{Lies, Stands, in_body, moved, substituted, waiting};
-ghost use Rattle.sh_tree.specs.language.Commands as commands;
+ghost use Rattle.sh_tree.specs.standard.language.Commands as commands;
 
 use super::mark::Mark;
 use sh_bodies::Document;
 use sh_scan::{blanks_at, lead_at};
-use sh_tree::Items;
-use sh_tree::limits::{MAX_COMMANDS, MAX_NESTING, MAX_SCRIPT};
-use sh_tree::token::{Lead, Stage};
+use sh_tree::{Items, Lead, MAX_COMMANDS, MAX_NESTING, MAX_SCRIPT, Stage};
 use std::alloc::{AllocError, Global};
 use std::marker::Model;
 use std::mem;

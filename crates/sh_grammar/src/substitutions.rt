@@ -5,16 +5,14 @@ ghost use Rattle.sh_grammar.specs.Nests.{Nests};
 ghost use Rattle.sh_grammar.specs.States.{Stands};
 ghost use Rattle.sh_grammar.specs.Substitutions.{ClosedFrom, IsLevel, TellsOpen};
 ghost use Rattle.sh_grammar.specs.Readers.{Answers};
-ghost use Rattle.sh_tree.specs.language.Commands as tokens;
+ghost use Rattle.sh_tree.specs.standard.language.Commands as tokens;
 
 use super::faults::unexpected;
 use super::grammar::Grammar;
 use super::state::{Cursor, State};
 use sh_bodies::filled;
 use sh_scan::is_closed;
-use sh_tree::limits::MAX_SCRIPT;
-use sh_tree::refusal::{Fault, Form, Refusal};
-use sh_tree::tree::Script;
+use sh_tree::{Fault, Form, MAX_SCRIPT, Refusal, Script};
 use std::alloc::Global;
 
 /// What is told of the substitution at `start` where no `)` closes it.

@@ -1,7 +1,7 @@
 //! Words (XCU 2.2, 2.6).
 ghost use Rattle.std.specs.Prelude.{◌-◌, ◌≡◌, ◌≤◌, ◌<◌, ℕ, not, ◌&&◌, true, List, length, IfOk};
-ghost use Rattle.sh_tree.specs.language.Contexts as contexts;
-ghost use Rattle.sh_tree.specs.language.Commands as commands;
+ghost use Rattle.sh_tree.specs.standard.language.Contexts as contexts;
+ghost use Rattle.sh_tree.specs.standard.language.Commands as commands;
 ghost use Rattle.sh_words.specs.Modes as modes;
 ghost use Rattle.sh_grammar.specs.Modes.{Begins, Builds, IsWhole};
 ghost use Rattle.sh_grammar.specs.Nests.{Nests};
@@ -12,15 +12,12 @@ use super::grammar::Grammar;
 use super::kept::split_at;
 use super::state::Cursor;
 use sh_scan::is_location_at;
-use sh_tree::limits::MAX_SCRIPT;
-use sh_tree::refusal::{Form, Refusal};
-use sh_tree::token::Stage;
-use sh_tree::tree::{Script, Word};
+use sh_tree::{Form, MAX_SCRIPT, Refusal, Script, Stage, Word};
 use sh_words::{Mode, Next, WordBuilder};
 use std::alloc::Global;
 
 /// The mode of a word at a stage of a simple command.
-#[tactic(auto, unfolding(sh_tree::specs::language::Contexts::in_stage))]
+#[tactic(auto, unfolding(sh_tree::specs::standard::language::Contexts::in_stage))]
 pub fn mode_of(stage: Stage) -> Mode
     ensures whole { IsWhole result }
     ensures value { (b : List ℕ) (i : ℕ) → modes.context_of b result i ≡ contexts.in_stage b stage i }

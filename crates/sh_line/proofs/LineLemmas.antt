@@ -15,8 +15,8 @@ use Rattle.sh_line.specs.declared.line.Source.{Source}
 use Rattle.sh_line.specs.declared.line.Source.TheVariants.{Input, File}
 use Rattle.sh_line.specs.declared.line.Stop.{Stop}
 use Rattle.sh_line.specs.declared.line.Stop.TheVariants.{Usage, Help, BadName, Memory}
-use Rattle.sh_report.specs.declared.task.Action.{Action}
-use Rattle.sh_report.specs.declared.task.Action.TheVariants.{Lint, Cert, Check}
+use Rattle.sh_answers.specs.declared.task.Action.{Action}
+use Rattle.sh_answers.specs.declared.task.Action.TheVariants.{Lint, Cert, Check}
 use Rattle.sh_line.proofs.LineWholeLemmas.{certificate_found, checking, checking_reads, file_found, found_passes, number_found, reading, reading_reads}
 
 -- clap's clauses say what the program's command line takes

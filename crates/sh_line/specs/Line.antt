@@ -8,18 +8,18 @@ use Rattle.clap.specs.Values.{IsSignedIn}
 use Rattle.clap.specs.Words.{IsAmong, Row, Text, all_of, fault_of, first_of, one_of, subcommand_of}
 use Rattle.clap.specs.declared.error.kind.ErrorKind.{ErrorKind}
 use Rattle.clap.specs.declared.error.kind.ErrorKind.TheVariants.{DisplayHelp, OutOfMemory}
-use Rattle.sh_facts.specs.Facts.{Declared}
-use Rattle.sh_facts.specs.Policy.{first_bad}
-use Rattle.sh_facts.specs.declared.policy.PolicyFault.{PolicyFault}
-use Rattle.sh_facts.specs.declared.policy.PolicyFault.TheVariants as fault
+use Rattle.sh_domain.specs.Facts.{Declared}
+use Rattle.sh_domain.specs.Policy.{first_bad}
+use Rattle.sh_domain.specs.declared.policy.PolicyFault.{PolicyFault}
+use Rattle.sh_domain.specs.declared.policy.PolicyFault.TheVariants as fault
 use Rattle.sh_line.specs.App.{shset_app}
 use Rattle.sh_line.specs.declared.line.Line.{Line}
 use Rattle.sh_line.specs.declared.line.Source.{Source}
 use Rattle.sh_line.specs.declared.line.Source.TheVariants.{Input, File}
 use Rattle.sh_line.specs.declared.line.Stop.{Stop}
 use Rattle.sh_line.specs.declared.line.Stop.TheVariants.{Usage, Help, BadName, Memory}
-use Rattle.sh_report.specs.declared.task.Action.{Action}
-use Rattle.sh_report.specs.declared.task.Action.TheVariants.{Lint, Cert, Check}
+use Rattle.sh_answers.specs.declared.task.Action.{Action}
+use Rattle.sh_answers.specs.declared.task.Action.TheVariants.{Lint, Cert, Check}
 
 -- the subcommand that asks for the action
 abbrev pub action_name : Action → Text

@@ -1,4 +1,6 @@
 //! The command line of the program.
 #![tactic(auto)]
 
-pub mod line;
+mod line;
+
+pub use line::{Line, Source, Stop, command_line};

@@ -8,8 +8,8 @@ ghost use Rattle.sh_line.specs.declared.line.Source.TheVariants.{Input};
 
 use clap::error::ErrorKind;
 use clap::{Arg, ArgAction, ArgMatches, Command, Error};
-use sh_facts::policy::{Policy, PolicyFault};
-use sh_report::task::{Action, Task};
+use sh_answers::{Action, Task};
+use sh_domain::{Policy, PolicyFault};
 use std::alloc::{AllocError, Global};
 use std::convert::AsStr;
 

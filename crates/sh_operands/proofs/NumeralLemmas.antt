@@ -1,6 +1,6 @@
 -- A number that is written is the digits one after the other.
 use Rattle.std.proofs.Common.{◌≡◌, ℕ, ◌+◌, ◌*◌, ◌-◌, List, [], ◌∷◌, fold, refl, ap, ◌∙◌, arith}
-use Rattle.sh_tree.specs.language.Bytes.{decimal}
+use Rattle.sh_tree.specs.standard.language.Bytes.{decimal}
 use Rattle.sh_operands.specs.Numerals.{capped, with_digit}
 
 one_digit : (n c : ℕ) → with_digit (capped n) c ≡ capped (n * 10 + (c - 48))

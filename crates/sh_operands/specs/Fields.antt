@@ -13,10 +13,10 @@ use Rattle.sh_tree.specs.declared.tree.Special.{Special}
 use Rattle.sh_tree.specs.declared.tree.Special.TheVariants as special
 use Rattle.sh_tree.specs.declared.tree.Subject.{Subject}
 use Rattle.sh_tree.specs.declared.tree.Subject.TheVariants as subject
-use Rattle.sh_tree.specs.program.Lists.{element_from}
-use Rattle.sh_tree.specs.program.Syntax as p
-use Rattle.sh_tree.specs.program.Trees as trees
-use Rattle.sh_tree.specs.program.Words.{words_in, operands_in}
+use Rattle.sh_tree.specs.Lists.{element_from}
+use Rattle.sh_tree.specs.standard.program.Syntax as p
+use Rattle.sh_tree.specs.standard.program.Trees as trees
+use Rattle.sh_tree.specs.standard.program.Words.{words_in, operands_in}
 use Rattle.sh_table.specs.Counts.{Count, Parameters, One, Nothing, count_of, part_has_all, operator_has_all, expression_has_all, word_has_all, gives_field, some_gives_field}
 use Rattle.sh_operands.specs.declared.counts.Total.{Total}
 use Rattle.sh_operands.specs.Numerals.{capped}

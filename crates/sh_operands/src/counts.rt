@@ -2,14 +2,12 @@
 ghost use Rattle.std.specs.Prelude.{◌≡◌, ℕ, List, drop, false, fold};
 ghost use Rattle.std.specs.List.{list_any};
 ghost use Rattle.std.specs.Option.{option_copied};
-ghost use Rattle.sh_tree.specs.program.Lists.{parts_from, elements_from};
-ghost use Rattle.sh_tree.specs.program.Words.{words_in, operands_in};
+ghost use Rattle.sh_tree.specs.Lists.{parts_from, elements_from};
+ghost use Rattle.sh_tree.specs.standard.program.Words.{words_in, operands_in};
 ghost use Rattle.sh_table.specs.Counts.{count_of, is_parameters, some_gives_field, word_has_all};
 ghost use Rattle.sh_operands.specs.Fields as spec;
 
-use sh_tree::tree::{
-    Action, Binary, Element, Expr, ParameterOperator, Part, Special, Subject, Word,
-};
+use sh_tree::{Action, Binary, Element, Expr, ParameterOperator, Part, Special, Subject, Word};
 
 /// How many fields words give at least: so many, and as many as there are positional parameters for each `"$@"` that stands alone.
 /// Up to 4,294,967,295 are counted.

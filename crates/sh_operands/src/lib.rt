@@ -1,7 +1,11 @@
 //! What the operands of built-in utilities say: numbers, options, and how many fields they give (XCU 2.5, 2.15).
 #![tactic(auto)]
 
-pub mod counts;
+mod counts;
 pub mod laws;
-pub mod numbers;
-pub mod options;
+mod numbers;
+mod options;
+
+pub use counts::count_behind;
+pub use numbers::number_in;
+pub use options::{positional_at, unset_operands};

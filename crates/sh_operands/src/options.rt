@@ -4,8 +4,7 @@ ghost use Rattle.std.specs.List.{list_all};
 ghost use Rattle.sh_table.specs.WordTexts.{text_in};
 ghost use Rattle.sh_operands.specs.Texts as spec;
 
-use sh_table::operands::{ends_in_o, ends_options, is_dashed, is_set_option};
-use sh_table::word_text::WordText;
+use sh_table::{WordText, ends_in_o, ends_options, is_dashed, is_set_option};
 
 /// The letters of the options of `unset`: whether there are some, and whether all of them are `v`, or all `f`.
 #[derive(Clone, Copy, Debug, PartialEq, Eq)]

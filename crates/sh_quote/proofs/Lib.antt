@@ -5,3 +5,12 @@ pub mod SteadyLemmas
 pub mod SimpleLemmas
 pub mod StepLemmas
 pub mod SplitLemmas
+pub mod OnceLemmas
+pub mod CommandLemmas
+pub mod LookLemmas
+pub mod OperandLemmas
+pub mod PatternLemmas
+pub mod QuotationLemmas
+pub mod UnquotedLemmas
+pub mod ValueLemmas
+pub mod WholeLemmas

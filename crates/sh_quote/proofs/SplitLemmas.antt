@@ -6,11 +6,11 @@ use Rattle.std.proofs.lemmas.Option.{none-some}
 use Rattle.sh_table.specs.Quoting.{is_steady}
 use Rattle.sh_table.specs.Rows.{command_gives_fields}
 use Rattle.sh_table.specs.Surroundings.{Located, outside, items_located}
-use Rattle.sh_table.specs.runs.Environment.{Environment, Frame}
-use Rattle.sh_table.specs.runs.Answers.{Answer}
-use Rattle.sh_table.specs.runs.Steps.{act}
-use Rattle.sh_table.specs.runs.Work.{Work}
-use Rattle.sh_table.specs.runs.Worlds.{Process, World, Move, waits, effect_of, may_step, stepping, has_unset_event, has_split_event}
+use Rattle.sh_table.specs.standard.runs.Environment.{Environment, Frame}
+use Rattle.sh_table.specs.standard.runs.Answers.{Answer}
+use Rattle.sh_table.specs.standard.runs.Steps.{act}
+use Rattle.sh_table.specs.standard.runs.Work.{Work}
+use Rattle.sh_table.specs.standard.runs.Worlds.{Process, World, Move, waits, effect_of, may_step, stepping, has_unset_event, has_split_event}
 use Rattle.sh_table.proofs.AdmittedLemmas.{is_free, items_listed}
 use Rattle.sh_table.proofs.ProcessLemmas.{WorldHolds, work_holds, Kept, run_holds}
 use Rattle.sh_quote.specs.Places.{word_places, split_words, unquoted}

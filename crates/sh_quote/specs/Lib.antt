@@ -2,4 +2,13 @@ pub mod Steady
 pub mod Theorem
 pub mod Invariant
 pub mod Places
-pub mod QuoteExamples
+pub mod examples
+pub mod Once
+pub mod Commands
+pub mod Elements
+pub mod Looks
+pub mod Operands
+pub mod Patterns
+pub mod Quotations
+pub mod Unquoted
+pub mod Values

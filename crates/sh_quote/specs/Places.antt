@@ -3,10 +3,10 @@
 use Rattle.std.specs.Prelude.{ℕ, Bool, true, false, not, ◌&&◌, ◌||◌, if◌then◌else◌, List, [], ◌∷◌, ◌++◌, flat_map, filter, is_some, unwrap_or, option_map}
 use Rattle.sh_tree.specs.declared.place.Place.{Place}
 use Rattle.sh_tree.specs.declared.place.Code.TheVariants.{Q1}
-use Rattle.sh_tree.specs.program.Syntax as p
-use Rattle.sh_tree.specs.program.Syntax.{Word}
-use Rattle.sh_tree.specs.program.Words.{static_of, assignment_in, words_in, operands_in}
-use Rattle.sh_table.specs.Kinds.{kind_of, is_declaration}
+use Rattle.sh_tree.specs.standard.program.Syntax as p
+use Rattle.sh_tree.specs.standard.program.Syntax.{Word}
+use Rattle.sh_tree.specs.standard.program.Words.{static_of, assignment_in, words_in, operands_in}
+use Rattle.sh_table.specs.standard.Kinds.{kind_of, is_declaration}
 use Rattle.sh_table.specs.Surroundings.{outside, items_located}
 use Rattle.sh_table.specs.Quoting.{gives_number, is_quoted_alternative, word_begins_pattern}
 use Rattle.sh_quote.specs.Steady.{for_words, steady}

@@ -2,13 +2,13 @@
 -- POSIX.1-2024, XCU 2.6.5 (field splitting), 2.6.6 (pathname expansion).
 use Rattle.std.specs.Prelude.{◌≡◌, ℕ, true, false, List, [], Some}
 use Rattle.sh_tree.specs.declared.tree.Script.{Script}
-use Rattle.sh_tree.specs.language.Reading.{Reads}
-use Rattle.sh_tree.specs.program.Syntax.{Text, Items}
-use Rattle.sh_tree.specs.program.Trees.{script_of}
+use Rattle.sh_tree.specs.standard.language.Reading.{Reads}
+use Rattle.sh_tree.specs.standard.program.Syntax.{Text, Items}
+use Rattle.sh_tree.specs.standard.program.Trees.{script_of}
 use Rattle.sh_table.specs.Admitted.{is_admitted}
 use Rattle.sh_table.specs.Rows.{gives_fields}
-use Rattle.sh_table.specs.runs.Environment.{Environment, Frame}
-use Rattle.sh_table.specs.runs.Worlds.{World, Move, run, has_unset_event, has_split_event, start_world, IsStart}
+use Rattle.sh_table.specs.standard.runs.Environment.{Environment, Frame}
+use Rattle.sh_table.specs.standard.runs.Worlds.{World, Move, run, has_unset_event, has_split_event, start_world, IsStart}
 use Rattle.sh_quote.specs.Places.{unquoted}
 
 -- Where a program is admitted, its words give fields as words that are read do, and no place is told, then in every run from a start that

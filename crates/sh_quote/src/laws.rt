@@ -1,6 +1,7 @@
 //! What holds of the rules of quoting that `specs/` defines, and what they are good for in the runs that `sh_table` defines.
 ghost use Rattle.sh_table.specs.Theorem.{FieldsStandWhole, FieldsStandSteady};
-ghost use Rattle.sh_quote.specs.QuoteExamples.{QuotesAsExpected};
+ghost use Rattle.sh_quote.specs.Once.{ReadUnquotedStandOnce, UnquotedStandOnce};
+ghost use Rattle.sh_quote.specs.examples.Quotes.{QuotesAsExpected};
 ghost use Rattle.sh_quote.specs.Theorem.{QuotingSuffices, QuotingSufficesForScripts};
 
 /// In known scripts the known places are told.
@@ -22,4 +23,11 @@ pub fn no_split()
 pub fn fields()
     ensures whole { FieldsStandWhole }
     ensures steady { FieldsStandSteady }
+{}
+
+/// Of a program whose spots each stand once no expansion outside quotes is told twice. The program of every script that is read is such
+/// (`sh_reads::laws::once`).
+pub fn once()
+    ensures law { UnquotedStandOnce }
+    ensures scripts { ReadUnquotedStandOnce }
 {}

@@ -22,11 +22,11 @@ use Rattle.sh_tree.specs.declared.token.command.Stage.{Stage}
 use Rattle.sh_tree.specs.declared.token.command.Stage.TheVariants.{First, Prefixed, Named}
 use Rattle.sh_tree.specs.declared.token.command.Lead.{Lead}
 use Rattle.sh_tree.specs.declared.token.command.Lead.TheVariants as lead
-use Rattle.sh_tree.specs.language.Bytes.{is_blank, is_newline, is_backslash, is_operator_byte, is_digit, is_name_start, is_name_byte, is_name, ends_token, run, is_first, name_length, longest}
-use Rattle.sh_tree.specs.language.Words as words
-use Rattle.sh_tree.specs.language.Words.{ends_joined}
-use Rattle.sh_tree.specs.language.Commands.{gap_length, blanks, operator_of, operator_lead, whole_operator, opening, reserved_lead, first_lead, name_lead, word_lead, number_lead, other_lead, lead_of, lead_at, is_assignment, name_end, is_bare, bare_word, is_definition, is_parenthesis, entry_of, reserved_words, left_out_names}
-use Rattle.sh_tree.specs.language.Contexts.{in_word, in_value, in_operand, in_stage}
+use Rattle.sh_tree.specs.standard.language.Bytes.{is_blank, is_newline, is_backslash, is_operator_byte, is_digit, is_name_start, is_name_byte, is_name, ends_token, run, is_first, name_length, longest}
+use Rattle.sh_tree.specs.standard.language.Words as words
+use Rattle.sh_tree.specs.standard.language.Words.{ends_joined}
+use Rattle.sh_tree.specs.standard.language.Commands.{gap_length, blanks, operator_of, operator_lead, whole_operator, opening, reserved_lead, first_lead, name_lead, word_lead, number_lead, other_lead, lead_of, lead_at, is_assignment, name_end, is_bare, bare_word, is_definition, is_parenthesis, entry_of, reserved_words, left_out_names}
+use Rattle.sh_tree.specs.standard.language.Contexts.{in_word, in_value, in_operand, in_stage}
 
 -- Tests
 

@@ -37,6 +37,14 @@ module _ (q : Place) where
       go true = omega arith
       go false = omega arith
 
+  -- and then it is before their end
+  pub below_inside : (long n : ℕ) → 0 < below long n → q.at < long
+  unfolding below
+  below_inside long n h = ⊎_elim
+      (λ t. let before : q.at < min n long = ltb-true q.at (min n long) t in let less : q.at < long = omega arith in less)
+      (λ t. let none : one (nat_lt q.at (min n long)) ≡ 0 = rw t refl in absurd (omega arith))
+      (cases_Bool (nat_lt q.at (min n long)))
+
   own_below : (long i e : ℕ) → i < long → i < e → one (q.at == i) + below long i ≤ below long e
   unfolding below
   own_below long i e inside more = ⊎_elim
@@ -167,16 +175,20 @@ module _ (q : Place) where
           omega arith
 
   -- the commands of a substitution, behind its first bytes
-  pub spans_inner : {long i j n h c : ℕ} → i < j → j ≤ n → h + below long j ≤ below long n → Spans long i (n + 1) h c c
-  spans_inner {long = long} {i = i} {j = j} {n = n} more moves inner = record {
-    moves = omega arith;
-    bound = λ m k.
-        let least = slack_most (is_of_command q.code) in
-        let before = below_grows long m j (omega arith) in
-        let grows = below_grows long n (max m (n + 1)) (omega arith) in
-        omega arith;
-  }
+  pub spans_inner : {long i j n c : ℕ} (h : ℕ) → i < long → i < j → j ≤ n → h + below long j ≤ below long n → Spans long i (n + 1) (hits q (OfWord i ∷ []) + h) c c
+  spans_inner {long = long} {i = i} {j = j} {n = n} {c = c} h inside more moves inner = record { moves = omega arith; bound = λ m k. go (is_of_command q.code) refl m k }
     where
-      slack_most : (t : Bool) → one t ≤ 1
-      slack_most true = omega arith
-      slack_most false = omega arith
+      go : (t : Bool) → is_of_command q.code ≡ t → (m : ℕ) → m ≤ i + slack → hits q (OfWord i ∷ []) + h + c + below long m ≤ c + below long (max m (n + 1))
+      go true is m k =
+          let none : hits q (OfWord i ∷ []) ≡ 0 = hits_of_word q i ∙ rw is (none_both (q.at == i)) in
+          let loose : slack ≡ 1 = rw is refl in
+          let before = below_grows long m j (omega arith) in
+          let grows = below_grows long n (max m (n + 1)) (omega arith) in
+          omega arith
+      go false is m k =
+          let first : hits q (OfWord i ∷ []) ≡ one (q.at == i) = hits_of_word q i ∙ rw is (all_both (q.at == i)) in
+          let tight : slack ≡ 0 = rw is refl in
+          let own = own_below long i j inside more in
+          let before = below_grows long m i (omega arith) in
+          let grows = below_grows long n (max m (n + 1)) (omega arith) in
+          omega arith

@@ -6,12 +6,12 @@ use Rattle.sh_tree.specs.declared.refusal.Form.TheVariants as form
 use Rattle.sh_tree.specs.declared.token.arithmetic.Figure.{Figure}
 use Rattle.sh_tree.specs.declared.token.arithmetic.Figure.TheVariants as figure
 use Rattle.sh_tree.specs.declared.token.arithmetic.Lexeme.{Lexeme}
-use Rattle.sh_tree.specs.language.Arithmetic.{operator_table, name_figure, unknown, figure_by, figure_of, is_split, lexeme_start, lexeme}
-use Rattle.sh_tree.specs.language.Bytes.{is_digit, is_name_start, is_first, is_backslash, is_name, name_length, longest}
-use Rattle.sh_tree.specs.language.Reading.{figure_at, figure_span, over, is_figure_name}
-use Rattle.sh_tree.specs.language.States.{Spot}
-use Rattle.sh_tree.specs.language.Trees.{span}
-use Rattle.sh_tree.specs.Tree.{text_of}
+use Rattle.sh_tree.specs.standard.language.Arithmetic.{operator_table, name_figure, unknown, figure_by, figure_of, is_split, lexeme_start, lexeme}
+use Rattle.sh_tree.specs.standard.language.Bytes.{is_digit, is_name_start, is_first, is_backslash, is_name, name_length, longest}
+use Rattle.sh_tree.specs.standard.language.Reading.{figure_at, figure_span, over, is_figure_name}
+use Rattle.sh_tree.specs.standard.language.States.{Spot}
+use Rattle.sh_tree.specs.standard.language.Trees.{span}
+use Rattle.sh_tree.specs.standard.Tree.{text_of}
 use Rattle.sh_reads.proofs.FrontLemmas.{Front, Stands, stands_at, name_run, name_takes, name_stands}
 use Rattle.sh_reads.proofs.BeginningLemmas.{first_some}
 

@@ -4,9 +4,9 @@ use Rattle.std.specs.List.{list_all, take_while, prefix_len}
 use Rattle.std.proofs.lemmas.Bool.{cases_Bool, cases_lt, cond-true, cond-false, true≢false, and_from, or_left}
 use Rattle.std.proofs.lemmas.List.{drop-drop, drop-take, drop_all, take-take, take_min, take_all}
 use Rattle.std.proofs.lemmas.List.Sums.{take_while-cons}
-use Rattle.sh_tree.specs.language.Bytes.{is_name_start, is_name_byte, is_first, is_name, name_length, run}
-use Rattle.sh_tree.specs.language.Trees.{span}
-use Rattle.sh_tree.specs.Tree.{text_of}
+use Rattle.sh_tree.specs.standard.language.Bytes.{is_name_start, is_name_byte, is_first, is_name, name_length, run}
+use Rattle.sh_tree.specs.standard.language.Trees.{span}
+use Rattle.sh_tree.specs.standard.Tree.{text_of}
 
 -- the text is the front of the whole
 abbrev pub Front : List ℕ → List ℕ → Type 0

@@ -3,8 +3,8 @@ use Rattle.std.proofs.Common.{◌≡◌, ℕ, suc, ◌+◌, Bool, true, not, ◌
 use Rattle.std.proofs.lemmas.Bool.{cases_Bool, cond-true, cond-false, eqb-true}
 use Rattle.std.proofs.lemmas.List.{drop-drop}
 use Rattle.std.proofs.lemmas.List.Sums.{take_while-cons}
-use Rattle.sh_tree.specs.language.Bytes.{is_blank, is_newline, is_backslash}
-use Rattle.sh_tree.specs.language.Commands.{gap_length, comment_length, is_comment, blank_length, blanks}
+use Rattle.sh_tree.specs.standard.language.Bytes.{is_blank, is_newline, is_backslash}
+use Rattle.sh_tree.specs.standard.language.Commands.{gap_length, comment_length, is_comment, blank_length, blanks}
 
 pub gap_settles : (cs : List ℕ) → gap_length (drop (gap_length cs) cs) ≡ 0
 unfolding gap_length

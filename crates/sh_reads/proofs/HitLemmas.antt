@@ -1,12 +1,12 @@
 -- How often the spot of a place stands in a list, and that it stands once.
-use Rattle.std.proofs.Common.{◌≡◌, ℕ, zero, suc, ◌+◌, ◌<◌, ◌≤◌, ◌==◌, Bool, true, false, not, ◌&&◌, cond, List, [], ◌∷◌, ◌++◌, length, get_or, ◌⊎◌, inl, inr, refl, sym, ◌∙◌, ap, subst, arith, eqb-true, eq-eqb, true≢false}
-use Rattle.std.specs.List.{Contains}
-use Rattle.std.proofs.lemmas.Bool.{and_parts, cases_Bool}
+use Rattle.std.proofs.Common.{◌≡◌, ℕ, zero, suc, ◌+◌, ◌<◌, ◌≤◌, ◌==◌, Bool, true, false, not, ◌&&◌, cond, nat_lt, List, [], ◌∷◌, ◌++◌, length, get_or, ◌⊎◌, inl, inr, refl, sym, ◌∙◌, ap, subst, arith, eqb-true, eq-eqb, true≢false}
+use Rattle.std.specs.List.{Contains, list_all}
+use Rattle.std.proofs.lemmas.Bool.{and_from, and_parts, cases_Bool, lt-ltb}
 use Rattle.std.proofs.lemmas.Bool.Decides.{nat_tests}
 use Rattle.sh_tree.specs.declared.place.Code.{Code}
 use Rattle.sh_tree.specs.declared.place.Code.TheVariants.{P1, P2, U1}
 use Rattle.sh_tree.specs.declared.place.Place.{Place}
-use Rattle.sh_reads.specs.Spots.{Spot, OfCommand, OfWord, EachOnce}
+use Rattle.sh_reads.specs.Spots.{Spot, OfCommand, OfWord, EachOnce, offset_of}
 
 -- one where it is so
 abbrev pub one : Bool → ℕ
@@ -87,6 +87,22 @@ spots_from_hits (s ∷ ss) h = (
   (λ k. let here = spot_itself s in let more = hits_some s ss k in let most = h (place_at s) in absurd (omega arith)),
   spots_from_hits ss (λ q. let most = h q in omega arith),
 )
+
+at_offset : (s : Spot) → (place_at s).at ≡ offset_of s
+unfolding place_at offset_of
+at_offset (OfCommand i) = refl
+at_offset (OfWord i) = refl
+
+-- where each place that is counted is before an offset, so is each spot
+pub spots_inside : (long : ℕ) (ss : List Spot) → ((q : Place) → 0 < hits q ss → q.at < long) → list_all (λ s. nat_lt (offset_of s) long) ss ≡ true
+unfolding hits
+spots_inside long [] h = refl
+spots_inside long (s ∷ ss) h =
+    let here = spot_itself s in
+    let inside : (place_at s).at < long = h (place_at s) (omega arith) in
+    let same = at_offset s in
+    let first : nat_lt (offset_of s) long ≡ true = lt-ltb (offset_of s) long (omega arith) in
+    and_from (nat_lt (offset_of s) long) (list_all (λ z. nat_lt (offset_of z) long) ss) first (spots_inside long ss (λ q k. h q (omega arith)))
 
 there_is : (at : ℕ) (b : Bool) (s : Spot) → is_there at b s ≡ true → s ≡ spot_of_place at b
 unfolding is_there spot_of_place

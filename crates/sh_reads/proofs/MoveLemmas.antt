@@ -12,13 +12,13 @@ use Rattle.sh_tree.specs.declared.token.command.Lead.TheVariants as lead
 use Rattle.sh_tree.specs.declared.token.command.Operator.{Operator}
 use Rattle.sh_tree.specs.declared.token.command.Redirection.{Redirection}
 use Rattle.sh_tree.specs.declared.token.command.Stage.{Stage}
-use Rattle.sh_tree.specs.language.Bytes.{longest}
-use Rattle.sh_tree.specs.language.Commands.{blanks, name_end, lead_of, lead_at, operator_of, operator, redirection, redirection_by, redirects, digits_end, further, long_operators, short_operators, begins_simple, is_redirection}
-use Rattle.sh_tree.specs.language.HereDocuments.{Mark, end_line, end_line_within, behind_line, line_end, end_candidate}
-use Rattle.sh_tree.specs.language.Reading as r
-use Rattle.sh_tree.specs.language.Reading.{ReadsCompound}
-use Rattle.sh_tree.specs.language.States.{State, Document}
-use Rattle.sh_tree.specs.language.Trees.{span}
+use Rattle.sh_tree.specs.standard.language.Bytes.{longest}
+use Rattle.sh_tree.specs.standard.language.Commands.{blanks, name_end, lead_of, lead_at, operator_of, operator, redirection, redirection_by, redirects, digits_end, further, long_operators, short_operators, begins_simple, is_redirection}
+use Rattle.sh_tree.specs.standard.language.HereDocuments.{Mark, end_line, end_line_within, behind_line, line_end, end_candidate}
+use Rattle.sh_tree.specs.standard.language.Reading as r
+use Rattle.sh_tree.specs.standard.language.Reading.{ReadsCompound}
+use Rattle.sh_tree.specs.standard.language.States.{State, Document}
+use Rattle.sh_tree.specs.standard.language.Trees.{span}
 
 pub blanks_move : (joins : Bool) (b : List ℕ) (i : ℕ) → i ≤ blanks joins b i
 unfolding blanks

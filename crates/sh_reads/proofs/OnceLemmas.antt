@@ -32,34 +32,34 @@ use Rattle.sh_tree.specs.declared.token.command.Lead.{Lead}
 use Rattle.sh_tree.specs.declared.token.command.Lead.TheVariants as lead
 use Rattle.sh_tree.specs.declared.token.command.Stage.{Stage}
 use Rattle.sh_tree.specs.declared.token.command.Stage.TheVariants.{First, Named}
-use Rattle.sh_tree.specs.language.Arithmetic.{lexeme}
-use Rattle.sh_tree.specs.language.Commands.{blanks, name_end, lead_at, is_newline_lead, is_open, begins_simple, gap_length}
-use Rattle.sh_tree.specs.language.Contexts.{in_stage}
-use Rattle.sh_tree.specs.language.HereDocuments.{Mark, behind_line, delimiter_of}
-use Rattle.sh_tree.specs.language.Reading as r
-use Rattle.sh_tree.specs.language.Reading.{figure_at, figure_span, over, lead_of, lead_here, skip, behind_name, parted, unopened, ReadsParts, ReadsPart, ReadsExpression, ReadsConditional, ReadsLevel, ReadsOperands, ReadsUnary, ReadsWord, ReadsRedirect, ReadsRedirects, ReadsDocuments, ReadsBreaks, ReadsElements, ReadsCommand, ReadsCompound, ReadsDo, ReadsBranches, ReadsElse, ReadsForWords, ReadsWords, ReadsClauses, ReadsPatterns, ReadsPipeline, ReadsCommands, ReadsAndOr, ReadsLinks, ReadsItems, ReadsList, ReadsSequence, ReadsScript, Reads, sign_at}
-use Rattle.sh_tree.specs.language.States.{Spot, State, Document, nth, to, next, facing, begun, document_count, waits}
-use Rattle.sh_tree.specs.language.Trees as tree
-use Rattle.sh_tree.specs.language.Trees.{span}
-use Rattle.sh_tree.specs.program.Lists.{parts_from, words_from, operands_from, items_from, links_from, commands_from, elements_from, redirects_from, branches_from, otherwise_from, for_words_from, clauses_from}
-use Rattle.sh_tree.specs.program.Syntax as p
-use Rattle.sh_tree.specs.program.Trees.{part_of, expression_of, script_of, and_or_of, pipeline_of, command_of, kind_of, target_of}
-use Rattle.sh_tree.specs.Tree.{text_of}
+use Rattle.sh_tree.specs.standard.language.Arithmetic.{lexeme}
+use Rattle.sh_tree.specs.standard.language.Commands.{blanks, name_end, lead_at, is_newline_lead, is_open, begins_simple, gap_length}
+use Rattle.sh_tree.specs.standard.language.Contexts.{in_stage}
+use Rattle.sh_tree.specs.standard.language.HereDocuments.{Mark, behind_line, delimiter_of}
+use Rattle.sh_tree.specs.standard.language.Reading as r
+use Rattle.sh_tree.specs.standard.language.Reading.{figure_at, figure_span, over, lead_of, lead_here, skip, behind_name, parted, unopened, ReadsParts, ReadsPart, ReadsExpression, ReadsConditional, ReadsLevel, ReadsOperands, ReadsUnary, ReadsWord, ReadsRedirect, ReadsRedirects, ReadsDocuments, ReadsBreaks, ReadsElements, ReadsCommand, ReadsCompound, ReadsDo, ReadsBranches, ReadsElse, ReadsForWords, ReadsWords, ReadsClauses, ReadsPatterns, ReadsPipeline, ReadsCommands, ReadsAndOr, ReadsLinks, ReadsItems, ReadsList, ReadsSequence, ReadsScript, Reads, sign_at}
+use Rattle.sh_tree.specs.standard.language.States.{Spot, State, Document, nth, to, next, facing, begun, document_count, waits}
+use Rattle.sh_tree.specs.standard.language.Trees as tree
+use Rattle.sh_tree.specs.standard.language.Trees.{span}
+use Rattle.sh_tree.specs.Lists.{parts_from, words_from, operands_from, items_from, links_from, commands_from, elements_from, redirects_from, branches_from, otherwise_from, for_words_from, clauses_from}
+use Rattle.sh_tree.specs.standard.program.Syntax as p
+use Rattle.sh_tree.specs.standard.program.Trees.{part_of, expression_of, script_of, and_or_of, pipeline_of, command_of, kind_of, target_of}
+use Rattle.sh_tree.specs.standard.Tree.{text_of}
 use Rattle.sh_tree.proofs.ProgramRules.{parts_from-empty, parts_from-more, words_from-empty, words_from-more, operands_from-empty, operands_from-more, items_from-empty, links_from-empty, links_from-more, commands_from-empty, commands_from-more, elements_from-empty, redirects_from-empty, redirects_from-more, branches_from-empty, clauses_from-empty, otherwise_from-None, otherwise_from-Some, for_words_from-None, for_words_from-Some, kind_of-Simple, kind_of-Group, kind_of-Subshell, kind_of-Cond, kind_of-Loop, kind_of-For, kind_of-Branches, kind_of-Define, elements_from-Assignment, elements_from-Word, elements_from-Redirection, target_of-File, target_of-Here, part_of-Plain, part_of-Escaped, part_of-Single, part_of-Double, part_of-Param, part_of-Arith, part_of-Command, part_of-Tilde, part_of-Joined, operator_of-Value, operator_of-Length, operator_of-Use, operator_of-Remove, expression_of-Constant, expression_of-Variable, expression_of-Expansion, expression_of-Parenthesis, expression_of-Unary, expression_of-Chain, expression_of-Choice, expression_of-Assign}
 use Rattle.sh_reads.proofs.GapLemmas.{blanks_gap}
 use Rattle.sh_reads.proofs.ProgramTrees.{script_made, items_made, and_or_made, pipe_made, command_made, branches_made, clauses_made}
 use Rattle.sh_reads.proofs.SettledLemmas.{IsSettled, settled_next, settled_past, settled_parted, redirect_settled, breaks_settled, for_words_settled, pipeline_settled, and_or_settled, list_settled}
 use Rattle.std.proofs.lemmas.Bool.{true≢false}
 use Rattle.sh_tree.specs.declared.place.Place.{Place}
-use Rattle.sh_tree.specs.language.Parts.{is_quoted_word}
-use Rattle.sh_tree.specs.language.Words.{token}
-use Rattle.sh_reads.specs.Spots.{ReadSpotsStandOnce, word_spots, part_spots, expression_spots, operands_spots, words_spots, for_words_spots, redirect_spots, redirects_spots, elements_spots, kind_spots, command_spots, commands_spots, pipeline_spots, links_spots, list_spots, items_spots, branches_spots, otherwise_spots, clauses_spots}
+use Rattle.sh_tree.specs.standard.language.Parts.{is_quoted_word}
+use Rattle.sh_tree.specs.standard.language.Words.{token}
+use Rattle.sh_reads.specs.Spots.{ReadSpotsStandInside, ReadSpotsStandOnce, word_spots, part_spots, expression_spots, operands_spots, words_spots, for_words_spots, redirect_spots, redirects_spots, elements_spots, kind_spots, command_spots, commands_spots, pipeline_spots, links_spots, list_spots, items_spots, branches_spots, otherwise_spots, clauses_spots}
 use Rattle.sh_reads.proofs.BeginningLemmas.{takes_none, word_takes}
-use Rattle.sh_reads.proofs.HitLemmas.{hits, spots_from_hits}
+use Rattle.sh_reads.proofs.HitLemmas.{hits, spots_from_hits, spots_inside}
 use Rattle.sh_reads.proofs.FigureLemmas.{figure_takes, figure_moves}
 use Rattle.sh_reads.proofs.MoveLemmas.{blanks_move, name_moves, redirection_moves, is_end, lead_inside, simple_inside, compound_inside, line_behind, end_line_moves}
 use Rattle.sh_reads.proofs.TakeLemmas.{is_part, token_takes, token_moves, part_begins}
-use Rattle.sh_reads.proofs.BelowLemmas.{below, Spans, spans_is, spans_none, spans_wider, spans_then, spans_own, spans_inner, Step, step_is, step_none, step_wider, step_then, step_spans, step_own, step_simple, below_grows, below_front, below_same, below_most}
+use Rattle.sh_reads.proofs.BelowLemmas.{below, Spans, spans_is, spans_none, spans_wider, spans_then, spans_own, spans_inner, Step, step_is, step_none, step_wider, step_then, step_spans, step_own, step_simple, below_grows, below_front, below_same, below_most, below_inside}
 use Rattle.sh_reads.proofs.SpotCounts.{count_no_parts, count_parts, count_plain, count_escaped, count_single, count_joined, count_tilde, count_double, count_expansion, count_arithmetic, count_substitution, count_value, count_length, count_use, count_remove, count_constant, count_name, count_expanded, count_parenthesis, count_signed, count_chain, count_choice, count_assigned, count_no_operands, count_operands, count_no_words, count_words, count_every, count_listed, count_file, count_here, count_no_redirects, count_redirects, count_no_elements, count_assignment, count_operand, count_redirection, count_simple, count_group, count_subshell, count_conditional, count_loop, count_for, count_case, count_define, count_no_branches, count_branches, count_no_else, count_else, count_no_clauses, count_clauses, count_no_commands, count_commands, count_command, count_pipeline, count_no_links, count_links, count_list, count_no_items, count_items}
 
 -- What reads no body
@@ -292,14 +292,14 @@ module _ (whole : List ℕ) (q : Place) where
         let first = moved.0 in
         let second = moved.1 in
         let third = rest.moves in (
-          rw (part_of-Arith whole (span s.at ((over b u).at + 1)) a) (spans_is q (count_arithmetic q _ _) (spans_wider q (omega arith) (omega arith) rest)),
+          rw (part_of-Arith whole (span s.at ((over b u).at + 1)) a) (spans_is q (count_arithmetic q _ _) (spans_wider q (le_refl _) (omega arith) (spans_then q (spans_own q inside more) rest))),
           omega arith,
         )
     part_pass {b = b} more inside (r.substitution {s = s} {u = u} {e = e} {t = list} d h c) =
         let rest = script_pass (blanks_gap s.joins b e) h in
         let moved = blanks_move s.joins b e in
         let moves = rest.0 in (
-          rw (part_of-Command whole Paren (span s.at (u.at + 1)) list) (spans_is q (count_substitution q _ _) (spans_inner q (omega arith) moves rest.1)),
+          rw (part_of-Command whole Paren (span s.at (u.at + 1)) list) (spans_is q (count_substitution q _ _) (spans_inner q (hits q (items_spots (script_of whole list))) inside (omega arith) moves rest.1)),
           omega arith,
         )
 
@@ -702,13 +702,20 @@ module _ (whole : List ℕ) (q : Place) where
         let bound = inside.bound in
         (inside.moves, omega arith)
 
--- no spot is counted twice
+-- a spot is counted no more often than the reading passes it
+passed : (b : List ℕ) (t : Script) (reads : Reads b t) (q : Place) → hits q (items_spots (script_of b t)) ≤ below q (length b) reads.2.end.at
+passed b t reads q = let found = script_pass b q (blanks_gap false b 0) reads.2.script in let bound = found.1 in omega arith
+
+-- so none is counted twice
 pub read_hits : (b : List ℕ) (t : Script) → Reads b t → (q : Place) → hits q (items_spots (script_of b t)) ≤ 1
-read_hits b t reads q =
-    let found = script_pass b q (blanks_gap false b 0) reads.2.script in
-    let bound = found.1 in
-    let most = below_most q (length b) reads.2.end.at in
-    omega arith
+read_hits b t reads q = let few = passed b t reads q in let most = below_most q (length b) reads.2.end.at in omega arith
 
 pub read_spots_once : ReadSpotsStandOnce
 read_spots_once b t reads = spots_from_hits (items_spots (script_of b t)) (read_hits b t reads)
+
+-- and what is counted is inside
+pub hits_inside : (b : List ℕ) (t : Script) → Reads b t → (q : Place) → 0 < hits q (items_spots (script_of b t)) → q.at < length b
+hits_inside b t reads q some = let few = passed b t reads q in below_inside q (length b) reads.2.end.at (omega arith)
+
+pub read_spots_inside : ReadSpotsStandInside
+read_spots_inside b t reads = spots_inside (length b) (items_spots (script_of b t)) (hits_inside b t reads)

@@ -12,10 +12,10 @@ use Rattle.sh_tree.specs.declared.tree.Pipe.{Pipe, out-roll-Pipe}
 use Rattle.sh_tree.specs.declared.tree.Redirect.{Redirect}
 use Rattle.sh_tree.specs.declared.tree.Script.{Script, out-roll-Script}
 use Rattle.sh_tree.specs.declared.tree.Word.{Word}
-use Rattle.sh_tree.specs.language.Trees as tree
-use Rattle.sh_tree.specs.program.Syntax as p
-use Rattle.sh_tree.specs.program.Lists.{words_from, items_from, links_from, commands_from, redirects_from, branches_from, clauses_from}
-use Rattle.sh_tree.specs.program.Trees.{script_of, and_or_of, pipeline_of, command_of, kind_of}
+use Rattle.sh_tree.specs.standard.language.Trees as tree
+use Rattle.sh_tree.specs.standard.program.Syntax as p
+use Rattle.sh_tree.specs.Lists.{words_from, items_from, links_from, commands_from, redirects_from, branches_from, clauses_from}
+use Rattle.sh_tree.specs.standard.program.Trees.{script_of, and_or_of, pipeline_of, command_of, kind_of}
 use Rattle.sh_tree.proofs.ProgramRules.{script_of-out, and_or_of-out, pipeline_of-out, command_of-out, items_from-more, branches_from-more, clauses_from-more}
 
 pub script_made : (b : List ℕ) (is : List Item) → script_of b (tree.script is) ≡ items_from b is

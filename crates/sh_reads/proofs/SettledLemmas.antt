@@ -14,10 +14,10 @@ use Rattle.sh_tree.specs.declared.tree.Script.{Script}
 use Rattle.sh_tree.specs.declared.tree.Word.{Word}
 use Rattle.sh_tree.specs.declared.token.command.Lead.{Lead}
 use Rattle.sh_tree.specs.declared.token.command.Stage.{Stage}
-use Rattle.sh_tree.specs.language.Commands.{gap_length, is_newline_lead}
-use Rattle.sh_tree.specs.language.States.{Spot, State, Document, next, past, begun}
-use Rattle.sh_tree.specs.language.Reading as r
-use Rattle.sh_tree.specs.language.Reading.{lead_here, skip, behind_name, parted, ReadsRedirect, ReadsRedirects, ReadsBreaks, ReadsElements, ReadsCommand, ReadsCompound, ReadsDo, ReadsBranches, ReadsElse, ReadsForWords, ReadsWords, ReadsClauses, ReadsPipeline, ReadsCommands, ReadsAndOr, ReadsLinks, ReadsItems, ReadsList}
+use Rattle.sh_tree.specs.standard.language.Commands.{gap_length, is_newline_lead}
+use Rattle.sh_tree.specs.standard.language.States.{Spot, State, Document, next, past, begun}
+use Rattle.sh_tree.specs.standard.language.Reading as r
+use Rattle.sh_tree.specs.standard.language.Reading.{lead_here, skip, behind_name, parted, ReadsRedirect, ReadsRedirects, ReadsBreaks, ReadsElements, ReadsCommand, ReadsCompound, ReadsDo, ReadsBranches, ReadsElse, ReadsForWords, ReadsWords, ReadsClauses, ReadsPipeline, ReadsCommands, ReadsAndOr, ReadsLinks, ReadsItems, ReadsList}
 use Rattle.sh_reads.proofs.GapLemmas.{blanks_gap}
 
 -- neither a blank nor a line continuation stands there

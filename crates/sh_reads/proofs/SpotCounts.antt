@@ -9,8 +9,8 @@ use Rattle.sh_tree.specs.declared.tree.LoopKind.{LoopKind}
 use Rattle.sh_tree.specs.declared.tree.Removal.{Removal}
 use Rattle.sh_tree.specs.declared.tree.SingleStyle.{SingleStyle}
 use Rattle.sh_tree.specs.declared.tree.Unary.{Unary}
-use Rattle.sh_tree.specs.program.Syntax as p
-use Rattle.sh_tree.specs.program.Syntax.{Text}
+use Rattle.sh_tree.specs.standard.program.Syntax as p
+use Rattle.sh_tree.specs.standard.program.Syntax.{Text}
 use Rattle.sh_reads.specs.Spots.{Spot, OfCommand, OfWord, branches_spots, clauses_spots, command_spots, commands_spots, elements_spots, expression_spots, for_words_spots, items_spots, kind_spots, links_spots, list_spots, operands_spots, operator_spots, otherwise_spots, part_spots, pipeline_spots, redirect_spots, redirects_spots, word_spots, words_spots}
 use Rattle.sh_reads.proofs.HitLemmas.{hits, hits_none, hits_join, hits_cons}
 
@@ -57,13 +57,13 @@ module _ (q : Place) where
   unfolding items_spots
   count_expansion at x o = hits_cons q (OfWord at) (operator_spots o)
 
-  pub count_arithmetic : (at : ℕ) (e : p.Expression) → hits q (part_spots (p.Arithmetic at e)) ≡ hits q (expression_spots e)
+  pub count_arithmetic : (at : ℕ) (e : p.Expression) → hits q (part_spots (p.Arithmetic at e)) ≡ hits q (OfWord at ∷ []) + hits q (expression_spots e)
   unfolding items_spots
-  count_arithmetic at e = refl
+  count_arithmetic at e = hits_cons q (OfWord at) (expression_spots e)
 
-  pub count_substitution : (at : ℕ) (t : p.Items) → hits q (part_spots (p.Substitution at t)) ≡ hits q (items_spots t)
+  pub count_substitution : (at : ℕ) (t : p.Items) → hits q (part_spots (p.Substitution at t)) ≡ hits q (OfWord at ∷ []) + hits q (items_spots t)
   unfolding items_spots
-  count_substitution at t = refl
+  count_substitution at t = hits_cons q (OfWord at) (items_spots t)
 
   pub count_value : hits q (operator_spots p.Value) ≡ 0
   unfolding items_spots

@@ -11,10 +11,10 @@ use Rattle.sh_tree.specs.declared.token.word.Site.{Site}
 use Rattle.sh_tree.specs.declared.token.word.Site.TheVariants as site
 use Rattle.sh_tree.specs.declared.token.word.Sign.{Sign}
 use Rattle.sh_tree.specs.declared.token.word.Sign.TheVariants as sign
-use Rattle.sh_tree.specs.language.Reading as r
-use Rattle.sh_tree.specs.language.Reading.{ReadsPart}
-use Rattle.sh_tree.specs.language.States.{Spot}
-use Rattle.sh_tree.specs.language.Words as words
+use Rattle.sh_tree.specs.standard.language.Reading as r
+use Rattle.sh_tree.specs.standard.language.Reading.{ReadsPart}
+use Rattle.sh_tree.specs.standard.language.States.{Spot}
+use Rattle.sh_tree.specs.standard.language.Words as words
 use Rattle.sh_reads.proofs.BeginningLemmas.{stands_some}
 
 -- a sign that begins a part

@@ -1,16 +1,20 @@
--- Where something may be told in a program, and that each such spot of what is read stands once.
+-- Where something may be told in a program, and that each such spot of what is read stands once, inside the text.
 -- POSIX.1-2024, XCU 2.6 (word expansions), 2.9 (shell commands), 2.10 (shell grammar).
-use Rattle.std.specs.Prelude.{ℕ, List, [], ◌∷◌, ◌++◌}
-use Rattle.std.specs.List.{Contains}
+use Rattle.std.specs.Prelude.{◌≡◌, ℕ, nat_lt, true, List, [], ◌∷◌, ◌++◌, length}
+use Rattle.std.specs.List.{Contains, list_all}
 use Rattle.sh_tree.specs.declared.tree.Script.{Script}
-use Rattle.sh_tree.specs.language.Reading.{Reads}
-use Rattle.sh_tree.specs.program.Syntax as p
-use Rattle.sh_tree.specs.program.Trees.{script_of}
+use Rattle.sh_tree.specs.standard.language.Reading.{Reads}
+use Rattle.sh_tree.specs.standard.program.Syntax as p
+use Rattle.sh_tree.specs.standard.program.Trees.{script_of}
 
 -- where something may be told: at the start of a command, or in a word, of an expansion, a tilde or a name in arithmetic
 pub data Spot : Type 0 where
   OfCommand : (at : ℕ) → Spot
   OfWord : (at : ℕ) → Spot
+
+unfoldable pub offset_of : Spot → ℕ
+offset_of (OfCommand at) = at
+offset_of (OfWord at) = at
 
 -- no element is one of those behind it
 unfoldable pub EachOnce : {A : Type 0} → List A → Type 0
@@ -92,8 +96,8 @@ unfoldable mutual
   pub part_spots : p.Part → List Spot
   part_spots (p.Double w) = word_spots w
   part_spots (p.Expansion offset parameter operator) = OfWord offset ∷ operator_spots operator
-  part_spots (p.Arithmetic offset e) = expression_spots e
-  part_spots (p.Substitution offset list) = items_spots list
+  part_spots (p.Arithmetic offset e) = OfWord offset ∷ expression_spots e
+  part_spots (p.Substitution offset list) = OfWord offset ∷ items_spots list
   part_spots (p.Tilde offset login) = OfWord offset ∷ []
   part_spots _ = []
 
@@ -119,3 +123,7 @@ unfoldable mutual
 -- no two commands of what is read start at one offset, and no two expansions, tildes or names of arithmetic stand at one
 abbrev pub ReadSpotsStandOnce : Type 0
 ReadSpotsStandOnce = (b : List ℕ) (t : Script) → Reads b t → EachOnce (items_spots (script_of b t))
+
+-- and each of them is before the end of the text
+abbrev pub ReadSpotsStandInside : Type 0
+ReadSpotsStandInside = (b : List ℕ) (t : Script) → Reads b t → list_all (λ s. nat_lt (offset_of s) (length b)) (items_spots (script_of b t)) ≡ true

@@ -1,2 +1,7 @@
-pub mod MoveLemmas
-pub mod TextLemmas
+pub mod RefusalLemmas
+pub mod CertificateLemmas
+pub mod FindingLemmas
+pub mod CheckLemmas
+pub mod LintLemmas
+pub mod RunLemmas
+pub mod PromiseLemmas

@@ -1,5 +1,5 @@
-pub mod Ends
-pub mod Moves
-pub mod Verdicts
-pub mod Texts
-pub mod Findings
+pub mod Prepared
+pub mod Told
+pub mod Judged
+pub mod Runs
+pub mod Promises

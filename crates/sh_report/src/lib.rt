@@ -1,9 +1,17 @@
-//! What is told of a script, the text of it, and the ends that it goes between.
+//! What is answered of a script by its bytes: the engine from the bytes of a script to the text of its answer.
 #![tactic(auto)]
 
-pub mod counted;
-pub mod ends;
-pub mod moves;
-pub mod task;
-pub mod texts;
-pub mod verdict;
+mod checks;
+mod engine;
+mod lints;
+mod prepared;
+mod told;
+
+pub use checks::check;
+pub use engine::run;
+pub use lints::{certificate, lint};
+pub use prepared::{Prepared, certified, prepare};
+pub use sh_answers::{
+    Action, Broken, Counted, Counts, Fault, Feed, Finding, Outlet, Report, Task, Verdict,
+};
+pub use told::verdict_of;

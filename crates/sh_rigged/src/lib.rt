@@ -2,10 +2,9 @@
 #![tactic(auto)]
 
 ghost use Rattle.std.specs.Prelude.{◌≡◌};
-ghost use Rattle.sh_report.specs.Ends.{no_counts};
+ghost use Rattle.sh_answers.specs.Ends.{no_counts};
 
-use sh_report::counted::end_answer;
-use sh_report::ends::{Broken, Counts, Feed, Outlet};
+use sh_answers::{Broken, Counts, Feed, Outlet, end_answer};
 use std::io::{self, ErrorKind, Read, Write};
 
 /// What a rigged end does at the call of its number.

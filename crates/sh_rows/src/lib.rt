@@ -1,7 +1,12 @@
 //! Rows: sets of numbers below a count, as sorted numbers or as bits.
 #![tactic(auto)]
 
-pub mod bits;
-pub mod kernels;
-pub mod names;
-pub mod row;
+mod bits;
+mod kernels;
+mod names;
+mod row;
+
+pub use bits::BitRow;
+pub use kernels::{is_set, join_words, meet_words, remove_words, set, unset, within_words};
+pub use names::NameRow;
+pub use row::Row;

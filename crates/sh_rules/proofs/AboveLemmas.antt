@@ -3,28 +3,28 @@ use Rattle.std.proofs.Common.{◌≡◌, ℕ, true, List, [], ◌∷◌, ◌++�
 use Rattle.std.specs.List.{list_all}
 use Rattle.std.proofs.lemmas.Bool.{and_parts, and_from}
 use Rattle.std.proofs.lemmas.List.Sums.{fold-append}
-use Rattle.sh_tree.specs.program.Syntax as p
-use Rattle.sh_tree.specs.program.Syntax.{Text}
-use Rattle.sh_table.specs.runs.Environment.{is_one_of}
-use Rattle.sh_facts.specs.declared.rule.FlowRule.{FlowRule}
-use Rattle.sh_facts.specs.declared.rule.FlowRule.TheVariants.{F13}
-use Rattle.sh_facts.specs.Entries.{Around, Entered, behind_redirects}
-use Rattle.sh_facts.specs.Facts.{Facts, NotReached, Known, Declared, facts, meet, start_facts}
-use Rattle.sh_facts.specs.Faults.{Fault, broken}
-use Rattle.sh_facts.specs.Gains.{Gains, and_gains, job}
-use Rattle.sh_facts.specs.Inclusions.{Each}
-use Rattle.sh_facts.specs.Knowledge.{AreNumbered, among}
-use Rattle.sh_facts.specs.Operands.{Names}
-use Rattle.sh_facts.specs.Order.{IsWithin, IsBelow, seen_facts, Fits}
-use Rattle.sh_facts.specs.Rules as r
-use Rattle.sh_facts.specs.Rules.{Constraint, Within, Counted, bound, bounds, losses}
-use Rattle.sh_facts.specs.Table.{is_redirected}
-use Rattle.sh_facts.specs.Views.{Certificate, Slot, Before, Seen, After, Both, if_zero, if_nonzero, at, at_start, gaining, step, Lose, Gain, View, view_facts, Loss, lost}
-use Rattle.sh_facts.specs.Views as views
-use Rattle.sh_facts.proofs.EachLemmas.{each_join, each_parts, each_none, each_of_all}
-use Rattle.sh_facts.proofs.MonotoneLemmas.{step_grows, seen_grows, meet_grows, told_none, fits_below}
-use Rattle.sh_facts.proofs.OrderLemmas.{known_within, known_parts, within_nowhere, nowhere_known, within_itself, within_through, within_test, meet_greatest}
-use Rattle.sh_check.specs.Knowing as knowing
+use Rattle.sh_tree.specs.standard.program.Syntax as p
+use Rattle.sh_tree.specs.standard.program.Syntax.{Text}
+use Rattle.sh_table.specs.standard.runs.Environment.{is_one_of}
+use Rattle.sh_domain.specs.declared.rule.FlowRule.{FlowRule}
+use Rattle.sh_domain.specs.declared.rule.FlowRule.TheVariants.{F13}
+use Rattle.sh_domain.specs.Entries.{Around, Entered, behind_redirects}
+use Rattle.sh_domain.specs.Facts.{Facts, NotReached, Known, Declared, facts, meet, start_facts}
+use Rattle.sh_domain.specs.Faults.{Fault, broken}
+use Rattle.sh_domain.specs.Gains.{Gains, and_gains, job}
+use Rattle.sh_domain.specs.Inclusions.{Each}
+use Rattle.sh_domain.specs.Knowledge.{AreNumbered, among}
+use Rattle.sh_domain.specs.Operands.{Names}
+use Rattle.sh_domain.specs.Order.{IsWithin, IsBelow, seen_facts, Fits}
+use Rattle.sh_domain.specs.Rules as r
+use Rattle.sh_domain.specs.Rules.{Constraint, Within, Counted, bound, bounds, losses}
+use Rattle.sh_domain.specs.Table.{is_redirected}
+use Rattle.sh_domain.specs.Views.{Certificate, Slot, Before, Seen, After, Both, if_zero, if_nonzero, at, at_start, gaining, step, Lose, Gain, View, view_facts, Loss, lost}
+use Rattle.sh_domain.specs.Views as views
+use Rattle.sh_domain.proofs.EachLemmas.{each_join, each_parts, each_none, each_of_all}
+use Rattle.sh_domain.proofs.MonotoneLemmas.{step_grows, seen_grows, meet_grows, told_none, fits_below}
+use Rattle.sh_domain.proofs.OrderLemmas.{known_within, known_parts, within_nowhere, nowhere_known, within_itself, within_through, within_test, meet_greatest}
+use Rattle.sh_demands.specs.Knowing as knowing
 use Rattle.sh_rules.specs.Settings.{Setting, certificate, known_at, gained, without_job}
 use Rattle.sh_rules.specs.Asking.{Asking}
 use Rattle.sh_rules.specs.Asked.{ByConstraints, has_numbered_prefixes}

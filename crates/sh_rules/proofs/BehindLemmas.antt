@@ -6,18 +6,18 @@ use Rattle.sh_tree.specs.declared.tree.Item.{Item, out-Item}
 use Rattle.sh_tree.specs.declared.tree.Link.{Link}
 use Rattle.sh_tree.specs.declared.tree.Pipe.{Pipe, out-Pipe}
 use Rattle.sh_tree.specs.declared.tree.Script.{Script, out-Script}
-use Rattle.sh_tree.specs.Words.{lone_part}
-use Rattle.sh_tree.specs.program.Lists.{commands_from, links_from, items_from}
-use Rattle.sh_tree.specs.program.Syntax as p
-use Rattle.sh_tree.specs.program.Trees as trees
+use Rattle.sh_tree.specs.standard.Words.{lone_part}
+use Rattle.sh_tree.specs.Lists.{commands_from, links_from, items_from}
+use Rattle.sh_tree.specs.standard.program.Syntax as p
+use Rattle.sh_tree.specs.standard.program.Trees as trees
 use Rattle.sh_tree.proofs.ProgramRules as rules
-use Rattle.sh_facts.specs.Facts.{Facts, NotReached}
-use Rattle.sh_facts.specs.Gains.{job, named}
-use Rattle.sh_facts.specs.Views.{AfterZero, AfterNonzero}
+use Rattle.sh_domain.specs.Facts.{Facts, NotReached}
+use Rattle.sh_domain.specs.Gains.{job, named}
+use Rattle.sh_domain.specs.Views.{AfterZero, AfterNonzero}
 use Rattle.sh_rules.specs.Settings.{Setting, known_at, gained}
 use Rattle.sh_rules.specs.Behind.{Behind, both, either, in_any_case, swapped, link_known, linked, parts_behind, pipeline_behind, links_behind, list_behind, behind_known, items_behind}
-use Rattle.sh_facts.specs.declared.knowledge.Knowledge.TheVariants as knowledge
-use Rattle.sh_facts.specs.Knowledge.{knowledge_facts}
+use Rattle.sh_domain.specs.declared.knowledge.Knowledge.TheVariants as knowledge
+use Rattle.sh_domain.specs.Knowledge.{knowledge_facts}
 use Rattle.sh_rules.specs.Walks.{facts_in, commands_behind, pipe_behind, link_left, and_or_behind, behind_item, item_left, is_settled, script_behind}
 
 -- parts

@@ -3,24 +3,24 @@ use Rattle.std.proofs.Common.{true≢false, ◌≡◌, ℕ, Bool, true, false, �
 use Rattle.std.specs.Str.{bytes_eq}
 use Rattle.sh_tree.specs.declared.tree.LoopKind.{LoopKind}
 use Rattle.sh_tree.specs.declared.tree.LoopKind.TheVariants as loop
-use Rattle.sh_tree.specs.program.Syntax as p
-use Rattle.sh_tree.specs.program.Syntax.{Text}
-use Rattle.sh_table.specs.runs.Environment.{is_one_of}
-use Rattle.sh_facts.specs.declared.rule.FlowRule.{FlowRule}
-use Rattle.sh_facts.specs.declared.rule.FlowRule.TheVariants.{F6, F7, F8, F9, F10, F11, F13}
-use Rattle.sh_facts.specs.Entries as e
-use Rattle.sh_facts.specs.Entries.{items_after, otherwise_seen}
-use Rattle.sh_facts.specs.Facts.{Facts, NotReached, Known, Declared, meet}
-use Rattle.sh_facts.specs.Gains.{named, word_gains, words_gains}
-use Rattle.sh_facts.specs.Knowledge.{AreNumbered, among}
-use Rattle.sh_facts.specs.Meets.{is_call}
-use Rattle.sh_facts.specs.Order.{seen_facts}
-use Rattle.sh_facts.specs.Rules as r
-use Rattle.sh_facts.specs.Rules.{Constraint, bound, leaves}
-use Rattle.sh_facts.specs.Table.{is_redirected}
-use Rattle.sh_facts.specs.Views.{Certificate, Slot, Before, AfterZero, AfterNonzero, Head, ReturnsZero, ReturnsNonzero, Seen, After, Both, Each, if_zero, if_nonzero, at, gaining, gaining_names, stepped, step, where_known}
-use Rattle.sh_facts.specs.Views as views
-use Rattle.sh_facts.proofs.MeetLemmas.{known_same, seen_is_meet}
+use Rattle.sh_tree.specs.standard.program.Syntax as p
+use Rattle.sh_tree.specs.standard.program.Syntax.{Text}
+use Rattle.sh_table.specs.standard.runs.Environment.{is_one_of}
+use Rattle.sh_domain.specs.declared.rule.FlowRule.{FlowRule}
+use Rattle.sh_domain.specs.declared.rule.FlowRule.TheVariants.{F6, F7, F8, F9, F10, F11, F13}
+use Rattle.sh_domain.specs.Entries as e
+use Rattle.sh_domain.specs.Entries.{items_after, otherwise_seen}
+use Rattle.sh_domain.specs.Facts.{Facts, NotReached, Known, Declared, meet}
+use Rattle.sh_domain.specs.Gains.{named, word_gains, words_gains}
+use Rattle.sh_domain.specs.Knowledge.{AreNumbered, among}
+use Rattle.sh_domain.specs.Meets.{is_call}
+use Rattle.sh_domain.specs.Order.{seen_facts}
+use Rattle.sh_domain.specs.Rules as r
+use Rattle.sh_domain.specs.Rules.{Constraint, bound, leaves}
+use Rattle.sh_domain.specs.Table.{is_redirected}
+use Rattle.sh_domain.specs.Views.{Certificate, Slot, Before, AfterZero, AfterNonzero, Head, ReturnsZero, ReturnsNonzero, Seen, After, Both, Each, if_zero, if_nonzero, at, gaining, gaining_names, stepped, step, where_known}
+use Rattle.sh_domain.specs.Views as views
+use Rattle.sh_domain.proofs.MeetLemmas.{known_same, seen_is_meet}
 use Rattle.sh_rules.specs.Asking.{Asking}
 use Rattle.sh_rules.specs.Settings.{Setting, certificate, known_at, gained}
 use Rattle.sh_rules.specs.Behind.{Behind, both, in_any_case, turns, falls}

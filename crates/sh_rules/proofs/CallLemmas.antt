@@ -2,24 +2,24 @@
 use Rattle.std.proofs.Common.{◌≡◌, ℕ, Bool, true, false, not, ◌&&◌, ◌||◌, if◌then◌else◌, List, drop, codes, refl, sym, ap, ap₂, ◌∙◌}
 use Rattle.std.specs.Str.{bytes_eq}
 use Rattle.sh_tree.specs.declared.tree.Element.{Element}
-use Rattle.sh_tree.specs.program.Lists.{elements_from}
-use Rattle.sh_tree.specs.program.Syntax.{Text}
-use Rattle.sh_table.specs.runs.Environment.{is_one_of}
-use Rattle.sh_facts.specs.declared.knowledge.Knowledge.{Knowledge}
-use Rattle.sh_facts.specs.declared.knowledge.Knowledge.TheVariants as knowledge
-use Rattle.sh_facts.specs.declared.number_set.NumberSet.{NumberSet}
-use Rattle.sh_facts.specs.declared.knowledge.Return.{Return}
-use Rattle.sh_facts.specs.Certificates.{claim_of, drops_of, in_byte_order}
-use Rattle.sh_facts.specs.Facts.{Facts, NotReached, Known, Function, claims, facts}
-use Rattle.sh_facts.specs.Gains.{named}
-use Rattle.sh_facts.specs.Knowledge.{AreNumbered, among, contains, knowledge_facts}
-use Rattle.sh_facts.specs.Operands.{no_names, total}
-use Rattle.sh_facts.specs.Table.{operands, prefixes}
-use Rattle.sh_facts.specs.Views as views
-use Rattle.sh_facts.specs.Views.{Certificate, Slot, Count, step, where_known, returned, passes}
-use Rattle.sh_facts.proofs.KnowledgeLemmas.{either_with, either_without}
-use Rattle.sh_facts.proofs.KnownNameLemmas.{names_suffice}
-use Rattle.sh_facts.proofs.MeetLemmas.{known_same}
+use Rattle.sh_tree.specs.Lists.{elements_from}
+use Rattle.sh_tree.specs.standard.program.Syntax.{Text}
+use Rattle.sh_table.specs.standard.runs.Environment.{is_one_of}
+use Rattle.sh_domain.specs.declared.knowledge.Knowledge.{Knowledge}
+use Rattle.sh_domain.specs.declared.knowledge.Knowledge.TheVariants as knowledge
+use Rattle.sh_domain.specs.declared.number_set.NumberSet.{NumberSet}
+use Rattle.sh_domain.specs.declared.knowledge.Return.{Return}
+use Rattle.sh_domain.specs.Certificates.{claim_of, drops_of, in_byte_order}
+use Rattle.sh_domain.specs.Facts.{Facts, NotReached, Known, Function, claims, facts}
+use Rattle.sh_domain.specs.Gains.{named}
+use Rattle.sh_domain.specs.Knowledge.{AreNumbered, among, contains, knowledge_facts}
+use Rattle.sh_domain.specs.Operands.{no_names, total}
+use Rattle.sh_domain.specs.Table.{operands, prefixes}
+use Rattle.sh_domain.specs.Views as views
+use Rattle.sh_domain.specs.Views.{Certificate, Slot, Count, step, where_known, returned, passes}
+use Rattle.sh_domain.proofs.KnowledgeLemmas.{either_with, either_without}
+use Rattle.sh_domain.proofs.KnownNameLemmas.{names_suffice}
+use Rattle.sh_domain.proofs.MeetLemmas.{known_same}
 use Rattle.sh_rules.specs.declared.claims.Claims.{Claims}
 use Rattle.sh_rules.specs.Calls.{IsReturn, IsUnknown, passed}
 use Rattle.sh_rules.specs.Calls as spec

@@ -2,14 +2,14 @@
 use Rattle.std.proofs.Common.{◌≡◌, Bool, true, false, not, ◌&&◌, if◌then◌else◌, List, [], ◌∷◌, Some, None, is_some, refl, sym, ap, ◌∙◌}
 use Rattle.std.specs.List.{position_from}
 use Rattle.std.specs.Str.{bytes_eq}
-use Rattle.sh_tree.specs.program.Syntax.{Text}
+use Rattle.sh_tree.specs.standard.program.Syntax.{Text}
 use Rattle.sh_table.specs.Calls.{called, static_at}
-use Rattle.sh_table.specs.Kinds as kinds
-use Rattle.sh_table.specs.Kinds.{kind_of}
+use Rattle.sh_table.specs.standard.Kinds as kinds
+use Rattle.sh_table.specs.standard.Kinds.{kind_of}
 use Rattle.sh_table.specs.Profile.{Static}
-use Rattle.sh_table.specs.runs.Environment.{is_one_of}
-use Rattle.sh_facts.specs.Table.{is_special}
-use Rattle.sh_check.proofs.LossLemmas.{special_same, found}
+use Rattle.sh_table.specs.standard.runs.Environment.{is_one_of}
+use Rattle.sh_domain.specs.Table.{is_special}
+use Rattle.sh_demands.proofs.LossLemmas.{special_same, found}
 use Rattle.sh_rules.specs.TextTells.{calls_by}
 
 -- the table has a function for a command where one is called

@@ -1,16 +1,16 @@
 -- What is claimed at each place, as the fact that the certificate keeps of it.
 use Rattle.std.proofs.Common.{◌≡◌, ℕ, ◌-◌, Bool, length, Option, Some, None, List, option_map, slice_get, unwrap_or, sym, ap, ◌∙◌}
-use Rattle.sh_tree.specs.program.Syntax.{Text}
-use Rattle.sh_facts.specs.declared.certificate.Entry.{Entry}
-use Rattle.sh_facts.specs.declared.certificate.Facts as value
-use Rattle.sh_facts.specs.declared.certificate.Facts.TheVariants as value_kind
-use Rattle.sh_facts.specs.declared.certificate.FunctionEntry.{FunctionEntry}
-use Rattle.sh_facts.specs.declared.knowledge.Knowledge.{Knowledge}
-use Rattle.sh_facts.specs.Certificates.{claim_of, in_byte_order}
-use Rattle.sh_facts.specs.Facts.{Claim, Unreached, facts, within}
-use Rattle.sh_facts.specs.Knowledge.{AreNumbered, knowledge_facts}
-use Rattle.sh_facts.specs.Slots.{entry_of}
-use Rattle.sh_facts.specs.Views.{Slot, Before, AfterZero, AfterNonzero, Head, Entry as Entered, ReturnsZero, ReturnsNonzero}
+use Rattle.sh_tree.specs.standard.program.Syntax.{Text}
+use Rattle.sh_domain.specs.declared.certificate.Entry.{Entry}
+use Rattle.sh_domain.specs.declared.certificate.Facts as value
+use Rattle.sh_domain.specs.declared.certificate.Facts.TheVariants as value_kind
+use Rattle.sh_domain.specs.declared.certificate.FunctionEntry.{FunctionEntry}
+use Rattle.sh_domain.specs.declared.knowledge.Knowledge.{Knowledge}
+use Rattle.sh_domain.specs.Certificates.{claim_of, in_byte_order}
+use Rattle.sh_domain.specs.Facts.{Claim, Unreached, facts, within}
+use Rattle.sh_domain.specs.Knowledge.{AreNumbered, knowledge_facts}
+use Rattle.sh_domain.specs.Slots.{entry_of}
+use Rattle.sh_domain.specs.Views.{Slot, Before, AfterZero, AfterNonzero, Head, Entry as Entered, ReturnsZero, ReturnsNonzero}
 use Rattle.sh_rules.specs.declared.claims.Claims.{Claims}
 use Rattle.sh_rules.specs.Settings.{Setting, claimed_at, known_at}
 use Rattle.sh_rules.specs.Walks.{facts_in, head_of, setting}

@@ -4,25 +4,25 @@ use Rattle.std.specs.List.{list_all}
 use Rattle.std.specs.Str.{bytes_eq}
 use Rattle.std.proofs.lemmas.Bool.{and_parts}
 use Rattle.sh_tree.specs.declared.known.KnownName.TheVariants as known'
-use Rattle.sh_tree.specs.program.Syntax as p
-use Rattle.sh_tree.specs.program.Syntax.{Text, Word}
-use Rattle.sh_tree.specs.program.Words.{operands_in}
+use Rattle.sh_tree.specs.standard.program.Syntax as p
+use Rattle.sh_tree.specs.standard.program.Syntax.{Text, Word}
+use Rattle.sh_tree.specs.standard.program.Words.{operands_in}
 use Rattle.sh_table.specs.declared.kind.Kind.{Kind}
 use Rattle.sh_table.specs.declared.kind.Kind.TheVariants as kind
-use Rattle.sh_table.specs.runs.Environment.{is_one_of}
-use Rattle.sh_facts.specs.declared.rule.FlowRule.{FlowRule}
-use Rattle.sh_facts.specs.Entries as e
-use Rattle.sh_facts.specs.Entries.{Entered, behind_redirects}
-use Rattle.sh_facts.specs.Facts.{Facts, NotReached, Known, Declared, Variable, claims, facts}
-use Rattle.sh_facts.specs.Gains.{Gains, with_gains, words_gains, redirects_gains}
-use Rattle.sh_facts.specs.Knowledge.{AreNumbered, among}
-use Rattle.sh_facts.specs.Operands.{Names, unset_names}
-use Rattle.sh_facts.specs.Order.{seen_facts}
-use Rattle.sh_facts.specs.Rules as r
-use Rattle.sh_facts.specs.Rules.{bound, builtin_losses, losses}
-use Rattle.sh_facts.specs.Table as table
-use Rattle.sh_facts.specs.Table.{Manner, Nameless, Utility, manner, prefixes}
-use Rattle.sh_facts.specs.Views.{Slot, Before, Seen, View, Loss, OfNames, OfFunction, OfUnseen, Gain, At, at, gaining, step, steps, source_facts, lost}
+use Rattle.sh_table.specs.standard.runs.Environment.{is_one_of}
+use Rattle.sh_domain.specs.declared.rule.FlowRule.{FlowRule}
+use Rattle.sh_domain.specs.Entries as e
+use Rattle.sh_domain.specs.Entries.{Entered, behind_redirects}
+use Rattle.sh_domain.specs.Facts.{Facts, NotReached, Known, Declared, Variable, claims, facts}
+use Rattle.sh_domain.specs.Gains.{Gains, with_gains, words_gains, redirects_gains}
+use Rattle.sh_domain.specs.Knowledge.{AreNumbered, among}
+use Rattle.sh_domain.specs.Operands.{Names, unset_names}
+use Rattle.sh_domain.specs.Order.{seen_facts}
+use Rattle.sh_domain.specs.Rules as r
+use Rattle.sh_domain.specs.Rules.{bound, builtin_losses, losses}
+use Rattle.sh_domain.specs.Table as table
+use Rattle.sh_domain.specs.Table.{Manner, Nameless, Utility, manner, prefixes}
+use Rattle.sh_domain.specs.Views.{Slot, Before, Seen, View, Loss, OfNames, OfFunction, OfUnseen, Gain, At, at, gaining, step, steps, source_facts, lost}
 use Rattle.sh_rules.specs.Asking.{Asking}
 use Rattle.sh_rules.specs.Settings.{Setting, certificate, known_at}
 use Rattle.sh_rules.specs.Meaning.{knows, met_of}

@@ -3,18 +3,18 @@ use Rattle.std.proofs.Common.{◌≡◌, ℕ, ◌<◌, Bool, true, false, ◌&&�
 use Rattle.std.specs.List.{list_all}
 use Rattle.std.proofs.lemmas.Option.{slice_get_within, slice_get-get_or}
 use Rattle.std.proofs.lemmas.Slice.Eq.{bytes_eq-Decides}
-use Rattle.sh_tree.specs.program.Syntax.{Text}
-use Rattle.sh_table.specs.runs.Environment.{is_one_of}
-use Rattle.sh_facts.specs.declared.certificate.FunctionEntry.{FunctionEntry}
-use Rattle.sh_facts.specs.declared.rows.RowId.{RowId}
-use Rattle.sh_facts.specs.Certificates.{drops_of, in_byte_order, names_at}
-use Rattle.sh_facts.specs.Faults.{are_among}
-use Rattle.sh_facts.specs.KeptRows.{KeptRows, holds_at}
-use Rattle.sh_facts.specs.Knowledge.{AreNumbered, at_number}
-use Rattle.sh_facts.specs.Names.{number_of}
-use Rattle.sh_facts.specs.Operands.{Names, no_names}
-use Rattle.sh_facts.specs.Slots.{entry_of}
-use Rattle.sh_facts.proofs.KnowledgeLemmas.{in_row, stands_there}
+use Rattle.sh_tree.specs.standard.program.Syntax.{Text}
+use Rattle.sh_table.specs.standard.runs.Environment.{is_one_of}
+use Rattle.sh_domain.specs.declared.certificate.FunctionEntry.{FunctionEntry}
+use Rattle.sh_domain.specs.declared.rows.RowId.{RowId}
+use Rattle.sh_domain.specs.Certificates.{drops_of, in_byte_order, names_at}
+use Rattle.sh_domain.specs.Faults.{are_among}
+use Rattle.sh_domain.specs.KeptRows.{KeptRows, holds_at}
+use Rattle.sh_domain.specs.Knowledge.{AreNumbered, at_number}
+use Rattle.sh_domain.specs.Names.{number_of}
+use Rattle.sh_domain.specs.Operands.{Names, no_names}
+use Rattle.sh_domain.specs.Slots.{entry_of}
+use Rattle.sh_domain.proofs.KnowledgeLemmas.{in_row, stands_there}
 use Rattle.sh_rules.specs.declared.claims.Claims.{Claims}
 use Rattle.sh_rules.specs.Asking.{one_function, one_variable}
 use Rattle.sh_rules.specs.Settings.{Setting, certificate}

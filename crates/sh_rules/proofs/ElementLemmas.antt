@@ -8,21 +8,21 @@ use Rattle.sh_tree.specs.declared.tree.Redirect.{Redirect}
 use Rattle.sh_tree.specs.declared.tree.Span.{Span}
 use Rattle.sh_tree.specs.declared.tree.Target.{Target}
 use Rattle.sh_tree.specs.declared.tree.Word.{Word}
-use Rattle.sh_tree.specs.Tree.{text_of}
-use Rattle.sh_tree.specs.program.Lists.{parts_from, element_from, elements_from}
-use Rattle.sh_tree.specs.program.Syntax as p
-use Rattle.sh_tree.specs.program.Syntax.{Text}
-use Rattle.sh_tree.specs.program.Trees as trees
-use Rattle.sh_tree.specs.program.Words.{assignments_in, operands_in, redirects_in}
+use Rattle.sh_tree.specs.standard.Tree.{text_of}
+use Rattle.sh_tree.specs.Lists.{parts_from, element_from, elements_from}
+use Rattle.sh_tree.specs.standard.program.Syntax as p
+use Rattle.sh_tree.specs.standard.program.Syntax.{Text}
+use Rattle.sh_tree.specs.standard.program.Trees as trees
+use Rattle.sh_tree.specs.standard.program.Words.{assignments_in, operands_in, redirects_in}
 use Rattle.sh_tree.proofs.ProgramRules as rules
-use Rattle.sh_table.specs.runs.Environment.{is_one_of}
-use Rattle.sh_facts.specs.declared.knowledge.Knowledge.{Knowledge}
-use Rattle.sh_facts.specs.Facts.{Facts}
-use Rattle.sh_facts.specs.Gains.{no_gains, named, word_gains, words_gains, redirect_gains, redirects_gains}
-use Rattle.sh_facts.specs.Knowledge.{knowledge_facts}
-use Rattle.sh_facts.specs.Table.{prefixes, values_gains, assignments_gains, redirections_gains, is_redirected}
-use Rattle.sh_facts.specs.Views.{Before}
-use Rattle.sh_check.specs.Knowing as knowing
+use Rattle.sh_table.specs.standard.runs.Environment.{is_one_of}
+use Rattle.sh_domain.specs.declared.knowledge.Knowledge.{Knowledge}
+use Rattle.sh_domain.specs.Facts.{Facts}
+use Rattle.sh_domain.specs.Gains.{no_gains, named, word_gains, words_gains, redirect_gains, redirects_gains}
+use Rattle.sh_domain.specs.Knowledge.{knowledge_facts}
+use Rattle.sh_domain.specs.Table.{prefixes, values_gains, assignments_gains, redirections_gains, is_redirected}
+use Rattle.sh_domain.specs.Views.{Before}
+use Rattle.sh_demands.specs.Knowing as knowing
 use Rattle.sh_rules.specs.Settings.{Setting, gained, known_at}
 use Rattle.sh_rules.specs.Elements.{value_gained, prefix_gained, target_gained, assigns, redirects, prefix_added}
 use Rattle.sh_rules.specs.SimpleBounds as simple

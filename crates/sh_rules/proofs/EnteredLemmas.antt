@@ -4,14 +4,14 @@ use Rattle.std.proofs.lemmas.List.{map-append}
 use Rattle.std.proofs.lemmas.List.Sums.{fold-append}
 use Rattle.sh_tree.specs.declared.tree.ClauseEnd.{ClauseEnd}
 use Rattle.sh_tree.specs.declared.tree.LoopKind.{LoopKind}
-use Rattle.sh_tree.specs.program.Syntax as p
-use Rattle.sh_facts.specs.declared.rule.FlowRule.TheVariants.{F1}
-use Rattle.sh_facts.specs.Entries as e
-use Rattle.sh_facts.specs.Entries.{Entered}
-use Rattle.sh_facts.specs.Facts.{Facts, NotReached, meet}
-use Rattle.sh_facts.specs.Gains.{Gains, and_gains}
-use Rattle.sh_facts.specs.Views.{Slot, Seen, After, Both, Each, if_zero, if_nonzero, at, gaining}
-use Rattle.sh_facts.specs.Views as views
+use Rattle.sh_tree.specs.standard.program.Syntax as p
+use Rattle.sh_domain.specs.declared.rule.FlowRule.TheVariants.{F1}
+use Rattle.sh_domain.specs.Entries as e
+use Rattle.sh_domain.specs.Entries.{Entered}
+use Rattle.sh_domain.specs.Facts.{Facts, NotReached, meet}
+use Rattle.sh_domain.specs.Gains.{Gains, and_gains}
+use Rattle.sh_domain.specs.Views.{Slot, Seen, After, Both, Each, if_zero, if_nonzero, at, gaining}
+use Rattle.sh_domain.specs.Views as views
 use Rattle.sh_rules.specs.Settings.{Setting, known_at, gained, without_job}
 use Rattle.sh_rules.specs.Behind.{Behind, both, either, in_any_case, turns, falls, items_behind}
 use Rattle.sh_rules.specs.Walked.{Met, script_walked}

@@ -9,24 +9,24 @@ use Rattle.sh_tree.specs.declared.tree.Redirect.{Redirect}
 use Rattle.sh_tree.specs.declared.tree.Span.{Span}
 use Rattle.sh_tree.specs.declared.tree.Subject.{Subject}
 use Rattle.sh_tree.specs.declared.tree.Word.{Word}
-use Rattle.sh_tree.specs.program.Lists.{parts_from, element_from, elements_from, redirects_from}
-use Rattle.sh_tree.specs.program.Syntax as p
-use Rattle.sh_tree.specs.program.Syntax.{Text}
-use Rattle.sh_tree.specs.program.Trees as trees
-use Rattle.sh_tree.specs.program.Words.{operands_in}
+use Rattle.sh_tree.specs.Lists.{parts_from, element_from, elements_from, redirects_from}
+use Rattle.sh_tree.specs.standard.program.Syntax as p
+use Rattle.sh_tree.specs.standard.program.Syntax.{Text}
+use Rattle.sh_tree.specs.standard.program.Trees as trees
+use Rattle.sh_tree.specs.standard.program.Words.{operands_in}
 use Rattle.sh_tree.proofs.ProgramRules as rules
-use Rattle.sh_table.specs.runs.Environment.{is_one_of}
-use Rattle.sh_facts.specs.Facts.{Facts}
-use Rattle.sh_facts.specs.Gains.{Gains, no_gains, and_gains, named, sure, assigned_in, word_gains, words_gains, redirects_gains, with_gains}
-use Rattle.sh_facts.specs.Knowledge as knowledge
-use Rattle.sh_facts.specs.Knowledge.{knowledge_facts}
-use Rattle.sh_facts.specs.declared.knowledge.Knowledge.{Knowledge}
-use Rattle.sh_facts.proofs.KnownNameLemmas.{names_suffice}
-use Rattle.sh_check.specs.Judged.{inner_gains}
-use Rattle.sh_check.specs.Knowing.{Knowing, action_gains}
-use Rattle.sh_check.specs.Knowing as knowing
-use Rattle.sh_check.specs.Walks.{action_gained, subject_gained, expression_assigned}
-use Rattle.sh_check.proofs.KnowingLemmas.{gained_none, gained_both}
+use Rattle.sh_table.specs.standard.runs.Environment.{is_one_of}
+use Rattle.sh_domain.specs.Facts.{Facts}
+use Rattle.sh_domain.specs.Gains.{Gains, no_gains, and_gains, named, sure, assigned_in, word_gains, words_gains, redirects_gains, with_gains}
+use Rattle.sh_domain.specs.Knowledge as knowledge
+use Rattle.sh_domain.specs.Knowledge.{knowledge_facts}
+use Rattle.sh_domain.specs.declared.knowledge.Knowledge.{Knowledge}
+use Rattle.sh_domain.proofs.KnownNameLemmas.{names_suffice}
+use Rattle.sh_demands.specs.Judged.{inner_gains}
+use Rattle.sh_demands.specs.Knowing.{Knowing, action_gains}
+use Rattle.sh_demands.specs.Knowing as knowing
+use Rattle.sh_demands.specs.Walks.{action_gained, subject_gained, expression_assigned}
+use Rattle.sh_demands.proofs.KnowingLemmas.{gained_none, gained_both}
 use Rattle.sh_rules.specs.Settings.{Setting, gained}
 use Rattle.sh_rules.specs.declared.claims.Claims.{Claims}
 use Rattle.sh_rules.specs.Walks.{facts_in, setting}

@@ -4,27 +4,27 @@ use Rattle.std.specs.Str.{bytes_eq}
 use Rattle.std.proofs.lemmas.Slice.Eq.{bytes_eq-Decides}
 use Rattle.std.proofs.lemmas.List.{append-nil}
 use Rattle.std.proofs.lemmas.Map.Views.{any-filter_same}
-use Rattle.sh_tree.specs.program.Syntax.{Text}
-use Rattle.sh_table.specs.runs.Environment.{is_one_of}
-use Rattle.sh_facts.specs.declared.certificate.Entry.{Entry}
-use Rattle.sh_facts.specs.declared.certificate.Facts as value
-use Rattle.sh_facts.specs.declared.certificate.Facts.TheVariants as value_kind
-use Rattle.sh_facts.specs.declared.certificate.FunctionEntry.{FunctionEntry}
-use Rattle.sh_facts.specs.declared.rows.RowId.{RowId}
-use Rattle.sh_facts.specs.Certificates.{claim_of, in_byte_order, names_at}
-use Rattle.sh_facts.specs.Entries.{script_entered}
-use Rattle.sh_facts.specs.Facts.{Facts, NotReached, Known, Claim, Unreached, facts, meet, Declared, start_facts}
-use Rattle.sh_facts.specs.Gains.{Gains, job, with_gains}
-use Rattle.sh_facts.specs.KeptRows.{holds_at}
-use Rattle.sh_facts.specs.Knowledge.{AreNumbered, among}
-use Rattle.sh_facts.specs.Meets.{is_call}
-use Rattle.sh_facts.specs.Operands.{Names}
-use Rattle.sh_facts.specs.Order.{seen_facts}
-use Rattle.sh_facts.specs.Views.{Certificate, Slot, Before, AfterZero, AfterNonzero, Head, Entry as Entered', ReturnsZero, ReturnsNonzero, Seen, Gain, Lose, step, steps, where_known, source_facts, at, at_start, gaining}
-use Rattle.sh_facts.specs.Views as views
-use Rattle.sh_facts.proofs.KnowledgeLemmas.{in_row, numbered_only}
-use Rattle.sh_facts.proofs.MeetLemmas.{known_same, seen_is_meet}
-use Rattle.sh_check.specs.Knowing as knowing
+use Rattle.sh_tree.specs.standard.program.Syntax.{Text}
+use Rattle.sh_table.specs.standard.runs.Environment.{is_one_of}
+use Rattle.sh_domain.specs.declared.certificate.Entry.{Entry}
+use Rattle.sh_domain.specs.declared.certificate.Facts as value
+use Rattle.sh_domain.specs.declared.certificate.Facts.TheVariants as value_kind
+use Rattle.sh_domain.specs.declared.certificate.FunctionEntry.{FunctionEntry}
+use Rattle.sh_domain.specs.declared.rows.RowId.{RowId}
+use Rattle.sh_domain.specs.Certificates.{claim_of, in_byte_order, names_at}
+use Rattle.sh_domain.specs.Entries.{script_entered}
+use Rattle.sh_domain.specs.Facts.{Facts, NotReached, Known, Claim, Unreached, facts, meet, Declared, start_facts}
+use Rattle.sh_domain.specs.Gains.{Gains, job, with_gains}
+use Rattle.sh_domain.specs.KeptRows.{holds_at}
+use Rattle.sh_domain.specs.Knowledge.{AreNumbered, among}
+use Rattle.sh_domain.specs.Meets.{is_call}
+use Rattle.sh_domain.specs.Operands.{Names}
+use Rattle.sh_domain.specs.Order.{seen_facts}
+use Rattle.sh_domain.specs.Views.{Certificate, Slot, Before, AfterZero, AfterNonzero, Head, Entry as Entered', ReturnsZero, ReturnsNonzero, Seen, Gain, Lose, step, steps, where_known, source_facts, at, at_start, gaining}
+use Rattle.sh_domain.specs.Views as views
+use Rattle.sh_domain.proofs.KnowledgeLemmas.{in_row, numbered_only}
+use Rattle.sh_domain.proofs.MeetLemmas.{known_same, seen_is_meet}
+use Rattle.sh_demands.specs.Knowing as knowing
 use Rattle.sh_rules.specs.Settings.{Setting, certificate, known_at, gained, without_job}
 use Rattle.sh_rules.specs.Meaning.{sees, knows, met_of, with_met, WalkEnters}
 use Rattle.sh_rules.specs.Walks.{head_of}

@@ -1,11 +1,11 @@
 -- Of utilities that leave what is known behind their words, and do not jump.
 use Rattle.std.proofs.Common.{◌≡◌, ℕ, true, true≢false, List, refl, sym}
-use Rattle.sh_tree.specs.program.Syntax as p
+use Rattle.sh_tree.specs.standard.program.Syntax as p
 use Rattle.sh_table.specs.Profile.{Static}
 use Rattle.sh_table.specs.declared.kind.Kind.{Kind}
 use Rattle.sh_table.specs.declared.kind.Kind.TheVariants as kind
-use Rattle.sh_facts.specs.declared.rule.FlowRule.TheVariants.{F4}
-use Rattle.sh_facts.specs.Entries.{Around}
+use Rattle.sh_domain.specs.declared.rule.FlowRule.TheVariants.{F4}
+use Rattle.sh_domain.specs.Entries.{Around}
 use Rattle.sh_rules.specs.Asking.{Asking}
 use Rattle.sh_rules.specs.Behind.{both}
 use Rattle.sh_rules.specs.Bounds.{fault, leaves_told}

@@ -5,23 +5,23 @@ use Rattle.std.proofs.lemmas.Bool.{and_parts, and_from}
 use Rattle.sh_tree.specs.declared.tree.Command.{Command, out-Command}
 use Rattle.sh_tree.specs.declared.tree.Element.{Assignment', Word', Redirection'}
 use Rattle.sh_tree.specs.declared.tree.Kind.{Kind, Simple', Row_of-Element, end_of-Element, more_of-Element, items-the_row-Element}
-use Rattle.sh_tree.specs.Words.{words_of}
-use Rattle.sh_tree.specs.program.Lists.{redirects_from}
-use Rattle.sh_tree.specs.program.Syntax as p
-use Rattle.sh_tree.specs.program.Syntax.{Text}
-use Rattle.sh_tree.specs.program.Trees as trees
-use Rattle.sh_tree.specs.program.Words.{assignments_in}
+use Rattle.sh_tree.specs.standard.Words.{words_of}
+use Rattle.sh_tree.specs.Lists.{redirects_from}
+use Rattle.sh_tree.specs.standard.program.Syntax as p
+use Rattle.sh_tree.specs.standard.program.Syntax.{Text}
+use Rattle.sh_tree.specs.standard.program.Trees as trees
+use Rattle.sh_tree.specs.standard.program.Words.{assignments_in}
 use Rattle.sh_tree.proofs.ProgramRules as rules
 use Rattle.sh_table.specs.Calls.{functions_of, table_of}
 use Rattle.sh_table.specs.Surroundings.{outside}
-use Rattle.sh_table.specs.runs.Environment.{is_one_of}
-use Rattle.sh_facts.specs.Sights.{Sight, sight, in_row, in_target, in_redirect, in_element, in_kind, in_command, operand_sights}
-use Rattle.sh_facts.specs.Table.{prefixes}
-use Rattle.sh_facts.proofs.EnteredWalk.{script_walked}
-use Rattle.sh_check.proofs.DefinedLemmas.{functions_same}
-use Rattle.sh_check.proofs.ReachLemmas.{seen_reach}
-use Rattle.sh_check.proofs.SightLemmas.{Seen, front, rest_of}
-use Rattle.sh_facts.proofs.StandLemmas.{all_stand}
+use Rattle.sh_table.specs.standard.runs.Environment.{is_one_of}
+use Rattle.sh_domain.specs.Sights.{Sight, sight, in_row, in_target, in_redirect, in_element, in_kind, in_command, operand_sights}
+use Rattle.sh_domain.specs.Table.{prefixes}
+use Rattle.sh_domain.proofs.EnteredWalk.{script_walked}
+use Rattle.sh_demands.proofs.DefinedLemmas.{functions_same}
+use Rattle.sh_demands.proofs.ReachLemmas.{seen_reach}
+use Rattle.sh_demands.proofs.SightLemmas.{Seen, front, rest_of}
+use Rattle.sh_domain.proofs.StandLemmas.{all_stand}
 use Rattle.sh_rules.specs.CommandBounds.{prefixes_in}
 use Rattle.sh_rules.specs.Asked.{PrefixesAreNumbered, TableDefines, has_numbered_prefixes}
 

@@ -7,26 +7,26 @@ use Rattle.sh_tree.specs.declared.tree.Element.TheVariants as element
 use Rattle.sh_tree.specs.declared.tree.Redirect.{Redirect}
 use Rattle.sh_tree.specs.declared.tree.Span.{Span}
 use Rattle.sh_tree.specs.declared.tree.Word.{Word}
-use Rattle.sh_tree.specs.Tree.{text_of}
-use Rattle.sh_tree.specs.language.Bytes.{is_name}
-use Rattle.sh_tree.specs.program.Lists.{element_from, elements_from}
-use Rattle.sh_tree.specs.program.Syntax as p
-use Rattle.sh_tree.specs.program.Syntax.{Text}
-use Rattle.sh_tree.specs.program.Words.{assignments_in}
+use Rattle.sh_tree.specs.standard.Tree.{text_of}
+use Rattle.sh_tree.specs.standard.language.Bytes.{is_name}
+use Rattle.sh_tree.specs.Lists.{element_from, elements_from}
+use Rattle.sh_tree.specs.standard.program.Syntax as p
+use Rattle.sh_tree.specs.standard.program.Syntax.{Text}
+use Rattle.sh_tree.specs.standard.program.Words.{assignments_in}
 use Rattle.sh_tree.proofs.ProgramRules as rules
 use Rattle.sh_table.specs.Profile.{Static}
 use Rattle.sh_table.specs.WordTexts.{text_in}
 use Rattle.sh_table.specs.declared.word_text.WordText.{WordText}
-use Rattle.sh_table.specs.runs.Environment.{is_one_of}
-use Rattle.sh_facts.specs.declared.knowledge.Knowledge.{Knowledge}
-use Rattle.sh_facts.specs.declared.rule.FlowRule.TheVariants.{F13}
-use Rattle.sh_facts.specs.Facts.{Facts, NotReached, Known, Nowhere, Variable, claims}
-use Rattle.sh_facts.specs.Knowledge.{knowledge_facts}
-use Rattle.sh_facts.specs.Operands.{Names, no_names}
-use Rattle.sh_facts.specs.Table.{prefixes}
-use Rattle.sh_facts.specs.Views.{Before, where_reached}
-use Rattle.sh_check.specs.Drops.{listed}
-use Rattle.sh_check.proofs.DropLemmas as checked
+use Rattle.sh_table.specs.standard.runs.Environment.{is_one_of}
+use Rattle.sh_domain.specs.declared.knowledge.Knowledge.{Knowledge}
+use Rattle.sh_domain.specs.declared.rule.FlowRule.TheVariants.{F13}
+use Rattle.sh_domain.specs.Facts.{Facts, NotReached, Known, Nowhere, Variable, claims}
+use Rattle.sh_domain.specs.Knowledge.{knowledge_facts}
+use Rattle.sh_domain.specs.Operands.{Names, no_names}
+use Rattle.sh_domain.specs.Table.{prefixes}
+use Rattle.sh_domain.specs.Views.{Before, where_reached}
+use Rattle.sh_demands.specs.Drops.{listed}
+use Rattle.sh_demands.proofs.DropLemmas as checked
 use Rattle.sh_operands.specs.declared.options.Letters.{Letters}
 use Rattle.sh_operands.specs.Texts.{no_letters, removal_in, takes_variables, takes_functions, unset_behind}
 use Rattle.sh_rules.specs.declared.claims.Claims.{Claims}

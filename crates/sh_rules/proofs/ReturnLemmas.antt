@@ -1,13 +1,13 @@
 -- What the certificate says of the return of a function, by the entry that is there.
 use Rattle.std.proofs.Common.{◌≡◌, Some, None, option_map, unwrap_or, ap, ◌∙◌}
-use Rattle.sh_tree.specs.program.Syntax.{Text}
-use Rattle.sh_facts.specs.declared.certificate.FunctionEntry.{FunctionEntry}
-use Rattle.sh_facts.specs.declared.knowledge.Return.{Return}
-use Rattle.sh_facts.specs.Certificates.{claim_of, drops_of, in_byte_order}
-use Rattle.sh_facts.specs.Facts.{Unreached}
-use Rattle.sh_facts.specs.Operands.{no_names}
-use Rattle.sh_facts.specs.Slots.{entry_of}
-use Rattle.sh_facts.specs.Views.{ReturnsZero, ReturnsNonzero}
+use Rattle.sh_tree.specs.standard.program.Syntax.{Text}
+use Rattle.sh_domain.specs.declared.certificate.FunctionEntry.{FunctionEntry}
+use Rattle.sh_domain.specs.declared.knowledge.Return.{Return}
+use Rattle.sh_domain.specs.Certificates.{claim_of, drops_of, in_byte_order}
+use Rattle.sh_domain.specs.Facts.{Unreached}
+use Rattle.sh_domain.specs.Operands.{no_names}
+use Rattle.sh_domain.specs.Slots.{entry_of}
+use Rattle.sh_domain.specs.Views.{ReturnsZero, ReturnsNonzero}
 use Rattle.sh_rules.specs.Calls.{IsReturn, IsUnknown}
 use Rattle.sh_rules.specs.Settings.{Setting}
 use Rattle.sh_rules.proofs.SlotLemmas.{entries}

@@ -5,27 +5,27 @@ use Rattle.std.proofs.lemmas.Bool.{and_parts}
 use Rattle.std.proofs.lemmas.Bool.Decides.{nat_tests}
 use Rattle.sh_tree.specs.declared.limits.TheConstants.{MAX_COMMANDS}
 use Rattle.sh_tree.specs.declared.tree.Script.{Script}
-use Rattle.sh_tree.specs.program.Syntax as p
-use Rattle.sh_tree.specs.program.Syntax.{Text}
-use Rattle.sh_tree.specs.program.Trees.{script_of}
+use Rattle.sh_tree.specs.standard.program.Syntax as p
+use Rattle.sh_tree.specs.standard.program.Syntax.{Text}
+use Rattle.sh_tree.specs.standard.program.Trees.{script_of}
 use Rattle.sh_table.specs.Calls.{Table, table_of, texts_with}
 use Rattle.sh_table.specs.Numbering.{is_numbered}
 use Rattle.sh_table.specs.Surroundings.{outside, items_located}
-use Rattle.sh_facts.specs.declared.knowledge.Knowledge.{Knowledge}
-use Rattle.sh_facts.specs.Certificates.{in_byte_order, sheet_of}
-use Rattle.sh_facts.specs.Entries.{Around, Entered, script_entered}
-use Rattle.sh_facts.specs.Facts.{Facts, Declared, start_facts}
-use Rattle.sh_facts.specs.Faults.{Fault, least, faults}
-use Rattle.sh_facts.specs.Inclusions.{Each}
-use Rattle.sh_facts.specs.Knowledge.{AreNumbered, among, knowledge_facts}
-use Rattle.sh_facts.specs.Names.{IsNumbering}
-use Rattle.sh_facts.specs.Sheets.{certificate_of}
-use Rattle.sh_facts.specs.Table.{is_redirected}
-use Rattle.sh_facts.specs.Views.{Before}
-use Rattle.sh_facts.proofs.TotalLemmas.{rows_length}
-use Rattle.sh_check.specs.Whole.{kept_claims}
-use Rattle.sh_check.proofs.TextLemmas.{has_texts, own_texts}
-use Rattle.sh_check.proofs.WholeLemmas.{table_texts}
+use Rattle.sh_domain.specs.declared.knowledge.Knowledge.{Knowledge}
+use Rattle.sh_domain.specs.Certificates.{in_byte_order, sheet_of}
+use Rattle.sh_domain.specs.Entries.{Around, Entered, script_entered}
+use Rattle.sh_domain.specs.Facts.{Facts, Declared, start_facts}
+use Rattle.sh_domain.specs.Faults.{Fault, least, faults}
+use Rattle.sh_domain.specs.Inclusions.{Each}
+use Rattle.sh_domain.specs.Knowledge.{AreNumbered, among, knowledge_facts}
+use Rattle.sh_domain.specs.Names.{IsNumbering}
+use Rattle.sh_domain.specs.Sheets.{certificate_of}
+use Rattle.sh_domain.specs.Table.{is_redirected}
+use Rattle.sh_domain.specs.Views.{Before}
+use Rattle.sh_domain.proofs.TotalLemmas.{rows_length}
+use Rattle.sh_demands.specs.Whole.{kept_claims}
+use Rattle.sh_demands.proofs.TextLemmas.{has_texts, own_texts}
+use Rattle.sh_demands.proofs.WholeLemmas.{table_texts}
 use Rattle.sh_operands.specs.Numerals.{most}
 use Rattle.sh_rules.specs.declared.claims.Claims.{Claims}
 use Rattle.sh_rules.specs.Asking.{Asking}

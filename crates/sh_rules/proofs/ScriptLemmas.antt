@@ -3,23 +3,23 @@ use Rattle.std.proofs.Common.{◌≡◌, ℕ, true, not, ◌&&◌, if◌then◌e
 use Rattle.std.specs.List.{list_all}
 use Rattle.std.proofs.lemmas.Bool.{and_parts}
 use Rattle.sh_tree.specs.declared.known.KnownName.TheVariants as known
-use Rattle.sh_tree.specs.program.Syntax as p
-use Rattle.sh_tree.specs.program.Syntax.{Text, Word}
-use Rattle.sh_tree.specs.program.Words.{static_of}
-use Rattle.sh_table.specs.Kinds.{kind_of}
+use Rattle.sh_tree.specs.standard.program.Syntax as p
+use Rattle.sh_tree.specs.standard.program.Syntax.{Text, Word}
+use Rattle.sh_tree.specs.standard.program.Words.{static_of}
+use Rattle.sh_table.specs.standard.Kinds.{kind_of}
 use Rattle.sh_table.specs.declared.kind.Kind.{Kind}
 use Rattle.sh_table.specs.declared.kind.Kind.TheVariants as kind
-use Rattle.sh_table.specs.runs.Environment.{is_one_of}
-use Rattle.sh_facts.specs.declared.rule.FlowRule.{FlowRule}
-use Rattle.sh_facts.specs.Entries.{Around, Entered, behind_redirects, script_entered}
-use Rattle.sh_facts.specs.Facts.{Declared, start_facts}
-use Rattle.sh_facts.specs.Faults.{least, faults}
-use Rattle.sh_facts.specs.Knowledge.{AreNumbered, among}
-use Rattle.sh_facts.specs.Operands.{unset_names}
-use Rattle.sh_facts.specs.Rules.{bound, bounds, functions_of, script_bounds}
-use Rattle.sh_facts.specs.Rules as r
-use Rattle.sh_facts.specs.Table.{Manner, Nameless, Utility, Call, manner, manner_of_name, manner_of_words, operands, is_special, behind_words}
-use Rattle.sh_facts.specs.Views.{Before, OfNames, Seen, at}
+use Rattle.sh_table.specs.standard.runs.Environment.{is_one_of}
+use Rattle.sh_domain.specs.declared.rule.FlowRule.{FlowRule}
+use Rattle.sh_domain.specs.Entries.{Around, Entered, behind_redirects, script_entered}
+use Rattle.sh_domain.specs.Facts.{Declared, start_facts}
+use Rattle.sh_domain.specs.Faults.{least, faults}
+use Rattle.sh_domain.specs.Knowledge.{AreNumbered, among}
+use Rattle.sh_domain.specs.Operands.{unset_names}
+use Rattle.sh_domain.specs.Rules.{bound, bounds, functions_of, script_bounds}
+use Rattle.sh_domain.specs.Rules as r
+use Rattle.sh_domain.specs.Table.{Manner, Nameless, Utility, Call, manner, manner_of_name, manner_of_words, operands, is_special, behind_words}
+use Rattle.sh_domain.specs.Views.{Before, OfNames, Seen, at}
 use Rattle.sh_rules.specs.Asking.{Asking}
 use Rattle.sh_rules.specs.Settings.{Setting}
 use Rattle.sh_rules.specs.Walked.{script_walked}

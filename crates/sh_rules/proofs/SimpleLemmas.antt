@@ -1,27 +1,27 @@
 -- What the flow rules ask of a simple command over views is what they ask over facts.
 use Rattle.std.proofs.Common.{◌≡◌, ℕ, ◌==◌, Bool, true, false, not, ◌&&◌, ◌||◌, Option, Some, None, List, [], ◌∷◌, ◌++◌, if◌then◌else◌, filter, codes, refl, sym, ap, ap₂, ◌∙◌}
 use Rattle.sh_tree.specs.declared.known.KnownName.TheVariants as known'
-use Rattle.sh_tree.specs.program.Syntax as p
-use Rattle.sh_tree.specs.program.Syntax.{Text, Word}
-use Rattle.sh_tree.specs.program.Words.{operands_in, redirects_in}
+use Rattle.sh_tree.specs.standard.program.Syntax as p
+use Rattle.sh_tree.specs.standard.program.Syntax.{Text, Word}
+use Rattle.sh_tree.specs.standard.program.Words.{operands_in, redirects_in}
 use Rattle.sh_table.specs.declared.kind.Kind.{Kind}
 use Rattle.sh_table.specs.declared.kind.Kind.TheVariants as kind
-use Rattle.sh_table.specs.runs.Environment.{is_one_of}
-use Rattle.sh_facts.specs.declared.rule.FlowRule.TheVariants.{F4, F5, F14, F15}
-use Rattle.sh_facts.specs.Entries as e
-use Rattle.sh_facts.specs.Facts.{Facts, NotReached, Known, Declared, Function, claims, facts, meet}
-use Rattle.sh_facts.specs.Gains.{Gains, named, with_gains, words_gains}
-use Rattle.sh_facts.specs.Knowledge.{AreNumbered, among}
-use Rattle.sh_facts.specs.Meets.{is_call}
-use Rattle.sh_facts.specs.Operands.{Names, Total, total, first_number, positional_words, return_status, declared_names, read_names, getopts_names, unset_names, runs_command}
-use Rattle.sh_facts.specs.Order.{seen_facts}
-use Rattle.sh_facts.specs.Rules as r
-use Rattle.sh_facts.specs.Rules.{Constraint, bound, leaves}
-use Rattle.sh_facts.specs.Table as table
-use Rattle.sh_facts.specs.Table.{Manner, Nameless, Utility, manner, prefixes, assignments_gains, is_redirected}
-use Rattle.sh_facts.specs.Views as views
-use Rattle.sh_facts.specs.Views.{Certificate, Slot, Before, AfterZero, AfterNonzero, Head, Entry, ReturnsZero, ReturnsNonzero, Seen, After, Both, Each, Step, Gain, Lose, Count, Shift, Define, at, gaining, gaining_names, step, steps, where_known, source_facts, kept, passes, returned}
-use Rattle.sh_facts.proofs.MeetLemmas.{known_same, seen_is_meet}
+use Rattle.sh_table.specs.standard.runs.Environment.{is_one_of}
+use Rattle.sh_domain.specs.declared.rule.FlowRule.TheVariants.{F4, F5, F14, F15}
+use Rattle.sh_domain.specs.Entries as e
+use Rattle.sh_domain.specs.Facts.{Facts, NotReached, Known, Declared, Function, claims, facts, meet}
+use Rattle.sh_domain.specs.Gains.{Gains, named, with_gains, words_gains}
+use Rattle.sh_domain.specs.Knowledge.{AreNumbered, among}
+use Rattle.sh_domain.specs.Meets.{is_call}
+use Rattle.sh_domain.specs.Operands.{Names, Total, total, first_number, positional_words, return_status, declared_names, read_names, getopts_names, unset_names, runs_command}
+use Rattle.sh_domain.specs.Order.{seen_facts}
+use Rattle.sh_domain.specs.Rules as r
+use Rattle.sh_domain.specs.Rules.{Constraint, bound, leaves}
+use Rattle.sh_domain.specs.Table as table
+use Rattle.sh_domain.specs.Table.{Manner, Nameless, Utility, manner, prefixes, assignments_gains, is_redirected}
+use Rattle.sh_domain.specs.Views as views
+use Rattle.sh_domain.specs.Views.{Certificate, Slot, Before, AfterZero, AfterNonzero, Head, Entry, ReturnsZero, ReturnsNonzero, Seen, After, Both, Each, Step, Gain, Lose, Count, Shift, Define, at, gaining, gaining_names, step, steps, where_known, source_facts, kept, passes, returned}
+use Rattle.sh_domain.proofs.MeetLemmas.{known_same, seen_is_meet}
 use Rattle.sh_rules.specs.Asking.{Asking}
 use Rattle.sh_rules.specs.Settings.{Setting, certificate, known_at, gained}
 use Rattle.sh_rules.specs.Behind.{Behind, both, either}

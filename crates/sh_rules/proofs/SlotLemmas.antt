@@ -1,16 +1,16 @@
 -- What the certificate that the rules are asked of claims at each place, by its entries.
 use Rattle.std.proofs.Common.{◌≡◌, ℕ, zero, suc, ◌+◌, ◌-◌, max, nat_eq, List, [], ◌∷◌, option_map, slice_get, unwrap_or, refl, ap, ◌∙◌, arith}
 use Rattle.indexmap.specs.IndexMap.{get}
-use Rattle.sh_tree.specs.program.Syntax.{Text}
-use Rattle.sh_facts.specs.declared.certificate.Entry.{Entry}
-use Rattle.sh_facts.specs.declared.certificate.Facts as value
-use Rattle.sh_facts.specs.declared.certificate.Certificate as kept
-use Rattle.sh_facts.specs.Certificates.{claim_of, commands_from, in_byte_order}
-use Rattle.sh_facts.specs.Facts.{Claim, Unreached, facts}
-use Rattle.sh_facts.specs.Sheets.{claim_at, nowhere}
-use Rattle.sh_facts.specs.Slots.{ClaimsAreEntries}
-use Rattle.sh_facts.specs.Views.{Head}
-use Rattle.sh_facts.proofs.SlotLemmas.{claims_are_entries}
+use Rattle.sh_tree.specs.standard.program.Syntax.{Text}
+use Rattle.sh_domain.specs.declared.certificate.Entry.{Entry}
+use Rattle.sh_domain.specs.declared.certificate.Facts as value
+use Rattle.sh_domain.specs.declared.certificate.Certificate as kept
+use Rattle.sh_domain.specs.Certificates.{claim_of, commands_from, in_byte_order}
+use Rattle.sh_domain.specs.Facts.{Claim, Unreached, facts}
+use Rattle.sh_domain.specs.Sheets.{claim_at, nowhere}
+use Rattle.sh_domain.specs.Slots.{ClaimsAreEntries}
+use Rattle.sh_domain.specs.Views.{Head}
+use Rattle.sh_domain.proofs.SlotLemmas.{claims_are_entries}
 use Rattle.sh_rules.specs.Settings.{Setting, claimed_at, known_at}
 use Rattle.sh_rules.specs.Walks.{head_of, head_where}
 

@@ -3,20 +3,20 @@ use Rattle.std.proofs.Common.{◌≡◌, ◌≢◌, ℕ, zero, suc, ◌+◌, ◌
 use Rattle.std.proofs.Math.Nat.{mul-le-mul_left}
 use Rattle.std.proofs.lemmas.Bool.{cases_lt}
 use Rattle.sh_tree.specs.declared.tree.Element.{Element}
-use Rattle.sh_tree.specs.program.Lists.{elements_from}
-use Rattle.sh_tree.specs.program.Syntax as p
-use Rattle.sh_tree.specs.program.Syntax.{Text}
+use Rattle.sh_tree.specs.Lists.{elements_from}
+use Rattle.sh_tree.specs.standard.program.Syntax as p
+use Rattle.sh_tree.specs.standard.program.Syntax.{Text}
 use Rattle.sh_table.specs.Counts as counts'
 use Rattle.sh_table.specs.Counts.{Parameters, One, Nothing, count_of}
 use Rattle.sh_operands.specs.declared.counts.Total as code
 use Rattle.sh_operands.specs.Fields.{counted, counted_word, no_fields}
 use Rattle.sh_operands.specs.Numerals.{most, capped}
-use Rattle.sh_facts.specs.Facts.{Facts, NotReached, Known}
-use Rattle.sh_facts.specs.Knowledge.{knowledge_facts}
-use Rattle.sh_facts.specs.Operands.{Total, total}
-use Rattle.sh_facts.specs.Table.{operands}
-use Rattle.sh_facts.specs.Views.{Certificate, Count, Shift, step, where_known, most_fields}
-use Rattle.sh_facts.specs.declared.knowledge.Knowledge.{Knowledge}
+use Rattle.sh_domain.specs.Facts.{Facts, NotReached, Known}
+use Rattle.sh_domain.specs.Knowledge.{knowledge_facts}
+use Rattle.sh_domain.specs.Operands.{Total, total}
+use Rattle.sh_domain.specs.Table.{operands}
+use Rattle.sh_domain.specs.Views.{Certificate, Count, Shift, step, where_known, most_fields}
+use Rattle.sh_domain.specs.declared.knowledge.Knowledge.{Knowledge}
 use Rattle.sh_rules.specs.Settings.{Setting, certificate}
 use Rattle.sh_rules.specs.SimpleBounds.{stepped}
 use Rattle.sh_rules.specs.declared.claims.Claims.{Claims}

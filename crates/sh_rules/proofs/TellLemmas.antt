@@ -13,20 +13,20 @@ use Rattle.sh_tree.specs.declared.tree.Part.{Part, Plain}
 use Rattle.sh_tree.specs.declared.tree.Script.{Script}
 use Rattle.sh_tree.specs.declared.tree.Span.{Span}
 use Rattle.sh_tree.specs.declared.tree.Word.{Word}
-use Rattle.sh_tree.specs.Tree.{text_of}
-use Rattle.sh_tree.specs.program.Lists.{parts_from, words_from, branches_from, otherwise_from, for_words_from, clauses_from}
-use Rattle.sh_tree.specs.program.Syntax.{Text}
-use Rattle.sh_tree.specs.program.Trees as trees
-use Rattle.sh_tree.specs.program.Trees.{part_of}
-use Rattle.sh_tree.specs.program.Words.{is_plainly, words_in}
+use Rattle.sh_tree.specs.standard.Tree.{text_of}
+use Rattle.sh_tree.specs.Lists.{parts_from, words_from, branches_from, otherwise_from, for_words_from, clauses_from}
+use Rattle.sh_tree.specs.standard.program.Syntax.{Text}
+use Rattle.sh_tree.specs.standard.program.Trees as trees
+use Rattle.sh_tree.specs.standard.program.Trees.{part_of}
+use Rattle.sh_tree.specs.standard.program.Words.{is_plainly, words_in}
 use Rattle.sh_tree.proofs.ProgramRules as rules
-use Rattle.sh_facts.specs.declared.rule.FlowRule.TheVariants.{F10, F11}
-use Rattle.sh_facts.specs.Facts.{Facts, NotReached}
-use Rattle.sh_facts.specs.Gains.{word_gains, words_gains}
-use Rattle.sh_facts.specs.Rules.{is_last, matches_always}
-use Rattle.sh_facts.specs.Knowledge.{among, knowledge_facts}
-use Rattle.sh_facts.specs.declared.knowledge.Knowledge.{Knowledge}
-use Rattle.sh_facts.specs.Views.{Certificate, Before, Define, step}
+use Rattle.sh_domain.specs.declared.rule.FlowRule.TheVariants.{F10, F11}
+use Rattle.sh_domain.specs.Facts.{Facts, NotReached}
+use Rattle.sh_domain.specs.Gains.{word_gains, words_gains}
+use Rattle.sh_domain.specs.Rules.{is_last, matches_always}
+use Rattle.sh_domain.specs.Knowledge.{among, knowledge_facts}
+use Rattle.sh_domain.specs.declared.knowledge.Knowledge.{Knowledge}
+use Rattle.sh_domain.specs.Views.{Certificate, Before, Define, step}
 use Rattle.sh_rules.specs.declared.claims.Claims.{Claims}
 use Rattle.sh_rules.specs.Asking.{Asking}
 use Rattle.sh_rules.specs.Settings.{Setting, certificate, known_at, gained}

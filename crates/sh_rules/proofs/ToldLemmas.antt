@@ -4,18 +4,18 @@ use Rattle.std.proofs.lemmas.Bool.{and_parts, and_from}
 use Rattle.std.proofs.lemmas.List.{append-nil}
 use Rattle.std.proofs.lemmas.Grind.{flat_map-append}
 use Rattle.std.proofs.lemmas.List.Sums.{fold-append}
-use Rattle.sh_tree.specs.program.Syntax.{Text}
-use Rattle.sh_table.specs.runs.Environment.{is_one_of}
-use Rattle.sh_facts.specs.declared.rule.FlowRule.{FlowRule}
-use Rattle.sh_facts.specs.declared.rule.FlowRule.TheVariants.{F13}
-use Rattle.sh_facts.specs.Facts.{Facts, NotReached, Known, Claim, facts, meet, within, Declared}
-use Rattle.sh_facts.specs.Faults.{Fault, lesser, told, broken, are_among}
-use Rattle.sh_facts.specs.Knowledge.{AreNumbered, among}
-use Rattle.sh_facts.specs.Order.{IsWithin, seen_facts}
-use Rattle.sh_facts.specs.Rules.{Constraint, Counted, bound}
-use Rattle.sh_facts.specs.Views.{Slot, Seen, Loss, view_facts, lost}
-use Rattle.sh_facts.proofs.KnowledgeLemmas.{same_tests}
-use Rattle.sh_facts.proofs.OrderLemmas.{known_within, within_itself, within_through, within_test, meet_first, meet_second, meet_greatest}
+use Rattle.sh_tree.specs.standard.program.Syntax.{Text}
+use Rattle.sh_table.specs.standard.runs.Environment.{is_one_of}
+use Rattle.sh_domain.specs.declared.rule.FlowRule.{FlowRule}
+use Rattle.sh_domain.specs.declared.rule.FlowRule.TheVariants.{F13}
+use Rattle.sh_domain.specs.Facts.{Facts, NotReached, Known, Claim, facts, meet, within, Declared}
+use Rattle.sh_domain.specs.Faults.{Fault, lesser, told, broken, are_among}
+use Rattle.sh_domain.specs.Knowledge.{AreNumbered, among}
+use Rattle.sh_domain.specs.Order.{IsWithin, seen_facts}
+use Rattle.sh_domain.specs.Rules.{Constraint, Counted, bound}
+use Rattle.sh_domain.specs.Views.{Slot, Seen, Loss, view_facts, lost}
+use Rattle.sh_domain.proofs.KnowledgeLemmas.{same_tests}
+use Rattle.sh_domain.proofs.OrderLemmas.{known_within, within_itself, within_through, within_test, meet_first, meet_second, meet_greatest}
 use Rattle.sh_rules.specs.Settings.{Setting, certificate, claimed_at, known_at}
 use Rattle.sh_rules.specs.Meaning.{knows}
 use Rattle.sh_rules.specs.Bounds.{fault}

@@ -11,29 +11,29 @@ use Rattle.sh_tree.specs.declared.tree.Part.TheVariants as part
 use Rattle.sh_tree.specs.declared.tree.Redirect.{Redirect}
 use Rattle.sh_tree.specs.declared.tree.Span.{Span}
 use Rattle.sh_tree.specs.declared.tree.Word.{Word}
-use Rattle.sh_tree.specs.Tree.{text_of}
-use Rattle.sh_tree.specs.language.Bytes.{is_name, name_length}
-use Rattle.sh_tree.specs.language.Commands.{is_assignment}
-use Rattle.sh_tree.specs.program.Lists.{parts_from, element_from, elements_from}
-use Rattle.sh_tree.specs.program.Syntax as p
-use Rattle.sh_tree.specs.program.Syntax.{Text}
-use Rattle.sh_tree.specs.program.Trees as trees
-use Rattle.sh_tree.specs.program.Words.{assignment_in, operands_in, words_in}
+use Rattle.sh_tree.specs.standard.Tree.{text_of}
+use Rattle.sh_tree.specs.standard.language.Bytes.{is_name, name_length}
+use Rattle.sh_tree.specs.standard.language.Commands.{is_assignment}
+use Rattle.sh_tree.specs.Lists.{parts_from, element_from, elements_from}
+use Rattle.sh_tree.specs.standard.program.Syntax as p
+use Rattle.sh_tree.specs.standard.program.Syntax.{Text}
+use Rattle.sh_tree.specs.standard.program.Trees as trees
+use Rattle.sh_tree.specs.standard.program.Words.{assignment_in, operands_in, words_in}
 use Rattle.sh_tree.proofs.ProgramRules as rules
 use Rattle.sh_table.specs.Profile.{Static}
 use Rattle.sh_table.specs.WordTexts.{text_in}
 use Rattle.sh_table.specs.declared.word_text.WordText.{WordText}
-use Rattle.sh_table.specs.runs.Environment.{is_one_of}
-use Rattle.sh_facts.specs.declared.number_set.NumberSet.{NumberSet}
-use Rattle.sh_facts.specs.Facts.{Facts, NotReached, Known, meet}
-use Rattle.sh_facts.specs.Gains.{Gains, named, with_gains}
-use Rattle.sh_facts.specs.Knowledge.{contains}
-use Rattle.sh_facts.specs.Operands.{Total, declared_names, total}
-use Rattle.sh_facts.specs.Parameters.{with_parameters_of}
-use Rattle.sh_facts.specs.Table.{operands}
-use Rattle.sh_facts.specs.Views.{Count, Shift, step, where_known, counted_by}
-use Rattle.sh_facts.proofs.KnowledgeLemmas.{numbered_only}
-use Rattle.sh_check.specs.Drops.{listed}
+use Rattle.sh_table.specs.standard.runs.Environment.{is_one_of}
+use Rattle.sh_domain.specs.declared.number_set.NumberSet.{NumberSet}
+use Rattle.sh_domain.specs.Facts.{Facts, NotReached, Known, meet}
+use Rattle.sh_domain.specs.Gains.{Gains, named, with_gains}
+use Rattle.sh_domain.specs.Knowledge.{contains}
+use Rattle.sh_domain.specs.Operands.{Total, declared_names, total}
+use Rattle.sh_domain.specs.Parameters.{with_parameters_of}
+use Rattle.sh_domain.specs.Table.{operands}
+use Rattle.sh_domain.specs.Views.{Count, Shift, step, where_known, counted_by}
+use Rattle.sh_domain.proofs.KnowledgeLemmas.{numbered_only}
+use Rattle.sh_demands.specs.Drops.{listed}
 use Rattle.sh_operands.specs.Numerals.{capped}
 use Rattle.sh_operands.specs.Texts.{positional_at}
 use Rattle.sh_rules.specs.Settings.{Setting, gained}

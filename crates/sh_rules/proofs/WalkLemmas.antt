@@ -32,19 +32,19 @@ use Rattle.sh_tree.specs.declared.tree.Subject.{Subject}
 use Rattle.sh_tree.specs.declared.tree.Target.TheVariants as target
 use Rattle.sh_tree.specs.declared.tree.Unary.{Unary}
 use Rattle.sh_tree.specs.declared.tree.Word.{Word}
-use Rattle.sh_tree.specs.Tree.{text_of}
-use Rattle.sh_tree.specs.program.Lists.{parts_from, words_from, operands_from, items_from, links_from, commands_from, element_from, elements_from, redirects_from, branches_from, otherwise_from, for_words_from, clauses_from}
-use Rattle.sh_tree.specs.program.Syntax as p
-use Rattle.sh_tree.specs.program.Trees as trees
+use Rattle.sh_tree.specs.standard.Tree.{text_of}
+use Rattle.sh_tree.specs.Lists.{parts_from, words_from, operands_from, items_from, links_from, commands_from, element_from, elements_from, redirects_from, branches_from, otherwise_from, for_words_from, clauses_from}
+use Rattle.sh_tree.specs.standard.program.Syntax as p
+use Rattle.sh_tree.specs.standard.program.Trees as trees
 use Rattle.sh_tree.proofs.ProgramRules as rules
-use Rattle.sh_facts.specs.declared.rule.FlowRule.{FlowRule}
-use Rattle.sh_facts.specs.declared.rule.FlowRule.TheVariants.{F1, F2, F3, F6, F7, F9, F10, F11, F12, F13}
-use Rattle.sh_facts.specs.Entries.{Around, alone, in_function, is_long, item_rule, item_around, part_rule, part_around}
-use Rattle.sh_facts.specs.Facts.{Facts, meet}
-use Rattle.sh_facts.specs.Gains.{named, assigned_in}
-use Rattle.sh_facts.specs.Views.{Before, Entry, Head}
-use Rattle.sh_check.specs.Judged.{inner_gains}
-use Rattle.sh_check.specs.Knowing.{action_gains}
+use Rattle.sh_domain.specs.declared.rule.FlowRule.{FlowRule}
+use Rattle.sh_domain.specs.declared.rule.FlowRule.TheVariants.{F1, F2, F3, F6, F7, F9, F10, F11, F12, F13}
+use Rattle.sh_domain.specs.Entries.{Around, alone, in_function, is_long, item_rule, item_around, part_rule, part_around}
+use Rattle.sh_domain.specs.Facts.{Facts, meet}
+use Rattle.sh_domain.specs.Gains.{named, assigned_in}
+use Rattle.sh_domain.specs.Views.{Before, Entry, Head}
+use Rattle.sh_demands.specs.Judged.{inner_gains}
+use Rattle.sh_demands.specs.Knowing.{action_gains}
 use Rattle.sh_rules.specs.Settings.{Setting, known_at, gained, without_job}
 use Rattle.sh_rules.specs.Behind.{Behind, both, falls, in_any_case, link_known, started, turns}
 use Rattle.sh_rules.specs.Walked.{Met, Trail, trail, trail_gained, Course, course, branch_body, branch_left, clause_body, clause_left, nothing_falls, items_walked, list_walked, links_walked, pipeline_walked, commands_walked, command_walked, kind_walked, elements_walked, redirect_walked, redirects_walked, branches_walked, otherwise_walked, for_words_walked, words_walked, clauses_walked, patterns_walked, word_walked, part_walked, operator_walked, expression_walked, operands_walked, script_walked}

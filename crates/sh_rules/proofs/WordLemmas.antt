@@ -2,22 +2,22 @@
 use Rattle.std.proofs.Common.{◌≡◌, ℕ, ◌-◌, ◌≤◌, nat_le, length, Bool, true, false, not, ◌&&◌, if◌then◌else◌, List, [], ◌∷◌, drop, filter, map, codes, Option, Some, None, option_map, inl, inr, refl, sym, ap, ◌∙◌, arith}
 use Rattle.std.proofs.lemmas.Bool.{cases_Bool, cases_lt, leb-true}
 use Rattle.sh_tree.specs.declared.known.KnownName.TheVariants as known
-use Rattle.sh_tree.specs.program.Syntax as p
-use Rattle.sh_tree.specs.program.Syntax.{Text, Word}
-use Rattle.sh_tree.specs.program.Words.{static_of}
-use Rattle.sh_table.specs.Kinds.{kind_of}
+use Rattle.sh_tree.specs.standard.program.Syntax as p
+use Rattle.sh_tree.specs.standard.program.Syntax.{Text, Word}
+use Rattle.sh_tree.specs.standard.program.Words.{static_of}
+use Rattle.sh_table.specs.standard.Kinds.{kind_of}
 use Rattle.sh_table.specs.Profile.{Static}
 use Rattle.sh_table.specs.declared.kind.Kind.{Kind}
 use Rattle.sh_table.specs.declared.kind.Kind.TheVariants as kind
-use Rattle.sh_table.specs.runs.Environment.{is_one_of}
-use Rattle.sh_facts.specs.declared.rule.FlowRule.TheVariants.{F4}
-use Rattle.sh_facts.specs.Entries.{Around}
-use Rattle.sh_facts.specs.Facts.{Facts}
-use Rattle.sh_facts.specs.Operands.{positional_words, first_number}
-use Rattle.sh_facts.specs.Rules.{loop_at, jump_loop}
-use Rattle.sh_facts.specs.Table as table
-use Rattle.sh_facts.specs.Table.{Manner, Utility, operands, prefixes, manner, manner_of_words, manner_of_name, is_special}
-use Rattle.sh_facts.specs.Views.{Lose}
+use Rattle.sh_table.specs.standard.runs.Environment.{is_one_of}
+use Rattle.sh_domain.specs.declared.rule.FlowRule.TheVariants.{F4}
+use Rattle.sh_domain.specs.Entries.{Around}
+use Rattle.sh_domain.specs.Facts.{Facts}
+use Rattle.sh_domain.specs.Operands.{positional_words, first_number}
+use Rattle.sh_domain.specs.Rules.{loop_at, jump_loop}
+use Rattle.sh_domain.specs.Table as table
+use Rattle.sh_domain.specs.Table.{Manner, Utility, operands, prefixes, manner, manner_of_words, manner_of_name, is_special}
+use Rattle.sh_domain.specs.Views.{Lose}
 use Rattle.sh_operands.specs.Numerals.{most, capped}
 use Rattle.sh_rules.specs.Asking.{Asking}
 use Rattle.sh_rules.specs.Behind.{Behind, both, either}

@@ -4,19 +4,19 @@
 use Rattle.std.specs.Prelude.{◌≡◌, ◌≤◌, true, List, [], ◌∷◌, flat_map, fold, length, ℕ}
 use Rattle.sh_tree.specs.declared.limits.TheConstants.{MAX_COMMANDS}
 use Rattle.sh_tree.specs.declared.tree.Script.{Script}
-use Rattle.sh_tree.specs.program.Syntax.{Text}
-use Rattle.sh_tree.specs.program.Trees.{script_of}
+use Rattle.sh_tree.specs.standard.program.Syntax.{Text}
+use Rattle.sh_tree.specs.standard.program.Trees.{script_of}
 use Rattle.sh_table.specs.Calls.{table_of}
 use Rattle.sh_table.specs.Numbering.{is_numbered}
-use Rattle.sh_facts.specs.Entries.{Entered, script_entered}
-use Rattle.sh_facts.specs.Facts.{Facts, Declared, facts, start_facts}
-use Rattle.sh_facts.specs.Faults.{Fault, broken}
-use Rattle.sh_facts.specs.Inclusions.{Each}
-use Rattle.sh_facts.specs.Knowledge.{AreNumbered, among}
-use Rattle.sh_facts.specs.Operands.{Names}
-use Rattle.sh_facts.specs.Order.{IsWithin, AreAmong, IsBelow}
-use Rattle.sh_facts.specs.Rules.{bounds}
-use Rattle.sh_facts.specs.Views.{Certificate, Slot, After, Both, if_zero, if_nonzero, at_start}
+use Rattle.sh_domain.specs.Entries.{Entered, script_entered}
+use Rattle.sh_domain.specs.Facts.{Facts, Declared, facts, start_facts}
+use Rattle.sh_domain.specs.Faults.{Fault, broken}
+use Rattle.sh_domain.specs.Inclusions.{Each}
+use Rattle.sh_domain.specs.Knowledge.{AreNumbered, among}
+use Rattle.sh_domain.specs.Operands.{Names}
+use Rattle.sh_domain.specs.Order.{IsWithin, AreAmong, IsBelow}
+use Rattle.sh_domain.specs.Rules.{bounds}
+use Rattle.sh_domain.specs.Views.{Certificate, Slot, After, Both, if_zero, if_nonzero, at_start}
 use Rattle.sh_rules.specs.Settings.{Setting, certificate}
 use Rattle.sh_rules.specs.Asking.{Asking}
 use Rattle.sh_rules.specs.Asked.{ByConstraints, has_numbered_prefixes}

@@ -3,22 +3,22 @@
 use Rattle.std.specs.Prelude.{◌≡◌, ◌≤◌, ℕ, nat_le, length, Bool, true, false, List, [], ◌∷◌, ◌++◌, flat_map, fold, Option, None}
 use Rattle.std.specs.List.{list_all}
 use Rattle.sh_tree.specs.declared.tree.Script.{Script}
-use Rattle.sh_tree.specs.program.Syntax as p
-use Rattle.sh_tree.specs.program.Syntax.{Text}
-use Rattle.sh_tree.specs.program.Trees.{script_of}
+use Rattle.sh_tree.specs.standard.program.Syntax as p
+use Rattle.sh_tree.specs.standard.program.Syntax.{Text}
+use Rattle.sh_tree.specs.standard.program.Trees.{script_of}
 use Rattle.sh_table.specs.Calls.{table_of}
 use Rattle.sh_table.specs.Surroundings.{outside, items_located}
-use Rattle.sh_table.specs.runs.Environment.{is_one_of}
-use Rattle.sh_facts.specs.declared.rule.FlowRule.{FlowRule}
-use Rattle.sh_facts.specs.declared.rule.FlowRule.TheVariants.{F13}
-use Rattle.sh_facts.specs.Entries.{Around, Entered, script_entered}
-use Rattle.sh_facts.specs.Facts.{Declared, start_facts}
-use Rattle.sh_facts.specs.Faults.{Fault, lesser, least, faults, broken}
-use Rattle.sh_facts.specs.Knowledge.{AreNumbered, among}
-use Rattle.sh_facts.specs.Names.{IsNumbering}
-use Rattle.sh_facts.specs.Rules.{Constraint, Counted, bound, kind_bounds, redirects_bounds, bounds, functions_of, script_bounds}
-use Rattle.sh_facts.specs.Table.{is_redirected, manner}
-use Rattle.sh_facts.specs.Views.{Slot, Seen, Loss, lost}
+use Rattle.sh_table.specs.standard.runs.Environment.{is_one_of}
+use Rattle.sh_domain.specs.declared.rule.FlowRule.{FlowRule}
+use Rattle.sh_domain.specs.declared.rule.FlowRule.TheVariants.{F13}
+use Rattle.sh_domain.specs.Entries.{Around, Entered, script_entered}
+use Rattle.sh_domain.specs.Facts.{Declared, start_facts}
+use Rattle.sh_domain.specs.Faults.{Fault, lesser, least, faults, broken}
+use Rattle.sh_domain.specs.Knowledge.{AreNumbered, among}
+use Rattle.sh_domain.specs.Names.{IsNumbering}
+use Rattle.sh_domain.specs.Rules.{Constraint, Counted, bound, kind_bounds, redirects_bounds, bounds, functions_of, script_bounds}
+use Rattle.sh_domain.specs.Table.{is_redirected, manner}
+use Rattle.sh_domain.specs.Views.{Slot, Seen, Loss, lost}
 use Rattle.sh_rules.specs.Settings.{Setting, certificate}
 use Rattle.sh_rules.specs.Asking.{Asking}
 use Rattle.sh_rules.specs.Walked.{script_walked}

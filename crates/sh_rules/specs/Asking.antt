@@ -1,11 +1,11 @@
 -- What is done with what the flow rules ask at a command: whatever is kept of it, by the places and the functions that it is asked of.
 -- The standard has no such rules: what is claimed of a place has to be known there in every run.
 use Rattle.std.specs.Prelude.{◌≡◌, [], ◌∷◌, ◌++◌}
-use Rattle.sh_tree.specs.program.Syntax.{Text}
-use Rattle.sh_facts.specs.Facts.{Facts}
-use Rattle.sh_facts.specs.Faults.{Fault}
-use Rattle.sh_facts.specs.Operands.{Names, no_names}
-use Rattle.sh_facts.specs.Views.{Slot}
+use Rattle.sh_tree.specs.standard.program.Syntax.{Text}
+use Rattle.sh_domain.specs.Facts.{Facts}
+use Rattle.sh_domain.specs.Faults.{Fault}
+use Rattle.sh_domain.specs.Operands.{Names, no_names}
+use Rattle.sh_domain.specs.Views.{Slot}
 use Rattle.sh_rules.specs.Settings.{Setting}
 
 -- these names and those

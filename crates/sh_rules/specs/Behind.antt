@@ -7,10 +7,10 @@ use Rattle.sh_tree.specs.declared.tree.Link.{Link}
 use Rattle.sh_tree.specs.declared.tree.Link.TheVariants as link
 use Rattle.sh_tree.specs.declared.tree.LoopKind.{LoopKind}
 use Rattle.sh_tree.specs.declared.tree.LoopKind.TheVariants as loop
-use Rattle.sh_tree.specs.program.Syntax as p
-use Rattle.sh_facts.specs.Facts.{Facts, NotReached, meet}
-use Rattle.sh_facts.specs.Gains.{job, named}
-use Rattle.sh_facts.specs.Views.{AfterZero, AfterNonzero}
+use Rattle.sh_tree.specs.standard.program.Syntax as p
+use Rattle.sh_domain.specs.Facts.{Facts, NotReached, meet}
+use Rattle.sh_domain.specs.Gains.{job, named}
+use Rattle.sh_domain.specs.Views.{AfterZero, AfterNonzero}
 use Rattle.sh_rules.specs.Settings.{Setting, known_at, gained, without_job}
 
 -- after a status of zero, and after another one

@@ -3,17 +3,17 @@
 use Rattle.std.specs.Prelude.{ℕ, Bool, true, false, [], ◌∷◌}
 use Rattle.sh_tree.specs.declared.tree.LoopKind.{LoopKind}
 use Rattle.sh_tree.specs.declared.tree.LoopKind.TheVariants as loop
-use Rattle.sh_tree.specs.program.Syntax as p
-use Rattle.sh_tree.specs.program.Syntax.{Text}
-use Rattle.sh_facts.specs.declared.rule.FlowRule.{FlowRule}
-use Rattle.sh_facts.specs.declared.rule.FlowRule.TheVariants.{F6, F7, F8, F9, F10, F11, F13}
-use Rattle.sh_facts.specs.Facts.{Facts, NotReached, meet}
-use Rattle.sh_facts.specs.Faults.{Fault}
-use Rattle.sh_facts.specs.Gains.{named, word_gains, words_gains}
-use Rattle.sh_facts.specs.Knowledge.{among}
-use Rattle.sh_facts.specs.Rules.{is_last, matches_always}
-use Rattle.sh_facts.specs.Views.{Slot, Before, AfterZero, AfterNonzero, Head, ReturnsZero, ReturnsNonzero, step}
-use Rattle.sh_facts.specs.Views as views
+use Rattle.sh_tree.specs.standard.program.Syntax as p
+use Rattle.sh_tree.specs.standard.program.Syntax.{Text}
+use Rattle.sh_domain.specs.declared.rule.FlowRule.{FlowRule}
+use Rattle.sh_domain.specs.declared.rule.FlowRule.TheVariants.{F6, F7, F8, F9, F10, F11, F13}
+use Rattle.sh_domain.specs.Facts.{Facts, NotReached, meet}
+use Rattle.sh_domain.specs.Faults.{Fault}
+use Rattle.sh_domain.specs.Gains.{named, word_gains, words_gains}
+use Rattle.sh_domain.specs.Knowledge.{among}
+use Rattle.sh_domain.specs.Rules.{is_last, matches_always}
+use Rattle.sh_domain.specs.Views.{Slot, Before, AfterZero, AfterNonzero, Head, ReturnsZero, ReturnsNonzero, step}
+use Rattle.sh_domain.specs.Views as views
 use Rattle.sh_rules.specs.Asking.{Asking}
 use Rattle.sh_rules.specs.Settings.{Setting, certificate, known_at, gained}
 use Rattle.sh_rules.specs.Behind.{Behind, both, in_any_case, turns, falls, items_behind}

@@ -2,15 +2,15 @@
 -- POSIX.1-2024, XCU 2.9.1 (simple commands), 2.9.5 (function definitions).
 use Rattle.std.specs.Prelude.{◌≡◌, if◌then◌else◌, Option, Some, None, codes}
 use Rattle.std.specs.Str.{bytes_eq}
-use Rattle.sh_tree.specs.program.Syntax as p
-use Rattle.sh_tree.specs.program.Syntax.{Text}
-use Rattle.sh_facts.specs.declared.knowledge.Return.{Return}
-use Rattle.sh_facts.specs.Certificates.{claim_of, drops_of, in_byte_order}
-use Rattle.sh_facts.specs.Facts.{Facts, Unreached}
-use Rattle.sh_facts.specs.Gains.{named}
-use Rattle.sh_facts.specs.Operands.{no_names, total}
-use Rattle.sh_facts.specs.Table.{prefixes}
-use Rattle.sh_facts.specs.Views.{Slot, Count}
+use Rattle.sh_tree.specs.standard.program.Syntax as p
+use Rattle.sh_tree.specs.standard.program.Syntax.{Text}
+use Rattle.sh_domain.specs.declared.knowledge.Return.{Return}
+use Rattle.sh_domain.specs.Certificates.{claim_of, drops_of, in_byte_order}
+use Rattle.sh_domain.specs.Facts.{Facts, Unreached}
+use Rattle.sh_domain.specs.Gains.{named}
+use Rattle.sh_domain.specs.Operands.{no_names, total}
+use Rattle.sh_domain.specs.Table.{prefixes}
+use Rattle.sh_domain.specs.Views.{Slot, Count}
 use Rattle.sh_rules.specs.Losses.{variable_lost}
 use Rattle.sh_rules.specs.Settings.{Setting, certificate, gained}
 use Rattle.sh_rules.specs.SimpleBounds.{stepped}

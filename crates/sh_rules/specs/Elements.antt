@@ -4,18 +4,18 @@ use Rattle.std.specs.Prelude.{ℕ, Bool, true, false, ◌&&◌, ◌||◌, if◌t
 use Rattle.std.specs.Str.{bytes_eq}
 use Rattle.sh_tree.specs.declared.tree.Element.{Element, Assignment', Word', Redirection'}
 use Rattle.sh_tree.specs.declared.tree.Part.{Part, Plain}
-use Rattle.sh_tree.specs.Tree.{text_of}
-use Rattle.sh_tree.specs.language.Bytes.{name_length}
-use Rattle.sh_tree.specs.language.Commands.{is_assignment}
-use Rattle.sh_tree.specs.program.Lists.{element_from}
-use Rattle.sh_tree.specs.program.Syntax as p
-use Rattle.sh_tree.specs.program.Syntax.{Text}
-use Rattle.sh_tree.specs.program.Words.{assignments_in, redirects_in}
-use Rattle.sh_table.specs.runs.Environment.{is_one_of}
-use Rattle.sh_facts.specs.Facts.{Facts}
-use Rattle.sh_facts.specs.Gains.{named, redirects_gains}
-use Rattle.sh_facts.specs.Operands.{declared_names}
-use Rattle.sh_facts.specs.Table.{operands, prefixes, values_gains}
+use Rattle.sh_tree.specs.standard.Tree.{text_of}
+use Rattle.sh_tree.specs.standard.language.Bytes.{name_length}
+use Rattle.sh_tree.specs.standard.language.Commands.{is_assignment}
+use Rattle.sh_tree.specs.Lists.{element_from}
+use Rattle.sh_tree.specs.standard.program.Syntax as p
+use Rattle.sh_tree.specs.standard.program.Syntax.{Text}
+use Rattle.sh_tree.specs.standard.program.Words.{assignments_in, redirects_in}
+use Rattle.sh_table.specs.standard.runs.Environment.{is_one_of}
+use Rattle.sh_domain.specs.Facts.{Facts}
+use Rattle.sh_domain.specs.Gains.{named, redirects_gains}
+use Rattle.sh_domain.specs.Operands.{declared_names}
+use Rattle.sh_domain.specs.Table.{operands, prefixes, values_gains}
 use Rattle.sh_rules.specs.Settings.{Setting, gained}
 
 -- by the value of an assignment

@@ -1,19 +1,19 @@
 -- Names that are lost or gained one after the other, by the static texts of operands.
 -- POSIX.1-2024, XCU 2.15 (unset), 3 (read).
 use Rattle.std.specs.Prelude.{◌≡◌, Bool, true, false, not, filter, if◌then◌else◌, List, [], ◌∷◌, fold, Some, None}
-use Rattle.sh_tree.specs.language.Bytes.{is_name}
-use Rattle.sh_tree.specs.program.Syntax as p
-use Rattle.sh_tree.specs.program.Syntax.{Text}
+use Rattle.sh_tree.specs.standard.language.Bytes.{is_name}
+use Rattle.sh_tree.specs.standard.program.Syntax as p
+use Rattle.sh_tree.specs.standard.program.Syntax.{Text}
 use Rattle.sh_table.specs.Profile.{Static}
 use Rattle.sh_table.specs.WordTexts.{text_in}
 use Rattle.sh_table.specs.declared.word_text.WordText.{WordText}
-use Rattle.sh_table.specs.runs.Environment.{is_one_of}
-use Rattle.sh_facts.specs.declared.number_set.NumberSet.{NumberSet}
-use Rattle.sh_facts.specs.Facts.{Facts}
-use Rattle.sh_facts.specs.Gains.{named}
-use Rattle.sh_facts.specs.Knowledge.{contains}
-use Rattle.sh_facts.specs.Table.{prefixes}
-use Rattle.sh_facts.specs.Views.{Lose}
+use Rattle.sh_table.specs.standard.runs.Environment.{is_one_of}
+use Rattle.sh_domain.specs.declared.number_set.NumberSet.{NumberSet}
+use Rattle.sh_domain.specs.Facts.{Facts}
+use Rattle.sh_domain.specs.Gains.{named}
+use Rattle.sh_domain.specs.Knowledge.{contains}
+use Rattle.sh_domain.specs.Table.{prefixes}
+use Rattle.sh_domain.specs.Views.{Lose}
 use Rattle.sh_rules.specs.Settings.{Setting, gained}
 use Rattle.sh_rules.specs.SimpleBounds.{stepped}
 

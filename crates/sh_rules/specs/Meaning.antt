@@ -1,13 +1,13 @@
 -- What the walk over facts means: each command is met as it is entered, with what is known of the numbered names where that is seen.
 -- The standard has no such thing: what several views claim together, as one fact.
 use Rattle.std.specs.Prelude.{◌≡◌, List, [], ◌∷◌, ◌++◌, map}
-use Rattle.sh_tree.specs.program.Syntax as p
-use Rattle.sh_tree.specs.program.Syntax.{Text}
-use Rattle.sh_facts.specs.Entries.{Entered, script_entered}
-use Rattle.sh_facts.specs.Facts.{Facts, Declared, start_facts}
-use Rattle.sh_facts.specs.Knowledge.{AreNumbered, among}
-use Rattle.sh_facts.specs.Order.{seen_facts}
-use Rattle.sh_facts.specs.Views.{Certificate, Seen}
+use Rattle.sh_tree.specs.standard.program.Syntax as p
+use Rattle.sh_tree.specs.standard.program.Syntax.{Text}
+use Rattle.sh_domain.specs.Entries.{Entered, script_entered}
+use Rattle.sh_domain.specs.Facts.{Facts, Declared, start_facts}
+use Rattle.sh_domain.specs.Knowledge.{AreNumbered, among}
+use Rattle.sh_domain.specs.Order.{seen_facts}
+use Rattle.sh_domain.specs.Views.{Certificate, Seen}
 use Rattle.sh_rules.specs.Settings.{Setting, certificate}
 use Rattle.sh_rules.specs.Walked.{Met, script_walked}
 

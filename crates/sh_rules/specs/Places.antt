@@ -1,7 +1,7 @@
 -- The places of which a certificate claims something, as the code has them.
 -- The standard has no such thing: what is surely set (XCU 2.5) round each command and each function.
-use Rattle.sh_facts.specs.Views.{Slot}
-use Rattle.sh_facts.specs.Views as slot
+use Rattle.sh_domain.specs.Views.{Slot}
+use Rattle.sh_domain.specs.Views as slot
 use Rattle.sh_rules.specs.declared.place.Place.{Place}
 use Rattle.sh_rules.specs.declared.place.Place.TheVariants as place
 

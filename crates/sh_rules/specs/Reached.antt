@@ -2,16 +2,16 @@
 -- POSIX.1-2024, XCU 2.9.1 (simple commands), 2.9.5 (function definitions), 2.15 (unset).
 use Rattle.std.specs.Prelude.{ℕ, Bool, not, List, filter, fold}
 use Rattle.sh_tree.specs.declared.tree.Element.{Element}
-use Rattle.sh_tree.specs.program.Lists.{element_from}
-use Rattle.sh_tree.specs.program.Syntax as p
-use Rattle.sh_tree.specs.program.Syntax.{Text}
+use Rattle.sh_tree.specs.Lists.{element_from}
+use Rattle.sh_tree.specs.standard.program.Syntax as p
+use Rattle.sh_tree.specs.standard.program.Syntax.{Text}
 use Rattle.sh_table.specs.Profile.{Static}
-use Rattle.sh_table.specs.runs.Environment.{is_one_of}
-use Rattle.sh_facts.specs.declared.rule.FlowRule.TheVariants.{F13}
-use Rattle.sh_facts.specs.Facts.{Facts, Nowhere, Variable, claims}
-use Rattle.sh_facts.specs.Operands.{Names}
-use Rattle.sh_facts.specs.Table.{prefixes}
-use Rattle.sh_facts.specs.Views.{Before}
+use Rattle.sh_table.specs.standard.runs.Environment.{is_one_of}
+use Rattle.sh_domain.specs.declared.rule.FlowRule.TheVariants.{F13}
+use Rattle.sh_domain.specs.Facts.{Facts, Nowhere, Variable, claims}
+use Rattle.sh_domain.specs.Operands.{Names}
+use Rattle.sh_domain.specs.Table.{prefixes}
+use Rattle.sh_domain.specs.Views.{Before}
 use Rattle.sh_rules.specs.Asking.{Asking, one_variable, one_function}
 use Rattle.sh_rules.specs.Bounds.{fault}
 use Rattle.sh_rules.specs.Losses.{if_wanted}

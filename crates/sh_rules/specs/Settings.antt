@@ -1,15 +1,15 @@
 -- What a check of a certificate goes by: the script, its names, its call table, and the certificate that is kept.
 -- The standard has no such thing: what is known at a place (XCU 2.5), of the names that are numbered.
 use Rattle.std.specs.Prelude.{List, [], ◌∷◌}
-use Rattle.sh_tree.specs.program.Syntax.{Text}
+use Rattle.sh_tree.specs.standard.program.Syntax.{Text}
 use Rattle.sh_table.specs.Calls.{Row}
-use Rattle.sh_facts.specs.declared.certificate.Certificate as kept
-use Rattle.sh_facts.specs.Certificates.{in_byte_order, sheet_of}
-use Rattle.sh_facts.specs.Facts.{Facts, Claim, facts}
-use Rattle.sh_facts.specs.Gains.{Gains, job, with_gains}
-use Rattle.sh_facts.specs.Sheets.{certificate_of}
-use Rattle.sh_facts.specs.Views.{Certificate, Slot, Lose, step}
-use Rattle.sh_check.specs.Knowing.{among}
+use Rattle.sh_domain.specs.declared.certificate.Certificate as kept
+use Rattle.sh_domain.specs.Certificates.{in_byte_order, sheet_of}
+use Rattle.sh_domain.specs.Facts.{Facts, Claim, facts}
+use Rattle.sh_domain.specs.Gains.{Gains, job, with_gains}
+use Rattle.sh_domain.specs.Sheets.{certificate_of}
+use Rattle.sh_domain.specs.Views.{Certificate, Slot, Lose, step}
+use Rattle.sh_demands.specs.Knowing.{among}
 
 pub record Setting : Type 0 where
   pub script : Text

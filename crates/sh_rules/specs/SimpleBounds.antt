@@ -2,23 +2,23 @@
 -- POSIX.1-2024, XCU 2.9.1 (simple commands), 2.15 (special built-in utilities), 3 (false, getopts, read, true).
 use Rattle.std.specs.Prelude.{ℕ, ◌==◌, Bool, true, false, not, if◌then◌else◌, List, [], ◌∷◌, filter, codes, Option, Some, None}
 use Rattle.sh_tree.specs.declared.known.KnownName.TheVariants as known
-use Rattle.sh_tree.specs.program.Syntax as p
-use Rattle.sh_tree.specs.program.Syntax.{Text, Word}
-use Rattle.sh_tree.specs.program.Words.{operands_in, redirects_in}
+use Rattle.sh_tree.specs.standard.program.Syntax as p
+use Rattle.sh_tree.specs.standard.program.Syntax.{Text, Word}
+use Rattle.sh_tree.specs.standard.program.Words.{operands_in, redirects_in}
 use Rattle.sh_table.specs.declared.kind.Kind.{Kind}
 use Rattle.sh_table.specs.declared.kind.Kind.TheVariants as kind
-use Rattle.sh_table.specs.runs.Environment.{is_one_of}
-use Rattle.sh_facts.specs.declared.rule.FlowRule.TheVariants.{F4, F5, F14, F15}
-use Rattle.sh_facts.specs.Entries.{Around}
-use Rattle.sh_facts.specs.Facts.{Facts, NotReached, meet}
-use Rattle.sh_facts.specs.Gains.{Gains, named, and_gains, words_gains}
-use Rattle.sh_facts.specs.Knowledge.{among}
-use Rattle.sh_facts.specs.Operands.{unset_names, declared_names, read_names, getopts_names, positional_words, total, first_number, return_status, runs_command}
-use Rattle.sh_facts.specs.Rules.{jump_loop}
-use Rattle.sh_facts.specs.Table as table
-use Rattle.sh_facts.specs.Table.{Manner, Nameless, Utility, prefixes, assignments_gains, redirections_gains, is_redirected}
-use Rattle.sh_facts.specs.Views as views
-use Rattle.sh_facts.specs.Views.{Slot, Before, AfterZero, AfterNonzero, Head, Entry, ReturnsZero, ReturnsNonzero, Step, Lose, Count, Shift, step}
+use Rattle.sh_table.specs.standard.runs.Environment.{is_one_of}
+use Rattle.sh_domain.specs.declared.rule.FlowRule.TheVariants.{F4, F5, F14, F15}
+use Rattle.sh_domain.specs.Entries.{Around}
+use Rattle.sh_domain.specs.Facts.{Facts, NotReached, meet}
+use Rattle.sh_domain.specs.Gains.{Gains, named, and_gains, words_gains}
+use Rattle.sh_domain.specs.Knowledge.{among}
+use Rattle.sh_domain.specs.Operands.{unset_names, declared_names, read_names, getopts_names, positional_words, total, first_number, return_status, runs_command}
+use Rattle.sh_domain.specs.Rules.{jump_loop}
+use Rattle.sh_domain.specs.Table as table
+use Rattle.sh_domain.specs.Table.{Manner, Nameless, Utility, prefixes, assignments_gains, redirections_gains, is_redirected}
+use Rattle.sh_domain.specs.Views as views
+use Rattle.sh_domain.specs.Views.{Slot, Before, AfterZero, AfterNonzero, Head, Entry, ReturnsZero, ReturnsNonzero, Step, Lose, Count, Shift, step}
 use Rattle.sh_rules.specs.Asking.{Asking}
 use Rattle.sh_rules.specs.Settings.{Setting, certificate, known_at, gained}
 use Rattle.sh_rules.specs.Behind.{Behind, either, both}

@@ -21,21 +21,21 @@ use Rattle.sh_tree.specs.declared.tree.Span.{Span}
 use Rattle.sh_tree.specs.declared.tree.Subject.{Subject}
 use Rattle.sh_tree.specs.declared.tree.Target.{Target}
 use Rattle.sh_tree.specs.declared.tree.Word.{Word}
-use Rattle.sh_tree.specs.Tree.{text_of}
-use Rattle.sh_tree.specs.program.Lists.{element_from}
-use Rattle.sh_tree.specs.program.Syntax as p
-use Rattle.sh_tree.specs.program.Trees as trees
-use Rattle.sh_tree.specs.program.Words.{operands_in}
-use Rattle.sh_facts.specs.declared.rule.FlowRule.{FlowRule}
-use Rattle.sh_facts.specs.declared.rule.FlowRule.TheVariants.{F2, F6, F7, F8, F11, F13}
-use Rattle.sh_facts.specs.Entries.{alone, in_function, in_loop, item_rule, item_around}
-use Rattle.sh_facts.specs.Entries as entries
-use Rattle.sh_facts.specs.Gains.{named, words_gains}
-use Rattle.sh_facts.specs.Views.{Before, Entry, Head}
+use Rattle.sh_tree.specs.standard.Tree.{text_of}
+use Rattle.sh_tree.specs.Lists.{element_from}
+use Rattle.sh_tree.specs.standard.program.Syntax as p
+use Rattle.sh_tree.specs.standard.program.Trees as trees
+use Rattle.sh_tree.specs.standard.program.Words.{operands_in}
+use Rattle.sh_domain.specs.declared.rule.FlowRule.{FlowRule}
+use Rattle.sh_domain.specs.declared.rule.FlowRule.TheVariants.{F2, F6, F7, F8, F11, F13}
+use Rattle.sh_domain.specs.Entries.{alone, in_function, in_loop, item_rule, item_around}
+use Rattle.sh_domain.specs.Entries as entries
+use Rattle.sh_domain.specs.Gains.{named, words_gains}
+use Rattle.sh_domain.specs.Views.{Before, Entry, Head}
 use Rattle.sh_rules.specs.declared.around.Around.{Around}
 use Rattle.sh_rules.specs.declared.walk.Course as walk
-use Rattle.sh_facts.specs.Facts.{Facts}
-use Rattle.sh_facts.specs.declared.knowledge.Knowledge.{Knowledge}
+use Rattle.sh_domain.specs.Facts.{Facts}
+use Rattle.sh_domain.specs.declared.knowledge.Knowledge.{Knowledge}
 use Rattle.sh_rules.specs.Settings.{Setting, known_at, gained, without_job}
 use Rattle.sh_rules.specs.Behind.{both, in_any_case, link_known, started}
 use Rattle.sh_rules.specs.Walked.{Met, Trail, trail, Course, course, branch_body, branch_left, loop_body, clause_body, clause_left, items_walked, list_walked, pipeline_walked, command_walked, kind_walked, elements_walked, redirect_walked, part_walked, operator_walked, expression_walked}

@@ -13,18 +13,18 @@ use Rattle.sh_tree.specs.declared.tree.Part.{Part, Plain}
 use Rattle.sh_tree.specs.declared.tree.Script.{Script}
 use Rattle.sh_tree.specs.declared.tree.Span.{Span}
 use Rattle.sh_tree.specs.declared.tree.Word.{Word}
-use Rattle.sh_tree.specs.Tree.{text_of}
-use Rattle.sh_tree.specs.program.Lists.{parts_from, clauses_from}
-use Rattle.sh_tree.specs.program.Syntax.{Text}
-use Rattle.sh_tree.specs.program.Trees as trees
-use Rattle.sh_facts.specs.declared.certificate.Facts as value
-use Rattle.sh_facts.specs.declared.rule.FlowRule.TheVariants.{F6, F13}
-use Rattle.sh_facts.specs.Certificates.{claim_of, in_byte_order}
-use Rattle.sh_facts.specs.Facts.{Facts, NotReached, Claim, meet}
-use Rattle.sh_facts.specs.Faults.{Fault}
-use Rattle.sh_facts.specs.Gains.{named, word_gains}
-use Rattle.sh_facts.specs.Rules.{is_last}
-use Rattle.sh_facts.specs.Views.{Before, AfterZero, AfterNonzero, Head, ReturnsZero, ReturnsNonzero}
+use Rattle.sh_tree.specs.standard.Tree.{text_of}
+use Rattle.sh_tree.specs.Lists.{parts_from, clauses_from}
+use Rattle.sh_tree.specs.standard.program.Syntax.{Text}
+use Rattle.sh_tree.specs.standard.program.Trees as trees
+use Rattle.sh_domain.specs.declared.certificate.Facts as value
+use Rattle.sh_domain.specs.declared.rule.FlowRule.TheVariants.{F6, F13}
+use Rattle.sh_domain.specs.Certificates.{claim_of, in_byte_order}
+use Rattle.sh_domain.specs.Facts.{Facts, NotReached, Claim, meet}
+use Rattle.sh_domain.specs.Faults.{Fault}
+use Rattle.sh_domain.specs.Gains.{named, word_gains}
+use Rattle.sh_domain.specs.Rules.{is_last}
+use Rattle.sh_domain.specs.Views.{Before, AfterZero, AfterNonzero, Head, ReturnsZero, ReturnsNonzero}
 use Rattle.sh_rules.specs.declared.fault.Fault as code
 use Rattle.sh_rules.specs.declared.fault.Least.{Least}
 use Rattle.sh_rules.specs.Asking.{Asking}

@@ -3,17 +3,17 @@
 use Rattle.std.specs.Prelude.{ℕ, Bool, if◌then◌else◌, List, [], drop, codes, Option, Some, None}
 use Rattle.sh_tree.specs.declared.known.KnownName.{KnownName}
 use Rattle.sh_tree.specs.declared.known.KnownName.TheVariants as known
-use Rattle.sh_tree.specs.program.Syntax as p
-use Rattle.sh_tree.specs.program.Syntax.{Text, Word}
-use Rattle.sh_tree.specs.program.Words.{redirects_in}
+use Rattle.sh_tree.specs.standard.program.Syntax as p
+use Rattle.sh_tree.specs.standard.program.Syntax.{Text, Word}
+use Rattle.sh_tree.specs.standard.program.Words.{redirects_in}
 use Rattle.sh_table.specs.Profile.{Static}
 use Rattle.sh_table.specs.declared.kind.Kind.{Kind}
 use Rattle.sh_table.specs.declared.kind.Kind.TheVariants as kind
-use Rattle.sh_facts.specs.Facts.{Facts, NotReached, meet}
-use Rattle.sh_facts.specs.Gains.{named}
-use Rattle.sh_facts.specs.Operands.{declared_names, total}
-use Rattle.sh_facts.specs.Table.{operands, assignments_gains, is_redirected}
-use Rattle.sh_facts.specs.Views.{Lose, Count, Shift}
+use Rattle.sh_domain.specs.Facts.{Facts, NotReached, meet}
+use Rattle.sh_domain.specs.Gains.{named}
+use Rattle.sh_domain.specs.Operands.{declared_names, total}
+use Rattle.sh_domain.specs.Table.{operands, assignments_gains, is_redirected}
+use Rattle.sh_domain.specs.Views.{Lose, Count, Shift}
 use Rattle.sh_rules.specs.Settings.{Setting, gained}
 use Rattle.sh_rules.specs.Behind.{Behind, either, both}
 use Rattle.sh_rules.specs.SimpleBounds.{stepped, left}

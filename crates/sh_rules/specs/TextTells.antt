@@ -3,19 +3,19 @@
 use Rattle.std.specs.Prelude.{◌≡◌, ◌≤◌, ℕ, length, Bool, true, false, not, ◌&&◌, List, [], ◌∷◌, filter, map, codes, Some, None, option_map}
 use Rattle.std.specs.Str.{bytes_eq}
 use Rattle.sh_tree.specs.declared.known.KnownName.TheVariants as known
-use Rattle.sh_tree.specs.program.Syntax as p
-use Rattle.sh_tree.specs.program.Syntax.{Text}
-use Rattle.sh_tree.specs.program.Words.{static_of}
-use Rattle.sh_table.specs.Kinds.{kind_of}
+use Rattle.sh_tree.specs.standard.program.Syntax as p
+use Rattle.sh_tree.specs.standard.program.Syntax.{Text}
+use Rattle.sh_tree.specs.standard.program.Words.{static_of}
+use Rattle.sh_table.specs.standard.Kinds.{kind_of}
 use Rattle.sh_table.specs.Profile.{Static}
 use Rattle.sh_table.specs.declared.kind.Kind.{Kind}
 use Rattle.sh_table.specs.declared.kind.Kind.TheVariants as kind
-use Rattle.sh_table.specs.runs.Environment.{is_one_of}
-use Rattle.sh_facts.specs.declared.rule.FlowRule.TheVariants.{F4, F5}
-use Rattle.sh_facts.specs.Entries.{Around}
-use Rattle.sh_facts.specs.Facts.{Facts}
-use Rattle.sh_facts.specs.Rules.{jump_loop}
-use Rattle.sh_facts.specs.Table.{operands, prefixes, manner, is_special}
+use Rattle.sh_table.specs.standard.runs.Environment.{is_one_of}
+use Rattle.sh_domain.specs.declared.rule.FlowRule.TheVariants.{F4, F5}
+use Rattle.sh_domain.specs.Entries.{Around}
+use Rattle.sh_domain.specs.Facts.{Facts}
+use Rattle.sh_domain.specs.Rules.{jump_loop}
+use Rattle.sh_domain.specs.Table.{operands, prefixes, manner, is_special}
 use Rattle.sh_operands.specs.Numerals.{most, capped}
 use Rattle.sh_rules.specs.Asking.{Asking}
 use Rattle.sh_rules.specs.Settings.{Setting, certificate}

@@ -2,15 +2,15 @@
 -- POSIX.1-2024, XCU 2.15 (break, continue, exec, return, set, shift, unset), 3 (getopts, read).
 use Rattle.std.specs.Prelude.{ℕ, ◌==◌, Bool, true, false, not, ◌&&◌, if◌then◌else◌, List, [], ◌∷◌, drop, filter, length, codes, Option, Some, None, is_some, unwrap_or, option_map, option_and_then}
 use Rattle.std.specs.List.{list_all}
-use Rattle.sh_tree.specs.language.Bytes.{is_first, is_name}
-use Rattle.sh_tree.specs.program.Syntax.{Text, Word}
+use Rattle.sh_tree.specs.standard.language.Bytes.{is_first, is_name}
+use Rattle.sh_tree.specs.standard.program.Syntax.{Text, Word}
 use Rattle.sh_table.specs.Profile.{Static}
-use Rattle.sh_table.specs.runs.Numbers.{number_in}
-use Rattle.sh_table.specs.runs.Operands.{unset_operands, ends_options, is_dashed}
-use Rattle.sh_table.specs.runs.Operands as o
-use Rattle.sh_facts.specs.Operands.{Names, removed, status}
-use Rattle.sh_facts.specs.Sights.{option_takes}
-use Rattle.sh_check.specs.Drops.{listed}
+use Rattle.sh_table.specs.standard.runs.Numbers.{number_in}
+use Rattle.sh_table.specs.standard.runs.Operands.{unset_operands, ends_options, is_dashed}
+use Rattle.sh_table.specs.standard.runs.Operands as o
+use Rattle.sh_domain.specs.Operands.{Names, removed, status}
+use Rattle.sh_domain.specs.Sights.{option_takes}
+use Rattle.sh_demands.specs.Drops.{listed}
 use Rattle.sh_operands.specs.Numerals.{capped}
 use Rattle.sh_operands.specs.Texts.{positional_at}
 

@@ -4,16 +4,16 @@
 use Rattle.std.specs.Prelude.{ℕ, [], ◌∷◌}
 use Rattle.sh_tree.specs.declared.tree.ClauseEnd.{ClauseEnd}
 use Rattle.sh_tree.specs.declared.tree.LoopKind.{LoopKind}
-use Rattle.sh_tree.specs.program.Syntax as p
-use Rattle.sh_tree.specs.program.Words.{operands_in}
-use Rattle.sh_facts.specs.declared.rule.FlowRule.{FlowRule}
-use Rattle.sh_facts.specs.declared.rule.FlowRule.TheVariants.{F1, F2, F3, F6, F7, F8, F9, F10, F11, F13}
-use Rattle.sh_facts.specs.Entries.{Around, alone, in_loop, in_function, is_long, item_rule, item_around, part_rule, part_around}
-use Rattle.sh_facts.specs.Facts.{Facts, NotReached, meet}
-use Rattle.sh_facts.specs.Gains.{Gains, named, assigned_in, words_gains}
-use Rattle.sh_facts.specs.Views.{Before, Head, Entry}
-use Rattle.sh_check.specs.Judged.{inner_gains}
-use Rattle.sh_check.specs.Knowing.{action_gains}
+use Rattle.sh_tree.specs.standard.program.Syntax as p
+use Rattle.sh_tree.specs.standard.program.Words.{operands_in}
+use Rattle.sh_domain.specs.declared.rule.FlowRule.{FlowRule}
+use Rattle.sh_domain.specs.declared.rule.FlowRule.TheVariants.{F1, F2, F3, F6, F7, F8, F9, F10, F11, F13}
+use Rattle.sh_domain.specs.Entries.{Around, alone, in_loop, in_function, is_long, item_rule, item_around, part_rule, part_around}
+use Rattle.sh_domain.specs.Facts.{Facts, NotReached, meet}
+use Rattle.sh_domain.specs.Gains.{Gains, named, assigned_in, words_gains}
+use Rattle.sh_domain.specs.Views.{Before, Head, Entry}
+use Rattle.sh_demands.specs.Judged.{inner_gains}
+use Rattle.sh_demands.specs.Knowing.{action_gains}
 use Rattle.sh_rules.specs.Settings.{Setting, known_at, gained, without_job}
 use Rattle.sh_rules.specs.Behind.{Behind, both, in_any_case, link_known, turns, falls, started, pipeline_behind, link_behind, item_behind}
 

@@ -7,18 +7,18 @@ use Rattle.sh_tree.specs.declared.tree.Item.{Item, out-Item}
 use Rattle.sh_tree.specs.declared.tree.Link.{Link}
 use Rattle.sh_tree.specs.declared.tree.Pipe.{Pipe, out-Pipe}
 use Rattle.sh_tree.specs.declared.tree.Script.{Script}
-use Rattle.sh_tree.specs.Tree.{text_of}
-use Rattle.sh_tree.specs.Words.{lone_part}
-use Rattle.sh_tree.specs.program.Lists.{commands_from}
-use Rattle.sh_tree.specs.program.Trees as trees
-use Rattle.sh_facts.specs.Entries as entries
-use Rattle.sh_facts.specs.Facts.{Facts}
-use Rattle.sh_facts.specs.declared.certificate.Certificate.{Certificate}
-use Rattle.sh_facts.specs.declared.certificate.Entry.{Entry}
+use Rattle.sh_tree.specs.standard.Tree.{text_of}
+use Rattle.sh_tree.specs.standard.Words.{lone_part}
+use Rattle.sh_tree.specs.Lists.{commands_from}
+use Rattle.sh_tree.specs.standard.program.Trees as trees
+use Rattle.sh_domain.specs.Entries as entries
+use Rattle.sh_domain.specs.Facts.{Facts}
+use Rattle.sh_domain.specs.declared.certificate.Certificate.{Certificate}
+use Rattle.sh_domain.specs.declared.certificate.Entry.{Entry}
 use Rattle.indexmap.specs.IndexMap.{get}
-use Rattle.sh_facts.specs.declared.certificate.Facts as value
-use Rattle.sh_facts.specs.Knowledge.{knowledge_facts}
-use Rattle.sh_facts.specs.declared.knowledge.Knowledge.{Knowledge}
+use Rattle.sh_domain.specs.declared.certificate.Facts as value
+use Rattle.sh_domain.specs.Knowledge.{knowledge_facts}
+use Rattle.sh_domain.specs.declared.knowledge.Knowledge.{Knowledge}
 use Rattle.sh_rules.specs.declared.around.Around.{Around}
 use Rattle.sh_rules.specs.declared.around.Loops.{Loops, Outside, Inside'}
 use Rattle.sh_rules.specs.declared.behind.Behind as code

@@ -1,10 +1,10 @@
 //! What stands round a command (XCU 2.9.5, 2.15).
 ghost use Rattle.std.specs.Prelude.{◌≡◌, ℕ, List, true};
-ghost use Rattle.sh_tree.specs.Tree.{text_of};
-ghost use Rattle.sh_facts.specs.Entries as entries;
+ghost use Rattle.sh_tree.specs.standard.Tree.{text_of};
+ghost use Rattle.sh_domain.specs.Entries as entries;
 ghost use Rattle.sh_rules.specs.Walks as walks;
 
-use sh_tree::tree::Span;
+use sh_tree::Span;
 
 /// The loops round a place, by the numbers of their commands, the innermost first.
 #[derive(Clone, Copy)]
@@ -64,7 +64,7 @@ impl<'a> Around<'a> {
     }
 
     /// Round the parts of a pipeline of two or more, which are processes of their own.
-    #[tactic(auto, unfolding(crate::specs::Walks::loops_of, sh_facts::specs::Entries::part_around))]
+    #[tactic(auto, unfolding(crate::specs::Walks::loops_of, sh_domain::specs::Entries::part_around))]
     pub fn round_parts(&self) -> Around<'a>
         ensures { (b : List ℕ) → walks.around b result ≡ entries.part_around true (walks.around b self.entry.now) }
     {

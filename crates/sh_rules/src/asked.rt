@@ -10,7 +10,7 @@ ghost use Rattle.sh_rules.specs.Walks.{facts_in, setting};
 use crate::claims::Claims;
 use crate::fault::{Fault, Least};
 use crate::place::Place;
-use sh_facts::knowledge::Knowledge;
+use sh_domain::Knowledge;
 
 /// What is done with what the flow rules ask at each command: of a place that it claims no more than is known there, of a function that it
 /// drops what its commands drop. Each comes with the command and the rule that are broken where that fails.
@@ -43,7 +43,7 @@ pub trait Asked {
 /// The least fault so far, where what is asked fails.
 impl Asked for Least {
     ghost use Rattle.std.specs.Prelude.{Option};
-    ghost use Rattle.sh_facts.specs.Faults as faults;
+    ghost use Rattle.sh_domain.specs.Faults as faults;
     ghost use Rattle.sh_rules.specs.LeastFault.{least_told};
     ghost use Rattle.sh_rules.specs.Tells.{least_of};
 

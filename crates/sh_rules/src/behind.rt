@@ -4,13 +4,13 @@ ghost use Rattle.sh_tree.specs.declared.tree.AndOr.{out-AndOr};
 ghost use Rattle.sh_tree.specs.declared.tree.Item.{out-Item};
 ghost use Rattle.sh_tree.specs.declared.tree.Link.TheVariants as link;
 ghost use Rattle.sh_tree.specs.declared.tree.Pipe.{out-Pipe};
-ghost use Rattle.sh_tree.specs.program.Syntax.{Text};
+ghost use Rattle.sh_tree.specs.standard.program.Syntax.{Text};
 ghost use Rattle.std.specs.Option.{option_copied};
-ghost use Rattle.sh_tree.specs.Words.{lone_part};
-ghost use Rattle.sh_facts.specs.Facts.{Facts, NotReached, meet};
-ghost use Rattle.sh_facts.specs.Gains.{job, named};
-ghost use Rattle.sh_facts.specs.Knowledge.{knowledge_facts};
-ghost use Rattle.sh_facts.specs.Views.{AfterNonzero, AfterZero};
+ghost use Rattle.sh_tree.specs.standard.Words.{lone_part};
+ghost use Rattle.sh_domain.specs.Facts.{Facts, NotReached, meet};
+ghost use Rattle.sh_domain.specs.Gains.{job, named};
+ghost use Rattle.sh_domain.specs.Knowledge.{knowledge_facts};
+ghost use Rattle.sh_domain.specs.Views.{AfterNonzero, AfterZero};
 ghost use Rattle.sh_rules.specs.Settings.{Setting, gained, known_at, without_job};
 ghost use Rattle.sh_rules.specs.Behind as spec;
 ghost use Rattle.sh_rules.specs.Bounds as bounds;
@@ -19,8 +19,8 @@ ghost use Rattle.sh_rules.specs.Walks.{facts_in, setting};
 
 use crate::claims::Claims;
 use crate::gains::gain_variable;
-use sh_facts::knowledge::Knowledge;
-use sh_tree::tree::{AndOr, ClauseEnd, Command, Item, Link, LoopKind, Pipe, Script};
+use sh_domain::Knowledge;
+use sh_tree::{AndOr, ClauseEnd, Command, Item, Link, LoopKind, Pipe, Script};
 
 /// What is known where a status was zero, and where it was another one.
 #[derive(Clone, Copy)]
@@ -58,7 +58,7 @@ pub fn without_job(claims: &Claims<'_>, known: &Knowledge) -> Knowledge
 
 impl Behind {
     /// Where no run comes.
-    #[tactic(auto, unfolding(crate::specs::Walks::facts_in, sh_facts::specs::Knowledge::knowledge_facts))]
+    #[tactic(auto, unfolding(crate::specs::Walks::facts_in, sh_domain::specs::Knowledge::knowledge_facts))]
     pub fn nowhere() -> Behind
         ensures { (x : Setting) → walks.behind_in x result ≡ spec.both NotReached }
     {
@@ -127,7 +127,7 @@ impl Behind {
     }
 
     /// What falls into the next list of a `case`.
-    #[tactic(auto, unfolding(crate::specs::Behind::falls, crate::specs::Walks::facts_in, sh_facts::specs::Knowledge::knowledge_facts))]
+    #[tactic(auto, unfolding(crate::specs::Behind::falls, crate::specs::Walks::facts_in, sh_domain::specs::Knowledge::knowledge_facts))]
     pub fn falling(&self, end: ClauseEnd) -> Knowledge
         ensures { (x : Setting) → facts_in x result ≡ spec.falls end (walks.behind_in x self.now) }
     {
@@ -138,7 +138,7 @@ impl Behind {
     }
 }
 
-#[tactic(auto, unfolding(sh_tree::specs::Words::lone_part))]
+#[tactic(auto, unfolding(sh_tree::specs::standard::Words::lone_part))]
 fn lone_part(parts: &[Command]) -> Option<&Command>
     ensures { option_copied result ≡ lone_part parts.now }
 {

@@ -2,8 +2,8 @@
 ghost use Rattle.std.specs.Prelude.{◌≡◌, List, ℕ, fold};
 ghost use Rattle.std.specs.List.{list_any};
 ghost use Rattle.sh_tree.specs.declared.tree.ClauseEnd.TheVariants as clause;
-ghost use Rattle.sh_facts.specs.declared.rule.FlowRule.TheVariants.{F10, F11};
-ghost use Rattle.sh_facts.specs.Views.{Before};
+ghost use Rattle.sh_domain.specs.declared.rule.FlowRule.TheVariants.{F10, F11};
+ghost use Rattle.sh_domain.specs.Views.{Before};
 ghost use Rattle.sh_rules.specs.Behind.{both};
 ghost use Rattle.sh_rules.specs.Bounds as bounds;
 ghost use Rattle.sh_rules.specs.Settings.{known_at};
@@ -18,10 +18,10 @@ use crate::claims::Claims;
 use crate::fault::Fault;
 use crate::gains::{gain_variable, gain_word};
 use crate::place::Place;
-use sh_facts::knowledge::Knowledge;
-use sh_facts::rule::FlowRule;
-use sh_tree::Items;
-use sh_tree::tree::{Branch, Clause, ClauseEnd, Command, Kind, LoopKind, Part, Script, Span, Word};
+use sh_domain::{FlowRule, Knowledge};
+use sh_tree::{
+    Branch, Clause, ClauseEnd, Command, Items, Kind, LoopKind, Part, Script, Span, Word,
+};
 
 /// Of what is claimed after a command, by its status.
 #[tactic(auto, unfolding(crate::specs::Bounds::leaves_told))]

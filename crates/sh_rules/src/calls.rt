@@ -1,9 +1,9 @@
 //! What a call of a function asks: what it is entered with, and what is known where it has returned (XCU 2.9.1, 2.9.5).
 ghost use Rattle.std.specs.Prelude.{◌≡◌, List};
-ghost use Rattle.sh_tree.specs.program.Lists.{elements_from};
-ghost use Rattle.sh_tree.specs.program.Syntax.{Text};
-ghost use Rattle.sh_facts.specs.Table.{prefixes};
-ghost use Rattle.sh_facts.specs.Views as views;
+ghost use Rattle.sh_tree.specs.Lists.{elements_from};
+ghost use Rattle.sh_tree.specs.standard.program.Syntax.{Text};
+ghost use Rattle.sh_domain.specs.Table.{prefixes};
+ghost use Rattle.sh_domain.specs.Views as views;
 ghost use Rattle.sh_rules.specs.SimpleBounds as simple;
 ghost use Rattle.sh_rules.specs.TextBounds.{behind_name};
 ghost use Rattle.sh_rules.specs.Calls as spec;
@@ -17,9 +17,8 @@ use crate::fault::Fault;
 use crate::place::Place;
 use crate::steps::{count_words, lose_variable};
 use crate::utilities::behind_name;
-use sh_facts::knowledge::{Knowledge, Return};
-use sh_facts::rule::FlowRule;
-use sh_tree::tree::Element;
+use sh_domain::{FlowRule, Knowledge, Return};
+use sh_tree::Element;
 
 // Without OPTARG, where a utility may have run that unsets it.
 #[tactic(auto, unfolding(crate::specs::Calls::passed))]

@@ -1,10 +1,9 @@
 //! A script with its names, its call table and a certificate of it.
 ghost use Rattle.std.specs.Prelude.{length, ◌≡◌};
-ghost use Rattle.sh_facts.specs.Knowledge.{AreNumbered};
+ghost use Rattle.sh_domain.specs.Knowledge.{AreNumbered};
 
-use sh_facts::certificate::Certificate;
-use sh_facts::names::Names;
-use sh_table::table::CallTable;
+use sh_domain::{Certificate, Names};
+use sh_table::CallTable;
 
 /// A script, its names, its call table, whose functions the certificate numbers, and a certificate of it.
 #[derive(Drop)]

@@ -2,10 +2,10 @@
 ghost use Rattle.std.specs.Prelude.{◌≡◌, fold, map, codes, if◌then◌else◌};
 ghost use Rattle.std.specs.List.{list_any};
 ghost use Rattle.std.specs.Str.{bytes_eq};
-ghost use Rattle.sh_tree.specs.program.Lists.{elements_from};
+ghost use Rattle.sh_tree.specs.Lists.{elements_from};
 ghost use Rattle.sh_table.specs.WordTexts.{text_in};
-ghost use Rattle.sh_table.specs.runs.Environment.{is_one_of};
-ghost use Rattle.sh_facts.specs.Table.{prefixes};
+ghost use Rattle.sh_table.specs.standard.runs.Environment.{is_one_of};
+ghost use Rattle.sh_domain.specs.Table.{prefixes};
 ghost use Rattle.sh_rules.specs.Bounds as bounds;
 ghost use Rattle.sh_rules.specs.CommandBounds as commands;
 ghost use Rattle.sh_rules.specs.Losses as losses;
@@ -20,14 +20,10 @@ use crate::asked::Asked;
 use crate::claims::Claims;
 use crate::elements::behind;
 use crate::fault::Fault;
-use sh_facts::knowledge::Knowledge;
-use sh_facts::rule::FlowRule;
-use sh_operands::options::unset_operands;
-use sh_table::kind::{Kind, kind_of};
-use sh_table::word_text::WordText;
-use sh_tree::known::KnownName;
-use sh_tree::name::is_name;
-use sh_tree::tree::Element;
+use sh_domain::{FlowRule, Knowledge};
+use sh_operands::unset_operands;
+use sh_table::{Kind, WordText, kind_of};
+use sh_tree::{Element, KnownName, is_name};
 
 // Whether some run comes to the command.
 fn is_reached(claims: &Claims<'_>, number: u32) -> bool

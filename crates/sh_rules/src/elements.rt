@@ -1,15 +1,15 @@
 //! What the elements of a simple command leave known, and the names of its prefix assignments (XCU 2.9.1).
 ghost use Rattle.std.specs.Prelude.{◌≡◌, ℕ, List, true, false, fold};
 ghost use Rattle.std.specs.List.{list_any};
-ghost use Rattle.sh_tree.specs.program.Lists.{elements_from};
-ghost use Rattle.sh_tree.specs.program.Syntax.{Text};
-ghost use Rattle.sh_tree.specs.program.Trees.{target_of};
-ghost use Rattle.sh_tree.specs.program.Words.{redirects_in};
-ghost use Rattle.sh_table.specs.runs.Environment.{is_one_of};
-ghost use Rattle.sh_facts.specs.Gains.{named, redirect_gains};
-ghost use Rattle.sh_facts.specs.Knowledge.{contains};
-ghost use Rattle.sh_facts.specs.Table as table;
-ghost use Rattle.sh_facts.specs.Table.{prefixes};
+ghost use Rattle.sh_tree.specs.Lists.{elements_from};
+ghost use Rattle.sh_tree.specs.standard.program.Syntax.{Text};
+ghost use Rattle.sh_tree.specs.standard.program.Trees.{target_of};
+ghost use Rattle.sh_tree.specs.standard.program.Words.{redirects_in};
+ghost use Rattle.sh_table.specs.standard.runs.Environment.{is_one_of};
+ghost use Rattle.sh_domain.specs.Gains.{named, redirect_gains};
+ghost use Rattle.sh_domain.specs.Knowledge.{contains};
+ghost use Rattle.sh_domain.specs.Table as table;
+ghost use Rattle.sh_domain.specs.Table.{prefixes};
 ghost use Rattle.sh_rules.specs.Elements as spec;
 ghost use Rattle.sh_rules.specs.Settings.{gained};
 ghost use Rattle.sh_rules.specs.SimpleBounds as simple;
@@ -17,12 +17,9 @@ ghost use Rattle.sh_rules.specs.Walks.{facts_in, setting};
 
 use crate::claims::Claims;
 use crate::gains::{gain_variable, gain_word};
-use sh_check::gains::gain_target;
-use sh_check::known::Known;
-use sh_check::own;
-use sh_facts::knowledge::Knowledge;
-use sh_facts::number_set::NumberSet;
-use sh_tree::tree::{Element, Target};
+use sh_demands::{Known, gain_target, own};
+use sh_domain::{Knowledge, NumberSet};
+use sh_tree::{Element, Target};
 
 /// What is known behind the words of a simple command, where its redirections and its values are judged.
 #[tactic(auto, using(crate::proofs::ElementLemmas::words_known))]

@@ -1,10 +1,10 @@
 //! The least command that breaks a flow rule, with the least of the rules that it breaks.
 ghost use Rattle.std.specs.Prelude.{◌≡◌, option_map};
-ghost use Rattle.sh_facts.specs.Faults as spec;
+ghost use Rattle.sh_domain.specs.Faults as spec;
 ghost use Rattle.sh_rules.specs.LeastFault.{with_test};
 ghost use Rattle.sh_rules.specs.Tells.{fault_of, least_of};
 
-use sh_facts::rule::FlowRule;
+use sh_domain::FlowRule;
 
 /// A command, by its number, and a rule that it breaks.
 #[derive(Clone, Copy, Debug, PartialEq, Eq)]
@@ -15,7 +15,7 @@ pub struct Fault {
 
 impl Fault {
     // By command, then by rule.
-    #[tactic(auto, unfolding(sh_facts::specs::Faults::precedes))]
+    #[tactic(auto, unfolding(sh_domain::specs::Faults::precedes))]
     fn precedes(self, other: Fault) -> bool
         ensures { result ≡ spec.precedes (fault_of self) (fault_of other) }
     {
@@ -24,7 +24,7 @@ impl Fault {
     }
 }
 
-#[tactic(auto, unfolding(sh_facts::specs::Faults::lesser))]
+#[tactic(auto, unfolding(sh_domain::specs::Faults::lesser))]
 fn lesser(first: Option<Fault>, next: Fault) -> Option<Fault>
     ensures { option_map fault_of result ≡ spec.lesser (option_map fault_of first) (fault_of next) }
 {

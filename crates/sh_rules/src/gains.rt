@@ -1,18 +1,17 @@
 //! What is known behind words and names, of the names that are numbered (XCU 2.6).
 ghost use Rattle.std.specs.Prelude.{◌≡◌, [], ◌∷◌};
-ghost use Rattle.sh_tree.specs.program.Lists.{parts_from, redirects_from};
-ghost use Rattle.sh_tree.specs.program.Trees.{expression_of, parameter_of};
-ghost use Rattle.sh_facts.specs.Gains.{assigned_in, named, redirects_gains, sure, word_gains};
-ghost use Rattle.sh_check.specs.Judged.{inner_gains};
-ghost use Rattle.sh_check.specs.Knowing.{action_gains};
+ghost use Rattle.sh_tree.specs.Lists.{parts_from, redirects_from};
+ghost use Rattle.sh_tree.specs.standard.program.Trees.{expression_of, parameter_of};
+ghost use Rattle.sh_domain.specs.Gains.{assigned_in, named, redirects_gains, sure, word_gains};
+ghost use Rattle.sh_demands.specs.Judged.{inner_gains};
+ghost use Rattle.sh_demands.specs.Knowing.{action_gains};
 ghost use Rattle.sh_rules.specs.Settings.{gained};
 ghost use Rattle.sh_rules.specs.Walks.{facts_in, setting};
 
 use crate::claims::Claims;
-use sh_check::gains as words;
-use sh_check::known::Known;
-use sh_facts::knowledge::Knowledge;
-use sh_tree::tree::{Action, Expr, Redirect, Subject, Word};
+use sh_demands::{Known, gains as words};
+use sh_domain::Knowledge;
+use sh_tree::{Action, Expr, Redirect, Subject, Word};
 
 /// A variable is set from here on.
 #[tactic(auto, using(crate::proofs::GainLemmas::name_gained))]

@@ -1,8 +1,8 @@
 //! Where a simple command jumps to: behind a loop, to its next turn, or out of a function (XCU 2.15, break, continue and return).
 ghost use Rattle.std.specs.Prelude.{◌≡◌, map, option_map, Some, None};
-ghost use Rattle.sh_tree.specs.Tree.{text_of};
+ghost use Rattle.sh_tree.specs.standard.Tree.{text_of};
 ghost use Rattle.sh_table.specs.WordTexts.{text_in};
-ghost use Rattle.sh_facts.specs.Rules as rules;
+ghost use Rattle.sh_domain.specs.Rules as rules;
 ghost use Rattle.sh_rules.specs.SimpleBounds as simple;
 ghost use Rattle.sh_rules.specs.TextTells as spec;
 ghost use Rattle.sh_rules.specs.Walks as walks;
@@ -14,15 +14,12 @@ use crate::claims::Claims;
 use crate::fault::Fault;
 use crate::place::Place;
 use crate::texts::{first_number, return_status};
-use sh_facts::knowledge::Knowledge;
-use sh_facts::rule::FlowRule;
-use sh_table::kind::Kind;
-use sh_table::word_text::WordText;
-use sh_tree::known::KnownName;
-use sh_tree::tree::Span;
+use sh_domain::{FlowRule, Knowledge};
+use sh_table::{Kind, WordText};
+use sh_tree::{KnownName, Span};
 
 // The loop of a jump over so many loops: counted from inside, or the outermost.
-#[tactic(auto, unfolding(crate::specs::Walks::loops_of, sh_facts::specs::Rules::loop_at))]
+#[tactic(auto, unfolding(crate::specs::Walks::loops_of, sh_domain::specs::Rules::loop_at))]
 fn loop_at(count: u32, loops: &Loops<'_>) -> Option<u32>
     ensures { result ≡ rules.loop_at count (loops_of loops.now) }
 {
@@ -41,7 +38,7 @@ fn loop_at(count: u32, loops: &Loops<'_>) -> Option<u32>
     }
 }
 
-#[tactic(auto, unfolding(sh_facts::specs::Rules::jump_loop))]
+#[tactic(auto, unfolding(sh_domain::specs::Rules::jump_loop))]
 fn jump_loop(count: Option<u32>, loops: &Loops<'_>) -> Option<u32>
     ensures { result ≡ rules.jump_loop count (loops_of loops.now) }
 {

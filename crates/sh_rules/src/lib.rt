@@ -1,23 +1,34 @@
 //! The flow rules over a tree: what is known behind lists, and how each command of a script is entered, by what a certificate claims.
 #![tactic(auto)]
 
-pub mod around;
-pub mod asked;
-pub mod behind;
-pub mod bounds;
-pub mod calls;
-pub mod claims;
-pub mod drops;
-pub mod elements;
-pub mod fault;
-pub mod gains;
-pub mod jumps;
+mod around;
+mod asked;
+mod behind;
+mod bounds;
+mod calls;
+mod claims;
+mod drops;
+mod elements;
+mod fault;
+mod gains;
+mod jumps;
 pub mod laws;
-pub mod place;
-pub mod rules;
-pub mod simple;
+mod place;
+mod rules;
+mod simple;
 mod slots;
-pub mod steps;
-pub mod texts;
-pub mod utilities;
+mod steps;
+mod texts;
+mod utilities;
 pub mod walk;
+
+pub use around::{Around, alone, in_function};
+pub use asked::Asked;
+pub use behind::{Behind, met, pipe_behind, without_job};
+pub use claims::Claims;
+pub use fault::Fault;
+pub use gains::{
+    enter_operator, gain_action, gain_assigned, gain_redirects, gain_variable, gain_word,
+};
+pub use place::Place;
+pub use rules::{Rules, check_rules, tell_command};

@@ -1,17 +1,17 @@
 //! The flow rules of a whole script: at each command what they ask of it is done (XCU 2.9).
 ghost use Rattle.std.specs.Prelude.{◌≡◌, ◌≤◌, List, Some, ℕ, length, map, option_map, true};
 ghost use Rattle.sh_tree.specs.declared.limits.TheConstants.{MAX_COMMANDS};
-ghost use Rattle.sh_tree.specs.Tree.{text_of};
-ghost use Rattle.sh_tree.specs.program.Lists.{elements_from, redirects_from};
-ghost use Rattle.sh_tree.specs.program.Trees as trees;
-ghost use Rattle.sh_tree.specs.program.Trees.{script_of};
+ghost use Rattle.sh_tree.specs.standard.Tree.{text_of};
+ghost use Rattle.sh_tree.specs.Lists.{elements_from, redirects_from};
+ghost use Rattle.sh_tree.specs.standard.program.Trees as trees;
+ghost use Rattle.sh_tree.specs.standard.program.Trees.{script_of};
 ghost use Rattle.sh_table.specs.Calls.{table_of, texts_with};
 ghost use Rattle.sh_table.specs.Numbering.{is_numbered};
 ghost use Rattle.sh_table.specs.WordTexts.{text_in};
-ghost use Rattle.sh_facts.specs.Faults.{faults, least};
-ghost use Rattle.sh_facts.specs.Names.{IsNumbering};
-ghost use Rattle.sh_facts.specs.Table.{is_redirected};
-ghost use Rattle.sh_check.specs.Whole.{kept_claims};
+ghost use Rattle.sh_domain.specs.Faults.{faults, least};
+ghost use Rattle.sh_domain.specs.Names.{IsNumbering};
+ghost use Rattle.sh_domain.specs.Table.{is_redirected};
+ghost use Rattle.sh_demands.specs.Whole.{kept_claims};
 ghost use Rattle.sh_rules.specs.Bounds as bounds;
 ghost use Rattle.sh_rules.specs.CommandBounds as commands;
 ghost use Rattle.sh_rules.specs.Visits as spec;
@@ -31,12 +31,9 @@ use crate::gains::gain_redirects;
 use crate::place::Place;
 use crate::simple::tell_simple;
 use crate::walk::{Visitor, walk};
-use sh_facts::knowledge::Knowledge;
-use sh_facts::policy::Policy;
-use sh_facts::rule::FlowRule;
-use sh_table::word_text::WordText;
-use sh_tree::Items;
-use sh_tree::tree::{Command, Element, Kind, Redirect, Script};
+use sh_domain::{FlowRule, Knowledge, Policy};
+use sh_table::WordText;
+use sh_tree::{Command, Element, Items, Kind, Redirect, Script};
 
 impl Claims<'_> {
     /// The static texts of the words of a command, the command name's first.

@@ -1,8 +1,8 @@
 //! What the flow rules ask of a simple command: of what it claims behind it, and of where it jumps to (XCU 2.9.1, 2.15, 3).
 ghost use Rattle.std.specs.Prelude.{◌≡◌, map};
-ghost use Rattle.sh_tree.specs.program.Lists.{elements_from};
+ghost use Rattle.sh_tree.specs.Lists.{elements_from};
 ghost use Rattle.sh_table.specs.WordTexts.{text_in};
-ghost use Rattle.sh_facts.specs.declared.rule.FlowRule.TheVariants.{F4};
+ghost use Rattle.sh_domain.specs.declared.rule.FlowRule.TheVariants.{F4};
 ghost use Rattle.sh_rules.specs.Bounds.{fault, leaves_told};
 ghost use Rattle.sh_rules.specs.TextBounds.{settled, utility_by};
 ghost use Rattle.sh_rules.specs.TextTells as spec;
@@ -18,11 +18,9 @@ use crate::elements::behind;
 use crate::fault::Fault;
 use crate::jumps::tell_jumps;
 use crate::utilities::{nameless_behind, settled, utility_behind};
-use sh_facts::knowledge::Knowledge;
-use sh_facts::rule::FlowRule;
-use sh_table::kind::{Kind, kind_of};
-use sh_table::word_text::WordText;
-use sh_tree::tree::Element;
+use sh_domain::{FlowRule, Knowledge};
+use sh_table::{Kind, WordText, kind_of};
+use sh_tree::Element;
 
 // Whether a utility of this kind leaves what is known behind its words, and does not jump.
 #[tactic(auto, unfolding(crate::specs::TextTells::is_neutral))]

@@ -3,31 +3,29 @@ ghost use Rattle.std.specs.Prelude.{◌≡◌, ◌<◌, ◌-◌, ℕ, List, [], 
 ghost use Rattle.std.specs.List.{list_all};
 ghost use Rattle.std.specs.Option.{option_copied};
 ghost use Rattle.std.specs.Str.{bytes_eq};
-ghost use Rattle.sh_tree.specs.Tree.{text_of};
-ghost use Rattle.sh_facts.specs.Names.{number_of};
-ghost use Rattle.sh_facts.specs.Slots as slots;
-ghost use Rattle.sh_facts.specs.Views as views;
+ghost use Rattle.sh_tree.specs.standard.Tree.{text_of};
+ghost use Rattle.sh_domain.specs.Names.{number_of};
+ghost use Rattle.sh_domain.specs.Slots as slots;
+ghost use Rattle.sh_domain.specs.Views as views;
 ghost use Rattle.sh_rules.specs.Settings.{known_at};
 ghost use Rattle.sh_rules.specs.Walks.{facts_in, head_of, setting};
-ghost use Rattle.sh_facts.specs.Facts.{within};
+ghost use Rattle.sh_domain.specs.Facts.{within};
 ghost use Rattle.sh_rules.specs.Settings.{certificate, claimed_at};
 ghost use Rattle.sh_rules.specs.Places.{slot_of};
 ghost use Rattle.sh_rules.specs.Tells.{claim_in};
-ghost use Rattle.sh_table.specs.runs.Environment.{is_one_of};
-ghost use Rattle.sh_facts.specs.Certificates.{in_byte_order, names_at};
-ghost use Rattle.sh_facts.specs.Faults.{are_among};
-ghost use Rattle.sh_facts.specs.KeptRows.{holds_at};
-ghost use Rattle.sh_facts.specs.Knowledge.{AreNumbered};
-ghost use Rattle.sh_tree.specs.program.Syntax.{Text};
+ghost use Rattle.sh_table.specs.standard.runs.Environment.{is_one_of};
+ghost use Rattle.sh_domain.specs.Certificates.{in_byte_order, names_at};
+ghost use Rattle.sh_domain.specs.Faults.{are_among};
+ghost use Rattle.sh_domain.specs.KeptRows.{holds_at};
+ghost use Rattle.sh_domain.specs.Knowledge.{AreNumbered};
+ghost use Rattle.sh_tree.specs.standard.program.Syntax.{Text};
 ghost use Rattle.sh_rules.specs.Asking.{one_function, one_variable};
 ghost use Rattle.sh_rules.specs.Calls.{Returns};
 
 use crate::claims::Claims;
 use crate::place::Place;
-use sh_facts::certificate::{Entry, Facts, FunctionEntry};
-use sh_facts::knowledge::{Knowledge, Return};
-use sh_facts::rows::{RowId, Rows};
-use sh_tree::tree::Span;
+use sh_domain::{Entry, Facts, FunctionEntry, Knowledge, Return, RowId, Rows};
+use sh_tree::Span;
 
 impl Claims<'_> {
     /// The bytes of a span of the script.

@@ -1,10 +1,10 @@
 //! What the steps of a simple command do to what is known: words are counted, parameters are shifted, names are lost (XCU 2.15).
 ghost use Rattle.std.specs.Prelude.{◌≡◌, ℕ, drop, [], ◌∷◌};
-ghost use Rattle.sh_tree.specs.program.Lists.{elements_from};
-ghost use Rattle.sh_facts.specs.Operands.{total};
-ghost use Rattle.sh_facts.specs.Parameters.{with_parameters_of};
-ghost use Rattle.sh_facts.specs.Table.{operands};
-ghost use Rattle.sh_facts.specs.Views as views;
+ghost use Rattle.sh_tree.specs.Lists.{elements_from};
+ghost use Rattle.sh_domain.specs.Operands.{total};
+ghost use Rattle.sh_domain.specs.Parameters.{with_parameters_of};
+ghost use Rattle.sh_domain.specs.Table.{operands};
+ghost use Rattle.sh_domain.specs.Views as views;
 ghost use Rattle.sh_operands.specs.Numerals.{capped};
 ghost use Rattle.sh_rules.specs.Losses.{function_lost, variable_lost};
 ghost use Rattle.sh_rules.specs.Settings.{Setting};
@@ -12,9 +12,9 @@ ghost use Rattle.sh_rules.specs.SimpleBounds.{stepped};
 ghost use Rattle.sh_rules.specs.Walks.{facts_in, setting};
 
 use crate::claims::Claims;
-use sh_facts::knowledge::Knowledge;
-use sh_operands::counts::count_behind;
-use sh_tree::tree::Element;
+use sh_domain::Knowledge;
+use sh_operands::count_behind;
+use sh_tree::Element;
 
 /// The positional parameters are now the words of a simple command behind the first so many.
 pub fn count_words(claims: &Claims<'_>, elements: &[Element], skipped: usize, known: &mut Knowledge)
@@ -25,7 +25,7 @@ pub fn count_words(claims: &Claims<'_>, elements: &[Element], skipped: usize, kn
 }
 
 /// There are no positional parameters.
-#[tactic(auto, unfolding(crate::specs::SimpleBounds::stepped, crate::specs::Walks::facts_in, sh_facts::specs::Operands::total))]
+#[tactic(auto, unfolding(crate::specs::SimpleBounds::stepped, crate::specs::Walks::facts_in, sh_domain::specs::Operands::total))]
 pub fn count_none(known: &mut Knowledge)
     ensures { (x : Setting) → facts_in x known.new ≡ stepped x (views.Count (total [])) (facts_in x known.old) }
 {

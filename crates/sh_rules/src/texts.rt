@@ -1,11 +1,11 @@
 //! What the operands of built-in utilities say, by their static texts (XCU 2.15, 3).
 ghost use Rattle.std.specs.Prelude.{◌≡◌, ◌==◌, map, option_map, fold, if◌then◌else◌, false};
-ghost use Rattle.sh_tree.specs.language.Bytes as bytes;
-ghost use Rattle.sh_tree.specs.program.Lists.{elements_from};
+ghost use Rattle.sh_tree.specs.standard.language.Bytes as bytes;
+ghost use Rattle.sh_tree.specs.Lists.{elements_from};
 ghost use Rattle.sh_table.specs.WordTexts.{text_in};
-ghost use Rattle.sh_table.specs.runs.Operands as operands;
-ghost use Rattle.sh_facts.specs.Operands.{status};
-ghost use Rattle.sh_facts.specs.Views as views;
+ghost use Rattle.sh_table.specs.standard.runs.Operands as operands;
+ghost use Rattle.sh_domain.specs.Operands.{status};
+ghost use Rattle.sh_domain.specs.Views as views;
 ghost use Rattle.sh_operands.specs.Numerals.{capped};
 ghost use Rattle.sh_rules.specs.Losses as losses;
 ghost use Rattle.sh_rules.specs.SimpleBounds.{stepped};
@@ -14,13 +14,10 @@ ghost use Rattle.sh_rules.specs.Walks.{facts_in, setting};
 
 use crate::claims::Claims;
 use crate::steps::{lose_function, lose_variable};
-use sh_facts::knowledge::Knowledge;
-use sh_facts::options::option_takes;
-use sh_operands::numbers::number_in;
-use sh_operands::options::unset_operands;
-use sh_table::operands::{ends_options, is_dashed};
-use sh_table::word_text::WordText;
-use sh_tree::name::is_name;
+use sh_domain::{Knowledge, option_takes};
+use sh_operands::{number_in, unset_operands};
+use sh_table::{WordText, ends_options, is_dashed};
+use sh_tree::is_name;
 
 // Numbers
 
@@ -74,7 +71,7 @@ pub fn return_status(texts: &[WordText], script: &[u8]) -> Option<u32>
 
 // `exec`
 
-#[tactic(auto, unfolding(sh_tree::specs::language::Bytes::is_first))]
+#[tactic(auto, unfolding(sh_tree::specs::standard::language::Bytes::is_first))]
 fn is_dash_first(text: &[u8]) -> bool
     ensures { result ≡ bytes.is_first (λ c. c == 45) text.now }
 {

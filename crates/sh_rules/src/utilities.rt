@@ -1,14 +1,14 @@
 //! What is known behind a utility, by its kind and its operands (XCU 2.9.1, 2.15, 3).
 ghost use Rattle.std.specs.Prelude.{◌≡◌, ℕ, List, drop, false, fold, map, not, option_map, if◌then◌else◌};
 ghost use Rattle.std.specs.Prelude.{Option};
-ghost use Rattle.sh_tree.specs.program.Lists.{elements_from};
-ghost use Rattle.sh_tree.specs.program.Syntax.{Elements, Text};
+ghost use Rattle.sh_tree.specs.Lists.{elements_from};
+ghost use Rattle.sh_tree.specs.standard.program.Syntax.{Elements, Text};
 ghost use Rattle.sh_table.specs.WordTexts.{text_in};
-ghost use Rattle.sh_facts.specs.Facts.{NotReached};
-ghost use Rattle.sh_facts.specs.Gains.{named};
-ghost use Rattle.sh_facts.specs.Operands.{declared_names};
-ghost use Rattle.sh_facts.specs.Table as table;
-ghost use Rattle.sh_facts.specs.Views as views;
+ghost use Rattle.sh_domain.specs.Facts.{NotReached};
+ghost use Rattle.sh_domain.specs.Gains.{named};
+ghost use Rattle.sh_domain.specs.Operands.{declared_names};
+ghost use Rattle.sh_domain.specs.Table as table;
+ghost use Rattle.sh_domain.specs.Views as views;
 ghost use Rattle.sh_rules.specs.Elements as pieces;
 ghost use Rattle.sh_rules.specs.Losses as losses;
 ghost use Rattle.sh_operands.specs.Numerals.{capped};
@@ -26,15 +26,10 @@ use crate::elements::{gain_assignments, gain_left, is_redirected, prefix_set};
 use crate::gains::gain_variable;
 use crate::steps::{count_none, count_words, lose_variable, shift, take_parameters};
 use crate::texts::{first_number, getopts_name, lose_unset, read_behind, runs_command};
-use sh_facts::knowledge::Knowledge;
-use sh_facts::number_set::NumberSet;
-use sh_operands::options::positional_at;
-use sh_table::kind::Kind;
-use sh_table::operands::{are_static, name_length};
-use sh_table::word_text::WordText;
-use sh_tree::known::KnownName;
-use sh_tree::name::is_name;
-use sh_tree::tree::{Element, Part, Word};
+use sh_domain::{Knowledge, NumberSet};
+use sh_operands::positional_at;
+use sh_table::{Kind, WordText, are_static, name_length};
+use sh_tree::{Element, KnownName, Part, Word, is_name};
 
 // Names that utilities set
 
@@ -116,7 +111,7 @@ fn gain_getopts(
 
 // Declaration utilities
 
-#[tactic(auto, unfolding(crate::specs::Elements::front_name, sh_tree::specs::language::Commands::is_assignment, sh_tree::specs::language::Bytes::is_first))]
+#[tactic(auto, unfolding(crate::specs::Elements::front_name, sh_tree::specs::standard::language::Commands::is_assignment, sh_tree::specs::standard::language::Bytes::is_first))]
 fn front_name(text: &[u8]) -> Option<&[u8]>
     ensures { option_map (λ t. t.now) result ≡ pieces.front_name text.entry.now }
 {
@@ -299,7 +294,7 @@ fn is_sure_to_run(claims: &Claims<'_>, operands: &[WordText]) -> bool
     runs_command(operands, claims.script)
 }
 
-#[tactic(auto, unfolding(crate::specs::TextBounds::exec_by, crate::specs::Walks::facts_in, sh_facts::specs::Knowledge::knowledge_facts))]
+#[tactic(auto, unfolding(crate::specs::TextBounds::exec_by, crate::specs::Walks::facts_in, sh_domain::specs::Knowledge::knowledge_facts))]
 fn exec_behind(is_sure: bool, settled: &Knowledge) -> Behind
     ensures { (x : Setting) → behind_in x result ≡ spec.exec_by is_sure (facts_in x settled.now) }
 {
@@ -313,7 +308,7 @@ fn exec_behind(is_sure: bool, settled: &Knowledge) -> Behind
     }
 }
 
-#[tactic(auto, unfolding(crate::specs::Walks::facts_in, sh_facts::specs::Knowledge::knowledge_facts))]
+#[tactic(auto, unfolding(crate::specs::Walks::facts_in, sh_domain::specs::Knowledge::knowledge_facts))]
 fn colon_behind(settled: &Knowledge) -> Behind
     ensures { (x : Setting) → behind_in x result ≡ either (facts_in x settled.now) NotReached }
 {
@@ -355,7 +350,7 @@ fn special_behind(
     }
 }
 
-#[tactic(auto, unfolding(crate::specs::TextBounds::true_by, crate::specs::Walks::facts_in, sh_facts::specs::Knowledge::knowledge_facts))]
+#[tactic(auto, unfolding(crate::specs::TextBounds::true_by, crate::specs::Walks::facts_in, sh_domain::specs::Knowledge::knowledge_facts))]
 fn true_behind(is_redirected: bool, known: &Knowledge) -> Behind
     ensures { (x : Setting) → behind_in x result ≡ spec.true_by (facts_in x known.now) is_redirected }
 {
@@ -369,7 +364,7 @@ fn true_behind(is_redirected: bool, known: &Knowledge) -> Behind
     }
 }
 
-#[tactic(auto, unfolding(crate::specs::Walks::facts_in, sh_facts::specs::Knowledge::knowledge_facts))]
+#[tactic(auto, unfolding(crate::specs::Walks::facts_in, sh_domain::specs::Knowledge::knowledge_facts))]
 fn false_behind(known: &Knowledge) -> Behind
     ensures { (x : Setting) → behind_in x result ≡ either NotReached (facts_in x known.now) }
 {

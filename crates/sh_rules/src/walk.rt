@@ -1,7 +1,7 @@
 //! A walk over the commands of a script, those in its words included, with the rule that enters each, what stands round it and what is
 //! known there (XCU 2.9, 2.13).
 ghost use Rattle.std.specs.Prelude.{◌≡◌, fold};
-ghost use Rattle.sh_tree.specs.program.Trees.{script_of};
+ghost use Rattle.sh_tree.specs.standard.program.Trees.{script_of};
 ghost use Rattle.sh_rules.specs.Behind.{both, turns};
 ghost use Rattle.sh_rules.specs.Settings.{Setting};
 ghost use Rattle.sh_rules.specs.Walked as spec;
@@ -14,11 +14,9 @@ use crate::around::{Around, alone, in_function};
 use crate::behind::{Behind, met, pipe_behind, without_job};
 use crate::claims::Claims;
 use crate::gains::{enter_operator, gain_action, gain_assigned, gain_variable, gain_word};
-use sh_facts::knowledge::Knowledge;
-use sh_facts::rule::FlowRule;
-use sh_tree::Items;
-use sh_tree::tree::{
-    AndOr, Binary, Branch, Clause, Command, Element, Expr, Item, Kind, Link, LoopKind,
+use sh_domain::{FlowRule, Knowledge};
+use sh_tree::{
+    AndOr, Binary, Branch, Clause, Command, Element, Expr, Item, Items, Kind, Link, LoopKind,
     ParameterOperator, Part, Pipe, Redirect, Script, Span, Subject, Target, Word,
 };
 

@@ -5,8 +5,8 @@ use Rattle.std.proofs.lemmas.Bool.{false≢true, and_parts}
 use Rattle.sh_tree.specs.declared.token.arithmetic.Figure.{Figure}
 use Rattle.std.specs.Prelude.{IfSome, Some, nat_eq}
 use Rattle.std.specs.List.{starts_with}
-use Rattle.sh_tree.specs.language.Bytes.{is_in, is_first, is_digit, is_octal, is_hexadecimal, is_name_start, is_name_byte, run, longest}
-use Rattle.sh_tree.specs.language.Arithmetic.{constant_length, operator_table}
+use Rattle.sh_tree.specs.standard.language.Bytes.{is_in, is_first, is_digit, is_octal, is_hexadecimal, is_name_start, is_name_byte, run, longest}
+use Rattle.sh_tree.specs.standard.language.Arithmetic.{constant_length, operator_table}
 use Rattle.sh_scan.proofs.RunLemmas.{run_yes, run_no, run_some}
 
 -- a run that is not empty begins

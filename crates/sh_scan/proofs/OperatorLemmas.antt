@@ -5,7 +5,7 @@ use Rattle.std.specs.List.{starts_with, list_all}
 use Rattle.std.proofs.lemmas.Bool.{cases_Bool, false≢true, cond-true, cond-false, and_parts, ltb-true}
 use Rattle.std.proofs.lemmas.Bool.Decides.{Decides-eqb}
 use Rattle.std.proofs.lemmas.Slice.Eq.{starts_is}
-use Rattle.sh_tree.specs.language.Bytes.{is_first, longest}
+use Rattle.sh_tree.specs.standard.language.Bytes.{is_first, longest}
 
 -- texts of which one begins with a byte of a class, and the other does not
 apart_at_first : (p : ℕ → Bool) (t cs : List ℕ) → is_first p t ≡ true → is_first p cs ≡ false → starts_with nat_eq cs t ≡ false

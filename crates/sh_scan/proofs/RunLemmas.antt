@@ -2,7 +2,7 @@
 use Rattle.std.proofs.Common.{◌≡◌, ℕ, ◌+◌, ◌<◌, ◌≤◌, Bool, true, false, List, [], ◌∷◌, ◌++◌, length, take_while, cond, refl, ap, ◌∙◌, sym, arith}
 use Rattle.std.proofs.lemmas.Bool.{false≢true}
 use Rattle.std.proofs.lemmas.List.Sums.{take_while-cons}
-use Rattle.sh_tree.specs.language.Bytes.{run, is_first}
+use Rattle.sh_tree.specs.standard.language.Bytes.{run, is_first}
 
 pub run_yes : (p : ℕ → Bool) (c : ℕ) (cs : List ℕ) → p c ≡ true → run p (c ∷ cs) ≡ run p cs + 1
 run_yes p c cs h = ap length (take_while-cons p c cs ∙ ap (λ t. cond t (c ∷ take_while p cs) []) h) ∙ omega arith

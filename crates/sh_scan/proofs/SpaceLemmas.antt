@@ -1,8 +1,8 @@
 -- What stands between the tokens of arithmetic, piece by piece.
 use Rattle.std.proofs.Common.{ℕ, ◌||◌, ◌&&◌, List, [], ◌∷◌, refl, ◌∙◌, ⊎_elim}
 use Rattle.std.proofs.lemmas.Bool.{cases_Bool, cond-true, cond-false}
-use Rattle.sh_tree.specs.language.Bytes.{is_blank, is_newline, is_backslash}
-use Rattle.sh_tree.specs.language.Arithmetic.{space_length}
+use Rattle.sh_tree.specs.standard.language.Bytes.{is_blank, is_newline, is_backslash}
+use Rattle.sh_tree.specs.standard.language.Arithmetic.{space_length}
 use Rattle.sh_scan.specs.Steps.{joined_step}
 use Rattle.sh_scan.specs.Spaces.{space_step}
 use Rattle.sh_scan.proofs.StepLemmas.{Unrolls, goes_on, ends}

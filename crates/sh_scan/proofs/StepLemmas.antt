@@ -3,9 +3,9 @@ use Rattle.std.proofs.Common.{◌≡◌, ℕ, suc, ◌+◌, ◌-◌, ◌<◌, �
 use Rattle.std.proofs.lemmas.Bool.{cases_Bool, cond-true, cond-false, ne_eqb}
 use Rattle.std.proofs.lemmas.List.{drop-drop}
 use Rattle.std.specs.Prelude.{◌==◌}
-use Rattle.sh_tree.specs.language.Bytes.{is_blank, is_newline, is_backslash, is_joined, joined_length}
-use Rattle.sh_tree.specs.language.Commands.{gap_length}
-use Rattle.sh_tree.specs.language.HereDocuments.{line_length}
+use Rattle.sh_tree.specs.standard.language.Bytes.{is_blank, is_newline, is_backslash, is_joined, joined_length}
+use Rattle.sh_tree.specs.standard.language.Commands.{gap_length}
+use Rattle.sh_tree.specs.standard.language.HereDocuments.{line_length}
 use Rattle.sh_scan.specs.Steps.{joined_step, gap_step, line_step}
 
 -- the whole is a first piece and the whole of what is behind it, or there is no piece

@@ -13,8 +13,8 @@ use Rattle.sh_tree.specs.declared.token.word.Site.TheVariants.{Word, Double, Bra
 use Rattle.sh_tree.specs.declared.token.word.Context.{Context}
 use Rattle.sh_tree.specs.declared.token.word.Sign.{Sign}
 use Rattle.sh_tree.specs.declared.token.word.Sign.TheVariants as sign
-use Rattle.sh_tree.specs.language.Bytes.{run, decimal}
-use Rattle.sh_tree.specs.language.Words.{single, stands, plain_length, stops, is_special, is_stripped, is_literal, is_tilde, may_be_tilde, tilde_length}
+use Rattle.sh_tree.specs.standard.language.Bytes.{run, decimal}
+use Rattle.sh_tree.specs.standard.language.Words.{single, stands, plain_length, stops, is_special, is_stripped, is_literal, is_tilde, may_be_tilde, tilde_length}
 
 -- Single quotes
 

@@ -1,7 +1,7 @@
 -- The class of a byte.
 -- POSIX.1-2024, XCU 2.2 (quoting), 2.3 (token recognition).
 use Rattle.std.specs.Prelude.{ℕ, if◌then◌else◌, codes}
-use Rattle.sh_tree.specs.language.Bytes.{is_in, is_blank, is_newline, is_operator_byte, is_name_start, is_digit}
+use Rattle.sh_tree.specs.standard.language.Bytes.{is_in, is_blank, is_newline, is_operator_byte, is_name_start, is_digit}
 use Rattle.sh_scan.specs.declared.class.Class.{Class}
 use Rattle.sh_scan.specs.declared.class.Class.TheVariants as class
 

@@ -3,7 +3,7 @@
 use Rattle.std.specs.Prelude.{ℕ, ◌+◌, List, drop, Option, Some, None}
 use Rattle.sh_tree.specs.declared.token.word.Sign.{Sign}
 use Rattle.sh_tree.specs.declared.token.word.Sign.TheVariants as sign
-use Rattle.sh_tree.specs.language.Words.{single}
+use Rattle.sh_tree.specs.standard.language.Words.{single}
 
 abbrev pub closed_by : ℕ → Sign × ℕ → Option ℕ
 closed_by i (sign.Single, n) = Some (i + n)

@@ -1,7 +1,7 @@
 -- What may stand between the tokens of arithmetic.
 -- POSIX.1-2024, XCU 2.2.1 (line continuation), 2.6.4 (arithmetic expansion).
 use Rattle.std.specs.Prelude.{ℕ, ◌||◌, if◌then◌else◌, List, [], ◌∷◌}
-use Rattle.sh_tree.specs.language.Bytes.{is_blank, is_newline}
+use Rattle.sh_tree.specs.standard.language.Bytes.{is_blank, is_newline}
 use Rattle.sh_scan.specs.Steps.{joined_step}
 
 -- the blank, the newline or the line continuation at the front

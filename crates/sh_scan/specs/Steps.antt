@@ -1,7 +1,7 @@
 -- What a front of a text goes on by: the pieces of which a stretch of line continuations, of blanks, or of a line is made.
 -- POSIX.1-2024, XCU 2.2.1 (line continuation), 2.3 (token recognition), 2.7.4 (here-document).
 use Rattle.std.specs.Prelude.{ℕ, Bool, ◌&&◌, if◌then◌else◌, List, [], ◌∷◌}
-use Rattle.sh_tree.specs.language.Bytes.{is_blank, is_newline, is_backslash}
+use Rattle.sh_tree.specs.standard.language.Bytes.{is_blank, is_newline, is_backslash}
 
 -- the line continuation
 unfoldable pub joined_step : List ℕ → ℕ

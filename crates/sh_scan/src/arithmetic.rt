@@ -6,15 +6,13 @@ mod operators;
 mod spaces;
 
 ghost use Rattle.std.specs.Prelude.{◌≡◌, ◌≢◌, ◌≤◌, ◌<◌, ◌+◌, true, length};
-ghost use Rattle.sh_tree.specs.language.Arithmetic as arithmetic;
+ghost use Rattle.sh_tree.specs.standard.language.Arithmetic as arithmetic;
 ghost use Rattle.sh_scan.specs.Moves.{reads_figure};
 
 use crate::front::{begins_with, behind_joined, is_joined};
 use figures::figure_of;
 pub use operators::{assignment_of, binary_of, unary_of};
-use sh_tree::limits::MAX_SCRIPT;
-use sh_tree::refusal::Form;
-use sh_tree::token::{Figure, Lexeme};
+use sh_tree::{Figure, Form, Lexeme, MAX_SCRIPT};
 use spaces::space_length;
 
 /// Whether line continuations behind the token of so many bytes at the front keep it from being a longer one.
@@ -60,7 +58,7 @@ fn lexeme_of(rest: &[u8], at: usize) -> Lexeme
 }
 
 /// The token at or behind `at`.
-#[tactic(auto, unfolding(sh_tree::specs::language::Arithmetic::lexeme, sh_tree::specs::language::Arithmetic::lexeme_start))]
+#[tactic(auto, unfolding(sh_tree::specs::standard::language::Arithmetic::lexeme, sh_tree::specs::standard::language::Arithmetic::lexeme_start))]
 pub fn lexeme_at(script: &[u8], at: u32) -> Lexeme
     requires small { length script.now ≤ MAX_SCRIPT }
     requires inside { at ≤ length script.now }
@@ -76,7 +74,7 @@ pub fn lexeme_at(script: &[u8], at: u32) -> Lexeme
 }
 
 /// Whether a closing parenthesis stands at `at`, which behind another closes the expansion.
-#[tactic(auto, unfolding(sh_tree::specs::language::Arithmetic::is_closed))]
+#[tactic(auto, unfolding(sh_tree::specs::standard::language::Arithmetic::is_closed))]
 pub fn is_closed(script: &[u8], at: u32) -> bool
     requires small { length script.now ≤ MAX_SCRIPT }
     requires inside { at ≤ length script.now }

@@ -1,12 +1,12 @@
 //! Assignments, and words before `<` or `>`.
 ghost use Rattle.std.specs.Prelude.{◌≡◌, ◌≤◌, length, drop};
-ghost use Rattle.sh_tree.specs.language.Commands as commands;
+ghost use Rattle.sh_tree.specs.standard.language.Commands as commands;
 
 use crate::front::{begins_angle, begins_with, behind_joined, name_length};
-use sh_tree::limits::MAX_SCRIPT;
+use sh_tree::MAX_SCRIPT;
 
 /// Whether a name and `=` stand at the front.
-#[tactic(auto, unfolding(sh_tree::specs::language::Commands::is_assignment))]
+#[tactic(auto, unfolding(sh_tree::specs::standard::language::Commands::is_assignment))]
 pub fn is_assignment(rest: &[u8]) -> bool
     ensures { result ≡ commands.is_assignment rest.now }
 {
@@ -25,7 +25,7 @@ pub fn is_assignment_at(script: &[u8], at: u32) -> bool
 
 /// Whether a shell may take the word from `start` to `end` as an IO location: three bytes or more from `{` to `}`, before
 /// `<` or `>` (XCU 2.7).
-#[tactic(auto, unfolding(sh_tree::specs::language::Commands::is_location))]
+#[tactic(auto, unfolding(sh_tree::specs::standard::language::Commands::is_location))]
 pub fn is_location_at(script: &[u8], start: u32, end: u32) -> bool
     requires small { length script.now ≤ MAX_SCRIPT }
     requires ordered { start ≤ end }

@@ -1,13 +1,13 @@
 //! What stands between tokens (XCU 2.3).
 ghost use Rattle.std.specs.Prelude.{◌≡◌, ◌≤◌, ◌-◌, if◌then◌else◌, length, drop};
-ghost use Rattle.sh_tree.specs.language.Bytes as bytes;
-ghost use Rattle.sh_tree.specs.language.Commands as commands;
+ghost use Rattle.sh_tree.specs.standard.language.Bytes as bytes;
+ghost use Rattle.sh_tree.specs.standard.language.Commands as commands;
 ghost use Rattle.sh_scan.specs.Steps.{gap_step};
 
 use crate::bytes::is_blank;
 use crate::front::{begins_with, joined_step};
 use crate::here_document::line_length;
-use sh_tree::limits::MAX_SCRIPT;
+use sh_tree::MAX_SCRIPT;
 
 #[tactic(auto, unfolding(crate::specs::Steps::gap_step))]
 fn gap_step(rest: &[u8]) -> usize
@@ -64,7 +64,7 @@ fn comment_step(body: bool, rest: &[u8]) -> usize
     }
 }
 
-#[tactic(auto, unfolding(sh_tree::specs::language::Commands::blank_length))]
+#[tactic(auto, unfolding(sh_tree::specs::standard::language::Commands::blank_length))]
 fn blank_length(body: bool, rest: &[u8]) -> usize
     ensures value { result ≡ commands.blank_length body rest.now }
     ensures within { result ≤ length rest.now }
@@ -75,7 +75,7 @@ fn blank_length(body: bool, rest: &[u8]) -> usize
 
 /// Where the token at or behind `at` begins: behind blanks, line continuations and a comment. In the body of a
 /// here-document a comment whose line goes on behind a continuation is none.
-#[tactic(auto, unfolding(sh_tree::specs::language::Commands::blanks))]
+#[tactic(auto, unfolding(sh_tree::specs::standard::language::Commands::blanks))]
 pub fn blanks_at(script: &[u8], at: u32, body: bool) -> u32
     requires small { length script.now ≤ MAX_SCRIPT }
     requires inside { at ≤ length script.now }

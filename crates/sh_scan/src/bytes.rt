@@ -1,6 +1,6 @@
 //! Tests of bytes.
 ghost use Rattle.std.specs.Prelude.{◌≡◌};
-ghost use Rattle.sh_tree.specs.language.Bytes as bytes;
+ghost use Rattle.sh_tree.specs.standard.language.Bytes as bytes;
 
 use crate::class::{Class, classify};
 

@@ -1,16 +1,15 @@
 //! The front of a text.
 ghost use Rattle.std.specs.Prelude.{◌≡◌, ◌≤◌, ◌<◌, ◌==◌, true, length};
-ghost use Rattle.sh_tree.specs.language.Bytes as bytes;
-ghost use Rattle.sh_tree.specs.language.Commands as commands;
-ghost use Rattle.sh_tree.specs.language.Words as words;
+ghost use Rattle.sh_tree.specs.standard.language.Bytes as bytes;
+ghost use Rattle.sh_tree.specs.standard.language.Commands as commands;
+ghost use Rattle.sh_tree.specs.standard.language.Words as words;
 ghost use Rattle.sh_scan.specs.Steps.{joined_step};
 
 use crate::bytes::{ends_token, is_digit};
-use sh_tree::limits::MAX_SCRIPT;
-use sh_tree::name::{is_name_byte, is_name_start};
+use sh_tree::{MAX_SCRIPT, is_name_byte, is_name_start};
 
 /// Whether the text begins with the byte.
-#[tactic(auto, unfolding(sh_tree::specs::language::Bytes::is_first))]
+#[tactic(auto, unfolding(sh_tree::specs::standard::language::Bytes::is_first))]
 pub fn begins_with(rest: &[u8], byte: u8) -> bool
     ensures value { result ≡ bytes.is_first (λ c. c == byte) rest.now }
     ensures within { result ≡ true → 0 < length rest.now }
@@ -21,7 +20,7 @@ pub fn begins_with(rest: &[u8], byte: u8) -> bool
     }
 }
 
-#[tactic(auto, unfolding(sh_tree::specs::language::Bytes::is_first))]
+#[tactic(auto, unfolding(sh_tree::specs::standard::language::Bytes::is_first))]
 fn begins_name(rest: &[u8]) -> bool
     ensures { result ≡ bytes.is_first bytes.is_name_start rest.now }
 {
@@ -39,7 +38,7 @@ fn name_bytes(rest: &[u8]) -> usize
 }
 
 /// How long the name at the front is.
-#[tactic(auto, unfolding(sh_tree::specs::language::Bytes::name_length))]
+#[tactic(auto, unfolding(sh_tree::specs::standard::language::Bytes::name_length))]
 pub fn name_length(rest: &[u8]) -> usize
     ensures value { result ≡ bytes.name_length rest.now }
     ensures within { result ≤ length rest.now }
@@ -52,7 +51,7 @@ pub fn name_length(rest: &[u8]) -> usize
 }
 
 /// Whether the text begins with `<` or `>`.
-#[tactic(auto, unfolding(sh_tree::specs::language::Bytes::is_first))]
+#[tactic(auto, unfolding(sh_tree::specs::standard::language::Bytes::is_first))]
 pub fn begins_angle(rest: &[u8]) -> bool
     ensures { result ≡ commands.is_angle rest.now }
 {
@@ -114,7 +113,7 @@ pub fn behind_joined(rest: &[u8]) -> &[u8]
 }
 
 /// Whether a word ends before `rest`, of which line continuations are no part.
-#[tactic(auto, unfolding(sh_tree::specs::language::Bytes::is_first))]
+#[tactic(auto, unfolding(sh_tree::specs::standard::language::Bytes::is_first))]
 pub fn ends_joined(rest: &[u8]) -> bool
     ensures { result ≡ words.ends_joined rest.now }
 {
@@ -125,7 +124,7 @@ pub fn ends_joined(rest: &[u8]) -> bool
 }
 
 /// Where the name at `at` ends, or `at` where none begins there (XBD 3.216).
-#[tactic(auto, unfolding(sh_tree::specs::language::Commands::name_end))]
+#[tactic(auto, unfolding(sh_tree::specs::standard::language::Commands::name_end))]
 pub fn name_at(script: &[u8], at: u32) -> u32
     requires small { length script.now ≤ MAX_SCRIPT }
     requires inside { at ≤ length script.now }

@@ -1,9 +1,9 @@
 //! The lines of here-documents (XCU 2.7.4).
 ghost use Rattle.std.specs.Prelude.{◌≡◌, ◌≤◌, length};
-ghost use Rattle.sh_tree.specs.language.HereDocuments as documents;
+ghost use Rattle.sh_tree.specs.standard.language.HereDocuments as documents;
 ghost use Rattle.sh_scan.specs.Steps.{line_step};
 
-use sh_tree::limits::MAX_SCRIPT;
+use sh_tree::MAX_SCRIPT;
 
 #[tactic(auto, unfolding(crate::specs::Steps::line_step))]
 fn line_step(rest: &[u8], joins: bool) -> usize
@@ -33,7 +33,7 @@ pub fn line_length(rest: &[u8], joins: bool) -> usize
 }
 
 /// Where the line at `at` ends, before its newline. Where lines are joined, a newline behind a backslash ends none.
-#[tactic(auto, unfolding(sh_tree::specs::language::HereDocuments::line_end))]
+#[tactic(auto, unfolding(sh_tree::specs::standard::language::HereDocuments::line_end))]
 pub fn here_line(script: &[u8], at: u32, joins: bool) -> u32
     requires small { length script.now ≤ MAX_SCRIPT }
     requires inside { at ≤ length script.now }

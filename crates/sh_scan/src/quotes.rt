@@ -3,11 +3,10 @@ ghost use Rattle.std.specs.Prelude.{◌≡◌, ◌≤◌, ◌<◌, length, IfSom
 ghost use Rattle.sh_scan.specs.Quotes as quotes;
 
 use crate::words::single_sign;
-use sh_tree::limits::MAX_SCRIPT;
-use sh_tree::token::Sign;
+use sh_tree::{MAX_SCRIPT, Sign};
 
 /// Where the single quotes that open at `at` end, over the closing one; nothing where none closes them.
-#[tactic(auto, unfolding(crate::specs::Quotes::single_end, sh_tree::specs::language::Words::single))]
+#[tactic(auto, unfolding(crate::specs::Quotes::single_end, sh_tree::specs::standard::language::Words::single))]
 pub fn single_end(script: &[u8], at: u32) -> Option<u32>
     requires small { length script.now ≤ MAX_SCRIPT }
     requires inside { at < length script.now }

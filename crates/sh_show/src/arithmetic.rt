@@ -1,6 +1,6 @@
 use crate::spans::push_signed;
 use crate::words::push_part;
-use sh_tree::tree::{Binary, Expr, Span, Unary};
+use sh_tree::{Binary, Expr, Span, Unary};
 use std::alloc::{AllocError, Global};
 
 fn sign_of_unary(operator: Unary) -> &'static str {

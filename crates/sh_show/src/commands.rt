@@ -1,7 +1,7 @@
 use crate::redirections::{push_redirect, push_redirects};
 use crate::spans::push_signed;
 use crate::words::push_word;
-use sh_tree::tree::{
+use sh_tree::{
     AndOr, Branch, Clause, ClauseEnd, Command, Element, Item, Kind, Link, LoopKind, Pipe, Script,
     Span, Word,
 };

@@ -1,6 +1,6 @@
 use crate::spans::push_signed;
 use crate::words::push_word;
-use sh_tree::tree::{Direction, HereDoc, Redirect, Target};
+use sh_tree::{Direction, HereDoc, Redirect, Target};
 use std::alloc::{AllocError, Global};
 
 fn sign_of_direction(direction: Direction) -> &'static str {

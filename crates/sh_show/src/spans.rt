@@ -1,4 +1,4 @@
-use sh_tree::tree::Span;
+use sh_tree::Span;
 use std::alloc::{AllocError, Global};
 
 /// A span, `start-end`.

@@ -1,7 +1,7 @@
 use crate::arithmetic::push_expr;
 use crate::commands::push_script;
 use crate::spans::{push_signed, push_span};
-use sh_tree::tree::{
+use sh_tree::{
     Action, CommandStyle, Param, ParameterOperator, Part, Removal, SingleStyle, Special, Subject,
     Word,
 };

@@ -4,25 +4,25 @@ use Rattle.std.specs.List.{list_all}
 use Rattle.std.proofs.lemmas.Bool.{and_from, and_parts, or_cases, or_left, or_right}
 use Rattle.std.proofs.lemmas.Map.Views.{any-filter_same}
 use Rattle.std.proofs.lemmas.Slice.Eq.{bytes_eq-Decides}
-use Rattle.sh_tree.specs.program.Syntax as p
-use Rattle.sh_tree.specs.program.Syntax.{Text, Word}
-use Rattle.sh_tree.specs.program.Words.{operands_in}
+use Rattle.sh_tree.specs.standard.program.Syntax as p
+use Rattle.sh_tree.specs.standard.program.Syntax.{Text, Word}
+use Rattle.sh_tree.specs.standard.program.Words.{operands_in}
 use Rattle.sh_tree.proofs.ListLemmas.{text_same}
-use Rattle.sh_table.specs.runs.Builtins.{restored}
-use Rattle.sh_table.specs.runs.Environment.{Environment, Frame, is_one_of}
-use Rattle.sh_table.specs.runs.Work.{Saved}
-use Rattle.sh_facts.specs.Entries.{Around}
-use Rattle.sh_facts.specs.Facts.{Facts, NotReached, Known, Variable, claims, facts, Declared}
-use Rattle.sh_facts.specs.Faults.{are_among}
-use Rattle.sh_facts.specs.Gains.{Gains, named, with_gains, words_gains, job}
-use Rattle.sh_facts.specs.Inclusions as i
-use Rattle.sh_facts.specs.Inclusions.{Covers, MayDrop, BodyRules, CallRules, behind}
-use Rattle.sh_facts.specs.Operands.{Names, Total, total}
-use Rattle.sh_facts.specs.Rules.{losses_by, builtin_losses}
-use Rattle.sh_facts.specs.Table as table
-use Rattle.sh_facts.specs.Table.{prefixes}
-use Rattle.sh_facts.specs.Views as views
-use Rattle.sh_facts.specs.Views.{Certificate, Slot, Before, AfterZero, AfterNonzero, Entry, ReturnsZero, ReturnsNonzero, Lose, Count, Call, Seen, After, Both, if_zero, if_nonzero, after_command, at, gaining_names, stepped, where_known, counted_by, passes, returned, called, step, steps, source_facts, where_reached, Loss, lost}
+use Rattle.sh_table.specs.standard.runs.Builtins.{restored}
+use Rattle.sh_table.specs.standard.runs.Environment.{Environment, Frame, is_one_of}
+use Rattle.sh_table.specs.standard.runs.Work.{Saved}
+use Rattle.sh_domain.specs.Entries.{Around}
+use Rattle.sh_domain.specs.Facts.{Facts, NotReached, Known, Variable, claims, facts, Declared}
+use Rattle.sh_domain.specs.Faults.{are_among}
+use Rattle.sh_domain.specs.Gains.{Gains, named, with_gains, words_gains, job}
+use Rattle.sh_domain.specs.Inclusions as i
+use Rattle.sh_domain.specs.Inclusions.{Covers, MayDrop, BodyRules, CallRules, behind}
+use Rattle.sh_domain.specs.Operands.{Names, Total, total}
+use Rattle.sh_domain.specs.Rules.{losses_by, builtin_losses}
+use Rattle.sh_domain.specs.Table as table
+use Rattle.sh_domain.specs.Table.{prefixes}
+use Rattle.sh_domain.specs.Views as views
+use Rattle.sh_domain.specs.Views.{Certificate, Slot, Before, AfterZero, AfterNonzero, Entry, ReturnsZero, ReturnsNonzero, Lose, Count, Call, Seen, After, Both, if_zero, if_nonzero, after_command, at, gaining_names, stepped, where_known, counted_by, passes, returned, called, step, steps, source_facts, where_reached, Loss, lost}
 use Rattle.sh_sound.specs.Holding.{Holds, Has, OneHolds, Leads}
 use Rattle.sh_sound.specs.Going.{number_of, unset_before, Apart, after_function, ReturnAt}
 use Rattle.sh_sound.specs.Doing.{behind_facts, parameters, RulesAt}

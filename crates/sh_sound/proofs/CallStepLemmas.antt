@@ -2,28 +2,28 @@
 use Rattle.std.proofs.Common.{◌≡◌, ℕ, ◌&&◌, ◌||◌, Bool, true, false, if◌then◌else◌, List, [], ◌∷◌, Option, Some, None, is_some, bytes_eq, ◌⊎◌, inl, inr, refl, sym, ap, ◌∙◌, subst, true≢false}
 use Rattle.std.proofs.lemmas.Bool.{or_cases, or_left, or_right}
 use Rattle.std.proofs.lemmas.Slice.Eq.{bytes_eq-Decides}
-use Rattle.sh_tree.specs.language.Bytes.{is_name}
+use Rattle.sh_tree.specs.standard.language.Bytes.{is_name}
 use Rattle.sh_tree.proofs.ListLemmas.{text_same}
-use Rattle.sh_facts.proofs.NameLemmas.{bytes_eq-swap}
-use Rattle.sh_tree.specs.program.Syntax as p
-use Rattle.sh_tree.specs.program.Syntax.{Text}
-use Rattle.sh_tree.specs.program.Words.{Assignments}
-use Rattle.sh_table.specs.runs.Answers.{Answer}
-use Rattle.sh_table.specs.runs.Builtins.{nonzero, restored}
-use Rattle.sh_table.specs.runs.Environment.{Environment, Frame, is_one_of, put_text, with_variable, hiding}
-use Rattle.sh_table.specs.runs.Expansion.{in_one, Outcome, pieces_text, expand}
-use Rattle.sh_table.specs.runs.States.{State, fresh}
-use Rattle.sh_table.specs.runs.Steps.{Named, opened, status_behind, failed_in, redirected, unless_ended, assignment, call, act_on}
-use Rattle.sh_table.specs.runs.Steps as steps
-use Rattle.sh_table.specs.runs.Work.{Saved, Work, Command, Call, Return, Pushes, Effect, goes, ends, after_expansion}
+use Rattle.sh_domain.proofs.NameLemmas.{bytes_eq-swap}
+use Rattle.sh_tree.specs.standard.program.Syntax as p
+use Rattle.sh_tree.specs.standard.program.Syntax.{Text}
+use Rattle.sh_tree.specs.standard.program.Words.{Assignments}
+use Rattle.sh_table.specs.standard.runs.Answers.{Answer}
+use Rattle.sh_table.specs.standard.runs.Builtins.{nonzero, restored}
+use Rattle.sh_table.specs.standard.runs.Environment.{Environment, Frame, is_one_of, put_text, with_variable, hiding}
+use Rattle.sh_table.specs.standard.runs.Expansion.{in_one, Outcome, pieces_text, expand}
+use Rattle.sh_table.specs.standard.runs.States.{State, fresh}
+use Rattle.sh_table.specs.standard.runs.Steps.{Named, opened, status_behind, failed_in, redirected, unless_ended, assignment, call, act_on}
+use Rattle.sh_table.specs.standard.runs.Steps as steps
+use Rattle.sh_table.specs.standard.runs.Work.{Saved, Work, Command, Call, Return, Pushes, Effect, goes, ends, after_expansion}
 use Rattle.sh_table.proofs.EnvironmentLemmas.{if_either, hiding_kept}
-use Rattle.sh_facts.specs.Entries.{Around}
-use Rattle.sh_facts.specs.Facts.{Facts, NotReached, Known, Variable, claims, Declared}
-use Rattle.sh_facts.specs.Gains.{no_gains, named, word_gains}
-use Rattle.sh_facts.specs.Inclusions as i
-use Rattle.sh_facts.specs.Inclusions.{MayDrop, behind}
-use Rattle.sh_facts.specs.Table.{is_redirected, prefixes}
-use Rattle.sh_facts.specs.Views.{Certificate, AfterNonzero, Entry, Seen, After, Both, if_nonzero, in_any_case, after_command, at, gaining_names}
+use Rattle.sh_domain.specs.Entries.{Around}
+use Rattle.sh_domain.specs.Facts.{Facts, NotReached, Known, Variable, claims, Declared}
+use Rattle.sh_domain.specs.Gains.{no_gains, named, word_gains}
+use Rattle.sh_domain.specs.Inclusions as i
+use Rattle.sh_domain.specs.Inclusions.{MayDrop, behind}
+use Rattle.sh_domain.specs.Table.{is_redirected, prefixes}
+use Rattle.sh_domain.specs.Views.{Certificate, AfterNonzero, Entry, Seen, After, Both, if_nonzero, in_any_case, after_command, at, gaining_names}
 use Rattle.sh_sound.specs.Holding.{Holds, Grows, OneHolds, Expanded, AfterHolds}
 use Rattle.sh_sound.specs.Going.{around, unset_before, front, frames_behind, FrameStays, OfFirst, Bodies, FrontGood, Good, GoodIn, Stays, ProcessOk, NextOk, StartsOk, StepOk}
 use Rattle.sh_sound.specs.Doing.{names_of, behind_facts, EachOpened, EachValue, CallStage, SimpleAt}

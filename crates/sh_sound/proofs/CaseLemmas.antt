@@ -4,25 +4,25 @@ use Rattle.std.specs.List.{list_any}
 use Rattle.std.proofs.lemmas.Bool.{or_parts}
 use Rattle.sh_tree.specs.declared.tree.ClauseEnd.{ClauseEnd}
 use Rattle.sh_tree.specs.declared.tree.ClauseEnd.TheVariants as clause
-use Rattle.sh_tree.specs.program.Syntax as p
-use Rattle.sh_tree.specs.program.Syntax.{Text}
-use Rattle.sh_tree.specs.program.Words.{is_plainly, words_in}
-use Rattle.sh_table.specs.runs.Environment.{Environment, Frame}
-use Rattle.sh_table.specs.runs.Answers.{Answer}
-use Rattle.sh_table.specs.runs.States.{State, fresh}
-use Rattle.sh_table.specs.runs.Expansion.{in_one, in_fields, expand}
-use Rattle.sh_table.specs.runs.Steps.{picked, clauses, falls, fall, clause_list, matched, patterns, over_fields, for_words, unless_ended, status_behind, word_fields, word_splits, act_on}
-use Rattle.sh_table.specs.runs.Work.{Work, Items, ForWords, ForFields, Clauses, Patterns, Fall, Effect, goes, after_expansion}
-use Rattle.sh_facts.specs.declared.rule.FlowRule.TheVariants.{F9}
-use Rattle.sh_facts.specs.Entries as entries
-use Rattle.sh_facts.specs.Entries.{Around, items_after}
-use Rattle.sh_facts.specs.Facts.{Facts, Declared}
-use Rattle.sh_facts.specs.Gains.{Gains, and_gains, no_gains, word_gains, words_gains}
-use Rattle.sh_facts.specs.Rules.{is_last, matches_always}
-use Rattle.sh_facts.specs.Views.{Certificate, AfterZero, Head, Seen, After, Both, if_zero, in_any_case, after_command, at, gaining}
+use Rattle.sh_tree.specs.standard.program.Syntax as p
+use Rattle.sh_tree.specs.standard.program.Syntax.{Text}
+use Rattle.sh_tree.specs.standard.program.Words.{is_plainly, words_in}
+use Rattle.sh_table.specs.standard.runs.Environment.{Environment, Frame}
+use Rattle.sh_table.specs.standard.runs.Answers.{Answer}
+use Rattle.sh_table.specs.standard.runs.States.{State, fresh}
+use Rattle.sh_table.specs.standard.runs.Expansion.{in_one, in_fields, expand}
+use Rattle.sh_table.specs.standard.runs.Steps.{picked, clauses, falls, fall, clause_list, matched, patterns, over_fields, for_words, unless_ended, status_behind, word_fields, word_splits, act_on}
+use Rattle.sh_table.specs.standard.runs.Work.{Work, Items, ForWords, ForFields, Clauses, Patterns, Fall, Effect, goes, after_expansion}
+use Rattle.sh_domain.specs.declared.rule.FlowRule.TheVariants.{F9}
+use Rattle.sh_domain.specs.Entries as entries
+use Rattle.sh_domain.specs.Entries.{Around, items_after}
+use Rattle.sh_domain.specs.Facts.{Facts, Declared}
+use Rattle.sh_domain.specs.Gains.{Gains, and_gains, no_gains, word_gains, words_gains}
+use Rattle.sh_domain.specs.Rules.{is_last, matches_always}
+use Rattle.sh_domain.specs.Views.{Certificate, AfterZero, Head, Seen, After, Both, if_zero, in_any_case, after_command, at, gaining}
 use Rattle.sh_sound.specs.Holding.{Stands, Grows, OneHolds, Entails, Expanded}
-use Rattle.sh_facts.specs.Inclusions as i
-use Rattle.sh_facts.specs.Inclusions.{Covers, Leaves}
+use Rattle.sh_domain.specs.Inclusions as i
+use Rattle.sh_domain.specs.Inclusions.{Covers, Leaves}
 use Rattle.sh_sound.specs.Going.{around, front, WordAt, WordsAt, PatternsAt, PatternsOf, ItemsAt, ClausesAt, ClauseAt, ForAt, FallAt, FrontGood, Good, GoodIn, ProcessOk, StepOk}
 use Rattle.sh_sound.proofs.HoldLemmas.{each_left, each_right, grows_refl, has_nothing, has_both, one_left, one_right, covers_at, gain_holds, holds_gain, has_gain, any_holds, both_holds, leads_any, leaves_lead}
 use Rattle.sh_sound.proofs.ListLemmas.{good_weaker, step_goes, turns_to, leads_same}

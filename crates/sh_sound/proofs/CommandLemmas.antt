@@ -1,26 +1,26 @@
 -- How a command begins.
 use Rattle.std.proofs.Common.{◌≡◌, ℕ, true, false, ◌&&◌, Some, List, [], ◌∷◌, refl, ap, inl, inr, ◌⊎◌}
 use Rattle.std.proofs.lemmas.Bool.{and_parts, false≢true}
-use Rattle.sh_tree.specs.language.Bytes.{is_name}
-use Rattle.sh_tree.specs.program.Syntax as p
-use Rattle.sh_tree.specs.program.Syntax.{Text}
-use Rattle.sh_tree.specs.program.Words.{operands_in, redirects_in, assignments_in}
-use Rattle.sh_table.specs.runs.Environment.{Environment, Frame, is_one_of}
-use Rattle.sh_table.specs.runs.Answers.{Answer}
-use Rattle.sh_table.specs.runs.Steps.{simple_work, command_work, act_on}
-use Rattle.sh_table.specs.runs.Work.{Work, Command, Compound, Effect, goes}
-use Rattle.sh_facts.specs.declared.rule.FlowRule.{FlowRule}
-use Rattle.sh_facts.specs.Demands.{kind_unmet, elements_unmet}
-use Rattle.sh_facts.specs.Entries as entries
-use Rattle.sh_facts.specs.Entries.{Around, Entered, behind_redirects}
-use Rattle.sh_facts.specs.Facts.{Facts, facts, Declared}
-use Rattle.sh_facts.specs.Gains.{no_gains, with_gains, word_gains, words_gains, redirects_gains}
-use Rattle.sh_facts.specs.Inclusions as i
-use Rattle.sh_facts.specs.Inclusions.{behind, CommandRules, EnteredRules, elements_formed, field_formed, word_formed, redirect_formed, redirects_formed, kind_formed, command_formed}
-use Rattle.sh_facts.specs.Needs.{word_unmet, redirect_unmet}
-use Rattle.sh_facts.specs.Rules.{defined_by, losses}
-use Rattle.sh_facts.specs.Table.{is_redirected}
-use Rattle.sh_facts.specs.Views.{Certificate, Before, AfterNonzero, Seen, Both, in_any_case, at, gaining}
+use Rattle.sh_tree.specs.standard.language.Bytes.{is_name}
+use Rattle.sh_tree.specs.standard.program.Syntax as p
+use Rattle.sh_tree.specs.standard.program.Syntax.{Text}
+use Rattle.sh_tree.specs.standard.program.Words.{operands_in, redirects_in, assignments_in}
+use Rattle.sh_table.specs.standard.runs.Environment.{Environment, Frame, is_one_of}
+use Rattle.sh_table.specs.standard.runs.Answers.{Answer}
+use Rattle.sh_table.specs.standard.runs.Steps.{simple_work, command_work, act_on}
+use Rattle.sh_table.specs.standard.runs.Work.{Work, Command, Compound, Effect, goes}
+use Rattle.sh_domain.specs.declared.rule.FlowRule.{FlowRule}
+use Rattle.sh_domain.specs.Demands.{kind_unmet, elements_unmet}
+use Rattle.sh_domain.specs.Entries as entries
+use Rattle.sh_domain.specs.Entries.{Around, Entered, behind_redirects}
+use Rattle.sh_domain.specs.Facts.{Facts, facts, Declared}
+use Rattle.sh_domain.specs.Gains.{no_gains, with_gains, word_gains, words_gains, redirects_gains}
+use Rattle.sh_domain.specs.Inclusions as i
+use Rattle.sh_domain.specs.Inclusions.{behind, CommandRules, EnteredRules, elements_formed, field_formed, word_formed, redirect_formed, redirects_formed, kind_formed, command_formed}
+use Rattle.sh_domain.specs.Needs.{word_unmet, redirect_unmet}
+use Rattle.sh_domain.specs.Rules.{defined_by, losses}
+use Rattle.sh_domain.specs.Table.{is_redirected}
+use Rattle.sh_domain.specs.Views.{Certificate, Before, AfterNonzero, Seen, Both, in_any_case, at, gaining}
 use Rattle.sh_sound.specs.Fields.{FieldsFit}
 use Rattle.sh_sound.specs.Holding.{Stands, OneHolds, Entails}
 use Rattle.sh_sound.specs.Going.{around, front, number_of, WordsAt, CompoundAt, FrontGood, Good, GoodIn, ProcessOk, StepOk}

@@ -2,22 +2,22 @@
 use Rattle.std.proofs.Common.{◌≡◌, ℕ, zero, suc, ◌==◌, Bool, true, false, not, if◌then◌else◌, List, [], ◌∷◌, Option, Some, is_some, bytes_eq, ◌⊎◌, inl, inr, refl, sym, subst, arith, ne_eqb}
 use Rattle.std.proofs.lemmas.Bool.{and_parts, or_cases}
 use Rattle.std.proofs.lemmas.Slice.Eq.{bytes_eq-Decides}
-use Rattle.sh_tree.specs.program.Syntax as p
-use Rattle.sh_tree.specs.program.Syntax.{Text}
-use Rattle.sh_table.specs.runs.Environment.{Environment, Frame, is_one_of, put_text, with_function, copied}
-use Rattle.sh_table.specs.runs.Answers.{Answer}
-use Rattle.sh_table.specs.runs.Builtins.{nonzero}
-use Rattle.sh_table.specs.runs.States.{State, fresh}
-use Rattle.sh_table.specs.runs.Expansion.{in_one, expand}
-use Rattle.sh_table.specs.runs.Steps.{opened, begun, over_words, redirected_before, failed_before, unless_ended, status_behind}
-use Rattle.sh_table.specs.runs.Work.{Work, Items, Compound, If, ForWords, Clauses, Start, Effect, goes, ends, after_expansion}
-use Rattle.sh_facts.specs.Entries.{Around, alone, behind_list}
-use Rattle.sh_facts.specs.Facts.{Facts, NotReached, Known, Declared}
-use Rattle.sh_facts.specs.Gains.{job, and_gains, word_gains, redirect_gains, redirects_gains}
-use Rattle.sh_facts.specs.Views.{Certificate, Before, AfterZero, AfterNonzero, Lose, Define, Seen, After, Both, if_zero, if_nonzero, in_any_case, after_command, at, gaining, stepped, without_job, where_known, step}
+use Rattle.sh_tree.specs.standard.program.Syntax as p
+use Rattle.sh_tree.specs.standard.program.Syntax.{Text}
+use Rattle.sh_table.specs.standard.runs.Environment.{Environment, Frame, is_one_of, put_text, with_function, copied}
+use Rattle.sh_table.specs.standard.runs.Answers.{Answer}
+use Rattle.sh_table.specs.standard.runs.Builtins.{nonzero}
+use Rattle.sh_table.specs.standard.runs.States.{State, fresh}
+use Rattle.sh_table.specs.standard.runs.Expansion.{in_one, expand}
+use Rattle.sh_table.specs.standard.runs.Steps.{opened, begun, over_words, redirected_before, failed_before, unless_ended, status_behind}
+use Rattle.sh_table.specs.standard.runs.Work.{Work, Items, Compound, If, ForWords, Clauses, Start, Effect, goes, ends, after_expansion}
+use Rattle.sh_domain.specs.Entries.{Around, alone, behind_list}
+use Rattle.sh_domain.specs.Facts.{Facts, NotReached, Known, Declared}
+use Rattle.sh_domain.specs.Gains.{job, and_gains, word_gains, redirect_gains, redirects_gains}
+use Rattle.sh_domain.specs.Views.{Certificate, Before, AfterZero, AfterNonzero, Lose, Define, Seen, After, Both, if_zero, if_nonzero, in_any_case, after_command, at, gaining, stepped, without_job, where_known, step}
 use Rattle.sh_sound.specs.Holding.{Holds, Grows, OneHolds, Entails, Expanded}
-use Rattle.sh_facts.specs.Inclusions as i
-use Rattle.sh_facts.specs.Inclusions.{Covers, Leaves}
+use Rattle.sh_domain.specs.Inclusions as i
+use Rattle.sh_domain.specs.Inclusions.{Covers, Leaves}
 use Rattle.sh_sound.specs.Going.{around, front, RedirectsAt, ForWordsAt, ItemsAt, BodyOk, Bodies, KindAt, CompoundAt, FrontGood, Good, GoodIn, Stays, ProcessOk, StartOk, StartsOk, NextOk, StepOk}
 use Rattle.sh_sound.proofs.HoldLemmas.{grows_refl, one_grows, one_stepped, covers_at, holds_gain, both_holds, leaves_lead}
 use Rattle.sh_sound.proofs.ExpansionLemmas.{without_job_holds}

@@ -2,19 +2,19 @@
 use Rattle.std.proofs.Common.{◌≡◌, ℕ, ◌+◌, Bool, true, false, if◌then◌else◌, List, [], ◌∷◌, Option, Some, None, is_some, bytes_eq, refl, sym, ◌∙◌, subst, true≢false}
 use Rattle.std.specs.List.{list_all}
 use Rattle.std.proofs.lemmas.Bool.{and_from, and_parts, or_parts}
-use Rattle.sh_tree.specs.language.Bytes.{is_name}
-use Rattle.sh_tree.specs.program.Syntax.{Text}
-use Rattle.sh_table.specs.runs.Builtins.{restored}
-use Rattle.sh_table.specs.runs.Environment.{Environment, Frame, is_one_of, put_text, with_variable}
-use Rattle.sh_table.specs.runs.Work.{Saved, Work, Items, Links, Pipeline, Negation, Command, Words, Prepare, Utility, Call, Return, Compound, If, Then, Test, Again, ForWords, ForFields, Clauses, Patterns, Fall}
+use Rattle.sh_tree.specs.standard.language.Bytes.{is_name}
+use Rattle.sh_tree.specs.standard.program.Syntax.{Text}
+use Rattle.sh_table.specs.standard.runs.Builtins.{restored}
+use Rattle.sh_table.specs.standard.runs.Environment.{Environment, Frame, is_one_of, put_text, with_variable}
+use Rattle.sh_table.specs.standard.runs.Work.{Saved, Work, Items, Links, Pipeline, Negation, Command, Words, Prepare, Utility, Call, Return, Compound, If, Then, Test, Again, ForWords, ForFields, Clauses, Patterns, Fall}
 use Rattle.sh_table.proofs.EnvironmentLemmas.{restored_kept}
-use Rattle.sh_facts.specs.Entries.{Around, in_loop, items_after, links_after, pipeline_after}
-use Rattle.sh_facts.specs.Facts.{Facts, NotReached, Known, Declared}
-use Rattle.sh_facts.specs.Faults.{are_among}
-use Rattle.sh_facts.specs.Inclusions.{MayDrop}
-use Rattle.sh_facts.specs.Operands.{Names}
-use Rattle.sh_facts.specs.Views.{Certificate, Seen, After, in_any_case, swapped, after_command}
-use Rattle.sh_facts.proofs.NameLemmas.{bytes_eq-swap}
+use Rattle.sh_domain.specs.Entries.{Around, in_loop, items_after, links_after, pipeline_after}
+use Rattle.sh_domain.specs.Facts.{Facts, NotReached, Known, Declared}
+use Rattle.sh_domain.specs.Faults.{are_among}
+use Rattle.sh_domain.specs.Inclusions.{MayDrop}
+use Rattle.sh_domain.specs.Operands.{Names}
+use Rattle.sh_domain.specs.Views.{Certificate, Seen, After, in_any_case, swapped, after_command}
+use Rattle.sh_domain.proofs.NameLemmas.{bytes_eq-swap}
 use Rattle.sh_sound.specs.Holding.{Holds, Grows}
 use Rattle.sh_sound.specs.Going.{around, number_of, unset_before, OfFirst, Apart, FrontGood, Good, Stays}
 use Rattle.sh_sound.proofs.HoldLemmas.{all_one}

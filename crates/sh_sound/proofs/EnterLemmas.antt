@@ -1,26 +1,26 @@
 -- What a command that is entered gives to the work that it becomes.
 use Rattle.std.proofs.Common.{◌≡◌, ℕ, Bool, true, false, if◌then◌else◌, List, [], ◌∷◌, ◌++◌, refl, subst}
 use Rattle.std.proofs.lemmas.Bool.{and_parts}
-use Rattle.sh_tree.specs.language.Bytes.{is_name}
-use Rattle.sh_tree.specs.program.Syntax as p
-use Rattle.sh_tree.specs.program.Syntax.{Text}
-use Rattle.sh_table.specs.runs.Environment.{Environment, Frame, is_one_of}
-use Rattle.sh_table.specs.runs.Answers.{Answer}
-use Rattle.sh_table.specs.runs.Steps.{opened, command_work, compound, is_started_first, in_process, redirected_before, act_on}
-use Rattle.sh_table.specs.runs.Expansion.{in_one, expand}
-use Rattle.sh_table.specs.runs.States.{fresh}
-use Rattle.sh_table.specs.runs.Work.{Work, Compound, Copies, Effect, goes}
-use Rattle.sh_facts.specs.declared.rule.FlowRule.TheVariants.{F7, F8, F9, F10, F11, F13}
-use Rattle.sh_facts.specs.Demands.{kind_unmet, clauses_unmet, for_words_unmet}
-use Rattle.sh_facts.specs.Entries as entries
-use Rattle.sh_facts.specs.Entries.{Around, alone, in_loop, in_function, items_after, turns, behind_list}
-use Rattle.sh_facts.specs.Facts.{Facts, Declared}
-use Rattle.sh_facts.specs.Gains.{Gains, no_gains, with_gains, word_gains, redirect_gains, redirects_gains}
-use Rattle.sh_facts.specs.Needs.{word_unmet, words_unmet, patterns_unmet, redirect_unmet, redirects_unmet}
-use Rattle.sh_facts.specs.Views.{Certificate, Before, Head, Seen, After, Both, in_any_case, after_command, at, gaining, without_job}
+use Rattle.sh_tree.specs.standard.language.Bytes.{is_name}
+use Rattle.sh_tree.specs.standard.program.Syntax as p
+use Rattle.sh_tree.specs.standard.program.Syntax.{Text}
+use Rattle.sh_table.specs.standard.runs.Environment.{Environment, Frame, is_one_of}
+use Rattle.sh_table.specs.standard.runs.Answers.{Answer}
+use Rattle.sh_table.specs.standard.runs.Steps.{opened, command_work, compound, is_started_first, in_process, redirected_before, act_on}
+use Rattle.sh_table.specs.standard.runs.Expansion.{in_one, expand}
+use Rattle.sh_table.specs.standard.runs.States.{fresh}
+use Rattle.sh_table.specs.standard.runs.Work.{Work, Compound, Copies, Effect, goes}
+use Rattle.sh_domain.specs.declared.rule.FlowRule.TheVariants.{F7, F8, F9, F10, F11, F13}
+use Rattle.sh_domain.specs.Demands.{kind_unmet, clauses_unmet, for_words_unmet}
+use Rattle.sh_domain.specs.Entries as entries
+use Rattle.sh_domain.specs.Entries.{Around, alone, in_loop, in_function, items_after, turns, behind_list}
+use Rattle.sh_domain.specs.Facts.{Facts, Declared}
+use Rattle.sh_domain.specs.Gains.{Gains, no_gains, with_gains, word_gains, redirect_gains, redirects_gains}
+use Rattle.sh_domain.specs.Needs.{word_unmet, words_unmet, patterns_unmet, redirect_unmet, redirects_unmet}
+use Rattle.sh_domain.specs.Views.{Certificate, Before, Head, Seen, After, Both, in_any_case, after_command, at, gaining, without_job}
 use Rattle.sh_sound.specs.Holding.{Stands, Holds, OneHolds, Entails}
-use Rattle.sh_facts.specs.Inclusions as i
-use Rattle.sh_facts.specs.Inclusions.{Covers, Leaves, word_formed, field_formed, fields_formed, words_formed, redirect_formed, redirects_formed, for_words_formed, clauses_formed, kind_formed, command_formed, KindRules, EnteredRules}
+use Rattle.sh_domain.specs.Inclusions as i
+use Rattle.sh_domain.specs.Inclusions.{Covers, Leaves, word_formed, field_formed, fields_formed, words_formed, redirect_formed, redirects_formed, for_words_formed, clauses_formed, kind_formed, command_formed, KindRules, EnteredRules}
 use Rattle.sh_sound.specs.Going.{around, front, Bodies, WordAt, WordsAt, PatternsAt, RedirectsAt, ForWordsAt, PatternsOf, KindAt, CompoundAt, FrontGood, Good, GoodIn, Stays, ProcessOk, StartOk, StepOk}
 use Rattle.sh_sound.proofs.HoldLemmas.{each_left, each_right, has_nothing, holds_with, covers_at, gain_holds, holds_gain, has_gain, any_holds, both_holds, leaves_lead}
 use Rattle.sh_sound.proofs.ExpansionLemmas.{none_both}

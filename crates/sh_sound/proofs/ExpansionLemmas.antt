@@ -10,23 +10,23 @@ use Rattle.sh_tree.specs.declared.tree.Binary.{Binary}
 use Rattle.sh_tree.specs.declared.tree.Binary.TheVariants as binary
 use Rattle.sh_tree.specs.declared.tree.SingleStyle.TheVariants as single
 use Rattle.sh_tree.specs.declared.tree.Special.TheVariants as special
-use Rattle.sh_tree.specs.language.Bytes.{is_first, is_name}
-use Rattle.sh_tree.specs.program.Syntax as p
-use Rattle.sh_tree.specs.program.Syntax.{Text}
-use Rattle.sh_table.specs.runs.Answers.{Given}
-use Rattle.sh_table.specs.runs.Arithmetic.{Computed, computes, answered, operated, then_computed, read_name, skips, read_where, stored, operated_assignment, evaluate, evaluate_rest}
-use Rattle.sh_table.specs.runs.Environment.{Environment, Frame, is_one_of, put_text, with_variable, copied}
-use Rattle.sh_table.specs.runs.Expansion.{Context, in_one, in_quotes, in_default, Outcome, gives, followed, pieces_text, has_every, quote_pieces, is_empty_value, special_value, value_of, needed, value_pieces, default_assigned, used, constant_in, behind, tilde_pieces, computed_pieces, expand_part, expand, expand_operator, expand_inside, expand_operands}
-use Rattle.sh_table.specs.runs.Numbers.{is_zero, is_computed, is_operand, digits, integer_text}
-use Rattle.sh_table.specs.runs.States.{State, taken, ending, stray}
-use Rattle.sh_facts.specs.declared.rule.FlowRule.TheVariants.{F11}
-use Rattle.sh_facts.specs.Entries.{word_entered, part_entered, operator_entered, expression_entered, operands_entered, operand_seen}
-use Rattle.sh_facts.specs.Facts.{Facts, NotReached, Known, claims, Declared}
-use Rattle.sh_facts.specs.Gains.{Gains, no_gains, named, and_gains, with_gains, job, sure, operator_gains, surely, assigned_in, operands_assigned, part_gains, word_gains, expanded_gains, operands_gains}
-use Rattle.sh_facts.specs.Needs.{wanted, covers, parameter_text, needed as needs, name_needed, target_needed, reads_unmet, operands_read, part_unmet, word_unmet, operator_unmet, expanded_unmet, operands_expanded}
-use Rattle.sh_facts.specs.Views.{Certificate, Seen, Lose, gaining, without_job, kept, where_known, step}
+use Rattle.sh_tree.specs.standard.language.Bytes.{is_first, is_name}
+use Rattle.sh_tree.specs.standard.program.Syntax as p
+use Rattle.sh_tree.specs.standard.program.Syntax.{Text}
+use Rattle.sh_table.specs.standard.runs.Answers.{Given}
+use Rattle.sh_table.specs.standard.runs.Arithmetic.{Computed, computes, answered, operated, then_computed, read_name, skips, read_where, stored, operated_assignment, evaluate, evaluate_rest}
+use Rattle.sh_table.specs.standard.runs.Environment.{Environment, Frame, is_one_of, put_text, with_variable, copied}
+use Rattle.sh_table.specs.standard.runs.Expansion.{Context, in_one, in_quotes, in_default, Outcome, gives, followed, pieces_text, has_every, quote_pieces, is_empty_value, special_value, value_of, needed, value_pieces, default_assigned, used, constant_in, behind, tilde_pieces, computed_pieces, expand_part, expand, expand_operator, expand_inside, expand_operands}
+use Rattle.sh_table.specs.standard.runs.Numbers.{is_zero, is_computed, is_operand, digits, integer_text}
+use Rattle.sh_table.specs.standard.runs.States.{State, taken, ending, stray}
+use Rattle.sh_domain.specs.declared.rule.FlowRule.TheVariants.{F11}
+use Rattle.sh_domain.specs.Entries.{word_entered, part_entered, operator_entered, expression_entered, operands_entered, operand_seen}
+use Rattle.sh_domain.specs.Facts.{Facts, NotReached, Known, claims, Declared}
+use Rattle.sh_domain.specs.Gains.{Gains, no_gains, named, and_gains, with_gains, job, sure, operator_gains, surely, assigned_in, operands_assigned, part_gains, word_gains, expanded_gains, operands_gains}
+use Rattle.sh_domain.specs.Needs.{wanted, covers, parameter_text, needed as needs, name_needed, target_needed, reads_unmet, operands_read, part_unmet, word_unmet, operator_unmet, expanded_unmet, operands_expanded}
+use Rattle.sh_domain.specs.Views.{Certificate, Seen, Lose, gaining, without_job, kept, where_known, step}
 use Rattle.sh_sound.specs.Holding.{Stands, HoldKnown, Holds, Has, Grows, OneHolds, CopyWell, Expanded}
-use Rattle.sh_facts.specs.Inclusions.{Each, parameter_formed, part_formed, word_formed, operator_formed, expression_formed, operands_formed}
+use Rattle.sh_domain.specs.Inclusions.{Each, parameter_formed, part_formed, word_formed, operator_formed, expression_formed, operands_formed}
 use Rattle.sh_sound.proofs.HoldLemmas.{each_left, each_right, each_both, grows_refl, grows_trans, holds_grow, has_nothing, has_grows, has_both, has_first, has_second, holds_with, one_grows, one_stepped, gain_holds}
 
 -- Lists of places

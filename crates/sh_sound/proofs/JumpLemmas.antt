@@ -1,13 +1,13 @@
 -- Steps of `break`, `continue` and `return`: the marks that they go to, and what is claimed there.
 use Rattle.std.proofs.Common.{◌≡◌, ℕ, ◌-◌, nat_le, Bool, true, false, if◌then◌else◌, List, [], ◌∷◌, Option, Some, None, is_some, refl, sym, subst}
-use Rattle.sh_tree.specs.program.Syntax.{Text}
-use Rattle.sh_table.specs.runs.Environment.{Environment, Frame}
-use Rattle.sh_table.specs.runs.Work.{Saved, Work, Return, Test, Again, ForFields, Mark, no_loop, marked, or_nearer, nth_mark, loop_mark, broken_off, continued, return_mark, Effect, goes}
-use Rattle.sh_facts.specs.Entries.{Around}
-use Rattle.sh_facts.specs.Facts.{Facts, Declared}
-use Rattle.sh_facts.specs.Inclusions.{BreakRules, ContinueRules}
-use Rattle.sh_facts.specs.Rules.{loop_at}
-use Rattle.sh_facts.specs.Views.{Certificate, Head, Seen, After, Both, in_any_case, after_command, at}
+use Rattle.sh_tree.specs.standard.program.Syntax.{Text}
+use Rattle.sh_table.specs.standard.runs.Environment.{Environment, Frame}
+use Rattle.sh_table.specs.standard.runs.Work.{Saved, Work, Return, Test, Again, ForFields, Mark, no_loop, marked, or_nearer, nth_mark, loop_mark, broken_off, continued, return_mark, Effect, goes}
+use Rattle.sh_domain.specs.Entries.{Around}
+use Rattle.sh_domain.specs.Facts.{Facts, Declared}
+use Rattle.sh_domain.specs.Inclusions.{BreakRules, ContinueRules}
+use Rattle.sh_domain.specs.Rules.{loop_at}
+use Rattle.sh_domain.specs.Views.{Certificate, Head, Seen, After, Both, in_any_case, after_command, at}
 use Rattle.sh_sound.specs.Holding.{OneHolds}
 use Rattle.sh_sound.specs.Going.{around, front, OfFirst, after_function, FrontGood, Good, ProcessOk, StepOk}
 use Rattle.sh_sound.proofs.HoldLemmas.{covers_at, both_holds, leaves_lead}

@@ -5,23 +5,23 @@ use Rattle.std.proofs.lemmas.Bool.{and_parts}
 use Rattle.sh_tree.specs.declared.known.KnownName.{KnownName}
 use Rattle.sh_tree.specs.declared.known.KnownName.TheVariants as known
 use Rattle.sh_tree.specs.declared.refusal.Rule.{Rule}
-use Rattle.sh_tree.specs.program.Syntax as p
-use Rattle.sh_tree.specs.program.Syntax.{Text, Word}
-use Rattle.sh_tree.specs.program.Words.{static_of, words_in}
+use Rattle.sh_tree.specs.standard.program.Syntax as p
+use Rattle.sh_tree.specs.standard.program.Syntax.{Text, Word}
+use Rattle.sh_tree.specs.standard.program.Words.{static_of, words_in}
 use Rattle.sh_table.specs.declared.kind.Kind.TheVariants as kind
 use Rattle.sh_table.specs.Profile.{Static, is_count, unless, or_rule, kind_rule}
-use Rattle.sh_table.specs.runs.Answers.{Answer}
-use Rattle.sh_table.specs.runs.Builtins.{special}
-use Rattle.sh_table.specs.runs.Environment.{Environment, Frame}
-use Rattle.sh_table.specs.runs.Numbers.{number_in}
-use Rattle.sh_table.specs.runs.Operands.{count_operand, status_operand}
-use Rattle.sh_table.specs.runs.Work.{Work, loop_mark, broken_off, continued, Effect, goes}
-use Rattle.sh_facts.specs.Entries.{Around}
-use Rattle.sh_facts.specs.Facts.{Declared}
-use Rattle.sh_facts.specs.Inclusions.{surroundings_of, BreakRules, ContinueRules, ReturnRules, JumpRules}
-use Rattle.sh_facts.specs.Operands.{first_number}
-use Rattle.sh_facts.specs.Rules.{loop_at, jump_loop}
-use Rattle.sh_facts.specs.Views.{Certificate, Seen, After}
+use Rattle.sh_table.specs.standard.runs.Answers.{Answer}
+use Rattle.sh_table.specs.standard.runs.Builtins.{special}
+use Rattle.sh_table.specs.standard.runs.Environment.{Environment, Frame}
+use Rattle.sh_table.specs.standard.runs.Numbers.{number_in}
+use Rattle.sh_table.specs.standard.runs.Operands.{count_operand, status_operand}
+use Rattle.sh_table.specs.standard.runs.Work.{Work, loop_mark, broken_off, continued, Effect, goes}
+use Rattle.sh_domain.specs.Entries.{Around}
+use Rattle.sh_domain.specs.Facts.{Declared}
+use Rattle.sh_domain.specs.Inclusions.{surroundings_of, BreakRules, ContinueRules, ReturnRules, JumpRules}
+use Rattle.sh_domain.specs.Operands.{first_number}
+use Rattle.sh_domain.specs.Rules.{loop_at, jump_loop}
+use Rattle.sh_domain.specs.Views.{Certificate, Seen, After}
 use Rattle.sh_sound.specs.Fields.{Operand, Fields}
 use Rattle.sh_sound.specs.Holding.{OneHolds}
 use Rattle.sh_sound.specs.Going.{around, front, Good, ProcessOk, StepOk}

@@ -2,20 +2,20 @@
 use Rattle.std.proofs.Common.{◌≡◌, ℕ, Bool, true, false, not, ◌&&◌, if◌then◌else◌, Some, List, [], ◌∷◌, append-nil, refl, ap, subst, ◌∙◌}
 use Rattle.std.proofs.lemmas.Bool.{and_parts, false≢true}
 use Rattle.std.proofs.Math.Bool.{and-false}
-use Rattle.sh_tree.specs.program.Syntax as p
-use Rattle.sh_tree.specs.program.Syntax.{Text}
-use Rattle.sh_tree.specs.program.Words.{operands_in, redirects_in, static_of, words_in}
-use Rattle.sh_table.specs.Kinds.{kind_of, is_declaration}
+use Rattle.sh_tree.specs.standard.program.Syntax as p
+use Rattle.sh_tree.specs.standard.program.Syntax.{Text}
+use Rattle.sh_tree.specs.standard.program.Words.{operands_in, redirects_in, static_of, words_in}
+use Rattle.sh_table.specs.standard.Kinds.{kind_of, is_declaration}
 use Rattle.sh_table.specs.declared.kind.Kind.TheVariants as kind
-use Rattle.sh_table.specs.runs.Environment.{Environment, Frame, is_one_of}
-use Rattle.sh_facts.specs.Entries.{Around}
-use Rattle.sh_facts.specs.Facts.{Facts, NotReached, Known, Declared}
-use Rattle.sh_facts.specs.Inclusions as i
-use Rattle.sh_facts.specs.Inclusions.{Covers, MayDrop, behind, KindRules, SimpleRules, UtilityRules, CallRules}
-use Rattle.sh_facts.specs.Operands.{Names}
-use Rattle.sh_facts.specs.Rules.{losses_by}
-use Rattle.sh_facts.specs.Table.{Manner, Nameless, Utility, Call, is_special, manner_of_name, manner_of_words, manner, is_redirected, assignments_gains, after_utility, after_nameless}
-use Rattle.sh_facts.specs.Views.{Certificate, AfterNonzero, Lose, Seen, if_nonzero, at, gaining, stepped, where_known, step, lost}
+use Rattle.sh_table.specs.standard.runs.Environment.{Environment, Frame, is_one_of}
+use Rattle.sh_domain.specs.Entries.{Around}
+use Rattle.sh_domain.specs.Facts.{Facts, NotReached, Known, Declared}
+use Rattle.sh_domain.specs.Inclusions as i
+use Rattle.sh_domain.specs.Inclusions.{Covers, MayDrop, behind, KindRules, SimpleRules, UtilityRules, CallRules}
+use Rattle.sh_domain.specs.Operands.{Names}
+use Rattle.sh_domain.specs.Rules.{losses_by}
+use Rattle.sh_domain.specs.Table.{Manner, Nameless, Utility, Call, is_special, manner_of_name, manner_of_words, manner, is_redirected, assignments_gains, after_utility, after_nameless}
+use Rattle.sh_domain.specs.Views.{Certificate, AfterNonzero, Lose, Seen, if_nonzero, at, gaining, stepped, where_known, step, lost}
 use Rattle.sh_sound.specs.Fields.{Fields, Begun, FieldsFit}
 use Rattle.sh_sound.specs.Holding.{Holds, OneHolds, Entails}
 use Rattle.sh_sound.specs.Going.{WordAt}

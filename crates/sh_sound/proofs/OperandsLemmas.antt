@@ -7,17 +7,17 @@ use Rattle.std.proofs.lemmas.List.Elements.{filter_map-append}
 use Rattle.std.proofs.lemmas.List.{map-append}
 use Rattle.std.proofs.lemmas.List.Folds.{list_any-append}
 use Rattle.std.proofs.lemmas.Option.{none-some}
-use Rattle.sh_tree.specs.language.Bytes.{is_first, is_name, is_name_start, is_name_byte, run, name_length}
-use Rattle.sh_tree.specs.language.Commands.{is_assignment}
-use Rattle.sh_tree.specs.program.Syntax.{Text, Plain, Word, no_parts, more_parts}
-use Rattle.sh_tree.specs.program.Words.{static_of, assignment_in, before_word}
+use Rattle.sh_tree.specs.standard.language.Bytes.{is_first, is_name, is_name_start, is_name_byte, run, name_length}
+use Rattle.sh_tree.specs.standard.language.Commands.{is_assignment}
+use Rattle.sh_tree.specs.standard.program.Syntax.{Text, Plain, Word, no_parts, more_parts}
+use Rattle.sh_tree.specs.standard.program.Words.{static_of, assignment_in, before_word}
 use Rattle.sh_table.specs.Profile.{Static, sets_known, has_inner_o, is_signed, is_argument}
-use Rattle.sh_table.specs.runs.Environment.{is_one_of}
-use Rattle.sh_table.specs.runs.Numbers.{number_in}
-use Rattle.sh_table.specs.runs.Operands as o
-use Rattle.sh_table.specs.runs.Operands.{definition_in, definitions_in, ends_options, is_set_option, ends_in_o, set_from, count_operand, has_command, second_name, getopts_name}
-use Rattle.sh_facts.specs.Operands.{statics, declared_names, read_names, getopts_names, words_from, first_number, runs_command}
-use Rattle.sh_facts.specs.Gains.{job}
+use Rattle.sh_table.specs.standard.runs.Environment.{is_one_of}
+use Rattle.sh_table.specs.standard.runs.Numbers.{number_in}
+use Rattle.sh_table.specs.standard.runs.Operands as o
+use Rattle.sh_table.specs.standard.runs.Operands.{definition_in, definitions_in, ends_options, is_set_option, ends_in_o, set_from, count_operand, has_command, second_name, getopts_name}
+use Rattle.sh_domain.specs.Operands.{statics, declared_names, read_names, getopts_names, words_from, first_number, runs_command}
+use Rattle.sh_domain.specs.Gains.{job}
 use Rattle.sh_sound.specs.Fields.{Operand, Fields}
 use Rattle.sh_sound.proofs.FieldsLemmas.{is_form}
 

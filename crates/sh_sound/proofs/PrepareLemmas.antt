@@ -1,27 +1,27 @@
 -- Steps of the redirections and assignments of simple commands.
 use Rattle.std.proofs.Common.{◌≡◌, ℕ, ◌==◌, Bool, true, false, ◌&&◌, if◌then◌else◌, Option, Some, None, is_some, List, [], ◌∷◌, map, refl, sym, ap, subst, ◌∙◌, ◌⊎◌, inl, inr}
 use Rattle.std.proofs.lemmas.Bool.{and_parts, false≢true}
-use Rattle.sh_tree.specs.language.Bytes.{is_name}
-use Rattle.sh_tree.specs.program.Syntax as p
-use Rattle.sh_tree.specs.program.Syntax.{Text}
-use Rattle.sh_tree.specs.program.Words.{Assignments, redirects_in, assignments_in}
-use Rattle.sh_table.specs.Kinds.{kind_of, is_declaration}
+use Rattle.sh_tree.specs.standard.language.Bytes.{is_name}
+use Rattle.sh_tree.specs.standard.program.Syntax as p
+use Rattle.sh_tree.specs.standard.program.Syntax.{Text}
+use Rattle.sh_tree.specs.standard.program.Words.{Assignments, redirects_in, assignments_in}
+use Rattle.sh_table.specs.standard.Kinds.{kind_of, is_declaration}
 use Rattle.sh_table.specs.declared.kind.Kind.{Kind}
 use Rattle.sh_table.specs.declared.kind.Kind.TheVariants as kind
-use Rattle.sh_table.specs.runs.Environment.{Environment, Frame, is_one_of, with_variable}
-use Rattle.sh_table.specs.runs.Answers.{Answer}
-use Rattle.sh_table.specs.runs.Builtins.{nonzero}
-use Rattle.sh_table.specs.runs.Expansion.{in_one, Outcome, pieces_text, expand}
-use Rattle.sh_table.specs.runs.States.{State, fresh}
-use Rattle.sh_table.specs.runs.Steps.{opened, Manner, Nameless, Special, Named, named_manner, manner, status_behind, may_copy, invoked, unless_ended, failed_in, redirected, assignment}
-use Rattle.sh_table.specs.runs.Work.{Simple, Work, Prepare, Utility, Call, Effect, goes, after_expansion}
-use Rattle.sh_facts.specs.Entries.{Around}
-use Rattle.sh_facts.specs.Facts.{Facts, NotReached, Known, Function, claims, Declared}
-use Rattle.sh_facts.specs.Gains.{Gains, named, and_gains, word_gains, redirect_gains, redirects_gains}
-use Rattle.sh_facts.specs.Inclusions.{Leaves, SimpleRules, behind}
-use Rattle.sh_facts.specs.Table as table
-use Rattle.sh_facts.specs.Table.{after_nameless, prefixes, is_special, values_gains, is_redirected, assignments_gains, redirections_gains}
-use Rattle.sh_facts.specs.Views.{Certificate, Seen, Both, in_any_case, if_zero, if_nonzero, after_command, gaining, gaining_names}
+use Rattle.sh_table.specs.standard.runs.Environment.{Environment, Frame, is_one_of, with_variable}
+use Rattle.sh_table.specs.standard.runs.Answers.{Answer}
+use Rattle.sh_table.specs.standard.runs.Builtins.{nonzero}
+use Rattle.sh_table.specs.standard.runs.Expansion.{in_one, Outcome, pieces_text, expand}
+use Rattle.sh_table.specs.standard.runs.States.{State, fresh}
+use Rattle.sh_table.specs.standard.runs.Steps.{opened, Manner, Nameless, Special, Named, named_manner, manner, status_behind, may_copy, invoked, unless_ended, failed_in, redirected, assignment}
+use Rattle.sh_table.specs.standard.runs.Work.{Simple, Work, Prepare, Utility, Call, Effect, goes, after_expansion}
+use Rattle.sh_domain.specs.Entries.{Around}
+use Rattle.sh_domain.specs.Facts.{Facts, NotReached, Known, Function, claims, Declared}
+use Rattle.sh_domain.specs.Gains.{Gains, named, and_gains, word_gains, redirect_gains, redirects_gains}
+use Rattle.sh_domain.specs.Inclusions.{Leaves, SimpleRules, behind}
+use Rattle.sh_domain.specs.Table as table
+use Rattle.sh_domain.specs.Table.{after_nameless, prefixes, is_special, values_gains, is_redirected, assignments_gains, redirections_gains}
+use Rattle.sh_domain.specs.Views.{Certificate, Seen, Both, in_any_case, if_zero, if_nonzero, after_command, gaining, gaining_names}
 use Rattle.sh_sound.specs.Holding.{Holds, Has, Grows, OneHolds, Entails, Expanded}
 use Rattle.sh_sound.specs.Going.{around, front, unset_before, Bodies, FrontGood, Good, GoodIn, ProcessOk, StepOk}
 use Rattle.sh_sound.specs.Fields.{Fields, FieldsFit}

@@ -3,29 +3,29 @@ use Rattle.std.proofs.Common.{◌≡◌, ℕ, Bool, true, false, not, ◌&&◌, 
 use Rattle.std.proofs.lemmas.Bool.{true≢false}
 use Rattle.sh_tree.specs.declared.known.KnownName.{KnownName}
 use Rattle.sh_tree.specs.declared.refusal.Rule.{Rule}
-use Rattle.sh_tree.specs.program.Syntax as p
-use Rattle.sh_tree.specs.program.Syntax.{Text, Word}
-use Rattle.sh_tree.specs.program.Words.{Assignments, operands_in, static_of, words_in, is_plainly}
+use Rattle.sh_tree.specs.standard.program.Syntax as p
+use Rattle.sh_tree.specs.standard.program.Syntax.{Text, Word}
+use Rattle.sh_tree.specs.standard.program.Words.{Assignments, operands_in, static_of, words_in, is_plainly}
 use Rattle.sh_table.specs.declared.kind.Kind.{Kind}
 use Rattle.sh_table.specs.declared.kind.Kind.TheVariants as kind
-use Rattle.sh_table.specs.Kinds.{kind_of, is_declaration}
+use Rattle.sh_table.specs.standard.Kinds.{kind_of, is_declaration}
 use Rattle.sh_table.specs.Profile.{Static, or_rule, kind_rule, named_rule, words_rule, command_rule}
 use Rattle.sh_table.specs.Surroundings.{Surroundings}
-use Rattle.sh_table.specs.runs.Environment.{Environment, Frame}
-use Rattle.sh_table.specs.runs.Answers.{Answer}
-use Rattle.sh_table.specs.runs.Builtins.{special, special_or_end}
-use Rattle.sh_table.specs.runs.Steps.{Manner, Special, Named, named_manner, manner, in_order, in_any_order, next_preparation, prepared, prepare, act_on}
-use Rattle.sh_table.specs.runs.Work.{Simple, Work, Prepare, Effect, ends}
-use Rattle.sh_facts.specs.Demands.{command_moves, moves, kind_moves, is_reached}
-use Rattle.sh_facts.specs.Entries.{Around}
-use Rattle.sh_facts.specs.Facts.{Facts, NotReached, Known, claims, facts, Declared}
-use Rattle.sh_facts.specs.Gains.{Gains, and_gains, with_gains, words_gains, redirects_gains}
-use Rattle.sh_facts.specs.Inclusions as i
-use Rattle.sh_facts.specs.Inclusions.{MayDrop, SimpleRules, UtilityRules, behind, surroundings_of}
-use Rattle.sh_facts.specs.Rules.{utility_losses, losses_by}
-use Rattle.sh_facts.specs.Table as table
-use Rattle.sh_facts.specs.Table.{is_special, values_gains}
-use Rattle.sh_facts.specs.Views.{Certificate, Before, Seen, in_any_case, after_command, lost}
+use Rattle.sh_table.specs.standard.runs.Environment.{Environment, Frame}
+use Rattle.sh_table.specs.standard.runs.Answers.{Answer}
+use Rattle.sh_table.specs.standard.runs.Builtins.{special, special_or_end}
+use Rattle.sh_table.specs.standard.runs.Steps.{Manner, Special, Named, named_manner, manner, in_order, in_any_order, next_preparation, prepared, prepare, act_on}
+use Rattle.sh_table.specs.standard.runs.Work.{Simple, Work, Prepare, Effect, ends}
+use Rattle.sh_domain.specs.Demands.{command_moves, moves, kind_moves, is_reached}
+use Rattle.sh_domain.specs.Entries.{Around}
+use Rattle.sh_domain.specs.Facts.{Facts, NotReached, Known, claims, facts, Declared}
+use Rattle.sh_domain.specs.Gains.{Gains, and_gains, with_gains, words_gains, redirects_gains}
+use Rattle.sh_domain.specs.Inclusions as i
+use Rattle.sh_domain.specs.Inclusions.{MayDrop, SimpleRules, UtilityRules, behind, surroundings_of}
+use Rattle.sh_domain.specs.Rules.{utility_losses, losses_by}
+use Rattle.sh_domain.specs.Table as table
+use Rattle.sh_domain.specs.Table.{is_special, values_gains}
+use Rattle.sh_domain.specs.Views.{Certificate, Before, Seen, in_any_case, after_command, lost}
 use Rattle.sh_sound.specs.Fields.{Fields, FieldsFit}
 use Rattle.sh_sound.specs.Holding.{Holds, OneHolds}
 use Rattle.sh_sound.specs.Going.{around, front, FrontGood, Good, GoodIn, ProcessOk, StepOk}

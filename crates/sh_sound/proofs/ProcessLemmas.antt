@@ -1,21 +1,21 @@
 -- Steps of pipelines and of asynchronous items.
 use Rattle.std.proofs.Common.{◌≡◌, ℕ, suc, Bool, true, false, if◌then◌else◌, List, [], ◌∷◌, Some, refl, sym, subst, arith}
-use Rattle.sh_tree.specs.program.Syntax as p
-use Rattle.sh_tree.specs.program.Syntax.{Text}
-use Rattle.sh_table.specs.runs.Environment.{Environment, Frame, copied}
-use Rattle.sh_table.specs.runs.Answers.{Answer}
-use Rattle.sh_table.specs.runs.Steps as steps
-use Rattle.sh_table.specs.runs.Steps.{negated_work, parts, piped, and_or_work, act_on}
-use Rattle.sh_table.specs.runs.Work.{Work, Items, Pipeline, Command, Shares, Copies, Effect}
-use Rattle.sh_facts.specs.declared.rule.FlowRule.{FlowRule}
-use Rattle.sh_facts.specs.declared.rule.FlowRule.TheVariants.{F2, F11, F12}
-use Rattle.sh_facts.specs.Entries as entries
-use Rattle.sh_facts.specs.Entries.{Around, alone, in_part, items_after, item_after, links_after, pipeline_after, parts_after, list_after}
-use Rattle.sh_facts.specs.Facts.{Facts, Declared}
-use Rattle.sh_facts.specs.Gains.{named, job}
-use Rattle.sh_facts.specs.Views.{Certificate, Seen, After, Both, if_zero, in_any_case, swapped, after_command, without_job}
+use Rattle.sh_tree.specs.standard.program.Syntax as p
+use Rattle.sh_tree.specs.standard.program.Syntax.{Text}
+use Rattle.sh_table.specs.standard.runs.Environment.{Environment, Frame, copied}
+use Rattle.sh_table.specs.standard.runs.Answers.{Answer}
+use Rattle.sh_table.specs.standard.runs.Steps as steps
+use Rattle.sh_table.specs.standard.runs.Steps.{negated_work, parts, piped, and_or_work, act_on}
+use Rattle.sh_table.specs.standard.runs.Work.{Work, Items, Pipeline, Command, Shares, Copies, Effect}
+use Rattle.sh_domain.specs.declared.rule.FlowRule.{FlowRule}
+use Rattle.sh_domain.specs.declared.rule.FlowRule.TheVariants.{F2, F11, F12}
+use Rattle.sh_domain.specs.Entries as entries
+use Rattle.sh_domain.specs.Entries.{Around, alone, in_part, items_after, item_after, links_after, pipeline_after, parts_after, list_after}
+use Rattle.sh_domain.specs.Facts.{Facts, Declared}
+use Rattle.sh_domain.specs.Gains.{named, job}
+use Rattle.sh_domain.specs.Views.{Certificate, Seen, After, Both, if_zero, in_any_case, swapped, after_command, without_job}
 use Rattle.sh_sound.specs.Holding.{Stands, Has, Grows, OneHolds}
-use Rattle.sh_facts.specs.Inclusions as i
+use Rattle.sh_domain.specs.Inclusions as i
 use Rattle.sh_sound.specs.Going.{around, number_of, Began, front, CommandAt, Bodies, FrontGood, Good, GoodIn, Stays, ProcessOk, StartOk, StartsOk, NextOk, StepOk}
 use Rattle.sh_sound.proofs.HoldLemmas.{each_left, each_right, one_grows, gain_holds, any_holds, both_holds}
 use Rattle.sh_sound.proofs.ExpansionLemmas.{job_no_name, one_name, without_job_holds}

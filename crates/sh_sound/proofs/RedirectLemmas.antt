@@ -1,16 +1,16 @@
 -- Steps of the redirections of simple commands, of utilities and of functions.
 use Rattle.std.proofs.Common.{◌≡◌, ℕ, Bool, true, false, ◌&&◌, ◌||◌, if◌then◌else◌, is_some, List, refl, sym, subst}
-use Rattle.sh_tree.specs.program.Syntax.{Text}
-use Rattle.sh_table.specs.runs.Environment.{Environment, Frame}
-use Rattle.sh_table.specs.runs.Answers.{Answer}
-use Rattle.sh_table.specs.runs.Builtins.{nonzero}
-use Rattle.sh_table.specs.runs.States.{State, fresh}
-use Rattle.sh_table.specs.runs.Steps.{Manner, Nameless, Special, Named, status_behind, unless_ended, failed_in, redirected}
-use Rattle.sh_table.specs.runs.Work.{Work, Effect, goes, ends, after_expansion}
-use Rattle.sh_facts.specs.Entries.{Around}
-use Rattle.sh_facts.specs.Facts.{Declared}
-use Rattle.sh_facts.specs.Gains.{Gains}
-use Rattle.sh_facts.specs.Views.{Certificate, AfterNonzero, Seen, after_command, at, if_nonzero}
+use Rattle.sh_tree.specs.standard.program.Syntax.{Text}
+use Rattle.sh_table.specs.standard.runs.Environment.{Environment, Frame}
+use Rattle.sh_table.specs.standard.runs.Answers.{Answer}
+use Rattle.sh_table.specs.standard.runs.Builtins.{nonzero}
+use Rattle.sh_table.specs.standard.runs.States.{State, fresh}
+use Rattle.sh_table.specs.standard.runs.Steps.{Manner, Nameless, Special, Named, status_behind, unless_ended, failed_in, redirected}
+use Rattle.sh_table.specs.standard.runs.Work.{Work, Effect, goes, ends, after_expansion}
+use Rattle.sh_domain.specs.Entries.{Around}
+use Rattle.sh_domain.specs.Facts.{Declared}
+use Rattle.sh_domain.specs.Gains.{Gains}
+use Rattle.sh_domain.specs.Views.{Certificate, AfterNonzero, Seen, after_command, at, if_nonzero}
 use Rattle.sh_sound.specs.Holding.{Grows, OneHolds, Expanded}
 use Rattle.sh_sound.specs.Going.{Bodies, front, Good, ProcessOk, StepOk}
 use Rattle.sh_sound.proofs.HoldLemmas.{grows_refl}

@@ -1,19 +1,19 @@
 -- Steps that return from a function: at its end, and by `return`.
 use Rattle.std.proofs.Common.{◌≡◌, ℕ, ◌==◌, Bool, true, false, if◌then◌else◌, List, [], ◌∷◌, Option, Some, None, is_some, unwrap_or, refl, sym, subst}
-use Rattle.sh_tree.specs.program.Syntax as p
-use Rattle.sh_tree.specs.program.Syntax.{Text, Word}
-use Rattle.sh_tree.specs.program.Words.{words_in}
-use Rattle.sh_table.specs.runs.Answers.{Answer}
-use Rattle.sh_table.specs.runs.Builtins.{restored, returned}
-use Rattle.sh_table.specs.runs.Environment.{Environment, Frame}
-use Rattle.sh_table.specs.runs.Operands.{status_operand}
-use Rattle.sh_table.specs.runs.Steps.{act_on}
-use Rattle.sh_table.specs.runs.Work.{Saved, Work, Return, return_mark, Pops, Effect, goes}
-use Rattle.sh_facts.specs.Entries.{Around}
-use Rattle.sh_facts.specs.Facts.{Facts, Declared}
-use Rattle.sh_facts.specs.Inclusions.{Covers, StatusRules, ReturnRules}
-use Rattle.sh_facts.specs.Operands.{status, return_status}
-use Rattle.sh_facts.specs.Views.{Certificate, ReturnsZero, ReturnsNonzero, Seen, After, if_zero, if_nonzero, after_command}
+use Rattle.sh_tree.specs.standard.program.Syntax as p
+use Rattle.sh_tree.specs.standard.program.Syntax.{Text, Word}
+use Rattle.sh_tree.specs.standard.program.Words.{words_in}
+use Rattle.sh_table.specs.standard.runs.Answers.{Answer}
+use Rattle.sh_table.specs.standard.runs.Builtins.{restored, returned}
+use Rattle.sh_table.specs.standard.runs.Environment.{Environment, Frame}
+use Rattle.sh_table.specs.standard.runs.Operands.{status_operand}
+use Rattle.sh_table.specs.standard.runs.Steps.{act_on}
+use Rattle.sh_table.specs.standard.runs.Work.{Saved, Work, Return, return_mark, Pops, Effect, goes}
+use Rattle.sh_domain.specs.Entries.{Around}
+use Rattle.sh_domain.specs.Facts.{Facts, Declared}
+use Rattle.sh_domain.specs.Inclusions.{Covers, StatusRules, ReturnRules}
+use Rattle.sh_domain.specs.Operands.{status, return_status}
+use Rattle.sh_domain.specs.Views.{Certificate, ReturnsZero, ReturnsNonzero, Seen, After, if_zero, if_nonzero, after_command}
 use Rattle.sh_sound.specs.Holding.{OneHolds, AfterHolds}
 use Rattle.sh_sound.specs.Going.{around, front, frames_behind, FrameStays, OfFirst, after_function, Bodies, Good, GoodIn, Stays, ProcessOk, NextOk, StartsOk, StepOk}
 use Rattle.sh_sound.proofs.HoldLemmas.{covers_at}

@@ -1,6 +1,6 @@
 -- What holds of programs that are formed holds of every script that is read.
-use Rattle.sh_tree.specs.program.Trees.{script_of}
-use Rattle.sh_facts.proofs.ReadLemmas.{read_formed}
+use Rattle.sh_tree.specs.standard.program.Trees.{script_of}
+use Rattle.sh_domain.proofs.ReadLemmas.{read_formed}
 use Rattle.sh_sound.specs.Theorem.{ScriptsExpandNothingUnset, ScriptsHaveNoEvents}
 use Rattle.sh_sound.proofs.EventLemmas.{have_no_events}
 use Rattle.sh_sound.proofs.TheoremLemmas.{rules_suffice}

@@ -1,15 +1,15 @@
 -- Special built-in utilities, by what the table says of each.
 use Rattle.std.proofs.Common.{◌≡◌, ℕ, ◌-◌, ◌≤◌, true, List, [], ◌∷◌, length, refl, sym, subst, ◌∙◌, arith}
-use Rattle.sh_tree.specs.program.Syntax.{Text}
-use Rattle.sh_table.specs.runs.Environment.{Environment, Frame}
-use Rattle.sh_table.specs.runs.Work.{Work, Return, Keeps, Effect, goes}
-use Rattle.sh_facts.specs.Entries.{Around}
-use Rattle.sh_facts.specs.Facts.{Facts, NotReached, Known, Declared}
-use Rattle.sh_facts.specs.Gains.{Gains, named}
-use Rattle.sh_facts.specs.Inclusions as i
-use Rattle.sh_facts.specs.Inclusions.{Leaves, MayDrop, UtilityRules, behind, surroundings_of}
-use Rattle.sh_facts.specs.Operands.{Names, total}
-use Rattle.sh_facts.specs.Views.{Certificate, Count, Shift, Seen, After, stepped, where_known, step}
+use Rattle.sh_tree.specs.standard.program.Syntax.{Text}
+use Rattle.sh_table.specs.standard.runs.Environment.{Environment, Frame}
+use Rattle.sh_table.specs.standard.runs.Work.{Work, Return, Keeps, Effect, goes}
+use Rattle.sh_domain.specs.Entries.{Around}
+use Rattle.sh_domain.specs.Facts.{Facts, NotReached, Known, Declared}
+use Rattle.sh_domain.specs.Gains.{Gains, named}
+use Rattle.sh_domain.specs.Inclusions as i
+use Rattle.sh_domain.specs.Inclusions.{Leaves, MayDrop, UtilityRules, behind, surroundings_of}
+use Rattle.sh_domain.specs.Operands.{Names, total}
+use Rattle.sh_domain.specs.Views.{Certificate, Count, Shift, Seen, After, stepped, where_known, step}
 use Rattle.sh_sound.specs.Holding.{Holds, Has, OneHolds, AfterHolds}
 use Rattle.sh_sound.specs.Going.{around, front, frames_behind, FrameStays, OfFirst, Bodies, Good, Stays, NextOk, StartsOk, ProcessOk, StepOk}
 use Rattle.sh_sound.proofs.HoldLemmas.{grows_refl, one_stepped}

@@ -2,31 +2,31 @@
 use Rattle.std.proofs.Common.{◌≡◌, ℕ, ◌-◌, ◌==◌, ◌≤◌, nat_le, Bool, true, false, ◌||◌, if◌then◌else◌, Option, Some, None, is_some, List, [], ◌∷◌, map, length, drop, filter, bytes_eq, refl, sym, ap, subst, ◌∙◌, arith, length-drop}
 use Rattle.std.specs.List.{list_all}
 use Rattle.std.proofs.lemmas.Bool.{false≢true, true≢false}
-use Rattle.sh_tree.specs.program.Syntax as p
-use Rattle.sh_tree.specs.program.Syntax.{Text, Word}
-use Rattle.sh_tree.specs.program.Words.{operands_in, redirects_in, static_of, words_in}
+use Rattle.sh_tree.specs.standard.program.Syntax as p
+use Rattle.sh_tree.specs.standard.program.Syntax.{Text, Word}
+use Rattle.sh_tree.specs.standard.program.Words.{operands_in, redirects_in, static_of, words_in}
 use Rattle.sh_tree.specs.declared.known.KnownName.{KnownName}
 use Rattle.sh_tree.specs.declared.known.KnownName.TheVariants as known
 use Rattle.sh_table.specs.declared.kind.Kind.TheVariants as kind
-use Rattle.sh_table.specs.Kinds.{is_declaration}
+use Rattle.sh_table.specs.standard.Kinds.{is_declaration}
 use Rattle.sh_table.specs.Profile.{sets_known, kind_rule}
-use Rattle.sh_table.specs.runs.Environment.{Environment, Frame, is_one_of, put_text, with_function, showing}
-use Rattle.sh_table.specs.runs.Answers.{Answer}
-use Rattle.sh_table.specs.runs.Builtins.{nonzero, set_frame, shifted, special, unset_names, removed_all}
-use Rattle.sh_table.specs.runs.Operands.{definitions_in, has_command, set_words, count_operand, unset_operands}
-use Rattle.sh_table.specs.runs.Work.{Work, Effect, goes}
+use Rattle.sh_table.specs.standard.runs.Environment.{Environment, Frame, is_one_of, put_text, with_function, showing}
+use Rattle.sh_table.specs.standard.runs.Answers.{Answer}
+use Rattle.sh_table.specs.standard.runs.Builtins.{nonzero, set_frame, shifted, special, unset_names, removed_all}
+use Rattle.sh_table.specs.standard.runs.Operands.{definitions_in, has_command, set_words, count_operand, unset_operands}
+use Rattle.sh_table.specs.standard.runs.Work.{Work, Effect, goes}
 use Rattle.sh_table.proofs.EnvironmentLemmas.{all_removed_kept}
-use Rattle.sh_facts.specs.Demands.{kind_moves}
-use Rattle.sh_facts.specs.Entries.{Around}
-use Rattle.sh_facts.specs.Facts.{facts, Declared}
-use Rattle.sh_facts.specs.Gains.{Gains, named, and_gains, words_gains}
-use Rattle.sh_facts.specs.Inclusions as i
-use Rattle.sh_facts.specs.Inclusions.{Leaves, MayDrop, UtilityRules, behind, surroundings_of}
-use Rattle.sh_facts.specs.Operands as operands
-use Rattle.sh_facts.specs.Operands.{Names, statics, total, positional_words, first_number, runs_command, declared_names}
-use Rattle.sh_facts.specs.Rules.{utility_losses}
-use Rattle.sh_facts.specs.Table.{prefixes, assignments_gains, redirections_gains, is_redirected, after_utility, after_set, after_shift}
-use Rattle.sh_facts.specs.Views.{Certificate, Before, Count, Shift, Seen, After, Both, if_zero, if_nonzero, after_command, gaining, gaining_names, stepped, Lose, lost}
+use Rattle.sh_domain.specs.Demands.{kind_moves}
+use Rattle.sh_domain.specs.Entries.{Around}
+use Rattle.sh_domain.specs.Facts.{facts, Declared}
+use Rattle.sh_domain.specs.Gains.{Gains, named, and_gains, words_gains}
+use Rattle.sh_domain.specs.Inclusions as i
+use Rattle.sh_domain.specs.Inclusions.{Leaves, MayDrop, UtilityRules, behind, surroundings_of}
+use Rattle.sh_domain.specs.Operands as operands
+use Rattle.sh_domain.specs.Operands.{Names, statics, total, positional_words, first_number, runs_command, declared_names}
+use Rattle.sh_domain.specs.Rules.{utility_losses}
+use Rattle.sh_domain.specs.Table.{prefixes, assignments_gains, redirections_gains, is_redirected, after_utility, after_set, after_shift}
+use Rattle.sh_domain.specs.Views.{Certificate, Before, Count, Shift, Seen, After, Both, if_zero, if_nonzero, after_command, gaining, gaining_names, stepped, Lose, lost}
 use Rattle.sh_sound.specs.Fields.{Fields}
 use Rattle.sh_sound.specs.Holding.{Has, OneHolds, AfterHolds}
 use Rattle.sh_sound.specs.Going.{around, front, Bodies, BodyOk, Good, ProcessOk, StepOk}

@@ -1,19 +1,19 @@
 -- Steps that expand a word.
 use Rattle.std.proofs.Common.{◌≡◌, ℕ, Bool, true, false, if◌then◌else◌, List, [], ◌∷◌, ◌++◌, Option, refl, sym, subst}
-use Rattle.sh_tree.specs.program.Syntax as p
-use Rattle.sh_tree.specs.program.Syntax.{Text}
-use Rattle.sh_table.specs.runs.Environment.{Environment, Frame}
-use Rattle.sh_table.specs.runs.Answers.{Answer}
-use Rattle.sh_table.specs.runs.States.{State, Copy, fresh}
-use Rattle.sh_table.specs.runs.Expansion.{Context, expand}
-use Rattle.sh_table.specs.runs.Steps.{unless_ended}
-use Rattle.sh_table.specs.runs.Work.{Work, Items, Keeps, Effect, goes, ends, of_copies, after_expansion}
-use Rattle.sh_facts.specs.Entries.{Around, alone}
-use Rattle.sh_facts.specs.Facts.{Declared}
-use Rattle.sh_facts.specs.Gains.{Gains, word_gains}
-use Rattle.sh_facts.specs.Views.{Certificate, Seen, After, Both, gaining}
+use Rattle.sh_tree.specs.standard.program.Syntax as p
+use Rattle.sh_tree.specs.standard.program.Syntax.{Text}
+use Rattle.sh_table.specs.standard.runs.Environment.{Environment, Frame}
+use Rattle.sh_table.specs.standard.runs.Answers.{Answer}
+use Rattle.sh_table.specs.standard.runs.States.{State, Copy, fresh}
+use Rattle.sh_table.specs.standard.runs.Expansion.{Context, expand}
+use Rattle.sh_table.specs.standard.runs.Steps.{unless_ended}
+use Rattle.sh_table.specs.standard.runs.Work.{Work, Items, Keeps, Effect, goes, ends, of_copies, after_expansion}
+use Rattle.sh_domain.specs.Entries.{Around, alone}
+use Rattle.sh_domain.specs.Facts.{Declared}
+use Rattle.sh_domain.specs.Gains.{Gains, word_gains}
+use Rattle.sh_domain.specs.Views.{Certificate, Seen, After, Both, gaining}
 use Rattle.sh_sound.specs.Holding.{Grows, OneHolds, AfterHolds, CopyWell, Expanded}
-use Rattle.sh_facts.specs.Inclusions as i
+use Rattle.sh_domain.specs.Inclusions as i
 use Rattle.sh_sound.specs.Going.{around, Bodies, front, FrameStays, WordAt, FrontGood, Good, GoodIn, Stays, ProcessOk, StartOk, StartsOk, StepOk}
 use Rattle.sh_sound.proofs.HoldLemmas.{each_both, one_grows, gain_holds, both_holds}
 use Rattle.sh_sound.proofs.ExpansionLemmas.{word_does}

@@ -4,21 +4,21 @@ use Rattle.std.specs.List.{list_all, cons_option}
 use Rattle.std.proofs.lemmas.Bool.{and_parts, or_cases, or_left, or_right}
 use Rattle.std.proofs.lemmas.Option.{same_Some, none-some}
 use Rattle.std.proofs.lemmas.Slice.Eq.{bytes_eq-Decides}
-use Rattle.sh_tree.specs.language.Bytes.{is_name}
-use Rattle.sh_tree.specs.program.Syntax as p
-use Rattle.sh_tree.specs.program.Syntax.{Text}
-use Rattle.sh_table.specs.runs.Environment.{Environment, Frame, is_one_of}
-use Rattle.sh_table.specs.runs.Work.{Work, Items}
-use Rattle.sh_table.specs.runs.Worlds.{Process, World, start_names, start_world, IsStart}
-use Rattle.sh_facts.specs.declared.rule.FlowRule.TheVariants.{F1}
-use Rattle.sh_facts.specs.Entries.{Around, Entered, alone, script_entered}
-use Rattle.sh_facts.specs.Facts.{Declared, start_facts}
-use Rattle.sh_facts.specs.Gains.{job}
-use Rattle.sh_facts.specs.Inclusions.{Each, EnteredRules, is_formed, command_formed, kind_formed, redirects_formed}
-use Rattle.sh_facts.specs.Rules.{defined_by, functions_of}
-use Rattle.sh_facts.specs.Views.{Certificate, Seen, Both, at_start, steps, source_facts}
-use Rattle.sh_facts.proofs.EnteredWalk.{script_formed}
-use Rattle.sh_facts.proofs.InclusionLemmas.{rules_give}
+use Rattle.sh_tree.specs.standard.language.Bytes.{is_name}
+use Rattle.sh_tree.specs.standard.program.Syntax as p
+use Rattle.sh_tree.specs.standard.program.Syntax.{Text}
+use Rattle.sh_table.specs.standard.runs.Environment.{Environment, Frame, is_one_of}
+use Rattle.sh_table.specs.standard.runs.Work.{Work, Items}
+use Rattle.sh_table.specs.standard.runs.Worlds.{Process, World, start_names, start_world, IsStart}
+use Rattle.sh_domain.specs.declared.rule.FlowRule.TheVariants.{F1}
+use Rattle.sh_domain.specs.Entries.{Around, Entered, alone, script_entered}
+use Rattle.sh_domain.specs.Facts.{Declared, start_facts}
+use Rattle.sh_domain.specs.Gains.{job}
+use Rattle.sh_domain.specs.Inclusions.{Each, EnteredRules, is_formed, command_formed, kind_formed, redirects_formed}
+use Rattle.sh_domain.specs.Rules.{defined_by, functions_of}
+use Rattle.sh_domain.specs.Views.{Certificate, Seen, Both, at_start, steps, source_facts}
+use Rattle.sh_domain.proofs.EnteredWalk.{script_formed}
+use Rattle.sh_domain.proofs.InclusionLemmas.{rules_give}
 use Rattle.sh_sound.specs.Doing.{SimpleAt}
 use Rattle.sh_sound.specs.Going.{around, front, FrontGood, Good, GoodIn, Stays, ProcessOk}
 use Rattle.sh_sound.specs.Holding.{Stands, Holds, OneHolds}

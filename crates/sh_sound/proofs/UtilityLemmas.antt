@@ -3,30 +3,30 @@ use Rattle.std.proofs.Common.{◌≡◌, ℕ, ◌==◌, Bool, true, false, not, 
 use Rattle.std.specs.List.{list_all}
 use Rattle.std.proofs.lemmas.Bool.{and_parts, or_cases, false≢true, true≢false, not-true}
 use Rattle.std.proofs.lemmas.Slice.Eq.{bytes_eq-Decides}
-use Rattle.sh_tree.specs.language.Bytes.{is_name}
-use Rattle.sh_tree.specs.program.Syntax as p
-use Rattle.sh_tree.specs.program.Syntax.{Text, Word}
-use Rattle.sh_tree.specs.program.Words.{operands_in}
+use Rattle.sh_tree.specs.standard.language.Bytes.{is_name}
+use Rattle.sh_tree.specs.standard.program.Syntax as p
+use Rattle.sh_tree.specs.standard.program.Syntax.{Text, Word}
+use Rattle.sh_tree.specs.standard.program.Words.{operands_in}
 use Rattle.sh_table.specs.declared.kind.Kind.{Kind}
 use Rattle.sh_table.specs.declared.kind.Kind.TheVariants as kind
-use Rattle.sh_table.specs.Kinds.{Table, look_up, all_names, kind_of}
-use Rattle.sh_table.specs.runs.Environment.{Environment, Frame, is_one_of, with_variable}
-use Rattle.sh_table.specs.runs.Answers.{Answer}
-use Rattle.sh_table.specs.runs.Builtins.{nonzero, read_into, reads, gets_option, changes_directory, utility}
-use Rattle.sh_table.specs.runs.Operands as o
-use Rattle.sh_table.specs.runs.Operands.{getopts_name}
-use Rattle.sh_table.specs.runs.Work.{Work, Effect, goes}
-use Rattle.sh_facts.specs.Entries.{Around}
-use Rattle.sh_facts.specs.Facts.{Facts, NotReached, Known, Function, claims, facts, Declared}
-use Rattle.sh_facts.specs.Gains.{Gains, job, named, words_gains}
-use Rattle.sh_facts.specs.Inclusions as i
-use Rattle.sh_facts.specs.Inclusions.{Leaves, MayDrop, CallRules, behind}
-use Rattle.sh_facts.specs.Operands.{Names, no_names, read_names, getopts_names}
-use Rattle.sh_facts.specs.Rules.{utility_losses, losses_by}
-use Rattle.sh_facts.specs.Table as table
-use Rattle.sh_facts.specs.Table.{is_special, prefixes, after_utility}
-use Rattle.sh_facts.specs.Views as views
-use Rattle.sh_facts.specs.Views.{Certificate, Slot, Before, AfterZero, AfterNonzero, ReturnsZero, ReturnsNonzero, Seen, After, Each, Both, if_zero, if_nonzero, after_command, gaining_names, stepped, Lose, OfNames, OfUnseen, lost, where_known, passes, called, step}
+use Rattle.sh_table.specs.standard.Kinds.{Table, look_up, all_names, kind_of}
+use Rattle.sh_table.specs.standard.runs.Environment.{Environment, Frame, is_one_of, with_variable}
+use Rattle.sh_table.specs.standard.runs.Answers.{Answer}
+use Rattle.sh_table.specs.standard.runs.Builtins.{nonzero, read_into, reads, gets_option, changes_directory, utility}
+use Rattle.sh_table.specs.standard.runs.Operands as o
+use Rattle.sh_table.specs.standard.runs.Operands.{getopts_name}
+use Rattle.sh_table.specs.standard.runs.Work.{Work, Effect, goes}
+use Rattle.sh_domain.specs.Entries.{Around}
+use Rattle.sh_domain.specs.Facts.{Facts, NotReached, Known, Function, claims, facts, Declared}
+use Rattle.sh_domain.specs.Gains.{Gains, job, named, words_gains}
+use Rattle.sh_domain.specs.Inclusions as i
+use Rattle.sh_domain.specs.Inclusions.{Leaves, MayDrop, CallRules, behind}
+use Rattle.sh_domain.specs.Operands.{Names, no_names, read_names, getopts_names}
+use Rattle.sh_domain.specs.Rules.{utility_losses, losses_by}
+use Rattle.sh_domain.specs.Table as table
+use Rattle.sh_domain.specs.Table.{is_special, prefixes, after_utility}
+use Rattle.sh_domain.specs.Views as views
+use Rattle.sh_domain.specs.Views.{Certificate, Slot, Before, AfterZero, AfterNonzero, ReturnsZero, ReturnsNonzero, Seen, After, Each, Both, if_zero, if_nonzero, after_command, gaining_names, stepped, Lose, OfNames, OfUnseen, lost, where_known, passes, called, step}
 use Rattle.sh_sound.specs.Fields.{Fields}
 use Rattle.sh_sound.specs.Holding.{Holds, Has, Grows, OneHolds, AfterHolds}
 use Rattle.sh_sound.specs.Going.{around, front, Bodies, Good, ProcessOk, StepOk}

@@ -1,26 +1,26 @@
 -- Steps of utilities that are not special built-ins.
 use Rattle.std.proofs.Common.{◌≡◌, ℕ, Bool, true, false, if◌then◌else◌, List, [], ◌∷◌, ◌++◌, inl, inr, refl, sym, subst, ◌∙◌}
 use Rattle.std.proofs.lemmas.Bool.{true≢false}
-use Rattle.sh_tree.specs.program.Syntax as p
-use Rattle.sh_tree.specs.program.Syntax.{Text}
-use Rattle.sh_tree.specs.program.Words.{Assignments, redirects_in}
-use Rattle.sh_table.specs.Kinds.{kind_of}
-use Rattle.sh_table.specs.runs.Environment.{Environment, Frame, is_one_of, showing, hiding}
-use Rattle.sh_table.specs.runs.Answers.{Answer}
-use Rattle.sh_table.specs.runs.Builtins.{utility}
-use Rattle.sh_table.specs.runs.Expansion.{in_one, Outcome, pieces_text, expand}
-use Rattle.sh_table.specs.runs.States.{State, fresh}
-use Rattle.sh_table.specs.runs.Steps.{opened, Named, status_behind, unless_ended, failed_in, redirected, kept, seen, utility_step, act_on}
-use Rattle.sh_table.specs.runs.Work.{Simple, Work, Utility, Effect, goes, ends, after_expansion}
-use Rattle.sh_facts.specs.Entries.{Around}
-use Rattle.sh_facts.specs.Facts.{Facts, Declared}
-use Rattle.sh_facts.specs.Gains.{no_gains, and_gains, word_gains}
-use Rattle.sh_facts.specs.Inclusions as i
-use Rattle.sh_facts.specs.Inclusions.{MayDrop, SimpleRules, behind}
-use Rattle.sh_facts.specs.Rules.{losses_by}
-use Rattle.sh_facts.specs.Table as table
-use Rattle.sh_facts.specs.Table.{is_redirected, prefixes, assignments_gains, redirections_gains}
-use Rattle.sh_facts.specs.Views.{Certificate, Seen, Both, in_any_case, after_command}
+use Rattle.sh_tree.specs.standard.program.Syntax as p
+use Rattle.sh_tree.specs.standard.program.Syntax.{Text}
+use Rattle.sh_tree.specs.standard.program.Words.{Assignments, redirects_in}
+use Rattle.sh_table.specs.standard.Kinds.{kind_of}
+use Rattle.sh_table.specs.standard.runs.Environment.{Environment, Frame, is_one_of, showing, hiding}
+use Rattle.sh_table.specs.standard.runs.Answers.{Answer}
+use Rattle.sh_table.specs.standard.runs.Builtins.{utility}
+use Rattle.sh_table.specs.standard.runs.Expansion.{in_one, Outcome, pieces_text, expand}
+use Rattle.sh_table.specs.standard.runs.States.{State, fresh}
+use Rattle.sh_table.specs.standard.runs.Steps.{opened, Named, status_behind, unless_ended, failed_in, redirected, kept, seen, utility_step, act_on}
+use Rattle.sh_table.specs.standard.runs.Work.{Simple, Work, Utility, Effect, goes, ends, after_expansion}
+use Rattle.sh_domain.specs.Entries.{Around}
+use Rattle.sh_domain.specs.Facts.{Facts, Declared}
+use Rattle.sh_domain.specs.Gains.{no_gains, and_gains, word_gains}
+use Rattle.sh_domain.specs.Inclusions as i
+use Rattle.sh_domain.specs.Inclusions.{MayDrop, SimpleRules, behind}
+use Rattle.sh_domain.specs.Rules.{losses_by}
+use Rattle.sh_domain.specs.Table as table
+use Rattle.sh_domain.specs.Table.{is_redirected, prefixes, assignments_gains, redirections_gains}
+use Rattle.sh_domain.specs.Views.{Certificate, Seen, Both, in_any_case, after_command}
 use Rattle.sh_sound.specs.Fields.{Fields}
 use Rattle.sh_sound.specs.Holding.{Grows, OneHolds, Expanded}
 use Rattle.sh_sound.specs.Going.{around, front, Bodies, WordAt, FrontGood, Good, GoodIn, ProcessOk, StepOk}

@@ -2,24 +2,24 @@
 use Rattle.std.proofs.Common.{◌≡◌, ℕ, ◌≤◌, true, false, Some, None, List, [], ◌∷◌, ◌++◌, map, length, refl, sym, subst}
 use Rattle.std.proofs.lemmas.Option.{none-some}
 use Rattle.std.proofs.lemmas.Bool.{and_parts}
-use Rattle.sh_tree.specs.program.Syntax as p
-use Rattle.sh_tree.specs.program.Syntax.{Text}
-use Rattle.sh_tree.specs.program.Words.{Assignments, operands_in, redirects_in, assignments_in, static_of, words_in}
-use Rattle.sh_table.specs.Kinds.{kind_of, is_declaration}
+use Rattle.sh_tree.specs.standard.program.Syntax as p
+use Rattle.sh_tree.specs.standard.program.Syntax.{Text}
+use Rattle.sh_tree.specs.standard.program.Words.{Assignments, operands_in, redirects_in, assignments_in, static_of, words_in}
+use Rattle.sh_table.specs.standard.Kinds.{kind_of, is_declaration}
 use Rattle.sh_table.specs.Profile.{Static, named_rule, words_rule, command_rule}
 use Rattle.sh_table.specs.Surroundings.{Surroundings}
-use Rattle.sh_table.specs.runs.Environment.{Environment, Frame}
-use Rattle.sh_table.specs.runs.Answers.{Answer}
-use Rattle.sh_table.specs.runs.Expansion.{Outcome, expand}
-use Rattle.sh_table.specs.runs.States.{fresh}
-use Rattle.sh_table.specs.runs.Steps.{Manner, Nameless, Special, Named, manner, is_declared, word_context, word_fields, word_splits, status_behind, unless_ended, words, act_on}
-use Rattle.sh_table.specs.runs.Work.{Simple, Work, Words, Prepare, Effect, goes, after_expansion}
-use Rattle.sh_facts.specs.Entries.{Around}
-use Rattle.sh_facts.specs.Facts.{Facts, NotReached, Known, Declared}
-use Rattle.sh_facts.specs.Gains.{Gains, no_gains, word_gains, words_gains}
-use Rattle.sh_facts.specs.Inclusions.{behind, elements_formed, kind_formed, command_formed, redirects_formed, surroundings_of}
-use Rattle.sh_facts.specs.Table.{is_redirected}
-use Rattle.sh_facts.specs.Views.{Certificate, Seen, Both, in_any_case, gaining}
+use Rattle.sh_table.specs.standard.runs.Environment.{Environment, Frame}
+use Rattle.sh_table.specs.standard.runs.Answers.{Answer}
+use Rattle.sh_table.specs.standard.runs.Expansion.{Outcome, expand}
+use Rattle.sh_table.specs.standard.runs.States.{fresh}
+use Rattle.sh_table.specs.standard.runs.Steps.{Manner, Nameless, Special, Named, manner, is_declared, word_context, word_fields, word_splits, status_behind, unless_ended, words, act_on}
+use Rattle.sh_table.specs.standard.runs.Work.{Simple, Work, Words, Prepare, Effect, goes, after_expansion}
+use Rattle.sh_domain.specs.Entries.{Around}
+use Rattle.sh_domain.specs.Facts.{Facts, NotReached, Known, Declared}
+use Rattle.sh_domain.specs.Gains.{Gains, no_gains, word_gains, words_gains}
+use Rattle.sh_domain.specs.Inclusions.{behind, elements_formed, kind_formed, command_formed, redirects_formed, surroundings_of}
+use Rattle.sh_domain.specs.Table.{is_redirected}
+use Rattle.sh_domain.specs.Views.{Certificate, Seen, Both, in_any_case, gaining}
 use Rattle.sh_sound.specs.Holding.{Holds, OneHolds, Entails}
 use Rattle.sh_sound.specs.Fields.{FieldsFit}
 use Rattle.sh_sound.specs.Going.{around, front, WordsAt, FrontGood, Good, GoodIn, ProcessOk, StepOk}

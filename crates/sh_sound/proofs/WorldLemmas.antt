@@ -1,17 +1,17 @@
 -- What holds of all live processes at once, up to the first event.
 use Rattle.std.proofs.Common.{◌≡◌, ◌≢◌, ℕ, suc, ◌<◌, ◌≤◌, ◌==◌, ◌||◌, Bool, true, false, Option, Some, None, is_some, if◌then◌else◌, List, [], ◌∷◌, map, ◌⊎◌, inl, inr, refl, sym, ◌∙◌, ap, subst, arith, eqb-true, unwrap_or, option_map, option_and_then}
 use Rattle.std.proofs.lemmas.Option.{same_Some, none-some}
-use Rattle.sh_tree.specs.program.Syntax.{Text}
-use Rattle.sh_table.specs.runs.Answers.{Answer}
-use Rattle.sh_table.specs.runs.Environment.{Environment, Frame}
-use Rattle.sh_table.specs.runs.Steps.{act}
-use Rattle.sh_table.specs.runs.Work.{Work, Start, Shares, Copies, Frames, Keeps, Pushes, Pops, Effect}
-use Rattle.sh_table.specs.runs.Worlds.{Process, World, Move, put, innermost, waits, outer, frames_after, first_frame, with_frames, with_environment, with_process, stepped, start, start_all, apply, effect_of, may_step, step, run, has_unset_event, has_split_event}
+use Rattle.sh_tree.specs.standard.program.Syntax.{Text}
+use Rattle.sh_table.specs.standard.runs.Answers.{Answer}
+use Rattle.sh_table.specs.standard.runs.Environment.{Environment, Frame}
+use Rattle.sh_table.specs.standard.runs.Steps.{act}
+use Rattle.sh_table.specs.standard.runs.Work.{Work, Start, Shares, Copies, Frames, Keeps, Pushes, Pops, Effect}
+use Rattle.sh_table.specs.standard.runs.Worlds.{Process, World, Move, put, innermost, waits, outer, frames_after, first_frame, with_frames, with_environment, with_process, stepped, start, start_all, apply, effect_of, may_step, step, run, has_unset_event, has_split_event}
 use Rattle.sh_table.proofs.WorldLemmas.{put_same, put_other, put_cases, Made, step_made}
-use Rattle.sh_facts.specs.Entries.{Around}
-use Rattle.sh_facts.specs.Facts.{Facts, Declared}
-use Rattle.sh_facts.specs.Inclusions.{Each}
-use Rattle.sh_facts.specs.Views.{Certificate, Seen}
+use Rattle.sh_domain.specs.Entries.{Around}
+use Rattle.sh_domain.specs.Facts.{Facts, Declared}
+use Rattle.sh_domain.specs.Inclusions.{Each}
+use Rattle.sh_domain.specs.Views.{Certificate, Seen}
 use Rattle.sh_sound.specs.Holding.{Grows}
 use Rattle.sh_sound.specs.Going.{front, frames_behind, FrameStays, Bodies, Stays, ProcessOk, StartOk, StartsOk, NextOk, StepOk}
 use Rattle.sh_sound.specs.Sharing.{Among, Distinct, innermost_of, but_outermost, own_frames, IsPlaced, Sharing}

@@ -1,23 +1,23 @@
 -- What a simple command needs while it is done, by its stages: its words, its redirections and assignments, a utility, a call.
 -- POSIX.1-2024, XCU 2.9.1 (simple commands), 2.9.5 (functions), 2.15 (special built-in utilities).
 use Rattle.std.specs.Prelude.{◌≡◌, ℕ, ◌≤◌, Bool, true, false, List, [], ◌∷◌, length, map, ◌⊎◌}
-use Rattle.sh_tree.specs.language.Bytes.{is_name}
-use Rattle.sh_tree.specs.program.Syntax as p
-use Rattle.sh_tree.specs.program.Syntax.{Text, Word}
-use Rattle.sh_tree.specs.program.Words.{Assignments, redirects_in, assignments_in, operands_in}
-use Rattle.sh_table.specs.Kinds.{kind_of}
-use Rattle.sh_table.specs.runs.Environment.{is_one_of}
-use Rattle.sh_table.specs.runs.Steps.{opened, Manner, Nameless, Special, Named, manner}
-use Rattle.sh_table.specs.runs.Work.{Simple, Saved, Work, Words, Prepare, Utility, Call}
-use Rattle.sh_facts.specs.Entries.{Around}
-use Rattle.sh_facts.specs.Facts.{Facts, NotReached, Known, Function, Variable, claims, facts, Declared}
-use Rattle.sh_facts.specs.Gains.{Gains, named, and_gains, with_gains, words_gains, redirects_gains}
-use Rattle.sh_facts.specs.Inclusions.{CommandRules, behind}
-use Rattle.sh_facts.specs.Operands.{total}
-use Rattle.sh_facts.specs.Rules.{losses_by}
-use Rattle.sh_facts.specs.Table as table
-use Rattle.sh_facts.specs.Table.{is_special, is_redirected, prefixes, values_gains, assignments_gains, redirections_gains}
-use Rattle.sh_facts.specs.Views.{Certificate, Before, Seen, counted_by, gaining, gaining_names}
+use Rattle.sh_tree.specs.standard.language.Bytes.{is_name}
+use Rattle.sh_tree.specs.standard.program.Syntax as p
+use Rattle.sh_tree.specs.standard.program.Syntax.{Text, Word}
+use Rattle.sh_tree.specs.standard.program.Words.{Assignments, redirects_in, assignments_in, operands_in}
+use Rattle.sh_table.specs.standard.Kinds.{kind_of}
+use Rattle.sh_table.specs.standard.runs.Environment.{is_one_of}
+use Rattle.sh_table.specs.standard.runs.Steps.{opened, Manner, Nameless, Special, Named, manner}
+use Rattle.sh_table.specs.standard.runs.Work.{Simple, Saved, Work, Words, Prepare, Utility, Call}
+use Rattle.sh_domain.specs.Entries.{Around}
+use Rattle.sh_domain.specs.Facts.{Facts, NotReached, Known, Function, Variable, claims, facts, Declared}
+use Rattle.sh_domain.specs.Gains.{Gains, named, and_gains, with_gains, words_gains, redirects_gains}
+use Rattle.sh_domain.specs.Inclusions.{CommandRules, behind}
+use Rattle.sh_domain.specs.Operands.{total}
+use Rattle.sh_domain.specs.Rules.{losses_by}
+use Rattle.sh_domain.specs.Table as table
+use Rattle.sh_domain.specs.Table.{is_special, is_redirected, prefixes, values_gains, assignments_gains, redirections_gains}
+use Rattle.sh_domain.specs.Views.{Certificate, Before, Seen, counted_by, gaining, gaining_names}
 use Rattle.sh_sound.specs.Fields.{FieldsFit, Begun}
 use Rattle.sh_sound.specs.Going.{unset_before, WordAt, WordsAt, BodyOk}
 use Rattle.sh_sound.specs.Holding.{Entails}

@@ -1,12 +1,12 @@
 -- How the fields of a simple command come from its words, where there are so many positional parameters.
 -- POSIX.1-2024, XCU 2.6.5 (field splitting), 2.9.1 (simple commands), 2.9.1.1 (declaration utilities).
 use Rattle.std.specs.Prelude.{◌≡◌, ℕ, ◌≤◌, Bool, true, false, List, [], ◌∷◌, ◌++◌, length, Some}
-use Rattle.sh_tree.specs.program.Syntax as p
-use Rattle.sh_tree.specs.program.Syntax.{Text, Word}
-use Rattle.sh_tree.specs.program.Words.{operands_in, static_of, assignment_in, words_in}
+use Rattle.sh_tree.specs.standard.program.Syntax as p
+use Rattle.sh_tree.specs.standard.program.Syntax.{Text, Word}
+use Rattle.sh_tree.specs.standard.program.Words.{operands_in, static_of, assignment_in, words_in}
 use Rattle.sh_table.specs.Counts.{Count, Parameters, One, Nothing, count_of}
-use Rattle.sh_table.specs.Kinds.{kind_of, is_declaration}
-use Rattle.sh_table.specs.runs.Operands.{definition_in}
+use Rattle.sh_table.specs.standard.Kinds.{kind_of, is_declaration}
+use Rattle.sh_table.specs.standard.runs.Operands.{definition_in}
 
 -- how many fields a word gives at least
 unfoldable pub least : ℕ → Count → ℕ

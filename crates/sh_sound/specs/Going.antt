@@ -5,26 +5,26 @@ use Rattle.std.specs.Prelude.{◌≡◌, ℕ, Bool, true, false, ◌||◌, List,
 use Rattle.std.specs.List.{list_any}
 use Rattle.sh_tree.specs.declared.tree.ClauseEnd.{ClauseEnd}
 use Rattle.sh_tree.specs.declared.tree.LoopKind.{LoopKind}
-use Rattle.sh_tree.specs.language.Bytes.{is_name}
-use Rattle.sh_tree.specs.program.Syntax as p
-use Rattle.sh_tree.specs.program.Syntax.{Text}
-use Rattle.sh_tree.specs.program.Words.{is_plainly, words_in}
-use Rattle.sh_table.specs.runs.Builtins.{restored}
-use Rattle.sh_table.specs.runs.Environment.{Environment, Frame, is_one_of}
-use Rattle.sh_table.specs.runs.Steps.{opened}
-use Rattle.sh_table.specs.runs.Work.{Saved, Work, Items, Links, Pipeline, Negation, Command, Words, Prepare, Utility, Call, Return, Compound, If, Then, Test, Again, ForWords, ForFields, Clauses, Patterns, Fall, Start, Shares, Copies, Frames, Keeps, Pushes, Pops, Effect}
-use Rattle.sh_facts.specs.declared.rule.FlowRule.{FlowRule}
-use Rattle.sh_facts.specs.Entries.{Around, alone, in_loop, in_function, items_after, links_after, pipeline_after, behind_list, otherwise_seen, turns, falls, items_entered, links_entered, pipeline_entered, command_entered, branches_entered, otherwise_entered, clauses_entered, word_entered}
-use Rattle.sh_facts.specs.Facts.{Facts, NotReached, Known, Declared}
-use Rattle.sh_facts.specs.Gains.{word_gains, words_gains, redirect_gains, redirects_gains}
-use Rattle.sh_facts.specs.Needs.{word_unmet}
-use Rattle.sh_facts.specs.Operands.{Names}
-use Rattle.sh_facts.specs.Rules.{is_last, matches_always}
-use Rattle.sh_facts.specs.Views as views
-use Rattle.sh_facts.specs.Views.{Certificate, Before, AfterZero, AfterNonzero, Head, Entry, ReturnsZero, ReturnsNonzero, Seen, After, Both, if_zero, if_nonzero, in_any_case, swapped, after_command, at, gaining, gaining_names, without_job, stepped, Define}
+use Rattle.sh_tree.specs.standard.language.Bytes.{is_name}
+use Rattle.sh_tree.specs.standard.program.Syntax as p
+use Rattle.sh_tree.specs.standard.program.Syntax.{Text}
+use Rattle.sh_tree.specs.standard.program.Words.{is_plainly, words_in}
+use Rattle.sh_table.specs.standard.runs.Builtins.{restored}
+use Rattle.sh_table.specs.standard.runs.Environment.{Environment, Frame, is_one_of}
+use Rattle.sh_table.specs.standard.runs.Steps.{opened}
+use Rattle.sh_table.specs.standard.runs.Work.{Saved, Work, Items, Links, Pipeline, Negation, Command, Words, Prepare, Utility, Call, Return, Compound, If, Then, Test, Again, ForWords, ForFields, Clauses, Patterns, Fall, Start, Shares, Copies, Frames, Keeps, Pushes, Pops, Effect}
+use Rattle.sh_domain.specs.declared.rule.FlowRule.{FlowRule}
+use Rattle.sh_domain.specs.Entries.{Around, alone, in_loop, in_function, items_after, links_after, pipeline_after, behind_list, otherwise_seen, turns, falls, items_entered, links_entered, pipeline_entered, command_entered, branches_entered, otherwise_entered, clauses_entered, word_entered}
+use Rattle.sh_domain.specs.Facts.{Facts, NotReached, Known, Declared}
+use Rattle.sh_domain.specs.Gains.{word_gains, words_gains, redirect_gains, redirects_gains}
+use Rattle.sh_domain.specs.Needs.{word_unmet}
+use Rattle.sh_domain.specs.Operands.{Names}
+use Rattle.sh_domain.specs.Rules.{is_last, matches_always}
+use Rattle.sh_domain.specs.Views as views
+use Rattle.sh_domain.specs.Views.{Certificate, Before, AfterZero, AfterNonzero, Head, Entry, ReturnsZero, ReturnsNonzero, Seen, After, Both, if_zero, if_nonzero, in_any_case, swapped, after_command, at, gaining, gaining_names, without_job, stepped, Define}
 use Rattle.sh_sound.specs.Fields.{FieldsFit}
 use Rattle.sh_sound.specs.Holding.{Stands, Holds, Grows, OneHolds, AfterHolds, Entails, Leads}
-use Rattle.sh_facts.specs.Inclusions.{Each, Covers, Leaves, MayDrop, LoopRules, ForRules, BranchesLeave, OtherwiseLeaves, ClausesLeave, BodyRules, word_formed}
+use Rattle.sh_domain.specs.Inclusions.{Each, Covers, Leaves, MayDrop, LoopRules, ForRules, BranchesLeave, OtherwiseLeaves, ClausesLeave, BodyRules, word_formed}
 
 -- What stands round the front of the work, of a process that began in `base`: the marks of loops and of calls lie in the work.
 unfoldable pub around : Around → List Work → Around

@@ -1,17 +1,17 @@
 -- When facts are true of a shell.
 -- POSIX.1-2024, XCU 2.5 (parameters and variables), 2.9.5 (functions), 2.13 (shell execution environment).
 use Rattle.std.specs.Prelude.{◌≡◌, ℕ, ◌≤◌, ◌==◌, Bool, true, false, if◌then◌else◌, List, [], ◌∷◌, length, ◌⊎◌, Option, Some, is_some}
-use Rattle.sh_tree.specs.language.Bytes.{is_name}
-use Rattle.sh_tree.specs.program.Syntax.{Text, Command}
-use Rattle.sh_table.specs.runs.Environment.{Environment, Frame, is_one_of}
-use Rattle.sh_table.specs.runs.States.{State, Copy}
-use Rattle.sh_facts.specs.declared.rule.FlowRule.{FlowRule}
-use Rattle.sh_facts.specs.Entries.{Entered, alone, items_entered}
-use Rattle.sh_facts.specs.Facts.{Facts, NotReached, Known, Declared}
-use Rattle.sh_facts.specs.Gains.{Gains, job}
-use Rattle.sh_facts.specs.Rules.{defined_by}
-use Rattle.sh_facts.specs.Views.{Certificate, Seen, After, Both, if_zero, if_nonzero, view_facts}
-use Rattle.sh_facts.specs.Inclusions.{Each, EnteredRules}
+use Rattle.sh_tree.specs.standard.language.Bytes.{is_name}
+use Rattle.sh_tree.specs.standard.program.Syntax.{Text, Command}
+use Rattle.sh_table.specs.standard.runs.Environment.{Environment, Frame, is_one_of}
+use Rattle.sh_table.specs.standard.runs.States.{State, Copy}
+use Rattle.sh_domain.specs.declared.rule.FlowRule.{FlowRule}
+use Rattle.sh_domain.specs.Entries.{Entered, alone, items_entered}
+use Rattle.sh_domain.specs.Facts.{Facts, NotReached, Known, Declared}
+use Rattle.sh_domain.specs.Gains.{Gains, job}
+use Rattle.sh_domain.specs.Rules.{defined_by}
+use Rattle.sh_domain.specs.Views.{Certificate, Seen, After, Both, if_zero, if_nonzero, view_facts}
+use Rattle.sh_domain.specs.Inclusions.{Each, EnteredRules}
 
 -- The variables among these names are set, `!` is if it is named, the functions are defined, and there are so many parameters. What is no
 -- name is nothing that a script can use.

@@ -3,18 +3,18 @@
 use Rattle.std.specs.Prelude.{◌≡◌, ℕ, Bool, true, false, ◌||◌, List, [], ◌∷◌, Some, unwrap_or, option_map}
 use Rattle.std.specs.List.{list_all}
 use Rattle.sh_tree.specs.declared.tree.Script.{Script}
-use Rattle.sh_tree.specs.language.Bytes.{is_name}
-use Rattle.sh_tree.specs.language.Reading.{Reads}
-use Rattle.sh_tree.specs.program.Syntax.{Items}
-use Rattle.sh_tree.specs.program.Trees.{script_of}
+use Rattle.sh_tree.specs.standard.language.Bytes.{is_name}
+use Rattle.sh_tree.specs.standard.language.Reading.{Reads}
+use Rattle.sh_tree.specs.standard.program.Syntax.{Items}
+use Rattle.sh_tree.specs.standard.program.Trees.{script_of}
 use Rattle.sh_table.specs.Admitted.{is_admitted}
-use Rattle.sh_table.specs.runs.Environment.{Environment, Frame}
-use Rattle.sh_table.specs.runs.Worlds.{World, Move, step, run, has_unset_event, has_split_event, start_world, IsStart}
-use Rattle.sh_facts.specs.Demands.{demands}
-use Rattle.sh_facts.specs.Facts.{Declared}
-use Rattle.sh_facts.specs.Faults.{faults}
-use Rattle.sh_facts.specs.Inclusions.{is_formed}
-use Rattle.sh_facts.specs.Views.{Certificate}
+use Rattle.sh_table.specs.standard.runs.Environment.{Environment, Frame}
+use Rattle.sh_table.specs.standard.runs.Worlds.{World, Move, step, run, has_unset_event, has_split_event, start_world, IsStart}
+use Rattle.sh_domain.specs.Demands.{demands}
+use Rattle.sh_domain.specs.Facts.{Declared}
+use Rattle.sh_domain.specs.Faults.{faults}
+use Rattle.sh_domain.specs.Inclusions.{is_formed}
+use Rattle.sh_domain.specs.Views.{Certificate}
 use Rattle.sh_quote.specs.Places.{unquoted}
 
 -- one of these moves has a Split event

@@ -4,8 +4,8 @@ use Rattle.sh_tree.specs.declared.refusal.Refusal.{Refusal}
 use Rattle.sh_tree.specs.declared.refusal.Refusal.TheVariants as refusal
 use Rattle.sh_tree.specs.declared.refusal.Rule.{Rule}
 use Rattle.sh_tree.specs.declared.tree.Script.{Script}
-use Rattle.sh_tree.specs.program.Syntax as p
-use Rattle.sh_tree.specs.program.Trees.{script_of}
+use Rattle.sh_tree.specs.standard.program.Syntax as p
+use Rattle.sh_tree.specs.standard.program.Trees.{script_of}
 use Rattle.sh_table.specs.declared.site.Site as site
 use Rattle.sh_table.specs.declared.table.Row as row
 use Rattle.sh_table.specs.Admits.{Admits, form_rule, rule_of, refused_site, or_refused, first_of, refusal_of, told_from}

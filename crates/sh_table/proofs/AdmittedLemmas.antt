@@ -3,7 +3,7 @@ use Rattle.std.proofs.Common.{◌≡◌, ℕ, Bool, true, false, not, ◌&&◌, 
 use Rattle.std.specs.List.{list_all, cons_option}
 use Rattle.std.proofs.lemmas.List.Folds.{list_all-append}
 use Rattle.sh_tree.specs.declared.refusal.Rule.{Rule}
-use Rattle.sh_tree.specs.program.Syntax as p
+use Rattle.sh_tree.specs.standard.program.Syntax as p
 use Rattle.sh_table.specs.Surroundings.{Surroundings, Located, outside, in_loop, in_function, in_part, in_item, items_located, list_located, links_located, pipeline_located, commands_located, command_located, kind_located, elements_located, redirect_located, redirects_located, branches_located, otherwise_located, for_words_located, words_located, clauses_located, word_located, part_located, operator_located, expression_located, operands_located}
 use Rattle.sh_table.specs.Profile.{Refused, command_rule, refused_at, least_refused, first_refused}
 use Rattle.sh_table.specs.Admitted.{items_admitted, list_admitted, links_admitted, pipeline_admitted, commands_admitted, command_admitted, kind_admitted, elements_admitted, redirect_admitted, redirects_admitted, branches_admitted, otherwise_admitted, for_words_admitted, words_admitted, clauses_admitted, word_admitted, part_admitted, operator_admitted, expression_admitted, operands_admitted, AdmittedAsListed}

@@ -1,11 +1,11 @@
 -- What is set in an environment, and what stays of one where variables change.
 use Rattle.std.proofs.Common.{◌≡◌, ℕ, ◌+◌, ◌==◌, not, ◌||◌, Bool, true, false, if◌then◌else◌, Option, Some, None, is_some, List, [], ◌∷◌, codes}
-use Rattle.sh_tree.specs.program.Syntax.{Text}
-use Rattle.sh_table.specs.runs.Environment.{Environment, is_one_of, with_variable, with_function, showing, hiding}
-use Rattle.sh_table.specs.runs.Answers.{Answer}
-use Rattle.sh_table.specs.runs.Operands.{Removal, OfVariables, OfFunctions, OfEither, OfAny}
-use Rattle.sh_table.specs.runs.Work.{Saved}
-use Rattle.sh_table.specs.runs.Builtins.{is_removed, removed_either, removed_any, removed, removed_all, restored, given_to, read_into, gets_option, changes_directory}
+use Rattle.sh_tree.specs.standard.program.Syntax.{Text}
+use Rattle.sh_table.specs.standard.runs.Environment.{Environment, is_one_of, with_variable, with_function, showing, hiding}
+use Rattle.sh_table.specs.standard.runs.Answers.{Answer}
+use Rattle.sh_table.specs.standard.runs.Operands.{Removal, OfVariables, OfFunctions, OfEither, OfAny}
+use Rattle.sh_table.specs.standard.runs.Work.{Saved}
+use Rattle.sh_table.specs.standard.runs.Builtins.{is_removed, removed_either, removed_any, removed, removed_all, restored, given_to, read_into, gets_option, changes_directory}
 
 -- these names are set
 unfoldable pub AreSet : {A : Type 0} → List (Text × A) → Environment → Type 0

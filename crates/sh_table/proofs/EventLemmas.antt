@@ -7,13 +7,13 @@ use Rattle.sh_tree.specs.declared.tree.Element.TheBlock.{shape-the_row-Part-0, h
 use Rattle.sh_tree.specs.declared.tree.Item.{roll-Item}
 use Rattle.sh_tree.specs.declared.tree.Pipe.{roll-Pipe}
 use Rattle.sh_tree.specs.declared.tree.Script.{Script, roll-Script}
-use Rattle.sh_tree.specs.language.Examples.{double_text, double_script, bare_text, bare_script, unset_first_text, unset_first_script, unset_last_text, unset_last_script}
-use Rattle.sh_tree.specs.program.Syntax.{Text}
-use Rattle.sh_tree.specs.program.Trees.{parameter_of, part_of, script_of}
+use Rattle.sh_tree.specs.examples.Language.{double_text, double_script, bare_text, bare_script, unset_first_text, unset_first_script, unset_last_text, unset_last_script}
+use Rattle.sh_tree.specs.standard.program.Syntax.{Text}
+use Rattle.sh_tree.specs.standard.program.Trees.{parameter_of, part_of, script_of}
 use Rattle.sh_table.specs.examples.Events.{EventsExist}
 use Rattle.sh_table.specs.examples.Runs.{bare_start, start_with, quiet, by, steps, shared}
-use Rattle.sh_table.specs.runs.Environment.{Environment, is_one_of}
-use Rattle.sh_table.specs.runs.Worlds.{World, Move, run, start_world, start_names, IsStart}
+use Rattle.sh_table.specs.standard.runs.Environment.{Environment, is_one_of}
+use Rattle.sh_table.specs.standard.runs.Worlds.{World, Move, run, start_world, start_names, IsStart}
 use Rattle.sh_table.proofs.ExampleLemmas.{computes}
 
 -- the start

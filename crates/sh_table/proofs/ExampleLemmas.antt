@@ -1,19 +1,19 @@
 -- The runs of small programs, computed.
 use Rattle.std.proofs.Common.{refl}
-use Rattle.sh_table.specs.Kinds as kinds
-use Rattle.sh_table.specs.runs.Environment as environment
-use Rattle.sh_table.specs.runs.Numbers as numbers
-use Rattle.sh_table.specs.runs.Arithmetic as arithmetic
-use Rattle.sh_table.specs.runs.Expansion as expansion
-use Rattle.sh_table.specs.runs.Fields as fields
-use Rattle.sh_table.specs.runs.Operands as operands
-use Rattle.sh_table.specs.runs.Work as work
-use Rattle.sh_table.specs.runs.Builtins as builtins
-use Rattle.sh_table.specs.runs.Steps as steps
-use Rattle.sh_table.specs.runs.Worlds as worlds
-use Rattle.sh_tree.specs.language.Commands as commands
-use Rattle.sh_tree.specs.language.Bytes as bytes
-use Rattle.sh_tree.specs.program.Words as program
+use Rattle.sh_table.specs.standard.Kinds as kinds
+use Rattle.sh_table.specs.standard.runs.Environment as environment
+use Rattle.sh_table.specs.standard.runs.Numbers as numbers
+use Rattle.sh_table.specs.standard.runs.Arithmetic as arithmetic
+use Rattle.sh_table.specs.standard.runs.Expansion as expansion
+use Rattle.sh_table.specs.standard.runs.Fields as fields
+use Rattle.sh_table.specs.standard.runs.Operands as operands
+use Rattle.sh_table.specs.standard.runs.Work as work
+use Rattle.sh_table.specs.standard.runs.Builtins as builtins
+use Rattle.sh_table.specs.standard.runs.Steps as steps
+use Rattle.sh_table.specs.standard.runs.Worlds as worlds
+use Rattle.sh_tree.specs.standard.language.Commands as commands
+use Rattle.sh_tree.specs.standard.language.Bytes as bytes
+use Rattle.sh_tree.specs.standard.program.Words as program
 use Rattle.sh_table.specs.examples.Runs as examples
 use Rattle.sh_table.specs.examples.Runs.{RunsAsExpected}
 

@@ -10,16 +10,16 @@ use Rattle.sh_tree.specs.declared.tree.Binary.{Binary}
 use Rattle.sh_tree.specs.declared.tree.Removal.{Removal}
 use Rattle.sh_tree.specs.declared.tree.SingleStyle.TheVariants as single
 use Rattle.sh_tree.specs.declared.tree.Special.TheVariants as special
-use Rattle.sh_tree.specs.program.Syntax as p
-use Rattle.sh_tree.specs.program.Syntax.{Text, Parameter, Variable, Positional, Special, Part, Plain, Escaped, Single, Double, Expansion, Arithmetic, Substitution, Tilde, Joined, Word, no_parts, more_parts, Operator, Value, Length, Use, Remove, Expression, Constant, Name, Expanded, Parenthesis, Signed, Chain, Choice, Assigned, Operands, no_operands, more_operands}
+use Rattle.sh_tree.specs.standard.program.Syntax as p
+use Rattle.sh_tree.specs.standard.program.Syntax.{Text, Parameter, Variable, Positional, Special, Part, Plain, Escaped, Single, Double, Expansion, Arithmetic, Substitution, Tilde, Joined, Word, no_parts, more_parts, Operator, Value, Length, Use, Remove, Expression, Constant, Name, Expanded, Parenthesis, Signed, Chain, Choice, Assigned, Operands, no_operands, more_operands}
 use Rattle.sh_table.specs.Surroundings.{Located, outside, items_located, word_located, part_located, operator_located, expression_located, operands_located}
 use Rattle.sh_table.specs.Quoting.{part_assigns, word_assigns, operator_assigns, expression_assigns, operands_assign}
-use Rattle.sh_table.specs.runs.Answers.{Given}
-use Rattle.sh_table.specs.runs.Arithmetic.{Computed, computes, answered, operated, then_computed, read_name, named, skips, read_where, operated_assignment, evaluate, evaluate_rest}
-use Rattle.sh_table.specs.runs.Environment.{Frame, with_variable, copied}
-use Rattle.sh_table.specs.runs.Expansion.{Context, in_quotes, in_one, in_default, pieces_text, is_empty_value, Outcome, gives, followed, value_of, needed, value_pieces, default_assigned, used, constant_in, behind, tilde_pieces, computed_pieces, expand_part, expand, expand_operator, expand_inside, expand_operands}
-use Rattle.sh_table.specs.runs.Numbers.{integer_text, is_operand, is_computed, is_zero}
-use Rattle.sh_table.specs.runs.States.{State, met, taken, ending, stray, with_environment, started}
+use Rattle.sh_table.specs.standard.runs.Answers.{Given}
+use Rattle.sh_table.specs.standard.runs.Arithmetic.{Computed, computes, answered, operated, then_computed, read_name, named, skips, read_where, operated_assignment, evaluate, evaluate_rest}
+use Rattle.sh_table.specs.standard.runs.Environment.{Frame, with_variable, copied}
+use Rattle.sh_table.specs.standard.runs.Expansion.{Context, in_quotes, in_one, in_default, pieces_text, is_empty_value, Outcome, gives, followed, value_of, needed, value_pieces, default_assigned, used, constant_in, behind, tilde_pieces, computed_pieces, expand_part, expand, expand_operator, expand_inside, expand_operands}
+use Rattle.sh_table.specs.standard.runs.Numbers.{integer_text, is_operand, is_computed, is_zero}
+use Rattle.sh_table.specs.standard.runs.States.{State, met, taken, ending, stray, with_environment, started}
 
 -- each of these commands passes the test
 abbrev pub Each : (Located → Bool) → List Located → Type 0

@@ -4,11 +4,11 @@ use Rattle.std.specs.List.{list_any}
 use Rattle.std.proofs.lemmas.Bool.{or_parts, or_from, and_cases}
 use Rattle.std.proofs.lemmas.List.Folds.{list_any-append}
 use mathlib.Core.List.{map-append}
-use Rattle.sh_tree.specs.language.Bytes.{is_in}
-use Rattle.sh_tree.specs.program.Syntax.{Text}
-use Rattle.sh_table.specs.runs.Answers.{Marked, Directory}
-use Rattle.sh_table.specs.runs.Expansion.{Literal, Quoted, Unquoted, Piece, Bytes, Break}
-use Rattle.sh_table.specs.runs.Fields.{Sign, Quote, Breaks, stands, unquoted_sign, piece_signs, Scan, Before, Inside, scan, is_unquoted, is_pattern, field_text, field_names, is_expanded, is_split, begins_pattern, holds_pattern, splits}
+use Rattle.sh_tree.specs.standard.language.Bytes.{is_in}
+use Rattle.sh_tree.specs.standard.program.Syntax.{Text}
+use Rattle.sh_table.specs.standard.runs.Answers.{Marked, Directory}
+use Rattle.sh_table.specs.standard.runs.Expansion.{Literal, Quoted, Unquoted, Piece, Bytes, Break}
+use Rattle.sh_table.specs.standard.runs.Fields.{Sign, Quote, Breaks, stands, unquoted_sign, piece_signs, Scan, Before, Inside, scan, is_unquoted, is_pattern, field_text, field_names, is_expanded, is_split, begins_pattern, holds_pattern, splits}
 use Rattle.sh_table.specs.Theorem.{as_quoted, FieldsStandWhole}
 
 -- a byte of a field

@@ -10,13 +10,13 @@ use Rattle.sh_tree.specs.declared.tree.Command.{Command, out-Command}
 use Rattle.sh_tree.specs.declared.tree.Element.{Element}
 use Rattle.sh_tree.specs.declared.tree.Kind.{Kind, Simple'}
 use Rattle.sh_tree.specs.declared.tree.Script.{Script}
-use Rattle.sh_tree.specs.Tree.{text_of}
-use Rattle.sh_tree.specs.Words.{elements_of}
-use Rattle.sh_tree.specs.program.Lists.{elements_from}
-use Rattle.sh_tree.specs.program.Syntax.{Text}
-use Rattle.sh_tree.specs.program.Trees as trees
-use Rattle.sh_tree.specs.program.Trees.{script_of}
-use Rattle.sh_tree.specs.program.Words.{operands_in, static_of, words_in}
+use Rattle.sh_tree.specs.standard.Tree.{text_of}
+use Rattle.sh_tree.specs.standard.Words.{elements_of}
+use Rattle.sh_tree.specs.Lists.{elements_from}
+use Rattle.sh_tree.specs.standard.program.Syntax.{Text}
+use Rattle.sh_tree.specs.standard.program.Trees as trees
+use Rattle.sh_tree.specs.standard.program.Trees.{script_of}
+use Rattle.sh_tree.specs.standard.program.Words.{operands_in, static_of, words_in}
 use Rattle.sh_tree.proofs.ProgramRules as rules
 use Rattle.sh_table.specs.Calls.{Row, defined, row_of, row_in}
 use Rattle.sh_table.specs.Found.{Definition, Found, definition_of, with_command, definition_in, found_in, row_at, defined_by}

@@ -11,12 +11,12 @@ use Rattle.std.proofs.lemmas.List.Folds.{list_any-append}
 use Rattle.std.proofs.lemmas.List.Sums.{fold-append}
 use Rattle.std.proofs.lemmas.Iterator.Adapters.{position_from-zero}
 use Rattle.std.proofs.lemmas.Slice.Eq.{bytes_eq-Decides}
-use Rattle.sh_tree.specs.program.Syntax.{Text}
+use Rattle.sh_tree.specs.standard.program.Syntax.{Text}
 use Rattle.sh_table.specs.Calls.{Functions, functions_in, defined, defines, with_name, names_of, definitions_of, functions_of, with_number, with_definition}
 use Rattle.sh_table.specs.Found.{definition_at, definition_of, definition_in, with_defined}
 use Rattle.sh_table.specs.declared.functions.Definition as declared
 use Rattle.sh_table.specs.Sites.{Form, Simple, Defines, Other, Site}
-use Rattle.sh_table.specs.runs.Environment.{is_one_of}
+use Rattle.sh_table.specs.standard.runs.Environment.{is_one_of}
 
 -- Equality of texts
 

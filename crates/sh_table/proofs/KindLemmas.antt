@@ -4,8 +4,8 @@ use Rattle.std.specs.List.{filter}
 use Rattle.std.specs.Str.{bytes_eq}
 use Rattle.std.proofs.lemmas.Bool.Decides.{nat_tests}
 use Rattle.std.proofs.lemmas.Slice.Eq.{bytes_eq-Decides}
-use Rattle.sh_tree.specs.program.Syntax.{Text}
-use Rattle.sh_table.specs.Kinds.{Table, look_up, all_names, kind_of, of_length}
+use Rattle.sh_tree.specs.standard.program.Syntax.{Text}
+use Rattle.sh_table.specs.standard.Kinds.{Table, look_up, all_names, kind_of, of_length}
 
 -- equal texts have one length
 other_length : (s t : Text) → (length s == length t) ≡ false → bytes_eq s t ≡ false

@@ -8,22 +8,22 @@ use Rattle.sh_tree.specs.declared.known.KnownName.TheVariants as known
 use Rattle.sh_tree.specs.declared.tree.ClauseEnd.{ClauseEnd}
 use Rattle.sh_tree.specs.declared.tree.ClauseEnd.TheVariants as clause
 use Rattle.sh_tree.specs.declared.tree.LoopKind.{LoopKind}
-use Rattle.sh_tree.specs.program.Syntax as p
-use Rattle.sh_tree.specs.program.Syntax.{Text}
-use Rattle.sh_tree.specs.program.Words.{Assignments, operands_in, redirects_in, assignments_in, is_plainly}
+use Rattle.sh_tree.specs.standard.program.Syntax as p
+use Rattle.sh_tree.specs.standard.program.Syntax.{Text}
+use Rattle.sh_tree.specs.standard.program.Words.{Assignments, operands_in, redirects_in, assignments_in, is_plainly}
 use Rattle.sh_table.specs.declared.kind.Kind.{Kind}
 use Rattle.sh_table.specs.declared.kind.Kind.TheVariants as kind
-use Rattle.sh_table.specs.Kinds.{kind_of}
+use Rattle.sh_table.specs.standard.Kinds.{kind_of}
 use Rattle.sh_table.specs.Surroundings.{Surroundings, Located, outside, in_loop, in_function, in_part, in_item, items_located, list_located, links_located, pipeline_located, commands_located, command_located, kind_located, elements_located, redirect_located, redirects_located, branches_located, otherwise_located, for_words_located, words_located, clauses_located, word_located}
-use Rattle.sh_table.specs.runs.Environment.{Environment, Frame, put_text, with_function, showing, hiding}
-use Rattle.sh_table.specs.runs.Answers.{Given, Answer}
-use Rattle.sh_table.specs.runs.States.{State, Copy, fresh}
-use Rattle.sh_table.specs.runs.Expansion.{Context, in_fields, in_one, Outcome, pieces_text, expand}
-use Rattle.sh_table.specs.runs.Operands.{unset_operands, definitions_in, count_operand, read_names, getopts_name}
-use Rattle.sh_table.specs.runs.Work.{Simple, Work, Items, Links, Pipeline, Negation, Command, Words, Prepare, Utility, Call, Return, Compound, If, Then, Test, Again, ForWords, ForFields, Clauses, Patterns, Fall, Saved, Start, Shares, Copies, Effect, goes, ends, of_copies, after_expansion, Mark, no_loop, marked, or_nearer, nth_mark, loop_mark, broken_off, continued, return_mark}
-use Rattle.sh_table.specs.runs.Builtins.{nonzero, unset_names, shifted, restored, returned, special, special_or_end, reads, utility}
-use Rattle.sh_table.specs.runs.Steps.{opened, Manner, Nameless, Special, Named, named_manner, manner, word_context, word_fields, word_splits, status_behind, Preparation, ready, next_redirect, next_assignment, in_order, in_any_order, next_preparation, may_copy, picked, takes_link, takes_turn, and_or_work, simple_work, command_work, expanded, unless_ended, negated_work, parts, piped, items, links, words, failed_in, redirected, assignment, invoked, prepared, prepare, kept, seen, utility_step, unseen, call, failed_before, redirected_before, over_fields, over_words, begun, is_started_first, in_process, compound, branch, test, for_words, for_fields, fall, clause_list, falls, clauses, matched, patterns, act_on, act}
-use Rattle.sh_table.specs.runs.Worlds.{Process, World, Move, run, start_world}
+use Rattle.sh_table.specs.standard.runs.Environment.{Environment, Frame, put_text, with_function, showing, hiding}
+use Rattle.sh_table.specs.standard.runs.Answers.{Given, Answer}
+use Rattle.sh_table.specs.standard.runs.States.{State, Copy, fresh}
+use Rattle.sh_table.specs.standard.runs.Expansion.{Context, in_fields, in_one, Outcome, pieces_text, expand}
+use Rattle.sh_table.specs.standard.runs.Operands.{unset_operands, definitions_in, count_operand, read_names, getopts_name}
+use Rattle.sh_table.specs.standard.runs.Work.{Simple, Work, Items, Links, Pipeline, Negation, Command, Words, Prepare, Utility, Call, Return, Compound, If, Then, Test, Again, ForWords, ForFields, Clauses, Patterns, Fall, Saved, Start, Shares, Copies, Effect, goes, ends, of_copies, after_expansion, Mark, no_loop, marked, or_nearer, nth_mark, loop_mark, broken_off, continued, return_mark}
+use Rattle.sh_table.specs.standard.runs.Builtins.{nonzero, unset_names, shifted, restored, returned, special, special_or_end, reads, utility}
+use Rattle.sh_table.specs.standard.runs.Steps.{opened, Manner, Nameless, Special, Named, named_manner, manner, word_context, word_fields, word_splits, status_behind, Preparation, ready, next_redirect, next_assignment, in_order, in_any_order, next_preparation, may_copy, picked, takes_link, takes_turn, and_or_work, simple_work, command_work, expanded, unless_ended, negated_work, parts, piped, items, links, words, failed_in, redirected, assignment, invoked, prepared, prepare, kept, seen, utility_step, unseen, call, failed_before, redirected_before, over_fields, over_words, begun, is_started_first, in_process, compound, branch, test, for_words, for_fields, fall, clause_list, falls, clauses, matched, patterns, act_on, act}
+use Rattle.sh_table.specs.standard.runs.Worlds.{Process, World, Move, run, start_world}
 use Rattle.sh_table.proofs.EnvironmentLemmas.{if_either, showing_kept, hiding_kept, restored_kept, read_kept, option_kept, directory_kept, all_removed_kept}
 use Rattle.sh_table.proofs.ExpansionLemmas as expansion
 use Rattle.sh_table.proofs.ExpansionLemmas.{Each, each_parts, each_joined, word_kept}

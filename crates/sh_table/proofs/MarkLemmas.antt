@@ -2,7 +2,7 @@
 use Rattle.std.proofs.Common.{◌≡◌, ℕ, ◌-◌, nat_le, Bool, true, false, if◌then◌else◌, is_some, List, [], ◌∷◌, refl}
 use Rattle.sh_table.specs.Surroundings.{Surroundings, outside, in_loop, in_function}
 use Rattle.sh_table.specs.Rows.{is_marked}
-use Rattle.sh_table.specs.runs.Work.{Work, Return, Test, Again, ForFields, Mark, no_loop, marked, or_nearer, nth_mark, loop_mark, return_mark}
+use Rattle.sh_table.specs.standard.runs.Work.{Work, Return, Test, Again, ForFields, Mark, no_loop, marked, or_nearer, nth_mark, loop_mark, return_mark}
 
 -- what stands round a command with this work behind it: a process is begun outside loops and functions
 unfoldable pub around : List Work → Surroundings

@@ -3,9 +3,9 @@ use Rattle.std.proofs.Common.{◌≡◌, ℕ, ◌<◌, ◌==◌, Bool, true, fal
 use Rattle.std.proofs.lemmas.Bool.{and_parts}
 use Rattle.std.proofs.lemmas.Bool.Decides.{nat_tests}
 use Rattle.std.specs.List.{list_all}
-use Rattle.sh_tree.specs.program.Syntax as p
+use Rattle.sh_tree.specs.standard.program.Syntax as p
 use Rattle.sh_tree.specs.declared.tree.Script.{Script}
-use Rattle.sh_tree.specs.program.Trees.{script_of}
+use Rattle.sh_tree.specs.standard.program.Trees.{script_of}
 use Rattle.sh_table.specs.Calls.{Table, row_in, row_of, table_of, texts_with}
 use Rattle.sh_table.specs.declared.table.Row as declared
 use Rattle.sh_table.specs.Numbering.{numbers_differ, is_numbered, precedes, numbers_rise}

@@ -6,14 +6,14 @@ use Rattle.std.proofs.lemmas.List.Folds.{list_any-append}
 use Rattle.sh_tree.specs.declared.tree.Action.TheVariants as action
 use Rattle.sh_tree.specs.declared.tree.SingleStyle.TheVariants as single
 use Rattle.sh_tree.specs.declared.tree.Special.TheVariants as special
-use Rattle.sh_tree.specs.language.Bytes.{is_in}
-use Rattle.sh_tree.specs.program.Syntax.{Text, Parameter, Variable, Special, Part, Plain, Escaped, Single, Double, Expansion, Arithmetic, Substitution, Tilde, Joined, Word, no_parts, more_parts, Operator, Value, Length, Use, Remove}
-use Rattle.sh_table.specs.runs.Environment.{Frame, separators}
-use Rattle.sh_table.specs.runs.Answers.{Given, Marked, Directory}
-use Rattle.sh_table.specs.runs.States.{State, taken}
-use Rattle.sh_table.specs.runs.Arithmetic.{evaluate}
-use Rattle.sh_table.specs.runs.Expansion.{Origin, Literal, Quoted, Unquoted, Piece, Bytes, Break, Context, in_fields, in_one, in_quotes, in_default, pieces_text, Outcome, gives, followed, value_origin, broken, at_pieces, is_every, has_every, quote_pieces, is_empty_value, value_of, needed, value_pieces, default_assigned, used, tilde_pieces, computed_pieces, expand_part, expand, expand_operator, expand_inside}
-use Rattle.sh_table.specs.runs.Fields.{Sign, Stands, Blank, Separates, Quote, Breaks, stands, unquoted_sign, piece_signs, Before, Inside, scan, is_pattern, field_text, field_names, names_or, split_fields, is_expanded, is_split, holds_pattern, splits}
+use Rattle.sh_tree.specs.standard.language.Bytes.{is_in}
+use Rattle.sh_tree.specs.standard.program.Syntax.{Text, Parameter, Variable, Special, Part, Plain, Escaped, Single, Double, Expansion, Arithmetic, Substitution, Tilde, Joined, Word, no_parts, more_parts, Operator, Value, Length, Use, Remove}
+use Rattle.sh_table.specs.standard.runs.Environment.{Frame, separators}
+use Rattle.sh_table.specs.standard.runs.Answers.{Given, Marked, Directory}
+use Rattle.sh_table.specs.standard.runs.States.{State, taken}
+use Rattle.sh_table.specs.standard.runs.Arithmetic.{evaluate}
+use Rattle.sh_table.specs.standard.runs.Expansion.{Origin, Literal, Quoted, Unquoted, Piece, Bytes, Break, Context, in_fields, in_one, in_quotes, in_default, pieces_text, Outcome, gives, followed, value_origin, broken, at_pieces, is_every, has_every, quote_pieces, is_empty_value, value_of, needed, value_pieces, default_assigned, used, tilde_pieces, computed_pieces, expand_part, expand, expand_operator, expand_inside}
+use Rattle.sh_table.specs.standard.runs.Fields.{Sign, Stands, Blank, Separates, Quote, Breaks, stands, unquoted_sign, piece_signs, Before, Inside, scan, is_pattern, field_text, field_names, names_or, split_fields, is_expanded, is_split, holds_pattern, splits}
 use Rattle.sh_table.specs.Counts.{is_all, part_has_all, word_has_all, operator_has_all, gives_field, some_gives_field, is_parameters, Parameters, One, Nothing, count_of, least_fields}
 use Rattle.sh_table.specs.Theorem.{fields_of, OperandsCount}
 use Rattle.sh_table.proofs.FieldLemmas.{row_inside}

@@ -1,11 +1,11 @@
 -- What each environment and the work of each process keep in every run, where each step of a process keeps it.
 use Rattle.std.proofs.Common.{◌≡◌, ℕ, Option, Some, None, List, [], ◌∷◌, sym, subst}
-use Rattle.sh_tree.specs.program.Syntax as p
-use Rattle.sh_table.specs.runs.Environment.{Environment, Frame}
-use Rattle.sh_table.specs.runs.Answers.{Answer}
-use Rattle.sh_table.specs.runs.Work.{Work, Items, Start, Shares, Copies, Frames, Keeps, Pushes, Pops, Effect, goes, ends}
-use Rattle.sh_table.specs.runs.Steps.{act}
-use Rattle.sh_table.specs.runs.Worlds.{Process, World, Move, innermost, with_frames, with_environment, with_process, stepped, start, start_all, apply, effect_of, step, run, start_world}
+use Rattle.sh_tree.specs.standard.program.Syntax as p
+use Rattle.sh_table.specs.standard.runs.Environment.{Environment, Frame}
+use Rattle.sh_table.specs.standard.runs.Answers.{Answer}
+use Rattle.sh_table.specs.standard.runs.Work.{Work, Items, Start, Shares, Copies, Frames, Keeps, Pushes, Pops, Effect, goes, ends}
+use Rattle.sh_table.specs.standard.runs.Steps.{act}
+use Rattle.sh_table.specs.standard.runs.Worlds.{Process, World, Move, innermost, with_frames, with_environment, with_process, stepped, start, start_all, apply, effect_of, step, run, start_world}
 use Rattle.sh_table.proofs.WorldLemmas.{put_each, Made, step_made, run_keeps}
 
 -- E of environments, L of work

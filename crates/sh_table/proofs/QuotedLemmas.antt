@@ -7,12 +7,12 @@ use Rattle.sh_tree.specs.declared.tree.Action.{Action}
 use Rattle.sh_tree.specs.declared.tree.Action.TheVariants as action
 use Rattle.sh_tree.specs.declared.tree.SingleStyle.TheVariants as single
 use Rattle.sh_tree.specs.declared.tree.Special.TheVariants as special
-use Rattle.sh_tree.specs.program.Syntax.{Text, Parameter, Variable, Special, Part, Plain, Escaped, Single, Double, Expansion, Arithmetic, Substitution, Tilde, Joined, Word, no_parts, more_parts, Operator, Value, Length, Use, Remove}
+use Rattle.sh_tree.specs.standard.program.Syntax.{Text, Parameter, Variable, Special, Part, Plain, Escaped, Single, Double, Expansion, Arithmetic, Substitution, Tilde, Joined, Word, no_parts, more_parts, Operator, Value, Length, Use, Remove}
 use Rattle.sh_table.specs.Quoting.{is_quotation, are_quotations, part_mentions, word_mentions, operator_mentions, is_at}
-use Rattle.sh_table.specs.runs.Answers.{Given}
-use Rattle.sh_table.specs.runs.Environment.{Frame}
-use Rattle.sh_table.specs.runs.Expansion.{Quoted, Piece, Bytes, Break, Context, in_quotes, in_one, value_origin, quote_pieces, has_every, broken, star_pieces, at_pieces, Outcome, gives, followed, value_of, needed, value_pieces, default_assigned, used, tilde_pieces, computed_pieces, expand_part, expand, expand_operator, expand_inside}
-use Rattle.sh_table.specs.runs.States.{State, taken}
+use Rattle.sh_table.specs.standard.runs.Answers.{Given}
+use Rattle.sh_table.specs.standard.runs.Environment.{Frame}
+use Rattle.sh_table.specs.standard.runs.Expansion.{Quoted, Piece, Bytes, Break, Context, in_quotes, in_one, value_origin, quote_pieces, has_every, broken, star_pieces, at_pieces, Outcome, gives, followed, value_of, needed, value_pieces, default_assigned, used, tilde_pieces, computed_pieces, expand_part, expand, expand_operator, expand_inside}
+use Rattle.sh_table.specs.standard.runs.States.{State, taken}
 
 -- quoted bytes; a break where those are counted too
 unfoldable pub is_held : Bool → Piece → Bool

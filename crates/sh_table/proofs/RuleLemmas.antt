@@ -6,9 +6,9 @@ use Rattle.std.proofs.lemmas.Slice.Eq.{bytes_eq-Decides}
 use Rattle.std.specs.List.{filter_map, cons_option}
 use Rattle.std.specs.Str.{bytes_eq}
 use Rattle.sh_tree.specs.declared.refusal.Rule.{Rule}
-use Rattle.sh_tree.specs.program.Syntax as p
-use Rattle.sh_tree.specs.program.Syntax.{Text}
-use Rattle.sh_tree.specs.program.Words.{static_of, words_in, is_pattern, is_plainly, part_text}
+use Rattle.sh_tree.specs.standard.program.Syntax as p
+use Rattle.sh_tree.specs.standard.program.Syntax.{Text}
+use Rattle.sh_tree.specs.standard.program.Words.{static_of, words_in, is_pattern, is_plainly, part_text}
 use Rattle.sh_table.specs.Admits.{text_rule, form_rule, refused_site, or_refused, first_of}
 use Rattle.sh_table.specs.Profile.{Static, Refused, named_rule, words_rule, command_rule, refused_at, least_refused, first_refused}
 use Rattle.sh_table.specs.Sites.{Site, site_of, form_of, placed, by_number, sites_of}

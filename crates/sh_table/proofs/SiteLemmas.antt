@@ -13,11 +13,11 @@ use Rattle.sh_tree.specs.declared.tree.Part.{Part, Plain}
 use Rattle.sh_tree.specs.declared.tree.Script.{Script}
 use Rattle.sh_tree.specs.declared.tree.Span.{Span}
 use Rattle.sh_tree.specs.declared.tree.Word.{Word}
-use Rattle.sh_tree.specs.Tree.{text_of}
-use Rattle.sh_tree.specs.Words.{words_of, form_of as element_form, word_in}
-use Rattle.sh_tree.specs.program.Lists.{parts_from, words_from, elements_from, element_from}
-use Rattle.sh_tree.specs.program.Trees as trees
-use Rattle.sh_tree.specs.program.Words.{operands_in}
+use Rattle.sh_tree.specs.standard.Tree.{text_of}
+use Rattle.sh_tree.specs.standard.Words.{words_of, form_of as element_form, word_in}
+use Rattle.sh_tree.specs.Lists.{parts_from, words_from, elements_from, element_from}
+use Rattle.sh_tree.specs.standard.program.Trees as trees
+use Rattle.sh_tree.specs.standard.program.Words.{operands_in}
 use Rattle.sh_tree.proofs.ProgramRules as rules
 use Rattle.sh_table.specs.declared.site.Around.{Around}
 use Rattle.sh_table.specs.declared.site.Site as site

@@ -5,16 +5,16 @@ use Rattle.std.proofs.lemmas.List.Concat.{flat_map-append}
 use Rattle.std.proofs.lemmas.List.Folds.{list_any-append, list_all-append}
 use Rattle.std.proofs.lemmas.Option.{same_Some, none-some}
 use Rattle.std.proofs.lemmas.Slice.Eq.{bytes_eq-Decides}
-use Rattle.sh_tree.specs.Words.{both_texts, is_wildcard}
+use Rattle.sh_tree.specs.standard.Words.{both_texts, is_wildcard}
 use Rattle.sh_tree.specs.declared.tree.SingleStyle.TheVariants as single
-use Rattle.sh_tree.specs.program.Syntax as p
-use Rattle.sh_tree.specs.program.Words as words
+use Rattle.sh_tree.specs.standard.program.Syntax as p
+use Rattle.sh_tree.specs.standard.program.Words as words
 use Rattle.sh_table.specs.Counts.{gives_field, some_gives_field}
-use Rattle.sh_table.specs.runs.Answers.{Marked, Directory}
-use Rattle.sh_table.specs.runs.Environment.{Frame}
-use Rattle.sh_table.specs.runs.States.{State}
-use Rattle.sh_table.specs.runs.Expansion.{Piece, Bytes, Break, Literal, Quoted, Unquoted, piece_text, pieces_text, Context, in_fields, in_quotes, Outcome, gives, followed, is_every, has_every, quote_pieces, expand_part, expand}
-use Rattle.sh_table.specs.runs.Fields.{Sign, stands, piece_signs, Before, Inside, scan, is_unquoted, is_bracket, is_pattern, field_text, field_names, fields}
+use Rattle.sh_table.specs.standard.runs.Answers.{Marked, Directory}
+use Rattle.sh_table.specs.standard.runs.Environment.{Frame}
+use Rattle.sh_table.specs.standard.runs.States.{State}
+use Rattle.sh_table.specs.standard.runs.Expansion.{Piece, Bytes, Break, Literal, Quoted, Unquoted, piece_text, pieces_text, Context, in_fields, in_quotes, Outcome, gives, followed, is_every, has_every, quote_pieces, expand_part, expand}
+use Rattle.sh_table.specs.standard.runs.Fields.{Sign, stands, piece_signs, Before, Inside, scan, is_unquoted, is_bracket, is_pattern, field_text, field_names, fields}
 
 -- Pieces that stand as they are
 

@@ -12,18 +12,18 @@ use Rattle.sh_tree.specs.declared.tree.Removal.{Removal}
 use Rattle.sh_tree.specs.declared.tree.SingleStyle.TheVariants as single
 use Rattle.sh_tree.specs.declared.tree.Special as tree
 use Rattle.sh_tree.specs.declared.tree.Special.TheVariants as special
-use Rattle.sh_tree.specs.language.Bytes.{is_digit, is_in}
-use Rattle.sh_tree.specs.program.Syntax.{Text, Parameter, Variable, Positional, Special, Part, Plain, Escaped, Single, Double, Expansion, Arithmetic, Substitution, Tilde, Joined, Word, no_parts, more_parts, Operator, Value, Length, Use, Remove, Expression, Constant, Name, Expanded, Parenthesis, Signed, Chain, Choice, Assigned, Operands, no_operands, more_operands}
+use Rattle.sh_tree.specs.standard.language.Bytes.{is_digit, is_in}
+use Rattle.sh_tree.specs.standard.program.Syntax.{Text, Parameter, Variable, Positional, Special, Part, Plain, Escaped, Single, Double, Expansion, Arithmetic, Substitution, Tilde, Joined, Word, no_parts, more_parts, Operator, Value, Length, Use, Remove, Expression, Constant, Name, Expanded, Parenthesis, Signed, Chain, Choice, Assigned, Operands, no_operands, more_operands}
 use Rattle.sh_table.specs.Quoting.{is_numeric, gives_number, is_quoted_alternative, is_whole, are_whole, part_begins_pattern, word_begins_pattern, part_mentions, word_mentions, operator_mentions, expression_mentions, operands_mention, is_ifs, is_about_separators, is_steady}
 use Rattle.sh_table.specs.Theorem.{DifferInIfs, FieldsStandSteady}
 use Rattle.sh_table.proofs.QuotedLemmas.{is_held, Held, followed_all, tilde_held, double_held, quotations_held}
-use Rattle.sh_table.specs.runs.Answers.{Given, Marked, Directory}
-use Rattle.sh_table.specs.runs.Arithmetic.{Computed, computes, answered, operated, then_computed, read_name, named, skips, read_where, stored, operated_assignment, evaluate, evaluate_rest}
-use Rattle.sh_table.specs.runs.Environment.{Environment, Frame, with_variable, put_text, blanks, separators}
-use Rattle.sh_table.specs.runs.Expansion.{Literal, Quoted, Unquoted, Piece, Bytes, Break, Context, in_fields, in_quotes, in_one, in_default, value_origin, pieces_text, quote_pieces, has_every, is_empty_value, Outcome, gives, followed, special_value, value_of, needed, value_pieces, default_assigned, used, constant_in, behind, tilde_pieces, computed_pieces, expand_part, expand, expand_operator, expand_inside, expand_operands}
-use Rattle.sh_table.specs.runs.Fields.{begins_pattern, Sign, Stands, Blank, Separates, Quote, Breaks, stands, unquoted_sign, piece_signs, Scan, Before, Behind, Inside, scan, split_fields, is_unquoted, is_bracket, is_pattern, field_text, names_or, field_names, fields}
-use Rattle.sh_table.specs.runs.Numbers.{last_digits, digits, integer_text, is_operand, is_computed, is_zero}
-use Rattle.sh_table.specs.runs.States.{State, fresh, taken, ending, stray, with_environment}
+use Rattle.sh_table.specs.standard.runs.Answers.{Given, Marked, Directory}
+use Rattle.sh_table.specs.standard.runs.Arithmetic.{Computed, computes, answered, operated, then_computed, read_name, named, skips, read_where, stored, operated_assignment, evaluate, evaluate_rest}
+use Rattle.sh_table.specs.standard.runs.Environment.{Environment, Frame, with_variable, put_text, blanks, separators}
+use Rattle.sh_table.specs.standard.runs.Expansion.{Literal, Quoted, Unquoted, Piece, Bytes, Break, Context, in_fields, in_quotes, in_one, in_default, value_origin, pieces_text, quote_pieces, has_every, is_empty_value, Outcome, gives, followed, special_value, value_of, needed, value_pieces, default_assigned, used, constant_in, behind, tilde_pieces, computed_pieces, expand_part, expand, expand_operator, expand_inside, expand_operands}
+use Rattle.sh_table.specs.standard.runs.Fields.{begins_pattern, Sign, Stands, Blank, Separates, Quote, Breaks, stands, unquoted_sign, piece_signs, Scan, Before, Behind, Inside, scan, split_fields, is_unquoted, is_bracket, is_pattern, field_text, names_or, field_names, fields}
+use Rattle.sh_table.specs.standard.runs.Numbers.{last_digits, digits, integer_text, is_operand, is_computed, is_zero}
+use Rattle.sh_table.specs.standard.runs.States.{State, fresh, taken, ending, stray, with_environment}
 
 -- Environments and states that are alike but for IFS
 

@@ -8,17 +8,17 @@ use Rattle.std.specs.Str.{bytes_eq}
 use Rattle.std.specs.List.Sorted.{IsNonDecreasingBy}
 use Rattle.sh_tree.specs.declared.limits.TheConstants.{MAX_COMMANDS}
 use Rattle.sh_tree.specs.declared.tree.Script.{Script}
-use Rattle.sh_tree.specs.program.Syntax as p
-use Rattle.sh_tree.specs.program.Syntax.{Text}
-use Rattle.sh_tree.specs.program.Trees.{script_of}
+use Rattle.sh_tree.specs.standard.program.Syntax as p
+use Rattle.sh_tree.specs.standard.program.Syntax.{Text}
+use Rattle.sh_tree.specs.standard.program.Trees.{script_of}
 use Rattle.sh_table.specs.declared.table.Row as declared
 use Rattle.sh_table.specs.declared.word_text.WordText.{WordText}
 use Rattle.sh_table.specs.Calls.{Functions, Table, Row, IsKept, defined, with_name, names_of, functions_of, row_of, row_in, table_in, table_of, texts_with, static_at, text_at, called, callee_at, first_row, found_texts}
-use Rattle.sh_table.specs.Kinds.{kind_of, is_special}
+use Rattle.sh_table.specs.standard.Kinds.{kind_of, is_special}
 use Rattle.sh_table.specs.Profile.{Static}
 use Rattle.sh_table.specs.Sites.{Site, sites_of}
 use Rattle.sh_table.specs.WordTexts.{text_in}
-use Rattle.sh_table.specs.runs.Environment.{is_one_of}
+use Rattle.sh_table.specs.standard.runs.Environment.{is_one_of}
 use Rattle.sh_table.proofs.FunctionLemmas.{place_later}
 use Rattle.sh_table.proofs.OrderLemmas.{Above, Rises, number_of, rises_by_number}
 

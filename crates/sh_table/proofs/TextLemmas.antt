@@ -9,17 +9,17 @@ use Rattle.std.proofs.lemmas.List.{take-append-le, drop-append-le}
 use Rattle.std.proofs.lemmas.Option.{same_Some, none-some}
 use Rattle.sh_tree.specs.declared.tree.SingleStyle.TheVariants as single
 use Rattle.sh_tree.specs.declared.tree.Special.TheVariants as special
-use Rattle.sh_tree.specs.language.Bytes.{run, is_first, is_name_start, is_name_byte, name_length}
-use Rattle.sh_tree.specs.language.Commands.{is_assignment}
-use Rattle.sh_tree.specs.program.Syntax as p
-use Rattle.sh_tree.specs.program.Syntax.{Text}
-use Rattle.sh_tree.specs.program.Words as words
+use Rattle.sh_tree.specs.standard.language.Bytes.{run, is_first, is_name_start, is_name_byte, name_length}
+use Rattle.sh_tree.specs.standard.language.Commands.{is_assignment}
+use Rattle.sh_tree.specs.standard.program.Syntax as p
+use Rattle.sh_tree.specs.standard.program.Syntax.{Text}
+use Rattle.sh_tree.specs.standard.program.Words as words
 use Rattle.sh_table.specs.Quoting.{is_quotation, are_quotations, part_mentions, word_mentions, is_at}
-use Rattle.sh_table.specs.runs.Answers.{Marked, Directory}
-use Rattle.sh_table.specs.runs.Environment.{Frame}
-use Rattle.sh_table.specs.runs.Expansion.{Piece, Bytes, Break, Literal, Quoted, Unquoted, piece_text, pieces_text, Context, in_fields, in_quotes, Outcome, gives, followed, is_every, has_every, quote_pieces, expand_part, expand}
-use Rattle.sh_table.specs.runs.Fields.{is_unquoted, is_pattern, field_text, field_names, fields}
-use Rattle.sh_table.specs.runs.States.{State}
+use Rattle.sh_table.specs.standard.runs.Answers.{Marked, Directory}
+use Rattle.sh_table.specs.standard.runs.Environment.{Frame}
+use Rattle.sh_table.specs.standard.runs.Expansion.{Piece, Bytes, Break, Literal, Quoted, Unquoted, piece_text, pieces_text, Context, in_fields, in_quotes, Outcome, gives, followed, is_every, has_every, quote_pieces, expand_part, expand}
+use Rattle.sh_table.specs.standard.runs.Fields.{is_unquoted, is_pattern, field_text, field_names, fields}
+use Rattle.sh_table.specs.standard.runs.States.{State}
 use Rattle.sh_table.proofs.QuotedLemmas.{is_held, Held, quotations_held}
 use Rattle.sh_table.proofs.StaticLemmas.{is_standing, begins, mark, marks_of, marks, scan_before, Joins, joined_some}
 

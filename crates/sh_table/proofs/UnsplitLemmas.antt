@@ -9,16 +9,16 @@ use Rattle.sh_tree.specs.declared.tree.Action.TheVariants as action
 use Rattle.sh_tree.specs.declared.tree.SingleStyle.TheVariants as single
 use Rattle.sh_tree.specs.declared.tree.Special as tree
 use Rattle.sh_tree.specs.declared.tree.Special.TheVariants as special
-use Rattle.sh_tree.specs.language.Bytes.{is_in}
-use Rattle.sh_tree.specs.program.Syntax.{Text, Parameter, Variable, Positional, Special, Part, Plain, Escaped, Single, Double, Expansion, Arithmetic, Substitution, Tilde, Joined, Word, no_parts, more_parts, Operator, Value, Length, Use, Remove}
+use Rattle.sh_tree.specs.standard.language.Bytes.{is_in}
+use Rattle.sh_tree.specs.standard.program.Syntax.{Text, Parameter, Variable, Positional, Special, Part, Plain, Escaped, Single, Double, Expansion, Arithmetic, Substitution, Tilde, Joined, Word, no_parts, more_parts, Operator, Value, Length, Use, Remove}
 use Rattle.sh_table.specs.Quoting.{is_numeric, gives_number, is_quoted_alternative, is_whole, are_whole, word_begins_pattern}
-use Rattle.sh_table.specs.runs.Answers.{Given}
-use Rattle.sh_table.specs.runs.Arithmetic.{evaluate}
-use Rattle.sh_table.specs.runs.Environment.{Environment, Frame}
-use Rattle.sh_table.specs.runs.Expansion.{Literal, Quoted, Unquoted, Piece, Bytes, Break, in_fields, in_default, value_origin, Outcome, gives, followed, special_value, value_of, needed, value_pieces, used, computed_pieces, expand_part, expand, expand_operator, expand_inside}
-use Rattle.sh_table.specs.runs.Fields.{is_expanded, is_split, begins_pattern, holds_pattern, splits}
-use Rattle.sh_table.specs.runs.Numbers.{last_digits, digits, integer_text}
-use Rattle.sh_table.specs.runs.States.{State, taken}
+use Rattle.sh_table.specs.standard.runs.Answers.{Given}
+use Rattle.sh_table.specs.standard.runs.Arithmetic.{evaluate}
+use Rattle.sh_table.specs.standard.runs.Environment.{Environment, Frame}
+use Rattle.sh_table.specs.standard.runs.Expansion.{Literal, Quoted, Unquoted, Piece, Bytes, Break, in_fields, in_default, value_origin, Outcome, gives, followed, special_value, value_of, needed, value_pieces, used, computed_pieces, expand_part, expand, expand_operator, expand_inside}
+use Rattle.sh_table.specs.standard.runs.Fields.{is_expanded, is_split, begins_pattern, holds_pattern, splits}
+use Rattle.sh_table.specs.standard.runs.Numbers.{last_digits, digits, integer_text}
+use Rattle.sh_table.specs.standard.runs.States.{State, taken}
 use Rattle.sh_table.proofs.ExpansionLemmas.{word_tells}
 use Rattle.sh_table.proofs.QuotedLemmas.{is_held, Held, followed_all, tilde_held, double_held, quotations_held}
 use Rattle.sh_table.proofs.SteadyLemmas.{is_numeral, is_firm, Firm, word_firm, numeral_stands, numeral_kept, or_second, use_no_number, removal_no_number}

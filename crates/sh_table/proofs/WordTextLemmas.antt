@@ -7,21 +7,21 @@ use Rattle.sh_tree.specs.declared.tree.Part.{Part, Plain, Escaped, Single, Doubl
 use Rattle.sh_tree.specs.declared.tree.SingleStyle.{SingleStyle}
 use Rattle.sh_tree.specs.declared.tree.SingleStyle.TheVariants as single
 use Rattle.sh_tree.specs.declared.tree.Span.{Span}
-use Rattle.sh_tree.specs.Tree.{text_of}
+use Rattle.sh_tree.specs.standard.Tree.{text_of}
 use Rattle.std.specs.List.{list_any, flat_map}
 use Rattle.std.specs.Str.{bytes_eq}
 use Rattle.sh_tree.specs.declared.tree.Element.{Element, Assignment', Word', Redirection'}
 use Rattle.sh_tree.specs.declared.tree.Element.TheVariants as element
 use Rattle.sh_tree.specs.declared.tree.Redirect.{Redirect}
 use Rattle.sh_tree.specs.declared.tree.Word.{Word}
-use Rattle.sh_tree.specs.program.Lists.{element_from, elements_from}
-use Rattle.sh_tree.specs.program.Syntax as p
-use Rattle.sh_tree.specs.program.Syntax.{Text}
-use Rattle.sh_tree.specs.program.Words.{operands_in, static_of, words_in}
+use Rattle.sh_tree.specs.Lists.{element_from, elements_from}
+use Rattle.sh_tree.specs.standard.program.Syntax as p
+use Rattle.sh_tree.specs.standard.program.Syntax.{Text}
+use Rattle.sh_tree.specs.standard.program.Words.{operands_in, static_of, words_in}
 use Rattle.sh_tree.proofs.ProgramRules as rules
 use Rattle.sh_tree.proofs.ProgramWords.{static_of_parts}
 use Rattle.sh_table.specs.Sites.{Simple, statics}
-use Rattle.sh_tree.specs.Words.{static_text, is_wildcard, is_pattern, has_wildcard, has_bracket, is_bracket, parts_text, part_text, part_text-Double, single_text, behind_first, between_ends}
+use Rattle.sh_tree.specs.standard.Words.{static_text, is_wildcard, is_pattern, has_wildcard, has_bracket, is_bracket, parts_text, part_text, part_text-Double, single_text, behind_first, between_ends}
 use Rattle.sh_table.specs.WordTexts.{may_match, has_pattern, plain_text, plain_span, lone_part, text_in, texts_of}
 use Rattle.sh_table.specs.Profile.{Static}
 use Rattle.sh_table.specs.declared.word_text.WordText.{WordText}

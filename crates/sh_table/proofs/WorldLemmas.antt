@@ -1,10 +1,10 @@
 -- What holds of worlds, whatever their processes do.
 use Rattle.std.proofs.Common.{◌≡◌, ◌≢◌, ℕ, zero, suc, ◌==◌, ◌<◌, ◌≤◌, Bool, true, false, ◌||◌, Option, Some, None, is_some, if◌then◌else◌, List, [], ◌∷◌, ◌⊎◌, inl, inr, refl, sym, ◌∙◌, ap, subst, le_refl, arith, eqb-true, eq-eqb, ne_eqb, option_map, option_and_then, unwrap_or, true≢false}
 use Rattle.std.proofs.lemmas.Option.{same_Some, none-some, option_and_then_some}
-use Rattle.sh_tree.specs.program.Syntax as p
-use Rattle.sh_table.specs.runs.Environment.{Environment, Frame}
-use Rattle.sh_table.specs.runs.Work.{Work, Start, Shares, Copies, Frames, Keeps, Pushes, Pops, Effect}
-use Rattle.sh_table.specs.runs.Worlds.{Process, World, Move, put, is_part_of, any_below, waits, with_frames, with_environment, with_process, stepped, start, start_all, apply, effect_of, may_step, step, run, start_world}
+use Rattle.sh_tree.specs.standard.program.Syntax as p
+use Rattle.sh_table.specs.standard.runs.Environment.{Environment, Frame}
+use Rattle.sh_table.specs.standard.runs.Work.{Work, Start, Shares, Copies, Frames, Keeps, Pushes, Pops, Effect}
+use Rattle.sh_table.specs.standard.runs.Worlds.{Process, World, Move, put, is_part_of, any_below, waits, with_frames, with_environment, with_process, stepped, start, start_all, apply, effect_of, may_step, step, run, start_world}
 
 -- Changed maps
 

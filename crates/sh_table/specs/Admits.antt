@@ -6,11 +6,11 @@ use Rattle.sh_tree.specs.declared.refusal.Refusal.TheVariants.{Memory}
 use Rattle.sh_tree.specs.declared.refusal.Refusal.TheVariants as refusal
 use Rattle.sh_tree.specs.declared.refusal.Rule.{Rule}
 use Rattle.sh_tree.specs.declared.refusal.Rule.TheVariants as rule
-use Rattle.sh_tree.specs.program.Syntax as p
-use Rattle.sh_tree.specs.program.Syntax.{Text}
+use Rattle.sh_tree.specs.standard.program.Syntax as p
+use Rattle.sh_tree.specs.standard.program.Syntax.{Text}
 use Rattle.sh_table.specs.declared.site.Site as site
 use Rattle.sh_table.specs.declared.table.Row as row
-use Rattle.sh_table.specs.Kinds.{kind_of}
+use Rattle.sh_table.specs.standard.Kinds.{kind_of}
 use Rattle.sh_table.specs.Profile.{Static, Refused, unless, or_rule, kind_rule, words_rule, told_name, function_rule, is_append, first_refused}
 use Rattle.sh_table.specs.Sites.{Form, Simple, Defines, Other, Site}
 use Rattle.sh_table.specs.Surroundings.{Surroundings}

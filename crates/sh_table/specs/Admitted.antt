@@ -1,7 +1,7 @@
 -- The profile as a walk over the program: no command of it breaks a rule.
 -- POSIX.1-2024, XCU 2.9 (shell commands).
 use Rattle.std.specs.Prelude.{◌≡◌, Bool, true, not, ◌&&◌, is_some}
-use Rattle.sh_tree.specs.program.Syntax as p
+use Rattle.sh_tree.specs.standard.program.Syntax as p
 use Rattle.sh_table.specs.Surroundings.{Surroundings, outside, in_loop, in_function, in_part, in_item}
 use Rattle.sh_table.specs.Profile.{command_rule, first_refused}
 

@@ -9,14 +9,14 @@ use Rattle.sh_tree.specs.declared.limits.TheConstants.{MAX_COMMANDS}
 use Rattle.sh_tree.specs.declared.refusal.Refusal.{Refusal}
 use Rattle.sh_tree.specs.declared.refusal.Refusal.TheVariants.{TooMany, Memory}
 use Rattle.sh_tree.specs.declared.tree.Script.{Script}
-use Rattle.sh_tree.specs.program.Syntax.{Text}
-use Rattle.sh_tree.specs.program.Trees.{script_of}
-use Rattle.sh_table.specs.Kinds.{kind_of, is_special}
+use Rattle.sh_tree.specs.standard.program.Syntax.{Text}
+use Rattle.sh_tree.specs.standard.program.Trees.{script_of}
+use Rattle.sh_table.specs.standard.Kinds.{kind_of, is_special}
 use Rattle.sh_table.specs.Profile.{Static}
 use Rattle.sh_table.specs.Sites.{Form, Defines, Site, statics, sites_of}
 use Rattle.sh_table.specs.WordTexts.{text_in}
 use Rattle.sh_table.specs.declared.table.Row as declared
-use Rattle.sh_table.specs.runs.Environment.{is_one_of}
+use Rattle.sh_table.specs.standard.runs.Environment.{is_one_of}
 
 -- a command's number, and the static texts of its words
 abbrev pub Row : Type 0

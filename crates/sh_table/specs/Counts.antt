@@ -3,8 +3,8 @@
 use Rattle.std.specs.Prelude.{ℕ, ◌==◌, Bool, true, false, not, ◌||◌, if◌then◌else◌, length}
 use Rattle.sh_tree.specs.declared.tree.Action.TheVariants as action
 use Rattle.sh_tree.specs.declared.tree.Special.TheVariants as special
-use Rattle.sh_tree.specs.program.Syntax.{Parameter, Special, Part, Plain, Double, Expansion, Arithmetic, Joined, Word, no_parts, more_parts, Operator, Value, Use, Remove, Expression, Constant, Name, Expanded, Parenthesis, Signed, Chain, Choice, Assigned, Operands, no_operands, more_operands}
-use Rattle.sh_table.specs.runs.Environment.{Frame}
+use Rattle.sh_tree.specs.standard.program.Syntax.{Parameter, Special, Part, Plain, Double, Expansion, Arithmetic, Joined, Word, no_parts, more_parts, Operator, Value, Use, Remove, Expression, Constant, Name, Expanded, Parenthesis, Signed, Chain, Choice, Assigned, Operands, no_operands, more_operands}
+use Rattle.sh_table.specs.standard.runs.Environment.{Frame}
 
 -- `$@`, or `$*` outside quotes
 unfoldable pub is_all : Bool → Parameter → Bool

@@ -3,8 +3,8 @@
 use Rattle.std.specs.Prelude.{ℕ, List, [], ◌∷◌, ◌++◌, map, Option, option_map}
 use Rattle.std.specs.List.{filter_map}
 use Rattle.sh_tree.specs.declared.tree.Command.{Command, out-Command}
-use Rattle.sh_tree.specs.program.Syntax.{Text}
-use Rattle.sh_tree.specs.Tree.{text_of}
+use Rattle.sh_tree.specs.standard.program.Syntax.{Text}
+use Rattle.sh_tree.specs.standard.Tree.{text_of}
 use Rattle.sh_table.specs.Calls.{Row, Functions, defined, row_of, row_in, with_definition}
 use Rattle.sh_table.specs.Sites.{Form, Site, site_of, statics}
 use Rattle.sh_table.specs.Surroundings.{Located}

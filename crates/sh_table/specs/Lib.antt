@@ -1,5 +1,4 @@
-pub mod Kinds
-pub mod runs
+pub mod standard
 pub mod Surroundings
 pub mod Profile
 pub mod Admitted

@@ -2,7 +2,7 @@
 -- The standard has no such thing: a command's number is its place among the commands of a script.
 use Rattle.std.specs.Prelude.{ℕ, nat_lt, ◌==◌, Bool, true, not, ◌&&◌, List, [], ◌∷◌, map}
 use Rattle.std.specs.List.{list_all}
-use Rattle.sh_tree.specs.program.Syntax as p
+use Rattle.sh_tree.specs.standard.program.Syntax as p
 use Rattle.sh_table.specs.Sites.{Site, site_of}
 use Rattle.sh_table.specs.Surroundings.{outside, items_located}
 

@@ -8,16 +8,16 @@ use Rattle.sh_tree.specs.declared.known.KnownName.{KnownName}
 use Rattle.sh_tree.specs.declared.known.KnownName.TheVariants as known
 use Rattle.sh_tree.specs.declared.refusal.Rule.{Rule}
 use Rattle.sh_tree.specs.declared.refusal.Rule.TheVariants as rule
-use Rattle.sh_tree.specs.language.Bytes.{is_first, name_length}
-use Rattle.sh_tree.specs.program.Syntax as p
-use Rattle.sh_tree.specs.program.Syntax.{Text}
-use Rattle.sh_tree.specs.program.Words.{static_of, is_plainly, words_in, operands_in}
+use Rattle.sh_tree.specs.standard.language.Bytes.{is_first, name_length}
+use Rattle.sh_tree.specs.standard.program.Syntax as p
+use Rattle.sh_tree.specs.standard.program.Syntax.{Text}
+use Rattle.sh_tree.specs.standard.program.Words.{static_of, is_plainly, words_in, operands_in}
 use Rattle.sh_table.specs.declared.kind.Kind.{Kind}
 use Rattle.sh_table.specs.declared.kind.Kind.TheVariants as kind
-use Rattle.sh_table.specs.Kinds.{kind_of}
+use Rattle.sh_table.specs.standard.Kinds.{kind_of}
 use Rattle.sh_table.specs.Surroundings.{Surroundings, Located, outside, items_located}
-use Rattle.sh_table.specs.runs.Numbers.{number_in}
-use Rattle.sh_table.specs.runs.Operands.{is_dashed, ends_options, is_set_option, ends_in_o}
+use Rattle.sh_table.specs.standard.runs.Numbers.{number_in}
+use Rattle.sh_table.specs.standard.runs.Operands.{is_dashed, ends_options, is_set_option, ends_in_o}
 
 -- the static text of an operand, if it has one
 abbrev pub Static : Type 0

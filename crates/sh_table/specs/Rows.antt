@@ -5,21 +5,21 @@ use Rattle.std.specs.Prelude.{◌≡◌, ℕ, Bool, true, false, not, ◌&&◌, 
 use Rattle.std.specs.List.{list_all}
 use Rattle.sh_tree.specs.declared.known.KnownName.{KnownName}
 use Rattle.sh_tree.specs.declared.known.KnownName.TheVariants as known
-use Rattle.sh_tree.specs.program.Syntax as p
-use Rattle.sh_tree.specs.program.Syntax.{Text}
-use Rattle.sh_tree.specs.program.Words.{operands_in, static_of, words_in}
+use Rattle.sh_tree.specs.standard.program.Syntax as p
+use Rattle.sh_tree.specs.standard.program.Syntax.{Text}
+use Rattle.sh_tree.specs.standard.program.Words.{operands_in, static_of, words_in}
 use Rattle.sh_table.specs.declared.kind.Kind.{Kind}
 use Rattle.sh_table.specs.declared.kind.Kind.TheVariants as kind
-use Rattle.sh_table.specs.Kinds.{kind_of}
+use Rattle.sh_table.specs.standard.Kinds.{kind_of}
 use Rattle.sh_table.specs.Counts.{some_gives_field}
 use Rattle.sh_table.specs.Surroundings.{Located, outside, items_located}
 use Rattle.sh_table.specs.Profile.{is_count, traps_nothing, commands_utility, is_reserved_elsewhere}
 use Rattle.sh_table.specs.Admitted.{is_admitted}
-use Rattle.sh_table.specs.runs.Environment.{Environment, Frame}
-use Rattle.sh_table.specs.runs.Operands.{count_operand}
-use Rattle.sh_table.specs.runs.Work.{Work, Prepare, Utility, Mark, no_loop, marked, loop_mark, return_mark}
-use Rattle.sh_table.specs.runs.Steps.{Manner, Special, manner}
-use Rattle.sh_table.specs.runs.Worlds.{Process, World, Move, run, start_world}
+use Rattle.sh_table.specs.standard.runs.Environment.{Environment, Frame}
+use Rattle.sh_table.specs.standard.runs.Operands.{count_operand}
+use Rattle.sh_table.specs.standard.runs.Work.{Work, Prepare, Utility, Mark, no_loop, marked, loop_mark, return_mark}
+use Rattle.sh_table.specs.standard.runs.Steps.{Manner, Special, manner}
+use Rattle.sh_table.specs.standard.runs.Worlds.{Process, World, Move, run, start_world}
 
 -- Rows
 

@@ -1,9 +1,9 @@
 -- The commands of a program by their numbers: what stands round each, and the words of a simple one or the name that one defines.
 -- POSIX.1-2024, XCU 2.9.1 (simple commands), 2.9.5 (function definitions).
 use Rattle.std.specs.Prelude.{ℕ, nat_lt, if◌then◌else◌, List, [], ◌∷◌, map}
-use Rattle.sh_tree.specs.program.Syntax as p
-use Rattle.sh_tree.specs.program.Syntax.{Text}
-use Rattle.sh_tree.specs.program.Words.{operands_in, static_of, words_in}
+use Rattle.sh_tree.specs.standard.program.Syntax as p
+use Rattle.sh_tree.specs.standard.program.Syntax.{Text}
+use Rattle.sh_tree.specs.standard.program.Words.{operands_in, static_of, words_in}
 use Rattle.sh_table.specs.Profile.{Static}
 use Rattle.sh_table.specs.Surroundings.{Surroundings, Located, outside, items_located}
 

@@ -1,13 +1,13 @@
 -- What holds of runs and of fields, whatever the rules of a checker are.
 -- POSIX.1-2024, XCU 2.6.5 (field splitting), 2.6.6 (pathname expansion), 2.9 (shell commands), 2.13 (shell execution environment).
 use Rattle.std.specs.Prelude.{◌≡◌, ℕ, ◌≤◌, true, false, List, [], length, map, codes, Some, is_some}
-use Rattle.sh_tree.specs.program.Syntax.{Text, Items, Word}
-use Rattle.sh_table.specs.runs.Environment.{Environment, Frame, separators}
-use Rattle.sh_table.specs.runs.Answers.{Given, Directory}
-use Rattle.sh_table.specs.runs.States.{State, fresh}
-use Rattle.sh_table.specs.runs.Expansion.{Quoted, Unquoted, Piece, Bytes, Outcome, in_fields, expand}
-use Rattle.sh_table.specs.runs.Fields.{fields, splits}
-use Rattle.sh_table.specs.runs.Worlds.{World, Move, run, step, waits, start_world}
+use Rattle.sh_tree.specs.standard.program.Syntax.{Text, Items, Word}
+use Rattle.sh_table.specs.standard.runs.Environment.{Environment, Frame, separators}
+use Rattle.sh_table.specs.standard.runs.Answers.{Given, Directory}
+use Rattle.sh_table.specs.standard.runs.States.{State, fresh}
+use Rattle.sh_table.specs.standard.runs.Expansion.{Quoted, Unquoted, Piece, Bytes, Outcome, in_fields, expand}
+use Rattle.sh_table.specs.standard.runs.Fields.{fields, splits}
+use Rattle.sh_table.specs.standard.runs.Worlds.{World, Move, run, step, waits, start_world}
 use Rattle.sh_table.specs.Counts.{count_of, least_fields}
 use Rattle.sh_table.specs.Quoting.{are_whole, word_begins_pattern, word_mentions, is_about_separators, is_ifs, is_steady}
 

@@ -1,9 +1,9 @@
 //! The rows and the definitions of a script's commands, made in one walk.
 ghost use Rattle.std.specs.Prelude.{◌≡◌, ◌++◌, ◌∷◌, [], ℕ, List, map, IfOk, OnOk, option_map};
 ghost use Rattle.std.specs.List.{filter_map};
-ghost use Rattle.sh_tree.specs.Tree.{text_of};
+ghost use Rattle.sh_tree.specs.standard.Tree.{text_of};
 ghost use Rattle.sh_tree.specs.declared.tree.Command.{out-Command};
-ghost use Rattle.sh_tree.specs.program.Trees.{script_of};
+ghost use Rattle.sh_tree.specs.standard.program.Trees.{script_of};
 ghost use Rattle.sh_table.specs.Calls as calls;
 ghost use Rattle.sh_table.specs.Found as spec;
 ghost use Rattle.sh_table.specs.Sites as sites;
@@ -14,7 +14,7 @@ use crate::site::Around;
 use crate::table::Row;
 use crate::walk::{Visitor, walk};
 use crate::word_text::texts_of;
-use sh_tree::tree::{Command, Kind, Script, Span};
+use sh_tree::{Command, Kind, Script, Span};
 use std::alloc::{AllocError, Global};
 
 /// The row of each command, and the definitions of functions.

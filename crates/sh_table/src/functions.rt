@@ -7,7 +7,7 @@ ghost use Rattle.sh_table.specs.Found as found;
 ghost use Rattle.sh_table.specs.Sites.{Site};
 
 use indexmap::IndexSet;
-use sh_tree::tree::Span;
+use sh_tree::Span;
 use std::alloc::{AllocError, Global};
 use std::marker::Model;
 

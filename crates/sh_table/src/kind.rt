@@ -1,9 +1,9 @@
 //! What the name of a command means.
 ghost use Rattle.std.specs.Prelude.{◌≡◌};
 ghost use Rattle.std.specs.Str.{bytes_eq};
-ghost use Rattle.sh_table.specs.Kinds as kinds;
+ghost use Rattle.sh_table.specs.standard.Kinds as kinds;
 
-use sh_tree::known::KnownName;
+use sh_tree::KnownName;
 
 /// What a command does, by its name (XCU 2.9.1.4, 2.15).
 #[derive(Clone, Copy, Debug, PartialEq, Eq)]
@@ -26,7 +26,7 @@ pub enum Kind {
 
 impl Kind {
     /// The name that has the kind; of a utility, which any other name is, none.
-    #[tactic(auto, unfolding(crate::specs::Kinds::name_of))]
+    #[tactic(auto, unfolding(crate::specs::standard::Kinds::name_of))]
     fn text(self) -> &'static str
         ensures { result.now ≡ kinds.name_of self }
     {
@@ -44,7 +44,7 @@ impl Kind {
     }
 
     /// Whether it is a special built-in utility's.
-    #[tactic(auto, unfolding(crate::specs::Kinds::is_special))]
+    #[tactic(auto, unfolding(crate::specs::standard::Kinds::is_special))]
     pub fn is_special(self) -> bool
         ensures { result ≡ kinds.is_special self }
     {
@@ -120,7 +120,7 @@ const OF_NINE: [Kind; 2] = [
     Kind::Refused(KnownName::Namespace),
 ];
 
-#[tactic(auto, using(crate::proofs::KindLemmas::none_of_length), unfolding(crate::specs::Kinds::of_length, crate::specs::Kinds::name_of))]
+#[tactic(auto, using(crate::proofs::KindLemmas::none_of_length), unfolding(crate::specs::standard::Kinds::of_length, crate::specs::standard::Kinds::name_of))]
 fn of_length(length: usize) -> &'static [Kind]
     ensures { kinds.rows_of result.now ≡ kinds.of_length length }
 {
@@ -145,7 +145,7 @@ fn has_name(kind: Kind, name: &[u8]) -> bool
     kind.text().as_bytes() == name
 }
 
-#[tactic(auto, unfolding(crate::specs::Kinds::look_up))]
+#[tactic(auto, unfolding(crate::specs::standard::Kinds::look_up))]
 fn find(rows: &[Kind], name: &[u8]) -> Kind
     ensures { result ≡ kinds.look_up (kinds.rows_of rows.now) name.now }
 {

@@ -1,15 +1,24 @@
 //! What the names of commands mean; beside it, in `specs/`, which commands are analysed, and what a shell does with a script.
 #![tactic(auto)]
 
-pub mod admit;
 mod found;
 mod functions;
-pub mod kind;
+mod kind;
 pub mod laws;
-pub mod operands;
+mod operands;
+mod profile;
 mod rules;
-pub mod site;
+mod site;
 mod sites;
-pub mod table;
+mod table;
 pub mod walk;
-pub mod word_text;
+mod word_text;
+
+pub use kind::{Kind, kind_of};
+pub use operands::{
+    are_static, ends_in_o, ends_options, is_dashed, is_number, is_set_option, name_length,
+};
+pub use profile::admit;
+pub use site::Around;
+pub use table::CallTable;
+pub use word_text::WordText;

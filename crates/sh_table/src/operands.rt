@@ -1,15 +1,15 @@
 //! Operands of commands: what the profile asks of them, and what options and names are.
 ghost use Rattle.std.specs.Prelude.{◌≡◌, ◌≤◌, ◌<◌, ◌==◌, true, ◌||◌, length, drop, map, is_some, Some, nat_lt, false};
 ghost use Rattle.std.specs.List.{list_all, list_any};
-ghost use Rattle.sh_tree.specs.language.Bytes as bytes;
+ghost use Rattle.sh_tree.specs.standard.language.Bytes as bytes;
 ghost use Rattle.sh_table.specs.Profile as profile;
 ghost use Rattle.sh_table.specs.WordTexts.{text_in};
-ghost use Rattle.sh_table.specs.runs.Numbers as numbers;
-ghost use Rattle.sh_table.specs.runs.Operands as operands;
+ghost use Rattle.sh_table.specs.standard.runs.Numbers as numbers;
+ghost use Rattle.sh_table.specs.standard.runs.Operands as operands;
 
 use crate::kind::{Kind, kind_of};
 use crate::word_text::WordText;
-use sh_tree::name::{is_name_byte, is_name_start};
+use sh_tree::{is_name_byte, is_name_start};
 
 fn is_digit(byte: u8) -> bool
     ensures { result ≡ bytes.is_digit byte }
@@ -24,7 +24,7 @@ fn are_digits(text: &[u8]) -> bool
 }
 
 /// Whether the text is a decimal numeral.
-#[tactic(auto, unfolding(crate::specs::runs::Numbers::is_number))]
+#[tactic(auto, unfolding(crate::specs::standard::runs::Numbers::is_number))]
 pub fn is_number(text: &[u8]) -> bool
     ensures { result ≡ numbers.is_number text.now }
 {
@@ -90,7 +90,7 @@ pub fn are_static(words: &[WordText], script: &[u8]) -> bool
     each_static(words, script)
 }
 
-#[tactic(auto, unfolding(crate::specs::Profile::is_no_action, crate::specs::runs::Numbers::number_in))]
+#[tactic(auto, unfolding(crate::specs::Profile::is_no_action, crate::specs::standard::runs::Numbers::number_in))]
 fn is_no_action(words: &[WordText], script: &[u8]) -> bool
     ensures { result ≡ profile.is_no_action (map (text_in script.now) words.now) }
 {
@@ -156,7 +156,7 @@ pub fn ends_options(text: &[u8]) -> bool
 }
 
 /// Whether the text is `-` and more, as options are (XBD 12.2).
-#[tactic(auto, unfolding(crate::specs::runs::Operands::is_dashed))]
+#[tactic(auto, unfolding(crate::specs::standard::runs::Operands::is_dashed))]
 pub fn is_dashed(text: &[u8]) -> bool
     ensures { result ≡ operands.is_dashed text.now }
 {
@@ -240,7 +240,7 @@ pub fn ends_in_o(text: &[u8]) -> bool
     }
 }
 
-#[tactic(auto, unfolding(sh_tree::specs::language::Bytes::is_first))]
+#[tactic(auto, unfolding(sh_tree::specs::standard::language::Bytes::is_first))]
 fn is_signed(text: &[u8]) -> bool
     ensures { result ≡ profile.is_signed text.now }
 {
@@ -251,7 +251,7 @@ fn is_signed(text: &[u8]) -> bool
 }
 
 /// Whether the text is `-` or `+` and more, as options of `set` are (XCU 2.15, set).
-#[tactic(auto, unfolding(crate::specs::runs::Operands::is_set_option))]
+#[tactic(auto, unfolding(crate::specs::standard::runs::Operands::is_set_option))]
 pub fn is_set_option(text: &[u8]) -> bool
     ensures { result ≡ operands.is_set_option text.now }
 {
@@ -300,7 +300,7 @@ pub fn sets_known(words: &[WordText], script: &[u8]) -> bool
     true
 }
 
-#[tactic(auto, unfolding(sh_tree::specs::language::Bytes::is_first))]
+#[tactic(auto, unfolding(sh_tree::specs::standard::language::Bytes::is_first))]
 fn begins_name(text: &[u8]) -> bool
     ensures { result ≡ bytes.is_first bytes.is_name_start text.now }
 {
@@ -318,7 +318,7 @@ fn name_bytes(text: &[u8]) -> usize
 }
 
 /// How long the name at the front is (XBD 3.216); 0 where none is.
-#[tactic(auto, unfolding(sh_tree::specs::language::Bytes::name_length))]
+#[tactic(auto, unfolding(sh_tree::specs::standard::language::Bytes::name_length))]
 pub fn name_length(text: &[u8]) -> usize
     ensures value { result ≡ bytes.name_length text.now }
     ensures within { result ≤ length text.now }
@@ -330,7 +330,7 @@ pub fn name_length(text: &[u8]) -> usize
     }
 }
 
-#[tactic(auto, unfolding(sh_tree::specs::language::Bytes::is_first))]
+#[tactic(auto, unfolding(sh_tree::specs::standard::language::Bytes::is_first))]
 fn begins_with(text: &[u8], byte: u8) -> bool
     ensures value { result ≡ bytes.is_first (λ c. c == byte) text.now }
     ensures within { result ≡ true → 0 < length text.now }

@@ -1,7 +1,7 @@
 //! The rule of the profile that a command breaks.
 ghost use Rattle.std.specs.Prelude.{◌≡◌, Bool, not, map};
 ghost use Rattle.sh_table.specs.Admits as admits;
-ghost use Rattle.sh_table.specs.Kinds as kinds;
+ghost use Rattle.sh_table.specs.standard.Kinds as kinds;
 ghost use Rattle.sh_table.specs.Profile as profile;
 ghost use Rattle.sh_table.specs.Walks as walks;
 ghost use Rattle.sh_table.specs.WordTexts.{text_in};
@@ -13,8 +13,7 @@ use crate::operands::{
 };
 use crate::site::{Around, Form, Site};
 use crate::word_text::WordText;
-use sh_tree::known::{Declaration, KnownName};
-use sh_tree::refusal::Rule;
+use sh_tree::{Declaration, KnownName, Rule};
 
 /// The rule, unless the test holds.
 #[tactic(auto, unfolding(crate::specs::Profile::unless))]

@@ -1,6 +1,6 @@
 //! The commands of a script, each with what stands round it.
 
-use sh_tree::tree::Span;
+use sh_tree::Span;
 
 /// Whether a loop, and a function, stand round a place, with no started process, part of a pipeline or other definition
 /// between (XCU 2.15, break and return).

@@ -1,15 +1,14 @@
 //! The commands of a script by their numbers, those in its words included, each with what stands round it.
 ghost use Rattle.std.specs.Prelude.{◌≡◌, ℕ, List, map, OnOk, IfOk};
-ghost use Rattle.sh_tree.specs.program.Lists.{elements_from};
-ghost use Rattle.sh_tree.specs.program.Trees.{script_of};
-ghost use Rattle.sh_tree.specs.program.Words.{operands_in};
+ghost use Rattle.sh_tree.specs.Lists.{elements_from};
+ghost use Rattle.sh_tree.specs.standard.program.Trees.{script_of};
+ghost use Rattle.sh_tree.specs.standard.program.Words.{operands_in};
 ghost use Rattle.sh_table.specs.Sites as sites;
 ghost use Rattle.sh_table.specs.Walks as walks;
 
 use crate::site::{Around, Form, Site};
 use crate::walk::{Visitor, walk};
-use sh_tree::tree::{Command, Element, Kind, Part, Script, Word};
-use sh_tree::words::command_name;
+use sh_tree::{Command, Element, Kind, Part, Script, Word, command_name};
 use std::alloc::{AllocError, Global};
 
 /// The commands that a walk has met.

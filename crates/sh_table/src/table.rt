@@ -5,7 +5,7 @@ ghost use Rattle.std.specs.Option.{option_copied};
 ghost use Rattle.std.specs.Str.{bytes_eq};
 ghost use Rattle.sh_table.specs.Calls as calls;
 ghost use Rattle.sh_tree.specs.declared.tree.Script.{Script};
-ghost use Rattle.sh_tree.specs.program.Trees.{script_of};
+ghost use Rattle.sh_tree.specs.standard.program.Trees.{script_of};
 ghost use Rattle.sh_table.specs.Numbering as numbering;
 ghost use Rattle.sh_table.specs.WordTexts.{text_in};
 
@@ -13,9 +13,7 @@ use crate::found::Found;
 use crate::functions::Functions;
 use crate::kind::kind_of;
 use crate::word_text::WordText;
-use sh_tree::limits::MAX_COMMANDS;
-use sh_tree::refusal::Refusal;
-use sh_tree::tree::Script;
+use sh_tree::{MAX_COMMANDS, Refusal, Script};
 use std::alloc::Global;
 use std::marker::Model;
 

@@ -3,17 +3,15 @@ ghost use Rattle.std.specs.Prelude.{◌≡◌, ◌++◌, ◌∷◌, [], ℕ, Lis
 ghost use Rattle.std.specs.List.{list_any, flat_map};
 ghost use Rattle.std.specs.Option.{option_copied};
 ghost use Rattle.std.specs.Str.{bytes_eq};
-ghost use Rattle.sh_tree.specs.Tree.{text_of};
-ghost use Rattle.sh_tree.specs.Words as words;
-ghost use Rattle.sh_tree.specs.Words.{static_text};
-ghost use Rattle.sh_tree.specs.program.Lists.{elements_from};
+ghost use Rattle.sh_tree.specs.standard.Tree.{text_of};
+ghost use Rattle.sh_tree.specs.standard.Words as words;
+ghost use Rattle.sh_tree.specs.standard.Words.{static_text};
+ghost use Rattle.sh_tree.specs.Lists.{elements_from};
 ghost use Rattle.sh_table.specs.Sites as sites;
-ghost use Rattle.sh_tree.specs.program.Words.{operands_in};
+ghost use Rattle.sh_tree.specs.standard.program.Words.{operands_in};
 ghost use Rattle.sh_table.specs.WordTexts as spec;
 
-use sh_tree::Boxed;
-use sh_tree::text::static_text;
-use sh_tree::tree::{Element, Part, SingleStyle, Span, Word};
+use sh_tree::{Boxed, Element, Part, SingleStyle, Span, Word, static_text};
 use std::alloc::{AllocError, Global};
 
 /// The text of a word without its quoting, if it is static (XCU 2.2).

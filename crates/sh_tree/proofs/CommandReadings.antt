@@ -6,12 +6,12 @@ use Rattle.sh_tree.specs.declared.token.command.Reserved.TheVariants as reserved
 use Rattle.sh_tree.specs.declared.tree.Direction.TheVariants as direction
 use Rattle.sh_tree.specs.declared.tree.Kind.TheVariants as kind
 use Rattle.sh_tree.specs.declared.tree.Target.TheVariants.{File}
-use Rattle.sh_tree.specs.language.CommandExamples.{behind_assignment_script, behind_assignment_text, case_lines_script, case_lines_text, for_ended_script, for_ended_text, for_none_script, for_none_text, for_two_script, for_two_text, numbered_script, numbered_text, pattern_esac_script, pattern_esac_text, patterns_script, patterns_text, redirected_script, redirected_text, while_script, while_text}
-use Rattle.sh_tree.specs.language.Contexts.{in_word, in_unsplit, in_value}
-use Rattle.sh_tree.specs.language.Examples.{bare, utility, lone}
-use Rattle.sh_tree.specs.language.Reading as r
-use Rattle.sh_tree.specs.language.Reading.{ReadsWord, ReadsRedirect, ReadsBreaks, ReadsCommand, ReadsCompound, ReadsAndOr, ReadsList, Reads}
-use Rattle.sh_tree.specs.language.Trees.{span, redirect, command}
+use Rattle.sh_tree.specs.examples.Commands.{behind_assignment_script, behind_assignment_text, case_lines_script, case_lines_text, for_ended_script, for_ended_text, for_none_script, for_none_text, for_two_script, for_two_text, numbered_script, numbered_text, pattern_esac_script, pattern_esac_text, patterns_script, patterns_text, redirected_script, redirected_text, while_script, while_text}
+use Rattle.sh_tree.specs.standard.language.Contexts.{in_word, in_unsplit, in_value}
+use Rattle.sh_tree.specs.examples.Language.{bare, utility, lone}
+use Rattle.sh_tree.specs.standard.language.Reading as r
+use Rattle.sh_tree.specs.standard.language.Reading.{ReadsWord, ReadsRedirect, ReadsBreaks, ReadsCommand, ReadsCompound, ReadsAndOr, ReadsList, Reads}
+use Rattle.sh_tree.specs.standard.language.Trees.{span, redirect, command}
 
 pub while_reads : Reads while_text while_script
 unfolding computes

@@ -11,16 +11,16 @@ use Rattle.sh_tree.specs.declared.tree.Removal.TheVariants as removal
 use Rattle.sh_tree.specs.declared.tree.SingleStyle.TheVariants as single
 use Rattle.sh_tree.specs.declared.tree.Subject.TheVariants.{Name}
 use Rattle.sh_tree.specs.declared.tree.Target.TheVariants.{Here}
-use Rattle.sh_tree.specs.language.Contexts.{in_word, in_unsplit, in_document_of}
-use Rattle.sh_tree.specs.language.DocumentExamples.{counted_document_script, counted_document_text, group_document_script, group_document_text, inner_document_script, inner_document_text, joined_end_script, joined_end_text, paired_comment_script, paired_comment_text, paired_document_script, paired_document_text, paired_quotes_script, paired_quotes_text, piped_document_script, piped_document_text, quiet_script, quiet_text, tabbed_end_script, tabbed_end_text, tabs_in_pattern_script, tabs_in_pattern_text, tabs_in_quotes_script, tabs_in_quotes_text, two_documents_script, two_documents_text, unended_line_script, unended_line_text, verbatim_script, verbatim_text}
-use Rattle.sh_tree.specs.language.Examples.{plain, bare, simple, utility, lone}
-use Rattle.sh_tree.specs.language.HereDocuments.{Mark}
-use Rattle.sh_tree.specs.language.Reading as r
-use Rattle.sh_tree.specs.language.Reading.{ReadsParts, ReadsWord, ReadsRedirect, ReadsDocuments, ReadsBreaks, ReadsCommand, ReadsCompound, ReadsAndOr, ReadsList, ReadsScript, Reads}
-use Rattle.sh_tree.specs.language.States.{Document, nth}
-use Rattle.sh_tree.specs.language.Trees.{param}
-use Rattle.sh_tree.specs.language.Trees.{span, word, redirect, here_doc}
-use Rattle.sh_tree.specs.language.Words.{in_removal}
+use Rattle.sh_tree.specs.standard.language.Contexts.{in_word, in_unsplit, in_document_of}
+use Rattle.sh_tree.specs.examples.Documents.{counted_document_script, counted_document_text, group_document_script, group_document_text, inner_document_script, inner_document_text, joined_end_script, joined_end_text, paired_comment_script, paired_comment_text, paired_document_script, paired_document_text, paired_quotes_script, paired_quotes_text, piped_document_script, piped_document_text, quiet_script, quiet_text, tabbed_end_script, tabbed_end_text, tabs_in_pattern_script, tabs_in_pattern_text, tabs_in_quotes_script, tabs_in_quotes_text, two_documents_script, two_documents_text, unended_line_script, unended_line_text, verbatim_script, verbatim_text}
+use Rattle.sh_tree.specs.examples.Language.{plain, bare, simple, utility, lone}
+use Rattle.sh_tree.specs.standard.language.HereDocuments.{Mark}
+use Rattle.sh_tree.specs.standard.language.Reading as r
+use Rattle.sh_tree.specs.standard.language.Reading.{ReadsParts, ReadsWord, ReadsRedirect, ReadsDocuments, ReadsBreaks, ReadsCommand, ReadsCompound, ReadsAndOr, ReadsList, ReadsScript, Reads}
+use Rattle.sh_tree.specs.standard.language.States.{Document, nth}
+use Rattle.sh_tree.specs.standard.language.Trees.{param}
+use Rattle.sh_tree.specs.standard.language.Trees.{span, word, redirect, here_doc}
+use Rattle.sh_tree.specs.standard.language.Words.{in_removal}
 
 abbrev verbatim_mark : Mark
 verbatim_mark = record { strip = false; quoted = true; delimiter = codes "E"; depth = 0 }

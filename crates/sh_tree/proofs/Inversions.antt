@@ -31,17 +31,17 @@ use Rattle.sh_tree.specs.declared.token.command.Redirection.{Redirection}
 use Rattle.sh_tree.specs.declared.token.command.Reserved.TheVariants as reserved
 use Rattle.sh_tree.specs.declared.token.command.Stage.{Stage}
 use Rattle.sh_tree.specs.declared.token.command.Stage.TheVariants.{First, Prefixed, Named}
-use Rattle.sh_tree.specs.language.Words.{in_double, in_use, in_removal, in_arithmetic}
-use Rattle.sh_tree.specs.language.Arithmetic.{is_closed, unary_of}
-use Rattle.sh_tree.specs.language.Commands.{blanks, lead_at, redirection, redirects, direction_of, strip_of, is_word, is_redirection, is_reserved, is_bar, is_newline_lead, begins_simple, begins_compound, begins_command, begins_pipeline, separator, link_of}
-use Rattle.sh_tree.specs.language.Contexts.{in_word, in_unsplit, in_stage}
-use Rattle.sh_tree.specs.language.Parts.{is_quoted_word}
-use Rattle.sh_tree.specs.language.HereDocuments.{Mark, behind_line, delimiter_of, end_line, is_ambiguous, keeps_document}
-use Rattle.sh_tree.specs.language.Contexts.{in_document_of}
-use Rattle.sh_tree.specs.language.States.{Spot, State, Document, to, deeper, behind, facing, within, nth, waits, next, past, on_line, in_document, with_mark, begun, lower, as_deep, closing}
-use Rattle.sh_tree.specs.language.Trees.{span, word, param}
-use Rattle.sh_tree.specs.language.Reading as r
-use Rattle.sh_tree.specs.language.Reading.{is_some, sign_at, after, prior_of, figure_at, over, lead_of, lead_here, skip, parted, stage_behind, redirected, is_empty, ReadsParts, ReadsPart, ReadsExpression, ReadsConditional, ReadsLevel, ReadsUnary, ReadsWord, ReadsRedirect, ReadsRedirects, ReadsDocuments, ReadsBreaks, ReadsElements, ReadsCommand, ReadsCompound, ReadsPipeline, ReadsCommands, ReadsAndOr, ReadsLinks, ReadsItems, ReadsList, ReadsSequence, ReadsScript}
+use Rattle.sh_tree.specs.standard.language.Words.{in_double, in_use, in_removal, in_arithmetic}
+use Rattle.sh_tree.specs.standard.language.Arithmetic.{is_closed, unary_of}
+use Rattle.sh_tree.specs.standard.language.Commands.{blanks, lead_at, redirection, redirects, direction_of, strip_of, is_word, is_redirection, is_reserved, is_bar, is_newline_lead, begins_simple, begins_compound, begins_command, begins_pipeline, separator, link_of}
+use Rattle.sh_tree.specs.standard.language.Contexts.{in_word, in_unsplit, in_stage}
+use Rattle.sh_tree.specs.standard.language.Parts.{is_quoted_word}
+use Rattle.sh_tree.specs.standard.language.HereDocuments.{Mark, behind_line, delimiter_of, end_line, is_ambiguous, keeps_document}
+use Rattle.sh_tree.specs.standard.language.Contexts.{in_document_of}
+use Rattle.sh_tree.specs.standard.language.States.{Spot, State, Document, to, deeper, behind, facing, within, nth, waits, next, past, on_line, in_document, with_mark, begun, lower, as_deep, closing}
+use Rattle.sh_tree.specs.standard.language.Trees.{span, word, param}
+use Rattle.sh_tree.specs.standard.language.Reading as r
+use Rattle.sh_tree.specs.standard.language.Reading.{is_some, sign_at, after, prior_of, figure_at, over, lead_of, lead_here, skip, parted, stage_behind, redirected, is_empty, ReadsParts, ReadsPart, ReadsExpression, ReadsConditional, ReadsLevel, ReadsUnary, ReadsWord, ReadsRedirect, ReadsRedirects, ReadsDocuments, ReadsBreaks, ReadsElements, ReadsCommand, ReadsCompound, ReadsPipeline, ReadsCommands, ReadsAndOr, ReadsLinks, ReadsItems, ReadsList, ReadsSequence, ReadsScript}
 
 -- what tells two values apart
 pub apart : {A : Type 0} (f : A → Bool) {x y : A} → x ≡ y → f x ≡ true → f y ≡ false → ⊥

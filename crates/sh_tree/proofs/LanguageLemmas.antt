@@ -1,18 +1,18 @@
 -- The readings of texts, by the productions.
 use Rattle.std.proofs.Common.{◌≡◌, ℕ, ◌+◌, ◌<◌, true, false, List, [], ◌∷◌, Some, None, length, take, codes, refl, arith}
 use Rattle.sh_tree.specs.declared.tree.Script.{Script}
-use Rattle.sh_tree.specs.language.Bytes as bytes
-use Rattle.sh_tree.specs.language.Words as words
-use Rattle.sh_tree.specs.language.Arithmetic as arithmetic
-use Rattle.sh_tree.specs.language.Commands as commands
-use Rattle.sh_tree.specs.language.HereDocuments as documents
-use Rattle.sh_tree.specs.language.Contexts as contexts
-use Rattle.sh_tree.specs.language.Parts as parts
-use Rattle.sh_tree.specs.language.States as states
-use Rattle.sh_tree.specs.Words.{parts_text, part_text}
-use Rattle.sh_tree.specs.language.States.{Spot, State, Document, within, nth, waits}
-use Rattle.sh_tree.specs.language.Reading as r
-use Rattle.sh_tree.specs.language.Reading.{ReadsParts, ReadsExpression, ReadsConditional, ReadsLevel, ReadsWord, ReadsRedirect, ReadsRedirects, ReadsDocuments, ReadsBreaks, ReadsElements, ReadsCommand, ReadsCompound, ReadsBranches, ReadsForWords, ReadsClauses, ReadsPatterns, ReadsCommands, ReadsAndOr, ReadsLinks, ReadsList, ReadsSequence, ReadsScript, ReadsTo, Reads, HasNoNul, start, lead_here, figure_at}
+use Rattle.sh_tree.specs.standard.language.Bytes as bytes
+use Rattle.sh_tree.specs.standard.language.Words as words
+use Rattle.sh_tree.specs.standard.language.Arithmetic as arithmetic
+use Rattle.sh_tree.specs.standard.language.Commands as commands
+use Rattle.sh_tree.specs.standard.language.HereDocuments as documents
+use Rattle.sh_tree.specs.standard.language.Contexts as contexts
+use Rattle.sh_tree.specs.standard.language.Parts as parts
+use Rattle.sh_tree.specs.standard.language.States as states
+use Rattle.sh_tree.specs.standard.Words.{parts_text, part_text}
+use Rattle.sh_tree.specs.standard.language.States.{Spot, State, Document, within, nth, waits}
+use Rattle.sh_tree.specs.standard.language.Reading as r
+use Rattle.sh_tree.specs.standard.language.Reading.{ReadsParts, ReadsExpression, ReadsConditional, ReadsLevel, ReadsWord, ReadsRedirect, ReadsRedirects, ReadsDocuments, ReadsBreaks, ReadsElements, ReadsCommand, ReadsCompound, ReadsBranches, ReadsForWords, ReadsClauses, ReadsPatterns, ReadsCommands, ReadsAndOr, ReadsLinks, ReadsList, ReadsSequence, ReadsScript, ReadsTo, Reads, HasNoNul, start, lead_here, figure_at}
 use Rattle.sh_tree.specs.declared.token.word.Context.{Context}
 use Rattle.sh_tree.specs.declared.token.command.Stage.TheVariants.{First}
 use Rattle.sh_tree.specs.declared.tree.Action.TheVariants as action
@@ -34,13 +34,13 @@ use Rattle.sh_tree.specs.declared.token.command.Lead.TheVariants as lead
 use Rattle.sh_tree.specs.declared.token.command.Operator.TheVariants as op
 use Rattle.sh_tree.specs.declared.token.command.Reserved.TheVariants as reserved
 use Rattle.sh_tree.specs.declared.tree.SingleStyle.TheVariants as single
-use Rattle.sh_tree.specs.language.Words.{in_double, in_use, in_removal, in_arithmetic}
-use Rattle.sh_tree.specs.language.Arithmetic.{unary_level, binary_of}
-use Rattle.sh_tree.specs.language.Commands.{begins_command, is_bar, link_of}
-use Rattle.sh_tree.specs.language.Contexts.{in_word, in_unsplit, in_value, in_document_of}
-use Rattle.sh_tree.specs.language.HereDocuments.{Mark}
-use Rattle.sh_tree.specs.language.Trees.{span, word, redirect, here_doc, command, pipe, and_or, script, branch, clause}
-use Rattle.sh_tree.specs.language.Examples.{plain, bare, value, simple, quoted_text, quoted_words, quoted_script, double_text, double_words, double_script, bare_text, bare_words, bare_script, assigned_text, assigned_parts, assigned_words, assigned_script, passed_text, passed_script, home_text, home_value, home_script, braces_text, braces_elements, braces_script, braced_text, default_part, length_part, removal_part, braced_words, braced_script, parameters_text, parameters_parts, parameters_words, parameters_script, arithmetic_text, product, sum, arithmetic_part, arithmetic_script, choice_text, choice_part, choice_script, substituted_text, inner_script, substituted_part, substituted_script, utility, lone, document_text, document_body, document_words, document_script, stripped_text, stripped_body, stripped_script, branch_text, branch_script, elif_text, elif_branches, elif_script, until_text, until_subshell, until_condition, until_script, every_text, every_command, every_script, loop_text, loop_script, case_text, case_clauses, case_script, through_text, through_clauses, through_script, defined_text, defined_command, defined_list, defined_script, unset_first_text, unset_first_words, unset_first_value, unset_first_script, unset_last_text, unset_last_words, unset_last_script, closed_text, closed_script, separated_text, separated_script, comment_text}
+use Rattle.sh_tree.specs.standard.language.Words.{in_double, in_use, in_removal, in_arithmetic}
+use Rattle.sh_tree.specs.standard.language.Arithmetic.{unary_level, binary_of}
+use Rattle.sh_tree.specs.standard.language.Commands.{begins_command, is_bar, link_of}
+use Rattle.sh_tree.specs.standard.language.Contexts.{in_word, in_unsplit, in_value, in_document_of}
+use Rattle.sh_tree.specs.standard.language.HereDocuments.{Mark}
+use Rattle.sh_tree.specs.standard.language.Trees.{span, word, redirect, here_doc, command, pipe, and_or, script, branch, clause}
+use Rattle.sh_tree.specs.examples.Language.{plain, bare, value, simple, quoted_text, quoted_words, quoted_script, double_text, double_words, double_script, bare_text, bare_words, bare_script, assigned_text, assigned_parts, assigned_words, assigned_script, passed_text, passed_script, home_text, home_value, home_script, braces_text, braces_elements, braces_script, braced_text, default_part, length_part, removal_part, braced_words, braced_script, parameters_text, parameters_parts, parameters_words, parameters_script, arithmetic_text, product, sum, arithmetic_part, arithmetic_script, choice_text, choice_part, choice_script, substituted_text, inner_script, substituted_part, substituted_script, utility, lone, document_text, document_body, document_words, document_script, stripped_text, stripped_body, stripped_script, branch_text, branch_script, elif_text, elif_branches, elif_script, until_text, until_subshell, until_condition, until_script, every_text, every_command, every_script, loop_text, loop_script, case_text, case_clauses, case_script, through_text, through_clauses, through_script, defined_text, defined_command, defined_list, defined_script, unset_first_text, unset_first_words, unset_first_value, unset_first_script, unset_last_text, unset_last_words, unset_last_script, closed_text, closed_script, separated_text, separated_script, comment_text}
 
 -- what a reading of a known text computes
 unfoldable pub computes : Unit {0}

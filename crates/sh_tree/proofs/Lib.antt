@@ -15,3 +15,4 @@ pub mod Counts
 pub mod ListLemmas
 pub mod ResultLemmas
 pub mod NameLemmas
+pub mod CommandLemmas

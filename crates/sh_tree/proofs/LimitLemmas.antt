@@ -19,20 +19,20 @@ use Rattle.sh_tree.specs.declared.token.word.Context.{Context}
 use Rattle.sh_tree.specs.declared.token.word.Sign.{Sign}
 use Rattle.sh_tree.specs.declared.token.word.Sign.TheVariants as sign
 use Rattle.sh_tree.specs.declared.token.word.Site.TheVariants as site
-use Rattle.sh_tree.specs.language.Arithmetic.{lexeme, unary_level, unary_of}
-use Rattle.sh_tree.specs.language.Contexts.{in_document_of, in_unsplit, in_word}
-use Rattle.sh_tree.specs.language.States.{Document, Spot, deeper, nth}
-use Rattle.sh_tree.specs.language.Words.{in_arithmetic, in_use}
-use Rattle.sh_tree.specs.language.Trees.{param, span, word}
-use Rattle.sh_tree.specs.language.Reading as r
-use Rattle.sh_tree.specs.language.Reading.{Reads, ReadsAndOr, ReadsBreaks, ReadsCommand, ReadsCompound, ReadsConditional, ReadsDocuments, ReadsElements, ReadsExpression, ReadsLevel, ReadsList, ReadsParts, ReadsRedirect, ReadsScript, ReadsTo, ReadsUnary, ReadsWithin, ReadsWord, after, figure_at, over, sign_at}
+use Rattle.sh_tree.specs.standard.language.Arithmetic.{lexeme, unary_level, unary_of}
+use Rattle.sh_tree.specs.standard.language.Contexts.{in_document_of, in_unsplit, in_word}
+use Rattle.sh_tree.specs.standard.language.States.{Document, Spot, deeper, nth}
+use Rattle.sh_tree.specs.standard.language.Words.{in_arithmetic, in_use}
+use Rattle.sh_tree.specs.standard.language.Trees.{param, span, word}
+use Rattle.sh_tree.specs.standard.language.Reading as r
+use Rattle.sh_tree.specs.standard.language.Reading.{Reads, ReadsAndOr, ReadsBreaks, ReadsCommand, ReadsCompound, ReadsConditional, ReadsDocuments, ReadsElements, ReadsExpression, ReadsLevel, ReadsList, ReadsParts, ReadsRedirect, ReadsScript, ReadsTo, ReadsUnary, ReadsWithin, ReadsWord, after, figure_at, over, sign_at}
 use Rattle.sh_tree.specs.declared.tree.CommandStyle.TheVariants.{Paren}
 use Rattle.sh_tree.specs.declared.token.command.Lead.TheVariants as lead
 use Rattle.sh_tree.specs.declared.token.command.Reserved.TheVariants as reserved
-use Rattle.sh_tree.specs.language.HereDocuments.{Mark}
-use Rattle.sh_tree.specs.language.Examples.{bare, lone, plain, simple, utility}
-use Rattle.sh_tree.specs.language.LimitExamples as limits
-use Rattle.sh_tree.specs.language.LimitExamples.{IsBeyond, IsWithin, body_depth_script, body_depth_text, complements_text, defaults_text}
+use Rattle.sh_tree.specs.standard.language.HereDocuments.{Mark}
+use Rattle.sh_tree.specs.examples.Language.{bare, lone, plain, simple, utility}
+use Rattle.sh_tree.specs.examples.Limits as limits
+use Rattle.sh_tree.specs.examples.Limits.{IsBeyond, IsWithin, body_depth_script, body_depth_text, complements_text, defaults_text}
 use Rattle.sh_tree.proofs.Inversions.{apart, first_part, opening_word, word_parts}
 use Rattle.sh_tree.proofs.LanguageLemmas.{alone_reads, at_close, at_token, at_word, computes, loosest_level, no_bodies, read_to}
 

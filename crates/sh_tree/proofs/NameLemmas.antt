@@ -5,7 +5,7 @@ use Rattle.sh_tree.specs.declared.tree.Element.TheVariants as element
 use Rattle.sh_tree.specs.declared.tree.Span.{Span}
 use Rattle.sh_tree.specs.declared.tree.Word.{Word}
 use Rattle.sh_tree.specs.declared.tree.Redirect.{Redirect}
-use Rattle.sh_tree.specs.Words.{words_of, form_of_assignment, form_of_word, form_of_redirection, word_in, word_of}
+use Rattle.sh_tree.specs.standard.Words.{words_of, form_of_assignment, form_of_word, form_of_redirection, word_in, word_of}
 
 pub word_of-Assignment : (s : Span) (w : Word) → word_of (element.Assignment s w) ≡ None
 unfolding word_in

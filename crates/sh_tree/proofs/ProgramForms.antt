@@ -1,9 +1,9 @@
 -- The program of the words of a simple command.
 use Rattle.std.proofs.Common.{◌≡◌, ℕ, List, [], ◌∷◌, refl}
 use Rattle.sh_tree.specs.declared.tree.Element.{Element, Assignment', Word', Redirection'}
-use Rattle.sh_tree.specs.Words.{form_of, word_in, words_of}
-use Rattle.sh_tree.specs.program.Lists.{words_from, element_from, elements_from}
-use Rattle.sh_tree.specs.program.Words as words
+use Rattle.sh_tree.specs.standard.Words.{form_of, word_in, words_of}
+use Rattle.sh_tree.specs.Lists.{words_from, element_from, elements_from}
+use Rattle.sh_tree.specs.standard.program.Words as words
 use Rattle.sh_tree.proofs.ProgramRules.{parts_listed}
 
 pub operands_of_elements : (b : List ℕ) (es : List Element) → words.operands_in (elements_from b es) ≡ words_from b (words_of es)

@@ -4,10 +4,10 @@ use Rattle.std.specs.List.{list_any}
 use Rattle.sh_tree.specs.declared.tree.Part.{Part, Plain, Escaped, Single, Double', Param', Arith', Tilde, Joined, Row_of-Part, end_of-Part, more_of-Part}
 use Rattle.sh_tree.specs.declared.tree.Part.TheVariants as part
 use Rattle.sh_tree.specs.declared.tree.SingleStyle.TheVariants as single
-use Rattle.sh_tree.specs.Words.{is_wildcard, part_text, row_text, parts_text, has_wildcard, has_bracket, is_bracket, is_pattern, static_text}
-use Rattle.sh_tree.specs.program.Lists.{parts_from}
-use Rattle.sh_tree.specs.program.Trees.{single_of, part_of, word_of}
-use Rattle.sh_tree.specs.program.Words as words
+use Rattle.sh_tree.specs.standard.Words.{is_wildcard, part_text, row_text, parts_text, has_wildcard, has_bracket, is_bracket, is_pattern, static_text}
+use Rattle.sh_tree.specs.Lists.{parts_from}
+use Rattle.sh_tree.specs.standard.program.Trees.{single_of, part_of, word_of}
+use Rattle.sh_tree.specs.standard.program.Words as words
 
 -- the text without quoting
 

@@ -2,7 +2,7 @@
 use Rattle.std.proofs.Common.{◌≡◌, ℕ, ◌+◌, ◌<◌, ◌≤◌, Option, Some, None, List, length, get_or, drop, refl, ap, add-one, drop-cons, append_assoc}
 use Rattle.std.proofs.lemmas.List.{drop_all, append-nil}
 use Rattle.sh_tree.specs.declared.tree.Part.{Part}
-use Rattle.sh_tree.specs.Words.{both_texts, part_text, parts_text}
+use Rattle.sh_tree.specs.standard.Words.{both_texts, part_text, parts_text}
 
 -- a text that is not static makes the whole not static
 pub both_texts_none : (t : List ℕ) (x : Option (List ℕ)) → None ≡ both_texts (Some t) x → None ≡ x

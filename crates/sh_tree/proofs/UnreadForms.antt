@@ -15,17 +15,17 @@ use Rattle.sh_tree.specs.declared.token.command.Operator.TheVariants as op
 use Rattle.sh_tree.specs.declared.token.command.Redirection.{Redirection}
 use Rattle.sh_tree.specs.declared.token.word.Context.{Context}
 use Rattle.sh_tree.specs.declared.token.word.Sign.TheVariants as sign
-use Rattle.sh_tree.specs.language.Arithmetic.{is_closed}
-use Rattle.sh_tree.specs.language.Commands.{begins_pipeline, direction_of, is_bar, is_location, is_newline_lead, link_of, redirection, separator}
-use Rattle.sh_tree.specs.language.Contexts.{in_document_of, in_unsplit}
-use Rattle.sh_tree.specs.language.HereDocuments.{Mark, behind_line, is_ambiguous, is_delimiter, keeps_document}
-use Rattle.sh_tree.specs.language.Parts.{keeps_lines}
-use Rattle.sh_tree.specs.language.States.{Document, Spot, State, begun, facing, next, nth, past, within}
-use Rattle.sh_tree.specs.language.Trees.{param, span, word}
-use Rattle.sh_tree.specs.language.Reading as r
-use Rattle.sh_tree.specs.language.Reading.{ReadsParts, ReadsRedirect, ReadsScript, ReadsSequence, ReadsWord, lead_here, start}
-use Rattle.sh_tree.specs.language.Examples.{IsUnread, bare, plain}
-use Rattle.sh_tree.specs.language.UnreadExamples.{across_text, backquoted_text, dollar_single_text, double_bracket_text, double_parenthesis_text, expanded_delimiter_text, joined_tab_text, location_text, negated_parenthesis_text, other_braced_text, split_comment_text, split_end_text, split_quotes_text, tilde_delimiter_text, unsplit_text}
+use Rattle.sh_tree.specs.standard.language.Arithmetic.{is_closed}
+use Rattle.sh_tree.specs.standard.language.Commands.{begins_pipeline, direction_of, is_bar, is_location, is_newline_lead, link_of, redirection, separator}
+use Rattle.sh_tree.specs.standard.language.Contexts.{in_document_of, in_unsplit}
+use Rattle.sh_tree.specs.standard.language.HereDocuments.{Mark, behind_line, is_ambiguous, is_delimiter, keeps_document}
+use Rattle.sh_tree.specs.standard.language.Parts.{keeps_lines}
+use Rattle.sh_tree.specs.standard.language.States.{Document, Spot, State, begun, facing, next, nth, past, within}
+use Rattle.sh_tree.specs.standard.language.Trees.{param, span, word}
+use Rattle.sh_tree.specs.standard.language.Reading as r
+use Rattle.sh_tree.specs.standard.language.Reading.{ReadsParts, ReadsRedirect, ReadsScript, ReadsSequence, ReadsWord, lead_here, start}
+use Rattle.sh_tree.specs.examples.Language.{IsUnread, bare, plain}
+use Rattle.sh_tree.specs.examples.Unread.{across_text, backquoted_text, dollar_single_text, double_bracket_text, double_parenthesis_text, expanded_delimiter_text, joined_tab_text, location_text, negated_parenthesis_text, other_braced_text, split_comment_text, split_end_text, split_quotes_text, tilde_delimiter_text, unsplit_text}
 use Rattle.sh_tree.proofs.Inversions.{bare_command_ends, bare_word_ends, document_is, elements_word, first_part, items_end, items_first, no_sequence, nothing_at, one_part_word, opening_document, opening_operator, opening_redirect, opening_word, script_is, sequence_items, some_breaks, some_one, word_parts}
 use Rattle.sh_tree.proofs.LanguageLemmas.{at_token, at_word, computes, the_mark}
 use Rattle.sh_tree.proofs.UnreadLemmas.{ends_before, tabs_mark}

@@ -10,17 +10,17 @@ use Rattle.sh_tree.specs.declared.token.command.Operator.TheVariants as op
 use Rattle.sh_tree.specs.declared.token.command.Reserved.TheVariants as reserved
 use Rattle.sh_tree.specs.declared.token.word.Sign.TheVariants as sign
 use Rattle.sh_tree.specs.declared.token.command.Redirection.{Redirection}
-use Rattle.sh_tree.specs.language.Commands.{is_bar, is_newline_lead, is_reserved, begins_pipeline, link_of, separator}
-use Rattle.sh_tree.specs.language.States.{Spot, State, Document, nth, within, begun, past, as_deep, closing}
+use Rattle.sh_tree.specs.standard.language.Commands.{is_bar, is_newline_lead, is_reserved, begins_pipeline, link_of, separator}
+use Rattle.sh_tree.specs.standard.language.States.{Spot, State, Document, nth, within, begun, past, as_deep, closing}
 use Rattle.sh_tree.specs.declared.tree.Part.{Part}
 use Rattle.sh_tree.specs.declared.tree.Part.TheVariants as part
 use Rattle.sh_tree.specs.declared.tree.Script.{Script}
 use Rattle.sh_tree.specs.declared.tree.SingleStyle.TheVariants as single
-use Rattle.sh_tree.specs.language.Contexts.{in_document_of}
-use Rattle.sh_tree.specs.language.HereDocuments.{Mark, behind_line, keeps_document}
-use Rattle.sh_tree.specs.language.Trees.{span, word}
-use Rattle.sh_tree.specs.language.Reading.{ReadsParts, ReadsScript, ReadsCommand, ReadsRedirects, lead_here, parted, skip, is_empty, is_some}
-use Rattle.sh_tree.specs.language.Examples.{IsUnread, open_quote_text, open_braced_text, split_name_text, no_expression_text, lone_bar_text, split_operator_text, clause_end_text, open_document_text, split_document_text, tabbed_document_text, unclosed_text, plain, bare}
+use Rattle.sh_tree.specs.standard.language.Contexts.{in_document_of}
+use Rattle.sh_tree.specs.standard.language.HereDocuments.{Mark, behind_line, keeps_document}
+use Rattle.sh_tree.specs.standard.language.Trees.{span, word}
+use Rattle.sh_tree.specs.standard.language.Reading.{ReadsParts, ReadsScript, ReadsCommand, ReadsRedirects, lead_here, parted, skip, is_empty, is_some}
+use Rattle.sh_tree.specs.examples.Language.{IsUnread, open_quote_text, open_braced_text, split_name_text, no_expression_text, lone_bar_text, split_operator_text, clause_end_text, open_document_text, split_document_text, tabbed_document_text, unclosed_text, plain, bare}
 use Rattle.sh_tree.proofs.Inversions.{apart, first_part, behind_plain, nothing_at, word_parts, expression_begins, begins_operand, script_is, opening_word, no_sequence, sequence_items, list_items, items_first, items_end, items_ended, compound_is, group_is, redirects_end, redirects_first, redirect_file, bare_word_ends, bare_command_ends, document_is, one_part_word, opening_document, some_one}
 use Rattle.sh_tree.proofs.LanguageLemmas.{computes, at_word, at_token, the_mark}
 

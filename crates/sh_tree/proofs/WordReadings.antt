@@ -8,14 +8,14 @@ use Rattle.sh_tree.specs.declared.tree.Part.TheVariants as part
 use Rattle.sh_tree.specs.declared.tree.Removal.TheVariants as removal
 use Rattle.sh_tree.specs.declared.tree.Special.TheVariants as special
 use Rattle.sh_tree.specs.declared.tree.Subject.TheVariants.{Name, Special}
-use Rattle.sh_tree.specs.language.Contexts.{in_word, in_value}
-use Rattle.sh_tree.specs.language.Examples.{plain, bare}
-use Rattle.sh_tree.specs.language.Reading as r
-use Rattle.sh_tree.specs.language.Reading.{ReadsParts, ReadsExpression, ReadsLevel, ReadsWord, ReadsCommand, ReadsAndOr, ReadsList, Reads}
-use Rattle.sh_tree.specs.language.Trees.{param}
-use Rattle.sh_tree.specs.language.Trees.{span, word}
-use Rattle.sh_tree.specs.language.WordExamples.{all_fields_script, all_fields_text, colon_in_arithmetic_script, colon_in_arithmetic_text, colon_in_double_script, colon_in_double_text, colon_in_pattern_script, colon_in_pattern_text, exported_script, exported_text, octal_script, octal_text, quoted_default_script, quoted_default_text, removed_prefix_script, removed_prefix_text, status_script, status_text}
-use Rattle.sh_tree.specs.language.Words.{in_double, in_use, in_removal, in_arithmetic}
+use Rattle.sh_tree.specs.standard.language.Contexts.{in_word, in_value}
+use Rattle.sh_tree.specs.examples.Language.{plain, bare}
+use Rattle.sh_tree.specs.standard.language.Reading as r
+use Rattle.sh_tree.specs.standard.language.Reading.{ReadsParts, ReadsExpression, ReadsLevel, ReadsWord, ReadsCommand, ReadsAndOr, ReadsList, Reads}
+use Rattle.sh_tree.specs.standard.language.Trees.{param}
+use Rattle.sh_tree.specs.standard.language.Trees.{span, word}
+use Rattle.sh_tree.specs.examples.Words.{all_fields_script, all_fields_text, colon_in_arithmetic_script, colon_in_arithmetic_text, colon_in_double_script, colon_in_double_text, colon_in_pattern_script, colon_in_pattern_text, exported_script, exported_text, octal_script, octal_text, quoted_default_script, quoted_default_text, removed_prefix_script, removed_prefix_text, status_script, status_text}
+use Rattle.sh_tree.specs.standard.language.Words.{in_double, in_use, in_removal, in_arithmetic}
 
 pub removed_prefix_reads : Reads removed_prefix_text removed_prefix_script
 unfolding computes

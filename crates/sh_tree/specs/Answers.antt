@@ -5,7 +5,7 @@ use Rattle.sh_tree.specs.declared.limits.TheConstants.{MAX_SCRIPT}
 use Rattle.sh_tree.specs.declared.tree.Script.{Script}
 use Rattle.sh_tree.specs.declared.refusal.Refusal.{Refusal}
 use Rattle.sh_tree.specs.declared.refusal.Refusal.TheVariants.{TooLong, NulByte, Syntax, LeftOut, TooDeep, TooMany, Memory, Profile, CertSyntax, CertShape}
-use Rattle.sh_tree.specs.language.Reading.{Reads, ReadsWithin}
+use Rattle.sh_tree.specs.standard.language.Reading.{Reads, ReadsWithin}
 
 -- where the first NUL stands
 abbrev pub first_nul : List ℕ → Option ℕ

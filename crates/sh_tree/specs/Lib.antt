@@ -1,7 +1,6 @@
 pub mod formers
-pub mod language
-pub mod Texts
-pub mod Tree
-pub mod Words
+pub mod standard
 pub mod Answers
-pub mod program
+pub mod Commands
+pub mod Lists
+pub mod examples

@@ -1,6 +1,6 @@
 //! The names that a refusal can tell.
 ghost use Rattle.std.specs.Prelude.{◌≡◌};
-ghost use Rattle.sh_tree.specs.Texts.{declaration_text, known_text};
+ghost use Rattle.sh_tree.specs.standard.Texts.{declaration_text, known_text};
 
 /// A name that a refusal can tell.
 #[derive(Clone, Copy, Debug, PartialEq, Eq)]

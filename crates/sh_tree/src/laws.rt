@@ -1,11 +1,11 @@
 //! Texts that are known trees, and trees that are known programs, as laws of what `specs/` defines.
-ghost use Rattle.sh_tree.specs.language.CommandExamples.{CommandsRead};
-ghost use Rattle.sh_tree.specs.language.DocumentExamples.{DocumentsRead};
-ghost use Rattle.sh_tree.specs.language.Examples.{LanguageRead};
-ghost use Rattle.sh_tree.specs.language.LimitExamples.{LimitsKept};
-ghost use Rattle.sh_tree.specs.language.UnreadExamples.{OthersUnread};
-ghost use Rattle.sh_tree.specs.language.WordExamples.{WordsRead};
-ghost use Rattle.sh_tree.specs.program.Examples.{ProgramsRead};
+ghost use Rattle.sh_tree.specs.examples.Commands.{CommandsRead};
+ghost use Rattle.sh_tree.specs.examples.Documents.{DocumentsRead};
+ghost use Rattle.sh_tree.specs.examples.Language.{LanguageRead};
+ghost use Rattle.sh_tree.specs.examples.Limits.{LimitsKept};
+ghost use Rattle.sh_tree.specs.examples.Unread.{OthersUnread};
+ghost use Rattle.sh_tree.specs.examples.Words.{WordsRead};
+ghost use Rattle.sh_tree.specs.examples.Program.{ProgramsRead};
 
 /// Texts with each kind of part, expansion, arithmetic expression and command are the trees that they are meant to be, and
 /// texts that are no scripts are none.

@@ -1,7 +1,7 @@
 //! Names (XBD 3.216).
 ghost use Rattle.std.specs.Prelude.{◌≡◌};
 ghost use Rattle.std.specs.List.{list_all};
-ghost use Rattle.sh_tree.specs.language.Bytes as bytes;
+ghost use Rattle.sh_tree.specs.standard.language.Bytes as bytes;
 
 /// Whether a name may begin with the byte: a letter or an underscore.
 pub fn is_name_start(byte: u8) -> bool
@@ -24,7 +24,7 @@ fn are_name_bytes(text: &[u8]) -> bool
 }
 
 /// Whether the whole text is a name.
-#[tactic(auto, unfolding(crate::specs::language::Bytes::is_first))]
+#[tactic(auto, unfolding(crate::specs::standard::language::Bytes::is_first))]
 pub fn is_name(text: &[u8]) -> bool
     ensures { result ≡ bytes.is_name text.now }
 {

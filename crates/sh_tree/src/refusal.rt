@@ -1,9 +1,10 @@
 //! Why a script or a certificate is refused.
 ghost use Rattle.std.specs.Prelude.{◌≡◌, ◌++◌, length, take, OnOk, OnErr};
-ghost use Rattle.sh_tree.specs.Texts.{fault_text, form_text, rule_name, rule_text};
+ghost use Rattle.sh_tree.specs.standard.Texts.{fault_text, form_text, rule_name, rule_text};
 
 use crate::known::{Declaration, KnownName};
 use std::alloc::{AllocError, AllocFailed};
+use thiserror::Error;
 
 /// A fault of syntax.
 #[derive(Clone, Copy, Debug, PartialEq, Eq)]
@@ -204,7 +205,7 @@ impl Rule {
     }
 
     // The words of the text, and the name behind them.
-    #[tactic(auto, unfolding(crate::specs::Texts::rule_name))]
+    #[tactic(auto, unfolding(crate::specs::standard::Texts::rule_name))]
     fn pieces(self) -> (&'static str, &'static str)
         ensures { rule_name self ≡ result.0.now ++ result.1.now }
     {
@@ -228,27 +229,37 @@ impl Rule {
 }
 
 /// Why there is no answer. Offsets count the script's bytes from 0.
-#[derive(Clone, Copy, Debug, PartialEq, Eq)]
+#[derive(Clone, Copy, Debug, PartialEq, Eq, Error)]
 pub enum Refusal {
     /// The script has more than `MAX_SCRIPT` bytes.
+    #[error("the script is too long")]
     TooLong,
     /// A NUL byte, which no text has, at its offset.
+    #[error("a NUL byte at {0}")]
     NulByte(u32),
     /// A fault of syntax and its offset, which may be the script's end.
+    #[error("a syntax error at {1}")]
     Syntax(Fault, u32),
     /// A form that is left out, and the offset of its first byte.
+    #[error("a form outside the profile at {1}")]
     LeftOut(Form, u32),
     /// More than `MAX_NESTING` levels, at the offset of the first that is too many.
+    #[error("nested too deep at {0}")]
     TooDeep(u32),
     /// More than `MAX_COMMANDS` commands, or more names than are numbered.
+    #[error("too many commands or names")]
     TooMany,
     /// A growth was refused.
+    #[error("out of memory")]
     Memory,
     /// A command breaks a rule of the profile; the offset of the command.
+    #[error("a command outside the profile at {1}")]
     Profile(Rule, u32),
     /// A line of a certificate, by its number from 1, is none of the format; 0 where its text is longer than it may be.
+    #[error("certificate line {0} is malformed")]
     CertSyntax(u32),
     /// A certificate that is well-formed speaks of another script.
+    #[error("the certificate does not fit the script")]
     CertShape,
 }
 

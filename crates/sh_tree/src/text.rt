@@ -1,8 +1,8 @@
 //! The text of words that hold no expansion.
 ghost use Rattle.std.specs.Prelude.{◌≡◌, if◌then◌else◌, Some, None, IfOk, option_map};
 ghost use Rattle.std.specs.List.{list_any};
-ghost use Rattle.sh_tree.specs.Words as words;
-ghost use Rattle.sh_tree.specs.Words.{both_texts};
+ghost use Rattle.sh_tree.specs.standard.Words as words;
+ghost use Rattle.sh_tree.specs.standard.Words.{both_texts};
 
 use crate::tree::{Part, SingleStyle, Word};
 use std::alloc::{AllocError, Global};
@@ -13,7 +13,7 @@ use std::alloc::{AllocError, Global};
 /// # Errors
 ///
 /// `AllocError` where a growth was refused.
-#[tactic(auto, unfolding(crate::specs::Words::static_text))]
+#[tactic(auto, unfolding(crate::specs::standard::Words::static_text))]
 pub fn static_text(alloc: Global, word: &Word, script: &[u8]) -> Result<Option<Vec<u8>>, AllocError>
     ensures { IfOk result (λ found. option_map (λ v. v.items) found ≡ words.static_text script.now word.now.parts) }
 {
@@ -57,7 +57,7 @@ fn push_parts(parts: &[Part], script: &[u8], text: &mut Vec<u8>) -> Result<bool,
 
 /// Adds the text of a part, and tells whether it is static.
 #[cycle(text)]
-#[tactic(auto, unfolding(crate::specs::Words::part_text))]
+#[tactic(auto, unfolding(crate::specs::standard::Words::part_text))]
 fn push_part(part: &Part, script: &[u8], text: &mut Vec<u8>) -> Result<bool, AllocError>
     ensures { IfOk result (λ all. (if all then Some text.new.items else None) ≡ both_texts (Some text.old.items) (words.part_text script.now part.now)) }
 {
@@ -105,7 +105,7 @@ fn between_ends(text: &[u8]) -> &[u8]
 }
 
 /// Whether the parts hold a `*` or a `?` outside quotes, or a `[` that is not all of them.
-#[tactic(auto, unfolding(crate::specs::Words::is_pattern))]
+#[tactic(auto, unfolding(crate::specs::standard::Words::is_pattern))]
 fn is_pattern(parts: &[Part], script: &[u8]) -> bool
     ensures { result ≡ words.is_pattern script.now parts.now }
 {
@@ -122,7 +122,7 @@ fn has_wildcard(parts: &[Part], script: &[u8]) -> bool
     parts.iter().any(|part| part_has_wildcard(part, script))
 }
 
-#[tactic(auto, unfolding(crate::specs::Words::has_wildcard))]
+#[tactic(auto, unfolding(crate::specs::standard::Words::has_wildcard))]
 fn part_has_wildcard(part: &Part, script: &[u8]) -> bool
     ensures { result ≡ words.has_wildcard script.now part.now }
 {
@@ -152,7 +152,7 @@ fn has_bracket(parts: &[Part], script: &[u8]) -> bool
     parts.iter().any(|part| part_has_bracket(part, script))
 }
 
-#[tactic(auto, unfolding(crate::specs::Words::has_bracket))]
+#[tactic(auto, unfolding(crate::specs::standard::Words::has_bracket))]
 fn part_has_bracket(part: &Part, script: &[u8]) -> bool
     ensures { result ≡ words.has_bracket script.now part.now }
 {
@@ -163,7 +163,7 @@ fn part_has_bracket(part: &Part, script: &[u8]) -> bool
 }
 
 /// Whether the parts are `[` alone.
-#[tactic(auto, unfolding(crate::specs::Words::is_bracket))]
+#[tactic(auto, unfolding(crate::specs::standard::Words::is_bracket))]
 fn is_bracket(parts: &[Part], script: &[u8]) -> bool
     ensures { result ≡ words.is_bracket script.now parts.now }
 {

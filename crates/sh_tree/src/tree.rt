@@ -1,7 +1,7 @@
 //! The tree. Literal text is a span of the script.
 ghost use Rattle.std.specs.Prelude.{◌≡◌};
-ghost use Rattle.sh_tree.specs.Tree.{text_of};
-ghost use Rattle.sh_tree.specs.Words.{elements_of};
+ghost use Rattle.sh_tree.specs.standard.Tree.{text_of};
+ghost use Rattle.sh_tree.specs.standard.Words.{elements_of};
 ghost use Rattle.sh_tree.specs.declared.tree.Command.{out-Command};
 
 use crate::boxed::Boxed;
@@ -76,7 +76,7 @@ pub struct Command {
 
 impl Command {
     /// The elements of a simple command. Other commands have none.
-    #[tactic(auto, using(crate::specs::Words::elements_of_simple), unfolding(crate::specs::Words::elements_of))]
+    #[tactic(auto, using(crate::specs::standard::Words::elements_of_simple), unfolding(crate::specs::standard::Words::elements_of))]
     pub fn elements(&self) -> &[Element]
         ensures { result.now ≡ elements_of (out-Command self.now).kind }
     {

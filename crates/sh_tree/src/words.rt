@@ -1,7 +1,7 @@
 //! The words of a simple command.
 ghost use Rattle.std.specs.Prelude.{◌≡◌, slice_get};
 ghost use Rattle.std.specs.Option.{option_copied};
-ghost use Rattle.sh_tree.specs.Words.{word_of, words_of};
+ghost use Rattle.sh_tree.specs.standard.Words.{word_of, words_of};
 
 use crate::tree::{Element, Word};
 

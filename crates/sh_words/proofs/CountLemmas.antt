@@ -3,7 +3,7 @@ use Rattle.std.proofs.Common.{ℕ, ◌≤◌, inl, inr, List, [], ◌∷◌, ◌
 use Rattle.sh_tree.specs.declared.tree.Expr.{Expr}
 use Rattle.sh_tree.specs.declared.tree.Part.{Part}
 use Rattle.sh_tree.specs.declared.token.word.Context.{Context}
-use Rattle.sh_tree.specs.language.States.{Spot}
+use Rattle.sh_tree.specs.standard.language.States.{Spot}
 use Rattle.sh_tree.proofs.Counts.{parts_count, expression_count, conditional_count, level_count, operands_count}
 use Rattle.sh_words.specs.declared.mode.Mode.{Mode}
 use Rattle.sh_words.specs.declared.frames.Holder.{Holder}

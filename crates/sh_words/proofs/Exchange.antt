@@ -3,7 +3,7 @@ use Rattle.std.proofs.Common.{◌≡◌, ℕ, List, ◌∷◌, Option, Some, Non
 use Rattle.sh_tree.specs.declared.tree.Part.{Part}
 use Rattle.sh_tree.specs.declared.refusal.Refusal.{Refusal}
 use Rattle.sh_tree.specs.declared.refusal.Refusal.TheVariants.{TooLong, NulByte, Syntax, LeftOut, TooDeep, TooMany, Memory, Profile, CertSyntax, CertShape}
-use Rattle.sh_tree.specs.language.States.{Spot}
+use Rattle.sh_tree.specs.standard.language.States.{Spot}
 use Rattle.sh_words.specs.declared.frames.Frame.{Frame}
 use Rattle.sh_words.specs.declared.frames.Focus.{Focus}
 use Rattle.sh_words.specs.declared.builder.WordBuilder.{WordBuilder}

@@ -6,7 +6,7 @@ use Rattle.sh_tree.specs.declared.refusal.Refusal.{Refusal}
 use Rattle.sh_tree.specs.declared.tree.Binary.{Binary}
 use Rattle.sh_tree.specs.declared.tree.Expr.{Expr}
 use Rattle.sh_tree.specs.declared.token.arithmetic.Figure.{Figure}
-use Rattle.sh_tree.specs.language.Arithmetic.{lexeme, binary_of}
+use Rattle.sh_tree.specs.standard.language.Arithmetic.{lexeme, binary_of}
 use Rattle.sh_words.specs.declared.frames.Operation.TheVariants as operation
 use Rattle.sh_words.specs.declared.frames.Frame.{Frame}
 use Rattle.sh_words.specs.declared.frames.Frame.TheVariants as frame

@@ -16,13 +16,13 @@ use Rattle.sh_tree.specs.declared.token.word.Token.{Token}
 use Rattle.sh_tree.specs.declared.token.arithmetic.Figure.{Figure}
 use Rattle.sh_tree.specs.declared.token.arithmetic.Figure.TheVariants as figure
 use Rattle.sh_tree.specs.declared.token.arithmetic.Lexeme.{Lexeme}
-use Rattle.sh_tree.specs.language.Arithmetic.{lexeme, unary_of, assignment_of, unary_level}
-use Rattle.sh_tree.specs.language.Reading as r
-use Rattle.sh_tree.specs.language.Reading.{ReadsPart, ReadsExpression, ReadsConditional, ReadsLevel, ReadsOperands, ReadsUnary}
-use Rattle.sh_tree.specs.language.Reading.{sign_at, after, prior_of, figure_at, figure_span, over, is_some, is_expansion, is_figure_name}
-use Rattle.sh_tree.specs.language.States.{Spot, to, deeper, behind}
-use Rattle.sh_tree.specs.language.Trees.{chain_of}
-use Rattle.sh_tree.specs.language.Words.{token}
+use Rattle.sh_tree.specs.standard.language.Arithmetic.{lexeme, unary_of, assignment_of, unary_level}
+use Rattle.sh_tree.specs.standard.language.Reading as r
+use Rattle.sh_tree.specs.standard.language.Reading.{ReadsPart, ReadsExpression, ReadsConditional, ReadsLevel, ReadsOperands, ReadsUnary}
+use Rattle.sh_tree.specs.standard.language.Reading.{sign_at, after, prior_of, figure_at, figure_span, over, is_some, is_expansion, is_figure_name}
+use Rattle.sh_tree.specs.standard.language.States.{Spot, to, deeper, behind}
+use Rattle.sh_tree.specs.standard.language.Trees.{chain_of}
+use Rattle.sh_tree.specs.standard.language.Words.{token}
 use Rattle.sh_scan.specs.Moves.{reads_figure}
 use Rattle.sh_tree.proofs.Inversions.{apart, some_one}
 use Rattle.sh_words.specs.declared.frames.Holder.{Holder}

@@ -14,12 +14,12 @@ use Rattle.sh_tree.specs.declared.token.word.Context.{Context}
 use Rattle.sh_tree.specs.declared.token.arithmetic.Figure.{Figure}
 use Rattle.sh_tree.specs.declared.token.arithmetic.Figure.TheVariants as figure
 use Rattle.sh_tree.specs.declared.token.arithmetic.Lexeme.{Lexeme}
-use Rattle.sh_tree.specs.language.Bytes.{is_first}
-use Rattle.sh_tree.specs.language.Arithmetic.{lexeme, binary_of, is_closed, unary_level}
-use Rattle.sh_tree.specs.language.Reading as r
-use Rattle.sh_tree.specs.language.Reading.{ReadsLevel, ReadsOperands, figure_at, over, is_question}
-use Rattle.sh_tree.specs.language.States.{Spot}
-use Rattle.sh_tree.specs.language.Trees.{span, chain_of}
+use Rattle.sh_tree.specs.standard.language.Bytes.{is_first}
+use Rattle.sh_tree.specs.standard.language.Arithmetic.{lexeme, binary_of, is_closed, unary_level}
+use Rattle.sh_tree.specs.standard.language.Reading as r
+use Rattle.sh_tree.specs.standard.language.Reading.{ReadsLevel, ReadsOperands, figure_at, over, is_question}
+use Rattle.sh_tree.specs.standard.language.States.{Spot}
+use Rattle.sh_tree.specs.standard.language.Trees.{span, chain_of}
 use Rattle.sh_words.specs.declared.frames.Holder.{Holder}
 use Rattle.sh_words.specs.declared.frames.Opening.{Opening}
 use Rattle.sh_words.specs.declared.frames.Operation.{Operation}

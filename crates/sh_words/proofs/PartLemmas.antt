@@ -18,11 +18,11 @@ use Rattle.sh_tree.specs.declared.token.word.Sign.{Sign}
 use Rattle.sh_tree.specs.declared.token.word.Sign.TheVariants as sign
 use Rattle.sh_tree.specs.declared.token.word.Token.{Token}
 use Rattle.sh_tree.specs.declared.refusal.Refusal.{Refusal}
-use Rattle.sh_tree.specs.language.Reading as r
-use Rattle.sh_tree.specs.language.Reading.{ReadsParts, ReadsPart, prior_of, sign_at, after, over}
-use Rattle.sh_tree.specs.language.States.{Spot, to, behind}
-use Rattle.sh_tree.specs.language.Trees.{span, word, param}
-use Rattle.sh_tree.specs.language.Words.{token, in_double, in_use, in_removal, in_arithmetic}
+use Rattle.sh_tree.specs.standard.language.Reading as r
+use Rattle.sh_tree.specs.standard.language.Reading.{ReadsParts, ReadsPart, prior_of, sign_at, after, over}
+use Rattle.sh_tree.specs.standard.language.States.{Spot, to, behind}
+use Rattle.sh_tree.specs.standard.language.Trees.{span, word, param}
+use Rattle.sh_tree.specs.standard.language.Words.{token, in_double, in_use, in_removal, in_arithmetic}
 use Rattle.sh_scan.specs.Moves.{reads_bytes}
 use Rattle.sh_tree.proofs.Inversions.{PartIs, part_is, stopped, some_one}
 use Rattle.sh_words.specs.declared.mode.Mode.{Mode}

@@ -5,11 +5,11 @@ use Rattle.sh_tree.specs.declared.tree.Part.{Part}
 use Rattle.sh_tree.specs.declared.tree.Script.{Script}
 use Rattle.sh_tree.specs.declared.refusal.Refusal.{Refusal}
 use Rattle.sh_tree.specs.declared.refusal.Refusal.TheVariants.{TooLong, NulByte, Syntax, LeftOut, TooDeep, TooMany, Memory, Profile, CertSyntax, CertShape}
-use Rattle.sh_tree.specs.language.Arithmetic.{is_closed}
-use Rattle.sh_tree.specs.language.Commands.{blanks}
-use Rattle.sh_tree.specs.language.Reading.{ReadsScript}
-use Rattle.sh_tree.specs.language.States.{Spot}
-use Rattle.sh_tree.specs.language.Trees.{word}
+use Rattle.sh_tree.specs.standard.language.Arithmetic.{is_closed}
+use Rattle.sh_tree.specs.standard.language.Commands.{blanks}
+use Rattle.sh_tree.specs.standard.language.Reading.{ReadsScript}
+use Rattle.sh_tree.specs.standard.language.States.{Spot}
+use Rattle.sh_tree.specs.standard.language.Trees.{word}
 use Rattle.sh_words.specs.declared.builder.WordBuilder.{WordBuilder}
 use Rattle.sh_words.specs.declared.builder.Next.{Next}
 use Rattle.sh_words.specs.declared.builder.Next.TheVariants.{Done, Inner}

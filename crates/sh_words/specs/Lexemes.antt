@@ -8,8 +8,8 @@ use Rattle.sh_tree.specs.declared.tree.Span.{Span}
 use Rattle.sh_tree.specs.declared.token.arithmetic.Figure.{Figure}
 use Rattle.sh_tree.specs.declared.token.arithmetic.Figure.TheVariants as figure
 use Rattle.sh_tree.specs.declared.token.arithmetic.Lexeme.{Lexeme}
-use Rattle.sh_tree.specs.language.Arithmetic.{lexeme, assignment_of}
-use Rattle.sh_tree.specs.language.Trees.{span}
+use Rattle.sh_tree.specs.standard.language.Arithmetic.{lexeme, assignment_of}
+use Rattle.sh_tree.specs.standard.language.Trees.{span}
 use Rattle.sh_scan.specs.Moves.{reads_figure}
 
 -- the token at or behind i, in the text

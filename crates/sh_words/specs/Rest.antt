@@ -9,10 +9,10 @@ use Rattle.sh_tree.specs.declared.tree.Part.TheVariants as part
 use Rattle.sh_tree.specs.declared.token.word.Context.{Context}
 use Rattle.sh_tree.specs.declared.token.word.Sign.{Sign}
 use Rattle.sh_tree.specs.declared.token.arithmetic.Figure.TheVariants as figure
-use Rattle.sh_tree.specs.language.Arithmetic.{is_closed}
-use Rattle.sh_tree.specs.language.Reading.{ReadsParts, ReadsPart, ReadsExpression, ReadsConditional, ReadsLevel, ReadsOperands, prior_of, figure_at, over, is_question}
-use Rattle.sh_tree.specs.language.States.{Spot, deeper}
-use Rattle.sh_tree.specs.language.Trees.{span, chain_of}
+use Rattle.sh_tree.specs.standard.language.Arithmetic.{is_closed}
+use Rattle.sh_tree.specs.standard.language.Reading.{ReadsParts, ReadsPart, ReadsExpression, ReadsConditional, ReadsLevel, ReadsOperands, prior_of, figure_at, over, is_question}
+use Rattle.sh_tree.specs.standard.language.States.{Spot, deeper}
+use Rattle.sh_tree.specs.standard.language.Trees.{span, chain_of}
 use Rattle.sh_words.specs.declared.mode.Mode.{Mode}
 use Rattle.sh_words.specs.declared.frames.Holder.{Holder}
 use Rattle.sh_words.specs.declared.frames.Holder.TheVariants as holder

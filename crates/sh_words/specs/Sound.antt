@@ -3,8 +3,8 @@
 use Rattle.std.specs.Prelude.{◌≡◌, ◌<◌, ◌≤◌, ℕ, ◌+◌, ◌-◌, ◌*◌, List, [], ◌∷◌, length, Option, Some, None, Result, Ok, Err}
 use Rattle.sh_tree.specs.declared.refusal.Refusal.{Refusal}
 use Rattle.sh_tree.specs.declared.token.word.Sign.TheVariants as sign
-use Rattle.sh_tree.specs.language.Arithmetic.{unary_level}
-use Rattle.sh_tree.specs.language.Words.{token}
+use Rattle.sh_tree.specs.standard.language.Arithmetic.{unary_level}
+use Rattle.sh_tree.specs.standard.language.Words.{token}
 use Rattle.sh_words.specs.declared.frames.Holder.{Holder}
 use Rattle.sh_words.specs.declared.frames.Holder.TheVariants as holder
 use Rattle.sh_words.specs.declared.frames.Operation.{Operation}

@@ -12,8 +12,8 @@ use Rattle.sh_tree.specs.declared.tree.Expr.TheVariants as expr
 use Rattle.sh_tree.specs.declared.token.word.Context.{Context}
 use Rattle.sh_tree.specs.declared.token.word.Sign.{Sign}
 use Rattle.sh_tree.specs.declared.token.word.Sign.TheVariants as sign
-use Rattle.sh_tree.specs.language.Trees.{span, word, param}
-use Rattle.sh_tree.specs.language.Words.{in_double, in_use, in_removal, in_arithmetic}
+use Rattle.sh_tree.specs.standard.language.Trees.{span, word, param}
+use Rattle.sh_tree.specs.standard.language.Words.{in_double, in_use, in_removal, in_arithmetic}
 use Rattle.sh_words.specs.declared.frames.Holder.{Holder}
 use Rattle.sh_words.specs.declared.frames.Holder.TheVariants as holder
 use Rattle.sh_words.specs.declared.frames.Opening.{Opening}

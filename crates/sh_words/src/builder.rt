@@ -20,10 +20,7 @@ use crate::frames::{Focus, Frame, Holder};
 use crate::mode::Mode;
 use crate::stack::Stack;
 use sh_scan::in_word;
-use sh_tree::Items;
-use sh_tree::limits::MAX_SCRIPT;
-use sh_tree::refusal::{Fault, Refusal};
-use sh_tree::tree::{CommandStyle, Part, Script, Span, Word};
+use sh_tree::{CommandStyle, Fault, Items, MAX_SCRIPT, Part, Refusal, Script, Span, Word};
 use std::alloc::{AllocError, Global};
 use std::mem;
 

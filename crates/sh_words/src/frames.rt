@@ -1,7 +1,5 @@
 //! What stands around the place where a word is read.
-use sh_tree::Items;
-use sh_tree::token::Context;
-use sh_tree::tree::{Action, Binary, Expr, Part, Removal, Span, Subject, Unary};
+use sh_tree::{Action, Binary, Context, Expr, Items, Part, Removal, Span, Subject, Unary};
 
 /// What takes the next part.
 #[derive(Drop)]

@@ -3,8 +3,7 @@ ghost use Rattle.std.specs.Prelude.{◌≡◌, ◌≤◌, length};
 ghost use Rattle.sh_words.specs.Modes as modes;
 
 use sh_scan::{in_body, in_operand, in_unsplit, in_value, in_word};
-use sh_tree::limits::MAX_SCRIPT;
-use sh_tree::token::Context;
+use sh_tree::{Context, MAX_SCRIPT};
 
 /// What a word is.
 #[derive(Clone, Copy, Debug, PartialEq, Eq)]

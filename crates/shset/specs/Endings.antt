@@ -4,8 +4,8 @@ use Rattle.std.specs.Prelude.{◌≡◌, ◌⊎◌, ℕ, List, [], ◌∷◌, �
 use Rattle.std.specs.Option.{option_map}
 use Rattle.std.specs.declared.io.ErrorKind.{ErrorKind}
 use Rattle.std.specs.declared.io.ErrorKind.TheVariants.{OutOfMemory}
-use Rattle.sh_report.specs.declared.moves.Fault.{Fault}
-use Rattle.sh_report.specs.declared.moves.Fault.TheVariants as fault
+use Rattle.sh_answers.specs.declared.moves.Fault.{Fault}
+use Rattle.sh_answers.specs.declared.moves.Fault.TheVariants as fault
 use Rattle.sh_line.specs.declared.line.Stop.{Stop}
 use Rattle.sh_line.specs.declared.line.Stop.TheVariants.{Usage, Help, BadName, Memory}
 use Rattle.shset.specs.declared.ending.Stream.{Stream}

@@ -3,8 +3,8 @@ ghost use Rattle.std.specs.Prelude.{◌≡◌, Some};
 ghost use Rattle.shset.specs.declared.ending.Stream.TheVariants.{Error};
 ghost use Rattle.shset.specs.Endings.{EndsUnprinted, Fails, RunsTo, StopsWith, fault_line, message_of, words_line};
 
-use sh_line::line::Stop;
-use sh_report::moves::Fault;
+use sh_answers::Fault;
+use sh_line::Stop;
 use std::io::ErrorKind;
 
 /// The status of a usage fault, of an end that failed and of want of memory.

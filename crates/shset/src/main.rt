@@ -8,10 +8,9 @@ ghost use Rattle.shset.specs.Endings.{IsStatusOf};
 mod ending;
 
 use ending::{Ending, Stream, after_run, unprinted, without_line, without_words};
-use sh_engine::engine::run;
-use sh_line::line::{Line, Source, command_line};
-use sh_report::counted::Counted;
-use sh_report::moves::Fault;
+use sh_answers::{Counted, Fault};
+use sh_line::{Line, Source, command_line};
+use sh_report::run;
 use std::io::{self, Read};
 use std::process::ExitCode;
 use std::rt::{Env, Files};

@@ -3,9 +3,8 @@
 #![tactic(auto)]
 
 use sh_grammar::parse;
-use sh_table::admit::admit;
-use sh_table::table::CallTable;
-use sh_tree::tree::Script;
+use sh_table::{CallTable, admit};
+use sh_tree::Script;
 use std::rt::{Clock, Env, Files};
 use std::time::Instant;
 use std::{env, fs, io};

@@ -1,10 +1,8 @@
 use crate::names::check_names;
-use sh_facts::names::Names;
-use sh_facts::policy::Policy;
-use sh_tree::Items;
-use sh_tree::tree::{
-    AndOr, Command, Element, HereDoc, Item, Kind, Param, ParameterOperator, Part, Pipe, Redirect,
-    Script, Span, Subject, Target, Word,
+use sh_domain::{Names, Policy};
+use sh_tree::{
+    AndOr, Command, Element, HereDoc, Item, Items, Kind, Param, ParameterOperator, Part, Pipe,
+    Redirect, Script, Span, Subject, Target, Word,
 };
 use std::alloc::{AllocError, Global};
 use std::test::Fail;

@@ -1,14 +1,9 @@
 //! Certificates that are read from their texts.
-use sh_facts::certificate::Certificate;
-use sh_facts::limits::MAX_CERTIFICATE;
-use sh_facts::names::Names;
-use sh_facts::policy::Policy;
-use sh_facts::reading::read_certificate;
-use sh_facts::texts::write_certificate;
+use sh_domain::{Certificate, MAX_CERTIFICATE, Names, Policy};
+use sh_facts::{read_certificate, write_certificate};
 use sh_grammar::parse;
-use sh_table::table::CallTable;
-use sh_tree::refusal::Refusal;
-use sh_tree::tree::Script;
+use sh_table::CallTable;
+use sh_tree::{Refusal, Script};
 use std::alloc::{AllocError, Global};
 use std::test::Fail;
 
@@ -56,7 +51,7 @@ fn written_for(
 }
 
 /// The text that is written of the certificate that this text is, for a script with these names declared.
-pub fn read_again(
+fn read_again(
     alloc: Global,
     script: &[u8],
     declared: &[&[u8]],
@@ -128,92 +123,6 @@ fn read_to_the_byte(rt: HostRuntime) -> Result<(), Fail> {
     Ok(())
 }
 
-/// Lines that are none of the only command.
-const LINES: &[&[u8]] = &[
-    b"c 1 0:PPID,IFS: - -\n",
-    b"c 1 0:IFS,IFS: - -\n",
-    b"c 1 0:IFS,!: - -\n",
-    b"c 1 0:IFS:! - -\n",
-    b"c 1 0:IFS,: - -\n",
-    b"c 1 0:,IFS: - -\n",
-    b"c 1 0:1a: - -\n",
-    b"c 1 0:IFS - -\n",
-    b"c 1 0:IFS:f:g - -\n",
-    b"c 1 0::IFS: - -\n",
-    b"c 1 :IFS: - -\n",
-    b"c 1 -:IFS: - -\n",
-    b"c 1 00:IFS: - -\n",
-    b"c 1 65536:IFS: - -\n",
-    b"c 1 99999999999999999999:IFS: - -\n",
-    b"c 1 +1:IFS: - -\n",
-];
-
-/// More of them, by their fields and their ends.
-const MORE_LINES: &[&[u8]] = &[
-    b"c 1  - - -\n",
-    b"c 1 - - - \n",
-    b"c 1\t- - -\n",
-    b" c 1 - - -\n",
-    b"c 1 - - -\r\n",
-    b"c 1 - - -\0\n",
-    b"c 1 - -\0 -\n",
-    b"c 1 - - -",
-    b"c 1 - -\n",
-    b"c 1 - - - - -\n",
-    b"c 01 - - -\n",
-    b"c 2 - - -\n",
-    b"C 1 - - -\n",
-    b"f 1 - : - -\n",
-    b"\n",
-    b"",
-];
-
-fn are_refused(alloc: Global, lines: &[&[u8]]) -> Result<bool, AllocError> {
-    for line in lines {
-        let mut text = Vec::from_slice(alloc, b"shset certificate 1\ncommands 1 functions 0\n")?;
-        text.extend_from_slice(line)?;
-        if !is_refused(alloc, b":\n", &text, Refusal::CertSyntax(3)) {
-            return Ok(false);
-        }
-    }
-    Ok(true)
-}
-
-/// Texts whose second line is none.
-const COUNTS: &[&[u8]] = &[
-    b"shset certificate 1\n",
-    b"shset certificate 1\ncommands 0 functions 0",
-    b"shset certificate 1\ncommands 0 functions 00\n",
-    b"shset certificate 1\ncommands 65536 functions 0\n",
-    b"shset certificate 1\ncommands 0 functions 0 \n",
-    b"shset certificate 1\ncommands 0  functions 0\n",
-    b"shset certificate 1\ncommands 0\n",
-    b"shset certificate 1\nfunctions 0 commands 0\n",
-    b"shset certificate 1\ncommands 0 functions 0\r\n",
-    b"shset certificate 1\n\n",
-];
-
-#[test]
-fn first_fault_is_told(rt: HostRuntime) -> Result<(), Fail> {
-    let alloc = rt.alloc();
-    let of_line = are_refused(alloc, LINES)? && are_refused(alloc, MORE_LINES)?;
-    assert!(rt; of_line);
-    for text in COUNTS {
-        assert!(rt; is_refused(alloc, b"", text, Refusal::CertSyntax(2)));
-    }
-    for text in &[
-        b"".as_slice(),
-        b"shset certificate 1",
-        b"shset certificate 2\n",
-        b"\n",
-    ] {
-        assert!(rt; is_refused(alloc, b"", text, Refusal::CertSyntax(1)));
-    }
-    let one_more = b"shset certificate 1\ncommands 0 functions 0\n\n";
-    assert!(rt; is_refused(alloc, b"", one_more, Refusal::CertSyntax(3)));
-    Ok(())
-}
-
 /// Whether the cut that ends there is refused, at the line where it ends.
 fn is_cut(alloc: Global, script: &[u8], text: &[u8], end: usize) -> bool {
     let cut = text.get(..end).unwrap_or(text);
@@ -255,27 +164,6 @@ fn limit_is_told(rt: HostRuntime) -> Result<(), Fail> {
     assert!(rt; is_refused(rt.alloc(), b"", &text, Refusal::CertSyntax(0)));
     let text = long_text(rt.alloc(), 100_000)?;
     assert!(rt; is_refused(rt.alloc(), b":\n", &text, Refusal::CertShape));
-    Ok(())
-}
-
-/// Texts of the form that do not fit a script of one simple command.
-const OTHERS: &[&[u8]] = &[
-    b"shset certificate 1\ncommands 0 functions 0\n",
-    b"shset certificate 1\ncommands 2 functions 0\nc 1 - - -\nc 2 - - -\n",
-    b"shset certificate 1\ncommands 1 functions 1\nc 1 - - -\nf 1 - : - -\n",
-    b"shset certificate 1\ncommands 1 functions 0\nc 1 - - - -\n",
-    b"shset certificate 1\ncommands 1 functions 0\nc 1 0:B: - -\n",
-    b"shset certificate 1\ncommands 1 functions 0\nc 1 - 0:A:B -\n",
-    b"shset certificate 1\ncommands 1 functions 0\nc 1 - - 0:!,A,B,IFS:\n",
-];
-
-#[test]
-fn another_script(rt: HostRuntime) -> Result<(), Fail> {
-    for text in OTHERS {
-        assert!(rt; is_refused(rt.alloc(), b":\n", text, Refusal::CertShape));
-    }
-    let no_head = b"shset certificate 1\ncommands 3 functions 0\nc 1 - - -\nc 2 - - -\nc 3 - - -\n";
-    assert!(rt; is_refused(rt.alloc(), LOOP, no_head, Refusal::CertShape));
     Ok(())
 }
 

@@ -1,12 +1,9 @@
 //! What is known at a place, against plain masks of the numbers of names.
 use crate::names::{declaring, names_of};
 use crate::texts::keep;
-use sh_facts::certificate::{Certificate, Drops, Facts};
-use sh_facts::knowledge::{Knowledge, Return};
-use sh_facts::names::Names;
-use sh_facts::number_set::NumberSet;
-use sh_facts::policy::Policy;
-use sh_facts::rows::{RowId, Rows};
+use sh_domain::{
+    Certificate, Drops, Facts, Knowledge, Names, NumberSet, Policy, Return, RowId, Rows,
+};
 use std::alloc::{AllocError, Global};
 use std::process::Abort;
 use std::test::Fail;

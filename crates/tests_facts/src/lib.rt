@@ -6,14 +6,12 @@ mod bodies;
 #[cfg(test)]
 mod certificates;
 #[cfg(test)]
-mod changed;
-#[cfg(test)]
 mod knowledge;
+#[cfg(test)]
+mod limit;
 #[cfg(test)]
 mod names;
 #[cfg(test)]
 mod rows;
-#[cfg(test)]
-mod samples;
 #[cfg(test)]
 mod texts;

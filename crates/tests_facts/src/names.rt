@@ -1,7 +1,6 @@
-use sh_facts::names::Names;
-use sh_facts::policy::{Policy, PolicyFault};
+use sh_domain::{Names, Policy, PolicyFault};
 use sh_grammar::parse;
-use sh_tree::refusal::Refusal;
+use sh_tree::Refusal;
 use std::alloc::{AllocError, Global};
 use std::process::Abort;
 use std::test::Fail;

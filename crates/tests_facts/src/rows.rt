@@ -1,9 +1,7 @@
 ghost use Rattle.std.specs.Prelude.{◌≡◌, IfOk};
 
-use sh_facts::certificate::{Certificate, Drops, Entry, Facts, FunctionEntry};
-use sh_facts::rows::{RowId, Rows};
-use sh_rows::bits::BitRow;
-use sh_rows::row::Row;
+use sh_domain::{Certificate, Drops, Entry, Facts, FunctionEntry, RowId, Rows};
+use sh_rows::{BitRow, Row};
 use std::alloc::{AllocError, Global};
 use std::test::Fail;
 

@@ -1,11 +1,8 @@
 //! Texts of certificates.
 use crate::names::names_of;
 use crate::rows::row_of;
-use sh_facts::certificate::{Certificate, Drops, Entry, Facts, FunctionEntry};
-use sh_facts::names::Names;
-use sh_facts::policy::Policy;
-use sh_facts::rows::RowId;
-use sh_facts::texts::write_certificate;
+use sh_domain::{Certificate, Drops, Entry, Facts, FunctionEntry, Names, Policy, RowId};
+use sh_facts::write_certificate;
 use std::alloc::{AllocError, Global};
 use std::test::Fail;
 

@@ -1,15 +1,9 @@
-//! Tests of the search: both ways find the same facts, and the greatest certificates of scripts.
+//! Tests of the search for the greatest certificate of a script: its ways find the same, and how often it looks.
 #![tactic(auto)]
 
 #[cfg(test)]
-mod functions;
+mod found;
 #[cfg(test)]
-mod lists;
+mod looks;
 #[cfg(test)]
-mod sampled;
-#[cfg(test)]
-mod samples;
-#[cfg(test)]
-mod searches;
-#[cfg(test)]
-mod texts;
+mod ways;

@@ -1,7 +1,7 @@
 //! Bodies of here-documents in one another, each behind as many levels of commands as may be open there: 2,080 levels, which the
 //! stack of 8 MiB has to hold.
 use sh_grammar::parse;
-use sh_tree::limits::MAX_NESTING;
+use sh_tree::MAX_NESTING;
 use std::alloc::{AllocError, Global};
 use std::test::Fail;
 

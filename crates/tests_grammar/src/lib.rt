@@ -1,47 +1,11 @@
-//! Tests of the grammar: what is told of a script.
+//! Tests of words and of the grammar: limits, and builders that refused a text. What is told of a text stands in tests/trees.
 #![tactic(auto)]
 
 #[cfg(test)]
-mod assignments;
-#[cfg(test)]
-mod bytes;
-#[cfg(test)]
-mod cases;
+mod again;
 #[cfg(test)]
 mod chains;
 #[cfg(test)]
-mod commands;
+mod counts;
 #[cfg(test)]
-mod comments;
-#[cfg(test)]
-mod continuations;
-#[cfg(test)]
-mod cuts;
-#[cfg(test)]
-mod definitions;
-#[cfg(test)]
-mod documents;
-#[cfg(test)]
-mod faults;
-#[cfg(test)]
-mod fors;
-#[cfg(test)]
-mod limits;
-#[cfg(test)]
-mod lists;
-#[cfg(test)]
-mod loops;
-#[cfg(test)]
-mod refusals;
-#[cfg(test)]
-mod reserved;
-#[cfg(test)]
-mod rows;
-#[cfg(test)]
-mod samples;
-#[cfg(test)]
-mod substitutions;
-#[cfg(test)]
-mod tildes;
-#[cfg(test)]
-mod trees;
+mod words;

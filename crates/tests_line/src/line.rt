@@ -1,5 +1,5 @@
-use sh_line::line::{Line, Source, Stop, command_line};
-use sh_report::task::Action;
+use sh_answers::Action;
+use sh_line::{Line, Source, Stop, command_line};
 use std::alloc::Global;
 use std::process::Abort;
 use std::test::Fail;

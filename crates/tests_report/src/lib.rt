@@ -1,9 +1,14 @@
-//! Tests of what is told of a script, of its text and of the ends.
+//! Tests of runs: between ends that fail, over as many names as may be, and what is told of places. What is told of a script or of its
+//! certificate stands in tests/scripts.
 #![tactic(auto)]
 
 #[cfg(test)]
-mod moves;
+mod ends;
 #[cfg(test)]
-mod refusals;
+mod findings;
 #[cfg(test)]
-mod texts;
+mod lints;
+#[cfg(test)]
+mod names;
+#[cfg(test)]
+mod told;

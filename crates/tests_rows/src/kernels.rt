@@ -1,5 +1,5 @@
 //! Each kernel beside the plain loop over single words, at lengths round a block of four words.
-use sh_rows::kernels::{join_words, meet_words, remove_words, within_words};
+use sh_rows::{join_words, meet_words, remove_words, within_words};
 use std::alloc::{AllocError, Global};
 use std::process::Abort;
 use std::test::Fail;

@@ -1,9 +1,7 @@
 //! Each operation of a row, at both rows, through the bound of them.
 ghost use Rattle.std.specs.Prelude.{◌≡◌, IfOk};
 
-use sh_rows::bits::BitRow;
-use sh_rows::names::NameRow;
-use sh_rows::row::Row;
+use sh_rows::{BitRow, NameRow, Row};
 use std::alloc::{AllocError, Global};
 use std::process::Abort;
 use std::test::Fail;

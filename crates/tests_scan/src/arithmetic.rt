@@ -1,8 +1,6 @@
 use crate::check::{is_place, same};
 use sh_scan::{assignment_of, binary_of, is_closed, lexeme_at, unary_of};
-use sh_tree::refusal::Form;
-use sh_tree::token::{Figure, Lexeme};
-use sh_tree::tree::{Binary, Unary};
+use sh_tree::{Binary, Figure, Form, Lexeme, Unary};
 use std::process::Abort;
 use std::test::Fail;
 

@@ -1,7 +1,7 @@
 //! What the checks of all rows share.
 ghost use Rattle.std.specs.Prelude.{◌≤◌, length};
 
-use sh_tree::limits::MAX_SCRIPT;
+use sh_tree::MAX_SCRIPT;
 use std::fmt::Debug;
 use std::process::Abort;
 

@@ -2,8 +2,7 @@ mod classes;
 
 use crate::check::{is_place, same};
 use sh_scan::lead_at;
-use sh_tree::refusal::Form;
-use sh_tree::token::{Lead, Operator, Reserved, Stage};
+use sh_tree::{Form, Lead, Operator, Reserved, Stage};
 use std::process::Abort;
 use std::test::Fail;
 

@@ -1,7 +1,6 @@
 use crate::check::{is_place, same};
 use sh_scan::{direction_of, operator_at, redirection_at, strip_of};
-use sh_tree::token::{Operator, Redirection};
-use sh_tree::tree::{Direction, Span};
+use sh_tree::{Direction, Operator, Redirection, Span};
 use std::process::Abort;
 use std::test::Fail;
 

@@ -2,9 +2,7 @@ mod quoted;
 
 use crate::check::{is_place, same};
 use sh_scan::{in_body, in_operand, in_unsplit, in_value, in_word, token_at};
-use sh_tree::refusal::{Fault, Form};
-use sh_tree::token::{Context, Sign, Site, Token};
-use sh_tree::tree::{Action, Removal, Span, Special, Subject};
+use sh_tree::{Action, Context, Fault, Form, Removal, Sign, Site, Span, Special, Subject, Token};
 use std::process::Abort;
 use std::test::Fail;
 

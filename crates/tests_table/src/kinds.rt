@@ -1,6 +1,6 @@
 //! What names mean.
-use sh_table::kind::{Kind, kind_of};
-use sh_tree::known::KnownName;
+use sh_table::{Kind, kind_of};
+use sh_tree::KnownName;
 use std::process::Abort;
 use std::test::Fail;
 

@@ -1,10 +1,8 @@
-//! Tests of what the names of commands mean, of the call table and of the profile.
+//! Tests of what the names of commands mean and of the call table.
 #![tactic(auto)]
 
 #[cfg(test)]
 mod kinds;
-#[cfg(test)]
-mod profile;
 #[cfg(test)]
 mod tables;
 #[cfg(test)]

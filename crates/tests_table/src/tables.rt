@@ -1,8 +1,6 @@
 //! The call table of a script with functions.
 use sh_grammar::parse;
-use sh_table::admit::admit;
-use sh_table::table::CallTable;
-use sh_tree::refusal::{Refusal, Rule};
+use sh_table::CallTable;
 use std::process::Abort;
 use std::test::Fail;
 
@@ -89,17 +87,6 @@ fn texts(rt: HostRuntime) -> Result<(), Fail> {
     let tree = parse(alloc, SCRIPT)?;
     let table = CallTable::new(alloc, &tree, SCRIPT)?;
     check_texts(&rt, &table, TEXTS);
-    Ok(())
-}
-
-/// The computed name is told, which comes before the function named `set`.
-#[test]
-fn least(rt: HostRuntime) -> Result<(), Fail> {
-    let alloc = rt.alloc();
-    let tree = parse(alloc, SCRIPT)?;
-    let table = CallTable::new(alloc, &tree, SCRIPT)?;
-    let refusal = Refusal::Profile(Rule::ComputedName, 39);
-    assert_eq!(rt; admit(alloc, &tree, &table, SCRIPT), Err(refusal));
     Ok(())
 }
 

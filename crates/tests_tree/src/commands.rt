@@ -1,7 +1,7 @@
 use crate::trees::{holds, one, plain_item, plain_word, simple_item};
-use sh_commands::commands;
-use sh_tree::tree::{
+use sh_tree::{
     Command, CommandStyle, Element, HereDoc, Item, Part, Redirect, Script, Span, Target, Word,
+    commands,
 };
 use std::alloc::{AllocError, Global};
 use std::test::Fail;

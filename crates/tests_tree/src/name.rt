@@ -1,5 +1,5 @@
 use crate::trees::holds;
-use sh_tree::name::is_name;
+use sh_tree::is_name;
 use std::process::Abort;
 use std::test::Fail;
 

@@ -1,10 +1,8 @@
 use crate::trees::{holds, one};
-use sh_tree::limits::MAX_SCRIPT;
-use sh_tree::text::static_text;
-use sh_tree::tree::{
-    CommandStyle, Expr, Param, ParameterOperator, Part, Script, SingleStyle, Span, Subject, Word,
+use sh_tree::{
+    Boxed, CommandStyle, Expr, Items, MAX_SCRIPT, Param, ParameterOperator, Part, Script,
+    SingleStyle, Span, Subject, Word, static_text,
 };
-use sh_tree::{Boxed, Items};
 use std::alloc::{AllocError, Global};
 use std::process::Abort;
 use std::test::Fail;

@@ -1,6 +1,5 @@
 //! Small trees, and what the checks share.
-use sh_tree::Items;
-use sh_tree::tree::{AndOr, Command, Element, Item, Kind, Part, Pipe, Span, Word};
+use sh_tree::{AndOr, Command, Element, Item, Items, Kind, Part, Pipe, Span, Word};
 use std::alloc::{AllocError, Global};
 use std::process::Abort;
 

@@ -1,11 +1,10 @@
 //! The bytes of names and constants, in two pieces: a token, and what stands behind the line continuations that follow it.
 ghost use Rattle.std.specs.Prelude.{◌≡◌, ◌≤◌, ◌<◌, ◌+◌, ◌++◌, length, drop, codes};
-ghost use Rattle.sh_tree.specs.language.Bytes as bytes;
+ghost use Rattle.sh_tree.specs.standard.language.Bytes as bytes;
 ghost use Rattle.sh_scan.specs.Alphabets.{belongs};
 
 use crate::bytes::is_digit;
-use sh_tree::limits::MAX_SCRIPT;
-use sh_tree::name::is_name_byte;
+use sh_tree::{MAX_SCRIPT, is_name_byte};
 
 /// Of which bytes names and constants are made.
 #[derive(Clone, Copy, Debug, PartialEq, Eq)]
@@ -67,7 +66,7 @@ pub fn run_behind_first(alphabet: Alphabet, front: &[u8], rest: &[u8]) -> usize
 }
 
 /// Whether the first byte is the letter of a hexadecimal constant.
-#[tactic(auto, unfolding(sh_tree::specs::language::Bytes::is_first))]
+#[tactic(auto, unfolding(sh_tree::specs::standard::language::Bytes::is_first))]
 pub fn begins_x(front: &[u8], rest: &[u8]) -> bool
     ensures { result ≡ bytes.is_first (bytes.is_in (codes "xX")) (front.now ++ rest.now) }
 {

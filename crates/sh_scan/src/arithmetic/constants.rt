@@ -1,10 +1,10 @@
 //! Constants of arithmetic.
 ghost use Rattle.std.specs.Prelude.{◌≡◌, ◌≤◌, ◌<◌, ◌+◌, ◌++◌, ◌∷◌, true, length};
-ghost use Rattle.sh_tree.specs.language.Bytes as bytes;
-ghost use Rattle.sh_tree.specs.language.Arithmetic as arithmetic;
+ghost use Rattle.sh_tree.specs.standard.language.Bytes as bytes;
+ghost use Rattle.sh_tree.specs.standard.language.Arithmetic as arithmetic;
 
 use super::alphabets::{Alphabet, begins_x, run_behind_first, run_over};
-use sh_tree::limits::MAX_SCRIPT;
+use sh_tree::MAX_SCRIPT;
 
 /// How long the constant is that begins with a digit, before the text of both pieces.
 #[tactic(auto, using(crate::proofs::ArithmeticLemmas::constant_is))]

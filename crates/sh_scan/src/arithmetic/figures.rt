@@ -1,19 +1,16 @@
 //! What a token of arithmetic is.
 ghost use Rattle.std.specs.Prelude.{◌≡◌, ◌≢◌, ◌≤◌, ◌<◌, ◌+◌, ◌++◌, ◌∷◌, true, length};
-ghost use Rattle.sh_tree.specs.language.Bytes as bytes;
-ghost use Rattle.sh_tree.specs.language.Arithmetic as arithmetic;
+ghost use Rattle.sh_tree.specs.standard.language.Bytes as bytes;
+ghost use Rattle.sh_tree.specs.standard.language.Arithmetic as arithmetic;
 
 use super::alphabets::{Alphabet, run_over};
 use super::constants::constant_length;
 use super::operators::operator;
 use crate::bytes::is_digit;
 use crate::pieces::begins_so;
-use sh_tree::limits::MAX_SCRIPT;
-use sh_tree::name::is_name_start;
-use sh_tree::refusal::Form;
-use sh_tree::token::Figure;
+use sh_tree::{Figure, Form, MAX_SCRIPT, is_name_start};
 
-#[tactic(auto, using(crate::proofs::ArithmeticLemmas::name_some), unfolding(sh_tree::specs::language::Arithmetic::name_figure, sh_tree::specs::language::Bytes::name_length))]
+#[tactic(auto, using(crate::proofs::ArithmeticLemmas::name_some), unfolding(sh_tree::specs::standard::language::Arithmetic::name_figure, sh_tree::specs::standard::language::Bytes::name_length))]
 fn name_figure(front: &[u8], rest: &[u8]) -> (Figure, usize)
     requires small { length front.now + length rest.now ≤ MAX_SCRIPT }
     requires begun { bytes.is_first bytes.is_name_start (front.now ++ rest.now) ≡ true }
@@ -31,7 +28,7 @@ fn name_figure(front: &[u8], rest: &[u8]) -> (Figure, usize)
 }
 
 /// No token begins so.
-#[tactic(auto, unfolding(sh_tree::specs::language::Arithmetic::unknown, sh_tree::specs::language::Bytes::is_first))]
+#[tactic(auto, unfolding(sh_tree::specs::standard::language::Arithmetic::unknown, sh_tree::specs::standard::language::Bytes::is_first))]
 fn unknown_figure(first: u8, others: &[u8], rest: &[u8]) -> (Figure, usize)
     ensures value { result ≡ arithmetic.unknown (first ∷ (others.now ++ rest.now)) }
     ensures length { result.1 ≡ 1 }
@@ -45,7 +42,7 @@ fn unknown_figure(first: u8, others: &[u8], rest: &[u8]) -> (Figure, usize)
 }
 
 /// The token at the front of both pieces and its length.
-#[tactic(auto, unfolding(sh_tree::specs::language::Arithmetic::figure_of, sh_tree::specs::language::Bytes::is_first))]
+#[tactic(auto, unfolding(sh_tree::specs::standard::language::Arithmetic::figure_of, sh_tree::specs::standard::language::Bytes::is_first))]
 pub fn figure_of(front: &[u8], rest: &[u8]) -> (Figure, usize)
     requires small { length front.now + length rest.now ≤ MAX_SCRIPT }
     requires whole { length front.now ≡ 0 → length rest.now ≡ 0 }

@@ -1,14 +1,12 @@
 //! Operators of arithmetic.
 ghost use Rattle.std.specs.Prelude.{◌≡◌, ◌≤◌, ◌<◌, ◌+◌, ◌++◌, ◌∷◌, length, nat_eq, IfSome};
 ghost use Rattle.std.specs.List.{starts_with};
-ghost use Rattle.sh_tree.specs.language.Bytes.{longest};
-ghost use Rattle.sh_tree.specs.language.Arithmetic as arithmetic;
+ghost use Rattle.sh_tree.specs.standard.language.Bytes.{longest};
+ghost use Rattle.sh_tree.specs.standard.language.Arithmetic as arithmetic;
 ghost use Rattle.sh_scan.specs.Tables.{texts_of};
 
 use crate::pieces::begins_so;
-use sh_tree::refusal::Form;
-use sh_tree::token::Figure;
-use sh_tree::tree::{Binary, Unary};
+use sh_tree::{Binary, Figure, Form, Unary};
 
 /// The operators, longer ones first; those that are left out among them.
 const OPERATORS: [(&[u8], Figure); 42] = [
@@ -67,7 +65,7 @@ fn begins(first: u8, others: &[u8], rest: &[u8], text: &[u8]) -> bool
 }
 
 /// The first text of a table with which the text of the byte and both pieces begins.
-#[tactic(auto, using(crate::proofs::ArithmeticLemmas::begun_within), unfolding(sh_tree::specs::language::Bytes::longest))]
+#[tactic(auto, using(crate::proofs::ArithmeticLemmas::begun_within), unfolding(sh_tree::specs::standard::language::Bytes::longest))]
 fn longest(
     mut table: &[(&[u8], Figure)],
     first: u8,
@@ -96,7 +94,7 @@ pub fn operator(first: u8, others: &[u8], rest: &[u8]) -> Option<(Figure, usize)
 }
 
 /// The binary operator of a level, if the token is one.
-#[tactic(auto, unfolding(sh_tree::specs::language::Arithmetic::binary_of))]
+#[tactic(auto, unfolding(sh_tree::specs::standard::language::Arithmetic::binary_of))]
 pub fn binary_of(level: u8, figure: Figure) -> Option<Binary>
     ensures { result ≡ arithmetic.binary_of level figure }
 {
@@ -124,7 +122,7 @@ fn level_of(operator: Binary) -> u8
 }
 
 /// The unary operator, if the token is one.
-#[tactic(auto, unfolding(sh_tree::specs::language::Arithmetic::unary_of))]
+#[tactic(auto, unfolding(sh_tree::specs::standard::language::Arithmetic::unary_of))]
 pub fn unary_of(figure: Figure) -> Option<Unary>
     ensures { result ≡ arithmetic.unary_of figure }
 {
@@ -138,7 +136,7 @@ pub fn unary_of(figure: Figure) -> Option<Unary>
 }
 
 /// The operator before the `=` of an assignment, or none; nothing if the token is no assignment.
-#[tactic(auto, unfolding(sh_tree::specs::language::Arithmetic::assignment_of))]
+#[tactic(auto, unfolding(sh_tree::specs::standard::language::Arithmetic::assignment_of))]
 pub fn assignment_of(figure: Figure) -> Option<Option<Binary>>
     ensures { result ≡ arithmetic.assignment_of figure }
 {

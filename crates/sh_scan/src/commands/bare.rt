@@ -1,14 +1,11 @@
 //! Words of bytes that mean nothing more than themselves, and the names that are looked for among them (XCU 2.4).
 ghost use Rattle.std.specs.Prelude.{◌≡◌, ◌≤◌, ◌+◌, length};
-ghost use Rattle.sh_tree.specs.language.Bytes as bytes;
-ghost use Rattle.sh_tree.specs.language.Commands as commands;
+ghost use Rattle.sh_tree.specs.standard.language.Bytes as bytes;
+ghost use Rattle.sh_tree.specs.standard.language.Commands as commands;
 
 use crate::class::{Class, classify};
 use crate::front::ends_joined;
-use sh_tree::limits::MAX_SCRIPT;
-use sh_tree::name::is_name;
-use sh_tree::refusal::Form;
-use sh_tree::token::Reserved;
+use sh_tree::{Form, MAX_SCRIPT, Reserved, is_name};
 
 #[tactic(auto, unfolding(crate::specs::Classes::class_of))]
 fn is_bare(byte: u8) -> bool
@@ -25,7 +22,7 @@ fn bare_length(rest: &[u8]) -> usize
 }
 
 /// The token at `at`, if none of its bytes means more than itself, or no bytes.
-#[tactic(auto, unfolding(sh_tree::specs::language::Commands::bare_word))]
+#[tactic(auto, unfolding(sh_tree::specs::standard::language::Commands::bare_word))]
 pub fn bare_word(script: &[u8], at: u32) -> &[u8]
     requires small { length script.now ≤ MAX_SCRIPT }
     requires inside { at ≤ length script.now }
@@ -41,7 +38,7 @@ pub fn bare_word(script: &[u8], at: u32) -> &[u8]
     }
 }
 
-#[tactic(auto, unfolding(sh_tree::specs::language::Commands::entry_of))]
+#[tactic(auto, unfolding(sh_tree::specs::standard::language::Commands::entry_of))]
 pub fn reserved_word(word: &[u8]) -> Option<Reserved>
     ensures { result ≡ commands.entry_of commands.reserved_words word.now }
 {
@@ -67,7 +64,7 @@ pub fn reserved_word(word: &[u8]) -> Option<Reserved>
 }
 
 /// The form of other shells that the word begins where a command name stands.
-#[tactic(auto, unfolding(sh_tree::specs::language::Commands::entry_of))]
+#[tactic(auto, unfolding(sh_tree::specs::standard::language::Commands::entry_of))]
 pub fn left_out_name(word: &[u8]) -> Option<Form>
     ensures { result ≡ commands.entry_of commands.left_out_names word.now }
 {
@@ -83,7 +80,7 @@ pub fn left_out_name(word: &[u8]) -> Option<Form>
 }
 
 /// Whether the command name at `at` is `export` or `readonly`, unquoted (XCU 2.9.1.1).
-#[tactic(auto, unfolding(sh_tree::specs::language::Commands::declares))]
+#[tactic(auto, unfolding(sh_tree::specs::standard::language::Commands::declares))]
 pub fn declares_at(script: &[u8], at: u32) -> bool
     requires small { length script.now ≤ MAX_SCRIPT }
     requires inside { at ≤ length script.now }
@@ -93,7 +90,7 @@ pub fn declares_at(script: &[u8], at: u32) -> bool
 }
 
 /// Whether the word at `at` is a name, unquoted (XCU 2.10.2, rule 5).
-#[tactic(auto, unfolding(sh_tree::specs::language::Commands::is_bare_name))]
+#[tactic(auto, unfolding(sh_tree::specs::standard::language::Commands::is_bare_name))]
 pub fn is_bare_name_at(script: &[u8], at: u32) -> bool
     requires small { length script.now ≤ MAX_SCRIPT }
     requires inside { at ≤ length script.now }

@@ -1,13 +1,12 @@
 //! Classes of the tokens of commands (XCU 2.10).
 ghost use Rattle.std.specs.Prelude.{◌≡◌};
-ghost use Rattle.sh_tree.specs.language.Commands as commands;
+ghost use Rattle.sh_tree.specs.standard.language.Commands as commands;
 
 use super::operators::redirects;
-use sh_tree::token::{Lead, Operator, Reserved};
-use sh_tree::tree::{ClauseEnd, Link};
+use sh_tree::{ClauseEnd, Lead, Link, Operator, Reserved};
 
 /// Whether a redirection begins with the token.
-#[tactic(auto, unfolding(sh_tree::specs::language::Commands::is_redirection))]
+#[tactic(auto, unfolding(sh_tree::specs::standard::language::Commands::is_redirection))]
 pub fn is_redirection(lead: Lead) -> bool
     ensures { result ≡ commands.is_redirection lead }
 {
@@ -19,7 +18,7 @@ pub fn is_redirection(lead: Lead) -> bool
 }
 
 /// Whether a simple command begins with the token.
-#[tactic(auto, unfolding(sh_tree::specs::language::Commands::begins_simple))]
+#[tactic(auto, unfolding(sh_tree::specs::standard::language::Commands::begins_simple))]
 pub fn begins_simple(lead: Lead) -> bool
     ensures { result ≡ commands.begins_simple lead }
 {
@@ -29,7 +28,7 @@ pub fn begins_simple(lead: Lead) -> bool
     }
 }
 
-#[tactic(auto, unfolding(sh_tree::specs::language::Commands::begins_compound))]
+#[tactic(auto, unfolding(sh_tree::specs::standard::language::Commands::begins_compound))]
 fn opens_compound(reserved: Reserved) -> bool
     ensures { result ≡ commands.begins_compound (Lead.Reserved reserved) }
 {
@@ -45,7 +44,7 @@ fn opens_compound(reserved: Reserved) -> bool
 }
 
 /// Whether a compound command begins with the token.
-#[tactic(auto, unfolding(sh_tree::specs::language::Commands::begins_compound))]
+#[tactic(auto, unfolding(sh_tree::specs::standard::language::Commands::begins_compound))]
 pub fn begins_compound(lead: Lead) -> bool
     ensures { result ≡ commands.begins_compound lead }
 {
@@ -57,7 +56,7 @@ pub fn begins_compound(lead: Lead) -> bool
 }
 
 /// Whether a command begins with the token.
-#[tactic(auto, unfolding(sh_tree::specs::language::Commands::begins_command))]
+#[tactic(auto, unfolding(sh_tree::specs::standard::language::Commands::begins_command))]
 pub fn begins_command(lead: Lead) -> bool
     ensures { result ≡ commands.begins_command lead }
 {
@@ -69,7 +68,7 @@ pub fn begins_command(lead: Lead) -> bool
 }
 
 /// Whether a pipeline begins with the token.
-#[tactic(auto, unfolding(sh_tree::specs::language::Commands::begins_pipeline))]
+#[tactic(auto, unfolding(sh_tree::specs::standard::language::Commands::begins_pipeline))]
 pub fn begins_pipeline(lead: Lead) -> bool
     ensures { result ≡ commands.begins_pipeline lead }
 {
@@ -80,7 +79,7 @@ pub fn begins_pipeline(lead: Lead) -> bool
 }
 
 /// Of a separator, whether what stands before it is an asynchronous list (XCU 2.9.3).
-#[tactic(auto, unfolding(sh_tree::specs::language::Commands::separator))]
+#[tactic(auto, unfolding(sh_tree::specs::standard::language::Commands::separator))]
 pub fn separator(lead: Lead) -> Option<bool>
     ensures { result ≡ commands.separator lead }
 {
@@ -92,7 +91,7 @@ pub fn separator(lead: Lead) -> Option<bool>
 }
 
 /// What joins two pipelines by the token.
-#[tactic(auto, unfolding(sh_tree::specs::language::Commands::link_of))]
+#[tactic(auto, unfolding(sh_tree::specs::standard::language::Commands::link_of))]
 pub fn link_of(lead: Lead) -> Option<Link>
     ensures { result ≡ commands.link_of lead }
 {
@@ -104,7 +103,7 @@ pub fn link_of(lead: Lead) -> Option<Link>
 }
 
 /// How a clause of `case` ends by the token.
-#[tactic(auto, unfolding(sh_tree::specs::language::Commands::clause_end_of))]
+#[tactic(auto, unfolding(sh_tree::specs::standard::language::Commands::clause_end_of))]
 pub fn clause_end_of(lead: Lead) -> Option<ClauseEnd>
     ensures { result ≡ commands.clause_end_of lead }
 {

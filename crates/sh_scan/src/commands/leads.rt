@@ -1,19 +1,16 @@
 //! What the tokens of commands are (XCU 2.3, 2.4, 2.10).
 ghost use Rattle.std.specs.Prelude.{◌≡◌, ◌≢◌, ◌≤◌, ◌<◌, ◌+◌, None, length, drop};
-ghost use Rattle.sh_tree.specs.language.Commands as commands;
+ghost use Rattle.sh_tree.specs.standard.language.Commands as commands;
 
 use super::bare::{bare_word, left_out_name, reserved_word};
 use super::operators::{is_split, operator_of};
 use crate::assignments::is_assignment;
 use crate::blanks::blanks_at;
 use crate::front::{begins_angle, begins_with, behind_joined, digit_length};
-use sh_tree::limits::MAX_SCRIPT;
-use sh_tree::name::is_name;
-use sh_tree::refusal::Form;
-use sh_tree::token::{Lead, Operator, Reserved, Stage};
+use sh_tree::{Form, Lead, MAX_SCRIPT, Operator, Reserved, Stage, is_name};
 
 /// `(` at a command's first token, before `rest`.
-#[tactic(auto, unfolding(sh_tree::specs::language::Commands::opening))]
+#[tactic(auto, unfolding(sh_tree::specs::standard::language::Commands::opening))]
 fn opening(rest: &[u8]) -> Lead
     ensures { result ≡ commands.opening rest.now }
 {
@@ -40,7 +37,7 @@ fn bang(rest: &[u8]) -> Lead
 }
 
 /// An operator before `rest`.
-#[tactic(auto, unfolding(sh_tree::specs::language::Commands::whole_operator))]
+#[tactic(auto, unfolding(sh_tree::specs::standard::language::Commands::whole_operator))]
 fn whole_operator(stage: Stage, rest: &[u8], operator: Operator) -> Lead
     ensures { result ≡ commands.whole_operator stage rest.now operator }
 {
@@ -51,7 +48,7 @@ fn whole_operator(stage: Stage, rest: &[u8], operator: Operator) -> Lead
 }
 
 /// The operator of so many bytes at the front.
-#[tactic(auto, unfolding(sh_tree::specs::language::Commands::operator_lead))]
+#[tactic(auto, unfolding(sh_tree::specs::standard::language::Commands::operator_lead))]
 fn operator_lead(stage: Stage, rest: &[u8], operator: Operator, count: usize) -> Lead
     requires { count ≤ length rest.now }
     ensures { result ≡ commands.operator_lead stage rest.now operator count }
@@ -73,7 +70,7 @@ fn behind_first(rest: &[u8]) -> &[u8]
 }
 
 /// The reserved word at the front.
-#[tactic(auto, unfolding(sh_tree::specs::language::Commands::reserved_lead))]
+#[tactic(auto, unfolding(sh_tree::specs::standard::language::Commands::reserved_lead))]
 fn reserved_lead(rest: &[u8], reserved: Reserved) -> Lead
     ensures { result ≡ commands.reserved_lead rest.now reserved }
 {
@@ -84,7 +81,7 @@ fn reserved_lead(rest: &[u8], reserved: Reserved) -> Lead
 }
 
 /// Whether the word at `at` is a name before `(`.
-#[tactic(auto, unfolding(sh_tree::specs::language::Commands::is_definition))]
+#[tactic(auto, unfolding(sh_tree::specs::standard::language::Commands::is_definition))]
 fn is_definition(script: &[u8], at: u32, word: &[u8]) -> bool
     requires small { length script.now ≤ MAX_SCRIPT }
     requires inside { at + length word.now ≤ length script.now }
@@ -97,7 +94,7 @@ fn is_definition(script: &[u8], at: u32, word: &[u8]) -> bool
     begins_with(&script[behind as usize..], b'(')
 }
 
-#[tactic(auto, unfolding(sh_tree::specs::language::Commands::name_lead))]
+#[tactic(auto, unfolding(sh_tree::specs::standard::language::Commands::name_lead))]
 fn name_lead(left_out: Option<Form>) -> Lead
     ensures { result ≡ commands.name_lead left_out }
 {
@@ -108,7 +105,7 @@ fn name_lead(left_out: Option<Form>) -> Lead
 }
 
 /// The word at `at`, at a command's first token.
-#[tactic(auto, unfolding(sh_tree::specs::language::Commands::first_lead))]
+#[tactic(auto, unfolding(sh_tree::specs::standard::language::Commands::first_lead))]
 fn first_lead(script: &[u8], at: u32, word: &[u8]) -> Lead
     requires small { length script.now ≤ MAX_SCRIPT }
     requires inside { at + length word.now ≤ length script.now }
@@ -127,7 +124,7 @@ fn first_lead(script: &[u8], at: u32, word: &[u8]) -> Lead
 }
 
 /// The word at `at`, which is no assignment.
-#[tactic(auto, unfolding(sh_tree::specs::language::Commands::word_lead))]
+#[tactic(auto, unfolding(sh_tree::specs::standard::language::Commands::word_lead))]
 fn word_lead(script: &[u8], stage: Stage, at: u32, word: &[u8]) -> Lead
     requires small { length script.now ≤ MAX_SCRIPT }
     requires inside { at + length word.now ≤ length script.now }
@@ -147,7 +144,7 @@ fn is_named(stage: Stage) -> bool
 }
 
 /// Digits before `rest`, at whose front `<` or `>` stands.
-#[tactic(auto, unfolding(sh_tree::specs::language::Commands::number_lead))]
+#[tactic(auto, unfolding(sh_tree::specs::standard::language::Commands::number_lead))]
 fn number_lead(rest: &[u8]) -> Lead
     ensures { result ≡ commands.number_lead rest.now (commands.operator_of rest.now) }
 {
@@ -164,7 +161,7 @@ fn number_lead(rest: &[u8]) -> Lead
 }
 
 /// The token at `at`, which is no operator.
-#[tactic(auto, unfolding(sh_tree::specs::language::Commands::other_lead))]
+#[tactic(auto, unfolding(sh_tree::specs::standard::language::Commands::other_lead))]
 fn other_lead(script: &[u8], stage: Stage, at: u32) -> Lead
     requires small { length script.now ≤ MAX_SCRIPT }
     requires inside { at ≤ length script.now }
@@ -185,7 +182,7 @@ fn other_lead(script: &[u8], stage: Stage, at: u32) -> Lead
 }
 
 /// The token at `at`, where no operator begins.
-#[tactic(auto, unfolding(sh_tree::specs::language::Commands::lead_of))]
+#[tactic(auto, unfolding(sh_tree::specs::standard::language::Commands::lead_of))]
 fn lead_without_operator(script: &[u8], stage: Stage, at: u32) -> Lead
     requires small { length script.now ≤ MAX_SCRIPT }
     requires inside { at ≤ length script.now }
@@ -206,7 +203,7 @@ fn lead_without_operator(script: &[u8], stage: Stage, at: u32) -> Lead
 }
 
 /// What the token at `at` is, where no blank stands. A comment there is one that the body of a here-document must not hold.
-#[tactic(auto, unfolding(sh_tree::specs::language::Commands::lead_at, sh_tree::specs::language::Commands::lead_of))]
+#[tactic(auto, unfolding(sh_tree::specs::standard::language::Commands::lead_at, sh_tree::specs::standard::language::Commands::lead_of))]
 pub fn lead_at(script: &[u8], stage: Stage, at: u32) -> Lead
     requires small { length script.now ≤ MAX_SCRIPT }
     requires inside { at ≤ length script.now }

@@ -1,18 +1,16 @@
 //! Operators (XCU 2.10.2).
 ghost use Rattle.std.specs.Prelude.{◌≡◌, ◌≤◌, ◌<◌, ◌++◌, length, IfSome};
-ghost use Rattle.sh_tree.specs.language.Bytes as bytes;
-ghost use Rattle.sh_tree.specs.language.Bytes.{longest};
-ghost use Rattle.sh_tree.specs.language.Commands as commands;
+ghost use Rattle.sh_tree.specs.standard.language.Bytes as bytes;
+ghost use Rattle.sh_tree.specs.standard.language.Bytes.{longest};
+ghost use Rattle.sh_tree.specs.standard.language.Commands as commands;
 
 use crate::bytes::is_operator_byte;
 use crate::front::{behind_joined, is_joined};
 use crate::pieces::begins_so;
-use sh_tree::limits::MAX_SCRIPT;
-use sh_tree::token::Operator;
-use sh_tree::tree::Direction;
+use sh_tree::{Direction, MAX_SCRIPT, Operator};
 
 /// The operator of two bytes or more at the front of both pieces.
-#[tactic(auto, unfolding(sh_tree::specs::language::Bytes::longest))]
+#[tactic(auto, unfolding(sh_tree::specs::standard::language::Bytes::longest))]
 fn long_operator(front: &[u8], rest: &[u8]) -> Option<(Operator, usize)>
     ensures { result ≡ longest commands.long_operators (front.now ++ rest.now) }
 {
@@ -44,7 +42,7 @@ fn long_operator(front: &[u8], rest: &[u8]) -> Option<(Operator, usize)>
 }
 
 /// The operator of one byte at the front of both pieces.
-#[tactic(auto, unfolding(sh_tree::specs::language::Bytes::longest))]
+#[tactic(auto, unfolding(sh_tree::specs::standard::language::Bytes::longest))]
 fn short_operator(front: &[u8], rest: &[u8]) -> Option<(Operator, usize)>
     ensures { result ≡ longest commands.short_operators (front.now ++ rest.now) }
 {
@@ -79,7 +77,7 @@ fn operator_over(front: &[u8], rest: &[u8]) -> Option<(Operator, usize)>
     }
 }
 
-#[tactic(auto, unfolding(sh_tree::specs::language::Bytes::is_first))]
+#[tactic(auto, unfolding(sh_tree::specs::standard::language::Bytes::is_first))]
 fn begins_operator(rest: &[u8]) -> bool
     ensures { result ≡ bytes.is_first bytes.is_operator_byte rest.now }
 {
@@ -111,7 +109,7 @@ fn is_longer(count: usize, found: Option<(Operator, usize)>) -> bool
 }
 
 /// Whether line continuations behind the operator of so many bytes at the front keep it from being a longer one.
-#[tactic(auto, unfolding(sh_tree::specs::language::Commands::is_split))]
+#[tactic(auto, unfolding(sh_tree::specs::standard::language::Commands::is_split))]
 pub fn is_split(rest: &[u8], count: usize) -> bool
     requires { count ≤ length rest.now }
     ensures { result ≡ commands.is_split rest.now count }
@@ -124,7 +122,7 @@ pub fn is_split(rest: &[u8], count: usize) -> bool
 }
 
 /// The longest operator at `at`, and where it ends.
-#[tactic(auto, unfolding(sh_tree::specs::language::Commands::operator))]
+#[tactic(auto, unfolding(sh_tree::specs::standard::language::Commands::operator))]
 pub fn operator_at(script: &[u8], at: u32) -> Option<(Operator, u32)>
     requires small { length script.now ≤ MAX_SCRIPT }
     requires inside { at ≤ length script.now }
@@ -139,7 +137,7 @@ pub fn operator_at(script: &[u8], at: u32) -> Option<(Operator, u32)>
 }
 
 /// What a redirection by the operator opens, where that is no here-document.
-#[tactic(auto, unfolding(sh_tree::specs::language::Commands::direction_of))]
+#[tactic(auto, unfolding(sh_tree::specs::standard::language::Commands::direction_of))]
 pub fn direction_of(operator: Operator) -> Option<Direction>
     ensures { result ≡ commands.direction_of operator }
 {
@@ -156,7 +154,7 @@ pub fn direction_of(operator: Operator) -> Option<Direction>
 }
 
 /// Of the operator of a here-document, whether it is `<<-`.
-#[tactic(auto, unfolding(sh_tree::specs::language::Commands::strip_of))]
+#[tactic(auto, unfolding(sh_tree::specs::standard::language::Commands::strip_of))]
 pub fn strip_of(operator: Operator) -> Option<bool>
     ensures { result ≡ commands.strip_of operator }
 {
@@ -168,7 +166,7 @@ pub fn strip_of(operator: Operator) -> Option<bool>
 }
 
 /// Whether the operator is that of a redirection.
-#[tactic(auto, unfolding(sh_tree::specs::language::Commands::redirects))]
+#[tactic(auto, unfolding(sh_tree::specs::standard::language::Commands::redirects))]
 pub fn redirects(operator: Operator) -> bool
     ensures { result ≡ commands.redirects operator }
 {

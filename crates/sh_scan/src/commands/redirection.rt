@@ -1,12 +1,10 @@
 //! Redirections (XCU 2.7).
 ghost use Rattle.std.specs.Prelude.{◌≡◌, ◌≤◌, ◌<◌, ◌==◌, if◌then◌else◌, None, Some, length, IfSome};
-ghost use Rattle.sh_tree.specs.language.Commands as commands;
+ghost use Rattle.sh_tree.specs.standard.language.Commands as commands;
 
 use super::operators::{operator_at, redirects};
 use crate::front::digit_length;
-use sh_tree::limits::MAX_SCRIPT;
-use sh_tree::token::Redirection;
-use sh_tree::tree::Span;
+use sh_tree::{MAX_SCRIPT, Redirection, Span};
 
 fn number_of(start: u32, end: u32) -> Option<Span>
     ensures { result ≡ commands.number_of start end }
@@ -29,7 +27,7 @@ fn digits_end(script: &[u8], at: u32) -> u32
 }
 
 /// The front of the redirection that begins at `at`.
-#[tactic(auto, unfolding(sh_tree::specs::language::Commands::redirection))]
+#[tactic(auto, unfolding(sh_tree::specs::standard::language::Commands::redirection))]
 pub fn redirection_at(script: &[u8], at: u32) -> Option<Redirection>
     requires small { length script.now ≤ MAX_SCRIPT }
     requires inside { at ≤ length script.now }

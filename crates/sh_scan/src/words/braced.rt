@@ -2,19 +2,16 @@
 //!
 //! Lengths count from the `$`: `behind` bytes of an expansion stand before `rest`.
 ghost use Rattle.std.specs.Prelude.{◌≡◌, ◌≢◌, ◌≤◌, ◌<◌, ◌+◌, true, length};
-ghost use Rattle.sh_tree.specs.language.Words as words;
+ghost use Rattle.sh_tree.specs.standard.language.Words as words;
 ghost use Rattle.sh_scan.specs.Moves.{reads_bytes, refuses};
 
 use super::parameters::{parameter, span, special_of};
 use super::sites::begins_at;
 use crate::front::{begins_with, is_joined};
-use sh_tree::limits::MAX_SCRIPT;
-use sh_tree::refusal::{Fault, Form};
-use sh_tree::token::Sign;
-use sh_tree::tree::{Action, Removal, Special, Subject};
+use sh_tree::{Action, Fault, Form, MAX_SCRIPT, Removal, Sign, Special, Subject};
 
 /// No braced expansion goes on with `rest`.
-#[tactic(auto, unfolding(sh_tree::specs::language::Words::misfit))]
+#[tactic(auto, unfolding(sh_tree::specs::standard::language::Words::misfit))]
 fn misfit_sign(behind: usize, rest: &[u8]) -> (Sign, usize)
     requires some { 0 < behind }
     ensures value { result ≡ words.misfit behind rest.now }
@@ -32,7 +29,7 @@ fn misfit_sign(behind: usize, rest: &[u8]) -> (Sign, usize)
     }
 }
 
-#[tactic(auto, unfolding(sh_tree::specs::language::Words::action_of))]
+#[tactic(auto, unfolding(sh_tree::specs::standard::language::Words::action_of))]
 fn action_of(byte: u8) -> Option<Action>
     ensures { result ≡ words.action_of byte }
 {
@@ -46,7 +43,7 @@ fn action_of(byte: u8) -> Option<Action>
 }
 
 /// A pattern removal of the longest or of the shortest.
-#[tactic(auto, unfolding(sh_tree::specs::language::Words::pattern_removal))]
+#[tactic(auto, unfolding(sh_tree::specs::standard::language::Words::pattern_removal))]
 fn removal_sign(subject: Subject, behind: usize, rest: &[u8]) -> (Sign, usize)
     requires some { 0 < behind }
     requires small { behind + length rest.now ≤ MAX_SCRIPT }
@@ -79,7 +76,7 @@ fn removal_sign(subject: Subject, behind: usize, rest: &[u8]) -> (Sign, usize)
 }
 
 /// `-`, `=`, `?` or `+`, behind a colon or not.
-#[tactic(auto, unfolding(sh_tree::specs::language::Words::parameter_action))]
+#[tactic(auto, unfolding(sh_tree::specs::standard::language::Words::parameter_action))]
 fn use_sign(colon: bool, subject: Subject, behind: usize, rest: &[u8]) -> (Sign, usize)
     requires some { 0 < behind }
     requires small { behind + length rest.now ≤ MAX_SCRIPT }
@@ -105,7 +102,7 @@ fn use_sign(colon: bool, subject: Subject, behind: usize, rest: &[u8]) -> (Sign,
 }
 
 /// What stands behind the parameter.
-#[tactic(auto, unfolding(sh_tree::specs::language::Words::parameter_operator))]
+#[tactic(auto, unfolding(sh_tree::specs::standard::language::Words::parameter_operator))]
 fn operator_sign(subject: Subject, behind: usize, rest: &[u8]) -> (Sign, usize)
     requires some { 0 < behind }
     requires small { behind + length rest.now ≤ MAX_SCRIPT }
@@ -125,7 +122,7 @@ fn operator_sign(subject: Subject, behind: usize, rest: &[u8]) -> (Sign, usize)
 }
 
 /// The length of a parameter, behind `${#` at `at`.
-#[tactic(auto, unfolding(sh_tree::specs::language::Words::parameter_length))]
+#[tactic(auto, unfolding(sh_tree::specs::standard::language::Words::parameter_length))]
 fn length_sign(at: usize, rest: &[u8]) -> (Sign, usize)
     requires small { at + 3 + length rest.now ≤ MAX_SCRIPT }
     ensures value { result ≡ words.parameter_length at rest.now }
@@ -168,7 +165,7 @@ fn special_sign(at: usize, rest: &[u8], special: Option<Special>) -> (Sign, usiz
     }
 }
 
-#[tactic(auto, unfolding(sh_tree::specs::language::Words::special_or_length))]
+#[tactic(auto, unfolding(sh_tree::specs::standard::language::Words::special_or_length))]
 fn nameless_sign(at: usize, rest: &[u8]) -> (Sign, usize)
     requires small { at + 2 + length rest.now ≤ MAX_SCRIPT }
     ensures value { result ≡ words.special_or_length at rest.now }
@@ -191,7 +188,7 @@ fn nameless_sign(at: usize, rest: &[u8]) -> (Sign, usize)
 }
 
 /// The expansion that `${` at `at` begins.
-#[tactic(auto, unfolding(sh_tree::specs::language::Words::braced_expansion))]
+#[tactic(auto, unfolding(sh_tree::specs::standard::language::Words::braced_expansion))]
 pub fn braced_sign(at: usize, rest: &[u8]) -> (Sign, usize)
     requires small { at + 2 + length rest.now ≤ MAX_SCRIPT }
     ensures value { result ≡ words.braced_expansion at rest.now }

@@ -1,14 +1,12 @@
 //! How the bytes of a word are read.
 ghost use Rattle.std.specs.Prelude.{◌≡◌, ◌≤◌, length};
-ghost use Rattle.sh_tree.specs.language.Contexts as contexts;
-ghost use Rattle.sh_tree.specs.language.Words as words;
+ghost use Rattle.sh_tree.specs.standard.language.Contexts as contexts;
+ghost use Rattle.sh_tree.specs.standard.language.Words as words;
 
 use super::sites::is_quoted;
 use crate::assignments::is_assignment_at;
 use crate::front::name_at;
-use sh_tree::limits::MAX_SCRIPT;
-use sh_tree::token::{Context, Site};
-use sh_tree::tree::Action;
+use sh_tree::{Action, Context, MAX_SCRIPT, Site};
 
 /// Inside the double quotes that open here.
 pub fn in_double(context: Context) -> Context
@@ -105,7 +103,7 @@ pub fn in_value(at: u32) -> Context
 }
 
 /// An operand of `export` or `readonly` at `at`.
-#[tactic(auto, unfolding(sh_tree::specs::language::Contexts::in_operand))]
+#[tactic(auto, unfolding(sh_tree::specs::standard::language::Contexts::in_operand))]
 pub fn in_operand(script: &[u8], at: u32) -> Context
     requires small { length script.now ≤ MAX_SCRIPT }
     requires inside { at ≤ length script.now }

@@ -1,18 +1,14 @@
 //! What a `$` begins (XCU 2.6).
 ghost use Rattle.std.specs.Prelude.{◌≡◌, ◌≢◌, ◌≤◌, ◌<◌, ◌+◌, true, length, drop};
-ghost use Rattle.sh_tree.specs.language.Bytes as bytes;
-ghost use Rattle.sh_tree.specs.language.Words as words;
+ghost use Rattle.sh_tree.specs.standard.language.Bytes as bytes;
+ghost use Rattle.sh_tree.specs.standard.language.Words as words;
 ghost use Rattle.sh_scan.specs.Moves.{reads_bytes, refuses};
 
 use super::braced::braced_sign;
 use super::parameters::{span, special_of};
 use super::sites::is_among;
 use crate::front::{begins_with, behind_joined, is_joined, name_length};
-use sh_tree::limits::MAX_SCRIPT;
-use sh_tree::name::{is_name_byte, is_name_start};
-use sh_tree::refusal::Form;
-use sh_tree::token::{Context, Sign};
-use sh_tree::tree::{Special, Subject};
+use sh_tree::{Context, Form, MAX_SCRIPT, Sign, Special, Subject, is_name_byte, is_name_start};
 
 fn opens_dollar(quoted: bool, byte: u8) -> bool
     ensures { result ≡ words.opens_dollar quoted byte }
@@ -21,7 +17,7 @@ fn opens_dollar(quoted: bool, byte: u8) -> bool
 }
 
 /// Whether the `$` before `rest` stands for itself, whether continuations follow or not.
-#[tactic(auto, unfolding(sh_tree::specs::language::Bytes::is_first))]
+#[tactic(auto, unfolding(sh_tree::specs::standard::language::Bytes::is_first))]
 pub fn is_literal_dollar(quoted: bool, rest: &[u8]) -> bool
     ensures { result ≡ words.is_literal_dollar quoted rest.now }
 {
@@ -31,7 +27,7 @@ pub fn is_literal_dollar(quoted: bool, rest: &[u8]) -> bool
     }
 }
 
-#[tactic(auto, unfolding(sh_tree::specs::language::Bytes::is_first))]
+#[tactic(auto, unfolding(sh_tree::specs::standard::language::Bytes::is_first))]
 fn begins_name_byte(rest: &[u8]) -> bool
     ensures { result ≡ bytes.is_first bytes.is_name_byte rest.now }
 {
@@ -42,7 +38,7 @@ fn begins_name_byte(rest: &[u8]) -> bool
 }
 
 /// A `$` at `at` and the name before which it stands.
-#[tactic(auto, unfolding(sh_tree::specs::language::Words::named_value))]
+#[tactic(auto, unfolding(sh_tree::specs::standard::language::Words::named_value))]
 fn name_sign(at: usize, rest: &[u8]) -> (Sign, usize)
     requires small { at + 1 + length rest.now ≤ MAX_SCRIPT }
     ensures value { result ≡ words.named_value at (bytes.name_length rest.now) (drop (bytes.name_length rest.now) rest.now) }
@@ -74,7 +70,7 @@ fn one_byte(at: usize, byte: u8) -> Subject
 }
 
 /// `$(`, before `rest`.
-#[tactic(auto, unfolding(sh_tree::specs::language::Words::parenthesis))]
+#[tactic(auto, unfolding(sh_tree::specs::standard::language::Words::parenthesis))]
 fn parenthesis(rest: &[u8]) -> (Sign, usize)
     ensures value { result ≡ words.parenthesis rest.now }
     ensures within { result.1 ≤ length rest.now + 2 }
@@ -92,7 +88,7 @@ fn parenthesis(rest: &[u8]) -> (Sign, usize)
 }
 
 /// A `$` at `at` that opens something, before `rest`.
-#[tactic(auto, unfolding(sh_tree::specs::language::Words::dollar_expansion, sh_tree::specs::language::Words::single_parameter))]
+#[tactic(auto, unfolding(sh_tree::specs::standard::language::Words::dollar_expansion, sh_tree::specs::standard::language::Words::single_parameter))]
 fn opening_sign(at: usize, rest: &[u8]) -> (Sign, usize)
     requires small { at + 1 + length rest.now ≤ MAX_SCRIPT }
     ensures value { result ≡ words.dollar_expansion at rest.now }
@@ -128,7 +124,7 @@ fn is_all(sign: Sign) -> bool
 }
 
 /// What the `$` at `at` is, before `rest`. `$@` is accepted only where fields are split.
-#[tactic(auto, unfolding(sh_tree::specs::language::Words::dollar))]
+#[tactic(auto, unfolding(sh_tree::specs::standard::language::Words::dollar))]
 pub fn dollar(context: Context, at: usize, rest: &[u8]) -> (Sign, usize)
     requires small { at + 1 + length rest.now ≤ MAX_SCRIPT }
     ensures value { result ≡ words.dollar context at rest.now }

@@ -1,12 +1,11 @@
 //! Parameters of expansions (XCU 2.5).
 ghost use Rattle.std.specs.Prelude.{◌≡◌, ◌≤◌, ◌<◌, ◌+◌, Option, Some, None, length, if◌then◌else◌, nat_le, IfSome};
-ghost use Rattle.sh_tree.specs.language.Bytes as bytes;
-ghost use Rattle.sh_tree.specs.language.Words as words;
-ghost use Rattle.sh_tree.specs.language.Trees as tree;
+ghost use Rattle.sh_tree.specs.standard.language.Bytes as bytes;
+ghost use Rattle.sh_tree.specs.standard.language.Words as words;
+ghost use Rattle.sh_tree.specs.standard.language.Trees as tree;
 
 use crate::front::{begins_with, digit_length, name_length};
-use sh_tree::limits::MAX_SCRIPT;
-use sh_tree::tree::{Span, Special, Subject};
+use sh_tree::{MAX_SCRIPT, Span, Special, Subject};
 
 /// The bytes from `start` up to `end`.
 pub fn span(start: usize, end: usize) -> Span
@@ -21,7 +20,7 @@ pub fn span(start: usize, end: usize) -> Span
 }
 
 /// The special parameter that the byte names.
-#[tactic(auto, unfolding(sh_tree::specs::language::Words::special_of))]
+#[tactic(auto, unfolding(sh_tree::specs::standard::language::Words::special_of))]
 pub fn special_of(byte: u8) -> Option<Special>
     ensures { result ≡ words.special_of byte }
 {
@@ -54,7 +53,7 @@ fn number_of(digits: &[u8]) -> Option<u16>
 }
 
 /// The parameter whose digits stand at `at`.
-#[tactic(auto, unfolding(sh_tree::specs::language::Words::numeric_parameter))]
+#[tactic(auto, unfolding(sh_tree::specs::standard::language::Words::numeric_parameter))]
 fn positional(at: usize, digits: &[u8]) -> Option<(Subject, usize)>
     requires small { at + length digits.now ≤ MAX_SCRIPT }
     ensures value { result ≡ words.numeric_parameter at digits.now }
@@ -80,7 +79,7 @@ fn positional(at: usize, digits: &[u8]) -> Option<(Subject, usize)>
 }
 
 /// The parameter at `at` that may have an operator, and its length.
-#[tactic(auto, unfolding(sh_tree::specs::language::Words::parameter))]
+#[tactic(auto, unfolding(sh_tree::specs::standard::language::Words::parameter))]
 pub fn parameter(at: usize, rest: &[u8]) -> Option<(Subject, usize)>
     requires small { at + length rest.now ≤ MAX_SCRIPT }
     ensures value { result ≡ words.parameter at rest.now }

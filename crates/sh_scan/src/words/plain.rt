@@ -1,12 +1,11 @@
 //! Bytes that stand for themselves.
 ghost use Rattle.std.specs.Prelude.{◌≡◌, ◌≤◌, ◌+◌, length};
-ghost use Rattle.sh_tree.specs.language.Words as words;
+ghost use Rattle.sh_tree.specs.standard.language.Words as words;
 
 use super::dollar::is_literal_dollar;
 use super::sites::{is_escaped, is_quoted, is_special, stops};
 use super::tilde::is_tilde;
-use sh_tree::limits::MAX_SCRIPT;
-use sh_tree::token::{Context, Site};
+use sh_tree::{Context, MAX_SCRIPT, Site};
 
 /// Whether the byte is a tab that is no part of the text.
 pub fn is_stripped(context: Context, prior: u8, byte: u8) -> bool
@@ -15,7 +14,7 @@ pub fn is_stripped(context: Context, prior: u8, byte: u8) -> bool
     context.strip && prior == b'\n' && byte == b'\t'
 }
 
-#[tactic(auto, unfolding(sh_tree::specs::language::Bytes::is_first))]
+#[tactic(auto, unfolding(sh_tree::specs::standard::language::Bytes::is_first))]
 fn is_literal_backslash(site: Site, rest: &[u8]) -> bool
     ensures { result ≡ words.is_literal_backslash site rest.now }
 {
@@ -37,7 +36,7 @@ fn is_literal(site: Site, byte: u8, rest: &[u8]) -> bool
 }
 
 /// Whether the byte at `at` stands for itself, behind the byte `prior` and before `rest`.
-#[tactic(auto, unfolding(sh_tree::specs::language::Words::stands))]
+#[tactic(auto, unfolding(sh_tree::specs::standard::language::Words::stands))]
 pub fn stands(context: Context, prior: u8, at: usize, byte: u8, rest: &[u8]) -> bool
     ensures { result ≡ words.stands context prior at byte rest.now }
 {

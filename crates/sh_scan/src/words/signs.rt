@@ -1,7 +1,7 @@
 //! What begins at a place of a word.
 ghost use Rattle.std.specs.Prelude.{◌≡◌, ◌≢◌, ◌≤◌, ◌<◌, ◌+◌, true, length};
-ghost use Rattle.sh_tree.specs.language.Bytes as bytes;
-ghost use Rattle.sh_tree.specs.language.Words as words;
+ghost use Rattle.sh_tree.specs.standard.language.Bytes as bytes;
+ghost use Rattle.sh_tree.specs.standard.language.Words as words;
 ghost use Rattle.sh_scan.specs.Moves.{reads_bytes, refuses};
 
 use super::dollar::dollar;
@@ -10,12 +10,10 @@ use super::sites::{is_default_site, is_quoted, is_word_site, stop_length, stops}
 use super::tilde::tilde_length;
 use crate::front::{begins_with, ends_joined};
 use memchr::memchr;
-use sh_tree::limits::MAX_SCRIPT;
-use sh_tree::refusal::{Fault, Form};
-use sh_tree::token::{Context, Sign, Site, Token};
+use sh_tree::{Context, Fault, Form, MAX_SCRIPT, Sign, Site, Token};
 
 /// A backslash and a newline, before `rest`.
-#[tactic(auto, unfolding(sh_tree::specs::language::Words::continuation))]
+#[tactic(auto, unfolding(sh_tree::specs::standard::language::Words::continuation))]
 fn continuation_sign(context: Context, rest: &[u8]) -> (Sign, usize)
     ensures value { result ≡ words.continuation context rest.now }
     ensures within { result.1 ≤ 2 }
@@ -37,7 +35,7 @@ fn continuation_sign(context: Context, rest: &[u8]) -> (Sign, usize)
 }
 
 /// A backslash that does not stand for itself, before `rest`.
-#[tactic(auto, unfolding(sh_tree::specs::language::Words::backslash))]
+#[tactic(auto, unfolding(sh_tree::specs::standard::language::Words::backslash))]
 fn backslash_sign(context: Context, rest: &[u8]) -> (Sign, usize)
     ensures value { result ≡ words.backslash context rest.now }
     ensures within { result.1 ≤ length rest.now + 1 }
@@ -63,7 +61,7 @@ fn backslash_sign(context: Context, rest: &[u8]) -> (Sign, usize)
 }
 
 /// A single quote, before `rest` (XCU 2.2.2).
-#[tactic(auto, unfolding(sh_tree::specs::language::Words::single))]
+#[tactic(auto, unfolding(sh_tree::specs::standard::language::Words::single))]
 pub fn single_sign(rest: &[u8]) -> (Sign, usize)
     ensures value { result ≡ words.single rest.now }
     ensures within { result.1 ≤ length rest.now + 1 }
@@ -93,7 +91,7 @@ fn double_sign(site: Site) -> (Sign, usize)
 }
 
 /// What a byte that does not stand for itself begins, before `rest`.
-#[tactic(auto, unfolding(sh_tree::specs::language::Words::meant_by))]
+#[tactic(auto, unfolding(sh_tree::specs::standard::language::Words::meant_by))]
 fn byte_sign(context: Context, at: usize, byte: u8, rest: &[u8]) -> (Sign, usize)
     requires small { at + 1 + length rest.now ≤ MAX_SCRIPT }
     ensures value { result ≡ words.meant_by context at byte rest.now }
@@ -119,7 +117,7 @@ fn tab_length(rest: &[u8]) -> usize
 }
 
 /// What the byte at `at` begins, behind the byte `prior` and before `rest`.
-#[tactic(auto, using(crate::proofs::WordLemmas::plain_first, crate::proofs::WordLemmas::tilde_some), unfolding(sh_tree::specs::language::Words::sign_by))]
+#[tactic(auto, using(crate::proofs::WordLemmas::plain_first, crate::proofs::WordLemmas::tilde_some), unfolding(sh_tree::specs::standard::language::Words::sign_by))]
 fn sign_by(context: Context, prior: u8, at: usize, byte: u8, rest: &[u8]) -> (Sign, usize)
     requires small { at + 1 + length rest.now ≤ MAX_SCRIPT }
     ensures value { result ≡ words.sign_by context prior at byte rest.now }
@@ -150,7 +148,7 @@ fn sign_at_end(site: Site) -> Sign
     }
 }
 
-#[tactic(auto, unfolding(sh_tree::specs::language::Words::sign_of))]
+#[tactic(auto, unfolding(sh_tree::specs::standard::language::Words::sign_of))]
 fn sign_of(context: Context, prior: u8, at: usize, rest: &[u8]) -> (Sign, usize)
     requires small { at + length rest.now ≤ MAX_SCRIPT }
     ensures value { result ≡ words.sign_of context prior at rest.now }
@@ -167,7 +165,7 @@ fn sign_of(context: Context, prior: u8, at: usize, rest: &[u8]) -> (Sign, usize)
 
 /// What begins at `at` in a context, behind the plain byte `prior`, or 0 where none stands before it. A sign of a fault,
 /// or of a form that is left out, ends where that is told.
-#[tactic(auto, unfolding(sh_tree::specs::language::Words::token))]
+#[tactic(auto, unfolding(sh_tree::specs::standard::language::Words::token))]
 pub fn token_at(script: &[u8], context: Context, prior: u8, at: u32) -> Token
     requires small { length script.now ≤ MAX_SCRIPT }
     requires inside { at ≤ length script.now }

@@ -1,11 +1,11 @@
 //! Where the parts of a word are read.
 ghost use Rattle.std.specs.Prelude.{◌≡◌, ◌≤◌, ◌<◌, ◌==◌, true, length, drop};
-ghost use Rattle.sh_tree.specs.language.Bytes as bytes;
-ghost use Rattle.sh_tree.specs.language.Words as words;
+ghost use Rattle.sh_tree.specs.standard.language.Bytes as bytes;
+ghost use Rattle.sh_tree.specs.standard.language.Words as words;
 
 use crate::bytes::ends_token;
 use crate::front::begins_with;
-use sh_tree::token::Site;
+use sh_tree::Site;
 
 /// Whether the byte is one of these.
 pub fn is_among(known: &[u8], byte: u8) -> bool

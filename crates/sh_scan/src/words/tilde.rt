@@ -1,12 +1,11 @@
 //! Tilde-prefixes (XCU 2.6.1).
 ghost use Rattle.std.specs.Prelude.{◌≡◌, ◌≤◌, ◌+◌, ◌==◌, ◌||◌, ◌&&◌, length};
-ghost use Rattle.sh_tree.specs.language.Bytes as bytes;
-ghost use Rattle.sh_tree.specs.language.Words as words;
+ghost use Rattle.sh_tree.specs.standard.language.Bytes as bytes;
+ghost use Rattle.sh_tree.specs.standard.language.Words as words;
 
 use super::sites::{is_among, is_quoted, stops};
 use crate::front::is_joined;
-use sh_tree::name::is_name_byte;
-use sh_tree::token::Context;
+use sh_tree::{Context, is_name_byte};
 
 fn is_login_byte(byte: u8) -> bool
     ensures { result ≡ words.is_login_byte byte }
@@ -22,7 +21,7 @@ fn login_length(rest: &[u8]) -> usize
 }
 
 /// Whether a byte ends a tilde-prefix before it.
-#[tactic(auto, unfolding(sh_tree::specs::language::Bytes::is_first))]
+#[tactic(auto, unfolding(sh_tree::specs::standard::language::Bytes::is_first))]
 fn ends_tilde(context: Context, rest: &[u8]) -> bool
     ensures { result ≡ bytes.is_first (λ c. c == 47 || (context.colons && c == 58) || words.stops context.site c) rest.now }
 {
@@ -35,7 +34,7 @@ fn ends_tilde(context: Context, rest: &[u8]) -> bool
 }
 
 /// How long the tilde-prefix is of which the tilde stands before `rest`, or 0 if none is there.
-#[tactic(auto, unfolding(sh_tree::specs::language::Words::tilde_length))]
+#[tactic(auto, unfolding(sh_tree::specs::standard::language::Words::tilde_length))]
 pub fn tilde_length(context: Context, rest: &[u8]) -> usize
     ensures value { result ≡ words.tilde_length context rest.now }
     ensures within { result ≤ length rest.now + 1 }
@@ -56,7 +55,7 @@ fn may_be_tilde(context: Context, prior: u8, at: usize) -> bool
 }
 
 /// Whether the byte at `at` begins a tilde-prefix.
-#[tactic(auto, unfolding(sh_tree::specs::language::Words::is_tilde))]
+#[tactic(auto, unfolding(sh_tree::specs::standard::language::Words::is_tilde))]
 pub fn is_tilde(context: Context, prior: u8, at: usize, byte: u8, rest: &[u8]) -> bool
     ensures { result ≡ words.is_tilde context prior at byte rest.now }
 {

@@ -2,11 +2,11 @@
 -- POSIX.1-2024, XCU 2.5.3 (variables), 2.6.5 (field splitting), 2.9.2 (pipelines), 2.15 (unset).
 use Rattle.std.specs.Prelude.{◌≡◌, ℕ, Bool, true, List, [], ◌∷◌, codes, Some}
 use Rattle.sh_tree.specs.declared.tree.Script.{Script}
-use Rattle.sh_tree.specs.language.Examples.{double_text, double_script, bare_text, bare_script, unset_first_text, unset_first_script, unset_last_text, unset_last_script}
-use Rattle.sh_tree.specs.program.Syntax.{Text}
-use Rattle.sh_tree.specs.program.Trees.{script_of}
-use Rattle.sh_table.specs.runs.Environment.{Environment, Frame}
-use Rattle.sh_table.specs.runs.Worlds.{World, Move, run, has_unset_event, has_split_event, start_world, IsStart}
+use Rattle.sh_tree.specs.examples.Language.{double_text, double_script, bare_text, bare_script, unset_first_text, unset_first_script, unset_last_text, unset_last_script}
+use Rattle.sh_tree.specs.standard.program.Syntax.{Text}
+use Rattle.sh_tree.specs.standard.program.Trees.{script_of}
+use Rattle.sh_table.specs.standard.runs.Environment.{Environment, Frame}
+use Rattle.sh_table.specs.standard.runs.Worlds.{World, Move, run, has_unset_event, has_split_event, start_world, IsStart}
 
 -- from a start where these names are declared, some run of the script comes to a step with the event
 abbrev pub HasEvent : (World → Move → Bool) → List Text → List ℕ → Script → Type 0

@@ -7,13 +7,13 @@ use Rattle.sh_tree.specs.declared.tree.Binary.TheVariants as binary
 use Rattle.sh_tree.specs.declared.tree.Removal.TheVariants as removal
 use Rattle.sh_tree.specs.declared.tree.Special as tree
 use Rattle.sh_tree.specs.declared.tree.Special.TheVariants as special
-use Rattle.sh_tree.specs.program.Syntax.{Text, Variable, Positional, Special, Plain, Escaped, Double, Expansion, Arithmetic, Tilde, Part, Word, no_parts, more_parts, Value, Length, Use, Remove, Expression, Name, Constant, Expanded, Parenthesis, Chain, Choice, Assigned, no_operands, more_operands}
-use Rattle.sh_tree.specs.program.Examples.{only, plain, expansion}
-use Rattle.sh_table.specs.runs.Environment.{Environment, Frame, with_variable}
-use Rattle.sh_table.specs.runs.Numbers.{digits, integer_text, is_integer}
-use Rattle.sh_table.specs.runs.Answers.{Given, Directory}
-use Rattle.sh_table.specs.runs.States.{State, fresh}
-use Rattle.sh_table.specs.runs.Expansion.{Outcome, in_fields, expand}
+use Rattle.sh_tree.specs.standard.program.Syntax.{Text, Variable, Positional, Special, Plain, Escaped, Double, Expansion, Arithmetic, Tilde, Part, Word, no_parts, more_parts, Value, Length, Use, Remove, Expression, Name, Constant, Expanded, Parenthesis, Chain, Choice, Assigned, no_operands, more_operands}
+use Rattle.sh_tree.specs.examples.Program.{only, plain, expansion}
+use Rattle.sh_table.specs.standard.runs.Environment.{Environment, Frame, with_variable}
+use Rattle.sh_table.specs.standard.runs.Numbers.{digits, integer_text, is_integer}
+use Rattle.sh_table.specs.standard.runs.Answers.{Given, Directory}
+use Rattle.sh_table.specs.standard.runs.States.{State, fresh}
+use Rattle.sh_table.specs.standard.runs.Expansion.{Outcome, in_fields, expand}
 use Rattle.sh_table.specs.Theorem.{fields_of}
 use Rattle.sh_table.specs.examples.Runs.{bare_x, quoted_x, every, bare_start, start_with, quiet_given}
 

@@ -7,12 +7,12 @@ use Rattle.sh_tree.specs.declared.tree.Removal.TheVariants as removal
 use Rattle.sh_tree.specs.declared.tree.SingleStyle.TheVariants as style
 use Rattle.sh_tree.specs.declared.tree.Special.TheVariants as special
 use Rattle.sh_tree.specs.declared.tree.Unary.TheVariants as unary
-use Rattle.sh_tree.specs.program.Examples.{only, plain, expansion, simple, lone}
-use Rattle.sh_tree.specs.program.Syntax.{Parameter, Variable, Positional, Part, Plain, Escaped, Single, Double, Expansion, Substitution, Tilde, Word, no_parts, more_parts, Value, Length, Use, Remove, Expression, Name, Expanded, Parenthesis, Signed, Chain, Choice, Assigned, no_operands, more_operands, no_items, operand, no_elements}
+use Rattle.sh_tree.specs.examples.Program.{only, plain, expansion, simple, lone}
+use Rattle.sh_tree.specs.standard.program.Syntax.{Parameter, Variable, Positional, Part, Plain, Escaped, Single, Double, Expansion, Substitution, Tilde, Word, no_parts, more_parts, Value, Length, Use, Remove, Expression, Name, Expanded, Parenthesis, Signed, Chain, Choice, Assigned, no_operands, more_operands, no_items, operand, no_elements}
 use Rattle.sh_table.specs.Counts.{Parameters, One, Nothing, count_of}
 use Rattle.sh_table.specs.examples.Fields.{quoted, special_parameter, computed, one}
 use Rattle.sh_table.specs.Quoting.{are_whole, word_begins_pattern, word_mentions, is_about_separators, is_steady}
-use Rattle.sh_table.specs.runs.Environment.{blanks}
+use Rattle.sh_table.specs.standard.runs.Environment.{blanks}
 
 -- `${x-w}`, `${x+w}`, `${x=w}`, `${x?w}`; `$x`, `${#x}`
 abbrev pub default : Word → Part

@@ -15,13 +15,13 @@ use Rattle.sh_tree.specs.declared.tree.LoopKind.TheVariants as loop
 use Rattle.sh_tree.specs.declared.tree.Removal.TheVariants as removal
 use Rattle.sh_tree.specs.declared.tree.SingleStyle.TheVariants as style
 use Rattle.sh_tree.specs.declared.tree.Unary.TheVariants as unary
-use Rattle.sh_tree.specs.language.Bytes.{is_first}
-use Rattle.sh_tree.specs.program.Examples.{only, simple, lone}
-use Rattle.sh_tree.specs.program.Syntax as p
-use Rattle.sh_tree.specs.program.Syntax.{Text}
+use Rattle.sh_tree.specs.standard.language.Bytes.{is_first}
+use Rattle.sh_tree.specs.examples.Program.{only, simple, lone}
+use Rattle.sh_tree.specs.standard.program.Syntax as p
+use Rattle.sh_tree.specs.standard.program.Syntax.{Text}
 use Rattle.sh_table.specs.declared.kind.Kind.TheVariants as kind
 use Rattle.sh_table.specs.examples.Runs.{elements_of, compound, list, both, quoted_x}
-use Rattle.sh_table.specs.Kinds.{kind_of}
+use Rattle.sh_table.specs.standard.Kinds.{kind_of}
 use Rattle.sh_table.specs.Profile.{Refused, first_refused}
 use Rattle.sh_table.specs.examples.Steps.{piece}
 

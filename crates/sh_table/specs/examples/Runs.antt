@@ -10,11 +10,11 @@ use Rattle.sh_tree.specs.declared.tree.Link.TheVariants as link
 use Rattle.sh_tree.specs.declared.tree.LoopKind.TheVariants as loop
 use Rattle.sh_tree.specs.declared.tree.SingleStyle.TheVariants as single
 use Rattle.sh_tree.specs.declared.tree.Special.TheVariants as special
-use Rattle.sh_tree.specs.program.Syntax.{Text, Parameter, Positional, Special, Plain, Escaped, Single, Double, Expansion, Arithmetic, Substitution, Tilde, Word, more_parts, Value, Length, Use, Name, Constant, Chain, Assigned, no_operands, more_operands, Items, no_items, more_items, and_or, no_links, more_links, Pipeline, pipeline, Command, no_commands, more_commands, command, Kind, Group, Subshell, Conditional, Loop, For, Case, Define, Elements, no_elements, assignment, operand, redirection, File, no_redirects, more_branches, no_branches, no_else, ForWords, every_parameter, listed, Words, no_words, more_words, Clauses, no_clauses, more_clauses}
-use Rattle.sh_tree.specs.program.Examples.{only, plain, expansion, simple, alone, lone}
-use Rattle.sh_table.specs.runs.Environment.{Environment, Frame, with_variable, blanks}
-use Rattle.sh_table.specs.runs.Answers.{Given, Answer}
-use Rattle.sh_table.specs.runs.Worlds.{World, Move, innermost, step, run, has_unset_event, has_split_event, start_world}
+use Rattle.sh_tree.specs.standard.program.Syntax.{Text, Parameter, Positional, Special, Plain, Escaped, Single, Double, Expansion, Arithmetic, Substitution, Tilde, Word, more_parts, Value, Length, Use, Name, Constant, Chain, Assigned, no_operands, more_operands, Items, no_items, more_items, and_or, no_links, more_links, Pipeline, pipeline, Command, no_commands, more_commands, command, Kind, Group, Subshell, Conditional, Loop, For, Case, Define, Elements, no_elements, assignment, operand, redirection, File, no_redirects, more_branches, no_branches, no_else, ForWords, every_parameter, listed, Words, no_words, more_words, Clauses, no_clauses, more_clauses}
+use Rattle.sh_tree.specs.examples.Program.{only, plain, expansion, simple, alone, lone}
+use Rattle.sh_table.specs.standard.runs.Environment.{Environment, Frame, with_variable, blanks}
+use Rattle.sh_table.specs.standard.runs.Answers.{Given, Answer}
+use Rattle.sh_table.specs.standard.runs.Worlds.{World, Move, innermost, step, run, has_unset_event, has_split_event, start_world}
 
 -- Programs: their commands all have the number 1 and stand at 0, which no run looks at
 

@@ -9,13 +9,13 @@ use Rattle.sh_tree.specs.declared.tree.LoopKind.{LoopKind}
 use Rattle.sh_tree.specs.declared.tree.LoopKind.TheVariants as loop
 use Rattle.sh_tree.specs.declared.tree.Special as tree
 use Rattle.sh_tree.specs.declared.tree.Special.TheVariants as special
-use Rattle.sh_tree.specs.program.Syntax.{Text, Variable, Positional, Special, Plain, Double, Expansion, Word, more_parts, Value, Use, Items, more_items, and_or, Links, no_links, more_links, Pipeline, pipeline, Command, no_commands, more_commands, command, Kind, Group, Subshell, Conditional, Loop, For, Case, Define, no_elements, assignment, redirection, File, no_redirects, more_redirects, Branches, more_branches, no_branches, no_else, else_of, listed, no_clauses, more_clauses}
-use Rattle.sh_tree.specs.program.Examples as program
-use Rattle.sh_tree.specs.program.Examples.{only, plain, simple, alone, lone}
-use Rattle.sh_table.specs.runs.Environment.{Environment, Frame, with_variable}
-use Rattle.sh_table.specs.runs.Answers.{Answer}
-use Rattle.sh_table.specs.runs.Work.{Work, Words, Again, Return}
-use Rattle.sh_table.specs.runs.Worlds.{World, Move, step, has_unset_event, has_split_event, start_world}
+use Rattle.sh_tree.specs.standard.program.Syntax.{Text, Variable, Positional, Special, Plain, Double, Expansion, Word, more_parts, Value, Use, Items, more_items, and_or, Links, no_links, more_links, Pipeline, pipeline, Command, no_commands, more_commands, command, Kind, Group, Subshell, Conditional, Loop, For, Case, Define, no_elements, assignment, redirection, File, no_redirects, more_redirects, Branches, more_branches, no_branches, no_else, else_of, listed, no_clauses, more_clauses}
+use Rattle.sh_tree.specs.examples.Program as program
+use Rattle.sh_tree.specs.examples.Program.{only, plain, simple, alone, lone}
+use Rattle.sh_table.specs.standard.runs.Environment.{Environment, Frame, with_variable}
+use Rattle.sh_table.specs.standard.runs.Answers.{Answer}
+use Rattle.sh_table.specs.standard.runs.Work.{Work, Words, Again, Return}
+use Rattle.sh_table.specs.standard.runs.Worlds.{World, Move, step, has_unset_event, has_split_event, start_world}
 use Rattle.sh_table.specs.examples.Runs.{elements_of, words_of, utility, assign, says, says_one, compound, list, both, bare_start, start_with, quiet, with_status, by, a_and_b, put_back}
 
 -- Words and commands

@@ -1,8 +1,8 @@
 //! Arithmetic (XCU 2.6.4).
 ghost use Rattle.std.specs.Prelude.{◌≡◌, ◌≤◌, length, MatchResult};
 ghost use Rattle.sh_tree.specs.declared.token.arithmetic.Figure.TheVariants as figure;
-ghost use Rattle.sh_tree.specs.language.Arithmetic as arithmetic;
-ghost use Rattle.sh_tree.specs.language.Arithmetic.{unary_level};
+ghost use Rattle.sh_tree.specs.standard.language.Arithmetic as arithmetic;
+ghost use Rattle.sh_tree.specs.standard.language.Arithmetic.{unary_level};
 ghost use Rattle.sh_words.specs.Clauses.{Steps};
 ghost use Rattle.sh_words.specs.Rest.{Left};
 ghost use Rattle.sh_words.specs.Sound.{IsSound, StepMoves, StepSound, StepWorks};
@@ -13,9 +13,7 @@ use super::tokens::{assigned, lexeme, operand_of, span_of};
 use super::{Next, WordBuilder};
 use crate::frames::{Focus, Holder, Operation};
 use sh_scan::{token_at, unary_of};
-use sh_tree::limits::MAX_SCRIPT;
-use sh_tree::refusal::{Fault, Refusal};
-use sh_tree::token::Figure;
+use sh_tree::{Fault, Figure, MAX_SCRIPT, Refusal};
 
 /// The level of unary operators and operands, behind those of binary operators.
 const UNARY_LEVEL: u8 = 10;

@@ -4,8 +4,7 @@ ghost use Rattle.sh_words.specs.Faults as faults;
 
 use super::WordBuilder;
 use crate::frames::{Frame, Holder, Opening};
-use sh_tree::refusal::{Fault, Refusal};
-use sh_tree::token::{Figure, Lexeme, Sign, Token};
+use sh_tree::{Fault, Figure, Lexeme, Refusal, Sign, Token};
 
 impl Opening {
     fn open_fault(self) -> Fault

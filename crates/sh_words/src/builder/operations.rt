@@ -7,8 +7,8 @@ ghost use Rattle.sh_words.specs.Lexemes as lexemes;
 ghost use Rattle.sh_words.specs.Lexemes.{IsLexeme};
 ghost use Rattle.sh_words.specs.Operations.{ClosesArithmetic, Reaches, first_read, is_left, is_level_left, leaving, more_read};
 ghost use Rattle.sh_words.specs.Steps.{Enters};
-ghost use Rattle.sh_tree.specs.language.Arithmetic as arithmetic;
-ghost use Rattle.sh_tree.specs.language.Arithmetic.{unary_level};
+ghost use Rattle.sh_tree.specs.standard.language.Arithmetic as arithmetic;
+ghost use Rattle.sh_tree.specs.standard.language.Arithmetic.{unary_level};
 ghost use Rattle.sh_words.specs.Rest.{Left};
 ghost use Rattle.sh_words.specs.Sound.{Began, Deep, IsSound, StepMoves, StepSound, StepWorks};
 ghost use Rattle.sh_words.specs.States.{focused, framed, had, operating};
@@ -18,11 +18,9 @@ use super::tokens::{begins_operand, follows, lexeme};
 use super::{Next, WordBuilder};
 use crate::frames::{Focus, Frame, Holder, Opening, Operation};
 use sh_scan::{behind_joined, binary_of, is_closed, token_at};
-use sh_tree::limits::MAX_SCRIPT;
-use sh_tree::refusal::{Fault, Form, Refusal};
-use sh_tree::token::{Figure, Lexeme};
-use sh_tree::tree::{Binary, Expr, Part, Span, Unary};
-use sh_tree::{Boxed, Items};
+use sh_tree::{
+    Binary, Boxed, Expr, Fault, Figure, Form, Items, Lexeme, MAX_SCRIPT, Part, Refusal, Span, Unary,
+};
 
 impl Operation {
     /// Whether it is a level of which such a token is no operator.

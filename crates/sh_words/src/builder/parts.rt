@@ -1,24 +1,20 @@
 //! The parts of a context (XCU 2.2, 2.6).
 ghost use Rattle.std.specs.Prelude.{◌≡◌, ◌<◌, ◌≤◌, Ok, None, length};
 ghost use Rattle.sh_tree.specs.declared.token.word.Sign.TheVariants as sign;
-ghost use Rattle.sh_tree.specs.language.Words as words;
+ghost use Rattle.sh_tree.specs.standard.language.Words as words;
 ghost use Rattle.sh_words.specs.Clauses.{Keeps, Steps};
 ghost use Rattle.sh_words.specs.Rest.{IsParts, Left, LeftPart};
 ghost use Rattle.sh_words.specs.Signs.{IsTokenFrom};
 ghost use Rattle.sh_words.specs.Sound.{IsSound, StepMoves, StepSound, StepWorks, Takes, TakesParts, work};
 ghost use Rattle.sh_words.specs.States.{context_in, ended, focused, found_in, prior_in, started};
 ghost use Rattle.sh_words.specs.Steps.{Closes};
-ghost use Rattle.sh_tree.specs.language.Trees.{word};
+ghost use Rattle.sh_tree.specs.standard.language.Trees.{word};
 
 use super::signs::{is_part, made, opening_of, prior_after, whole_part};
 use super::{Next, WordBuilder};
 use crate::frames::{Focus, Frame, Holder, Opening};
 use sh_scan::token_at;
-use sh_tree::Items;
-use sh_tree::limits::MAX_SCRIPT;
-use sh_tree::refusal::{Fault, Refusal};
-use sh_tree::token::{Sign, Token};
-use sh_tree::tree::{Part, Span, Word};
+use sh_tree::{Fault, Items, MAX_SCRIPT, Part, Refusal, Sign, Span, Token, Word};
 use std::alloc::Global;
 use std::mem;
 

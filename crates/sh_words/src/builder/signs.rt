@@ -1,14 +1,14 @@
 //! What the signs of a word make.
 ghost use Rattle.std.specs.Prelude.{◌≡◌, ◌≤◌, ◌<◌, length};
-ghost use Rattle.sh_tree.specs.language.Reading as reading;
+ghost use Rattle.sh_tree.specs.standard.language.Reading as reading;
 ghost use Rattle.sh_words.specs.States as states;
 ghost use Rattle.sh_words.specs.Signs as signs;
 
 use crate::frames::Opening;
 use sh_scan::{in_arithmetic, in_double, in_removal, in_use};
-use sh_tree::Items;
-use sh_tree::token::{Context, Sign};
-use sh_tree::tree::{Param, ParameterOperator, Part, SingleStyle, Span, Subject, Word};
+use sh_tree::{
+    Context, Items, Param, ParameterOperator, Part, Sign, SingleStyle, Span, Subject, Word,
+};
 
 fn expansion(span: Span, subject: Subject, operator: ParameterOperator) -> Part
     ensures { result ≡ Part.Param (record { span = span; subject = subject; operator = operator }) }

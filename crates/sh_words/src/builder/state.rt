@@ -5,11 +5,7 @@ ghost use Rattle.sh_words.specs.Steps.{Asked, Enters, Opens};
 
 use super::{Next, WordBuilder};
 use crate::frames::{Focus, Frame, Holder, Opening, Operation};
-use sh_tree::Items;
-use sh_tree::limits::MAX_NESTING;
-use sh_tree::refusal::Refusal;
-use sh_tree::token::Context;
-use sh_tree::tree::{Expr, Part};
+use sh_tree::{Context, Expr, Items, MAX_NESTING, Part, Refusal};
 use std::alloc::Global;
 use std::mem;
 

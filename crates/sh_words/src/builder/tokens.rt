@@ -4,9 +4,7 @@ ghost use Rattle.sh_words.specs.Lexemes.{IsLexeme};
 ghost use Rattle.sh_words.specs.Lexemes as lexemes;
 
 use sh_scan::{assignment_of, lexeme_at};
-use sh_tree::limits::MAX_SCRIPT;
-use sh_tree::token::{Figure, Lexeme};
-use sh_tree::tree::{Binary, Expr, Span};
+use sh_tree::{Binary, Expr, Figure, Lexeme, MAX_SCRIPT, Span};
 
 /// The token at or behind `at`.
 pub fn lexeme(script: &[u8], at: u32) -> Lexeme

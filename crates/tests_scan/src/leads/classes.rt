@@ -3,9 +3,7 @@ use sh_scan::{
     begins_command, begins_compound, begins_pipeline, begins_simple, clause_end_of, is_redirection,
     link_of, separator,
 };
-use sh_tree::refusal::Form;
-use sh_tree::token::{Lead, Operator, Reserved};
-use sh_tree::tree::{ClauseEnd, Link};
+use sh_tree::{ClauseEnd, Form, Lead, Link, Operator, Reserved};
 use std::process::Abort;
 use std::test::Fail;
 

@@ -1,8 +1,6 @@
 use super::{BEHIND_DOLLAR, Row, check};
 use sh_scan::{in_arithmetic, in_body, in_double, in_removal, in_use, in_word};
-use sh_tree::refusal::Form;
-use sh_tree::token::Sign;
-use sh_tree::tree::{Action, Special, Subject};
+use sh_tree::{Action, Form, Sign, Special, Subject};
 use std::test::Fail;
 
 const ALL_PARAMETERS: Sign = Sign::Value(Subject::Special(Special::At, BEHIND_DOLLAR));

@@ -1,7 +1,7 @@
 use Rattle.std.proofs.Common.{◌≡◌, true, false, rules}
 use Rattle.sh_facts.specs.Fields.{test_of, pieces_left}
-use Rattle.sh_facts.specs.Forms.{pieces}
-use Rattle.sh_facts.specs.Sheets.{precedes}
+use Rattle.sh_domain.specs.Forms.{pieces}
+use Rattle.sh_domain.specs.Sheets.{precedes}
 use Rattle.sh_facts.proofs.FormLemmas.{rises_start, none_held, rises_further, not_one, not_next, less_room, all_rise}
 use Rattle.sh_facts.proofs.forms.are_rising.Goals as goal
 use Rattle.sh_facts.proofs.forms.are_rising.Goals.{then-not-is_held-via-then-not-is_held, then-not-is_held-via-else-not-is_held+then-not-precedes}

@@ -1,6 +1,6 @@
 use Rattle.std.proofs.Common.{◌≡◌}
 use Rattle.sh_facts.specs.Fields.{test_of, pieces_left}
-use Rattle.sh_facts.specs.Forms.{pieces, are_rising}
+use Rattle.sh_domain.specs.Forms.{pieces, are_rising}
 use Rattle.sh_facts.proofs.FormLemmas.{rises_behind, room}
 use Rattle.sh_facts.proofs.forms.are_rising.Given as goal
 

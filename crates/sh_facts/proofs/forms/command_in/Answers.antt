@@ -1,6 +1,6 @@
 use Rattle.std.proofs.Common.{sym, ap, ◌∙◌}
 use Rattle.sh_facts.specs.Fields.{command_behind}
-use Rattle.sh_facts.specs.Forms.{pieces}
+use Rattle.sh_domain.specs.Forms.{pieces}
 use Rattle.sh_facts.proofs.FormLemmas.{then_behind, command_by_parts}
 use Rattle.sh_facts.proofs.forms.command_in.Goals as goal
 

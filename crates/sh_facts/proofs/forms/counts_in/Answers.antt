@@ -1,6 +1,6 @@
 use Rattle.std.proofs.Common.{◌≡◌, true, false, ◌&&◌, codes, refl, rules}
 use Rattle.std.specs.Str.{bytes_eq}
-use Rattle.sh_facts.specs.Forms.{counts_of}
+use Rattle.sh_domain.specs.Forms.{counts_of}
 use Rattle.sh_facts.proofs.FormLemmas.{counts_sole}
 use Rattle.sh_facts.proofs.forms.counts_in.Goals as goal
 

@@ -1,7 +1,7 @@
 use Rattle.std.proofs.Common.{◌≡◌, true, false, codes, refl, rules}
 use Rattle.std.specs.Str.{bytes_eq}
 use Rattle.sh_facts.specs.Fields.{claim_of}
-use Rattle.sh_facts.specs.Forms.{claim_in, known_of}
+use Rattle.sh_domain.specs.Forms.{claim_in, known_of}
 use Rattle.sh_facts.proofs.FormLemmas.{no_sets}
 use Rattle.sh_facts.proofs.forms.fact_in.Goals as goal
 

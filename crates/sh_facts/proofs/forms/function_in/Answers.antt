@@ -1,6 +1,6 @@
 use Rattle.std.proofs.Common.{sym, ap, ◌∙◌}
 use Rattle.sh_facts.specs.Fields.{function_behind}
-use Rattle.sh_facts.specs.Forms.{pieces}
+use Rattle.sh_domain.specs.Forms.{pieces}
 use Rattle.sh_facts.proofs.FormLemmas.{then_behind, function_by_parts}
 use Rattle.sh_facts.proofs.forms.function_in.Goals as goal
 

@@ -1,5 +1,5 @@
 use Rattle.std.proofs.Common.{◌≡◌, true, sym, ◌∙◌, rules, arith}
-use Rattle.sh_facts.specs.Forms as form
+use Rattle.sh_domain.specs.Forms as form
 use Rattle.sh_facts.proofs.FormLemmas.{no_number, number_stops, number_goes, number_ends}
 use Rattle.sh_facts.proofs.forms.number_in.Goals as goal
 

@@ -1,7 +1,7 @@
 use Rattle.std.proofs.Common.{◌≡◌, true, false, is_some, refl, rules}
 use Rattle.sh_facts.specs.declared.forms.Held.TheVariants as held
 use Rattle.sh_facts.specs.Fields.{test_of}
-use Rattle.sh_facts.specs.Forms.{names_in, drops_of}
+use Rattle.sh_domain.specs.Forms.{names_in, drops_of}
 use Rattle.sh_facts.proofs.FormLemmas.{sets_named, no_variables, no_functions}
 use Rattle.sh_facts.proofs.forms.sets_in.Goals as goal
 use Rattle.sh_facts.proofs.forms.sets_in.Goals.{else-are_names-via-then-are_names+else-are_names-2, else-are_names-via-else-are_names}

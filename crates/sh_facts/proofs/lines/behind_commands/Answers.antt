@@ -1,6 +1,6 @@
 use Rattle.std.proofs.Common.{sym, arith}
 use Rattle.sh_facts.specs.Fields.{text_left, command_line_of}
-use Rattle.sh_facts.specs.Forms.{command_in}
+use Rattle.sh_domain.specs.Forms.{command_in}
 use Rattle.sh_facts.proofs.LineLemmas.{lines_on, lines_stop, lines_end}
 use Rattle.sh_facts.proofs.lines.behind_commands.Goals as goal
 

@@ -1,6 +1,6 @@
 use Rattle.std.proofs.Common.{◌≡◌, ◌+◌, ◌-◌}
 use Rattle.sh_facts.specs.Fields.{left_of}
-use Rattle.sh_facts.specs.Forms.{read_lines, command_in}
+use Rattle.sh_domain.specs.Forms.{read_lines, command_in}
 use Rattle.sh_facts.proofs.lines.behind_commands.Given as goal
 
 -- what is behind the lines that are left is what is behind all

@@ -1,6 +1,6 @@
 use Rattle.std.proofs.Common.{refl}
 use Rattle.sh_facts.specs.Fields.{counts_left}
-use Rattle.sh_facts.specs.Forms.{whole_line, formed}
+use Rattle.sh_domain.specs.Forms.{whole_line, formed}
 use Rattle.sh_facts.proofs.lines.behind_counts.Goals as goal
 
 pub returns-in_default : goal.returns-in_default

@@ -1,8 +1,8 @@
 use Rattle.std.proofs.Common.{◌≡◌, true, false, refl, rules}
 use Rattle.std.specs.Str.{bytes_eq}
 use Rattle.sh_facts.specs.Fields.{text_left, left_of}
-use Rattle.sh_facts.specs.Forms.{whole_line, formed}
-use Rattle.sh_facts.specs.Sheets.{first_line}
+use Rattle.sh_domain.specs.Forms.{whole_line, formed}
+use Rattle.sh_domain.specs.Sheets.{first_line}
 use Rattle.sh_facts.proofs.lines.behind_first.Goals as goal
 
 pub returns-in_default : goal.returns-in_default

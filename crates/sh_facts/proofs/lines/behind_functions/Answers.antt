@@ -1,6 +1,6 @@
 use Rattle.std.proofs.Common.{◌+◌, sym, arith}
 use Rattle.sh_facts.specs.Fields.{text_left, function_line_of}
-use Rattle.sh_facts.specs.Forms.{function_in}
+use Rattle.sh_domain.specs.Forms.{function_in}
 use Rattle.sh_facts.proofs.LineLemmas.{lines_on, lines_stop, lines_end}
 use Rattle.sh_facts.proofs.lines.behind_functions.Goals as goal
 

@@ -1,6 +1,6 @@
 use Rattle.std.proofs.Common.{◌≡◌, ◌+◌, ◌-◌}
 use Rattle.sh_facts.specs.Fields.{left_of}
-use Rattle.sh_facts.specs.Forms.{read_lines, function_in}
+use Rattle.sh_domain.specs.Forms.{read_lines, function_in}
 use Rattle.sh_facts.proofs.lines.behind_functions.Given as goal
 
 -- what is behind the lines that are left is what is behind all

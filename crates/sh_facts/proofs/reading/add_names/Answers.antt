@@ -1,7 +1,7 @@
 use Rattle.std.proofs.Common.{◌≡◌, None, refl, ◌∙◌, arith, rules}
 use Rattle.sh_facts.specs.Fields.{pieces_left}
-use Rattle.sh_facts.specs.Forms.{pieces}
-use Rattle.sh_facts.specs.KeptRows.{bits_of}
+use Rattle.sh_domain.specs.Forms.{pieces}
+use Rattle.sh_domain.specs.KeptRows.{bits_of}
 use Rattle.sh_facts.proofs.FormLemmas.{less_room}
 use Rattle.sh_facts.proofs.ReadingLemmas.{number_below, numbers_on, known_on, not_known, numbers_end, known_end}
 use Rattle.sh_facts.proofs.reading.add_names.Goals as goal

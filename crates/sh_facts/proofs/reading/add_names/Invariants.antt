@@ -1,9 +1,9 @@
 use Rattle.std.proofs.Common.{◌≡◌, ℕ, ◌||◌}
 use Rattle.sh_facts.specs.Fields.{pieces_left}
-use Rattle.sh_facts.specs.Forms.{pieces}
-use Rattle.sh_facts.specs.KeptRows.{bits_of}
-use Rattle.sh_facts.specs.ReadParts.{is_among}
-use Rattle.sh_facts.specs.Reading.{are_known}
+use Rattle.sh_domain.specs.Forms.{pieces}
+use Rattle.sh_domain.specs.KeptRows.{bits_of}
+use Rattle.sh_domain.specs.Names.{is_among}
+use Rattle.sh_domain.specs.Reading.{are_known}
 use Rattle.sh_facts.proofs.FormLemmas.{room}
 use Rattle.sh_facts.proofs.reading.add_names.Given as goal
 

@@ -1,8 +1,8 @@
 use Rattle.std.proofs.Common.{◌≡◌, ℕ, length, sym, ap, ◌∙◌, subst, arith}
 use Rattle.std.proofs.lemmas.List.{length-map}
 use Rattle.sh_facts.specs.Fields.{outcome}
-use Rattle.sh_facts.specs.Reading.{Reads}
-use Rattle.sh_facts.specs.ReadParts.{loops_of}
+use Rattle.sh_domain.specs.Reading.{Reads}
+use Rattle.sh_domain.specs.Reading.{loops_of}
 use Rattle.sh_facts.proofs.WholeLemmas.{too_long, faulty, has_form, for_script}
 use Rattle.sh_facts.proofs.reading.read_certificate.Goals as goal
 

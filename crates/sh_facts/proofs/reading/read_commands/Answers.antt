@@ -1,12 +1,13 @@
 use Rattle.std.proofs.Common.{◌≡◌, ℕ, ◌+◌, nat_eq, false, List, Option, Some, None, refl, sym, ap, ◌∙◌, subst, arith}
 use Rattle.std.proofs.lemmas.Result.{err_from_is_err_and}
 use Rattle.indexmap.specs.IndexMap.{get}
-use Rattle.sh_facts.specs.declared.certificate.Entry.{Entry}
-use Rattle.sh_facts.specs.declared.certificate.Facts as value
+use Rattle.sh_domain.specs.declared.certificate.Entry.{Entry}
+use Rattle.sh_domain.specs.declared.certificate.Facts as value
 use Rattle.sh_facts.specs.Fields.{command_of, line_in}
-use Rattle.sh_facts.specs.Forms.{command_in}
-use Rattle.sh_facts.specs.Reading.{command_fits}
-use Rattle.sh_facts.specs.ReadParts.{ReadsCommand, NoneFit, loops_of}
+use Rattle.sh_domain.specs.Forms.{command_in}
+use Rattle.sh_domain.specs.Reading.{command_fits}
+use Rattle.sh_facts.specs.ReadParts.{ReadsCommand, NoneFit}
+use Rattle.sh_domain.specs.Reading.{loops_of}
 use Rattle.sh_facts.proofs.CertificateLemmas.{InCommands, commands_begin, commands_on, command_misfits, no_command, commands_end, missing}
 use Rattle.sh_facts.proofs.reading.read_commands.Goals as goal
 

@@ -1,6 +1,6 @@
 use Rattle.std.proofs.lemmas.Result.{err_from_is_err_and}
 use Rattle.sh_facts.specs.Fields.{claim_of}
-use Rattle.sh_facts.specs.Reading.{claim_fits}
+use Rattle.sh_domain.specs.Reading.{claim_fits}
 use Rattle.sh_facts.proofs.ReadingLemmas.{known_read, unreached_read}
 use Rattle.sh_facts.proofs.reading.read_facts.Goals as goal
 

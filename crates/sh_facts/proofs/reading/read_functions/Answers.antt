@@ -1,8 +1,8 @@
 use Rattle.std.proofs.Common.{◌+◌, List, sym, subst, arith}
 use Rattle.std.proofs.lemmas.Result.{err_from_is_err_and}
-use Rattle.sh_facts.specs.declared.certificate.FunctionEntry.{FunctionEntry}
+use Rattle.sh_domain.specs.declared.certificate.FunctionEntry.{FunctionEntry}
 use Rattle.sh_facts.specs.Fields.{function_of}
-use Rattle.sh_facts.specs.Reading.{function_fits}
+use Rattle.sh_domain.specs.Reading.{function_fits}
 use Rattle.sh_facts.specs.ReadParts.{NoFunctionsFit}
 use Rattle.sh_facts.proofs.CertificateLemmas.{InFunctions, functions_begin, functions_on, function_misfits, no_function, functions_end, missing}
 use Rattle.sh_facts.proofs.reading.read_functions.Goals as goal

@@ -1,6 +1,6 @@
 use Rattle.std.proofs.Common.{◌≡◌, true, false, refl, rules}
 use Rattle.std.proofs.lemmas.Result.{err_from_is_err_and}
-use Rattle.sh_facts.specs.Reading.{head_fits}
+use Rattle.sh_domain.specs.Reading.{head_fits}
 use Rattle.sh_facts.proofs.ReadingLemmas.{head_read, no_head_read}
 use Rattle.sh_facts.proofs.reading.read_head.Goals as goal
 

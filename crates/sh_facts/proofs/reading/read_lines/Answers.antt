@@ -5,8 +5,9 @@ use Rattle.std.specs.Borrow.{Bor}
 use Rattle.indexmap.specs.IndexMap.{get}
 use Rattle.sh_tree.specs.declared.tree.Command.{Command}
 use Rattle.sh_facts.specs.Fields.{text_left, counts_left}
-use Rattle.sh_facts.specs.Reading.{is_loop}
-use Rattle.sh_facts.specs.ReadParts.{loops_of, NoneFit, NoFunctionsFit}
+use Rattle.sh_domain.specs.Reading.{is_loop}
+use Rattle.sh_domain.specs.Reading.{loops_of}
+use Rattle.sh_facts.specs.ReadParts.{NoneFit, NoFunctionsFit}
 use Rattle.sh_facts.proofs.WholeLemmas.{has_first, has_counts, other_commands, other_functions, no_commands, no_functions, whole, missed}
 use Rattle.sh_facts.proofs.reading.read_lines.Goals as goal
 

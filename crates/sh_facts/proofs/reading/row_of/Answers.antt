@@ -1,8 +1,9 @@
 use Rattle.std.proofs.Common.{◌≡◌, ◌<◌, ◌||◌, length, sym, ap, subst, ◌∙◌, rules}
 use Rattle.std.proofs.lemmas.Result.{err_from_is_err_and}
-use Rattle.sh_facts.specs.Forms.{pieces}
-use Rattle.sh_facts.specs.ReadParts.{IsRowOf, is_among}
-use Rattle.sh_facts.specs.Reading.{are_known}
+use Rattle.sh_domain.specs.Forms.{pieces}
+use Rattle.sh_domain.specs.Names.{is_among}
+use Rattle.sh_facts.specs.ReadParts.{IsRowOf}
+use Rattle.sh_domain.specs.Reading.{are_known}
 use Rattle.sh_facts.proofs.ReadingLemmas.{split_pieces, split_nothing}
 use Rattle.sh_facts.proofs.reading.row_of.Goals as goal
 use Rattle.sh_facts.proofs.reading.row_of.Goals.{then-not-is_empty+in_ok-add_names, else-not-is_empty}

@@ -1,11 +1,10 @@
-use Rattle.std.proofs.Common.{◌≡◌, ◌+◌, ◌<◌, List, length, get_or, map, refl, ap, subst, rules}
+use Rattle.std.proofs.Common.{◌≡◌, ◌+◌, ◌<◌, List, length, get_or, refl, ap, subst, rules}
 use Rattle.std.specs.Option.{option_copied}
-use Rattle.sh_facts.specs.declared.certificate.Entry.{Entry}
-use Rattle.sh_facts.specs.declared.certificate.Facts.TheVariants.{NotReached}
-use Rattle.sh_facts.specs.Certificates.{commands_from}
-use Rattle.sh_facts.specs.Numbered.{pair_of}
-use Rattle.sh_facts.specs.Sheets.{numbered_lines}
-use Rattle.sh_facts.proofs.WritingLemmas.{commands_written}
+use Rattle.sh_domain.specs.declared.certificate.Entry.{Entry}
+use Rattle.sh_domain.specs.declared.certificate.Facts.TheVariants.{NotReached}
+use Rattle.sh_domain.specs.Certificates.{in_byte_order, commands_from}
+use Rattle.sh_domain.specs.Sheets.{numbered_lines}
+use Rattle.sh_domain.proofs.WritingLemmas.{commands_written}
 use Rattle.sh_facts.proofs.texts.push_entries.Goals as goal
 
 pub loop-entry-init : goal.loop-entry-init
@@ -23,6 +22,6 @@ loop-entry-preserved c =
     let m : c.loop-entry.number + 1 ≡ i + 1 = ap (λ n. n + 1) c.loop-entry.invariant.number in
     record {
       number = m;
-      written = commands_written (map pair_of c.args.order.now) c.args.certificate.now es i (c.loop-entry.number + 1) e d (option_copied c.head-head.result) c.args.out.now.items c.loop-entry.out.items c.push_entry.new.out.items lt f m
+      written = commands_written (in_byte_order c.args.names.now) c.args.certificate.now es i (c.loop-entry.number + 1) e d (option_copied c.head-head.result) c.args.out.now.items c.loop-entry.out.items c.push_entry.new.out.items lt f m
           c.head-head.ensures c.loop-entry.invariant.written c.in_ok-push_entry.ensures;
     }

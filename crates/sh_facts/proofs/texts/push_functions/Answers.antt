@@ -1,9 +1,9 @@
-use Rattle.std.proofs.Common.{◌≡◌, ◌+◌, get_or, map, refl, ap, rules}
-use Rattle.sh_facts.specs.declared.certificate.FunctionEntry.{FunctionEntry}
-use Rattle.sh_facts.specs.declared.certificate.Facts.TheVariants.{NotReached}
-use Rattle.sh_facts.specs.Numbered.{pair_of}
-use Rattle.sh_facts.specs.Sheets.{numbered_lines}
-use Rattle.sh_facts.proofs.WritingLemmas.{functions_written}
+use Rattle.std.proofs.Common.{◌≡◌, ◌+◌, get_or, refl, ap, rules}
+use Rattle.sh_domain.specs.Certificates.{in_byte_order}
+use Rattle.sh_domain.specs.declared.certificate.FunctionEntry.{FunctionEntry}
+use Rattle.sh_domain.specs.declared.certificate.Facts.TheVariants.{NotReached}
+use Rattle.sh_domain.specs.Sheets.{numbered_lines}
+use Rattle.sh_domain.proofs.WritingLemmas.{functions_written}
 use Rattle.sh_facts.proofs.texts.push_functions.Goals as goal
 
 pub loop-entry-init : goal.loop-entry-init
@@ -18,6 +18,6 @@ loop-entry-preserved c =
     let m : c.loop-entry.number + 1 ≡ i + 1 = ap (λ n. n + 1) c.loop-entry.invariant.number in
     record {
       number = m;
-      written = functions_written (map pair_of c.args.order.now) c.args.rows.now es i (c.loop-entry.number + 1) (get_or es i d) d c.args.out.now.items c.loop-entry.out.items c.push_function.new.out.items c.loop-entry-test.true refl m
+      written = functions_written (in_byte_order c.args.names.now) c.args.rows.now es i (c.loop-entry.number + 1) (get_or es i d) d c.args.out.now.items c.loop-entry.out.items c.push_function.new.out.items c.loop-entry-test.true refl m
           c.loop-entry.invariant.written c.in_ok-push_function.ensures;
     }

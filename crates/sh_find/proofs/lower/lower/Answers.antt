@@ -1,48 +1,62 @@
-use Rattle.std.proofs.Common.{◌≡◌, length, sym, subst, OnErr}
-use Rattle.std.proofs.lemmas.Result.{IfOk-weaker}
-use Rattle.sh_find.specs.Facts.{IsWithin}
-use Rattle.sh_find.specs.Steps.{seen_facts}
-use Rattle.sh_find.specs.Lowers.{IsNumbered, Sinks}
-use Rattle.sh_find.specs.Kept.{sight_facts, claims_in, IsNamed}
-use Rattle.sh_find.proofs.NamedLemmas.{known_named, sight_named, sight_numbered, all_formed}
-use Rattle.sh_find.proofs.SeenLemmas.{nothing_seen, sight_seen}
-use Rattle.sh_find.proofs.LowerLemmas.{stays, sinks}
+use Rattle.std.proofs.Common.{◌≡◌, None, rules, refl, sym, ap, ◌∙◌, subst, true≢false}
+use Rattle.sh_find.specs.Facts.{Facts, IsWithin, meet}
+use Rattle.sh_find.specs.Kept.{sight_facts}
+use Rattle.sh_find.specs.Writable.{sets_in}
+use Rattle.sh_find.proofs.FactLemmas.{sight_numbered}
+use Rattle.sh_find.proofs.LowerLemmas.{claimed_is, names_within, nothing_claimed, met_fits, met_fits_known, there_still, sight_passes, is_lowered, still_works}
 use Rattle.sh_find.proofs.lower.lower.Goals as goal
 
-pub seen-requires-clause-formed : goal.seen-requires-clause-formed
-seen-requires-clause-formed c = all_formed c.args.setting.now.names _ c.args.constraint.now.steps.items c.args.setting.now.few c.requires.formed
+pub keep-requires-clause-named : goal.keep-requires-clause-named
+keep-requires-clause-named c = met_fits _ _ _ _ c.args.known.now c.requires.count c.meet_facts.ensures c.requires.named
 
-pub sink-requires-clause-named : goal.sink-requires-clause-named
-sink-requires-clause-named c =
-    let names = c.args.setting.now.names in
-    let old = claims_in c.args.solution.now.rows.rows c.args.solution.now.facts.items in
-    subst (λ n. IsNamed n (sight_facts c.in-Some.sight)) (sym c.requires.kept.count)
-    (sight_named names (sight_facts c.args.setting.now.start) old c.args.constraint.now c.seen.result c.in-Some.sight (known_named names _ _ _ c.args.setting.now.vars c.args.setting.now.functions)
-    c.requires.kept.numbered c.requires.formed c.seen.ensures c.in-Some.is)
+pub put-requires : goal.put-requires
+put-requires c = there_still c.args.certificate.now _ c.args.place c.facts_at.result c.in-Some.facts refl refl refl c.facts_at.ensures c.in-Some.is
 
-pub returns-in-None-clause-lowers : goal.returns-in-None-clause-lowers
-returns-in-None-clause-lowers c =
-    let old = claims_in c.args.solution.now.rows.rows c.args.solution.now.facts.items in
-    stays _ _ _ c.args.constraint.now old old (nothing_seen c.seen.result _ _ c.seen.ensures c.in-None.is)
+pub returns-clause-lowered : goal.returns-clause-lowered
+returns-clause-lowered c = λ loops functions working.
+    is_lowered c.args.names.now loops functions c.args.certificate.now _ c.put.new.certificate c.args.place c.in-Some.facts c.in_ok-kept.kept (sight_facts c.args.known.now) (sym c.facts_at.ensures ∙ c.in-Some.is)
+    c.in_ok-kept.ensures.stay c.in_ok-kept.ensures.count refl refl refl c.in_ok-put.ensures (c.in_ok-kept.ensures.facts ∙ c.meet_facts.ensures) working
+    (λ h. true≢false (sym (c.is_within.ensures.1 h) ∙ c.if-is_within.false))
 
-pub returns-in-Some-clause-lowers : goal.returns-in-Some-clause-lowers
-returns-in-Some-clause-lowers c =
-    let names = c.args.setting.now.names in
-    let start = sight_facts c.args.setting.now.start in
-    let k = c.args.constraint.now in
-    let old = claims_in c.args.solution.now.rows.rows c.args.solution.now.facts.items in
-    let new = claims_in c.sink.new.solution.rows.rows c.sink.new.solution.facts.items in
-    let e : sight_facts c.in-Some.sight ≡ seen_facts names start old k = sight_seen c.seen.result c.in-Some.sight _ c.seen.ensures c.in-Some.is in
-    let named : IsNamed names (sight_facts c.in-Some.sight) =
-    sight_named names start old k c.seen.result c.in-Some.sight (known_named names _ _ _ c.args.setting.now.vars c.args.setting.now.functions) c.requires.kept.numbered c.requires.formed
-    c.seen.ensures c.in-Some.is in
-    IfOk-weaker c.sink.result (λ changed. Sinks old new k.slot (sight_facts c.in-Some.sight) changed) _
-    (λ changed s.
-    sinks names start (length c.args.solution.now.facts.items) k old new changed (c.requires.kept.numbered k.slot)
-    (subst (IsNumbered names) e (sight_numbered names c.in-Some.sight named)) c.requires.slot (subst (λ f. Sinks old new k.slot f changed) e s))
-    c.sink.ensures.sinks
+pub returns-clause-working : goal.returns-clause-working
+returns-clause-working c = λ loops functions working.
+    still_works c.args.names.now loops functions c.args.certificate.now _ c.put.new.certificate c.args.place c.in-Some.facts c.in_ok-kept.kept (sight_facts c.args.known.now) (sym c.facts_at.ensures ∙ c.in-Some.is)
+    c.in_ok-kept.ensures.stay c.in_ok-kept.ensures.count refl refl refl c.in_ok-put.ensures (c.in_ok-kept.ensures.facts ∙ c.meet_facts.ensures) working
+    c.in_ok-kept.ensures.placed (sight_numbered _ c.args.known.now c.requires.named)
+    (sight_passes c.args.names.now c.keep.new.rows c.in_ok-kept.kept c.meet_facts.new.sight c.in_ok-kept.ensures.facts (c.has.ensures.written c.if-not-has.false c.args.names.now c.requires.written))
 
-pub returns-in-Some-clause-err : goal.returns-in-Some-clause-err
-returns-in-Some-clause-err c =
-    let old = claims_in c.args.solution.now.rows.rows c.args.solution.now.facts.items in
-    subst (λ f. OnErr c.sink.result (¬ (IsWithin (old c.args.constraint.now.slot) f))) (sight_seen c.seen.result c.in-Some.sight _ c.seen.ensures c.in-Some.is) c.sink.ensures.err
+pub returns-clause-fits : goal.returns-clause-fits
+returns-clause-fits c =
+    met_fits_known _ c.put.new.certificate c.args.place c.in_ok-kept.kept _ (sight_facts c.args.known.now) (sets_in c.args.writable.now.vars c.args.writable.now.functions) c.in_ok-put.ensures
+    (c.in_ok-kept.ensures.facts ∙ c.meet_facts.ensures)
+
+pub returns-in_default-clause-fits : goal.returns-in_default-clause-fits
+returns-in_default-clause-fits c = record {
+  within = λ f at_p w.
+      let none : c.facts_at.result ≡ None = search rules in
+      absurd (nothing_claimed c.args.certificate.now c.args.place c.facts_at.result c.facts_at.ensures none f at_p);
+}
+
+pub returns-in_default-clause-idle : goal.returns-in_default-clause-idle
+returns-in_default-clause-idle c = λ e. returns-in_default-clause-fits c
+
+pub returns-then-is_within-clause-fits : goal.returns-then-is_within-clause-fits
+returns-then-is_within-clause-fits c = record {
+  within = λ f at_p w.
+      let same = claimed_is c.args.certificate.now c.args.place c.in-Some.facts (sym c.facts_at.ensures ∙ c.in-Some.is) f at_p in
+      subst (λ (g : Facts). IsWithin g (sight_facts c.args.known.now)) same (c.is_within.ensures.0 c.if-is_within.true);
+}
+
+pub returns-then-is_within-clause-idle : goal.returns-then-is_within-clause-idle
+returns-then-is_within-clause-idle c = λ e. returns-then-is_within-clause-fits c
+
+pub returns-then-not-has-clause-fits : goal.returns-then-not-has-clause-fits
+returns-then-not-has-clause-fits c = record {
+  within = λ f at_p w.
+      let same = claimed_is c.args.certificate.now c.args.place c.in-Some.facts (sym c.facts_at.ensures ∙ c.in-Some.is) f at_p in
+      let met = c.meet_facts.ensures ∙ ap (λ (g : Facts). meet g (sight_facts c.args.known.now)) same in
+      absurd (true≢false (sym (c.has.ensures.all (names_within c.meet_facts.new.sight (meet f (sight_facts c.args.known.now)) (sets_in c.args.writable.now.vars c.args.writable.now.functions) met w)) ∙ c.if-not-has.true));
+}
+
+pub returns-then-not-has-clause-idle : goal.returns-then-not-has-clause-idle
+returns-then-not-has-clause-idle c = λ e. returns-then-not-has-clause-fits c

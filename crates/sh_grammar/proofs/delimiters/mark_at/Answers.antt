@@ -1,7 +1,7 @@
 use Rattle.std.proofs.Common.{refl, sym, ap, ◌∙◌}
 use Rattle.std.specs.Option.{option_map}
-use Rattle.sh_tree.specs.language.HereDocuments as documents
-use Rattle.sh_tree.specs.language.Parts.{is_quoted_word}
+use Rattle.sh_tree.specs.standard.language.HereDocuments as documents
+use Rattle.sh_tree.specs.standard.language.Parts.{is_quoted_word}
 use Rattle.sh_grammar.proofs.DelimiterLemmas.{delimiter_is, not_delimiter}
 use Rattle.sh_grammar.proofs.delimiters.mark_at.Goals as goal
 

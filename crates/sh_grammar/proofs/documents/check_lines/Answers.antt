@@ -1,9 +1,9 @@
 use Rattle.std.proofs.Common.{true, false, not, ◌&&◌, ◌+◌, ◌<◌, length, ap, ◌∙◌, arith}
-use Rattle.sh_tree.specs.language.Reading.{is_some}
-use Rattle.sh_tree.specs.language.Trees.{span}
-use Rattle.sh_tree.specs.Tree.{text_of}
-use Rattle.sh_tree.specs.language.Bytes.{is_first, is_tab}
-use Rattle.sh_tree.specs.language.HereDocuments.{behind_line, has_joined, has_tabbed_line, is_split_text}
+use Rattle.sh_tree.specs.standard.language.Reading.{is_some}
+use Rattle.sh_tree.specs.standard.language.Trees.{span}
+use Rattle.sh_tree.specs.standard.Tree.{text_of}
+use Rattle.sh_tree.specs.standard.language.Bytes.{is_first, is_tab}
+use Rattle.sh_tree.specs.standard.language.HereDocuments.{behind_line, has_joined, has_tabbed_line, is_split_text}
 use Rattle.sh_grammar.proofs.CheckLemmas.{asked_of, ambiguous_told, behind_joined, lines_kept, split_told, tabbed_told, text_inside}
 use Rattle.sh_grammar.proofs.documents.check_lines.Goals as goal
 

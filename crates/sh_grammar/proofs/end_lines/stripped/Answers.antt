@@ -1,6 +1,6 @@
 use Rattle.std.proofs.Common.{sym, ap, ◌∙◌, arith, length-drop}
 use Rattle.std.proofs.lemmas.List.{take_rest}
-use Rattle.sh_tree.specs.language.HereDocuments.{line_text}
+use Rattle.sh_tree.specs.standard.language.HereDocuments.{line_text}
 use Rattle.sh_grammar.specs.Lines.{strip_step}
 use Rattle.sh_grammar.proofs.LineLemmas.{strip_ends, strip_on}
 use Rattle.sh_grammar.proofs.end_lines.stripped.Goals as goal

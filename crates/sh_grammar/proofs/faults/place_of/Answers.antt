@@ -1,7 +1,7 @@
 use Rattle.std.proofs.Common.{sym, ap, ◌∙◌}
 use Rattle.std.proofs.lemmas.List.{take_rest}
-use Rattle.sh_tree.specs.language.HereDocuments.{is_split_text}
-use Rattle.sh_tree.specs.language.Reading.{is_some}
+use Rattle.sh_tree.specs.standard.language.HereDocuments.{is_split_text}
+use Rattle.sh_tree.specs.standard.language.Reading.{is_some}
 use Rattle.sh_grammar.proofs.FaultLemmas.{no_continuation}
 use Rattle.sh_grammar.proofs.faults.place_of.Goals as goal
 

@@ -1,5 +1,5 @@
 use Rattle.std.proofs.Common.{◌++◌, inl, inr, sym, ap, subst, ◌∙◌}
-use Rattle.sh_tree.specs.language.Parts.{singles_in, operator_singles, expression_singles}
+use Rattle.sh_tree.specs.standard.language.Parts.{singles_in, operator_singles, expression_singles}
 use Rattle.sh_grammar.specs.Quotes.{SplitsIn, chained}
 use Rattle.sh_grammar.proofs.KeptLemmas.{either_split}
 use Rattle.sh_grammar.proofs.QuoteLemmas as quotes

@@ -1,6 +1,6 @@
 use Rattle.std.proofs.Common.{sym, ap, ◌∙◌, arith, length-drop}
 use Rattle.std.proofs.lemmas.List.{take_rest}
-use Rattle.sh_tree.specs.language.Reading.{is_some}
+use Rattle.sh_tree.specs.standard.language.Reading.{is_some}
 use Rattle.sh_grammar.specs.Lines.{joined_step, is_joined}
 use Rattle.sh_grammar.proofs.KeptLemmas.{joined_ends, joined_found, joined_on, joined_room}
 use Rattle.sh_grammar.proofs.kept.joined_in.Goals as goal

@@ -1,7 +1,7 @@
 use Rattle.std.proofs.Common.{◌<◌, ◌+◌, IfSome, length, sym, ap, subst, ◌∙◌, arith}
-use Rattle.sh_tree.specs.Tree.{text_of}
-use Rattle.sh_tree.specs.language.HereDocuments.{is_split_text}
-use Rattle.sh_tree.specs.language.Reading.{is_some}
+use Rattle.sh_tree.specs.standard.Tree.{text_of}
+use Rattle.sh_tree.specs.standard.language.HereDocuments.{is_split_text}
+use Rattle.sh_tree.specs.standard.language.Reading.{is_some}
 use Rattle.sh_grammar.proofs.QuoteLemmas.{span_kept, span_split, span_inside}
 use Rattle.sh_grammar.proofs.kept.split_in_span.Goals as goal
 

@@ -1,4 +1,4 @@
-use Rattle.sh_tree.specs.language.Reading.{is_some}
+use Rattle.sh_tree.specs.standard.language.Reading.{is_some}
 use Rattle.sh_grammar.proofs.KeptLemmas.{asked_none}
 use Rattle.sh_grammar.proofs.kept.tabbed_if.Goals as goal
 

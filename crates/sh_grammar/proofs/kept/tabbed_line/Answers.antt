@@ -1,7 +1,7 @@
 use Rattle.std.proofs.Common.{ap, ◌&&◌, get_or, refl}
 use Rattle.std.proofs.lemmas.Bool.{and_right}
-use Rattle.sh_tree.specs.language.Bytes.{is_tab}
-use Rattle.sh_tree.specs.language.Reading.{is_some}
+use Rattle.sh_tree.specs.standard.language.Bytes.{is_tab}
+use Rattle.sh_tree.specs.standard.language.Reading.{is_some}
 use Rattle.sh_grammar.proofs.KeptLemmas.{tab_is, tab_not, tabbed_ends, tabbed_found, tabbed_goes_on}
 use Rattle.sh_grammar.proofs.kept.tabbed_line.Goals.{else-begins-via-then-begins+else-text-at-eq9, else-begins-via-else-begins}
 use Rattle.sh_grammar.proofs.kept.tabbed_line.Goals as goal

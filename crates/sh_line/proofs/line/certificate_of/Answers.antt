@@ -1,8 +1,8 @@
 use Rattle.std.proofs.Common.{◌∙◌, Some, codes, subst, sym}
 use Rattle.clap.specs.Words.{found_of, rows_of}
 use Rattle.clap.proofs.WalkLemmas.{first_value-rows}
-use Rattle.sh_report.specs.declared.task.Action.{Action}
-use Rattle.sh_report.specs.declared.task.Action.TheVariants.{Check}
+use Rattle.sh_answers.specs.declared.task.Action.{Action}
+use Rattle.sh_answers.specs.declared.task.Action.TheVariants.{Check}
 use Rattle.sh_line.specs.Line.{HasCertificate, IsCertificateOf}
 use Rattle.sh_line.proofs.LineLemmas.{no_certificate}
 use Rattle.sh_line.proofs.line.certificate_of.Goals as goal

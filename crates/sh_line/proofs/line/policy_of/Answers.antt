@@ -5,8 +5,8 @@ use Rattle.clap.specs.Lexer.{without_minus}
 use Rattle.clap.specs.Words.{found_of}
 use Rattle.clap.proofs.CallerReads.{signed_reads}
 use Rattle.clap.proofs.WalkLemmas.{one_text-rows}
-use Rattle.sh_facts.specs.Facts.{Declared}
-use Rattle.sh_facts.specs.Policy.{first_bad}
+use Rattle.sh_domain.specs.Facts.{Declared}
+use Rattle.sh_domain.specs.Policy.{first_bad}
 use Rattle.sh_line.proofs.line.policy_of.Goals as goal
 
 pub unreachable-requires : goal.unreachable-requires

@@ -1,5 +1,5 @@
-use Rattle.sh_tree.specs.program.Trees.{script_of}
-use Rattle.sh_facts.proofs.GivenLemmas.{read_gives_fields}
+use Rattle.sh_tree.specs.standard.program.Trees.{script_of}
+use Rattle.sh_domain.proofs.GivenLemmas.{read_gives_fields}
 use Rattle.sh_quote.proofs.SplitLemmas.{quoting_suffices}
 use Rattle.sh_quote.proofs.laws.no_split.Goals as goal
 

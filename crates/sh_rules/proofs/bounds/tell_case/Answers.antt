@@ -1,4 +1,4 @@
-use Rattle.sh_facts.specs.declared.knowledge.Knowledge.TheVariants as knowledge
+use Rattle.sh_domain.specs.declared.knowledge.Knowledge.TheVariants as knowledge
 use Rattle.sh_rules.specs.Walks.{facts_in, setting}
 use Rattle.sh_rules.proofs.BehindLemmas.{nothing_known}
 use Rattle.sh_rules.proofs.TellLemmas.{case_told}

@@ -1,6 +1,6 @@
 use Rattle.sh_rules.specs.Walks.{setting}
-use Rattle.sh_tree.specs.program.Lists.{elements_from}
-use Rattle.sh_facts.specs.Table.{prefixes}
+use Rattle.sh_tree.specs.Lists.{elements_from}
+use Rattle.sh_domain.specs.Table.{prefixes}
 use Rattle.sh_rules.proofs.CallLemmas.{returned_known}
 use Rattle.sh_rules.proofs.calls.call_known.Goals as goal
 

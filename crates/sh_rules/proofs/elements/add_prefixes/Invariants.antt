@@ -1,6 +1,6 @@
 use Rattle.std.proofs.Common.{◌≡◌, fold, take, false}
-use Rattle.sh_tree.specs.program.Syntax.{Text}
-use Rattle.sh_facts.specs.Knowledge.{contains}
+use Rattle.sh_tree.specs.standard.program.Syntax.{Text}
+use Rattle.sh_domain.specs.Knowledge.{contains}
 use Rattle.sh_rules.specs.Elements as spec
 use Rattle.sh_rules.specs.Walks.{setting}
 use Rattle.sh_rules.proofs.elements.add_prefixes.Given as goal

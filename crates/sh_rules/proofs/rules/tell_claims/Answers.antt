@@ -1,6 +1,6 @@
 use Rattle.std.proofs.Common.{map}
-use Rattle.sh_tree.specs.program.Lists.{elements_from, redirects_from}
-use Rattle.sh_tree.specs.program.Trees.{kind_of}
+use Rattle.sh_tree.specs.Lists.{elements_from, redirects_from}
+use Rattle.sh_tree.specs.standard.program.Trees.{kind_of}
 use Rattle.sh_table.specs.WordTexts.{text_in}
 use Rattle.sh_rules.specs.CommandBounds.{redirected}
 use Rattle.sh_rules.specs.Tells.{kind_told}

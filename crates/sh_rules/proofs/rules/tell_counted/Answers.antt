@@ -1,4 +1,4 @@
-use Rattle.sh_tree.specs.program.Trees.{kind_of}
+use Rattle.sh_tree.specs.standard.program.Trees.{kind_of}
 use Rattle.sh_rules.specs.Walks.{setting}
 use Rattle.sh_rules.proofs.VisitLemmas.{counted_here, counted_nowhere}
 use Rattle.sh_rules.proofs.rules.tell_counted.Goals as goal

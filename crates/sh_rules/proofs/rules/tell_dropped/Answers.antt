@@ -1,5 +1,5 @@
-use Rattle.sh_tree.specs.program.Lists.{elements_from}
-use Rattle.sh_tree.specs.program.Trees.{kind_of}
+use Rattle.sh_tree.specs.Lists.{elements_from}
+use Rattle.sh_tree.specs.standard.program.Trees.{kind_of}
 use Rattle.sh_rules.specs.Walks.{setting}
 use Rattle.sh_rules.proofs.VisitLemmas.{counted_simple, counted_compound}
 use Rattle.sh_rules.proofs.rules.tell_dropped.Goals as goal

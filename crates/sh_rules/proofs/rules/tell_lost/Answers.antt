@@ -1,5 +1,5 @@
 use Rattle.std.proofs.Common.{map}
-use Rattle.sh_tree.specs.program.Lists.{elements_from}
+use Rattle.sh_tree.specs.Lists.{elements_from}
 use Rattle.sh_table.specs.WordTexts.{text_in}
 use Rattle.sh_rules.specs.Walks.{setting}
 use Rattle.sh_rules.proofs.VisitLemmas.{drops_simple}

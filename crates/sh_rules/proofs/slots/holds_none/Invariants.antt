@@ -1,5 +1,5 @@
 use Rattle.std.proofs.Common.{◌≡◌, ℕ, ◌<◌, false}
-use Rattle.sh_facts.specs.KeptRows.{holds_at}
+use Rattle.sh_domain.specs.KeptRows.{holds_at}
 use Rattle.sh_rules.proofs.slots.holds_none.Given as goal
 
 -- no number so far is in the row

@@ -1,4 +1,4 @@
-use Rattle.sh_tree.specs.program.Lists.{elements_from}
+use Rattle.sh_tree.specs.Lists.{elements_from}
 use Rattle.sh_rules.specs.Walks.{facts_in, setting}
 use Rattle.sh_rules.proofs.UtilityLemmas.{some_read, none_read}
 use Rattle.sh_rules.proofs.utilities.gain_behind.Goals as goal

@@ -1,4 +1,4 @@
-use Rattle.sh_tree.specs.program.Lists.{elements_from}
+use Rattle.sh_tree.specs.Lists.{elements_from}
 use Rattle.sh_rules.specs.Walks.{facts_in, setting}
 use Rattle.sh_rules.proofs.UtilityLemmas.{some_option, no_option}
 use Rattle.sh_rules.proofs.utilities.gain_getopts.Goals as goal

@@ -1,6 +1,6 @@
 use Rattle.sh_rules.specs.Walks.{facts_in, setting}
 use Rattle.std.proofs.Common.{sym, map}
-use Rattle.sh_tree.specs.program.Lists.{elements_from}
+use Rattle.sh_tree.specs.Lists.{elements_from}
 use Rattle.sh_table.specs.WordTexts.{text_in}
 use Rattle.sh_rules.proofs.UtilityLemmas.{static_read, computed_read}
 use Rattle.sh_rules.proofs.utilities.gain_read.Goals as goal

@@ -1,5 +1,5 @@
 use Rattle.std.proofs.Common.{◌≡◌, fold, take}
-use Rattle.sh_tree.specs.program.Syntax.{Elements}
+use Rattle.sh_tree.specs.standard.program.Syntax.{Elements}
 use Rattle.sh_rules.specs.Losses.{ArePrefixes, texts_with, free_gained}
 use Rattle.sh_rules.specs.Walks.{facts_in, setting}
 use Rattle.sh_rules.proofs.utilities.gain_texts.Given as goal

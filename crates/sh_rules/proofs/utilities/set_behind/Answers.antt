@@ -1,6 +1,6 @@
 use Rattle.sh_rules.specs.Walks.{facts_in, setting}
 use Rattle.std.proofs.Common.{map, ◌∙◌}
-use Rattle.sh_tree.specs.program.Lists.{elements_from}
+use Rattle.sh_tree.specs.Lists.{elements_from}
 use Rattle.sh_table.specs.WordTexts.{text_in}
 use Rattle.sh_rules.specs.Walks.{behind_in}
 use Rattle.sh_rules.proofs.UtilityLemmas.{set_none, set_some}

@@ -1,5 +1,5 @@
 use Rattle.std.proofs.Common.{arith}
-use Rattle.sh_tree.specs.language.Commands.{gap_length}
+use Rattle.sh_tree.specs.standard.language.Commands.{gap_length}
 use Rattle.sh_scan.specs.Steps.{gap_step}
 use Rattle.sh_scan.proofs.StepLemmas.{one_more, no_more, gap_unrolls}
 use Rattle.sh_scan.proofs.blanks.gap_length.Goals as goal

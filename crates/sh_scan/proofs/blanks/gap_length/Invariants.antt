@@ -1,5 +1,5 @@
 use Rattle.std.proofs.Common.{◌-◌, length}
-use Rattle.sh_tree.specs.language.Commands.{gap_length}
+use Rattle.sh_tree.specs.standard.language.Commands.{gap_length}
 use Rattle.sh_scan.proofs.StepLemmas.{Behind}
 use Rattle.sh_scan.proofs.blanks.gap_length.Given as goal
 

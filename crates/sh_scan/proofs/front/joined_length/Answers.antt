@@ -1,5 +1,5 @@
 use Rattle.std.proofs.Common.{arith}
-use Rattle.sh_tree.specs.language.Bytes.{joined_length}
+use Rattle.sh_tree.specs.standard.language.Bytes.{joined_length}
 use Rattle.sh_scan.specs.Steps.{joined_step}
 use Rattle.sh_scan.proofs.StepLemmas.{one_more, no_more, joined_unrolls}
 use Rattle.sh_scan.proofs.front.joined_length.Goals as goal

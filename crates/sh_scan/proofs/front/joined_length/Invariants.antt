@@ -1,5 +1,5 @@
 use Rattle.std.proofs.Common.{◌-◌, length}
-use Rattle.sh_tree.specs.language.Bytes.{joined_length}
+use Rattle.sh_tree.specs.standard.language.Bytes.{joined_length}
 use Rattle.sh_scan.proofs.StepLemmas.{Behind}
 use Rattle.sh_scan.proofs.front.joined_length.Given as goal
 

@@ -1,5 +1,5 @@
 use Rattle.std.proofs.Common.{arith}
-use Rattle.sh_tree.specs.language.HereDocuments.{line_length}
+use Rattle.sh_tree.specs.standard.language.HereDocuments.{line_length}
 use Rattle.sh_scan.specs.Steps.{line_step}
 use Rattle.sh_scan.proofs.StepLemmas.{one_more, no_more, line_unrolls}
 use Rattle.sh_scan.proofs.here_document.line_length.Goals as goal

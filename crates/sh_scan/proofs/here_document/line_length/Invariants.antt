@@ -1,5 +1,5 @@
 use Rattle.std.proofs.Common.{◌-◌, length}
-use Rattle.sh_tree.specs.language.HereDocuments.{line_length}
+use Rattle.sh_tree.specs.standard.language.HereDocuments.{line_length}
 use Rattle.sh_scan.proofs.StepLemmas.{Behind}
 use Rattle.sh_scan.proofs.here_document.line_length.Given as goal
 

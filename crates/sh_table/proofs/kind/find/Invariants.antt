@@ -1,5 +1,5 @@
 use Rattle.std.proofs.Common.{◌≡◌, length}
-use Rattle.sh_table.specs.Kinds.{look_up, rows_of}
+use Rattle.sh_table.specs.standard.Kinds.{look_up, rows_of}
 use Rattle.sh_table.proofs.kind.find.Given as goal
 
 -- no row so far has the name

@@ -7,7 +7,7 @@ use Rattle.sh_tree.specs.declared.tree.Element.TheBlock.{shape-the_row-Part-0, h
 use Rattle.sh_tree.specs.declared.tree.Item.{roll-Item}
 use Rattle.sh_tree.specs.declared.tree.Pipe.{roll-Pipe}
 use Rattle.sh_tree.specs.declared.tree.Script.{roll-Script}
-use Rattle.sh_tree.specs.program.Trees.{single_of, parameter_of, part_of}
+use Rattle.sh_tree.specs.standard.program.Trees.{single_of, parameter_of, part_of}
 use Rattle.sh_tree.proofs.laws.reads_programs.Goals as goal
 
 pub returns : goal.returns

@@ -1,5 +1,5 @@
 use Rattle.std.proofs.Common.{◌∙◌, sym}
-use Rattle.sh_tree.specs.Words.{part_text-Double}
+use Rattle.sh_tree.specs.standard.Words.{part_text-Double}
 use Rattle.sh_tree.proofs.TextLemmas.{text_step, text_none, text_stop}
 use Rattle.sh_tree.proofs.text.+text.Goals as goal
 

@@ -1,5 +1,5 @@
 use Rattle.std.proofs.Common.{◌≡◌, Some, drop}
-use Rattle.sh_tree.specs.Words.{both_texts, parts_text}
+use Rattle.sh_tree.specs.standard.Words.{both_texts, parts_text}
 use Rattle.sh_tree.proofs.text.+text.Given as goal
 
 -- what is added and what is left are the whole

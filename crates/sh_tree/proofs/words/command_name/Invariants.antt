@@ -1,5 +1,5 @@
 use Rattle.std.proofs.Common.{◌≡◌, drop}
-use Rattle.sh_tree.specs.Words.{words_of}
+use Rattle.sh_tree.specs.standard.Words.{words_of}
 use Rattle.sh_tree.proofs.words.command_name.Given as goal
 
 -- no word yet

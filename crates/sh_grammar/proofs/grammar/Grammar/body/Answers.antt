@@ -1,6 +1,6 @@
 use Rattle.std.proofs.Common.{◌≤◌, not, length, take, subst, ◌∙◌, arith, length-take}
 use Rattle.std.proofs.lemmas.Result.{err_from_is_err_and}
-use Rattle.sh_tree.specs.language.Contexts.{in_document_of}
+use Rattle.sh_tree.specs.standard.language.Contexts.{in_document_of}
 use Rattle.sh_grammar.specs.Marks.{mark_of}
 use Rattle.sh_grammar.specs.Modes.{PartsAt, Whole}
 use Rattle.sh_grammar.specs.Quotes.{Splits}

@@ -1,6 +1,6 @@
 use Rattle.std.proofs.Common.{◌≡◌, sym, ap, subst, ◌∙◌, arith}
 use Rattle.sh_tree.specs.declared.token.command.Stage.TheVariants.{First}
-use Rattle.sh_tree.specs.language.Commands.{lead_at}
+use Rattle.sh_tree.specs.standard.language.Commands.{lead_at}
 use Rattle.sh_grammar.specs.Brackets.{BracketFrom, outer}
 use Rattle.sh_grammar.specs.Readers.{One, ListFrom}
 use Rattle.sh_grammar.specs.States.{here}

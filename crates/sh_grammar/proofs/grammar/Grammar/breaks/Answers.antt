@@ -1,5 +1,5 @@
 use Rattle.std.proofs.Common.{sym, ap, ◌∙◌, arith}
-use Rattle.sh_tree.specs.language.Commands.{is_newline_lead}
+use Rattle.sh_tree.specs.standard.language.Commands.{is_newline_lead}
 use Rattle.sh_grammar.proofs.BreakLemmas.{skips_one, skips_all}
 use Rattle.sh_grammar.proofs.grammar.Grammar.breaks.Goals as goal
 

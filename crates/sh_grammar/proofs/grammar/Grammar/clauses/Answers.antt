@@ -4,8 +4,8 @@ use Rattle.sh_tree.specs.declared.token.command.Stage.TheVariants.{First}
 use Rattle.sh_tree.specs.declared.token.command.Lead.TheVariants as lead
 use Rattle.sh_tree.specs.declared.token.command.Reserved.TheVariants as word
 use Rattle.sh_tree.specs.declared.tree.ClauseEnd.TheVariants.{Break}
-use Rattle.sh_tree.specs.language.Commands.{lead_at, clause_end_of}
-use Rattle.sh_tree.specs.language.Trees as tree
+use Rattle.sh_tree.specs.standard.language.Commands.{lead_at, clause_end_of}
+use Rattle.sh_tree.specs.standard.language.Trees as tree
 use Rattle.sh_grammar.specs.Breaks.{BreaksTo, BreaksFrom}
 use Rattle.sh_grammar.specs.Cases.{ClausesFrom}
 use Rattle.sh_grammar.specs.Readers.{One, Refused}

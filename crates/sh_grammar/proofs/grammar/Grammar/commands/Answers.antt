@@ -1,6 +1,6 @@
 use Rattle.std.proofs.Common.{sym, ap, subst, ◌∙◌, arith}
 use Rattle.std.proofs.lemmas.Result.{err_from_is_err_and}
-use Rattle.sh_tree.specs.language.Commands.{is_bar}
+use Rattle.sh_tree.specs.standard.language.Commands.{is_bar}
 use Rattle.sh_grammar.specs.Breaks.{BreaksFrom, BreaksTo}
 use Rattle.sh_grammar.specs.Readers.{Refused}
 use Rattle.sh_grammar.proofs.ListLemmas.{commands_last, commands_stopped, commands_more}

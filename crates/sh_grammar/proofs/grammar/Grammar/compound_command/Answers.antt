@@ -1,5 +1,5 @@
 use Rattle.std.proofs.Common.{◌≤◌, ◌+◌, ap, subst, sym, ◌∙◌, arith}
-use Rattle.sh_tree.specs.language.Commands.{begins_compound}
+use Rattle.sh_tree.specs.standard.language.Commands.{begins_compound}
 use Rattle.sh_grammar.specs.declared.state.State.{State}
 use Rattle.sh_grammar.specs.Readers.{Answers, One, CompoundFrom}
 use Rattle.sh_grammar.specs.Redirected.{RedirectedFrom}

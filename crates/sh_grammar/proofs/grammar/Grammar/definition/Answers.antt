@@ -1,6 +1,6 @@
 use Rattle.std.proofs.Common.{sym, ap, subst, ◌∙◌, arith}
 use Rattle.std.proofs.lemmas.Result.{err_from_is_err_and}
-use Rattle.sh_tree.specs.language.Commands.{name_end, begins_compound}
+use Rattle.sh_tree.specs.standard.language.Commands.{name_end, begins_compound}
 use Rattle.sh_grammar.specs.Definitions.{HasParentheses, over}
 use Rattle.sh_grammar.specs.Readers.{CommandFrom, Refused}
 use Rattle.sh_grammar.specs.States.{moved}

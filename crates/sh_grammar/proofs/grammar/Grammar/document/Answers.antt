@@ -1,7 +1,7 @@
 use Rattle.std.proofs.Common.{◌≡◌, ◌++◌, ◌∷◌, [], ◌≤◌, length, ap, sym, subst, ◌∙◌, le_trans}
 use Rattle.std.proofs.lemmas.Result.{err_from_is_err_and}
-use Rattle.sh_tree.specs.language.HereDocuments.{behind_line}
-use Rattle.sh_tree.specs.language.Trees.{word}
+use Rattle.sh_tree.specs.standard.language.HereDocuments.{behind_line}
+use Rattle.sh_tree.specs.standard.language.Trees.{word}
 use Rattle.sh_grammar.specs.declared.state.State.{State}
 use Rattle.sh_grammar.specs.Documents.{DocumentFrom, Passes}
 use Rattle.sh_grammar.specs.Readers.{Refused}

@@ -1,7 +1,7 @@
 use Rattle.std.proofs.Common.{sym, ap, subst, ◌∙◌, arith}
 use Rattle.std.proofs.lemmas.Result.{err_from_is_err_and}
-use Rattle.sh_tree.specs.language.Commands.{is_redirection, name_end}
-use Rattle.sh_tree.specs.language.Reading as reading
+use Rattle.sh_tree.specs.standard.language.Commands.{is_redirection, name_end}
+use Rattle.sh_tree.specs.standard.language.Reading as reading
 use Rattle.sh_grammar.specs.Modes.{Begins}
 use Rattle.sh_grammar.specs.Readers.{One, Refused, WordAt}
 use Rattle.sh_grammar.specs.States.{here}

@@ -1,7 +1,7 @@
 use Rattle.std.proofs.Common.{true, sym, ap, subst, ◌∙◌, arith, ◌≡◌}
 use Rattle.std.proofs.lemmas.Result.{err_from_is_err_and}
 use Rattle.sh_tree.specs.declared.token.command.Reserved.TheVariants as word
-use Rattle.sh_tree.specs.language.Commands.{name_end, is_bare_name}
+use Rattle.sh_tree.specs.standard.language.Commands.{name_end, is_bare_name}
 use Rattle.sh_grammar.specs.Fors.{ForWordsFrom}
 use Rattle.sh_grammar.specs.Readers.{One, Refused, CompoundFrom}
 use Rattle.sh_grammar.specs.States.{here, moved}
@@ -9,8 +9,8 @@ use Rattle.sh_grammar.proofs.ForLemmas.{for_refused, for_body_refused, for_read,
 use Rattle.sh_grammar.proofs.StateLemmas.{at_depth_stands}
 use Rattle.sh_tree.specs.declared.token.command.Lead.TheVariants as lead
 use Rattle.sh_tree.specs.declared.tree.Kind.TheVariants as kind
-use Rattle.sh_tree.specs.language.States.{as_deep}
-use Rattle.sh_tree.specs.language.Trees.{span}
+use Rattle.sh_tree.specs.standard.language.States.{as_deep}
+use Rattle.sh_tree.specs.standard.language.Trees.{span}
 use Rattle.sh_grammar.proofs.grammar.Grammar.for_loop.Goals as goal
 
 pub returns-in_err-words : goal.returns-in_err-words

@@ -9,7 +9,7 @@ use Rattle.sh_grammar.specs.States.{here}
 use Rattle.sh_tree.specs.declared.token.command.Lead.TheVariants as lead
 use Rattle.sh_tree.specs.declared.token.command.Operator.TheVariants as op
 use Rattle.sh_tree.specs.declared.token.command.Stage.TheVariants.{First}
-use Rattle.sh_tree.specs.language.Commands.{lead_at}
+use Rattle.sh_tree.specs.standard.language.Commands.{lead_at}
 use Rattle.sh_grammar.proofs.grammar.Grammar.for_words.Goals as goal
 
 pub returns-then-not-is_same : goal.returns-then-not-is_same

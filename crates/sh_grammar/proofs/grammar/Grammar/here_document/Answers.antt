@@ -3,9 +3,9 @@ use Rattle.std.proofs.lemmas.Result.{err_from_is_err_and}
 use Rattle.sh_tree.specs.declared.limits.TheConstants.{MAX_NESTING}
 use Rattle.sh_tree.specs.declared.tree.HereDoc.{HereDoc}
 use Rattle.sh_tree.specs.declared.tree.Target.TheVariants.{Here}
-use Rattle.sh_tree.specs.language.HereDocuments as documents
-use Rattle.sh_tree.specs.language.States.{no_document}
-use Rattle.sh_tree.specs.language.Trees as tree
+use Rattle.sh_tree.specs.standard.language.HereDocuments as documents
+use Rattle.sh_tree.specs.standard.language.States.{no_document}
+use Rattle.sh_tree.specs.standard.language.Trees as tree
 use Rattle.sh_grammar.specs.declared.state.State.{State}
 use Rattle.sh_grammar.specs.Delimiters.{Awaits}
 use Rattle.sh_grammar.specs.Readers.{To, RedirectFrom}

@@ -1,5 +1,5 @@
 use Rattle.std.proofs.Common.{not, ◌||◌, sym, ap, ◌∙◌, arith}
-use Rattle.sh_tree.specs.language.Commands.{begins_pipeline, separator, is_reserved}
+use Rattle.sh_tree.specs.standard.language.Commands.{begins_pipeline, separator, is_reserved}
 use Rattle.sh_grammar.specs.declared.state.State.{State}
 use Rattle.sh_grammar.specs.Items.{RestFrom}
 use Rattle.sh_grammar.proofs.ListLemmas.{items_wrong, items_more, separates, items_stopped, items_all}

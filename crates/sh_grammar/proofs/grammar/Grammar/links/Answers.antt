@@ -1,5 +1,5 @@
 use Rattle.std.proofs.Common.{sym, ap, subst, ◌∙◌, arith}
-use Rattle.sh_tree.specs.language.Commands.{link_of}
+use Rattle.sh_tree.specs.standard.language.Commands.{link_of}
 use Rattle.sh_grammar.specs.Breaks.{BreaksTo}
 use Rattle.sh_grammar.proofs.ListLemmas.{links_all, links_more}
 use Rattle.sh_grammar.proofs.grammar.Grammar.links.Goals as goal

@@ -1,5 +1,5 @@
 use Rattle.std.proofs.Common.{sym, ap, ◌∙◌, false, arith}
-use Rattle.sh_tree.specs.language.Commands.{separator}
+use Rattle.sh_tree.specs.standard.language.Commands.{separator}
 use Rattle.sh_grammar.specs.Fors.{ListedFrom}
 use Rattle.sh_grammar.proofs.ForLemmas.{listed_unended, listed_read, listed_stopped}
 use Rattle.sh_grammar.proofs.ListLemmas.{separates}

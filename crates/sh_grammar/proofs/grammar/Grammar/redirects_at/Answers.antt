@@ -1,5 +1,5 @@
 use Rattle.std.proofs.Common.{sym, ap, ◌∙◌}
-use Rattle.sh_tree.specs.language.Commands.{is_redirection}
+use Rattle.sh_tree.specs.standard.language.Commands.{is_redirection}
 use Rattle.sh_grammar.proofs.RedirectLemmas.{redirects_all}
 use Rattle.sh_grammar.proofs.grammar.Grammar.redirects_at.Goals as goal
 

@@ -1,6 +1,6 @@
 use Rattle.std.proofs.Common.{◌≡◌, None, false, [], sym, ap, subst, ◌∙◌}
 use Rattle.sh_bodies.specs.Fill.{fill}
-use Rattle.sh_tree.specs.language.Arithmetic.{is_closed}
+use Rattle.sh_tree.specs.standard.language.Arithmetic.{is_closed}
 use Rattle.sh_grammar.specs.declared.state.State.{State}
 use Rattle.sh_grammar.specs.Readers.{One, To}
 use Rattle.sh_grammar.specs.States.{here, waiting}

@@ -1,8 +1,8 @@
 use Rattle.std.proofs.Common.{◌≡◌, true, false, sym, ap, subst, ◌∙◌, arith}
 use Rattle.std.proofs.lemmas.Result.{err_from_is_err_and}
 use Rattle.sh_tree.specs.declared.token.command.Stage.TheVariants.{Named}
-use Rattle.sh_tree.specs.language.Commands.{is_word, lead_at}
-use Rattle.sh_tree.specs.language.Contexts.{in_unsplit}
+use Rattle.sh_tree.specs.standard.language.Commands.{is_word, lead_at}
+use Rattle.sh_tree.specs.standard.language.Contexts.{in_unsplit}
 use Rattle.sh_grammar.specs.Readers.{One, Refused, WordAt}
 use Rattle.sh_grammar.specs.States.{here}
 use Rattle.sh_grammar.specs.Targets.{TargetFrom}

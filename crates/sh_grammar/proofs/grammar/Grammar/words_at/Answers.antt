@@ -1,5 +1,5 @@
 use Rattle.std.proofs.Common.{sym, ap, ◌∙◌}
-use Rattle.sh_tree.specs.language.Commands.{is_word}
+use Rattle.sh_tree.specs.standard.language.Commands.{is_word}
 use Rattle.sh_grammar.proofs.ForLemmas.{words_all}
 use Rattle.sh_grammar.proofs.grammar.Grammar.words_at.Goals as goal
 

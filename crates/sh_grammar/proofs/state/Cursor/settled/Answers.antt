@@ -1,5 +1,5 @@
 use Rattle.std.proofs.Common.{◌≡◌, true, rules, sym, subst}
-use Rattle.sh_tree.specs.language.Commands.{blanks}
+use Rattle.sh_tree.specs.standard.language.Commands.{blanks}
 use Rattle.sh_grammar.specs.declared.state.State.{State}
 use Rattle.sh_grammar.specs.States.{Stands}
 use Rattle.sh_grammar.proofs.BreakLemmas.{settled_stands}

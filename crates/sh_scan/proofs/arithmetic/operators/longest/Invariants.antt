@@ -1,5 +1,5 @@
 use Rattle.std.proofs.Common.{◌≡◌, ◌++◌, ◌∷◌, length}
-use Rattle.sh_tree.specs.language.Bytes.{longest}
+use Rattle.sh_tree.specs.standard.language.Bytes.{longest}
 use Rattle.sh_scan.specs.Tables.{texts_of}
 use Rattle.sh_scan.proofs.arithmetic.operators.longest.Given as goal
 

@@ -1,5 +1,5 @@
 use Rattle.std.proofs.Common.{arith}
-use Rattle.sh_tree.specs.language.Arithmetic.{space_length}
+use Rattle.sh_tree.specs.standard.language.Arithmetic.{space_length}
 use Rattle.sh_scan.specs.Spaces.{space_step}
 use Rattle.sh_scan.proofs.StepLemmas.{one_more, no_more}
 use Rattle.sh_scan.proofs.SpaceLemmas.{space_unrolls}

@@ -1,5 +1,5 @@
 use Rattle.std.proofs.Common.{◌-◌, length}
-use Rattle.sh_tree.specs.language.Arithmetic.{space_length}
+use Rattle.sh_tree.specs.standard.language.Arithmetic.{space_length}
 use Rattle.sh_scan.proofs.StepLemmas.{Behind}
 use Rattle.sh_scan.proofs.arithmetic.spaces.space_length.Given as goal
 

@@ -1,6 +1,6 @@
 use Rattle.std.proofs.Common.{◌≡◌, false, refl, sym, ◌∙◌, ◌++◌, rules}
-use Rattle.sh_tree.specs.language.Bytes.{is_first, is_operator_byte}
-use Rattle.sh_tree.specs.language.Commands.{operator_of, long_operators, short_operators}
+use Rattle.sh_tree.specs.standard.language.Bytes.{is_first, is_operator_byte}
+use Rattle.sh_tree.specs.standard.language.Commands.{operator_of, long_operators, short_operators}
 use Rattle.sh_scan.proofs.OperatorLemmas.{none_begins}
 use Rattle.sh_scan.proofs.commands.operators.operator_of.Goals as goal
 

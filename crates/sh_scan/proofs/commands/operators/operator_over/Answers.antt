@@ -1,5 +1,5 @@
 use Rattle.std.proofs.Common.{refl, sym, ◌∙◌, ◌++◌}
-use Rattle.sh_tree.specs.language.Commands.{operator_of, long_operators, short_operators}
+use Rattle.sh_tree.specs.standard.language.Commands.{operator_of, long_operators, short_operators}
 use Rattle.sh_scan.proofs.OperatorLemmas.{longest_found, longest_missed, longest_fits, all_within, all_move}
 use Rattle.sh_scan.proofs.commands.operators.operator_over.Goals as goal
 

@@ -1,5 +1,5 @@
 use Rattle.std.proofs.Common.{◌≡◌, ◌≤◌, drop}
-use Rattle.sh_tree.specs.language.Bytes.{decimal}
+use Rattle.sh_tree.specs.standard.language.Bytes.{decimal}
 use Rattle.sh_scan.proofs.words.parameters.number_of.Given as goal
 
 -- the number of the digits so far

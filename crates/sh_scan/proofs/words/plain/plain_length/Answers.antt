@@ -1,5 +1,5 @@
 use Rattle.std.proofs.Common.{◌≡◌, arith}
-use Rattle.sh_tree.specs.language.Words.{plain_length}
+use Rattle.sh_tree.specs.standard.language.Words.{plain_length}
 use Rattle.sh_scan.proofs.WordLemmas.{plain_ends, plain_goes, plain_done}
 use Rattle.sh_scan.proofs.words.plain.plain_length.Goals as goal
 

@@ -1,5 +1,5 @@
 use Rattle.std.proofs.Common.{◌≡◌, ◌+◌, drop}
-use Rattle.sh_tree.specs.language.Words.{plain_length}
+use Rattle.sh_tree.specs.standard.language.Words.{plain_length}
 use Rattle.sh_scan.proofs.words.plain.plain_length.Given as goal
 
 -- the bytes so far stand for themselves

@@ -1,6 +1,6 @@
 use Rattle.std.proofs.Common.{◌==◌, ◌∙◌, ap}
 use Rattle.std.proofs.lemmas.List.{take_rest}
-use Rattle.sh_tree.specs.language.Bytes.{is_first}
+use Rattle.sh_tree.specs.standard.language.Bytes.{is_first}
 use Rattle.sh_scan.proofs.words.sites.begins_at.Goals as goal
 
 pub returns-clause-value : goal.returns-clause-value

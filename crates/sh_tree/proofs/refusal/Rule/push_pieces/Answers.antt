@@ -1,6 +1,6 @@
 use Rattle.std.specs.Prelude.{codes, ◌++◌}
 use Rattle.std.proofs.Common.{◌∙◌, ap}
-use Rattle.sh_tree.specs.Texts.{rule_name}
+use Rattle.sh_tree.specs.standard.Texts.{rule_name}
 use Rattle.sh_tree.proofs.RefusalLemmas.{rule_done}
 use Rattle.sh_tree.proofs.refusal.Rule.push_pieces.Goals as goal
 

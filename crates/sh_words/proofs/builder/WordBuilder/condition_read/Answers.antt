@@ -1,6 +1,6 @@
 use Rattle.std.proofs.Common.{◌≡◌, rules, true, false, refl}
-use Rattle.sh_tree.specs.language.Arithmetic.{lexeme}
-use Rattle.sh_tree.specs.language.Reading.{is_question}
+use Rattle.sh_tree.specs.standard.language.Arithmetic.{lexeme}
+use Rattle.sh_tree.specs.standard.language.Reading.{is_question}
 use Rattle.sh_words.specs.declared.frames.Operation.TheVariants as operation
 use Rattle.sh_words.proofs.OperationLemmas.{choice_read_on, operand_keeps, operand_goes}
 use Rattle.sh_words.proofs.builder.WordBuilder.condition_read.Goals as goal

@@ -1,5 +1,5 @@
 use Rattle.std.proofs.Common.{◌≡◌, sym, ap, ◌∙◌, subst}
-use Rattle.sh_tree.specs.language.Words.{token}
+use Rattle.sh_tree.specs.standard.language.Words.{token}
 use Rattle.sh_words.specs.Clauses.{Refuses}
 use Rattle.sh_words.specs.Rest.{IsOperand, LeftPart}
 use Rattle.sh_words.specs.States.{context_in}

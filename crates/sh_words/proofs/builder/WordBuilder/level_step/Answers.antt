@@ -1,5 +1,5 @@
 use Rattle.std.proofs.Common.{◌<◌, ◌≤◌, sym, subst, arith}
-use Rattle.sh_tree.specs.language.Arithmetic.{unary_level}
+use Rattle.sh_tree.specs.standard.language.Arithmetic.{unary_level}
 use Rattle.sh_words.specs.declared.frames.Focus.TheVariants as focus
 use Rattle.sh_words.specs.Clauses.{Keeps}
 use Rattle.sh_words.specs.Rest.{Left}

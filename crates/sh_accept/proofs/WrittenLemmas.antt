@@ -1,0 +1,155 @@
+-- What is written of an answer is a function of what it shows; so there is one text and one status.
+use Rattle.std.proofs.Common.{◌≡◌, ℕ, ◌<◌, ◌≤◌, ◌⊎◌, inl, inr, true, List, [], length, Vec, Result, Ok, Err, refl, sym, ◌∙◌, ap, arith}
+use Rattle.std.specs.declared.alloc.Global.{Global}
+use Rattle.sh_tree.specs.Answers.{Parses}
+use Rattle.sh_tree.specs.declared.refusal.Refusal.{Refusal}
+use Rattle.sh_tree.specs.declared.refusal.Refusal.TheVariants.{TooLong, NulByte, Syntax, LeftOut, TooDeep, TooMany, Memory, Profile, CertSyntax, CertShape}
+use Rattle.sh_tree.specs.declared.tree.Script.{Script}
+use Rattle.sh_domain.specs.Facts.{Declared}
+use Rattle.sh_domain.specs.Sheets.{Sheet, certificate_text}
+use Rattle.sh_domain.specs.declared.limits.TheConstants.{MAX_CERTIFICATE}
+use Rattle.sh_answers.specs.Texts.{answer_text, refusal_text, report_text, forged_text, status_of}
+use Rattle.sh_answers.specs.declared.task.Action.{Action}
+use Rattle.sh_answers.specs.declared.task.Action.TheVariants.{Lint, Cert, Check}
+use Rattle.sh_answers.specs.declared.verdict.Verdict.{Verdict}
+use Rattle.sh_answers.specs.declared.verdict.Verdict.TheVariants.{Pass, Fail, Forged}
+use Rattle.sh_accept.specs.Answers.{Checks, Lints, Certifies, Refuses, RefusesLong, NoRefusal, IsBest}
+use Rattle.sh_accept.specs.Computed.{Answer, Passes, Finds, Breaks, Tells, shown, is_refusal, is_told}
+use Rattle.sh_accept.specs.Written as w
+use Rattle.sh_accept.specs.Written.{TellsVerdict, TellsOneAnswer, shown_text, shown_status}
+use Rattle.sh_accept.proofs.AnswerLemmas.{has_one_answer}
+use Rattle.sh_accept.proofs.ReadLemmas.{known}
+use Rattle.sh_accept.proofs.SingleLemmas.{has_one_greatest, best_read, not_both, of_error, one, same_refusal}
+
+-- by what is shown
+
+text_of : List ℕ → Answer → List ℕ
+text_of b Passes = report_text []
+text_of b (Finds fs) = report_text fs
+text_of b (Breaks k f) = forged_text k f
+text_of b (Tells e) = refusal_text b e
+
+text_shown : (b : List ℕ) (x : Result Verdict Refusal) → answer_text b x ≡ text_of b (shown x)
+unfolding text_of shown
+text_shown b (Ok Pass) = refl
+text_shown b (Ok (Fail r)) = refl
+text_shown b (Ok (Forged k f)) = refl
+text_shown b (Err e) = refl
+
+status_in : Answer → ℕ
+status_in Passes = 0
+status_in (Finds fs) = 1
+status_in (Breaks k f) = 1
+status_in (Tells e) = status_of (Err e)
+
+status_shown : (x : Result Verdict Refusal) → status_of x ≡ status_in (shown x)
+unfolding status_in shown
+status_shown (Ok Pass) = refl
+status_shown (Ok (Fail r)) = refl
+status_shown (Ok (Forged k f)) = refl
+status_shown (Err e) = refl
+
+refused : (e : Refusal) → (e ≡ Memory → ⊥) → is_refusal e ≡ true
+unfolding is_refusal
+refused Memory h = absurd (h refl)
+refused e h = refl
+
+told : (x : Result Verdict Refusal) → (x ≡ Err Memory → ⊥) → is_told x ≡ true
+unfolding is_told
+told (Ok v) h = refl
+told (Err e) h = refused e (λ is. h (ap Err is))
+
+verdicts : (Should : Result Verdict Refusal → Type 0) (b text other : List ℕ) (status another : ℕ)
+    → ((x y : Result Verdict Refusal) → Should x → Should y → is_told x ≡ true → is_told y ≡ true → shown x ≡ shown y)
+    → TellsVerdict Should b text status → TellsVerdict Should b other another → (text ≡ other) × (status ≡ another)
+verdicts Should b text other status another single h k =
+    let same = single h.answer k.answer h.answers k.answers (told h.answer h.memory) (told k.answer k.memory) in (
+      h.text_is ∙ text_shown b h.answer ∙ ap (text_of b) same ∙ sym (text_shown b k.answer) ∙ sym k.text_is,
+      h.status_is ∙ status_shown h.answer ∙ ap status_in same ∙ sym (status_shown k.answer) ∙ sym k.status_is,
+    )
+
+-- Where a certificate is shown
+
+-- the text of the greatest certificate is too long
+record IsLong (b : List ℕ) (d : Declared) (e : Refusal) : Type 0 where
+  is : e ≡ CertSyntax 0
+  tree : Script
+  certificate : Sheet
+  best : IsBest b d tree certificate
+  long : MAX_CERTIFICATE < length (certificate_text certificate)
+
+cases_long : (b : List ℕ) (d : Declared) (e : Refusal) → Refuses b d (RefusesLong b d) e → Refuses b d NoRefusal e ⊎ IsLong b d e
+cases_long b d TooLong h = inl h
+cases_long b d (NulByte at) h = inl h
+cases_long b d (Syntax f at) h = inl h
+cases_long b d (LeftOut f at) h = inl h
+cases_long b d (TooDeep at) h = inl h
+cases_long b d TooMany h = inl h
+cases_long b d Memory h = inl h
+cases_long b d (Profile r at) h = inl h
+cases_long b d (CertSyntax n) h = inr (record { is = ap CertSyntax h.4; tree = h.0; certificate = h.1; best = h.2; long = h.3 })
+cases_long b d CertShape h = absurd h
+
+module _ (b : List ℕ) (d : Declared) (t : Script) (reading : Parses b (Ok t)) where
+  -- no certificate is shown and refused
+  not_refused : (v : Vec ℕ Global) (e : Refusal) → Certifies b d (Ok v) → Refuses b d (RefusesLong b d) e → (e ≡ Memory → ⊥) → ⊥
+  not_refused v e h k apart =
+      let x = known b d t reading in
+      elim (cases_long b d e k) [
+        | inl r ↦ not_both b d t x.names x.loops x.read e h.0 h.2.names r (refused e apart) h.2.admitted
+        | inr l ↦
+            let same : h.1 ≡ l.certificate =
+            one b d t x.names x.loops x.read h.1 l.certificate
+            (best_read b d t x.names x.loops x.read h.0 h.1 h.2) (best_read b d t x.names x.loops x.read l.tree l.certificate l.best) in
+            let shorter : length (certificate_text h.1) ≤ MAX_CERTIFICATE = few v.items (certificate_text h.1) h.3 h.4 in
+            let longer = l.long in
+            over (certificate_text h.1) (certificate_text l.certificate) (ap certificate_text same) shorter longer
+      ]
+    where
+      few : (xs ys : List ℕ) → xs ≡ ys → length xs ≤ MAX_CERTIFICATE → length ys ≤ MAX_CERTIFICATE
+      few xs ys is l = let long = ap length is in omega arith
+
+      over : (xs ys : List ℕ) → xs ≡ ys → length xs ≤ MAX_CERTIFICATE → MAX_CERTIFICATE < length ys → ⊥
+      over xs ys is l m = let long = ap length is in omega arith
+
+  -- two refusals are one
+  one_refusal : (e f : Refusal) → Refuses b d (RefusesLong b d) e → Refuses b d (RefusesLong b d) f → (e ≡ Memory → ⊥) → (f ≡ Memory → ⊥) → e ≡ f
+  one_refusal e f h k g l =
+      let x = known b d t reading in
+      elim (cases_long b d e h) [
+        | inl r ↦ elim (cases_long b d f k) [
+          | inl s ↦
+              same_refusal b d t x.names x.loops x.read e f
+              (sym (of_error b d t x.names x.loops x.read e r (refused e g)) ∙ of_error b d t x.names x.loops x.read f s (refused f l))
+          | inr s ↦ absurd (not_both b d t x.names x.loops x.read e s.tree s.best.names r (refused e g) s.best.admitted)
+        ]
+        | inr r ↦ elim (cases_long b d f k) [
+          | inl s ↦ absurd (not_both b d t x.names x.loops x.read f r.tree r.best.names s (refused f l) r.best.admitted)
+          | inr s ↦ r.is ∙ sym s.is
+        ]
+      ]
+
+  certificates : (x y : Result (Vec ℕ Global) Refusal) → Certifies b d x → Certifies b d y → (x ≡ Err Memory → ⊥) → (y ≡ Err Memory → ⊥)
+      → (shown_text b x ≡ shown_text b y) × (shown_status x ≡ shown_status y)
+  certificates (Ok v) (Ok w) h k g l = let x = known b d t reading in (has_one_greatest.certified b d t x.names x.loops v w x.read h k, refl)
+  certificates (Ok v) (Err f) h k g l = absurd (not_refused v f h k (λ is. l (ap Err is)))
+  certificates (Err e) (Ok w) h k g l = absurd (not_refused w e k h (λ is. g (ap Err is)))
+  certificates (Err e) (Err f) h k g l =
+      let same = one_refusal e f h k (λ is. g (ap Err is)) (λ is. l (ap Err is)) in
+      (ap (refusal_text b) same, ap (λ (r : Refusal). status_of (Err r)) same)
+
+  -- whatever the action
+  tells_one : (action : Action) (certificate text other : List ℕ) (status another : ℕ)
+      → w.Tells action b certificate d text status → w.Tells action b certificate d other another → (text ≡ other) × (status ≡ another)
+  tells_one Lint certificate text other status another h k =
+      let x = known b d t reading in
+      verdicts (Lints b d) b text other status another (λ y z. has_one_greatest.linted b d t x.names x.loops y z x.read) h k
+  tells_one Cert certificate text other status another h k =
+      let same = certificates h.answer k.answer h.answers k.answers h.memory k.memory in
+      (h.text_is ∙ same.0 ∙ sym k.text_is, h.status_is ∙ same.1 ∙ sym k.status_is)
+  tells_one Check certificate text other status another h k =
+      let x = known b d t reading in
+      verdicts (Checks b d certificate) b text other status another (λ y z. has_one_answer.one b d t x.names x.loops certificate y z x.read) h k
+
+pub tells_one_answer : TellsOneAnswer
+tells_one_answer action b certificate d t text other status another reading h k = tells_one b d t reading action certificate text other status another h k

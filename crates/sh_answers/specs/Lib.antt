@@ -1,0 +1,5 @@
+pub mod Ends
+pub mod Moves
+pub mod Verdicts
+pub mod Texts
+pub mod Findings

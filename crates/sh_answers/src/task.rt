@@ -1,0 +1,22 @@
+//! What the program is asked to do.
+use sh_domain::Policy;
+
+/// What is done with a script.
+#[derive(Clone, Copy, Debug, PartialEq, Eq)]
+pub enum Action {
+    /// Looks for findings in it.
+    Lint,
+    /// Shows the certificate that says most of it.
+    Cert,
+    /// Checks it with a certificate.
+    Check,
+}
+
+/// What is done, and under which policy.
+#[derive(Debug, Drop)]
+pub struct Task {
+    /// What is done with the script.
+    pub action: Action,
+    /// What is set when the script starts.
+    pub policy: Policy,
+}

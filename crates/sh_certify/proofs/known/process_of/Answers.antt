@@ -1,5 +1,0 @@
-use Rattle.sh_facts.specs.Views.{Before, at}
-use Rattle.sh_certify.proofs.known.process_of.Goals as goal
-
-pub returns : goal.returns
-returns c = c.started_in.ensures (at (Before c.args.number)) c.before_of-outside.ensures

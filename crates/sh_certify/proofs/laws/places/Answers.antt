@@ -1,5 +1,0 @@
-use Rattle.sh_certify.proofs.ThereLemmas.{rules_ask_there}
-use Rattle.sh_certify.proofs.laws.places.Goals as goal
-
-pub returns : goal.returns
-returns c = rules_ask_there

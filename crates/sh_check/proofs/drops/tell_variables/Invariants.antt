@@ -1,7 +1,0 @@
-use Rattle.std.proofs.Common.{◌≡◌, fold, take}
-use Rattle.sh_check.specs.DropWalks as walks
-use Rattle.sh_check.proofs.drops.tell_variables.Given as goal
-
--- what is told so far is what is told of the pieces so far
-abbrev pub invariant-loop-operand : goal.invariant-loop-operand
-invariant-loop-operand l = l.places.items ≡ fold (walks.variable_step l.script l.start l.at) l.initial.places.items (take l.operand-index l.operands)

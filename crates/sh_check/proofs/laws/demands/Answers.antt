@@ -1,9 +1,0 @@
-use Rattle.sh_check.proofs.EnteredLemmas.{each_is_told}
-use Rattle.sh_check.proofs.WholeLemmas.{demands_are_told}
-use Rattle.sh_check.proofs.laws.demands.Goals as goal
-
-pub returns-clause-order : goal.returns-clause-order
-returns-clause-order c = each_is_told
-
-pub returns-clause-whole : goal.returns-clause-whole
-returns-clause-whole c = demands_are_told

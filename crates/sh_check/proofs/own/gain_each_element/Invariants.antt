@@ -1,8 +1,0 @@
-use Rattle.std.proofs.Common.{◌≡◌, fold, take}
-use Rattle.sh_check.specs.Knowing.{knowing}
-use Rattle.sh_check.specs.OwnWalks as walks
-use Rattle.sh_check.proofs.own.gain_each_element.Given as goal
-
--- what is known so far is what the pieces so far leave known
-abbrev pub invariant-loop-element : goal.invariant-loop-element
-invariant-loop-element l = knowing l.known ≡ fold (walks.element_gained l.script) (knowing l.initial.known) (take l.element-index l.elements)

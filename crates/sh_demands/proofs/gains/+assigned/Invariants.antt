@@ -1,0 +1,8 @@
+use Rattle.std.proofs.Common.{◌≡◌, fold, take}
+use Rattle.sh_demands.specs.Knowing.{knowing}
+use Rattle.sh_demands.specs.Walks as walks
+use Rattle.sh_demands.proofs.gains.+assigned.Given as goal
+
+-- what is known so far is what the pieces so far leave known
+abbrev pub invariant-gain_steps-loop-link : goal.invariant-gain_steps-loop-link
+invariant-gain_steps-loop-link l = knowing l.known ≡ fold (walks.step_assigned l.script) (knowing l.initial.known) (take l.link-index l.rest)

@@ -1,0 +1,41 @@
+-- What a walk knows at a place: facts about the names that it has room for.
+-- POSIX.1-2024, XCU 2.5 (parameters and variables).
+use Rattle.std.specs.Prelude.{Bool, true, false, List, filter}
+use Rattle.sh_tree.specs.declared.tree.Action.{Action}
+use Rattle.sh_tree.specs.declared.tree.Action.TheVariants as action
+use Rattle.sh_tree.specs.declared.tree.Binary.{Binary}
+use Rattle.sh_tree.specs.declared.tree.Binary.TheVariants as binary
+use Rattle.sh_tree.specs.standard.program.Syntax.{Text, Parameter}
+use Rattle.sh_table.specs.standard.runs.Environment.{is_one_of}
+use Rattle.sh_domain.specs.Facts.{Facts}
+use Rattle.sh_domain.specs.Knowledge.{knowledge_facts}
+use Rattle.sh_demands.specs.declared.known.Known.{Known}
+use Rattle.sh_domain.specs.Gains.{Gains, no_gains, sure, with_gains}
+
+pub record Knowing : Type 0 where
+  pub names : List Text
+  pub facts : Facts
+
+-- what a value of the code stands for
+abbrev pub knowing : Known → Knowing
+knowing k = record { names = k.names.now; facts = knowledge_facts k.names.now k.knowledge }
+
+-- those of these names
+abbrev pub among : List Text → Gains → Gains
+among names g = record { names = filter (is_one_of names) g.names; args = g.args }
+
+-- with what is gained, of the names that there is room for
+unfoldable pub gained : Gains → Knowing → Knowing
+gained g k = record { names = k.names; facts = with_gains (among k.names g) k.facts }
+
+-- what an expansion with this operator leaves set
+unfoldable pub action_gains : Parameter → Action → Gains
+action_gains p action.Assign = sure p
+action_gains p action.Fault = sure p
+action_gains p _ = no_gains
+
+-- the operand behind `&&` or `||` may be left out
+unfoldable pub may_stop : Binary → Bool
+may_stop binary.And = true
+may_stop binary.Or = true
+may_stop _ = false

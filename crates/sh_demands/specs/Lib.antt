@@ -1,0 +1,16 @@
+pub mod Knowing
+pub mod Walks
+pub mod Judged
+pub mod Within
+pub mod Tellings
+pub mod Own
+pub mod OwnWalks
+pub mod Moves
+pub mod Drops
+pub mod Places
+pub mod DropWalks
+pub mod Told
+pub mod ToldWalks
+pub mod Whole
+pub mod Numbered
+pub mod Reported

@@ -1,0 +1,277 @@
+//! The names that a command may drop: each is told once, at the start of the command (XCU 2.9.1, 2.15).
+ghost use Rattle.std.specs.Prelude.{◌≡◌, ◌++◌, ◌<◌, ◌&&◌, fold, length, map, slice_get};
+ghost use Rattle.std.specs.List.{All, list_any};
+ghost use Rattle.std.specs.Str.{bytes_eq};
+ghost use Rattle.sh_tree.specs.standard.language.Bytes as bytes;
+ghost use Rattle.sh_tree.specs.Lists.{elements_from};
+ghost use Rattle.sh_table.specs.WordTexts.{text_in};
+ghost use Rattle.sh_table.specs.standard.runs.Environment.{is_one_of};
+ghost use Rattle.sh_domain.specs.Certificates as claims;
+ghost use Rattle.sh_domain.specs.Knowledge.{AreNumbered};
+ghost use Rattle.sh_demands.specs.Drops as spec;
+ghost use Rattle.sh_demands.specs.DropWalks as walks;
+ghost use Rattle.sh_demands.specs.Knowing.{knowing};
+ghost use Rattle.sh_demands.specs.Reported.{Adds, AddsFirst, AddsSince};
+
+use crate::known::Known;
+use crate::reports::Reports;
+use sh_domain::{Drops, Names, RowId, Rows};
+use sh_operands::unset_operands;
+use sh_table::WordText;
+use sh_tree::{Code, Element, is_name};
+
+#[tactic(auto, unfolding(crate::specs::DropWalks::told_if))]
+fn tell_if(is_wanted: bool, name: &[u8], at: u32, start: usize, reports: &mut Reports)
+    ensures { AddsSince start reports.old reports.new (λ k ps. walks.told_if is_wanted k at ps name.now) }
+{
+    if is_wanted {
+        reports.report_once(name, at, start);
+    }
+}
+
+// What functions drop
+
+#[tactic(auto, unfolding(crate::specs::DropWalks::drop_if))]
+fn tell_number(number: u32, is_wanted: bool, names: &Names, at: u32, reports: &mut Reports)
+    requires { number < length names.now }
+    ensures { Adds reports.old reports.new (λ ps. ps ++ walks.drop_if is_wanted at (slice_get names.now number)) }
+{
+    if is_wanted {
+        reports.report(at, Code::P1, names.name(number));
+    }
+}
+
+fn tell_row(numbers: &[u32], names: &Names, rows: &Rows, id: RowId, at: u32, reports: &mut Reports)
+    requires { All (λ number. number < length names.now) numbers.now }
+    ensures { Adds reports.old reports.new (λ ps. fold (walks.plain_step names.now (walks.is_in rows.now id) at) ps numbers.now) }
+{
+    for number in numbers {
+        tell_number(*number, rows.has(id, *number), names, at, reports);
+    }
+}
+
+fn tell_other_row(
+    numbers: &[u32],
+    names: &Names,
+    rows: &Rows,
+    id: RowId,
+    other: RowId,
+    at: u32,
+    reports: &mut Reports,
+)
+    requires { All (λ number. number < length names.now) numbers.now }
+    ensures { Adds reports.old reports.new (λ ps. fold (walks.plain_step names.now (walks.is_only_in rows.now id other) at) ps numbers.now) }
+{
+    for number in numbers {
+        let is_new = rows.has(id, *number) && !rows.has(other, *number);
+        tell_number(*number, is_new, names, at, reports);
+    }
+}
+
+/// The variables that a function may drop, and then the functions, each in byte order. No place is read again.
+pub fn tell_dropped(
+    names: &Names,
+    rows: &Rows,
+    drops: Drops,
+    at: u32,
+    start: usize,
+    reports: &mut Reports,
+)
+    requires { AreNumbered names.now }
+    ensures { AddsFirst start reports.old reports.new (λ ps. spec.all_told (length ps) at ps (claims.names_at (claims.in_byte_order names.now) rows.now drops.vars ++ claims.names_at (claims.in_byte_order names.now) rows.now drops.functions)) }
+{
+    let numbers = names.in_byte_order();
+    tell_row(numbers, names, rows, drops.vars, at, reports);
+    tell_other_row(
+        numbers,
+        names,
+        rows,
+        drops.functions,
+        drops.vars,
+        at,
+        reports,
+    )
+}
+
+// `unset`
+
+fn is_among(name: &[u8], functions: &[Vec<u8>]) -> bool
+    ensures { result ≡ list_any (λ v. bytes_eq v.items name.now) functions.now }
+{
+    functions.iter().any(|function| function.as_slice() == name)
+}
+
+fn is_function(name: &[u8], functions: &[Vec<u8>]) -> bool
+    ensures { result ≡ is_one_of (map (λ v. v.items) functions.now) name.now }
+{
+    is_among(name, functions)
+}
+
+#[tactic(auto, unfolding(crate::specs::DropWalks::variable_told))]
+fn tell_variable(operand: &WordText, script: &[u8], at: u32, start: usize, reports: &mut Reports)
+    ensures { AddsSince start reports.old reports.new (λ k ps. walks.variable_step script.now k at ps operand.now) }
+{
+    match operand.get(script) {
+        None => (),
+        Some(name) => tell_if(is_name(name), name, at, start, reports),
+    }
+}
+
+fn tell_variables(
+    operands: &[WordText],
+    script: &[u8],
+    at: u32,
+    start: usize,
+    reports: &mut Reports,
+)
+    ensures { AddsSince start reports.old reports.new (λ k ps. fold (walks.variable_step script.now k at) ps operands.now) }
+{
+    for operand in operands {
+        tell_variable(operand, script, at, start, reports);
+    }
+}
+
+fn names_function(name: &[u8], functions: &[Vec<u8>]) -> bool
+    ensures { result ≡ (bytes.is_name name.now && is_one_of (map (λ v. v.items) functions.now) name.now) }
+{
+    is_name(name) && is_function(name, functions)
+}
+
+#[tactic(auto, unfolding(crate::specs::DropWalks::function_told))]
+fn tell_function(
+    operand: &WordText,
+    script: &[u8],
+    functions: &[Vec<u8>],
+    at: u32,
+    start: usize,
+    reports: &mut Reports,
+)
+    ensures { AddsSince start reports.old reports.new (λ k ps. walks.function_step script.now (map (λ v. v.items) functions.now) k at ps operand.now) }
+{
+    match operand.get(script) {
+        None => (),
+        Some(name) => tell_if(names_function(name, functions), name, at, start, reports),
+    }
+}
+
+fn tell_functions(
+    operands: &[WordText],
+    script: &[u8],
+    functions: &[Vec<u8>],
+    at: u32,
+    start: usize,
+    reports: &mut Reports,
+)
+    ensures { AddsSince start reports.old reports.new (λ k ps. fold (walks.function_step script.now (map (λ v. v.items) functions.now) k at) ps operands.now) }
+{
+    for operand in operands {
+        tell_function(operand, script, functions, at, start, reports);
+    }
+}
+
+#[tactic(auto, unfolding(crate::specs::DropWalks::removed_told))]
+fn tell_removed(
+    variables: bool,
+    has_functions: bool,
+    operands: &[WordText],
+    script: &[u8],
+    functions: &[Vec<u8>],
+    at: u32,
+    start: usize,
+    reports: &mut Reports,
+)
+    ensures { AddsSince start reports.old reports.new (λ k ps. walks.removed_told script.now (map (λ v. v.items) functions.now) variables has_functions k at ps operands.now) }
+{
+    if variables {
+        tell_variables(operands, script, at, start, reports);
+    }
+    if has_functions {
+        tell_functions(operands, script, functions, at, start, reports);
+    }
+}
+
+/// The variables that `unset` of these operands may remove, and then the functions, of those that the script has.
+#[tactic(auto, using(crate::proofs::DropLemmas::unset_told))]
+pub fn tell_unset(
+    operands: &[WordText],
+    script: &[u8],
+    functions: &[Vec<u8>],
+    at: u32,
+    start: usize,
+    reports: &mut Reports,
+)
+    ensures { AddsSince start reports.old reports.new (λ k ps. spec.all_told k at ps (spec.unset_drops (map (λ v. v.items) functions.now) (spec.listed (map (text_in script.now) operands.now)))) }
+{
+    let (letters, names) = unset_operands(operands, script);
+    tell_removed(
+        letters.takes_variables(),
+        letters.takes_functions(),
+        names,
+        script,
+        functions,
+        at,
+        start,
+        reports,
+    )
+}
+
+// Prefix assignments
+
+#[tactic(auto, unfolding(crate::specs::DropWalks::unseen_told))]
+fn tell_unseen(name: &[u8], known: &Known<'_>, at: u32, start: usize, reports: &mut Reports)
+    ensures { AddsSince start reports.old reports.new (λ k ps. walks.unseen_told (knowing known.now).facts k at ps name.now) }
+{
+    if !known.has_variable(name) {
+        reports.report_once(name, at, start);
+    }
+}
+
+#[tactic(auto, using(crate::proofs::DropLemmas::prefixed))]
+fn tell_prefix(
+    element: &Element,
+    script: &[u8],
+    known: &Known<'_>,
+    at: u32,
+    start: usize,
+    reports: &mut Reports,
+)
+    ensures { AddsSince start reports.old reports.new (λ k ps. walks.prefix_step script.now (knowing known.now).facts k at ps element.now) }
+{
+    match element {
+        Element::Assignment { name, .. } => {
+            tell_unseen(name.text(script), known, at, start, reports)
+        }
+        Element::Word(_) => (),
+        Element::Redirection(_) => (),
+    }
+}
+
+fn tell_each_prefix(
+    elements: &[Element],
+    script: &[u8],
+    known: &Known<'_>,
+    at: u32,
+    start: usize,
+    reports: &mut Reports,
+)
+    ensures { AddsSince start reports.old reports.new (λ k ps. fold (walks.prefix_step script.now (knowing known.now).facts k at) ps elements.now) }
+{
+    for element in elements {
+        tell_prefix(element, script, known, at, start, reports);
+    }
+}
+
+/// The names of prefix assignments that are not known to be set.
+#[tactic(auto, using(crate::proofs::DropLemmas::prefixes_told))]
+pub fn tell_prefixes(
+    elements: &[Element],
+    script: &[u8],
+    known: &Known<'_>,
+    at: u32,
+    start: usize,
+    reports: &mut Reports,
+)
+    ensures { AddsSince start reports.old reports.new (λ k ps. spec.all_told k at ps (spec.unseen (knowing known.now).facts (elements_from script.now elements.now))) }
+{
+    tell_each_prefix(elements, script, known, at, start, reports)
+}

@@ -1,0 +1,12 @@
+use Rattle.std.proofs.Common.{[], ◌∷◌, sym, ◌∙◌, ap}
+use Rattle.sh_domain.specs.Views.{Lose, step}
+use Rattle.sh_domain.specs.Knowledge.{knowledge_facts}
+use Rattle.sh_domain.proofs.KnowledgeLemmas.{function_lost}
+use Rattle.sh_domain.proofs.knowledge.Knowledge.lose_function.Goals as goal
+
+pub returns-in-Known : goal.returns-in-Known
+unfolding knowledge_facts
+returns-in-Known c cert =
+    let names = c.args.names.now in
+    function_lost names cert c.args.name.now c.in-Known.assured c.remove_name.new.self c.remove_name.ensures
+    ∙ ap (λ k. step cert (Lose (record { vars = []; functions = c.args.name.now ∷ [] })) (knowledge_facts names k)) (sym c.in-Known.is)

@@ -1,0 +1,10 @@
+pub mod Answers
+pub mod ForgedScripts
+pub mod Knowledge
+pub mod LongerScripts
+pub mod MoreShortScripts
+pub mod Programs
+pub mod Scripts
+pub mod ShortScripts
+pub mod Spots
+pub mod Texts

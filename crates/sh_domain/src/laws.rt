@@ -1,0 +1,108 @@
+//! What holds of the rules and the demands that `specs/` defines.
+ghost use Rattle.sh_domain.specs.examples.Answers.{AnswersAsExpected};
+ghost use Rattle.sh_domain.specs.Inclusions.{RulesGive};
+ghost use Rattle.sh_domain.specs.Knowledge.{LostOneByOne, NamesSuffice};
+ghost use Rattle.sh_domain.specs.examples.Knowledge.{KnowledgeAsExpected};
+ghost use Rattle.sh_domain.specs.LeastFault.{LeastIsTold};
+ghost use Rattle.sh_domain.specs.Meets.{SeenIsMeet};
+ghost use Rattle.sh_domain.specs.Order.{Monotone, Ordered};
+ghost use Rattle.sh_domain.specs.Slots.{EveryCertificateClaims};
+ghost use Rattle.sh_domain.specs.RoundTrips.{ReadIsWritten, WrittenReadsBack};
+ghost use Rattle.sh_domain.specs.Spelling.{HasOneText};
+ghost use Rattle.sh_domain.specs.Places.{PlacesStandOnce, ReadPlacesStandOnce};
+ghost use Rattle.sh_domain.specs.Readings.{ReadGivesFields, ReadHasFewCommands, ReadHasRows, ReadIsFormed, ReadIsNumbered, ReadNamesVariables, ReadNumbersDiffer};
+ghost use Rattle.sh_domain.specs.examples.Spots.{SpotsAsExpected};
+ghost use Rattle.sh_domain.specs.examples.Texts.{TextsAsExpected};
+
+/// Known certificates of known scripts are answered as they should be: the first rule that one breaks, or the places of the demands
+/// that are unmet.
+pub fn examples()
+    ensures { AnswersAsExpected }
+{}
+
+/// Facts are ordered by what they claim, with a meet and a greatest, and the test of a claim is that order.
+pub fn order()
+    ensures { Ordered }
+{}
+
+/// Where a certificate claims more and has functions drop less, each bound of a rule claims more and each command drops less. So a
+/// certificate without a fault stays below whatever a greater one is lowered to.
+pub fn monotone()
+    ensures { Monotone }
+{}
+
+/// What is seen at several places is the meet of what each view claims: a fact is within it where it is within each, and a step, unless
+/// it is a call, may be taken behind the meet.
+pub fn meets()
+    ensures { SeenIsMeet }
+{}
+
+/// Of a list of faults the one that is told stands in it, none in it precedes that one, and no other is so.
+pub fn least()
+    ensures { LeastIsTold }
+{}
+
+/// What a certificate without a fault and without an unmet demand gives at each command of an admitted program: which claims are
+/// within what is seen there, which names it may drop, and that its words need no more than is known.
+pub fn inclusions()
+    ensures { RulesGive }
+{}
+
+/// The program of every script that is read is formed: a name stands wherever one has to, a positional parameter has a number from 1, plain
+/// text is not empty, an operand whose text is static gives a field, and behind a simple command stand no redirections (XCU 2.10). So its words
+/// give fields, and where it is admitted no run of it comes to a utility that no row speaks of.
+pub fn formed()
+    ensures programs { ReadIsFormed }
+    ensures fields { ReadGivesFields }
+    ensures rows { ReadHasRows }
+{}
+
+/// No two commands of a script that is read have one number, those of its here-documents included; and the table of one within the limits has no more
+/// commands than a script may have.
+pub fn numbered()
+    ensures once { ReadNumbersDiffer }
+    ensures test { ReadIsNumbered }
+    ensures few { ReadHasFewCommands }
+{}
+
+/// Of a program in which no two commands start at one offset, and no two expansions, tildes or names of arithmetic stand at one, no
+/// place is told twice. The program of every script that is read is such (`sh_reads::laws::once`).
+pub fn once()
+    ensures law { PlacesStandOnce }
+    ensures scripts { ReadPlacesStandOnce }
+    ensures examples { SpotsAsExpected }
+{}
+
+/// Known certificates have the texts that they should have, these texts claim what they should, and of others the first line that has not the
+/// form is told.
+pub fn certificate_texts()
+    ensures { TextsAsExpected }
+{}
+
+/// Of a certificate's claims there is one text, and it reads as these claims.
+pub fn spelling()
+    ensures { HasOneText }
+{}
+
+/// A kept certificate whose rows name variables and functions, and that has no more of anything than a text may have, is written with
+/// rising names, and what is written is read as a certificate that claims the same. What is read is what is written again.
+pub fn round_trips()
+    ensures written { WrittenReadsBack }
+    ensures read { ReadIsWritten }
+{}
+
+/// The names that are numbered of a script are enough: each has a number of its own, those of the start have one, and what is known
+/// of them stays known of them alone where one of them is set or defined. Names that are lost together may be lost one by one. Of a script that is
+/// read each of them is a name or `!` where each declared one is a name, as those of a `Policy` are.
+pub fn names()
+    ensures law { NamesSuffice }
+    ensures losses { LostOneByOne }
+    ensures variables { ReadNamesVariables }
+    ensures examples { KnowledgeAsExpected }
+{}
+
+/// The certificate that the rules are asked of claims, before and after each command, at each turn of a loop and round each
+/// function, what the kept certificate has under that number; where there is none, that no run comes there.
+pub fn entries()
+    ensures { EveryCertificateClaims }
+{}

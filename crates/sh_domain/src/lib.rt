@@ -1,0 +1,31 @@
+//! What is surely set before and after each command of a script: policies, the names of a script, and the rules and the demands
+//! that a checker has to test. The latter are definitions, in `specs/`; `laws` holds them against known scripts.
+#![tactic(auto)]
+
+mod certificate;
+mod knowledge;
+pub mod laws;
+mod limits;
+mod loops;
+mod name_set;
+mod names;
+mod number_set;
+mod numbered;
+mod operands;
+mod options;
+mod policy;
+mod rows;
+mod rule;
+mod sights;
+
+pub use certificate::{Certificate, Drops, Entry, Facts, FunctionEntry};
+pub use knowledge::{Assured, Knowledge, Return};
+pub use limits::MAX_CERTIFICATE;
+pub use loops::is_loop;
+pub use names::Names;
+pub use number_set::NumberSet;
+pub use numbered::precedes;
+pub use options::option_takes;
+pub use policy::{Policy, PolicyFault};
+pub use rows::{RowId, Rows};
+pub use rule::FlowRule;

@@ -1,7 +1,0 @@
-pub mod RefusalLemmas
-pub mod CertificateLemmas
-pub mod FindingLemmas
-pub mod CheckLemmas
-pub mod LintLemmas
-pub mod RunLemmas
-pub mod PromiseLemmas

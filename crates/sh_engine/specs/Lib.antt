@@ -1,5 +1,0 @@
-pub mod Prepared
-pub mod Told
-pub mod Judged
-pub mod Runs
-pub mod Promises

@@ -1,5 +1,0 @@
-use Rattle.sh_facts.proofs.TextLemmas.{written_as_expected, read_as_expected, faults_as_expected}
-use Rattle.sh_facts.proofs.laws.certificate_texts.Goals as goal
-
-pub returns : goal.returns
-returns c = (written_as_expected, read_as_expected, faults_as_expected)

@@ -1,8 +1,0 @@
-use Rattle.sh_facts.proofs.RoundTripLemmas.{read_is_written, written_reads_back}
-use Rattle.sh_facts.proofs.laws.round_trips.Goals as goal
-
-pub returns-clause-written : goal.returns-clause-written
-returns-clause-written c = written_reads_back
-
-pub returns-clause-read : goal.returns-clause-read
-returns-clause-read c = read_is_written

@@ -1,7 +1,0 @@
-use Rattle.std.proofs.Common.{◌≡◌, ℕ, List, Bor, map, fold, take}
-use Rattle.sh_facts.specs.Names.{with_text}
-use Rattle.sh_facts.proofs.names.Names.add_texts.Given as goal
-
--- the names so far are those at the start and the texts so far
-abbrev pub invariant-loop-text : goal.invariant-loop-text
-invariant-loop-text l = l.self ≡ fold with_text l.initial.self (map (λ (t : Bor (List ℕ)). t.now) (take l.text-index l.texts))

@@ -1,6 +1,0 @@
-use Rattle.sh_facts.specs.NumberSets.{numbers_of}
-use Rattle.sh_facts.proofs.KnowledgeLemmas.{numbered_only}
-use Rattle.sh_facts.proofs.number_set.NumberSet.add_names.Goals as goal
-
-pub loop-text-init : goal.loop-text-init
-loop-text-init c t = numbered_only c.args.names.now (numbers_of c.args.self.now) t

@@ -1,0 +1,148 @@
+//! The lines of a certificate's text: each function takes the room that there is, and gives what is left of it behind what it counts, or
+//! nothing where there is not so much.
+ghost use Rattle.std.specs.Prelude.{◌≡◌, ◌+◌, ◌^◌, ◌≤◌, ◌<◌, ◌∷◌, [], ◌↔◌, length, map, IsTrue};
+ghost use Rattle.std.specs.Option.{option_copied};
+ghost use Rattle.std.specs.Fmt.{decimal};
+ghost use Rattle.sh_domain.specs.Sheets as text;
+ghost use Rattle.sh_domain.specs.Certificates as claims;
+ghost use Rattle.sh_facts.specs.Room.{Leaves};
+
+use crate::row_length::behind_row;
+use sh_domain::{Certificate, Drops, Entry, Facts, FunctionEntry, MAX_CERTIFICATE, Names, Rows};
+
+/// Whether the one text of a certificate, for the names of its numbers, has more than `MAX_CERTIFICATE` bytes. No byte of it is made, and
+/// no more of it is counted than that.
+pub fn is_too_long(certificate: &Certificate, names: &Names) -> bool
+    requires commands { length certificate.now.entries.items < 2 ^ 32 }
+    requires functions { length certificate.now.functions.items < 2 ^ 32 }
+    ensures { IsTrue result ↔ (MAX_CERTIFICATE < length (text.certificate_text (claims.sheet_of (claims.in_byte_order names.now) certificate.now))) }
+{
+    behind_text(certificate, names, MAX_CERTIFICATE).is_none()
+}
+
+fn behind_text(certificate: &Certificate, names: &Names, room: usize) -> Option<usize>
+    requires commands { length certificate.now.entries.items < 2 ^ 32 }
+    requires functions { length certificate.now.functions.items < 2 ^ 32 }
+    ensures { Leaves room (length (text.certificate_text (claims.sheet_of (claims.in_byte_order names.now) certificate.now))) result }
+{
+    let counted = behind_counts(certificate.entries.len(), certificate.functions.len(), room)?;
+    let left = behind_entries(certificate, names, counted)?;
+    behind_functions(&certificate.rows, names, &certificate.functions, left)
+}
+
+// Behind the first two lines.
+fn behind_counts(commands: usize, functions: usize, room: usize) -> Option<usize>
+    requires commands { commands < 2 ^ 32 }
+    requires functions { functions < 2 ^ 32 }
+    ensures { Leaves room (length (text.line (text.first_line ∷ [])) + length (text.line (text.count_fields commands functions))) result }
+{
+    let words = b"shset certificate 1\ncommands  functions \n".len();
+    room.checked_sub(words + digits_of(commands) + digits_of(functions))
+}
+
+// How many digits a number has.
+fn digits_of(number: usize) -> usize
+    ensures value { result ≡ length (decimal number) }
+    ensures few { result ≤ 20 }
+{
+    let mut digits = 1;
+    let mut rest = number;
+    while rest >= 10 {
+        rest /= 10;
+        digits += 1;
+    }
+    digits
+}
+
+fn behind_entries(certificate: &Certificate, names: &Names, room: usize) -> Option<usize>
+    requires { length certificate.now.entries.items < 2 ^ 32 }
+    ensures { Leaves room (length (text.numbered_lines text.command_fields 1 (claims.commands_from (claims.in_byte_order names.now) certificate.now 1 certificate.now.entries.items))) result }
+{
+    let mut left = room;
+    let mut number: u32 = 0;
+    for entry in &certificate.entries {
+        number += 1;
+        let head = certificate.head(number);
+        left = behind_entry(&certificate.rows, names, number, entry, head, left)?;
+    }
+    Some(left)
+}
+
+fn behind_entry(
+    rows: &Rows,
+    names: &Names,
+    number: u32,
+    entry: &Entry,
+    head: Option<&Facts>,
+    room: usize,
+) -> Option<usize>
+    ensures { Leaves room (length (text.line (text.command_fields number (claims.command_claims (claims.in_byte_order names.now) rows.now entry.now (option_copied head.entry))))) result }
+{
+    let numbered = room.checked_sub(b"c  ".len() + digits_of(number as usize))?;
+    let before = behind_fact(rows, names, entry.before, numbered)?;
+    let zero = behind_fact(rows, names, entry.zero, before)?;
+    let nonzero = behind_fact(rows, names, entry.nonzero, zero)?;
+    match head {
+        Some(head) => behind_fact(rows, names, *head, nonzero),
+        None => Some(nonzero),
+    }
+}
+
+fn behind_functions(
+    rows: &Rows,
+    names: &Names,
+    functions: &[FunctionEntry],
+    room: usize,
+) -> Option<usize>
+    requires { length functions.now < 2 ^ 32 }
+    ensures { Leaves room (length (text.numbered_lines text.function_fields 1 (map (claims.function_claims (claims.in_byte_order names.now) rows.now) functions.now))) result }
+{
+    let mut left = room;
+    let mut number: u32 = 0;
+    for entry in functions {
+        number += 1;
+        left = behind_function(rows, names, number, entry, left)?;
+    }
+    Some(left)
+}
+
+fn behind_function(
+    rows: &Rows,
+    names: &Names,
+    number: u32,
+    entry: &FunctionEntry,
+    room: usize,
+) -> Option<usize>
+    ensures { Leaves room (length (text.line (text.function_fields number (claims.function_claims (claims.in_byte_order names.now) rows.now entry.now)))) result }
+{
+    let numbered = room.checked_sub(b"f  ".len() + digits_of(number as usize))?;
+    let before = behind_fact(rows, names, entry.before, numbered)?;
+    let drops = behind_drops(rows, names, entry.drops, before)?;
+    let zero = behind_fact(rows, names, entry.zero, drops)?;
+    behind_fact(rows, names, entry.nonzero, zero)
+}
+
+// Behind facts, and the blank or the newline that follows them.
+fn behind_fact(rows: &Rows, names: &Names, facts: Facts, room: usize) -> Option<usize>
+    ensures { Leaves room (length (text.claim_text (claims.claim_of (claims.in_byte_order names.now) rows.now facts)) + 1) result }
+{
+    match facts {
+        Facts::NotReached => room.checked_sub(b"- ".len()),
+        Facts::Known {
+            vars,
+            functions,
+            args,
+        } => {
+            let parameters = room.checked_sub(digits_of(args as usize) + 1)?;
+            behind_drops(rows, names, Drops { vars, functions }, parameters)
+        }
+    }
+}
+
+// Behind the variables, the functions, and a byte after each.
+fn behind_drops(rows: &Rows, names: &Names, drops: Drops, room: usize) -> Option<usize>
+    ensures { Leaves room (length (text.drops_text (claims.drops_of (claims.in_byte_order names.now) rows.now drops)) + 1) result }
+{
+    let left = behind_row(rows, names, drops.vars, room)?;
+    behind_row(rows, names, drops.functions, left)
+}

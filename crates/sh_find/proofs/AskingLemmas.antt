@@ -1,0 +1,288 @@
+-- What is gathered of what the flow rules ask, one thing after the other, and by a walk over a script.
+use Rattle.std.proofs.Common.{◌≡◌, ℕ, ◌<◌, ◌≤◌, nat_lt, eqb, Bool, true, false, ◌&&◌, ◌||◌, if◌then◌else◌, Option, Some, None, option_map, List, [], ◌∷◌, length, slice_get, unwrap_or, is_some, refl, sym, ap, ap₂, ◌∙◌, subst, arith, inl, inr, true≢false}
+use Rattle.std.specs.Prelude.{option_and_then}
+use Rattle.std.proofs.Math.Path.{fun_ext}
+use Rattle.std.proofs.lemmas.Bool.{lt-ltb, le-ltb, eqb-true, false_from_ne_true}
+use Rattle.std.proofs.lemmas.Option.{slice_get_within, slice_get_cases}
+use Rattle.std.specs.List.{list_all}
+use Rattle.std.specs.Str.{bytes_eq}
+use Rattle.std.proofs.lemmas.Slice.Eq.{bytes_eq-Decides}
+use Rattle.sh_rows.specs.Numbers.{has_bit}
+use Rattle.sh_rows.specs.declared.bits.BitRow.{BitRow}
+use Rattle.sh_tree.specs.declared.limits.TheConstants.{MAX_COMMANDS, MAX_NESTING}
+use Rattle.sh_tree.specs.declared.tree.Script.{Script}
+use Rattle.sh_tree.specs.standard.program.Syntax.{Text}
+use Rattle.sh_tree.specs.standard.program.Trees.{script_of}
+use Rattle.sh_table.specs.Calls.{table_of}
+use Rattle.sh_table.specs.Numbering.{is_numbered}
+use Rattle.sh_table.specs.standard.runs.Environment.{is_one_of}
+use Rattle.sh_domain.specs.declared.certificate.Certificate as kept
+use Rattle.sh_domain.specs.declared.certificate.Entry.{Entry}
+use Rattle.sh_domain.specs.declared.certificate.Facts as value
+use Rattle.sh_domain.specs.declared.certificate.FunctionEntry.{FunctionEntry}
+use Rattle.sh_domain.specs.declared.knowledge.Assured.{Assured}
+use Rattle.sh_domain.specs.declared.knowledge.Knowledge.{Knowledge}
+use Rattle.sh_domain.specs.declared.rows.RowId.{RowId}
+use Rattle.sh_domain.specs.Certificates.{claim_of, drops_of, in_byte_order, names_at}
+use Rattle.sh_domain.specs.Entries.{Entered, script_entered}
+use Rattle.sh_domain.specs.Facts.{Facts, Claim, Unreached, Declared, start_facts, within}
+use Rattle.sh_domain.specs.Faults.{are_among}
+use Rattle.sh_domain.specs.KeptRows.{KeptRows, holds_at, bits_of}
+use Rattle.sh_domain.specs.Knowledge.{AreNumbered, among, assured_facts, at_number, knowledge_facts}
+use Rattle.sh_domain.specs.Names.{IsNumbering, number_of}
+use Rattle.sh_domain.specs.Operands.{Names, no_names}
+use Rattle.sh_domain.specs.Reading.{claim_fits}
+use Rattle.sh_domain.specs.Rules.{script_bounds}
+use Rattle.sh_domain.specs.Slots.{entry_of}
+use Rattle.sh_domain.specs.Views as views
+use Rattle.sh_domain.specs.Views.{Slot}
+use Rattle.sh_domain.proofs.DifferLemmas.{read_is_numbered}
+use Rattle.sh_domain.proofs.KnowledgeLemmas.{in_row, number_is_name, stands_there, and_none}
+use Rattle.sh_domain.proofs.RowLemmas.{bits_at, no_bits}
+use Rattle.sh_domain.proofs.TotalLemmas.{read_has_few_commands, rows_length}
+use Rattle.sh_demands.proofs.TextLemmas.{has_texts, entered_have}
+use Rattle.sh_operands.specs.Numerals.{most}
+use Rattle.sh_find.specs.Facts as number
+use Rattle.sh_rules.specs.declared.claims.Claims.{Claims}
+use Rattle.sh_rules.specs.Settings.{Setting, certificate, claimed_at}
+use Rattle.sh_rules.specs.Walked.{script_walked}
+use Rattle.sh_rules.specs.Walks.{facts_in, setting}
+use Rattle.sh_rules.specs.Meaning.{knows}
+use Rattle.sh_rules.specs.Visits.{command_by}
+use Rattle.sh_rules.specs.Asked.{ByConstraints, AreDefined}
+use Rattle.sh_rules.proofs.NestLemmas.{script_shallow}
+use Rattle.sh_rules.proofs.PrefixLemmas.{prefixes_are_numbered, table_defines}
+use Rattle.sh_rules.proofs.RuleLemmas.{walk_same}
+use Rattle.sh_rules.proofs.ScriptLemmas.{script_told}
+use Rattle.sh_rules.proofs.SlotLemmas.{entries, head_claim}
+use Rattle.sh_domain.specs.Admitted.{IsAdmitted, claims_in, functions_in}
+use Rattle.sh_find.specs.declared.place.Place.{Place}
+use Rattle.sh_find.specs.Gathered.{Gathered, fitting, fitting_place, is_at, is_number, next_of, bounded, counted, gathered, all_gathered}
+use Rattle.sh_find.specs.Gathering.{tested_at, tested_by, met, with_sets, gathering, and_true, or_false, none_passes}
+use Rattle.sh_find.specs.Numbers.{name_passes, by_number, numbers_in}
+use Rattle.sh_find.specs.Places.{place_of}
+use Rattle.sh_find.specs.declared.subject.Subject.{Subject}
+use Rattle.sh_find.specs.Sweeps.{setting_by}
+use Rattle.sh_find.specs.Turns.{sheet_by}
+use Rattle.sh_find.specs.Working.{Sets, joined}
+use Rattle.sh_find.proofs.NumberLemmas.{claim_known}
+use Rattle.sh_find.proofs.TogetherLemmas.{gathered_together}
+
+-- Tests of names, by their numbers
+
+past : (names : List Text) (k : ℕ) → slice_get names k ≡ None → length names ≤ k
+past names k e = elim (slice_get_cases names k).1 [
+  | inl w ↦ absurd (true≢false (sym (ap is_some w.2) ∙ ap is_some e))
+  | inr w ↦ w.0
+]
+
+module _ (names : List Text) (h : AreNumbered names) where
+  numbered_test : (p : ℕ → Bool) (k : ℕ) → (p k && nat_lt k (length names)) ≡ name_passes (λ t. at_number p (number_of names t)) (slice_get names k)
+  unfolding name_passes at_number
+  numbered_test p k = go (slice_get names k) refl
+    where
+      go : (o : Option Text) → slice_get names k ≡ o → (p k && nat_lt k (length names)) ≡ name_passes (λ t. at_number p (number_of names t)) o
+      go None e = ap (λ b. p k && b) (le-ltb k (length names) (past names k e)) ∙ and_none (p k)
+      go (Some t) e = ap (λ b. p k && b) (lt-ltb k (length names) (slice_get_within names k t e)) ∙ and_true (p k) ∙ sym (ap (at_number p) (h.own k t e))
+
+  known_of : (v u f g : ℕ → Bool) (m n : ℕ) → v ≡ u → f ≡ g → m ≡ n → number.Known v f m ≡ number.Known u g n
+  known_of v u f g m n x y z = cc
+
+  pub assured_numbers : (s : Assured) (v f : ℕ → Bool) (a : ℕ) → ((k : ℕ) → v k ≡ (has_bit k s.vars.words && nat_lt k (length names)))
+      → ((k : ℕ) → f k ≡ (has_bit k s.functions.words && nat_lt k (length names))) → a ≡ s.args → number.Known v f a ≡ by_number names (assured_facts names s)
+  unfolding by_number
+  assured_numbers s v f a vars functions args =
+      known_of _ _ _ _ _ _ (fun_ext (λ k. vars k ∙ numbered_test (λ j. has_bit j s.vars.words) k)) (fun_ext (λ k. functions k ∙ numbered_test (λ j. has_bit j s.functions.words) k)) args
+
+  -- a name that is added
+
+  swapped : (a b : Bool) → (a || b) ≡ (b || (a || false))
+  swapped true true = refl
+  swapped true false = refl
+  swapped false b = sym (or_false b)
+
+  pub name_added : (name : Text) (n : ℕ) (old new : ℕ → Bool) → number_of names name ≡ Some n → ((k : ℕ) → new k ≡ (eqb k n || old k))
+      → (k : ℕ) → new k ≡ (old k || name_passes (is_one_of (name ∷ [])) (slice_get names k))
+  unfolding name_passes
+  name_added name n old new is added k = go (slice_get names k) refl
+    where
+      go : (o : Option Text) → slice_get names k ≡ o → new k ≡ (old k || name_passes (is_one_of (name ∷ [])) o)
+      go None e =
+          let other : eqb k n ≡ false = false_from_ne_true (eqb k n) (λ s. let same : k ≡ n = eqb-true k n s in true≢false (sym (ap is_some (stands_there names n name is)) ∙ ap (λ j. is_some (slice_get names j)) (sym same) ∙ ap is_some e)) in
+          added k ∙ ap (λ b. b || old k) other ∙ sym (or_false (old k))
+      go (Some t) e = added k ∙ ap (λ b. b || old k) (number_is_name names n k name t is (h.own k t e)) ∙ swapped (bytes_eq name t) (old k)
+
+  pub name_unknown : (name : Text) (old : ℕ → Bool) → number_of names name ≡ None → (k : ℕ) → old k ≡ (old k || name_passes (is_one_of (name ∷ [])) (slice_get names k))
+  unfolding name_passes
+  name_unknown name old is k = go (slice_get names k) refl
+    where
+      go : (o : Option Text) → slice_get names k ≡ o → old k ≡ (old k || name_passes (is_one_of (name ∷ [])) o)
+      go None e = sym (or_false (old k))
+      go (Some t) e =
+          let other : bytes_eq name t ≡ false = false_from_ne_true (bytes_eq name t) (λ s. let same : name ≡ t = (bytes_eq-Decides name t).0 s in true≢false (sym (ap is_some (h.own k t e)) ∙ ap (λ u. is_some (number_of names u)) (sym same) ∙ ap is_some is)) in
+          sym (ap (λ b. old k || (b || false)) other ∙ or_false (old k))
+
+  -- a row that is added
+
+  row_test : (rows : KeptRows) (id : RowId) → ((k : ℕ) → length names ≤ k → holds_at rows.rows id.index k ≡ false)
+      → (k : ℕ) → holds_at rows.rows id.index k ≡ name_passes (is_one_of (names_at (in_byte_order names) rows id)) (slice_get names k)
+  unfolding name_passes at_number
+  row_test rows id none k = go (slice_get names k) refl
+    where
+      go : (o : Option Text) → slice_get names k ≡ o → holds_at rows.rows id.index k ≡ name_passes (is_one_of (names_at (in_byte_order names) rows id)) o
+      go None e = none k (past names k e)
+      go (Some t) e = sym (in_row names h rows id t ∙ ap (at_number (λ j. holds_at rows.rows id.index j)) (h.own k t e))
+
+  or_swapped : (a b : Bool) → (a || b) ≡ (b || a)
+  or_swapped true true = refl
+  or_swapped true false = refl
+  or_swapped false b = sym (or_false b)
+
+  pub row_added : (rows : KeptRows) (id : RowId) (row : BitRow) (old new : ℕ → Bool) → slice_get rows.rows id.index ≡ Some row → row.count ≡ rows.count → rows.count ≡ length names
+      → ((k : ℕ) → new k ≡ (holds_at rows.rows id.index k || old k)) → (k : ℕ) → new k ≡ (old k || name_passes (is_one_of (names_at (in_byte_order names) rows id)) (slice_get names k))
+  row_added rows id row old new is counted sized added k =
+      added k ∙ or_swapped (holds_at rows.rows id.index k) (old k) ∙ ap (λ b. old k || b) (row_test rows id none k)
+    where
+      none : (j : ℕ) → length names ≤ j → holds_at rows.rows id.index j ≡ false
+      none j far = bits_at rows.rows id.index row is j ∙ false_from_ne_true (bits_of row j) (λ s. let low : j < row.count = row.below j s in absurd (omega (arith, low, counted, sized, far)))
+
+  pub row_unknown : (rows : KeptRows) (id : RowId) (old : ℕ → Bool) → slice_get rows.rows id.index ≡ None
+      → (k : ℕ) → old k ≡ (old k || name_passes (is_one_of (names_at (in_byte_order names) rows id)) (slice_get names k))
+  row_unknown rows id old is k =
+      sym (ap (λ b. old k || b) (sym (row_test rows id (λ j far. no_bits rows.rows id.index is j) k) ∙ no_bits rows.rows id.index is k) ∙ or_false (old k))
+
+-- One thing more
+
+pub with_nothing : (f : number.Facts) → f ≡ number.meet f number.NotReached
+unfolding number.meet
+with_nothing number.NotReached = refl
+with_nothing (number.Known v f a) = refl
+
+pub nothing_met : (g : Gathered) → g ≡ met number.NotReached g
+nothing_met g = ap (λ f. record g { known = f }) (with_nothing g.known)
+
+pub known_put : (g : Gathered) (f h : number.Facts) → h ≡ number.meet g.known f → record g { known = h } ≡ met f g
+known_put g f h e = ap (λ k. record g { known = k }) e
+
+abbrev pub sets_put : Gathered → (ℕ → Bool) → (ℕ → Bool) → Gathered
+sets_put g v f = record g { sets = record { vars = v; functions = f } }
+
+pub sets_joined : (g : Gathered) (z : Sets) (v f : ℕ → Bool) → ((k : ℕ) → v k ≡ (g.sets.vars k || z.vars k)) → ((k : ℕ) → f k ≡ (g.sets.functions k || z.functions k)) → sets_put g v f ≡ with_sets z g
+sets_joined g z v f vars functions = ap₂ (sets_put g) (fun_ext vars) (fun_ext functions)
+
+-- where nothing of a kind is lost
+pub none_joined : (names : List Text) (old : ℕ → Bool) (k : ℕ) → old k ≡ (old k || name_passes (is_one_of []) (slice_get names k))
+none_joined names old k = sym (ap (λ b. old k || b) (none_passes (slice_get names k)) ∙ or_false (old k))
+
+pub nothing_lost : (names : List Text) (g : Gathered) → g ≡ with_sets (numbers_in names no_names) g
+nothing_lost names g = sets_joined g (numbers_in names no_names) g.sets.vars g.sets.functions (none_joined names g.sets.vars) (none_joined names g.sets.functions)
+
+-- What a place and a function are asked
+
+module _ (x : Setting) where
+  module _ (slot : Slot) (c : Claim) (k : Facts) (o : Option Place) (kept here : Bool) (old mid : Gathered) (claim : c ≡ claimed_at x slot) (test : kept ≡ within c k)
+      (found : o ≡ place_of x.functions slot) (is : here ≡ is_at o old.place) (between : mid ≡ tested_at o kept old) where
+    abbrev bound_of : Option Place → Bool → Bool → Gathered
+    bound_of p t i = record old {
+      kept = old.kept && t;
+      known = if i then number.meet old.known (by_number x.names k) else old.known;
+      next_place = next_of (t || is_at p old.place) (option_and_then fitting_place p) old.next_place;
+    }
+
+    bounds : (b : Bool) → here ≡ b → bound_of o kept b ≡ bounded x.names x.functions slot (claimed_at x slot) k old
+    unfolding bounded
+    bounds b e =
+        ap (bound_of o kept) (sym e ∙ is) ∙ ap₂ (λ (p : Option Place) (t : Bool). bound_of p t (is_at p old.place)) found (test ∙ ap (λ d. within d k) claim)
+
+    pub bound_here : (new : Gathered) → here ≡ true → new ≡ met (by_number x.names k) mid → new ≡ bounded x.names x.functions slot (claimed_at x slot) k old
+    bound_here new e last = last ∙ ap (met (by_number x.names k)) between ∙ bounds true e
+
+    pub bound_away : here ≡ false → mid ≡ bounded x.names x.functions slot (claimed_at x slot) k old
+    bound_away e = between ∙ bounds false e
+
+  module _ (name : Text) (lost : Names) (o : Option ℕ) (kept here : Bool) (old mid : Gathered) (test : kept ≡ are_among lost ((certificate x).drops name))
+      (found : o ≡ number_of x.functions name) (is : here ≡ is_number o old.function) (between : mid ≡ tested_by o kept old) where
+    abbrev drop_of : Option ℕ → Bool → Bool → Gathered
+    drop_of i t b = record old {
+      kept = old.kept && t;
+      sets = if b then joined (numbers_in x.names lost) old.sets else old.sets;
+      next_function = next_of (t || is_number i old.function) (option_and_then fitting i) old.next_function;
+    }
+
+    drops : (b : Bool) → here ≡ b → drop_of o kept b ≡ counted x.names x.functions name ((certificate x).drops name) lost old
+    unfolding counted
+    drops b e = ap (drop_of o kept) (sym e ∙ is) ∙ ap₂ (λ (i : Option ℕ) (t : Bool). drop_of i t (is_number i old.function)) found test
+
+    pub drop_here : (new : Gathered) → here ≡ true → new ≡ with_sets (numbers_in x.names lost) mid → new ≡ counted x.names x.functions name ((certificate x).drops name) lost old
+    drop_here new e last = last ∙ ap (with_sets (numbers_in x.names lost)) between ∙ drops true e
+
+    pub drop_away : here ≡ false → mid ≡ counted x.names x.functions name ((certificate x).drops name) lost old
+    drop_away e = between ∙ drops false e
+
+  -- what a function drops that is called, by its entry
+  pub entry_drops : (name : Text) (e : FunctionEntry) → entry_of x.kept x.functions name ≡ Some e → (certificate x).drops name ≡ drops_of (in_byte_order x.names) x.kept.rows e.drops
+  entry_drops name e is = (entries x).drops name ∙ ap (λ o. unwrap_or (option_map (λ (d : FunctionEntry). drops_of (in_byte_order x.names) x.kept.rows d.drops) o) no_names) is
+
+  pub none_drops : (name : Text) → entry_of x.kept x.functions name ≡ None → (certificate x).drops name ≡ no_names
+  none_drops name is = (entries x).drops name ∙ ap (λ o. unwrap_or (option_map (λ (d : FunctionEntry). drops_of (in_byte_order x.names) x.kept.rows d.drops) o) no_names) is
+
+-- What is gathered goes by constraints
+
+module _ (x : Setting) (h : AreNumbered x.names) where
+  claimed_fits : {E : Type 0} (f : E → value.Facts) (o : Option E) (c : Claim) → c ≡ unwrap_or (option_map (λ e. claim_of (in_byte_order x.names) x.kept.rows (f e)) o) Unreached → claim_fits x.names c ≡ true
+  unfolding claim_fits
+  claimed_fits f None c e = ap (claim_fits x.names) e
+  claimed_fits f (Some a) c e = ap (claim_fits x.names) e ∙ claim_known x.names h x.kept.rows (f a)
+
+  slot_fits : (slot : Slot) → claim_fits x.names ((certificate x).claim slot) ≡ true
+  unfolding claimed_at
+  slot_fits (views.Before n) = claimed_fits (λ (e : Entry). e.before) _ _ ((entries x).before n)
+  slot_fits (views.AfterZero n) = claimed_fits (λ (e : Entry). e.zero) _ _ ((entries x).zero n)
+  slot_fits (views.AfterNonzero n) = claimed_fits (λ (e : Entry). e.nonzero) _ _ ((entries x).nonzero n)
+  slot_fits (views.Head n) = claimed_fits (λ (f : value.Facts). f) _ _ (head_claim x n)
+  slot_fits (views.Entry f) = claimed_fits (λ (e : FunctionEntry). e.before) _ _ ((entries x).entered f)
+  slot_fits (views.ReturnsZero f) = claimed_fits (λ (e : FunctionEntry). e.zero) _ _ ((entries x).returns_zero f)
+  slot_fits (views.ReturnsNonzero f) = claimed_fits (λ (e : FunctionEntry). e.nonzero) _ _ ((entries x).returns_nonzero f)
+
+  pub by_constraints : (d : Declared) → ByConstraints Gathered gathering x d
+  unfolding claimed_at knows gathered
+  by_constraints d = record {
+    all = all_gathered x.names x.functions d (certificate x);
+    none = λ g. refl;
+    joined = λ g ks ls. gathered_together.lists x.names x.functions d (certificate x) g ks ls;
+    bounded = λ slot n rule s g. gathered_together.views x.names x.functions h d (certificate x) slot (slot_fits slot) n rule s g;
+    counted = λ f n l g. refl;
+  }
+
+-- A script that is admitted
+
+module _ (b : List ℕ) (d : Declared) (t : Script) (names : List Text) (a : IsAdmitted b d t names) where
+  pub commands_numbered : is_numbered (script_of b t) ≡ true
+  commands_numbered = read_is_numbered b t (MAX_NESTING, a.reading.1.0, a.reading.1.1)
+
+  pub few_commands : length (table_of b t).rows ≤ MAX_COMMANDS
+  few_commands = read_has_few_commands b t a.reading.1
+
+  walk_gathers : (x : Setting) (old : Gathered) → AreNumbered x.names → x.names ≡ names → x.functions ≡ (table_of b t).functions.names → x.rows ≡ (table_of b t).rows
+      → script_walked x (command_by gathering x) (among x.names (start_facts d)) old (script_of b t) ≡ all_gathered x.names x.functions d (certificate x) old (script_bounds (script_of b t))
+  unfolding by_constraints table_of
+  walk_gathers x old h same functions rows =
+      let few = few_commands in
+      let length = rows_length b t in
+      walk_same gathering x d h (script_of b t) old
+      (ap (λ rs. list_all (λ (e : Entered). has_texts rs e.command) (script_entered (script_of b t))) rows ∙ entered_have (script_of b t) commands_numbered)
+      (script_shallow most (script_of b t) (omega (arith, few, length)))
+      ∙ script_told gathering x h d (by_constraints x h d) (script_of b t) old (subst (λ fs. AreDefined fs (script_of b t)) (sym functions) (table_defines b t))
+      (prefixes_are_numbered b t d x.names (subst (IsNumbering b t d) (sym same) a.numbered.0))
+
+-- all that is asked of a certificate of it is gathered by a walk
+pub walk_asks : (s : Subject) (c : kept.Certificate) (z : Claims) → setting z ≡ setting_by s c → (start : Knowledge) (old new : Gathered)
+    → AreNumbered s.names.now → IsAdmitted s.script.now s.policy.now s.tree.now s.names.now
+    → knowledge_facts s.names.now start ≡ among s.names.now (start_facts s.policy.now) → new ≡ script_walked (setting z) (command_by gathering (setting z)) (facts_in (setting z) start) old (script_of (setting z).script s.tree.now)
+    → new ≡ all_gathered s.names.now (functions_in s.script.now s.tree.now) s.policy.now (claims_in s.script.now s.tree.now (sheet_by s.names.now c)) old (script_bounds (script_of s.script.now s.tree.now))
+unfolding facts_in
+walk_asks s c z same start old new h admitted begun walked =
+    let x = setting_by s c in
+    subst (λ y. new ≡ script_walked y (command_by gathering y) (facts_in y start) old (script_of y.script s.tree.now)) same walked
+    ∙ ap (λ k. script_walked x (command_by gathering x) k old (script_of s.script.now s.tree.now)) begun
+    ∙ walk_gathers s.script.now s.policy.now s.tree.now s.names.now admitted x old h refl refl refl

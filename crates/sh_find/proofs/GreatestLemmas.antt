@@ -1,0 +1,81 @@
+-- What is found is the greatest certificate.
+use Rattle.std.proofs.Common.{◌≡◌, ℕ, ◌+◌, ◌<◌, ◌≤◌, cond, Bool, true, false, List, map, length, refl, sym, subst, arith}
+use Rattle.std.specs.Borrow.{Bor}
+use Rattle.std.specs.List.Sorted.{IsPermutation}
+use Rattle.sh_tree.specs.declared.tree.Command.{Command}
+use Rattle.sh_tree.specs.declared.tree.Script.{Script}
+use Rattle.sh_tree.specs.standard.program.Syntax.{Text}
+use Rattle.sh_tree.specs.standard.program.Trees.{script_of}
+use Rattle.sh_tree.specs.Commands.{commands_of}
+use Rattle.sh_domain.specs.declared.certificate.Certificate as kept
+use Rattle.sh_domain.specs.Facts.{Declared}
+use Rattle.sh_domain.specs.Faults.{faults}
+use Rattle.sh_domain.specs.Knowledge.{AreNumbered}
+use Rattle.sh_domain.specs.Names.{are_distinct}
+use Rattle.sh_domain.specs.Reading.{AreLoops}
+use Rattle.sh_domain.specs.Rules.{Constraint, script_bounds}
+use Rattle.sh_domain.proofs.KnownNameLemmas.{names_suffice}
+use Rattle.sh_domain.proofs.RoundTripLemmas.{written_reads_back}
+use Rattle.sh_domain.specs.Admitted.{IsAdmitted, functions_in}
+use Rattle.sh_domain.specs.Admitted.{IsGreatest}
+use Rattle.sh_find.specs.First.{ClaimsAll, DropsNothing}
+use Rattle.sh_find.specs.Turns.{sheet_by, IsTurn, IsSettled}
+use Rattle.sh_find.specs.Working.{IsWorking, height}
+use Rattle.sh_find.proofs.AboveLemmas.{first_above}
+use Rattle.sh_find.proofs.LoopsLemmas.{all_counted}
+use Rattle.sh_find.proofs.SheetLemmas.{fits_there, has_text, known_there}
+
+-- the names of a script that is admitted are numbered
+pub numbered : (b : List ℕ) (d : Declared) (t : Script) (names : List Text) → IsAdmitted b d t names → AreNumbered names
+numbered b d t names a = names_suffice.numbered b t d names a.numbered.0 a.numbered.1
+
+-- it has no more commands than a text of a certificate may have
+pub few_commands : (b : List ℕ) (d : Declared) (t : Script) (names : List Text) → IsAdmitted b d t names → (cs : List (Bor Command)) → IsPermutation (commands_of t) (map (λ (c : Bor Command). c.now) cs)
+    → length cs ≤ 65535
+few_commands b d t names a cs same =
+    let all = all_counted b t a.reading.1.0 a.reading.1.1 cs same in
+    let few = a.reading.1.2 in
+    omega (arith, all, few)
+
+-- Turns one after the other
+
+-- how much is left to lower, and a last turn
+abbrev pub left : List Text → kept.Certificate → Bool → ℕ
+left names c done = cond done 0 (height (length names) (length c.entries.items) (length c.functions.items) c + 1)
+
+module _ (names : List Text) (loops : List Bool) (m : ℕ) (declared : Declared) (defined : List Text) (ks : List Constraint) where
+  pub heights : (c : kept.Certificate) → IsWorking names loops m c → height (length names) (length c.entries.items) (length c.functions.items) c ≡ height (length names) (length loops) m c
+  heights c w = rw (w.commands, w.defined) refl
+
+  pub less_left : (mid new : kept.Certificate) (before done : Bool) → before ≡ false → IsWorking names loops m mid → IsTurn names loops m declared defined ks mid new done → left names new done < left names mid before
+  less_left mid new before done e w t = subst (λ x. left names new done < left names mid x) (sym e) (go done refl)
+    where
+      go : (x : Bool) → done ≡ x → left names new done < left names mid false
+      go true is = rw is (omega arith)
+      go false is = rw is (let l = t.less is in let a = heights new t.working in let z = heights mid w in omega (arith, l, a, z))
+
+-- The greatest one
+
+module _ (b : List ℕ) (d : Declared) (t : Script) (names : List Text) (admitted : IsAdmitted b d t names) (loops : List Bool) (are_loops : AreLoops t loops) where
+  abbrev defined : List Text
+  defined = functions_in b t
+
+  pub is_greatest : (first c : kept.Certificate) → IsWorking names loops (length defined) first → ClaimsAll first → DropsNothing first
+      → IsSettled names loops (length defined) d defined (script_bounds (script_of b t)) first c → are_distinct names ≡ true → length loops ≤ 65535 → length defined ≤ 65535
+      → IsGreatest b d t names (sheet_by names c)
+  unfolding faults
+  is_greatest first c working all none s distinct few some =
+      let h = numbered b d t names admitted in
+      record {
+        fit = record { loops = loops; are_loops = are_loops; fit = fits_there names h loops (length defined) c s.working };
+        rules = s.rules;
+        above = λ other fit keeps. s.above other (known_there names fit.loops (length defined) other fit.fit) keeps (first_above names h defined loops (length defined) first working all none other);
+        spelled = written_reads_back.rising names c (has_text names h loops (length defined) c s.working distinct few some);
+      }
+
+  -- by any count that is that of its functions
+  pub is_greatest_of : (m : ℕ) → m ≡ length defined → (first c : kept.Certificate) → IsWorking names loops m first → ClaimsAll first → DropsNothing first
+      → IsSettled names loops m d defined (script_bounds (script_of b t)) first c → are_distinct names ≡ true → length loops ≤ 65535 → m ≤ 65535 → IsGreatest b d t names (sheet_by names c)
+  is_greatest_of m e first c working all none s distinct few some =
+      is_greatest first c (subst (λ n. IsWorking names loops n first) e working) all none (subst (λ n. IsSettled names loops n d defined (script_bounds (script_of b t)) first c) e s) distinct few
+      (subst (λ n. n ≤ 65535) e some)

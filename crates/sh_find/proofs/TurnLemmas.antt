@@ -1,0 +1,138 @@
+-- Turns of the search.
+use Rattle.std.proofs.Common.{◌≡◌, ℕ, ◌<◌, Bool, true, false, ◌||◌, Option, Some, None, List, [], length, flat_map, refl, sym, ap, ◌∙◌, subst, arith, inl, inr, true≢false}
+use Rattle.std.proofs.lemmas.Bool.{cases_Bool}
+use Rattle.sh_tree.specs.standard.program.Syntax.{Text}
+use Rattle.sh_domain.specs.declared.certificate.Certificate as kept
+use Rattle.sh_domain.specs.Facts.{facts, Declared}
+use Rattle.sh_domain.specs.Faults.{broken}
+use Rattle.sh_domain.specs.Knowledge.{AreNumbered, at_number}
+use Rattle.sh_domain.specs.Names.{number_of}
+use Rattle.sh_domain.specs.NumberSets.{numbers_of}
+use Rattle.sh_domain.specs.Order.{IsWithin, IsBelow}
+use Rattle.sh_domain.specs.Reading.{claim_fits}
+use Rattle.sh_domain.specs.Rules.{Constraint}
+use Rattle.sh_domain.specs.Sheets.{Sheet, certificate_of}
+use Rattle.sh_domain.proofs.OrderLemmas.{within_nowhere}
+use Rattle.sh_find.specs.Kept.{IsNamed}
+use Rattle.sh_find.specs.declared.gather.Gather.{Gather}
+use Rattle.sh_find.specs.declared.gather.Target.{Target}
+use Rattle.sh_find.specs.declared.place.Place.{Place}
+use Rattle.sh_find.specs.Gathered.{Gathered, all_gathered}
+use Rattle.sh_find.specs.Numbers.{by_name}
+use Rattle.sh_find.specs.Places.{claim_there}
+use Rattle.sh_find.specs.Turns.{gathered_of, IsNew, AreNumbers, Stands, sheet_by, IsSunk, IsTurn}
+use Rattle.sh_find.specs.Working.{IsWorking, IsLowered, IsCounted, height}
+use Rattle.sh_find.proofs.AboveLemmas.{lowered_above, counted_above}
+use Rattle.sh_find.proofs.GatherLemmas.{all_kept, numbered_only, stands_all}
+use Rattle.sh_find.proofs.HeightLemmas.{lowered_less, counted_less}
+
+kept_of : (g : Gather) → (gathered_of g).kept ≡ g.kept
+unfolding gathered_of
+kept_of g = refl
+
+-- What is gathered from nothing
+
+module _ (target : Target) (g : Gather) (new : IsNew target g) where
+  pub new_numbers : (names : ℕ) → AreNumbers names (gathered_of g)
+  unfolding gathered_of IsNamed
+  new_numbers names = record {
+    known = subst (IsNamed names) (sym new.known) tt;
+    sets = record { vars = λ k e. absurd (true≢false (sym e ∙ new.vars k)); functions = λ k e. absurd (true≢false (sym e ∙ new.functions k)) };
+  }
+
+  none_at : (v : ℕ → Bool) → ((k : ℕ) → v k ≡ false) → (o : Option ℕ) → at_number v o ≡ false
+  unfolding at_number
+  none_at v h None = refl
+  none_at v h (Some k) = h k
+
+  pub new_stands : (names : List Text) (d : Sheet) → Stands names d (gathered_of g)
+  unfolding gathered_of by_name
+  new_stands names d = record {
+    place = subst (IsWithin (facts (claim_there d (Some g.target.place)))) (sym (ap (by_name names) new.known)) (within_nowhere _);
+    vars = λ x e. absurd (true≢false (sym e ∙ none_at (numbers_of g.vars) new.vars (number_of names x)));
+    functions = λ x e. absurd (true≢false (sym e ∙ none_at (numbers_of g.functions) new.functions (number_of names x)));
+  }
+
+  module _ (names defined : List Text) (declared : Declared) (c : Sheet) (ks : List Constraint) (after : Gather)
+      (is : gathered_of after ≡ all_gathered names defined declared (certificate_of defined c) (gathered_of g) ks) where
+    pub asked_numbers : AreNumbers (length names) (gathered_of after)
+    asked_numbers = subst (AreNumbers (length names)) (sym is) (numbered_only names defined declared (certificate_of defined c) ks (gathered_of g) (new_numbers (length names)))
+
+    pub asked_rules : after.kept ≡ true → flat_map (broken declared (certificate_of defined c)) ks ≡ []
+    asked_rules e = (all_kept names defined declared (certificate_of defined c) ks (gathered_of g) (sym (ap (λ (x : Gathered). x.kept) is) ∙ kept_is ∙ e)).1
+      where
+        kept_is : (gathered_of after).kept ≡ after.kept
+        kept_is = kept_of after
+
+    pub asked_stands : (d : Sheet) → ((o : Option Place) → claim_fits names (claim_there d o) ≡ true) → flat_map (broken declared (certificate_of defined d)) ks ≡ []
+        → IsBelow (certificate_of defined d) (certificate_of defined c) → Stands names d (gathered_of after)
+    asked_stands d fit none below =
+        subst (Stands names d) (sym is) (stands_all names defined declared (certificate_of defined c) d below fit ks (gathered_of g) none (new_stands names d))
+
+-- A certificate that is lowered twice
+
+module _ (names : List Text) (loops : List Bool) (m : ℕ) (old mid new : kept.Certificate) (g : Gathered) (x y : Bool) (before : IsWorking names loops m old) (between : IsWorking names loops m mid)
+    (after : IsWorking names loops m new) (first : IsLowered old mid g.place g.known x) (second : IsCounted mid new g.function g.sets y) (numbers : AreNumbers (length names) g) where
+  abbrev tall : kept.Certificate → ℕ
+  tall c = height (length names) (length loops) m c
+
+  first_less : x ≡ true → tall mid < tall old
+  first_less e = lowered_less names loops m old mid g.place g.known before between (subst (IsLowered old mid g.place g.known) e first)
+
+  second_less : y ≡ true → tall new < tall mid
+  second_less e = counted_less names loops m mid new g.function g.sets between numbers.sets (subst (IsCounted mid new g.function g.sets) e second)
+
+  either : (a b : Bool) → (a || b) ≡ false → (a ≡ false) × (b ≡ false)
+  either true b e = absurd (true≢false e)
+  either false b e = (refl, e)
+
+  less_by : (a b : Bool) → x ≡ a → y ≡ b → (a || b) ≡ true → tall new < tall old
+  less_by true true e f h = let p = first_less e in let q = second_less f in omega (arith, p, q)
+  less_by true false e f h = subst (λ c. tall c < tall old) (sym (second.stays f)) (first_less e)
+  less_by false true e f h = subst (λ c. tall new < tall c) (first.stays e) (second_less f)
+  less_by false false e f h = absurd (true≢false (sym h))
+
+  pub sunk_both : IsSunk names loops m old new g (x || y)
+  sunk_both = record {
+    stays = λ e. let both = either x y e in second.stays both.1 ∙ first.stays both.0;
+    working = after;
+    less = λ e. less_by x y refl refl e;
+    above = λ h defined d s below. by_second h defined d s (by_first h defined d s below);
+  }
+    where
+      by_first : AreNumbered names → (defined : List Text) (d : Sheet) → Stands names d g → IsBelow (certificate_of defined d) (certificate_of defined (sheet_by names old))
+          → IsBelow (certificate_of defined d) (certificate_of defined (sheet_by names mid))
+      by_first h defined d s below = elim (cases_Bool x) [
+        | inl e ↦ lowered_above names h defined loops m old mid before between d below g.place g.known (subst (IsLowered old mid g.place g.known) e first) s.place
+        | inr e ↦ subst (λ c. IsBelow (certificate_of defined d) (certificate_of defined (sheet_by names c))) (sym (first.stays e)) below
+      ]
+
+      by_second : AreNumbered names → (defined : List Text) (d : Sheet) → Stands names d g → IsBelow (certificate_of defined d) (certificate_of defined (sheet_by names mid))
+          → IsBelow (certificate_of defined d) (certificate_of defined (sheet_by names new))
+      by_second h defined d s below = elim (cases_Bool y) [
+        | inl e ↦ counted_above names h defined loops m mid new between after d below g.function g.sets (subst (IsCounted mid new g.function g.sets) e second) s.vars s.functions
+        | inr e ↦ subst (λ c. IsBelow (certificate_of defined d) (certificate_of defined (sheet_by names c))) (sym (second.stays e)) below
+      ]
+
+pub sunk_then : (names : List Text) (loops : List Bool) (m : ℕ) (old new : kept.Certificate) (g : Gathered) (x y : Bool) → x ≡ true → IsSunk names loops m old new g (x || y) → IsSunk names loops m old new g x
+sunk_then names loops m old new g true y e s = s
+sunk_then names loops m old new g false y e s = absurd (true≢false (sym e))
+
+pub sunk_else : (names : List Text) (loops : List Bool) (m : ℕ) (old new : kept.Certificate) (g : Gathered) (x y : Bool) → x ≡ false → IsSunk names loops m old new g (x || y) → IsSunk names loops m old new g y
+sunk_else names loops m old new g true y e s = absurd (true≢false e)
+sunk_else names loops m old new g false y e s = s
+
+-- Turns
+
+module _ (names : List Text) (loops : List Bool) (m : ℕ) (declared : Declared) (defined : List Text) (ks : List Constraint) where
+  pub sunk_turn : AreNumbered names → (old new : kept.Certificate) (g : Gathered)
+      → ((d : Sheet) → ((o : Option Place) → claim_fits names (claim_there d o) ≡ true) → flat_map (broken declared (certificate_of defined d)) ks ≡ []
+      → IsBelow (certificate_of defined d) (certificate_of defined (sheet_by names old)) → Stands names d g)
+      → (changed : Bool) → (changed ≡ false → ⊥) → IsSunk names loops m old new g changed → IsTurn names loops m declared defined ks old new false
+  sunk_turn h old new g stands false none sunk = absurd (none refl)
+  sunk_turn h old new g stands true none sunk = record {
+    working = sunk.working;
+    rules = λ e. absurd (true≢false (sym e));
+    less = λ e. sunk.less refl;
+    above = λ d fit kept below. sunk.above h defined d (stands d fit kept below) below;
+  }

@@ -1,0 +1,77 @@
+use Rattle.std.proofs.Common.{rules, ◌≡◌, ℕ, true, length, sym, ap, ◌∙◌, subst, arith}
+use Rattle.std.specs.List.{list_all}
+use Rattle.std.proofs.lemmas.List.{length-map}
+use Rattle.sh_tree.specs.declared.limits.TheConstants.{MAX_NESTING}
+use Rattle.sh_tree.specs.standard.language.Bytes.{is_name}
+use Rattle.sh_table.specs.Calls.{Table}
+use Rattle.sh_domain.specs.Reading.{AreLoops}
+use Rattle.sh_domain.specs.Reading.{loops_of}
+use Rattle.sh_domain.proofs.VariableLemmas.{read_names_variables}
+use Rattle.sh_domain.specs.Admitted.{functions_in}
+use Rattle.sh_find.specs.Working.{IsWorking}
+use Rattle.sh_find.proofs.AboveLemmas.{first_above}
+use Rattle.sh_find.proofs.GreatestLemmas.{few_commands, is_greatest_of, numbered}
+use Rattle.sh_find.proofs.search.settled.Goals as goal
+
+pub unreached-requires : goal.unreached-requires
+unreached-requires c =
+    let s = c.args.subject.now in
+    let few = few_commands s.script.now s.policy.now s.tree.now s.names.now c.requires c.in_ok-commands.commands.items c.in_ok-commands.ensures.same in
+    let same : length c.deref.result.now ≡ length c.in_ok-commands.commands.items = ap length c.deref.ensures.value in
+    omega (arith, few, same)
+
+pub settle-requires-clause-ready : goal.settle-requires-clause-ready
+settle-requires-clause-ready c =
+    let s = c.args.subject.now in
+    let loops = loops_of c.deref.result.now in
+    let m : ℕ = length c.functions-functions.result.now in
+    let working = c.in_ok-certificate.ensures.working s.names.now (sym c.count-count.ensures.count) in
+    let h = numbered s.script.now s.policy.now s.tree.now s.names.now c.requires in
+    record {
+      admitted = c.requires;
+      loops = loops;
+      functions = m;
+      working = working;
+      over = λ other keeps. first_above s.names.now h (functions_in s.script.now s.tree.now) loops m c.in_ok-certificate.certificate working c.in_ok-certificate.ensures.claims c.in_ok-certificate.ensures.drops other;
+      probe = omega (arith, c.in_ok-probe.ensures.limit, c.count-count.ensures.count);
+    }
+
+pub settle-requires-clause-working : goal.settle-requires-clause-working
+settle-requires-clause-working c =
+    let s = c.args.subject.now in
+    let m : ℕ = length c.functions-functions.result.now in
+    let same : m ≡ length (functions_in s.script.now s.tree.now) =
+    sym (length-map c.functions-functions.result.now _) ∙ ap length c.functions-functions.ensures.names ∙ ap (λ (x : Table). length x.functions.names) s.listed in
+    record {
+      loops = loops_of c.deref.result.now;
+      are_loops = record { commands = c.in_ok-commands.commands.items; all = c.in_ok-commands.ensures.same; ordered = c.in_ok-commands.ensures.ordered; each = ap loops_of c.deref.ensures.value };
+      working = subst (λ n. IsWorking s.names.now (loops_of c.deref.result.now) n c.in_ok-certificate.certificate) same (c.in_ok-certificate.ensures.working s.names.now (sym c.count-count.ensures.count));
+    }
+
+pub settle-requires-clause-variables : goal.settle-requires-clause-variables
+settle-requires-clause-variables c =
+    let s = c.args.subject.now in
+    let reading = c.requires.reading.1 in
+    let named : list_all is_name s.policy.now.names ≡ true = search rules in
+    read_names_variables s.script.now s.tree.now s.policy.now s.names.now (MAX_NESTING, reading.0, reading.1) named c.requires.numbered
+
+pub returns-clause-greatest : goal.returns-clause-greatest
+returns-clause-greatest c =
+    let s = c.args.subject.now in
+    let m : ℕ = length c.functions-functions.result.now in
+    let same : m ≡ length (functions_in s.script.now s.tree.now) =
+    sym (length-map c.functions-functions.result.now _) ∙ ap length c.functions-functions.ensures.names ∙ ap (λ (x : Table). length x.functions.names) s.listed in
+    let loops = loops_of c.deref.result.now in
+    let are : AreLoops s.tree.now loops = record { commands = c.in_ok-commands.commands.items; all = c.in_ok-commands.ensures.same; ordered = c.in_ok-commands.ensures.ordered; each = ap loops_of c.deref.ensures.value } in
+    let long : length loops ≡ length c.deref.result.now = length-map c.deref.result.now _ in
+    let low : length c.deref.result.now ≡ length c.in_ok-commands.commands.items = ap length c.deref.ensures.value in
+    let few = few_commands s.script.now s.policy.now s.tree.now s.names.now c.requires c.in_ok-commands.commands.items c.in_ok-commands.ensures.same in
+    let working = c.in_ok-certificate.ensures.working s.names.now (sym c.count-count.ensures.count) in
+    is_greatest_of s.script.now s.policy.now s.tree.now s.names.now c.requires loops are m same c.in_ok-certificate.certificate c.settle.new.draft.certificate working c.in_ok-certificate.ensures.claims
+    c.in_ok-certificate.ensures.drops (c.in_ok-settle.ensures loops m working) c.count-count.ensures.distinct (omega (arith, long, low, few)) (omega (arith, c.functions-functions.ensures.few))
+
+pub returns-clause-sized : goal.returns-clause-sized
+returns-clause-sized c =
+    let s = c.args.subject.now in
+    let m : ℕ = length c.functions-functions.result.now in
+    (c.in_ok-settle.ensures (loops_of c.deref.result.now) m (c.in_ok-certificate.ensures.working s.names.now (sym c.count-count.ensures.count))).working.count

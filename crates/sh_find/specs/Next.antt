@@ -1,0 +1,50 @@
+-- Where a constraint stands that is broken, and a certificate while it is lowered, of a script.
+-- The standard has no such rules: what is claimed of a place has to be known there in every run.
+use Rattle.std.specs.Prelude.{◌≡◌, ℕ, Bool, true, List, [], ◌∷◌, ◌++◌, length}
+use Rattle.sh_tree.specs.standard.program.Syntax.{Text}
+use Rattle.sh_tree.specs.standard.program.Trees.{script_of}
+use Rattle.sh_domain.specs.declared.certificate.Certificate as kept
+use Rattle.sh_domain.specs.Facts.{Declared}
+use Rattle.sh_domain.specs.Faults.{broken}
+use Rattle.sh_domain.specs.Names.{number_of}
+use Rattle.sh_domain.specs.Reading.{AreLoops}
+use Rattle.sh_domain.specs.Rules.{Constraint, Within, Counted, script_bounds}
+use Rattle.sh_domain.specs.Views.{Certificate}
+use Rattle.sh_domain.specs.Admitted.{claims_in, functions_in}
+use Rattle.sh_find.specs.declared.gather.Target.{Target}
+use Rattle.sh_find.specs.declared.place.Place.{Place}
+use Rattle.sh_find.specs.declared.subject.Subject.{Subject}
+use Rattle.sh_find.specs.Gathered.{is_at, is_number}
+use Rattle.sh_find.specs.Places.{place_of}
+use Rattle.sh_find.specs.Turns.{sheet_by}
+use Rattle.sh_find.specs.Working.{IsWorking}
+
+-- a constraint asks something of the place, or of the function of the index
+unfoldable pub stands_at : List Text → Place → ℕ → Constraint → Bool
+stands_at functions p i (Within slot n rule v) = is_at (place_of functions slot) p
+stands_at functions p i (Counted function n loss) = is_number (number_of functions function) i
+
+-- it is kept, if it asks something there
+pub record IsKeptAt (functions : List Text) (d : Declared) (c : Certificate) (p : Place) (i : ℕ) (k : Constraint) : Type 0 where
+  pub kept : stands_at functions p i k ≡ true → broken d c k ≡ []
+
+-- one of the constraints asks something there, and is broken
+pub record BrokenAt (functions : List Text) (d : Declared) (c : Certificate) (ks : List Constraint) (p : Place) (i : ℕ) : Type 0 where
+  pub constraint : Constraint
+  pub front : List Constraint
+  pub back : List Constraint
+  pub one : ks ≡ front ++ (constraint ∷ back)
+  pub there : stands_at functions p i constraint ≡ true
+  pub breaks : ¬ (broken d c constraint ≡ [])
+
+module _ (s : Subject) where
+  -- a certificate that is lowered, with as many commands and functions as the script has, and heads at its loops
+  pub record IsOfScript (c : kept.Certificate) : Type 0 where
+    pub loops : List Bool
+    pub are_loops : AreLoops s.tree.now loops
+    pub working : IsWorking s.names.now loops (length (functions_in s.script.now s.tree.now)) c
+
+  -- it breaks a flow rule that asks something of the place or of the function
+  abbrev pub IsBroken : kept.Certificate → Target → Type 0
+  IsBroken c target =
+      BrokenAt (functions_in s.script.now s.tree.now) s.policy.now (claims_in s.script.now s.tree.now (sheet_by s.names.now c)) (script_bounds (script_of s.script.now s.tree.now)) target.place target.function

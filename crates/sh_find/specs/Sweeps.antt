@@ -1,0 +1,181 @@
+-- A sweep of the search over the commands of a script: each is lowered by itself, with what is known before it by the certificate as it is there.
+-- The standard has no such thing: a certificate is lowered until it keeps all flow rules.
+use Rattle.std.specs.Prelude.{◌≡◌, ℕ, ◌≤◌, List, Bool, true, [], ◌++◌, length, flat_map, Option}
+use Rattle.sh_tree.specs.declared.tree.Command.{Command, out-Command}
+use Rattle.sh_tree.specs.declared.tree.AndOr.{AndOr}
+use Rattle.sh_tree.specs.declared.tree.Item.{Item, out-Item}
+use Rattle.sh_tree.specs.declared.tree.Kind.{Kind}
+use Rattle.sh_tree.specs.declared.tree.Link.{Link}
+use Rattle.sh_tree.specs.declared.tree.Pipe.{Pipe}
+use Rattle.sh_tree.specs.Lists.{commands_from, items_from, links_from, redirects_from}
+use Rattle.sh_tree.specs.standard.program.Syntax as p
+use Rattle.sh_tree.specs.standard.program.Trees as trees
+use Rattle.sh_tree.specs.standard.program.Trees.{script_of}
+use Rattle.sh_table.specs.Calls.{table_of}
+use Rattle.sh_domain.specs.declared.certificate.Certificate as kept
+use Rattle.sh_domain.specs.declared.rule.FlowRule.{FlowRule}
+use Rattle.sh_domain.specs.declared.rule.FlowRule.TheVariants.{F2}
+use Rattle.sh_domain.specs.Entries.{Around, Entered, behind_redirects, branches_entered, clauses_entered, command_entered, commands_entered, elements_entered, item_after, items_entered, kind_entered, links_entered, list_entered, pipeline_entered, otherwise_entered, otherwise_seen, redirects_entered, script_entered, word_entered}
+use Rattle.sh_domain.specs.Facts.{Facts}
+use Rattle.sh_domain.specs.Faults.{broken}
+use Rattle.sh_domain.specs.Gains.{Gains}
+use Rattle.sh_domain.specs.Knowledge.{knowledge_facts}
+use Rattle.sh_domain.specs.Order.{IsBelow, IsWithin}
+use Rattle.sh_domain.specs.Reading.{claim_fits}
+use Rattle.sh_domain.specs.Rules.{script_bounds}
+use Rattle.sh_domain.specs.Sheets.{Sheet}
+use Rattle.sh_domain.specs.Views.{After, Before, Both, Seen, at, gaining, in_any_case}
+use Rattle.sh_rules.specs.declared.behind.Behind as code
+use Rattle.sh_rules.specs.declared.walk.Course.{Course}
+use Rattle.sh_rules.specs.Above.{SeesWithin}
+use Rattle.sh_rules.specs.Behind.{Behind}
+use Rattle.sh_rules.specs.Meaning.{sees}
+use Rattle.sh_rules.specs.Settings.{Setting}
+use Rattle.sh_domain.specs.Admitted.{IsAdmitted, claims_in, functions_in}
+use Rattle.sh_find.specs.declared.place.Place.{Place}
+use Rattle.sh_find.specs.declared.subject.Subject.{Subject}
+use Rattle.sh_find.specs.Places.{claim_there}
+use Rattle.sh_find.specs.Turns.{sheet_by}
+use Rattle.sh_find.specs.Working.{IsWorking, height}
+
+module _ (s : Subject) where
+  -- what a walk over the script goes by
+  abbrev pub setting_by : kept.Certificate → Setting
+  setting_by c = record {
+    script = s.script.now;
+    names = s.names.now;
+    functions = functions_in s.script.now s.tree.now;
+    rows = (table_of s.script.now s.tree.now).rows;
+    kept = c;
+  }
+
+  -- What a certificate stays above
+
+  -- a sheet of names of the script that keeps all rules
+  pub record Keeps (other : Sheet) : Type 0 where
+    pub fit : (o : Option Place) → claim_fits s.names.now (claim_there other o) ≡ true
+    pub rules : flat_map (broken s.policy.now (claims_in s.script.now s.tree.now other)) (script_bounds (script_of s.script.now s.tree.now)) ≡ []
+
+  -- each of those is below the certificate
+  abbrev pub IsOver : kept.Certificate → Type 0
+  IsOver c = (other : Sheet) → Keeps other → IsBelow (claims_in s.script.now s.tree.now other) (claims_in s.script.now s.tree.now (sheet_by s.names.now c))
+
+  -- What is known
+
+  -- each of those sees no more there
+  abbrev pub Knows : Seen → Facts → Type 0
+  Knows q k = (other : Sheet) → Keeps other → IsWithin (sees s.names.now s.policy.now (claims_in s.script.now s.tree.now other) q) k
+
+  -- nor behind a list, by its status
+  abbrev pub KnowsBehind : After → Behind → Type 0
+  KnowsBehind o b = (other : Sheet) → Keeps other → SeesWithin s.names.now s.policy.now (claims_in s.script.now s.tree.now other) o b
+
+  abbrev pub known_behind : code.Behind → Behind
+  known_behind o = record { zero = knowledge_facts s.names.now o.zero; nonzero = knowledge_facts s.names.now o.nonzero }
+
+  -- Where a sweep is
+
+  -- commands that stand together in the script, as they are entered
+  pub record IsPart (es : List Entered) : Type 0 where
+    pub front : List Entered
+    pub back : List Entered
+    pub whole : script_entered (script_of s.script.now s.tree.now) ≡ front ++ (es ++ back)
+
+  -- commands that are entered from somewhere, and what is known there
+  pub record IsIn (entered : Seen → List Entered) (known : Facts) : Type 0 where
+    pub seen : Seen
+    pub part : IsPart (entered seen)
+    pub knows : Knows seen known
+
+  pub record IsAt (entered : After → List Entered) (known : Behind) : Type 0 where
+    pub seen : After
+    pub part : IsPart (entered seen)
+    pub knows : KnowsBehind seen known
+
+  -- a command
+  abbrev pub IsCommand : FlowRule → Around → Facts → Command → Type 0
+  IsCommand by y k c = IsIn (λ q. command_entered by y q (trees.command_of s.script.now c)) k
+
+  -- the parts of a pipeline, or what is left of them
+  abbrev pub AreParts : FlowRule → Around → Facts → List Command → Type 0
+  AreParts by y k cs = IsIn (λ q. commands_entered by y q (commands_from s.script.now cs)) k
+
+  abbrev pub IsPipe : FlowRule → Around → Facts → Pipe → Type 0
+  IsPipe by y k l = IsIn (λ q. pipeline_entered by y q (trees.pipeline_of s.script.now l)) k
+
+  abbrev pub IsAndOr : FlowRule → Around → Facts → AndOr → Type 0
+  IsAndOr by y k l = IsIn (λ q. list_entered by y q (trees.and_or_of s.script.now l)) k
+
+  -- what is left of the pipelines behind `&&` and `||`
+  abbrev pub AreLinks : Around → Behind → List (Link × Pipe) → Type 0
+  AreLinks y k ls = IsAt (λ o. links_entered y o (links_from s.script.now ls)) k
+
+  -- what stands in the redirections of a command, and in it
+  abbrev pub IsInside : Around → Command → Type 0
+  IsInside y c =
+      IsPart
+      (redirects_entered (at (Before (out-Command c).number)) (redirects_from s.script.now (out-Command c).redirects)
+      ++ kind_entered y (out-Command c).number (behind_redirects (out-Command c).number (redirects_from s.script.now (out-Command c).redirects)) (trees.kind_of s.script.now (out-Command c).kind))
+
+  abbrev pub IsKind : Around → ℕ → Facts → Kind → Type 0
+  IsKind y n k kind = IsIn (λ q. kind_entered y n q (trees.kind_of s.script.now kind)) k
+
+  -- what is left of the elements of a simple command: where its next word is expanded, and behind all its words
+  pub record AreElements (known behind : Facts) (es : p.Elements) : Type 0 where
+    pub seen : Seen
+    pub last : Seen
+    pub part : IsPart (elements_entered seen last es)
+    pub knows : Knows seen known
+    pub knows_last : Knows last behind
+
+  -- a word, or what is left of it
+  abbrev pub IsWord : Facts → p.Word → Type 0
+  IsWord k w = IsIn (λ q. word_entered q w) k
+
+  -- what is known behind something that leaves these set
+  abbrev pub Gained : Gains → Facts → Facts → Type 0
+  Gained g old new = (q : Seen) → Knows q old → Knows (gaining g q) new
+
+  -- what is left of a list
+  abbrev pub AreItems : FlowRule → Around → Behind → List Item → Type 0
+  AreItems by y k is = IsAt (λ o. items_entered by y o (items_from s.script.now is)) k
+
+  -- a list that is entered so whatever the status was
+  abbrev pub IsList : FlowRule → Around → Facts → p.Items → Type 0
+  IsList by y k t = IsIn (λ q. items_entered by y (Both q) t) k
+
+  -- what is left of an `if`
+  abbrev pub AreBranches : Around → Facts → p.Branches → p.Otherwise → Type 0
+  AreBranches y k bs z = IsIn (λ q. branches_entered y q bs ++ otherwise_entered y (otherwise_seen q bs) z) k
+
+  -- what is left of a `case`: behind its word, and behind the list before it
+  pub record AreClauses (y : Around) (known fallen : Facts) (cs : p.Clauses) : Type 0 where
+    pub seen : Seen
+    pub falls : Seen
+    pub part : IsPart (clauses_entered y seen falls cs)
+    pub knows : Knows seen known
+    pub knows_fallen : Knows falls fallen
+
+  -- The walk goes on behind an item.
+  pub record IsPassed (old new : Course) (i : Item) : Type 0 where
+    pub by : new.by ≡ F2
+    pub behind : (o : After) → KnowsBehind o (known_behind old.behind)
+        → KnowsBehind (item_after (in_any_case o) (out-Item i).background (trees.and_or_of s.script.now (out-Item i).list)) (known_behind new.behind)
+
+  -- What a sweep does
+
+  -- a certificate that may be lowered, with a row by which others are looked up
+  pub record IsReady (c : kept.Certificate) (probed : ℕ) : Type 0 where
+    pub admitted : IsAdmitted s.script.now s.policy.now s.tree.now s.names.now
+    pub loops : List Bool
+    pub functions : ℕ
+    pub working : IsWorking s.names.now loops functions c
+    pub over : IsOver c
+    pub probe : probed ≡ length s.names.now
+
+  -- it is lowered, or stays, and stays above each certificate that keeps all rules
+  pub record IsSwept (old new : kept.Certificate) (probed : ℕ) : Type 0 where
+    pub working : (loops : List Bool) (m : ℕ) → IsWorking s.names.now loops m old → IsWorking s.names.now loops m new
+    pub no_more : (loops : List Bool) (m : ℕ) → IsWorking s.names.now loops m old → height (length s.names.now) (length loops) m new ≤ height (length s.names.now) (length loops) m old
+    pub over : IsOver new
+    pub probe : probed ≡ length s.names.now

@@ -1,0 +1,24 @@
+-- What is gathered goes by constraints.
+-- The standard has no such rules: what is claimed of a place has to be known at each place from which it is entered.
+use Rattle.std.specs.Prelude.{◌≡◌, ℕ, true, List, ◌++◌}
+use Rattle.sh_tree.specs.standard.program.Syntax.{Text}
+use Rattle.sh_domain.specs.declared.rule.FlowRule.{FlowRule}
+use Rattle.sh_domain.specs.Facts.{Declared}
+use Rattle.sh_domain.specs.Knowledge.{AreNumbered, among}
+use Rattle.sh_domain.specs.Operands.{Names, no_names}
+use Rattle.sh_domain.specs.Order.{seen_facts}
+use Rattle.sh_domain.specs.Reading.{claim_fits}
+use Rattle.sh_domain.specs.Rules.{Constraint, bound}
+use Rattle.sh_domain.specs.Views.{Certificate, Slot, Seen}
+use Rattle.sh_find.specs.Gathered.{Gathered, bounded, counted, all_gathered}
+
+-- No names ask nothing, and names together what they ask one after the other; several views at a place, what is known of the numbered names where
+-- all are seen; and lists of constraints, one after the other.
+pub record GatheredTogether : Type 0 where
+  pub nothing : (names functions : List Text) (f : Text) (may : Names) (g : Gathered) → counted names functions f may no_names g ≡ g
+  pub names : (names functions : List Text) (f : Text) (may a b : Names) (g : Gathered)
+      → counted names functions f may (record { vars = a.vars ++ b.vars; functions = a.functions ++ b.functions }) g ≡ counted names functions f may b (counted names functions f may a g)
+  pub views : (names functions : List Text) → AreNumbered names → (d : Declared) (c : Certificate) (slot : Slot) → claim_fits names (c.claim slot) ≡ true → (n : ℕ) (rule : FlowRule) (s : Seen) (g : Gathered)
+      → all_gathered names functions d c g (bound slot n rule s) ≡ bounded names functions slot (c.claim slot) (among names (seen_facts d c s)) g
+  pub lists : (names functions : List Text) (d : Declared) (c : Certificate) (g : Gathered) (ks ls : List Constraint)
+      → all_gathered names functions d c g (ks ++ ls) ≡ all_gathered names functions d c (all_gathered names functions d c g ks) ls

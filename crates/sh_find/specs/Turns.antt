@@ -1,0 +1,85 @@
+-- Turns of the search for the greatest certificate.
+-- The standard has no such thing: a certificate is lowered until it keeps all flow rules.
+use Rattle.std.specs.Prelude.{◌≡◌, ℕ, ◌<◌, Bool, true, false, List, [], length, flat_map, Option, Some}
+use Rattle.sh_tree.specs.standard.program.Syntax.{Text}
+use Rattle.sh_table.specs.standard.runs.Environment.{is_one_of}
+use Rattle.sh_domain.specs.declared.certificate.Certificate.{Certificate}
+use Rattle.sh_domain.specs.Certificates.{in_byte_order, sheet_of}
+use Rattle.sh_domain.specs.Facts.{facts, Declared}
+use Rattle.sh_domain.specs.Faults.{broken}
+use Rattle.sh_domain.specs.Knowledge.{AreNumbered, at_number}
+use Rattle.sh_domain.specs.Names.{number_of}
+use Rattle.sh_domain.specs.NumberSets.{numbers_of}
+use Rattle.sh_domain.specs.Order.{IsWithin, IsBelow}
+use Rattle.sh_domain.specs.Reading.{claim_fits}
+use Rattle.sh_domain.specs.Rules.{Constraint}
+use Rattle.sh_domain.specs.Sheets.{Sheet, certificate_of}
+use Rattle.sh_find.specs.Facts as number
+use Rattle.sh_find.specs.Kept.{seen_of, IsNamed}
+use Rattle.sh_find.specs.declared.gather.Gather.{Gather}
+use Rattle.sh_find.specs.declared.gather.Target.{Target}
+use Rattle.sh_find.specs.declared.place.Place.{Place}
+use Rattle.sh_find.specs.Gathered.{Gathered}
+use Rattle.sh_find.specs.Numbers.{by_name}
+use Rattle.sh_find.specs.Places.{claim_there, drops_there}
+use Rattle.sh_find.specs.Working.{AreBelow, IsWorking, height}
+use Rattle.sh_find.specs.Writable.{sets_in}
+
+-- what is gathered, by numbers
+unfoldable pub gathered_of : Gather → Gathered
+gathered_of g = record {
+  kept = g.kept;
+  place = g.target.place;
+  known = seen_of g.known;
+  function = g.target.function;
+  sets = sets_in g.vars g.functions;
+  next_place = g.next.place;
+  next_function = g.next.function;
+}
+
+-- nothing was asked
+pub record IsNew (target : Target) (g : Gather) : Type 0 where
+  pub kept : g.kept ≡ true
+  pub at : g.target ≡ target
+  pub next : g.next ≡ target
+  pub known : seen_of g.known ≡ number.NotReached
+  pub vars : (k : ℕ) → numbers_of g.vars k ≡ false
+  pub functions : (k : ℕ) → numbers_of g.functions k ≡ false
+
+-- only numbered names were gathered
+pub record AreNumbers (names : ℕ) (g : Gathered) : Type 0 where
+  pub known : IsNamed names g.known
+  pub sets : AreBelow names g.sets
+
+-- a certificate claims no more at the place than is known there, and the function drops no less than was gathered
+pub record Stands (names : List Text) (other : Sheet) (g : Gathered) : Type 0 where
+  pub place : IsWithin (facts (claim_there other (Some g.place))) (by_name names g.known)
+  pub vars : (x : Text) → at_number g.sets.vars (number_of names x) ≡ true → is_one_of (drops_there other (Some g.function)).vars x ≡ true
+  pub functions : (x : Text) → at_number g.sets.functions (number_of names x) ≡ true → is_one_of (drops_there other (Some g.function)).functions x ≡ true
+
+-- of these names
+abbrev pub sheet_by : List Text → Certificate → Sheet
+sheet_by names c = sheet_of (in_byte_order names) c
+
+-- A certificate is lowered by what was gathered, and stays above each one that stands.
+pub record IsSunk (names : List Text) (loops : List Bool) (m : ℕ) (old new : Certificate) (g : Gathered) (changed : Bool) : Type 0 where
+  pub stays : changed ≡ false → new ≡ old
+  pub working : IsWorking names loops m new
+  pub less : changed ≡ true → height (length names) (length loops) m new < height (length names) (length loops) m old
+  pub above : AreNumbered names → (defined : List Text) (d : Sheet) → Stands names d g → IsBelow (certificate_of defined d) (certificate_of defined (sheet_by names old))
+      → IsBelow (certificate_of defined d) (certificate_of defined (sheet_by names new))
+
+-- The certificate keeps all constraints, or is lowered; and stays above each one that keeps them.
+pub record IsTurn (names : List Text) (loops : List Bool) (m : ℕ) (declared : Declared) (defined : List Text) (ks : List Constraint) (old new : Certificate) (kept : Bool) : Type 0 where
+  pub working : IsWorking names loops m new
+  pub rules : kept ≡ true → flat_map (broken declared (certificate_of defined (sheet_by names new))) ks ≡ []
+  pub less : kept ≡ false → height (length names) (length loops) m new < height (length names) (length loops) m old
+  pub above : (d : Sheet) → ((o : Option Place) → claim_fits names (claim_there d o) ≡ true) → flat_map (broken declared (certificate_of defined d)) ks ≡ []
+      → IsBelow (certificate_of defined d) (certificate_of defined (sheet_by names old)) → IsBelow (certificate_of defined d) (certificate_of defined (sheet_by names new))
+
+-- the certificate keeps all constraints, and stays above each one that keeps them
+pub record IsSettled (names : List Text) (loops : List Bool) (m : ℕ) (declared : Declared) (defined : List Text) (ks : List Constraint) (old new : Certificate) : Type 0 where
+  pub working : IsWorking names loops m new
+  pub rules : flat_map (broken declared (certificate_of defined (sheet_by names new))) ks ≡ []
+  pub above : (d : Sheet) → ((o : Option Place) → claim_fits names (claim_there d o) ≡ true) → flat_map (broken declared (certificate_of defined d)) ks ≡ []
+      → IsBelow (certificate_of defined d) (certificate_of defined (sheet_by names old)) → IsBelow (certificate_of defined d) (certificate_of defined (sheet_by names new))

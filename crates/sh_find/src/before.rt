@@ -1,0 +1,116 @@
+//! A command is lowered where it is entered, to what is known there, without a visit.
+ghost use Rattle.std.specs.Prelude.{◌≡◌, ◌-◌, length, Some, IfOk};
+ghost use Rattle.sh_domain.specs.declared.rule.FlowRule as rule;
+ghost use Rattle.sh_domain.specs.Entries as entries;
+ghost use Rattle.sh_domain.specs.Facts.{facts};
+ghost use Rattle.sh_domain.specs.Knowledge.{assured_facts, knowledge_facts};
+ghost use Rattle.sh_domain.specs.Order.{IsWithin};
+ghost use Rattle.sh_domain.specs.Sheets.{Sheet};
+ghost use Rattle.sh_find.specs.Kept.{sight_facts, IsNamed};
+ghost use Rattle.sh_find.specs.declared.place.Part.TheVariants.{Before};
+ghost use Rattle.sh_find.specs.Gathered.{fitting_place};
+ghost use Rattle.sh_find.specs.Idle.{ClaimStays};
+ghost use Rattle.sh_find.specs.Numbers.{by_name};
+ghost use Rattle.sh_find.specs.Places as spec;
+ghost use Rattle.sh_find.specs.Places.{claim_there};
+ghost use Rattle.sh_find.specs.Sweeps.{IsCommand, IsReady, IsSwept, Keeps};
+ghost use Rattle.sh_find.specs.Writable.{sets_in};
+
+use crate::draft::Draft;
+use crate::kept::facts_at;
+use crate::lower::lower;
+use crate::place::{Part, Place};
+use crate::sight::Sight;
+use crate::sights::sight_of;
+use crate::spot::of_command;
+use crate::subject::Subject;
+use sh_domain::{Assured, Knowledge};
+use sh_tree::Command;
+use std::alloc::AllocError;
+
+/// Lowers what is claimed at a place to what is known there, if a text of a certificate may name what is left.
+///
+/// # Errors
+///
+/// Where a growth was refused or no place for a row is left.
+pub fn lower_at(
+    subject: &Subject<'_>,
+    draft: &mut Draft,
+    place: Place,
+    known: &Sight,
+) -> Result<(), AllocError>
+    requires ready { IsReady subject.now draft.old.certificate draft.old.probe.count }
+    requires named { IsNamed (length subject.now.names.now) (sight_facts known.now) }
+    requires stands { (other : Sheet) → Keeps subject.now other → IsWithin (facts (claim_there other (Some place))) (by_name subject.now.names.now (sight_facts known.now)) }
+    ensures swept { IfOk result (λ unit. IsSwept subject.now draft.old.certificate draft.new.certificate draft.new.probe.count) }
+    ensures fits { IfOk result (λ unit. ClaimStays draft.new.certificate place (sight_facts known.now) (sets_in subject.now.writable.now.vars subject.now.writable.now.functions)) }
+{
+    let is_lowered = lower(
+        subject.names,
+        subject.writable,
+        &mut draft.certificate,
+        &mut draft.probe,
+        place,
+        known,
+    )?;
+    draft.lowered = draft.lowered.saturating_add(u64::from(is_lowered));
+    Ok(())
+}
+
+// Where the command of a number is entered, if a script may have one of it.
+fn place_before(number: u32) -> Option<Place>
+    ensures { result ≡ fitting_place (spec.at Before (number - 1)) }
+{
+    of_command(Part::Before, number).place()
+}
+
+// Whether no more than this is claimed at a place: a hint.
+fn is_lowered(draft: &Draft, place: Place, assured: &Assured) -> bool {
+    match facts_at(&draft.certificate, place) {
+        Some(facts) => assured.includes(&draft.certificate.rows, &facts),
+        None => true,
+    }
+}
+
+// Lowers what is claimed where the command of a number is entered, where this is assured.
+fn lower_entered(
+    subject: &Subject<'_>,
+    draft: &mut Draft,
+    assured: &Assured,
+    number: u32,
+) -> Result<(), AllocError>
+    requires ready { IsReady subject.now draft.old.certificate draft.old.probe.count }
+    requires stands { (other : Sheet) → Keeps subject.now other → IsWithin (facts (claim_there other (Some (spec.at Before (number - 1))))) (assured_facts subject.now.names.now assured.now) }
+    ensures swept { IfOk result (λ unit. IsSwept subject.now draft.old.certificate draft.new.certificate draft.new.probe.count) }
+{
+    let Some(place) = place_before(number) else {
+        return Ok(());
+    };
+    draft.looks = draft.looks.saturating_add(1);
+    if is_lowered(&*draft, place, assured) {
+        return Ok(());
+    }
+    let sight = sight_of(subject.names, assured);
+    lower_at(subject, draft, place, &sight)
+}
+
+/// Lowers what is claimed where a command is entered to what is known there, where any run comes.
+///
+/// # Errors
+///
+/// Where a growth was refused or no place for a row is left.
+pub fn lower_before(
+    subject: &Subject<'_>,
+    draft: &mut Draft,
+    known: &Knowledge,
+    command: &Command,
+) -> Result<(), AllocError>
+    requires ready { IsReady subject.now draft.old.certificate draft.old.probe.count }
+    requires placed { (by : rule.FlowRule) × (around : entries.Around) × IsCommand subject.now by around (knowledge_facts subject.now.names.now known.now) command.now }
+    ensures swept { IfOk result (λ unit. IsSwept subject.now draft.old.certificate draft.new.certificate draft.new.probe.count) }
+{
+    match known {
+        Knowledge::NotReached => Ok(()),
+        Knowledge::Known(assured) => lower_entered(subject, draft, assured, command.number),
+    }
+}

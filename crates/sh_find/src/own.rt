@@ -1,0 +1,317 @@
+//! A command is lowered by what it asks itself, and not by what the commands in it ask.
+ghost use Rattle.std.specs.Prelude.{◌≡◌, ℕ, length, IfOk};
+ghost use Rattle.sh_domain.specs.Knowledge.{knowledge_facts};
+ghost use Rattle.sh_domain.specs.Sheets.{Sheet};
+ghost use Rattle.sh_rules.specs.Steps.{met_in};
+ghost use Rattle.sh_rules.specs.Visits.{command_by};
+ghost use Rattle.sh_rules.specs.Walks as walks;
+ghost use Rattle.sh_domain.specs.Admitted.{IsAdmitted};
+ghost use Rattle.sh_find.specs.Sides.{AreNumbersBeside, StandsBeside, sided_of};
+ghost use Rattle.sh_find.specs.Sweeps.{IsCommand, IsReady, IsSwept, Keeps, setting_by};
+ghost use Rattle.sh_find.specs.Turns.{AreNumbers, Stands, gathered_of};
+
+use crate::before::{lower_at, lower_before};
+use crate::draft::Draft;
+use crate::gather::{Gather, Target};
+use crate::kept::facts_at;
+use crate::place::{Part, Place};
+use crate::sides::Sides;
+use crate::subject::Subject;
+use crate::turn::lower_gathered;
+use sh_domain::{Certificate, Facts, FlowRule, Knowledge, is_loop};
+use sh_rules::{Around, Asked, tell_command};
+use sh_tree::Command;
+use std::alloc::AllocError;
+
+// What the flow rules ask at a command is done with this.
+fn tell<A: Asked>(
+    subject: &Subject<'_>,
+    certificate: &Certificate,
+    by: FlowRule,
+    around: &Around<'_>,
+    known: &Knowledge,
+    command: &Command,
+    asked: &mut A,
+)
+    requires sized { certificate.now.rows.count ≡ length subject.now.names.now }
+    requires admitted { IsAdmitted subject.now.script.now subject.now.policy.now subject.now.tree.now subject.now.names.now }
+    ensures { A.kept asked.new ≡ command_by A.asked (setting_by subject.now certificate.now) (A.kept asked.old) (met_in (setting_by subject.now certificate.now) by around.now known.now command.now) }
+{
+    let claims = subject.claims(certificate);
+    tell_command(&claims, by, around, known, command, asked);
+}
+
+// What the flow rules ask at a command, gathered for a place and a function.
+fn asked_of(
+    subject: &Subject<'_>,
+    certificate: &Certificate,
+    by: FlowRule,
+    around: &Around<'_>,
+    known: &Knowledge,
+    command: &Command,
+    target: Target,
+) -> Gather
+    requires ready { (probed : ℕ) × IsReady subject.now certificate.now probed }
+    requires placed { IsCommand subject.now by (walks.around subject.now.script.now around.now) (knowledge_facts subject.now.names.now known.now) command.now }
+    ensures numbers { AreNumbers (length subject.now.names.now) (gathered_of result) }
+    ensures stands { (other : Sheet) → Keeps subject.now other → Stands subject.now.names.now other (gathered_of result) }
+{
+    let mut gather = Gather::new(target);
+    tell(
+        subject,
+        certificate,
+        by,
+        around,
+        known,
+        command,
+        &mut gather,
+    );
+    gather
+}
+
+// The index of a command, or the first where a script may not have its number: a hint.
+fn index_of(command: &Command) -> u16 {
+    u16::try_from(command.number.saturating_sub(1)).unwrap_or(0)
+}
+
+// Whether a place is one of the command of an index, and the function the first: a hint.
+fn is_own(target: Target, index: u16) -> bool {
+    target.function == 0 && target.place.index == index && !target.place.part.is_of_function()
+}
+
+// Whether a function is entered here, and was not yet: a hint.
+fn is_unentered(draft: &Draft, place: Place) -> bool {
+    place.part == Part::Entered
+        && matches!(facts_at(&draft.certificate, place), Some(Facts::NotReached))
+}
+
+// Lowers what is claimed at a place, and what a function may drop, by what a command asks; says whether all of it was kept, and of what more was asked.
+fn lower_once(
+    subject: &Subject<'_>,
+    draft: &mut Draft,
+    by: FlowRule,
+    around: &Around<'_>,
+    known: &Knowledge,
+    command: &Command,
+    target: Target,
+) -> Result<(bool, Target), AllocError>
+    requires ready { IsReady subject.now draft.old.certificate draft.old.probe.count }
+    requires placed { IsCommand subject.now by (walks.around subject.now.script.now around.now) (knowledge_facts subject.now.names.now known.now) command.now }
+    ensures swept { IfOk result (λ answer. IsSwept subject.now draft.old.certificate draft.new.certificate draft.new.probe.count) }
+{
+    let is_first = is_unentered(&*draft, target.place);
+    let gather = asked_of(
+        subject,
+        &draft.certificate,
+        by,
+        around,
+        known,
+        command,
+        target,
+    );
+    let is_lowered = lower_gathered(
+        subject.names,
+        subject.writable,
+        &mut draft.certificate,
+        &mut draft.probe,
+        &gather,
+    )?;
+    draft.lowered = draft.lowered.saturating_add(u64::from(is_lowered));
+    draft.entered = draft
+        .entered
+        .saturating_add(u64::from(is_lowered && is_first));
+    draft.looks = draft.looks.saturating_add(1);
+    Ok((gather.kept, gather.next))
+}
+
+/// Lowers the certificate where a command is entered and behind it.
+///
+/// # Errors
+///
+/// Where a growth was refused or no place for a row is left.
+pub fn lower_command(
+    subject: &Subject<'_>,
+    draft: &mut Draft,
+    by: FlowRule,
+    around: &Around<'_>,
+    known: &Knowledge,
+    command: &Command,
+) -> Result<(), AllocError>
+    requires ready { IsReady subject.now draft.old.certificate draft.old.probe.count }
+    requires placed { IsCommand subject.now by (walks.around subject.now.script.now around.now) (knowledge_facts subject.now.names.now known.now) command.now }
+    ensures swept { IfOk result (λ unit. IsSwept subject.now draft.old.certificate draft.new.certificate draft.new.probe.count) }
+{
+    lower_before(subject, draft, known, command)?;
+    lower_behind(subject, draft, by, around, known, command)?;
+    Ok(())
+}
+
+/// Lowers what is claimed at each turn of a loop.
+///
+/// # Errors
+///
+/// Where a growth was refused or no place for a row is left.
+pub fn lower_head(
+    subject: &Subject<'_>,
+    draft: &mut Draft,
+    by: FlowRule,
+    around: &Around<'_>,
+    known: &Knowledge,
+    command: &Command,
+) -> Result<(), AllocError>
+    requires ready { IsReady subject.now draft.old.certificate draft.old.probe.count }
+    requires placed { IsCommand subject.now by (walks.around subject.now.script.now around.now) (knowledge_facts subject.now.names.now known.now) command.now }
+    ensures swept { IfOk result (λ unit. IsSwept subject.now draft.old.certificate draft.new.certificate draft.new.probe.count) }
+{
+    if !is_loop(command) {
+        return Ok(());
+    }
+    let index = index_of(command);
+    let part = Part::Head;
+    let place = Place { part, index };
+    let target = Target { place, function: 0 };
+    lower_others(subject, draft, by, around, known, command, index, target)?;
+    Ok(())
+}
+
+// What the flow rules ask at a command, gathered for both places behind it.
+fn asked_behind(
+    subject: &Subject<'_>,
+    certificate: &Certificate,
+    by: FlowRule,
+    around: &Around<'_>,
+    known: &Knowledge,
+    command: &Command,
+    index: u16,
+) -> Sides
+    requires ready { (probed : ℕ) × IsReady subject.now certificate.now probed }
+    requires placed { IsCommand subject.now by (walks.around subject.now.script.now around.now) (knowledge_facts subject.now.names.now known.now) command.now }
+    ensures numbers { AreNumbersBeside (length subject.now.names.now) (sided_of result) }
+    ensures stands { (other : Sheet) → Keeps subject.now other → StandsBeside subject.now.names.now other (sided_of result) }
+{
+    let part = Part::Zero;
+    let place = Place { part, index };
+    let target = Target { place, function: 0 };
+    let part = Part::Nonzero;
+    let place = Place { part, index };
+    let gather = Gather::new(target);
+    let mut sides = Sides {
+        gather,
+        place,
+        known: None,
+    };
+    tell(subject, certificate, by, around, known, command, &mut sides);
+    sides
+}
+
+// Lowers what is claimed at the first of two places, and what a function may drop, by what was gathered.
+fn lower_first(subject: &Subject<'_>, draft: &mut Draft, sides: &Sides) -> Result<(), AllocError>
+    requires ready { IsReady subject.now draft.old.certificate draft.old.probe.count }
+    requires numbers { AreNumbersBeside (length subject.now.names.now) (sided_of sides.now) }
+    requires stands { (other : Sheet) → Keeps subject.now other → StandsBeside subject.now.names.now other (sided_of sides.now) }
+    ensures swept { IfOk result (λ unit. IsSwept subject.now draft.old.certificate draft.new.certificate draft.new.probe.count) }
+{
+    let is_lowered = lower_gathered(
+        subject.names,
+        subject.writable,
+        &mut draft.certificate,
+        &mut draft.probe,
+        &sides.gather,
+    )?;
+    draft.lowered = draft.lowered.saturating_add(u64::from(is_lowered));
+    Ok(())
+}
+
+// Lowers what is claimed at the second of two places, where any run comes to it.
+fn lower_second(subject: &Subject<'_>, draft: &mut Draft, sides: &Sides) -> Result<(), AllocError>
+    requires ready { IsReady subject.now draft.old.certificate draft.old.probe.count }
+    requires numbers { AreNumbersBeside (length subject.now.names.now) (sided_of sides.now) }
+    requires stands { (other : Sheet) → Keeps subject.now other → StandsBeside subject.now.names.now other (sided_of sides.now) }
+    ensures swept { IfOk result (λ unit. IsSwept subject.now draft.old.certificate draft.new.certificate draft.new.probe.count) }
+{
+    match &sides.known {
+        None => Ok(()),
+        Some(sight) => lower_at(subject, draft, sides.place, sight),
+    }
+}
+
+// Lowers what is claimed at both places behind a command by one visit; says whether all of it was kept, and of what more was asked.
+fn lower_sides(
+    subject: &Subject<'_>,
+    draft: &mut Draft,
+    by: FlowRule,
+    around: &Around<'_>,
+    known: &Knowledge,
+    command: &Command,
+    index: u16,
+) -> Result<(bool, Target), AllocError>
+    requires ready { IsReady subject.now draft.old.certificate draft.old.probe.count }
+    requires placed { IsCommand subject.now by (walks.around subject.now.script.now around.now) (knowledge_facts subject.now.names.now known.now) command.now }
+    ensures swept { IfOk result (λ answer. IsSwept subject.now draft.old.certificate draft.new.certificate draft.new.probe.count) }
+{
+    let sides = asked_behind(
+        subject,
+        &draft.certificate,
+        by,
+        around,
+        known,
+        command,
+        index,
+    );
+    draft.looks = draft.looks.saturating_add(1);
+    if sides.gather.kept {
+        return Ok((true, sides.gather.next));
+    }
+    lower_first(subject, draft, &sides)?;
+    lower_second(subject, draft, &sides)?;
+    Ok((false, sides.gather.next))
+}
+
+// Lowers what is claimed elsewhere, and what a function may drop, by what the command of an index asks, here and at one more place.
+fn lower_others(
+    subject: &Subject<'_>,
+    draft: &mut Draft,
+    by: FlowRule,
+    around: &Around<'_>,
+    known: &Knowledge,
+    command: &Command,
+    index: u16,
+    target: Target,
+) -> Result<(), AllocError>
+    requires ready { IsReady subject.now draft.old.certificate draft.old.probe.count }
+    requires placed { IsCommand subject.now by (walks.around subject.now.script.now around.now) (knowledge_facts subject.now.names.now known.now) command.now }
+    ensures swept { IfOk result (λ unit. IsSwept subject.now draft.old.certificate draft.new.certificate draft.new.probe.count) }
+{
+    let (kept, next) = lower_once(subject, draft, by, around, known, command, target)?;
+    if kept || is_own(next, index) || next == target {
+        return Ok(());
+    }
+    lower_once(subject, draft, by, around, known, command, next)?;
+    Ok(())
+}
+
+/// Lowers what is claimed behind a command; and what is claimed elsewhere or a function may drop, where the command asks for more of that.
+///
+/// # Errors
+///
+/// Where a growth was refused or no place for a row is left.
+pub fn lower_behind(
+    subject: &Subject<'_>,
+    draft: &mut Draft,
+    by: FlowRule,
+    around: &Around<'_>,
+    known: &Knowledge,
+    command: &Command,
+) -> Result<(), AllocError>
+    requires ready { IsReady subject.now draft.old.certificate draft.old.probe.count }
+    requires placed { IsCommand subject.now by (walks.around subject.now.script.now around.now) (knowledge_facts subject.now.names.now known.now) command.now }
+    ensures swept { IfOk result (λ unit. IsSwept subject.now draft.old.certificate draft.new.certificate draft.new.probe.count) }
+{
+    let index = index_of(command);
+    let (kept, next) = lower_sides(subject, draft, by, around, known, command, index)?;
+    if kept || is_own(next, index) {
+        return Ok(());
+    }
+    lower_others(subject, draft, by, around, known, command, index, next)?;
+    Ok(())
+}

@@ -1,0 +1,207 @@
+//! The search for the greatest certificate.
+ghost use Rattle.std.specs.Prelude.{◌≡◌, ◌≤◌, ℕ, List, Bool, true, length, IfOk, OnOk};
+ghost use Rattle.std.specs.List.{list_all};
+ghost use Rattle.sh_tree.specs.standard.program.Trees.{script_of};
+ghost use Rattle.sh_domain.specs.Forms.{is_variable};
+ghost use Rattle.sh_domain.specs.Rules.{script_bounds};
+ghost use Rattle.sh_table.specs.Calls.{table_of};
+ghost use Rattle.sh_domain.specs.Admitted.{IsAdmitted, IsGreatest, functions_in};
+ghost use Rattle.sh_domain.specs.Certificates.{in_byte_order, sheet_of};
+ghost use Rattle.sh_find.specs.Next.{IsOfScript};
+ghost use Rattle.sh_find.specs.Sweeps.{IsReady, IsSwept};
+ghost use Rattle.sh_find.specs.Turns.{IsSettled, sheet_by};
+ghost use Rattle.sh_find.specs.Working.{IsWorking};
+
+use crate::draft::Draft;
+use crate::first::unreached;
+use crate::functions::{definitions_of, sweep_often};
+use crate::gather::Target;
+use crate::subject::Subject;
+use crate::sweep::sweep;
+use crate::turn::turn;
+use crate::writable::Writable;
+use sh_domain::{Certificate, Names, Policy};
+use sh_rows::{BitRow, Row};
+use sh_table::CallTable;
+use sh_tree::{Script, commands};
+use std::alloc::{AllocError, Global};
+
+/// How a search sweeps over a script between its turns.
+#[derive(Clone, Copy, Debug, PartialEq, Eq)]
+enum Way {
+    /// Once, from the front to the back.
+    ByRounds,
+    /// As long as something is lowered, at most twice as often each time, and each time over the functions from the last to the first too.
+    ByNeed,
+}
+
+// Sweeps over the commands of a script between two turns.
+fn sweep_so(
+    subject: &Subject<'_>,
+    draft: &mut Draft,
+    way: Way,
+    times: u32,
+) -> Result<(), AllocError>
+    requires { IsReady subject.now draft.old.certificate draft.old.probe.count }
+    ensures { IfOk result (λ unit. IsSwept subject.now draft.old.certificate draft.new.certificate draft.new.probe.count) }
+{
+    match way {
+        Way::ByRounds => sweep(subject, draft),
+        Way::ByNeed => sweep_often(subject, draft, times),
+    }
+}
+
+// How often a script is swept over before the first turn: where there are functions, what they need and what they give is known after two times.
+fn first_times(subject: &Subject<'_>) -> u32 {
+    if subject.table.functions().is_empty() {
+        1
+    } else {
+        2
+    }
+}
+
+// Sweeps over the commands, and takes a turn, until the certificate keeps all flow rules.
+fn settle(subject: &Subject<'_>, draft: &mut Draft, way: Way) -> Result<(), AllocError>
+    requires ready { IsReady subject.now draft.old.certificate draft.old.probe.count }
+    requires variables { list_all is_variable subject.now.names.now ≡ true }
+    requires working { IsOfScript subject.now draft.old.certificate }
+    ensures { OnOk result ((loops : List Bool) (functions : ℕ) → IsWorking subject.now.names.now loops functions draft.old.certificate
+        → IsSettled subject.now.names.now loops functions subject.now.policy.now (functions_in subject.now.script.now subject.now.tree.now)
+        (script_bounds (script_of subject.now.script.now subject.now.tree.now)) draft.old.certificate draft.new.certificate) }
+{
+    let mut target = Target::FIRST;
+    let mut kept = false;
+    let mut times: u32 = first_times(subject);
+    let commands = subject.table.rows().len() as u64;
+    'turns: while !kept {
+        sweep_so(subject, draft, way, times)?;
+        times = times.saturating_mul(2);
+        draft.looks = draft.looks.saturating_add(commands);
+        kept = turn(
+            subject,
+            &mut draft.certificate,
+            &mut draft.probe,
+            &mut target,
+        )?;
+    }
+    Ok(())
+}
+
+// The greatest certificate of a script that is admitted, and how often the flow rules of a command were gone through.
+fn settled(alloc: Global, subject: &Subject<'_>, way: Way) -> Result<(Certificate, u64), AllocError>
+    requires { IsAdmitted subject.now.script.now subject.now.policy.now subject.now.tree.now subject.now.names.now }
+    ensures greatest { IfOk result (λ found. IsGreatest subject.now.script.now subject.now.policy.now subject.now.tree.now subject.now.names.now (sheet_by subject.now.names.now found.0)) }
+    ensures sized { IfOk result (λ found. found.0.rows.count ≡ length subject.now.names.now) }
+{
+    // Its clause says that each is a name, so all that is known may be written.
+    let _declared = subject.policy.names();
+    let commands = commands(alloc, subject.tree)?;
+    let count = subject.names.count();
+    let functions = subject.table.functions().len();
+    let certificate = unreached(alloc, count, &commands, functions)?;
+    let probe = BitRow::empty(alloc, count)?;
+    let mut draft = Draft {
+        certificate,
+        probe,
+        lowered: 0,
+        looks: 0,
+        entered: 0,
+        definitions: definitions_of(alloc, subject)?,
+    };
+    settle(subject, &mut draft, way)?;
+    let looks = draft.looks;
+    Ok((draft.certificate, looks))
+}
+
+// As `settled`, of a script by its parts.
+fn searched(
+    alloc: Global,
+    tree: &Script,
+    script: &[u8],
+    calls: &CallTable<'_>,
+    names: &Names,
+    policy: &Policy,
+    way: Way,
+) -> Result<(Certificate, u64), AllocError>
+    requires admitted { IsAdmitted script.now policy.now tree.now names.now }
+    requires table { calls.now ≡ table_of script.now tree.now }
+    ensures greatest { IfOk result (λ found. IsGreatest script.now policy.now tree.now names.now (sheet_of (in_byte_order names.now) found.0)) }
+    ensures sized { IfOk result (λ found. found.0.rows.count ≡ length names.now) }
+{
+    let writable = Writable::of(names);
+    let subject = Subject {
+        script,
+        policy,
+        tree,
+        table: calls,
+        names,
+        writable: &writable,
+    };
+    settled(alloc, &subject, way)
+}
+
+/// The greatest certificate of a script that is admitted: it keeps all flow rules, and claims at each place what any other one
+/// does that keeps them. The table and the names are those of the script.
+///
+/// # Errors
+///
+/// `AllocError` if a growth was refused or no place for a row is left.
+pub fn find(
+    alloc: Global,
+    tree: &Script,
+    script: &[u8],
+    calls: &CallTable<'_>,
+    names: &Names,
+    policy: &Policy,
+) -> Result<Certificate, AllocError>
+    requires admitted { IsAdmitted script.now policy.now tree.now names.now }
+    requires table { calls.now ≡ table_of script.now tree.now }
+    ensures greatest { IfOk result (λ c. IsGreatest script.now policy.now tree.now names.now (sheet_of (in_byte_order names.now) c)) }
+    ensures sized { IfOk result (λ c. c.rows.count ≡ length names.now) }
+{
+    let (certificate, _looks) = searched(alloc, tree, script, calls, names, policy, Way::ByNeed)?;
+    Ok(certificate)
+}
+
+/// As `find`, with how often the flow rules of a command were gone through, at most `u64::MAX`.
+///
+/// # Errors
+///
+/// As `find`.
+pub fn find_counted(
+    alloc: Global,
+    tree: &Script,
+    script: &[u8],
+    calls: &CallTable<'_>,
+    names: &Names,
+    policy: &Policy,
+) -> Result<(Certificate, u64), AllocError>
+    requires admitted { IsAdmitted script.now policy.now tree.now names.now }
+    requires table { calls.now ≡ table_of script.now tree.now }
+    ensures greatest { IfOk result (λ found. IsGreatest script.now policy.now tree.now names.now (sheet_of (in_byte_order names.now) found.0)) }
+    ensures sized { IfOk result (λ found. found.0.rows.count ≡ length names.now) }
+{
+    searched(alloc, tree, script, calls, names, policy, Way::ByNeed)
+}
+
+/// As `find`, by rounds over the whole script: the plain way, which takes longer if functions call each other.
+///
+/// # Errors
+///
+/// As `find`.
+pub fn find_by_rounds(
+    alloc: Global,
+    tree: &Script,
+    script: &[u8],
+    calls: &CallTable<'_>,
+    names: &Names,
+    policy: &Policy,
+) -> Result<Certificate, AllocError>
+    requires admitted { IsAdmitted script.now policy.now tree.now names.now }
+    requires table { calls.now ≡ table_of script.now tree.now }
+    ensures greatest { IfOk result (λ c. IsGreatest script.now policy.now tree.now names.now (sheet_of (in_byte_order names.now) c)) }
+    ensures sized { IfOk result (λ c. c.rows.count ≡ length names.now) }
+{
+    let (certificate, _looks) = searched(alloc, tree, script, calls, names, policy, Way::ByRounds)?;
+    Ok(certificate)
+}

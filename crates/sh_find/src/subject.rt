@@ -1,0 +1,25 @@
+//! A script of which a certificate is sought.
+ghost use Rattle.std.specs.Prelude.{◌≡◌};
+ghost use Rattle.sh_tree.specs.declared.limits.TheConstants.{MAX_NAMES};
+ghost use Rattle.sh_table.specs.Calls.{table_of};
+ghost use Rattle.sh_find.specs.Writable.{HasWritable, IsWritten, sets_in};
+
+use crate::writable::Writable;
+use sh_domain::{Names, Policy};
+use sh_table::CallTable;
+use sh_tree::Script;
+
+/// A script, with its policy, its tree, its calls and its names.
+#[derive(Clone, Copy)]
+pub struct Subject<'a> {
+    pub script: &'a [u8],
+    pub policy: &'a Policy,
+    pub tree: &'a Script,
+    pub table: &'a CallTable<'a>,
+    pub names: &'a Names,
+    /// The names that a text of its certificates may have.
+    pub writable: &'a Writable,
+    ghost listed: { table.now ≡ table_of script.now tree.now },
+    ghost written: { IsWritten names.now (sets_in writable.now.vars writable.now.functions) },
+    ghost all_writable: { HasWritable names.now MAX_NAMES (sets_in writable.now.vars writable.now.functions) },
+}

@@ -1,3 +1,0 @@
-pub mod LineLemmas
-pub mod RowLemmas
-pub mod RoomLemmas

@@ -1,0 +1,213 @@
+//! Operands by which a utility could set IFS (XCU 2.15, 3).
+ghost use Rattle.std.specs.Prelude.{◌≡◌, ◌≤◌, true, false, length, take, map, option_map};
+ghost use Rattle.std.specs.List.{list_any, list_all};
+ghost use Rattle.std.specs.Str.{bytes_eq};
+ghost use Rattle.sh_tree.specs.standard.Words.{words_of};
+ghost use Rattle.sh_table.specs.WordTexts.{text_in};
+ghost use Rattle.sh_quote.specs.Steady as steady;
+ghost use Rattle.sh_quote.specs.Operands as spec;
+
+use crate::elements::{begins_with_equals, split_word};
+use crate::looks::{Look, is_ifs, word_has};
+use crate::quotations::are_quotations;
+use crate::values::{is_steady, value_is_steady};
+use sh_domain::option_takes;
+use sh_table::{Kind, WordText, are_static, ends_options, is_dashed, name_length};
+use sh_tree::{Element, KnownName, Part, Word, command_name};
+
+// `export` and `readonly`
+
+#[tactic(auto, using(crate::proofs::OperandLemmas::too_short))]
+fn begins_with_ifs(text: &[u8]) -> bool
+    ensures value { result ≡ bytes_eq (take 4 text.now) steady.ifs_and_equals }
+    ensures within { result ≡ true → 4 ≤ length text.now }
+{
+    text.len() >= 4 && &text[..4] == b"IFS=".as_slice()
+}
+
+// A static operand, which may give IFS a value.
+#[tactic(auto, unfolding(crate::specs::Steady::steady_text))]
+fn text_is_steady(text: Option<&[u8]>) -> bool
+    ensures { result ≡ steady.steady_text (option_map (λ t. t.now) text.entry) }
+{
+    match text {
+        None => false,
+        Some(text) => !begins_with_ifs(text) || is_steady(&text[4..]),
+    }
+}
+
+// An operand with these plain bytes at its front.
+#[tactic(auto, unfolding(crate::specs::Operands::front_steady, sh_tree::specs::standard::language::Commands::is_assignment))]
+fn front_is_steady(front: &[u8], rest: &[Part], text: Option<&[u8]>, script: &[u8]) -> bool
+    ensures { result ≡ spec.front_steady script.now front.now rest.now (option_map (λ t. t.now) text.entry) }
+{
+    let length = name_length(front);
+    if length > 0 && begins_with_equals(&front[length..]) {
+        !is_ifs(&front[..length]) || value_is_steady(&front[length + 1..], rest, script)
+    } else {
+        text_is_steady(text)
+    }
+}
+
+// An operand of `export` or `readonly` with this static text.
+#[tactic(auto, unfolding(crate::specs::Operands::parts_declared))]
+fn is_declared(word: &Word, text: Option<&[u8]>, script: &[u8]) -> bool
+    ensures { result ≡ spec.parts_declared script.now word.now.parts (option_map (λ t. t.now) text.entry) }
+{
+    match word.parts.as_slice() {
+        [Part::Plain(span), rest @ ..] => front_is_steady(span.text(script), rest, text, script),
+        _ => text_is_steady(text),
+    }
+}
+
+/// Whether no operand of `export` or `readonly` gives IFS a value that separates numbers, or could: by the words of these elements,
+/// with their static texts.
+#[tactic(auto, using(crate::proofs::OperandLemmas::split_some, crate::proofs::OperandLemmas::split_none), unfolding(crate::specs::Operands::all_declared))]
+fn are_declared(elements: &[Element], texts: &[WordText], script: &[u8]) -> bool
+    ensures { result ≡ spec.all_declared script.now (words_of elements.now) (map (text_in script.now) texts.now) }
+{
+    let mut left = elements;
+    let mut later = texts;
+    while let Some((word, rest)) = split_word(left) {
+        let [text, others @ ..] = later else {
+            return true;
+        };
+        if !is_declared(word, text.get(script), script) {
+            return false;
+        }
+        left = rest;
+        later = others;
+    }
+    true
+}
+
+// `getopts`
+
+// A static operand that is not IFS.
+#[tactic(auto, unfolding(crate::specs::Operands::names_other))]
+fn names_other(text: &WordText, script: &[u8]) -> bool
+    ensures { result ≡ spec.names_other (text_in script.now text.now) }
+{
+    match text.get(script) {
+        None => false,
+        Some(text) => !is_ifs(text),
+    }
+}
+
+fn all_name_other(texts: &[WordText], script: &[u8]) -> bool
+    ensures { result ≡ list_all (λ t. spec.names_other (text_in script.now t)) texts.now }
+{
+    texts.iter().all(|text| names_other(text, script))
+}
+
+// The operand with the options: one field that is not IFS.
+#[tactic(auto, unfolding(crate::specs::Operands::is_one_field))]
+fn is_one_field(word: &Word, text: Option<&[u8]>, script: &[u8]) -> bool
+    ensures { result ≡ spec.is_one_field script.now word.now (option_map (λ t. t.now) text.entry) }
+{
+    match text {
+        Some(text) => !is_ifs(text),
+        None => are_quotations(word.parts.as_slice()) && !word_has(Look::At, word, script),
+    }
+}
+
+/// Whether the operands of `getopts` do not let it set IFS: by the words of these elements, with their static texts.
+#[tactic(auto, using(crate::proofs::OperandLemmas::getopts_first, crate::proofs::OperandLemmas::getopts_none), unfolding(crate::specs::Operands::all_options))]
+fn are_options(elements: &[Element], texts: &[WordText], script: &[u8]) -> bool
+    ensures { result ≡ spec.all_options script.now (words_of elements.now) (map (text_in script.now) texts.now) }
+{
+    match command_name(elements) {
+        None => true,
+        Some(word) => first_is_options(word, texts, script),
+    }
+}
+
+#[tactic(auto, using(crate::proofs::OperandLemmas::others_named), unfolding(crate::specs::Operands::first_options))]
+fn first_is_options(word: &Word, texts: &[WordText], script: &[u8]) -> bool
+    ensures { result ≡ spec.first_options script.now word.now (map (text_in script.now) texts.now) }
+{
+    match texts {
+        [] => true,
+        [first, rest @ ..] => {
+            is_one_field(word, first.get(script), script) && all_name_other(rest, script)
+        }
+    }
+}
+
+// `read`
+
+#[tactic(auto, unfolding(crate::specs::Operands::is_ifs_static))]
+fn is_ifs_text(text: &WordText, script: &[u8]) -> bool
+    ensures { result ≡ spec.is_ifs_static (text_in script.now text.now) }
+{
+    match text.get(script) {
+        None => false,
+        Some(text) => is_ifs(text),
+    }
+}
+
+fn has_ifs(texts: &[WordText], script: &[u8]) -> bool
+    ensures { result ≡ list_any (λ t. spec.is_ifs_static (text_in script.now t)) texts.now }
+{
+    texts.iter().any(|text| is_ifs_text(text, script))
+}
+
+// Whether IFS is among the operands behind the options.
+#[tactic(auto, using(crate::proofs::OperandLemmas::any_listed), unfolding(crate::specs::Operands::reads_ifs, crate::specs::Operands::go_on))]
+fn reads_ifs(texts: &[WordText], script: &[u8]) -> bool
+    ensures { result ≡ spec.reads_ifs false (map (text_in script.now) texts.now) }
+{
+    let mut left = texts;
+    let mut takes = false;
+    while let [first, rest @ ..] = left {
+        let Some(text) = first.get(script) else {
+            return false;
+        };
+        if takes {
+            takes = false;
+        } else {
+            if ends_options(text) {
+                return has_ifs(rest, script);
+            }
+            if !is_dashed(text) {
+                return has_ifs(left, script);
+            }
+            let Some(next) = option_takes(text) else {
+                return false;
+            };
+            takes = next;
+        }
+        left = rest;
+    }
+    false
+}
+
+/// Whether the operands of `read` do not let it set IFS, by their static texts.
+#[tactic(auto, unfolding(crate::specs::Operands::all_read))]
+fn are_read(texts: &[WordText], script: &[u8]) -> bool
+    ensures { result ≡ spec.all_read (map (text_in script.now) texts.now) }
+{
+    are_static(texts, script) && !reads_ifs(texts, script)
+}
+
+// Commands
+
+/// Whether the operands of a utility of this kind do not let it set IFS to what separates numbers: by the words of the elements
+/// behind its name, with their static texts.
+#[tactic(auto, unfolding(crate::specs::Operands::operands_steady))]
+pub fn operands_are_steady(
+    kind: Kind,
+    elements: &[Element],
+    texts: &[WordText],
+    script: &[u8],
+) -> bool
+    ensures { result ≡ spec.operands_steady kind script.now (words_of elements.now) (map (text_in script.now) texts.now) }
+{
+    match kind {
+        Kind::Special(KnownName::Export) => are_declared(elements, texts, script),
+        Kind::Special(KnownName::Readonly) => are_declared(elements, texts, script),
+        Kind::Read => are_read(texts, script),
+        Kind::Getopts => are_options(elements, texts, script),
+        _ => true,
+    }
+}

@@ -1,0 +1,36 @@
+-- What a run of the engine reads and writes.
+-- shset's own; the standard has no linter.
+use Rattle.std.specs.Prelude.{◌≡◌, ℕ, List, [], take, Option}
+use Rattle.std.specs.Io.KnownBytes.{Appends}
+use Rattle.sh_answers.specs.Moves.{Had}
+use Rattle.sh_answers.specs.declared.task.Action.{Action}
+use Rattle.sh_answers.specs.declared.task.Action.TheVariants.{Lint, Cert, Check}
+use Rattle.sh_answers.specs.declared.task.Task.{Task}
+use Rattle.sh_accept.specs.Written.{Tells}
+
+-- how many bytes are asked for at most: one more than a script has, and one more than a certificate's text has
+abbrev pub script_read : ℕ
+script_read = 1048577
+
+abbrev pub certificate_read : ℕ
+certificate_read = 67108865
+
+-- the certificate's text, of which at most so many bytes are asked for, where the action reads one
+abbrev pub HadText : Action → Option (List ℕ) → ℕ → List ℕ → Type 0
+HadText Lint bytes limit text = text ≡ []
+HadText Cert bytes limit text = text ≡ []
+HadText Check bytes limit text = Had bytes limit text
+
+-- the text of such an answer was written, and the status is its own
+pub record WritesAnswer (task : Task) (b certificate : List ℕ) (old new : Option (List ℕ)) (status : ℕ) : Type 0 where
+  pub text : List ℕ
+  pub tells : Tells task.action b certificate task.policy text status
+  pub written : Appends old new text
+
+-- a front of the text of such an answer was written
+pub record WritesFront (task : Task) (b certificate : List ℕ) (old new : Option (List ℕ)) : Type 0 where
+  pub text : List ℕ
+  pub status : ℕ
+  pub tells : Tells task.action b certificate task.policy text status
+  pub count : ℕ
+  pub written : Appends old new (take count text)

@@ -1,0 +1,101 @@
+//! What is answered of a script without a certificate, and which certificate is shown.
+ghost use Rattle.std.specs.Prelude.{◌≡◌, Ok, IfOk, length};
+ghost use Rattle.sh_answers.specs.declared.verdict.Verdict.TheVariants as verdicts;
+ghost use Rattle.sh_accept.specs.Answers.{Certifies, Lints};
+ghost use Rattle.sh_domain.specs.Admitted.{IsGreatest};
+ghost use Rattle.sh_accept.specs.Theorem.{IsSafe};
+ghost use Rattle.sh_report.specs.Prepared.{IsPrepared, sheet_in};
+
+use crate::checks::judged;
+use crate::prepared::{Prepared, prepare};
+use sh_answers::Verdict;
+use sh_domain::{Certificate, Policy};
+use sh_facts::{is_too_long, write_certificate};
+use sh_find::find;
+use sh_tree::Refusal;
+use std::alloc::{AllocError, Global};
+
+// The greatest certificate of a script that is admitted.
+fn greatest(
+    alloc: Global,
+    script: &[u8],
+    policy: &Policy,
+    prepared: &Prepared,
+) -> Result<Certificate, AllocError>
+    requires { IsPrepared script.now policy.now prepared.now }
+    ensures greatest { IfOk result (λ c. IsGreatest script.now policy.now prepared.now.tree prepared.now.names (sheet_in prepared.now c)) }
+    ensures sized { IfOk result (λ c. c.rows.count ≡ length prepared.now.names) }
+{
+    find(
+        alloc,
+        &prepared.tree,
+        script,
+        &prepared.table,
+        &prepared.names,
+        policy,
+    )
+}
+
+// What is told of a script that is admitted. The greatest certificate breaks no flow rule.
+fn lint_prepared(
+    alloc: Global,
+    script: &[u8],
+    policy: &Policy,
+    prepared: &Prepared,
+) -> Result<Verdict, AllocError>
+    requires { IsPrepared script.now policy.now prepared.now }
+    ensures { IfOk result (λ v. Lints script.now policy.now (Ok v)) }
+{
+    let certificate = greatest(alloc, script, policy, prepared)?;
+    judged(alloc, script, policy, prepared, &certificate)
+}
+
+/// What is told of a script: a pass exactly where some certificate of it is accepted, or the findings of the greatest one, in order. A pass promises
+/// what that of a check does.
+///
+/// # Errors
+///
+/// The refusal of the script, of its profile or of its names, in that order; `Memory` where a growth was refused.
+#[tactic(auto, using(crate::proofs::LintLemmas::exhausted, crate::proofs::PromiseLemmas::linted))]
+pub fn lint(alloc: Global, script: &[u8], policy: &Policy) -> Result<Verdict, Refusal>
+    ensures answers { Lints script.now policy.now result }
+    ensures headline { result ≡ Ok verdicts.Pass → IsSafe script.now policy.now }
+{
+    // As in `check`.
+    let _declared = policy.names();
+    let prepared = prepare(alloc, script, policy)?;
+    let verdict = lint_prepared(alloc, script, policy, &prepared)?;
+    Ok(verdict)
+}
+
+// The text of the greatest certificate of a script that is admitted, if it is no longer than a text may be. It is counted before it is made.
+#[tactic(auto, using(crate::proofs::LintLemmas::uncertified))]
+fn certificate_prepared(
+    alloc: Global,
+    script: &[u8],
+    policy: &Policy,
+    prepared: &Prepared,
+) -> Result<Vec<u8>, Refusal>
+    requires { IsPrepared script.now policy.now prepared.now }
+    ensures { Certifies script.now policy.now result }
+{
+    let certificate = greatest(alloc, script, policy, prepared)?;
+    if is_too_long(&certificate, &prepared.names) {
+        return Err(Refusal::CertSyntax(0));
+    }
+    let text = write_certificate(alloc, &certificate, &prepared.names)?;
+    Ok(text)
+}
+
+/// The text of the greatest certificate of a script, whether it passes or not.
+///
+/// # Errors
+///
+/// As `lint`; and `CertSyntax` with 0 where the text would be longer than `MAX_CERTIFICATE`.
+#[tactic(auto, using(crate::proofs::RefusalLemmas::widened))]
+pub fn certificate(alloc: Global, script: &[u8], policy: &Policy) -> Result<Vec<u8>, Refusal>
+    ensures { Certifies script.now policy.now result }
+{
+    let prepared = prepare(alloc, script, policy)?;
+    certificate_prepared(alloc, script, policy, &prepared)
+}

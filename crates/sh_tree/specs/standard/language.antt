@@ -1,0 +1,11 @@
+pub mod Characters
+pub mod Bytes
+pub mod Words
+pub mod Arithmetic
+pub mod Commands
+pub mod HereDocuments
+pub mod Trees
+pub mod Contexts
+pub mod Parts
+pub mod States
+pub mod Reading

@@ -1,0 +1,107 @@
+-- Here-documents: the delimiter, the lines, and the line that ends a body.
+-- POSIX.1-2024, XCU 2.7.4 (here-document), 2.2.1 (line continuation).
+use Rattle.std.specs.Prelude.{ℕ, zero, suc, ◌+◌, Bool, true, false, not, ◌&&◌, ◌||◌, if◌then◌else◌, List, [], ◌∷◌, length, drop, nat_lt, Option, Some, None, slice_range}
+use Rattle.std.specs.Str.{bytes_eq}
+use Rattle.std.specs.List.{list_any}
+use Rattle.sh_tree.specs.declared.tree.Span.{Span}
+use Rattle.sh_tree.specs.declared.tree.Word.{Word}
+use Rattle.sh_tree.specs.standard.language.Bytes.{is_newline, is_tab, is_backslash, run, is_first}
+use Rattle.sh_tree.specs.standard.language.Trees.{span}
+use Rattle.sh_tree.specs.standard.Tree.{text_of}
+use Rattle.sh_tree.specs.standard.Words.{parts_text}
+
+-- a here-document whose body has not come: whether it strips tabs, whether its delimiter is quoted, the delimiter, and how deep the operator stands
+pub record Mark : Type 0 where
+  pub strip : Bool
+  pub quoted : Bool
+  pub delimiter : List ℕ
+  pub depth : ℕ
+
+-- Delimiters
+
+abbrev pub or_none : Option (List ℕ) → List ℕ
+or_none (Some t) = t
+or_none None = []
+
+unfoldable pub is_static : Option (List ℕ) → Bool
+is_static (Some t) = true
+is_static None = false
+
+-- no expansion, no tilde-prefix and no newline
+unfoldable pub is_delimiter : List ℕ → Word → Bool
+is_delimiter b w = is_static (parts_text b w.parts) && not (list_any is_newline (text_of b w.span))
+
+-- the delimiter: the word without its quoting
+unfoldable pub delimiter_of : List ℕ → Word → List ℕ
+delimiter_of b w = or_none (parts_text b w.parts)
+
+-- Lines
+
+-- How long the line at the front is, without its newline. Where lines are joined, a backslash keeps the byte behind it from ending the line.
+unfoldable pub line_length : Bool → List ℕ → ℕ
+line_length joins [] = 0
+line_length joins (c ∷ []) = if is_newline c then 0 else 1
+line_length joins (c ∷ d ∷ cs) =
+    if is_newline c then 0
+    else (if joins && is_backslash c then 2 + line_length joins cs else 1 + line_length joins (d ∷ cs))
+
+-- where the line at i ends, before its newline
+unfoldable pub line_end : Bool → List ℕ → ℕ → ℕ
+line_end joins b i = i + line_length joins (drop i b)
+
+-- the text of a line without its line continuations
+unfoldable pub line_text : Bool → List ℕ → List ℕ
+line_text joins [] = []
+line_text joins (c ∷ []) = c ∷ []
+line_text joins (c ∷ d ∷ cs) =
+    if joins && is_backslash c then (if is_newline d then line_text joins cs else c ∷ d ∷ line_text joins cs)
+    else c ∷ line_text joins (d ∷ cs)
+
+-- what is compared with the delimiter: the line at i, joined where the delimiter is unquoted, without the tabs that `<<-` strips
+unfoldable pub end_candidate : Mark → List ℕ → ℕ → List ℕ
+end_candidate m b i =
+    let text = line_text (not m.quoted) (slice_range b i (line_end (not m.quoted) b i)) in
+    if m.strip then drop (run is_tab text) text else text
+
+-- the line behind the one that ends at e
+abbrev pub behind_line : List ℕ → ℕ → ℕ
+behind_line b e = if nat_lt e (length b) then e + 1 else e
+
+-- the line that ends the body, from its first byte to before its newline, looked for from i on in at most n lines
+unfoldable pub end_line_within : ℕ → Mark → List ℕ → ℕ → Option Span
+end_line_within zero m b i = None
+end_line_within (suc n) m b i =
+    if not (nat_lt i (length b)) then None
+    else (if bytes_eq (end_candidate m b i) m.delimiter then Some (span i (line_end (not m.quoted) b i))
+    else end_line_within n m b (behind_line b (line_end (not m.quoted) b i)))
+
+-- the line that ends the body that begins at i
+unfoldable pub end_line : Mark → List ℕ → ℕ → Option Span
+end_line m b i = end_line_within (length b) m b i
+
+-- Lines that are read in two ways
+
+-- a line of the text begins with a tab; the first one does so only if the text begins a line
+unfoldable pub has_tabbed_line : Bool → List ℕ → Bool
+has_tabbed_line begins [] = false
+has_tabbed_line begins (c ∷ cs) = (begins && is_tab c) || has_tabbed_line (is_newline c) cs
+
+-- A line continuation stands in the text, and behind it what this is true of. The second of two backslashes begins none.
+unfoldable pub has_joined : (List ℕ → Bool) → List ℕ → Bool
+has_joined p [] = false
+has_joined p (c ∷ []) = false
+has_joined p (c ∷ d ∷ cs) = if is_backslash c then (is_newline d && p cs) || has_joined p cs else has_joined p (d ∷ cs)
+
+-- a line continuation stands in the text
+abbrev pub is_split_text : List ℕ → Bool
+is_split_text t = has_joined (λ rest. true) t
+
+-- a tab stands behind a line continuation in the body from i to e: whether `<<-` strips it is read in two ways
+abbrev pub is_ambiguous : Mark → List ℕ → ℕ → ℕ → Bool
+is_ambiguous m b i e = m.strip && not m.quoted && has_joined (is_first is_tab) (slice_range b i e)
+
+-- So are those of a here-document in such a body, but a quoted delimiter keeps its lines: they hold no continuation there. And where tabs are stripped around
+-- it they are stripped from its lines too, but only `<<-` says so: no other's lines begin with one. The lines are those from the body's first to the end line, whose newline counts too.
+unfoldable pub keeps_document : List ℕ → Bool → Bool → Mark → Span → Bool
+keeps_document b joins tabs m s =
+    (not (joins && m.quoted) || not (is_split_text (text_of b s))) && (not tabs || m.strip || not (has_tabbed_line true (text_of b s)))

@@ -1,0 +1,35 @@
+use Rattle.std.proofs.Common.{◌≡◌, ◌≤◌, length, Ok, sym, ap, ◌∙◌, subst}
+use Rattle.sh_words.specs.declared.builder.WordBuilder.{WordBuilder}
+use Rattle.sh_words.specs.declared.builder.Next.TheVariants.{Inner}
+use Rattle.sh_words.specs.Clauses.{Answers}
+use Rattle.sh_words.specs.Modes.{seen}
+use Rattle.sh_words.specs.Rest.{Left}
+use Rattle.sh_words.specs.Sound.{RunMoves}
+use Rattle.sh_words.specs.States.{fed}
+use Rattle.show_tree.proofs.word.read_on.Goals as goal
+
+-- commands were asked for
+asked : (c : goal.In-Ok) → Answers (seen c.args.text.now c.args.builder.now.mode) (Left (seen c.args.text.now c.args.builder.now.mode) c.args.builder.now) c.run.new.self
+    (Inner c.in-Ok-Inner.at c.in-Ok-Inner.depth)
+asked c =
+    subst (λ n. Answers (seen c.args.text.now c.args.builder.now.mode) (Left (seen c.args.text.now c.args.builder.now.mode) c.args.builder.now) c.run.new.self n)
+    c.in-Ok-Inner.field-0-is (c.in-Ok-Inner.ensures.runs c.requires.reads)
+
+moved : (c : goal.In-Ok) → RunMoves (seen c.args.text.now c.args.builder.now.mode) c.args.builder.now c.run.new.self (Ok (Inner c.in-Ok-Inner.at c.in-Ok-Inner.depth))
+moved c =
+    subst (λ n. RunMoves (seen c.args.text.now c.args.builder.now.mode) c.args.builder.now c.run.new.self (Ok n)) c.in-Ok-Inner.field-0-is c.in-Ok-Inner.ensures.moves
+
+-- and handed back
+fed_is : (c : goal.In-Ok) → c.resume.new.self ≡ fed c.run.new.self (asked c).0 c.no_commands.result c.closed-end.result
+fed_is c = c.in-Ok.ensures.gives (asked c).0 (asked c).1 ((moved c).5.3 ∙ c.requires.reads)
+
+pub returns-in-Ok-clause-mode : goal.returns-in-Ok-clause-mode
+returns-in-Ok-clause-mode c = λ _. ap (λ (w : WordBuilder). w.mode) (fed_is c) ∙ (moved c).5.0 ∙ c.requires.mode
+
+pub returns-in-Ok-clause-reads : goal.returns-in-Ok-clause-reads
+returns-in-Ok-clause-reads c = λ _. ap (λ (w : WordBuilder). w.failed) (fed_is c) ∙ (moved c).5.3 ∙ c.requires.reads
+
+pub returns-in-Ok-clause-inside : goal.returns-in-Ok-clause-inside
+returns-in-Ok-clause-inside c = λ _.
+    subst (λ text. c.resume.new.self.at ≤ length text) c.seen.ensures.value
+    (subst (λ at. at ≤ length c.seen.result.now) (sym (ap (λ (w : WordBuilder). w.at) (fed_is c))) c.closed-end.ensures)

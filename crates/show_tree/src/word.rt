@@ -1,0 +1,117 @@
+//! One word, from its begin to its end. Commands in it are not read: each substitution goes up to its first `)`.
+ghost use Rattle.std.specs.Prelude.{◌≡◌, ◌≤◌, true, length, IfOk};
+ghost use Rattle.sh_words.specs.Builders.{Goes, mode_of, position};
+ghost use Rattle.sh_words.specs.Modes.{seen};
+ghost use Rattle.sh_words.specs.Sound.{IsSound};
+
+use sh_show::push_word;
+use sh_tree::{Items, MAX_NESTING, MAX_SCRIPT, Script};
+use sh_words::{Mode, Next, WordBuilder};
+use std::alloc::{AllocError, Global};
+
+/// What a word is.
+#[derive(Clone, Copy)]
+pub enum Form {
+    Word,
+    Unsplit,
+    Value,
+    Operand,
+    Body { strip: bool, quoted: bool },
+}
+
+/// What a word is, how deep it is, where it begins, and how many bytes of the text it does not see if it is a body.
+#[derive(Clone, Copy)]
+pub struct Place {
+    pub form: Form,
+    pub depth: u32,
+    pub at: u32,
+    pub tail: u32,
+}
+
+/// The mode of a word at the place in a text of this length.
+fn mode_of_word(place: Place, length: u32) -> Mode {
+    match place.form {
+        Form::Word => Mode::Word,
+        Form::Unsplit => Mode::Unsplit,
+        Form::Value => Mode::Value,
+        Form::Operand => Mode::Operand,
+        Form::Body { strip, quoted } => Mode::Body {
+            end: length.saturating_sub(place.tail),
+            strip,
+            quoted,
+        },
+    }
+}
+
+/// Where the commands end that begin at `at`, and the `)` after them with them.
+fn closed(text: &[u8], at: u32) -> u32
+    requires small { length text.now ≤ MAX_SCRIPT }
+    ensures { result ≤ length text.now }
+{
+    let commands = text.iter().skip(at as usize);
+    let length = commands.take_while(|byte| **byte != b')').count();
+    text.len().min(at as usize + length + 1) as u32
+}
+
+fn no_commands(alloc: Global) -> Script {
+    Script {
+        items: Items::new(alloc),
+    }
+}
+
+/// Reads on, up to commands or to the end, and tells that. Whether there is more.
+fn read_on(
+    alloc: Global,
+    builder: &mut WordBuilder,
+    mode: Mode,
+    text: &[u8],
+    told: &mut String,
+) -> Result<bool, AllocError>
+    requires small { length text.now ≤ MAX_SCRIPT }
+    requires mode { mode_of builder.old ≡ mode }
+    requires reads { Goes builder.old }
+    requires inside { position builder.old ≤ length (seen text.now mode) }
+    requires sound { IsSound (seen text.now mode) builder.old }
+    ensures mode { IfOk result (λ more. more ≡ true → mode_of builder.new ≡ mode) }
+    ensures reads { IfOk result (λ more. more ≡ true → Goes builder.new) }
+    ensures inside { IfOk result (λ more. more ≡ true → position builder.new ≤ length (seen text.now mode)) }
+    ensures sound { IfOk result (λ more. more ≡ true → IsSound (seen text.now mode) builder.new) }
+{
+    match builder.run(text) {
+        Ok(Next::Done(word)) => {
+            push_word(alloc, &word, told)?;
+            Ok(false)
+        }
+        Ok(Next::Inner { at, depth }) => {
+            told.push_str(&format!(in alloc; "{at}/{depth} ")?)?;
+            let end = closed(mode.seen(text), at);
+            match builder.resume(no_commands(alloc), end) {
+                Ok(()) => Ok(true),
+                Err(_) => Ok(false),
+            }
+        }
+        Err(refusal) => {
+            told.push_str(&format!(in alloc; "{refusal:?}")?)?;
+            Ok(false)
+        }
+    }
+}
+
+/// Where commands begin in the word at the place and how deep, and at last the word or its refusal.
+pub fn word_told(alloc: Global, place: Place, text: &[u8]) -> Result<String, AllocError> {
+    let mut told = String::new(alloc);
+    if text.len() > MAX_SCRIPT || place.depth > MAX_NESTING {
+        return Ok(told);
+    }
+    let mode = mode_of_word(place, text.len() as u32);
+    if place.at as usize > mode.seen(text).len() {
+        return Ok(told);
+    }
+    let mut builder = WordBuilder::start(alloc, mode, place.depth as u8, place.at)?;
+    for _ in 0..MAX_SCRIPT {
+        if !read_on(alloc, &mut builder, mode, text, &mut told)? {
+            break;
+        }
+    }
+    Ok(told)
+}
