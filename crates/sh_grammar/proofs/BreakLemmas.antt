@@ -20,8 +20,10 @@ use Rattle.sh_grammar.specs.Documents.{DocumentsFrom, Passes}
 use Rattle.sh_grammar.specs.Breaks.{BreaksTo, BreaksFrom, Line, LineFrom, LineTo}
 use Rattle.sh_grammar.specs.declared.state.State.{State}
 use Rattle.sh_grammar.specs.Readers.{Refused}
-use Rattle.sh_grammar.specs.States.{IsIn, Lies, here, moved, pending_of, Stands}
+use Rattle.sh_grammar.specs.States.{AreBefore, IsBefore, Lies, here, moved, pending_of, Stands}
+use Rattle.sh_grammar.specs.declared.mark.Mark.{Mark}
 use Rattle.sh_grammar.proofs.ReaderLemmas.{refused_by}
+use Rattle.sh_grammar.proofs.StateLemmas.{are_later, before_later}
 
 -- Behind blanks stand none
 
@@ -77,7 +79,7 @@ module _ (b : List ℕ) where
   pub line_across : (s : State) (at : ℕ) → Some at ≡ s.outer → Stands b s → Refused b (LineFrom b s) (LeftOut form.HereAcross at)
   unfolding is_some
   line_across s at is stands = (
-    subst (IsIn b) (sym is) stands.around,
+    subst (IsBefore (length b)) (sym is) (before_later s.at (length b) s.outer stands.inside stands.around),
     λ limit k y l. let quiet : is_some s.outer ≡ true = ap is_some (sym is) in true≢false (sym quiet ∙ l.1),
   )
 
@@ -138,15 +140,20 @@ module _ (b : List ℕ) where
 
 -- Where states stand
 
-pub settled_stands : (b : List ℕ) (j : ℕ) (s : State) → Lies b s → j ≡ blanks s.joins b s.at → j ≤ length b → Stands b (record s { at = j; fresh = true })
-settled_stands b j s stands is inside = record {
+pub settled_stands : (b : List ℕ) (j : ℕ) (s : State) → Lies b s → j ≡ blanks s.joins b s.at → s.at ≤ j → j ≤ length b
+    → Stands b (record s { at = j; fresh = true })
+settled_stands b j s stands is after inside = record {
   inside = inside;
   settled = ap (blanks s.joins b) is ∙ blanks_settle s.joins b s.at ∙ sym is;
   few = stands.few;
   shallow = stands.shallow;
-  around = stands.around;
-  behind = stands.behind;
+  around = before_later s.at j s.outer after stands.around;
+  behind = are_later s.at j s.pending after stands.behind;
 }
+
+-- the operators of a line stand in the text
+pub line_marks : (b : List ℕ) (s : State) (ms : List Mark) → Stands b s → ms ≡ s.pending → AreBefore (length b) ms
+line_marks b s ms stands is = subst (AreBefore (length b)) (sym is) (are_later s.at (length b) s.pending stands.inside stands.behind)
 
 -- behind a newline
 pub line_lies : (b : List ℕ) (s first : State) → Stands b s → s.at < length b → first ≡ record s { at = s.at + 1; pending = [] } → Lies b first
@@ -154,6 +161,6 @@ line_lies b s first stands below is = subst (Lies b) (sym is) (record {
   inside = omega arith;
   few = stands.few;
   shallow = stands.shallow;
-  around = stands.around;
+  around = before_later s.at (s.at + 1) s.outer (omega arith) stands.around;
   behind = tt;
 })

@@ -6,7 +6,7 @@ use Rattle.sh_tree.specs.standard.Tree.{text_of}
 use Rattle.sh_tree.specs.standard.Words.{parts_text}
 use Rattle.sh_tree.specs.declared.tree.Word.{Word}
 use Rattle.sh_tree.specs.standard.language.Bytes.{is_newline}
-use Rattle.sh_tree.specs.standard.language.HereDocuments.{is_delimiter, delimiter_of, is_static, or_none}
+use Rattle.sh_tree.specs.standard.language.HereDocuments.{is_delimiter, is_dollar_quoted, delimiter_of, is_static, or_none}
 use Rattle.sh_tree.specs.standard.language.States as states
 use Rattle.sh_tree.specs.declared.refusal.Form.TheVariants as form
 use Rattle.sh_tree.specs.declared.refusal.Refusal.TheVariants.{LeftOut}
@@ -17,18 +17,30 @@ use Rattle.sh_grammar.specs.Readers.{Refused}
 pub delimiter_split : (b : List ℕ) (w : Word) → true ≡ list_any is_newline (text_of b w.span) → None ≡ delimiter_in b w
 unfolding is_delimiter
 delimiter_split b w line =
-    let none : (is_static (parts_text b w.parts) && not (list_any is_newline (text_of b w.span))) ≡ false = and_right (is_static (parts_text b w.parts)) _ (ap not (sym line)) in
+    let none : ((is_static (parts_text b w.parts) && not (list_any is_dollar_quoted w.parts)) && not (list_any is_newline (text_of b w.span))) ≡ false =
+    and_right (is_static (parts_text b w.parts) && not (list_any is_dollar_quoted w.parts)) _ (ap not (sym line)) in
     sym (cond-false _ _ _ none)
 
--- none does
-pub delimiter_whole : (b : List ℕ) (w : Word) (o : Option (List ℕ)) → false ≡ list_any is_newline (text_of b w.span) → o ≡ parts_text b w.parts → o ≡ delimiter_in b w
+-- `$'` stands in it
+pub delimiter_dollar : (b : List ℕ) (w : Word) → true ≡ list_any is_dollar_quoted w.parts → None ≡ delimiter_in b w
+unfolding is_delimiter
+delimiter_dollar b w dollar =
+    let none : ((is_static (parts_text b w.parts) && not (list_any is_dollar_quoted w.parts)) && not (list_any is_newline (text_of b w.span))) ≡ false =
+    ap (λ q. q && not (list_any is_newline (text_of b w.span))) (and_right (is_static (parts_text b w.parts)) _ (ap not (sym dollar))) in
+    sym (cond-false _ _ _ none)
+
+-- neither does
+pub delimiter_whole : (b : List ℕ) (w : Word) (o : Option (List ℕ)) → false ≡ list_any is_newline (text_of b w.span) → false ≡ list_any is_dollar_quoted w.parts → o ≡ parts_text b w.parts → o ≡ delimiter_in b w
 unfolding is_delimiter delimiter_of is_static
-delimiter_whole b w o none is = is ∙ go (parts_text b w.parts) refl
+delimiter_whole b w o line dollar is = is ∙ go (parts_text b w.parts) refl
   where
+    whole : Option (List ℕ) → Bool
+    whole q = (is_static q && not (list_any is_dollar_quoted w.parts)) && not (list_any is_newline (text_of b w.span))
+
     go : (p : Option (List ℕ)) → parts_text b w.parts ≡ p → p ≡ delimiter_in b w
-    go None e = sym (cond-false _ _ _ (ap (λ q. is_static q && not (list_any is_newline (text_of b w.span))) e))
+    go None e = sym (cond-false _ _ _ (ap whole e))
     go (Some t) e =
-        let all : is_delimiter b w ≡ true = ap (λ q. is_static q && not (list_any is_newline (text_of b w.span))) e ∙ ap not (sym none) in
+        let all : is_delimiter b w ≡ true = ap whole e ∙ ap (λ d. not d && not (list_any is_newline (text_of b w.span))) (sym dollar) ∙ ap not (sym line) in
         ap Some (ap or_none (sym e)) ∙ sym (cond-true _ _ _ all)
 
 -- what is told of the word

@@ -1,9 +1,8 @@
 -- Bodies of here-documents: one, and all that wait at a newline.
-use Rattle.std.proofs.Common.{◌≡◌, ℕ, ◌<◌, ◌≤◌, true, false, not, List, [], ◌∷◌, ◌++◌, ◌-◌, length, get_or, map, take, drop, arith, Some, refl, sym, ap, subst, ◌∙◌, le_refl, le_trans, lt_of_lt_of_le}
+use Rattle.std.proofs.Common.{◌≡◌, ℕ, ◌<◌, ◌≤◌, true, false, not, List, [], ◌∷◌, ◌++◌, ◌-◌, length, get_or, map, take, drop, arith, Some, refl, sym, ap, subst, ◌∙◌, le_refl, le_trans}
 use Rattle.std.proofs.lemmas.Bool.{true≢false}
 use Rattle.std.proofs.lemmas.List.{map-append, take_all}
 use Rattle.sh_tree.specs.declared.refusal.Refusal.{Refusal}
-use Rattle.sh_tree.specs.declared.refusal.Refusal.TheVariants.{LeftOut, Syntax, TooDeep}
 use Rattle.sh_tree.specs.declared.tree.Part.{Part}
 use Rattle.sh_tree.specs.declared.tree.Span.{Span}
 use Rattle.sh_tree.specs.declared.tree.Word.{Word}
@@ -25,16 +24,10 @@ use Rattle.sh_grammar.specs.declared.state.State.{State}
 use Rattle.sh_grammar.specs.Documents.{BodyFrom, BodyOf, DocumentFrom, DocumentsFrom, IsKept, Passes}
 use Rattle.sh_grammar.specs.Marks.{mark_of}
 use Rattle.sh_grammar.specs.Modes.{PartsAt, Whole}
-use Rattle.sh_grammar.specs.Readers.{Nothing, Reading, Refused}
-use Rattle.sh_grammar.specs.States.{AreIn, Lies, here, in_body, spot_of}
-use Rattle.sh_grammar.proofs.ReaderLemmas.{refused_by}
-
--- a place in a text is one in a longer text
-refused_in : {A : Type 0} (R : Reading A) (t b : List ℕ) (e : Refusal) → length t ≤ length b → Refused t R e → Refused b R e
-refused_in R t b (Syntax f at) within h = (le_trans h.0 within, h.1)
-refused_in R t b (LeftOut f at) within h = (lt_of_lt_of_le h.0 within, h.1)
-refused_in R t b (TooDeep at) within h = (le_trans h.0 within, h.1)
-refused_in R t b _ within h = h
+use Rattle.sh_grammar.specs.Readers.{Nothing, Refused}
+use Rattle.sh_grammar.specs.States.{AreBefore, Lies, here, in_body, spot_of}
+use Rattle.sh_grammar.proofs.ReaderLemmas.{refused_by, refused_in}
+use Rattle.sh_grammar.proofs.StateLemmas.{are_later, before_later}
 
 -- One body
 
@@ -69,8 +62,8 @@ module _ (b : List ℕ) (m : Mark) (s : State) where
         inside = within;
         few = body.few;
         shallow = lies.shallow;
-        around = lies.around;
-        behind = lies.behind;
+        around = before_later s.at (behind_line b line.end) s.outer after lies.around;
+        behind = are_later s.at (behind_line b line.end) s.pending after lies.behind;
       });
     }
       where
@@ -128,9 +121,9 @@ pub record DocumentsLeft (b : List ℕ) (all : List Mark) (s : State) (left : Li
   pub back : (u : states.State) → DocumentsFrom b left v 64 u tt → DocumentsFrom b all s 64 u tt
   pub from : s.at ≤ v.at
   pub lies : Lies b v
-  pub marked : AreIn b left
+  pub marked : AreBefore (length b) left
 
-pub documents_first : (b : List ℕ) (all : List Mark) (s : State) → Lies b s → AreIn b all → DocumentsLeft b all s all s
+pub documents_first : (b : List ℕ) (all : List Mark) (s : State) → Lies b s → AreBefore (length b) all → DocumentsLeft b all s all s
 documents_first b all s lies marked = record { forth = λ limit u h. h; back = λ u h. h; from = le_refl s.at; lies = lies; marked = marked }
 
 -- a body, and the others behind it

@@ -4,7 +4,7 @@ use Rattle.std.proofs.lemmas.Bool.{cond-false, true≢false}
 use Rattle.std.proofs.lemmas.Bool.Decides.{nat_tests}
 use Rattle.sh_tree.specs.declared.token.command.Stage.TheVariants.{First, Prefixed, Named}
 use Rattle.sh_tree.specs.declared.token.command.Lead.TheVariants as lead
-use Rattle.sh_tree.specs.standard.language.Bytes.{is_first, is_digit, is_newline, behind_joined, run}
+use Rattle.sh_tree.specs.standard.language.Bytes.{is_first, is_digit, is_last_backquote, is_newline, behind_joined, run}
 use Rattle.sh_tree.specs.standard.language.Characters as byte
 use Rattle.sh_tree.specs.declared.refusal.Form.TheVariants as form
 use Rattle.sh_tree.specs.declared.refusal.Form.{Form}
@@ -81,10 +81,12 @@ no_lead b s i inside (Some found) =
     neither (is_split (drop i b) found.1) (lead.LeftOut form.Continuation) (whole_operator s rest found.0) refl (no_operator s rest found.0)
 no_lead b s i inside None =
     let comment = is_first (λ c. c == byte.number_sign) (drop i b) in
-    let more = cond comment (lead.LeftOut form.Continuation) (other_lead b s i) in
+    let last = is_last_backquote (drop i b) in
+    let rest = cond last lead.Backquote (other_lead b s i) in
+    let more = cond comment (lead.LeftOut form.Continuation) rest in
     let line = is_first is_newline (drop i b) in
     ap is_end (cond-false (nat_le (length b) i) lead.End (cond line lead.Newline more) inside)
-    ∙ neither line lead.Newline more refl (neither comment (lead.LeftOut form.Continuation) (other_lead b s i) refl (no_other b s i))
+    ∙ neither line lead.Newline more refl (neither comment (lead.LeftOut form.Continuation) rest refl (neither last lead.Backquote (other_lead b s i) refl (no_other b s i)))
 
 pub inside_lead : (b : List ℕ) (s : Stage) (i : ℕ) → i < length b → lead_at b s i ≡ lead.End → ⊥
 unfolding lead_at

@@ -1,5 +1,5 @@
 -- Refusals of parts, and lists of which some were read.
-use Rattle.std.proofs.Common.{◌≡◌, ℕ, ◌≤◌, List, [], ◌∷◌, ◌++◌, refl, sym, ap, subst, ◌∙◌, arith}
+use Rattle.std.proofs.Common.{◌≡◌, ℕ, ◌≤◌, List, [], ◌∷◌, ◌++◌, length, refl, sym, ap, subst, ◌∙◌, le_trans, lt_of_lt_of_le, arith}
 use Rattle.std.proofs.lemmas.List.{append-nil, append_assoc}
 use Rattle.sh_tree.specs.declared.refusal.Refusal.{Refusal}
 use Rattle.sh_tree.specs.declared.refusal.Refusal.TheVariants.{TooLong, NulByte, Syntax, LeftOut, TooDeep, TooMany, Memory, Profile, CertSyntax, CertShape}
@@ -20,6 +20,13 @@ refused_by b R Q (NulByte at) inside h = h
 refused_by b R Q (Profile f at) inside h = h
 refused_by b R Q (CertSyntax n) inside h = h
 refused_by b R Q CertShape inside h = h
+
+-- a place in a text is one in a longer text
+pub refused_in : {A : Type 0} (R : Reading A) (t b : List ℕ) (e : Refusal) → length t ≤ length b → Refused t R e → Refused b R e
+refused_in R t b (Syntax f at) within h = (le_trans h.0 within, h.1)
+refused_in R t b (LeftOut f at) within h = (lt_of_lt_of_le h.0 within, h.1)
+refused_in R t b (TooDeep at) within h = (le_trans h.0 within, h.1)
+refused_in R t b _ within h = h
 
 -- a fault where nothing is read
 pub refused_none : {A : Type 0} (b : List ℕ) (R : Reading A) (e : Refusal) → IsFault b e → Nothing R → Refused b R e

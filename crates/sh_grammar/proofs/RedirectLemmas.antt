@@ -30,7 +30,7 @@ use Rattle.sh_reads.proofs.BeginningLemmas.{word_takes}
 use Rattle.sh_reads.proofs.GapLemmas.{blanks_gap}
 use Rattle.sh_grammar.specs.declared.state.State.{State}
 use Rattle.sh_grammar.specs.declared.mark.Mark.{Mark}
-use Rattle.sh_grammar.specs.States.{AreIn, Stands, here}
+use Rattle.sh_grammar.specs.States.{AreBefore, Stands, here}
 use Rattle.sh_grammar.specs.Delimiters.{DelimiterIn}
 use Rattle.sh_grammar.specs.Marks.{mark_of}
 use Rattle.sh_grammar.specs.Targets.{TargetFrom}
@@ -211,19 +211,19 @@ module _ (b : List ℕ) (s : State) (at : Redirection) (is : redirection b s.at 
               );
         }
 
--- one more waits in the text
-one_more_in : (b : List ℕ) (ms : List Mark) (m : Mark) → AreIn b ms → m.at < length b → m.depth ≤ MAX_NESTING → AreIn b (ms ++ m ∷ [])
-one_more_in b [] m all inside shallow = (inside, tt, shallow)
-one_more_in b (n ∷ ms) m all inside shallow = (all.0, one_more_in b ms m all.1 inside shallow, all.2)
+-- one more waits
+one_more_before : (i : ℕ) (ms : List Mark) (m : Mark) → AreBefore i ms → m.at < i → m.depth ≤ MAX_NESTING → AreBefore i (ms ++ m ∷ [])
+one_more_before i [] m all before shallow = (before, tt, shallow)
+one_more_before i (n ∷ ms) m all before shallow = (all.0, one_more_before i ms m all.1 before shallow, all.2)
 
-pub awaiting_stands : (b : List ℕ) (v : State) (m : Mark) → Stands b v → m.at < length b → m.depth ≤ MAX_NESTING → Stands b (record v { pending = v.pending ++ m ∷ [] })
-awaiting_stands b v m h inside shallow = record {
+pub awaiting_stands : (b : List ℕ) (v : State) (m : Mark) → Stands b v → m.at < v.at → m.depth ≤ MAX_NESTING → Stands b (record v { pending = v.pending ++ m ∷ [] })
+awaiting_stands b v m h before shallow = record {
   inside = h.inside;
   settled = h.settled;
   few = h.few;
   shallow = h.shallow;
   around = h.around;
-  behind = one_more_in b v.pending m h.behind inside shallow;
+  behind = one_more_before v.at v.pending m h.behind before shallow;
 }
 
 -- Redirections behind a compound command

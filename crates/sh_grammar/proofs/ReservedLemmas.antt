@@ -113,14 +113,15 @@ lead_is b i (Some found) s h = absurd (go _ h)
     go : (t : Bool) → reserved_in (cond t (lead.LeftOut form.Continuation) (whole_operator First (drop found.1 (drop i b)) found.0)) ≡ Some s → ⊥
     go true k = none_some k
     go false k = operator_is (drop found.1 (drop i b)) found.0 s k
-lead_is b i None s h = go _ _ _ h
+lead_is b i None s h = go _ _ _ _ h
   where
-    go : (t u v : Bool) → reserved_in (cond t lead.End (cond u lead.Newline (cond v (lead.LeftOut form.Continuation) (other_lead b First i)))) ≡ Some s
+    go : (t u v w : Bool) → reserved_in (cond t lead.End (cond u lead.Newline (cond v (lead.LeftOut form.Continuation) (cond w lead.Backquote (other_lead b First i))))) ≡ Some s
         → entry_of reserved_words (bare_word b i) ≡ Some s
-    go true u v k = none_some k
-    go false true v k = none_some k
-    go false false true k = none_some k
-    go false false false k = other_is b i s k
+    go true u v w k = none_some k
+    go false true v w k = none_some k
+    go false false true w k = none_some k
+    go false false false true k = none_some k
+    go false false false false k = other_is b i s k
 
 bare_within : (b : List ℕ) (i : ℕ) → length (bare_word b i) ≤ length (drop i b)
 unfolding bare_word

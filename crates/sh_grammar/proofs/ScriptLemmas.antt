@@ -101,7 +101,7 @@ module _ (b : List ℕ) (text : IsText b) where
 
     -- a here-document waits
     pub text_waits : (at : ℕ) → Some at ≡ waiting None v.pending → Stands b v → Parses b (Err (Syntax fault.OpenHereDoc at))
-    text_waits at some stands = told (Syntax fault.OpenHereDoc at) (first_inside b v.pending at some stands.behind) none
+    text_waits at some stands = told (Syntax fault.OpenHereDoc at) (first_inside b v at some stands) none
       where
         none : (u : Script) → Reads b u → ⊥
         none u q =

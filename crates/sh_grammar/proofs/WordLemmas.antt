@@ -1,7 +1,8 @@
 -- A whole word, by what a builder answers.
-use Rattle.std.proofs.Common.{◌≡◌, ℕ, ◌+◌, ◌-◌, ◌<◌, ◌≤◌, ◌⊎◌, inl, inr, true, false, not, ◌&&◌, ◌||◌, List, [], ◌∷◌, length, map, Option, Some, None, nat_le, Ok, Err, refl, sym, ap, ◌∙◌, subst, le_refl, le_trans, lt_of_lt_of_le, arith}
+use Rattle.std.proofs.Common.{◌≡◌, ℕ, ◌+◌, ◌-◌, ◌<◌, ◌≤◌, ◌⊎◌, inl, inr, Bool, true, false, not, ◌&&◌, ◌||◌, List, [], ◌∷◌, length, map, Option, Some, None, nat_le, Ok, Err, refl, sym, ap, ◌∙◌, subst, le_refl, le_trans, lt_of_lt_of_le, arith}
 use Rattle.std.proofs.lemmas.Bool.{true≢false, and_parts}
 use Rattle.std.proofs.lemmas.Bool.Decides.{nat_tests}
+use Rattle.sh_tree.specs.declared.tree.CommandStyle.{CommandStyle}
 use Rattle.sh_tree.specs.declared.tree.Part.{Part}
 use Rattle.sh_tree.specs.declared.tree.Script.{Script}
 use Rattle.sh_tree.specs.declared.tree.Word.{Word}
@@ -10,13 +11,13 @@ use Rattle.sh_tree.specs.declared.refusal.Refusal.TheVariants.{TooLong, NulByte,
 use Rattle.sh_tree.specs.declared.token.word.Context.{Context}
 use Rattle.sh_tree.specs.declared.token.word.Sign.{Sign}
 use Rattle.sh_tree.specs.declared.token.word.Sign.TheVariants as sign
-use Rattle.sh_tree.specs.standard.language.Arithmetic.{is_closed}
 use Rattle.sh_tree.specs.standard.language.Commands.{blanks, is_location}
 use Rattle.sh_tree.specs.standard.language.Parts.{keeps_lines}
 use Rattle.sh_tree.specs.standard.language.Reading as r
 use Rattle.sh_tree.specs.standard.language.Reading.{ReadsParts, ReadsPart, ReadsScript, ReadsWord, is_some}
 use Rattle.sh_tree.specs.standard.language.States as states
 use Rattle.sh_tree.specs.standard.language.States.{Spot, past, waits, within}
+use Rattle.sh_tree.specs.standard.language.Substitutions.{commands_text, closes, keeps_backslashes}
 use Rattle.sh_tree.specs.standard.language.Trees.{word}
 use Rattle.sh_tree.specs.standard.language.Words.{token}
 use Rattle.sh_tree.proofs.Inversions.{word_parts}
@@ -26,7 +27,7 @@ use Rattle.sh_words.specs.declared.builder.WordBuilder.{WordBuilder}
 use Rattle.sh_words.specs.declared.builder.Next.TheVariants.{Done, Inner}
 use Rattle.sh_words.specs.declared.frames.Focus.TheVariants as focus
 use Rattle.sh_words.specs.Builders.{Goes, IsInside, IsNew, IsSoundIn, begin_of, mode_of, position}
-use Rattle.sh_words.specs.Clauses.{Answers, Asks, Ends, Refuses, Runs, Waits, after_commands}
+use Rattle.sh_words.specs.Clauses.{Answers, Asks, Ends, Refuses, Runs, Waits, after_commands, commands_spot}
 use Rattle.sh_words.specs.Modes.{context_of, first_prior, seen}
 use Rattle.sh_words.specs.Rest.{Around, Rest, Left, spot}
 use Rattle.sh_words.specs.Sound.{IsSound, RunMoves, TakesWord}
@@ -34,14 +35,13 @@ use Rattle.sh_words.specs.Sound as sound
 use Rattle.sh_words.specs.Starts.{IsStart}
 use Rattle.sh_words.specs.States.{fed}
 use Rattle.sh_words.proofs.CountLemmas.{left_count}
-use Rattle.sh_words.proofs.OperationLemmas.{closed_inside}
 use Rattle.sh_grammar.specs.declared.state.State.{State}
 use Rattle.sh_grammar.specs.declared.mark.Mark.{Mark}
 use Rattle.sh_grammar.specs.Marks.{mark_of}
 use Rattle.sh_grammar.specs.States.{Lies, here, moved, pending_of, spot_of, substituted, waiting}
 use Rattle.sh_grammar.specs.Readers.{One, Nothing, Reading, Refused, WordAt}
 use Rattle.sh_grammar.specs.Modes.{BeginsBehind, IsWhole, PartsAt, Whole}
-use Rattle.sh_grammar.specs.Substitutions.{ClosedFrom, Counted}
+use Rattle.sh_grammar.specs.Substitutions.{AskedFrom, Counted, Handed}
 use Rattle.sh_grammar.proofs.ReaderLemmas.{refused_by}
 
 -- Where a word is read, the depth is the one around it
@@ -58,7 +58,7 @@ part_depth r.length_value = refl
 part_depth (r.use_word l h) = refl
 part_depth (r.removal l h) = refl
 part_depth (r.arithmetic l h c d) = refl
-part_depth (r.substitution l h c) = refl
+part_depth (r.substitution l k h c) = refl
 
 parts_depth : {limit : ℕ} {b : List ℕ} {x : Context} {prior : ℕ} {s u : Spot} {ps : List Part} → ReadsParts limit b x prior s u ps → u.depth ≡ s.depth
 parts_depth (r.stop h) = refl
@@ -205,97 +205,103 @@ module _ (b : List ℕ) (m : Mode) (all : seen b m ≡ b) (i : ℕ) (s v : State
         further none (inl below) = lt_of_lt_of_le below moves.0
         further none (inr at) = subst (λ x. x < new.at) at.1 (takes at.0 (begins at.0 at.1 none))
 
-    -- where the commands that it asks for are read
-    asked_at : (at depth : ℕ) → spot (around v) depth (blanks v.joins b at) ≡ (here (substituted b at depth v)).spot
-    unfolding is_some waits
-    asked_at at depth = ap (λ q. record (spot (around v) depth (blanks v.joins b at)) { quiet = q }) (sym (waiting_is v.outer v.pending))
+    module _ (start at depth : ℕ) (style : CommandStyle) (quoted : Bool) where
+      abbrev asked_here : Reading Script
+      asked_here = AskedFrom b style quoted at depth v
 
-    -- the substitution that it asks for, as what closes
-    closed_here : {limit : ℕ} {u : Spot} {t : Script} (at depth : ℕ) → ReadsScript limit b (spot (around v) depth (blanks v.joins b at)) u t → is_closed b u.at ≡ true
-        → ClosedFrom b (substituted b at depth v) limit (within u) t
-    closed_here {limit = limit} {u = u} {t = t} at depth h close = (subst (λ x. ReadsScript limit b x u t) (asked_at at depth) h, close, refl)
+      abbrev behind : Script → State → WordBuilder
+      behind t end = fed new start style t (end.at + 1)
 
-    -- a refusal of the commands that it asks for is one of the word
-    pub inner_refused : (start at depth : ℕ) (e : Refusal) → Asks (seen b w.mode) (Left (seen b w.mode) w) new start at depth
-        → Refused b (ClosedFrom b (substituted b at depth v)) e → Refused b parts_here e
-    inner_refused start at depth e asks h = refused_by b (ClosedFrom b (substituted b at depth v)) parts_here e inside h
-      where
-        inside : (limit : ℕ) (k : states.State) (ps : List Part) → parts_here limit k ps
-            → (j : states.State) × (x : Script) × ClosedFrom b (substituted b at depth v) limit j x × (j.spot.count ≤ k.spot.count)
-        inside limit k ps q =
-            let asked : Asks b (Left b w) new start at depth = subst (λ x. Asks x (Left x w) new start at depth) sees asks in
-            let l = asked.forth limit (around v) q.0 ps (d.begun.forth limit q.0 ps q.1) in
-            let some : l.0.count ≤ q.0.count = left_count b limit (after_commands (around v) l.0) q.0 ps (fed new start l.1 (l.0.at + 1)) l.5 in
-            (within l.0, l.1, closed_here at depth l.3 l.4, subst (λ x. l.0.count ≤ x.spot.count) (sym q.2) some)
+      -- where the commands that it asks for are read
+      asked_at : commands_spot b (around v) style at depth ≡ (here (substituted (commands_text style b at) at depth v.ticks v)).spot
+      unfolding is_some waits
+      asked_at = ap (λ q. record (commands_spot b (around v) style at depth) { quiet = q }) (sym (waiting_is v.outer v.pending))
 
-    -- and the builder goes on behind them
-    pub begun_fed : (start at depth : ℕ) (t : Script) (end : State) → Asks (seen b w.mode) (Left (seen b w.mode) w) new start at depth
-        → One (ClosedFrom b (substituted b at depth v)) (here end) t → Begun b m i s (fed new start t (end.at + 1)) (record v { count = end.count })
-    begun_fed start at depth t end asks one =
-        let asked : Asks b (Left b w) new start at depth = subst (λ x. Asks x (Left x w) new start at depth) sees asks in
-        record {
+      -- the commands that it asks for, as what closes
+      closed_here : {limit : ℕ} {u : Spot} {t : Script} → keeps_backslashes style quoted b at ≡ true
+          → ReadsScript limit (commands_text style b at) (commands_spot b (around v) style at depth) u t → closes style (commands_text style b at) u.at ≡ true → asked_here limit (within u) t
+      closed_here {limit = limit} {u = u} {t = t} keeps h close = (keeps, (subst (λ x. ReadsScript limit (commands_text style b at) x u t) asked_at h, close, refl))
+
+      module _ (asks : Asks (seen b w.mode) (Left (seen b w.mode) w) new start at depth style quoted) where
+        asked : Asks b (Left b w) new start at depth style quoted
+        asked = subst (λ x. Asks x (Left x w) new start at depth style quoted) sees asks
+
+        -- a refusal of the commands that it asks for is one of the word
+        pub inner_refused : (e : Refusal) → Refused b asked_here e → Refused b parts_here e
+        inner_refused e h = refused_by b asked_here parts_here e inside h
+          where
+            inside : (limit : ℕ) (k : states.State) (ps : List Part) → parts_here limit k ps → (j : states.State) × (x : Script) × asked_here limit j x × (j.spot.count ≤ k.spot.count)
+            inside limit k ps q =
+                let l = asked.forth limit (around v) q.0 ps (d.begun.forth limit q.0 ps q.1) in
+                let some : l.0.count ≤ q.0.count = left_count b limit (after_commands (around v) l.0) q.0 ps (fed new start style l.1 (l.0.at + 1)) l.6 in
+                (within l.0, l.1, closed_here l.5 l.3 l.4, subst (λ x. l.0.count ≤ x.spot.count) (sym q.2) some)
+
+        -- and the builder goes on behind them
+        begun_fed : (t : Script) (end : State) → One asked_here (here end) t → Begun b m i s (behind t end) (record v { count = end.count })
+        begun_fed t end one = record {
           forth = λ limit u ps h.
               let l = asked.forth limit (around v) u ps (d.begun.forth limit u ps h) in
-              let o = one.only limit (within l.0) l.1 (closed_here at depth l.3 l.4) in
+              let o = one.only limit (within l.0) l.1 (closed_here l.5 l.3 l.4) in
               let spot_is : l.0 ≡ (here end).spot = ap (λ x. x.spot) o.0 in
-              let there : Left b (fed new start t (l.0.at + 1)) limit (after_commands (around v) l.0) u ps =
-              subst (λ x. Left b (fed new start x (l.0.at + 1)) limit (after_commands (around v) l.0) u ps) o.1 l.5 in
-              subst (λ x. Left b (fed new start t (x.at + 1)) limit (after_commands (around v) x) u ps) spot_is there;
+              let there : Left b (fed new start style t (l.0.at + 1)) limit (after_commands (around v) l.0) u ps =
+              subst (λ x. Left b (fed new start style x (l.0.at + 1)) limit (after_commands (around v) l.0) u ps) o.1 l.6 in
+              subst (λ x. Left b (fed new start style t (x.at + 1)) limit (after_commands (around v) x) u ps) spot_is there;
           back = λ u ps l.
               let read = one.reads in
-              let script : ReadsScript 64 b (spot (around v) depth (blanks v.joins b at)) (here end).spot t =
-              subst (λ x. ReadsScript 64 b x (here end).spot t) (sym (asked_at at depth)) read.0 in
-              d.begun.back u ps (asked.back (around v) u ps (here end).spot t script read.1 l);
+              let script : ReadsScript 64 (commands_text style b at) (commands_spot b (around v) style at depth) (here end).spot t =
+              subst (λ x. ReadsScript 64 (commands_text style b at) x (here end).spot t) (sym asked_at) read.1.0 in
+              d.begun.back u ps (asked.back (around v) u ps (here end).spot t script read.1.1 read.0 l);
         }
 
-    -- the builder goes on once the commands are handed back
-    pub driven_fed : (back : WordBuilder) (at depth : ℕ) (t : Script) (end : State) → Answers (seen b w.mode) (Left (seen b w.mode) w) new (Inner at depth)
-        → RunMoves (seen b w.mode) w new (Ok (Inner at depth)) → One (ClosedFrom b (substituted b at depth v)) (here end) t → at ≤ end.at → Lies b end
-        → ((start : ℕ) → Waits new start → Goes new → back ≡ fed new start t (end.at + 1)) → ((x : List ℕ) → end.at + 1 ≤ length x → IsSound x new → IsSound x back)
-        → Driven b m i s back (record v { count = end.count })
-    driven_fed back at depth t end answers moves one after lies gives keeps =
-        let start = answers.0 in
-        let same = moves.5 in
-        let is : back ≡ fed new start t (end.at + 1) = gives start answers.1 (same.3 ∙ d.goes) in
-        let mode : back.mode ≡ m = ap (λ (x : WordBuilder). x.mode) is ∙ same.0 ∙ d.mode in
-        let whole : seen b back.mode ≡ b = ap (λ x. seen b x) mode ∙ all in
-        let below : end.at < length b = closed_inside b end.at one.reads.1 in
-        let sound : IsSound b new = subst (λ x. IsSound x new) sees moves.6 in
-        let stands_at : back.at ≡ end.at + 1 = ap (λ (x : WordBuilder). x.at) is in
-        let further : w.at < at = subst (λ x. w.at < x) moves.2 moves.0 in
-        let from = d.from in
-        let more : i < end.at + 1 = omega arith in
-        record {
-          begun = subst (λ x. Begun b m i s x (record v { count = end.count })) (sym is) (begun_fed start at depth t end answers.2 one);
-          goes = ap (λ (x : WordBuilder). x.failed) is ∙ same.3 ∙ d.goes;
-          mode = mode;
-          begin = ap (λ (x : WordBuilder). x.begin) is ∙ same.1 ∙ d.begin;
-          from = subst (λ x. i ≤ x) (sym stands_at) (omega arith);
-          inside = subst (λ x. back.at ≤ length x) (sym whole) (subst (λ x. x ≤ length b) (sym stands_at) (omega arith));
-          sound = subst (λ x. IsSound x back) (sym whole) (keeps b (omega arith) sound);
-          moved = inl (subst (λ x. i < x) (sym stands_at) more);
-          counted = record {
-            same = ap (λ (x : State). record x { count = end.count }) d.counted.same;
-            lies = record {
-              inside = d.counted.lies.inside;
-              few = lies.few;
-              shallow = d.counted.lies.shallow;
-              around = d.counted.lies.around;
-              behind = d.counted.lies.behind;
-            };
-          };
-        }
+        module _ (waits : Waits new start style) (moves : RunMoves (seen b w.mode) w new (Ok (Inner at depth style quoted))) (back : WordBuilder) (t : Script) (end : State)
+            (found : Handed b style quoted at depth v t end)
+            (gives : (x : ℕ) (y : CommandStyle) → Waits new x y → Goes new → back ≡ fed new x y t (end.at + 1)) where
+          -- what is left for it once they are handed back
+          is_fed : back ≡ behind t end
+          is_fed = gives start style waits (moves.5.3 ∙ d.goes)
 
-    -- nearer to the end of the text
-    pub fed_moves : (back : WordBuilder) (at depth : ℕ) (t : Script) (end : State) → Answers (seen b w.mode) (Left (seen b w.mode) w) new (Inner at depth)
-        → RunMoves (seen b w.mode) w new (Ok (Inner at depth)) → One (ClosedFrom b (substituted b at depth v)) (here end) t → at ≤ end.at
-        → ((start : ℕ) → Waits new start → Goes new → back ≡ fed new start t (end.at + 1)) → length b - position back < length b - position w
-    fed_moves back at depth t end answers moves one after gives =
-        let is : back ≡ fed new answers.0 t (end.at + 1) = gives answers.0 answers.1 (moves.5.3 ∙ d.goes) in
-        let below : end.at < length b = closed_inside b end.at one.reads.1 in
-        let stands_at : back.at ≡ end.at + 1 = ap (λ (x : WordBuilder). x.at) is in
-        let further : w.at < at = subst (λ x. w.at < x) moves.2 moves.0 in
-        omega arith
+          -- nearer to the end of the text
+          pub fed_moves : length b - position back < length b - position w
+          fed_moves =
+              let below = found.within in
+              let after = found.from in
+              let stands_at : back.at ≡ end.at + 1 = ap (λ (x : WordBuilder). x.at) is_fed in
+              let further : w.at < at = subst (λ x. w.at < x) moves.2 moves.0 in
+              omega arith
+
+          -- the builder goes on
+          pub driven_fed : ((x : List ℕ) → end.at + 1 ≤ length x → IsSound x new → IsSound x back) → Driven b m i s back (record v { count = end.count })
+          driven_fed keeps =
+              let same = moves.5 in
+              let mode : back.mode ≡ m = ap (λ (x : WordBuilder). x.mode) is_fed ∙ same.0 ∙ d.mode in
+              let whole : seen b back.mode ≡ b = ap (λ x. seen b x) mode ∙ all in
+              let below = found.within in
+              let after = found.from in
+              let sound : IsSound b new = subst (λ x. IsSound x new) sees moves.6 in
+              let stands_at : back.at ≡ end.at + 1 = ap (λ (x : WordBuilder). x.at) is_fed in
+              let further : w.at < at = subst (λ x. w.at < x) moves.2 moves.0 in
+              let from = d.from in
+              let more : i < end.at + 1 = omega arith in
+              record {
+                begun = subst (λ x. Begun b m i s x (record v { count = end.count })) (sym is_fed) (begun_fed t end found.one);
+                goes = ap (λ (x : WordBuilder). x.failed) is_fed ∙ same.3 ∙ d.goes;
+                mode = mode;
+                begin = ap (λ (x : WordBuilder). x.begin) is_fed ∙ same.1 ∙ d.begin;
+                from = subst (λ x. i ≤ x) (sym stands_at) (omega arith);
+                inside = subst (λ x. back.at ≤ length x) (sym whole) (subst (λ x. x ≤ length b) (sym stands_at) (omega arith));
+                sound = subst (λ x. IsSound x back) (sym whole) (keeps b (omega arith) sound);
+                moved = inl (subst (λ x. i < x) (sym stands_at) more);
+                counted = record {
+                  same = ap (λ (x : State). record x { count = end.count }) d.counted.same;
+                  lies = record {
+                    inside = d.counted.lies.inside;
+                    few = found.few;
+                    shallow = d.counted.lies.shallow;
+                    around = d.counted.lies.around;
+                    behind = d.counted.lies.behind;
+                  };
+                };
+              }
 
 -- Whole words
 

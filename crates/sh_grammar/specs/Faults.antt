@@ -1,7 +1,8 @@
 -- What is told of a token that has no place.
 -- POSIX.1-2024, XCU 2.10 (shell grammar).
-use Rattle.std.specs.Prelude.{◌≡◌, ℕ, ◌<◌, ◌≤◌, Bool, true, false, List, [], ◌∷◌, drop, length, Result, Ok, Err}
+use Rattle.std.specs.Prelude.{◌≡◌, ℕ, ◌<◌, ◌≤◌, Bool, true, false, List, [], ◌∷◌, drop, length, Option, Some, None, Result, Ok, Err}
 use Rattle.sh_tree.specs.declared.limits.TheConstants.{MAX_COMMANDS, MAX_NESTING}
+use Rattle.sh_tree.specs.declared.refusal.Fault.{Fault}
 use Rattle.sh_tree.specs.declared.refusal.Fault.TheVariants as fault
 use Rattle.sh_tree.specs.declared.refusal.Form.{Form}
 use Rattle.sh_tree.specs.declared.refusal.Form.TheVariants as form
@@ -21,6 +22,8 @@ use Rattle.sh_grammar.specs.declared.mark.Mark.{Mark}
 use Rattle.sh_grammar.specs.declared.state.State.{State}
 use Rattle.sh_grammar.specs.Lines.{is_joined}
 use Rattle.sh_grammar.specs.States.{here, first_of}
+use Rattle.sh_grammar.specs.Ticks.{misplaced, overrun}
+use Rattle.sh_grammar.specs.declared.ticks.Ticks.{Ticks}
 
 -- a fault of syntax or a form that is left out, at its place in the text
 abbrev pub IsFault : List ℕ → Refusal → Type 0
@@ -33,20 +36,26 @@ abbrev pub IsPlace : List ℕ → Form → ℕ → ℕ → Type 0
 IsPlace b form.Continuation i at = (i ≤ at) × (at < length b) × (is_split_text (drop i b) ≡ true → is_joined false (drop at b) ≡ true)
 IsPlace b _ i at = at ≡ i
 
--- what is told of the token at i, which has no place there
+-- What is reported of the token at i, which has no place there. For a backquote that depends on what is around.
 abbrev pub Tells : List ℕ → Lead → ℕ → Refusal → Type 0
 Tells b (lead.LeftOut f) i e = (at : ℕ) × (e ≡ LeftOut f at) × IsPlace b f i at
 Tells b lead.End i e = e ≡ Syntax fault.UnexpectedEnd i
+Tells b lead.Backquote i e = (t : Ticks) × (e ≡ misplaced t i)
 Tells b _ i e = e ≡ Syntax fault.UnexpectedToken i
 
--- what is told at the end of the text, where these here-documents wait for their bodies
-abbrev pub ended : List Mark → ℕ → Refusal
-ended [] i = Syntax fault.UnexpectedEnd i
-ended (m ∷ ms) i = Syntax fault.OpenHereDoc m.at
+-- What is reported at the end of the text: the closing backquote, over which something ran; the first here-document that waits for its body; or else the fault at i.
+abbrev pub ended_by : Option ℕ → List Mark → Fault → ℕ → Refusal
+ended_by (Some at) ms f i = LeftOut form.BackquoteInside at
+ended_by None [] f i = Syntax f i
+ended_by None (m ∷ ms) f i = Syntax fault.OpenHereDoc m.at
+
+abbrev pub ended : List ℕ → State → Fault → ℕ → Refusal
+ended b s f i = ended_by (overrun s.ticks (length b)) s.pending f i
 
 -- what is told of the token at s, which has no place there
 abbrev pub TellsAt : List ℕ → Lead → State → Refusal → Type 0
-TellsAt b lead.End s e = e ≡ ended s.pending s.at
+TellsAt b lead.End s e = e ≡ ended b s fault.UnexpectedEnd s.at
+TellsAt b lead.Backquote s e = e ≡ misplaced s.ticks s.at
 TellsAt b l s e = Tells b l s.at e
 
 -- how the token is read where nothing goes on: as a command's first token where a command could begin

@@ -1,3 +1,4 @@
+pub mod Ticks
 pub mod States
 pub mod Readers
 pub mod Nests

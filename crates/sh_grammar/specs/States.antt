@@ -9,6 +9,8 @@ use Rattle.sh_tree.specs.standard.language.States as states
 use Rattle.sh_tree.specs.standard.language.States.{waits}
 use Rattle.sh_grammar.specs.declared.mark.Mark.{Mark}
 use Rattle.sh_grammar.specs.declared.state.State.{State}
+use Rattle.sh_grammar.specs.declared.ticks.Ticks.{Ticks}
+use Rattle.sh_grammar.specs.declared.ticks.Ticks.TheVariants.{Outside}
 use Rattle.sh_bodies.specs.Fill.{document_of}
 use Rattle.sh_grammar.specs.Marks.{mark_of}
 
@@ -42,23 +44,23 @@ here s = record { spot = placed s.at s (is_some s.outer); closed = s.closed; pen
 abbrev pub moved : List ℕ → ℕ → State → State
 moved b i s = record s { at = blanks s.joins b i; fresh = true }
 
--- an operator stands in the text, if there is one
-abbrev pub IsIn : List ℕ → Option ℕ → Type 0
-IsIn b None = Unit {0}
-IsIn b (Some i) = i < length b
+-- an operator stands before n, if there is one
+abbrev pub IsBefore : ℕ → Option ℕ → Type 0
+IsBefore n None = Unit {0}
+IsBefore n (Some i) = i < n
 
 -- so do those of here-documents, within the limit of nesting
-abbrev pub AreIn : List ℕ → List Mark → Type 0
-AreIn b [] = Unit {0}
-AreIn b (m ∷ ms) = (m.at < length b) × AreIn b ms × (m.depth ≤ MAX_NESTING)
+abbrev pub AreBefore : ℕ → List Mark → Type 0
+AreBefore n [] = Unit {0}
+AreBefore n (m ∷ ms) = (m.at < n) × AreBefore n ms × (m.depth ≤ MAX_NESTING)
 
 -- in the text, within the limits
 pub record Lies (b : List ℕ) (s : State) : Type 0 where
   pub inside : s.at ≤ length b
   pub few : s.count ≤ MAX_COMMANDS
   pub shallow : s.depth ≤ MAX_NESTING
-  pub around : IsIn b s.outer
-  pub behind : AreIn b s.pending
+  pub around : IsBefore s.at s.outer
+  pub behind : AreBefore s.at s.pending
 
 -- at a token of the text, within the limits
 pub record Stands (b : List ℕ) (s : State) : Type 0 where
@@ -66,16 +68,16 @@ pub record Stands (b : List ℕ) (s : State) : Type 0 where
   pub settled : blanks s.joins b s.at ≡ s.at
   pub few : s.count ≤ MAX_COMMANDS
   pub shallow : s.depth ≤ MAX_NESTING
-  pub around : IsIn b s.outer
-  pub behind : AreIn b s.pending
+  pub around : IsBefore s.at s.outer
+  pub behind : AreBefore s.at s.pending
 
 -- at the first token of a text
 abbrev pub first_of : List ℕ → State
-first_of b = record { at = blanks false b 0; count = 0; depth = 0; closed = false; fresh = true; outer = None; joins = false; tabs = false; pending = []; bodies = [] }
+first_of b = record { at = blanks false b 0; count = 0; depth = 0; closed = false; fresh = true; outer = None; joins = false; tabs = false; ticks = Outside; pending = []; bodies = [] }
 
 -- at the first token of the commands of a substitution, which begin at or behind i where n levels are open, in a word behind as many commands as s
-abbrev pub substituted : List ℕ → ℕ → ℕ → State → State
-substituted b i n s = record {
+abbrev pub substituted : List ℕ → ℕ → ℕ → Ticks → State → State
+substituted b i n ticks s = record {
   at = blanks s.joins b i;
   count = s.count;
   depth = n;
@@ -84,6 +86,7 @@ substituted b i n s = record {
   outer = waiting s.outer s.pending;
   joins = s.joins;
   tabs = s.tabs;
+  ticks = ticks;
   pending = [];
   bodies = [];
 }
@@ -99,6 +102,7 @@ in_body m s = record {
   outer = None;
   joins = not m.quoted;
   tabs = s.tabs || m.strip;
+  ticks = Outside;
   pending = [];
   bodies = [];
 }

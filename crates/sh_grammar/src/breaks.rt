@@ -37,7 +37,7 @@ pub fn parted(script: &[u8], lead: Lead, from: Cursor) -> Cursor
 
 impl<F: Fn(Global, &[u8], Cursor) -> Result<(Script, Cursor), Refusal>> Grammar<F> {
     /// Behind a newline, and the bodies of the here-documents before it.
-    #[tactic(auto, using(crate::proofs::BreakLemmas::line_across, crate::proofs::BreakLemmas::line_lies))]
+    #[tactic(auto, using(crate::proofs::BreakLemmas::line_across, crate::proofs::BreakLemmas::line_lies, crate::proofs::BreakLemmas::line_marks))]
     #[inline(never)]
     fn line(&self, script: &[u8], from: Cursor) -> Result<Cursor, Refusal>
         requires small { length script.now ≤ MAX_SCRIPT }

@@ -1,25 +1,48 @@
 //! The words behind the operators of here-documents (XCU 2.7.4).
 ghost use Rattle.std.specs.Prelude.{◌≡◌, ◌<◌, length, IfOk, option_map};
+ghost use Rattle.std.specs.List.{list_any};
 ghost use Rattle.sh_grammar.specs.Delimiters.{Awaits, delimiter_in};
+ghost use Rattle.sh_tree.specs.standard.language.HereDocuments as documents;
 ghost use Rattle.sh_tree.specs.standard.language.Parts as parts;
 ghost use Rattle.sh_tree.specs.standard.language.States.{no_document};
 ghost use Rattle.sh_tree.specs.standard.language.Trees.{here_doc};
 
 use super::mark::Mark;
-use sh_tree::{Form, HereDoc, Items, Part, Refusal, Span, Word, unquoted_text};
+use sh_tree::{Form, HereDoc, Items, Part, Refusal, SingleStyle, Span, Word, unquoted_text};
 use std::alloc::{AllocError, Global};
 
-/// The delimiter that the word is: its text without its quoting, or nothing where it holds an expansion, a tilde-prefix or a
-/// newline.
+/// Whether the part is `$'` and what it quotes.
+#[tactic(auto, unfolding(sh_tree::specs::standard::language::HereDocuments::is_dollar_quoted))]
+fn is_dollar_quoted(part: &Part) -> bool
+    ensures { result ≡ documents.is_dollar_quoted part.now }
+{
+    matches!(part, Part::Single(SingleStyle::Dollar, _))
+}
+
+/// Whether a part of the word is `$'` and what it quotes.
+fn has_dollar_quoted(word: &Word) -> bool
+    ensures { result ≡ list_any documents.is_dollar_quoted word.now.parts }
+{
+    word.parts
+        .as_slice()
+        .iter()
+        .any(|part| is_dollar_quoted(part))
+}
+
+/// The delimiter that the word is: its text without its quoting, or nothing if it holds an expansion, a tilde-prefix, `$'` or
+/// a newline.
 ///
 /// # Errors
 ///
-/// `AllocError` where a growth was refused.
-#[tactic(auto, using(crate::proofs::DelimiterLemmas::delimiter_split, crate::proofs::DelimiterLemmas::delimiter_whole))]
+/// `AllocError` if a growth was refused.
+#[tactic(auto, using(crate::proofs::DelimiterLemmas::delimiter_split, crate::proofs::DelimiterLemmas::delimiter_dollar, crate::proofs::DelimiterLemmas::delimiter_whole))]
 fn delimiter_of(alloc: Global, script: &[u8], word: &Word) -> Result<Option<Vec<u8>>, AllocError>
     ensures { IfOk result (λ found. option_map (λ v. v.items) found ≡ delimiter_in script.now word.now) }
 {
     if word.span.text(script).contains(&b'\n') {
+        return Ok(None);
+    }
+    if has_dollar_quoted(word) {
         return Ok(None);
     }
     unquoted_text(alloc, word, script)

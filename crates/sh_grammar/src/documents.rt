@@ -3,7 +3,7 @@ ghost use Rattle.std.specs.Prelude.{◌-◌, ◌≡◌, ◌<◌, ◌≤◌, ◌&
 ghost use Rattle.sh_grammar.specs.Documents.{BodyRead, Checks, DocumentFrom, DocumentsFrom, Passing};
 ghost use Rattle.sh_grammar.specs.Faults.{IsFault};
 ghost use Rattle.sh_grammar.specs.Nests.{Nests};
-ghost use Rattle.sh_grammar.specs.States.{AreIn, Lies};
+ghost use Rattle.sh_grammar.specs.States.{AreBefore, Lies};
 
 use super::end_lines::{behind_line, end_line};
 use super::grammar::Grammar;
@@ -15,12 +15,16 @@ use sh_tree::{Fault, Form, Items, MAX_SCRIPT, Part, Refusal, Script, Span, Word}
 use sh_words::Mode;
 use std::alloc::Global;
 
-/// What is told where no line ends the body: in the body of another, that it goes on outside.
+/// What is reported if no line ends the body: the closing backquote, if the last line holds it; in the body of another, that it
+/// goes on outside.
 fn unended(script: &[u8], mark: &Mark, from: &State) -> Refusal
+    requires small { length script.now ≤ MAX_SCRIPT }
     requires inside { mark.now.at < length script.now }
     ensures { IsFault script.now result }
 {
-    if from.joins {
+    if let Some(at) = from.ticks.overrun(script) {
+        Refusal::LeftOut(Form::BackquoteInside, at)
+    } else if from.joins {
         Refusal::LeftOut(Form::HereAcross, mark.at)
     } else {
         Refusal::Syntax(Fault::OpenHereDoc, mark.at)
@@ -81,7 +85,7 @@ impl<F: Fn(Global, &[u8], Cursor) -> Result<(Script, Cursor), Refusal>> Grammar<
     fn document(&self, script: &[u8], mark: &Mark, from: Cursor) -> Result<Cursor, Refusal>
         requires small { length script.now ≤ MAX_SCRIPT }
         requires lies { Lies script.now from }
-        requires marked { AreIn script.now (mark.now ∷ []) }
+        requires marked { AreBefore (length script.now) (mark.now ∷ []) }
         requires further { length script.now - from.at < self.now.left }
         requires nests { Nests self.now.left (F.pre self.now.nested) (F.post self.now.nested) }
         ensures { Passing script.now (DocumentFrom script.now mark.now from) from.at result }
@@ -113,7 +117,7 @@ impl<F: Fn(Global, &[u8], Cursor) -> Result<(Script, Cursor), Refusal>> Grammar<
     ) -> Result<(Items<Part>, u32), Refusal>
         requires small { length script.now ≤ MAX_SCRIPT }
         requires lies { Lies script.now from.now }
-        requires marked { AreIn script.now (mark.now ∷ []) }
+        requires marked { AreBefore (length script.now) (mark.now ∷ []) }
         requires ordered { from.now.at ≤ end }
         requires inside { end ≤ length script.now }
         requires further { length script.now - from.now.at < self.now.left }
@@ -139,7 +143,7 @@ impl<F: Fn(Global, &[u8], Cursor) -> Result<(Script, Cursor), Refusal>> Grammar<
     pub fn documents(&self, script: &[u8], marks: &[Mark], from: Cursor) -> Result<Cursor, Refusal>
         requires small { length script.now ≤ MAX_SCRIPT }
         requires lies { Lies script.now from }
-        requires marked { AreIn script.now marks.now }
+        requires marked { AreBefore (length script.now) marks.now }
         requires further { length script.now - from.at < self.now.left }
         requires nests { Nests self.now.left (F.pre self.now.nested) (F.post self.now.nested) }
         ensures { Passing script.now (DocumentsFrom script.now marks.now from) from.at result }

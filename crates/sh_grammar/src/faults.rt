@@ -25,20 +25,27 @@ fn place_of(script: &[u8], form: Form, at: u32) -> u32
     }
 }
 
-/// What is told at the end of the text: the first here-document that waits for its body, if one does.
-#[tactic(auto, using(crate::proofs::FaultLemmas::end_of, crate::proofs::FaultLemmas::open_of, crate::proofs::FaultLemmas::first_inside))]
-fn at_end(script: &[u8], here: &State) -> Refusal
+/// What is reported at the end of the text: the closing backquote, if something ran over it; the first here-document that waits
+/// for its body, if one does; or else the fault at `at`.
+#[tactic(auto, using(crate::proofs::FaultLemmas::end_is, crate::proofs::FaultLemmas::end_open, crate::proofs::FaultLemmas::end_overrun, crate::proofs::FaultLemmas::first_inside))]
+pub fn at_end(script: &[u8], here: &State, fault: Fault, at: u32) -> Refusal
+    requires small { length script.now ≤ MAX_SCRIPT }
     requires stands { Stands script.now here.now }
-    ensures which { result ≡ ended here.now.pending here.now.at }
+    requires begins { at ≤ length script.now }
+    ensures which { result ≡ ended script.now here.now fault at }
     ensures fault { IsFault script.now result }
 {
+    if let Some(backquote) = here.ticks.overrun(script) {
+        return Refusal::LeftOut(Form::BackquoteInside, backquote);
+    }
     match here.first_pending() {
-        Some(at) => Refusal::Syntax(Fault::OpenHereDoc, at),
-        None => Refusal::Syntax(Fault::UnexpectedEnd, here.at),
+        Some(operator) => Refusal::Syntax(Fault::OpenHereDoc, operator),
+        None => Refusal::Syntax(fault, at),
     }
 }
 
 /// What is told of the token here, which has no place there.
+#[tactic(auto, using(crate::proofs::FaultLemmas::misplaced_fault))]
 fn unexpected_at(script: &[u8], stage: Stage, here: &State) -> Refusal
     requires small { length script.now ≤ MAX_SCRIPT }
     requires stands { Stands script.now here.now }
@@ -47,7 +54,8 @@ fn unexpected_at(script: &[u8], stage: Stage, here: &State) -> Refusal
 {
     match lead_at(script, stage, here.at) {
         Lead::LeftOut(form) => Refusal::LeftOut(form, place_of(script, form, here.at)),
-        Lead::End => at_end(script, here),
+        Lead::End => at_end(script, here, Fault::UnexpectedEnd, here.at),
+        Lead::Backquote => here.ticks.misplaced(here.at),
         _ => Refusal::Syntax(Fault::UnexpectedToken, here.at),
     }
 }

@@ -23,6 +23,7 @@ mod reserved;
 mod script;
 mod state;
 mod substitutions;
+mod ticks;
 mod words;
 
 pub use script::parse;

@@ -32,7 +32,7 @@ impl<F: Fn(Global, &[u8], Cursor) -> Result<(Script, Cursor), Refusal>> Grammar<
         requires within { end ≤ length script.now }
         requires further { length script.now - from.at ≤ self.now.left }
         requires nests { Nests self.now.left (F.pre self.now.nested) (F.post self.now.nested) }
-        ensures reads { Answers script.now (TargetFrom script.now end from) (from.at + 1) result }
+        ensures reads { Answers script.now (TargetFrom script.now end from) end result }
         ensures begins { IfOk result (λ r. r.0.span.start < length script.now) }
     {
         let target = from.next_from(script, end);

@@ -7,6 +7,7 @@ ghost use Rattle.sh_grammar.specs.Readers.{Answers, SequenceFrom};
 
 use super::grammar::Grammar;
 use super::state::{Cursor, State};
+use super::ticks::Ticks;
 use memchr::memchr;
 use sh_bodies::filled;
 use sh_scan::blanks_at;
@@ -43,6 +44,7 @@ fn first_state(alloc: Global, script: &[u8]) -> State
         outer: None,
         joins: false,
         tabs: false,
+        ticks: Ticks::Outside,
         pending: Items::new(alloc),
         bodies: Items::new(alloc),
     }

@@ -5,6 +5,7 @@ ghost use Rattle.sh_grammar.specs.States.{Lies, Stands, in_body, moved, substitu
 ghost use Rattle.sh_tree.specs.standard.language.Commands as commands;
 
 use super::mark::Mark;
+use super::ticks::Ticks;
 use sh_bodies::Document;
 use sh_scan::{blanks_at, lead_at};
 use sh_tree::{Items, Lead, MAX_COMMANDS, MAX_NESTING, MAX_SCRIPT, Stage};
@@ -30,6 +31,8 @@ pub struct State {
     pub joins: bool,
     /// Whether tabs are stripped from the lines around.
     pub tabs: bool,
+    /// Whether this is in a backquoted substitution, with whose closing backquote the text then ends.
+    pub ticks: Ticks,
     /// The here-documents of this level that wait for their bodies.
     pub pending: Items<Mark>,
     /// The bodies of this level's here-documents, as far as they came.
@@ -59,12 +62,13 @@ impl State {
 
     /// At the first token of commands that begin at or behind `at`, where so many levels are open and what came before is as here.
     #[tactic(auto, using(crate::proofs::SubstitutionLemmas::substituted_stands))]
-    pub fn within(&self, alloc: Global, script: &[u8], at: u32, depth: u8) -> State
+    pub fn within(&self, alloc: Global, script: &[u8], at: u32, depth: u8, ticks: Ticks) -> State
         requires small { length script.now ≤ MAX_SCRIPT }
+        requires ordered { self.now.at ≤ at }
         requires inside { at ≤ length script.now }
         requires lies { Lies script.now self.now }
         requires shallow { depth ≤ MAX_NESTING }
-        ensures value { result ≡ substituted script.now at depth self.now }
+        ensures value { result ≡ substituted script.now at depth ticks self.now }
         ensures after { at ≤ result.at }
         ensures stands { Stands script.now result }
     {
@@ -78,6 +82,7 @@ impl State {
             outer: self.first_waiting(),
             joins: self.joins,
             tabs: self.tabs,
+            ticks,
             pending: Items::new(alloc),
             bodies: Items::new(alloc),
         }
@@ -96,6 +101,7 @@ impl State {
             outer: None,
             joins: !mark.quoted,
             tabs: self.tabs || mark.strip,
+            ticks: Ticks::Outside,
             pending: Items::new(alloc),
             bodies: Items::new(alloc),
         }
@@ -202,6 +208,7 @@ impl Cursor {
     #[tactic(auto, using(crate::proofs::StateLemmas::lies_at))]
     pub fn next_from(self, script: &[u8], at: u32) -> Cursor
         requires small { length script.now ≤ MAX_SCRIPT }
+        requires ordered { self.at ≤ at }
         requires inside { at ≤ length script.now }
         requires stands { Stands script.now self }
         ensures value { result ≡ moved script.now at self }

@@ -59,15 +59,31 @@ impl<F: Fn(Global, &[u8], Cursor) -> Result<(Script, Cursor), Refusal>> Grammar<
         requires nests { Nests self.now.left (F.pre self.now.nested) (F.post self.now.nested) }
         ensures { Builds script.now mode at from result }
     {
-        let mut builder = WordBuilder::start(self.alloc, mode, from.depth(), at)?;
+        let mut builder = WordBuilder::start(
+            self.alloc,
+            mode,
+            from.depth(),
+            at,
+            from.get().ticks.quoted(),
+        )?;
         let mut last = from;
         loop {
             match builder.run(script)? {
                 Next::Done(word) => return Ok((word, last)),
-                Next::Inner { at, depth } => {
-                    let inside = last.get().within(self.alloc, script, at, depth);
-                    let first = Cursor::new(self.alloc, inside)?;
-                    let (commands, end) = self.substitution(script, at.saturating_sub(2), first)?;
+                Next::Inner {
+                    at,
+                    depth,
+                    style,
+                    quoted,
+                } => {
+                    let (commands, end) = self.commands_at(
+                        script,
+                        style,
+                        quoted,
+                        at,
+                        depth,
+                        last.get(),
+                    )?;
                     builder.resume(commands, end.at() + 1)?;
                     last = last.counting(end.count());
                 }

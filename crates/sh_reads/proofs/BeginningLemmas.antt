@@ -22,7 +22,7 @@ use Rattle.sh_tree.specs.declared.token.command.Stage.{Stage}
 use Rattle.sh_tree.specs.declared.token.command.Stage.TheVariants.{First, Prefixed, Named}
 use Rattle.sh_tree.specs.declared.token.command.Lead.{Lead}
 use Rattle.sh_tree.specs.declared.token.command.Lead.TheVariants as lead
-use Rattle.sh_tree.specs.standard.language.Bytes.{is_blank, is_newline, is_backslash, is_operator_byte, is_digit, is_name_start, is_name_byte, is_name, ends_token, run, is_first, name_length, longest}
+use Rattle.sh_tree.specs.standard.language.Bytes.{is_blank, is_newline, is_backslash, is_operator_byte, is_digit, is_name_start, is_name_byte, is_name, ends_token, run, is_first, is_last_backquote, name_length, longest}
 use Rattle.sh_tree.specs.standard.language.Words as words
 use Rattle.sh_tree.specs.standard.language.Words.{ends_joined}
 use Rattle.sh_tree.specs.standard.language.Commands.{gap_length, blanks, operator_of, operator_lead, whole_operator, opening, reserved_lead, first_lead, name_lead, word_lead, number_lead, other_lead, lead_of, lead_at, is_assignment, name_end, is_bare, bare_word, is_definition, is_parenthesis, entry_of, reserved_words, left_out_names}
@@ -40,13 +40,14 @@ either : {A B : Type 0} (f : A → B) (v : B) (t : Bool) (p q : A) → f p ≡ v
 either f v true p q h k = h
 either f v false p q h k = k
 
--- only the last of four passes
-only_last : {A : Type 0} (f : A → Bool) (s t u : Bool) (w x y z : A) → f w ≡ false → f x ≡ false → f y ≡ false → f (cond s w (cond t x (cond u y z))) ≡ true
-    → (s ≡ false) × (t ≡ false) × (cond s w (cond t x (cond u y z)) ≡ z)
-only_last f true t u w x y z i j k h = absurd (true≢false (sym h ∙ i))
-only_last f false true u w x y z i j k h = absurd (true≢false (sym h ∙ j))
-only_last f false false true w x y z i j k h = absurd (true≢false (sym h ∙ k))
-only_last f false false false w x y z i j k h = (refl, refl, refl)
+-- only the last of five passes
+only_last : {A : Type 0} (f : A → Bool) (s t u v : Bool) (w x y q z : A) → f w ≡ false → f x ≡ false → f y ≡ false → f q ≡ false → f (cond s w (cond t x (cond u y (cond v q z)))) ≡ true
+    → (s ≡ false) × (t ≡ false) × (v ≡ false) × (cond s w (cond t x (cond u y (cond v q z))) ≡ z)
+only_last f true t u v w x y q z i j k l h = absurd (true≢false (sym h ∙ i))
+only_last f false true u v w x y q z i j k l h = absurd (true≢false (sym h ∙ j))
+only_last f false false true v w x y q z i j k l h = absurd (true≢false (sym h ∙ k))
+only_last f false false false true w x y q z i j k l h = absurd (true≢false (sym h ∙ l))
+only_last f false false false false w x y q z i j k l h = (refl, refl, refl, refl)
 
 -- Signs of which no byte of a word comes: its end, tabs that are no part of it, a line continuation, and none of plain bytes
 
@@ -100,10 +101,25 @@ braced_expansion_goes : (i : ℕ) (cs : List ℕ) (p : Option (Subject × ℕ)) 
 braced_expansion_goes i cs (Some p) = parameter_operator_goes p.0 (p.1 + 2) (drop p.1 cs)
 braced_expansion_goes i cs None = special_or_length_goes i cs
 
+-- what `$'` begins does not
+told_goes : (n : ℕ) (found : Sign × ℕ) → ends found ≡ false → ends (words.told_or n found) ≡ false
+told_goes n (sign.Single s, m) h = refl
+told_goes n (sign.LeftOut f, m) h = refl
+told_goes n found h = h
+
+dollar_quoted_goes : (cs : List ℕ) → ends (words.dollar_quoted cs) ≡ false
+unfolding words.dollar_quoted
+dollar_quoted_goes [] = refl
+dollar_quoted_goes (c ∷ []) = either ends false (c == 39) _ _ refl refl
+dollar_quoted_goes (c ∷ d ∷ cs) =
+    either ends false (c == 39) _ _ refl
+    (either ends false (c == 92) _ _ (either ends false (words.is_dollar_escape d) _ _ (told_goes 2 (words.dollar_quoted cs) (dollar_quoted_goes cs)) refl)
+    (told_goes 1 (words.dollar_quoted (d ∷ cs)) (dollar_quoted_goes (d ∷ cs))))
+
 dollar_expansion_goes : (i : ℕ) (cs : List ℕ) → ends (words.dollar_expansion i cs) ≡ false
 unfolding words.dollar_expansion words.named_value words.braced_expansion words.parenthesis words.single_parameter
 dollar_expansion_goes i [] = refl
-dollar_expansion_goes i (c ∷ rest) = grind (arith, nat_tests, braced_expansion_goes i rest (words.parameter (i + 2) rest))
+dollar_expansion_goes i (c ∷ rest) = grind (arith, nat_tests, braced_expansion_goes i rest (words.parameter (i + 2) rest), told_goes 2 (words.dollar_quoted rest) (dollar_quoted_goes rest))
 
 pub dollar_goes : (x : Context) (i : ℕ) (cs : List ℕ) → ends (words.dollar x i cs) ≡ false
 unfolding words.dollar
@@ -119,10 +135,16 @@ unfolding words.backslash is_first
 backslash_ends x [] h = absurd (true≢false (sym h))
 backslash_ends x (c ∷ rest) h = grind (arith, nat_tests)
 
--- what does not stand for itself ends a word only where it is such a backslash
-meant_ends : (x : Context) (i c : ℕ) (cs : List ℕ) → ends (words.meant_by x i c cs) ≡ true → (is_backslash c && is_first is_newline cs) ≡ true
+-- a backquote ends a word only where it ends the text
+backquoted_ends : (x : Context) (c : ℕ) (cs : List ℕ) → (c == 96) ≡ true → ends (words.backquoted x cs) ≡ true → is_last_backquote (c ∷ cs) ≡ true
+unfolding words.backquoted is_last_backquote
+backquoted_ends x c [] is h = is
+backquoted_ends x c (d ∷ cs) is h = grind (arith, nat_tests)
+
+-- what does not stand for itself ends a word only where it is such a backslash, or a backquote that ends the text
+meant_ends : (x : Context) (i c : ℕ) (cs : List ℕ) → ends (words.meant_by x i c cs) ≡ true → ((is_backslash c && is_first is_newline cs) || is_last_backquote (c ∷ cs)) ≡ true
 unfolding words.meant_by
-meant_ends x i c cs h = grind (arith, nat_tests, backslash_ends x cs, single_goes cs, dollar_goes x i cs)
+meant_ends x i c cs h = grind (arith, nat_tests, backslash_ends x cs, single_goes cs, dollar_goes x i cs, backquoted_ends x c cs)
 
 not_stripped : (x : Context) (c : ℕ) → words.is_stripped x 0 c ≡ false
 not_stripped x c = go x.strip
@@ -137,7 +159,7 @@ stands_some x p i c cs h = rw h grind (arith, nat_tests)
 
 -- a word ends at its first byte only where that delimits tokens or is such a backslash
 pub sign_ends : (x : Context) (i c : ℕ) (cs : List ℕ) → x.site ≡ site.Word → ends (words.sign_by x 0 i c cs) ≡ true
-    → (ends_token c || (is_backslash c && is_first is_newline cs)) ≡ true
+    → (ends_token c || ((is_backslash c && is_first is_newline cs) || is_last_backquote (c ∷ cs))) ≡ true
 unfolding words.sign_by
 sign_ends x i c cs word h =
     let stops : words.stops x.site c ≡ ends_token c = ap (λ s. words.stops s c) word in
@@ -208,6 +230,7 @@ record Begins (b : List ℕ) (s : Stage) (i : ℕ) (o : Option (Operator × ℕ)
   no_operator : o ≡ None
   inside : i < length b
   no_newline : is_first is_newline (drop i b) ≡ false
+  no_backquote : is_last_backquote (drop i b) ≡ false
   other : lead_of b s i o ≡ other_lead b s i
 
 begins : (b : List ℕ) (s : Stage) (i : ℕ) (o : Option (Operator × ℕ)) → is_element (lead_of b s i o) ≡ true → Begins b s i o
@@ -217,19 +240,20 @@ begins b s i None h =
     let t = nat_le (length b) i in
     let line = is_first is_newline (drop i b) in
     let comment = is_first (λ c. c == 35) (drop i b) in
-    let f = only_last is_element t line comment lead.End lead.Newline (lead.LeftOut form.Continuation) (other_lead b s i) refl refl refl h in
+    let last = is_last_backquote (drop i b) in
+    let f = only_last is_element t line comment last lead.End lead.Newline (lead.LeftOut form.Continuation) lead.Backquote (other_lead b s i) refl refl refl refl h in
     let below : nat_le (length b) i ≡ false = f.0 in
-    record { no_operator = refl; inside = grind (arith, nat_tests); no_newline = f.1; other = f.2 }
+    record { no_operator = refl; inside = grind (arith, nat_tests); no_newline = f.1; no_backquote = f.2; other = f.3 }
 
 -- a word does not end where it begins
-never : (x : Context) (i : ℕ) (cs : List ℕ) → x.site ≡ site.Word → 0 < length cs → gap_length cs ≡ 0 → operator_of cs ≡ None → is_first is_newline cs ≡ false
+never : (x : Context) (i : ℕ) (cs : List ℕ) → x.site ≡ site.Word → 0 < length cs → gap_length cs ≡ 0 → operator_of cs ≡ None → is_first is_newline cs ≡ false → is_last_backquote cs ≡ false
     → ends (words.sign_of x 0 i cs) ≡ true → ⊥
 unfolding words.sign_of is_first
-never x i [] word some gap none line stop = omega arith
-never x i (c ∷ cs) word some gap none line stop =
+never x i [] word some gap none line last stop = omega arith
+never x i (c ∷ cs) word some gap none line last stop =
     let free = no_gap c cs gap in
     let operator : is_operator_byte c ≡ false = false_from_ne_true (is_operator_byte c) (λ h. true≢false (sym (operator_begins c cs h) ∙ ap is_found none)) in
-    true≢false (sym (sign_ends x i c cs word stop) ∙ or_from _ _ (or_from _ _ (or_from _ _ free.0 line) operator) free.1)
+    true≢false (sym (sign_ends x i c cs word stop) ∙ or_from _ _ (or_from _ _ (or_from _ _ free.0 line) operator) (or_from _ _ free.1 last))
 
 stage_site : (b : List ℕ) (s : Stage) (i : ℕ) → (in_stage b s i).site ≡ site.Word
 unfolding in_stage in_operand
@@ -248,7 +272,7 @@ word_takes b s i is settled =
     let some : 0 < length (drop i b) = (let inside = at.inside in omega (arith, length-drop i b)) in (
       at.inside,
       false_from_ne_true (ends (words.sign_of (in_stage b s i) 0 i (drop i b)))
-          (never (in_stage b s i) i (drop i b) (stage_site b s i) some settled at.no_operator at.no_newline),
+          (never (in_stage b s i) i (drop i b) (stage_site b s i) some settled at.no_operator at.no_newline at.no_backquote),
     )
 
 pub word_goes : (b : List ℕ) (s : Stage) (i : ℕ) → lead_at b s i ≡ lead.Word → gap_length (drop i b) ≡ 0 → (words.token b (in_stage b s i) 0 i).sign ≡ sign.Stop → ⊥

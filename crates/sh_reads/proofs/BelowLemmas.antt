@@ -25,6 +25,10 @@ module _ (q : Place) where
   unfolding below
   below_front long k m n h = below_at q.at (min m (min k long)) (min n long) (omega arith)
 
+  pub below_short : (long k n : ℕ) → below (min k long) n ≤ below long n
+  unfolding below
+  below_short long k n = below_at q.at (min n (min k long)) (min n long) (omega arith)
+
   pub below_same : (long k m : ℕ) → m ≤ k → below long m ≤ below (min k long) m
   unfolding below
   below_same long k m h = below_at q.at (min m long) (min m (min k long)) (omega arith)

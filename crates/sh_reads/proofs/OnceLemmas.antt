@@ -9,7 +9,8 @@ use Rattle.sh_tree.specs.declared.tree.Branch.{Branch}
 use Rattle.sh_tree.specs.declared.tree.Clause.{Clause}
 use Rattle.sh_tree.specs.declared.tree.ClauseEnd.TheVariants.{Break}
 use Rattle.sh_tree.specs.declared.tree.Command.{Command}
-use Rattle.sh_tree.specs.declared.tree.CommandStyle.TheVariants.{Paren}
+use Rattle.sh_tree.specs.declared.tree.CommandStyle.{CommandStyle}
+use Rattle.sh_tree.specs.declared.tree.CommandStyle.TheVariants.{Paren, Backquote}
 use Rattle.sh_tree.specs.declared.tree.Element.{Element}
 use Rattle.sh_tree.specs.declared.tree.Expr.{Expr}
 use Rattle.sh_tree.specs.declared.tree.Item.{Item}
@@ -22,7 +23,6 @@ use Rattle.sh_tree.specs.declared.tree.Part.{Part}
 use Rattle.sh_tree.specs.declared.tree.Pipe.{Pipe}
 use Rattle.sh_tree.specs.declared.tree.Redirect.{Redirect}
 use Rattle.sh_tree.specs.declared.tree.Script.{Script}
-use Rattle.sh_tree.specs.declared.tree.SingleStyle.TheVariants as single
 use Rattle.sh_tree.specs.declared.tree.Word.{Word}
 use Rattle.sh_tree.specs.declared.token.word.Context.{Context}
 use Rattle.sh_tree.specs.declared.token.word.Sign.{Sign}
@@ -36,6 +36,7 @@ use Rattle.sh_tree.specs.standard.language.Arithmetic.{lexeme}
 use Rattle.sh_tree.specs.standard.language.Commands.{blanks, name_end, lead_at, is_newline_lead, is_open, begins_simple, gap_length}
 use Rattle.sh_tree.specs.standard.language.Contexts.{in_stage}
 use Rattle.sh_tree.specs.standard.language.HereDocuments.{Mark, behind_line, delimiter_of}
+use Rattle.sh_tree.specs.standard.language.Substitutions.{backquote_end, commands_text}
 use Rattle.sh_tree.specs.standard.language.Reading as r
 use Rattle.sh_tree.specs.standard.language.Reading.{figure_at, figure_span, over, lead_of, lead_here, skip, behind_name, parted, unopened, ReadsParts, ReadsPart, ReadsExpression, ReadsConditional, ReadsLevel, ReadsOperands, ReadsUnary, ReadsWord, ReadsRedirect, ReadsRedirects, ReadsDocuments, ReadsBreaks, ReadsElements, ReadsCommand, ReadsCompound, ReadsDo, ReadsBranches, ReadsElse, ReadsForWords, ReadsWords, ReadsClauses, ReadsPatterns, ReadsPipeline, ReadsCommands, ReadsAndOr, ReadsLinks, ReadsItems, ReadsList, ReadsSequence, ReadsScript, Reads, sign_at}
 use Rattle.sh_tree.specs.standard.language.States.{Spot, State, Document, nth, to, next, facing, begun, document_count, waits}
@@ -59,7 +60,7 @@ use Rattle.sh_reads.proofs.HitLemmas.{hits, spots_from_hits, spots_inside}
 use Rattle.sh_reads.proofs.FigureLemmas.{figure_takes, figure_moves}
 use Rattle.sh_reads.proofs.MoveLemmas.{blanks_move, name_moves, redirection_moves, is_end, lead_inside, simple_inside, compound_inside, line_behind, end_line_moves}
 use Rattle.sh_reads.proofs.TakeLemmas.{is_part, token_takes, token_moves, part_begins}
-use Rattle.sh_reads.proofs.BelowLemmas.{below, Spans, spans_is, spans_none, spans_wider, spans_then, spans_own, spans_inner, Step, step_is, step_none, step_wider, step_then, step_spans, step_own, step_simple, below_grows, below_front, below_same, below_most, below_inside}
+use Rattle.sh_reads.proofs.BelowLemmas.{below, Spans, spans_is, spans_none, spans_wider, spans_then, spans_own, spans_inner, Step, step_is, step_none, step_wider, step_then, step_spans, step_own, step_simple, below_grows, below_front, below_short, below_same, below_most, below_inside}
 use Rattle.sh_reads.proofs.SpotCounts.{count_no_parts, count_parts, count_plain, count_escaped, count_single, count_joined, count_tilde, count_double, count_expansion, count_arithmetic, count_substitution, count_value, count_length, count_use, count_remove, count_constant, count_name, count_expanded, count_parenthesis, count_signed, count_chain, count_choice, count_assigned, count_no_operands, count_operands, count_no_words, count_words, count_every, count_listed, count_file, count_here, count_no_redirects, count_redirects, count_no_elements, count_assignment, count_operand, count_redirection, count_simple, count_group, count_subshell, count_conditional, count_loop, count_for, count_case, count_define, count_no_branches, count_branches, count_no_else, count_else, count_no_clauses, count_clauses, count_no_commands, count_commands, count_command, count_pipeline, count_no_links, count_links, count_list, count_no_items, count_items}
 
 -- What reads no body
@@ -209,6 +210,20 @@ module _ (whole : List ℕ) (q : Place) where
       let front = below_front q (length b) k (max i j) n more in
       record { moves = le_trans less more; bound = omega arith }
 
+  -- commands in the text of their substitution
+  commands_pass : (b : List ℕ) (style : CommandStyle) (e j n h : ℕ) → e ≤ j → h + below q (length (commands_text style b e)) j ≤ below q (length (commands_text style b e)) n
+      → h + below q (length b) e ≤ below q (length b) n
+  unfolding commands_text
+  commands_pass b Paren e j n h moves found = let grows = below_grows q (length b) e j moves in omega arith
+  commands_pass b Backquote e j n h moves found =
+      let k : ℕ = backquote_end b e in
+      let long : length (take k b) ≡ min k (length b) = length-take k b in
+      let bound : h + below q (min k (length b)) j ≤ below q (min k (length b)) n = subst (λ m. h + below q m j ≤ below q m n) long found in
+      let same = below_same q (length b) k e (omega arith) in
+      let grows = below_grows q (min k (length b)) e j moves in
+      let short = below_short q (length b) k n in
+      omega arith
+
   step_ops : {long i j h ks cs ku c c' : ℕ} → c' ≡ c → Step q long i j h ks cs ku c → Step q long i j h ks cs ku c'
   step_ops e s = record { moves = s.moves; bound = (let b = s.bound in omega arith) }
 
@@ -250,8 +265,8 @@ module _ (whole : List ℕ) (q : Place) where
     )
     part_pass more inside (r.escaped {s = s} {e = e}) = (rw (part_of-Escaped whole (span s.at e)) (spans_is q (count_escaped q _) (spans_none q (omega arith))), le_refl _)
     part_pass more inside (r.joined {s = s} {e = e}) = (rw (part_of-Joined whole (span s.at e)) (spans_is q (count_joined q) (spans_none q (omega arith))), le_refl _)
-    part_pass more inside (r.single_quoted {s = s} {e = e}) = (
-      rw (part_of-Single whole single.Plain (span s.at e)) (spans_is q (count_single q _ _) (spans_none q (omega arith))),
+    part_pass more inside (r.single_quoted {s = s} {e = e} {style = style}) = (
+      rw (part_of-Single whole style (span s.at e)) (spans_is q (count_single q _ _) (spans_none q (omega arith))),
       le_refl _,
     )
     part_pass more inside (r.tilde {s = s} {e = e}) = (rw (part_of-Tilde whole (span s.at e)) (spans_is q (count_tilde q _ _) (spans_own q inside more)), le_refl _)
@@ -295,11 +310,13 @@ module _ (whole : List ℕ) (q : Place) where
           rw (part_of-Arith whole (span s.at ((over b u).at + 1)) a) (spans_is q (count_arithmetic q _ _) (spans_wider q (le_refl _) (omega arith) (spans_then q (spans_own q inside more) rest))),
           omega arith,
         )
-    part_pass {b = b} more inside (r.substitution {s = s} {u = u} {e = e} {t = list} d h c) =
-        let rest = script_pass (blanks_gap s.joins b e) h in
-        let moved = blanks_move s.joins b e in
+    part_pass {b = b} more inside (r.substitution {s = s} {u = u} {e = e} {style = style} {t = list} d k h c) =
+        let rest = script_pass (blanks_gap s.joins (commands_text style b e) e) h in
+        let moved = blanks_move s.joins (commands_text style b e) e in
         let moves = rest.0 in (
-          rw (part_of-Command whole Paren (span s.at (u.at + 1)) list) (spans_is q (count_substitution q _ _) (spans_inner q (hits q (items_spots (script_of whole list))) inside (omega arith) moves rest.1)),
+          rw (part_of-Command whole style (span s.at (u.at + 1)) list)
+              (spans_is q (count_substitution q _ _)
+              (spans_inner q (hits q (items_spots (script_of whole list))) inside more (omega arith) (commands_pass b style e _ u.at _ moved rest.1))),
           omega arith,
         )
 

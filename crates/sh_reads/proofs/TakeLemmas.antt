@@ -69,10 +69,25 @@ braced_expansion_takes : (i : ℕ) (cs : List ℕ) (p : Option (Subject × ℕ))
 braced_expansion_takes i cs (Some p) = parameter_operator_takes p.0 (p.1 + 2) (drop p.1 cs)
 braced_expansion_takes i cs None = special_or_length_takes i cs
 
+told_takes : (n : ℕ) (found : Sign × ℕ) → 0 < n → is_idle found ≡ false → is_idle (words.told_or n found) ≡ false
+told_takes n (sign.Single s, m) some h = grind (arith, nat_tests)
+told_takes n (sign.LeftOut f, m) some h = refl
+told_takes n found some h = h
+
+dollar_quoted_takes : (cs : List ℕ) → is_idle (words.dollar_quoted cs) ≡ false
+unfolding words.dollar_quoted
+dollar_quoted_takes [] = refl
+dollar_quoted_takes (c ∷ []) = cond_both {A = Sign × ℕ} (c == 39) _ _ (λ f. is_idle f ≡ false) (λ is. refl) (λ is. refl)
+dollar_quoted_takes (c ∷ d ∷ cs) =
+    cond_both {A = Sign × ℕ} (c == 39) _ _ (λ f. is_idle f ≡ false) (λ is. refl)
+    (λ quote. cond_both {A = Sign × ℕ} (c == 92) _ _ (λ f. is_idle f ≡ false)
+    (λ is. cond_both {A = Sign × ℕ} (words.is_dollar_escape d) _ _ (λ f. is_idle f ≡ false) (λ e. told_takes 2 (words.dollar_quoted cs) (omega arith) (dollar_quoted_takes cs)) (λ e. refl))
+    (λ is. told_takes 1 (words.dollar_quoted (d ∷ cs)) (omega arith) (dollar_quoted_takes (d ∷ cs))))
+
 dollar_expansion_takes : (i : ℕ) (cs : List ℕ) → is_idle (words.dollar_expansion i cs) ≡ false
 unfolding words.dollar_expansion words.named_value words.braced_expansion words.parenthesis words.single_parameter
 dollar_expansion_takes i [] = refl
-dollar_expansion_takes i (c ∷ rest) = grind (arith, nat_tests, braced_expansion_takes i rest (words.parameter (i + 2) rest))
+dollar_expansion_takes i (c ∷ rest) = grind (arith, nat_tests, braced_expansion_takes i rest (words.parameter (i + 2) rest), told_takes 2 (words.dollar_quoted rest) (omega arith) (dollar_quoted_takes rest))
 
 dollar_takes : (x : Context) (i : ℕ) (cs : List ℕ) → is_idle (words.dollar x i cs) ≡ false
 unfolding words.dollar
@@ -87,9 +102,13 @@ unfolding words.backslash words.continuation
 backslash_takes x [] = refl
 backslash_takes x (c ∷ rest) = grind (arith, nat_tests)
 
+backquoted_takes : (x : Context) (cs : List ℕ) → is_idle (words.backquoted x cs) ≡ false
+unfolding words.backquoted
+backquoted_takes x cs = grind (arith, nat_tests)
+
 meant_takes : (x : Context) (i c : ℕ) (cs : List ℕ) → is_idle (words.meant_by x i c cs) ≡ false
 unfolding words.meant_by
-meant_takes x i c cs = grind (arith, nat_tests, backslash_takes x cs, single_takes cs, dollar_takes x i cs)
+meant_takes x i c cs = grind (arith, nat_tests, backslash_takes x cs, single_takes cs, dollar_takes x i cs, backquoted_takes x cs)
 
 -- a tilde that does not stand for itself begins a tilde-prefix
 tilde_plain : (s : Site) (c : ℕ) → (c == 126) ≡ true → words.is_special s c ≡ false
@@ -164,4 +183,4 @@ part_begins r.length_value = refl
 part_begins (r.use_word d ps) = refl
 part_begins (r.removal d ps) = refl
 part_begins (r.arithmetic d e h k) = refl
-part_begins (r.substitution d t h) = refl
+part_begins (r.substitution d k t h) = refl

@@ -6,3 +6,5 @@ pub mod RunLemmas
 pub mod SpaceLemmas
 pub mod ArithmeticLemmas
 pub mod WordLemmas
+pub mod QuotationLemmas
+pub mod BackquoteLemmas

@@ -1,7 +1,10 @@
 -- How many bytes of a class stand at the front.
-use Rattle.std.proofs.Common.{◌≡◌, ℕ, ◌+◌, ◌<◌, ◌≤◌, Bool, true, false, List, [], ◌∷◌, ◌++◌, length, take_while, cond, refl, ap, ◌∙◌, sym, arith}
-use Rattle.std.proofs.lemmas.Bool.{false≢true}
-use Rattle.std.proofs.lemmas.List.Sums.{take_while-cons}
+use Rattle.std.proofs.Common.{◌≡◌, ℕ, ◌+◌, ◌<◌, ◌≤◌, ◌==◌, Bool, true, false, not, Some, None, List, [], ◌∷◌, ◌++◌, length, take_while, cond, refl, ap, ◌∙◌, sym, arith}
+use Rattle.std.specs.List.{position_or_len}
+use Rattle.std.proofs.lemmas.Bool.{false≢true, false_from_ne_true}
+use Rattle.std.proofs.lemmas.List.Folds.{length-prefix_len}
+use Rattle.std.proofs.lemmas.List.Sums.{position_or_len_is, take_while-cons}
+use Rattle.memchr.specs.Find.{IsFirstByte, is_byte}
 use Rattle.sh_tree.specs.standard.language.Bytes.{run, is_first}
 
 pub run_yes : (p : ℕ → Bool) (c : ℕ) (cs : List ℕ) → p c ≡ true → run p (c ∷ cs) ≡ run p cs + 1
@@ -41,3 +44,18 @@ pub run_some : (p q : ℕ → Bool) (cs : List ℕ) → ((c : ℕ) → p c ≡ t
 unfolding is_first
 run_some p q [] wider h = absurd (false≢true h)
 run_some p q (c ∷ cs) wider h = let e : run q (c ∷ cs) ≡ run q cs + 1 = run_yes q c cs (wider c h) in omega arith
+
+-- what a search of the byte d says of the bytes before it
+
+pub run_without : (d : ℕ) (cs : List ℕ) → IsFirstByte (is_byte d) cs None → run (λ c. not (c == d)) cs ≡ length cs
+run_without d cs none =
+    let n : position_or_len (λ c. c == d) cs ≡ length cs =
+    position_or_len_is (λ c. c == d) cs (length cs) 0 (omega arith) (λ k below. false_from_ne_true _ (none k (omega arith) below)) (λ below. absurd (omega arith)) in
+    length-prefix_len (λ c. not (c == d)) cs ∙ n
+
+pub run_before : (d : ℕ) (cs : List ℕ) (k : ℕ) → IsFirstByte (is_byte d) cs (Some k) → run (λ c. not (c == d)) cs ≡ k
+run_before d cs k found =
+    let first = found.0 in
+    let n : position_or_len (λ c. c == d) cs ≡ k =
+    position_or_len_is (λ c. c == d) cs k 0 (let h : k < length cs = first.high in omega arith) (λ j below. false_from_ne_true _ (first.before j (omega arith) below)) (λ below. found.1) in
+    length-prefix_len (λ c. not (c == d)) cs ∙ n

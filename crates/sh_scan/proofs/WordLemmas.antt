@@ -1,13 +1,11 @@
 -- Tokens of words.
 use Rattle.std.proofs.Common.{◌≡◌, ℕ, ◌+◌, ◌-◌, ◌*◌, ◌<◌, ◌≤◌, ◌==◌, Bool, true, false, not, ◌&&◌, ◌||◌, List, [], ◌∷◌, length, take, drop, get_or, nat_lt, nat_le, Some, None, cond, refl, sym, ap, ◌∙◌, arith}
-use Rattle.std.specs.List.{position_or_len}
 use Rattle.std.proofs.lemmas.Bool.Decides.{nat_tests}
-use Rattle.std.proofs.lemmas.Bool.{lt-ltb, false≢true, false_from_ne_true}
+use Rattle.std.proofs.lemmas.Bool.{lt-ltb, false≢true}
 use Rattle.std.proofs.lemmas.List.{at_drop_more, at_drop_all, take_rest}
-use Rattle.std.proofs.lemmas.List.Sums.{position_or_len_is}
-use Rattle.std.proofs.lemmas.List.Folds.{length-prefix_len}
 use Rattle.memchr.specs.Find.{IsFirstByte, is_byte}
 use Rattle.sh_tree.specs.declared.refusal.Fault.TheVariants as fault
+use Rattle.sh_tree.specs.declared.tree.SingleStyle.TheVariants.{Plain}
 use Rattle.sh_tree.specs.declared.token.word.Site.{Site}
 use Rattle.sh_tree.specs.declared.token.word.Site.TheVariants.{Word, Double, Braced, QuotedBraced, Body, Verbatim}
 use Rattle.sh_tree.specs.declared.token.word.Context.{Context}
@@ -15,28 +13,24 @@ use Rattle.sh_tree.specs.declared.token.word.Sign.{Sign}
 use Rattle.sh_tree.specs.declared.token.word.Sign.TheVariants as sign
 use Rattle.sh_tree.specs.standard.language.Bytes.{run, decimal}
 use Rattle.sh_tree.specs.standard.language.Words.{single, stands, plain_length, stops, is_special, is_stripped, is_literal, is_tilde, may_be_tilde, tilde_length}
+use Rattle.sh_scan.proofs.RunLemmas.{run_without, run_before}
 
 -- Single quotes
 
 pub single_open : (cs : List ℕ) → IsFirstByte (is_byte 39) cs None → (sign.Fault fault.OpenSingle, 0) ≡ single cs
 unfolding single
 single_open cs none =
-    let n : position_or_len (λ c. c == 39) cs ≡ length cs =
-    position_or_len_is (λ c. c == 39) cs (length cs) 0 (omega arith) (λ k below. false_from_ne_true _ (none k (omega arith) below)) (λ below. absurd (omega arith)) in
-    let r : run (λ c. not (c == 39)) cs ≡ length cs = length-prefix_len (λ c. not (c == 39)) cs ∙ n in
+    let r : run (λ c. not (c == 39)) cs ≡ length cs = run_without 39 cs none in
     let at_end : nat_lt (run (λ c. not (c == 39)) cs) (length cs) ≡ false = grind (arith, nat_tests) in
-    sym (ap (λ t. cond {A = Sign × ℕ} t (sign.Single, run (λ c. not (c == 39)) cs + 2) (sign.Fault fault.OpenSingle, 0)) at_end)
+    sym (ap (λ t. cond {A = Sign × ℕ} t (sign.Single Plain, run (λ c. not (c == 39)) cs + 2) (sign.Fault fault.OpenSingle, 0)) at_end)
 
-pub single_closed : (cs : List ℕ) (k : ℕ) → IsFirstByte (is_byte 39) cs (Some k) → (sign.Single, k + 2) ≡ single cs
+pub single_closed : (cs : List ℕ) (k : ℕ) → IsFirstByte (is_byte 39) cs (Some k) → (sign.Single Plain, k + 2) ≡ single cs
 unfolding single
 single_closed cs k found =
-    let first = found.0 in
-    let n : position_or_len (λ c. c == 39) cs ≡ k =
-    position_or_len_is (λ c. c == 39) cs k 0 (let h : k < length cs = first.high in omega arith) (λ j below. false_from_ne_true _ (first.before j (omega arith) below)) (λ below. found.1) in
-    let r : run (λ c. not (c == 39)) cs ≡ k = length-prefix_len (λ c. not (c == 39)) cs ∙ n in
-    let inside : nat_lt (run (λ c. not (c == 39)) cs) (length cs) ≡ true = lt-ltb _ _ (let h : k < length cs = first.high in omega arith) in
-    ap (λ v. (sign.Single, v + 2)) (sym r)
-    ∙ sym (ap (λ t. cond {A = Sign × ℕ} t (sign.Single, run (λ c. not (c == 39)) cs + 2) (sign.Fault fault.OpenSingle, 0)) inside)
+    let r : run (λ c. not (c == 39)) cs ≡ k = run_before 39 cs k found in
+    let inside : nat_lt (run (λ c. not (c == 39)) cs) (length cs) ≡ true = lt-ltb _ _ (let h : k < length cs = found.0.high in omega arith) in
+    ap (λ v. (sign.Single Plain, v + 2)) (sym r)
+    ∙ sym (ap (λ t. cond {A = Sign × ℕ} t (sign.Single Plain, run (λ c. not (c == 39)) cs + 2) (sign.Fault fault.OpenSingle, 0)) inside)
 
 -- Plain bytes: t says whether the n-th of the text behind i bytes stands for itself, behind the byte p
 

@@ -6,3 +6,4 @@ pub mod Spaces
 pub mod Alphabets
 pub mod Tables
 pub mod Moves
+pub mod Backquotes

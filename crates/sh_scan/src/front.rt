@@ -112,14 +112,27 @@ pub fn behind_joined(rest: &[u8]) -> &[u8]
     &rest[joined_length(rest)..]
 }
 
+/// Whether the text is one backquote, which closes the commands that the text is of (XCU 2.6.3).
+#[tactic(auto, unfolding(sh_tree::specs::standard::language::Bytes::is_last_backquote))]
+pub fn is_last_backquote(rest: &[u8]) -> bool
+    ensures value { result ≡ bytes.is_last_backquote rest.now }
+    ensures within { result ≡ true → 0 < length rest.now }
+{
+    match rest {
+        [only] => *only == b'`',
+        _ => false,
+    }
+}
+
 /// Whether a word ends before `rest`, of which line continuations are no part.
 #[tactic(auto, unfolding(sh_tree::specs::standard::language::Bytes::is_first))]
 pub fn ends_joined(rest: &[u8]) -> bool
     ensures { result ≡ words.ends_joined rest.now }
 {
-    match behind_joined(rest) {
+    let behind = behind_joined(rest);
+    match behind {
         [] => true,
-        [first, ..] => ends_token(*first),
+        [first, ..] => ends_token(*first) || is_last_backquote(behind),
     }
 }
 

@@ -3,6 +3,7 @@
 
 mod arithmetic;
 mod assignments;
+mod backquotes;
 mod blanks;
 mod bytes;
 mod class;
@@ -16,6 +17,7 @@ mod words;
 
 pub use arithmetic::{assignment_of, binary_of, is_closed, lexeme_at, unary_of};
 pub use assignments::{is_assignment_at, is_location_at};
+pub use backquotes::{backquote_end, closes_at, kept_backslash};
 pub use blanks::blanks_at;
 pub use class::{Class, classify};
 pub use commands::{
@@ -29,5 +31,5 @@ pub use lines::Lines;
 pub use quotes::single_end;
 pub use words::{
     in_arithmetic, in_body, in_double, in_operand, in_removal, in_unsplit, in_use, in_value,
-    in_word, token_at,
+    in_word, is_quoted, token_at,
 };

@@ -16,7 +16,7 @@ pub fn single_end(script: &[u8], at: u32) -> Option<u32>
 {
     let (sign, length) = single_sign(&script[at as usize + 1..]);
     match sign {
-        Sign::Single => Some((at as usize + length) as u32),
+        Sign::Single(_) => Some((at as usize + length) as u32),
         _ => None,
     }
 }

@@ -2,6 +2,7 @@
 mod braced;
 mod contexts;
 mod dollar;
+mod escapes;
 mod parameters;
 mod plain;
 mod signs;
@@ -13,3 +14,4 @@ pub use contexts::{
     in_word,
 };
 pub use signs::{single_sign, token_at};
+pub use sites::is_quoted;

@@ -61,7 +61,7 @@ mutual
   part_count (r.use_word d ps) = parts_count ps
   part_count (r.removal d ps) = parts_count ps
   part_count (r.arithmetic d e h k) = expression_count e
-  part_count (r.substitution d t h) = script_count t
+  part_count (r.substitution d k t h) = script_count t
 
   pub expression_count : {limit : ℕ} {b : List ℕ} {x : Context} {s u : Spot} {e : Expr} → ReadsExpression limit b x s u e → s.count ≤ u.count
   expression_count (r.assignment n o d e) = expression_count e

@@ -160,7 +160,7 @@ inner_document_reads =
     let inner9 : ReadsScript 1 inner_document_text (at_word 2 1 1) (at_word 10 2 1) _ =
     r.script {u = (record (at_token 10 2 1) { bodies = inner_document_document ∷ [] })} (r.sequence list8) refl in
     let word10 : ReadsWord 1 inner_document_text (in_word 0) (at_word 0 1 0) (at_word 11 2 0) (word 0 11 (part.Command Paren (span 0 11) (lone (simple 2 2 (element.Redirection (redirect 2 None (Here (here_doc false (bare 4 5) (bare 6 8) (span 8 9)))) ∷ []))) ∷ [])) =
-    r.whole_word (r.more refl (r.substitution (omega arith) inner9 refl) (r.stop refl)) refl refl in
+    r.whole_word (r.more refl (r.substitution (omega arith) refl inner9 refl) (r.stop refl)) refl refl in
     let command11 : ReadsCommand 1 inner_document_text no_bodies (at_token 0 0 0) (at_token 11 2 0) _ =
     r.simple_command refl (r.word_element refl word10 (r.no_element refl)) in
     let list12 : ReadsAndOr 1 inner_document_text no_bodies (at_token 0 0 0) (at_token 11 2 0) _ = alone_reads command11 refl refl refl in
@@ -237,7 +237,7 @@ counted_document_reads =
     let inner12 : ReadsScript 1 (take 12 counted_document_text) (record (at_word 9 2 1) { joins = true }) (record (at_word 10 3 1) { joins = true }) _ =
     r.script {u = (record (at_token 10 3 1) { spot = record (at_word 10 3 1) { joins = true } })} (r.sequence list11) refl in
     let body13 : ReadsParts 1 (take 12 counted_document_text) (in_document_of counted_document_mark) 10 (record (at_word 7 2 0) { joins = true }) (record (at_word 12 3 0) { joins = true }) (part.Command Paren (span 7 11) (lone (utility 3 9 10)) ∷ plain 11 12 ∷ []) =
-    r.more refl (r.substitution (omega arith) inner12 refl) (r.more refl r.plain (r.stop refl)) in
+    r.more refl (r.substitution (omega arith) refl inner12 refl) (r.more refl r.plain (r.stop refl)) in
     let bodies14 : ReadsDocuments 1 counted_document_text (counted_document_mark ∷ []) (at_token 7 2 0) (record (at_token 14 3 0) { bodies = counted_document_document ∷ [] }) =
     r.more_bodies refl refl refl body13 refl r.no_body in
     let line15 : ReadsBreaks 1 counted_document_text (record (at_token 6 2 0) { pending = counted_document_mark ∷ [] }) (record (at_token 14 3 0) { bodies = counted_document_document ∷ [] }) =
@@ -330,7 +330,7 @@ quiet_reads =
     let inner7 : ReadsScript 1 quiet_text (record (at_word 6 1 1) { quiet = true }) (record (at_word 7 2 1) { quiet = true }) (lone (utility 2 6 7)) =
     r.script {u = (record (at_token 7 2 1) { spot = record (at_word 7 2 1) { quiet = true } })} (r.sequence list6) refl in
     let word8 : ReadsWord 1 quiet_text (in_word 4) (record (at_word 4 1 0) { quiet = true }) (record (at_word 8 2 0) { quiet = true }) (word 4 8 (part.Command Paren (span 4 8) (lone (utility 2 6 7)) ∷ [])) =
-    r.whole_word (r.more refl (r.substitution (omega arith) inner7 refl) (r.stop refl)) refl refl in
+    r.whole_word (r.more refl (r.substitution (omega arith) refl inner7 refl) (r.stop refl)) refl refl in
     let command9 : ReadsCommand 1 quiet_text quiet_bodies (at_token 0 0 0) (record (at_token 8 2 0) { pending = quiet_mark ∷ [] }) _ =
     r.simple_command refl (r.redirect_element refl operator2 (r.word_element refl word8 (r.no_element refl))) in
     let list10 : ReadsAndOr 1 quiet_text quiet_bodies (at_token 0 0 0) (record (at_token 8 2 0) { pending = quiet_mark ∷ [] }) _ = alone_reads command9 refl refl refl in
@@ -376,7 +376,7 @@ paired_comment_reads =
     let inner10 : ReadsScript 1 (take 16 paired_comment_text) (record (at_word 6 1 1) { joins = true }) (record (at_word 14 2 1) { joins = true }) (lone (utility 2 6 7)) =
     r.script {u = (record (at_token 14 2 1) { spot = record (at_word 14 2 1) { joins = true } })} (r.sequence list9) refl in
     let body11 : ReadsParts 1 (take 16 paired_comment_text) (in_document_of paired_comment_mark) 10 (record (at_word 4 1 0) { joins = true }) (record (at_word 16 2 0) { joins = true }) (part.Command Paren (span 4 15) (lone (utility 2 6 7)) ∷ plain 15 16 ∷ []) =
-    r.more refl (r.substitution (omega arith) inner10 refl) (r.more refl r.plain (r.stop refl)) in
+    r.more refl (r.substitution (omega arith) refl inner10 refl) (r.more refl r.plain (r.stop refl)) in
     let bodies12 : ReadsDocuments 1 paired_comment_text (paired_comment_mark ∷ []) (at_token 4 1 0) (record (at_token 18 2 0) { bodies = paired_comment_document ∷ [] }) =
     r.more_bodies refl refl refl body11 refl r.no_body in
     let line13 : ReadsBreaks 1 paired_comment_text (record (at_token 3 1 0) { pending = paired_comment_mark ∷ [] }) (record (at_token 18 2 0) { bodies = paired_comment_document ∷ [] }) =
@@ -417,7 +417,7 @@ paired_quotes_reads =
     let inner10 : ReadsScript 1 (take 17 paired_quotes_text) (record (at_word 6 1 1) { joins = true }) (record (at_word 15 2 1) { joins = true }) _ =
     r.script {u = (record (at_token 15 2 1) { spot = record (at_word 15 2 1) { joins = true } })} (r.sequence list9) refl in
     let body11 : ReadsParts 1 (take 17 paired_quotes_text) (in_document_of paired_quotes_mark) 10 (record (at_word 4 1 0) { joins = true }) (record (at_word 17 2 0) { joins = true }) (part.Command Paren (span 4 16) (lone (simple 2 6 (element.Word (bare 6 7) ∷ element.Word (word 8 15 (part.Single single.Plain (span 8 15) ∷ [])) ∷ []))) ∷ plain 16 17 ∷ []) =
-    r.more refl (r.substitution (omega arith) inner10 refl) (r.more refl r.plain (r.stop refl)) in
+    r.more refl (r.substitution (omega arith) refl inner10 refl) (r.more refl r.plain (r.stop refl)) in
     let bodies12 : ReadsDocuments 1 paired_quotes_text (paired_quotes_mark ∷ []) (at_token 4 1 0) (record (at_token 19 2 0) { bodies = paired_quotes_document ∷ [] }) =
     r.more_bodies refl refl refl body11 refl r.no_body in
     let line13 : ReadsBreaks 1 paired_quotes_text (record (at_token 3 1 0) { pending = paired_quotes_mark ∷ [] }) (record (at_token 19 2 0) { bodies = paired_quotes_document ∷ [] }) =
@@ -473,7 +473,7 @@ paired_document_reads =
     let inner13 : ReadsScript 1 (take 19 paired_document_text) (record (at_word 6 1 1) { joins = true }) (record (at_word 17 2 1) { joins = true }) _ =
     r.script {u = (record (at_token 17 2 1) { spot = record (at_word 17 2 1) { joins = true }; bodies = paired_document_document ∷ [] })} (r.sequence list12) refl in
     let body14 : ReadsParts 1 (take 19 paired_document_text) (in_document_of paired_document_mark) 10 (record (at_word 4 1 0) { joins = true }) (record (at_word 19 2 0) { joins = true }) (part.Command Paren (span 4 18) (lone (simple 2 6 (element.Redirection (redirect 6 None (Here (here_doc false (word 8 11 (part.Single single.Plain (span 8 11) ∷ [])) (bare 12 15) (span 15 16)))) ∷ []))) ∷ plain 18 19 ∷ []) =
-    r.more refl (r.substitution (omega arith) inner13 refl) (r.more refl r.plain (r.stop refl)) in
+    r.more refl (r.substitution (omega arith) refl inner13 refl) (r.more refl r.plain (r.stop refl)) in
     let bodies15 : ReadsDocuments 1 paired_document_text (paired_document_mark ∷ []) (at_token 4 1 0) (record (at_token 21 2 0) { bodies = paired_document_document1 ∷ [] }) =
     r.more_bodies refl refl refl body14 refl r.no_body in
     let line16 : ReadsBreaks 1 paired_document_text (record (at_token 3 1 0) { pending = paired_document_mark ∷ [] }) (record (at_token 21 2 0) { bodies = paired_document_document1 ∷ [] }) =
@@ -574,7 +574,7 @@ tabs_in_quotes_reads =
     let inner10 : ReadsScript 1 (take 17 tabs_in_quotes_text) (record (at_word 7 1 1) { joins = true; tabs = true }) (record (at_word 15 2 1) { joins = true; tabs = true }) _ =
     r.script {u = (record (at_token 15 2 1) { spot = record (at_word 15 2 1) { joins = true; tabs = true } })} (r.sequence list9) refl in
     let body11 : ReadsParts 1 (take 17 tabs_in_quotes_text) (in_document_of tabs_in_quotes_mark) 10 (record (at_word 5 1 0) { joins = true; tabs = true }) (record (at_word 17 2 0) { joins = true; tabs = true }) (part.Command Paren (span 5 16) (lone (simple 2 7 (element.Word (bare 7 8) ∷ element.Word (word 9 15 (part.Single single.Plain (span 9 15) ∷ [])) ∷ []))) ∷ plain 16 17 ∷ []) =
-    r.more refl (r.substitution (omega arith) inner10 refl) (r.more refl r.plain (r.stop refl)) in
+    r.more refl (r.substitution (omega arith) refl inner10 refl) (r.more refl r.plain (r.stop refl)) in
     let bodies12 : ReadsDocuments 1 tabs_in_quotes_text (tabs_in_quotes_mark ∷ []) (at_token 5 1 0) (record (at_token 19 2 0) { bodies = tabs_in_quotes_document ∷ [] }) =
     r.more_bodies refl refl refl body11 refl r.no_body in
     let line13 : ReadsBreaks 1 tabs_in_quotes_text (record (at_token 4 1 0) { pending = tabs_in_quotes_mark ∷ [] }) (record (at_token 19 2 0) { bodies = tabs_in_quotes_document ∷ [] }) =

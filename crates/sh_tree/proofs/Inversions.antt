@@ -4,7 +4,6 @@ use Rattle.std.proofs.lemmas.Bool.{true≢false}
 use Rattle.std.proofs.lemmas.Option.{same_Some}
 use Rattle.sh_tree.specs.declared.tree.AndOr.{AndOr}
 use Rattle.sh_tree.specs.declared.tree.Command.{Command}
-use Rattle.sh_tree.specs.declared.tree.CommandStyle.TheVariants.{Paren}
 use Rattle.sh_tree.specs.declared.tree.Element.{Element}
 use Rattle.sh_tree.specs.declared.tree.Expr.{Expr}
 use Rattle.sh_tree.specs.declared.tree.Item.{Item}
@@ -16,7 +15,6 @@ use Rattle.sh_tree.specs.declared.tree.Part.TheVariants as part
 use Rattle.sh_tree.specs.declared.tree.Pipe.{Pipe}
 use Rattle.sh_tree.specs.declared.tree.Redirect.{Redirect}
 use Rattle.sh_tree.specs.declared.tree.Script.{Script}
-use Rattle.sh_tree.specs.declared.tree.SingleStyle.TheVariants as single
 use Rattle.sh_tree.specs.declared.tree.Span.{Span}
 use Rattle.sh_tree.specs.declared.tree.Word.{Word}
 use Rattle.sh_tree.specs.declared.token.word.Context.{Context}
@@ -31,7 +29,8 @@ use Rattle.sh_tree.specs.declared.token.command.Redirection.{Redirection}
 use Rattle.sh_tree.specs.declared.token.command.Reserved.TheVariants as reserved
 use Rattle.sh_tree.specs.declared.token.command.Stage.{Stage}
 use Rattle.sh_tree.specs.declared.token.command.Stage.TheVariants.{First, Prefixed, Named}
-use Rattle.sh_tree.specs.standard.language.Words.{in_double, in_use, in_removal, in_arithmetic}
+use Rattle.sh_tree.specs.standard.language.Substitutions.{commands_text, closes, keeps_backslashes}
+use Rattle.sh_tree.specs.standard.language.Words.{is_quoted, in_double, in_use, in_removal, in_arithmetic}
 use Rattle.sh_tree.specs.standard.language.Arithmetic.{is_closed, unary_of}
 use Rattle.sh_tree.specs.standard.language.Commands.{blanks, lead_at, redirection, redirects, direction_of, strip_of, is_word, is_redirection, is_reserved, is_bar, is_newline_lead, begins_simple, begins_compound, begins_command, begins_pipeline, separator, link_of}
 use Rattle.sh_tree.specs.standard.language.Contexts.{in_word, in_unsplit, in_stage}
@@ -55,7 +54,7 @@ module _ (limit : ℕ) (b : List ℕ) where
   PartIs x sign.Plain s e v p = (v ≡ to e s) × (p ≡ part.Plain (span s.at e))
   PartIs x sign.Escaped s e v p = (v ≡ to e s) × (p ≡ part.Escaped (span s.at e))
   PartIs x sign.Joined s e v p = (v ≡ to e s) × (p ≡ part.Joined (span s.at e))
-  PartIs x sign.Single s e v p = (v ≡ to e s) × (p ≡ part.Single single.Plain (span s.at e))
+  PartIs x (sign.Single style) s e v p = (v ≡ to e s) × (p ≡ part.Single style (span s.at e))
   PartIs x sign.Tilde s e v p = (v ≡ to e s) × (p ≡ part.Tilde (span s.at e))
   PartIs x sign.Double s e v p =
       (u : Spot) × (ps : List Part) × (v ≡ behind u.at u s) × (p ≡ part.Double (span s.at u.at) ps) × ReadsParts limit b (in_double x) 0 (to e s) u ps
@@ -67,9 +66,10 @@ module _ (limit : ℕ) (b : List ℕ) where
   PartIs x (sign.Remove q r) s e v p =
       (u : Spot) × (ps : List Part) × (v ≡ behind u.at u s) × (p ≡ param s.at u.at q (operator.Remove r (word e (u.at - 1) ps))) × (s.depth < limit)
       × ReadsParts limit b (in_removal x e) 0 (deeper e s) u ps
-  PartIs x sign.Substitution s e v p =
-      (u : Spot) × (t : Script) × (v ≡ behind (u.at + 1) u s) × (p ≡ part.Command Paren (span s.at (u.at + 1)) t) × (s.depth < limit)
-      × ReadsScript limit b (deeper (blanks s.joins b e) s) u t × (is_closed b u.at ≡ true)
+  PartIs x (sign.Substitution style) s e v p =
+      (u : Spot) × (t : Script) × (v ≡ behind (u.at + 1) u s) × (p ≡ part.Command style (span s.at (u.at + 1)) t) × (s.depth < limit)
+      × ReadsScript limit (commands_text style b e) (deeper (blanks s.joins (commands_text style b e) e) s) u t × (closes style (commands_text style b e) u.at ≡ true)
+      × (keeps_backslashes style (is_quoted x.site) b e ≡ true)
   PartIs x sign.Arith s e v p =
       (u : Spot) × (a : Expr) × (v ≡ behind ((over b u).at + 1) u s) × (p ≡ part.Arith (span s.at ((over b u).at + 1)) a) × (s.depth < limit)
       × ReadsExpression limit b (in_arithmetic x) (deeper e s) u a × (figure_at b u ≡ figure.Close) × (is_closed b (over b u).at ≡ true)
@@ -92,7 +92,7 @@ part_is r.length_value = (refl, refl)
 part_is (r.use_word {u = u} {ps = ps} l h) = (u, ps, refl, refl, l, h)
 part_is (r.removal {u = u} {ps = ps} l h) = (u, ps, refl, refl, l, h)
 part_is (r.arithmetic {u = u} {a = a} l h c d) = (u, a, refl, refl, l, h, c, d)
-part_is (r.substitution {u = u} {t = t} l h c) = (u, t, refl, refl, l, h, c)
+part_is (r.substitution {u = u} {t = t} l k h c) = (u, t, refl, refl, l, h, c, k)
 
 -- a part may begin with the sign
 abbrev pub is_part : Sign → Bool

@@ -3,6 +3,7 @@ use Rattle.std.proofs.Common.{◌≡◌, ℕ, ◌+◌, ◌<◌, true, false, Lis
 use Rattle.sh_tree.specs.declared.tree.Script.{Script}
 use Rattle.sh_tree.specs.standard.language.Bytes as bytes
 use Rattle.sh_tree.specs.standard.language.Words as words
+use Rattle.sh_tree.specs.standard.language.Substitutions as substitutions
 use Rattle.sh_tree.specs.standard.language.Arithmetic as arithmetic
 use Rattle.sh_tree.specs.standard.language.Commands as commands
 use Rattle.sh_tree.specs.standard.language.HereDocuments as documents
@@ -19,7 +20,7 @@ use Rattle.sh_tree.specs.declared.tree.Action.TheVariants as action
 use Rattle.sh_tree.specs.declared.tree.Binary.TheVariants as binary
 use Rattle.sh_tree.specs.declared.tree.Command.{Command}
 use Rattle.sh_tree.specs.declared.tree.ClauseEnd.TheVariants.{Break}
-use Rattle.sh_tree.specs.declared.tree.CommandStyle.TheVariants.{Paren}
+use Rattle.sh_tree.specs.declared.tree.CommandStyle.TheVariants.{Paren, Backquote}
 use Rattle.sh_tree.specs.declared.tree.Direction.TheVariants as direction
 use Rattle.sh_tree.specs.declared.tree.Element.TheBlock.{shape-the_row-Part-0, hidden-the_row-Part-0}
 use Rattle.sh_tree.specs.declared.tree.Element.TheVariants as element
@@ -40,11 +41,11 @@ use Rattle.sh_tree.specs.standard.language.Commands.{begins_command, is_bar, lin
 use Rattle.sh_tree.specs.standard.language.Contexts.{in_word, in_unsplit, in_value, in_document_of}
 use Rattle.sh_tree.specs.standard.language.HereDocuments.{Mark}
 use Rattle.sh_tree.specs.standard.language.Trees.{span, word, redirect, here_doc, command, pipe, and_or, script, branch, clause}
-use Rattle.sh_tree.specs.examples.Language.{plain, bare, value, simple, quoted_text, quoted_words, quoted_script, double_text, double_words, double_script, bare_text, bare_words, bare_script, assigned_text, assigned_parts, assigned_words, assigned_script, passed_text, passed_script, home_text, home_value, home_script, braces_text, braces_elements, braces_script, braced_text, default_part, length_part, removal_part, braced_words, braced_script, parameters_text, parameters_parts, parameters_words, parameters_script, arithmetic_text, product, sum, arithmetic_part, arithmetic_script, choice_text, choice_part, choice_script, substituted_text, inner_script, substituted_part, substituted_script, utility, lone, document_text, document_body, document_words, document_script, stripped_text, stripped_body, stripped_script, branch_text, branch_script, elif_text, elif_branches, elif_script, until_text, until_subshell, until_condition, until_script, every_text, every_command, every_script, loop_text, loop_script, case_text, case_clauses, case_script, through_text, through_clauses, through_script, defined_text, defined_command, defined_list, defined_script, unset_first_text, unset_first_words, unset_first_value, unset_first_script, unset_last_text, unset_last_words, unset_last_script, closed_text, closed_script, separated_text, separated_script, comment_text}
+use Rattle.sh_tree.specs.examples.Language.{plain, bare, value, simple, ticked_text, ticked_inner, ticked_part, ticked_script, quoted_text, quoted_words, quoted_script, dollar_text, dollar_value, dollar_script, double_text, double_words, double_script, bare_text, bare_words, bare_script, assigned_text, assigned_parts, assigned_words, assigned_script, passed_text, passed_script, home_text, home_value, home_script, braces_text, braces_elements, braces_script, braced_text, default_part, length_part, removal_part, braced_words, braced_script, parameters_text, parameters_parts, parameters_words, parameters_script, arithmetic_text, product, sum, arithmetic_part, arithmetic_script, choice_text, choice_part, choice_script, substituted_text, inner_script, substituted_part, substituted_script, utility, lone, document_text, document_body, document_words, document_script, stripped_text, stripped_body, stripped_script, branch_text, branch_script, elif_text, elif_branches, elif_script, until_text, until_subshell, until_condition, until_script, every_text, every_command, every_script, loop_text, loop_script, case_text, case_clauses, case_script, through_text, through_clauses, through_script, defined_text, defined_command, defined_list, defined_script, unset_first_text, unset_first_words, unset_first_value, unset_first_script, unset_last_text, unset_last_words, unset_last_script, closed_text, closed_script, separated_text, separated_script, comment_text}
 
 -- what a reading of a known text computes
 unfoldable pub computes : Unit {0}
-unfolding bytes.is_first bytes.name_length bytes.decimal bytes.longest bytes.joined_length words.tilde_length words.is_tilde words.special_of words.named_value words.single_parameter words.parenthesis words.numeric_parameter words.parameter words.misfit words.action_of words.pattern_removal words.parameter_action words.parameter_operator words.parameter_length words.special_or_length words.braced_expansion words.dollar_expansion words.dollar words.stands words.plain_length words.continuation words.backslash words.single words.meant_by words.sign_by words.sign_of words.token arithmetic.space_length arithmetic.constant_length arithmetic.name_figure arithmetic.unknown arithmetic.figure_of arithmetic.lexeme_start arithmetic.lexeme arithmetic.binary_of arithmetic.unary_of arithmetic.assignment_of arithmetic.is_closed commands.gap_length commands.blank_length commands.blanks commands.operator_of commands.operator commands.is_split commands.direction_of commands.strip_of commands.redirects commands.bare_word commands.entry_of commands.is_assignment commands.name_end commands.declares commands.is_location commands.opening commands.whole_operator commands.operator_lead commands.reserved_lead commands.is_definition commands.name_lead commands.first_lead commands.word_lead commands.number_lead commands.other_lead commands.lead_of commands.lead_at commands.redirection commands.is_redirection commands.begins_simple commands.begins_compound commands.begins_command commands.begins_pipeline commands.clause_end_of commands.is_bare_name commands.separator commands.link_of documents.line_length documents.line_end documents.line_text documents.end_candidate documents.end_line_within documents.end_line documents.has_tabbed_line documents.has_joined contexts.in_operand contexts.in_document_of contexts.in_stage documents.is_static documents.is_delimiter documents.delimiter_of parts.is_quotation parts.is_quoted_word parts.singles_in parts.singles parts.keeps_lines documents.keeps_document states.nth states.waits r.is_empty r.is_some parts_text part_text shape-the_row-Part-0 hidden-the_row-Part-0 denote.Hole.Carrier.hidden
+unfolding bytes.is_first bytes.is_last_backquote words.backquoted words.dollar_quoted substitutions.commands_text substitutions.closes substitutions.keeps_backslashes substitutions.has_kept_backslash bytes.name_length bytes.decimal bytes.longest bytes.joined_length words.tilde_length words.is_tilde words.special_of words.named_value words.single_parameter words.parenthesis words.numeric_parameter words.parameter words.misfit words.action_of words.pattern_removal words.parameter_action words.parameter_operator words.parameter_length words.special_or_length words.braced_expansion words.dollar_expansion words.dollar words.stands words.plain_length words.continuation words.backslash words.single words.meant_by words.sign_by words.sign_of words.token arithmetic.space_length arithmetic.constant_length arithmetic.name_figure arithmetic.unknown arithmetic.figure_of arithmetic.lexeme_start arithmetic.lexeme arithmetic.binary_of arithmetic.unary_of arithmetic.assignment_of arithmetic.is_closed commands.gap_length commands.blank_length commands.blanks commands.operator_of commands.operator commands.is_split commands.direction_of commands.strip_of commands.redirects commands.bare_word commands.entry_of commands.is_assignment commands.name_end commands.declares commands.is_location commands.opening commands.whole_operator commands.operator_lead commands.reserved_lead commands.is_definition commands.name_lead commands.first_lead commands.word_lead commands.number_lead commands.other_lead commands.lead_of commands.lead_at commands.redirection commands.is_redirection commands.begins_simple commands.begins_compound commands.begins_command commands.begins_pipeline commands.clause_end_of commands.is_bare_name commands.separator commands.link_of documents.line_length documents.line_end documents.line_text documents.end_candidate documents.end_line_within documents.end_line documents.has_tabbed_line documents.has_joined contexts.in_operand contexts.in_document_of contexts.in_stage documents.is_static documents.is_dollar_quoted documents.is_delimiter documents.delimiter_of parts.is_quotation parts.is_quoted_word parts.singles_in parts.singles parts.keeps_lines documents.keeps_document states.nth states.waits r.is_empty r.is_some parts_text part_text shape-the_row-Part-0 hidden-the_row-Part-0 denote.Hole.Carrier.hidden
 computes = tt
 
 -- a text with this sequence is its script
@@ -87,6 +88,15 @@ quoted_reads =
     r.word_element refl echo (r.word_element refl value (r.word_element refl kept (r.no_element refl))) in
     let list : ReadsAndOr 0 quoted_text no_bodies (at_token 0 0 0) (at_token 15 1 0) _ = alone_reads (r.simple_command refl elements) refl refl refl in
     whole quoted_text 0 (at_token 15 1 0) quoted_script refl (r.sequence (r.list (r.no_break refl) refl (r.last_item list refl refl))) refl refl
+
+pub dollar_reads : Reads dollar_text dollar_script
+unfolding computes
+dollar_reads =
+    let value : ReadsWord 0 dollar_text (in_value 2) (at_word 2 1 0) (at_word 28 1 0) dollar_value = r.whole_word (r.more refl r.single_quoted (r.stop refl)) refl refl in
+    let elements : ReadsElements 0 dollar_text no_bodies First (at_token 0 1 0) (at_token 28 1 0) (element.Assignment (span 0 1) dollar_value ∷ []) =
+    r.assigned_element refl value (r.no_element refl) in
+    let list : ReadsAndOr 0 dollar_text no_bodies (at_token 0 0 0) (at_token 28 1 0) _ = alone_reads (r.simple_command refl elements) refl refl refl in
+    whole dollar_text 0 (at_token 28 1 0) dollar_script refl (r.sequence (r.list (r.no_break refl) refl (r.last_item list refl refl))) refl refl
 
 pub double_reads : Reads double_text double_script
 unfolding computes
@@ -278,13 +288,33 @@ substituted_reads =
     r.script {u = at_token 14 2 1} (r.sequence (r.list (r.no_break refl) refl (r.last_item inner_list refl refl))) refl in
     let echo : ReadsWord 1 substituted_text (in_word 0) (at_word 0 1 0) (at_word 4 1 0) (bare 0 4) = r.whole_word (r.more refl r.plain (r.stop refl)) refl refl in
     let between : ReadsParts 1 substituted_text (in_double (in_word 5)) 0 (at_word 6 1 0) (at_word 16 2 0) (part.Command Paren (span 6 15) inner_script ∷ []) =
-    r.more refl (r.substitution (omega arith) inner refl) (r.stop refl) in
+    r.more refl (r.substitution (omega arith) refl inner refl) (r.stop refl) in
     let quotes : ReadsWord 1 substituted_text (in_word 5) (at_word 5 1 0) (at_word 16 2 0) (word 5 16 (substituted_part ∷ [])) =
     r.whole_word (r.more refl (r.double_quoted between) (r.stop refl)) refl refl in
     let elements : ReadsElements 1 substituted_text no_bodies First (at_token 0 1 0) (at_token 16 2 0) (element.Word (bare 0 4) ∷ element.Word (word 5 16 (substituted_part ∷ [])) ∷ []) =
     r.word_element refl echo (r.word_element refl quotes (r.no_element refl)) in
     let list : ReadsAndOr 1 substituted_text no_bodies (at_token 0 0 0) (at_token 16 2 0) _ = alone_reads (r.simple_command refl elements) refl refl refl in
     whole substituted_text 1 (at_token 16 2 0) substituted_script refl (r.sequence (r.list (r.no_break refl) refl (r.last_item list refl refl))) refl refl
+
+pub ticked_reads : Reads ticked_text ticked_script
+unfolding computes
+ticked_reads =
+    let inner_echo : ReadsWord 1 (take 14 ticked_text) (in_word 7) (at_word 7 2 1) (at_word 11 2 1) (bare 7 11) = r.whole_word (r.more refl r.plain (r.stop refl)) refl refl in
+    let operand : ReadsWord 1 (take 14 ticked_text) (in_word 12) (at_word 12 2 1) (at_word 13 2 1) (bare 12 13) = r.whole_word (r.more refl r.plain (r.stop refl)) refl refl in
+    let inner_elements : ReadsElements 1 (take 14 ticked_text) no_bodies First (at_token 7 2 1) (at_token 13 2 1) (element.Word (bare 7 11) ∷ element.Word (bare 12 13) ∷ []) =
+    r.word_element refl inner_echo (r.word_element refl operand (r.no_element refl)) in
+    let inner_list : ReadsAndOr 1 (take 14 ticked_text) no_bodies (at_token 7 1 1) (at_token 13 2 1) _ = alone_reads (r.simple_command refl inner_elements) refl refl refl in
+    let inner : ReadsScript 1 (take 14 ticked_text) (at_word 7 1 1) (at_word 13 2 1) ticked_inner =
+    r.script {u = at_token 13 2 1} (r.sequence (r.list (r.no_break refl) refl (r.last_item inner_list refl refl))) refl in
+    let echo : ReadsWord 1 ticked_text (in_word 0) (at_word 0 1 0) (at_word 4 1 0) (bare 0 4) = r.whole_word (r.more refl r.plain (r.stop refl)) refl refl in
+    let between : ReadsParts 1 ticked_text (in_double (in_word 5)) 0 (at_word 6 1 0) (at_word 15 2 0) (part.Command Backquote (span 6 14) ticked_inner ∷ []) =
+    r.more refl (r.substitution (omega arith) refl inner refl) (r.stop refl) in
+    let quotes : ReadsWord 1 ticked_text (in_word 5) (at_word 5 1 0) (at_word 15 2 0) (word 5 15 (ticked_part ∷ [])) =
+    r.whole_word (r.more refl (r.double_quoted between) (r.stop refl)) refl refl in
+    let elements : ReadsElements 1 ticked_text no_bodies First (at_token 0 1 0) (at_token 15 2 0) (element.Word (bare 0 4) ∷ element.Word (word 5 15 (ticked_part ∷ [])) ∷ []) =
+    r.word_element refl echo (r.word_element refl quotes (r.no_element refl)) in
+    let list : ReadsAndOr 1 ticked_text no_bodies (at_token 0 0 0) (at_token 15 2 0) _ = alone_reads (r.simple_command refl elements) refl refl refl in
+    whole ticked_text 1 (at_token 15 2 0) ticked_script refl (r.sequence (r.list (r.no_break refl) refl (r.last_item list refl refl))) refl refl
 
 -- Here-documents
 

@@ -58,7 +58,7 @@ stop_is _ h = absurd (true≢false (sym h))
 
 -- the word of a braced expansion that stands outside quotes, from i on
 abbrev in_default : ℕ → Context
-in_default i = record { site = site.Braced; origin = i; colons = false; fields = false; strip = false; body = false }
+in_default i = record { site = site.Braced; origin = i; colons = false; fields = false; strip = false; body = false; backquotes = true }
 
 module _ (b : List ℕ) where
   abbrev default_at : ℕ → Sign
@@ -386,7 +386,7 @@ body_depth_reads =
     let inner9 : ReadsScript 1 (take 12 body_depth_text) (record (at_word 9 2 1) { joins = true }) (record (at_word 10 3 1) { joins = true }) (lone (utility 3 9 10)) =
     r.script {u = (record (at_token 10 3 1) { spot = record (at_word 10 3 1) { joins = true } })} (r.sequence list8) refl in
     let body10 : ReadsParts 1 (take 12 body_depth_text) (in_document_of body_depth_mark) 10 (record (at_word 7 2 0) { joins = true }) (record (at_word 12 3 0) { joins = true }) (part.Command Paren (span 7 11) (lone (utility 3 9 10)) ∷ plain 11 12 ∷ []) =
-    r.more refl (r.substitution (omega arith) inner9 refl) (r.more refl r.plain (r.stop refl)) in
+    r.more refl (r.substitution (omega arith) refl inner9 refl) (r.more refl r.plain (r.stop refl)) in
     let bodies11 : ReadsDocuments 1 body_depth_text (body_depth_mark ∷ []) (at_token 7 2 1) (record (at_token 14 3 1) { bodies = body_depth_document ∷ [] }) =
     r.more_bodies refl refl refl body10 refl r.no_body in
     let line12 : ReadsBreaks 1 body_depth_text (record (at_token 6 2 1) { pending = body_depth_mark ∷ [] }) (record (at_token 14 3 1) { bodies = body_depth_document ∷ [] }) =

@@ -33,10 +33,10 @@ use Rattle.sh_tree.specs.declared.tree.Target.TheVariants as target
 use Rattle.sh_tree.specs.declared.tree.Unary.{Unary}
 use Rattle.sh_tree.specs.declared.tree.Word.{Word}
 use Rattle.sh_tree.specs.standard.Tree.{text_of}
-use Rattle.sh_tree.specs.standard.Words.{behind_first}
+use Rattle.sh_tree.specs.standard.Words.{behind_first, single_text}
 use Rattle.sh_tree.specs.standard.program.Syntax as p
 use Rattle.sh_tree.specs.Lists.{parts_from, words_from, operands_from, items_from, links_from, commands_from, element_from, elements_from, redirects_from, branches_from, otherwise_from, for_words_from, clauses_from}
-use Rattle.sh_tree.specs.standard.program.Trees.{single_of, parameter_of, part_of, word_of, operator_of, held_of, operands_of, expression_of, script_of, items_of, and_or_of, links_of, pipeline_of, commands_of, command_of, kind_of, body_of, elements_of, target_of, redirects_of, branches_of, otherwise_of, for_words_of, words_of, clauses_of}
+use Rattle.sh_tree.specs.standard.program.Trees.{parameter_of, part_of, word_of, operator_of, held_of, operands_of, expression_of, script_of, items_of, and_or_of, links_of, pipeline_of, commands_of, command_of, kind_of, body_of, elements_of, target_of, redirects_of, branches_of, otherwise_of, for_words_of, words_of, clauses_of}
 
 -- rows are their lists
 
@@ -330,7 +330,7 @@ pub part_of-Escaped : (b : List ℕ) (s : Span) → part_of b (part.Escaped s) �
 unfolding part_of
 part_of-Escaped b s = refl
 
-pub part_of-Single : (b : List ℕ) (style : SingleStyle) (s : Span) → part_of b (part.Single style s) ≡ p.Single style (single_of style (text_of b s))
+pub part_of-Single : (b : List ℕ) (style : SingleStyle) (s : Span) → part_of b (part.Single style s) ≡ p.Single style (single_text style (text_of b s))
 unfolding part_of
 part_of-Single b style s = refl
 

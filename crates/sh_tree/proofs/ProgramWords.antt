@@ -3,22 +3,20 @@ use Rattle.std.proofs.Common.{◌≡◌, ◌==◌, ℕ, List, [], ◌∷◌, ref
 use Rattle.std.specs.List.{list_any}
 use Rattle.sh_tree.specs.declared.tree.Part.{Part, Plain, Escaped, Single, Double', Param', Arith', Tilde, Joined, Row_of-Part, end_of-Part, more_of-Part}
 use Rattle.sh_tree.specs.declared.tree.Part.TheVariants as part
-use Rattle.sh_tree.specs.declared.tree.SingleStyle.TheVariants as single
 use Rattle.sh_tree.specs.standard.Words.{is_wildcard, part_text, row_text, parts_text, has_wildcard, has_bracket, is_bracket, is_pattern, static_text}
 use Rattle.sh_tree.specs.Lists.{parts_from}
-use Rattle.sh_tree.specs.standard.program.Trees.{single_of, part_of, word_of}
+use Rattle.sh_tree.specs.standard.program.Trees.{part_of, word_of}
 use Rattle.sh_tree.specs.standard.program.Words as words
 
 -- the text without quoting
 
 mutual
-  unfolding part_of part_text words.part_text words.quoted_text single_of
+  unfolding part_of part_text words.part_text
 
   pub text_of_part : (b : List ℕ) (x : Part) → words.part_text (part_of b x) ≡ part_text b x
   text_of_part b (Plain s) = refl
   text_of_part b (Escaped s) = refl
-  text_of_part b (Single single.Plain s) = refl
-  text_of_part b (Single single.Dollar s) = refl
+  text_of_part b (Single style s) = refl
   text_of_part b (Double' s shape row) = text_of_row b row
   text_of_part b (Param' s subject operator) = refl
   text_of_part b (Arith' s shape row) = refl

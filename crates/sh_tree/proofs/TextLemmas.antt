@@ -1,8 +1,9 @@
 -- Static texts, one part after another.
-use Rattle.std.proofs.Common.{◌≡◌, ℕ, ◌+◌, ◌<◌, ◌≤◌, Option, Some, None, List, length, get_or, drop, refl, ap, add-one, drop-cons, append_assoc}
+use Rattle.std.proofs.Common.{◌≡◌, ℕ, ◌+◌, ◌-◌, ◌<◌, ◌≤◌, ◌⊎◌, inl, inr, Option, Some, None, List, [], ◌∷◌, ◌++◌, length, get_or, take, drop, refl, ap, ◌∙◌, add-one, drop-cons, append_assoc, length-drop, take_all, arith}
+use Rattle.std.proofs.lemmas.Bool.{ne_eqb}
 use Rattle.std.proofs.lemmas.List.{drop_all, append-nil}
 use Rattle.sh_tree.specs.declared.tree.Part.{Part}
-use Rattle.sh_tree.specs.standard.Words.{both_texts, part_text, parts_text}
+use Rattle.sh_tree.specs.standard.Words.{both_texts, part_text, parts_text, escape_of, escaped}
 
 -- a text that is not static makes the whole not static
 pub both_texts_none : (t : List ℕ) (x : Option (List ℕ)) → None ≡ both_texts (Some t) x → None ≡ x
@@ -31,3 +32,43 @@ text_none b ps i x old h e n =
 pub text_stop : (b : List ℕ) (ps : List Part) (i : ℕ) (t : List ℕ) → length ps ≤ i → both_texts (Some t) (parts_text b (drop i ps)) ≡ Some t
 unfolding parts_text
 text_stop b ps i t h = rw (drop_all i ps h, append-nil) refl
+
+-- The bytes between `$'` and `'`
+
+-- what the slice behind the first byte holds
+abbrev behind : List ℕ → List ℕ
+behind cs = take (length cs - 1) (drop 1 cs)
+
+behind_is : (cs : List ℕ) → behind cs ≡ drop 1 cs
+behind_is cs = take_all (length cs - 1) (drop 1 cs) (omega (arith, length-drop 1 cs))
+
+-- a byte is put, and it is the first of what is left
+one_more : (old new cs : List ℕ) (e : ℕ) (rest : List ℕ) → new ≡ old ++ (e ∷ []) → escaped cs ≡ e ∷ escaped rest → new ++ escaped rest ≡ old ++ escaped cs
+one_more old new cs e rest n h = rw (n, append_assoc, h) refl
+
+-- a backslash and the byte behind it
+pub escape_step : (old new cs : List ℕ) (e : ℕ) → new ≡ old ++ (e ∷ []) → get_or cs 0 0 ≡ 92 → 1 ≤ length cs → 1 ≤ length (behind cs) → e ≡ escape_of (get_or (behind cs) 0 0)
+    → new ++ escaped (behind (behind cs)) ≡ old ++ escaped cs
+unfolding escaped
+escape_step old new [] e n is some more found = absurd (omega arith)
+escape_step old new (c ∷ []) e n is some more found = absurd (omega (arith, ap length (behind_is (c ∷ []))))
+escape_step old new (c ∷ d ∷ cs) e n is some more found =
+    let first : behind (c ∷ d ∷ cs) ≡ d ∷ cs = behind_is (c ∷ d ∷ cs) in
+    let second : behind (behind (c ∷ d ∷ cs)) ≡ cs = ap behind first ∙ behind_is (d ∷ cs) in
+    let byte : e ≡ escape_of d = found ∙ ap (λ l. escape_of (get_or l 0 0)) first in
+    one_more old new (c ∷ d ∷ cs) e (behind (behind (c ∷ d ∷ cs))) n (rw (is, byte, second) refl)
+
+-- any other byte
+pub byte_step : (old new cs : List ℕ) → new ≡ old ++ (get_or cs 0 0 ∷ []) → 1 ≤ length cs → (length (behind cs) < 1) ⊎ (get_or cs 0 0 ≡ 92 → ⊥)
+    → new ++ escaped (behind cs) ≡ old ++ escaped cs
+unfolding escaped
+byte_step old new [] n some one = absurd (omega arith)
+byte_step old new (c ∷ []) n some one = one_more old new (c ∷ []) c (behind (c ∷ [])) n (rw (behind_is (c ∷ [])) refl)
+byte_step old new (c ∷ d ∷ cs) n some (inl less) = absurd (omega (arith, ap length (behind_is (c ∷ d ∷ cs))))
+byte_step old new (c ∷ d ∷ cs) n some (inr other) =
+    one_more old new (c ∷ d ∷ cs) c (behind (c ∷ d ∷ cs)) n (rw (behind_is (c ∷ d ∷ cs), ne_eqb c 92 other) refl)
+
+pub escaped_all : (old cs : List ℕ) → length cs < 1 → old ++ escaped cs ≡ old
+unfolding escaped
+escaped_all old [] h = append-nil old
+escaped_all old (c ∷ cs) h = absurd (omega arith)

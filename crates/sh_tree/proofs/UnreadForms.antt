@@ -9,6 +9,7 @@ use Rattle.sh_tree.specs.declared.tree.Part.TheVariants as part
 use Rattle.sh_tree.specs.declared.tree.Redirect.{Redirect}
 use Rattle.sh_tree.specs.declared.tree.Script.{Script}
 use Rattle.sh_tree.specs.declared.tree.SingleStyle.TheVariants as single
+use Rattle.sh_tree.specs.declared.tree.CommandStyle.TheVariants.{Paren, Backquote}
 use Rattle.sh_tree.specs.declared.tree.Subject.TheVariants.{Name}
 use Rattle.sh_tree.specs.declared.tree.Word.{Word}
 use Rattle.sh_tree.specs.declared.token.command.Operator.TheVariants as op
@@ -20,12 +21,13 @@ use Rattle.sh_tree.specs.standard.language.Commands.{begins_pipeline, direction_
 use Rattle.sh_tree.specs.standard.language.Contexts.{in_document_of, in_unsplit}
 use Rattle.sh_tree.specs.standard.language.HereDocuments.{Mark, behind_line, is_ambiguous, is_delimiter, keeps_document}
 use Rattle.sh_tree.specs.standard.language.Parts.{keeps_lines}
+use Rattle.sh_tree.specs.standard.language.Substitutions.{closes}
 use Rattle.sh_tree.specs.standard.language.States.{Document, Spot, State, begun, facing, next, nth, past, within}
 use Rattle.sh_tree.specs.standard.language.Trees.{param, span, word}
 use Rattle.sh_tree.specs.standard.language.Reading as r
 use Rattle.sh_tree.specs.standard.language.Reading.{ReadsParts, ReadsRedirect, ReadsScript, ReadsSequence, ReadsWord, lead_here, start}
 use Rattle.sh_tree.specs.examples.Language.{IsUnread, bare, plain}
-use Rattle.sh_tree.specs.examples.Unread.{across_text, backquoted_text, dollar_single_text, double_bracket_text, double_parenthesis_text, expanded_delimiter_text, joined_tab_text, location_text, negated_parenthesis_text, other_braced_text, split_comment_text, split_end_text, split_quotes_text, tilde_delimiter_text, unsplit_text}
+use Rattle.sh_tree.specs.examples.Unread.{across_text, backquoted_text, backslash_text, default_backquotes_text, dollar_delimiter_text, dollar_single_text, double_bracket_text, double_parenthesis_text, expanded_delimiter_text, joined_tab_text, location_text, negated_parenthesis_text, other_braced_text, quoted_backslash_text, split_comment_text, split_end_text, split_quotes_text, tilde_delimiter_text, unsplit_text}
 use Rattle.sh_tree.proofs.Inversions.{bare_command_ends, bare_word_ends, document_is, elements_word, first_part, items_end, items_first, no_sequence, nothing_at, one_part_word, opening_document, opening_operator, opening_redirect, opening_word, script_is, sequence_items, some_breaks, some_one, word_parts}
 use Rattle.sh_tree.proofs.LanguageLemmas.{at_token, at_word, computes, the_mark}
 use Rattle.sh_tree.proofs.UnreadLemmas.{ends_before, tabs_mark}
@@ -65,13 +67,39 @@ pub dollar_single_unread : IsUnread dollar_single_text
 unfolding computes
 dollar_single_unread t h =
     let w = opening_word refl h.2.script in
-    nothing_at (sign.LeftOut form.DollarSingle) refl refl (word_parts w.2).2
+    nothing_at (sign.LeftOut form.DollarEscape) refl refl (word_parts w.2).2
 
 pub backquoted_unread : IsUnread backquoted_text
 unfolding computes
 backquoted_unread t h =
     let w = opening_word refl h.2.script in
-    nothing_at (sign.LeftOut form.Backquoted) refl refl (word_parts w.2).2
+    let s = first_part (sign.Substitution Backquote) refl refl (word_parts w.2).2 in
+    let q = script_is s.4.5 in
+    let closed : closes Backquote backquoted_text s.4.0.at ≡ true = s.4.6 in
+    true≢false (sym closed ∙ ap (λ v. closes Backquote backquoted_text v.at) (q.1 ∙ ap (λ v. v.spot) (no_sequence refl refl q.3)))
+
+pub backslash_unread : IsUnread backslash_text
+unfolding computes
+backslash_unread t h =
+    let w = opening_word refl h.2.script in
+    let s = first_part (sign.Substitution Backquote) refl refl (word_parts w.2).2 in
+    true≢false (sym s.4.7)
+
+pub quoted_backslash_unread : IsUnread quoted_backslash_text
+unfolding computes
+quoted_backslash_unread t h =
+    let w = opening_word refl h.2.script in
+    let quotes = first_part sign.Double refl refl (word_parts w.2).2 in
+    let s = first_part (sign.Substitution Backquote) refl refl quotes.4.4 in
+    true≢false (sym s.4.7)
+
+pub default_backquotes_unread : IsUnread default_backquotes_text
+unfolding computes
+default_backquotes_unread t h =
+    let w = opening_word refl h.2.script in
+    let quotes = first_part sign.Double refl refl (word_parts w.2).2 in
+    let default = first_part (sign.Use (Name (span 3 4)) action.Default false) refl refl quotes.4.4 in
+    nothing_at (sign.LeftOut form.Backquoted) refl refl default.4.5
 
 pub other_braced_unread : IsUnread other_braced_text
 unfolding computes
@@ -124,6 +152,15 @@ tilde_delimiter_unread t h =
     let parts : ps.0 ≡ part.Tilde (span 2 4) ∷ f.2 = f.3 ∙ ap (λ p. p ∷ f.2) f.4.1 in
     true≢false (sym d.2 ∙ ap (is_delimiter tilde_delimiter_text) (ps.1 ∙ ap (word 2 d.0.at) parts))
 
+pub dollar_delimiter_unread : IsUnread dollar_delimiter_text
+unfolding computes
+dollar_delimiter_unread t h =
+    let o = opening_redirect refl h.2.script in
+    let d = delimiter_is (first_operator 2) refl refl o.6 in
+    let quoted : Part = part.Single single.Dollar (span 2 6) in
+    let w = one_part_word (sign.Single single.Dollar) quoted 6 refl refl (λ z p q. q) refl refl d.3 in
+    true≢false (sym d.2 ∙ ap (is_delimiter dollar_delimiter_text) w.1)
+
 -- Bodies
 
 -- newlines are read only where no body is awaited outside
@@ -139,7 +176,7 @@ across_unread t h =
     (λ u y w. let o = one_part_word sign.Plain (plain 2 3) 3 refl refl (λ v p q. q) refl refl w in (ap (λ v. past across_text v (at_token 0 1 0)) o.0, o.1))
     h.2.script in
     let w = elements_word refl o.1.3 in
-    let f = first_part sign.Substitution refl refl (word_parts w.3).2 in
+    let f = first_part (sign.Substitution Paren) refl refl (word_parts w.3).2 in
     true≢false (newlines_are_free refl (script_is f.4.5).3)
 
 pub joined_tab_unread : IsUnread joined_tab_text
@@ -181,7 +218,7 @@ split_comment_unread t h =
     let body = document_is the_mark [] refl d.1 in
     let end : span 15 16 ≡ body.0 = some_one body.3 in
     let parts = subst (λ l. ReadsParts h.0 (take l.start split_comment_text) (in_document_of the_mark) 10 (record (at_word 4 1 0) { joins = true }) body.1 body.2) (sym end) body.6 in
-    let s = first_part sign.Substitution refl refl parts in
+    let s = first_part (sign.Substitution Paren) refl refl parts in
     let there : s.4.0 ≡ before_comment.spot = comment_unread h.0 s.4.0 s.4.1 s.4.5 in
     let closes : is_closed (take 15 split_comment_text) s.4.0.at ≡ true = s.4.6 in
     true≢false (sym closes ∙ ap (λ v. is_closed (take 15 split_comment_text) v.at) there)
@@ -199,10 +236,10 @@ split_quotes_unread t h =
     let body = document_is the_mark [] refl d.1 in
     let end : span 14 15 ≡ body.0 = some_one body.3 in
     let parts = subst (λ l. ReadsParts h.0 (take l.start split_quotes_text) (in_document_of the_mark) 10 (record (at_word 4 1 0) { joins = true }) body.1 body.2) (sym end) body.6 in
-    let s = first_part sign.Substitution refl refl parts in
+    let s = first_part (sign.Substitution Paren) refl refl parts in
     let w = opening_word refl s.4.5 in
     let ps = word_parts w.2 in
-    let f = first_part sign.Single refl refl ps.2 in
+    let f = first_part (sign.Single single.Plain) refl refl ps.2 in
     let quotes : ps.0 ≡ part.Single single.Plain (span 6 12) ∷ f.2 = f.3 ∙ ap (λ p. p ∷ f.2) f.4.1 in
     true≢false (sym (word_keeps w.2) ∙ ap (λ v. keeps_lines b true v.parts) ps.1 ∙ ap (keeps_lines b true) quotes)
 
@@ -219,11 +256,11 @@ split_end_unread t h =
     let body = document_is the_mark [] refl d.1 in
     let end : span 18 19 ≡ body.0 = some_one body.3 in
     let parts = subst (λ l. ReadsParts h.0 (take l.start split_end_text) (in_document_of the_mark) 10 (record (at_word 4 1 0) { joins = true }) body.1 body.2) (sym end) body.6 in
-    let s = first_part sign.Substitution refl refl parts in
+    let s = first_part (sign.Substitution Paren) refl refl parts in
     let at : Redirection = record { number = None; operator = op.HereDoc; at = 6; end = 8 } in
     let quoted : Part = part.Single single.Plain (span 8 12) in
     let inner = opening_document at false 12 (word 8 12 (quoted ∷ [])) refl refl refl refl
-    (λ v y w. let o = one_part_word sign.Single quoted 12 refl refl (λ z p q. q) refl refl w in
+    (λ v y w. let o = one_part_word (sign.Single single.Plain) quoted 12 refl refl (λ z p q. q) refl refl w in
     (ap (λ z. past b z (begun (within (record (at_word 6 1 1) { joins = true })))) o.0, o.1))
     refl refl s.4.5 in
     let document = document_is split_mark [] refl inner.1 in

@@ -16,6 +16,7 @@ use Rattle.sh_tree.specs.declared.tree.Part.{Part}
 use Rattle.sh_tree.specs.declared.tree.Part.TheVariants as part
 use Rattle.sh_tree.specs.declared.tree.Script.{Script}
 use Rattle.sh_tree.specs.declared.tree.SingleStyle.TheVariants as single
+use Rattle.sh_tree.specs.declared.tree.CommandStyle.TheVariants.{Paren}
 use Rattle.sh_tree.specs.standard.language.Contexts.{in_document_of}
 use Rattle.sh_tree.specs.standard.language.HereDocuments.{Mark, behind_line, keeps_document}
 use Rattle.sh_tree.specs.standard.language.Trees.{span, word}
@@ -108,7 +109,7 @@ inner_unread limit u t h =
     let at : Redirection = record { number = None; operator = op.HereDoc; at = 6; end = 8 } in
     let quoted : Part = part.Single single.Plain (span 8 11) in
     let d = opening_document at false 11 (word 8 11 (quoted ∷ [])) refl refl refl refl
-    (λ v y w. let o = one_part_word sign.Single quoted 11 refl refl (λ z p q. q) refl refl w in (ap (λ z. past b z (begun (within inner_spot))) o.0, o.1))
+    (λ v y w. let o = one_part_word (sign.Single single.Plain) quoted 11 refl refl (λ z p q. q) refl refl w in (ap (λ z. past b z (begun (within inner_spot))) o.0, o.1))
     refl refl h in
     let body = document_is inner_mark [] refl d.1 in
     let end : span 14 15 ≡ body.0 = some_one body.3 in
@@ -124,7 +125,7 @@ split_document_unread t h =
     let body = document_is the_mark [] refl d.1 in
     let end : span 18 19 ≡ body.0 = some_one body.3 in
     let parts = subst (λ l. ReadsParts h.0 (take l.start split_document_text) (in_document_of the_mark) 10 (record (at_word 4 1 0) { joins = true }) body.1 body.2) (sym end) body.6 in
-    let f = first_part sign.Substitution refl refl parts in
+    let f = first_part (sign.Substitution Paren) refl refl parts in
     inner_unread h.0 f.4.0 f.4.1 f.4.5
 
 -- the same where the outer one is stripped of tabs
@@ -159,7 +160,7 @@ tabbed_document_unread t h =
     let body = document_is tabs_mark [] refl d.1 in
     let end : span 18 19 ≡ body.0 = some_one body.3 in
     let parts = subst (λ l. ReadsParts h.0 (take l.start tabbed_document_text) (in_document_of tabs_mark) 10 (record (at_word 5 1 0) { joins = true; tabs = true }) body.1 body.2) (sym end) body.6 in
-    let f = first_part sign.Substitution refl refl parts in
+    let f = first_part (sign.Substitution Paren) refl refl parts in
     tabbed_unread h.0 f.4.0 f.4.1 f.4.5
 
 -- what stands between the braces of the outer group, up to `}` behind the redirection of the inner one

@@ -63,14 +63,18 @@ macro_rules! outside {
 pub enum Form {
     /// A backslash and a newline inside a token (XCU 2.2.1).
     Continuation,
-    /// `$'` (XCU 2.2.4).
-    DollarSingle,
+    /// An escape in `$'` that is not read (XCU 2.2.4).
+    DollarEscape,
     /// `$"`, to which the standard gives no meaning (XCU 2.6).
     DollarDouble,
     /// `$[`, to which the standard gives no meaning (XCU 2.6).
     DollarBracket,
     /// A substitution in backquotes (XCU 2.6.3).
     Backquoted,
+    /// A backslash in such a substitution.
+    BackslashInBackquotes,
+    /// A backquote in such a substitution, in something that is open there.
+    BackquoteInside,
     /// A braced expansion of a form that is not read (XCU 2.6.2).
     Braced,
     /// A double quote in a default inside double quotes or a here-document (XCU 2.6.2).
@@ -114,10 +118,12 @@ impl Form {
     {
         match self {
             Form::Continuation => outside!("a line continuation inside a token"),
-            Form::DollarSingle => outside!("$'"),
+            Form::DollarEscape => outside!("this escape in $'"),
             Form::DollarDouble => outside!("$\""),
             Form::DollarBracket => outside!("$["),
             Form::Backquoted => outside!("a backquoted substitution"),
+            Form::BackslashInBackquotes => outside!("a backslash in a backquoted substitution"),
+            Form::BackquoteInside => outside!("a backquote inside a backquoted substitution"),
             Form::Braced => outside!("this braced form"),
             Form::QuotedInDefault => outside!("a double quote in a quoted default"),
             Form::BackslashInDefault => outside!("a backslash before } in a quoted default"),

@@ -1,5 +1,5 @@
 //! The text of words that hold no expansion.
-ghost use Rattle.std.specs.Prelude.{◌≡◌, if◌then◌else◌, Some, None, IfOk, option_map};
+ghost use Rattle.std.specs.Prelude.{◌≡◌, ◌++◌, if◌then◌else◌, Some, None, IfOk, option_map};
 ghost use Rattle.std.specs.List.{list_any};
 ghost use Rattle.sh_tree.specs.standard.Words as words;
 ghost use Rattle.sh_tree.specs.standard.Words.{both_texts};
@@ -74,13 +74,51 @@ fn push_part(part: &Part, script: &[u8], text: &mut Vec<u8>) -> Result<bool, All
             text.extend_from_slice(between_ends(span.text(script)))?;
             Ok(true)
         }
+        Part::Single(SingleStyle::Dollar, span) => {
+            push_escaped(between_ends(behind_first(span.text(script))), text)?;
+            Ok(true)
+        }
         Part::Double(_, parts) => push_parts(parts.as_slice(), script, text),
         Part::Joined(_) => Ok(true),
-        Part::Single(SingleStyle::Dollar, _)
-        | Part::Param(_)
-        | Part::Arith(_, _)
-        | Part::Command(_, _, _)
-        | Part::Tilde(_) => Ok(false),
+        Part::Param(_) | Part::Arith(_, _) | Part::Command(_, _, _) | Part::Tilde(_) => Ok(false),
+    }
+}
+
+/// Adds what stands between `$'` and `'`, with one byte for each escape.
+fn push_escaped(inner: &[u8], text: &mut Vec<u8>) -> Result<(), AllocError>
+    ensures { IfOk result (λ done. text.new.items ≡ text.old.items ++ words.escaped inner.now) }
+{
+    let mut rest = inner;
+    while let [first, behind @ ..] = rest {
+        match behind {
+            [second, others @ ..] if *first == b'\\' => {
+                text.push(escape_of(*second))?;
+                rest = others;
+            }
+            _ => {
+                text.push(*first)?;
+                rest = behind;
+            }
+        }
+    }
+    Ok(())
+}
+
+/// What a backslash in `$'` and the byte behind it are (XCU 2.2.4).
+#[tactic(auto, unfolding(crate::specs::standard::Words::escape_of))]
+fn escape_of(letter: u8) -> u8
+    ensures { result ≡ words.escape_of letter }
+{
+    match letter {
+        b'a' => 0x07,
+        b'b' => 0x08,
+        b'e' => 0x1b,
+        b'f' => 0x0c,
+        b'n' => b'\n',
+        b'r' => b'\r',
+        b't' => b'\t',
+        b'v' => 0x0b,
+        _ => letter,
     }
 }
 

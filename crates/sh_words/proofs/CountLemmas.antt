@@ -56,7 +56,7 @@ module _ (b : List ℕ) (limit : ℕ) (g : Around) (u : Spot) (ps : List Part) w
   rest_count m focus.Conditional h fs s r = le_trans (conditional_count r.3) (then_count (context_in h) fs (one r.2) r.1 r.4)
   rest_count m (focus.Level l) h fs s r = le_trans (level_count r.3) (then_count (context_in h) fs (one r.2) r.1 r.4)
   rest_count m (focus.Have e) h fs s r = then_count (context_in h) fs (one e) s r.1
-  rest_count m (focus.Commands start) h fs s r = absurd r
+  rest_count m (focus.Commands start style) h fs s r = absurd r
 
   -- what is left of a word ends behind no fewer commands than came before
   pub left_count : (w : WordBuilder) → Left b w limit g u ps → g.count ≤ u.count

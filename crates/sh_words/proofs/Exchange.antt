@@ -45,12 +45,12 @@ steps_alike b old other new (Ok (Some (Done w))) a s = (
     back = λ g. a.back g _ _ (s.2.back g);
   },
 )
-steps_alike b old other new (Ok (Some (Inner at depth))) a s = (
+steps_alike b old other new (Ok (Some (Inner at depth style quoted))) a s = (
   s.0,
   s.1,
   record {
     forth = λ limit g u ps l. s.2.forth limit g u ps (a.forth limit g u ps l);
-    back = λ g u ps v t read close l. a.back g u ps (s.2.back g u ps v t read close l);
+    back = λ g u ps v t read close keeps l. a.back g u ps (s.2.back g u ps v t read close keeps l);
   },
 )
 steps_alike b old other new (Err e) a s = refuses_alike b old other e a s

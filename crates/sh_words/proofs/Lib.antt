@@ -1,4 +1,5 @@
 pub mod Exchange
+pub mod EndLemmas
 pub mod FaultLemmas
 pub mod BadLemmas
 pub mod PartLemmas

@@ -96,7 +96,7 @@ part_stays r.length_value = refl
 part_stays (r.use_word l h) = refl
 part_stays (r.removal l h) = refl
 part_stays (r.arithmetic l h c d) = refl
-part_stays (r.substitution l h c) = refl
+part_stays (r.substitution l k h c) = refl
 
 unary_stays : {limit : ℕ} {b : List ℕ} {x : Context} {g : Figure} {s u : Spot} {e : Expr} → ReadsUnary limit b x g s u e → u ≡ behind u.at u s
 unary_stays r.constant = refl

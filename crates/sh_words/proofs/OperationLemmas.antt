@@ -208,7 +208,7 @@ module _ (b : List ℕ) (w : WordBuilder) (e : Expr) where
 
   module _ (f : Operation) (sound : IsSound b (framed w (frame.Operation f) (focus.Have e))) where
     had_goes : (depth end : ℕ) (d : Expr) → w.base ≤ depth → depth ≤ 64 → w.at ≤ end → end ≤ length b → Goes f (had w depth d end)
-    had_goes depth end d base limit after inside = ((after, inside, (refl, refl, refl, refl)), (base, limit, tt, sound.3, sound.4.1), omega arith)
+    had_goes depth end d base limit after inside = ((after, inside, (refl, refl, refl, refl, refl)), (base, limit, tt, sound.3, sound.4.1), omega arith)
 
     module _ (l : Lexeme) (is : IsLexeme b w.at l) where
       same_goes : (depth : ℕ) (d : Expr) → w.base ≤ depth → depth ≤ 64 → Goes f (had w depth d w.at)
@@ -224,7 +224,7 @@ module _ (b : List ℕ) (w : WordBuilder) (e : Expr) where
           let after : w.at ≤ l.start = is.1 in
           let moves : l.start < l.end = is.5 reads in
           let inside : l.end ≤ length b = is.3 in
-          ((omega arith, inside, (refl, refl, refl, refl)), (sound.0, sound.1, fits, sound.3, (operated, sound.4.1)), omega arith)
+          ((omega arith, inside, (refl, refl, refl, refl, refl)), (sound.0, sound.1, fits, sound.3, (operated, sound.4.1)), omega arith)
 
       first_goes : (level : ℕ) (o : Option Binary) → level < unary_level → binary_of level l.figure ≡ o → Goes f (first_by w level e l o)
       first_goes level None lt which = same_goes w.depth e sound.0 sound.1
@@ -356,7 +356,7 @@ expansion_moves b w fs h depth start o e l new (Ok None) is q =
     let after : w.at ≤ l.start = is.1 in
     let forward : l.start ≤ l.end = is.2 in
     let inside : l.end < length b = closed_inside b l.end q.0.2 in
-    subst (λ v. StepMoves b w v (Ok None)) (sym q.1) (omega arith, omega arith, (refl, refl, refl, refl))
+    subst (λ v. StepMoves b w v (Ok None)) (sym q.1) (omega arith, omega arith, (refl, refl, refl, refl, refl))
 expansion_moves b w fs h depth start o e l new (Ok (Some n)) is q = absurd q
 expansion_moves b w fs h depth start o e l new (Err f) is q = tt
 

@@ -4,7 +4,8 @@ use mathlib.Core.Path.{fun_ext}
 use Rattle.std.proofs.lemmas.Bool.{true≢false}
 use Rattle.std.proofs.lemmas.List.{append-nil, append_assoc}
 use Rattle.sh_tree.specs.declared.refusal.Refusal.TheVariants.{Syntax, TooDeep, Memory}
-use Rattle.sh_tree.specs.declared.tree.CommandStyle.TheVariants.{Paren}
+use Rattle.sh_tree.specs.declared.tree.CommandStyle.{CommandStyle}
+use Rattle.sh_tree.specs.declared.tree.CommandStyle.TheVariants.{Backquote}
 use Rattle.sh_tree.specs.declared.tree.Expr.TheVariants as expr
 use Rattle.sh_tree.specs.declared.tree.ParameterOperator.TheVariants as operator
 use Rattle.sh_tree.specs.declared.tree.Part.{Part}
@@ -22,7 +23,7 @@ use Rattle.sh_tree.specs.standard.language.Reading as r
 use Rattle.sh_tree.specs.standard.language.Reading.{ReadsParts, ReadsPart, prior_of, sign_at, after, over}
 use Rattle.sh_tree.specs.standard.language.States.{Spot, to, behind}
 use Rattle.sh_tree.specs.standard.language.Trees.{span, word, param}
-use Rattle.sh_tree.specs.standard.language.Words.{token, in_double, in_use, in_removal, in_arithmetic}
+use Rattle.sh_tree.specs.standard.language.Words.{token, is_quoted, in_double, in_use, in_removal, in_arithmetic}
 use Rattle.sh_scan.specs.Moves.{reads_bytes}
 use Rattle.sh_tree.proofs.Inversions.{PartIs, part_is, stopped, some_one}
 use Rattle.sh_words.specs.declared.mode.Mode.{Mode}
@@ -45,6 +46,7 @@ use Rattle.sh_words.specs.Signs.{is_part, is_stop, is_substitution}
 use Rattle.sh_words.specs.Sound.{Deep, turns_left, work, StepWorks, Takes, TakesParts}
 use Rattle.sh_words.specs.States.{context_in, prior_in, found_in, held, holding, whole_part, opening_of, nests, level_start, made, given, focus_in, opened, asking, focused, skipped, ended}
 use Rattle.sh_words.specs.Steps.{Opens, Asked, Closes}
+use Rattle.sh_words.proofs.EndLemmas.{nothing_closes}
 use Rattle.sh_words.proofs.Exchange.{Alike}
 
 -- What is left around a part does not depend on how many commands began before it
@@ -100,7 +102,7 @@ unfolding whole_part
 whole_is limit b x sign.Plain i v e p q h is = (is.0, is.1 ∙ some_one h)
 whole_is limit b x sign.Escaped i v e p q h is = (is.0, is.1 ∙ some_one h)
 whole_is limit b x sign.Joined i v e p q h is = (is.0, is.1 ∙ some_one h)
-whole_is limit b x sign.Single i v e p q h is = (is.0, is.1 ∙ some_one h)
+whole_is limit b x (sign.Single style) i v e p q h is = (is.0, is.1 ∙ some_one h)
 whole_is limit b x sign.Tilde i v e p q h is = (is.0, is.1 ∙ some_one h)
 whole_is limit b x (sign.Value f) i v e p q h is = (is.0, is.1 ∙ some_one h)
 whole_is limit b x (sign.Length f) i v e p q h is = (is.0, is.1 ∙ some_one h)
@@ -111,7 +113,7 @@ unfolding whole_part
 whole_reads limit b x sign.Plain i e p h = subst (λ q. ReadsPart limit b x sign.Plain i e (to e i) q) (some_one h) r.plain
 whole_reads limit b x sign.Escaped i e p h = subst (λ q. ReadsPart limit b x sign.Escaped i e (to e i) q) (some_one h) r.escaped
 whole_reads limit b x sign.Joined i e p h = subst (λ q. ReadsPart limit b x sign.Joined i e (to e i) q) (some_one h) r.joined
-whole_reads limit b x sign.Single i e p h = subst (λ q. ReadsPart limit b x sign.Single i e (to e i) q) (some_one h) r.single_quoted
+whole_reads limit b x (sign.Single style) i e p h = subst (λ q. ReadsPart limit b x (sign.Single style) i e (to e i) q) (some_one h) r.single_quoted
 whole_reads limit b x sign.Tilde i e p h = subst (λ q. ReadsPart limit b x sign.Tilde i e (to e i) q) (some_one h) r.tilde
 whole_reads limit b x (sign.Value f) i e p h = subst (λ q. ReadsPart limit b x (sign.Value f) i e (to e i) q) (some_one h) r.value
 whole_reads limit b x (sign.Length f) i e p h = subst (λ q. ReadsPart limit b x (sign.Length f) i e (to e i) q) (some_one h) r.length_value
@@ -139,7 +141,7 @@ unfolding whole_part
 whole_moves sign.Plain start end p h = refl
 whole_moves sign.Escaped start end p h = refl
 whole_moves sign.Joined start end p h = refl
-whole_moves sign.Single start end p h = refl
+whole_moves (sign.Single style) start end p h = refl
 whole_moves sign.Tilde start end p h = refl
 whole_moves (sign.Value f) start end p h = refl
 whole_moves (sign.Length f) start end p h = refl
@@ -288,14 +290,15 @@ pub opening_takes : (b : List ℕ) (w new : WordBuilder) (s : Sign) (start end :
 opening_takes b w new s start end o x (Ok None) moves h a =
     subst (λ v. start < v.at) (sym a.1) (moves (opening_moves (context_in w.holder) x s end o h))
 opening_takes b w new s start end o x (Ok (Some (Done t))) moves h a = a
-opening_takes b w new s start end o x (Ok (Some (Inner at depth))) moves h a = tt
+opening_takes b w new s start end o x (Ok (Some (Inner at depth style quoted))) moves h a = tt
 opening_takes b w new s start end o x (Err e) moves h a = tt
 
 -- Commands
 
-asks : (b : List ℕ) (w : WordBuilder) (start end : ℕ) → w.depth < 64 → Asks b (LeftPart b w sign.Substitution start end) (asking w start end) start end (w.depth + 1)
+asks : (b : List ℕ) (w : WordBuilder) (style : CommandStyle) (start end : ℕ) → w.depth < 64
+    → Asks b (LeftPart b w (sign.Substitution style) start end) (asking w style start end) start end (w.depth + 1) style (is_quoted (context_in w.holder).site)
 unfolding Left LeftPart
-asks b w start end below = record {
+asks b w style start end below = record {
   forth = λ limit g u ps l.
       let is = part_is l.2 in
       let K = λ (y : Read) (j : Spot). Then b limit g (context_in w.holder) w.frames y j u ps in
@@ -305,36 +308,40 @@ asks b w start end below = record {
         omega arith,
         is.5,
         is.6,
-        held_left b limit g is.0.count w.mode w.holder 0 (part.Command Paren (span start (is.0.at + 1)) is.1) w.frames (placed g w.depth (is.0.at + 1) is.0) u ps
+        is.7,
+        held_left b limit g is.0.count w.mode w.holder 0 (part.Command style (span start (is.0.at + 1)) is.1) w.frames (placed g w.depth (is.0.at + 1) is.0) u ps
             (moved b limit g w.holder K refl is.3 is.2 l.3),
       );
-  back = λ g u ps v t reads closed l. (
+  back = λ g u ps v t reads closed keeps l. (
     behind (v.at + 1) v (spot g w.depth start),
-    part.Command Paren (span start (v.at + 1)) t,
-    r.substitution below reads closed,
-    left_held b 64 g v.count w.mode w.holder 0 (part.Command Paren (span start (v.at + 1)) t) w.frames (placed g w.depth (v.at + 1) v) u ps l,
+    part.Command style (span start (v.at + 1)) t,
+    r.substitution below keeps reads closed,
+    left_held b 64 g v.count w.mode w.holder 0 (part.Command style (span start (v.at + 1)) t) w.frames (placed g w.depth (v.at + 1) v) u ps l,
   );
 }
 
-ask_steps : (b : List ℕ) (w new : WordBuilder) (start end : ℕ) (res : Result (Option Next) Refusal) → start ≤ length b → Asked w start end new res
-    → Steps b (LeftPart b w sign.Substitution start end) new res
+pub ask_steps : (b : List ℕ) (w new : WordBuilder) (style : CommandStyle) (start end : ℕ) (res : Result (Option Next) Refusal) → start ≤ length b → Asked w style start end new res
+    → Steps b (LeftPart b w (sign.Substitution style) start end) new res
 unfolding LeftPart
-ask_steps b w new start end (Ok (Some (Inner at depth))) inside a =
-    let old = LeftPart b w sign.Substitution start end in
-    let asked = asks b w start end a.0 in
-    let here = subst (λ i. Asks b old (asking w start end) start i (w.depth + 1)) (sym a.1) asked in
-    let deep = subst (λ n. Asks b old (asking w start end) start at n) (sym a.2) here in
-    (start, ap (λ v. v.focus) a.3, subst (λ v. Asks b old v start at depth) (sym a.3) deep)
-ask_steps b w new start end (Err (TooDeep at)) inside a = (
+ask_steps b w new style start end (Ok (Some (Inner at depth kind quoted))) inside a =
+    let old = LeftPart b w (sign.Substitution style) start end in
+    let q = is_quoted (context_in w.holder).site in
+    let asked = asks b w style start end a.0 in
+    let here = subst (λ i. Asks b old (asking w style start end) start i (w.depth + 1) style q) (sym a.1) asked in
+    let deep = subst (λ n. Asks b old (asking w style start end) start at n style q) (sym a.2) here in
+    let kinds = subst (λ k. Asks b old (asking w style start end) start at depth k q) (sym a.3) deep in
+    let said = subst (λ k. Asks b old (asking w style start end) start at depth kind k) (sym a.4) kinds in
+    (start, ap (λ v. v.focus) a.5 ∙ ap (focus.Commands start) (sym a.3), subst (λ v. Asks b old v start at depth kind quoted) (sym a.5) said)
+ask_steps b w new style start end (Err (TooDeep at)) inside a = (
   subst (λ i. i ≤ length b) (sym a.1) inside,
   λ g u ps l. let is = part_is l.2 in let below : w.depth < 64 = is.4 in let deep : 64 ≤ w.depth = a.0 in absurd (omega arith),
 )
-ask_steps b w new start end _ inside a = absurd a
+ask_steps b w new style start end _ inside a = absurd a
 
-pub substitution_steps : (b : List ℕ) (w new : WordBuilder) (s : Sign) (start end : ℕ) (res : Result (Option Next) Refusal) → is_substitution s ≡ true → start ≤ length b
-    → Asked w start end new res → Steps b (LeftPart b w s start end) new res
-substitution_steps b w new sign.Substitution start end res h inside a = ask_steps b w new start end res inside a
-substitution_steps b w new _ start end res h inside a = absurd (true≢false (sym h))
+-- no commands begin behind the last byte of a text and end with a backquote of it
+pub unclosed_left : (b : List ℕ) (w : WordBuilder) (start end : ℕ) → length b ≤ end → Never (LeftPart b w (sign.Substitution Backquote) start end)
+unfolding LeftPart
+unclosed_left b w start end beyond limit g u ps l = let is = part_is l.2 in nothing_closes limit b g.body (spot g w.depth start) is.0 is.1 end beyond is.5 is.6
 
 -- No part
 
@@ -346,7 +353,7 @@ not_read limit b x sign.Tabs i v e p h k n is = is
 not_read limit b x sign.Open i v e p h k n is = is
 not_read limit b x (sign.Fault f) i v e p h k n is = is
 not_read limit b x (sign.LeftOut f) i v e p h k n is = is
-not_read limit b x sign.Substitution i v e p h k n is = true≢false n
+not_read limit b x (sign.Substitution style) i v e p h k n is = true≢false n
 not_read limit b x _ i v e p h k n is = cc
 
 pub no_part_left : (b : List ℕ) (w : WordBuilder) (s : Sign) (start end : ℕ) → whole_part s start end ≡ None → opening_of (context_in w.holder) s end ≡ None
@@ -503,5 +510,5 @@ start_keeps b w frames =
 pub part_takes : (b : List ℕ) (w new : WordBuilder) (res : Result (Option Next) Refusal) → Takes b w.at new res → TakesParts b w new res
 part_takes b w new (Ok None) t = λ e. t
 part_takes b w new (Ok (Some (Done v))) t = absurd t
-part_takes b w new (Ok (Some (Inner at depth))) t = tt
+part_takes b w new (Ok (Some (Inner at depth style quoted))) t = tt
 part_takes b w new (Err e) t = tt

@@ -1,6 +1,6 @@
 -- What a caller sees of a builder: what it reads, how far it is, what it has refused.
 -- POSIX.1-2024, XCU 2.6 (word expansions).
-use Rattle.std.specs.Prelude.{◌≡◌, ◌≤◌, ℕ, List, length, Option, None}
+use Rattle.std.specs.Prelude.{◌≡◌, ◌≤◌, ℕ, Bool, List, length, Option, None}
 use Rattle.sh_tree.specs.declared.refusal.Refusal.{Refusal}
 use Rattle.sh_words.specs.declared.mode.Mode.{Mode}
 use Rattle.sh_words.specs.declared.frames.Focus.TheVariants as focus
@@ -26,6 +26,10 @@ text_of b w = seen b w.mode
 -- what it has refused, and answers again
 abbrev pub refused : WordBuilder → Option Refusal
 refused w = w.failed
+
+-- whether the text ends with the backquote around the word, and whether that substitution stands in double quotes
+abbrev pub inside_of : WordBuilder → Option Bool
+inside_of w = w.inside
 
 -- nothing was refused
 abbrev pub Goes : WordBuilder → Type 0

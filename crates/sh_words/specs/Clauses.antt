@@ -1,14 +1,15 @@
 -- What a builder promises, by what is left of the word before and behind a step.
 -- POSIX.1-2024, XCU 2.6 (word expansions): a word is read in one way or in none.
-use Rattle.std.specs.Prelude.{◌≡◌, ◌<◌, ◌≤◌, ℕ, ◌+◌, true, List, length, Option, Some, None, Result, Ok, Err}
+use Rattle.std.specs.Prelude.{◌≡◌, ◌<◌, ◌≤◌, ℕ, ◌+◌, Bool, true, List, length, Option, Some, None, Result, Ok, Err}
+use Rattle.sh_tree.specs.declared.tree.CommandStyle.{CommandStyle}
 use Rattle.sh_tree.specs.declared.tree.Part.{Part}
 use Rattle.sh_tree.specs.declared.tree.Script.{Script}
 use Rattle.sh_tree.specs.declared.refusal.Refusal.{Refusal}
 use Rattle.sh_tree.specs.declared.refusal.Refusal.TheVariants.{TooLong, NulByte, Syntax, LeftOut, TooDeep, TooMany, Memory, Profile, CertSyntax, CertShape}
-use Rattle.sh_tree.specs.standard.language.Arithmetic.{is_closed}
 use Rattle.sh_tree.specs.standard.language.Commands.{blanks}
 use Rattle.sh_tree.specs.standard.language.Reading.{ReadsScript}
 use Rattle.sh_tree.specs.standard.language.States.{Spot}
+use Rattle.sh_tree.specs.standard.language.Substitutions.{commands_text, closes, keeps_backslashes}
 use Rattle.sh_tree.specs.standard.language.Trees.{word}
 use Rattle.sh_words.specs.declared.builder.WordBuilder.{WordBuilder}
 use Rattle.sh_words.specs.declared.builder.Next.{Next}
@@ -31,13 +32,19 @@ pub record Ends (old : Leftover) (depth end : ℕ) (found : List Part) : Type 0 
 abbrev pub after_commands : Around → Spot → Around
 after_commands g v = record g { count = v.count }
 
--- commands come next, `at` being behind their `$(`, and the words left are those that go on behind them
-pub record Asks (b : List ℕ) (old : Leftover) (new : WordBuilder) (start at depth : ℕ) : Type 0 where
+-- the spot of the first token of the commands that begin at `at`, in the text that they are read in
+abbrev pub commands_spot : List ℕ → Around → CommandStyle → ℕ → ℕ → Spot
+commands_spot b g style at depth = spot g depth (blanks g.body (commands_text style b at) at)
+
+-- Commands come next, `at` being after their `$(` or their backquote, and the words left are those that go on behind them.
+pub record Asks (b : List ℕ) (old : Leftover) (new : WordBuilder) (start at depth : ℕ) (style : CommandStyle) (quoted : Bool) : Type 0 where
   pub forth : (limit : ℕ) (g : Around) (u : Spot) (ps : List Part) → old limit g u ps
-      → (v : Spot) × (s : Script) × (depth ≤ limit) × ReadsScript limit b (spot g depth (blanks g.body b at)) v s × (is_closed b v.at ≡ true)
-      × Left b (fed new start s (v.at + 1)) limit (after_commands g v) u ps
-  pub back : (g : Around) (u : Spot) (ps : List Part) (v : Spot) (s : Script) → ReadsScript 64 b (spot g depth (blanks g.body b at)) v s → is_closed b v.at ≡ true
-      → Left b (fed new start s (v.at + 1)) 64 (after_commands g v) u ps → old 64 g u ps
+      → (v : Spot) × (s : Script) × (depth ≤ limit) × ReadsScript limit (commands_text style b at) (commands_spot b g style at depth) v s
+      × (closes style (commands_text style b at) v.at ≡ true) × (keeps_backslashes style quoted b at ≡ true)
+      × Left b (fed new start style s (v.at + 1)) limit (after_commands g v) u ps
+  pub back : (g : Around) (u : Spot) (ps : List Part) (v : Spot) (s : Script) → ReadsScript 64 (commands_text style b at) (commands_spot b g style at depth) v s
+      → closes style (commands_text style b at) v.at ≡ true → keeps_backslashes style quoted b at ≡ true
+      → Left b (fed new start style s (v.at + 1)) 64 (after_commands g v) u ps → old 64 g u ps
 
 -- no word is left, at any limit
 abbrev pub Never : Leftover → Type 0
@@ -61,12 +68,12 @@ Refuses b old (CertSyntax n) = ⊥
 Refuses b old CertShape = ⊥
 
 -- the builder waits for the commands of the substitution at `start`
-abbrev pub Waits : WordBuilder → ℕ → Type 0
-Waits w start = w.focus ≡ focus.Commands start
+abbrev pub Waits : WordBuilder → ℕ → CommandStyle → Type 0
+Waits w start style = w.focus ≡ focus.Commands start style
 
 abbrev pub Answers : List ℕ → Leftover → WordBuilder → Next → Type 0
 Answers b old new (Done w) = (ps : List Part) × (w ≡ word new.begin new.at ps) × Ends old new.depth new.at ps
-Answers b old new (Inner at depth) = (start : ℕ) × Waits new start × Asks b old new start at depth
+Answers b old new (Inner at depth style quoted) = (start : ℕ) × Waits new start style × Asks b old new start at depth style quoted
 
 abbrev pub Runs : List ℕ → Leftover → WordBuilder → Result Next Refusal → Type 0
 Runs b old new (Ok next) = Answers b old new next

@@ -1,14 +1,20 @@
 -- What is told where a word cannot go on.
--- POSIX.1-2024, XCU 2.2 (quoting), 2.6 (word expansions), 2.6.4 (arithmetic expansion).
-use Rattle.std.specs.Prelude.{ℕ, ◌<◌, ◌≤◌, List, ◌∷◌, length}
+-- POSIX.1-2024, XCU 2.2 (quoting), 2.6 (word expansions), 2.6.3 (command substitution), 2.6.4 (arithmetic expansion).
+use Rattle.std.specs.Prelude.{◌≡◌, ℕ, ◌-◌, ◌<◌, ◌≤◌, nat_le, Bool, true, false, ◌&&◌, ◌||◌, if◌then◌else◌, List, ◌∷◌, length, take, Option, is_some}
 use Rattle.sh_tree.specs.declared.refusal.Fault.{Fault}
 use Rattle.sh_tree.specs.declared.refusal.Fault.TheVariants as fault
+use Rattle.sh_tree.specs.declared.refusal.Form.{Form}
+use Rattle.sh_tree.specs.declared.refusal.Form.TheVariants as form
 use Rattle.sh_tree.specs.declared.refusal.Refusal.{Refusal}
 use Rattle.sh_tree.specs.declared.refusal.Refusal.TheVariants.{Syntax, LeftOut}
 use Rattle.sh_tree.specs.declared.token.word.Sign.{Sign}
 use Rattle.sh_tree.specs.declared.token.word.Sign.TheVariants as sign
 use Rattle.sh_tree.specs.declared.token.arithmetic.Figure.{Figure}
 use Rattle.sh_tree.specs.declared.token.arithmetic.Figure.TheVariants as figure
+use Rattle.sh_tree.specs.declared.tree.CommandStyle.TheVariants.{Backquote}
+use Rattle.sh_tree.specs.standard.language.Contexts.{in_word}
+use Rattle.sh_tree.specs.standard.language.Substitutions.{closes}
+use Rattle.sh_tree.specs.standard.language.Words.{token}
 use Rattle.sh_words.specs.declared.frames.Holder.{Holder}
 use Rattle.sh_words.specs.declared.frames.Holder.TheVariants as holder
 use Rattle.sh_words.specs.declared.frames.Opening.{Opening}
@@ -46,6 +52,37 @@ bad h figure.End i = Syntax fault.OpenArith (arithmetic_start h i)
 bad h (figure.LeftOut f) i = LeftOut f i
 bad h figure.FinalBackslash i = Syntax fault.FinalBackslash i
 bad h _ i = Syntax fault.BadArith i
+
+-- the fault is of something that the end of the text leaves open
+abbrev pub is_unclosed : Fault → Bool
+is_unclosed fault.OpenSingle = true
+is_unclosed fault.OpenDouble = true
+is_unclosed fault.OpenBraced = true
+is_unclosed fault.OpenArith = true
+is_unclosed _ = false
+
+-- the sign is of a braced expansion that the text does not end
+abbrev pub is_unended : Sign → Bool
+is_unended (sign.Fault fault.OpenBraced) = true
+is_unended _ = false
+
+abbrev pub is_braced : Form → Bool
+is_braced form.Braced = true
+is_braced _ = false
+
+-- Something is open before the backquote at i, which ends the text, or is refused there.
+unfoldable pub is_met : List ℕ → ℕ → Refusal → Bool
+is_met b i (Syntax f at) = is_unclosed f || nat_le i at
+is_met b i (LeftOut f at) = nat_le i at || (is_braced f && is_unended (token (take i b) (in_word at) 0 at).sign)
+is_met b i _ = false
+
+-- What is reported of a refusal: the backquote that closes the commands around the word, if something is open before it.
+unfoldable pub reported : Option Bool → List ℕ → Refusal → Refusal
+reported inside b e =
+    if is_some inside && closes Backquote b (length b - 1) && is_met b (length b - 1) e then LeftOut form.BackquoteInside (length b - 1) else e
+
+abbrev pub IsReported : Option Bool → List ℕ → Refusal → Type 0
+IsReported inside b e = e ≡ reported inside b e
 
 -- a fault of syntax or a form that is left out, at its place in the text
 abbrev pub IsFault : List ℕ → Refusal → Type 0

@@ -113,7 +113,7 @@ module _ (b : List ℕ) (limit : ℕ) (g : Around) where
   Rest m focus.Conditional h fs s u ps = IsOperand h × (v : Spot) × (e : Expr) × ReadsConditional limit b (context_in h) s v e × Then (context_in h) fs (one e) v u ps
   Rest m (focus.Level l) h fs s u ps = IsOperand h × (v : Spot) × (e : Expr) × ReadsLevel limit b (context_in h) l s v e × Then (context_in h) fs (one e) v u ps
   Rest m (focus.Have e) h fs s u ps = IsOperand h × Then (context_in h) fs (one e) s u ps
-  Rest m (focus.Commands start) h fs s u ps = ⊥
+  Rest m (focus.Commands start style) h fs s u ps = ⊥
 
 -- What is left of a word: at a limit, with what is around, its end and its parts
 abbrev pub Leftover : Type 1

@@ -17,7 +17,7 @@ is_stop sign.Stop = true
 is_stop _ = false
 
 abbrev pub is_substitution : Sign → Bool
-is_substitution sign.Substitution = true
+is_substitution (sign.Substitution style) = true
 is_substitution _ = false
 
 -- the token stands from `start` on in the text

@@ -46,7 +46,7 @@ module _ (b : List ℕ) where
   abbrev pub Fits : Focus → List Frame → Type 0
   Fits (focus.Level l) fs = l ≤ unary_level
   Fits focus.Start fs = fs ≡ []
-  Fits (focus.Commands start) fs = start ≤ length b
+  Fits (focus.Commands start style) fs = start ≤ length b
   Fits _ fs = Unit {0}
 
   abbrev pub IsSound : WordBuilder → Type 0
@@ -65,13 +65,13 @@ module _ (b : List ℕ) where
   work w = 32 * (length b - w.at) + length w.frames + turns_left w.focus
 
   abbrev pub Same : WordBuilder → WordBuilder → Type 0
-  Same old new = (new.mode ≡ old.mode) × (new.begin ≡ old.begin) × (new.base ≡ old.base) × (new.failed ≡ old.failed)
+  Same old new = (new.mode ≡ old.mode) × (new.begin ≡ old.begin) × (new.base ≡ old.base) × (new.failed ≡ old.failed) × (new.inside ≡ old.inside)
 
   -- one turn of the builder
   abbrev pub StepMoves : WordBuilder → WordBuilder → Result (Option Next) Refusal → Type 0
   StepMoves old new (Ok None) = (old.at ≤ new.at) × (new.at ≤ length b) × Same old new
   StepMoves old new (Ok (Some (Done w))) = (old.at ≤ new.at) × (new.at ≤ length b) × Same old new
-  StepMoves old new (Ok (Some (Inner at depth))) = (old.at < new.at) × (new.at ≤ length b) × (new.at ≡ at) × (old.base < depth) × (depth ≤ 64) × Same old new
+  StepMoves old new (Ok (Some (Inner at depth style quoted))) = (old.at < new.at) × (new.at ≤ length b) × (new.at ≡ at) × (old.base < depth) × (depth ≤ 64) × Same old new
   StepMoves old new (Err e) = Unit {0}
 
   abbrev pub StepSound : Result (Option Next) Refusal → WordBuilder → Type 0
@@ -106,5 +106,5 @@ module _ (b : List ℕ) where
   -- the builder reads on, up to an answer
   abbrev pub RunMoves : WordBuilder → WordBuilder → Result Next Refusal → Type 0
   RunMoves old new (Ok (Done w)) = (old.at ≤ new.at) × (new.at ≤ length b) × Same old new × IsSound new
-  RunMoves old new (Ok (Inner at depth)) = (old.at < new.at) × (new.at ≤ length b) × (new.at ≡ at) × (old.base < depth) × (depth ≤ 64) × Same old new × IsSound new
+  RunMoves old new (Ok (Inner at depth style quoted)) = (old.at < new.at) × (new.at ≤ length b) × (new.at ≡ at) × (old.base < depth) × (depth ≤ 64) × Same old new × IsSound new
   RunMoves old new (Err e) = Unit {0}

@@ -4,8 +4,7 @@ use Rattle.std.specs.Prelude.{ℕ, ◌+◌, ◌-◌, ◌∷◌, ◌++◌, Bool, 
 use Rattle.sh_tree.specs.declared.tree.Script.{Script}
 use Rattle.sh_tree.specs.declared.tree.Part.{Part}
 use Rattle.sh_tree.specs.declared.tree.Part.TheVariants as part
-use Rattle.sh_tree.specs.declared.tree.SingleStyle.TheVariants as single
-use Rattle.sh_tree.specs.declared.tree.CommandStyle.TheVariants.{Paren}
+use Rattle.sh_tree.specs.declared.tree.CommandStyle.{CommandStyle}
 use Rattle.sh_tree.specs.declared.tree.ParameterOperator.TheVariants as operator
 use Rattle.sh_tree.specs.declared.tree.Expr.{Expr}
 use Rattle.sh_tree.specs.declared.tree.Expr.TheVariants as expr
@@ -58,7 +57,7 @@ unfoldable pub whole_part : Sign → ℕ → ℕ → Option Part
 whole_part sign.Plain i j = Some (part.Plain (span i j))
 whole_part sign.Escaped i j = Some (part.Escaped (span i j))
 whole_part sign.Joined i j = Some (part.Joined (span i j))
-whole_part sign.Single i j = Some (part.Single single.Plain (span i j))
+whole_part (sign.Single style) i j = Some (part.Single style (span i j))
 whole_part sign.Tilde i j = Some (part.Tilde (span i j))
 whole_part (sign.Value p) i j = Some (param i j p operator.Value)
 whole_part (sign.Length p) i j = Some (param i j p operator.Length)
@@ -109,8 +108,8 @@ abbrev pub given : WordBuilder → ℕ → Part → ℕ → WordBuilder
 given w next p end = record w { holder = held w.holder next p; focus = holding w.holder p; at = end }
 
 -- the commands of the substitution at `start` are handed back
-abbrev pub fed : WordBuilder → ℕ → Script → ℕ → WordBuilder
-fed w start s end = given w 0 (part.Command Paren (span start end) s) end
+abbrev pub fed : WordBuilder → ℕ → CommandStyle → Script → ℕ → WordBuilder
+fed w start style s end = given w 0 (part.Command style (span start end) s) end
 
 -- the expression was read, up to `end`
 abbrev pub had : WordBuilder → ℕ → Expr → ℕ → WordBuilder
@@ -130,8 +129,8 @@ opened w o x start inside =
     record w { frames = frame.Opened w.holder w.depth start inside o ∷ w.frames; holder = holder_in o x start; depth = depth_in o w.depth; focus = focus_in o; at = inside }
 
 -- the commands of the substitution at `start` are asked for
-abbrev pub asking : WordBuilder → ℕ → ℕ → WordBuilder
-asking w start end = record w { focus = focus.Commands start; at = end }
+abbrev pub asking : WordBuilder → CommandStyle → ℕ → ℕ → WordBuilder
+asking w style start end = record w { focus = focus.Commands start style; at = end }
 
 abbrev pub focused : WordBuilder → Focus → WordBuilder
 focused w x = record w { focus = x }

@@ -11,9 +11,11 @@ use Rattle.sh_words.specs.declared.builder.WordBuilder.{WordBuilder}
 use Rattle.sh_words.specs.declared.builder.Next.{Next}
 use Rattle.sh_words.specs.declared.builder.Next.TheVariants.{Inner}
 use Rattle.sh_tree.specs.declared.refusal.Fault.TheVariants.{BadArith}
+use Rattle.sh_tree.specs.declared.tree.CommandStyle.{CommandStyle}
 use Rattle.sh_tree.specs.declared.tree.Part.{Part}
+use Rattle.sh_tree.specs.standard.language.Words.{is_quoted}
 use Rattle.sh_words.specs.declared.frames.Holder.{Holder}
-use Rattle.sh_words.specs.States.{asking, opened, operating, nests, level_start, made, found_in, given}
+use Rattle.sh_words.specs.States.{context_in, asking, opened, operating, nests, level_start, made, found_in, given}
 
 -- the operation is entered, a level deeper, or the limit is met
 abbrev pub Enters : WordBuilder → Operation → Focus → ℕ → ℕ → WordBuilder → Result (Option Next) Refusal → Type 0
@@ -30,10 +32,11 @@ Opens old o x start inside new (Err Memory) = Unit {0}
 Opens old o x start inside new _ = ⊥
 
 -- the commands are asked for, or the limit is met
-abbrev pub Asked : WordBuilder → ℕ → ℕ → WordBuilder → Result (Option Next) Refusal → Type 0
-Asked old start end new (Ok (Some (Inner at depth))) = (old.depth < 64) × (at ≡ end) × (depth ≡ old.depth + 1) × (new ≡ asking old start end)
-Asked old start end new (Err (TooDeep at)) = (64 ≤ old.depth) × (at ≡ start)
-Asked old start end new _ = ⊥
+abbrev pub Asked : WordBuilder → CommandStyle → ℕ → ℕ → WordBuilder → Result (Option Next) Refusal → Type 0
+Asked old style start end new (Ok (Some (Inner at depth s quoted))) =
+    (old.depth < 64) × (at ≡ end) × (depth ≡ old.depth + 1) × (s ≡ style) × (quoted ≡ is_quoted (context_in old.holder).site) × (new ≡ asking old style start end)
+Asked old style start end new (Err (TooDeep at)) = (64 ≤ old.depth) × (at ≡ start)
+Asked old style start end new _ = ⊥
 
 -- the part that the opening makes of what is held is given to the holder around it
 abbrev pub Closes : WordBuilder → Holder → ℕ → ℕ → ℕ → Opening → ℕ → WordBuilder → Result (Option Next) Refusal → Type 0

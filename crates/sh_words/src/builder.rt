@@ -7,15 +7,18 @@ mod signs;
 mod state;
 mod tokens;
 
-ghost use Rattle.std.specs.Prelude.{◌≡◌, ◌≤◌, ℕ, List, None, Some, Ok, Err, length, IfErr, OnOk, MatchResult};
+ghost use Rattle.std.specs.Prelude.{◌≡◌, ◌≤◌, ℕ, List, None, Some, Ok, Err, length, IfErr, IfOk, OnOk, MatchResult};
 ghost use Rattle.sh_tree.specs.declared.refusal.Refusal as refusal;
-ghost use Rattle.sh_words.specs.Builders.{Goes, IsInside, IsSoundIn, refused, text_of};
+ghost use Rattle.sh_tree.specs.declared.tree.CommandStyle as style;
+ghost use Rattle.sh_words.specs.Builders.{Goes, IsInside, IsSoundIn, inside_of, refused, text_of};
 ghost use Rattle.sh_words.specs.Clauses.{Runs, Steps, Waits};
+ghost use Rattle.sh_words.specs.Faults.{IsReported};
 ghost use Rattle.sh_words.specs.Rest.{Left};
 ghost use Rattle.sh_words.specs.Sound.{IsSound, RunMoves, StepMoves, StepSound, StepWorks, TakesParts, TakesWord};
 ghost use Rattle.sh_words.specs.Starts.{IsStart};
 ghost use Rattle.sh_words.specs.States.{fed, started};
 
+use self::faults::reported;
 use crate::frames::{Focus, Frame, Holder};
 use crate::mode::Mode;
 use crate::stack::Stack;
@@ -29,9 +32,17 @@ use std::mem;
 pub enum Next {
     /// The word.
     Done(Word),
-    /// A command substitution: its commands are read from `at` on, behind its `$(`, where so many levels are open, up to the
-    /// `)` behind them, and handed back by `resume`.
-    Inner { at: u32, depth: u8 },
+    /// A command substitution (XCU 2.6.3). Its commands are read from `at` on, and handed back by `resume`.
+    Inner {
+        /// The offset after its `$(` or its backquote.
+        at: u32,
+        /// How many levels are open in it.
+        depth: u8,
+        /// What closes it: a `)`, or the next backquote, with which the text of its commands ends.
+        style: CommandStyle,
+        /// Whether it is read as in double quotes.
+        quoted: bool,
+    },
 }
 
 /// A word that is being read (XCU 2.2, 2.6).
@@ -48,17 +59,29 @@ pub struct WordBuilder {
     focus: Focus,
     holder: Holder,
     frames: Stack<Frame>,
+    /// As `start` has it.
+    inside: Option<bool>,
     failed: Option<Refusal>,
 }
 
 impl WordBuilder {
     /// A word of the mode that begins at `at`, where so many levels are open.
     ///
+    /// `inside` is `Some` in a text that ends with the backquote that closes the commands around the word. It has whether
+    /// these are in double quotes. If something is open before that backquote, `run` reports the backquote.
+    ///
     /// # Errors
     ///
     /// None: nothing grows yet.
-    pub fn start(alloc: Global, mode: Mode, depth: u8, at: u32) -> Result<WordBuilder, AllocError>
-        ensures { (w : WordBuilder) × (result ≡ Ok w) × IsStart w mode depth at }
+    pub fn start(
+        alloc: Global,
+        mode: Mode,
+        depth: u8,
+        at: u32,
+        inside: Option<bool>,
+    ) -> Result<WordBuilder, AllocError>
+        ensures starts { (w : WordBuilder) × (result ≡ Ok w) × IsStart w mode depth at }
+        ensures inside { IfOk result (λ w. inside_of w ≡ inside) }
     {
         Ok(WordBuilder {
             alloc,
@@ -74,6 +97,7 @@ impl WordBuilder {
                 parts: Items::new(alloc),
             },
             frames: Stack::new(alloc),
+            inside,
             failed: None,
         })
     }
@@ -84,6 +108,7 @@ impl WordBuilder {
     ///
     /// `Syntax` and `LeftOut` where no word of the mode stands there, whatever the commands in it are; `TooDeep` where none is
     /// within the limit; `Memory` where a growth was refused. After a refusal it answers the same one again.
+    /// If something is open before the backquote that closes the commands around, that backquote is `LeftOut`.
     pub fn run(&mut self, script: &[u8]) -> Result<Next, Refusal>
         requires small { length script.now ≤ MAX_SCRIPT }
         requires inside { Goes self.old → IsInside script.now self.old }
@@ -92,29 +117,32 @@ impl WordBuilder {
         ensures moves { RunMoves (text_of script.now self.old) self.old self.new result }
         ensures takes { TakesWord (text_of script.now self.old) self.old self.new result }
         ensures again { (e : refusal.Refusal) → refused self.old ≡ Some e → (result ≡ Err e) × (self.new ≡ self.old) }
+        ensures told { Goes self.old → IfErr result (IsReported (inside_of self.old) (text_of script.now self.old)) }
         ensures fails { IfErr result (λ e. refused self.new ≡ Some e) }
     {
         if let Some(refusal) = self.failed {
             return Err(refusal);
         }
+        let inside = self.inside;
         let seen = self.mode.seen(script);
         match self.advance(seen) {
             Ok(next) => Ok(next),
-            Err(refusal) => {
+            Err(found) => {
+                let refusal = reported(inside, seen, found);
                 self.failed = Some(refusal);
                 Err(refusal)
             }
         }
     }
 
-    /// Takes the commands that were asked for, which end before the `)` that ends at `end`.
+    /// Takes the commands that were asked for, which end before the `)` or the backquote that ends at `end`.
     ///
     /// # Errors
     ///
     /// `Memory` where a growth was refused, and what was refused before.
     pub fn resume(&mut self, inner: Script, end: u32) -> Result<(), Refusal>
-        requires asked { Goes self.old → (start : ℕ) × Waits self.old start }
-        ensures gives { (start : ℕ) → Waits self.old start → Goes self.old → MatchResult result (λ _. self.new ≡ fed self.old start inner end) (λ e. e ≡ Refusal.Memory) }
+        requires asked { Goes self.old → (start : ℕ) × (s : style.CommandStyle) × Waits self.old start s }
+        ensures gives { (start : ℕ) (s : style.CommandStyle) → Waits self.old start s → Goes self.old → MatchResult result (λ _. self.new ≡ fed self.old start s inner end) (λ e. e ≡ Refusal.Memory) }
         ensures again { (e : refusal.Refusal) → refused self.old ≡ Some e → (result ≡ Err e) × (self.new ≡ self.old) }
         ensures sound { (b : List ℕ) → end ≤ length b → IsSound b self.old → OnOk result (IsSound b self.new) }
         ensures fails { IfErr result (λ e. refused self.new ≡ Some e) }
@@ -122,11 +150,11 @@ impl WordBuilder {
         if let Some(refusal) = self.failed {
             return Err(refusal);
         }
-        let Focus::Commands(start) = &self.focus else {
+        let Focus::Commands(start, style) = &self.focus else {
             unreachable!()
         };
         let span = Span { start: *start, end };
-        let part = Part::Command(CommandStyle::Paren, span, inner);
+        let part = Part::Command(*style, span, inner);
         match self.give(0, part, end) {
             Ok(()) => Ok(()),
             Err(refusal) => {
@@ -176,7 +204,7 @@ impl WordBuilder {
             }
             Focus::Level(level) => self.level_step(script, level),
             Focus::Have(expr) => self.have_step(script, expr),
-            Focus::Commands(start) => Err(Refusal::Syntax(Fault::OpenSubstitution, start)),
+            Focus::Commands(start, _) => Err(Refusal::Syntax(Fault::OpenSubstitution, start)),
         }
     }
 }

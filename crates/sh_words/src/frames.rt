@@ -1,5 +1,7 @@
 //! What stands around the place where a word is read.
-use sh_tree::{Action, Binary, Context, Expr, Items, Part, Removal, Span, Subject, Unary};
+use sh_tree::{
+    Action, Binary, CommandStyle, Context, Expr, Items, Part, Removal, Span, Subject, Unary,
+};
 
 /// What takes the next part.
 #[derive(Drop)]
@@ -102,5 +104,5 @@ pub enum Focus {
     /// An expression was read.
     Have(Expr),
     /// The commands of the substitution at an offset come back.
-    Commands(u32),
+    Commands(u32, CommandStyle),
 }

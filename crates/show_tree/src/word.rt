@@ -1,11 +1,11 @@
-//! One word, from its begin to its end. Commands in it are not read: each substitution goes up to its first `)`.
+//! One word, from its begin to its end. Commands in it are not read: each substitution goes up to its first `)` or backquote.
 ghost use Rattle.std.specs.Prelude.{◌≡◌, ◌≤◌, true, length, IfOk};
 ghost use Rattle.sh_words.specs.Builders.{Goes, mode_of, position};
 ghost use Rattle.sh_words.specs.Modes.{seen};
 ghost use Rattle.sh_words.specs.Sound.{IsSound};
 
 use sh_show::push_word;
-use sh_tree::{Items, MAX_NESTING, MAX_SCRIPT, Script};
+use sh_tree::{CommandStyle, Items, MAX_NESTING, MAX_SCRIPT, Script};
 use sh_words::{Mode, Next, WordBuilder};
 use std::alloc::{AllocError, Global};
 
@@ -43,13 +43,18 @@ fn mode_of_word(place: Place, length: u32) -> Mode {
     }
 }
 
-/// Where the commands end that begin at `at`, and the `)` after them with them.
-fn closed(text: &[u8], at: u32) -> u32
+/// Where the commands end that begin at `at`, and what closes them with them.
+fn closed(text: &[u8], style: CommandStyle, at: u32) -> u32
     requires small { length text.now ≤ MAX_SCRIPT }
+    requires inside { at ≤ length text.now }
     ensures { result ≤ length text.now }
 {
-    let commands = text.iter().skip(at as usize);
-    let length = commands.take_while(|byte| **byte != b')').count();
+    let close = match style {
+        CommandStyle::Paren => b')',
+        CommandStyle::Backquote => b'`',
+    };
+    let commands = text[at as usize..].iter();
+    let length = commands.take_while(|byte| **byte != close).count();
     text.len().min(at as usize + length + 1) as u32
 }
 
@@ -82,9 +87,16 @@ fn read_on(
             push_word(alloc, &word, told)?;
             Ok(false)
         }
-        Ok(Next::Inner { at, depth }) => {
+        Ok(
+            Next::Inner {
+                at,
+                depth,
+                style,
+                ..
+            },
+        ) => {
             told.push_str(&format!(in alloc; "{at}/{depth} ")?)?;
-            let end = closed(mode.seen(text), at);
+            let end = closed(mode.seen(text), style, at);
             match builder.resume(no_commands(alloc), end) {
                 Ok(()) => Ok(true),
                 Err(_) => Ok(false),
@@ -107,7 +119,7 @@ pub fn word_told(alloc: Global, place: Place, text: &[u8]) -> Result<String, All
     if place.at as usize > mode.seen(text).len() {
         return Ok(told);
     }
-    let mut builder = WordBuilder::start(alloc, mode, place.depth as u8, place.at)?;
+    let mut builder = WordBuilder::start(alloc, mode, place.depth as u8, place.at, None)?;
     for _ in 0..MAX_SCRIPT {
         if !read_on(alloc, &mut builder, mode, text, &mut told)? {
             break;

@@ -3,7 +3,7 @@ ghost use Rattle.std.specs.Prelude.{◌≡◌, ◌≤◌, Some, length, IfSome};
 ghost use Rattle.sh_tree.specs.declared.refusal.Refusal as refusal;
 ghost use Rattle.sh_words.specs.Builders.{Goes, IsInside, IsSoundIn, refused};
 
-use sh_tree::{Fault, Form, Items, MAX_SCRIPT, Refusal, Script};
+use sh_tree::{CommandStyle, Fault, Form, Items, MAX_SCRIPT, Refusal, Script};
 use sh_words::{Mode, Next, WordBuilder};
 use std::alloc::{AllocError, Global};
 use std::process::Abort;
@@ -34,7 +34,7 @@ fn refused_again(
     if text.len() > MAX_SCRIPT {
         return Ok(None);
     }
-    let mut builder = WordBuilder::start(alloc, Mode::Word, 0, 0)?;
+    let mut builder = WordBuilder::start(alloc, Mode::Word, 0, 0, None)?;
     match refusal_of(&mut builder, text) {
         Some(first) => {
             let second = refusal_of(&mut builder, b"a\"");
@@ -72,9 +72,17 @@ fn the_same_refusal_again(rt: HostRuntime) -> Result<(), Fail> {
 
 #[test]
 fn commands_that_never_came(rt: HostRuntime) -> Result<(), Fail> {
-    let mut builder = WordBuilder::start(rt.alloc(), Mode::Word, 0, 0)?;
+    let mut builder = WordBuilder::start(rt.alloc(), Mode::Word, 0, 0, None)?;
     let text = b"a$(b)";
-    let Ok(Next::Inner { at: 3, depth: 1 }) = builder.run(text) else {
+    let Ok(
+        Next::Inner {
+            at: 3,
+            depth: 1,
+            style: CommandStyle::Paren,
+            quoted: false,
+        },
+    ) = builder.run(text)
+    else {
         panic!(rt; "no commands");
     };
     let told = refusal_of(&mut builder, text);

@@ -10,7 +10,7 @@ fn size(alloc: Global, text: &[u8]) -> Result<Option<(usize, u32)>, AllocError> 
     if text.len() > MAX_SCRIPT {
         return Ok(None);
     }
-    let mut builder = WordBuilder::start(alloc, Mode::Word, 0, 0)?;
+    let mut builder = WordBuilder::start(alloc, Mode::Word, 0, 0, None)?;
     match builder.run(text) {
         Ok(Next::Done(word)) => Ok(Some((word.parts.len(), word.span.end))),
         _ => Ok(None),

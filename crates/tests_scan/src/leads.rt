@@ -20,6 +20,8 @@ const OPERATORS: &[Row] = &[
     (b"", Lead::End),
     (b"\n", Lead::Newline),
     (b"#\\\n", Lead::LeftOut(Form::Continuation)),
+    (b"`", Lead::Backquote),
+    (b"`\n", Lead::Word),
     (b"(a", Lead::Operator(Operator::LeftParenthesis)),
     (b"((", Lead::LeftOut(Form::DoubleParenthesis)),
     (b"(\\\n(", Lead::LeftOut(Form::Continuation)),
@@ -48,6 +50,8 @@ const WORDS: &[Row] = &[
     (b"a", Lead::Word),
     (b"if", Lead::Reserved(Reserved::If)),
     (b"if(", Lead::Reserved(Reserved::If)),
+    (b"if`", Lead::Reserved(Reserved::If)),
+    (b"if`a`", Lead::Word),
     (b"ifs", Lead::Word),
     (b"if\"\"", Lead::Word),
     (b"\"if\"", Lead::Word),
@@ -79,6 +83,7 @@ const PREFIXED: &[Row] = &[
     (b"f()", Lead::Word),
     (b"a=b", Lead::Assignment),
     (b"2>", Lead::Number),
+    (b"`", Lead::Backquote),
     (b"!(", Lead::Word),
     (b"((", Lead::Operator(Operator::LeftParenthesis)),
 ];
@@ -89,6 +94,7 @@ const NAMED: &[Row] = &[
     (b"f()", Lead::Word),
     (b"a=b", Lead::Word),
     (b"2>", Lead::Number),
+    (b"`", Lead::Backquote),
     (b"!(", Lead::Word),
     (b"((", Lead::Operator(Operator::LeftParenthesis)),
 ];

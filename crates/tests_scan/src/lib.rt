@@ -4,6 +4,8 @@
 #[cfg(test)]
 mod arithmetic;
 #[cfg(test)]
+mod backquotes;
+#[cfg(test)]
 mod bytes;
 #[cfg(test)]
 mod check;

@@ -1,8 +1,12 @@
+mod quotations;
 mod quoted;
 
 use crate::check::{is_place, same};
 use sh_scan::{in_body, in_operand, in_unsplit, in_value, in_word, token_at};
-use sh_tree::{Action, Context, Fault, Form, Removal, Sign, Site, Span, Special, Subject, Token};
+use sh_tree::{
+    Action, CommandStyle, Context, Fault, Form, Removal, Sign, SingleStyle, Site, Span, Special,
+    Subject, Token,
+};
 use std::process::Abort;
 use std::test::Fail;
 
@@ -21,6 +25,12 @@ fn check(rt: &impl Abort, context: Context, prior: u8, rows: &[Row]) {
     }
 }
 
+/// Single quotes.
+const SINGLE: Sign = Sign::Single(SingleStyle::Plain);
+
+/// A backquote that opens a substitution.
+const BACKQUOTE: Sign = Sign::Substitution(CommandStyle::Backquote);
+
 const OUTSIDE_QUOTES: &[Row] = &[
     (b"", 0, Sign::Stop, 0),
     (b"ab c", 0, Sign::Plain, 2),
@@ -29,10 +39,15 @@ const OUTSIDE_QUOTES: &[Row] = &[
     (b"a#b\nc", 0, Sign::Plain, 3),
     (b"\\ b", 0, Sign::Escaped, 2),
     (b"\\", 0, Sign::Fault(Fault::FinalBackslash), 0),
-    (b"'a b'c", 0, Sign::Single, 5),
+    (b"'a b'c", 0, SINGLE, 5),
     (b"'a", 0, Sign::Fault(Fault::OpenSingle), 0),
     (b"\"a", 0, Sign::Double, 1),
-    (b"`a`", 0, Sign::LeftOut(Form::Backquoted), 0),
+    (b"`a`", 0, BACKQUOTE, 1),
+    (b"a`b`", 0, Sign::Plain, 1),
+    (b"a`", 1, Sign::Stop, 1),
+    (b"`", 0, Sign::Stop, 0),
+    (b"a\\\n`", 1, Sign::Stop, 1),
+    (b"a\\\n`b", 1, Sign::LeftOut(Form::Continuation), 1),
     (b"a\\\nb", 1, Sign::LeftOut(Form::Continuation), 1),
     (b"a\\\n b", 1, Sign::Stop, 1),
     (b"a\\\n", 1, Sign::Stop, 1),
@@ -49,6 +64,9 @@ const TILDES: &[Row] = &[
     (b"~/a", 0, Sign::Tilde, 1),
     (b"~me b", 0, Sign::Tilde, 3),
     (b"~a'b'", 0, Sign::Plain, 2),
+    (b"~`", 0, Sign::Tilde, 1),
+    (b"~me`", 0, Sign::Tilde, 3),
+    (b"~me`a`", 0, Sign::Plain, 3),
     (b"a~", 0, Sign::Plain, 2),
     (b"~a:b", 0, Sign::Plain, 4),
     (b"a:~b", 0, Sign::Plain, 4),
@@ -104,13 +122,12 @@ const DOLLARS: &[Row] = &[
     ),
     (b"$", 0, Sign::Plain, 1),
     (b"$.a", 0, Sign::Plain, 3),
-    (b"$(a)", 0, Sign::Substitution, 2),
+    (b"$(a)", 0, Sign::Substitution(CommandStyle::Paren), 2),
     (b"$((1))", 0, Sign::Arith, 3),
     (b"$(\\\n(1))", 0, Sign::LeftOut(Form::Continuation), 2),
     (b"$\\\na", 0, Sign::LeftOut(Form::Continuation), 1),
     (b"$na\\\nme", 0, Sign::LeftOut(Form::Continuation), 3),
     (b"$na\\\n.e", 0, Sign::Value(SHORT_NAME), 3),
-    (b"$'a'", 0, Sign::LeftOut(Form::DollarSingle), 0),
     (b"$\"a\"", 0, Sign::LeftOut(Form::DollarDouble), 0),
     (b"$[1]", 0, Sign::LeftOut(Form::DollarBracket), 0),
 ];

@@ -115,7 +115,26 @@ const QUOTATIONS: &[Row] = &[
         &[(Shape::Single(SingleStyle::Plain), 4)],
         Some(b"a*"),
     ),
-    (b"$'a'", &[(Shape::Single(SingleStyle::Dollar), 4)], None),
+    (
+        b"$'a*'",
+        &[(Shape::Single(SingleStyle::Dollar), 5)],
+        Some(b"a*"),
+    ),
+    (
+        b"$''",
+        &[(Shape::Single(SingleStyle::Dollar), 3)],
+        Some(b""),
+    ),
+    (
+        b"$'\\a\\b\\e\\f\\n\\r\\t\\v'",
+        &[(Shape::Single(SingleStyle::Dollar), 19)],
+        Some(b"\x07\x08\x1b\x0c\n\r\t\x0b"),
+    ),
+    (
+        b"$'\\\"\\'\\\\n'",
+        &[(Shape::Single(SingleStyle::Dollar), 10)],
+        Some(b"\"'\\n"),
+    ),
     (b"\\\n", &[(Shape::Joined, 2)], Some(b"")),
     (b"\"*\"", &[(Shape::Double, 3)], Some(b"*")),
 ];

@@ -6,7 +6,7 @@ use super::bare::{bare_word, left_out_name, reserved_word};
 use super::operators::{is_split, operator_of};
 use crate::assignments::is_assignment;
 use crate::blanks::blanks_at;
-use crate::front::{begins_angle, begins_with, behind_joined, digit_length};
+use crate::front::{begins_angle, begins_with, behind_joined, digit_length, is_last_backquote};
 use sh_tree::{Form, Lead, MAX_SCRIPT, Operator, Reserved, Stage, is_name};
 
 /// `(` at a command's first token, before `rest`.
@@ -197,6 +197,8 @@ fn lead_without_operator(script: &[u8], stage: Stage, at: u32) -> Lead
         Lead::Newline
     } else if begins_with(rest, b'#') {
         Lead::LeftOut(Form::Continuation)
+    } else if is_last_backquote(rest) {
+        Lead::Backquote
     } else {
         other_lead(script, stage, at)
     }

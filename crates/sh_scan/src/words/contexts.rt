@@ -42,6 +42,7 @@ pub fn in_use(context: Context, action: Action, at: u32) -> Context
         },
         origin: at,
         fields: context.fields && !quoted && alternative,
+        backquotes: context.backquotes && !quoted,
         ..context
     }
 }
@@ -54,6 +55,7 @@ pub fn in_removal(context: Context, at: u32) -> Context
         site: Site::Braced,
         origin: at,
         fields: false,
+        backquotes: context.backquotes && !is_quoted(context.site),
         ..context
     }
 }
@@ -64,6 +66,7 @@ pub fn in_arithmetic(context: Context) -> Context
 {
     Context {
         fields: false,
+        backquotes: false,
         ..in_double(context)
     }
 }
@@ -79,6 +82,7 @@ pub fn in_word(at: u32) -> Context
         fields: true,
         strip: false,
         body: false,
+        backquotes: true,
     }
 }
 
@@ -127,5 +131,6 @@ pub fn in_body(quoted: bool, strip: bool) -> Context
         fields: false,
         strip,
         body: true,
+        backquotes: false,
     }
 }

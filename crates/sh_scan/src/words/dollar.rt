@@ -5,10 +5,13 @@ ghost use Rattle.sh_tree.specs.standard.language.Words as words;
 ghost use Rattle.sh_scan.specs.Moves.{reads_bytes, refuses};
 
 use super::braced::braced_sign;
+use super::escapes::dollar_quoted;
 use super::parameters::{span, special_of};
 use super::sites::is_among;
 use crate::front::{begins_with, behind_joined, is_joined, name_length};
-use sh_tree::{Context, Form, MAX_SCRIPT, Sign, Special, Subject, is_name_byte, is_name_start};
+use sh_tree::{
+    CommandStyle, Context, Form, MAX_SCRIPT, Sign, Special, Subject, is_name_byte, is_name_start,
+};
 
 fn opens_dollar(quoted: bool, byte: u8) -> bool
     ensures { result ≡ words.opens_dollar quoted byte }
@@ -83,7 +86,7 @@ fn parenthesis(rest: &[u8]) -> (Sign, usize)
     } else if begins_with(behind_joined(rest), b'(') {
         (Sign::LeftOut(Form::Continuation), 2)
     } else {
-        (Sign::Substitution, 2)
+        (Sign::Substitution(CommandStyle::Paren), 2)
     }
 }
 
@@ -107,7 +110,7 @@ fn opening_sign(at: usize, rest: &[u8]) -> (Sign, usize)
                     b'{' => braced_sign(at, others),
                     b'(' => parenthesis(others),
                     b'[' => (Sign::LeftOut(Form::DollarBracket), 0),
-                    b'\'' => (Sign::LeftOut(Form::DollarSingle), 0),
+                    b'\'' => dollar_quoted(others),
                     b'"' => (Sign::LeftOut(Form::DollarDouble), 0),
                     byte => (Sign::Value(one_byte(at + 1, byte)), 2),
                 }

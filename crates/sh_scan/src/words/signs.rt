@@ -10,7 +10,7 @@ use super::sites::{is_default_site, is_quoted, is_word_site, stop_length, stops}
 use super::tilde::tilde_length;
 use crate::front::{begins_with, ends_joined};
 use memchr::memchr;
-use sh_tree::{Context, Fault, Form, MAX_SCRIPT, Sign, Site, Token};
+use sh_tree::{CommandStyle, Context, Fault, Form, MAX_SCRIPT, Sign, SingleStyle, Site, Token};
 
 /// A backslash and a newline, before `rest`.
 #[tactic(auto, unfolding(sh_tree::specs::standard::language::Words::continuation))]
@@ -70,7 +70,7 @@ pub fn single_sign(rest: &[u8]) -> (Sign, usize)
     ensures part { result.0 ≢ Sign.Stop }
 {
     match memchr(b'\'', rest) {
-        Some(length) => (Sign::Single, length + 2),
+        Some(length) => (Sign::Single(SingleStyle::Plain), length + 2),
         None => (Sign::Fault(Fault::OpenSingle), 0),
     }
 }
@@ -90,6 +90,24 @@ fn double_sign(site: Site) -> (Sign, usize)
     }
 }
 
+/// A backquote, before `rest` (XCU 2.6.3). If it ends the text, a word ends before it.
+#[tactic(auto, unfolding(sh_tree::specs::standard::language::Words::backquoted))]
+fn backquoted_sign(context: Context, rest: &[u8]) -> (Sign, usize)
+    ensures value { result ≡ words.backquoted context rest.now }
+    ensures within { result.1 ≤ 1 }
+    ensures moves { reads_bytes result.0 ≡ true → 0 < result.1 }
+    ensures told { refuses result.0 ≡ true → result.1 < 1 }
+    ensures stops { result.0 ≡ Sign.Stop → result.1 ≡ words.stop_length context.site }
+{
+    if is_word_site(context.site) && rest.is_empty() {
+        (Sign::Stop, 0)
+    } else if context.backquotes {
+        (Sign::Substitution(CommandStyle::Backquote), 1)
+    } else {
+        (Sign::LeftOut(Form::Backquoted), 0)
+    }
+}
+
 /// What a byte that does not stand for itself begins, before `rest`.
 #[tactic(auto, unfolding(sh_tree::specs::standard::language::Words::meant_by))]
 fn byte_sign(context: Context, at: usize, byte: u8, rest: &[u8]) -> (Sign, usize)
@@ -104,7 +122,7 @@ fn byte_sign(context: Context, at: usize, byte: u8, rest: &[u8]) -> (Sign, usize
         b'\\' => backslash_sign(context, rest),
         b'\'' => single_sign(rest),
         b'"' => double_sign(context.site),
-        b'`' => (Sign::LeftOut(Form::Backquoted), 0),
+        b'`' => backquoted_sign(context, rest),
         _ => dollar(context, at, rest),
     }
 }

@@ -4,7 +4,7 @@ ghost use Rattle.sh_tree.specs.standard.language.Bytes as bytes;
 ghost use Rattle.sh_tree.specs.standard.language.Words as words;
 
 use super::sites::{is_among, is_quoted, stops};
-use crate::front::is_joined;
+use crate::front::{is_joined, is_last_backquote};
 use sh_tree::{Context, is_name_byte};
 
 fn is_login_byte(byte: u8) -> bool
@@ -41,7 +41,11 @@ pub fn tilde_length(context: Context, rest: &[u8]) -> usize
 {
     let length = login_length(rest);
     let others = &rest[length..];
-    if others.is_empty() || ends_tilde(context, others) || is_joined(others) {
+    if others.is_empty()
+        || ends_tilde(context, others)
+        || is_joined(others)
+        || is_last_backquote(others)
+    {
         length + 1
     } else {
         0

@@ -8,7 +8,7 @@ use Rattle.sh_tree.specs.declared.tree.Branch.{Branch}
 use Rattle.sh_tree.specs.declared.tree.Clause.{Clause}
 use Rattle.sh_tree.specs.declared.tree.ClauseEnd.TheVariants.{Break, FallThrough}
 use Rattle.sh_tree.specs.declared.tree.Command.{Command}
-use Rattle.sh_tree.specs.declared.tree.CommandStyle.TheVariants.{Paren}
+use Rattle.sh_tree.specs.declared.tree.CommandStyle.TheVariants.{Paren, Backquote}
 use Rattle.sh_tree.specs.declared.tree.Direction.TheVariants as direction
 use Rattle.sh_tree.specs.declared.tree.Element.{Element}
 use Rattle.sh_tree.specs.declared.tree.Element.TheVariants as element
@@ -68,6 +68,16 @@ quoted_words =
 
 abbrev pub quoted_script : Script
 quoted_script = lone (simple 1 0 quoted_words)
+
+-- `$'` with each escape
+abbrev pub dollar_text : List ℕ
+dollar_text = codes "x=$'\\a\\b\\e\\f\\n\\r\\t\\v\\\"\\'\\\\c'"
+
+abbrev pub dollar_value : Word
+dollar_value = word 2 28 (part.Single single.Dollar (span 2 28) ∷ [])
+
+abbrev pub dollar_script : Script
+dollar_script = lone (simple 1 0 (element.Assignment (span 0 1) dollar_value ∷ []))
 
 -- the value of a variable, in double quotes
 abbrev pub double_text : List ℕ
@@ -208,6 +218,19 @@ substituted_part = part.Double (span 5 16) (part.Command Paren (span 6 15) inner
 
 abbrev pub substituted_script : Script
 substituted_script = lone (simple 1 0 (element.Word (bare 0 4) ∷ element.Word (word 5 16 (substituted_part ∷ [])) ∷ []))
+
+-- the same between backquotes
+abbrev pub ticked_text : List ℕ
+ticked_text = codes "echo \"`echo a`\""
+
+abbrev pub ticked_inner : Script
+ticked_inner = lone (simple 2 7 (element.Word (bare 7 11) ∷ element.Word (bare 12 13) ∷ []))
+
+abbrev pub ticked_part : Part
+ticked_part = part.Double (span 5 15) (part.Command Backquote (span 6 14) ticked_inner ∷ [])
+
+abbrev pub ticked_script : Script
+ticked_script = lone (simple 1 0 (element.Word (bare 0 4) ∷ element.Word (word 5 15 (ticked_part ∷ [])) ∷ []))
 
 -- a here-document, whose body stands at its operator
 abbrev pub document_text : List ℕ
@@ -407,6 +430,7 @@ unclosed_text = codes "{ { a; } >f }"
 -- each text is its tree, or none
 pub record LanguageRead : Type 0 where
   pub quoted : Reads quoted_text quoted_script
+  pub dollar : Reads dollar_text dollar_script
   pub double : Reads double_text double_script
   pub bare_value : Reads bare_text bare_script
   pub assigned : Reads assigned_text assigned_script
@@ -418,6 +442,7 @@ pub record LanguageRead : Type 0 where
   pub arithmetic : Reads arithmetic_text arithmetic_script
   pub choice : Reads choice_text choice_script
   pub substituted : Reads substituted_text substituted_script
+  pub ticked : Reads ticked_text ticked_script
   pub document : Reads document_text document_script
   pub stripped : Reads stripped_text stripped_script
   pub branches : Reads branch_text branch_script

@@ -1,6 +1,6 @@
 -- Texts and the programs of their trees, against which the definitions are held.
 -- POSIX.1-2024, XCU 2.6 (word expansions), 2.7 (redirection), 2.9 (shell commands), 2.10 (shell grammar).
-use Rattle.std.specs.Prelude.{◌≡◌, ℕ, true, false, [], codes, None}
+use Rattle.std.specs.Prelude.{◌≡◌, ℕ, true, false, [], ◌∷◌, codes, None}
 use Rattle.sh_tree.specs.declared.tree.Action.TheVariants as action
 use Rattle.sh_tree.specs.declared.tree.Binary.TheVariants as binary
 use Rattle.sh_tree.specs.declared.tree.ClauseEnd.TheVariants.{Break, FallThrough}
@@ -10,7 +10,7 @@ use Rattle.sh_tree.specs.declared.tree.Removal.TheVariants as removal
 use Rattle.sh_tree.specs.declared.tree.SingleStyle.TheVariants as single
 use Rattle.sh_tree.specs.declared.tree.Special.TheVariants as special
 use Rattle.sh_tree.specs.declared.tree.Unary.TheVariants as unary
-use Rattle.sh_tree.specs.examples.Language.{quoted_text, quoted_script, assigned_text, assigned_script, home_text, home_script, braces_text, braces_script, braced_text, braced_script, parameters_text, parameters_script, arithmetic_text, arithmetic_script, choice_text, choice_script, substituted_text, substituted_script, document_text, document_script, stripped_text, stripped_script, branch_text, branch_script, elif_text, elif_script, until_text, until_script, every_text, every_script, loop_text, loop_script, case_text, case_script, through_text, through_script, defined_text, defined_script, unset_first_text, unset_first_script}
+use Rattle.sh_tree.specs.examples.Language.{quoted_text, quoted_script, dollar_text, dollar_script, assigned_text, assigned_script, home_text, home_script, braces_text, braces_script, braced_text, braced_script, parameters_text, parameters_script, arithmetic_text, arithmetic_script, choice_text, choice_script, substituted_text, substituted_script, document_text, document_script, stripped_text, stripped_script, branch_text, branch_script, elif_text, elif_script, until_text, until_script, every_text, every_script, loop_text, loop_script, case_text, case_script, through_text, through_script, defined_text, defined_script, unset_first_text, unset_first_script}
 use Rattle.sh_tree.specs.standard.program.Syntax.{Text, Variable, Positional, Special, Part, Plain, Escaped, Single, Double, Expansion, Arithmetic, Substitution, Tilde, Joined, Word, no_parts, more_parts, Operator, Value, Length, Use, Remove, Constant, Name, Expanded, Parenthesis, Signed, Chain, Choice, Assigned, no_operands, more_operands, Items, no_items, more_items, and_or, no_links, more_links, pipeline, Command, no_commands, more_commands, command, Simple, Group, Subshell, Conditional, Loop, For, Case, Define, Elements, no_elements, assignment, operand, redirection, File, Here, no_redirects, more_redirects, no_branches, more_branches, no_else, else_of, every_parameter, listed, no_words, more_words, no_clauses, more_clauses}
 use Rattle.sh_tree.specs.standard.program.Trees.{script_of}
 
@@ -47,6 +47,11 @@ abbrev pub quoted_program : Items
 quoted_program =
     let last = more_parts (Single single.Plain (codes "a")) (only (Escaped (codes "b"))) in
     lone (echo 1 0 (operand (only (Double (only (expansion 6 Value)))) (operand last no_elements)))
+
+abbrev pub dollar_program : Items
+dollar_program =
+    let value = only (Single single.Dollar (7 ∷ 8 ∷ 27 ∷ 12 ∷ 10 ∷ 13 ∷ 9 ∷ 11 ∷ codes "\"'\\c")) in
+    lone (simple 1 0 (assignment (codes "x") value no_elements))
 
 abbrev pub assigned_program : Items
 assigned_program =
@@ -150,6 +155,7 @@ unset_first_program =
 -- each tree's program is this one
 pub record ProgramsRead : Type 0 where
   pub quoted : script_of quoted_text quoted_script ≡ quoted_program
+  pub dollar : script_of dollar_text dollar_script ≡ dollar_program
   pub assigned : script_of assigned_text assigned_script ≡ assigned_program
   pub home : script_of home_text home_script ≡ home_program
   pub braces : script_of braces_text braces_script ≡ braces_program

@@ -19,10 +19,22 @@ location_text = codes "{a}>f"
 
 -- quotes and expansions that are left out
 abbrev pub dollar_single_text : List ℕ
-dollar_single_text = codes "$'a'"
+dollar_single_text = codes "$'\\x'"
 
+-- commands between backquotes: a comment that runs over the closing one, and a backslash that goes before they are read
 abbrev pub backquoted_text : List ℕ
-backquoted_text = codes "`a`"
+backquoted_text = codes "`# a`"
+
+abbrev pub backslash_text : List ℕ
+backslash_text = codes "`a \\$x`"
+
+-- one that stands before any other byte goes in double quotes
+abbrev pub quoted_backslash_text : List ℕ
+quoted_backslash_text = codes "\"`a \\b`\""
+
+-- and backquotes in a default in double quotes
+abbrev pub default_backquotes_text : List ℕ
+default_backquotes_text = codes "\"${x-`a`}\""
 
 abbrev pub other_braced_text : List ℕ
 other_braced_text = codes "${x/y}"
@@ -31,12 +43,15 @@ other_braced_text = codes "${x/y}"
 abbrev pub unsplit_text : List ℕ
 unsplit_text = codes "\"${x-$@}\""
 
--- a delimiter with an expansion, and one with a tilde-prefix
+-- a delimiter with an expansion, one with a tilde-prefix, and one with `$'`
 abbrev pub expanded_delimiter_text : List ℕ
 expanded_delimiter_text = codes "<<$x\n$x\n"
 
 abbrev pub tilde_delimiter_text : List ℕ
 tilde_delimiter_text = codes "<<~x\n~x\n"
+
+abbrev pub dollar_delimiter_text : List ℕ
+dollar_delimiter_text = codes "<<$'a'\na\n"
 
 -- a newline in a substitution, while a body is awaited outside
 abbrev pub across_text : List ℕ
@@ -66,10 +81,14 @@ pub record OthersUnread : Type 0 where
   pub location : IsUnread location_text
   pub dollar_single : IsUnread dollar_single_text
   pub backquoted : IsUnread backquoted_text
+  pub backslash : IsUnread backslash_text
+  pub quoted_backslash : IsUnread quoted_backslash_text
+  pub default_backquotes : IsUnread default_backquotes_text
   pub other_braced : IsUnread other_braced_text
   pub unsplit : IsUnread unsplit_text
   pub expanded_delimiter : IsUnread expanded_delimiter_text
   pub tilde_delimiter : IsUnread tilde_delimiter_text
+  pub dollar_delimiter : IsUnread dollar_delimiter_text
   pub across : IsUnread across_text
   pub joined_tab : IsUnread joined_tab_text
   pub split_comment : IsUnread split_comment_text

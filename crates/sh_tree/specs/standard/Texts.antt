@@ -30,10 +30,12 @@ outside name = name ++ codes " is outside the profile"
 
 abbrev pub form_name : Form → List ℕ
 form_name form.Continuation = codes "a line continuation inside a token"
-form_name form.DollarSingle = codes "$'"
+form_name form.DollarEscape = codes "this escape in $'"
 form_name form.DollarDouble = codes "$\""
 form_name form.DollarBracket = codes "$["
 form_name form.Backquoted = codes "a backquoted substitution"
+form_name form.BackslashInBackquotes = codes "a backslash in a backquoted substitution"
+form_name form.BackquoteInside = codes "a backquote inside a backquoted substitution"
 form_name form.Braced = codes "this braced form"
 form_name form.QuotedInDefault = codes "a double quote in a quoted default"
 form_name form.BackslashInDefault = codes "a backslash before } in a quoted default"

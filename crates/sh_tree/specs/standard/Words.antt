@@ -1,5 +1,5 @@
 -- What definitions read off a tree: the lone command of a pipeline, the elements of a command and the static text of a word.
--- POSIX.1-2024, XCU 2.6 (word expansions), 2.9.1 (simple commands).
+-- POSIX.1-2024, XCU 2.2 (quoting), 2.6 (word expansions), 2.9.1 (simple commands).
 use Rattle.std.specs.Prelude.{◌≡◌, ℕ, Bool, false, not, ◌&&◌, ◌||◌, ◌==◌, ◌-◌, length, take, drop, if◌then◌else◌, List, [], ◌∷◌, ◌++◌, Option, Some, None, refl}
 use Rattle.std.proofs.Common.{◌∙◌, ap}
 use Rattle.std.specs.List.{filter_map, list_any}
@@ -16,6 +16,7 @@ use Rattle.sh_tree.specs.declared.tree.SingleStyle.TheVariants as single
 use Rattle.sh_tree.specs.declared.tree.Part.{Part, Plain, Escaped, Single, Joined, Double, Double', Row_of-Part, end_of-Part, more_of-Part, items-the_row-Part}
 use Rattle.sh_tree.specs.declared.tree.Element.TheBlock.{hidden-the_row-Part-0, items_hidden-the_row-Part-0, items_hidden-the_row-Element-3}
 use Rattle.sh_tree.specs.standard.Tree.{text_of}
+use Rattle.sh_tree.specs.standard.language.Characters as byte
 
 -- Commands
 
@@ -82,17 +83,36 @@ behind_first t = drop 1 t
 abbrev pub between_ends : List ℕ → List ℕ
 between_ends t = take (length t - 2) (drop 1 t)
 
--- the bytes between single quotes; those of `$'` are none
-abbrev pub single_text : SingleStyle → List ℕ → Option (List ℕ)
-single_text single.Plain t = Some (between_ends t)
-single_text single.Dollar t = None
+-- What a backslash in `$'` and the byte c are (XCU 2.2.4): the control character that the letter names, or c itself.
+unfoldable pub escape_of : ℕ → ℕ
+escape_of c =
+    if c == byte.small_a then byte.alert
+    else (if c == byte.small_b then byte.backspace
+    else (if c == byte.small_e then byte.escape
+    else (if c == byte.small_f then byte.form_feed
+    else (if c == byte.small_n then byte.newline
+    else (if c == byte.small_r then byte.carriage_return
+    else (if c == byte.small_t then byte.tab
+    else (if c == byte.small_v then byte.vertical_tab
+    else c)))))))
+
+-- what stands between `$'` and `'`, with one byte for each backslash and the byte behind it
+unfoldable pub escaped : List ℕ → List ℕ
+escaped [] = []
+escaped (c ∷ []) = c ∷ []
+escaped (c ∷ d ∷ cs) = if c == byte.backslash then escape_of d ∷ escaped cs else c ∷ escaped (d ∷ cs)
+
+-- what single quotes hold (XCU 2.2.2), and what `$'` and a quote hold (XCU 2.2.4)
+abbrev pub single_text : SingleStyle → List ℕ → List ℕ
+single_text single.Plain t = between_ends t
+single_text single.Dollar t = escaped (between_ends (behind_first t))
 
 -- the text of a part without its quoting, if it holds no expansion and is no tilde-prefix
 unfoldable mutual
   pub part_text : List ℕ → Part → Option (List ℕ)
   part_text b (Plain s) = Some (text_of b s)
   part_text b (Escaped s) = Some (behind_first (text_of b s))
-  part_text b (Single style s) = single_text style (text_of b s)
+  part_text b (Single style s) = Some (single_text style (text_of b s))
   part_text b (Double' s shape row) = row_text b row
   part_text b (Joined s) = Some []
   part_text b _ = None

@@ -8,4 +8,5 @@ pub mod Trees
 pub mod Contexts
 pub mod Parts
 pub mod States
+pub mod Substitutions
 pub mod Reading

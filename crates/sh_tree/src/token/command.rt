@@ -91,6 +91,8 @@ pub enum Lead {
     /// Digits directly before `<` or `>`.
     Number,
     Word,
+    /// The backquote that ends the text, which closes the substitution that the text is of.
+    Backquote,
     /// A form that is left out.
     LeftOut(Form),
 }

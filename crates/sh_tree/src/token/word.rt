@@ -1,7 +1,7 @@
 //! Tokens of words (XCU 2.2, 2.6).
 
 use crate::refusal::{Fault, Form};
-use crate::tree::{Action, Removal, Subject};
+use crate::tree::{Action, CommandStyle, Removal, SingleStyle, Subject};
 
 /// Where the parts of a word are read.
 #[derive(Clone, Copy, Debug, PartialEq, Eq)]
@@ -34,6 +34,8 @@ pub struct Context {
     pub strip: bool,
     /// Whether this is in the body of a here-document.
     pub body: bool,
+    /// Whether a substitution in backquotes is accepted (XCU 2.6.3).
+    pub backquotes: bool,
 }
 
 /// What begins at a place of a word.
@@ -51,8 +53,8 @@ pub enum Sign {
     Escaped,
     /// A line continuation.
     Joined,
-    /// Single quotes, whole.
-    Single,
+    /// Single quotes, or `$'`, whole.
+    Single(SingleStyle),
     /// A double quote that opens.
     Double,
     /// A tilde-prefix.
@@ -65,8 +67,8 @@ pub enum Sign {
     Use(Subject, Action, bool),
     /// A braced expansion up to the pattern behind `%`, `%%`, `#` or `##`.
     Remove(Subject, Removal),
-    /// `$(`
-    Substitution,
+    /// `$(`, or a backquote.
+    Substitution(CommandStyle),
     /// `$((`
     Arith,
     /// A fault of syntax.

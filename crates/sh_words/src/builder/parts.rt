@@ -14,7 +14,7 @@ use super::signs::{is_part, made, opening_of, prior_after, whole_part};
 use super::{Next, WordBuilder};
 use crate::frames::{Focus, Frame, Holder, Opening};
 use sh_scan::token_at;
-use sh_tree::{Fault, Items, MAX_SCRIPT, Part, Refusal, Sign, Span, Token, Word};
+use sh_tree::{CommandStyle, Fault, Items, MAX_SCRIPT, Part, Refusal, Sign, Span, Token, Word};
 use std::alloc::Global;
 use std::mem;
 
@@ -93,10 +93,34 @@ impl WordBuilder {
         if let Some((opening, context)) = opening_of(self.holder.context(), token.sign, token.end) {
             return self.open_part(opening, context, start, token.end);
         }
-        if token.sign == Sign::Substitution {
-            return self.ask(start, token.end);
+        if let Sign::Substitution(style) = token.sign {
+            return self.substitution_step(script, style, start, token.end);
         }
         Err(self.no_part(token, start))
+    }
+
+    /// Reads the substitution at `start`, whose commands begin at `end`. No backquote closes those at the end of the text.
+    fn substitution_step(
+        &mut self,
+        script: &[u8],
+        style: CommandStyle,
+        start: u32,
+        end: u32,
+    ) -> Result<Option<Next>, Refusal>
+        requires after { self.old.at ≤ start }
+        requires moves { start < end }
+        requires within { end ≤ length script.now }
+        requires sound { IsSound script.now (focused self.old Focus.Parts) }
+        ensures keeps { Steps script.now (LeftPart script.now self.old (Sign.Substitution style) start end) self.new result }
+        ensures moves { StepMoves script.now self.old self.new result }
+        ensures sound { StepSound script.now result self.new }
+        ensures works { StepWorks script.now (focused self.old Focus.Parts) self.new result }
+        ensures takes { Takes script.now start self.new result }
+    {
+        if style == CommandStyle::Backquote && end as usize == script.len() {
+            return Err(Refusal::Syntax(Fault::OpenSubstitution, start));
+        }
+        self.ask(style, start, end)
     }
 
     /// The context ends, and what ends it goes up to `end`.

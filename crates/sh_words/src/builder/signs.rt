@@ -6,9 +6,7 @@ ghost use Rattle.sh_words.specs.Signs as signs;
 
 use crate::frames::Opening;
 use sh_scan::{in_arithmetic, in_double, in_removal, in_use};
-use sh_tree::{
-    Context, Items, Param, ParameterOperator, Part, Sign, SingleStyle, Span, Subject, Word,
-};
+use sh_tree::{Context, Items, Param, ParameterOperator, Part, Sign, Span, Subject, Word};
 
 fn expansion(span: Span, subject: Subject, operator: ParameterOperator) -> Part
     ensures { result ≡ Part.Param (record { span = span; subject = subject; operator = operator }) }
@@ -29,7 +27,7 @@ pub fn whole_part(sign: Sign, span: Span) -> Option<Part>
         Sign::Plain => Some(Part::Plain(span)),
         Sign::Escaped => Some(Part::Escaped(span)),
         Sign::Joined => Some(Part::Joined(span)),
-        Sign::Single => Some(Part::Single(SingleStyle::Plain, span)),
+        Sign::Single(style) => Some(Part::Single(style, span)),
         Sign::Tilde => Some(Part::Tilde(span)),
         Sign::Value(subject) => Some(expansion(span, subject, ParameterOperator::Value)),
         Sign::Length(subject) => Some(expansion(span, subject, ParameterOperator::Length)),
@@ -121,7 +119,7 @@ pub fn is_expansion(sign: Sign) -> bool
             | Sign::Length(_)
             | Sign::Use(..)
             | Sign::Remove(..)
-            | Sign::Substitution
+            | Sign::Substitution(_)
             | Sign::Arith
     )
 }

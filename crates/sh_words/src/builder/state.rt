@@ -5,7 +5,8 @@ ghost use Rattle.sh_words.specs.Steps.{Asked, Enters, Opens};
 
 use super::{Next, WordBuilder};
 use crate::frames::{Focus, Frame, Holder, Opening, Operation};
-use sh_tree::{Context, Expr, Items, MAX_NESTING, Part, Refusal};
+use sh_scan::is_quoted;
+use sh_tree::{CommandStyle, Context, Expr, Items, MAX_NESTING, Part, Refusal};
 use std::alloc::Global;
 use std::mem;
 
@@ -180,18 +181,25 @@ impl WordBuilder {
         Ok(None)
     }
 
-    /// Asks for the commands of the substitution at `start`, which begin behind `end`.
-    pub(crate) fn ask(&mut self, start: u32, end: u32) -> Result<Option<Next>, Refusal>
-        ensures { Asked self.old start end self.new result }
+    /// Asks for the commands of the substitution at `start`, which begin at `end`.
+    pub(crate) fn ask(
+        &mut self,
+        style: CommandStyle,
+        start: u32,
+        end: u32,
+    ) -> Result<Option<Next>, Refusal>
+        ensures { Asked self.old style start end self.new result }
     {
         if self.is_deep() {
             return Err(Refusal::TooDeep(start));
         }
-        self.focus = Focus::Commands(start);
+        self.focus = Focus::Commands(start, style);
         self.at = end;
         Ok(Some(Next::Inner {
             at: end,
             depth: self.depth + 1,
+            style,
+            quoted: is_quoted(self.holder.context().site),
         }))
     }
 

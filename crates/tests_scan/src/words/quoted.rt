@@ -1,9 +1,12 @@
-use super::{BEHIND_DOLLAR, Row, check};
+use super::{BACKQUOTE, BEHIND_DOLLAR, Row, SINGLE, check};
 use sh_scan::{in_arithmetic, in_body, in_double, in_removal, in_use, in_word};
 use sh_tree::{Action, Form, Sign, Special, Subject};
 use std::test::Fail;
 
 const ALL_PARAMETERS: Sign = Sign::Value(Subject::Special(Special::At, BEHIND_DOLLAR));
+
+/// A backquote where no substitution is accepted.
+const NO_BACKQUOTE: Sign = Sign::LeftOut(Form::Backquoted);
 
 const DOUBLE: &[Row] = &[
     (b"ab c\"", 0, Sign::Plain, 4),
@@ -15,9 +18,14 @@ const DOUBLE: &[Row] = &[
     (b"$'a'", 0, Sign::Plain, 4),
     (b"~", 0, Sign::Plain, 1),
     (b"$@", 0, ALL_PARAMETERS, 2),
+    (b"`a`", 0, BACKQUOTE, 1),
+    (b"`", 0, BACKQUOTE, 1),
 ];
 
-const ARITHMETIC: &[Row] = &[(b"$@", 0, Sign::LeftOut(Form::AllParameters), 0)];
+const ARITHMETIC: &[Row] = &[
+    (b"$@", 0, Sign::LeftOut(Form::AllParameters), 0),
+    (b"`a`", 0, NO_BACKQUOTE, 0),
+];
 
 #[test]
 fn double_quotes(rt: HostRuntime) -> Result<(), Fail> {
@@ -33,6 +41,7 @@ const DEFAULT: &[Row] = &[
     (b"\"", 0, Sign::LeftOut(Form::QuotedInDefault), 0),
     (b"\\}", 0, Sign::LeftOut(Form::BackslashInDefault), 0),
     (b"\\\"", 0, Sign::Escaped, 2),
+    (b"`a`", 0, NO_BACKQUOTE, 0),
 ];
 
 const DEFAULT_IN_BODY: &[Row] = &[(b"\\\"", 0, Sign::LeftOut(Form::QuotedInDefault), 0)];
@@ -47,16 +56,23 @@ fn defaults_in_double_quotes(rt: HostRuntime) -> Result<(), Fail> {
 }
 
 const ALTERNATIVE: &[Row] = &[
-    (b"'a'}", 0, Sign::Single, 3),
+    (b"'a'}", 0, SINGLE, 3),
+    (b"`a`}", 0, BACKQUOTE, 1),
+    (b"`", 0, BACKQUOTE, 1),
     (b"~}", 0, Sign::Tilde, 1),
     (b"a b;}", 0, Sign::Plain, 4),
     (b"a\\\nb}", 1, Sign::LeftOut(Form::Continuation), 1),
     (b"$@", 0, ALL_PARAMETERS, 2),
 ];
 
-const UNQUOTED_DEFAULT: &[Row] = &[(b"$@", 0, Sign::LeftOut(Form::AllParameters), 0)];
+const UNQUOTED_DEFAULT: &[Row] = &[
+    (b"$@", 0, Sign::LeftOut(Form::AllParameters), 0),
+    (b"`a`}", 0, BACKQUOTE, 1),
+];
 
-const REMOVAL: &[Row] = &[(b"'a'}", 0, Sign::Single, 3)];
+const QUOTED_IN_REMOVAL: &[Row] = &[(b"`a`", 0, NO_BACKQUOTE, 0)];
+
+const REMOVAL: &[Row] = &[(b"'a'}", 0, SINGLE, 3), (b"`a`}", 0, NO_BACKQUOTE, 0)];
 
 #[test]
 fn words_of_braced_expansions(rt: HostRuntime) -> Result<(), Fail> {
@@ -64,7 +80,9 @@ fn words_of_braced_expansions(rt: HostRuntime) -> Result<(), Fail> {
     check(&rt, alternative, 0, ALTERNATIVE);
     let default = in_use(in_word(0), Action::Default, 0);
     check(&rt, default, 0, UNQUOTED_DEFAULT);
-    check(&rt, in_removal(in_double(in_word(0)), 0), 0, REMOVAL);
+    let removal = in_removal(in_double(in_word(0)), 0);
+    check(&rt, removal, 0, REMOVAL);
+    check(&rt, in_double(removal), 0, QUOTED_IN_REMOVAL);
     Ok(())
 }
 
@@ -75,6 +93,8 @@ const STRIPPED: &[Row] = &[
     (b"\\\n\tb", 0, Sign::LeftOut(Form::HereTab), 2),
     (b"\\\nb", 0, Sign::Joined, 2),
     (b"a\"b\\\"", 0, Sign::Plain, 5),
+    (b"`a`", 0, NO_BACKQUOTE, 0),
+    (b"`", 0, NO_BACKQUOTE, 0),
     (b"", 0, Sign::Stop, 0),
 ];
 

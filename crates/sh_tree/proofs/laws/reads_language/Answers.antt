@@ -1,15 +1,16 @@
-use Rattle.sh_tree.proofs.LanguageLemmas.{quoted_reads, double_reads, bare_reads, assigned_reads, passed_reads, home_reads, braces_reads, braced_reads, parameters_reads, arithmetic_reads, choice_reads, substituted_reads, document_reads, stripped_reads, branch_reads, elif_reads, until_reads, every_reads, loop_reads, case_reads, through_reads, defined_reads, unset_first_reads, unset_last_reads, closed_reads, separated_reads, empty_reads, comment_reads}
+use Rattle.sh_tree.proofs.LanguageLemmas.{quoted_reads, dollar_reads, double_reads, bare_reads, assigned_reads, passed_reads, home_reads, braces_reads, braced_reads, parameters_reads, arithmetic_reads, choice_reads, substituted_reads, ticked_reads, document_reads, stripped_reads, branch_reads, elif_reads, until_reads, every_reads, loop_reads, case_reads, through_reads, defined_reads, unset_first_reads, unset_last_reads, closed_reads, separated_reads, empty_reads, comment_reads}
 use Rattle.sh_tree.proofs.UnreadLemmas.{open_quote_unread, open_braced_unread, split_name_unread, no_expression_unread, lone_bar_unread, split_operator_unread, clause_end_unread, open_document_unread, split_document_unread, tabbed_document_unread, unclosed_unread}
 use Rattle.sh_tree.proofs.WordReadings.{removed_prefix_reads, octal_reads, status_reads, quoted_default_reads, all_fields_reads, exported_reads, colon_in_double_reads, colon_in_arithmetic_reads, colon_in_pattern_reads}
 use Rattle.sh_tree.proofs.CommandReadings.{while_reads, for_ended_reads, for_none_reads, for_two_reads, case_lines_reads, patterns_reads, pattern_esac_reads, redirected_reads, numbered_reads, behind_assignment_reads}
 use Rattle.sh_tree.proofs.DocumentReadings.{verbatim_reads, two_documents_reads, group_document_reads, inner_document_reads, piped_document_reads, counted_document_reads, joined_end_reads, unended_line_reads, quiet_reads, paired_comment_reads, paired_quotes_reads, paired_document_reads, tabbed_end_reads, tabs_in_pattern_reads, tabs_in_quotes_reads}
-use Rattle.sh_tree.proofs.UnreadForms.{double_parenthesis_unread, negated_parenthesis_unread, double_bracket_unread, location_unread, dollar_single_unread, backquoted_unread, other_braced_unread, unsplit_unread, expanded_delimiter_unread, tilde_delimiter_unread, across_unread, joined_tab_unread, split_comment_unread, split_quotes_unread, split_end_unread}
+use Rattle.sh_tree.proofs.UnreadForms.{double_parenthesis_unread, negated_parenthesis_unread, double_bracket_unread, location_unread, dollar_single_unread, backquoted_unread, backslash_unread, quoted_backslash_unread, default_backquotes_unread, other_braced_unread, unsplit_unread, expanded_delimiter_unread, tilde_delimiter_unread, dollar_delimiter_unread, across_unread, joined_tab_unread, split_comment_unread, split_quotes_unread, split_end_unread}
 use Rattle.sh_tree.proofs.LimitLemmas.{defaults_within, defaults_beyond, complements_within, complements_beyond, body_depth_reads}
 use Rattle.sh_tree.proofs.laws.reads_language.Goals as goal
 
 pub returns-clause-texts : goal.returns-clause-texts
 returns-clause-texts c = record {
   quoted = quoted_reads;
+  dollar = dollar_reads;
   double = double_reads;
   bare_value = bare_reads;
   assigned = assigned_reads;
@@ -21,6 +22,7 @@ returns-clause-texts c = record {
   arithmetic = arithmetic_reads;
   choice = choice_reads;
   substituted = substituted_reads;
+  ticked = ticked_reads;
   document = document_reads;
   stripped = stripped_reads;
   branches = branch_reads;
@@ -104,10 +106,14 @@ returns-clause-nothing c = record {
   location = location_unread;
   dollar_single = dollar_single_unread;
   backquoted = backquoted_unread;
+  backslash = backslash_unread;
+  quoted_backslash = quoted_backslash_unread;
+  default_backquotes = default_backquotes_unread;
   other_braced = other_braced_unread;
   unsplit = unsplit_unread;
   expanded_delimiter = expanded_delimiter_unread;
   tilde_delimiter = tilde_delimiter_unread;
+  dollar_delimiter = dollar_delimiter_unread;
   across = across_unread;
   joined_tab = joined_tab_unread;
   split_comment = split_comment_unread;

@@ -46,6 +46,12 @@ is_operator_byte c = is_in (codes "|&;<>()") c
 abbrev pub ends_token : ℕ → Bool
 ends_token c = is_blank c || is_newline c || is_operator_byte c
 
+-- the text is one backquote: it ends the text of the commands between backquotes (XCU 2.6.3)
+unfoldable pub is_last_backquote : List ℕ → Bool
+is_last_backquote [] = false
+is_last_backquote (c ∷ []) = c == byte.backquote
+is_last_backquote (c ∷ d ∷ cs) = false
+
 -- how many bytes of a class stand at the front
 abbrev pub run : (ℕ → Bool) → List ℕ → ℕ
 run p cs = length (take_while p cs)

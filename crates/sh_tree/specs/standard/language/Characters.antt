@@ -2,11 +2,29 @@
 -- POSIX.1-2024, XBD 6.1 (portable character set).
 use Rattle.std.specs.Prelude.{ℕ}
 
+abbrev pub alert : ℕ
+alert = 7
+
+abbrev pub backspace : ℕ
+backspace = 8
+
 abbrev pub tab : ℕ
 tab = 9
 
 abbrev pub newline : ℕ
 newline = 10
+
+abbrev pub vertical_tab : ℕ
+vertical_tab = 11
+
+abbrev pub form_feed : ℕ
+form_feed = 12
+
+abbrev pub carriage_return : ℕ
+carriage_return = 13
+
+abbrev pub escape : ℕ
+escape = 27
 
 abbrev pub space : ℕ
 space = 32
@@ -98,8 +116,26 @@ backquote = 96
 abbrev pub small_a : ℕ
 small_a = 97
 
+abbrev pub small_b : ℕ
+small_b = 98
+
+abbrev pub small_e : ℕ
+small_e = 101
+
 abbrev pub small_f : ℕ
 small_f = 102
+
+abbrev pub small_n : ℕ
+small_n = 110
+
+abbrev pub small_r : ℕ
+small_r = 114
+
+abbrev pub small_t : ℕ
+small_t = 116
+
+abbrev pub small_v : ℕ
+small_v = 118
 
 abbrev pub small_z : ℕ
 small_z = 122

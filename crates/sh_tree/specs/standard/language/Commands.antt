@@ -21,7 +21,7 @@ use Rattle.sh_tree.specs.declared.token.command.Stage.{Stage}
 use Rattle.sh_tree.specs.declared.token.command.Stage.TheVariants.{First, Prefixed, Named}
 use Rattle.sh_tree.specs.declared.token.command.Lead.{Lead}
 use Rattle.sh_tree.specs.declared.token.command.Lead.TheVariants as lead
-use Rattle.sh_tree.specs.standard.language.Bytes.{is_in, is_blank, is_newline, is_backslash, is_digit, is_name, ends_token, run, is_first, name_length, longest, behind_joined, is_joined, joined_at}
+use Rattle.sh_tree.specs.standard.language.Bytes.{is_in, is_blank, is_newline, is_backslash, is_digit, is_name, ends_token, run, is_first, is_last_backquote, name_length, longest, behind_joined, is_joined, joined_at}
 use Rattle.sh_tree.specs.standard.language.Words.{ends_joined}
 use Rattle.sh_tree.specs.standard.language.HereDocuments.{line_length}
 use Rattle.sh_tree.specs.standard.language.Trees.{span}
@@ -247,7 +247,8 @@ lead_of b s i None =
     if nat_le (length b) i then lead.End
     else (if is_first is_newline (drop i b) then lead.Newline
     else (if is_first (λ c. c == byte.number_sign) (drop i b) then lead.LeftOut form.Continuation
-    else other_lead b s i))
+    else (if is_last_backquote (drop i b) then lead.Backquote
+    else other_lead b s i)))
 
 -- What the token at i is. A comment there is one that a here-document must not hold.
 unfoldable pub lead_at : List ℕ → Stage → ℕ → Lead

@@ -10,15 +10,15 @@ use Rattle.sh_tree.specs.standard.language.Commands.{is_assignment, name_end}
 
 -- a word at i whose fields are split: a command name, an operand, a word of `for`
 abbrev pub in_word : ℕ → Context
-in_word i = record { site = site.Word; origin = i; colons = false; fields = true; strip = false; body = false }
+in_word i = record { site = site.Word; origin = i; colons = false; fields = true; strip = false; body = false; backquotes = true }
 
 -- a word at i whose fields are not split: the target of a redirection, the word of `case` and its patterns
 abbrev pub in_unsplit : ℕ → Context
-in_unsplit i = record { site = site.Word; origin = i; colons = false; fields = false; strip = false; body = false }
+in_unsplit i = record { site = site.Word; origin = i; colons = false; fields = false; strip = false; body = false; backquotes = true }
 
 -- the value of an assignment, which begins at i
 abbrev pub in_value : ℕ → Context
-in_value i = record { site = site.Word; origin = i; colons = true; fields = false; strip = false; body = false }
+in_value i = record { site = site.Word; origin = i; colons = true; fields = false; strip = false; body = false; backquotes = true }
 
 -- an operand of `export` or `readonly` at i: where it is an assignment in form, what stands behind `=` is read as a value
 unfoldable pub in_operand : List ℕ → ℕ → Context
@@ -26,7 +26,7 @@ in_operand b i = if is_assignment (drop i b) then in_value (name_end b i + 1) el
 
 -- the body of a here-document, whether its delimiter is quoted, when nothing in it is special, and whether it is stripped of tabs
 abbrev pub in_body : Bool → Bool → Context
-in_body quoted strip = record { site = if quoted then site.Verbatim else site.Body; origin = 0; colons = false; fields = false; strip = strip; body = true }
+in_body quoted strip = record { site = if quoted then site.Verbatim else site.Body; origin = 0; colons = false; fields = false; strip = strip; body = true; backquotes = false }
 
 unfoldable pub in_document_of : Mark → Context
 in_document_of m = in_body m.quoted m.strip

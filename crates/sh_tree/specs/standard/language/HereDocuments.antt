@@ -3,6 +3,8 @@
 use Rattle.std.specs.Prelude.{ℕ, zero, suc, ◌+◌, Bool, true, false, not, ◌&&◌, ◌||◌, if◌then◌else◌, List, [], ◌∷◌, length, drop, nat_lt, Option, Some, None, slice_range}
 use Rattle.std.specs.Str.{bytes_eq}
 use Rattle.std.specs.List.{list_any}
+use Rattle.sh_tree.specs.declared.tree.Part.{Part, Single}
+use Rattle.sh_tree.specs.declared.tree.SingleStyle.TheVariants as single
 use Rattle.sh_tree.specs.declared.tree.Span.{Span}
 use Rattle.sh_tree.specs.declared.tree.Word.{Word}
 use Rattle.sh_tree.specs.standard.language.Bytes.{is_newline, is_tab, is_backslash, run, is_first}
@@ -27,9 +29,14 @@ unfoldable pub is_static : Option (List ℕ) → Bool
 is_static (Some t) = true
 is_static None = false
 
--- no expansion, no tilde-prefix and no newline
+-- `$'` and what it quotes
+unfoldable pub is_dollar_quoted : Part → Bool
+is_dollar_quoted (Single single.Dollar s) = true
+is_dollar_quoted _ = false
+
+-- no expansion, no tilde-prefix, no `$'` and no newline
 unfoldable pub is_delimiter : List ℕ → Word → Bool
-is_delimiter b w = is_static (parts_text b w.parts) && not (list_any is_newline (text_of b w.span))
+is_delimiter b w = is_static (parts_text b w.parts) && not (list_any is_dollar_quoted w.parts) && not (list_any is_newline (text_of b w.span))
 
 -- the delimiter: the word without its quoting
 unfoldable pub delimiter_of : List ℕ → Word → List ℕ

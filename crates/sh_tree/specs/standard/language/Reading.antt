@@ -25,8 +25,8 @@ use Rattle.sh_tree.specs.declared.tree.Target.TheVariants.{File, Here}
 use Rattle.sh_tree.specs.declared.tree.Word.{Word}
 use Rattle.sh_tree.specs.declared.tree.Part.{Part}
 use Rattle.sh_tree.specs.declared.tree.Part.TheVariants as part
-use Rattle.sh_tree.specs.declared.tree.SingleStyle.TheVariants as single
-use Rattle.sh_tree.specs.declared.tree.CommandStyle.TheVariants.{Paren}
+use Rattle.sh_tree.specs.declared.tree.SingleStyle.{SingleStyle}
+use Rattle.sh_tree.specs.declared.tree.CommandStyle.{CommandStyle}
 use Rattle.sh_tree.specs.declared.tree.Subject.{Subject}
 use Rattle.sh_tree.specs.declared.tree.Action.{Action}
 use Rattle.sh_tree.specs.declared.tree.Removal.{Removal}
@@ -47,7 +47,8 @@ use Rattle.sh_tree.specs.declared.token.command.Stage.{Stage}
 use Rattle.sh_tree.specs.declared.token.command.Stage.TheVariants.{First, Prefixed, Named}
 use Rattle.sh_tree.specs.declared.token.command.Lead.{Lead}
 use Rattle.sh_tree.specs.declared.token.command.Lead.TheVariants as lead
-use Rattle.sh_tree.specs.standard.language.Words.{token, in_double, in_use, in_removal, in_arithmetic}
+use Rattle.sh_tree.specs.standard.language.Words.{token, is_quoted, in_double, in_use, in_removal, in_arithmetic}
+use Rattle.sh_tree.specs.standard.language.Substitutions.{commands_text, closes, keeps_backslashes}
 use Rattle.sh_tree.specs.standard.language.Arithmetic.{lexeme, is_closed, binary_of, unary_of, assignment_of, unary_level}
 use Rattle.sh_tree.specs.standard.language.Commands.{lead_at, blanks, name_end, declares, redirection, direction_of, strip_of, is_location, is_word, is_redirection, is_reserved, begins_simple, begins_compound, begins_command, begins_pipeline, separator, link_of, clause_end_of, is_bar, is_newline_lead, is_esac, is_open, is_bare_name}
 use Rattle.sh_tree.specs.standard.language.Contexts.{in_word, in_unsplit, in_value, in_stage, in_document_of}
@@ -127,7 +128,7 @@ is_expansion (sign.Value p) = true
 is_expansion (sign.Length p) = true
 is_expansion (sign.Use p a c) = true
 is_expansion (sign.Remove p r) = true
-is_expansion sign.Substitution = true
+is_expansion (sign.Substitution style) = true
 is_expansion sign.Arith = true
 is_expansion _ = false
 
@@ -180,9 +181,9 @@ module _ (limit : ℕ) where
       -- a backslash and a newline
       joined : {b : List ℕ} {x : Context} {s : Spot} {e : ℕ}
           → ReadsPart b x sign.Joined s e (to e s) (part.Joined (span s.at e))
-      -- 'bytes'
-      single_quoted : {b : List ℕ} {x : Context} {s : Spot} {e : ℕ}
-          → ReadsPart b x sign.Single s e (to e s) (part.Single single.Plain (span s.at e))
+      -- 'bytes' or $'bytes'
+      single_quoted : {b : List ℕ} {x : Context} {s : Spot} {e : ℕ} {style : SingleStyle}
+          → ReadsPart b x (sign.Single style) s e (to e s) (part.Single style (span s.at e))
       -- ~ or ~login
       tilde : {b : List ℕ} {x : Context} {s : Spot} {e : ℕ}
           → ReadsPart b x sign.Tilde s e (to e s) (part.Tilde (span s.at e))
@@ -209,10 +210,11 @@ module _ (limit : ℕ) where
           → s.depth < limit → ReadsExpression b (in_arithmetic x) (deeper e s) u a → figure_at b u ≡ figure.Close
           → is_closed b (over b u).at ≡ true
           → ReadsPart b x sign.Arith s e (behind ((over b u).at + 1) u s) (part.Arith (span s.at ((over b u).at + 1)) a)
-      -- $( script )
-      substitution : {b : List ℕ} {x : Context} {s u : Spot} {e : ℕ} {t : Script}
-          → s.depth < limit → ReadsScript b (deeper (blanks s.joins b e) s) u t → is_closed b u.at ≡ true
-          → ReadsPart b x sign.Substitution s e (behind (u.at + 1) u s) (part.Command Paren (span s.at (u.at + 1)) t)
+      -- $( script ), or ` script ` in a text that ends with its closing backquote
+      substitution : {b : List ℕ} {x : Context} {s u : Spot} {e : ℕ} {style : CommandStyle} {t : Script}
+          → s.depth < limit → keeps_backslashes style (is_quoted x.site) b e ≡ true
+          → ReadsScript (commands_text style b e) (deeper (blanks s.joins (commands_text style b e) e) s) u t → closes style (commands_text style b e) u.at ≡ true
+          → ReadsPart b x (sign.Substitution style) s e (behind (u.at + 1) u s) (part.Command style (span s.at (u.at + 1)) t)
 
     -- Arithmetic (XCU 2.6.4); x is the context of its expansions
 

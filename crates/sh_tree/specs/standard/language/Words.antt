@@ -9,6 +9,8 @@ use Rattle.sh_tree.specs.declared.tree.Special.TheVariants as special
 use Rattle.sh_tree.specs.declared.tree.Action.{Action}
 use Rattle.sh_tree.specs.declared.tree.Action.TheVariants as action
 use Rattle.sh_tree.specs.declared.tree.Removal.TheVariants as removal
+use Rattle.sh_tree.specs.declared.tree.SingleStyle.TheVariants as style
+use Rattle.sh_tree.specs.declared.tree.CommandStyle.TheVariants.{Paren, Backquote}
 use Rattle.sh_tree.specs.declared.refusal.Fault.TheVariants as fault
 use Rattle.sh_tree.specs.declared.refusal.Form.TheVariants as form
 use Rattle.sh_tree.specs.declared.token.word.Site.{Site}
@@ -17,7 +19,7 @@ use Rattle.sh_tree.specs.declared.token.word.Context.{Context}
 use Rattle.sh_tree.specs.declared.token.word.Sign.{Sign}
 use Rattle.sh_tree.specs.declared.token.word.Sign.TheVariants as sign
 use Rattle.sh_tree.specs.declared.token.word.Token.{Token}
-use Rattle.sh_tree.specs.standard.language.Bytes.{is_in, is_newline, is_tab, is_digit, is_name_start, is_name_byte, ends_token, run, is_first, name_length, decimal, behind_joined, is_joined}
+use Rattle.sh_tree.specs.standard.language.Bytes.{is_in, is_newline, is_tab, is_digit, is_name_start, is_name_byte, ends_token, run, is_first, is_last_backquote, name_length, decimal, behind_joined, is_joined}
 use Rattle.sh_tree.specs.standard.language.Trees.{span}
 
 -- Sites
@@ -80,7 +82,7 @@ is_login_byte c = is_name_byte c || is_in (codes ".+-") c
 unfoldable pub tilde_length : Context → List ℕ → ℕ
 tilde_length x cs =
     let rest = drop (run is_login_byte cs) cs in
-    if length rest == 0 || is_first (λ c. c == byte.slash || (x.colons && c == byte.colon) || stops x.site c) rest || is_joined rest then run is_login_byte cs + 1 else 0
+    if length rest == 0 || is_first (λ c. c == byte.slash || (x.colons && c == byte.colon) || stops x.site c) rest || is_joined rest || is_last_backquote rest then run is_login_byte cs + 1 else 0
 
 -- a tilde-prefix is looked for at i, behind the plain byte `prior`
 abbrev pub may_be_tilde : Context → ℕ → ℕ → Bool
@@ -131,7 +133,7 @@ unfoldable pub parenthesis : List ℕ → Sign × ℕ
 parenthesis rest =
     if is_first (λ c. c == byte.left_parenthesis) rest then (sign.Arith, 3)
     else (if is_first (λ c. c == byte.left_parenthesis) (behind_joined rest) then (sign.LeftOut form.Continuation, 2)
-    else (sign.Substitution, 2))
+    else (sign.Substitution Paren, 2))
 
 -- Braced expansions, behind `${`
 
@@ -217,6 +219,25 @@ braced_expansion_by i cs None = special_or_length i cs
 unfoldable pub braced_expansion : ℕ → List ℕ → Sign × ℕ
 braced_expansion i cs = braced_expansion_by i cs (parameter (i + 2) cs)
 
+-- a byte that a backslash in `$'` keeps, or stands with it for another (XCU 2.2.4)
+abbrev pub is_dollar_escape : ℕ → Bool
+is_dollar_escape c = is_in (codes "\"'\\abefnrtv") c
+
+-- n bytes further on, unless a fault is told
+abbrev pub told_or : ℕ → Sign × ℕ → Sign × ℕ
+told_or n (sign.Single s, m) = (sign.Single s, n + m)
+told_or n (sign.LeftOut f, m) = (sign.LeftOut f, n + m)
+told_or n found = found
+
+-- what follows `$'`, up to the quote that no backslash escapes
+unfoldable pub dollar_quoted : List ℕ → Sign × ℕ
+dollar_quoted [] = (sign.Fault fault.OpenSingle, 0)
+dollar_quoted (c ∷ []) = if c == byte.apostrophe then (sign.Single style.Dollar, 1) else (sign.Fault fault.OpenSingle, 0)
+dollar_quoted (c ∷ d ∷ cs) =
+    if c == byte.apostrophe then (sign.Single style.Dollar, 1)
+    else (if c == byte.backslash then (if is_dollar_escape d then told_or 2 (dollar_quoted cs) else (sign.LeftOut form.DollarEscape, 0))
+    else told_or 1 (dollar_quoted (d ∷ cs)))
+
 -- a `$` at i that opens something, before cs
 unfoldable pub dollar_expansion : ℕ → List ℕ → Sign × ℕ
 dollar_expansion i [] = (sign.Plain, 1)
@@ -225,7 +246,7 @@ dollar_expansion i (c ∷ rest) =
     else (if c == byte.left_brace then braced_expansion i rest
     else (if c == byte.left_parenthesis then parenthesis rest
     else (if c == byte.left_bracket then (sign.LeftOut form.DollarBracket, 0)
-    else (if c == byte.apostrophe then (sign.LeftOut form.DollarSingle, 0)
+    else (if c == byte.apostrophe then told_or 2 (dollar_quoted rest)
     else (if c == byte.quotation_mark then (sign.LeftOut form.DollarDouble, 0)
     else single_parameter i c)))))
 
@@ -269,7 +290,7 @@ plain_length x prior i (c ∷ cs) = if stands x prior i c cs then 1 + plain_leng
 
 -- a word ends before continuations behind which no token goes on
 abbrev pub ends_joined : List ℕ → Bool
-ends_joined cs = length (behind_joined cs) == 0 || is_first ends_token (behind_joined cs)
+ends_joined cs = length (behind_joined cs) == 0 || is_first ends_token (behind_joined cs) || is_last_backquote (behind_joined cs)
 
 abbrev pub is_word_site : Site → Bool
 is_word_site Word = true
@@ -296,11 +317,17 @@ backslash x (c ∷ rest) =
 
 -- a single quote, before cs (XCU 2.2.2)
 unfoldable pub single : List ℕ → Sign × ℕ
-single cs = let n = run (λ c. not (c == byte.apostrophe)) cs in if nat_lt n (length cs) then (sign.Single, n + 2) else (sign.Fault fault.OpenSingle, 0)
+single cs = let n = run (λ c. not (c == byte.apostrophe)) cs in if nat_lt n (length cs) then (sign.Single style.Plain, n + 2) else (sign.Fault fault.OpenSingle, 0)
 
 -- a double quote that ends nothing
 abbrev pub double : Site → Sign × ℕ
 double s = if is_default_site s then (sign.LeftOut form.QuotedInDefault, 0) else (sign.Double, 1)
+
+-- a backquote, before cs: where it ends the text a word ends before it
+unfoldable pub backquoted : Context → List ℕ → Sign × ℕ
+backquoted x cs =
+    if is_word_site x.site && length cs == 0 then (sign.Stop, 0)
+    else (if x.backquotes then (sign.Substitution Backquote, 1) else (sign.LeftOut form.Backquoted, 0))
 
 -- what the byte c at i begins, which does not stand for itself
 unfoldable pub meant_by : Context → ℕ → ℕ → List ℕ → Sign × ℕ
@@ -308,7 +335,7 @@ meant_by x i c cs =
     if c == byte.backslash then backslash x cs
     else (if c == byte.apostrophe then single cs
     else (if c == byte.quotation_mark then double x.site
-    else (if c == byte.backquote then (sign.LeftOut form.Backquoted, 0)
+    else (if c == byte.backquote then backquoted x cs
     else dollar x i cs)))
 
 unfoldable pub sign_by : Context → ℕ → ℕ → ℕ → List ℕ → Sign × ℕ
@@ -348,12 +375,12 @@ is_alternative _ = false
 
 -- in the word behind `-`, `=`, `?` or `+`, from i on
 abbrev pub in_use : Context → Action → ℕ → Context
-in_use x a i = record x { site = if is_quoted x.site then QuotedBraced else Braced; origin = i; fields = x.fields && not (is_quoted x.site) && is_alternative a }
+in_use x a i = record x { site = if is_quoted x.site then QuotedBraced else Braced; origin = i; fields = x.fields && not (is_quoted x.site) && is_alternative a; backquotes = x.backquotes && not (is_quoted x.site) }
 
 -- in the pattern of a removal, from i on, which is read as outside quotes
 abbrev pub in_removal : Context → ℕ → Context
-in_removal x i = record x { site = Braced; origin = i; fields = false }
+in_removal x i = record x { site = Braced; origin = i; fields = false; backquotes = x.backquotes && not (is_quoted x.site) }
 
 -- around an expansion that is an operand of arithmetic, which is read as in double quotes
 abbrev pub in_arithmetic : Context → Context
-in_arithmetic x = record (in_double x) { fields = false }
+in_arithmetic x = record (in_double x) { fields = false; backquotes = false }

@@ -30,7 +30,7 @@ mutual
     Plain : (text : Text) → Part
     -- the byte that a backslash keeps
     Escaped : (text : Text) → Part
-    -- the bytes between single quotes
+    -- the bytes that single quotes keep, or those of `$'` after its escapes
     Single : (style : SingleStyle) (text : Text) → Part
     Double : (inside : Word) → Part
     Expansion : (at : ℕ) (parameter : Parameter) (operator : Operator) → Part

@@ -14,19 +14,12 @@ use Rattle.sh_tree.specs.declared.tree.Part.{Part, Plain, Escaped, Single, Doubl
 use Rattle.sh_tree.specs.declared.tree.Part.TheVariants as part
 use Rattle.sh_tree.specs.declared.tree.Pipe.{Pipe, Pipe', Row_of-Command, end_of-Command, more_of-Command}
 use Rattle.sh_tree.specs.declared.tree.Script.{Script, Script', Row_of-Item, end_of-Item, more_of-Item}
-use Rattle.sh_tree.specs.declared.tree.SingleStyle.{SingleStyle}
-use Rattle.sh_tree.specs.declared.tree.SingleStyle.TheVariants as single
 use Rattle.sh_tree.specs.declared.tree.Subject.{Subject}
 use Rattle.sh_tree.specs.declared.tree.Subject.TheVariants as subject
 use Rattle.sh_tree.specs.declared.tree.Target.{Target, File', Here'}
 use Rattle.sh_tree.specs.standard.Tree.{text_of}
-use Rattle.sh_tree.specs.standard.Words.{behind_first, between_ends}
+use Rattle.sh_tree.specs.standard.Words.{behind_first, single_text}
 use Rattle.sh_tree.specs.standard.program.Syntax as p
-
--- the bytes between the quotes
-unfoldable pub single_of : SingleStyle → List ℕ → List ℕ
-single_of single.Plain t = between_ends t
-single_of single.Dollar t = between_ends (behind_first t)
 
 unfoldable pub parameter_of : List ℕ → Subject → p.Parameter
 parameter_of b (subject.Name s) = p.Variable (text_of b s)
@@ -37,7 +30,7 @@ unfoldable mutual
   pub part_of : List ℕ → Part → p.Part
   part_of b (Plain s) = p.Plain (text_of b s)
   part_of b (Escaped s) = p.Escaped (behind_first (text_of b s))
-  part_of b (Single style s) = p.Single style (single_of style (text_of b s))
+  part_of b (Single style s) = p.Single style (single_text style (text_of b s))
   part_of b (Double' s shape row) = p.Double (word_of b row)
   part_of b (Param' s subject operator) = p.Expansion s.start (parameter_of b subject) (operator_of b operator)
   part_of b (Arith' s shape row) = p.Arithmetic s.start (held_of b row)

@@ -3,24 +3,17 @@
 use Rattle.std.specs.Prelude.{ℕ, ◌+◌, ◌==◌, Bool, false, not, ◌&&◌, ◌||◌, if◌then◌else◌, List, [], ◌∷◌, take, drop, Option, Some, None}
 use Rattle.std.specs.List.{list_any}
 use Rattle.std.specs.Str.{bytes_eq}
-use Rattle.sh_tree.specs.declared.tree.SingleStyle.{SingleStyle}
-use Rattle.sh_tree.specs.declared.tree.SingleStyle.TheVariants as single
 use Rattle.sh_tree.specs.standard.Words.{both_texts, is_wildcard}
 use Rattle.sh_tree.specs.standard.language.Bytes.{name_length}
 use Rattle.sh_tree.specs.standard.language.Commands.{is_assignment}
 use Rattle.sh_tree.specs.standard.program.Syntax.{Text, Part, Plain, Escaped, Single, Double, Joined, Word, no_parts, more_parts, Words, no_words, more_words, Elements, no_elements, assignment, operand, redirection, Redirects, no_redirects, more_redirects}
-
--- what single quotes hold; what `$'` holds is not stated yet
-unfoldable pub quoted_text : SingleStyle → Text → Option Text
-quoted_text single.Plain t = Some t
-quoted_text single.Dollar t = None
 
 -- the text of a part without its quoting, if it holds no expansion and is no tilde-prefix
 unfoldable mutual
   pub part_text : Part → Option Text
   part_text (Plain t) = Some t
   part_text (Escaped t) = Some t
-  part_text (Single style t) = quoted_text style t
+  part_text (Single style t) = Some t
   part_text (Double w) = word_text w
   part_text Joined = Some []
   part_text _ = None

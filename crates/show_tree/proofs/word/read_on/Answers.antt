@@ -10,18 +10,18 @@ use Rattle.show_tree.proofs.word.read_on.Goals as goal
 
 -- commands were asked for
 asked : (c : goal.In-Ok) → Answers (seen c.args.text.now c.args.builder.now.mode) (Left (seen c.args.text.now c.args.builder.now.mode) c.args.builder.now) c.run.new.self
-    (Inner c.in-Ok-Inner.at c.in-Ok-Inner.depth)
+    (Inner c.in-Ok-Inner.at c.in-Ok-Inner.depth c.in-Ok-Inner.style c.in-Ok-Inner.field-0-3)
 asked c =
     subst (λ n. Answers (seen c.args.text.now c.args.builder.now.mode) (Left (seen c.args.text.now c.args.builder.now.mode) c.args.builder.now) c.run.new.self n)
     c.in-Ok-Inner.field-0-is (c.in-Ok-Inner.ensures.runs c.requires.reads)
 
-moved : (c : goal.In-Ok) → RunMoves (seen c.args.text.now c.args.builder.now.mode) c.args.builder.now c.run.new.self (Ok (Inner c.in-Ok-Inner.at c.in-Ok-Inner.depth))
+moved : (c : goal.In-Ok) → RunMoves (seen c.args.text.now c.args.builder.now.mode) c.args.builder.now c.run.new.self (Ok (Inner c.in-Ok-Inner.at c.in-Ok-Inner.depth c.in-Ok-Inner.style c.in-Ok-Inner.field-0-3))
 moved c =
     subst (λ n. RunMoves (seen c.args.text.now c.args.builder.now.mode) c.args.builder.now c.run.new.self (Ok n)) c.in-Ok-Inner.field-0-is c.in-Ok-Inner.ensures.moves
 
 -- and handed back
-fed_is : (c : goal.In-Ok) → c.resume.new.self ≡ fed c.run.new.self (asked c).0 c.no_commands.result c.closed-end.result
-fed_is c = c.in-Ok.ensures.gives (asked c).0 (asked c).1 ((moved c).5.3 ∙ c.requires.reads)
+fed_is : (c : goal.In-Ok) → c.resume.new.self ≡ fed c.run.new.self (asked c).0 c.in-Ok-Inner.style c.no_commands.result c.closed-end.result
+fed_is c = c.in-Ok.ensures.gives (asked c).0 c.in-Ok-Inner.style (asked c).1 ((moved c).5.3 ∙ c.requires.reads)
 
 pub returns-in-Ok-clause-mode : goal.returns-in-Ok-clause-mode
 returns-in-Ok-clause-mode c = λ _. ap (λ (w : WordBuilder). w.mode) (fed_is c) ∙ (moved c).5.0 ∙ c.requires.mode

@@ -1,15 +1,12 @@
-use Rattle.std.proofs.Common.{Ok, ◌+◌, ◌≤◌, ◌∙◌, length, le_trans, sym, ap, subst}
+use Rattle.std.proofs.Common.{Ok, ◌+◌, ◌≤◌, ◌∙◌, length, sym, ap, subst}
 use Rattle.std.proofs.lemmas.Result.{err_from_is_err_and}
 use Rattle.sh_words.specs.Clauses.{Answers}
 use Rattle.sh_words.specs.Modes.{seen}
 use Rattle.sh_words.specs.Rest.{Left}
 use Rattle.sh_words.specs.States.{fed}
 use Rattle.sh_words.specs.Sound.{RunMoves, TakesWord}
-use Rattle.sh_grammar.specs.declared.state.State.{State}
-use Rattle.sh_grammar.specs.Readers.{One, Refused}
-use Rattle.sh_grammar.specs.States.{here, substituted}
-use Rattle.sh_grammar.specs.Substitutions.{ClosedFrom}
-use Rattle.sh_grammar.proofs.StateLemmas.{lies_of}
+use Rattle.sh_grammar.specs.Readers.{Refused}
+use Rattle.sh_grammar.specs.Substitutions.{AskedFrom, Handed}
 use Rattle.sh_grammar.proofs.WordLemmas.{Driven, word_refused, word_done, inner_refused, driven_fed, fed_moves}
 use Rattle.sh_grammar.proofs.grammar.Grammar.built.Goals as goal
 
@@ -41,12 +38,13 @@ returns-in_err-commands-in-Inner g c =
     let b = c.args.script.now in
     let w = at.builder in
     let new = c.run.new.self in
+    let n = c.in-Inner in
     let text = seen b w.mode in
-    let asked = subst (λ n. Answers text (Left text w) new n) c.in-Inner.is (c.in_ok-word.ensures.runs d.goes) in
+    let asked = subst (λ x. Answers text (Left text w) new x) n.is (c.in_ok-word.ensures.runs d.goes) in
     let residual = c.from_residual-in_err-commands-in-Inner in
     let p = err_from_is_err_and residual.result residual.ensures.1 in
-    rw (p.1, p.2) (inner_refused b c.args.mode c.requires.whole c.args.at c.args.from at.last w d new asked.0 c.in-Inner.at c.in-Inner.depth _ asked.2
-    (subst (λ s. Refused b (ClosedFrom b s) c.in_err-commands-in-Inner.field-0.0) (c.in_ok-first-in-Inner.ensures ∙ c.within-inside.ensures.value ∙ ap (substituted b c.in-Inner.at c.in-Inner.depth) c.get.ensures) c.in_err-commands-in-Inner.ensures))
+    rw (p.1, p.2) (inner_refused b c.args.mode c.requires.whole c.args.at c.args.from at.last w d new asked.0 n.at n.depth n.style n.quoted asked.2 _
+    (subst (λ s. Refused b (AskedFrom b n.style n.quoted n.at n.depth s) c.in_err-commands-in-Inner.field-0.0) c.get-in-Inner.ensures c.in_err-commands-in-Inner.ensures))
 
 pub loop-last-smaller : goal.loop-last-smaller
 loop-last-smaller g c =
@@ -55,12 +53,14 @@ loop-last-smaller g c =
     let b = c.args.script.now in
     let w = at.builder in
     let new = c.run.new.self in
+    let n = c.in-Inner in
     let text = seen b w.mode in
     let found = c.in_ok-commands-in-Inner in
-    fed_moves b c.args.mode c.requires.whole c.args.at c.args.from at.last w d new c.resume.new.self c.in-Inner.at c.in-Inner.depth found.commands found.end
-    (subst (λ n. Answers text (Left text w) new n) c.in-Inner.is (c.in_ok-word.ensures.runs d.goes)) (subst (λ n. RunMoves text w new (Ok n)) c.in-Inner.is c.in_ok-word.ensures.moves)
-    (subst (λ s. One (ClosedFrom b s) (here found.end) found.commands) (c.in_ok-first-in-Inner.ensures ∙ c.within-inside.ensures.value ∙ ap (substituted b c.in-Inner.at c.in-Inner.depth) c.get.ensures) found.ensures.one) (le_trans (subst (λ (s : State). c.in-Inner.at ≤ s.at) (sym c.in_ok-first-in-Inner.ensures) c.within-inside.ensures.after) found.ensures.from)
-    (λ start waits goes. c.in_ok-resume-in-Inner.ensures.gives start waits goes ∙ ap (λ i. fed new start found.commands (i + 1)) c.at.ensures)
+    let asked = subst (λ x. Answers text (Left text w) new x) n.is (c.in_ok-word.ensures.runs d.goes) in
+    fed_moves b c.args.mode c.requires.whole c.args.at c.args.from at.last w d new asked.0 n.at n.depth n.style n.quoted asked.2 asked.1
+    (subst (λ x. RunMoves text w new (Ok x)) n.is c.in_ok-word.ensures.moves) c.resume.new.self found.commands found.end
+    (subst (λ s. Handed b n.style n.quoted n.at n.depth s found.commands found.end) c.get-in-Inner.ensures found.ensures)
+    (λ start style waits goes. c.in_ok-resume-in-Inner.ensures.gives start style waits goes ∙ ap (λ i. fed new start style found.commands (i + 1)) c.at.ensures)
 
 pub loop-last-preserved : goal.loop-last-preserved
 loop-last-preserved g c =
@@ -69,14 +69,15 @@ loop-last-preserved g c =
     let b = c.args.script.now in
     let w = at.builder in
     let new = c.run.new.self in
+    let n = c.in-Inner in
     let text = seen b w.mode in
     let found = c.in_ok-commands-in-Inner in
+    let asked = subst (λ x. Answers text (Left text w) new x) n.is (c.in_ok-word.ensures.runs d.goes) in
     record {
-      driven = subst (λ v. Driven b c.args.mode c.args.at c.args.from c.resume.new.self v) (sym (c.counting-last.ensures ∙ ap (λ n. record at.last { count = n }) c.count.ensures))
-          (driven_fed b c.args.mode c.requires.whole c.args.at c.args.from at.last w d new c.resume.new.self c.in-Inner.at c.in-Inner.depth found.commands found.end
-          (subst (λ n. Answers text (Left text w) new n) c.in-Inner.is (c.in_ok-word.ensures.runs d.goes))
-          (subst (λ n. RunMoves text w new (Ok n)) c.in-Inner.is c.in_ok-word.ensures.moves)
-          (subst (λ s. One (ClosedFrom b s) (here found.end) found.commands) (c.in_ok-first-in-Inner.ensures ∙ c.within-inside.ensures.value ∙ ap (substituted b c.in-Inner.at c.in-Inner.depth) c.get.ensures) found.ensures.one)
-          (le_trans (subst (λ (s : State). c.in-Inner.at ≤ s.at) (sym c.in_ok-first-in-Inner.ensures) c.within-inside.ensures.after) found.ensures.from) (lies_of b found.end found.ensures.stands) (λ start waits goes. c.in_ok-resume-in-Inner.ensures.gives start waits goes ∙ ap (λ i. fed new start found.commands (i + 1)) c.at.ensures)
+      driven = subst (λ v. Driven b c.args.mode c.args.at c.args.from c.resume.new.self v) (sym (c.counting-last.ensures ∙ ap (λ k. record at.last { count = k }) c.count.ensures))
+          (driven_fed b c.args.mode c.requires.whole c.args.at c.args.from at.last w d new asked.0 n.at n.depth n.style n.quoted asked.2 asked.1
+          (subst (λ x. RunMoves text w new (Ok x)) n.is c.in_ok-word.ensures.moves) c.resume.new.self found.commands found.end
+          (subst (λ s. Handed b n.style n.quoted n.at n.depth s found.commands found.end) c.get-in-Inner.ensures found.ensures)
+          (λ start style waits goes. c.in_ok-resume-in-Inner.ensures.gives start style waits goes ∙ ap (λ i. fed new start style found.commands (i + 1)) c.at.ensures)
           (λ x inside. c.in_ok-resume-in-Inner.ensures.sound x (subst (λ i. i + 1 ≤ length x) (sym c.at.ensures) inside)));
     }

@@ -1,4 +1,4 @@
-use Rattle.std.proofs.Common.{Ok, ◌+◌, ◌<◌, ◌≤◌, length, sym, ap, subst, lt_of_lt_of_le}
+use Rattle.std.proofs.Common.{Ok, ◌+◌, ◌<◌, ◌≤◌, sym, ap, subst, lt_of_lt_of_le, arith}
 use Rattle.std.proofs.lemmas.Result.{err_from_is_err_and}
 use Rattle.sh_tree.specs.declared.limits.TheConstants.{MAX_NESTING}
 use Rattle.sh_tree.specs.declared.tree.HereDoc.{HereDoc}
@@ -28,12 +28,14 @@ returns g c =
     let found = c.in_ok-word in
     let mark = c.in_ok-mark in
     let ready = subst (λ n. Awaits b at.at c.args.strip found.word n (Ok mark.mark)) c.depth-depth.ensures mark.ensures in
-    let inside = subst (λ i. i < length b) (sym mark.ensures.0) (lt_of_lt_of_le c.requires.operator c.requires.within) in
+    let before = subst (λ i. i < found.behind.at) (sym mark.ensures.0) (lt_of_lt_of_le c.requires.operator found.ensures.reads.from) in
     let shallow = subst (λ n. n ≤ MAX_NESTING) (sym (ap (λ (m : documents.Mark). m.depth) ready.2)) c.requires.stands.shallow in
+    let moves = c.requires.moves in
+    let further = found.ensures.reads.from in
     let last = tree.here_doc c.args.strip found.word no_document.text no_document.end in
     subst (λ (d : HereDoc). To b (RedirectFrom b s) (s.at + 1) (tree.redirect at.at at.number (Here d)) c.in_ok-behind.behind) (sym c.awaited.ensures)
     (subst (λ (v : State). To b (RedirectFrom b s) (s.at + 1) (tree.redirect at.at at.number (Here last)) v) (sym c.in_ok-behind.ensures) (record {
       one = document_read b s at c.requires.begins c.args.strip c.requires.way found.word found.behind found.ensures.reads.one mark.mark ready.1 ready.2;
-      from = found.ensures.reads.from;
-      stands = awaiting_stands b found.behind mark.mark found.ensures.reads.stands inside shallow;
+      from = omega arith;
+      stands = awaiting_stands b found.behind mark.mark found.ensures.reads.stands before shallow;
     }))

@@ -1,6 +1,6 @@
 use Rattle.std.proofs.Common.{◌≡◌, None, false, [], sym, ap, subst, ◌∙◌}
 use Rattle.sh_bodies.specs.Fill.{fill}
-use Rattle.sh_tree.specs.standard.language.Arithmetic.{is_closed}
+use Rattle.sh_tree.specs.standard.language.Substitutions.{closes}
 use Rattle.sh_grammar.specs.declared.state.State.{State}
 use Rattle.sh_grammar.specs.Readers.{One, To}
 use Rattle.sh_grammar.specs.States.{here, waiting}
@@ -15,12 +15,13 @@ returns g c =
     let s = c.args.from in
     let found = c.in_ok-commands in
     let end = found.behind in
-    let close = ap (is_closed b) (sym c.at.ensures) ∙ sym c.is_closed.ensures.value ∙ c.if-not-is_closed.false in
+    let style = c.args.style in
+    let close = ap (closes style b) (sym c.at.ensures) ∙ sym c.closes_at.ensures.value ∙ c.if-not-closes_at.false in
     let none = c.in_default.ensures ∙ ap (λ (v : State). waiting None v.pending) c.get-2.ensures in
     let list : c.in_ok-list.list ≡ fill end.bodies found.commands = c.in_ok-list.ensures ∙ ap (λ ds. fill ds found.commands) c.ended-bodies.ensures.bodies in
-    let one = closed_read b s c.requires.level end found.commands found.ensures.one close none in
-    subst (λ v. To b (ClosedFrom b s) s.at c.in_ok-list.list v) (sym c.ended-bodies.ensures.level) (record {
-      one = subst (λ t. One (ClosedFrom b s) (here (record end { closed = false; bodies = [] })) t) (sym list) one;
+    let one = closed_read style b s c.requires.level end found.commands found.ensures.one close none in
+    subst (λ v. To b (ClosedFrom style b s) s.at c.in_ok-list.list v) (sym c.ended-bodies.ensures.level) (record {
+      one = subst (λ t. One (ClosedFrom style b s) (here (record end { closed = false; bodies = [] })) t) (sym list) one;
       from = found.ensures.from;
       stands = ended_stands b end found.ensures.stands;
     })

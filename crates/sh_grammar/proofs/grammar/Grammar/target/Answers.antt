@@ -34,7 +34,6 @@ returns-clause-reads g c =
     let some = sym (c.is_word.ensures ∙ ap is_word c.lead.ensures.value) ∙ c.if-not-is_word.false in
     let word = subst (λ t. is_word (lead_at b (Named false) t.at) ≡ true) c.next_from-target.ensures.value some in
     let one = subst (λ t. One (WordAt b (in_unsplit t.at) t.at t) (here found.behind) found.word) c.next_from-target.ensures.value found.ensures.reads.one in
-    let moves = c.requires.moves in
     let after = c.next_from-target.ensures.after in
     let further = found.ensures.reads.from in
     record {

@@ -1,11 +1,12 @@
-use Rattle.std.proofs.Common.{◌≡◌, rules, true, false, sym, ap, ◌∙◌}
+use Rattle.std.proofs.Common.{◌≡◌, rules, false, sym, ap, ◌∙◌, subst}
+use Rattle.sh_words.specs.Clauses.{Steps}
 use Rattle.sh_words.specs.Signs.{is_substitution}
 use Rattle.sh_words.specs.States.{opening_of}
 use Rattle.sh_words.specs.Rest.{LeftPart}
 use Rattle.sh_words.specs.Faults.{no_part}
 use Rattle.sh_words.proofs.Exchange.{fault_refuses}
 use Rattle.sh_words.proofs.FaultLemmas.{no_part_is_fault}
-use Rattle.sh_words.proofs.PartLemmas.{whole_keeps, whole_works, whole_takes, opening_steps, opening_works, opening_takes, substitution_steps, no_part_left}
+use Rattle.sh_words.proofs.PartLemmas.{whole_keeps, whole_works, whole_takes, opening_steps, opening_works, opening_takes, no_part_left}
 use Rattle.sh_words.proofs.builder.WordBuilder.part_step.Goals as goal
 
 pub returns-in-Some-clause-keeps : goal.returns-in-Some-clause-keeps
@@ -32,11 +33,11 @@ returns-in-Some-opening_of-clause-works c =
     c.requires.after c.requires.token.1 c.requires.token.2 (ap (λ x. opening_of x t.sign t.end) (sym c.context.ensures) ∙ sym c.opening_of.ensures ∙ c.in-Some-opening_of.is)
     c.open_part.ensures
 
-pub returns-then-eq-clause-keeps : goal.returns-then-eq-clause-keeps
-returns-then-eq-clause-keeps c =
-    let is : is_substitution c.args.token.sign ≡ true = search rules in
-    substitution_steps c.args.script.now c.args.self.now c.ask.new.self c.args.token.sign c.args.start c.args.token.end c.ask.result is
-    c.requires.inside c.ask.ensures
+pub returns-in-Substitution-clause-keeps : goal.returns-in-Substitution-clause-keeps
+returns-in-Substitution-clause-keeps c =
+    let t = c.args.token in
+    subst (λ s. Steps c.args.script.now (LeftPart c.args.script.now c.args.self.now s c.args.start t.end) c.substitution_step.new.self c.substitution_step.result) (sym c.in-Substitution.is)
+    c.substitution_step.ensures.keeps
 
 pub returns-clause-keeps : goal.returns-clause-keeps
 returns-clause-keeps c =

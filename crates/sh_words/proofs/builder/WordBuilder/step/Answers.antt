@@ -38,4 +38,4 @@ returns-in-Have-clause-keeps c =
     (unfocused c.args.self.now (focus.Have c.in-Have.expr) (sym c.in-Have.ensures.value)) c.have_step.ensures.keeps
 
 pub returns-in-Commands-clause-keeps : goal.returns-in-Commands-clause-keeps
-returns-in-Commands-clause-keeps c = waiting_ends c.args.script.now c.args.self.now c.in-Commands.start (sym c.in-Commands.ensures.value) c.requires.sound
+returns-in-Commands-clause-keeps c = waiting_ends c.args.script.now c.args.self.now c.in-Commands.start c.in-Commands.field-1 (sym c.in-Commands.ensures.value) c.requires.sound

@@ -1,0 +1,34 @@
+-- The text that the commands of a substitution are read in, and what closes them.
+-- POSIX.1-2024, XCU 2.6.3 (command substitution).
+use Rattle.std.specs.Prelude.{ℕ, ◌+◌, Bool, true, false, not, ◌&&◌, ◌||◌, ◌==◌, List, [], ◌∷◌, drop, take, codes}
+use Rattle.sh_tree.specs.standard.language.Characters as byte
+use Rattle.sh_tree.specs.declared.tree.CommandStyle.{CommandStyle}
+use Rattle.sh_tree.specs.declared.tree.CommandStyle.TheVariants.{Paren, Backquote}
+use Rattle.sh_tree.specs.standard.language.Arithmetic.{is_closed}
+use Rattle.sh_tree.specs.standard.language.Bytes.{is_in, is_backslash, is_first, is_last_backquote, run}
+
+abbrev pub no_backquote : ℕ → Bool
+no_backquote c = not (c == byte.backquote)
+
+-- where the first backquote at or behind e ends
+abbrev pub backquote_end : List ℕ → ℕ → ℕ
+backquote_end b e = e + run no_backquote (drop e b) + 1
+
+-- Commands between backquotes are read in the text up to the first backquote behind the opening one, and with it.
+unfoldable pub commands_text : CommandStyle → List ℕ → ℕ → List ℕ
+commands_text Paren b e = b
+commands_text Backquote b e = take (backquote_end b e) b
+
+-- what closes them stands at i
+unfoldable pub closes : CommandStyle → List ℕ → ℕ → Bool
+closes Paren b i = is_closed b i
+closes Backquote b i = is_last_backquote (drop i b)
+
+-- a backslash that goes before the commands are read: before `$` or a backslash, and in double quotes before any byte
+unfoldable pub has_kept_backslash : Bool → List ℕ → Bool
+has_kept_backslash quoted [] = false
+has_kept_backslash quoted (c ∷ cs) = (is_backslash c && (quoted || is_first (is_in (codes "$`\\")) cs)) || has_kept_backslash quoted cs
+
+unfoldable pub keeps_backslashes : CommandStyle → Bool → List ℕ → ℕ → Bool
+keeps_backslashes Paren quoted b e = true
+keeps_backslashes Backquote quoted b e = not (has_kept_backslash quoted (drop e (commands_text Backquote b e)))
