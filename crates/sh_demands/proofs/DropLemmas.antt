@@ -1,7 +1,6 @@
 -- The places of the names that a command may drop, by the pieces that name them.
-use Rattle.std.proofs.Common.{◌≡◌, ℕ, Bool, true, false, not, ◌&&◌, ◌||◌, cond, if◌then◌else◌, List, [], ◌∷◌, ◌++◌, filter, fold, map, Option, Some, None, refl, sym, ap, ◌∙◌, Vec, Global}
-use Rattle.std.specs.List.{cons_option, list_any}
-use Rattle.std.specs.Str.{bytes_eq}
+use Rattle.std.proofs.Common.{◌≡◌, ℕ, Bool, true, false, not, ◌&&◌, cond, if◌then◌else◌, List, [], ◌∷◌, ◌++◌, filter, fold, map, Option, Some, None, refl, sym, ap, ◌∙◌}
+use Rattle.std.specs.List.{cons_option}
 use Rattle.std.proofs.lemmas.List.Sums.{fold-append}
 use Rattle.sh_tree.specs.declared.place.Place.{Place}
 use Rattle.sh_tree.specs.declared.tree.Branch.{Branch}
@@ -103,11 +102,6 @@ unset_told b names l k at ps operands ws h =
     sym (removal_told b names (removal_in l) k at ps ws)
     ∙ ap (λ (x : Removal × List Text). all_told k at ps ((removed x.0 (filter is_name x.1)).vars ++ filter (is_one_of names) (removed x.0 (filter is_name x.1)).functions))
     (sym (unset_reads (map (text_in b) operands) ∙ ap (λ (x : Letters × List Static). (removal_in x.0, listed x.1)) h))
-
--- the functions of a script
-pub functions_listed : (names : List (Vec ℕ Global)) (t : Text) → is_one_of (map (λ v. v.items) names) t ≡ list_any (λ (v : Vec ℕ Global). bytes_eq v.items t) names
-functions_listed [] t = refl
-functions_listed (v ∷ vs) t = ap (λ b. bytes_eq v.items t || b) (functions_listed vs t)
 
 -- Prefix assignments
 

@@ -1,5 +1,5 @@
 -- What a simple command may drop, by the static texts of its words, is what the demands say.
-use Rattle.std.proofs.Common.{◌≡◌, ℕ, ◌+◌, Bool, true, false, not, ◌&&◌, ◌||◌, cond, if◌then◌else◌, List, [], ◌∷◌, ◌++◌, append-nil, codes, filter, flat_map, map, Option, Some, None, is_some, refl, sym, ap, ap₂, ◌∙◌}
+use Rattle.std.proofs.Common.{◌≡◌, ℕ, Bool, true, false, not, ◌&&◌, if◌then◌else◌, List, [], ◌∷◌, ◌++◌, append-nil, codes, filter, flat_map, map, Option, Some, None, is_some, refl, sym, ap, ap₂, ◌∙◌}
 use Rattle.std.specs.List.{cons_option, position_from}
 use Rattle.std.specs.Str.{bytes_eq}
 use Rattle.std.proofs.lemmas.List.Elements.{filter_agree}
@@ -14,6 +14,7 @@ use Rattle.sh_table.specs.Profile.{Static}
 use Rattle.sh_table.specs.declared.kind.Kind.{Kind}
 use Rattle.sh_table.specs.declared.kind.Kind.TheVariants as kind
 use Rattle.sh_table.specs.standard.runs.Environment.{is_one_of}
+use Rattle.sh_table.proofs.FunctionLemmas.{is_placed}
 use Rattle.sh_domain.specs.Facts.{Facts, NotReached, Known, Declared, facts, claims, Variable}
 use Rattle.sh_domain.specs.Gains.{Gains, words_gains, with_gains}
 use Rattle.sh_domain.specs.Operands.{Names, no_names, statics, unset_names}
@@ -37,16 +38,6 @@ pub special_same : (k : Kind) → is_special k ≡ kinds.is_special k
 unfolding is_special kinds.is_special
 special_same (kind.Special name) = refl
 special_same k = refl
-
--- a name that has a place
-pub found : (names : List Text) (t : Text) (i : ℕ) → is_some (position_from (λ n. bytes_eq n t) i names) ≡ is_one_of names t
-found [] t i = refl
-found (u ∷ us) t i = go (found us t (i + 1)) (bytes_eq u t)
-  where
-    go : is_some (position_from (λ n. bytes_eq n t) (i + 1) us) ≡ is_one_of us t → (b : Bool)
-        → is_some (cond b (Some i) (position_from (λ n. bytes_eq n t) (i + 1) us)) ≡ (b || is_one_of us t)
-    go h true = refl
-    go h false = h
 
 never : (b : Bool) → (b && false) ≡ false
 never true = refl
@@ -143,13 +134,13 @@ module _ (d : Declared) (c : Certificate) (n : ℕ) (v f : Text → Bool) (a : �
       ∙ ap (λ b. called_drops s n es t (map static_of ws) (if b then None else place s.table.functions.names t)) (sym h)
   by_place t ws false None h k =
       ap (λ b. lost_as (chosen t ws (is_one_of functions t && not b))) (special_same (kind_of t) ∙ h)
-      ∙ ap (λ b. lost_as (chosen t ws (b && true))) (sym (same t) ∙ sym (found s.table.functions.names t 1) ∙ ap (λ (x : Option ℕ). is_some x) k)
+      ∙ ap (λ b. lost_as (chosen t ws (b && true))) (sym (same t) ∙ sym (is_placed s.table.functions.names t 1) ∙ ap (λ (x : Option ℕ). is_some x) k)
       ∙ as_utility t ws
       ∙ ap (called_drops s n es t (map static_of ws)) (sym k)
       ∙ ap (λ b. called_drops s n es t (map static_of ws) (if b then None else place s.table.functions.names t)) (sym h)
   by_place t ws false (Some j) h k =
       ap (λ b. lost_as (chosen t ws (is_one_of functions t && not b))) (special_same (kind_of t) ∙ h)
-      ∙ ap (λ b. lost_as (chosen t ws (b && true))) (sym (same t) ∙ sym (found s.table.functions.names t 1) ∙ ap (λ (x : Option ℕ). is_some x) k)
+      ∙ ap (λ b. lost_as (chosen t ws (b && true))) (sym (same t) ∙ sym (is_placed s.table.functions.names t 1) ∙ ap (λ (x : Option ℕ). is_some x) k)
       ∙ as_call t ws j k
       ∙ ap (called_drops s n es t (map static_of ws)) (sym k)
       ∙ ap (λ b. called_drops s n es t (map static_of ws) (if b then None else place s.table.functions.names t)) (sym h)

@@ -1,7 +1,6 @@
 //! The names that a command may drop: each is told once, at the start of the command (XCU 2.9.1, 2.15).
 ghost use Rattle.std.specs.Prelude.{◌≡◌, ◌++◌, ◌<◌, ◌&&◌, fold, length, map, slice_get};
-ghost use Rattle.std.specs.List.{All, list_any};
-ghost use Rattle.std.specs.Str.{bytes_eq};
+ghost use Rattle.std.specs.List.{All};
 ghost use Rattle.sh_tree.specs.standard.language.Bytes as bytes;
 ghost use Rattle.sh_tree.specs.Lists.{elements_from};
 ghost use Rattle.sh_table.specs.WordTexts.{text_in};
@@ -17,7 +16,7 @@ use crate::known::Known;
 use crate::reports::Reports;
 use sh_domain::{Drops, Names, RowId, Rows};
 use sh_operands::unset_operands;
-use sh_table::WordText;
+use sh_table::{CallTable, WordText};
 use sh_tree::{Code, Element, is_name};
 
 #[tactic(auto, unfolding(crate::specs::DropWalks::told_if))]
@@ -95,18 +94,6 @@ pub fn tell_dropped(
 
 // `unset`
 
-fn is_among(name: &[u8], functions: &[Vec<u8>]) -> bool
-    ensures { result ≡ list_any (λ v. bytes_eq v.items name.now) functions.now }
-{
-    functions.iter().any(|function| function.as_slice() == name)
-}
-
-fn is_function(name: &[u8], functions: &[Vec<u8>]) -> bool
-    ensures { result ≡ is_one_of (map (λ v. v.items) functions.now) name.now }
-{
-    is_among(name, functions)
-}
-
 #[tactic(auto, unfolding(crate::specs::DropWalks::variable_told))]
 fn tell_variable(operand: &WordText, script: &[u8], at: u32, start: usize, reports: &mut Reports)
     ensures { AddsSince start reports.old reports.new (λ k ps. walks.variable_step script.now k at ps operand.now) }
@@ -131,41 +118,41 @@ fn tell_variables(
     }
 }
 
-fn names_function(name: &[u8], functions: &[Vec<u8>]) -> bool
-    ensures { result ≡ (bytes.is_name name.now && is_one_of (map (λ v. v.items) functions.now) name.now) }
+fn names_function(name: &[u8], calls: &CallTable<'_>) -> bool
+    ensures { result ≡ (bytes.is_name name.now && is_one_of calls.now.functions.names name.now) }
 {
-    is_name(name) && is_function(name, functions)
+    is_name(name) && calls.is_function(name)
 }
 
 #[tactic(auto, unfolding(crate::specs::DropWalks::function_told))]
 fn tell_function(
     operand: &WordText,
     script: &[u8],
-    functions: &[Vec<u8>],
+    calls: &CallTable<'_>,
     at: u32,
     start: usize,
     reports: &mut Reports,
 )
-    ensures { AddsSince start reports.old reports.new (λ k ps. walks.function_step script.now (map (λ v. v.items) functions.now) k at ps operand.now) }
+    ensures { AddsSince start reports.old reports.new (λ k ps. walks.function_step script.now calls.now.functions.names k at ps operand.now) }
 {
     match operand.get(script) {
         None => (),
-        Some(name) => tell_if(names_function(name, functions), name, at, start, reports),
+        Some(name) => tell_if(names_function(name, calls), name, at, start, reports),
     }
 }
 
 fn tell_functions(
     operands: &[WordText],
     script: &[u8],
-    functions: &[Vec<u8>],
+    calls: &CallTable<'_>,
     at: u32,
     start: usize,
     reports: &mut Reports,
 )
-    ensures { AddsSince start reports.old reports.new (λ k ps. fold (walks.function_step script.now (map (λ v. v.items) functions.now) k at) ps operands.now) }
+    ensures { AddsSince start reports.old reports.new (λ k ps. fold (walks.function_step script.now calls.now.functions.names k at) ps operands.now) }
 {
     for operand in operands {
-        tell_function(operand, script, functions, at, start, reports);
+        tell_function(operand, script, calls, at, start, reports);
     }
 }
 
@@ -175,18 +162,18 @@ fn tell_removed(
     has_functions: bool,
     operands: &[WordText],
     script: &[u8],
-    functions: &[Vec<u8>],
+    calls: &CallTable<'_>,
     at: u32,
     start: usize,
     reports: &mut Reports,
 )
-    ensures { AddsSince start reports.old reports.new (λ k ps. walks.removed_told script.now (map (λ v. v.items) functions.now) variables has_functions k at ps operands.now) }
+    ensures { AddsSince start reports.old reports.new (λ k ps. walks.removed_told script.now calls.now.functions.names variables has_functions k at ps operands.now) }
 {
     if variables {
         tell_variables(operands, script, at, start, reports);
     }
     if has_functions {
-        tell_functions(operands, script, functions, at, start, reports);
+        tell_functions(operands, script, calls, at, start, reports);
     }
 }
 
@@ -195,12 +182,12 @@ fn tell_removed(
 pub fn tell_unset(
     operands: &[WordText],
     script: &[u8],
-    functions: &[Vec<u8>],
+    calls: &CallTable<'_>,
     at: u32,
     start: usize,
     reports: &mut Reports,
 )
-    ensures { AddsSince start reports.old reports.new (λ k ps. spec.all_told k at ps (spec.unset_drops (map (λ v. v.items) functions.now) (spec.listed (map (text_in script.now) operands.now)))) }
+    ensures { AddsSince start reports.old reports.new (λ k ps. spec.all_told k at ps (spec.unset_drops calls.now.functions.names (spec.listed (map (text_in script.now) operands.now)))) }
 {
     let (letters, names) = unset_operands(operands, script);
     tell_removed(
@@ -208,7 +195,7 @@ pub fn tell_unset(
         letters.takes_functions(),
         names,
         script,
-        functions,
+        calls,
         at,
         start,
         reports,

@@ -33,7 +33,7 @@ fn tell_utility(
         Meaning::Special(KnownName::Unset) => tell_unset(
             operands,
             source.script(),
-            source.functions(),
+            source.calls(),
             at,
             start,
             reports,

@@ -103,11 +103,11 @@ impl<'a, 's> Source<'a, 's> {
         self.calls.callee(number)
     }
 
-    /// The names of the functions.
-    pub fn functions(&self) -> &'a [Vec<u8>]
-        ensures { map (λ name. name.items) result.now ≡ self.now.table.functions.names }
+    /// The call table of the script.
+    pub fn calls(&self) -> &'a CallTable<'s>
+        ensures { result.now ≡ self.now.table }
     {
-        self.calls.functions()
+        self.calls
     }
 
     /// The names that the function of a number may drop, from 1.

@@ -23,11 +23,11 @@ use Rattle.sh_table.specs.standard.runs.Numbers.{is_number, number_in, last_digi
 use Rattle.sh_table.specs.standard.runs.Operands.{is_dashed, removal_of, unset_from, is_set_option, ends_in_o, has_command, read_option, read_from}
 use Rattle.sh_tree.specs.standard.language.Bytes.{is_first, name_length, decimal}
 use Rattle.sh_tree.specs.standard.language.Commands.{is_assignment}
-use Rattle.sh_tree.specs.standard.program.Words.{quoted_text, part_text, word_text, part_has, word_has, is_plainly, is_pattern, static_of, words_in, before_word, assignment_in, operands_in, redirects_in, assignments_in}
+use Rattle.sh_tree.specs.standard.program.Words.{part_text, word_text, part_has, word_has, is_plainly, is_pattern, static_of, words_in, before_word, assignment_in, operands_in, redirects_in, assignments_in}
 
 -- what the check of a known certificate computes
 unfoldable pub computes : Unit {0}
-unfolding facts within claims start_facts with_gains sure operator_gains surely assigned_in operands_assigned part_gains word_gains expanded_gains operands_gains words_gains redirect_gains redirects_gains removed unset_names read_names getopts_names words_from total first_number runs_command return_status if_zero if_nonzero in_any_case swapped where_known passes returned called step steps source_facts where_reached lost manner_of_name manner_of_words values_gains is_redirected after_set after_shift after_utility after_nameless parts_after pipeline_after link_seen linked links_after list_after item_after items_after otherwise_seen turns ends behind_list falls operand_seen is_long item_rule item_around item_seen part_rule part_around items_entered list_entered links_entered pipeline_entered commands_entered command_entered kind_entered elements_entered redirect_entered redirects_entered branches_entered otherwise_entered for_words_entered words_entered clauses_entered patterns_entered word_entered part_entered operator_entered expression_entered operands_entered script_entered defined_by loop_at breaks continues jump_loop returns_with returns jumps utility_losses losses_by losses counted where_redirected call_bounds simple_bounds branches_bounds otherwise_bounds is_last clauses_bounds matches_always body_bounds kind_bounds redirects_bounds bounds script_bounds are_among told broken faults rank precedes lesser least wanted covers parameter_text name_needed target_needed reads_unmet operands_read part_unmet word_unmet operator_unmet expanded_unmet operands_expanded words_unmet patterns_unmet redirect_unmet redirects_unmet elements_unmet clauses_unmet for_words_unmet kind_unmet with_text kind_moves moves command_moves move_at is_reached shared_unmet unmet demands names_from names_in head_in function_in claim_in is_slot changed told_of answer answers quoted_text part_text word_text part_has word_has is_plainly is_pattern static_of words_in before_word assignment_in is_assignment is_first name_length decimal look_up kind_of is_special is_all part_has_all gives_field some_gives_field is_parameters count_of is_number number_in last_digits is_dashed removal_of unset_from is_set_option ends_in_o has_command read_option read_from operands_in redirects_in assignments_in
+unfolding facts within claims start_facts with_gains sure operator_gains surely assigned_in operands_assigned part_gains word_gains expanded_gains operands_gains words_gains redirect_gains redirects_gains removed unset_names read_names getopts_names words_from total first_number runs_command return_status if_zero if_nonzero in_any_case swapped where_known passes returned called step steps source_facts where_reached lost manner_of_name manner_of_words values_gains is_redirected after_set after_shift after_utility after_nameless parts_after pipeline_after link_seen linked links_after list_after item_after items_after otherwise_seen turns ends behind_list falls operand_seen is_long item_rule item_around item_seen part_rule part_around items_entered list_entered links_entered pipeline_entered commands_entered command_entered kind_entered elements_entered redirect_entered redirects_entered branches_entered otherwise_entered for_words_entered words_entered clauses_entered patterns_entered word_entered part_entered operator_entered expression_entered operands_entered script_entered defined_by loop_at breaks continues jump_loop returns_with returns jumps utility_losses losses_by losses counted where_redirected call_bounds simple_bounds branches_bounds otherwise_bounds is_last clauses_bounds matches_always body_bounds kind_bounds redirects_bounds bounds script_bounds are_among told broken faults rank precedes lesser least wanted covers parameter_text name_needed target_needed reads_unmet operands_read part_unmet word_unmet operator_unmet expanded_unmet operands_expanded words_unmet patterns_unmet redirect_unmet redirects_unmet elements_unmet clauses_unmet for_words_unmet kind_unmet with_text kind_moves moves command_moves move_at is_reached shared_unmet unmet demands names_from names_in head_in function_in claim_in is_slot changed told_of answer answers part_text word_text part_has word_has is_plainly is_pattern static_of words_in before_word assignment_in is_assignment is_first name_length decimal look_up kind_of is_special is_all part_has_all gives_field some_gives_field is_parameters count_of is_number number_in last_digits is_dashed removal_of unset_from is_set_option ends_in_o has_command read_option read_from operands_in redirects_in assignments_in
 computes = tt
 
 pub short_scripts_as_expected : ShortScriptsAsExpected

@@ -13,7 +13,6 @@ use Rattle.sh_tree.specs.declared.tree.Clause.{Clause, out-roll-Clause}
 use Rattle.sh_tree.specs.declared.tree.ClauseEnd.{ClauseEnd}
 use Rattle.sh_tree.specs.declared.tree.ClauseEnd.TheVariants.{Break}
 use Rattle.sh_tree.specs.declared.tree.Command.{Command, out-Command, out-roll-Command}
-use Rattle.sh_tree.specs.declared.tree.CommandStyle.TheVariants.{Paren}
 use Rattle.sh_tree.specs.declared.tree.Element.{Element}
 use Rattle.sh_tree.specs.declared.tree.Element.TheVariants as element
 use Rattle.sh_tree.specs.declared.tree.Expr.{Expr}
@@ -30,7 +29,6 @@ use Rattle.sh_tree.specs.declared.tree.Pipe.{Pipe, out-roll-Pipe}
 use Rattle.sh_tree.specs.declared.tree.Redirect.{Redirect}
 use Rattle.sh_tree.specs.declared.tree.Script.{Script, out-roll-Script}
 use Rattle.sh_tree.specs.declared.tree.SingleStyle.{SingleStyle}
-use Rattle.sh_tree.specs.declared.tree.SingleStyle.TheVariants as single
 use Rattle.sh_tree.specs.declared.tree.Span.{Span}
 use Rattle.sh_tree.specs.declared.tree.Word.{Word}
 use Rattle.sh_tree.specs.declared.token.word.Context.{Context}
@@ -239,7 +237,7 @@ module _ (w : ℕ → ℕ) where
       part_gives (r.plain {s = s} {e = e}) = gives_is (of_none _ (plain_none (span s.at e))) gives_none
       part_gives (r.escaped {s = s} {e = e}) = gives_is (of_none _ (escaped_none (span s.at e))) gives_none
       part_gives (r.joined {s = s} {e = e}) = gives_is (of_none _ (joined_none (span s.at e))) gives_none
-      part_gives (r.single_quoted {s = s} {e = e}) = gives_is (of_none _ (single_none single.Plain (span s.at e))) gives_none
+      part_gives (r.single_quoted {s = s} {e = e} {style = style}) = gives_is (of_none _ (single_none style (span s.at e))) gives_none
       part_gives (r.tilde {s = s} {e = e}) = gives_is (of_none _ (tilde_none (span s.at e))) gives_none
       part_gives (r.double_quoted {s = s} {u = u} {ps = ps} i) = gives_is (of_one _ _ (of_part-Double (span s.at u.at) ps)) (parts_give i)
       part_gives (r.value {s = s} {e = e} {p = y}) =
@@ -253,7 +251,7 @@ module _ (w : ℕ → ℕ) where
           let text = tree.word e (u.at - 1) ps in
           gives_is (of_one _ _ (of_part-Param (record { span = span s.at u.at; subject = y; operator = operator.Remove removal text }) ∙ of_operator-Remove removal text)) (parts_give i)
       part_gives {b = b} (r.arithmetic {s = s} {u = u} {a = a} d i h c) = gives_is (of_one _ _ (of_part-Arith (span s.at ((over b u).at + 1)) a)) (expression_gives i)
-      part_gives (r.substitution {s = s} {u = u} {t = list} d h c) = gives_is (of_one _ _ (of_part-Command Paren (span s.at (u.at + 1)) list)) (script_gives h)
+      part_gives (r.substitution {s = s} {u = u} {style = style} {t = list} d k h c) = gives_is (of_one _ _ (of_part-Command style (span s.at (u.at + 1)) list)) (script_gives h)
 
       -- Arithmetic
 

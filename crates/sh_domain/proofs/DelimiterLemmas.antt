@@ -1,5 +1,5 @@
 -- The delimiter of a here-document holds no commands.
-use Rattle.std.proofs.Common.{◌≡◌, ℕ, true, not, Option, Some, None, List, [], ◌∷◌, ◌++◌, refl, sym, ap, ◌∙◌, true≢false}
+use Rattle.std.proofs.Common.{◌≡◌, ℕ, true, not, ◌&&◌, Option, Some, None, List, [], ◌∷◌, ◌++◌, refl, sym, ap, ◌∙◌, true≢false}
 use Rattle.std.specs.List.{list_any}
 use Rattle.std.proofs.lemmas.Bool.{and_parts}
 use Rattle.sh_tree.specs.declared.tree.Part.{Part, Double', Param', Arith', Row_of-Part, end_of-Part, more_of-Part}
@@ -8,7 +8,7 @@ use Rattle.sh_tree.specs.declared.tree.Word.{Word}
 use Rattle.sh_tree.specs.standard.Tree.{text_of}
 use Rattle.sh_tree.specs.standard.Words.{both_texts, part_text, row_text, parts_text}
 use Rattle.sh_tree.specs.standard.language.Bytes.{is_newline}
-use Rattle.sh_tree.specs.standard.language.HereDocuments.{is_static, is_delimiter}
+use Rattle.sh_tree.specs.standard.language.HereDocuments.{is_static, is_dollar_quoted, is_delimiter}
 use Rattle.sh_tree.specs.Lists.{parts_from}
 use Rattle.sh_tree.specs.standard.program.Trees as trees
 use Rattle.sh_table.specs.Surroundings.{items_located, word_located, part_located}
@@ -46,4 +46,8 @@ module _ (whole b : List ℕ) where
 
   pub delimiter_bare : (w : Word) (n : ℕ) → is_delimiter b w ≡ true → held n (word_located (parts_from whole w.parts)) ≡ 0
   unfolding is_delimiter held
-  delimiter_bare w n h = ap (held n) (parts_bare w.parts (and_parts (is_static (parts_text b w.parts)) (not (list_any is_newline (text_of b w.span))) h).0)
+  delimiter_bare w n h =
+      let static = is_static (parts_text b w.parts) in
+      let quoted = not (list_any is_dollar_quoted w.parts) in
+      let lines = and_parts (static && quoted) (not (list_any is_newline (text_of b w.span))) h in
+      ap (held n) (parts_bare w.parts (and_parts static quoted lines.0).0)

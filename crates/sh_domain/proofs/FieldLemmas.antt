@@ -2,10 +2,8 @@
 use Rattle.std.proofs.Common.{◌≡◌, ℕ, ◌+◌, ◌-◌, true, false, not, ◌||◌, ◌⊎◌, inl, inr, None, is_some, List, drop, refl, sym, ap, subst, ◌∙◌}
 use Rattle.std.proofs.lemmas.Bool.{true≢false, or_left, or_right}
 use Rattle.sh_tree.specs.standard.Words.{both_texts}
-use Rattle.sh_tree.specs.declared.tree.CommandStyle.TheVariants.{Paren}
 use Rattle.sh_tree.specs.declared.tree.ParameterOperator.TheVariants as operator
 use Rattle.sh_tree.specs.declared.tree.Part.{Part}
-use Rattle.sh_tree.specs.declared.tree.SingleStyle.TheVariants as single
 use Rattle.sh_tree.specs.declared.tree.Word.{Word}
 use Rattle.sh_tree.specs.declared.token.word.Context.{Context}
 use Rattle.sh_tree.specs.declared.token.word.Sign.{Sign}
@@ -51,7 +49,7 @@ module _ (whole : List ℕ) where
   part_gives n some formed (r.plain {s = s} {e = e}) = rw (part_of-Plain whole (span s.at e)) (inl formed)
   part_gives n some formed (r.escaped {s = s} {e = e}) = rw (part_of-Escaped whole (span s.at e)) (inl refl)
   part_gives n some formed r.joined = absurd (true≢false some)
-  part_gives n some formed (r.single_quoted {s = s} {e = e}) = rw (part_of-Single whole single.Plain (span s.at e)) (inl refl)
+  part_gives n some formed (r.single_quoted {s = s} {e = e} {style = style}) = rw (part_of-Single whole style (span s.at e)) (inl refl)
   part_gives n some formed (r.tilde {s = s} {e = e}) = rw (part_of-Tilde whole (span s.at e)) (inl refl)
   part_gives n some formed (r.double_quoted {s = s} {u = u} {ps = ps} q) = rw (part_of-Double whole (span s.at u.at) ps) (inl refl)
   part_gives n some formed (r.value {s = s} {e = e} {p = q}) =
@@ -63,7 +61,7 @@ module _ (whole : List ℕ) where
   part_gives n some formed (r.removal {s = s} {u = u} {e = e} {p = q} {r = removal} {ps = ps} d k) =
       rw (part_of-Param whole (record { span = span s.at u.at; subject = q; operator = operator.Remove removal (tree.word e (u.at - 1) ps) })) (inr refl)
   part_gives n some formed (r.arithmetic {b = b} {s = s} {u = u} {a = a} d h k c) = rw (part_of-Arith whole (span s.at _) a) (inl refl)
-  part_gives n some formed (r.substitution {s = s} {u = u} {t = t} d h c) = rw (part_of-Command whole Paren (span s.at (u.at + 1)) t) (inl refl)
+  part_gives n some formed (r.substitution {s = s} {u = u} {style = style} {t = t} d k h c) = rw (part_of-Command whole style (span s.at (u.at + 1)) t) (inl refl)
 
   parts_give : {limit : ℕ} {b : List ℕ} {x : Context} {prior : ℕ} {s u : Spot} {ps : List Part} → Front whole b → ends (sign_of x prior s.at (drop s.at b)) ≡ false
       → ReadsParts limit b x prior s u ps → GivesField (parts_from whole ps)

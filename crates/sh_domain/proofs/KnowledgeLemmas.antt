@@ -9,6 +9,7 @@ use Rattle.std.proofs.lemmas.Slice.Eq.{bytes_eq-Decides}
 use Rattle.sh_tree.specs.standard.program.Syntax.{Text}
 use Rattle.sh_tree.proofs.ListLemmas.{text_same}
 use Rattle.sh_table.specs.standard.runs.Environment.{is_one_of}
+use Rattle.sh_table.proofs.FunctionLemmas.{bytes_eq_swap, is_placed}
 use Rattle.sh_domain.specs.declared.knowledge.Assured.{Assured}
 use Rattle.sh_domain.specs.declared.number_set.NumberSet.{NumberSet}
 use Rattle.sh_domain.specs.declared.rows.RowId.{RowId}
@@ -22,7 +23,6 @@ use Rattle.sh_domain.specs.NumberSets.{numbers_of}
 use Rattle.sh_domain.specs.Sheets.{precedes}
 use Rattle.sh_domain.specs.Views.{Certificate, Define, Lose, left, passes, step, where_known}
 use Rattle.sh_domain.proofs.MeetLemmas.{known_same}
-use Rattle.sh_domain.proofs.NameLemmas.{bytes_eq-swap}
 use Rattle.sh_domain.proofs.OrderLemmas.{all_among, among_all}
 
 -- two tests that hold together are one
@@ -59,12 +59,8 @@ pub one_number : (names : List Text) (k : ℕ) (t u : Text) → number_of names 
 one_number names k t u e f = let a = stands_there names k t e in let b = stands_there names k u f in cc
 
 -- a name has a number where it is one of them
-numbered_from : (names : List Text) (i : ℕ) (t : Text) → is_one_of names t ≡ is_some (position_from (λ n. bytes_eq n t) i names)
-numbered_from [] i t = refl
-numbered_from (n ∷ names) i t = elim (cases_Bool (bytes_eq n t)) [ inl s ↦ rw s refl | inr s ↦ rw s (numbered_from names (i + 1) t) ]
-
 pub has_number : (names : List Text) (t : Text) → is_one_of names t ≡ is_some (number_of names t)
-has_number names t = numbered_from names 0 t
+has_number names t = sym (is_placed names t 0)
 
 -- the number is the name's where the names are the same
 pub number_is_name : (names : List Text) (n k : ℕ) (name t : Text) → number_of names name ≡ Some n → number_of names t ≡ Some k → eqb k n ≡ bytes_eq name t
@@ -383,7 +379,7 @@ module _ (names : List Text) (h : AreNumbered names) where
 pub either_with : (function t : Text) (mid new kept : Bool) → bytes_eq function (codes "getopts") ≡ true → new ≡ (mid && not (bytes_eq (codes "OPTARG") t)) → mid ≡ kept
     → new ≡ (kept && passes function t)
 unfolding passes
-either_with function t mid new kept g e m = rw g (e ∙ ap₂ (λ a b. a && not b) m (bytes_eq-swap (codes "OPTARG") t))
+either_with function t mid new kept g e m = rw g (e ∙ ap₂ (λ a b. a && not b) m (bytes_eq_swap (codes "OPTARG") t))
 
 pub either_without : (function t : Text) (mid new kept : Bool) → bytes_eq function (codes "getopts") ≡ false → new ≡ mid → mid ≡ kept → new ≡ (kept && passes function t)
 unfolding passes

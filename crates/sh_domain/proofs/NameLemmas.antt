@@ -1,20 +1,20 @@
 -- Names by first sight, a piece at a time.
-use Rattle.std.proofs.Common.{◌≡◌, ℕ, ◌+◌, ◌<◌, ◌≤◌, Bool, true, false, Err, List, [], ◌∷◌, ◌++◌, length, get_or, take, drop, map, fold, refl, sym, ◌∙◌, ap, subst, arith, if◌then◌else◌, eqb, position, Vec, Global, length-append}
-use Rattle.std.specs.List.{flat_map, list_any, position_from}
+use Rattle.std.proofs.Common.{◌≡◌, ℕ, ◌+◌, ◌<◌, ◌≤◌, Bool, true, false, Err, List, [], ◌∷◌, ◌++◌, length, get_or, take, drop, map, fold, refl, sym, ◌∙◌, ap, subst, arith, if◌then◌else◌, Vec, Global, length-append}
+use Rattle.std.specs.List.{flat_map, list_any}
 use Rattle.std.specs.Str.{bytes_eq}
 use Rattle.std.proofs.lemmas.Grind.{common_steps}
 use Rattle.std.proofs.lemmas.List.{map-append, length-map, take-append-drop, take_more}
 use Rattle.std.proofs.lemmas.List.Concat.{flat_map-append}
 use Rattle.std.proofs.lemmas.List.Sums.{fold-append}
-use Rattle.std.proofs.lemmas.Iterator.Adapters.{position_from-zero}
 use Rattle.sh_tree.specs.declared.refusal.Refusal.{Refusal}
 use Rattle.sh_tree.specs.declared.refusal.Refusal.TheVariants.{TooLong, NulByte, Syntax, LeftOut, TooDeep, TooMany, Memory, Profile, CertSyntax, CertShape}
 use Rattle.sh_tree.specs.declared.tree.Script.{Script}
 use Rattle.sh_tree.specs.standard.program.Syntax.{Text}
 use Rattle.sh_table.specs.standard.runs.Environment.{is_one_of}
+use Rattle.sh_table.proofs.FunctionLemmas.{bytes_eq_swap}
 use Rattle.sh_domain.specs.declared.sights.Seen.{Seen}
 use Rattle.sh_domain.specs.Facts.{Declared}
-use Rattle.sh_domain.specs.Names.{with_text, number_of, first_names, numbering, Numbers, IsInTextOrder, Refuses}
+use Rattle.sh_domain.specs.Names.{with_text, first_names, numbering, Numbers, IsInTextOrder, Refuses}
 use Rattle.sh_domain.specs.Sights.{Sight}
 use Rattle.sh_domain.specs.SightWalks.{seen_in, texts_seen}
 
@@ -85,30 +85,11 @@ texts_stop f first xs i x old e lt at known h =
     subst (λ ts. Refuses (fold with_text first ts) e) (sym (texts_one f xs))
     (names_stop (λ y. f y ∷ []) first xs i x old e lt at (known ∙ ap (fold with_text first) (texts_one f (take i xs))) h)
 
--- Equality of texts
-
-eqb-swap : (m n : ℕ) → eqb m n ≡ eqb n m
-eqb-swap m n = grind (arith, common_steps)
-
-pub bytes_eq-swap : (s t : List ℕ) → bytes_eq s t ≡ bytes_eq t s
-bytes_eq-swap [] [] = refl
-bytes_eq-swap [] (d ∷ t) = refl
-bytes_eq-swap (c ∷ s) [] = refl
-bytes_eq-swap (c ∷ s) (d ∷ t) = rw (eqb-swap c d, bytes_eq-swap s t) refl
-
 -- Texts behind the keys of a set
-
--- a number is a place among the keys
-position_from-swap : (t : Text) (i : ℕ) (keys : List (Vec ℕ Global)) → position_from (λ v. bytes_eq t v.items) i keys ≡ position_from (λ n. bytes_eq n t) i (map (λ v. v.items) keys)
-position_from-swap t i [] = refl
-position_from-swap t i (v ∷ keys) = rw (bytes_eq-swap v.items t, position_from-swap t (i + 1) keys) refl
-
-pub number_is_place : (t : Text) (keys : List (Vec ℕ Global)) → position (λ v. bytes_eq t v.items) keys ≡ number_of (map (λ v. v.items) keys) t
-number_is_place t keys = position_from-zero (λ (v : Vec ℕ Global). bytes_eq t v.items) keys ∙ position_from-swap t 0 keys
 
 is_one_of-keys : (t : Text) (keys : List (Vec ℕ Global)) → list_any (λ v. bytes_eq t v.items) keys ≡ is_one_of (map (λ v. v.items) keys) t
 is_one_of-keys t [] = refl
-is_one_of-keys t (v ∷ keys) = rw (bytes_eq-swap v.items t, is_one_of-keys t keys) refl
+is_one_of-keys t (v ∷ keys) = rw (bytes_eq_swap v.items t, is_one_of-keys t keys) refl
 
 pub held : (t : Text) (keys : List (Vec ℕ Global)) → list_any (λ v. bytes_eq t v.items) keys ≡ true → map (λ v. v.items) keys ≡ with_text (map (λ v. v.items) keys) t
 held t keys h = let e : is_one_of (map (λ v. v.items) keys) t ≡ true = sym (is_one_of-keys t keys) ∙ h in rw e refl

@@ -8,7 +8,6 @@ use Rattle.sh_tree.specs.declared.tree.Branch.{Branch}
 use Rattle.sh_tree.specs.declared.tree.Clause.{Clause}
 use Rattle.sh_tree.specs.declared.tree.ClauseEnd.TheVariants.{Break}
 use Rattle.sh_tree.specs.declared.tree.Command.{Command}
-use Rattle.sh_tree.specs.declared.tree.CommandStyle.TheVariants.{Paren}
 use Rattle.sh_tree.specs.declared.tree.Element.{Element}
 use Rattle.sh_tree.specs.declared.tree.Expr.{Expr}
 use Rattle.sh_tree.specs.declared.tree.Item.{Item}
@@ -21,7 +20,6 @@ use Rattle.sh_tree.specs.declared.tree.Part.{Part}
 use Rattle.sh_tree.specs.declared.tree.Pipe.{Pipe}
 use Rattle.sh_tree.specs.declared.tree.Redirect.{Redirect}
 use Rattle.sh_tree.specs.declared.tree.Script.{Script}
-use Rattle.sh_tree.specs.declared.tree.SingleStyle.TheVariants as single
 use Rattle.sh_tree.specs.declared.tree.Word.{Word}
 use Rattle.sh_tree.specs.declared.token.word.Context.{Context}
 use Rattle.sh_tree.specs.declared.token.word.Sign.{Sign}
@@ -166,7 +164,7 @@ module _ (whole : List ℕ) (n : ℕ) where
     part_gives (r.plain {s = s} {e = e}) = rw (part_of-Plain whole (span s.at e)) (gives_is (held_plain n _) gives_none)
     part_gives (r.escaped {s = s} {e = e}) = rw (part_of-Escaped whole (span s.at e)) (gives_is (held_escaped n _) gives_none)
     part_gives (r.joined {s = s} {e = e}) = rw (part_of-Joined whole (span s.at e)) (gives_is (held_joined n) gives_none)
-    part_gives (r.single_quoted {s = s} {e = e}) = rw (part_of-Single whole single.Plain (span s.at e)) (gives_is (held_single n _ _) gives_none)
+    part_gives (r.single_quoted {s = s} {e = e} {style = style}) = rw (part_of-Single whole style (span s.at e)) (gives_is (held_single n _ _) gives_none)
     part_gives (r.tilde {s = s} {e = e}) = rw (part_of-Tilde whole (span s.at e)) (gives_is (held_tilde n _ _) gives_none)
     part_gives (r.double_quoted {s = s} {u = u} {ps = ps} i) = rw (part_of-Double whole (span s.at u.at) ps) (gives_is (held_double n _) (parts_give i))
     part_gives (r.value {s = s} {e = e} {p = y}) =
@@ -186,8 +184,8 @@ module _ (whole : List ℕ) (n : ℕ) where
           operator_of-Remove whole removal (tree.word e (u.at - 1) ps),
         ) (gives_is (held_expansion n _ _ _ ∙ held_remove n removal _) (parts_give i))
     part_gives {b = b} (r.arithmetic {s = s} {u = u} {a = a} d i h c) = rw (part_of-Arith whole (span s.at ((over b u).at + 1)) a) (gives_is (held_arithmetic n _ _) (expression_gives i))
-    part_gives (r.substitution {s = s} {u = u} {t = list} d h c) =
-        rw (part_of-Command whole Paren (span s.at (u.at + 1)) list) (gives_is (held_substitution n _ _) (script_gives outside h))
+    part_gives (r.substitution {s = s} {u = u} {style = style} {t = list} d k h c) =
+        rw (part_of-Command whole style (span s.at (u.at + 1)) list) (gives_is (held_substitution n _ _) (script_gives outside h))
 
     -- Arithmetic
 

@@ -7,7 +7,8 @@ use Rattle.sh_tree.specs.declared.tree.Branch.{Branch}
 use Rattle.sh_tree.specs.declared.tree.Clause.{Clause}
 use Rattle.sh_tree.specs.declared.tree.ClauseEnd.TheVariants.{Break}
 use Rattle.sh_tree.specs.declared.tree.Command.{Command}
-use Rattle.sh_tree.specs.declared.tree.CommandStyle.TheVariants.{Paren}
+use Rattle.sh_tree.specs.declared.tree.CommandStyle.{CommandStyle}
+use Rattle.sh_tree.specs.declared.tree.CommandStyle.TheVariants.{Paren, Backquote}
 use Rattle.sh_tree.specs.declared.tree.Element.{Element}
 use Rattle.sh_tree.specs.declared.tree.Expr.{Expr}
 use Rattle.sh_tree.specs.declared.tree.Item.{Item}
@@ -20,7 +21,6 @@ use Rattle.sh_tree.specs.declared.tree.Part.{Part}
 use Rattle.sh_tree.specs.declared.tree.Pipe.{Pipe}
 use Rattle.sh_tree.specs.declared.tree.Redirect.{Redirect}
 use Rattle.sh_tree.specs.declared.tree.Script.{Script}
-use Rattle.sh_tree.specs.declared.tree.SingleStyle.TheVariants as single
 use Rattle.sh_tree.specs.declared.tree.Word.{Word}
 use Rattle.sh_tree.specs.declared.token.word.Context.{Context}
 use Rattle.sh_tree.specs.declared.token.word.Sign.{Sign}
@@ -34,6 +34,7 @@ use Rattle.sh_tree.specs.standard.language.Arithmetic.{lexeme}
 use Rattle.sh_tree.specs.standard.language.Bytes.{is_name, is_name_start, is_first}
 use Rattle.sh_tree.specs.standard.language.Commands.{name_end, is_word, is_bare_name, bare_word, is_newline_lead, is_open}
 use Rattle.sh_tree.specs.standard.language.HereDocuments.{Mark}
+use Rattle.sh_tree.specs.standard.language.Substitutions.{backquote_end, commands_text}
 use Rattle.sh_tree.specs.standard.language.Reading as r
 use Rattle.sh_tree.specs.standard.language.Reading.{after, figure_at, figure_span, over, lead_of, lead_here, skip, behind_name, parted, unopened, ReadsParts, ReadsPart, ReadsExpression, ReadsConditional, ReadsLevel, ReadsOperands, ReadsUnary, ReadsWord, ReadsRedirect, ReadsRedirects, ReadsDocuments, ReadsBreaks, ReadsElements, ReadsCommand, ReadsCompound, ReadsDo, ReadsBranches, ReadsElse, ReadsForWords, ReadsWords, ReadsClauses, ReadsPatterns, ReadsPipeline, ReadsCommands, ReadsAndOr, ReadsLinks, ReadsItems, ReadsList, ReadsSequence, ReadsScript, Reads}
 use Rattle.sh_tree.specs.standard.language.States.{Spot, State, Document, nth, to, facing, begun, document_count}
@@ -111,6 +112,12 @@ module _ (whole : List ℕ) where
   good_chain_of e [] h k = h
   good_chain_of e (x ∷ xs) h k = rw (expression_of-Chain whole e (x ∷ xs)) (good_chain _ _ h k)
 
+  -- the text of commands in a substitution
+  commands_front : (b : List ℕ) (style : CommandStyle) (e : ℕ) → Front whole b → Front whole (commands_text style b e)
+  unfolding commands_text
+  commands_front b Paren e f = f
+  commands_front b Backquote e f = front_less whole b (backquote_end b e) f
+
   is_word_lead : (l : Lead) → is_word l ≡ true → l ≡ lead.Word
   is_word_lead lead.Word h = refl
   is_word_lead l h = cc
@@ -171,7 +178,7 @@ module _ (whole : List ℕ) where
     part_good f t (r.plain {s = s} {e = e}) = rw (part_of-Plain whole (span s.at e)) (good_plain _ (plain_formed s.at e t))
     part_good f t (r.escaped {s = s} {e = e}) = rw (part_of-Escaped whole (span s.at e)) (good_escaped _)
     part_good f t (r.joined {s = s} {e = e}) = rw (part_of-Joined whole (span s.at e)) good_joined
-    part_good f t (r.single_quoted {s = s} {e = e}) = rw (part_of-Single whole single.Plain (span s.at e)) (good_single _ _)
+    part_good f t (r.single_quoted {s = s} {e = e} {style = style}) = rw (part_of-Single whole style (span s.at e)) (good_single _ _)
     part_good f t (r.tilde {s = s} {e = e}) = rw (part_of-Tilde whole (span s.at e)) (good_tilde _ _)
     part_good f t (r.double_quoted {s = s} {u = u} {ps = ps} q) = rw (part_of-Double whole (span s.at u.at) ps) (good_double _ (parts_good f q))
     part_good f t (r.value {s = s} {e = e} {p = q}) =
@@ -189,8 +196,9 @@ module _ (whole : List ℕ) where
           operator_of-Remove whole removal (tree.word e (u.at - 1) ps),
         ) (good_expansion _ _ _ t (good_remove removal _ (parts_good f k)))
     part_good f t (r.arithmetic {b = b} {s = s} {u = u} {a = a} d e h c) = rw (part_of-Arith whole (span s.at ((over b u).at + 1)) a) (good_arithmetic _ _ (expression_good f e))
-    part_good {b = b} f t (r.substitution {s = s} {u = u} {e = e} {t = list} d h c) =
-        rw (part_of-Command whole Paren (span s.at (u.at + 1)) list) (good_substitution _ _ (script_good f (blanks_gap s.joins b e) h))
+    part_good {b = b} f t (r.substitution {s = s} {u = u} {e = e} {style = style} {t = list} d k h c) =
+        let inner = commands_text style b e in
+        rw (part_of-Command whole style (span s.at (u.at + 1)) list) (good_substitution _ _ (script_good (commands_front b style e f) (blanks_gap s.joins inner e) h))
 
     -- Arithmetic
 

@@ -41,12 +41,16 @@ unfolding words.backslash words.continuation
 backslash_lacks x [] = refl
 backslash_lacks x (c ∷ rest) = grind (arith, nat_tests)
 
+backquoted_lacks : (x : Context) (cs : List ℕ) → found_lacks (words.backquoted x cs) ≡ false
+unfolding words.backquoted
+backquoted_lacks x cs = grind (arith, nat_tests)
+
 meant_lacks : (x : Context) (i c : ℕ) (cs : List ℕ) → found_lacks (words.meant_by x i c cs) ≡ false
 unfolding words.meant_by
 meant_lacks x i c cs =
     let single = words.single cs in
     let dollar = words.dollar x i cs in
-    grind (arith, nat_tests, backslash_lacks x cs, lacks_ends single.0 single.1 (single_goes cs), lacks_ends dollar.0 dollar.1 (dollar_goes x i cs))
+    grind (arith, nat_tests, backslash_lacks x cs, backquoted_lacks x cs, lacks_ends single.0 single.1 (single_goes cs), lacks_ends dollar.0 dollar.1 (dollar_goes x i cs))
 
 sign_lacks : (x : Context) (prior i c : ℕ) (cs : List ℕ) → found_lacks (words.sign_by x prior i c cs) ≡ false
 unfolding words.sign_by
@@ -204,6 +208,21 @@ module _ (whole : List ℕ) where
   unfolding words.named_value parameter_of parameter_formed
   named_formed i cs h first = grind (arith, nat_tests, name_stands whole (i + 1) cs h first)
 
+  told_formed : (n : ℕ) (found : Sign × ℕ) → sign_formed found.0 ≡ true → sign_formed (words.told_or n found).0 ≡ true
+  told_formed n (sign.Single s, m) h = refl
+  told_formed n (sign.LeftOut f, m) h = refl
+  told_formed n found h = h
+
+  dollar_quoted_formed : (cs : List ℕ) → sign_formed (words.dollar_quoted cs).0 ≡ true
+  unfolding words.dollar_quoted
+  dollar_quoted_formed [] = refl
+  dollar_quoted_formed (c ∷ []) = cond_both {A = Sign × ℕ} (c == 39) _ _ (λ f. sign_formed f.0 ≡ true) (λ is. refl) (λ other. refl)
+  dollar_quoted_formed (c ∷ d ∷ cs) =
+      cond_both {A = Sign × ℕ} (c == 39) _ _ (λ f. sign_formed f.0 ≡ true) (λ is. refl) (λ apostrophe.
+      cond_both {A = Sign × ℕ} (c == 92) _ _ (λ f. sign_formed f.0 ≡ true)
+      (λ is. cond_both {A = Sign × ℕ} (words.is_dollar_escape d) _ _ (λ f. sign_formed f.0 ≡ true) (λ e. told_formed 2 (words.dollar_quoted cs) (dollar_quoted_formed cs)) (λ e. refl))
+      (λ other. told_formed 1 (words.dollar_quoted (d ∷ cs)) (dollar_quoted_formed (d ∷ cs))))
+
   dollar_expansion_formed : (quoted : Bool) (i : ℕ) (cs : List ℕ) → Stands whole (i + 1) cs → is_first (words.opens_dollar quoted) cs ≡ true
       → sign_formed (words.dollar_expansion i cs).0 ≡ true
   unfolding words.dollar_expansion words.braced_expansion words.parenthesis is_first
@@ -215,7 +234,7 @@ module _ (whole : List ℕ) where
       cond_both {A = Sign × ℕ} (c == 123) _ _ (λ f. sign_formed f.0 ≡ true) (λ brace. braced_formed i rest (words.parameter (i + 2) rest) behind (parameter_found (i + 2) rest behind)) (λ brace.
       cond_both {A = Sign × ℕ} (c == 40) _ _ (λ f. sign_formed f.0 ≡ true) (λ parenthesis. grind (arith, nat_tests)) (λ parenthesis.
       cond_both {A = Sign × ℕ} (c == 91) _ _ (λ f. sign_formed f.0 ≡ true) (λ bracket. refl) (λ bracket.
-      cond_both {A = Sign × ℕ} (c == 39) _ _ (λ f. sign_formed f.0 ≡ true) (λ apostrophe. refl) (λ apostrophe.
+      cond_both {A = Sign × ℕ} (c == 39) _ _ (λ f. sign_formed f.0 ≡ true) (λ is. told_formed 2 (words.dollar_quoted rest) (dollar_quoted_formed rest)) (λ apostrophe.
       cond_both {A = Sign × ℕ} (c == 34) _ _ (λ f. sign_formed f.0 ≡ true) (λ quotation. refl) (λ quotation.
       single_formed i c (opens_one quoted c opens name brace parenthesis bracket apostrophe quotation)))))))
 
@@ -250,6 +269,10 @@ module _ (whole : List ℕ) where
   double_quoted_formed : (s : Site) → sign_formed (words.double s).0 ≡ true
   double_quoted_formed s = grind (arith, nat_tests)
 
+  backquoted_formed : (x : Context) (cs : List ℕ) → sign_formed (words.backquoted x cs).0 ≡ true
+  unfolding words.backquoted
+  backquoted_formed x cs = grind (arith, nat_tests)
+
   -- a byte that means more than itself, and is no literal one
   meant_formed : (x : Context) (i c : ℕ) (cs : List ℕ) → Stands whole (i + 1) cs → words.is_special x.site c ≡ true → words.is_literal x.site c cs ≡ false
       → sign_formed (words.meant_by x i c cs).0 ≡ true
@@ -258,7 +281,7 @@ module _ (whole : List ℕ) where
       cond_both {A = Sign × ℕ} (c == 92) _ _ (λ f. sign_formed f.0 ≡ true) (λ is. backslash_formed x cs) (λ backslash.
       cond_both {A = Sign × ℕ} (c == 39) _ _ (λ f. sign_formed f.0 ≡ true) (λ is. single_quoted_formed cs) (λ apostrophe.
       cond_both {A = Sign × ℕ} (c == 34) _ _ (λ f. sign_formed f.0 ≡ true) (λ is. double_quoted_formed x.site) (λ quotation.
-      cond_both {A = Sign × ℕ} (c == 96) _ _ (λ f. sign_formed f.0 ≡ true) (λ is. refl) (λ backquote.
+      cond_both {A = Sign × ℕ} (c == 96) _ _ (λ f. sign_formed f.0 ≡ true) (λ is. backquoted_formed x cs) (λ backquote.
       let dollar : (c == 36) ≡ true = dollar_left x.site c meant backslash apostrophe quotation backquote in
       dollar_formed x i cs h (sym (cond-true (c == 36) (words.is_literal_dollar (words.is_quoted x.site) cs) _ dollar) ∙ literal)))))
 

@@ -1,5 +1,5 @@
 -- What is read of a certificate's text may be written, and a text within its limit is read as its lines are.
-use Rattle.std.proofs.Common.{◌≡◌, ℕ, ◌-◌, ◌≤◌, nat_le, Bool, true, false, ◌&&◌, if◌then◌else◌, List, [], ◌∷◌, length, Option, Some, None, refl, subst, arith, codes, Result, Ok, Err}
+use Rattle.std.proofs.Common.{◌≡◌, ℕ, ◌≤◌, nat_le, Bool, true, false, ◌&&◌, if◌then◌else◌, List, [], ◌∷◌, length, Option, Some, None, refl, subst, arith, codes, Result, Ok, Err}
 use Rattle.std.specs.Fmt.{decimal}
 use Rattle.std.specs.Str.{bytes_eq}
 use Rattle.std.proofs.lemmas.Bool.Decides.{nat_tests}
@@ -13,7 +13,6 @@ use Rattle.sh_domain.specs.Sheets.{CommandClaims, FunctionClaims, Sheet}
 use Rattle.sh_domain.specs.Spelling.{is_writable, is_writable_head, are_writable, is_command, is_function}
 use Rattle.sh_domain.proofs.SpellingLemmas.{none_some, if_some, both_some, map_some, number_spelled, claims_some, function_some, err_ok}
 use Rattle.sh_domain.specs.declared.limits.TheConstants.{MAX_CERTIFICATE}
-use Rattle.sh_domain.specs.Reading.{fits}
 
 pub ok_same : {A : Type 0} {x y : A} → ◌≡◌ {A = Result A ℕ} (Ok x) (Ok y) → x ≡ y
 ok_same h = cc

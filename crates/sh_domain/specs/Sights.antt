@@ -22,6 +22,7 @@ use Rattle.sh_tree.specs.standard.Words.{words_of, static_text}
 use Rattle.sh_tree.specs.standard.language.Bytes.{is_first, is_name, name_length}
 use Rattle.sh_tree.specs.standard.language.Commands.{is_assignment}
 use Rattle.sh_tree.specs.standard.program.Syntax.{Text}
+use Rattle.sh_table.specs.Profile.{Static}
 use Rattle.sh_table.specs.standard.runs.Operands.{is_dashed, ends_options, ReadOption, Complete, TakesNext, Other, read_option}
 
 -- a name, and the offset at which it stands
@@ -114,7 +115,7 @@ takes_next Other = None
 abbrev pub option_takes : Text → Option Bool
 option_takes t = takes_next (read_option (drop 1 t))
 
-unfoldable pub go_on : Option Bool → (Bool → Option (List Sight)) → Option (List Sight)
+unfoldable pub go_on : {A : Type 0} → Option Bool → (Bool → Option A) → Option A
 go_on None rest = None
 go_on (Some takes) rest = rest takes
 
@@ -125,6 +126,14 @@ read_behind true (x ∷ xs) = read_behind false xs
 read_behind false (x ∷ xs) =
     if ends_options x.name then Some xs
     else (if is_dashed x.name then go_on (option_takes x.name) (λ takes. read_behind takes xs) else Some (x ∷ xs))
+
+-- the same of static texts, of which one may be missing
+unfoldable pub read_operands : Bool → List Static → Option (List Static)
+read_operands takes [] = Some []
+read_operands true (t ∷ ts) = read_operands false ts
+read_operands false (None ∷ ts) = Some (None ∷ ts)
+read_operands false (Some t ∷ ts) =
+    if ends_options t then Some ts else (if is_dashed t then go_on (option_takes t) (λ takes. read_operands takes ts) else Some (Some t ∷ ts))
 
 unfoldable pub names_behind : Option (List Sight) → List Sight
 names_behind None = []

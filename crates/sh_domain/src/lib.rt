@@ -25,7 +25,7 @@ pub use loops::is_loop;
 pub use names::Names;
 pub use number_set::NumberSet;
 pub use numbered::precedes;
-pub use options::option_takes;
+pub use options::read_operands;
 pub use policy::{Policy, PolicyFault};
 pub use rows::{RowId, Rows};
 pub use rule::FlowRule;

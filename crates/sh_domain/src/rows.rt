@@ -1,5 +1,5 @@
 //! Rows that are kept once.
-ghost use Rattle.std.specs.Prelude.{◌≡◌, ◌<◌, ◌≤◌, ◌+◌, ◌-◌, ◌^◌, ℕ, [], Some, length, slice_get, IfOk, IfSome, OnErr, IsOk};
+ghost use Rattle.std.specs.Prelude.{◌≡◌, ◌<◌, ◌≤◌, ◌+◌, ◌-◌, ℕ, [], Some, length, slice_get, IfOk, IfSome, OnErr, IsOk};
 ghost use Rattle.std.specs.Option.{option_copied};
 ghost use Rattle.sh_rows.specs.declared.bits.BitRow.{BitRow};
 ghost use Rattle.sh_domain.specs.KeptRows.{Stay, bits_of, holds_at};
@@ -12,7 +12,7 @@ use std::marker::Model;
 /// The place of a row among the rows of a certificate. Equal places are equal sets.
 #[derive(Clone, Copy, Debug, PartialEq, Eq)]
 pub struct RowId {
-    pub index: u32,
+    pub index: usize,
 }
 
 /// Rows of numbers below a count, each set kept once.
@@ -64,9 +64,8 @@ impl Rows {
     ///
     /// # Errors
     ///
-    /// Where a growth was refused, which is never for a row that is there.
+    /// If a growth was refused, which is never for a row that is there.
     pub fn intern(&mut self, row: &BitRow) -> Result<RowId, AllocError>
-        requires room { length self.old.rows < 2 ^ 32 }
         requires sized { row.now.count ≡ self.old.count }
         ensures found { IfOk result (λ id. (k : ℕ) → holds_at self.new.rows id.index k ≡ bits_of row.now k) }
         ensures known { IfOk result (λ id. id.index < length self.new.rows) }
@@ -78,22 +77,18 @@ impl Rows {
         ensures count { self.new.count ≡ self.old.count }
     {
         if let Some(index) = self.set.get_index_of(row) {
-            return Ok(RowId {
-                index: index as u32,
-            });
+            return Ok(RowId { index });
         }
         let own = row.copy()?;
         let (index, _) = self.set.insert_full(own)?;
-        Ok(RowId {
-            index: index as u32,
-        })
+        Ok(RowId { index })
     }
 
     /// Whether a number is in the row of a place. Where there is no row, it is not.
     pub fn has(&self, id: RowId, number: u32) -> bool
         ensures { result ≡ holds_at self.now.rows id.index number }
     {
-        match self.set.get_index(id.index as usize) {
+        match self.set.get_index(id.index) {
             Some(row) => number < self.count && row.has(number),
             None => false,
         }
@@ -104,6 +99,6 @@ impl Rows {
         ensures row { option_copied result ≡ slice_get self.now.rows id.index }
         ensures sized { IfSome result (λ r. r.now.count ≡ self.now.count) }
     {
-        self.set.get_index(id.index as usize)
+        self.set.get_index(id.index)
     }
 }

@@ -7,7 +7,7 @@ ghost use Rattle.sh_domain.specs.Sights as spec;
 ghost use Rattle.sh_domain.specs.SightWalks.{as_sight, seen_in, listed_word};
 
 use crate::operands::{behind_options, read_behind};
-use sh_table::name_length;
+use sh_table::definition_in;
 use sh_tree::{
     Binary, Clause, Command, Element, Expr, Kind, ParameterOperator, Part, Redirect, Span, Subject,
     Target, Word, is_name, static_text,
@@ -486,14 +486,12 @@ fn add_assigned_one(word: &Word, script: &[u8], found: &mut Vec<Seen>) -> Result
     }
 }
 
-#[tactic(auto, unfolding(crate::specs::Sights::front_sights, sh_tree::specs::standard::language::Commands::is_assignment, sh_tree::specs::standard::language::Bytes::is_first))]
+#[tactic(auto, unfolding(crate::specs::Sights::front_sights, sh_table::specs::standard::runs::Operands::definition_in))]
 fn add_front(at: u32, text: &[u8], found: &mut Vec<Seen>) -> Result<(), AllocError>
     ensures { OnOk result (seen_in found.new.items ≡ seen_in found.old.items ++ spec.front_sights at text.now) }
 {
-    let length = name_length(text);
-    if length > 0 && text[length..].starts_with(b"=") {
-        push(at, &text[..length], found)
-    } else {
-        Ok(())
+    match definition_in(text) {
+        Some((name, _)) => push(at, name, found),
+        None => Ok(()),
     }
 }

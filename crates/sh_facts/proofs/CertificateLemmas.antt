@@ -97,20 +97,18 @@ pub record InCommands (names : List Text) (commands : List (Bor Command)) (t : T
   pub claims : List CommandClaims
   pub reading : read_lines command_in 3 1 (length commands) t ≡ onto claims (read_lines command_in (3 + j) (1 + j) (length commands - j) left)
   pub fit : (later : List CommandClaims) → commands_fit names (loops_of commands) (claims ++ later) ≡ commands_fit names (loops_of (drop j commands)) later
-  pub few : length rows.rows ≤ 8 * j
   pub count : rows.count ≡ length names
   pub long : length entries ≡ j
   pub none : (k : ℕ) → j < k → heads k ≡ None
   pub lasting : (c : Certificate) → Stay rows.rows c.rows.rows → ((k : ℕ) → k ≤ j → get nat_eq c.heads k ≡ heads k) → commands_from (in_byte_order names) c 1 entries ≡ claims
 
-pub commands_begin : (names : List Text) (commands : List (Bor Command)) (t : Text) (rows : KeptRows) (heads : ℕ → Option value.Facts) → length rows.rows ≡ 0 → rows.count ≡ length names → ((k : ℕ) → heads k ≡ None)
+pub commands_begin : (names : List Text) (commands : List (Bor Command)) (t : Text) (rows : KeptRows) (heads : ℕ → Option value.Facts) → rows.count ≡ length names → ((k : ℕ) → heads k ≡ None)
     → InCommands names commands t 0 t rows [] heads
 unfolding commands_from
-commands_begin names commands t rows heads l n h = record {
+commands_begin names commands t rows heads n h = record {
   claims = [];
   reading = let whole : length commands - 0 ≡ length commands = omega arith in onto_none (read_lines command_in 3 1 (length commands) t) ∙ ap (λ n. onto [] (read_lines command_in 3 1 n t)) (sym whole);
   fit = λ later. refl;
-  few = omega (arith, l);
   count = n;
   long = refl;
   none = λ k lt. h k;
@@ -131,14 +129,11 @@ module _ (names : List Text) (commands : List (Bor Command)) (t : Text) (j : ℕ
   pub commands_on : (new : KeptRows) (e : Entry) (head : Option value.Facts) (after : ℕ → Option value.Facts) → ReadsCommand names x (is_loop command.now) rows e head new → (heads (j + 1) ≡ None → after (j + 1) ≡ head)
       → ((k : ℕ) → nat_eq (j + 1) k ≡ false → after k ≡ heads k) → InCommands names commands t (j + 1) rest new (entries ++ e ∷ []) after
   commands_on new e head after r put others =
-      let few = inv.few in
-      let more = r.few in
       let writable = let l = line_is (command_in (j + 1)) left (field.command_of x, rest) line in command_writable (j + 1) (pieces 32 l.0) (field.command_of x) l.1 in
       record {
         claims = inv.claims ++ field.command_of x ∷ [];
         reading = read_on command_in 3 (length commands) j t left inv.claims lt inv.reading (field.command_of x, rest) line;
         fit = λ later. fits_on later ∙ ap (λ b. b && commands_fit names (loops_of (drop (j + 1) commands)) later) r.fit;
-        few = omega (arith, few, more);
         count = r.count ∙ inv.count;
         long = length-append entries (e ∷ []) ∙ ap (λ n. n + 1) inv.long;
         none = λ k l. let apart : nat_eq (j + 1) k ≡ false = grind (arith, nat_tests) in others k apart ∙ inv.none k (omega (arith, l));
@@ -167,16 +162,14 @@ no_command names commands t j left rows entries heads inv lt none z e =
     absurd (read_no_more command_in 3 (length commands) j t left inv.claims lt inv.reading none z all)
 
 pub commands_end : (names : List Text) (commands : List (Bor Command)) (t : Text) (j : ℕ) (left : Text) (rows : KeptRows) (entries : List Entry) (heads : ℕ → Option value.Facts) → InCommands names commands t j left rows entries heads
-    → length commands ≤ j → j ≤ length commands → ReadsCommands names (loops_of commands) t entries heads left rows
+    → length commands ≤ j → ReadsCommands names (loops_of commands) t entries heads left rows
 unfolding commands_fit
-commands_end names commands t j left rows entries heads inv le ge =
+commands_end names commands t j left rows entries heads inv le =
     let long : length (loops_of commands) ≡ length commands = length-map commands (λ (c : Bor Command). is_loop c.now) in
-    let few = inv.few in
     record {
       claims = inv.claims;
       reading = ap (λ n. read_lines command_in 3 1 n t) long ∙ read_all command_in 3 (length commands) j t left inv.claims le inv.reading;
       fit = ap (commands_fit names (loops_of commands)) (sym (append-nil inv.claims)) ∙ inv.fit [] ∙ ap (λ (cs : List (Bor Command)). commands_fit names (loops_of cs) []) (drop_all j commands le);
-      few = omega (arith, few, long, ge);
       count = inv.count;
       lasting = λ c s same. inv.lasting c s (λ k l. same k);
     }
@@ -187,7 +180,6 @@ pub record InFunctions (names : List Text) (first count : ℕ) (t : Text) (j : �
   pub claims : List FunctionClaims
   pub reading : read_lines function_in first 1 count t ≡ onto claims (read_lines function_in (first + j) (1 + j) (count - j) left)
   pub fit : list_all (function_fits names) claims ≡ true
-  pub few : length rows.rows ≤ length old.rows + 8 * j
   pub same : rows.count ≡ length names
   pub stay : Stay old.rows rows.rows
   pub lasting : (later : KeptRows) → Stay rows.rows later.rows → map (function_claims (in_byte_order names) later) entries ≡ claims
@@ -200,7 +192,6 @@ functions_begin names first count t rows n = record {
       let here : first + 0 ≡ first = omega arith in
       onto_none (read_lines function_in first 1 count t) ∙ ap₂ (λ k n. onto [] (read_lines function_in k 1 n t)) (sym here) (sym whole);
   fit = refl;
-  few = omega arith;
   same = n;
   stay = λ i l. refl;
   lasting = λ later s. refl;
@@ -210,14 +201,11 @@ module _ (names : List Text) (first count : ℕ) (t : Text) (j : ℕ) (left : Te
     (inv : InFunctions names first count t j left old rows entries) (lt : j < count) (line : line_in (function_in (j + 1)) left ≡ Some (field.function_of x, rest)) where
   pub functions_on : (new : KeptRows) (e : FunctionEntry) → ReadsFunction names x rows e new → InFunctions names first count t (j + 1) rest old new (entries ++ e ∷ [])
   functions_on new e r =
-      let few = inv.few in
-      let more = r.few in
       let writable = let l = line_is (function_in (j + 1)) left (field.function_of x, rest) line in function_writable (j + 1) (pieces 32 l.0) (field.function_of x) l.1 in
       record {
         claims = inv.claims ++ field.function_of x ∷ [];
         reading = read_on function_in first count j t left inv.claims lt inv.reading (field.function_of x, rest) line;
         fit = list_all-append (function_fits names) inv.claims (field.function_of x ∷ []) ∙ rw (inv.fit, r.fit) refl;
-        few = omega (arith, few, more);
         same = r.count ∙ inv.same;
         stay = stay_on old.rows rows.rows new.rows inv.stay r.stay;
         lasting = λ later s.

@@ -122,22 +122,19 @@ unfolding bits_in
 row_lasts names t rows new later row id r found lt stay rising =
     named_row names (split t) (λ k. holds_at later.rows id.index k) r.distinct r.fit rising (λ k. ap (λ o. bits_in o k) (stay id.index lt) ∙ found k ∙ r.numbers k)
 
-pub both_read : {n m : ℕ} {a b c : KeptRows} {f g : Bool} {P Q : KeptRows → Type 0} → IsRead n a b f P → IsRead m b c g Q → IsRead (n + m) a c (f && g) (λ r. P r × Q r)
-both_read {n} {m} {a} {b} {c} x y =
-    let few = x.few in
-    let more = y.few in record {
-      few = omega (arith, few, more);
-      count = y.count ∙ x.count;
-      stay = stay_on a.rows b.rows c.rows x.stay y.stay;
-      fit = rw (x.fit, y.fit) refl;
-      lasting = λ later s. (x.lasting later (stay_on b.rows c.rows later.rows y.stay s), y.lasting later s);
-    }
+pub both_read : {a b c : KeptRows} {f g : Bool} {P Q : KeptRows → Type 0} → IsRead a b f P → IsRead b c g Q → IsRead a c (f && g) (λ r. P r × Q r)
+both_read {a} {b} {c} x y = record {
+  count = y.count ∙ x.count;
+  stay = stay_on a.rows b.rows c.rows x.stay y.stay;
+  fit = rw (x.fit, y.fit) refl;
+  lasting = λ later s. (x.lasting later (stay_on b.rows c.rows later.rows y.stay s), y.lasting later s);
+}
 
-pub read_says : {n : ℕ} {a b : KeptRows} {f g : Bool} {P Q : KeptRows → Type 0} → f ≡ g → ((r : KeptRows) → P r → Q r) → IsRead n a b f P → IsRead n a b g Q
-read_says e h x = record { few = x.few; count = x.count; stay = x.stay; fit = sym e ∙ x.fit; lasting = λ later s. h later (x.lasting later s) }
+pub read_says : {a b : KeptRows} {f g : Bool} {P Q : KeptRows → Type 0} → f ≡ g → ((r : KeptRows) → P r → Q r) → IsRead a b f P → IsRead a b g Q
+read_says e h x = record { count = x.count; stay = x.stay; fit = sym e ∙ x.fit; lasting = λ later s. h later (x.lasting later s) }
 
-pub nothing_read : (n : ℕ) (a : KeptRows) (Q : KeptRows → Type 0) → ((r : KeptRows) → Q r) → IsRead n a a true Q
-nothing_read n a Q h = record { few = omega arith; count = refl; stay = λ i l. refl; fit = refl; lasting = λ later s. h later }
+pub nothing_read : (a : KeptRows) (Q : KeptRows → Type 0) → ((r : KeptRows) → Q r) → IsRead a a true Q
+nothing_read a Q h = record { count = refl; stay = λ i l. refl; fit = refl; lasting = λ later s. h later }
 
 -- Facts, commands, functions
 
@@ -149,7 +146,7 @@ module _ (names : List Text) where
 
   pub unreached_read : (old : KeptRows) → ReadsFacts names fact.NotReached old value_kind.NotReached old
   unfolding claim_fits field.claim_of claims.claim_of
-  unreached_read old = nothing_read 2 old _ (λ r w. refl)
+  unreached_read old = nothing_read old _ (λ r w. refl)
 
   pub head_read : (t : FactText) (old new : KeptRows) (f : value.Facts) → ReadsFacts names t old f new → ReadsHead names (Some t) true old (Some f) new
   unfolding head_fits is_writable_head
@@ -157,7 +154,7 @@ module _ (names : List Text) where
 
   pub no_head_read : (old : KeptRows) → ReadsHead names None false old None old
   unfolding head_fits
-  no_head_read old = nothing_read 2 old _ (λ r w. refl)
+  no_head_read old = nothing_read old _ (λ r w. refl)
 
   pub command_read : (t : CommandTexts) (l : Bool) (a b c d e : KeptRows) (f g h : value.Facts) (head : Option value.Facts) → ReadsFacts names t.before a f b → ReadsFacts names t.zero b g c → ReadsFacts names t.nonzero c h d
       → ReadsHead names t.head l d head e → ReadsCommand names t l a (record { before = f; zero = g; nonzero = h }) head e

@@ -36,9 +36,8 @@ pub record IsRowOf (names : List Text) (t : Text) (row : BitRow) : Type 0 where
   pub fit : are_known names (split t) ≡ true
   pub numbers : (k : ℕ) → bits_of row k ≡ is_among names (split t) k
 
--- n rows more at most, and what is read fits; what is said of these rows is so of all rows that have them in their places
-pub record IsRead (n : ℕ) (old new : KeptRows) (fits : Bool) (Says : KeptRows → Type 0) : Type 0 where
-  pub few : length new.rows ≤ length old.rows + n
+-- what is read fits; what is said of these rows is so of all rows that have them in their places
+pub record IsRead (old new : KeptRows) (fits : Bool) (Says : KeptRows → Type 0) : Type 0 where
   pub count : new.count ≡ old.count
   pub stay : Stay old.rows new.rows
   pub fit : fits ≡ true
@@ -46,25 +45,25 @@ pub record IsRead (n : ℕ) (old new : KeptRows) (fits : Bool) (Says : KeptRows 
 
 module _ (names : List Text) where
   abbrev pub ReadsRow : Text → KeptRows → RowId → KeptRows → Type 0
-  ReadsRow t old id new = IsRead 1 old new (are_known names (split t)) (λ rows. is_rising (split t) ≡ true → names_at (in_byte_order names) rows id ≡ split t)
+  ReadsRow t old id new = IsRead old new (are_known names (split t)) (λ rows. is_rising (split t) ≡ true → names_at (in_byte_order names) rows id ≡ split t)
 
   abbrev pub ReadsSets : SetTexts → KeptRows → Drops → KeptRows → Type 0
-  ReadsSets t old d new = IsRead 2 old new (sets_fit names (sets_of t)) (λ rows. are_writable (sets_of t) ≡ true → claims.drops_of (in_byte_order names) rows d ≡ sets_of t)
+  ReadsSets t old d new = IsRead old new (sets_fit names (sets_of t)) (λ rows. are_writable (sets_of t) ≡ true → claims.drops_of (in_byte_order names) rows d ≡ sets_of t)
 
   abbrev pub ReadsFacts : FactText → KeptRows → value.Facts → KeptRows → Type 0
-  ReadsFacts t old f new = IsRead 2 old new (claim_fits names (claim_of t)) (λ rows. is_writable (claim_of t) ≡ true → claims.claim_of (in_byte_order names) rows f ≡ claim_of t)
+  ReadsFacts t old f new = IsRead old new (claim_fits names (claim_of t)) (λ rows. is_writable (claim_of t) ≡ true → claims.claim_of (in_byte_order names) rows f ≡ claim_of t)
 
   abbrev pub ReadsHead : Option FactText → Bool → KeptRows → Option value.Facts → KeptRows → Type 0
   ReadsHead t l old f new =
-      IsRead 2 old new (head_fits names l (option_map claim_of t)) (λ rows. is_writable_head (option_map claim_of t) ≡ true → option_map (claims.claim_of (in_byte_order names) rows) f ≡ option_map claim_of t)
+      IsRead old new (head_fits names l (option_map claim_of t)) (λ rows. is_writable_head (option_map claim_of t) ≡ true → option_map (claims.claim_of (in_byte_order names) rows) f ≡ option_map claim_of t)
 
   abbrev pub ReadsCommand : CommandTexts → Bool → KeptRows → Entry → Option value.Facts → KeptRows → Type 0
   ReadsCommand t l old e head new =
-      IsRead 8 old new (command_fits names l (command_of t)) (λ rows. is_command (command_of t) ≡ true → claims.command_claims (in_byte_order names) rows e head ≡ command_of t)
+      IsRead old new (command_fits names l (command_of t)) (λ rows. is_command (command_of t) ≡ true → claims.command_claims (in_byte_order names) rows e head ≡ command_of t)
 
   abbrev pub ReadsFunction : FunctionTexts → KeptRows → FunctionEntry → KeptRows → Type 0
   ReadsFunction t old e new =
-      IsRead 8 old new (function_fits names (function_of t)) (λ rows. is_function (function_of t) ≡ true → claims.function_claims (in_byte_order names) rows e ≡ function_of t)
+      IsRead old new (function_fits names (function_of t)) (λ rows. is_function (function_of t) ≡ true → claims.function_claims (in_byte_order names) rows e ≡ function_of t)
 
 -- what is read does not fit
 abbrev pub Misfits : Bool → Refusal → Type 0
@@ -83,7 +82,6 @@ pub record ReadsCommands (names : List Text) (loops : List Bool) (t : Text) (ent
   pub claims : List CommandClaims
   pub reading : read_lines command_in 3 1 (length loops) t ≡ Ok (claims, left)
   pub fit : commands_fit names loops claims ≡ true
-  pub few : length rows.rows ≤ 8 * length loops
   pub count : rows.count ≡ length names
   pub lasting : (c : Certificate) → Stay rows.rows c.rows.rows → ((k : ℕ) → get nat_eq c.heads k ≡ heads k) → commands_from (in_byte_order names) c 1 entries ≡ claims
 

@@ -1,5 +1,5 @@
 -- Room for the text of a certificate, taken by a piece at a time.
--- The standard has no such thing: the lengths of what sh_facts' Sheets puts together.
+-- The standard has no such thing: the lengths of what `sh_domain.specs.Sheets` puts together.
 use Rattle.std.specs.Prelude.{◌≡◌, ℕ, ◌+◌, ◌<◌, Bool, if◌then◌else◌, List, [], ◌∷◌, length, drop, Option, MatchOption}
 use Rattle.sh_tree.specs.standard.program.Syntax.{Text}
 use Rattle.sh_domain.specs.declared.rows.RowId.{RowId}

@@ -105,7 +105,6 @@ fn read_commands<'t>(
     text: &'t [u8],
 ) -> Result<ReadCommands<'t>, Refusal>
     requires few { length commands.now ≤ 65535 }
-    requires none { length rows.old.rows ≡ 0 }
     requires count { rows.old.count ≡ length names.now }
     ensures ok { IfOk result (λ x. part.ReadsCommands names.now (fit.loops_of commands.now) text.entry.now x.entries.items (get nat_eq x.heads) x.left.now rows.new) }
     ensures refusal { IfErr result (part.Misses (part.NoneFit names.now (fit.loops_of commands.now) text.entry.now)) }
@@ -153,7 +152,6 @@ fn read_functions(
     functions: u16,
     text: &[u8],
 ) -> Result<Vec<FunctionEntry>, Refusal>
-    requires room { length rows.old.rows ≤ 8 * 65535 }
     requires count { rows.old.count ≡ length names.now }
     ensures ok { IfOk result (λ x. part.ReadsFunctions names.now (3 + commands) functions text.now rows.old x.items rows.new) }
     ensures refusal { IfErr result (part.Misses (part.NoFunctionsFit names.now (3 + commands) functions text.now)) }
@@ -177,7 +175,6 @@ fn read_command(
     is_loop: bool,
     texts: CommandTexts<'_>,
 ) -> Result<(Entry, Option<Facts>), Refusal>
-    requires room { length rows.old.rows + 8 < 2 ^ 32 }
     requires count { rows.old.count ≡ length names.now }
     ensures ok { IfOk result (λ x. part.ReadsCommand names.now texts.entry is_loop rows.old x.0 x.1 rows.new) }
     ensures refusal { IfErr result (part.Misfits (fit.command_fits names.now is_loop (field.command_of texts.entry))) }
@@ -198,7 +195,6 @@ fn read_head(
     is_loop: bool,
     text: Option<FactText<'_>>,
 ) -> Result<Option<Facts>, Refusal>
-    requires room { length rows.old.rows + 2 < 2 ^ 32 }
     requires count { rows.old.count ≡ length names.now }
     ensures ok { IfOk result (λ x. part.ReadsHead names.now text.entry is_loop rows.old x rows.new) }
     ensures refusal { IfErr result (part.Misfits (fit.head_fits names.now is_loop (option_map field.claim_of text.entry))) }
@@ -225,7 +221,6 @@ fn read_function(
     rows: &mut Rows,
     texts: FunctionTexts<'_>,
 ) -> Result<FunctionEntry, Refusal>
-    requires room { length rows.old.rows + 8 < 2 ^ 32 }
     requires count { rows.old.count ≡ length names.now }
     ensures ok { IfOk result (λ e. part.ReadsFunction names.now texts.entry rows.old e rows.new) }
     ensures refusal { IfErr result (part.Misfits (fit.function_fits names.now (field.function_of texts.entry))) }
@@ -244,7 +239,6 @@ fn read_facts(
     rows: &mut Rows,
     text: FactText<'_>,
 ) -> Result<Facts, Refusal>
-    requires room { length rows.old.rows + 2 < 2 ^ 32 }
     requires count { rows.old.count ≡ length names.now }
     ensures ok { IfOk result (λ f. part.ReadsFacts names.now text.entry rows.old f rows.new) }
     ensures refusal { IfErr result (part.Misfits (fit.claim_fits names.now (field.claim_of text.entry))) }
@@ -268,7 +262,6 @@ fn read_sets(
     rows: &mut Rows,
     text: SetTexts<'_>,
 ) -> Result<Drops, Refusal>
-    requires room { length rows.old.rows + 2 < 2 ^ 32 }
     requires count { rows.old.count ≡ length names.now }
     ensures ok { IfOk result (λ d. part.ReadsSets names.now text.entry rows.old d rows.new) }
     ensures refusal { IfErr result (part.Misfits (fit.sets_fit names.now (field.sets_of text.entry))) }
@@ -280,7 +273,6 @@ fn read_sets(
 }
 
 fn read_row(alloc: Global, names: &Names, rows: &mut Rows, text: &[u8]) -> Result<RowId, Refusal>
-    requires room { length rows.old.rows + 1 < 2 ^ 32 }
     requires count { rows.old.count ≡ length names.now }
     ensures ok { IfOk result (λ id. part.ReadsRow names.now text.now rows.old id rows.new) }
     ensures refusal { IfErr result (part.Misfits (fit.are_known names.now (field.split text.now))) }

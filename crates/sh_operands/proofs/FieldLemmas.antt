@@ -1,14 +1,12 @@
 -- How many fields a piece of a tree gives, by the pieces one level below it.
-use Rattle.std.proofs.Common.{◌≡◌, ◌≢◌, ℕ, zero, suc, ◌+◌, ◌-◌, ◌==◌, length, Bool, true, false, not, ◌&&◌, ◌||◌, if◌then◌else◌, List, [], ◌∷◌, drop, fold, Option, refl, sym, ap, ap₂, ◌∙◌, arith}
+use Rattle.std.proofs.Common.{◌≡◌, ◌≢◌, ℕ, zero, suc, ◌+◌, ◌-◌, ◌==◌, length, Bool, true, false, not, ◌&&◌, ◌||◌, if◌then◌else◌, List, [], ◌∷◌, drop, fold, refl, sym, ap, ap₂, ◌∙◌, arith}
 use Rattle.std.specs.List.{list_any}
 use Rattle.sh_tree.specs.declared.tree.Action.{Action}
 use Rattle.sh_tree.specs.declared.tree.Action.TheVariants as action
-use Rattle.sh_tree.specs.declared.tree.Binary.{Binary}
 use Rattle.sh_tree.specs.declared.tree.CommandStyle.{CommandStyle}
 use Rattle.sh_tree.specs.declared.tree.Element.{Element, Assignment', Word', Redirection'}
 use Rattle.sh_tree.specs.declared.tree.Element.TheVariants as element
 use Rattle.sh_tree.specs.declared.tree.Expr.{Expr}
-use Rattle.sh_tree.specs.declared.tree.Expr.TheVariants as expression
 use Rattle.sh_tree.specs.declared.tree.ParameterOperator.{Value, Length, Use', Remove'}
 use Rattle.sh_tree.specs.declared.tree.ParameterOperator.TheVariants as operator
 use Rattle.sh_tree.specs.declared.tree.Param.{Param}
@@ -20,139 +18,19 @@ use Rattle.sh_tree.specs.declared.tree.Script.{Script}
 use Rattle.sh_tree.specs.declared.tree.SingleStyle.{SingleStyle}
 use Rattle.sh_tree.specs.declared.tree.Span.{Span}
 use Rattle.sh_tree.specs.declared.tree.Special.TheVariants as special
-use Rattle.sh_tree.specs.declared.tree.Subject.{Subject}
 use Rattle.sh_tree.specs.declared.tree.Subject.TheVariants as subject
-use Rattle.sh_tree.specs.declared.tree.Unary.{Unary}
 use Rattle.sh_tree.specs.declared.tree.Word.{Word}
 use Rattle.sh_tree.specs.standard.Tree.{text_of}
-use Rattle.sh_tree.specs.Lists.{parts_from, operands_from, element_from, elements_from}
+use Rattle.sh_tree.specs.Lists.{parts_from, element_from, elements_from}
 use Rattle.sh_tree.specs.standard.program.Syntax as p
 use Rattle.sh_tree.specs.standard.program.Trees as trees
 use Rattle.sh_tree.specs.standard.program.Words.{words_in, operands_in}
 use Rattle.sh_tree.proofs.ProgramRules as rules
-use Rattle.sh_table.specs.Counts.{Parameters, One, Nothing, count_of, is_all, is_parameters, part_has_all, operator_has_all, expression_has_all, operands_have_all, word_has_all, gives_field, some_gives_field}
+use Rattle.sh_table.specs.Counts.{Parameters, One, Nothing, count_of, is_parameters, word_has_all, gives_field, some_gives_field}
 use Rattle.sh_operands.specs.declared.counts.Total.{Total}
 use Rattle.sh_operands.specs.Numerals.{capped}
-use Rattle.sh_operands.specs.Fields.{special_is_all, subject_is_all, part_has, operator_has, expression_has, step_has, action_gives, use_gives, operator_gives, part_gives, lone_part, is_value, is_at, are_at, expands_all, are_all, quotes_all, quotes_at, are_quoted, is_field, no_fields, counted, counted_word, Counting, counting, skipping, word_counted, element_counted}
-
--- all parameters
-
-parts_listed : (b : List ℕ) (quoted : Bool) (ps : List Part) → word_has_all quoted (parts_from b ps) ≡ list_any (part_has b quoted) ps
-unfolding word_has_all parts_from part_has
-parts_listed b quoted [] = refl
-parts_listed b quoted (x ∷ xs) = ap (λ t. part_has_all quoted (trees.part_of b x) || t) (parts_listed b quoted xs)
-
-pub word_listed : (b : List ℕ) (w : Word) → word_has_all false (parts_from b w.parts) ≡ list_any (part_has b false) w.parts
-word_listed b w = parts_listed b false w.parts
-
-chain_listed : (b : List ℕ) (es : List (Binary × Expr)) → operands_have_all (operands_from b es) ≡ list_any (step_has b) es
-unfolding operands_from expression_has word_has_all
-chain_listed b [] = refl
-chain_listed b (e ∷ es) = ap (λ t. expression_has_all (trees.expression_of b e.1) || t) (chain_listed b es)
-
-all_told : (b : List ℕ) (quoted : Bool) (s : Subject) → is_all quoted (trees.parameter_of b s) ≡ subject_is_all quoted s
-unfolding is_all trees.parameter_of subject_is_all special_is_all
-all_told b quoted (subject.Name s) = refl
-all_told b quoted (subject.Positional n s) = refl
-all_told b quoted (subject.Special special.At s) = refl
-all_told b quoted (subject.Special special.Asterisk s) = refl
-all_told b quoted (subject.Special special.NumberSign s) = refl
-all_told b quoted (subject.Special special.QuestionMark s) = refl
-all_told b quoted (subject.Special special.Hyphen s) = refl
-all_told b quoted (subject.Special special.Dollar s) = refl
-all_told b quoted (subject.Special special.Exclamation s) = refl
-all_told b quoted (subject.Special special.Zero s) = refl
-
-pub operator_has-Use : (b : List ℕ) (quoted : Bool) (a : Action) (colon : Bool) (w : Word) → operator_has b quoted (operator.Use a colon w) ≡ list_any (part_has b quoted) w.parts
-unfolding operator_has word_has_all
-operator_has-Use b quoted a colon w = ap (operator_has_all quoted) (rules.operator_of-Use b a colon w) ∙ parts_listed b quoted w.parts
-
-pub operator_has-Remove : (b : List ℕ) (quoted : Bool) (r : Removal) (w : Word) → operator_has b quoted (operator.Remove r w) ≡ list_any (part_has b false) w.parts
-unfolding operator_has word_has_all
-operator_has-Remove b quoted r w = ap (operator_has_all quoted) (rules.operator_of-Remove b r w) ∙ parts_listed b false w.parts
-
-pub operator_has-Value : (b : List ℕ) (quoted : Bool) → operator_has b quoted operator.Value ≡ false
-unfolding operator_has word_has_all
-operator_has-Value b quoted = ap (operator_has_all quoted) (rules.operator_of-Value b)
-
-pub operator_has-Length : (b : List ℕ) (quoted : Bool) → operator_has b quoted operator.Length ≡ false
-unfolding operator_has word_has_all
-operator_has-Length b quoted = ap (operator_has_all quoted) (rules.operator_of-Length b)
-
-pub ruleset operators = (operator_has-Use, operator_has-Remove, operator_has-Value, operator_has-Length)
-
-pub part_has-Double : (b : List ℕ) (quoted : Bool) (s : Span) (ps : List Part) → part_has b quoted (part.Double s ps) ≡ list_any (part_has b true) ps
-unfolding part_has word_has_all
-part_has-Double b quoted s ps = ap (part_has_all quoted) (rules.part_of-Double b s ps) ∙ parts_listed b true ps
-
-pub part_has-Param : (b : List ℕ) (quoted : Bool) (x : Param) → part_has b quoted (part.Param x) ≡ (subject_is_all quoted x.subject || operator_has b quoted x.operator)
-unfolding part_has word_has_all operator_has
-part_has-Param b quoted x =
-    ap (part_has_all quoted) (rules.part_of-Param b x) ∙ ap (λ t. t || operator_has_all quoted (trees.operator_of b x.operator)) (all_told b quoted x.subject)
-
-pub part_has-Arith : (b : List ℕ) (quoted : Bool) (s : Span) (e : Expr) → part_has b quoted (part.Arith s e) ≡ expression_has b e
-unfolding part_has word_has_all expression_has
-part_has-Arith b quoted s e = ap (part_has_all quoted) (rules.part_of-Arith b s e)
-
-pub part_has-Plain : (b : List ℕ) (quoted : Bool) (s : Span) → part_has b quoted (part.Plain s) ≡ false
-unfolding part_has word_has_all
-part_has-Plain b quoted s = ap (part_has_all quoted) (rules.part_of-Plain b s)
-
-pub part_has-Escaped : (b : List ℕ) (quoted : Bool) (s : Span) → part_has b quoted (part.Escaped s) ≡ false
-unfolding part_has word_has_all
-part_has-Escaped b quoted s = ap (part_has_all quoted) (rules.part_of-Escaped b s)
-
-pub part_has-Single : (b : List ℕ) (quoted : Bool) (style : SingleStyle) (s : Span) → part_has b quoted (part.Single style s) ≡ false
-unfolding part_has word_has_all
-part_has-Single b quoted style s = ap (part_has_all quoted) (rules.part_of-Single b style s)
-
-pub part_has-Command : (b : List ℕ) (quoted : Bool) (style : CommandStyle) (s : Span) (t : Script) → part_has b quoted (part.Command style s t) ≡ false
-unfolding part_has word_has_all
-part_has-Command b quoted style s t = ap (part_has_all quoted) (rules.part_of-Command b style s t)
-
-pub part_has-Tilde : (b : List ℕ) (quoted : Bool) (s : Span) → part_has b quoted (part.Tilde s) ≡ false
-unfolding part_has word_has_all
-part_has-Tilde b quoted s = ap (part_has_all quoted) (rules.part_of-Tilde b s)
-
-pub part_has-Joined : (b : List ℕ) (quoted : Bool) (s : Span) → part_has b quoted (part.Joined s) ≡ false
-unfolding part_has word_has_all
-part_has-Joined b quoted s = ap (part_has_all quoted) (rules.part_of-Joined b s)
-
-pub ruleset parts = (part_has-Double, part_has-Param, part_has-Arith, part_has-Plain, part_has-Escaped, part_has-Single, part_has-Command, part_has-Tilde, part_has-Joined)
-
-pub expression_has-Constant : (b : List ℕ) (s : Span) → expression_has b (expression.Constant s) ≡ false
-unfolding expression_has word_has_all
-expression_has-Constant b s = ap expression_has_all (rules.expression_of-Constant b s)
-
-pub expression_has-Variable : (b : List ℕ) (s : Span) → expression_has b (expression.Variable s) ≡ false
-unfolding expression_has word_has_all
-expression_has-Variable b s = ap expression_has_all (rules.expression_of-Variable b s)
-
-pub expression_has-Expansion : (b : List ℕ) (x : Part) → expression_has b (expression.Expansion x) ≡ part_has b true x
-unfolding expression_has part_has word_has_all
-expression_has-Expansion b x = ap expression_has_all (rules.expression_of-Expansion b x)
-
-pub expression_has-Parenthesis : (b : List ℕ) (e : Expr) → expression_has b (expression.Parenthesis e) ≡ expression_has b e
-unfolding expression_has word_has_all
-expression_has-Parenthesis b e = ap expression_has_all (rules.expression_of-Parenthesis b e)
-
-pub expression_has-Unary : (b : List ℕ) (u : Unary) (e : Expr) → expression_has b (expression.Unary u e) ≡ expression_has b e
-unfolding expression_has word_has_all
-expression_has-Unary b u e = ap expression_has_all (rules.expression_of-Unary b u e)
-
-pub expression_has-Chain : (b : List ℕ) (e : Expr) (es : List (Binary × Expr)) → expression_has b (expression.Chain e es) ≡ (expression_has b e || list_any (step_has b) es)
-unfolding expression_has word_has_all
-expression_has-Chain b e es = ap expression_has_all (rules.expression_of-Chain b e es) ∙ ap (λ t. expression_has b e || t) (chain_listed b es)
-
-pub expression_has-Choice : (b : List ℕ) (c y n : Expr) → expression_has b (expression.Choice c y n) ≡ (expression_has b c || expression_has b y || expression_has b n)
-unfolding expression_has word_has_all
-expression_has-Choice b c y n = ap expression_has_all (rules.expression_of-Choice b c y n)
-
-pub expression_has-Assign : (b : List ℕ) (s : Span) (o : Option Binary) (e : Expr) → expression_has b (expression.Assign s o e) ≡ expression_has b e
-unfolding expression_has word_has_all
-expression_has-Assign b s o e = ap expression_has_all (rules.expression_of-Assign b s o e)
-
-pub ruleset expressions = (expression_has-Constant, expression_has-Variable, expression_has-Expansion, expression_has-Parenthesis, expression_has-Unary, expression_has-Chain, expression_has-Choice, expression_has-Assign)
+use Rattle.sh_operands.specs.Looks.{special_is_all, subject_is_all}
+use Rattle.sh_operands.specs.Fields.{action_gives, use_gives, operator_gives, part_gives, lone_part, is_value, is_at, are_at, expands_all, are_all, quotes_all, quotes_at, are_quoted, is_field, no_fields, counted, counted_word, Counting, counting, skipping, word_counted, element_counted}
 
 -- parts that give a field
 

@@ -1,4 +1,5 @@
 pub mod NumeralLemmas
 pub mod TextLemmas
+pub mod LookLemmas
 pub mod FieldLemmas
 pub mod MeaningLemmas

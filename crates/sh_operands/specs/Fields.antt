@@ -3,46 +3,19 @@
 use Rattle.std.specs.Prelude.{ℕ, zero, suc, ◌+◌, Bool, true, false, not, ◌&&◌, List, [], ◌∷◌, fold, Option, Some, None}
 use Rattle.sh_tree.specs.declared.tree.Action.{Action}
 use Rattle.sh_tree.specs.declared.tree.Action.TheVariants as action
-use Rattle.sh_tree.specs.declared.tree.Binary.{Binary}
 use Rattle.sh_tree.specs.declared.tree.Element.{Element}
-use Rattle.sh_tree.specs.declared.tree.Expr.{Expr}
 use Rattle.sh_tree.specs.declared.tree.ParameterOperator.{ParameterOperator}
 use Rattle.sh_tree.specs.declared.tree.ParameterOperator.TheVariants as operator
 use Rattle.sh_tree.specs.declared.tree.Part.{Part, Param'}
-use Rattle.sh_tree.specs.declared.tree.Special.{Special}
 use Rattle.sh_tree.specs.declared.tree.Special.TheVariants as special
-use Rattle.sh_tree.specs.declared.tree.Subject.{Subject}
-use Rattle.sh_tree.specs.declared.tree.Subject.TheVariants as subject
 use Rattle.sh_tree.specs.Lists.{element_from}
 use Rattle.sh_tree.specs.standard.program.Syntax as p
 use Rattle.sh_tree.specs.standard.program.Trees as trees
 use Rattle.sh_tree.specs.standard.program.Words.{words_in, operands_in}
-use Rattle.sh_table.specs.Counts.{Count, Parameters, One, Nothing, count_of, part_has_all, operator_has_all, expression_has_all, word_has_all, gives_field, some_gives_field}
+use Rattle.sh_table.specs.Counts.{Count, Parameters, One, Nothing, count_of, word_has_all, gives_field, some_gives_field}
 use Rattle.sh_operands.specs.declared.counts.Total.{Total}
+use Rattle.sh_operands.specs.Looks.{subject_is_all}
 use Rattle.sh_operands.specs.Numerals.{capped}
-
--- all parameters
-
-unfoldable pub special_is_all : Bool → Special → Bool
-special_is_all quoted special.At = true
-special_is_all quoted special.Asterisk = not quoted
-special_is_all quoted _ = false
-
-unfoldable pub subject_is_all : Bool → Subject → Bool
-subject_is_all quoted (subject.Special c s) = special_is_all quoted c
-subject_is_all quoted _ = false
-
-unfoldable pub part_has : List ℕ → Bool → Part → Bool
-part_has b quoted x = part_has_all quoted (trees.part_of b x)
-
-unfoldable pub operator_has : List ℕ → Bool → ParameterOperator → Bool
-operator_has b quoted o = operator_has_all quoted (trees.operator_of b o)
-
-unfoldable pub expression_has : List ℕ → Expr → Bool
-expression_has b e = expression_has_all (trees.expression_of b e)
-
-abbrev pub step_has : List ℕ → Binary × Expr → Bool
-step_has b x = expression_has b x.1
 
 -- parts that give a field
 

@@ -1,4 +1,5 @@
 pub mod Numerals
 pub mod Texts
+pub mod Looks
 pub mod Fields
 pub mod Meaning

@@ -4,10 +4,11 @@ ghost use Rattle.std.specs.List.{list_any};
 ghost use Rattle.std.specs.Option.{option_copied};
 ghost use Rattle.sh_tree.specs.Lists.{parts_from, elements_from};
 ghost use Rattle.sh_tree.specs.standard.program.Words.{words_in, operands_in};
-ghost use Rattle.sh_table.specs.Counts.{count_of, is_parameters, some_gives_field, word_has_all};
+ghost use Rattle.sh_table.specs.Counts.{count_of, is_parameters, some_gives_field};
 ghost use Rattle.sh_operands.specs.Fields as spec;
 
-use sh_tree::{Action, Binary, Element, Expr, ParameterOperator, Part, Special, Subject, Word};
+use crate::looks::{Look, subject_is_all, word_has};
+use sh_tree::{Action, Element, ParameterOperator, Part, Word};
 
 /// How many fields words give at least: so many, and as many as there are positional parameters for each `"$@"` that stands alone.
 /// Up to 4,294,967,295 are counted.
@@ -15,120 +16,6 @@ use sh_tree::{Action, Binary, Element, Expr, ParameterOperator, Part, Special, S
 pub struct Total {
     pub ones: u32,
     pub parameters: u32,
-}
-
-// Parameters
-
-// `$@`, or `$*` outside quotes.
-#[tactic(auto, unfolding(crate::specs::Fields::special_is_all))]
-fn special_is_all(quoted: bool, special: Special) -> bool
-    ensures { result ≡ spec.special_is_all quoted special }
-{
-    match special {
-        Special::At => true,
-        Special::Asterisk => !quoted,
-        Special::NumberSign => false,
-        Special::QuestionMark => false,
-        Special::Hyphen => false,
-        Special::Dollar => false,
-        Special::Exclamation => false,
-        Special::Zero => false,
-    }
-}
-
-#[tactic(auto, unfolding(crate::specs::Fields::subject_is_all))]
-fn subject_is_all(quoted: bool, subject: Subject) -> bool
-    ensures { result ≡ spec.subject_is_all quoted subject }
-{
-    match subject {
-        Subject::Name(_) => false,
-        Subject::Positional(_, _) => false,
-        Subject::Special(special, _) => special_is_all(quoted, special),
-    }
-}
-
-// Whether such a parameter stands in a word, or in a word of a braced expansion or of arithmetic in it.
-#[cycle(has)]
-fn parts_have(quoted: bool, parts: &[Part]) -> bool
-    ensures { (b : List ℕ) → result ≡ list_any (spec.part_has b quoted) parts.now }
-{
-    for part in parts {
-        if part_has(quoted, part) {
-            return true;
-        }
-    }
-    false
-}
-
-#[cycle(has)]
-#[tactic(auto, using(crate::proofs::FieldLemmas::parts))]
-fn part_has(quoted: bool, part: &Part) -> bool
-    ensures { (b : List ℕ) → result ≡ spec.part_has b quoted part.now }
-{
-    match part {
-        Part::Double(_, parts) => parts_have(true, parts.as_slice()),
-        Part::Param(param) => {
-            subject_is_all(quoted, param.subject) || operator_has(quoted, &param.operator)
-        }
-        Part::Arith(_, expression) => expression_has(expression.get()),
-        Part::Plain(_) => false,
-        Part::Escaped(_) => false,
-        Part::Single(_, _) => false,
-        Part::Command(_, _, _) => false,
-        Part::Tilde(_) => false,
-        Part::Joined(_) => false,
-    }
-}
-
-#[cycle(has)]
-#[tactic(auto, using(crate::proofs::FieldLemmas::operators))]
-fn operator_has(quoted: bool, operator: &ParameterOperator) -> bool
-    ensures { (b : List ℕ) → result ≡ spec.operator_has b quoted operator.now }
-{
-    match operator {
-        ParameterOperator::Value => false,
-        ParameterOperator::Length => false,
-        ParameterOperator::Use { word, .. } => parts_have(quoted, word.parts.as_slice()),
-        ParameterOperator::Remove { pattern, .. } => parts_have(false, pattern.parts.as_slice()),
-    }
-}
-
-#[cycle(has)]
-fn chain_has(rest: &[(Binary, Expr)]) -> bool
-    ensures { (b : List ℕ) → result ≡ list_any (spec.step_has b) rest.now }
-{
-    for link in rest {
-        if expression_has(&link.1) {
-            return true;
-        }
-    }
-    false
-}
-
-#[cycle(has)]
-#[tactic(auto, using(crate::proofs::FieldLemmas::expressions))]
-fn expression_has(expression: &Expr) -> bool
-    ensures { (b : List ℕ) → result ≡ spec.expression_has b expression.now }
-{
-    match expression {
-        Expr::Constant(_) => false,
-        Expr::Variable(_) => false,
-        Expr::Expansion(part) => part_has(true, part),
-        Expr::Parenthesis(inner) => expression_has(inner.get()),
-        Expr::Unary { operand, .. } => expression_has(operand.get()),
-        Expr::Chain { first, rest } => { expression_has(first.get()) || chain_has(rest.as_slice()) }
-        Expr::Choice { condition, yes, no } => {
-            expression_has(condition.get()) || expression_has(yes.get()) || expression_has(no.get())
-        }
-        Expr::Assign { value, .. } => expression_has(value.get()),
-    }
-}
-
-#[tactic(auto, using(crate::proofs::FieldLemmas::word_listed))]
-fn word_has_all(word: &Word) -> bool
-    ensures { (b : List ℕ) → result ≡ word_has_all false (parts_from b word.now.parts) }
-{
-    parts_have(false, word.parts.as_slice())
 }
 
 // Parts that give a field
@@ -276,10 +163,11 @@ fn is_parameters(word: &Word) -> bool
 // Words
 
 // Whether a word that is no `"$@"` surely gives a field.
+#[tactic(auto, unfolding(crate::specs::Looks::in_word))]
 fn is_field(word: &Word, script: &[u8]) -> bool
     ensures { result ≡ spec.is_field (parts_from script.now word.now.parts) }
 {
-    !word_has_all(word) && some_gives_field(word, script)
+    !word_has(Look::Parameters, word, script) && some_gives_field(word, script)
 }
 
 impl Total {

@@ -30,16 +30,13 @@ use Rattle.sh_tree.specs.standard.program.Words.{assignment_in, before_word, wor
 use Rattle.sh_tree.proofs.ProgramForms.{operands_of_elements}
 use Rattle.sh_tree.proofs.ProgramRules as rules
 use Rattle.sh_table.specs.Profile.{Static}
-use Rattle.sh_table.specs.Quoting.{is_ifs, word_assigns}
+use Rattle.sh_table.specs.Quoting.{is_at, is_ifs, word_assigns, word_mentions}
 use Rattle.sh_table.specs.declared.kind.Kind as meaning
 use Rattle.sh_table.specs.declared.kind.Kind.TheVariants as kinds
 use Rattle.sh_table.specs.standard.runs.Steps.{opened}
 use Rattle.sh_quote.specs.Steady.{steady_assignment, steady_value, steady_text, redirect_words, value_words, kind_words, for_words, pattern_words}
-use Rattle.sh_quote.specs.declared.looks.Look.TheVariants.{SetsIfs, At}
-use Rattle.sh_quote.specs.Looks.{in_word}
 use Rattle.sh_quote.specs.Operands.{front_steady, parts_declared, all_declared, is_one_field, first_options, all_options, operands_steady, names_other}
 use Rattle.sh_quote.specs.Commands.{by_form, all_declared_by, is_one_field_by, all_options_by, operands_by, named_by, words_by, kind_by, command_by, element_steady, named_steady, words_steady, kind_steady, word_sets, target_sets, element_sets, clause_sets, kind_sets, command_steady}
-use Rattle.sh_quote.proofs.LookLemmas as looks
 use Rattle.sh_quote.proofs.QuotationLemmas as quotations
 
 with_true : (x : Bool) → (x && true) ≡ x
@@ -82,9 +79,9 @@ declared_listed b (w ∷ ws) (t ∷ ts) = ap₂ (λ x y. x && y) (parts_by b w.p
 -- operands of `getopts`
 
 field_by : (b : List ℕ) (w : Word) (t : Static) → is_one_field_by (parts_from b w.parts) t ≡ is_one_field b w t
-unfolding is_one_field_by is_one_field in_word
+unfolding is_one_field_by is_one_field
 field_by b w (Some t) = refl
-field_by b w None = ap₂ (λ x y. x && not y) (quotations.quotes_listed b w.parts) (looks.parts_listed At b w.parts)
+field_by b w None = ap (λ x. x && not (word_mentions is_at (parts_from b w.parts))) (quotations.quotes_listed b w.parts)
 
 options_listed : (b : List ℕ) (ws : List Word) (ts : List Static) → all_options_by (words_in (words_from b ws)) ts ≡ all_options b ws ts
 unfolding words_in words_from all_options_by all_options first_options
@@ -195,22 +192,18 @@ pub ruleset steady_kinds = (kind_steady-Simple, kind_steady-For, kind_steady-Gro
 abbrev sets : p.Word → Bool
 sets w = word_assigns is_ifs w
 
-set_in : (b : List ℕ) (w : Word) → sets (parts_from b w.parts) ≡ word_sets b w
-unfolding in_word
-set_in b w = looks.parts_listed SetsIfs b w.parts
-
 set_listed : (b : List ℕ) (ws : List Word) → list_any sets (words_in (words_from b ws)) ≡ list_any (word_sets b) ws
 unfolding words_in words_from
 set_listed b [] = refl
-set_listed b (w ∷ ws) = ap₂ (λ x y. x || y) (set_in b w) (set_listed b ws)
+set_listed b (w ∷ ws) = ap (λ y. word_sets b w || y) (set_listed b ws)
 
 pub target_sets-File : (b : List ℕ) (d : Direction) (w : Word) → target_sets b (target.File d w) ≡ word_sets b w
 unfolding target_sets opened
-target_sets-File b d w = ap (λ r. sets (opened r)) (rules.target_of-File b d w) ∙ set_in b w
+target_sets-File b d w = ap (λ r. sets (opened r)) (rules.target_of-File b d w)
 
 pub target_sets-Here : (b : List ℕ) (h : HereDoc) → target_sets b (target.Here h) ≡ word_sets b h.body
 unfolding target_sets opened
-target_sets-Here b h = ap (λ r. sets (opened r)) (rules.target_of-Here b h) ∙ set_in b h.body
+target_sets-Here b h = ap (λ r. sets (opened r)) (rules.target_of-Here b h)
 
 pub ruleset setting_targets = (target_sets-File, target_sets-Here)
 
@@ -224,11 +217,11 @@ in_simple es = list_any sets (kind_words (p.Simple es))
 
 pub element_sets-Assignment : (b : List ℕ) (s : Span) (w : Word) → element_sets b (element.Assignment s w) ≡ word_sets b w
 unfolding element_sets kind_words operands_in redirects_in assignments_in words_in redirect_words value_words
-element_sets-Assignment b s w = ap in_simple (rules.element_from-Assignment b s w p.no_elements) ∙ with_false (sets (parts_from b w.parts)) ∙ set_in b w
+element_sets-Assignment b s w = ap in_simple (rules.element_from-Assignment b s w p.no_elements) ∙ with_false (sets (parts_from b w.parts))
 
 pub element_sets-Word : (b : List ℕ) (w : Word) → element_sets b (element.Word w) ≡ word_sets b w
 unfolding element_sets kind_words operands_in redirects_in assignments_in words_in redirect_words value_words
-element_sets-Word b w = ap in_simple (rules.element_from-Word b w p.no_elements) ∙ with_false (sets (parts_from b w.parts)) ∙ set_in b w
+element_sets-Word b w = ap in_simple (rules.element_from-Word b w p.no_elements) ∙ with_false (sets (parts_from b w.parts))
 
 pub element_sets-Redirection : (b : List ℕ) (r : Redirect) → element_sets b (element.Redirection r) ≡ target_sets b r.target
 unfolding element_sets kind_words operands_in redirects_in assignments_in words_in redirect_words value_words target_sets
@@ -307,7 +300,7 @@ kind_sets-For b s o t = ap (λ k. list_any sets (kind_words k)) (rules.kind_of-F
 pub kind_sets-Branches : (b : List ℕ) (w : Word) (cs : List Clause) → kind_sets b (kind.Branches w cs) ≡ (word_sets b w || list_any (clause_sets b) cs)
 unfolding kind_sets kind_words
 kind_sets-Branches b w cs =
-    ap (λ k. list_any sets (kind_words k)) (rules.kind_of-Branches b w cs) ∙ ap₂ (λ x y. x || y) (set_in b w) (patterns_listed b cs)
+    ap (λ k. list_any sets (kind_words k)) (rules.kind_of-Branches b w cs) ∙ ap (λ y. word_sets b w || y) (patterns_listed b cs)
 
 pub kind_sets-Group : (b : List ℕ) (t : Script) → kind_sets b (kind.Group t) ≡ false
 unfolding kind_sets kind_words

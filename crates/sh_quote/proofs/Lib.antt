@@ -7,7 +7,6 @@ pub mod StepLemmas
 pub mod SplitLemmas
 pub mod OnceLemmas
 pub mod CommandLemmas
-pub mod LookLemmas
 pub mod OperandLemmas
 pub mod PatternLemmas
 pub mod QuotationLemmas

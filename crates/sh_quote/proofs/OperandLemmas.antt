@@ -10,10 +10,9 @@ use Rattle.sh_tree.specs.standard.Words.{word_of, words_of}
 use Rattle.sh_table.specs.Profile.{Static}
 use Rattle.sh_table.specs.WordTexts.{text_in}
 use Rattle.sh_table.specs.declared.word_text.WordText.{WordText}
-use Rattle.sh_table.specs.standard.runs.Operands.{ends_options}
 use Rattle.sh_quote.specs.Steady.{ifs_and_equals}
 use Rattle.sh_quote.specs.Elements.{split}
-use Rattle.sh_quote.specs.Operands.{names_other, is_one_field, first_options, all_options, parts_declared, all_declared, is_ifs_static, reads_ifs}
+use Rattle.sh_quote.specs.Operands.{names_other, is_one_field, first_options, all_options, parts_declared, all_declared, is_ifs_static}
 
 never : (x : Bool) → (x && false) ≡ false
 never true = refl
@@ -60,14 +59,6 @@ others_named b (t ∷ ts) = ap (λ y. names_other (text_in b t) && y) (others_na
 pub any_listed : (b : List ℕ) (ts : List WordText) → list_any is_ifs_static (map (text_in b) ts) ≡ list_any (λ t. is_ifs_static (text_in b t)) ts
 any_listed b [] = refl
 any_listed b (t ∷ ts) = ap (λ y. is_ifs_static (text_in b t) || y) (any_listed b ts)
-
-pub ended : (b : List ℕ) (ts : List WordText) (x : WordText) (t : List ℕ) (r : Bool) → 1 ≤ length ts → x ≡ get_or ts 0 x → Some t ≡ text_in b x → ends_options t ≡ true
-    → r ≡ list_any (λ y. is_ifs_static (text_in b y)) (take (length ts - 1) (drop 1 ts)) → r ≡ reads_ifs false (map (text_in b) ts)
-unfolding reads_ifs
-ended b [] x t r l at v e h = absurd (omega (arith, l))
-ended b (y ∷ ys) x t r l at v e h =
-    let here : text_in b y ≡ Some t = ap (text_in b) (sym at) ∙ sym v in
-    h ∙ ap (list_any (λ z. is_ifs_static (text_in b z))) (take_all (length (y ∷ ys) - 1) ys (omega arith)) ∙ sym (any_listed b ys) ∙ sym (rw (here, e) refl)
 
 -- words
 

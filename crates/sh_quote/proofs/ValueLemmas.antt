@@ -1,6 +1,8 @@
 -- Values that are static and separate no numbers, part by part.
-use Rattle.std.proofs.Common.{◌≡◌, ℕ, ◌==◌, Bool, true, false, not, ◌&&◌, ◌||◌, cond, List, [], ◌∷◌, ◌++◌, Option, Some, None, unwrap_or, option_map, refl, ap, ap₂, ◌∙◌}
+use Rattle.std.proofs.Common.{◌≡◌, ℕ, ◌==◌, Bool, true, false, not, ◌&&◌, ◌||◌, if◌then◌else◌, cond, List, [], ◌∷◌, ◌++◌, Option, Some, None, unwrap_or, option_map, refl, sym, ap, ap₂, ◌∙◌, ⊎_elim, arith}
 use Rattle.std.specs.List.{list_any, list_all}
+use Rattle.std.proofs.lemmas.Bool.{cases_Bool, cond-true, cond-false, eqb-true}
+use Rattle.std.proofs.lemmas.Bool.Decides.{nat_tests}
 use Rattle.std.proofs.lemmas.List.Folds.{list_any-append}
 use Rattle.sh_tree.specs.declared.tree.CommandStyle.{CommandStyle}
 use Rattle.sh_tree.specs.declared.tree.Expr.{Expr}
@@ -11,7 +13,7 @@ use Rattle.sh_tree.specs.declared.tree.Script.{Script}
 use Rattle.sh_tree.specs.declared.tree.SingleStyle.{SingleStyle}
 use Rattle.sh_tree.specs.declared.tree.Span.{Span}
 use Rattle.sh_tree.specs.standard.Tree.{text_of}
-use Rattle.sh_tree.specs.standard.Words.{both_texts, behind_first, is_wildcard, part_text, parts_text, part_text-Double}
+use Rattle.sh_tree.specs.standard.Words.{both_texts, behind_first, escape_of, escaped, single_text, is_wildcard, part_text, parts_text, part_text-Double}
 use Rattle.sh_tree.specs.Lists.{parts_from}
 use Rattle.sh_tree.specs.standard.program.Syntax as p
 use Rattle.sh_tree.specs.standard.program.Syntax.{Text}
@@ -20,7 +22,7 @@ use Rattle.sh_tree.specs.standard.program.Words.{before_word, word_text, word_ha
 use Rattle.sh_tree.proofs.ProgramWords.{text_of_parts, wildcard_of_parts, bracket_of_parts, lone_bracket_of_parts}
 use Rattle.sh_table.specs.Quoting.{is_steady}
 use Rattle.sh_quote.specs.Steady.{steady_value}
-use Rattle.sh_quote.specs.Values.{separates_numbers, steady_static, single_steady, part_steady, value_is_bracket, value_is_pattern}
+use Rattle.sh_quote.specs.Values.{separates_numbers, steady_static, part_steady, value_is_bracket, value_is_pattern}
 
 -- two texts, one after the other
 
@@ -46,6 +48,33 @@ parts_listed : (b : List ℕ) (ps : List Part) → steady_static (parts_text b p
 unfolding parts_text part_steady steady_static is_steady
 parts_listed b [] = refl
 parts_listed b (x ∷ xs) = both_steady (part_text b x) (parts_text b xs) ∙ ap (λ t. part_steady b x && t) (parts_listed b xs)
+
+-- escapes
+
+escape_separates : (c : ℕ) → separates_numbers (escape_of c) ≡ separates_numbers c
+unfolding escape_of
+escape_separates c = grind (arith, nat_tests)
+
+pair_separates : (c d : ℕ) (cs t u : Text) → list_any separates_numbers t ≡ list_any separates_numbers cs
+    → list_any separates_numbers u ≡ (separates_numbers d || list_any separates_numbers cs)
+    → list_any separates_numbers (if c == 92 then escape_of d ∷ t else c ∷ u) ≡ (separates_numbers c || (separates_numbers d || list_any separates_numbers cs))
+pair_separates c d cs t u h k = ⊎_elim
+    (λ is.
+    let rest = separates_numbers d || list_any separates_numbers cs in
+    let backslash : separates_numbers c ≡ false = ap separates_numbers (eqb-true c 92 is) in
+    ap (list_any separates_numbers) (cond-true _ _ _ is) ∙ ap₂ (λ x y. x || y) (escape_separates d) h ∙ sym (ap (λ x. x || rest) backslash))
+    (λ other. ap (list_any separates_numbers) (cond-false _ _ _ other) ∙ ap (λ y. separates_numbers c || y) k)
+    (cases_Bool (c == 92))
+
+escaped_separates : (t : Text) → list_any separates_numbers (escaped t) ≡ list_any separates_numbers t
+unfolding escaped
+escaped_separates [] = refl
+escaped_separates (c ∷ []) = refl
+escaped_separates (c ∷ d ∷ cs) = pair_separates c d cs (escaped cs) (escaped (d ∷ cs)) (escaped_separates cs) (escaped_separates (d ∷ cs))
+
+pub escaped_steady : (t : Text) → is_steady (Some (escaped t)) ≡ is_steady (Some t)
+unfolding is_steady
+escaped_steady t = ap not (escaped_separates t)
 
 -- plain bytes at the front
 
@@ -98,8 +127,8 @@ pub part_steady-Escaped : (b : List ℕ) (s : Span) → part_steady b (part.Esca
 unfolding part_steady part_text steady_static
 part_steady-Escaped b s = refl
 
-pub part_steady-Single : (b : List ℕ) (style : SingleStyle) (s : Span) → part_steady b (part.Single style s) ≡ single_steady style (text_of b s)
-unfolding part_steady part_text single_steady
+pub part_steady-Single : (b : List ℕ) (style : SingleStyle) (s : Span) → part_steady b (part.Single style s) ≡ is_steady (Some (single_text style (text_of b s)))
+unfolding part_steady part_text steady_static
 part_steady-Single b style s = refl
 
 pub part_steady-Joined : (b : List ℕ) (s : Span) → part_steady b (part.Joined s) ≡ true

@@ -33,10 +33,10 @@ use Rattle.sh_table.specs.standard.runs.Operands as o
 use Rattle.sh_table.specs.standard.runs.Operands.{ReadOption, Complete, TakesNext, Other, read_option, is_dashed, ends_options}
 use Rattle.sh_table.proofs.NumberLemmas.{Tells, numbered_tells}
 use Rattle.sh_domain.specs.Operands as facts
-use Rattle.sh_domain.specs.Sights.{takes_next}
+use Rattle.sh_domain.specs.Sights.{go_on, read_operands, takes_next}
 use Rattle.sh_quote.specs.Places.{word_places, split_words, split_operands, unquoted}
 use Rattle.sh_quote.specs.Steady.{redirect_words, kind_words, steady_assignment, is_static, steady_declared, steady_operand, steady_getopts, steady_operands, steady_words, steady_kind, steady_command, steady}
-use Rattle.sh_quote.specs.Operands.{names_other, all_read, reads_ifs, is_ifs_static, go_on}
+use Rattle.sh_quote.specs.Operands.{names_other, all_read, names_ifs, reads_ifs, is_ifs_static}
 use Rattle.sh_quote.specs.Commands as commands
 use Rattle.sh_quote.specs.Commands.{by_form, all_declared_by, is_one_field_by, all_options_by, operands_by, named_by, words_by, kind_by, command_by, command_steady, texts_of, kept_of}
 use Rattle.sh_quote.specs.Unquoted as places
@@ -128,16 +128,16 @@ named_whole ts = go (o.read_from false ts) refl
     go None e = rw e refl
     go (Some us) e = rw e refl
 
-read_listed : (takes : Bool) (ts : List Text) → reads_ifs takes (map Some ts) ≡ list_any is_ifs (named (o.read_from takes ts))
-unfolding reads_ifs o.read_from go_on takes_next
+read_listed : (takes : Bool) (ts : List Text) → names_ifs (read_operands takes (map Some ts)) ≡ list_any is_ifs (named (o.read_from takes ts))
+unfolding names_ifs read_operands o.read_from go_on takes_next
 read_listed true [] = refl
 read_listed false [] = refl
 read_listed true (t ∷ ts) = read_listed false ts
 read_listed false (t ∷ ts) = go (λ takes. read_listed takes ts) (ends_options t) (is_dashed t) (read_option (drop 1 t)) refl refl refl
   where
-    go : ((takes : Bool) → reads_ifs takes (map Some ts) ≡ list_any is_ifs (named (o.read_from takes ts))) → (x y : Bool) (z : ReadOption)
+    go : ((takes : Bool) → names_ifs (read_operands takes (map Some ts)) ≡ list_any is_ifs (named (o.read_from takes ts))) → (x y : Bool) (z : ReadOption)
         → ends_options t ≡ x → is_dashed t ≡ y → read_option (drop 1 t) ≡ z
-        → reads_ifs false (map Some (t ∷ ts)) ≡ list_any is_ifs (named (o.read_from false (t ∷ ts)))
+        → names_ifs (read_operands false (map Some (t ∷ ts))) ≡ list_any is_ifs (named (o.read_from false (t ∷ ts)))
     go h true y z a b c = rw a (any_name ts)
     go h false false z a b c = rw (a, b) (any_name (t ∷ ts))
     go h false true Complete a b c = rw (a, b, c) (h false)
@@ -156,13 +156,13 @@ all_some (w ∷ ws) h = go (all_some ws (and_parts _ _ h).1) (static_of w) refl 
 read_whole : (ws : List p.Word) → all_read (map static_of ws) ≡ (list_all is_static ws && not (list_any is_ifs (facts.read_names ws)))
 unfolding all_read facts.read_names
 read_whole ws =
-    ap (λ x. x && not (reads_ifs false (map static_of ws))) (list_all-map is_some static_of ws) ∙ go (list_all is_static ws) refl
+    ap (λ x. x && not (reads_ifs (map static_of ws))) (list_all-map is_some static_of ws) ∙ go (list_all is_static ws) refl
   where
     go : (x : Bool) → list_all is_static ws ≡ x
-        → (list_all is_static ws && not (reads_ifs false (map static_of ws))) ≡ (list_all is_static ws && not (list_any is_ifs (facts.read_names ws)))
+        → (list_all is_static ws && not (reads_ifs (map static_of ws))) ≡ (list_all is_static ws && not (list_any is_ifs (facts.read_names ws)))
     go false e = rw e refl
     go true e =
-        rw e (ap not (ap (reads_ifs false) (all_some ws e) ∙ read_listed false (facts.statics ws) ∙ ap (list_any is_ifs) (sym (named_whole (facts.statics ws)))))
+        rw e (ap not (ap (λ ts. reads_ifs ts) (all_some ws e) ∙ read_listed false (facts.statics ws) ∙ ap (list_any is_ifs) (sym (named_whole (facts.statics ws)))))
 
 -- utilities and commands
 

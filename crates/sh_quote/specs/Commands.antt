@@ -10,7 +10,7 @@ use Rattle.sh_tree.specs.declared.tree.Element.{Element}
 use Rattle.sh_tree.specs.declared.tree.Kind.{Kind}
 use Rattle.sh_tree.specs.declared.tree.Target.{Target}
 use Rattle.sh_tree.specs.declared.tree.Word.{Word}
-use Rattle.sh_tree.specs.Lists.{element_from}
+use Rattle.sh_tree.specs.Lists.{element_from, parts_from}
 use Rattle.sh_tree.specs.standard.program.Syntax as p
 use Rattle.sh_tree.specs.standard.program.Syntax.{Text}
 use Rattle.sh_tree.specs.standard.program.Trees as trees
@@ -24,8 +24,6 @@ use Rattle.sh_table.specs.declared.kind.Kind as meaning
 use Rattle.sh_table.specs.declared.kind.Kind.TheVariants as kind
 use Rattle.sh_table.specs.standard.runs.Steps.{opened}
 use Rattle.sh_quote.specs.Steady.{steady_assignment, steady_text, redirect_words, kind_words}
-use Rattle.sh_quote.specs.declared.looks.Look.TheVariants.{SetsIfs}
-use Rattle.sh_quote.specs.Looks.{has_in_parts}
 use Rattle.sh_quote.specs.Operands.{names_other, all_read, operands_steady}
 
 -- The words of a program's command, with the static texts that are kept of them
@@ -92,7 +90,7 @@ unfoldable pub kind_steady : List ℕ → Kind → List Static → Bool
 kind_steady b k ts = kind_by (trees.kind_of b k) ts
 
 abbrev pub word_sets : List ℕ → Word → Bool
-word_sets b w = has_in_parts SetsIfs b w.parts
+word_sets b w = word_assigns is_ifs (parts_from b w.parts)
 
 unfoldable pub target_sets : List ℕ → Target → Bool
 target_sets b t = word_assigns is_ifs (opened (trees.target_of b t))

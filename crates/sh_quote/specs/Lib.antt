@@ -6,7 +6,6 @@ pub mod examples
 pub mod Once
 pub mod Commands
 pub mod Elements
-pub mod Looks
 pub mod Operands
 pub mod Patterns
 pub mod Quotations

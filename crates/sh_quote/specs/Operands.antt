@@ -13,14 +13,11 @@ use Rattle.sh_tree.specs.Lists.{parts_from}
 use Rattle.sh_tree.specs.standard.program.Syntax.{Text}
 use Rattle.sh_tree.specs.standard.program.Words.{before_word}
 use Rattle.sh_table.specs.Profile.{Static}
-use Rattle.sh_table.specs.Quoting.{is_ifs}
+use Rattle.sh_table.specs.Quoting.{is_at, is_ifs, word_mentions}
 use Rattle.sh_table.specs.declared.kind.Kind.{Kind}
 use Rattle.sh_table.specs.declared.kind.Kind.TheVariants as kind
-use Rattle.sh_table.specs.standard.runs.Operands.{is_dashed, ends_options}
-use Rattle.sh_domain.specs.Sights.{option_takes}
+use Rattle.sh_domain.specs.Sights.{read_operands}
 use Rattle.sh_quote.specs.Steady.{steady_value, steady_text}
-use Rattle.sh_quote.specs.declared.looks.Look.TheVariants.{At}
-use Rattle.sh_quote.specs.Looks.{has_in_parts}
 use Rattle.sh_quote.specs.Quotations.{is_quote}
 
 -- `export` and `readonly`
@@ -47,7 +44,7 @@ names_other (Some t) = not (is_ifs t)
 
 unfoldable pub is_one_field : List ℕ → Word → Static → Bool
 is_one_field b w (Some t) = not (is_ifs t)
-is_one_field b w None = list_all is_quote w.parts && not (has_in_parts At b w.parts)
+is_one_field b w None = list_all is_quote w.parts && not (word_mentions is_at (parts_from b w.parts))
 
 unfoldable pub first_options : List ℕ → Word → List Static → Bool
 first_options b w [] = true
@@ -63,21 +60,15 @@ unfoldable pub is_ifs_static : Static → Bool
 is_ifs_static None = false
 is_ifs_static (Some t) = is_ifs t
 
-unfoldable pub go_on : Option Bool → (Bool → Bool) → Bool
-go_on None rest = false
-go_on (Some takes) rest = rest takes
+unfoldable pub names_ifs : Option (List Static) → Bool
+names_ifs None = false
+names_ifs (Some ts) = list_any is_ifs_static ts
 
--- whether an option takes the next operand
-unfoldable pub reads_ifs : Bool → List Static → Bool
-reads_ifs takes [] = false
-reads_ifs takes (None ∷ ts) = false
-reads_ifs true (Some t ∷ ts) = reads_ifs false ts
-reads_ifs false (Some t ∷ ts) =
-    if ends_options t then list_any is_ifs_static ts
-    else (if is_dashed t then go_on (option_takes t) (λ takes. reads_ifs takes ts) else list_any is_ifs_static (Some t ∷ ts))
+abbrev pub reads_ifs : List Static → Bool
+reads_ifs ts = names_ifs (read_operands false ts)
 
 unfoldable pub all_read : List Static → Bool
-all_read ts = list_all is_some ts && not (reads_ifs false ts)
+all_read ts = list_all is_some ts && not (reads_ifs ts)
 
 -- a utility of this kind
 unfoldable pub operands_steady : Kind → List ℕ → List Word → List Static → Bool

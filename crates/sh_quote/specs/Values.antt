@@ -4,8 +4,7 @@ use Rattle.std.specs.Prelude.{ℕ, ◌==◌, Bool, false, not, ◌&&◌, ◌||�
 use Rattle.std.specs.List.{list_any}
 use Rattle.std.specs.Str.{bytes_eq}
 use Rattle.sh_tree.specs.declared.tree.Part.{Part}
-use Rattle.sh_tree.specs.declared.tree.SingleStyle.{SingleStyle}
-use Rattle.sh_tree.specs.standard.Words.{is_wildcard, has_wildcard, has_bracket, is_bracket, part_text, single_text}
+use Rattle.sh_tree.specs.standard.Words.{is_wildcard, has_wildcard, has_bracket, is_bracket, part_text}
 use Rattle.sh_tree.specs.standard.language.Bytes.{is_digit}
 use Rattle.sh_tree.specs.standard.program.Syntax.{Text}
 use Rattle.sh_table.specs.Quoting.{is_steady}
@@ -17,9 +16,6 @@ separates_numbers c = is_digit c || c == 45
 unfoldable pub steady_static : Option Text → Bool
 steady_static None = false
 steady_static (Some t) = is_steady (Some t)
-
-unfoldable pub single_steady : SingleStyle → Text → Bool
-single_steady style t = steady_static (single_text style t)
 
 unfoldable pub part_steady : List ℕ → Part → Bool
 part_steady b x = steady_static (part_text b x)

@@ -6,9 +6,9 @@ ghost use Rattle.sh_table.specs.WordTexts.{text_in};
 ghost use Rattle.sh_quote.specs.Commands as spec;
 
 use crate::elements::split_word;
-use crate::looks::{Look, is_ifs, word_has};
 use crate::operands::operands_are_steady;
 use crate::values::value_is_steady;
+use sh_operands::{Look, is_ifs, word_has};
 use sh_table::{Kind as Meaning, WordText, kind_of};
 use sh_tree::{Clause, Command, Element, Kind, Redirect, Target, Word};
 
@@ -77,6 +77,7 @@ fn kind_is_steady(kind: &Kind, texts: &[WordText], script: &[u8]) -> bool
 
 // Assignments in words
 
+#[tactic(auto, unfolding(sh_operands::specs::Looks::in_word))]
 fn word_sets(word: &Word, script: &[u8]) -> bool
     ensures { result ≡ spec.word_sets script.now word.now }
 {

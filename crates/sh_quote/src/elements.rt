@@ -1,13 +1,11 @@
 //! The words of a simple command, one after another.
-ghost use Rattle.std.specs.Prelude.{◌≡◌, ◌==◌, true, option_map, ◌<◌, length};
+ghost use Rattle.std.specs.Prelude.{◌≡◌, option_map};
 ghost use Rattle.std.specs.Option.{option_copied};
 ghost use Rattle.sh_tree.specs.standard.Words.{word_of, words_of};
-ghost use Rattle.sh_tree.specs.standard.language.Bytes as bytes;
-ghost use Rattle.sh_tree.specs.standard.language.Commands as commands;
 ghost use Rattle.sh_quote.specs.Elements.{split};
 ghost use Rattle.sh_quote.specs.Unquoted.{is_form, part_form};
 
-use sh_table::name_length;
+use sh_table::definition_in;
 use sh_tree::{Element, Part, Word};
 
 #[tactic(auto, using(sh_tree::proofs::NameLemmas::word_in_element))]
@@ -35,33 +33,12 @@ pub fn split_word(elements: &[Element]) -> Option<(&Word, &[Element])>
     None
 }
 
-/// Whether the text begins with `=`.
-#[tactic(auto, unfolding(sh_tree::specs::standard::language::Bytes::is_first))]
-pub fn begins_with_equals(text: &[u8]) -> bool
-    ensures value { result ≡ bytes.is_first (λ c. c == 61) text.now }
-    ensures within { result ≡ true → 0 < length text.now }
-{
-    match text {
-        [] => false,
-        [first, ..] => *first == b'=',
-    }
-}
-
-// Whether a name and `=` stand at the front (XCU 2.10.2, rule 7).
-#[tactic(auto, unfolding(sh_tree::specs::standard::language::Commands::is_assignment))]
-fn is_assignment(text: &[u8]) -> bool
-    ensures { result ≡ commands.is_assignment text.now }
-{
-    let length = name_length(text);
-    length > 0 && begins_with_equals(&text[length..])
-}
-
-#[tactic(auto, unfolding(crate::specs::Unquoted::part_form))]
+#[tactic(auto, unfolding(crate::specs::Unquoted::part_form, sh_table::specs::standard::runs::Operands::definition_in))]
 fn part_begins_assignment(part: &Part, script: &[u8]) -> bool
     ensures { result ≡ part_form script.now part.now }
 {
     match part {
-        Part::Plain(span) => is_assignment(span.text(script)),
+        Part::Plain(span) => definition_in(span.text(script)).is_some(),
         _ => false,
     }
 }

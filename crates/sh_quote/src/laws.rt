@@ -1,8 +1,9 @@
 //! What holds of the rules of quoting that `specs/` defines, and what they are good for in the runs that `sh_table` defines.
-ghost use Rattle.sh_table.specs.Theorem.{FieldsStandWhole, FieldsStandSteady};
 ghost use Rattle.sh_quote.specs.Once.{ReadUnquotedStandOnce, UnquotedStandOnce};
 ghost use Rattle.sh_quote.specs.examples.Quotes.{QuotesAsExpected};
 ghost use Rattle.sh_quote.specs.Theorem.{QuotingSuffices, QuotingSufficesForScripts};
+
+pub use sh_table::laws::fields;
 
 /// In known scripts the known places are told.
 pub fn examples()
@@ -16,13 +17,6 @@ pub fn examples()
 pub fn no_split()
     ensures programs { QuotingSuffices }
     ensures scripts { QuotingSufficesForScripts }
-{}
-
-/// The fields of a word without a Split event are those without splitting; and they hang on IFS and on the directory only
-/// where the form of the word lets them.
-pub fn fields()
-    ensures whole { FieldsStandWhole }
-    ensures steady { FieldsStandSteady }
 {}
 
 /// Of a program whose spots each stand once no expansion outside quotes is told twice. The program of every script that is read is such

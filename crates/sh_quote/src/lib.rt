@@ -5,7 +5,6 @@
 mod commands;
 mod elements;
 pub mod laws;
-mod looks;
 mod operands;
 mod patterns;
 mod places;

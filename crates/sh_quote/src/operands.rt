@@ -7,12 +7,12 @@ ghost use Rattle.sh_table.specs.WordTexts.{text_in};
 ghost use Rattle.sh_quote.specs.Steady as steady;
 ghost use Rattle.sh_quote.specs.Operands as spec;
 
-use crate::elements::{begins_with_equals, split_word};
-use crate::looks::{Look, is_ifs, word_has};
+use crate::elements::split_word;
 use crate::quotations::are_quotations;
 use crate::values::{is_steady, value_is_steady};
-use sh_domain::option_takes;
-use sh_table::{Kind, WordText, are_static, ends_options, is_dashed, name_length};
+use sh_domain::read_operands;
+use sh_operands::{Look, is_ifs, word_has};
+use sh_table::{Kind, WordText, are_static, definition_in};
 use sh_tree::{Element, KnownName, Part, Word, command_name};
 
 // `export` and `readonly`
@@ -37,15 +37,13 @@ fn text_is_steady(text: Option<&[u8]>) -> bool
 }
 
 // An operand with these plain bytes at its front.
-#[tactic(auto, unfolding(crate::specs::Operands::front_steady, sh_tree::specs::standard::language::Commands::is_assignment))]
+#[tactic(auto, unfolding(crate::specs::Operands::front_steady, sh_table::specs::standard::runs::Operands::definition_in))]
 fn front_is_steady(front: &[u8], rest: &[Part], text: Option<&[u8]>, script: &[u8]) -> bool
     ensures { result ≡ spec.front_steady script.now front.now rest.now (option_map (λ t. t.now) text.entry) }
 {
-    let length = name_length(front);
-    if length > 0 && begins_with_equals(&front[length..]) {
-        !is_ifs(&front[..length]) || value_is_steady(&front[length + 1..], rest, script)
-    } else {
-        text_is_steady(text)
+    match definition_in(front) {
+        Some((name, value)) => !is_ifs(name) || value_is_steady(value, rest, script),
+        None => text_is_steady(text),
     }
 }
 
@@ -101,7 +99,7 @@ fn all_name_other(texts: &[WordText], script: &[u8]) -> bool
 }
 
 // The operand with the options: one field that is not IFS.
-#[tactic(auto, unfolding(crate::specs::Operands::is_one_field))]
+#[tactic(auto, unfolding(crate::specs::Operands::is_one_field, sh_operands::specs::Looks::in_word))]
 fn is_one_field(word: &Word, text: Option<&[u8]>, script: &[u8]) -> bool
     ensures { result ≡ spec.is_one_field script.now word.now (option_map (λ t. t.now) text.entry) }
 {
@@ -153,33 +151,14 @@ fn has_ifs(texts: &[WordText], script: &[u8]) -> bool
 }
 
 // Whether IFS is among the operands behind the options.
-#[tactic(auto, using(crate::proofs::OperandLemmas::any_listed), unfolding(crate::specs::Operands::reads_ifs, crate::specs::Operands::go_on))]
+#[tactic(auto, using(crate::proofs::OperandLemmas::any_listed), unfolding(crate::specs::Operands::names_ifs))]
 fn reads_ifs(texts: &[WordText], script: &[u8]) -> bool
-    ensures { result ≡ spec.reads_ifs false (map (text_in script.now) texts.now) }
+    ensures { result ≡ spec.reads_ifs (map (text_in script.now) texts.now) }
 {
-    let mut left = texts;
-    let mut takes = false;
-    while let [first, rest @ ..] = left {
-        let Some(text) = first.get(script) else {
-            return false;
-        };
-        if takes {
-            takes = false;
-        } else {
-            if ends_options(text) {
-                return has_ifs(rest, script);
-            }
-            if !is_dashed(text) {
-                return has_ifs(left, script);
-            }
-            let Some(next) = option_takes(text) else {
-                return false;
-            };
-            takes = next;
-        }
-        left = rest;
+    match read_operands(texts, script) {
+        None => false,
+        Some(left) => has_ifs(left, script),
     }
-    false
 }
 
 /// Whether the operands of `read` do not let it set IFS, by their static texts.

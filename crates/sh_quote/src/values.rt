@@ -49,13 +49,14 @@ fn between_ends(text: &[u8]) -> &[u8]
     }
 }
 
-#[tactic(auto, unfolding(crate::specs::Values::single_steady, crate::specs::Values::steady_static))]
+/// Whether no number is split where this quotation is the value of IFS. No escape of `$'` gives or takes a digit or a `-`.
+#[tactic(auto, using(crate::proofs::ValueLemmas::escaped_steady))]
 fn single_is_steady(style: SingleStyle, text: &[u8]) -> bool
-    ensures { result ≡ spec.single_steady style text.now }
+    ensures { result ≡ quoting.is_steady (Some (words.single_text style text.now)) }
 {
     match style {
         SingleStyle::Plain => is_steady(between_ends(text)),
-        SingleStyle::Dollar => false,
+        SingleStyle::Dollar => is_steady(between_ends(behind_first(text))),
     }
 }
 

@@ -9,7 +9,8 @@ use Rattle.sh_table.specs.standard.Kinds.{kind_of}
 use Rattle.sh_table.specs.Profile.{Static}
 use Rattle.sh_table.specs.standard.runs.Environment.{is_one_of}
 use Rattle.sh_domain.specs.Table.{is_special}
-use Rattle.sh_demands.proofs.LossLemmas.{special_same, found}
+use Rattle.sh_table.proofs.FunctionLemmas.{is_placed}
+use Rattle.sh_demands.proofs.LossLemmas.{special_same}
 use Rattle.sh_rules.specs.TextTells.{calls_by}
 
 -- the table has a function for a command where one is called
@@ -17,7 +18,7 @@ pub one_called : (names : List Text) (ts : List Static) → is_some (called name
 unfolding called static_at calls_by
 one_called names [] = refl
 one_called names (None ∷ ts) = refl
-one_called names (Some t ∷ ts) = go (kinds.is_special (kind_of t)) (sym (special_same (kind_of t))) (found names t 1)
+one_called names (Some t ∷ ts) = go (kinds.is_special (kind_of t)) (sym (special_same (kind_of t))) (is_placed names t 1)
   where
     go : (b : Bool) → b ≡ is_special (kind_of t) → is_some (position_from (λ n. bytes_eq n t) 1 names) ≡ is_one_of names t
         → is_some (if b then None else position_from (λ n. bytes_eq n t) 1 names) ≡ (is_one_of names t && not (is_special (kind_of t)))

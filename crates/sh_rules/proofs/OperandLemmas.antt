@@ -14,7 +14,7 @@ use Rattle.sh_table.specs.standard.runs.Operands.{Removal, OfVariables, OfFuncti
 use Rattle.sh_table.specs.standard.runs.Operands as o
 use Rattle.sh_domain.specs.Facts.{Facts, NotReached, Known}
 use Rattle.sh_domain.specs.Operands.{Names, removed, status, statics, words_from, unset_names, read_names, getopts_names, positional_words, first_number, return_status, runs_command}
-use Rattle.sh_domain.specs.Sights.{takes_next}
+use Rattle.sh_domain.specs.Sights.{go_on, read_operands, takes_next}
 use Rattle.sh_domain.specs.Views.{Lose, step, where_known}
 use Rattle.sh_domain.proofs.KnownNameLemmas.{lost_one_by_one}
 use Rattle.sh_domain.proofs.MeetLemmas.{known_same}
@@ -27,7 +27,7 @@ use Rattle.sh_operands.proofs.TextLemmas.{unset_told}
 use Rattle.sh_rules.specs.Settings.{Setting, certificate}
 use Rattle.sh_rules.specs.SimpleBounds.{stepped}
 use Rattle.sh_rules.specs.Losses.{variable_lost, function_lost, by_name, texts_with, where_taken}
-use Rattle.sh_rules.specs.Texts.{unset_by, read_by, go_on, read_behind, names_behind, option_name, getopts_name, and_optind, positional_by, number_of, first_by, status_of, status_by, is_command, command_at, runs_by}
+use Rattle.sh_rules.specs.Texts.{unset_by, read_by, names_behind, option_name, getopts_name, and_optind, positional_by, number_of, first_by, status_of, status_by, is_command, command_at, runs_by}
 
 -- Numbers
 
@@ -152,17 +152,17 @@ unset_lost x f g k ts ws l v w h a b e d =
 
 -- `read`
 
-read_listed : (takes : Bool) (ts : List Static) → list_all is_some ts ≡ true → o.read_from takes (listed ts) ≡ option_map listed (read_behind takes ts)
-unfolding read_behind go_on takes_next o.read_from
+read_listed : (takes : Bool) (ts : List Static) → list_all is_some ts ≡ true → o.read_from takes (listed ts) ≡ option_map listed (read_operands takes ts)
+unfolding read_operands go_on takes_next o.read_from
 read_listed true [] h = refl
 read_listed false [] h = refl
 read_listed takes (None ∷ ts) h = absurd (true≢false (sym h))
 read_listed true (Some t ∷ ts) h = read_listed false ts h
 read_listed false (Some t ∷ ts) h = go (λ takes. read_listed takes ts h) (ends_options t) (is_dashed t) (read_option (drop 1 t)) refl refl refl
   where
-    go : ((takes : Bool) → o.read_from takes (listed ts) ≡ option_map listed (read_behind takes ts)) → (x y : Bool) (z : ReadOption)
+    go : ((takes : Bool) → o.read_from takes (listed ts) ≡ option_map listed (read_operands takes ts)) → (x y : Bool) (z : ReadOption)
         → ends_options t ≡ x → is_dashed t ≡ y → read_option (drop 1 t) ≡ z
-        → o.read_from false (listed (Some t ∷ ts)) ≡ option_map listed (read_behind false (Some t ∷ ts))
+        → o.read_from false (listed (Some t ∷ ts)) ≡ option_map listed (read_operands false (Some t ∷ ts))
     go f true y z a b c = rw a refl
     go f false false z a b c = rw (a, b) refl
     go f false true Complete a b c = rw (a, b, c) (f false)
@@ -174,10 +174,10 @@ unfolding names_behind o.read_from
 names_listed ts None h = rw h refl
 names_listed ts (Some us) h = rw h refl
 
-pub read_static : (ts : List Static) → list_all is_some ts ≡ true → read_by ts ≡ names_behind (read_behind false ts)
+pub read_static : (ts : List Static) → list_all is_some ts ≡ true → read_by ts ≡ names_behind (read_operands false ts)
 unfolding read_by
 read_static ts h =
-    ap (λ b. if b then unwrap_or (o.read_names (listed ts)) [] else []) h ∙ names_listed (listed ts) (read_behind false ts) (read_listed false ts h)
+    ap (λ b. if b then unwrap_or (o.read_names (listed ts)) [] else []) h ∙ names_listed (listed ts) (read_operands false ts) (read_listed false ts h)
 
 pub read_computed : (ts : List Static) → list_all is_some ts ≡ false → read_by ts ≡ []
 unfolding read_by

@@ -1,7 +1,5 @@
 -- What is kept of names that a simple command drops, name by name.
-use Rattle.std.proofs.Common.{◌≡◌, ℕ, Bool, true, false, not, cond, List, [], ◌∷◌, append-nil, filter, fold, map, codes, refl, sym, ap, ◌∙◌, Vec, Global}
-use Rattle.std.specs.List.{list_any}
-use Rattle.std.specs.Str.{bytes_eq}
+use Rattle.std.proofs.Common.{◌≡◌, ℕ, Bool, true, false, not, cond, List, [], ◌∷◌, append-nil, filter, fold, map, codes, refl, sym, ap, ◌∙◌}
 use Rattle.sh_tree.specs.declared.tree.Element.{Element, Assignment', Word', Redirection'}
 use Rattle.sh_tree.specs.declared.tree.Element.TheVariants as element
 use Rattle.sh_tree.specs.declared.tree.Redirect.{Redirect}
@@ -26,7 +24,6 @@ use Rattle.sh_domain.specs.Operands.{Names, no_names}
 use Rattle.sh_domain.specs.Table.{prefixes}
 use Rattle.sh_domain.specs.Views.{Before, where_reached}
 use Rattle.sh_demands.specs.Drops.{listed}
-use Rattle.sh_demands.proofs.DropLemmas as checked
 use Rattle.sh_operands.specs.declared.options.Letters.{Letters}
 use Rattle.sh_operands.specs.Texts.{no_letters, removal_in, takes_variables, takes_functions, unset_behind}
 use Rattle.sh_rules.specs.declared.claims.Claims.{Claims}
@@ -47,11 +44,6 @@ pub reached : (c : Claims) (n : ℕ) (k : Knowledge) (b : Bool) → facts_in (se
     → ((names : List Text) → b ≡ not (claims (knowledge_facts names k) Nowhere)) → b ≡ is_reached (setting c) n
 unfolding is_reached facts_in
 reached c n k b h e = e (setting c).names ∙ ap (λ f. not (claims f Nowhere)) h
-
-pub functions_listed : (c : Claims) (t : Text) (b : Bool) (fs : List (Vec ℕ Global)) → map (λ (v : Vec ℕ Global). v.items) fs ≡ c.calls.now.functions.names
-    → b ≡ list_any (λ (v : Vec ℕ Global). bytes_eq v.items t) fs → b ≡ is_one_of (setting c).functions t
-unfolding setting
-functions_listed c t b fs e h = h ∙ sym (checked.functions_listed fs t) ∙ ap (λ names. is_one_of names t) e
 
 module _ {K : Type 0} (a : Asking K) (x : Setting) (n : ℕ) (function : Text) where
   abbrev drops : Names → K → K

@@ -42,7 +42,8 @@ use Rattle.sh_rules.specs.Elements.{declared_gained, front_name, declared_name, 
 use Rattle.sh_rules.specs.Losses.{ArePrefixes, name_gained, if_wanted, texts_with, is_free, unless_prefixed, free_gained, free_names}
 use Rattle.sh_rules.specs.SimpleBounds.{stepped, left}
 use Rattle.sh_rules.specs.TextBounds.{behind_name, counted, words_set, set_by, shifted_by}
-use Rattle.sh_rules.specs.Texts.{names_behind, read_behind, read_by, and_optind, positional_by}
+use Rattle.sh_domain.specs.Sights.{read_operands}
+use Rattle.sh_rules.specs.Texts.{names_behind, read_by, and_optind, positional_by}
 use Rattle.sh_rules.proofs.GainLemmas.{none_gained, other_gained, both_gained}
 use Rattle.sh_rules.proofs.OperandLemmas.{kept_fold, read_static, read_computed}
 
@@ -101,7 +102,7 @@ none_read x es f r h = sym (none_gained x f) ∙ ap (λ o. free_names x es (name
 pub ruleset reads = (some_read, none_read)
 
 pub static_read : (x : Setting) (es : p.Elements) (f g : Facts) (ts : List Static) → list_all is_some ts ≡ true
-    → g ≡ free_names x es (names_behind (read_behind false ts)) f → g ≡ free_names x es (read_by ts) f
+    → g ≡ free_names x es (names_behind (read_operands false ts)) f → g ≡ free_names x es (read_by ts) f
 static_read x es f g ts h e = e ∙ ap (λ ns. free_names x es ns f) (sym (read_static ts h))
 
 pub computed_read : (x : Setting) (es : p.Elements) (f : Facts) (ts : List Static) → list_all is_some ts ≡ false → f ≡ free_names x es (read_by ts) f

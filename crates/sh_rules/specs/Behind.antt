@@ -1,4 +1,4 @@
--- What is known behind a list, by its status: what `sh_facts` says of what is seen there, as one fact for each.
+-- What is known behind a list, by its status: what `sh_domain` says of what is seen there, as one fact for each.
 -- POSIX.1-2024, XCU 2.9.2 (pipelines), 2.9.3 (lists).
 use Rattle.std.specs.Prelude.{Bool, true, false, [], ◌∷◌}
 use Rattle.sh_tree.specs.declared.tree.ClauseEnd.{ClauseEnd}

@@ -1,4 +1,4 @@
--- What is kept so far, with what one command asks: what the flow rules of `sh_facts` ask of views, asked of facts.
+-- What is kept so far, with what one command asks: what the flow rules of `sh_domain` ask of views, asked of facts.
 -- The standard has no such rules: what is claimed of a place has to be known there in every run.
 use Rattle.std.specs.Prelude.{ℕ, Bool, true, false, [], ◌∷◌}
 use Rattle.sh_tree.specs.declared.tree.LoopKind.{LoopKind}

@@ -1,4 +1,4 @@
--- What is kept so far, with what a simple command asks: what the flow rules of `sh_facts` ask of views, asked of facts.
+-- What is kept so far, with what a simple command asks: what the flow rules of `sh_domain` ask of views, asked of facts.
 -- POSIX.1-2024, XCU 2.9.1 (simple commands), 2.15 (special built-in utilities), 3 (false, getopts, read, true).
 use Rattle.std.specs.Prelude.{ℕ, ◌==◌, Bool, true, false, not, if◌then◌else◌, List, [], ◌∷◌, filter, codes, Option, Some, None}
 use Rattle.sh_tree.specs.declared.known.KnownName.TheVariants as known

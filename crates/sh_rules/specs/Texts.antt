@@ -1,15 +1,14 @@
 -- What the operands of built-in utilities say, by their static texts in their order; an operand that has none keeps its place.
 -- POSIX.1-2024, XCU 2.15 (break, continue, exec, return, set, shift, unset), 3 (getopts, read).
-use Rattle.std.specs.Prelude.{ℕ, ◌==◌, Bool, true, false, not, ◌&&◌, if◌then◌else◌, List, [], ◌∷◌, drop, filter, length, codes, Option, Some, None, is_some, unwrap_or, option_map, option_and_then}
+use Rattle.std.specs.Prelude.{ℕ, ◌==◌, Bool, false, not, ◌&&◌, if◌then◌else◌, List, [], ◌∷◌, drop, filter, length, codes, Option, Some, None, is_some, unwrap_or, option_map, option_and_then}
 use Rattle.std.specs.List.{list_all}
 use Rattle.sh_tree.specs.standard.language.Bytes.{is_first, is_name}
 use Rattle.sh_tree.specs.standard.program.Syntax.{Text, Word}
 use Rattle.sh_table.specs.Profile.{Static}
 use Rattle.sh_table.specs.standard.runs.Numbers.{number_in}
-use Rattle.sh_table.specs.standard.runs.Operands.{unset_operands, ends_options, is_dashed}
+use Rattle.sh_table.specs.standard.runs.Operands.{unset_operands}
 use Rattle.sh_table.specs.standard.runs.Operands as o
 use Rattle.sh_domain.specs.Operands.{Names, removed, status}
-use Rattle.sh_domain.specs.Sights.{option_takes}
 use Rattle.sh_demands.specs.Drops.{listed}
 use Rattle.sh_operands.specs.Numerals.{capped}
 use Rattle.sh_operands.specs.Texts.{positional_at}
@@ -21,18 +20,6 @@ unset_by ts = removed (unset_operands (listed ts)).0 (filter is_name (unset_oper
 -- those that `read` sets, where every operand is static
 unfoldable pub read_by : List Static → List Text
 read_by ts = if list_all is_some ts then unwrap_or (o.read_names (listed ts)) [] else []
-
-unfoldable pub go_on : Option Bool → (Bool → Option (List Static)) → Option (List Static)
-go_on None rest = None
-go_on (Some takes) rest = rest takes
-
--- the operands of `read` behind its options, unless one of these is none of the standard's; whether an option takes the next operand
-unfoldable pub read_behind : Bool → List Static → Option (List Static)
-read_behind takes [] = Some []
-read_behind true (t ∷ ts) = read_behind false ts
-read_behind false (None ∷ ts) = Some (None ∷ ts)
-read_behind false (Some t ∷ ts) =
-    if ends_options t then Some ts else (if is_dashed t then go_on (option_takes t) (λ takes. read_behind takes ts) else Some (Some t ∷ ts))
 
 -- the names among them
 unfoldable pub names_behind : Option (List Static) → List Text

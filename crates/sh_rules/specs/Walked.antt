@@ -1,5 +1,5 @@
 -- What a walk over a script keeps that visits each command with the rule that enters it, what stands round it and what is known there: the
--- commands as `sh_facts` enters them, in its order. Along words and redirections what they leave known goes with it.
+-- commands as `sh_domain` enters them, in its order. Along words and redirections what they leave known goes with it.
 -- POSIX.1-2024, XCU 2.6.3 (command substitution), 2.9 (shell commands), 2.13 (shell execution environment).
 use Rattle.std.specs.Prelude.{ℕ, [], ◌∷◌}
 use Rattle.sh_tree.specs.declared.tree.ClauseEnd.{ClauseEnd}

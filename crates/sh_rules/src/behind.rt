@@ -303,6 +303,16 @@ impl Behind {
             self.pass_item(claims, item);
         }
     }
+
+    /// Goes on behind items, by what the last of them claims that settles what is known behind it.
+    pub fn pass_all(&mut self, claims: &Claims<'_>, items: &[Item])
+        ensures { walks.behind_in (setting claims.now) self.new ≡ fold (walks.item_left (setting claims.now)) (walks.behind_in (setting claims.now) self.old) items.now }
+    {
+        match settled_from(items) {
+            Some(rest) => self.pass_items(claims, rest),
+            None => self.pass_items(claims, items),
+        }
+    }
 }
 
 /// Behind a pipeline.
@@ -314,9 +324,9 @@ pub fn pipe_behind(claims: &Claims<'_>, known: &Knowledge, pipe: &Pipe) -> Behin
     behind
 }
 
-// Whether what is known behind an item hangs on its own commands alone.
+/// Whether what is known behind an item depends on its own commands alone.
 #[tactic(auto, unfolding(crate::specs::Walks::is_settled))]
-fn is_settled(item: &Item) -> bool
+pub fn is_settled(item: &Item) -> bool
     ensures { result ≡ walks.is_settled item.now }
 {
     !item.background && lone_part(item.list.first.parts.as_slice()).is_some()

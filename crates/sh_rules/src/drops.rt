@@ -63,21 +63,8 @@ fn drop_function<A: Asked>(
     asked.drop_function(claims, function, Fault { number, rule }, name);
 }
 
-fn is_listed(name: &[u8], functions: &[Vec<u8>]) -> bool
-    ensures { result ≡ list_any (λ v. bytes_eq v.items name.now) functions.now }
-{
-    functions.iter().any(|function| function.as_slice() == name)
-}
-
-#[tactic(auto, using(crate::proofs::ReachedLemmas::functions_listed))]
-fn is_function(claims: &Claims<'_>, name: &[u8]) -> bool
-    ensures { result ≡ is_one_of (setting claims.now).functions name.now }
-{
-    is_listed(name, claims.calls.functions())
-}
-
 // A function of the script.
-#[tactic(auto, unfolding(crate::specs::Reached::defined_dropped))]
+#[tactic(auto, unfolding(crate::specs::Reached::defined_dropped, crate::specs::Walks::setting))]
 fn drop_defined<A: Asked>(
     claims: &Claims<'_>,
     number: u32,
@@ -87,7 +74,7 @@ fn drop_defined<A: Asked>(
 )
     ensures { A.kept asked.new ≡ spec.defined_dropped A.asked (setting claims.now) number function.now (A.kept asked.old) name.now }
 {
-    if is_function(claims, name) {
+    if claims.calls.is_function(name) {
         drop_function(claims, number, function, name, asked);
     }
 }

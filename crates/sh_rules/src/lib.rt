@@ -22,9 +22,9 @@ mod texts;
 mod utilities;
 pub mod walk;
 
-pub use around::{Around, alone, in_function};
+pub use around::{Around, Loops, alone, in_function};
 pub use asked::Asked;
-pub use behind::{Behind, met, pipe_behind, without_job};
+pub use behind::{Behind, is_settled, met, pipe_behind, without_job};
 pub use claims::Claims;
 pub use fault::Fault;
 pub use gains::{

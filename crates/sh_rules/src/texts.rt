@@ -14,9 +14,9 @@ ghost use Rattle.sh_rules.specs.Walks.{facts_in, setting};
 
 use crate::claims::Claims;
 use crate::steps::{lose_function, lose_variable};
-use sh_domain::{Knowledge, option_takes};
+use sh_domain::Knowledge;
 use sh_operands::{number_in, unset_operands};
-use sh_table::{WordText, ends_options, is_dashed};
+use sh_table::WordText;
 use sh_tree::is_name;
 
 // Numbers
@@ -136,35 +136,6 @@ pub fn getopts_name<'a>(texts: &'a [WordText], script: &'a [u8]) -> Option<&'a [
         [letters, name, ..] => option_name(letters, name, script),
         _ => None,
     }
-}
-
-// `read`
-
-/// The operands of `read` behind its options, unless one of these is none of the standard's (XCU 3, read).
-#[tactic(auto, unfolding(crate::specs::Texts::read_behind, crate::specs::Texts::go_on))]
-pub fn read_behind<'a>(texts: &'a [WordText], script: &[u8]) -> Option<&'a [WordText]>
-    ensures { option_map (λ left. map (text_in script.now) left.now) result ≡ spec.read_behind false (map (text_in script.now) texts.entry.now) }
-{
-    let mut rest = texts;
-    let mut takes = false;
-    while let [first, others @ ..] = rest {
-        if takes {
-            takes = false;
-        } else {
-            let Some(text) = first.get(script) else {
-                return Some(rest);
-            };
-            if ends_options(text) {
-                return Some(others);
-            }
-            if !is_dashed(text) {
-                return Some(rest);
-            }
-            takes = option_takes(text)?;
-        }
-        rest = others;
-    }
-    Some(rest)
 }
 
 // `unset`

@@ -18,6 +18,7 @@ ghost use Rattle.sh_rules.specs.SimpleBounds as simple;
 ghost use Rattle.sh_rules.specs.SimpleBounds.{stepped};
 ghost use Rattle.sh_rules.specs.TextBounds as spec;
 ghost use Rattle.sh_rules.specs.Texts as reads;
+ghost use Rattle.sh_domain.specs.Sights.{read_operands};
 ghost use Rattle.sh_rules.specs.Walks.{behind_in, facts_in, setting};
 
 use crate::behind::{Behind, met};
@@ -25,10 +26,10 @@ use crate::claims::Claims;
 use crate::elements::{gain_assignments, gain_left, is_redirected, prefix_set};
 use crate::gains::gain_variable;
 use crate::steps::{count_none, count_words, lose_variable, shift, take_parameters};
-use crate::texts::{first_number, getopts_name, lose_unset, read_behind, runs_command};
-use sh_domain::{Knowledge, NumberSet};
+use crate::texts::{first_number, getopts_name, lose_unset, runs_command};
+use sh_domain::{Knowledge, NumberSet, read_operands};
 use sh_operands::positional_at;
-use sh_table::{Kind, WordText, are_static, name_length};
+use sh_table::{Kind, WordText, are_static, definition_in};
 use sh_tree::{Element, KnownName, Part, Word, is_name};
 
 // Names that utilities set
@@ -71,9 +72,9 @@ fn gain_behind(
     operands: &[WordText],
     known: &mut Knowledge,
 )
-    ensures { facts_in (setting claims.now) known.new ≡ losses.free_names (setting claims.now) (elements_from (setting claims.now).script elements.now) (reads.names_behind (reads.read_behind false (map (text_in (setting claims.now).script) operands.now))) (facts_in (setting claims.now) known.old) }
+    ensures { facts_in (setting claims.now) known.new ≡ losses.free_names (setting claims.now) (elements_from (setting claims.now).script elements.now) (reads.names_behind (read_operands false (map (text_in (setting claims.now).script) operands.now))) (facts_in (setting claims.now) known.old) }
 {
-    if let Some(names) = read_behind(operands, claims.script) {
+    if let Some(names) = read_operands(operands, claims.script) {
         let prefixes = prefix_set(claims, elements);
         gain_texts(claims, &prefixes, names, known);
     }
@@ -111,16 +112,12 @@ fn gain_getopts(
 
 // Declaration utilities
 
-#[tactic(auto, unfolding(crate::specs::Elements::front_name, sh_tree::specs::standard::language::Commands::is_assignment, sh_tree::specs::standard::language::Bytes::is_first))]
+#[tactic(auto, unfolding(crate::specs::Elements::front_name, sh_table::specs::standard::runs::Operands::definition_in))]
 fn front_name(text: &[u8]) -> Option<&[u8]>
     ensures { option_map (λ t. t.now) result ≡ pieces.front_name text.entry.now }
 {
-    let length = name_length(text);
-    if length > 0 && text[length..].starts_with(b"=") {
-        Some(&text[..length])
-    } else {
-        None
-    }
+    let (name, _) = definition_in(text)?;
+    Some(name)
 }
 
 #[tactic(auto, unfolding(crate::specs::Elements::declared_name))]

@@ -4,7 +4,7 @@ use Rattle.std.proofs.lemmas.Bool.{or_cases, or_left, or_right}
 use Rattle.std.proofs.lemmas.Slice.Eq.{bytes_eq-Decides}
 use Rattle.sh_tree.specs.standard.language.Bytes.{is_name}
 use Rattle.sh_tree.proofs.ListLemmas.{text_same}
-use Rattle.sh_domain.proofs.NameLemmas.{bytes_eq-swap}
+use Rattle.sh_table.proofs.FunctionLemmas.{bytes_eq_swap}
 use Rattle.sh_tree.specs.standard.program.Syntax as p
 use Rattle.sh_tree.specs.standard.program.Syntax.{Text}
 use Rattle.sh_tree.specs.standard.program.Words.{Assignments}
@@ -56,7 +56,7 @@ hidden_stay e ((name, None) ∷ xs) x h t i s = hidden_stay e xs (with_variable 
     go : (u : Text) → is_name u ≡ true → is_one_of (unset_before xs) u ≡ false → is_some (e.variables u) ≡ true → (b : Bool) → bytes_eq u name ≡ b
         → is_some (if b then e.variables name else x.variables u) ≡ true
     go u j n k true same = subst (λ v. is_some (e.variables v) ≡ true) ((bytes_eq-Decides u name).0 same) k
-    go u j n k false same = h u j (rw (bytes_eq-swap name u ∙ same) n) k
+    go u j n k false same = h u j (rw (bytes_eq_swap name u ∙ same) n) k
 
 hidden_grows : (e : Environment) (saved : Saved) (x : Environment) → Grows (restored (λ n. true) 0 e saved) x → Grows e (hiding e saved x)
 hidden_grows e saved x g =

@@ -14,7 +14,7 @@ use Rattle.sh_domain.specs.Faults.{are_among}
 use Rattle.sh_domain.specs.Inclusions.{MayDrop}
 use Rattle.sh_domain.specs.Operands.{Names}
 use Rattle.sh_domain.specs.Views.{Certificate, Seen, After, in_any_case, swapped, after_command}
-use Rattle.sh_domain.proofs.NameLemmas.{bytes_eq-swap}
+use Rattle.sh_table.proofs.FunctionLemmas.{bytes_eq_swap}
 use Rattle.sh_sound.specs.Holding.{Holds, Grows}
 use Rattle.sh_sound.specs.Going.{around, number_of, unset_before, OfFirst, Apart, FrontGood, Good, Stays}
 use Rattle.sh_sound.proofs.HoldLemmas.{all_one}
@@ -103,7 +103,7 @@ unset_names saved = record { vars = unset_before saved; functions = [] }
 -- a variable that is not named stays
 pub put_apart : (e : Environment) (name t : Text) (v : Option Text) → bytes_eq name t ≡ false → is_some (e.variables t) ≡ true → is_some ((with_variable e name v).variables t) ≡ true
 unfolding put_text
-put_apart e name t v h s = rw (bytes_eq-swap t name ∙ h) s
+put_apart e name t v h s = rw (bytes_eq_swap t name ∙ h) s
 
 -- whichever of the names are put back, only those are gone that were not set before
 pub restored_spares : (restores : ℕ → Bool) (n : ℕ) (e : Environment) (saved : Saved) → Spares (unset_names saved) e (restored restores n e saved)

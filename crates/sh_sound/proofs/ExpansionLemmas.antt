@@ -8,7 +8,6 @@ use Rattle.sh_tree.specs.declared.tree.Action.{Action}
 use Rattle.sh_tree.specs.declared.tree.Action.TheVariants as action
 use Rattle.sh_tree.specs.declared.tree.Binary.{Binary}
 use Rattle.sh_tree.specs.declared.tree.Binary.TheVariants as binary
-use Rattle.sh_tree.specs.declared.tree.SingleStyle.TheVariants as single
 use Rattle.sh_tree.specs.declared.tree.Special.TheVariants as special
 use Rattle.sh_tree.specs.standard.language.Bytes.{is_first, is_name}
 use Rattle.sh_tree.specs.standard.program.Syntax as p
@@ -463,8 +462,7 @@ module _ (d : Declared) (c : Certificate) (defined : List Text) where
           → Each (Stands d c defined) (part_entered n x) → part_unmet y x ≡ [] → part_formed x ≡ true → Does (part_gains x) s (expand_part f status k x s).state
       part_does k (p.Plain t) s n y h r m i = does_nothing s
       part_does k (p.Escaped t) s n y h r m i = does_nothing s
-      part_does k (p.Single single.Plain t) s n y h r m i = does_nothing s
-      part_does k (p.Single single.Dollar t) s n y h r m i = does_alike s (taken s) refl refl refl
+      part_does k (p.Single style t) s n y h r m i = does_nothing s
       part_does k (p.Double w) s n y h r m i =
           next_does s (gives (quote_pieces (k.split && has_every w)) s) (expand f status (in_quotes k) w) (does_nothing s) (λ l. word_does (in_quotes k) w s n y h r m i)
       part_does k (p.Expansion offset q operator) s n y h r m i =

@@ -1,4 +1,4 @@
-//! What the rules and the demands that `sh_facts` defines are good for in the runs that `sh_table` defines.
+//! What the rules and the demands that `sh_domain` defines are good for in the runs that `sh_table` defines.
 ghost use Rattle.sh_sound.specs.Theorem.{RulesSuffice, ScriptsExpandNothingUnset, HaveNoEvents, ScriptsHaveNoEvents};
 
 /// Where a program is admitted and formed as those that are read, and a certificate breaks no rule and leaves no demand unmet, no step of

@@ -8,7 +8,6 @@ use Rattle.sh_tree.specs.declared.tree.Action.{Action}
 use Rattle.sh_tree.specs.declared.tree.Action.TheVariants as action
 use Rattle.sh_tree.specs.declared.tree.Binary.{Binary}
 use Rattle.sh_tree.specs.declared.tree.Removal.{Removal}
-use Rattle.sh_tree.specs.declared.tree.SingleStyle.TheVariants as single
 use Rattle.sh_tree.specs.declared.tree.Special.TheVariants as special
 use Rattle.sh_tree.specs.standard.program.Syntax as p
 use Rattle.sh_tree.specs.standard.program.Syntax.{Text, Parameter, Variable, Positional, Special, Part, Plain, Escaped, Single, Double, Expansion, Arithmetic, Substitution, Tilde, Joined, Word, no_parts, more_parts, Operator, Value, Length, Use, Remove, Expression, Constant, Name, Expanded, Parenthesis, Signed, Chain, Choice, Assigned, Operands, no_operands, more_operands}
@@ -177,8 +176,7 @@ module _ (is_one : Text → Bool) (ok : Located → Bool) (Stays : State → Typ
         pub part_stays : (c : Context) (x : Part) (s : State) → part_assigns is_one x ≡ false → Each ok (part_located x) → Stays s → Stays (expand_part f status c x s).state
         part_stays c (Plain t) s i l h = h
         part_stays c (Escaped t) s i l h = h
-        part_stays c (Single single.Plain t) s i l h = h
-        part_stays c (Single single.Dollar t) s i l h = closed.takes s h
+        part_stays c (Single style t) s i l h = h
         part_stays c (Double w) s i l h = followed_stays (gives _ s) _ h (λ t k. word_stays (in_quotes c) w t i l k)
         part_stays c (Expansion at x operator) s i l h =
             operator_stays c x operator (s.given 0) (value_of f status x s.environment (s.given 0)) (taken s) i l (closed.takes s h)

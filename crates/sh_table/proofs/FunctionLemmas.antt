@@ -1,5 +1,5 @@
 -- The functions of commands, a command at a time.
-use Rattle.std.proofs.Common.{◌≡◌, ℕ, suc, ◌+◌, ◌<◌, ◌≤◌, Bool, true, false, cond, ◌||◌, if◌then◌else◌, List, [], ◌∷◌, ◌++◌, length, drop, get_or, map, fold, Option, Some, None, option_map, refl, sym, ap, ap₂, ◌∙◌, subst, arith, eqb, position, Vec, Global}
+use Rattle.std.proofs.Common.{◌≡◌, ℕ, suc, ◌+◌, ◌<◌, ◌≤◌, Bool, true, false, cond, ◌||◌, if◌then◌else◌, List, [], ◌∷◌, ◌++◌, length, drop, get_or, map, fold, Option, Some, None, is_some, option_map, refl, sym, ap, ap₂, ◌∙◌, subst, arith, eqb, position, Vec, Global}
 use Rattle.std.proofs.Math.ListN.{set}
 use Rattle.std.proofs.Math.Path.{fun_ext}
 use Rattle.std.specs.List.{cons_option, filter, filter_map, list_any, position_from}
@@ -23,7 +23,7 @@ use Rattle.sh_table.specs.standard.runs.Environment.{is_one_of}
 eqb_swap : (m n : ℕ) → eqb m n ≡ eqb n m
 eqb_swap m n = grind (arith, common_steps)
 
-bytes_eq_swap : (s t : List ℕ) → bytes_eq s t ≡ bytes_eq t s
+pub bytes_eq_swap : (s t : List ℕ) → bytes_eq s t ≡ bytes_eq t s
 bytes_eq_swap [] [] = refl
 bytes_eq_swap [] (d ∷ t) = refl
 bytes_eq_swap (c ∷ s) [] = refl
@@ -50,26 +50,21 @@ place_later t i (u ∷ us) = go (bytes_eq u t) (place_later t (i + 1) us)
     go true h = let e : i + 1 ≡ suc i = omega arith in ap (λ (n : ℕ). Some n) e
     go false h = h
 
-held_at : (names : List Text) (t : Text) (i : ℕ) → place names t ≡ Some i → is_one_of names t ≡ true
-held_at [] t i e = cc
-held_at (u ∷ us) t i e = go (held_at us t) (bytes_eq u t) e
+-- a name has a place where it is one of them
+pub is_placed : (names : List Text) (t : Text) (i : ℕ) → is_some (position_from (λ name. bytes_eq name t) i names) ≡ is_one_of names t
+is_placed [] t i = refl
+is_placed (u ∷ us) t i = go (is_placed us t (i + 1)) (bytes_eq u t)
   where
-    later : ((j : ℕ) → place us t ≡ Some j → is_one_of us t ≡ true) → (o : Option ℕ) → place us t ≡ o → option_map suc o ≡ Some i → is_one_of us t ≡ true
-    later more None h k = cc
-    later more (Some j) h k = more j h
+    go : is_some (position_from (λ name. bytes_eq name t) (i + 1) us) ≡ is_one_of us t → (b : Bool)
+        → is_some (cond b (Some i) (position_from (λ name. bytes_eq name t) (i + 1) us)) ≡ (b || is_one_of us t)
+    go h true = refl
+    go h false = h
 
-    go : ((j : ℕ) → place us t ≡ Some j → is_one_of us t ≡ true) → (x : Bool) → cond x (Some 0) (position_from (λ name. bytes_eq name t) 1 us) ≡ Some i → (x || is_one_of us t) ≡ true
-    go more true h = refl
-    go more false h = later more (place us t) refl (sym (place_later t 0 us) ∙ h)
+held_at : (names : List Text) (t : Text) (i : ℕ) → place names t ≡ Some i → is_one_of names t ≡ true
+held_at names t i e = sym (is_placed names t 0) ∙ ap is_some e
 
 not_held : (names : List Text) (t : Text) (i : ℕ) → position_from (λ name. bytes_eq name t) i names ≡ None → is_one_of names t ≡ false
-not_held [] t i e = refl
-not_held (u ∷ us) t i e = go (not_held us t (i + 1)) (bytes_eq u t) e
-  where
-    go : (position_from (λ name. bytes_eq name t) (i + 1) us ≡ None → is_one_of us t ≡ false) → (x : Bool)
-        → cond x (Some i) (position_from (λ name. bytes_eq name t) (i + 1) us) ≡ None → (x || is_one_of us t) ≡ false
-    go more true h = cc
-    go more false h = more h
+not_held names t i e = sym (is_placed names t i) ∙ ap is_some e
 
 -- One number more
 

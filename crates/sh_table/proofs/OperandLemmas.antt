@@ -4,7 +4,6 @@ use Rattle.std.specs.List.{list_any}
 use Rattle.std.proofs.lemmas.Bool.{or_parts, or_left, or_right, or_from, or_cases, not-true, not-false}
 use Rattle.std.proofs.lemmas.List.Folds.{list_any-append}
 use Rattle.sh_tree.specs.declared.tree.Action.TheVariants as action
-use Rattle.sh_tree.specs.declared.tree.SingleStyle.TheVariants as single
 use Rattle.sh_tree.specs.declared.tree.Special.TheVariants as special
 use Rattle.sh_tree.specs.standard.language.Bytes.{is_in}
 use Rattle.sh_tree.specs.standard.program.Syntax.{Text, Parameter, Variable, Special, Part, Plain, Escaped, Single, Double, Expansion, Arithmetic, Substitution, Tilde, Joined, Word, no_parts, more_parts, Operator, Value, Length, Use, Remove}
@@ -200,8 +199,7 @@ module _ (f : Frame) (status : ℕ) where
   unfolding expand_part tilde_pieces computed_pieces quote_pieces gives_field part_has_all holds_field value_origin
   part_holds (Plain t) s a k h = ap (λ b. b || false) k
   part_holds (Escaped t) s a k h = refl
-  part_holds (Single single.Plain t) s a k h = refl
-  part_holds (Single single.Dollar t) s a k h = refl
+  part_holds (Single style t) s a k h = refl
   part_holds (Double w) s a k h = first_holds (gives (quote_pieces (has_every w)) s) (expand f status (in_quotes in_fields) w) h (rw (none_every w a) refl)
   part_holds (Expansion at p operator) s a k h =
       operator_holds at p operator (s.given 0) (value_of f status p s.environment (s.given 0)) (taken s) (or_parts (is_all false p) (operator_has_all false operator) a).0 k h

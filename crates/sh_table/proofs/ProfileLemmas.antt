@@ -1,6 +1,6 @@
 -- The examples of the profile, computed.
 use Rattle.std.proofs.Common.{refl}
-use Rattle.sh_tree.specs.standard.program.Words.{quoted_text, part_text, word_text, part_has, word_has, is_plainly, is_pattern, static_of, words_in, operands_in}
+use Rattle.sh_tree.specs.standard.program.Words.{part_text, word_text, part_has, word_has, is_plainly, is_pattern, static_of, words_in, operands_in}
 use Rattle.sh_tree.specs.standard.language.Bytes.{is_first, name_length, decimal}
 use Rattle.sh_table.specs.standard.Kinds.{look_up, kind_of}
 use Rattle.sh_table.specs.Surroundings.{in_part, in_item, items_located}
@@ -12,7 +12,7 @@ use Rattle.sh_table.specs.standard.runs.Operands.{is_dashed, is_set_option, ends
 
 -- what the profile of a known program computes
 unfoldable pub computes : Unit {0}
-unfolding quoted_text part_text word_text part_has word_has is_plainly is_pattern static_of words_in is_first name_length decimal look_up kind_of in_part in_item items_located is_no_action traps_nothing may_run runs_utility commands_utility has_inner_o sets_known is_count is_reserved_elsewhere unless or_rule kind_rule named_rule words_rule told_name function_rule command_rule refused_at least_refused first_refused elements_of list words_from word is_number number_in is_dashed is_set_option ends_in_o operands_in
+unfolding part_text word_text part_has word_has is_plainly is_pattern static_of words_in is_first name_length decimal look_up kind_of in_part in_item items_located is_no_action traps_nothing may_run runs_utility commands_utility has_inner_o sets_known is_count is_reserved_elsewhere unless or_rule kind_rule named_rule words_rule told_name function_rule command_rule refused_at least_refused first_refused elements_of list words_from word is_number number_in is_dashed is_set_option ends_in_o operands_in
 computes = tt
 
 pub names_as_expected : NamesAsExpected

@@ -5,7 +5,6 @@ use Rattle.std.proofs.lemmas.Bool.{and_parts, and_from, or_parts, cond_both, fal
 use Rattle.std.proofs.lemmas.List.Folds.{list_all-append}
 use Rattle.sh_tree.specs.declared.tree.Action.{Action}
 use Rattle.sh_tree.specs.declared.tree.Action.TheVariants as action
-use Rattle.sh_tree.specs.declared.tree.SingleStyle.TheVariants as single
 use Rattle.sh_tree.specs.declared.tree.Special.TheVariants as special
 use Rattle.sh_tree.specs.standard.program.Syntax.{Text, Parameter, Variable, Special, Part, Plain, Escaped, Single, Double, Expansion, Arithmetic, Substitution, Tilde, Joined, Word, no_parts, more_parts, Operator, Value, Length, Use, Remove}
 use Rattle.sh_table.specs.Quoting.{is_quotation, are_quotations, part_mentions, word_mentions, operator_mentions, is_at}
@@ -97,8 +96,7 @@ module _ (f : Frame) (status : ℕ) (breaks : Bool) where
     quoted_part_held : (c : Context) (x : Part) (s : State) → NoBreak (part_mentions is_at x) → Held breaks (expand_part f status (in_quotes c) x s).pieces
     quoted_part_held c (Plain t) s h = refl
     quoted_part_held c (Escaped t) s h = refl
-    quoted_part_held c (Single single.Plain t) s h = refl
-    quoted_part_held c (Single single.Dollar t) s h = refl
+    quoted_part_held c (Single style t) s h = refl
     quoted_part_held c (Double w) s h =
         followed_all (is_held breaks) (gives (quote_pieces (c.split && has_every w)) s) _ (quotes_held (c.split && has_every w)) (λ t. quoted_held c w t h)
     quoted_part_held c (Expansion at p operator) s h =
@@ -134,8 +132,7 @@ module _ (f : Frame) (status : ℕ) (breaks : Bool) where
   unfolding expand_part is_quotation is_held part_mentions
   quotation_held c (Plain t) s h n = absurd (false≢true h)
   quotation_held c (Escaped t) s h n = refl
-  quotation_held c (Single single.Plain t) s h n = refl
-  quotation_held c (Single single.Dollar t) s h n = refl
+  quotation_held c (Single style t) s h n = refl
   quotation_held c (Double w) s h n = double_held c w s n
   quotation_held c (Expansion at p operator) s h n = absurd (false≢true h)
   quotation_held c (Arithmetic at e) s h n = absurd (false≢true h)

@@ -6,7 +6,6 @@ use Rattle.std.proofs.lemmas.List.Folds.{list_any-append, list_all-append}
 use Rattle.std.proofs.lemmas.Option.{same_Some, none-some}
 use Rattle.std.proofs.lemmas.Slice.Eq.{bytes_eq-Decides}
 use Rattle.sh_tree.specs.standard.Words.{both_texts, is_wildcard}
-use Rattle.sh_tree.specs.declared.tree.SingleStyle.TheVariants as single
 use Rattle.sh_tree.specs.standard.program.Syntax as p
 use Rattle.sh_tree.specs.standard.program.Words as words
 use Rattle.sh_table.specs.Counts.{gives_field, some_gives_field}
@@ -185,13 +184,13 @@ static_every (p.more_parts x w) t h =
 
 module _ (f : Frame) (status : ℕ) where
   mutual
-    unfolding words.part_text words.quoted_text expand_part
+    unfolding words.part_text expand_part
 
     quoted_part : (c : Context) (x : p.Part) (t : List ℕ) (s : State) → words.part_text x ≡ Some t → s.ended ≡ false
         → Spells false t no_class (expand_part f status (in_quotes c) x s)
     quoted_part c (p.Plain u) t s h l = begin_where (λ i. refl) (quoted_spells (Some u) t s h l)
     quoted_part c (p.Escaped u) t s h l = begin_where (λ i. refl) (quoted_spells (Some u) t s h l)
-    quoted_part c (p.Single single.Plain u) t s h l = begin_where (λ i. refl) (quoted_spells (Some u) t s h l)
+    quoted_part c (p.Single style u) t s h l = begin_where (λ i. refl) (quoted_spells (Some u) t s h l)
     quoted_part c (p.Double w) t s h l = begin_where (λ i. absurd (true≢false (sym i)))
         (both_spell (gives (quote_pieces (c.split && has_every w)) s) (expand f status (in_quotes c) w) (quotes_spell (c.split && has_every w) s l)
         (λ s l. quoted_word c w t s h l))
@@ -210,11 +209,11 @@ module _ (f : Frame) (status : ℕ) where
 
   static_part : (x : p.Part) (t : List ℕ) (s : State) → words.part_text x ≡ Some t → s.ended ≡ false
       → Spells (gives_field x) t (λ class. words.part_has class x) (expand_part f status in_fields x s)
-  unfolding words.part_text words.quoted_text words.part_has gives_field expand_part
+  unfolding words.part_text words.part_has gives_field expand_part
   static_part (p.Plain u) t s h l =
       subst (λ t. Spells (not (length u == 0)) t (λ class. list_any class u) (gives (Bytes Literal u ∷ []) s)) (same_Some u t h) (plain_spells u s l)
   static_part (p.Escaped u) t s h l = quoted_spells (Some u) t s h l
-  static_part (p.Single single.Plain u) t s h l = quoted_spells (Some u) t s h l
+  static_part (p.Single style u) t s h l = quoted_spells (Some u) t s h l
   static_part (p.Double w) t s h l = begin_where (λ i. rw (static_every w t h) refl)
       (both_spell (gives (quote_pieces (has_every w)) s) (expand f status (in_quotes in_fields) w) (quotes_spell (has_every w) s l) (λ s l. quoted_word in_fields w t s h l))
   static_part p.Joined t s h l = nothing_spells t s h l

@@ -9,7 +9,6 @@ use Rattle.sh_tree.specs.declared.tree.Action.{Action}
 use Rattle.sh_tree.specs.declared.tree.Action.TheVariants as action
 use Rattle.sh_tree.specs.declared.tree.Binary.{Binary}
 use Rattle.sh_tree.specs.declared.tree.Removal.{Removal}
-use Rattle.sh_tree.specs.declared.tree.SingleStyle.TheVariants as single
 use Rattle.sh_tree.specs.declared.tree.Special as tree
 use Rattle.sh_tree.specs.declared.tree.Special.TheVariants as special
 use Rattle.sh_tree.specs.standard.language.Bytes.{is_digit, is_in}
@@ -265,8 +264,7 @@ module _ (i j : Option Text) where
           → SameOutcome (expand_part f status c x s) (expand_part f status c x t)
       part_same c (Plain v) s t h a = record { pieces = refl; state = a }
       part_same c (Escaped v) s t h a = record { pieces = refl; state = a }
-      part_same c (Single single.Plain v) s t h a = record { pieces = refl; state = a }
-      part_same c (Single single.Dollar v) s t h a = record { pieces = ap (λ (g : Given). Bytes Quoted g.text ∷ []) (a.given 0); state = alike_taken s t a }
+      part_same c (Single style v) s t h a = record { pieces = refl; state = a }
       part_same c (Double w) s t h a =
           followed_same (gives (quote_pieces (c.split && has_every w)) s) (gives (quote_pieces (c.split && has_every w)) t)
           (expand f status (in_quotes c) w) (expand f status (in_quotes c) w)
@@ -451,8 +449,7 @@ module _ (f : Frame) (status : ℕ) where
   unfolding expand_part is_whole part_begins_pattern computed_pieces value_origin is_firm
   part_firm (Plain t) s h k = and_from _ true (not_from_false (list_any begins_pattern t) k) refl
   part_firm (Escaped t) s h k = refl
-  part_firm (Single single.Plain t) s h k = refl
-  part_firm (Single single.Dollar t) s h k = refl
+  part_firm (Single style t) s h k = refl
   part_firm (Double w) s h k = held_firm _ (double_held f status true in_fields w s refl)
   part_firm (Expansion at p operator) s h k = expansion_firm p operator s.environment (s.given 0) (taken s) h
   part_firm (Arithmetic at e) s h k =

@@ -7,7 +7,6 @@ use Rattle.std.proofs.lemmas.List.Folds.{list_any-append}
 use Rattle.std.proofs.lemmas.List.Folds.{length-prefix_len, prefix_len-append}
 use Rattle.std.proofs.lemmas.List.{take-append-le, drop-append-le}
 use Rattle.std.proofs.lemmas.Option.{same_Some, none-some}
-use Rattle.sh_tree.specs.declared.tree.SingleStyle.TheVariants as single
 use Rattle.sh_tree.specs.declared.tree.Special.TheVariants as special
 use Rattle.sh_tree.specs.standard.language.Bytes.{run, is_first, is_name_start, is_name_byte, name_length}
 use Rattle.sh_tree.specs.standard.language.Commands.{is_assignment}
@@ -46,13 +45,12 @@ quotes_write false s h = record { ended = h; text = refl }
 
 module _ (f : Frame) (status : ℕ) where
   mutual
-    unfolding words.part_text words.quoted_text expand_part expand piece_text
+    unfolding words.part_text expand_part expand piece_text
 
     part_writes : (c : Context) (x : p.Part) (t : Text) (s : State) → words.part_text x ≡ Some t → s.ended ≡ false → Writes t (expand_part f status c x s)
     part_writes c (p.Plain u) t s h l = record { ended = l; text = append-nil u ∙ same_Some u t h }
     part_writes c (p.Escaped u) t s h l = record { ended = l; text = append-nil u ∙ same_Some u t h }
-    part_writes c (p.Single single.Plain u) t s h l = record { ended = l; text = append-nil u ∙ same_Some u t h }
-    part_writes c (p.Single single.Dollar u) t s h l = absurd (none-some t h)
+    part_writes c (p.Single style u) t s h l = record { ended = l; text = append-nil u ∙ same_Some u t h }
     part_writes c (p.Double w) t s h l =
         both_write [] t (gives (quote_pieces (c.split && has_every w)) s) (expand f status (in_quotes c) w) (quotes_write (c.split && has_every w) s l)
         (λ s k. word_writes (in_quotes c) w t s h k)
@@ -122,8 +120,7 @@ module _ (f : Frame) (status : ℕ) where
   quotation_begins : (x : p.Part) (s : State) → is_quotation x ≡ true → part_mentions is_at x ≡ false → list_any begins (expand_part f status in_fields x s).pieces ≡ true
   unfolding expand_part is_quotation begins part_mentions quote_pieces
   quotation_begins (p.Escaped t) s h k = refl
-  quotation_begins (p.Single single.Plain t) s h k = refl
-  quotation_begins (p.Single single.Dollar t) s h k = refl
+  quotation_begins (p.Single style t) s h k = refl
   quotation_begins (p.Double w) s h k = rw (no_every w k) (followed_begins (gives (Bytes Quoted [] ∷ []) s) (expand f status (in_quotes in_fields) w) refl)
   quotation_begins x s h k = absurd (false≢true h)
 

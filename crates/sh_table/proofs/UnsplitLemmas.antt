@@ -6,7 +6,6 @@ use Rattle.std.proofs.lemmas.Bool.{ne_eqb, and_parts, and_from, or_from, cond_bo
 use Rattle.std.proofs.lemmas.List.Folds.{list_all-append}
 use Rattle.sh_tree.specs.declared.tree.Action.{Action}
 use Rattle.sh_tree.specs.declared.tree.Action.TheVariants as action
-use Rattle.sh_tree.specs.declared.tree.SingleStyle.TheVariants as single
 use Rattle.sh_tree.specs.declared.tree.Special as tree
 use Rattle.sh_tree.specs.declared.tree.Special.TheVariants as special
 use Rattle.sh_tree.specs.standard.language.Bytes.{is_in}
@@ -170,8 +169,7 @@ module _ (f : Frame) (status : ℕ) where
   unfolding expand_part is_still_part is_still is_expanded
   part_still (Plain t) s h = refl
   part_still (Escaped t) s h = refl
-  part_still (Single single.Plain t) s h = refl
-  part_still (Single single.Dollar t) s h = refl
+  part_still (Single style t) s h = refl
   part_still (Double w) s h = held_still _ (double_held f status true in_fields w s refl)
   part_still (Expansion at p operator) s h = held_still _ (operator_held p operator (s.given 0) (value_of f status p s.environment (s.given 0)) (taken s) h)
   part_still (Arithmetic at e) s h = absurd (false≢true h)
@@ -228,8 +226,7 @@ module _ (f : Frame) (status : ℕ) where
   unfolding expand_part is_whole computed_pieces value_origin is_full
   part_full (Plain t) s h u = refl
   part_full (Escaped t) s h u = refl
-  part_full (Single single.Plain t) s h u = refl
-  part_full (Single single.Dollar t) s h u = refl
+  part_full (Single style t) s h u = refl
   part_full (Double w) s h u = held_full _ (double_held f status true in_fields w s refl)
   part_full (Expansion at p operator) s h u = expansion_full p operator s.environment (s.given 0) (taken s) h u
   part_full (Arithmetic at e) s h u =

@@ -5,7 +5,6 @@ use Rattle.std.proofs.lemmas.Slice.Eq.{bytes_eq-Decides}
 use Rattle.std.proofs.lemmas.List.{append-nil, map-append, drop_all}
 use Rattle.sh_tree.specs.declared.tree.Part.{Part, Plain, Escaped, Single, Double}
 use Rattle.sh_tree.specs.declared.tree.SingleStyle.{SingleStyle}
-use Rattle.sh_tree.specs.declared.tree.SingleStyle.TheVariants as single
 use Rattle.sh_tree.specs.declared.tree.Span.{Span}
 use Rattle.sh_tree.specs.standard.Tree.{text_of}
 use Rattle.std.specs.List.{list_any, flat_map}
@@ -172,15 +171,11 @@ pub escaped_some : (b : List ℕ) (s : Span) (o : Option Span) → IfSome o (λ 
 escaped_some b s None h = tt
 escaped_some b s (Some t) h = escaped_static b s ∙ ap (λ u. Some u) (sym h)
 
-pub between_some : (b : List ℕ) (s : Span) (o : Option Span) → IfSome o (λ t. text_of b t ≡ between_ends (text_of b s)) → IfSome o (λ t. single_text single.Plain (text_of b s) ≡ Some (text_of b t))
-between_some b s None h = tt
-between_some b s (Some t) h = ap (λ u. Some u) (sym h)
-
-pub single_some : (b : List ℕ) (style : SingleStyle) (s : Span) (o : Option Span) → IfSome o (λ t. single_text style (text_of b s) ≡ Some (text_of b t))
+pub single_some : (b : List ℕ) (style : SingleStyle) (s : Span) (o : Option Span) → IfSome o (λ t. text_of b t ≡ single_text style (text_of b s))
     → IfSome o (λ t. static_text b (Single style s ∷ []) ≡ Some (text_of b t))
 unfolding static_text is_pattern has_wildcard has_bracket is_bracket parts_text part_text
 single_some b style s None h = tt
-single_some b style s (Some t) h = rw h (ap (λ u. Some u) (append-nil (text_of b t)))
+single_some b style s (Some t) h = rw (append-nil, h) refl
 
 pub lone_whole : (ps : List Part) (x : Part) → Some x ≡ lone_part ps → ps ≡ x ∷ []
 unfolding lone_part

@@ -3,26 +3,20 @@
 use Rattle.std.specs.Prelude.{◌≡◌, ℕ, ◌≤◌, true, false, List, [], length, map, codes, Some, is_some}
 use Rattle.sh_tree.specs.standard.program.Syntax.{Text, Items, Word}
 use Rattle.sh_table.specs.standard.runs.Environment.{Environment, Frame, separators}
-use Rattle.sh_table.specs.standard.runs.Answers.{Given, Directory}
+use Rattle.sh_table.specs.standard.runs.Answers.{Answer, Given, Directory}
 use Rattle.sh_table.specs.standard.runs.States.{State, fresh}
 use Rattle.sh_table.specs.standard.runs.Expansion.{Quoted, Unquoted, Piece, Bytes, Outcome, in_fields, expand}
 use Rattle.sh_table.specs.standard.runs.Fields.{fields, splits}
-use Rattle.sh_table.specs.standard.runs.Worlds.{World, Move, run, step, waits, start_world}
+use Rattle.sh_table.specs.standard.runs.Worlds.{World, Move, run, step, start_world}
 use Rattle.sh_table.specs.Counts.{count_of, least_fields}
 use Rattle.sh_table.specs.Quoting.{are_whole, word_begins_pattern, word_mentions, is_about_separators, is_ifs, is_steady}
 
--- Runs do not get stuck: in every run a live process that waits for nobody has a step, whatever the answer is, unless arithmetic has
--- ended the run.
-abbrev pub ProcessesStep : Type 0
-ProcessesStep =
+-- Runs do not get stuck: if a process lives and arithmetic has not ended the run, some process has a step, whatever the answer is.
+-- The law of rows says which steps a row describes.
+abbrev pub RunsGoOn : Type 0
+RunsGoOn =
     (t : Items) (e : Environment) (f : Frame) (moves : List Move) (w : World) → run moves (start_world e f t) ≡ Some w → w.over ≡ false
-    → (m : Move) → is_some (w.processes m.process) ≡ true → waits w m.process ≡ false → is_some (step w m) ≡ true
-
--- And where a process lives, one lives that waits for nobody.
-abbrev pub SomeProcessSteps : Type 0
-SomeProcessSteps =
-    (t : Items) (e : Environment) (f : Frame) (moves : List Move) (w : World) → run moves (start_world e f t) ≡ Some w
-    → (p : ℕ) → is_some (w.processes p) ≡ true → (q : ℕ) × (is_some (w.processes q) ≡ true) × (waits w q ≡ false)
+    → (p : ℕ) → is_some (w.processes p) ≡ true → (q : ℕ) × ((a : Answer) → is_some (step w (record { process = q; answer = a })) ≡ true)
 
 -- what an expansion outside quotes gives, taken as quoted
 unfoldable pub as_quoted : Piece → Piece

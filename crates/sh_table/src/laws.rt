@@ -2,7 +2,7 @@
 ghost use Rattle.sh_table.specs.examples.Profile.{ProfileAsExpected};
 ghost use Rattle.sh_table.specs.Admitted.{AdmittedAsListed};
 ghost use Rattle.sh_table.specs.Rows.{RowsAreThere};
-ghost use Rattle.sh_table.specs.Theorem.{ProcessesStep, SomeProcessSteps, FieldsStandWhole, FieldsStandSteady, OperandsCount};
+ghost use Rattle.sh_table.specs.Theorem.{RunsGoOn, FieldsStandWhole, FieldsStandSteady, OperandsCount};
 ghost use Rattle.sh_table.specs.examples.Events.{EventsExist};
 ghost use Rattle.sh_table.specs.examples.Runs.{RunsAsExpected};
 ghost use Rattle.sh_table.specs.examples.Forms.{FormsAsExpected};
@@ -10,11 +10,9 @@ ghost use Rattle.sh_table.specs.examples.Fields.{FieldsAsExpected};
 ghost use Rattle.sh_table.specs.examples.Steps.{StepsAsExpected};
 ghost use Rattle.sh_table.specs.examples.Rows.{RowsAsExpected};
 
-/// Runs do not get stuck: unless arithmetic has ended the run, a live process that waits for nobody has a step; and where a
-/// process lives, one waits for nobody.
+/// Runs do not get stuck: if a process lives and arithmetic has not ended the run, some process has a step.
 pub fn goes_on()
-    ensures step { ProcessesStep }
-    ensures some { SomeProcessSteps }
+    ensures { RunsGoOn }
 {}
 
 /// The fields of a word without a Split event are those without splitting; and they hang on IFS and on the directory only

@@ -16,7 +16,7 @@ mod word_text;
 
 pub use kind::{Kind, kind_of};
 pub use operands::{
-    are_static, ends_in_o, ends_options, is_dashed, is_number, is_set_option, name_length,
+    are_static, definition_in, ends_in_o, ends_options, is_dashed, is_number, is_set_option,
 };
 pub use profile::admit;
 pub use site::Around;

@@ -1,5 +1,5 @@
 //! Operands of commands: what the profile asks of them, and what options and names are.
-ghost use Rattle.std.specs.Prelude.{◌≡◌, ◌≤◌, ◌<◌, ◌==◌, true, ◌||◌, length, drop, map, is_some, Some, nat_lt, false};
+ghost use Rattle.std.specs.Prelude.{◌≡◌, ◌≤◌, length, drop, map, is_some, option_map, Some, nat_lt, false};
 ghost use Rattle.std.specs.List.{list_all, list_any};
 ghost use Rattle.sh_tree.specs.standard.language.Bytes as bytes;
 ghost use Rattle.sh_table.specs.Profile as profile;
@@ -11,16 +11,10 @@ use crate::kind::{Kind, kind_of};
 use crate::word_text::WordText;
 use sh_tree::{is_name_byte, is_name_start};
 
-fn is_digit(byte: u8) -> bool
-    ensures { result ≡ bytes.is_digit byte }
-{
-    matches!(byte, b'0'..=b'9')
-}
-
 fn are_digits(text: &[u8]) -> bool
     ensures { result ≡ list_all bytes.is_digit text.now }
 {
-    text.iter().all(|byte| is_digit(*byte))
+    text.iter().all(|byte| matches!(*byte, b'0'..=b'9'))
 }
 
 /// Whether the text is a decimal numeral.
@@ -317,9 +311,9 @@ fn name_bytes(text: &[u8]) -> usize
     text.iter().take_while(|byte| is_name_byte(**byte)).count()
 }
 
-/// How long the name at the front is (XBD 3.216); 0 where none is.
+// How long the name at the front is (XBD 3.216); 0 where none is.
 #[tactic(auto, unfolding(sh_tree::specs::standard::language::Bytes::name_length))]
-pub fn name_length(text: &[u8]) -> usize
+fn name_length(text: &[u8]) -> usize
     ensures value { result ≡ bytes.name_length text.now }
     ensures within { result ≤ length text.now }
 {
@@ -330,21 +324,24 @@ pub fn name_length(text: &[u8]) -> usize
     }
 }
 
-#[tactic(auto, unfolding(sh_tree::specs::standard::language::Bytes::is_first))]
-fn begins_with(text: &[u8], byte: u8) -> bool
-    ensures value { result ≡ bytes.is_first (λ c. c == byte) text.now }
-    ensures within { result ≡ true → 0 < length text.now }
+/// The name and the value, if the text is a name, `=` and a value: an assignment in form (XCU 2.10.2, rule 7).
+#[tactic(auto, unfolding(crate::specs::standard::runs::Operands::definition_in, sh_tree::specs::standard::language::Commands::is_assignment, sh_tree::specs::standard::language::Bytes::is_first))]
+pub fn definition_in(text: &[u8]) -> Option<(&[u8], &[u8])>
+    ensures { option_map (λ d. (d.0.now, d.1.now)) result ≡ operands.definition_in text.entry.now }
 {
-    match text {
-        [] => false,
-        [first, ..] => *first == byte,
+    let length = name_length(text);
+    if length > 0 && text[length..].starts_with(b"=") {
+        Some((&text[..length], &text[length + 1..]))
+    } else {
+        None
     }
 }
 
 /// Whether a name and `+=` stand at the front, which other shells read as an assignment.
+#[tactic(auto, unfolding(sh_tree::specs::standard::language::Bytes::is_first))]
 pub fn is_append(text: &[u8]) -> bool
     ensures { result ≡ profile.is_append text.now }
 {
     let length = name_length(text);
-    length != 0 && begins_with(&text[length..], b'+') && begins_with(&text[length + 1..], b'=')
+    length > 0 && text[length..].starts_with(b"+") && text[length + 1..].starts_with(b"=")
 }

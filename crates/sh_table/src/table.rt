@@ -8,6 +8,7 @@ ghost use Rattle.sh_tree.specs.declared.tree.Script.{Script};
 ghost use Rattle.sh_tree.specs.standard.program.Trees.{script_of};
 ghost use Rattle.sh_table.specs.Numbering as numbering;
 ghost use Rattle.sh_table.specs.WordTexts.{text_in};
+ghost use Rattle.sh_table.specs.standard.runs.Environment.{is_one_of};
 
 use crate::found::Found;
 use crate::functions::Functions;
@@ -181,6 +182,13 @@ impl<'s> CallTable<'s> {
         ensures { result ≡ position_from (λ other. bytes_eq other name.now) 0 self.now.functions.names }
     {
         self.functions.place(name)
+    }
+
+    /// Whether the script has a function of this name (XCU 2.9.5).
+    pub fn is_function(&self, name: &[u8]) -> bool
+        ensures { result ≡ is_one_of self.now.functions.names name.now }
+    {
+        self.function_place(name).is_some()
     }
 
     /// The numbers of the commands that define a function.

@@ -81,9 +81,9 @@ fn between_ends(span: Span, script: &[u8]) -> Option<Span>
     Some(Span { start, end })
 }
 
-/// Where the script has the bytes of a quotation in single quotes.
+/// Where the script has the bytes of a quotation in single quotes. What `$'` quotes may hold escapes, and is no such piece.
 fn single_span(style: SingleStyle, span: Span, script: &[u8]) -> Option<Span>
-    ensures { IfSome result (λ inner. words.single_text style (text_of script.now span) ≡ Some (text_of script.now inner)) }
+    ensures { IfSome result (λ inner. text_of script.now inner ≡ words.single_text style (text_of script.now span)) }
 {
     match style {
         SingleStyle::Plain => between_ends(span, script),

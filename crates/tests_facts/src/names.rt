@@ -88,6 +88,11 @@ const BY_UTILITY: &[Row] = &[
         names: &[b"n", b"o"],
     },
     Row {
+        script: b"unset $'q'; read $'s'; $'read' t; u=`v=1; echo \"$w\"`",
+        declared: &[],
+        names: &[b"q", b"s", b"t", b"u", b"v", b"w"],
+    },
+    Row {
         script: b"getopts ab name $w; getopts -x p; getopts $c d; getopts e; getopts f 'g' h",
         declared: &[],
         names: &[b"name", b"w", b"c", b"g"],

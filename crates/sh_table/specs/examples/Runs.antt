@@ -212,7 +212,7 @@ parameter q = only (Expansion 0 q Value)
 abbrev pub quotations : Word
 quotations = more_parts (Single single.Plain (codes "a")) (more_parts (Escaped (codes "b")) (only (Double (plain (codes "c")))))
 
--- `x=$'a'`, whose bytes are the answer's
+-- `x=$'a'`, which takes no answer
 abbrev pub dollar_quotes : Items
 dollar_quotes = to_x (only (Single single.Dollar (codes "a")))
 
@@ -443,7 +443,7 @@ pub record RunsAsExpected : Type 0 where
   pub length_is_counted : x_is (ran (start_with (codes "abc")) [] (to_x (only (expansion 0 Length))) to_x_moves) ≡ Some (Some (codes "3"))
   pub quotes_go : x_is (ran bare_start [] (to_x quotations) to_x_moves) ≡ Some (Some (codes "abc"))
   -- `x=$'a'` has the answer's bytes
-  pub dollar_quotes_hold_any : x_is (ran bare_start [] dollar_quotes dollar_moves) ≡ Some (Some (codes "b"))
+  pub dollar_quotes_hold_theirs : x_is (ran bare_start [] dollar_quotes dollar_moves) ≡ Some (Some (codes "a"))
   pub home_is_given : x_is (ran (with_variable bare_start (codes "HOME") (Some (codes "/h"))) [] (to_x (only (Tilde 0 []))) to_x_moves) ≡ Some (Some (codes "/h"))
   pub home_is_unset : unset_next (ran bare_start [] (to_x (only (Tilde 0 []))) (steps 0 4)) ≡ Some true
   -- `x=$(case a in a) echo b;; esac)`: x has what the answer gives, a process is started, and both end, in any order

@@ -14,7 +14,7 @@ use Rattle.sh_facts.proofs.reading.read_commands.Goals as goal
 pub loop-command-init : goal.loop-command-init
 loop-command-init c = record {
   number = refl;
-  read = rw c.new-entries.ensures.items (commands_begin c.args.names.now c.args.commands.now c.args.text.now c.args.rows.now (get nat_eq c.new-heads.result) c.requires.none c.requires.count (λ k. rw c.new-heads.ensures.empty refl));
+  read = rw c.new-entries.ensures.items (commands_begin c.args.names.now c.args.commands.now c.args.text.now c.args.rows.now (get nat_eq c.new-heads.result) c.requires.count (λ k. rw c.new-heads.ensures.empty refl));
 }
 
 pub returns-in_default-clause-refusal : goal.returns-in_default-clause-refusal
@@ -59,4 +59,4 @@ loop-command-preserved c =
 pub returns-clause-ok : goal.returns-clause-ok
 returns-clause-ok c =
     commands_end c.args.names.now c.args.commands.now c.args.text.now c.loop-command.command-index c.loop-command.left.now c.loop-command.rows c.loop-command.entries.items (get nat_eq c.loop-command.heads) c.loop-command.invariant.read
-    (omega (arith, c.loop-command-test.false)) (omega (arith, c.loop-command.auto.command-index-end))
+    (omega (arith, c.loop-command-test.false))

@@ -15,13 +15,8 @@ returns-in_default-clause-refusal c =
     no_function c.args.names.now (3 + c.args.commands) c.args.functions c.args.text.now c.loop-done.done c.loop-done.left.now c.args.rows.now c.loop-done.rows c.loop-done.entries.items c.loop-done.invariant c.loop-done-test.true
     c.in_default.ensures
 
-pub read_function-requires-clause-room : goal.read_function-requires-clause-room
-read_function-requires-clause-room c =
-    let few = c.loop-done.invariant.few in
-    omega (arith, few, c.requires.room, c.loop-done-test.true, c.ranges.functions.fits)
-
-pub read_function-requires-clause-count : goal.read_function-requires-clause-count
-read_function-requires-clause-count c = c.loop-done.invariant.same
+pub read_function-requires : goal.read_function-requires
+read_function-requires c = record { count = c.loop-done.invariant.same }
 
 pub returns-in_err-read_function-clause-refusal : goal.returns-in_err-read_function-clause-refusal
 returns-in_err-read_function-clause-refusal c =

@@ -5,7 +5,6 @@ pub returns-clause-ok : goal.returns-clause-ok
 returns-clause-ok c =
     let r = c.in_ok-row.ensures.ok in
     record {
-      few = c.in_ok-id.ensures.more;
       count = c.in_ok-id.ensures.count;
       stay = c.in_ok-id.ensures.kept;
       fit = r.fit;

@@ -5,7 +5,6 @@ use Rattle.std.specs.Prelude.{ℕ, ◌-◌, ◌==◌, Bool, true, false, not, �
 use Rattle.std.specs.List.{flat_map}
 use Rattle.sh_tree.specs.declared.tree.Action.{Action}
 use Rattle.sh_tree.specs.declared.tree.Action.TheVariants as action
-use Rattle.sh_tree.specs.declared.tree.SingleStyle.TheVariants as single
 use Rattle.sh_tree.specs.declared.tree.Special as tree
 use Rattle.sh_tree.specs.declared.tree.Special.TheVariants as special
 use Rattle.sh_tree.specs.standard.program.Syntax.{Text, Parameter, Variable, Positional, Special, Part, Plain, Escaped, Single, Double, Expansion, Arithmetic, Substitution, Tilde, Joined, Word, no_parts, more_parts, Operator, Value, Length, Use, Remove, Expression, Constant, Name, Expanded, Parenthesis, Signed, Chain, Choice, Assigned, Operands, no_operands, more_operands}
@@ -184,9 +183,7 @@ module _ (f : Frame) (status : ℕ) where
     pub expand_part : Context → Part → State → Outcome
     expand_part c (Plain t) s = gives (Bytes c.plain t ∷ []) s
     expand_part c (Escaped t) s = gives (Bytes Quoted t ∷ []) s
-    expand_part c (Single single.Plain t) s = gives (Bytes Quoted t ∷ []) s
-    -- which bytes the escapes in `$'` stand for is not stated, so that they may be any (XCU 2.2.4)
-    expand_part c (Single single.Dollar t) s = gives (Bytes Quoted (s.given 0).text ∷ []) (taken s)
+    expand_part c (Single style t) s = gives (Bytes Quoted t ∷ []) s
     expand_part c (Double w) s = followed (gives (quote_pieces (c.split && has_every w)) s) (expand (in_quotes c) w)
     expand_part c (Expansion at p operator) s = expand_operator c p operator (s.given 0) (value_of p s.environment (s.given 0)) (taken s)
     expand_part c (Arithmetic at e) s = followed (gives [] (expand_inside e s)) (λ t. computed_pieces c (evaluate e t))

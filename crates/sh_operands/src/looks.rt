@@ -1,9 +1,10 @@
 //! What is looked for in words; what stands in their substitutions are commands of their own.
-ghost use Rattle.std.specs.Prelude.{◌≡◌, ℕ, List};
+ghost use Rattle.std.specs.Prelude.{◌≡◌, ℕ, List, false};
 ghost use Rattle.std.specs.List.{list_any};
 ghost use Rattle.sh_tree.specs.standard.Tree.{text_of};
+ghost use Rattle.sh_tree.specs.Lists.{parts_from};
 ghost use Rattle.sh_table.specs.Quoting.{is_ifs};
-ghost use Rattle.sh_quote.specs.Looks as spec;
+ghost use Rattle.sh_operands.specs.Looks as spec;
 
 use sh_tree::{Action, Binary, Expr, Param, ParameterOperator, Part, Span, Special, Subject, Word};
 
@@ -14,6 +15,8 @@ pub enum Look {
     SetsIfs,
     /// `$@`
     At,
+    /// All positional parameters: `$@`, or `$*` outside quotes.
+    Parameters,
 }
 
 /// Whether the text is `IFS`.
@@ -36,6 +39,7 @@ fn name_is(look: Look, name: Span, script: &[u8]) -> bool
     match look {
         Look::SetsIfs => is_ifs_at(name, script),
         Look::At => false,
+        Look::Parameters => false,
     }
 }
 
@@ -50,30 +54,32 @@ fn subject_is_ifs(subject: Subject, script: &[u8]) -> bool
     }
 }
 
-#[tactic(auto, unfolding(crate::specs::Looks::subject_is_at))]
-fn subject_is_at(subject: Subject) -> bool
-    ensures { result ≡ spec.subject_is_at subject }
-{
-    match subject {
-        Subject::Name(_) => false,
-        Subject::Positional(_, _) => false,
-        Subject::Special(special, _) => special_is_at(special),
-    }
-}
-
-#[tactic(auto, unfolding(crate::specs::Looks::special_is_at))]
-fn special_is_at(special: Special) -> bool
-    ensures { result ≡ spec.special_is_at special }
+// `$@`, or `$*` outside quotes.
+#[tactic(auto, unfolding(crate::specs::Looks::special_is_all))]
+fn special_is_all(quoted: bool, special: Special) -> bool
+    ensures { result ≡ spec.special_is_all quoted special }
 {
     match special {
         Special::At => true,
-        Special::Asterisk => false,
+        Special::Asterisk => !quoted,
         Special::NumberSign => false,
         Special::QuestionMark => false,
         Special::Hyphen => false,
         Special::Dollar => false,
         Special::Exclamation => false,
         Special::Zero => false,
+    }
+}
+
+/// Whether the parameter is all positional parameters: `$@`, or `$*` outside quotes (XCU 2.5.2).
+#[tactic(auto, unfolding(crate::specs::Looks::subject_is_all))]
+pub fn subject_is_all(quoted: bool, subject: Subject) -> bool
+    ensures { result ≡ spec.subject_is_all quoted subject }
+{
+    match subject {
+        Subject::Name(_) => false,
+        Subject::Positional(_, _) => false,
+        Subject::Special(special, _) => special_is_all(quoted, special),
     }
 }
 
@@ -102,28 +108,30 @@ fn assigns(operator: &ParameterOperator) -> bool
 }
 
 #[tactic(auto, unfolding(crate::specs::Looks::at_expansion))]
-fn expansion_is(look: Look, param: &Param, script: &[u8]) -> bool
-    ensures { result ≡ spec.at_expansion look script.now param.now.subject param.now.operator }
+fn expansion_is(look: Look, quoted: bool, param: &Param, script: &[u8]) -> bool
+    ensures { result ≡ spec.at_expansion look quoted script.now param.now.subject param.now.operator }
 {
     match look {
         Look::SetsIfs => assigns(&param.operator) && subject_is_ifs(param.subject, script),
-        Look::At => subject_is_at(param.subject),
+        Look::At => subject_is_all(true, param.subject),
+        Look::Parameters => subject_is_all(quoted, param.subject),
     }
 }
 
-/// Whether a word has it.
+/// Whether a word has it, in its quotations, in the words of its expansions, or in arithmetic.
+#[tactic(auto, using(crate::proofs::LookLemmas::parts_listed))]
 pub fn word_has(look: Look, word: &Word, script: &[u8]) -> bool
-    ensures { result ≡ spec.has_in_parts look script.now word.now.parts }
+    ensures { result ≡ spec.in_word look false (parts_from script.now word.now.parts) }
 {
-    parts_have(look, word.parts.as_slice(), script)
+    parts_have(look, false, word.parts.as_slice(), script)
 }
 
 #[cycle(look)]
-fn parts_have(look: Look, parts: &[Part], script: &[u8]) -> bool
-    ensures { result ≡ spec.has_in_parts look script.now parts.now }
+fn parts_have(look: Look, quoted: bool, parts: &[Part], script: &[u8]) -> bool
+    ensures { result ≡ spec.has_in_parts look quoted script.now parts.now }
 {
     for part in parts {
-        if part_has(look, part, script) {
+        if part_has(look, quoted, part, script) {
             return true;
         }
     }
@@ -132,13 +140,14 @@ fn parts_have(look: Look, parts: &[Part], script: &[u8]) -> bool
 
 #[cycle(look)]
 #[tactic(auto, using(crate::proofs::LookLemmas::parts))]
-fn part_has(look: Look, part: &Part, script: &[u8]) -> bool
-    ensures { result ≡ spec.has_in_part look script.now part.now }
+fn part_has(look: Look, quoted: bool, part: &Part, script: &[u8]) -> bool
+    ensures { result ≡ spec.has_in_part look quoted script.now part.now }
 {
     match part {
-        Part::Double(_, parts) => parts_have(look, parts.as_slice(), script),
+        Part::Double(_, parts) => parts_have(look, true, parts.as_slice(), script),
         Part::Param(param) => {
-            expansion_is(look, param, script) || operator_has(look, &param.operator, script)
+            expansion_is(look, quoted, param, script)
+                || operator_has(look, quoted, &param.operator, script)
         }
         Part::Arith(_, expression) => expression_has(look, expression.get(), script),
         Part::Plain(_) => false,
@@ -152,15 +161,20 @@ fn part_has(look: Look, part: &Part, script: &[u8]) -> bool
 
 #[cycle(look)]
 #[tactic(auto, using(crate::proofs::LookLemmas::operators))]
-fn operator_has(look: Look, operator: &ParameterOperator, script: &[u8]) -> bool
-    ensures { result ≡ spec.has_in_operator look script.now operator.now }
+fn operator_has(look: Look, quoted: bool, operator: &ParameterOperator, script: &[u8]) -> bool
+    ensures { result ≡ spec.has_in_operator look quoted script.now operator.now }
 {
     match operator {
         ParameterOperator::Value => false,
         ParameterOperator::Length => false,
-        ParameterOperator::Use { word, .. } => parts_have(look, word.parts.as_slice(), script),
+        ParameterOperator::Use { word, .. } => parts_have(
+            look,
+            quoted,
+            word.parts.as_slice(),
+            script,
+        ),
         ParameterOperator::Remove { pattern, .. } => {
-            parts_have(look, pattern.parts.as_slice(), script)
+            parts_have(look, false, pattern.parts.as_slice(), script)
         }
     }
 }
@@ -185,7 +199,7 @@ fn expression_has(look: Look, expression: &Expr, script: &[u8]) -> bool
     match expression {
         Expr::Constant(_) => false,
         Expr::Variable(_) => false,
-        Expr::Expansion(part) => part_has(look, part, script),
+        Expr::Expansion(part) => part_has(look, true, part, script),
         Expr::Parenthesis(inner) => expression_has(look, inner.get(), script),
         Expr::Unary { operand, .. } => expression_has(look, operand.get(), script),
         Expr::Chain { first, rest } => {
