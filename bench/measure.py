@@ -3,19 +3,24 @@
 
 Makes scripts of 10 KB, 100 KB and 1 MB, straight ones and ones of each kind of words, and prints for each the processor time and
 the peak memory of `shset lint`, `dash -n`, `shfmt` and, of straight ones, `shellcheck`, their ratios to shset's, and how they grew
-from the script a tenth as long: by 10 at most where they are linear in the text. All of them read a script whole, whether shset goes
+from the script a tenth as long: by 10 at most if they are linear in the text. All of them read a script whole, whether shset goes
 on to analyse it or not. A script of short lines is 130 KB long in place of 1 MB, one of
 pipelines 240 KB, and one of functions or nested loops 540 KB, since there may be no more commands. Kinds can be
-given as arguments. `shset cert` writes the script's certificate and `shset check` goes by it, where the script has one that is not too long.
-A tool that is not installed is left out; one that takes longer than the limit is stopped and shown as more than
+given as arguments. `shset cert` writes the script's certificate and `shset check` uses it, if the script has one that is not too long.
+A tool that is not installed is not run; one that takes longer than the limit is stopped and shown as more than
 that, and is not run on the larger scripts of that kind. The peak memory is that of GNU time (Debian's package time). Run it once the
 program is built.
 
 The kind `kernels` is another: what rows of 4,096 bits do to each other, by `sh_rows` and by plain loops in C at -O3, in seconds for as
-many rounds, and how many times as long the former take. It wants the program of crates/rows_timer built, and `cc`.
+many rounds, and how many times as long the former take. It needs the program of crates/rows_timer built, and `cc`.
 
-The kind `table` tells of scripts of 1 MB how many milliseconds and megabytes more their call table takes, once they are read, and the
-profile behind it; two kinds of scripts are added that have as many words as fit. It wants the program of crates/table_timer built.
+The kind `families` makes scripts of each family (`families.py`) at three sizes, and a straight script of the same size. It prints the
+seconds and megabytes of `shset lint` and of `shset check`, how many times the straight script's time they are, and how they grew from a
+script half as long. It ends with status 1 if a family takes more than 8 times as long, or grows by more than 2.3. Families can be given
+after the word.
+
+The kind `table` shows for scripts of 1 MB how many milliseconds and megabytes more their call table takes, once they are read, and the
+profile after it. Two kinds of scripts are added that have as many words as fit. It needs the program of crates/table_timer built.
 """
 import os
 import shutil
@@ -23,6 +28,8 @@ import signal
 import subprocess
 import sys
 import tempfile
+
+from families import FAMILIES, straight
 
 SIZES = (10_000, 100_000, 1_000_000)
 # The longest scripts of short lines, of pipelines, and of functions or loops, which have nearly as many commands as there may be.
@@ -35,6 +42,11 @@ HERE = os.path.dirname(os.path.abspath(__file__))
 PROGRAM = os.path.join(HERE, "..", "crates", "shset", "out", "shset")
 TIMER = os.path.join(HERE, "..", "crates", "rows_timer", "out", "rows_timer")
 ROUNDS = "10000000"
+FAMILY_SIZE = 40_000
+MOST_RATIO = 8
+MOST_GROWTH = 2.3
+# Less is not told from what a process itself takes.
+LEAST_SECONDS = 0.01
 TABLE_TIMER = os.path.join(HERE, "..", "crates", "table_timer", "out", "table_timer")
 # Other processes disturb so short a time, so it is the least of more runs.
 TABLE_RUNS = 15
@@ -76,7 +88,7 @@ def word_of(head, piece, tail, size):
 
 
 def nested(depth):
-    """Braced expansions in one another, each fourth of which removes a quoted pattern."""
+    """Braced expansions in one another. Each fourth removes a quoted pattern."""
     word = "a b"
     for level in range(depth):
         word = '${x#"' + word + '"}' if level % 4 == 3 else "${x:-" + word + "}"
@@ -187,7 +199,7 @@ def stop(_signal, _frame):
 
 
 def run(words):
-    """The processor seconds and the peak kilobytes of one run, or None where it took too long."""
+    """The processor seconds and the peak kilobytes of one run, or None if it took too long."""
     with tempfile.NamedTemporaryFile() as peak:
         child = subprocess.Popen(
             ["/usr/bin/time", "-q", "-f", "%M", "-o", peak.name, *words],
@@ -237,7 +249,7 @@ def tools(kind, path):
 
 
 def growth(now, before):
-    """How often as much it is as it was, where that can be told."""
+    """How often as much it is as it was, if that can be seen."""
     return f"{now / before:.1f}" if before and before > 0.005 else ""
 
 
@@ -283,6 +295,50 @@ def measure_kernels(folder):
         print(f"{kernel:<14} {ROUNDS:>9}  {own:>9.3f} {other:>9.3f}  {own / other:>5.2f}")
 
 
+def take(words):
+    """The least processor seconds of a few runs and their peak megabytes, with what a process itself takes."""
+    result = best(words)
+    return (float(LIMIT_SECONDS), 0.0) if result is None else (result[0], result[1] / 1024)
+
+
+def shown(name, size, seconds, megabytes, straight, before):
+    """A line for a run, and whether it took no more than it may."""
+    ratio = seconds / max(straight, LEAST_SECONDS)
+    grown = seconds / before if before and before > LEAST_SECONDS else None
+    print(f"{name:<22} {size:>9} {seconds:>9.3f} {megabytes:>8.1f} {ratio:>10.1f} {'' if grown is None else f'{grown:.1f}':>7}", flush=True)
+    return ratio <= MOST_RATIO and (grown is None or grown <= MOST_GROWTH)
+
+
+def measure_family(name, folder):
+    made, options = FAMILIES[name]
+    path, cert = os.path.join(folder, "script.sh"), os.path.join(folder, "cert")
+    is_good, before = True, {}
+    for times in (1, 2, 4):
+        text = made(FAMILY_SIZE * times)
+        with open(path, "w", encoding="ascii") as file:
+            file.write(straight(len(text)))
+        plain, _ = take([PROGRAM, "lint", path])
+        with open(path, "w", encoding="ascii") as file:
+            file.write(text)
+        runs = [("lint", [PROGRAM, "lint", *options, path])]
+        with open(cert, "wb") as file:
+            if subprocess.run([PROGRAM, "cert", *options, path], stdout=file, stderr=subprocess.DEVNULL, check=False).returncode == 0:
+                runs.append(("check", [PROGRAM, "check", *options, path, cert]))
+        for action, words in runs:
+            seconds, megabytes = take(words)
+            is_good &= shown(f"{name} {action}", len(text), seconds, megabytes, plain, before.get(action))
+            before[action] = seconds
+    return is_good
+
+
+def measure_families(names, folder):
+    if not set(names) <= set(FAMILIES):
+        sys.exit("families: " + ", ".join(FAMILIES))
+    print(f"{'family':<22} {'bytes':>9} {'seconds':>9} {'MB':>8} {'ratio':>10} {'growth':>7}")
+    slow = [name for name in names or FAMILIES if not measure_family(name, folder)]
+    sys.exit("too slow: " + ", ".join(slow) if slow else 0)
+
+
 def measure_table(folder):
     if not os.access(TABLE_TIMER, os.X_OK):
         sys.exit("build crates/table_timer first, by `rt run` there")
@@ -304,6 +360,10 @@ def main():
     if sys.argv[1:] == ["table"]:
         with tempfile.TemporaryDirectory() as folder:
             measure_table(folder)
+        return
+    if sys.argv[1:2] == ["families"]:
+        with tempfile.TemporaryDirectory() as folder:
+            measure_families(sys.argv[2:], folder)
         return
     if sys.argv[1:] == ["kernels"]:
         with tempfile.TemporaryDirectory() as folder:

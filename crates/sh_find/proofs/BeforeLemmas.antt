@@ -1,11 +1,13 @@
 -- Where a command is entered, a certificate that keeps the rules claims no more than is known there.
-use Rattle.std.proofs.Common.{◌≡◌, ℕ, ◌-◌, Option, Some, None, List, [], ◌∷◌, ◌++◌, append-nil, length, nat_lt, Bool, true, false, if◌then◌else◌, sym, ap, ◌∙◌, subst, true≢false, is_some, option_map, unwrap_or}
+use Rattle.std.proofs.Common.{◌≡◌, ℕ, ◌-◌, Option, Some, None, List, [], ◌∷◌, ◌++◌, append-nil, length, nat_lt, Bool, true, false, if◌then◌else◌, sym, ap, ◌∙◌, subst, true≢false, is_some, option_map, unwrap_or, refl, IfSome}
 use Rattle.sh_tree.specs.declared.tree.Command.{Command, out-Command}
 use Rattle.sh_tree.specs.standard.program.Syntax as p
 use Rattle.sh_tree.specs.standard.program.Syntax.{Text}
+use Rattle.sh_tree.specs.standard.program.Trees as trees
 use Rattle.sh_tree.proofs.ProgramRules as rules
 use Rattle.sh_domain.specs.declared.rule.FlowRule.{FlowRule}
-use Rattle.sh_domain.specs.Entries.{Around, Entered, behind_redirects}
+use Rattle.sh_domain.specs.declared.rule.FlowRule.TheVariants.{F13}
+use Rattle.sh_domain.specs.Entries.{Around, Entered, behind_redirects, command_entered}
 use Rattle.sh_domain.specs.Facts.{Facts, Declared, facts}
 use Rattle.sh_domain.specs.Faults.{broken}
 use Rattle.sh_domain.specs.Inclusions.{Each}
@@ -16,7 +18,7 @@ use Rattle.sh_domain.specs.Rules as r
 use Rattle.sh_domain.specs.Rules.{Constraint, bound, bounds, losses}
 use Rattle.sh_domain.specs.Sheets.{Sheet}
 use Rattle.sh_domain.specs.Views as views
-use Rattle.sh_domain.specs.Views.{Certificate, Slot, Seen, view_facts}
+use Rattle.sh_domain.specs.Views.{AfterNonzero, AfterZero, Certificate, ReturnsNonzero, ReturnsZero, Seen, Slot, view_facts}
 use Rattle.sh_domain.proofs.EachLemmas.{each_none, each_parts}
 use Rattle.sh_domain.proofs.MonotoneLemmas.{told_none}
 use Rattle.sh_domain.proofs.OrderLemmas.{meet_greatest, within_nowhere, within_test, within_through}
@@ -28,15 +30,17 @@ use Rattle.sh_rules.proofs.AboveLemmas.{among_grows}
 use Rattle.sh_domain.specs.Admitted.{IsAdmitted, claims_in, functions_in}
 use Rattle.sh_find.specs.declared.place.Part.TheVariants.{Before}
 use Rattle.sh_find.specs.declared.place.Place.{Place}
+use Rattle.sh_find.specs.declared.spot.Spot.{Spot}
 use Rattle.sh_find.specs.declared.subject.Subject.{Subject}
 use Rattle.sh_find.specs.Gathered.{fitting, fitting_place}
 use Rattle.sh_find.specs.Numbers.{by_name, by_number}
 use Rattle.sh_find.specs.Places.{at, claim_there, place_of}
-use Rattle.sh_find.specs.Sweeps.{IsCommand, Keeps}
+use Rattle.sh_find.specs.Spots.{place_at}
+use Rattle.sh_find.specs.Sweeps.{IsCommand, IsPart, Keeps, Knows}
 use Rattle.sh_find.proofs.GatherLemmas.{claim_among, number_named, within_among}
 use Rattle.sh_find.proofs.MetLemmas.{keeps_here}
 use Rattle.sh_find.proofs.NumberLemmas.{back}
-use Rattle.sh_find.proofs.PlacedLemmas.{own_part}
+use Rattle.sh_find.proofs.PlacedLemmas.{own_of}
 use Rattle.sh_find.proofs.SheetLemmas.{placed}
 
 -- By the rules of a command
@@ -51,11 +55,12 @@ module _ (d : Declared) (c : Certificate) where
   entered_within slot n rule (v ∷ q) all =
       meet_greatest _ _ _ ((within_test (c.claim slot) (view_facts d c v)).0 (told_none _ n rule all.0)) (entered_within slot n rule q all.1)
 
-  own_within : (functions : List Text) (n offset : ℕ) (kind : p.Kind) (rs : p.Redirects) (by : FlowRule) (y : Around) (q : Seen)
+  -- where it is entered, and by its kind
+  parts_of : (functions : List Text) (n offset : ℕ) (kind : p.Kind) (rs : p.Redirects) (by : FlowRule) (y : Around) (q : Seen)
       → KeepsThere d c functions (record { command = p.command n offset kind rs; rule = by; around = y; seen = q } ∷ [])
-      → IsWithin (facts (c.claim (views.Before n))) (seen_facts d c q)
+      → Each Unbroken (bound (views.Before n) n by q) × Each Unbroken (r.kind_bounds functions y n (behind_redirects n rs) kind)
   unfolding bounds
-  own_within functions n offset kind rs by y q none =
+  parts_of functions n offset kind rs by y q none =
       let e : Entered = record { command = p.command n offset kind rs; rule = by; around = y; seen = q } in
       let before : List Constraint = bound (views.Before n) n by q in
       let its : List Constraint = r.kind_bounds functions y n (behind_redirects n rs) kind in
@@ -64,41 +69,80 @@ module _ (d : Declared) (c : Certificate) where
       let all : Each Unbroken (bounds functions e) = subst (Each Unbroken) (append-nil (bounds functions e)) (each_none (broken d c) _ none) in
       let last = each_parts Unbroken (before ++ its ++ redirected) counted all in
       let third = each_parts Unbroken (before ++ its) redirected last.0 in
-      let second = each_parts Unbroken before its third.0 in
-      entered_within (views.Before n) n by q second.0
+      each_parts Unbroken before its third.0
+
+  own_within : (functions : List Text) (n offset : ℕ) (kind : p.Kind) (rs : p.Redirects) (by : FlowRule) (y : Around) (q : Seen)
+      → KeepsThere d c functions (record { command = p.command n offset kind rs; rule = by; around = y; seen = q } ∷ [])
+      → IsWithin (facts (c.claim (views.Before n))) (seen_facts d c q)
+  own_within functions n offset kind rs by y q none = entered_within (views.Before n) n by q (parts_of functions n offset kind rs by y q none).0
+
+  -- where a function returns, behind its body
+  body_within : (f : Text) (m offset : ℕ) (kind : p.Kind) (rs : p.Redirects) → Each Unbroken (r.body_bounds f (p.command m offset kind rs))
+      → IsWithin (facts (c.claim (ReturnsZero f))) (seen_facts d c (views.at (AfterZero m))) × IsWithin (facts (c.claim (ReturnsNonzero f))) (seen_facts d c (views.at (AfterNonzero m)))
+  unfolding r.body_bounds
+  body_within f m offset kind rs all =
+      let both = each_parts Unbroken (bound (ReturnsZero f) m F13 (views.at (AfterZero m))) (bound (ReturnsNonzero f) m F13 (views.at (AfterNonzero m))) all in
+      (entered_within (ReturnsZero f) m F13 (views.at (AfterZero m)) both.0, entered_within (ReturnsNonzero f) m F13 (views.at (AfterNonzero m)) both.1)
+
+  defined_within : (functions : List Text) (y : Around) (n : ℕ) (q : Seen) (f : Text) (m offset : ℕ) (kind : p.Kind) (rs : p.Redirects)
+      → Each Unbroken (r.kind_bounds functions y n q (p.Define f (p.command m offset kind rs)))
+      → IsWithin (facts (c.claim (ReturnsZero f))) (seen_facts d c (views.at (AfterZero m))) × IsWithin (facts (c.claim (ReturnsNonzero f))) (seen_facts d c (views.at (AfterNonzero m)))
+  unfolding r.kind_bounds
+  defined_within functions y n q f m offset kind rs all = body_within f m offset kind rs (each_parts Unbroken (bound (AfterZero n) n F13 (views.stepped (views.Define f) (views.at (views.Before n)))) (r.body_bounds f (p.command m offset kind rs)) all).1
 
 -- Of a script that is admitted
 
-module _ (s : Subject) (admitted : IsAdmitted s.script.now s.policy.now s.tree.now s.names.now) (by : FlowRule) (y : Around) (k : Facts) (c : Command) (here : IsCommand s by y k c) (other : Sheet)
-    (keeps : Keeps s other) where
+module _ (s : Subject) (admitted : IsAdmitted s.script.now s.policy.now s.tree.now s.names.now) (other : Sheet) (keeps : Keeps s other) where
   abbrev claims : Certificate
   claims = claims_in s.script.now s.tree.now other
 
   abbrev functions : List Text
   functions = functions_in s.script.now s.tree.now
 
-  abbrev slot : Slot
-  slot = views.Before (out-Command c).number
-
-  claimed : IsWithin (facts (claims.claim slot)) (seen_facts s.policy.now claims here.seen)
-  claimed =
-      own_within s.policy.now claims functions _ _ _ _ by y here.seen
-      (subst (λ m. KeepsThere s.policy.now claims functions (record { command = m; rule = by; around = y; seen = here.seen } ∷ [])) (rules.command_of-out s.script.now c)
-      (keeps_here s admitted _ (own_part s by y k c here) other keeps))
-
-  named : among s.names.now (facts (claims.claim slot)) ≡ facts (claims.claim slot)
-  named = claim_among s.names.now _ (ap (claim_fits s.names.now) (placed functions other slot) ∙ keeps.fit (place_of functions slot))
-
-  there : claims.claim slot ≡ claim_there other (Some (at Before ((out-Command c).number - 1)))
-  unfolding place_of
-  there = placed functions other slot
-
-  pub before_within : IsWithin (facts (claim_there other (Some (at Before ((out-Command c).number - 1))))) k
-  before_within =
+  slot_within : (slot : Slot) (q : Seen) (k : Facts) → IsWithin (facts (claims.claim slot)) (seen_facts s.policy.now claims q) → Knows s q k → IsWithin (facts (claim_there other (place_of functions slot))) k
+  slot_within slot q k within knows =
+      let there : claims.claim slot ≡ claim_there other (place_of functions slot) = placed functions other slot in
+      let named : among s.names.now (facts (claims.claim slot)) ≡ facts (claims.claim slot) =
+      claim_among s.names.now _ (ap (claim_fits s.names.now) there ∙ keeps.fit (place_of functions slot)) in
       subst (λ a. IsWithin (facts a) k) there
-      (within_through _ (sees s.names.now s.policy.now claims here.seen) _
-      (subst (λ f. IsWithin f (sees s.names.now s.policy.now claims here.seen)) named (among_grows s.names.now _ _ claimed))
-      (here.knows other keeps))
+      (within_through _ (sees s.names.now s.policy.now claims q) _
+      (subst (λ f. IsWithin f (sees s.names.now s.policy.now claims q)) named (among_grows s.names.now _ _ within))
+      (knows other keeps))
+
+  kept_there : (by : FlowRule) (y : Around) (q : Seen) (m : p.Command) → IsPart s (command_entered by y q m) → KeepsThere s.policy.now claims functions (record { command = m; rule = by; around = y; seen = q } ∷ [])
+  kept_there by y q m part = keeps_here s admitted _ (own_of s by y q m part) other keeps
+
+module _ (s : Subject) (admitted : IsAdmitted s.script.now s.policy.now s.tree.now s.names.now) where
+  pub before_within : (by : FlowRule) (y : Around) (k : Facts) (c : Command) (here : IsCommand s by y k c) (other : Sheet) (keeps : Keeps s other)
+      → IsWithin (facts (claim_there other (Some (at Before ((out-Command c).number - 1))))) k
+  unfolding place_of
+  before_within by y k c here other keeps =
+      slot_within s admitted other keeps (views.Before (out-Command c).number) here.seen k
+      (own_within s.policy.now (claims s admitted other keeps) (functions s admitted other keeps) _ _ _ _ by y here.seen
+      (subst (λ m. KeepsThere s.policy.now (claims s admitted other keeps) (functions s admitted other keeps) (record { command = m; rule = by; around = y; seen = here.seen } ∷ [])) (rules.command_of-out s.script.now c)
+      (kept_there s admitted other keeps by y here.seen (trees.command_of s.script.now c) here.part)))
+      here.knows
+
+  -- behind the body of a definition
+  module _ (by : FlowRule) (y : Around) (q : Seen) (n offset : ℕ) (name : Text) (body : Command) (rs : p.Redirects)
+      (part : IsPart s (command_entered by y q (p.command n offset (p.Define name (trees.command_of s.script.now body)) rs))) where
+    returned : (other : Sheet) (keeps : Keeps s other)
+        → IsWithin (facts ((claims s admitted other keeps).claim (ReturnsZero name))) (seen_facts s.policy.now (claims s admitted other keeps) (views.at (AfterZero (out-Command body).number)))
+        × IsWithin (facts ((claims s admitted other keeps).claim (ReturnsNonzero name))) (seen_facts s.policy.now (claims s admitted other keeps) (views.at (AfterNonzero (out-Command body).number)))
+    returned other keeps =
+        let c : Certificate = claims s admitted other keeps in
+        let fs : List Text = functions s admitted other keeps in
+        defined_within s.policy.now c fs y n (behind_redirects n rs) name _ _ _ _
+        (subst (λ m. Each (Unbroken s.policy.now c) (r.kind_bounds fs y n (behind_redirects n rs) (p.Define name m))) (rules.command_of-out s.script.now body)
+        (parts_of s.policy.now c fs n offset (p.Define name (trees.command_of s.script.now body)) rs by y q (kept_there s admitted other keeps by y q _ part)).1)
+
+    pub returns_zero : (k : Facts) → Knows s (views.at (AfterZero (out-Command body).number)) k → (other : Sheet) → Keeps s other
+        → IsWithin (facts (claim_there other (place_of (functions_in s.script.now s.tree.now) (ReturnsZero name)))) k
+    returns_zero k knows other keeps = slot_within s admitted other keeps (ReturnsZero name) _ k (returned other keeps).0 knows
+
+    pub returns_nonzero : (k : Facts) → Knows s (views.at (AfterNonzero (out-Command body).number)) k → (other : Sheet) → Keeps s other
+        → IsWithin (facts (claim_there other (place_of (functions_in s.script.now s.tree.now) (ReturnsNonzero name)))) k
+    returns_nonzero k knows other keeps = slot_within s admitted other keeps (ReturnsNonzero name) _ k (returned other keeps).1 knows
 
 -- By numbers
 
@@ -118,3 +162,13 @@ pub within_place : (names : List Text) (other : Sheet) (p q : Place) (f : Facts)
 within_place names other p q f g fit same is w =
     subst (λ h. IsWithin (facts (claim_there other (Some p))) h) (sym (ap (by_name names) is ∙ back names f))
     (within_among names (claim_there other (Some p)) f fit (subst (λ r. IsWithin (facts (claim_there other (Some r))) f) same w))
+
+-- a place of which the rules speak, if it is there
+pub spot_place : (functions : List Text) (slot : Slot) (spot : Spot) → Some (place_at spot) ≡ place_of functions slot → (r : Option Place) → r ≡ fitting_place (place_at spot) → IfSome r (λ p. Some p ≡ place_of functions slot)
+spot_place fs slot spot same None fits = tt
+spot_place fs slot spot same (Some p) fits = ap Some (sym (fits_place (Some p) p (place_at spot) refl fits)) ∙ same
+
+pub there_if : (s : Subject) (functions : List Text) (slot : Slot) (k : Facts) (o : Option Place) → IfSome o (λ p. Some p ≡ place_of functions slot)
+    → ((other : Sheet) → Keeps s other → IsWithin (facts (claim_there other (place_of functions slot))) k) → IfSome o (λ p. (other : Sheet) → Keeps s other → IsWithin (facts (claim_there other (Some p))) k)
+there_if s fs slot k None same w = tt
+there_if s fs slot k (Some p) same w = λ other keeps. subst (λ z. IsWithin (facts (claim_there other z)) k) (sym same) (w other keeps)

@@ -1,15 +1,17 @@
 -- What is known where lists are entered, by the claims of a certificate that stays above all that keep the rules.
-use Rattle.std.proofs.Common.{◌≡◌, Bool, sym, subst}
+use Rattle.std.proofs.Common.{◌≡◌, ◌==◌, ◌-◌, ℕ, Bool, true, false, List, take, [], ◌∷◌, length, fold, refl, sym, ap, ◌∙◌, subst, arith, true≢false}
+use Rattle.std.proofs.lemmas.Bool.Decides.{nat_tests}
 use Rattle.sh_tree.specs.declared.tree.Item.{Item, out-Item}
 use Rattle.sh_tree.specs.declared.tree.Command.{Command}
 use Rattle.sh_tree.specs.declared.tree.Link.{Link}
 use Rattle.sh_tree.specs.declared.tree.Pipe.{Pipe}
+use Rattle.sh_tree.specs.Lists.{items_from}
 use Rattle.sh_tree.specs.standard.program.Trees as trees
 use Rattle.sh_domain.specs.declared.certificate.Certificate as kept
 use Rattle.sh_domain.specs.declared.knowledge.Knowledge.{Knowledge}
 use Rattle.sh_domain.specs.declared.rule.FlowRule.{FlowRule}
 use Rattle.sh_domain.specs.declared.rule.FlowRule.TheVariants.{F2}
-use Rattle.sh_domain.specs.Entries.{item_after, item_seen, link_seen, linked, pipeline_after}
+use Rattle.sh_domain.specs.Entries.{item_after, item_seen, items_after, link_seen, linked, pipeline_after}
 use Rattle.sh_domain.specs.Facts.{Facts}
 use Rattle.sh_domain.specs.Gains.{Gains}
 use Rattle.sh_domain.specs.Knowledge.{AreNumbered, knowledge_facts}
@@ -28,7 +30,7 @@ use Rattle.sh_rules.specs.Walks as walks
 use Rattle.sh_rules.specs.Walks.{behind_in, facts_in, item_left, setting}
 use Rattle.sh_rules.proofs.LedLemmas.{Follows, item_stands, next_stands, pipeline_stands, started_led}
 use Rattle.sh_find.specs.declared.subject.Subject.{Subject}
-use Rattle.sh_find.specs.Sweeps.{IsOver, IsPassed, Knows, KnowsBehind, known_behind, setting_by}
+use Rattle.sh_find.specs.Sweeps.{ArePassed, IsOver, IsPassed, Knows, KnowsBehind, known_behind, setting_by}
 use Rattle.sh_find.proofs.SweepLemmas.{behind_of, knows_follow, stands_of}
 
 -- By what the flow rules go by
@@ -86,3 +88,39 @@ module _ (s : Subject) (c : kept.Certificate) (h : AreNumbered s.names.now) (ove
         subst (KnowsBehind s (item_after (views.in_any_case o) (out-Item i).background (trees.and_or_of s.script.now (out-Item i).list))) (sym is)
         (behind_of s _ _ (item_stands x (Knows s) follows o (known_behind s old.behind) (stands_of s o (known_behind s old.behind) knows) (out-Item i).background (trees.and_or_of s.script.now (out-Item i).list)));
   }
+
+  -- items, whatever is known before them
+  passes_all : (b : Behind) (is : List Item) (o : After) → KnowsBehind s o b → KnowsBehind s (items_after o (items_from s.script.now is)) (fold (item_left x) b is)
+  unfolding facts_in item_left items_after items_from
+  passes_all b [] o knows = knows
+  passes_all b (i ∷ is) o knows =
+      let list = trees.and_or_of s.script.now (out-Item i).list in
+      passes_all (item_left x b i) is (item_after (views.in_any_case o) (out-Item i).background list) (behind_of s _ _ (item_stands x (Knows s) follows o b (stands_of s o b knows) (out-Item i).background list))
+
+  pub all_passed : (old new : Course) (is : List Item) → new.by ≡ F2 → behind_in x new.behind ≡ fold (item_left x) (behind_in x old.behind) is → (length is == 0) ≡ false → ArePassed s old new is
+  unfolding facts_in
+  all_passed old new is by same some = record {
+    none = λ e. absurd (true≢false (ap (λ (js : List Item). length js == 0) (sym e) ∙ some));
+    by = λ i rest e. by;
+    behind = λ o knows. subst (KnowsBehind s (items_after o (items_from s.script.now is))) (sym same) (passes_all (known_behind s old.behind) is o knows);
+  }
+
+-- no items
+
+no_items : (is : List Item) → (length is == 0) ≡ true → is ≡ []
+no_items [] e = refl
+no_items (i ∷ is) e = absurd (grind (arith, nat_tests, e))
+
+pub nothing_passed : (s : Subject) (c : Course) (is : List Item) → is ≡ [] → ArePassed s c c is
+unfolding items_after items_from
+nothing_passed s c is e = subst (ArePassed s c c) (sym e) (record { none = λ e. refl; by = λ i rest e. cc; behind = λ o knows. knows })
+
+pub none_passed : (s : Subject) (c : Course) (is : List Item) → (length is == 0) ≡ true → ArePassed s c c is
+none_passed s c is e = nothing_passed s c is (no_items is e)
+
+pub none_between : (n : ℕ) (is : List Item) → take (n - n) is ≡ []
+none_between n is = let same : n - n ≡ 0 = omega arith in ap (λ k. take k is) same ∙ front is
+  where
+    front : (is : List Item) → take 0 is ≡ []
+    front [] = refl
+    front (i ∷ is) = refl

@@ -1,3 +1,4 @@
+pub mod CalleeLemmas
 pub mod FactLemmas
 pub mod LoopsLemmas
 pub mod AroundLemmas
@@ -10,6 +11,7 @@ pub mod AboveLemmas
 pub mod GatherLemmas
 pub mod FirstLemmas
 pub mod TurnLemmas
+pub mod UnitLemmas
 pub mod GreatestLemmas
 pub mod TogetherLemmas
 pub mod AskingLemmas

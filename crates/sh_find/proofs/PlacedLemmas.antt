@@ -1,17 +1,19 @@
 -- Where a sweep is in a command, by where it is before it: a lemma for each kind of command (XCU 2.9).
-use Rattle.std.proofs.Common.{◌≡◌, ℕ, zero, suc, ◌+◌, ◌-◌, ◌<◌, ◌≤◌, Bool, true, false, Option, Some, List, [], ◌∷◌, ◌++◌, append_assoc, append-nil, drop, get_or, length, nat_lt, sym, ap, ◌∙◌, subst, arith}
+use Rattle.std.proofs.Common.{◌≡◌, ℕ, suc, ◌+◌, ◌-◌, ◌<◌, ◌≤◌, Bool, true, false, Option, Some, List, [], ◌∷◌, ◌++◌, append_assoc, append-nil, drop, get_or, length, nat_lt, refl, sym, ap, ◌∙◌, subst, take, arith}
 use Rattle.std.proofs.lemmas.Bool.Decides.{nat_tests}
+use Rattle.std.proofs.lemmas.List.{drop-drop, take-append-drop}
 use Rattle.std.proofs.Math.Seq.{drop-cons}
 use Rattle.sh_tree.specs.declared.tree.AndOr.{AndOr, out-AndOr}
 use Rattle.sh_tree.specs.declared.tree.Branch.{Branch, out-Branch}
 use Rattle.sh_tree.specs.declared.tree.Clause.{Clause, out-Clause}
-use Rattle.sh_tree.specs.declared.tree.Command.{Command}
+use Rattle.sh_tree.specs.declared.tree.Command.{Command, out-Command}
 use Rattle.sh_tree.specs.declared.tree.Item.{Item, out-Item}
+use Rattle.sh_tree.specs.declared.tree.Kind.{Kind}
 use Rattle.sh_tree.specs.declared.tree.LoopKind.{LoopKind}
 use Rattle.sh_tree.specs.declared.tree.Link.{Link}
 use Rattle.sh_tree.specs.declared.tree.Pipe.{Pipe, out-Pipe}
 use Rattle.sh_tree.specs.declared.tree.Script.{Script, out-Script}
-use Rattle.sh_tree.specs.Lists.{branches_from, clauses_from, commands_from, items_from, links_from, otherwise_from, words_from}
+use Rattle.sh_tree.specs.Lists.{branches_from, clauses_from, commands_from, items_from, links_from, otherwise_from, redirects_from, words_from}
 use Rattle.sh_tree.specs.standard.program.Syntax as p
 use Rattle.sh_tree.specs.standard.program.Trees as trees
 use Rattle.sh_tree.specs.standard.program.Trees.{script_of}
@@ -25,7 +27,6 @@ use Rattle.sh_domain.specs.Facts.{Facts, NotReached, meet, start_facts}
 use Rattle.sh_domain.specs.Gains.{word_gains}
 use Rattle.sh_domain.specs.Knowledge.{AreNumbered, among, knowledge_facts}
 use Rattle.sh_domain.specs.declared.knowledge.Knowledge.{Knowledge}
-use Rattle.sh_domain.proofs.OrderLemmas.{within_nowhere}
 use Rattle.sh_domain.specs.Views as views
 use Rattle.sh_domain.specs.Views.{After, Before, Both, Entry, Head, Seen, at, at_start, gaining, gaining_names, if_nonzero, if_zero}
 use Rattle.sh_rules.specs.declared.walk.Course.{Course}
@@ -37,13 +38,13 @@ use Rattle.sh_rules.proofs.WalkLemmas.{long_parts}
 use Rattle.sh_domain.specs.Admitted.{claims_in}
 use Rattle.sh_find.specs.declared.subject.Subject.{Subject}
 use Rattle.sh_find.specs.Gathering.{gathering}
-use Rattle.sh_find.specs.Sweeps.{AreBranches, AreClauses, AreItems, AreLinks, AreParts, IsAndOr, IsCommand, IsIn, IsInside, IsList, IsOver, IsPart, IsPassed, IsPipe, Knows, KnowsBehind, known_behind, setting_by}
+use Rattle.sh_find.specs.Sweeps.{AreBranches, AreClauses, AreItems, AreLinks, AreParts, ArePassed, IsAndOr, IsCommand, IsIn, IsInside, IsList, IsOver, IsPart, IsPassed, IsPipe, Knows, KnowsBehind, known_behind, setting_by}
 use Rattle.sh_find.proofs.SweepLemmas.{first_part, knows_follow, last_part, stands_of}
 
 module _ (s : Subject) where
   -- A command, and what stands in it
 
-  own_of : (by : FlowRule) (y : Around) (q : Seen) (m : p.Command) → IsPart s (e.command_entered by y q m) → IsPart s (record { command = m; rule = by; around = y; seen = q } ∷ [])
+  pub own_of : (by : FlowRule) (y : Around) (q : Seen) (m : p.Command) → IsPart s (e.command_entered by y q m) → IsPart s (record { command = m; rule = by; around = y; seen = q } ∷ [])
   unfolding e.items_entered
   own_of by y q (p.command n offset kind rs) part =
       first_part s (record { command = p.command n offset kind rs; rule = by; around = y; seen = q } ∷ []) (e.redirects_entered (at (Before n)) rs ++ e.kind_entered y n (behind_redirects n rs) kind) part
@@ -61,6 +62,19 @@ module _ (s : Subject) where
   pub inside_placed : (by : FlowRule) (y : Around) (k : Facts) (c : Command) → IsCommand s by y k c → IsInside s y c
   inside_placed by y k c in_it =
       inside_part by y in_it.seen _ _ _ _ (subst (λ m. IsPart s (e.command_entered by y in_it.seen m)) (rules.command_of-out s.script.now c) in_it.part)
+
+  -- a definition, and what stands in it
+  pub defined_placed : (by : FlowRule) (y : Around) (q : Seen) (c : Command) (v : Kind) (name : p.Text) (body : p.Command) → (out-Command c).kind ≡ v → trees.kind_of s.script.now v ≡ p.Define name body
+      → IsPart s (e.command_entered by y q (trees.command_of s.script.now c))
+      → IsPart s (e.command_entered by y q (p.command (out-Command c).number (out-Command c).at (p.Define name body) (redirects_from s.script.now (out-Command c).redirects)))
+  defined_placed by y q c v name body is same part =
+      subst (λ m. IsPart s (e.command_entered by y q m))
+      (rules.command_of-out s.script.now c
+      ∙ ap (λ k. p.command (out-Command c).number (out-Command c).at k (redirects_from s.script.now (out-Command c).redirects)) (ap (trees.kind_of s.script.now) is ∙ same)) part
+
+  pub kind_part : (by : FlowRule) (y : Around) (q : Seen) (n offset : ℕ) (kind : p.Kind) (rs : p.Redirects) → IsPart s (e.command_entered by y q (p.command n offset kind rs))
+      → IsPart s (e.kind_entered y n (behind_redirects n rs) kind)
+  kind_part by y q n offset kind rs part = last_part s (e.redirects_entered (at (Before n)) rs) (e.kind_entered y n (behind_redirects n rs) kind) (inside_part by y q n offset kind rs part)
 
   -- The kinds of commands
 
@@ -257,6 +271,9 @@ module _ (s : Subject) where
 
   -- The items of a list
 
+  abbrev item_left : After → Item → After
+  item_left o i = e.item_after (views.in_any_case o) (out-Item i).background (trees.and_or_of s.script.now (out-Item i).list)
+
   pub items_next : (y : Around) (old new : Course) (i : Item) (is : List Item) → AreItems s old.by y (known_behind s old.behind) (i ∷ is) → IsPassed s old new i
       → AreItems s new.by y (known_behind s new.behind) is
   unfolding e.items_entered items_from
@@ -272,29 +289,31 @@ module _ (s : Subject) where
         knows = passed.behind here.seen here.knows;
       })
 
-  -- Anywhere in a list, whatever is known there
+  -- behind some of them
 
-  pub known_nowhere : (o : After) → KnowsBehind s o (both NotReached)
-  known_nowhere o other keeps = record { zero = within_nowhere _; nonzero = within_nowhere _ }
+  items_rest : (by : FlowRule) (y : Around) (o : After) (i : Item) (is js : List Item) → IsPart s (e.items_entered by y o (items_from s.script.now (i ∷ (is ++ js))))
+      → IsPart s (e.items_entered F2 y (e.items_after o (items_from s.script.now (i ∷ is))) (items_from s.script.now js))
+  unfolding e.items_entered e.items_after items_from
+  items_rest by y o i [] js part = last_part s _ (e.items_entered F2 y (item_left o i) (items_from s.script.now js)) part
+  items_rest by y o i (j ∷ is) js part = items_rest F2 y (item_left o i) j is js (last_part s _ (e.items_entered F2 y (item_left o i) (items_from s.script.now (j ∷ (is ++ js)))) part)
 
-  placed_next : (y : Around) (i : Item) (is : List Item) (by : FlowRule) (k : Behind) → AreItems s by y k (i ∷ is) → AreItems s F2 y (both NotReached) is
-  unfolding e.items_entered items_from
-  placed_next y i is by k here =
-      let list : p.AndOr = trees.and_or_of s.script.now (out-Item i).list in
-      let o : After = e.item_after (views.in_any_case here.seen) (out-Item i).background list in
-      record {
-        seen = o;
-        part = last_part s
-            (e.list_entered (e.item_rule (out-Item i).background by) (e.item_around (out-Item i).background y) (e.item_seen (out-Item i).background (views.in_any_case here.seen)) list)
-            (e.items_entered F2 y o (items_from s.script.now is)) here.part;
-        knows = known_nowhere o;
-      }
+  after_some : (o : After) (is js : List Item) → e.items_after o (items_from s.script.now (is ++ js)) ≡ e.items_after (e.items_after o (items_from s.script.now is)) (items_from s.script.now js)
+  unfolding e.items_after items_from
+  after_some o [] js = refl
+  after_some o (i ∷ is) js = after_some (item_left o i) is js
 
-  pub placed_behind : (y : Around) (is : List Item) (n : ℕ) → AreItems s F2 y (both NotReached) is → AreItems s F2 y (both NotReached) (drop n is)
-  placed_behind y [] zero here = here
-  placed_behind y (i ∷ is) zero here = here
-  placed_behind y [] (suc n) here = here
-  placed_behind y (i ∷ is) (suc n) here = placed_behind y is n (placed_next y i is F2 (both NotReached) here)
+  pub items_over : (y : Around) (old new : Course) (is js : List Item) → AreItems s old.by y (known_behind s old.behind) (is ++ js) → ArePassed s old new is → AreItems s new.by y (known_behind s new.behind) js
+  items_over y old new [] js here passed = subst (λ (at : Course). AreItems s at.by y (known_behind s at.behind) js) (sym (passed.none refl)) here
+  items_over y old new (i ∷ is) js here passed =
+      subst (λ by. AreItems s by y (known_behind s new.behind) js) (sym (passed.by i is refl))
+      (record { seen = e.items_after here.seen (items_from s.script.now (i ∷ is)); part = items_rest old.by y here.seen i is js here.part; knows = passed.behind here.seen here.knows })
+
+  pub goes_over : (o : After) (old new : Course) (all is js : List Item) → GoesOn o (known_behind s old.behind) all (is ++ js) → ArePassed s old new is → GoesOn o (known_behind s new.behind) all js
+  goes_over o old new all is js g passed = record {
+    seen = e.items_after g.seen (items_from s.script.now is);
+    knows = passed.behind g.seen g.knows;
+    same = sym (after_some g.seen is js) ∙ g.same;
+  }
 
   -- the and-or list of an item
   pub and_or_placed : (y : Around) (at : Course) (i : Item) (is : List Item) (k : Facts) → ((q : Seen) → Knows s q (in_any_case (known_behind s at.behind)) → Knows s (e.item_seen (out-Item i).background q) k)
@@ -408,25 +427,23 @@ at_index xs i x below is =
     let next : suc i ≡ i + 1 = omega arith in
     drop-cons xs i x below ∙ ap (λ y. y ∷ drop (suc i) xs) (sym is) ∙ ap (λ k. x ∷ drop k xs) next
 
--- any item of the script but the first, whatever is known there
+-- and the piece before a later one
+pub piece_before : {A : Type 0} (xs : List A) (i j : ℕ) → i ≤ j → take (j - i) (drop i xs) ++ drop j xs ≡ drop i xs
+piece_before xs i j before =
+    let sum : i + (j - i) ≡ j = omega (arith, before) in
+    ap (λ ys. take (j - i) (drop i xs) ++ ys) (ap (λ k. drop k xs) (sym sum) ∙ sym (drop-drop (j - i) i xs)) ∙ take-append-drop (j - i) (drop i xs)
+
 module _ (s : Subject) where
-  script_placed : AreItems s F1 e.alone (both NotReached) (out-Script s.tree.now).items
-  unfolding e.script_entered
-  script_placed = record {
-    seen = Both at_start;
-    part = record { front = []; back = []; whole = ap (e.items_entered F1 e.alone (Both at_start)) (rules.script_of-out s.script.now s.tree.now) ∙ sym (append-nil _) };
-    knows = known_nowhere s (Both at_start);
-  }
+  -- the list from a place on, behind the items before the next one
+  behind_piece : {A : Type 0} (xs : List A) (i j : ℕ) (x : A) → i ≤ j → j < length xs → x ≡ get_or xs j x → drop i xs ≡ take (j - i) (drop i xs) ++ (x ∷ drop (j + 1) xs)
+  behind_piece xs i j x before low is = sym (piece_before xs i j before) ∙ ap (λ ys. take (j - i) (drop i xs) ++ ys) (at_index xs j x low is)
 
-  -- the first is entered by another rule than those behind it
-  behind_first : (is : List Item) (n : ℕ) → suc n < length is → AreItems s F1 e.alone (both NotReached) is → AreItems s F2 e.alone (both NotReached) (drop (suc n) is)
-  behind_first [] n below here = absurd (omega (arith, below))
-  behind_first (i ∷ is) n below here = placed_behind s e.alone is n (placed_next s e.alone i is F1 (both NotReached) here)
+  pub next_item : (y : Around) (is : List Item) (at next : ℕ) (i : Item) → at ≤ next → next < length is → i ≡ get_or is next i → (old new : Course) → AreItems s old.by y (known_behind s old.behind) (drop at is)
+      → ArePassed s old new (take (next - at) (drop at is)) → AreItems s new.by y (known_behind s new.behind) (i ∷ drop (next + 1) is)
+  next_item y is at next i before low found old new here passed =
+      items_over s y old new (take (next - at) (drop at is)) (i ∷ drop (next + 1) is) (subst (AreItems s old.by y (known_behind s old.behind)) (behind_piece is at next i before low found) here) passed
 
-  pub item_placed : (is : List Item) (index : ℕ) (i : Item) → is ≡ (out-Script s.tree.now).items → 1 ≤ index → index < length is → i ≡ get_or is index i
-      → (others : List Item) × AreItems s F2 e.alone (both NotReached) (i ∷ others)
-  item_placed is index i same past below is_item =
-      let next : suc (index - 1) ≡ index = omega (arith, past) in
-      let low : suc (index - 1) < length is = omega (arith, past, below) in
-      let here : AreItems s F2 e.alone (both NotReached) (drop (suc (index - 1)) is) = behind_first is (index - 1) low (subst (AreItems s F1 e.alone (both NotReached)) (sym same) script_placed) in
-      (drop (index + 1) is, subst (AreItems s F2 e.alone (both NotReached)) (ap (λ k. drop k is) next ∙ at_index is index i below is_item) here)
+  pub next_goes : (o : After) (is : List Item) (at next : ℕ) (i : Item) → at ≤ next → next < length is → i ≡ get_or is next i → (old new : Course) → GoesOn s o (known_behind s old.behind) is (drop at is)
+      → ArePassed s old new (take (next - at) (drop at is)) → GoesOn s o (known_behind s new.behind) is (i ∷ drop (next + 1) is)
+  next_goes o is at next i before low found old new g passed =
+      goes_over s o old new is (take (next - at) (drop at is)) (i ∷ drop (next + 1) is) (subst (GoesOn s o (known_behind s old.behind) is) (behind_piece is at next i before low found) g) passed

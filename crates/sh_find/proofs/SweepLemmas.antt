@@ -49,6 +49,10 @@ module _ (s : Subject) where
     probe = z.probe;
   }
 
+  -- of a certificate that is the same afterwards
+  pub swept_same : (old new later : kept.Certificate) (n m : ℕ) → IsSwept s old new n → later ≡ new → m ≡ n → IsSwept s old later m
+  swept_same old new later n m w same count = subst (IsSwept s old later) (sym count) (subst (λ d. IsSwept s old d n) (sym same) w)
+
   pub ready_again : (old new : kept.Certificate) (n k : ℕ) → IsReady s old n → IsSwept s old new k → IsReady s new k
   ready_again old new n k r w = record {
     admitted = r.admitted;
@@ -57,6 +61,7 @@ module _ (s : Subject) where
     working = w.working r.loops r.functions r.working;
     over = w.over;
     probe = w.probe;
+    commands = r.commands;
   }
 
   pub names_numbered : (c : kept.Certificate) (n : ℕ) → IsReady s c n → AreNumbered s.names.now

@@ -1,12 +1,14 @@
 -- A sweep of the search over the commands of a script: each is lowered by itself, with what is known before it by the certificate as it is there.
 -- The standard has no such thing: a certificate is lowered until it keeps all flow rules.
-use Rattle.std.specs.Prelude.{◌≡◌, ℕ, ◌≤◌, List, Bool, true, [], ◌++◌, length, flat_map, Option}
+use Rattle.std.specs.Prelude.{◌≡◌, ℕ, ◌≤◌, List, Bool, true, [], ◌∷◌, ◌++◌, length, map, flat_map, Option}
+use Rattle.std.specs.List.Sorted.{IsPermutation}
 use Rattle.sh_tree.specs.declared.tree.Command.{Command, out-Command}
 use Rattle.sh_tree.specs.declared.tree.AndOr.{AndOr}
 use Rattle.sh_tree.specs.declared.tree.Item.{Item, out-Item}
 use Rattle.sh_tree.specs.declared.tree.Kind.{Kind}
 use Rattle.sh_tree.specs.declared.tree.Link.{Link}
 use Rattle.sh_tree.specs.declared.tree.Pipe.{Pipe}
+use Rattle.sh_tree.specs.Commands.{commands_of}
 use Rattle.sh_tree.specs.Lists.{commands_from, items_from, links_from, redirects_from}
 use Rattle.sh_tree.specs.standard.program.Syntax as p
 use Rattle.sh_tree.specs.standard.program.Trees as trees
@@ -15,7 +17,7 @@ use Rattle.sh_table.specs.Calls.{table_of}
 use Rattle.sh_domain.specs.declared.certificate.Certificate as kept
 use Rattle.sh_domain.specs.declared.rule.FlowRule.{FlowRule}
 use Rattle.sh_domain.specs.declared.rule.FlowRule.TheVariants.{F2}
-use Rattle.sh_domain.specs.Entries.{Around, Entered, behind_redirects, branches_entered, clauses_entered, command_entered, commands_entered, elements_entered, item_after, items_entered, kind_entered, links_entered, list_entered, pipeline_entered, otherwise_entered, otherwise_seen, redirects_entered, script_entered, word_entered}
+use Rattle.sh_domain.specs.Entries.{Around, Entered, behind_redirects, branches_entered, clauses_entered, command_entered, commands_entered, elements_entered, item_after, items_after, items_entered, kind_entered, links_entered, list_entered, pipeline_entered, otherwise_entered, otherwise_seen, redirects_entered, script_entered, word_entered}
 use Rattle.sh_domain.specs.Facts.{Facts}
 use Rattle.sh_domain.specs.Faults.{broken}
 use Rattle.sh_domain.specs.Gains.{Gains}
@@ -162,6 +164,12 @@ module _ (s : Subject) where
     pub behind : (o : After) → KnowsBehind o (known_behind old.behind)
         → KnowsBehind (item_after (in_any_case o) (out-Item i).background (trees.and_or_of s.script.now (out-Item i).list)) (known_behind new.behind)
 
+  -- The walk goes on behind some items, or stays where there is none.
+  pub record ArePassed (old new : Course) (is : List Item) : Type 0 where
+    pub none : is ≡ [] → new ≡ old
+    pub by : (i : Item) (rest : List Item) → is ≡ i ∷ rest → new.by ≡ F2
+    pub behind : (o : After) → KnowsBehind o (known_behind old.behind) → KnowsBehind (items_after o (items_from s.script.now is)) (known_behind new.behind)
+
   -- What a sweep does
 
   -- a certificate that may be lowered, with a row by which others are looked up
@@ -172,6 +180,7 @@ module _ (s : Subject) where
     pub working : IsWorking s.names.now loops functions c
     pub over : IsOver c
     pub probe : probed ≡ length s.names.now
+    pub commands : IsPermutation (commands_of s.tree.now) (map (λ c. c.now) s.commands.now)
 
   -- it is lowered, or stays, and stays above each certificate that keeps all rules
   pub record IsSwept (old new : kept.Certificate) (probed : ℕ) : Type 0 where

@@ -24,6 +24,7 @@ use crate::sight::Sight;
 use crate::sights::sight_of;
 use crate::spot::of_command;
 use crate::subject::Subject;
+use crate::wakes::note_place;
 use sh_domain::{Assured, Knowledge};
 use sh_tree::Command;
 use std::alloc::AllocError;
@@ -53,7 +54,7 @@ pub fn lower_at(
         place,
         known,
     )?;
-    draft.lowered = draft.lowered.saturating_add(u64::from(is_lowered));
+    note_place(subject, draft, place, is_lowered)?;
     Ok(())
 }
 
@@ -65,11 +66,34 @@ fn place_before(number: u32) -> Option<Place>
 }
 
 // Whether no more than this is claimed at a place: a hint.
-fn is_lowered(draft: &Draft, place: Place, assured: &Assured) -> bool {
+fn is_low(draft: &Draft, place: Place, assured: &Assured) -> bool {
     match facts_at(&draft.certificate, place) {
         Some(facts) => assured.includes(&draft.certificate.rows, &facts),
         None => true,
     }
+}
+
+/// Lowers what is claimed at a place to what is assured there.
+///
+/// # Errors
+///
+/// If a growth was refused or no place for a row is left.
+pub fn lower_assured(
+    subject: &Subject<'_>,
+    draft: &mut Draft,
+    place: Place,
+    assured: &Assured,
+) -> Result<(), AllocError>
+    requires ready { IsReady subject.now draft.old.certificate draft.old.probe.count }
+    requires stands { (other : Sheet) → Keeps subject.now other → IsWithin (facts (claim_there other (Some place))) (assured_facts subject.now.names.now assured.now) }
+    ensures swept { IfOk result (λ unit. IsSwept subject.now draft.old.certificate draft.new.certificate draft.new.probe.count) }
+{
+    draft.looks = draft.looks.saturating_add(1);
+    if is_low(&*draft, place, assured) {
+        return Ok(());
+    }
+    let sight = sight_of(subject.names, assured);
+    lower_at(subject, draft, place, &sight)
 }
 
 // Lowers what is claimed where the command of a number is entered, where this is assured.
@@ -86,12 +110,7 @@ fn lower_entered(
     let Some(place) = place_before(number) else {
         return Ok(());
     };
-    draft.looks = draft.looks.saturating_add(1);
-    if is_lowered(&*draft, place, assured) {
-        return Ok(());
-    }
-    let sight = sight_of(subject.names, assured);
-    lower_at(subject, draft, place, &sight)
+    lower_assured(subject, draft, place, assured)
 }
 
 /// Lowers what is claimed where a command is entered to what is known there, where any run comes.

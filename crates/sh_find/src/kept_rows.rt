@@ -10,18 +10,13 @@ use sh_domain::{Facts, NumberSet, RowId, Rows};
 use sh_rows::BitRow;
 use std::alloc::AllocError;
 
-/// The places of rows are 32 bits long, and facts take two.
-const MOST_ROWS: usize = 0xffff_fffe;
-
 // The place of a row of these numbers, which is added where there is none.
 fn intern(rows: &mut Rows, probe: &mut BitRow, numbers: &NumberSet) -> Result<RowId, AllocError>
-    requires room { length rows.old.rows < 2 ^ 32 }
     requires probed { probe.old.count ≡ rows.old.count }
     requires below { (k : ℕ) → numbers_of numbers.now k ≡ true → k < rows.old.count }
     ensures found { IfOk result (λ id. (k : ℕ) → holds_at rows.new.rows id.index k ≡ numbers_of numbers.now k) }
     ensures known { IfOk result (λ id. id.index < length rows.new.rows) }
     ensures stay { Stay rows.old.rows rows.new.rows }
-    ensures more { length rows.new.rows ≤ length rows.old.rows + 1 }
     ensures count { rows.new.count ≡ rows.old.count }
     ensures probed { probe.new.count ≡ probe.old.count }
 {
@@ -33,7 +28,7 @@ fn intern(rows: &mut Rows, probe: &mut BitRow, numbers: &NumberSet) -> Result<Ro
 ///
 /// # Errors
 ///
-/// Where a growth was refused, or no place for a row is left.
+/// If a growth was refused.
 pub fn keep(rows: &mut Rows, probe: &mut BitRow, sight: &Sight) -> Result<Facts, AllocError>
     requires probed { probe.old.count ≡ rows.old.count }
     requires named { IsNamed rows.old.count (sight_facts sight.now) }
@@ -43,9 +38,6 @@ pub fn keep(rows: &mut Rows, probe: &mut BitRow, sight: &Sight) -> Result<Facts,
     ensures placed { IfOk result (λ f. IsPlaced (length rows.new.rows) f) }
     ensures facts { IfOk result (λ f. fact_of rows.new.rows f ≡ sight_facts sight.now) }
 {
-    if rows.len() > MOST_ROWS {
-        return Err(AllocError);
-    }
     let vars = intern(rows, probe, &sight.vars)?;
     let functions = intern(rows, probe, &sight.functions)?;
     Ok(Facts::Known {

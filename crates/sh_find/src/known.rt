@@ -11,7 +11,7 @@ ghost use Rattle.sh_domain.specs.Table.{behind_words};
 ghost use Rattle.sh_domain.specs.Views as views;
 ghost use Rattle.sh_domain.specs.Views.{After, Seen, at, gaining, gaining_names};
 ghost use Rattle.sh_demands.specs.Knowing.{action_gains};
-ghost use Rattle.sh_find.specs.Sweeps.{IsPassed, IsReady, Knows, KnowsBehind, known_behind};
+ghost use Rattle.sh_find.specs.Sweeps.{ArePassed, IsPassed, IsReady, Knows, KnowsBehind, known_behind};
 
 use crate::subject::Subject;
 use sh_demands::Known;
@@ -34,6 +34,24 @@ pub fn before_of(subject: &Subject<'_>, certificate: &Certificate, number: u32) 
     let claims = subject.claims(certificate);
     let entered = claims.before(number);
     entered
+}
+
+/// After a command, if its status is zero.
+pub fn zero_of(subject: &Subject<'_>, certificate: &Certificate, number: u32) -> Knowledge
+    requires { (probed : ℕ) × IsReady subject.now certificate.now probed }
+    ensures { Knows subject.now (at (views.AfterZero number)) (knowledge_facts subject.now.names.now result) }
+{
+    let claims = subject.claims(certificate);
+    claims.zero(number)
+}
+
+/// After a command, if its status is another one.
+pub fn nonzero_of(subject: &Subject<'_>, certificate: &Certificate, number: u32) -> Knowledge
+    requires { (probed : ℕ) × IsReady subject.now certificate.now probed }
+    ensures { Knows subject.now (at (views.AfterNonzero number)) (knowledge_facts subject.now.names.now result) }
+{
+    let claims = subject.claims(certificate);
+    claims.nonzero(number)
 }
 
 // Behind redirections.
@@ -263,5 +281,23 @@ pub fn pass_on(subject: &Subject<'_>, certificate: &Certificate, course: &mut Co
 {
     let claims = subject.claims(certificate);
     course.behind.pass_item(&claims, item);
+    course.by = FlowRule::F2;
+}
+
+/// Goes on behind items of a list.
+pub fn pass_all(
+    subject: &Subject<'_>,
+    certificate: &Certificate,
+    course: &mut Course,
+    items: &[Item],
+)
+    requires { (probed : ℕ) × IsReady subject.now certificate.now probed }
+    ensures { ArePassed subject.now course.old course.new items.now }
+{
+    if items.is_empty() {
+        return;
+    }
+    let claims = subject.claims(certificate);
+    course.behind.pass_all(&claims, items);
     course.by = FlowRule::F2;
 }

@@ -4,11 +4,11 @@
 
 mod asked;
 mod before;
+mod bodies;
 mod choices;
 mod claims;
 mod draft;
 mod first;
-mod functions;
 mod gather;
 mod inner;
 mod kept;
@@ -18,6 +18,7 @@ pub mod laws;
 mod lower;
 mod own;
 mod place;
+mod rounds;
 mod search;
 mod sides;
 mod sight;
@@ -26,6 +27,7 @@ mod spot;
 mod subject;
 mod sweep;
 mod turn;
+mod wakes;
 mod words;
 mod writable;
 

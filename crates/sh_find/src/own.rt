@@ -13,11 +13,12 @@ ghost use Rattle.sh_find.specs.Turns.{AreNumbers, Stands, gathered_of};
 use crate::before::{lower_at, lower_before};
 use crate::draft::Draft;
 use crate::gather::{Gather, Target};
-use crate::kept::facts_at;
+use crate::kept::{drops_of, facts_at};
 use crate::place::{Part, Place};
 use crate::sides::Sides;
 use crate::subject::Subject;
 use crate::turn::lower_gathered;
+use crate::wakes::note_lowered;
 use sh_domain::{Certificate, Facts, FlowRule, Knowledge, is_loop};
 use sh_rules::{Around, Asked, tell_command};
 use sh_tree::Command;
@@ -100,6 +101,7 @@ fn lower_once(
     ensures swept { IfOk result (λ answer. IsSwept subject.now draft.old.certificate draft.new.certificate draft.new.probe.count) }
 {
     let is_first = is_unentered(&*draft, target.place);
+    let drops = drops_of(&draft.certificate, target.function);
     let gather = asked_of(
         subject,
         &draft.certificate,
@@ -116,7 +118,7 @@ fn lower_once(
         &mut draft.probe,
         &gather,
     )?;
-    draft.lowered = draft.lowered.saturating_add(u64::from(is_lowered));
+    note_lowered(subject, draft, target, drops, is_lowered)?;
     draft.entered = draft
         .entered
         .saturating_add(u64::from(is_lowered && is_first));
@@ -211,6 +213,8 @@ fn lower_first(subject: &Subject<'_>, draft: &mut Draft, sides: &Sides) -> Resul
     requires stands { (other : Sheet) → Keeps subject.now other → StandsBeside subject.now.names.now other (sided_of sides.now) }
     ensures swept { IfOk result (λ unit. IsSwept subject.now draft.old.certificate draft.new.certificate draft.new.probe.count) }
 {
+    let target = sides.gather.target;
+    let drops = drops_of(&draft.certificate, target.function);
     let is_lowered = lower_gathered(
         subject.names,
         subject.writable,
@@ -218,7 +222,7 @@ fn lower_first(subject: &Subject<'_>, draft: &mut Draft, sides: &Sides) -> Resul
         &mut draft.probe,
         &sides.gather,
     )?;
-    draft.lowered = draft.lowered.saturating_add(u64::from(is_lowered));
+    note_lowered(subject, draft, target, drops, is_lowered)?;
     Ok(())
 }
 

@@ -1,6 +1,9 @@
 //! The search for the greatest certificate.
-ghost use Rattle.std.specs.Prelude.{◌≡◌, ◌≤◌, ℕ, List, Bool, true, length, IfOk, OnOk};
+ghost use Rattle.std.specs.Prelude.{◌≡◌, ◌≤◌, ℕ, List, Bool, true, length, map, IfOk, OnOk};
 ghost use Rattle.std.specs.List.{list_all};
+ghost use Rattle.std.specs.List.Sorted.{IsNonDecreasingBy, IsPermutation};
+ghost use Rattle.sh_tree.specs.Commands.{commands_of};
+ghost use Rattle.sh_tree.specs.declared.tree.Command.{out-Command};
 ghost use Rattle.sh_tree.specs.standard.program.Trees.{script_of};
 ghost use Rattle.sh_domain.specs.Forms.{is_variable};
 ghost use Rattle.sh_domain.specs.Rules.{script_bounds};
@@ -12,51 +15,37 @@ ghost use Rattle.sh_find.specs.Sweeps.{IsReady, IsSwept};
 ghost use Rattle.sh_find.specs.Turns.{IsSettled, sheet_by};
 ghost use Rattle.sh_find.specs.Working.{IsWorking};
 
+use crate::bodies::{sweep_by_rounds, sweep_waiting};
 use crate::draft::Draft;
 use crate::first::unreached;
-use crate::functions::{definitions_of, sweep_often};
 use crate::gather::Target;
 use crate::subject::Subject;
-use crate::sweep::sweep;
 use crate::turn::turn;
 use crate::writable::Writable;
 use sh_domain::{Certificate, Names, Policy};
 use sh_rows::{BitRow, Row};
 use sh_table::CallTable;
 use sh_tree::{Script, commands};
+use sh_worklist::Waiting;
 use std::alloc::{AllocError, Global};
 
 /// How a search sweeps over a script between its turns.
 #[derive(Clone, Copy, Debug, PartialEq, Eq)]
 enum Way {
-    /// Once, from the front to the back.
+    /// By rounds over all commands until one lowers nothing.
     ByRounds,
-    /// As long as something is lowered, at most twice as often each time, and each time over the functions from the last to the first too.
+    /// Over the commands that wait, since something that they look at fell.
     ByNeed,
 }
 
 // Sweeps over the commands of a script between two turns.
-fn sweep_so(
-    subject: &Subject<'_>,
-    draft: &mut Draft,
-    way: Way,
-    times: u32,
-) -> Result<(), AllocError>
+fn sweep_so(subject: &Subject<'_>, draft: &mut Draft, way: Way) -> Result<(), AllocError>
     requires { IsReady subject.now draft.old.certificate draft.old.probe.count }
     ensures { IfOk result (λ unit. IsSwept subject.now draft.old.certificate draft.new.certificate draft.new.probe.count) }
 {
     match way {
-        Way::ByRounds => sweep(subject, draft),
-        Way::ByNeed => sweep_often(subject, draft, times),
-    }
-}
-
-// How often a script is swept over before the first turn: where there are functions, what they need and what they give is known after two times.
-fn first_times(subject: &Subject<'_>) -> u32 {
-    if subject.table.functions().is_empty() {
-        1
-    } else {
-        2
+        Way::ByRounds => sweep_by_rounds(subject, draft),
+        Way::ByNeed => sweep_waiting(subject, draft),
     }
 }
 
@@ -71,11 +60,10 @@ fn settle(subject: &Subject<'_>, draft: &mut Draft, way: Way) -> Result<(), Allo
 {
     let mut target = Target::FIRST;
     let mut kept = false;
-    let mut times: u32 = first_times(subject);
     let commands = subject.table.rows().len() as u64;
     'turns: while !kept {
-        sweep_so(subject, draft, way, times)?;
-        times = times.saturating_mul(2);
+        sweep_so(subject, draft, way)?;
+        draft.waiting.wait_all();
         draft.looks = draft.looks.saturating_add(commands);
         kept = turn(
             subject,
@@ -89,16 +77,17 @@ fn settle(subject: &Subject<'_>, draft: &mut Draft, way: Way) -> Result<(), Allo
 
 // The greatest certificate of a script that is admitted, and how often the flow rules of a command were gone through.
 fn settled(alloc: Global, subject: &Subject<'_>, way: Way) -> Result<(Certificate, u64), AllocError>
-    requires { IsAdmitted subject.now.script.now subject.now.policy.now subject.now.tree.now subject.now.names.now }
+    requires admitted { IsAdmitted subject.now.script.now subject.now.policy.now subject.now.tree.now subject.now.names.now }
+    requires commands { IsPermutation (commands_of subject.now.tree.now) (map (λ c. c.now) subject.now.commands.now) }
+    requires ordered { IsNonDecreasingBy (λ c. (out-Command c.now).number) subject.now.commands.now }
     ensures greatest { IfOk result (λ found. IsGreatest subject.now.script.now subject.now.policy.now subject.now.tree.now subject.now.names.now (sheet_by subject.now.names.now found.0)) }
     ensures sized { IfOk result (λ found. found.0.rows.count ≡ length subject.now.names.now) }
 {
     // Its clause says that each is a name, so all that is known may be written.
     let _declared = subject.policy.names();
-    let commands = commands(alloc, subject.tree)?;
     let count = subject.names.count();
     let functions = subject.table.functions().len();
-    let certificate = unreached(alloc, count, &commands, functions)?;
+    let certificate = unreached(alloc, count, subject.commands, functions)?;
     let probe = BitRow::empty(alloc, count)?;
     let mut draft = Draft {
         certificate,
@@ -106,7 +95,7 @@ fn settled(alloc: Global, subject: &Subject<'_>, way: Way) -> Result<(Certificat
         lowered: 0,
         looks: 0,
         entered: 0,
-        definitions: definitions_of(alloc, subject)?,
+        waiting: Waiting::all(alloc, subject.table)?,
     };
     settle(subject, &mut draft, way)?;
     let looks = draft.looks;
@@ -128,6 +117,7 @@ fn searched(
     ensures greatest { IfOk result (λ found. IsGreatest script.now policy.now tree.now names.now (sheet_of (in_byte_order names.now) found.0)) }
     ensures sized { IfOk result (λ found. found.0.rows.count ≡ length names.now) }
 {
+    let commands = commands(alloc, tree)?;
     let writable = Writable::of(names);
     let subject = Subject {
         script,
@@ -135,6 +125,7 @@ fn searched(
         tree,
         table: calls,
         names,
+        commands: &commands,
         writable: &writable,
     };
     settled(alloc, &subject, way)

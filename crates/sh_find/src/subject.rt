@@ -7,9 +7,9 @@ ghost use Rattle.sh_find.specs.Writable.{HasWritable, IsWritten, sets_in};
 use crate::writable::Writable;
 use sh_domain::{Names, Policy};
 use sh_table::CallTable;
-use sh_tree::Script;
+use sh_tree::{Command, Script};
 
-/// A script, with its policy, its tree, its calls and its names.
+/// A script, with its policy, its tree, its calls, its names and its commands.
 #[derive(Clone, Copy)]
 pub struct Subject<'a> {
     pub script: &'a [u8],
@@ -17,6 +17,8 @@ pub struct Subject<'a> {
     pub tree: &'a Script,
     pub table: &'a CallTable<'a>,
     pub names: &'a Names,
+    /// The commands in the order of their numbers.
+    pub commands: &'a [&'a Command],
     /// The names that a text of its certificates may have.
     pub writable: &'a Writable,
     ghost listed: { table.now ≡ table_of script.now tree.now },

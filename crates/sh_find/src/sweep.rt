@@ -1,5 +1,5 @@
 //! A sweep of the search over the commands of a list: each command is lowered where the sweep comes to it, before those behind it (XCU 2.9).
-ghost use Rattle.std.specs.Prelude.{◌∷◌, ℕ, List, true, IfOk};
+ghost use Rattle.std.specs.Prelude.{◌∷◌, ◌<◌, ◌≤◌, ◌-◌, ℕ, List, true, length, take, drop, IfOk};
 ghost use Rattle.sh_tree.specs.standard.Tree.{text_of};
 ghost use Rattle.sh_tree.specs.declared.tree.Item as tree;
 ghost use Rattle.sh_tree.specs.declared.tree.Link as list_link;
@@ -7,37 +7,40 @@ ghost use Rattle.sh_tree.specs.declared.tree.Pipe as pipeline;
 ghost use Rattle.sh_tree.specs.Lists.{items_from};
 ghost use Rattle.sh_tree.specs.standard.program.Syntax as p;
 ghost use Rattle.sh_tree.specs.standard.program.Trees as trees;
-ghost use Rattle.sh_domain.specs.declared.rule.FlowRule.TheVariants.{F2, F11, F12};
+ghost use Rattle.sh_domain.specs.declared.rule.FlowRule.TheVariants.{F11, F12};
 ghost use Rattle.sh_domain.specs.Entries as entries;
 ghost use Rattle.sh_domain.specs.Entries.{items_after, kind_entered, part_around};
-ghost use Rattle.sh_domain.specs.Facts.{Facts, NotReached};
+ghost use Rattle.sh_domain.specs.Facts.{Facts};
 ghost use Rattle.sh_domain.specs.Knowledge.{knowledge_facts};
 ghost use Rattle.sh_domain.specs.Views.{After, Seen, without_job};
-ghost use Rattle.sh_rules.specs.Behind.{both};
 ghost use Rattle.sh_rules.specs.Walks as walks;
-ghost use Rattle.sh_find.specs.Sweeps.{AreItems, AreLinks, AreParts, IsAndOr, IsCommand, IsInside, IsKind, IsList, IsPart, IsPassed, IsPipe, IsReady, IsSwept, Knows, KnowsBehind, known_behind};
+ghost use Rattle.sh_find.specs.Sweeps.{AreItems, AreLinks, AreParts, ArePassed, IsAndOr, IsCommand, IsInside, IsKind, IsList, IsPart, IsPassed, IsPipe, IsReady, IsSwept, Knows, KnowsBehind, known_behind};
 
 use crate::before::lower_before;
+use crate::bodies::sweep_called;
 use crate::choices::{sweep_case, sweep_cond};
 use crate::draft::Draft;
 use crate::inner::is_in_elements;
 use crate::known::{
-    behind_pipe, entry_of, head_of, inside_of, pass_link, pass_on, process_of, started_in, turn_of,
+    behind_pipe, entry_of, head_of, inside_of, pass_all, pass_link, pass_on, process_of,
+    started_in, turn_of,
 };
-use crate::own::{lower_behind, lower_command, lower_head};
+use crate::own::{lower_behind, lower_command};
+use crate::rounds::sweep_rounds;
 use crate::subject::Subject;
 use crate::words::{sweep_elements, sweep_for_words, sweep_redirections};
 use sh_domain::{FlowRule, Knowledge};
 use sh_rules::walk::{Course, begun};
-use sh_rules::{Around, Behind, alone, in_function};
+use sh_rules::{Around, Behind, alone, in_function, is_settled};
 use sh_tree::{AndOr, Command, Item, Kind, Link, LoopKind, Pipe, Script, Span};
+use sh_worklist::{Look, do_links_wait, does_item_wait, does_pipe_wait, next_place};
 use std::alloc::AllocError;
 
 /// How many levels are gone into: of commands, of parts of words, and of expressions in arithmetic. No script that is read has more, since of 64
 /// levels at most each is a few of these.
 pub const LEVELS: u32 = 2048;
 
-// How many of them are gone into at most where a call is followed.
+// How many of them are gone into at most if a call is followed.
 const CALLS: u32 = 128;
 
 /// Lowers the certificate at each item of a list, and goes on behind the last. So many levels are gone into; what stands further in is left to turns.
@@ -60,19 +63,69 @@ pub fn sweep_items(
     ensures behind { IfOk result (λ unit. (o : After) → KnowsBehind subject.now o (known_behind subject.now course.old.behind)
         → KnowsBehind subject.now (items_after o (items_from subject.now.script.now items.now)) (known_behind subject.now course.new.behind)) }
 {
-    for item in items {
-        sweep_item(subject, draft, levels, around, course, item)?;
+    let mut is_new = true;
+    let mut place = 0;
+    while place < items.len() {
+        let next = pass_idle(subject, &*draft, course, is_new, items, place);
+        is_new = sweep_or_pass(subject, draft, levels, around, course, is_new, &items[next])?;
+        place = next + 1;
     }
     Ok(())
 }
 
-/// Lowers the certificate at the commands of an item, and goes on behind it.
-///
-/// # Errors
-///
-/// Where a growth was refused or no place for a row is left.
+// Goes on behind the items from a place on that do not wait, if nothing is new before them. Gives the
+// place of the next one.
+fn pass_idle(
+    subject: &Subject<'_>,
+    draft: &Draft,
+    course: &mut Course,
+    is_new: bool,
+    items: &[Item],
+    place: usize,
+) -> usize
+    requires ready { IsReady subject.now draft.now.certificate draft.now.probe.count }
+    requires within { place < length items.now }
+    ensures from { place ≤ result }
+    ensures there { result < length items.now }
+    ensures passed { ArePassed subject.now course.old course.new (take (result - place) (drop place items.now)) }
+{
+    if is_new {
+        return place;
+    }
+    let next = next_place(&draft.waiting, items, place);
+    pass_all(subject, &draft.certificate, course, &items[place..next]);
+    next
+}
+
+// Goes on behind an item, and lowers the certificate at its commands if what is known before them is
+// new or one of them waits. Reports whether what is known behind it is new: a hint.
 #[cycle(sweep)]
-pub fn sweep_item(
+fn sweep_or_pass(
+    subject: &Subject<'_>,
+    draft: &mut Draft,
+    levels: u32,
+    around: &Around<'_>,
+    course: &mut Course,
+    is_new: bool,
+    item: &Item,
+) -> Result<bool, AllocError>
+    requires ready { IsReady subject.now draft.old.certificate draft.old.probe.count }
+    requires placed { (others : List tree.Item) × AreItems subject.now course.old.by (walks.around subject.now.script.now around.now) (known_behind subject.now course.old.behind) (item.now ∷ others) }
+    ensures swept { IfOk result (λ is_new. IsSwept subject.now draft.old.certificate draft.new.certificate draft.new.probe.count) }
+    ensures passed { IfOk result (λ is_new. IsPassed subject.now course.old course.new item.now) }
+{
+    if !is_new && !does_item_wait(&draft.waiting, item) {
+        pass_on(subject, &draft.certificate, course, item);
+        return Ok(false);
+    }
+    let before = draft.lowered;
+    sweep_item(subject, draft, levels, around, course, item)?;
+    Ok(draft.lowered != before || (is_new && !is_settled(item)))
+}
+
+// Lowers the certificate at the commands of an item, and goes on behind it.
+#[cycle(sweep)]
+fn sweep_item(
     subject: &Subject<'_>,
     draft: &mut Draft,
     levels: u32,
@@ -151,19 +204,15 @@ fn sweep_and_or(
     requires placed { IsAndOr subject.now by (walks.around subject.now.script.now around.now) (knowledge_facts subject.now.names.now known.now) list.now }
     ensures swept { IfOk result (λ unit. IsSwept subject.now draft.old.certificate draft.new.certificate draft.new.probe.count) }
 {
+    let before = draft.lowered;
     sweep_pipe(subject, draft, levels, by, around, known, &list.first)?;
-    if list.rest.as_slice().is_empty() {
+    let links = list.rest.as_slice();
+    let is_new = draft.lowered != before || list.first.parts.as_slice().len() != 1;
+    if links.is_empty() || (!is_new && !do_links_wait(&draft.waiting, links)) {
         return Ok(());
     }
     let mut behind = behind_pipe(subject, &draft.certificate, known, &list.first);
-    sweep_links(
-        subject,
-        draft,
-        levels,
-        around,
-        &mut behind,
-        list.rest.as_slice(),
-    )
+    sweep_links(subject, draft, levels, around, &mut behind, is_new, links)
 }
 
 #[cycle(sweep)]
@@ -173,16 +222,45 @@ fn sweep_links(
     levels: u32,
     around: &Around<'_>,
     behind: &mut Behind,
+    is_new: bool,
     links: &[(Link, Pipe)],
 ) -> Result<(), AllocError>
     requires ready { IsReady subject.now draft.old.certificate draft.old.probe.count }
     requires placed { AreLinks subject.now (walks.around subject.now.script.now around.now) (known_behind subject.now behind.old) links.now }
     ensures swept { IfOk result (λ unit. IsSwept subject.now draft.old.certificate draft.new.certificate draft.new.probe.count) }
 {
+    let mut is_new = is_new;
     for link in links {
-        sweep_link(subject, draft, levels, around, behind, link)?;
+        is_new = link_or_pass(subject, draft, levels, around, behind, is_new, link)?;
     }
     Ok(())
+}
+
+// As `sweep_or_pass`, of the pipeline behind `&&` or `||`.
+#[cycle(sweep)]
+fn link_or_pass(
+    subject: &Subject<'_>,
+    draft: &mut Draft,
+    levels: u32,
+    around: &Around<'_>,
+    behind: &mut Behind,
+    is_new: bool,
+    link: &(Link, Pipe),
+) -> Result<bool, AllocError>
+    requires ready { IsReady subject.now draft.old.certificate draft.old.probe.count }
+    requires placed { (others : List (list_link.Link × pipeline.Pipe)) × AreLinks subject.now (walks.around subject.now.script.now around.now) (known_behind subject.now behind.old) (link.now ∷ others) }
+    ensures swept { IfOk result (λ is_new. IsSwept subject.now draft.old.certificate draft.new.certificate draft.new.probe.count) }
+    ensures passed { IfOk result (λ is_new. (others : List (list_link.Link × pipeline.Pipe))
+        → AreLinks subject.now (walks.around subject.now.script.now around.now) (known_behind subject.now behind.old) (link.now ∷ others)
+        → AreLinks subject.now (walks.around subject.now.script.now around.now) (known_behind subject.now behind.new) others) }
+{
+    if !is_new && !does_pipe_wait(&draft.waiting, &link.1) {
+        pass_link(subject, &draft.certificate, behind, link);
+        return Ok(false);
+    }
+    let before = draft.lowered;
+    sweep_link(subject, draft, levels, around, behind, link)?;
+    Ok(is_new || draft.lowered != before)
 }
 
 // Lowers the certificate at the pipeline behind `&&` or `||`, and goes on behind it.
@@ -293,13 +371,48 @@ fn sweep_command(
     if levels == 0 {
         return lower_command(subject, draft, by, around, known, command);
     }
-    if is_simple(&command.kind) {
-        return sweep_simple(subject, draft, levels - 1, by, around, known, command);
-    }
-    sweep_compound(subject, draft, levels - 1, by, around, known, command)
+    let look = draft.waiting.look(command.number);
+    let outer = draft.waiting.enter_command(command.number);
+    sweep_looked(subject, draft, levels - 1, by, around, known, command, look)?;
+    draft.waiting.leave(outer);
+    Ok(())
 }
 
-// Lowers the certificate at a simple command, and at those in its words.
+// Lowers the certificate at a command that waited or not, and in it.
+#[cycle(sweep)]
+fn sweep_looked(
+    subject: &Subject<'_>,
+    draft: &mut Draft,
+    levels: u32,
+    by: FlowRule,
+    around: &Around<'_>,
+    known: &Knowledge,
+    command: &Command,
+    look: Look,
+) -> Result<(), AllocError>
+    requires ready { IsReady subject.now draft.old.certificate draft.old.probe.count }
+    requires placed { IsCommand subject.now by (walks.around subject.now.script.now around.now) (knowledge_facts subject.now.names.now known.now) command.now }
+    ensures swept { IfOk result (λ unit. IsSwept subject.now draft.old.certificate draft.new.certificate draft.new.probe.count) }
+{
+    if !known.is_reached() && !look.inner && is_simple(&command.kind) {
+        return Ok(());
+    }
+    let before = draft.lowered;
+    lower_before(subject, draft, known, command)?;
+    let is_new = look.own || draft.lowered != before;
+    if !is_new && !look.inner {
+        return Ok(());
+    }
+    if is_simple(&command.kind) {
+        sweep_simple(subject, draft, levels, by, around, known, command, is_new)
+    } else {
+        sweep_compound(subject, draft, levels, by, around, known, command, is_new)
+    }
+}
+
+// Lowers the certificate at the commands in the words of a simple command, and behind it if something
+// is new. If that enters a function for the first time, it goes on in its bodies, and then behind the
+// command again.
 #[cycle(sweep)]
 fn sweep_simple(
     subject: &Subject<'_>,
@@ -309,86 +422,23 @@ fn sweep_simple(
     around: &Around<'_>,
     known: &Knowledge,
     command: &Command,
+    is_new: bool,
 ) -> Result<(), AllocError>
     requires ready { IsReady subject.now draft.old.certificate draft.old.probe.count }
     requires placed { IsCommand subject.now by (walks.around subject.now.script.now around.now) (knowledge_facts subject.now.names.now known.now) command.now }
     ensures swept { IfOk result (λ unit. IsSwept subject.now draft.old.certificate draft.new.certificate draft.new.probe.count) }
 {
-    if !known.is_reached() {
+    sweep_held(subject, draft, levels, around, command)?;
+    if !is_new || !known.is_reached() {
         return Ok(());
     }
-    lower_before(subject, draft, known, command)?;
-    sweep_held(subject, draft, levels, around, command)?;
     let entered = draft.entered;
     lower_behind(subject, draft, by, around, known, command)?;
-    if draft.entered == entered {
+    if draft.entered == entered || levels < LEVELS - CALLS {
         return Ok(());
     }
-    sweep_called(subject, draft, levels, by, around, known, command)?;
-    Ok(())
-}
-
-// The place of an item that defines the function which a command calls, where calls are followed so far in: a hint.
-fn definition_of(
-    subject: &Subject<'_>,
-    draft: &Draft,
-    levels: u32,
-    command: &Command,
-) -> Option<usize> {
-    if levels < LEVELS - CALLS {
-        return None;
-    }
-    let function = subject.table.callee(command.number)?;
-    let index = (function as usize).checked_sub(1)?;
-    draft.definitions.get(index).copied()
-}
-
-// Lowers the certificate in the function that a command calls, and then behind the command once more.
-#[cycle(sweep)]
-fn sweep_called(
-    subject: &Subject<'_>,
-    draft: &mut Draft,
-    levels: u32,
-    by: FlowRule,
-    around: &Around<'_>,
-    known: &Knowledge,
-    command: &Command,
-) -> Result<(), AllocError>
-    requires ready { IsReady subject.now draft.old.certificate draft.old.probe.count }
-    requires placed { IsCommand subject.now by (walks.around subject.now.script.now around.now) (knowledge_facts subject.now.names.now known.now) command.now }
-    ensures swept { IfOk result (λ unit. IsSwept subject.now draft.old.certificate draft.new.certificate draft.new.probe.count) }
-{
-    let Some(place) = definition_of(subject, &*draft, levels, command) else {
-        return Ok(());
-    };
-    let items = subject.tree.items.as_slice();
-    if place == 0 || place >= items.len() {
-        return Ok(());
-    }
-    sweep_anywhere(subject, draft, levels, &items[place])?;
+    sweep_called(subject, draft, levels, command)?;
     lower_behind(subject, draft, by, around, known, command)?;
-    Ok(())
-}
-
-/// Lowers the certificate at an item that is not the first of the script, whatever is known before it.
-///
-/// # Errors
-///
-/// Where a growth was refused or no place for a row is left.
-#[cycle(sweep)]
-pub fn sweep_anywhere(
-    subject: &Subject<'_>,
-    draft: &mut Draft,
-    levels: u32,
-    item: &Item,
-) -> Result<(), AllocError>
-    requires ready { IsReady subject.now draft.old.certificate draft.old.probe.count }
-    requires placed { (others : List tree.Item) × AreItems subject.now F2 entries.alone (both NotReached) (item.now ∷ others) }
-    ensures swept { IfOk result (λ unit. IsSwept subject.now draft.old.certificate draft.new.certificate draft.new.probe.count) }
-{
-    let outside = alone();
-    let mut course = begun(FlowRule::F2, &Knowledge::NotReached);
-    sweep_item(subject, draft, levels, &outside, &mut course, item)?;
     Ok(())
 }
 
@@ -411,7 +461,7 @@ fn sweep_held(
     sweep_inside(subject, draft, levels, around, command)
 }
 
-// Lowers the certificate at a command: where it is entered, in it, and behind it.
+// Lowers the certificate in a compound command, and behind it if something is new.
 #[cycle(sweep)]
 fn sweep_compound(
     subject: &Subject<'_>,
@@ -421,15 +471,17 @@ fn sweep_compound(
     around: &Around<'_>,
     known: &Knowledge,
     command: &Command,
+    is_new: bool,
 ) -> Result<(), AllocError>
     requires ready { IsReady subject.now draft.old.certificate draft.old.probe.count }
     requires placed { IsCommand subject.now by (walks.around subject.now.script.now around.now) (knowledge_facts subject.now.names.now known.now) command.now }
     ensures swept { IfOk result (λ unit. IsSwept subject.now draft.old.certificate draft.new.certificate draft.new.probe.count) }
 {
-    lower_before(subject, draft, known, command)?;
-    lower_head(subject, draft, by, around, known, command)?;
-    sweep_inside(subject, draft, levels, around, command)?;
-    lower_head(subject, draft, by, around, known, command)?;
+    let before = draft.lowered;
+    sweep_rounds(subject, draft, levels, by, around, known, command)?;
+    if !is_new && draft.lowered == before {
+        return Ok(());
+    }
     lower_behind(subject, draft, by, around, known, command)?;
     Ok(())
 }
@@ -438,9 +490,13 @@ fn is_simple(kind: &Kind) -> bool {
     matches!(kind, Kind::Simple(_))
 }
 
-// Lowers the certificate at the commands in the redirections of a command, and at those in it.
+/// Lowers the certificate at the commands in the redirections of a command, and at those in it.
+///
+/// # Errors
+///
+/// If a growth was refused or no place for a row is left.
 #[cycle(sweep)]
-fn sweep_inside(
+pub fn sweep_inside(
     subject: &Subject<'_>,
     draft: &mut Draft,
     levels: u32,
@@ -488,9 +544,8 @@ fn sweep_kind(
             sweep_list(subject, draft, levels, around, FlowRule::F10, known, list)
         }
         Kind::Subshell(list) => sweep_subshell(subject, draft, levels, number, list),
-        Kind::Define { name, body } => {
-            sweep_definition(subject, draft, levels, *name, body.get())
-        }
+        // A body is a unit of its own.
+        Kind::Define { .. } => Ok(()),
         _ => sweep_conditional(subject, draft, levels, around, number, known, kind),
     }
 }
@@ -617,8 +672,13 @@ fn sweep_subshell(
     )
 }
 
+/// Lowers the certificate in the body of a function.
+///
+/// # Errors
+///
+/// If a growth was refused or no place for a row is left.
 #[cycle(sweep)]
-fn sweep_definition(
+pub fn sweep_definition(
     subject: &Subject<'_>,
     draft: &mut Draft,
     levels: u32,
@@ -691,27 +751,4 @@ fn sweep_for(
     let inner = (&*around).in_loop(number);
     let turn = turn_of(subject, &draft.certificate, number, name);
     sweep_list(subject, draft, levels, &inner, FlowRule::F8, &turn, body)
-}
-
-/// Lowers a certificate command by command, each where the sweep comes to it, with what is known there then. A sweep is a hint: its clause holds of one
-/// that lowers nothing too, and what it leaves is lowered by the turns between sweeps, which also tell whether all flow rules are kept.
-///
-/// # Errors
-///
-/// Where a growth was refused or no place for a row is left.
-pub fn sweep(subject: &Subject<'_>, draft: &mut Draft) -> Result<(), AllocError>
-    requires { IsReady subject.now draft.old.certificate draft.old.probe.count }
-    ensures { IfOk result (λ unit. IsSwept subject.now draft.old.certificate draft.new.certificate draft.new.probe.count) }
-{
-    let start = Knowledge::start(subject.names, subject.policy);
-    let mut course = begun(FlowRule::F1, &start);
-    let outside = alone();
-    sweep_items(
-        subject,
-        draft,
-        LEVELS,
-        &outside,
-        &mut course,
-        subject.tree.items.as_slice(),
-    )
 }

@@ -8,10 +8,10 @@ use std::test::Fail;
 
 /// How many functions there are.
 const FUNCTIONS: u32 = 200;
-/// Nine for each of the 601 commands.
-const MOST_LOOKS: u64 = 5_409;
-/// Eight for each of the 620 commands.
-const MOST_LOOKS_IN_TURN: u64 = 4_960;
+/// Six for each of the 601 commands.
+const MOST_LOOKS: u64 = 3_606;
+/// Six for each of the 620 commands.
+const MOST_LOOKS_IN_TURN: u64 = 3_720;
 
 /// A script of so many functions that each call the next, of which the first is called.
 fn calls(alloc: Global, count: u32) -> Result<String, AllocError> {

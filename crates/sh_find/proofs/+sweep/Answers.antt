@@ -1,3 +1,4 @@
+mod Bodies
 mod Choices
 mod Words
 use Rattle.std.proofs.Common.{rules as std_rules, arith, ap, length, true, ◌≡◌, ◌<◌, ◌≤◌, ◌+◌, ◌∷◌, ◌++◌, ◌∙◌, [], ℕ, List, drop, refl, sym, subst}
@@ -29,10 +30,11 @@ use Rattle.sh_rules.specs.Walks as walks
 use Rattle.sh_rules.specs.Walks.{facts_in}
 use Rattle.sh_rules.proofs.LedLemmas.{turns_led}
 use Rattle.sh_find.specs.Sweeps.{AreBranches, AreClauses, AreElements, AreItems, AreLinks, AreParts, Gained, IsAndOr, IsCommand, IsIn, IsInside, IsKind, IsList, IsPart, IsPipe, IsReady, IsWord, Knows, known_behind, setting_by}
-use Rattle.sh_find.proofs.PlacedLemmas.{at_index, background_placed, begun_at, body_placed, branch_body, branch_condition, branches_next, branches_placed, case_placed, clause_list, clauses_next, clauses_placed, command_placed, condition_placed, definition_placed, else_placed, for_placed, foreground_placed, goes_last, goes_next, GoesOn, group_placed, inside_placed, item_placed, items_next, known_after, link_placed, links_next, links_placed, long_placed, parts_next, pipe_placed, short_placed, subshell_placed}
+use Rattle.sh_find.proofs.PlacedLemmas.{at_index, background_placed, begun_at, body_placed, branch_body, branch_condition, branches_next, branches_placed, case_placed, clause_list, clauses_next, clauses_placed, command_placed, condition_placed, definition_placed, else_placed, for_placed, foreground_placed, goes_last, goes_next, GoesOn, group_placed, inside_placed, items_next, known_after, link_placed, links_next, links_placed, long_placed, next_goes, next_item, parts_next, pipe_placed, short_placed, subshell_placed}
 use Rattle.sh_find.proofs.SweepLemmas.{knows_follow, names_numbered, ready_again, stands_of, swept_more, swept_none}
 use Rattle.sh_find.proofs.WordLemmas.{Along, along_first, along_no_operands, along_no_parts, along_operands, along_parts, arithmetic_gained, arithmetic_placed, assigned_gained, assigned_placed, both_gained, case_word, chain_first, chain_gained, chain_rest, choice_condition, choice_gained, choice_no, choice_yes, clause_patterns, double_gained, double_placed, element_as, elements_first, elements_placed, expanded_gained, expanded_placed, expansion_gained, expansion_placed, expression_as, expression_gained, file_gained, file_placed, for_words_placed, gained_nowhere, here_gained, here_placed, if_ok, kind_as, kind_placed, link_expression, listed_placed, literal_gained, nothing_gained, operand_inside, operand_next, operand_placed, operands_next, parenthesis_gained, parenthesis_placed, part_as, part_gained, part_placed, pattern_placed, patterns_next, pieces_next, plain_gained, redirect_placed, redirection_next, redirection_placed, redirections_placed, redirects_next, remove_placed, signed_gained, signed_placed, substitution_placed, use_gained, use_placed, value_next, value_placed, word_placed, words_next}
 use Rattle.sh_find.proofs.+sweep.Goals as goal
+use Rattle.sh_find.proofs.+sweep.Answers.Bodies as bodies
 use Rattle.sh_find.proofs.+sweep.Answers.Choices as choices
 use Rattle.sh_find.proofs.+sweep.Answers.Words as words
 
@@ -84,8 +86,8 @@ sweep::sweep_and_or-sweep_links-requires t c =
     let r = c.requires.ready in
     let y = walks.around s.script.now c.args.around.now in
     let ready : IsReady s c.sweep_pipe.new.draft.certificate c.sweep_pipe.new.draft.probe.count = ready_again s _ _ _ _ r c.in_ok-sweep_pipe.ensures.swept in
-    let placed : AreLinks s y (known_behind s c.behind_pipe-behind.result) c.as_slice.result.now =
-    subst (AreLinks s y (known_behind s c.behind_pipe-behind.result)) (sym c.as_slice.ensures)
+    let placed : AreLinks s y (known_behind s c.behind_pipe-behind.result) c.as_slice-links.result.now =
+    subst (AreLinks s y (known_behind s c.behind_pipe-behind.result)) (sym c.as_slice-links.ensures)
     (links_placed s c.args.by y (knowledge_facts s.names.now c.args.known.now) c.args.list.now (known_behind s c.behind_pipe-behind.result) c.behind_pipe-behind.ensures c.requires.placed) in
     search std_rules
 
@@ -122,36 +124,6 @@ choices::sweep_body-sweep_items-requires = choices.sweep_body-sweep_items-requir
 pub choices::sweep_body-returns-clause-passed : goal.choices::sweep_body-returns-clause-passed
 choices::sweep_body-returns-clause-passed = choices.sweep_body-returns-clause-passed
 
-pub sweep::sweep_compound-sweep_inside-requires : goal.sweep::sweep_compound-sweep_inside-requires
-sweep::sweep_compound-sweep_inside-requires t c =
-    let s = c.args.subject.now in
-    let r = c.requires.ready in
-    let y = walks.around s.script.now c.args.around.now in
-    let ready : IsReady s c.lower_head.new.draft.certificate c.lower_head.new.draft.probe.count = ready_again s _ _ _ _ (ready_again s _ _ _ _ r c.in_ok-lower_before.ensures.swept) c.in_ok-lower_head.ensures.swept in
-    let placed : IsInside s y c.args.command.now = inside_placed s c.args.by y (knowledge_facts s.names.now c.args.known.now) c.args.command.now c.requires.placed in
-    search std_rules
-
-pub sweep::sweep_compound-lower_head-requires-2-clause-ready : goal.sweep::sweep_compound-lower_head-requires-2-clause-ready
-sweep::sweep_compound-lower_head-requires-2-clause-ready t c =
-    let s = c.args.subject.now in
-    let r = c.requires.ready in
-    ready_again s _ _ _ _ (ready_again s _ _ _ _ (ready_again s _ _ _ _ r c.in_ok-lower_before.ensures.swept) c.in_ok-lower_head.ensures.swept) c.in_ok-sweep_inside.ensures.swept
-
-pub sweep::sweep_compound-lower_behind-requires-clause-ready : goal.sweep::sweep_compound-lower_behind-requires-clause-ready
-sweep::sweep_compound-lower_behind-requires-clause-ready t c =
-    let s = c.args.subject.now in
-    let r = c.requires.ready in
-    ready_again s _ _ _ _ (ready_again s _ _ _ _ (ready_again s _ _ _ _ (ready_again s _ _ _ _ r c.in_ok-lower_before.ensures.swept) c.in_ok-lower_head.ensures.swept) c.in_ok-sweep_inside.ensures.swept) c.in_ok-lower_head-2.ensures.swept
-
-pub sweep::sweep_compound-returns : goal.sweep::sweep_compound-returns
-sweep::sweep_compound-returns t c =
-    let s = c.args.subject.now in
-    record {
-      swept = swept_more s _ _ _ _ _
-          (swept_more s _ _ _ _ _ (swept_more s _ _ _ _ _ (swept_more s _ _ _ _ _ c.in_ok-lower_before.ensures.swept c.in_ok-lower_head.ensures.swept) c.in_ok-sweep_inside.ensures.swept) c.in_ok-lower_head-2.ensures.swept)
-          c.in_ok-lower_behind.ensures.swept;
-    }
-
 pub choices::sweep_cond-sweep_list-requires : goal.choices::sweep_cond-sweep_list-requires
 choices::sweep_cond-sweep_list-requires = choices.sweep_cond-sweep_list-requires
 
@@ -177,35 +149,6 @@ sweep::sweep_for-sweep_list-requires t c =
     (for_placed s y c.args.number w.0 k (text_of s.script.now c.args.name) w.1 (script_of s.script.now c.args.body.now) w.2 c.turn_of-turn.ensures) in
     search std_rules
 
-pub sweep::sweep_items-sweep_item-requires : goal.sweep::sweep_items-sweep_item-requires
-sweep::sweep_items-sweep_item-requires t c =
-    let s = c.args.subject.now in
-    let r = c.requires.ready in
-    let y = walks.around s.script.now c.args.around.now in
-    let ready : IsReady s c.loop-item.draft.certificate c.loop-item.draft.probe.count = ready_again s _ _ _ _ r c.loop-item.invariant.swept in
-    let here : AreItems s c.loop-item.course.by y (known_behind s c.loop-item.course.behind) (c.item-item.result ∷ drop (c.loop-item.item-index + 1) c.args.items.now) = subst (AreItems s c.loop-item.course.by y (known_behind s c.loop-item.course.behind)) (at_index c.args.items.now c.loop-item.item-index c.item-item.result c.loop-item-test.true c.item-item.is) c.loop-item.invariant.placed in
-    let placed : (others : List Item) × AreItems s c.loop-item.course.by y (known_behind s c.loop-item.course.behind) (c.item-item.result ∷ others) = (_, here) in
-    search std_rules
-
-pub sweep::sweep_items-loop-item-preserved : goal.sweep::sweep_items-loop-item-preserved
-sweep::sweep_items-loop-item-preserved t c =
-    let s = c.args.subject.now in
-    let y = walks.around s.script.now c.args.around.now in
-    let here : AreItems s c.loop-item.course.by y (known_behind s c.loop-item.course.behind) (c.item-item.result ∷ drop (c.loop-item.item-index + 1) c.args.items.now) = subst (AreItems s c.loop-item.course.by y (known_behind s c.loop-item.course.behind)) (at_index c.args.items.now c.loop-item.item-index c.item-item.result c.loop-item-test.true c.item-item.is) c.loop-item.invariant.placed in
-    record {
-      swept = swept_more s _ _ _ _ _ c.loop-item.invariant.swept c.in_ok-sweep_item.ensures.swept;
-      placed = items_next s y c.loop-item.course c.sweep_item.new.course c.item-item.result _ here c.in_ok-sweep_item.ensures.passed;
-      goes = λ o k. goes_next s o c.loop-item.course c.sweep_item.new.course c.args.items.now c.item-item.result _
-          (subst (GoesOn s o (known_behind s c.loop-item.course.behind) c.args.items.now) (at_index c.args.items.now c.loop-item.item-index c.item-item.result c.loop-item-test.true c.item-item.is) (c.loop-item.invariant.goes o k)) c.in_ok-sweep_item.ensures.passed;
-    }
-
-pub sweep::sweep_items-returns-clause-behind : goal.sweep::sweep_items-returns-clause-behind
-sweep::sweep_items-returns-clause-behind t c =
-    λ o k.
-    let s = c.args.subject.now in
-    goes_last s o (known_behind s c.loop-item.course.behind) c.args.items.now
-    (subst (GoesOn s o (known_behind s c.loop-item.course.behind) c.args.items.now) (drop_all c.loop-item.item-index c.args.items.now c.loop-item-test.false) (c.loop-item.invariant.goes o k))
-
 pub sweep::sweep_link-sweep_pipe-requires : goal.sweep::sweep_link-sweep_pipe-requires
 unfolding facts_in
 sweep::sweep_link-sweep_pipe-requires t c =
@@ -223,23 +166,6 @@ sweep::sweep_link-returns-clause-passed t c =
     let s = c.args.subject.now in
     let y = walks.around s.script.now c.args.around.now in
     links_next s y (known_behind s c.args.behind.now) _ c.args.link.now others c.pass_link.ensures here
-
-pub sweep::sweep_links-sweep_link-requires : goal.sweep::sweep_links-sweep_link-requires
-sweep::sweep_links-sweep_link-requires t c =
-    let s = c.args.subject.now in
-    let r = c.requires.ready in
-    let y = walks.around s.script.now c.args.around.now in
-    let ready : IsReady s c.loop-link.draft.certificate c.loop-link.draft.probe.count = ready_again s _ _ _ _ r c.loop-link.invariant.swept in
-    let here : AreLinks s y (known_behind s c.loop-link.behind) (c.link-item.result ∷ drop (c.loop-link.link-index + 1) c.args.links.now) = subst (AreLinks s y (known_behind s c.loop-link.behind)) (at_index c.args.links.now c.loop-link.link-index c.link-item.result c.loop-link-test.true c.link-item.is) c.loop-link.invariant.placed in
-    let placed : (others : List (Link × Pipe)) × AreLinks s y (known_behind s c.loop-link.behind) (c.link-item.result ∷ others) = (_, here) in
-    search std_rules
-
-pub sweep::sweep_links-loop-link-preserved : goal.sweep::sweep_links-loop-link-preserved
-sweep::sweep_links-loop-link-preserved t c =
-    let s = c.args.subject.now in
-    let y = walks.around s.script.now c.args.around.now in
-    let here : AreLinks s y (known_behind s c.loop-link.behind) (c.link-item.result ∷ drop (c.loop-link.link-index + 1) c.args.links.now) = subst (AreLinks s y (known_behind s c.loop-link.behind)) (at_index c.args.links.now c.loop-link.link-index c.link-item.result c.loop-link-test.true c.link-item.is) c.loop-link.invariant.placed in
-    record { swept = swept_more s _ _ _ _ _ c.loop-link.invariant.swept c.in_ok-sweep_link.ensures.swept; placed = c.in_ok-sweep_link.ensures.passed _ here }
 
 pub sweep::sweep_list-sweep_items-requires : goal.sweep::sweep_list-sweep_items-requires
 unfolding facts_in
@@ -387,17 +313,6 @@ sweep::sweep_kind-sweep_subshell-requires t c =
     let placed : (z : Around) × (r : Seen) × IsPart s (entries.kind_entered z c.args.number r (p.Subshell (script_of s.script.now c.in-Subshell.list))) = (y, here.seen, here.part) in
     search std_rules
 
-pub sweep::sweep_kind-sweep_definition-requires : goal.sweep::sweep_kind-sweep_definition-requires
-sweep::sweep_kind-sweep_definition-requires t c =
-    let s = c.args.subject.now in
-    let r = c.requires.ready in
-    let y = walks.around s.script.now c.args.around.now in
-    let k = knowledge_facts s.names.now c.args.known.now in
-    let here = kind_as s y c.args.number k c.args.kind.now _ _ c.in-Define.is (program.kind_of-Define s.script.now c.in-Define.name _) c.requires.placed in
-    let placed : (z : Around) × (n : ℕ) × (r : Seen) × IsPart s (entries.kind_entered z n r (p.Define (text_of s.script.now c.in-Define.name) (trees.command_of s.script.now c.get.result.now))) =
-    (y, c.args.number, here.seen, subst (λ b. IsPart s (entries.kind_entered y c.args.number here.seen (p.Define (text_of s.script.now c.in-Define.name) (trees.command_of s.script.now b)))) (sym c.get.ensures) here.part) in
-    search std_rules
-
 pub sweep::sweep_conditional-sweep_cond-requires : goal.sweep::sweep_conditional-sweep_cond-requires
 sweep::sweep_conditional-sweep_cond-requires t c =
     let s = c.args.subject.now in
@@ -477,15 +392,6 @@ sweep::sweep_inside-sweep_kind-requires t c =
     let k = knowledge_facts s.names.now c.inside_of-inside.result in
     let ready : IsReady s c.sweep_redirections.new.draft.certificate c.sweep_redirections.new.draft.probe.count = ready_again s _ _ _ _ r c.in_ok-sweep_redirections.ensures.swept in
     let placed : IsKind s y (out-Command m).number k (out-Command m).kind = kind_placed s y k m c.requires.placed c.inside_of-inside.ensures in
-    search std_rules
-
-pub sweep::sweep_simple-sweep_held-requires : goal.sweep::sweep_simple-sweep_held-requires
-sweep::sweep_simple-sweep_held-requires t c =
-    let s = c.args.subject.now in
-    let r = c.requires.ready in
-    let y = walks.around s.script.now c.args.around.now in
-    let ready : IsReady s c.lower_before.new.draft.certificate c.lower_before.new.draft.probe.count = ready_again s _ _ _ _ r c.in_ok-lower_before.ensures.swept in
-    let placed : IsInside s y c.args.command.now = inside_placed s c.args.by y (knowledge_facts s.names.now c.args.known.now) c.args.command.now c.requires.placed in
     search std_rules
 
 pub choices::sweep_case-pass_word-requires : goal.choices::sweep_case-pass_word-requires
@@ -725,47 +631,155 @@ words::pass_expression-returns-then-levels-eq0-clause-gained = words.pass_expres
 pub choices::sweep_clause-returns-clause-swept : goal.choices::sweep_clause-returns-clause-swept
 choices::sweep_clause-returns-clause-swept = choices.sweep_clause-returns-clause-swept
 
+pub sweep::sweep_items-sweep_or_pass-requires : goal.sweep::sweep_items-sweep_or_pass-requires
+sweep::sweep_items-sweep_or_pass-requires t c =
+    let s = c.args.subject.now in
+    let r = c.requires.ready in
+    let y = walks.around s.script.now c.args.around.now in
+    let is = c.args.items.now in
+    let at = c.loop-place.place in
+    let next = c.pass_idle-next.result in
+    let course = c.pass_idle-next.new.course in
+    let ready : IsReady s c.loop-place.draft.certificate c.loop-place.draft.probe.count = ready_again s _ _ _ _ r c.loop-place.invariant.swept in
+    let here : AreItems s course.by y (known_behind s course.behind) (c.index-items-next.result ∷ drop (next + 1) is) =
+    next_item s y is at next c.index-items-next.result c.pass_idle-next.ensures.from c.pass_idle-next.ensures.there c.index-items-next.is c.loop-place.course course c.loop-place.invariant.placed c.pass_idle-next.ensures.passed in
+    let placed : (others : List Item) × AreItems s course.by y (known_behind s course.behind) (c.index-items-next.result ∷ others) = (_, here) in
+    search std_rules
+
+pub sweep::sweep_items-loop-place-preserved : goal.sweep::sweep_items-loop-place-preserved
+sweep::sweep_items-loop-place-preserved t c =
+    let s = c.args.subject.now in
+    let y = walks.around s.script.now c.args.around.now in
+    let is = c.args.items.now in
+    let at = c.loop-place.place in
+    let next = c.pass_idle-next.result in
+    let course = c.pass_idle-next.new.course in
+    let here : AreItems s course.by y (known_behind s course.behind) (c.index-items-next.result ∷ drop (next + 1) is) =
+    next_item s y is at next c.index-items-next.result c.pass_idle-next.ensures.from c.pass_idle-next.ensures.there c.index-items-next.is c.loop-place.course course c.loop-place.invariant.placed c.pass_idle-next.ensures.passed in
+    record {
+      swept = swept_more s _ _ _ _ _ c.loop-place.invariant.swept c.in_ok-is_new.ensures.swept;
+      placed = items_next s y course c.sweep_or_pass.new.course c.index-items-next.result _ here c.in_ok-is_new.ensures.passed;
+      goes = λ o k. goes_next s o course c.sweep_or_pass.new.course is c.index-items-next.result _
+          (next_goes s o is at next c.index-items-next.result c.pass_idle-next.ensures.from c.pass_idle-next.ensures.there c.index-items-next.is c.loop-place.course course (c.loop-place.invariant.goes o k) c.pass_idle-next.ensures.passed) c.in_ok-is_new.ensures.passed;
+    }
+
+pub sweep::sweep_items-returns-clause-behind : goal.sweep::sweep_items-returns-clause-behind
+sweep::sweep_items-returns-clause-behind t c =
+    λ o k.
+    let s = c.args.subject.now in
+    goes_last s o (known_behind s c.loop-place.course.behind) c.args.items.now
+    (subst (GoesOn s o (known_behind s c.loop-place.course.behind) c.args.items.now) (drop_all c.loop-place.place c.args.items.now c.loop-place-test.false) (c.loop-place.invariant.goes o k))
+
+pub sweep::sweep_links-link_or_pass-requires : goal.sweep::sweep_links-link_or_pass-requires
+sweep::sweep_links-link_or_pass-requires t c =
+    let s = c.args.subject.now in
+    let r = c.requires.ready in
+    let y = walks.around s.script.now c.args.around.now in
+    let ready : IsReady s c.loop-link.draft.certificate c.loop-link.draft.probe.count = ready_again s _ _ _ _ r c.loop-link.invariant.swept in
+    let here : AreLinks s y (known_behind s c.loop-link.behind) (c.link-item.result ∷ drop (c.loop-link.link-index + 1) c.args.links.now) = subst (AreLinks s y (known_behind s c.loop-link.behind)) (at_index c.args.links.now c.loop-link.link-index c.link-item.result c.loop-link-test.true c.link-item.is) c.loop-link.invariant.placed in
+    let placed : (others : List (Link × Pipe)) × AreLinks s y (known_behind s c.loop-link.behind) (c.link-item.result ∷ others) = (_, here) in
+    search std_rules
+
+pub sweep::sweep_links-loop-link-preserved : goal.sweep::sweep_links-loop-link-preserved
+sweep::sweep_links-loop-link-preserved t c =
+    let s = c.args.subject.now in
+    let y = walks.around s.script.now c.args.around.now in
+    let here : AreLinks s y (known_behind s c.loop-link.behind) (c.link-item.result ∷ drop (c.loop-link.link-index + 1) c.args.links.now) = subst (AreLinks s y (known_behind s c.loop-link.behind)) (at_index c.args.links.now c.loop-link.link-index c.link-item.result c.loop-link-test.true c.link-item.is) c.loop-link.invariant.placed in
+    record { swept = swept_more s _ _ _ _ _ c.loop-link.invariant.swept c.in_ok-is_new.ensures.swept; placed = c.in_ok-is_new.ensures.passed _ here }
+
+pub sweep::link_or_pass-returns-then-not-does_pipe_wait-clause-passed : goal.sweep::link_or_pass-returns-then-not-does_pipe_wait-clause-passed
+sweep::link_or_pass-returns-then-not-does_pipe_wait-clause-passed t c =
+    λ others here.
+    let s = c.args.subject.now in
+    let y = walks.around s.script.now c.args.around.now in
+    links_next s y (known_behind s c.args.behind.now) _ c.args.link.now others c.pass_link.ensures here
+
+pub sweep::sweep_simple-sweep_held-requires : goal.sweep::sweep_simple-sweep_held-requires
+sweep::sweep_simple-sweep_held-requires t c =
+    let s = c.args.subject.now in
+    let r = c.requires.ready in
+    let y = walks.around s.script.now c.args.around.now in
+    let placed : IsInside s y c.args.command.now = inside_placed s c.args.by y (knowledge_facts s.names.now c.args.known.now) c.args.command.now c.requires.placed in
+    search std_rules
+
 pub sweep::sweep_simple-sweep_called-requires : goal.sweep::sweep_simple-sweep_called-requires
 sweep::sweep_simple-sweep_called-requires t c =
     let s = c.args.subject.now in
     let r = c.requires.ready in
-    let swept = swept_more s _ _ _ _ _ (swept_more s _ _ _ _ _ c.in_ok-lower_before.ensures.swept c.in_ok-sweep_held.ensures.swept) c.in_ok-lower_behind.ensures.swept in
-    let ready : IsReady s c.lower_behind.new.draft.certificate c.lower_behind.new.draft.probe.count = ready_again s _ _ _ _ r swept in
+    let ready : IsReady s c.lower_behind.new.draft.certificate c.lower_behind.new.draft.probe.count = ready_again s _ _ _ _ r (swept_more s _ _ _ _ _ c.in_ok-sweep_held.ensures.swept c.in_ok-lower_behind.ensures.swept) in
     search std_rules
 
-pub sweep::sweep_simple-returns-then-draft-entered : goal.sweep::sweep_simple-returns-then-draft-entered
-sweep::sweep_simple-returns-then-draft-entered t c =
+pub sweep::sweep_simple-lower_behind-requires-2-clause-ready : goal.sweep::sweep_simple-lower_behind-requires-2-clause-ready
+sweep::sweep_simple-lower_behind-requires-2-clause-ready t c =
     let s = c.args.subject.now in
-    record { swept = swept_more s _ _ _ _ _ (swept_more s _ _ _ _ _ c.in_ok-lower_before.ensures.swept c.in_ok-sweep_held.ensures.swept) c.in_ok-lower_behind.ensures.swept }
+    ready_again s _ _ _ _ c.requires.ready (swept_more s _ _ _ _ _ (swept_more s _ _ _ _ _ c.in_ok-sweep_held.ensures.swept c.in_ok-lower_behind.ensures.swept) c.in_ok-sweep_called.ensures.swept)
 
 pub sweep::sweep_simple-returns : goal.sweep::sweep_simple-returns
 sweep::sweep_simple-returns t c =
     let s = c.args.subject.now in
-    record { swept = swept_more s _ _ _ _ _ (swept_more s _ _ _ _ _ (swept_more s _ _ _ _ _ c.in_ok-lower_before.ensures.swept c.in_ok-sweep_held.ensures.swept) c.in_ok-lower_behind.ensures.swept) c.in_ok-sweep_called.ensures.swept }
+    record { swept = swept_more s _ _ _ _ _ (swept_more s _ _ _ _ _ (swept_more s _ _ _ _ _ c.in_ok-sweep_held.ensures.swept c.in_ok-lower_behind.ensures.swept) c.in_ok-sweep_called.ensures.swept) c.in_ok-lower_behind-2.ensures.swept }
 
-pub sweep::sweep_called-sweep_anywhere-requires : goal.sweep::sweep_called-sweep_anywhere-requires
-sweep::sweep_called-sweep_anywhere-requires t c =
+pub sweep::sweep_compound-returns : goal.sweep::sweep_compound-returns
+sweep::sweep_compound-returns t c =
     let s = c.args.subject.now in
-    let r = c.requires.ready in
-    let past = c.if-place-eq0.false in
-    let placed : (others : List Item) × AreItems s F2 entries.alone (both NotReached) (c.index-items-place.result ∷ others) =
-    item_placed s c.as_slice-items.result.now c.in-Some.place c.index-items-place.result c.as_slice-items.ensures (omega arith) c.if-place-items.false c.index-items-place.is in
-    search std_rules
+    record { swept = swept_more s _ _ _ _ _ c.in_ok-sweep_rounds.ensures.swept c.in_ok-lower_behind.ensures.swept }
 
-pub sweep::sweep_called-returns : goal.sweep::sweep_called-returns
-sweep::sweep_called-returns t c = record { swept = swept_more c.args.subject.now _ _ _ _ _ c.in_ok-sweep_anywhere.ensures.swept c.in_ok-lower_behind.ensures.swept }
+pub sweep::sweep_simple-returns-then-draft-entered : goal.sweep::sweep_simple-returns-then-draft-entered
+sweep::sweep_simple-returns-then-draft-entered t c = record { swept = swept_more c.args.subject.now _ _ _ _ _ c.in_ok-sweep_held.ensures.swept c.in_ok-lower_behind.ensures.swept }
 
-pub sweep::sweep_anywhere-sweep_item-requires : goal.sweep::sweep_anywhere-sweep_item-requires
-unfolding facts_in knowledge_facts
-sweep::sweep_anywhere-sweep_item-requires t c =
-    let s = c.args.subject.now in
-    let r = c.requires.ready in
-    let at = c.begun-course.result in
-    let is = c.args.item.now ∷ c.requires.placed.0 in
-    let known : known_behind s at.behind ≡ both NotReached = c.begun-course.ensures.behind (setting_by s c.args.draft.now.certificate) in
-    let placed : (others : List Item) × AreItems s at.by (walks.around s.script.now c.alone-outside.result) (known_behind s at.behind) (c.args.item.now ∷ others) = (
-      c.requires.placed.0,
-      subst (λ y. AreItems s at.by y (known_behind s at.behind) is) (sym (c.alone-outside.ensures s.script.now))
-          (subst (λ b. AreItems s at.by entries.alone b is) (sym known) (subst (λ by. AreItems s by entries.alone (both NotReached) is) (sym c.begun-course.ensures.by) c.requires.placed.1)),
-    ) in
-    search std_rules
+pub rounds::sweep_rounds-sweep_inside-requires : goal.rounds::sweep_rounds-sweep_inside-requires
+rounds::sweep_rounds-sweep_inside-requires = bodies.sweep_rounds-sweep_inside-requires
+
+pub rounds::sweep_rounds-lower_head-requires-in-loop-round-clause-ready : goal.rounds::sweep_rounds-lower_head-requires-in-loop-round-clause-ready
+rounds::sweep_rounds-lower_head-requires-in-loop-round-clause-ready = bodies.sweep_rounds-lower_head-requires-in-loop-round-clause-ready
+
+pub rounds::sweep_rounds-loop-round-preserved : goal.rounds::sweep_rounds-loop-round-preserved
+rounds::sweep_rounds-loop-round-preserved = bodies.sweep_rounds-loop-round-preserved
+
+pub rounds::sweep_rounds-returns-then-eq : goal.rounds::sweep_rounds-returns-then-eq
+rounds::sweep_rounds-returns-then-eq = bodies.sweep_rounds-returns-then-eq
+
+pub rounds::sweep_rounds-returns-then-is_once : goal.rounds::sweep_rounds-returns-then-is_once
+rounds::sweep_rounds-returns-then-is_once = bodies.sweep_rounds-returns-then-is_once
+
+pub rounds::sweep_rounds-returns : goal.rounds::sweep_rounds-returns
+rounds::sweep_rounds-returns = bodies.sweep_rounds-returns
+
+pub bodies::sweep_called-definitions-number-items-requires-clause-some : goal.bodies::sweep_called-definitions-number-items-requires-clause-some
+bodies::sweep_called-definitions-number-items-requires-clause-some = bodies.sweep_called-definitions-number-items-requires-clause-some
+
+pub bodies::sweep_called-definitions-number-items-requires-clause-within : goal.bodies::sweep_called-definitions-number-items-requires-clause-within
+bodies::sweep_called-definitions-number-items-requires-clause-within = bodies.sweep_called-definitions-number-items-requires-clause-within
+
+pub bodies::sweep_called-sweep_unseen-requires : goal.bodies::sweep_called-sweep_unseen-requires
+bodies::sweep_called-sweep_unseen-requires = bodies.sweep_called-sweep_unseen-requires
+
+pub bodies::sweep_called-loop-number-preserved : goal.bodies::sweep_called-loop-number-preserved
+bodies::sweep_called-loop-number-preserved = bodies.sweep_called-loop-number-preserved
+
+pub bodies::sweep_function-sweep_defined-requires : goal.bodies::sweep_function-sweep_defined-requires
+bodies::sweep_function-sweep_defined-requires = bodies.sweep_function-sweep_defined-requires
+
+pub bodies::sweep_defined-sweep_body-requires : goal.bodies::sweep_defined-sweep_body-requires
+bodies::sweep_defined-sweep_body-requires = bodies.sweep_defined-sweep_body-requires
+
+pub bodies::sweep_body-sweep_definition-requires : goal.bodies::sweep_body-sweep_definition-requires
+bodies::sweep_body-sweep_definition-requires = bodies.sweep_body-sweep_definition-requires
+
+pub bodies::sweep_body-lower_return-requires-clause-ready : goal.bodies::sweep_body-lower_return-requires-clause-ready
+bodies::sweep_body-lower_return-requires-clause-ready = bodies.sweep_body-lower_return-requires-clause-ready
+
+pub bodies::sweep_body-lower_return-requires-clause-stands : goal.bodies::sweep_body-lower_return-requires-clause-stands
+bodies::sweep_body-lower_return-requires-clause-stands = bodies.sweep_body-lower_return-requires-clause-stands
+
+pub bodies::sweep_body-lower_return-requires-2-clause-ready : goal.bodies::sweep_body-lower_return-requires-2-clause-ready
+bodies::sweep_body-lower_return-requires-2-clause-ready = bodies.sweep_body-lower_return-requires-2-clause-ready
+
+pub bodies::sweep_body-lower_return-requires-2-clause-stands : goal.bodies::sweep_body-lower_return-requires-2-clause-stands
+bodies::sweep_body-lower_return-requires-2-clause-stands = bodies.sweep_body-lower_return-requires-2-clause-stands
+
+pub bodies::sweep_body-place_in-other-requires : goal.bodies::sweep_body-place_in-other-requires
+bodies::sweep_body-place_in-other-requires = bodies.sweep_body-place_in-other-requires
+
+pub bodies::sweep_body-returns : goal.bodies::sweep_body-returns
+bodies::sweep_body-returns = bodies.sweep_body-returns

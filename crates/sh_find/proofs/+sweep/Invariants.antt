@@ -1,4 +1,4 @@
-use Rattle.std.proofs.Common.{drop, ◌+◌, ◌*◌}
+use Rattle.std.proofs.Common.{drop, length, ◌+◌, ◌-◌, ◌*◌}
 use Rattle.sh_tree.specs.Lists.{branches_from, clauses_from, elements_from, operands_from, otherwise_from, parts_from, redirects_from, words_from}
 use Rattle.sh_domain.specs.Entries.{operands_entered, patterns_entered, redirects_entered, words_entered}
 use Rattle.sh_domain.specs.Gains.{operands_gains, word_gains}
@@ -12,12 +12,15 @@ use Rattle.sh_find.proofs.+sweep.Given as goal
 
 -- In each loop the certificate was swept so far, and what is left of the list stands behind that.
 
-abbrev pub invariant-sweep::sweep_items-loop-item : goal.invariant-sweep::sweep_items-loop-item
-invariant-sweep::sweep_items-loop-item l = record {
+abbrev pub invariant-sweep::sweep_items-loop-place : goal.invariant-sweep::sweep_items-loop-place
+invariant-sweep::sweep_items-loop-place l = record {
   swept : IsSwept l.subject l.initial.draft.certificate l.draft.certificate l.draft.probe.count;
-  placed : AreItems l.subject l.course.by (walks.around l.subject.script.now l.around) (known_behind l.subject l.course.behind) (drop l.item-index l.items);
-  goes : (o : After) → KnowsBehind l.subject o (known_behind l.subject l.initial.course.behind) → GoesOn l.subject o (known_behind l.subject l.course.behind) l.items (drop l.item-index l.items);
+  placed : AreItems l.subject l.course.by (walks.around l.subject.script.now l.around) (known_behind l.subject l.course.behind) (drop l.place l.items);
+  goes : (o : After) → KnowsBehind l.subject o (known_behind l.subject l.initial.course.behind) → GoesOn l.subject o (known_behind l.subject l.course.behind) l.items (drop l.place l.items);
 }
+
+abbrev pub decreases-sweep::sweep_items-loop-place : goal.decreases-sweep::sweep_items-loop-place
+decreases-sweep::sweep_items-loop-place l = length l.items - l.place
 
 abbrev pub invariant-sweep::sweep_links-loop-link : goal.invariant-sweep::sweep_links-loop-link
 invariant-sweep::sweep_links-loop-link l = record {
@@ -83,7 +86,16 @@ invariant-words::pass_operands-loop-link l = record {
   along : (q : Seen) → Knows l.subject q (knowledge_facts l.subject.names.now l.initial.known) → Along l.subject q (knowledge_facts l.subject.names.now l.known) (operands_gains (operands_from l.subject.script.now l.rest)) (operands_gains (operands_from l.subject.script.now (drop l.link-index l.rest)));
 }
 
+abbrev pub invariant-rounds::sweep_rounds-loop-round : goal.invariant-rounds::sweep_rounds-loop-round
+invariant-rounds::sweep_rounds-loop-round l = record { swept : IsSwept l.subject l.initial.draft.certificate l.draft.certificate l.draft.probe.count }
+
+abbrev pub invariant-bodies::sweep_called-loop-number : goal.invariant-bodies::sweep_called-loop-number
+invariant-bodies::sweep_called-loop-number l = record { swept : IsSwept l.subject l.initial.draft.certificate l.draft.certificate l.draft.probe.count }
+
 -- Each level that is gone into takes one of the levels, and within a level each call is a step further in.
+
+abbrev pub decreases-sweep::sweep_looked : goal.decreases-sweep::sweep_looked
+decreases-sweep::sweep_looked l = l.levels * 64 + 42
 
 abbrev pub decreases-sweep::sweep_simple : goal.decreases-sweep::sweep_simple
 decreases-sweep::sweep_simple l = l.levels * 64 + 40
@@ -91,17 +103,29 @@ decreases-sweep::sweep_simple l = l.levels * 64 + 40
 abbrev pub decreases-sweep::sweep_compound : goal.decreases-sweep::sweep_compound
 decreases-sweep::sweep_compound l = l.levels * 64 + 40
 
-abbrev pub decreases-sweep::sweep_called : goal.decreases-sweep::sweep_called
-decreases-sweep::sweep_called l = l.levels * 64 + 38
+abbrev pub decreases-rounds::sweep_rounds : goal.decreases-rounds::sweep_rounds
+decreases-rounds::sweep_rounds l = l.levels * 64 + 39
 
-abbrev pub decreases-sweep::sweep_anywhere : goal.decreases-sweep::sweep_anywhere
-decreases-sweep::sweep_anywhere l = l.levels * 64 + 36
+abbrev pub decreases-bodies::sweep_called : goal.decreases-bodies::sweep_called
+decreases-bodies::sweep_called l = l.levels * 64 + 39
+
+abbrev pub decreases-bodies::sweep_unseen : goal.decreases-bodies::sweep_unseen
+decreases-bodies::sweep_unseen l = l.levels * 64 + 38
+
+abbrev pub decreases-bodies::sweep_function : goal.decreases-bodies::sweep_function
+decreases-bodies::sweep_function l = l.levels * 64 + 37
 
 abbrev pub decreases-sweep::sweep_held : goal.decreases-sweep::sweep_held
 decreases-sweep::sweep_held l = l.levels * 64 + 38
 
 abbrev pub decreases-sweep::sweep_inside : goal.decreases-sweep::sweep_inside
 decreases-sweep::sweep_inside l = l.levels * 64 + 36
+
+abbrev pub decreases-bodies::sweep_defined : goal.decreases-bodies::sweep_defined
+decreases-bodies::sweep_defined l = l.levels * 64 + 36
+
+abbrev pub decreases-bodies::sweep_body : goal.decreases-bodies::sweep_body
+decreases-bodies::sweep_body l = l.levels * 64 + 35
 
 abbrev pub decreases-sweep::sweep_kind : goal.decreases-sweep::sweep_kind
 decreases-sweep::sweep_kind l = l.levels * 64 + 34
@@ -157,6 +181,9 @@ decreases-sweep::sweep_list l = l.levels * 64 + 20
 abbrev pub decreases-sweep::sweep_items : goal.decreases-sweep::sweep_items
 decreases-sweep::sweep_items l = l.levels * 64 + 18
 
+abbrev pub decreases-sweep::sweep_or_pass : goal.decreases-sweep::sweep_or_pass
+decreases-sweep::sweep_or_pass l = l.levels * 64 + 17
+
 abbrev pub decreases-sweep::sweep_item : goal.decreases-sweep::sweep_item
 decreases-sweep::sweep_item l = l.levels * 64 + 16
 
@@ -210,6 +237,9 @@ decreases-words::pass_action l = l.levels * 64 + 8
 
 abbrev pub decreases-words::open_expression : goal.decreases-words::open_expression
 decreases-words::open_expression l = l.levels * 64 + 8
+
+abbrev pub decreases-sweep::link_or_pass : goal.decreases-sweep::link_or_pass
+decreases-sweep::link_or_pass l = l.levels * 64 + 9
 
 abbrev pub decreases-sweep::sweep_link : goal.decreases-sweep::sweep_link
 decreases-sweep::sweep_link l = l.levels * 64 + 8

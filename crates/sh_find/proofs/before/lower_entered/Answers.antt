@@ -1,19 +1,12 @@
-use Rattle.std.proofs.Common.{Some}
+use Rattle.std.proofs.Common.{Some, subst}
+use Rattle.sh_domain.specs.Facts.{facts}
 use Rattle.sh_domain.specs.Knowledge.{assured_facts}
-use Rattle.sh_find.proofs.BeforeLemmas.{fits_place, named_at, within_place}
-use Rattle.sh_find.proofs.SweepLemmas.{names_numbered}
+use Rattle.sh_domain.specs.Order.{IsWithin}
+use Rattle.sh_find.specs.Places.{claim_there}
+use Rattle.sh_find.proofs.BeforeLemmas.{fits_place}
 use Rattle.sh_find.proofs.before.lower_entered.Goals as goal
 
-pub sight_of-sight-requires : goal.sight_of-sight-requires
-sight_of-sight-requires c = names_numbered c.args.subject.now _ _ c.requires.ready
-
-pub lower_at-requires-clause-named : goal.lower_at-requires-clause-named
-lower_at-requires-clause-named c =
+pub lower_assured-requires-clause-stands : goal.lower_assured-requires-clause-stands
+lower_assured-requires-clause-stands c = λ other keeps.
     let s = c.args.subject.now in
-    named_at s.policy.now s.names.now (assured_facts s.names.now c.args.assured.now) _ c.sight_of-sight.ensures
-
-pub lower_at-requires-clause-stands : goal.lower_at-requires-clause-stands
-lower_at-requires-clause-stands c = λ other keeps.
-    let s = c.args.subject.now in
-    within_place s.names.now other c.in-Some.place _ (assured_facts s.names.now c.args.assured.now) _ (keeps.fit (Some c.in-Some.place)) (fits_place _ c.in-Some.place _ c.in-Some.is c.place_before.ensures)
-    c.sight_of-sight.ensures (c.requires.stands other keeps)
+    subst (λ p. IsWithin (facts (claim_there other (Some p))) (assured_facts s.names.now c.args.assured.now)) (fits_place _ c.in-Some.place _ c.in-Some.is c.place_before.ensures) (c.requires.stands other keeps)

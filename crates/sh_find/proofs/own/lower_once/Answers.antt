@@ -1,5 +1,6 @@
+use Rattle.std.proofs.Common.{ap}
 use Rattle.sh_find.specs.Turns.{gathered_of}
-use Rattle.sh_find.proofs.SweepLemmas.{sunk_swept}
+use Rattle.sh_find.proofs.SweepLemmas.{sunk_swept, swept_same}
 use Rattle.sh_find.proofs.own.lower_once.Goals as goal
 
 pub asked_of-gather-requires-clause-ready : goal.asked_of-gather-requires-clause-ready
@@ -10,6 +11,6 @@ lower_gathered-requires-clause-working c = (c.requires.ready.loops, c.requires.r
 
 pub returns : goal.returns
 returns c = record {
-  swept = sunk_swept c.args.subject.now c.args.draft.now.certificate c.lower_gathered.new.certificate (gathered_of c.asked_of-gather.result) _ c.args.draft.now.probe.count _ c.requires.ready c.in_ok-is_lowered.ensures.sunk
-      c.asked_of-gather.ensures.stands c.in_ok-is_lowered.ensures.probed;
+  swept = swept_same c.args.subject.now _ _ _ _ _ (sunk_swept c.args.subject.now c.args.draft.now.certificate c.lower_gathered.new.certificate (gathered_of c.asked_of-gather.result) _ c.args.draft.now.probe.count _ c.requires.ready c.in_ok-is_lowered.ensures.sunk
+      c.asked_of-gather.ensures.stands c.in_ok-is_lowered.ensures.probed) c.note_lowered.ensures.certificate (ap (λ p. p.count) c.note_lowered.ensures.probe);
 }

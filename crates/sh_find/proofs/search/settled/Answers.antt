@@ -1,4 +1,4 @@
-use Rattle.std.proofs.Common.{rules, ◌≡◌, ℕ, true, length, sym, ap, ◌∙◌, subst, arith}
+use Rattle.std.proofs.Common.{rules, ◌≡◌, ℕ, true, length, refl, sym, ap, ◌∙◌, subst, arith}
 use Rattle.std.specs.List.{list_all}
 use Rattle.std.proofs.lemmas.List.{length-map}
 use Rattle.sh_tree.specs.declared.limits.TheConstants.{MAX_NESTING}
@@ -16,24 +16,24 @@ use Rattle.sh_find.proofs.search.settled.Goals as goal
 pub unreached-requires : goal.unreached-requires
 unreached-requires c =
     let s = c.args.subject.now in
-    let few = few_commands s.script.now s.policy.now s.tree.now s.names.now c.requires c.in_ok-commands.commands.items c.in_ok-commands.ensures.same in
-    let same : length c.deref.result.now ≡ length c.in_ok-commands.commands.items = ap length c.deref.ensures.value in
-    omega (arith, few, same)
+    let few = few_commands s.script.now s.policy.now s.tree.now s.names.now c.requires.admitted s.commands.now c.requires.commands in
+    omega (arith, few)
 
 pub settle-requires-clause-ready : goal.settle-requires-clause-ready
 settle-requires-clause-ready c =
     let s = c.args.subject.now in
-    let loops = loops_of c.deref.result.now in
+    let loops = loops_of s.commands.now in
     let m : ℕ = length c.functions-functions.result.now in
     let working = c.in_ok-certificate.ensures.working s.names.now (sym c.count-count.ensures.count) in
-    let h = numbered s.script.now s.policy.now s.tree.now s.names.now c.requires in
+    let h = numbered s.script.now s.policy.now s.tree.now s.names.now c.requires.admitted in
     record {
-      admitted = c.requires;
+      admitted = c.requires.admitted;
       loops = loops;
       functions = m;
       working = working;
       over = λ other keeps. first_above s.names.now h (functions_in s.script.now s.tree.now) loops m c.in_ok-certificate.certificate working c.in_ok-certificate.ensures.claims c.in_ok-certificate.ensures.drops other;
       probe = omega (arith, c.in_ok-probe.ensures.limit, c.count-count.ensures.count);
+      commands = c.requires.commands;
     }
 
 pub settle-requires-clause-working : goal.settle-requires-clause-working
@@ -43,17 +43,17 @@ settle-requires-clause-working c =
     let same : m ≡ length (functions_in s.script.now s.tree.now) =
     sym (length-map c.functions-functions.result.now _) ∙ ap length c.functions-functions.ensures.names ∙ ap (λ (x : Table). length x.functions.names) s.listed in
     record {
-      loops = loops_of c.deref.result.now;
-      are_loops = record { commands = c.in_ok-commands.commands.items; all = c.in_ok-commands.ensures.same; ordered = c.in_ok-commands.ensures.ordered; each = ap loops_of c.deref.ensures.value };
-      working = subst (λ n. IsWorking s.names.now (loops_of c.deref.result.now) n c.in_ok-certificate.certificate) same (c.in_ok-certificate.ensures.working s.names.now (sym c.count-count.ensures.count));
+      loops = loops_of s.commands.now;
+      are_loops = record { commands = s.commands.now; all = c.requires.commands; ordered = c.requires.ordered; each = refl };
+      working = subst (λ n. IsWorking s.names.now (loops_of s.commands.now) n c.in_ok-certificate.certificate) same (c.in_ok-certificate.ensures.working s.names.now (sym c.count-count.ensures.count));
     }
 
 pub settle-requires-clause-variables : goal.settle-requires-clause-variables
 settle-requires-clause-variables c =
     let s = c.args.subject.now in
-    let reading = c.requires.reading.1 in
+    let reading = c.requires.admitted.reading.1 in
     let named : list_all is_name s.policy.now.names ≡ true = search rules in
-    read_names_variables s.script.now s.tree.now s.policy.now s.names.now (MAX_NESTING, reading.0, reading.1) named c.requires.numbered
+    read_names_variables s.script.now s.tree.now s.policy.now s.names.now (MAX_NESTING, reading.0, reading.1) named c.requires.admitted.numbered
 
 pub returns-clause-greatest : goal.returns-clause-greatest
 returns-clause-greatest c =
@@ -61,17 +61,16 @@ returns-clause-greatest c =
     let m : ℕ = length c.functions-functions.result.now in
     let same : m ≡ length (functions_in s.script.now s.tree.now) =
     sym (length-map c.functions-functions.result.now _) ∙ ap length c.functions-functions.ensures.names ∙ ap (λ (x : Table). length x.functions.names) s.listed in
-    let loops = loops_of c.deref.result.now in
-    let are : AreLoops s.tree.now loops = record { commands = c.in_ok-commands.commands.items; all = c.in_ok-commands.ensures.same; ordered = c.in_ok-commands.ensures.ordered; each = ap loops_of c.deref.ensures.value } in
-    let long : length loops ≡ length c.deref.result.now = length-map c.deref.result.now _ in
-    let low : length c.deref.result.now ≡ length c.in_ok-commands.commands.items = ap length c.deref.ensures.value in
-    let few = few_commands s.script.now s.policy.now s.tree.now s.names.now c.requires c.in_ok-commands.commands.items c.in_ok-commands.ensures.same in
+    let loops = loops_of s.commands.now in
+    let are : AreLoops s.tree.now loops = record { commands = s.commands.now; all = c.requires.commands; ordered = c.requires.ordered; each = refl } in
+    let long : length loops ≡ length s.commands.now = length-map s.commands.now _ in
+    let few = few_commands s.script.now s.policy.now s.tree.now s.names.now c.requires.admitted s.commands.now c.requires.commands in
     let working = c.in_ok-certificate.ensures.working s.names.now (sym c.count-count.ensures.count) in
-    is_greatest_of s.script.now s.policy.now s.tree.now s.names.now c.requires loops are m same c.in_ok-certificate.certificate c.settle.new.draft.certificate working c.in_ok-certificate.ensures.claims
-    c.in_ok-certificate.ensures.drops (c.in_ok-settle.ensures loops m working) c.count-count.ensures.distinct (omega (arith, long, low, few)) (omega (arith, c.functions-functions.ensures.few))
+    is_greatest_of s.script.now s.policy.now s.tree.now s.names.now c.requires.admitted loops are m same c.in_ok-certificate.certificate c.settle.new.draft.certificate working c.in_ok-certificate.ensures.claims
+    c.in_ok-certificate.ensures.drops (c.in_ok-settle.ensures loops m working) c.count-count.ensures.distinct (omega (arith, long, few)) (omega (arith, c.functions-functions.ensures.few))
 
 pub returns-clause-sized : goal.returns-clause-sized
 returns-clause-sized c =
     let s = c.args.subject.now in
     let m : ℕ = length c.functions-functions.result.now in
-    (c.in_ok-settle.ensures (loops_of c.deref.result.now) m (c.in_ok-certificate.ensures.working s.names.now (sym c.count-count.ensures.count))).working.count
+    (c.in_ok-settle.ensures (loops_of s.commands.now) m (c.in_ok-certificate.ensures.working s.names.now (sym c.count-count.ensures.count))).working.count

@@ -1,0 +1,3 @@
+mod CallLemmas
+mod FlagLemmas
+mod WaitLemmas

@@ -1,0 +1,170 @@
+//! The commands and the units that wait, since something that they look at fell.
+ghost use Rattle.std.specs.Prelude.{◌≡◌, ◌<◌, ◌≤◌, ◌+◌, ◌==◌, ◌&&◌, ◌||◌, ℕ, true, not, nat_lt, length, slice_set, Some, None, IfOk, OnOk, MatchOption};
+ghost use Rattle.std.specs.Slice.Scan.{HoldsNowhere};
+ghost use Rattle.sh_rows.specs.Numbers.{has_number};
+ghost use Rattle.sh_worklist.specs.Bits.{IsNext};
+ghost use Rattle.sh_worklist.specs.Calls.{callers_in};
+ghost use Rattle.sh_worklist.specs.Flags.{is_in, limit_of};
+ghost use Rattle.sh_worklist.specs.Places.{place_in};
+ghost use Rattle.sh_worklist.specs.Units as bodies;
+ghost use Rattle.sh_worklist.specs.Waiting.{limit, waits, waits_in, waits_inside};
+
+use crate::calls::Calls;
+use crate::commands::{Commands, Inside, Look};
+use crate::units::{Unit, Units};
+use sh_table::CallTable;
+use std::alloc::{AllocError, Global};
+
+/// The commands that wait to be looked at, each at most once, and the units in which they stand.
+#[derive(Drop)]
+pub struct Waiting {
+    commands: Commands,
+    calls: Calls,
+    inside: Inside,
+    pub units: Units,
+}
+
+impl Waiting {
+    /// All commands of a script wait, and all units.
+    ///
+    /// # Errors
+    ///
+    /// If a growth was refused.
+    pub fn all(alloc: Global, table: &CallTable<'_>) -> Result<Waiting, AllocError>
+        ensures { IfOk result (λ waiting. (k : ℕ) → k ≤ length table.now.rows → waits waiting k ≡ true) }
+    {
+        Ok(Waiting {
+            commands: Commands::all(alloc, table.rows().len() + 1)?,
+            calls: Calls::of(alloc, table)?,
+            inside: Inside::OUTSIDE,
+            units: Units::all(alloc, table)?,
+        })
+    }
+
+    /// Has all commands wait, and the units that were gone over.
+    pub fn wait_all(&mut self)
+        ensures { (k : ℕ) → waits self.new k ≡ nat_lt k (limit self.old) }
+    {
+        self.commands.wait_all();
+        self.units.wait_all();
+    }
+
+    /// Whether a command waits, or one inside of it.
+    pub fn has(&self, command: u32) -> bool
+        ensures { result ≡ waits_in self.now command }
+    {
+        self.commands.has(command)
+    }
+
+    /// The least number from one up to another, both included, of a command that waits, or inside of
+    /// which one does.
+    pub fn next(&self, from: u32, to: u32) -> Option<u32>
+        ensures { MatchOption result (HoldsNowhere (waits_in self.now) from (to + 1)) (IsNext (waits_in self.now) from to) }
+    {
+        self.commands.next(from, to)
+    }
+
+    /// A command is looked at, so it waits no longer. Returns whether it waited.
+    pub fn look(&mut self, command: u32) -> Look
+        ensures own { result.own ≡ waits self.old command }
+        ensures inner { result.inner ≡ waits_inside self.old command }
+        ensures taken { (k : ℕ) → waits self.new k ≡ (not (k == command) && waits self.old k) }
+        ensures entered { (k : ℕ) → waits_inside self.new k ≡ (not (k == command) && waits_inside self.old k) }
+        ensures place { self.new.commands.places.items ≡ slice_set self.old.commands.places.items command self.old.inside }
+    {
+        self.commands.look(command, self.inside)
+    }
+
+    /// The sweep goes into a command. Returns where it was.
+    pub fn enter_command(&mut self, command: u32) -> Inside
+        ensures outer { result ≡ self.old.inside }
+        ensures inside { self.new ≡ record self.old { inside = record self.old.inside { command = Some command } } }
+    {
+        let outer = self.inside;
+        self.inside.command = Some(command);
+        outer
+    }
+
+    /// The sweep goes into the body of a definition. Returns where it was.
+    pub fn enter_body(&mut self, definition: u32) -> Inside
+        ensures outer { result ≡ self.old.inside }
+        ensures inside { self.new ≡ record self.old { inside = record { command = None; unit = Unit.Body definition } } }
+    {
+        let outer = self.inside;
+        self.inside = Inside {
+            command: None,
+            unit: Unit::Body(definition),
+        };
+        outer
+    }
+
+    /// The sweep is here again.
+    pub fn leave(&mut self, outer: Inside)
+        ensures { self.new ≡ record self.old { inside = outer } }
+    {
+        self.inside = outer;
+    }
+
+    /// Has a command wait, and the unit that it stands in.
+    ///
+    /// # Errors
+    ///
+    /// If a growth was refused. The command waits then too.
+    pub fn wait(&mut self, command: u32) -> Result<(), AllocError>
+        ensures waits { (k : ℕ) → waits self.new k ≡ ((k == command && nat_lt command (limit self.old)) || waits self.old k) }
+        ensures limit { limit self.new ≡ limit self.old }
+        ensures calls { self.new.calls ≡ self.old.calls }
+        ensures unit { (k : ℕ) → bodies.does_wait self.new.units k ≡ ((not (waits self.old command) && (k == bodies.number_of (place_in self.old.commands.places.items command).unit) && nat_lt k (bodies.limit self.old.units)) || bodies.does_wait self.old.units k) }
+    {
+        wait_one(&mut self.commands, &mut self.units, command)
+    }
+
+    /// Has each command wait that calls the function of an index.
+    ///
+    /// # Errors
+    ///
+    /// If a growth was refused.
+    pub fn wait_calls(&mut self, function: usize) -> Result<(), AllocError>
+        ensures { OnOk result ((k : ℕ) → waits self.new k ≡ ((has_number k (callers_in self.old.calls function) && nat_lt k (limit self.old)) || waits self.old k)) }
+    {
+        let callers = self.calls.callers(function);
+        wait_each(&mut self.commands, &mut self.units, callers)
+    }
+
+    /// Has each of these definitions wait, as units.
+    ///
+    /// # Errors
+    ///
+    /// If a growth was refused.
+    pub fn wait_bodies(&mut self, definitions: &[u32]) -> Result<(), AllocError>
+        ensures commands { self.new.commands ≡ self.old.commands }
+        ensures bodies { OnOk result ((k : ℕ) → bodies.does_wait self.new.units k ≡ ((has_number k definitions.now && nat_lt k (bodies.limit self.old.units)) || bodies.does_wait self.old.units k)) }
+    {
+        for number in definitions {
+            self.units.wait(Unit::Body(*number))?;
+        }
+        Ok(())
+    }
+}
+
+// Has a command wait, and the unit that it stands in.
+fn wait_one(commands: &mut Commands, units: &mut Units, command: u32) -> Result<(), AllocError>
+    ensures waits { (k : ℕ) → is_in commands.new.own k ≡ ((k == command && nat_lt command (limit_of commands.old.own)) || is_in commands.old.own k) }
+    ensures limit { limit_of commands.new.own ≡ limit_of commands.old.own }
+    ensures unit { (k : ℕ) → bodies.does_wait units.new k ≡ ((not (is_in commands.old.own command) && (k == bodies.number_of (place_in commands.old.places.items command).unit) && nat_lt k (bodies.limit units.old)) || bodies.does_wait units.old k) }
+{
+    match commands.wait(command) {
+        Some(unit) => units.wait(unit),
+        None => Ok(()),
+    }
+}
+
+// Has each of these commands wait.
+fn wait_each(commands: &mut Commands, units: &mut Units, numbers: &[u32]) -> Result<(), AllocError>
+    ensures { OnOk result ((k : ℕ) → is_in commands.new.own k ≡ ((has_number k numbers.now && nat_lt k (limit_of commands.old.own)) || is_in commands.old.own k)) }
+{
+    for number in numbers {
+        wait_one(commands, units, *number)?;
+    }
+    Ok(())
+}
