@@ -13,6 +13,7 @@ pub mod SheetLemmas
 pub mod OneGreatestLemmas
 pub mod SingleLemmas
 pub mod ReadLemmas
+pub mod PrintLemmas
 pub mod PassedLemmas
 pub mod WrittenLemmas
 pub mod StartLemmas

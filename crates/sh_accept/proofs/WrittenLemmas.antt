@@ -10,7 +10,7 @@ use Rattle.sh_domain.specs.Sheets.{Sheet, certificate_text}
 use Rattle.sh_domain.specs.declared.limits.TheConstants.{MAX_CERTIFICATE}
 use Rattle.sh_answers.specs.Texts.{answer_text, refusal_text, report_text, forged_text, status_of}
 use Rattle.sh_answers.specs.declared.task.Action.{Action}
-use Rattle.sh_answers.specs.declared.task.Action.TheVariants.{Lint, Cert, Check}
+use Rattle.sh_answers.specs.declared.task.Action.TheVariants.{Lint, Cert, Check, Print}
 use Rattle.sh_answers.specs.declared.verdict.Verdict.{Verdict}
 use Rattle.sh_answers.specs.declared.verdict.Verdict.TheVariants.{Pass, Fail, Forged}
 use Rattle.sh_accept.specs.Answers.{Checks, Lints, Certifies, Refuses, RefusesLong, NoRefusal, IsBest}
@@ -18,6 +18,7 @@ use Rattle.sh_accept.specs.Computed.{Answer, Passes, Finds, Breaks, Tells, shown
 use Rattle.sh_accept.specs.Written as w
 use Rattle.sh_accept.specs.Written.{TellsVerdict, TellsOneAnswer, shown_text, shown_status}
 use Rattle.sh_accept.proofs.AnswerLemmas.{has_one_answer}
+use Rattle.sh_accept.proofs.PrintLemmas.{prints}
 use Rattle.sh_accept.proofs.ReadLemmas.{known}
 use Rattle.sh_accept.proofs.SingleLemmas.{has_one_greatest, best_read, not_both, of_error, one, same_refusal}
 
@@ -150,6 +151,9 @@ module _ (b : List ℕ) (d : Declared) (t : Script) (reading : Parses b (Ok t)) 
   tells_one Check certificate text other status another h k =
       let x = known b d t reading in
       verdicts (Checks b d certificate) b text other status another (λ y z. has_one_answer.one b d t x.names x.loops certificate y z x.read) h k
+  tells_one Print certificate text other status another h k =
+      let same = prints b t reading h.answer k.answer h.answers k.answers h.memory k.memory in
+      (h.text_is ∙ same.0 ∙ sym k.text_is, h.status_is ∙ same.1 ∙ sym k.status_is)
 
 pub tells_one_answer : TellsOneAnswer
 tells_one_answer action b certificate d t text other status another reading h k = tells_one b d t reading action certificate text other status another h k

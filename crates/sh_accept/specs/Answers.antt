@@ -1,4 +1,4 @@
--- What may be answered of a script: of a certificate of it, of all its certificates, and which certificate is shown.
+-- What may be answered of a script: of a certificate of it, of all its certificates, which certificate is shown, and how it is printed.
 -- shset's own; the standard has none.
 use Rattle.std.specs.Prelude.{◌≡◌, ◌≤◌, ◌<◌, ◌⊎◌, ℕ, List, ◌++◌, length, None, Some, Result, Ok, Err, Vec}
 use Rattle.std.specs.declared.alloc.Global.{Global}
@@ -26,6 +26,7 @@ use Rattle.sh_answers.specs.declared.verdict.Finding.{Finding}
 use Rattle.sh_answers.specs.declared.verdict.Verdict.{Verdict}
 use Rattle.sh_answers.specs.declared.verdict.Verdict.TheVariants.{Pass, Fail, Forged}
 use Rattle.sh_domain.specs.Admitted.{IsAdmitted, IsGreatest, KeepsRules, Fits, claims_in, functions_in}
+use Rattle.sh_print.specs.Layout.{canon}
 use Rattle.sh_accept.specs.Accepted.{IsAccepted, IsAcceptedText}
 
 -- Refusals, in the order script, profile, names, certificate: of the latter P says which come
@@ -117,3 +118,10 @@ RefusesLong b d _ = ⊥
 abbrev pub Certifies : List ℕ → Declared → Result (Vec ℕ Global) Refusal → Type 0
 Certifies b d (Ok v) = (t : Script) × (c : Sheet) × IsBest b d t c × (v.items ≡ certificate_text c) × (length v.items ≤ MAX_CERTIFICATE)
 Certifies b d (Err r) = Refuses b d (RefusesLong b d) r
+
+-- Of the text alone
+
+-- the canonical text of a script that is read, whether it is admitted or not, or the refusal of its text
+abbrev pub Prints : List ℕ → Result (Vec ℕ Global) Refusal → Type 0
+Prints b (Ok v) = (t : Script) × Parses b (Ok t) × (v.items ≡ canon b t)
+Prints b (Err r) = Parses b (Err r)

@@ -9,9 +9,9 @@ use Rattle.sh_tree.specs.declared.tree.Script.{Script}
 use Rattle.sh_domain.specs.Facts.{Declared}
 use Rattle.sh_answers.specs.Texts.{answer_text, refusal_text, status_of}
 use Rattle.sh_answers.specs.declared.task.Action.{Action}
-use Rattle.sh_answers.specs.declared.task.Action.TheVariants.{Lint, Cert, Check}
+use Rattle.sh_answers.specs.declared.task.Action.TheVariants.{Lint, Cert, Check, Print}
 use Rattle.sh_answers.specs.declared.verdict.Verdict.{Verdict}
-use Rattle.sh_accept.specs.Answers.{Certifies, Checks, Lints}
+use Rattle.sh_accept.specs.Answers.{Certifies, Checks, Lints, Prints}
 
 -- the text and the status are those of an answer as it should be, other than want of memory
 pub record TellsVerdict (Should : Result Verdict Refusal → Type 0) (b text : List ℕ) (status : ℕ) : Type 0 where
@@ -21,7 +21,7 @@ pub record TellsVerdict (Should : Result Verdict Refusal → Type 0) (b text : L
   pub text_is : text ≡ answer_text b answer
   pub status_is : status ≡ status_of answer
 
--- a certificate is shown by its text, with the status of what is clean; a refusal as any other
+-- what is shown is its text, with the status of what is clean; a refusal as any other
 abbrev pub shown_text : List ℕ → Result (Vec ℕ Global) Refusal → List ℕ
 shown_text b (Ok v) = v.items
 shown_text b (Err r) = refusal_text b r
@@ -30,10 +30,10 @@ abbrev pub shown_status : Result (Vec ℕ Global) Refusal → ℕ
 shown_status (Ok v) = 0
 shown_status (Err r) = status_of (Err r)
 
--- the text and the status are those of the certificate that is to be shown, or of the refusal
-pub record TellsCertificate (b : List ℕ) (d : Declared) (text : List ℕ) (status : ℕ) : Type 0 where
+-- the text and the status are those of what is to be shown, or of the refusal
+pub record TellsText (Should : Result (Vec ℕ Global) Refusal → Type 0) (b text : List ℕ) (status : ℕ) : Type 0 where
   pub answer : Result (Vec ℕ Global) Refusal
-  pub answers : Certifies b d answer
+  pub answers : Should answer
   pub memory : answer ≡ Err Memory → ⊥
   pub text_is : text ≡ shown_text b answer
   pub status_is : status ≡ shown_status answer
@@ -41,8 +41,9 @@ pub record TellsCertificate (b : List ℕ) (d : Declared) (text : List ℕ) (sta
 -- the text and the status are those of an answer of the action on the script's bytes and the certificate's
 abbrev pub Tells : Action → (b certificate : List ℕ) → Declared → List ℕ → ℕ → Type 0
 Tells Lint b certificate d = TellsVerdict (Lints b d) b
-Tells Cert b certificate d = TellsCertificate b d
+Tells Cert b certificate d = TellsText (Certifies b d) b
 Tells Check b certificate d = TellsVerdict (Checks b d certificate) b
+Tells Print b certificate d = TellsText (Prints b) b
 
 -- Of a script that is read there is one text and one status for an action, the certificate's
 -- bytes and what is declared.

@@ -10,6 +10,8 @@ pub enum Action {
     Cert,
     /// Checks it with a certificate.
     Check,
+    /// Prints its canonical text.
+    Print,
 }
 
 /// What is done, and under which policy.

@@ -1,6 +1,7 @@
 -- From clap's facts on a parse to what a line says.
-use Rattle.std.proofs.Common.{◌≡◌, ◌∙◌, ◌⊎◌, false, true, refl, sym, ap, codes, subst, List, [], Option, Some, None, inl, inr}
+use Rattle.std.proofs.Common.{◌≡◌, ◌∙◌, ◌⊎◌, ℕ, false, true, true≢false, refl, sym, ap, codes, subst, List, [], Option, Some, None, inl, inr}
 use Rattle.std.specs.Prelude.{IsSome, option_map}
+use Rattle.std.specs.Str.{bytes_eq}
 use Rattle.clap.specs.Words.{IsAmong, Row, Text, fault_of, first_of, first_value, is_simple, is_simple_and_free, rows_of, subcommand_of}
 use Rattle.clap.specs.Faults.{level_fault}
 use Rattle.clap.specs.Walk.{nothing_held, rows_after}
@@ -10,14 +11,14 @@ use Rattle.clap.specs.declared.parser.matches.Found.{Found}
 use Rattle.clap.proofs.OnLiterals.{clap_on_literals}
 use Rattle.clap.proofs.WalkLemmas.{first_value-rows}
 use Rattle.sh_line.specs.App.{shset_app}
-use Rattle.sh_line.specs.Line.{AreApart, HasCertificate, HasTwoInputs, IsCertificateOf, IsSourceOf, IsWhole, StopsAs, StopsAt, StopsPolicy, StopsRead, action_name}
+use Rattle.sh_line.specs.Line.{AreApart, GivesNumber, HasCertificate, HasNumber, HasTwoInputs, IsCertificateOf, IsGivenNumber, IsNumberOf, IsSourceOf, IsWhole, StopsAs, StopsAt, StopsPolicy, StopsRead, action_name}
 use Rattle.sh_line.specs.declared.line.Source.{Source}
 use Rattle.sh_line.specs.declared.line.Source.TheVariants.{Input, File}
 use Rattle.sh_line.specs.declared.line.Stop.{Stop}
 use Rattle.sh_line.specs.declared.line.Stop.TheVariants.{Usage, Help, BadName, Memory}
 use Rattle.sh_answers.specs.declared.task.Action.{Action}
-use Rattle.sh_answers.specs.declared.task.Action.TheVariants.{Lint, Cert, Check}
-use Rattle.sh_line.proofs.LineWholeLemmas.{certificate_found, checking, checking_reads, file_found, found_passes, number_found, reading, reading_reads}
+use Rattle.sh_answers.specs.declared.task.Action.TheVariants.{Lint, Cert, Check, Print}
+use Rattle.sh_line.proofs.LineWholeLemmas.{certificate_found, checking, checking_counts, checking_reads, file_found, found_passes, number_found, printing, printing_reads, reading, reading_counts, reading_reads}
 
 -- clap's clauses say what the program's command line takes
 pub is_simple-shset : is_simple shset_app ≡ true
@@ -52,13 +53,23 @@ lint_whole words passes =
       action = (Lint, refl);
       file = file_found (reading (action_name Lint)) (reading_reads (action_name Lint)) words passes;
       cert = cert;
-      args = number_found (reading (action_name Lint)) (reading_reads (action_name Lint)) words passes;
+      args = args;
     }
   where
     cert : (a : Action) → action_name Lint ≡ action_name a → HasCertificate a (rows_after (reading (action_name Lint)).rules [] words)
     cert Lint e = tt
     cert Cert e = tt
     cert Check e = cc
+    cert Print e = tt
+
+    number : GivesNumber (rows_after (reading (action_name Lint)).rules [] words)
+    number = number_found (reading (action_name Lint)) (reading_reads (action_name Lint)) words passes (reading_counts (action_name Lint))
+
+    args : (a : Action) → action_name Lint ≡ action_name a → HasNumber a (rows_after (reading (action_name Lint)).rules [] words)
+    args Lint e = number
+    args Cert e = number
+    args Check e = number
+    args Print e = tt
 
 cert_whole : (words : List Text) → level_fault (reading (action_name Cert)) [] nothing_held words false [] ≡ []
     → IsWhole (action_name Cert) (rows_after (reading (action_name Cert)).rules [] words)
@@ -67,13 +78,23 @@ cert_whole words passes =
       action = (Cert, refl);
       file = file_found (reading (action_name Cert)) (reading_reads (action_name Cert)) words passes;
       cert = cert;
-      args = number_found (reading (action_name Cert)) (reading_reads (action_name Cert)) words passes;
+      args = args;
     }
   where
     cert : (a : Action) → action_name Cert ≡ action_name a → HasCertificate a (rows_after (reading (action_name Cert)).rules [] words)
     cert Lint e = tt
     cert Cert e = tt
     cert Check e = cc
+    cert Print e = tt
+
+    number : GivesNumber (rows_after (reading (action_name Cert)).rules [] words)
+    number = number_found (reading (action_name Cert)) (reading_reads (action_name Cert)) words passes (reading_counts (action_name Cert))
+
+    args : (a : Action) → action_name Cert ≡ action_name a → HasNumber a (rows_after (reading (action_name Cert)).rules [] words)
+    args Lint e = number
+    args Cert e = number
+    args Check e = number
+    args Print e = tt
 
 check_whole : (words : List Text) → level_fault checking [] nothing_held words false [] ≡ []
     → IsWhole (action_name Check) (rows_after checking.rules [] words)
@@ -82,17 +103,53 @@ check_whole words passes =
       action = (Check, refl);
       file = file_found checking checking_reads words passes;
       cert = cert;
-      args = number_found checking checking_reads words passes;
+      args = args;
     }
   where
     cert : (a : Action) → action_name Check ≡ action_name a → HasCertificate a (rows_after checking.rules [] words)
     cert Lint e = tt
     cert Cert e = tt
     cert Check e = certificate_found words passes
+    cert Print e = tt
+
+    number : GivesNumber (rows_after checking.rules [] words)
+    number = number_found checking checking_reads words passes checking_counts
+
+    args : (a : Action) → action_name Check ≡ action_name a → HasNumber a (rows_after checking.rules [] words)
+    args Lint e = number
+    args Cert e = number
+    args Check e = number
+    args Print e = tt
+
+-- no other action has this name
+not_printed : (name : Text) → bytes_eq name (codes "print") ≡ false → codes "print" ≡ name → ⊥
+not_printed name apart e = true≢false (ap (λ t. bytes_eq t (codes "print")) e ∙ apart)
+
+print_whole : (words : List Text) → level_fault printing [] nothing_held words false [] ≡ []
+    → IsWhole (action_name Print) (rows_after printing.rules [] words)
+print_whole words passes =
+    record {
+      action = (Print, refl);
+      file = file_found printing printing_reads words passes;
+      cert = cert;
+      args = args;
+    }
+  where
+    cert : (a : Action) → action_name Print ≡ action_name a → HasCertificate a (rows_after printing.rules [] words)
+    cert Lint e = tt
+    cert Cert e = tt
+    cert Check e = absurd (not_printed (codes "check") refl e)
+    cert Print e = tt
+
+    args : (a : Action) → action_name Print ≡ action_name a → HasNumber a (rows_after printing.rules [] words)
+    args Lint e = absurd (not_printed (codes "lint") refl e)
+    args Cert e = absurd (not_printed (codes "cert") refl e)
+    args Check e = absurd (not_printed (codes "check") refl e)
+    args Print e = tt
 
 -- what a parse with no fault finds is whole
 pub whole : (words : List Text) (q : Text × List Row) → fault_of shset_app words ≡ [] → subcommand_of shset_app words ≡ Some q → IsWhole q.0 q.1
-whole words q none is = found_passes (λ p. IsWhole p.0 p.1) (lint_whole, (cert_whole, (check_whole, tt))) words q none is
+whole words q none is = found_passes (λ p. IsWhole p.0 p.1) (lint_whole, (cert_whole, (check_whole, (print_whole, tt)))) words q none is
 
 -- Both files are standard input, or they are apart
 
@@ -101,6 +158,7 @@ module _ (name : Text) (rows : List Row) (file : Text) where
       → IsSourceOf file script → IsCertificateOf a rows cert → (script ≡ Input) × (cert ≡ Some Input) → HasTwoInputs name rows
   two_inputs Lint Input (Some Input) is given named other both = absurd other
   two_inputs Cert Input (Some Input) is given named other both = absurd other
+  two_inputs Print Input (Some Input) is given named other both = absurd other
   two_inputs Check Input (Some Input) is given named other both = (is, given ∙ ap Some named, other.1 ∙ ap Some other.2)
   two_inputs a Input None is given named other both = cc
   two_inputs a Input (Some (File f)) is given named other both = cc
@@ -113,6 +171,7 @@ module _ (name : Text) (rows : List Row) (file : Text) where
       named.0 cc
   not_two Lint Input cert is given named other apart two = cc
   not_two Cert Input cert is given named other apart two = cc
+  not_two Print Input cert is given named other apart two = not_printed (codes "check") refl (sym is ∙ two.0)
   not_two Check Input None is given named other apart two = other
   not_two Check Input (Some Input) is given named other apart two = apart
   not_two Check Input (Some (File f)) is given named other apart two =
@@ -128,13 +187,37 @@ policy_stops name rows Memory apart s = tt
 pub no_certificate : (f : Found) → HasCertificate Check (rows_of f) → None ≡ first_value f (codes "CERT") → ⊥
 no_certificate f some none = no_file f (codes "CERT") some none
 
+-- The number of positional parameters, for an action that has one
+
+-- the actions that have one
+abbrev pub Counts : Action → Type 0
+Counts a = (a ≡ Lint) ⊎ ((a ≡ Cert) ⊎ (a ≡ Check))
+
+not_print : (a : Action) → Counts a → a ≡ Print → ⊥
+not_print a (inl e) is = let same : Lint ≡ Print = sym e ∙ is in cc
+not_print a (inr (inl e)) is = let same : Cert ≡ Print = sym e ∙ is in cc
+not_print a (inr (inr e)) is = let same : Check ≡ Print = sym e ∙ is in cc
+
+pub number_given : (a : Action) (rows : List Row) → Counts a → HasNumber a rows → GivesNumber rows
+number_given Lint rows other has = has
+number_given Cert rows other has = has
+number_given Check rows other has = has
+number_given Print rows other has = absurd (not_print Print other refl)
+
+pub number_is : (a : Action) (rows : List Row) (n : ℕ) → Counts a → IsGivenNumber rows n → IsNumberOf a rows n
+number_is Lint rows n other is = is
+number_is Cert rows n other is = is
+number_is Check rows n other is = is
+number_is Print rows n other is = absurd (not_print Print other refl)
+
 -- an error of clap's is answered as its kind says
 pub error_stops : (words : List Text) (kind : ErrorKind) (s : Stop) → (kind ≡ OutOfMemory) ⊎ IsAmong kind (fault_of shset_app words)
     → StopsAs kind s → StopsAt words s
 error_stops words kind (Usage text) (inl m) s = absurd (s.1 m)
 error_stops words kind (Usage text) (inr k) s = inl (kind, k, s.0)
-error_stops words kind (Help text) (inl m) s = cc
-error_stops words kind (Help text) (inr k) s = subst (λ (x : ErrorKind). IsAmong x (fault_of shset_app words)) s k
+error_stops words kind (Help text) (inl m) (inl s) = cc
+error_stops words kind (Help text) (inl m) (inr s) = cc
+error_stops words kind (Help text) (inr k) s = (kind, k, s)
 error_stops words kind BadName h s = absurd s
 error_stops words kind Memory h s = tt
 

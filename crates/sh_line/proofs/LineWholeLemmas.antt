@@ -17,8 +17,8 @@ use Rattle.clap.specs.declared.builder.value_parser.ValueParser.{ValueParser}
 use Rattle.clap.specs.declared.builder.value_parser.ValueParser.TheVariants.{Signed}
 use Rattle.clap.specs.declared.error.kind.ErrorKind.TheVariants as kind
 use Rattle.clap.proofs.ValueTestLemmas.{accepts-Accepts}
-use Rattle.sh_line.specs.App.{args_rule, checking_app, reading_app, shset_app}
-use Rattle.sh_line.specs.Line.{HasNumber}
+use Rattle.sh_line.specs.App.{args_rule, checking_app, printing_app, reading_app, shset_app}
+use Rattle.sh_line.specs.Line.{GivesNumber}
 use Rattle.sh_line.proofs.LineRowLemmas.{AllGood, AllSound, Sound, default_row, given_row, level-good, level_checks, row_found}
 
 accepted : (i : Bool) (p : ValueParser) (v : Text) → value_kinds i p v ≡ [] → accepts i p v ≡ true
@@ -46,15 +46,22 @@ Fits id how v = bytes_eq id (codes "args") ≡ true → (how ≡ WithoutMinus) �
 abbrev pub checking : Shape
 checking = built_leaf (inherited above (checking_app (codes "check")).top)
 
--- the first argument of each
+-- a print, as it is built
+abbrev pub printing : Shape
+printing = built_leaf (inherited above (printing_app (codes "print")).top)
+
+-- the first argument of the others
 abbrev filled_args : Rule
 filled_args = with_index 1 (filled args_rule)
 
--- A subcommand whose first argument is `--args`, and which wants a file.
-pub record Reads (s : Shape) : Type 0 where
-  pub sound : AllSound Fits s.rules
+-- A subcommand whose first argument is `--args`.
+pub record Counts (s : Shape) : Type 0 where
   pub later : List Rule
   pub first : s.rules ≡ filled_args ∷ later
+
+-- A subcommand that wants a file.
+pub record Reads (s : Shape) : Type 0 where
+  pub sound : AllSound Fits s.rules
   pub file : (rows : List Row) → check_fault s rows false ≡ [] → is_given (codes "FILE") rows ≡ true
 
 args_sound : Sound Fits filled_args
@@ -80,8 +87,16 @@ reading_reads name =
         args_sound,
         (record { takes = inl (omega arith); fits = λ v e is. cc }, (record { takes = inl (omega arith); fits = λ v e is. cc }, (record { takes = inr refl; fits = λ v e is. cc }, tt))),
       );
-      later = drop 1 (reading name).rules;
-      first = refl;
+      file = λ rows e. one_given (is_given (codes "FILE") rows) e;
+    }
+
+pub reading_counts : (name : Text) → Counts (reading name)
+reading_counts name = record { later = drop 1 (reading name).rules; first = refl }
+
+pub printing_reads : Reads printing
+printing_reads =
+    record {
+      sound = (record { takes = inl (omega arith); fits = λ v e is. cc }, (record { takes = inr refl; fits = λ v e is. cc }, tt));
       file = λ rows e. one_given (is_given (codes "FILE") rows) e;
     }
 
@@ -98,10 +113,11 @@ checking_reads =
           (record { takes = inl (omega arith); fits = λ v e is. cc }, (record { takes = inl (omega arith); fits = λ v e is. cc }, (record { takes = inr refl; fits = λ v e is. cc }, tt))),
         ),
       );
-      later = drop 1 checking.rules;
-      first = refl;
       file = λ rows e. (certificate_given rows e).0;
     }
+
+pub checking_counts : Counts checking
+checking_counts = record { later = drop 1 checking.rules; first = refl }
 
 read_at : (r : Row) (v : Text) → r.reading ≡ WithoutMinus → slice_get r.values 0 ≡ Some v → row_text r ≡ Some (without_minus v)
 read_at r v how is = ap (λ (o : Option Text). option_map (read_as r.reading) o) is ∙ ap (λ (h : Reading). Some (read_as h v)) how
@@ -123,10 +139,10 @@ module _ (s : Shape) (r : Reads s) (words : List Text) (passes : level_fault s [
   pub file_found : is_some (first_of (codes "FILE") (rows_after s.rules [] words)) ≡ true
   file_found = first_found (codes "FILE") (r.file (rows_after s.rules [] words) checked)
 
-  pub number_found : HasNumber (rows_after s.rules [] words)
-  number_found =
+  pub number_found : Counts s → GivesNumber (rows_after s.rules [] words)
+  number_found n =
       let held = (settled s.rules (walk s.rules [] nothing_held words).held).rows in
-      let there = subst (λ rs. has_row (codes "args") (fold with_default held rs) ≡ true) (sym r.first) (default_row filled_args (codes "0") [] r.later held refl) in
+      let there = subst (λ rs. has_row (codes "args") (fold with_default held rs) ≡ true) (sym n.first) (default_row filled_args (codes "0") [] n.later held refl) in
       let row = row_found Fits (λ r. bytes_eq r.id (codes "args")) (rows_after s.rules [] words) good there in
       let number = row.3.fits row.2 in (
         row.3.first,

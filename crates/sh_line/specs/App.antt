@@ -1,5 +1,5 @@
--- The command line that the program has, as clap reads it: `lint [--args N] FILE [NAME..]`, `cert` with the same words, and
--- `check [--args N] FILE CERT [NAME..]`.
+-- The command line that the program has, as clap reads it: `lint [--args N] FILE [NAME..]`, `cert` with the same words,
+-- `check [--args N] FILE CERT [NAME..]`, `print FILE`, and `--version`.
 -- POSIX.1-2024, XBD 12.2 (utility syntax guidelines).
 use Rattle.std.specs.Prelude.{[], ◌∷◌, Some, codes, true, pos}
 use Rattle.clap.specs.Words.{App, Rule, Text, new_app, new_rule, with_rule, with_subcommand}
@@ -31,12 +31,18 @@ abbrev pub checking_app : Text → App
 checking_app name =
     with_rule (with_rule (with_rule (with_rule (new_app name) args_rule) (file_rule (codes "FILE"))) (file_rule (codes "CERT"))) name_rule
 
+-- a command that reads the text of a script alone: FILE
+abbrev pub printing_app : Text → App
+printing_app name = with_rule (new_app name) (file_rule (codes "FILE"))
+
 abbrev pub shset_app : App
 shset_app =
     with_subcommand
     (with_subcommand
     (with_subcommand
-    (on_top (λ s. record s { subcommand_required = true; disable_help_subcommand = true }) (new_app (codes "shset")))
+    (with_subcommand
+    (on_top (λ s. record s { subcommand_required = true; disable_help_subcommand = true; has_version = true }) (new_app (codes "shset")))
     (reading_app (codes "lint")).top)
     (reading_app (codes "cert")).top)
-    (checking_app (codes "check")).top
+    (checking_app (codes "check")).top)
+    (printing_app (codes "print")).top

@@ -2,8 +2,8 @@
 ghost use Rattle.std.specs.Prelude.{◌≡◌, IfOk, IfErr, Some, [], codes, false, true, map, List};
 ghost use Rattle.clap.specs.Words.{Row, Text, app_of, fault_of, found_of, kind_of, rows_of, rule_of, subcommand_of};
 ghost use Rattle.clap.specs.declared.builder.command.Command.TheViews.{out-Command};
-ghost use Rattle.sh_line.specs.App.{args_rule, checking_app, file_rule, name_rule, reading_app, shset_app};
-ghost use Rattle.sh_line.specs.Line.{AreApart, HasCertificate, HasNumber, IsCertificateOf, IsLineOf, IsPolicyOf, IsSourceOf, IsWhole, StopsAs, StopsAt, StopsPolicy, StopsRead, action_name, declared_texts, fault_stop};
+ghost use Rattle.sh_line.specs.App.{args_rule, checking_app, file_rule, name_rule, printing_app, reading_app, shset_app};
+ghost use Rattle.sh_line.specs.Line.{AreApart, HasCertificate, HasNumber, IsCertificateOf, IsLineOf, IsNumberOf, IsPolicyOf, IsSourceOf, IsWhole, StopsAs, StopsAt, StopsPolicy, StopsRead, action_name, declared_texts, fault_stop};
 ghost use Rattle.sh_line.specs.declared.line.Source.TheVariants.{Input};
 
 use clap::error::ErrorKind;
@@ -13,7 +13,34 @@ use sh_domain::{Policy, PolicyFault};
 use std::alloc::{AllocError, Global};
 use std::convert::AsStr;
 
-/// What is told where both files of a check are standard input.
+/// The version that `--version` prints, as the file VERSION has it, and the logic of the kit that proves it.
+const VERSION: &str = "0.1.0 (Rattle kit, logic dac8208d650f15bf)";
+
+/// What the help of the program says after clap's.
+const AFTER_HELP: &str = "\
+Exit status:
+  0  clean, or a certificate or a script was printed
+  1  findings, or a certificate that claims too much
+  2  refused: the script was not read or not analysed
+  3  a fault of usage, reading, writing or memory
+
+Findings:
+  U1, U2, U3  a parameter may be unset: in an expansion, a tilde, arithmetic
+  Q1          a value outside quotes may be split, or taken for a pattern
+  P1, P2      a part of a pipeline may unset a variable, or changes the operands
+
+Examples:
+  shset lint deploy.sh HOME PATH   HOME and PATH are set when the script starts
+  shset lint --args 2 copy.sh      the script always gets two operands, or more
+  shset cert x.sh >x.cert && shset check x.sh x.cert
+
+One call reads one script: 'shset lint a.sh b' takes b for the name of a variable.";
+
+/// What the help of each subcommand says after clap's.
+const AFTER_SUBCOMMAND: &str =
+    "One call reads one script: a second file is taken for the NAME of a variable.";
+
+/// What is reported if both files of a check are standard input.
 const TWO_INPUTS: &str = "shset: two inputs from -\n";
 
 /// Where bytes come from.
@@ -41,7 +68,7 @@ pub struct Line<'a> {
 pub enum Stop {
     /// The words are no line of the program. The text is for standard error: clap's, or that two files are standard input.
     Usage(String),
-    /// Help was asked for. The text is clap's, for standard output.
+    /// Help or the version was asked for. The text is clap's, for standard output.
     Help(String),
     /// A declared name is no name.
     BadName,
@@ -121,6 +148,7 @@ fn reading_command<'a>(
 {
     Command::new(alloc, name)
         .about(about)
+        .after_help(AFTER_SUBCOMMAND)
         .arg(args_arg(alloc))?
         .arg(file_arg(alloc))?
         .arg(name_arg(alloc))
@@ -136,10 +164,22 @@ fn checking_command<'a>(
 {
     Command::new(alloc, name)
         .about(about)
+        .after_help(AFTER_SUBCOMMAND)
         .arg(args_arg(alloc))?
         .arg(file_arg(alloc))?
         .arg(certificate_arg(alloc))?
         .arg(name_arg(alloc))
+}
+
+fn printing_command<'a>(
+    alloc: Global,
+    name: &'a str,
+    about: &'a str,
+) -> Result<Command<'a>, AllocError>
+    ensures app { IfOk result (λ c. app_of c ≡ printing_app name.entry.now) }
+    ensures local { IfOk result (λ c. (out-Command c).has_globals ≡ false) }
+{
+    Command::new(alloc, name).about(about).arg(file_arg(alloc))
 }
 
 fn shset_command<'a>(alloc: Global) -> Result<Command<'a>, AllocError>
@@ -160,13 +200,21 @@ fn shset_command<'a>(alloc: Global) -> Result<Command<'a>, AllocError>
         "check",
         "Prints what is wrong with a script by a certificate of it, or that it is clean",
     )?;
+    let print = printing_command(
+        alloc,
+        "print",
+        "Prints a script in one layout, without its comments",
+    )?;
     Command::new(alloc, "shset")
         .about("Looks in shell scripts for variables that may be unset and words that may be split")
         .subcommand_required(true)
         .disable_help_subcommand(true)
+        .version(VERSION)
+        .after_help(AFTER_HELP)
         .subcommand(lint)?
         .subcommand(cert)?
-        .subcommand(check)
+        .subcommand(check)?
+        .subcommand(print)
 }
 
 fn stop_of(alloc: Global, error: Error) -> Stop
@@ -179,7 +227,7 @@ fn stop_of(alloc: Global, error: Error) -> Stop
     let Ok(text) = format!(in alloc; "{error}") else {
         return Stop::Memory;
     };
-    if kind == ErrorKind::DisplayHelp {
+    if kind == ErrorKind::DisplayHelp || kind == ErrorKind::DisplayVersion {
         Stop::Help(text)
     } else {
         Stop::Usage(text)
@@ -194,6 +242,7 @@ fn action_of(name: &str) -> Action
         "lint" => Action::Lint,
         "cert" => Action::Cert,
         "check" => Action::Check,
+        "print" => Action::Print,
         _ => unreachable!(),
     }
 }
@@ -214,7 +263,7 @@ fn certificate_of<'a>(action: Action, sub: &ArgMatches<'a>) -> Option<Source<'a>
     ensures { IsCertificateOf action (rows_of (found_of sub.now)) result }
 {
     match action {
-        Action::Lint | Action::Cert => None,
+        Action::Lint | Action::Cert | Action::Print => None,
         Action::Check => {
             let Some(file) = sub.get_str("CERT") else {
                 unreachable!()
@@ -250,14 +299,28 @@ fn bytes_of<'a>(alloc: Global, texts: &[&'a str]) -> Result<Vec<&'a [u8]>, Alloc
     Ok(bytes)
 }
 
-fn policy_of(alloc: Global, sub: &ArgMatches<'_>) -> Result<Policy, Stop>
-    requires { HasNumber (rows_of (found_of sub.now)) }
-    ensures policy { IfOk result (λ p. IsPolicyOf (rows_of (found_of sub.now)) p) }
+// How many positional parameters are declared, for an action to which this matters.
+fn args_of(action: Action, sub: &ArgMatches<'_>) -> u16
+    requires { HasNumber action (rows_of (found_of sub.now)) }
+    ensures { IsNumberOf action (rows_of (found_of sub.now)) result }
+{
+    match action {
+        Action::Print => 0,
+        Action::Lint | Action::Cert | Action::Check => {
+            let Some(args) = sub.get_one::<u16>("args") else {
+                unreachable!()
+            };
+            args
+        }
+    }
+}
+
+fn policy_of(alloc: Global, action: Action, sub: &ArgMatches<'_>) -> Result<Policy, Stop>
+    requires { HasNumber action (rows_of (found_of sub.now)) }
+    ensures policy { IfOk result (λ p. IsPolicyOf action (rows_of (found_of sub.now)) p) }
     ensures stop { IfErr result (StopsPolicy (rows_of (found_of sub.now))) }
 {
-    let Some(args) = sub.get_one::<u16>("args") else {
-        unreachable!()
-    };
+    let args = args_of(action, sub);
     let names = names_of(alloc, sub)?;
     let policy = Policy::new(alloc, &names, args)?;
     Ok(policy)
@@ -277,7 +340,7 @@ fn read_line<'a>(alloc: Global, name: &str, sub: &ArgMatches<'a>) -> Result<Line
     if are_both_input(script, cert) {
         return Err(Stop::Usage(TWO_INPUTS.to_string(alloc)?));
     }
-    let policy = policy_of(alloc, sub)?;
+    let policy = policy_of(alloc, action, sub)?;
     Ok(Line {
         task: Task { action, policy },
         script,
@@ -291,8 +354,8 @@ fn read_line<'a>(alloc: Global, name: &str, sub: &ArgMatches<'a>) -> Result<Line
 ///
 /// # Errors
 ///
-/// `Usage` and `Help` where clap takes no line from the words, and `Usage` too where FILE and CERT are both standard input;
-/// `BadName` where it takes one that declares what is no name, and `Memory` where a growth was refused.
+/// `Usage` and `Help` if clap takes no line from the words: `Help` for a request of help or of the version. `Usage` too if FILE and CERT are both
+/// standard input. `BadName` if a declared text is no name, and `Memory` if a growth was refused.
 pub fn command_line<'a, S: AsStr>(alloc: Global, words: &'a [S]) -> Result<Line<'a>, Stop>
     // clap's parse finds no fault in the words, and the line says what it found
     ensures taken { IfOk result (λ _. fault_of shset_app (map S.text words.entry.now) ≡ []) }

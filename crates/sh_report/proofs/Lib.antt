@@ -3,5 +3,6 @@ pub mod CertificateLemmas
 pub mod FindingLemmas
 pub mod CheckLemmas
 pub mod LintLemmas
+pub mod PrintLemmas
 pub mod RunLemmas
 pub mod PromiseLemmas

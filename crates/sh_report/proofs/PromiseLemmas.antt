@@ -8,7 +8,7 @@ use Rattle.sh_tree.specs.standard.program.Syntax.{Text}
 use Rattle.sh_domain.specs.Facts.{Declared}
 use Rattle.sh_answers.specs.Texts.{status_of}
 use Rattle.sh_answers.specs.declared.task.Action.{Action}
-use Rattle.sh_answers.specs.declared.task.Action.TheVariants.{Lint, Cert, Check}
+use Rattle.sh_answers.specs.declared.task.Action.TheVariants.{Lint, Cert, Check, Print}
 use Rattle.sh_answers.specs.declared.verdict.Verdict.{Verdict}
 use Rattle.sh_answers.specs.declared.verdict.Verdict.TheVariants.{Pass, Fail, Forged}
 use Rattle.sh_accept.specs.Answers.{Checks, Lints}
@@ -40,7 +40,8 @@ zero_is_pass (Err CertShape) e = cc
 
 -- what is told with zero promises so
 pub told_safe : (a : Action) (b certificate : List ℕ) (d : Declared) (text : List ℕ) (status : ℕ) → list_all is_name d.names ≡ true → Tells a b certificate d text status
-    → (a ≡ Cert → ⊥) → status ≡ 0 → IsSafe b d
-told_safe Lint b certificate d text status names tells shown is = linted b d tells.answer names tells.answers (zero_is_pass tells.answer (sym tells.status_is ∙ is))
-told_safe Cert b certificate d text status names tells shown is = absurd (shown refl)
-told_safe Check b certificate d text status names tells shown is = checked b d certificate tells.answer names tells.answers (zero_is_pass tells.answer (sym tells.status_is ∙ is))
+    → (a ≡ Cert → ⊥) → (a ≡ Print → ⊥) → status ≡ 0 → IsSafe b d
+told_safe Lint b certificate d text status names tells shown printed is = linted b d tells.answer names tells.answers (zero_is_pass tells.answer (sym tells.status_is ∙ is))
+told_safe Cert b certificate d text status names tells shown printed is = absurd (shown refl)
+told_safe Check b certificate d text status names tells shown printed is = checked b d certificate tells.answer names tells.answers (zero_is_pass tells.answer (sym tells.status_is ∙ is))
+told_safe Print b certificate d text status names tells shown printed is = absurd (printed refl)

@@ -4,7 +4,7 @@ use Rattle.std.specs.Prelude.{◌≡◌, ℕ, List, [], take, Option}
 use Rattle.std.specs.Io.KnownBytes.{Appends}
 use Rattle.sh_answers.specs.Moves.{Had}
 use Rattle.sh_answers.specs.declared.task.Action.{Action}
-use Rattle.sh_answers.specs.declared.task.Action.TheVariants.{Lint, Cert, Check}
+use Rattle.sh_answers.specs.declared.task.Action.TheVariants.{Lint, Cert, Check, Print}
 use Rattle.sh_answers.specs.declared.task.Task.{Task}
 use Rattle.sh_accept.specs.Written.{Tells}
 
@@ -20,6 +20,7 @@ abbrev pub HadText : Action → Option (List ℕ) → ℕ → List ℕ → Type 
 HadText Lint bytes limit text = text ≡ []
 HadText Cert bytes limit text = text ≡ []
 HadText Check bytes limit text = Had bytes limit text
+HadText Print bytes limit text = text ≡ []
 
 -- the text of such an answer was written, and the status is its own
 pub record WritesAnswer (task : Task) (b certificate : List ℕ) (old new : Option (List ℕ)) (status : ℕ) : Type 0 where

@@ -12,6 +12,7 @@ ghost use Rattle.sh_report.specs.Runs.{HadText, WritesAnswer, WritesFront};
 
 use crate::checks::check;
 use crate::lints::{certificate, lint};
+use crate::prints::canonical_text;
 use sh_answers::{Action, Fault, Feed, Outlet, Task, Verdict, read_all, texts, write_all};
 use sh_domain::MAX_CERTIFICATE;
 use sh_tree::{MAX_SCRIPT, Refusal};
@@ -25,8 +26,8 @@ const CERTIFICATE_READ: usize = MAX_CERTIFICATE + 1;
 
 /// Reads the script, at most 1,048,577 bytes of it, and then for a check the certificate, at most 67,108,865 bytes of it; does the task,
 /// and writes the text of the answer on the bytes read, and nothing else: the whole text is made before its first byte is written. The result is the exit
-/// status: 0 clean, 1 findings or a certificate that breaks a flow rule, 2 refused. A lint or a check that ends with 0 promises what a pass does. No other
-/// action reads `cert`.
+/// status: 0 clean or a text that was asked for, 1 findings or a certificate that breaks a flow rule, 2 refused. A lint or a check that
+/// ends with 0 promises what a pass does. No other action reads `cert`.
 ///
 /// # Errors
 ///
@@ -86,7 +87,7 @@ fn read_certificate<C: Feed>(alloc: Global, action: Action, cert: &mut C) -> Res
     ensures written { IsErrOf result Fault.Write → ⊥ }
 {
     match action {
-        Action::Lint | Action::Cert => Ok(Vec::new(alloc)),
+        Action::Lint | Action::Cert | Action::Print => Ok(Vec::new(alloc)),
         Action::Check => read_all(alloc, cert, CERTIFICATE_READ),
     }
 }
@@ -115,8 +116,8 @@ impl Answer {
         Ok(Answer { text, status })
     }
 
-    // Of a certificate that is shown.
-    fn of_certificate(
+    // Of a text that is shown.
+    fn of_text(
         alloc: Global,
         script: &[u8],
         shown: Result<Vec<u8>, Refusal>,
@@ -140,7 +141,8 @@ fn answer_of(alloc: Global, task: &Task, script: &[u8], text: &[u8]) -> Result<A
     let policy = &task.policy;
     match task.action {
         Action::Lint => Answer::of_verdict(alloc, script, &lint(alloc, script, policy)),
-        Action::Cert => Answer::of_certificate(alloc, script, certificate(alloc, script, policy)),
+        Action::Cert => Answer::of_text(alloc, script, certificate(alloc, script, policy)),
         Action::Check => Answer::of_verdict(alloc, script, &check(alloc, script, policy, text)),
+        Action::Print => Answer::of_text(alloc, script, canonical_text(alloc, script)),
     }
 }

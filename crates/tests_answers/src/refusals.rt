@@ -26,12 +26,23 @@ const FORMS: &[(Form, &str)] = &[
         Form::Continuation,
         "a line continuation inside a token is outside the profile",
     ),
-    (Form::DollarSingle, "$' is outside the profile"),
+    (
+        Form::DollarEscape,
+        "this escape in $' is outside the profile",
+    ),
     (Form::DollarDouble, "$\" is outside the profile"),
     (Form::DollarBracket, "$[ is outside the profile"),
     (
         Form::Backquoted,
         "a backquoted substitution is outside the profile",
+    ),
+    (
+        Form::BackslashInBackquotes,
+        "a backslash in a backquoted substitution is outside the profile",
+    ),
+    (
+        Form::BackquoteInside,
+        "a backquote inside a backquoted substitution is outside the profile",
     ),
     (Form::Braced, "this braced form is outside the profile"),
     (

@@ -13,6 +13,7 @@ fn line_text(alloc: Global, line: &Line<'_>) -> Result<String, Fail> {
         Action::Lint => "lint",
         Action::Cert => "cert",
         Action::Check => "check",
+        Action::Print => "print",
     };
     let mut text = match line.script {
         Source::Input => format!(in alloc; "{action} standard input")?,
@@ -116,6 +117,15 @@ const LINES: &[Row] = &[
     (
         &["shset", "check", "check", "lint"],
         "check file check args 0 by file lint",
+    ),
+    (&["shset", "print", "-"], "print standard input args 0"),
+    (
+        &["shset", "print", "script.sh"],
+        "print file script.sh args 0",
+    ),
+    (
+        &["shset", "print", "--", "--args"],
+        "print file --args args 0",
     ),
 ];
 
@@ -249,9 +259,20 @@ fn usage_faults_of_check(rt: HostRuntime) -> Result<(), Fail> {
 
 const USAGE_OF_PROGRAM: &[Row] = &[
     (
+        &["shset", "lint", "--version"],
+        "usage: error: unexpected argument '--version' found
+
+  tip: to pass '--version' as a value, use '-- --version'
+
+Usage: shset lint [OPTIONS] <FILE> [NAME]...
+
+For more information, try '--help'.
+",
+    ),
+    (
         &["shset"],
         "usage: error: 'shset' requires a subcommand but one was not provided
-  [subcommands: lint, cert, check]
+  [subcommands: lint, cert, check, print]
 
 Usage: shset <COMMAND>
 
@@ -290,7 +311,7 @@ For more information, try '--help'.
     (
         &[],
         "usage: error: 'shset' requires a subcommand but one was not provided
-  [subcommands: lint, cert, check]
+  [subcommands: lint, cert, check, print]
 
 Usage: shset <COMMAND>
 
@@ -313,9 +334,32 @@ Commands:
   lint   Prints what is wrong with a script, or that it is clean
   cert   Prints what is surely set at each place of a script, as a certificate
   check  Prints what is wrong with a script by a certificate of it, or that it is clean
+  print  Prints a script in one layout, without its comments
 
 Options:
-  -h, --help  Print help
+  -h, --help     Print help
+  -V, --version  Print version
+
+Exit status:
+  0  clean, or a certificate or a script was printed
+  1  findings, or a certificate that claims too much
+  2  refused: the script was not read or not analysed
+  3  a fault of usage, reading, writing or memory
+
+Findings:
+  U1, U2, U3  a parameter may be unset: in an expansion, a tilde, arithmetic
+  Q1          a value outside quotes may be split, or taken for a pattern
+  P1, P2      a part of a pipeline may unset a variable, or changes the operands
+
+Examples:
+  shset lint deploy.sh HOME PATH   HOME and PATH are set when the script starts
+  shset lint --args 2 copy.sh      the script always gets two operands, or more
+  shset cert x.sh >x.cert && shset check x.sh x.cert
+
+One call reads one script: 'shset lint a.sh b' takes b for the name of a variable.
+";
+
+const VERSION: &str = "help: shset 0.1.0 (Rattle kit, logic dac8208d650f15bf)
 ";
 
 const HELP_OF_LINT: &str = "help: Prints what is wrong with a script, or that it is clean
@@ -329,6 +373,8 @@ Arguments:
 Options:
       --args <N>  How many positional parameters are set at least when the script starts [default: 0]
   -h, --help      Print help
+
+One call reads one script: a second file is taken for the NAME of a variable.
 ";
 
 const HELP_OF_CHECK: &str =
@@ -344,11 +390,15 @@ Arguments:
 Options:
       --args <N>  How many positional parameters are set at least when the script starts [default: 0]
   -h, --help      Print help
+
+One call reads one script: a second file is taken for the NAME of a variable.
 ";
 
 const HELPED: &[Row] = &[
     (&["shset", "--help"], HELP),
     (&["shset", "-h"], HELP),
+    (&["shset", "--version"], VERSION),
+    (&["shset", "-V", "lint"], VERSION),
     (&["shset", "lint", "--help"], HELP_OF_LINT),
     (&["shset", "lint", "-h"], HELP_OF_LINT),
     (&["shset", "lint", "-", "1x", "--help"], HELP_OF_LINT),
@@ -359,6 +409,34 @@ const HELPED: &[Row] = &[
 #[test]
 fn help(rt: HostRuntime) -> Result<(), Fail> {
     check(&rt, HELPED)
+}
+
+const USAGE_OF_PRINT: &[Row] = &[
+    (
+        &["shset", "print", "f", "x"],
+        "usage: error: unexpected argument 'x' found
+
+Usage: shset print <FILE>
+
+For more information, try '--help'.
+",
+    ),
+    (
+        &["shset", "print", "--args", "1", "f"],
+        "usage: error: unexpected argument '--args' found
+
+  tip: to pass '--args' as a value, use '-- --args'
+
+Usage: shset print <FILE>
+
+For more information, try '--help'.
+",
+    ),
+];
+
+#[test]
+fn usage_faults_of_print(rt: HostRuntime) -> Result<(), Fail> {
+    check(&rt, USAGE_OF_PRINT)
 }
 
 const BAD_NAMES: &[Row] = &[

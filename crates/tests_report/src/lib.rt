@@ -11,4 +11,6 @@ mod lints;
 #[cfg(test)]
 mod names;
 #[cfg(test)]
+mod prints;
+#[cfg(test)]
 mod told;

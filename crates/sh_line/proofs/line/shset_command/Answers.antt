@@ -5,13 +5,14 @@ use Rattle.clap.specs.Simple.{on_top}
 use Rattle.sh_line.proofs.line.shset_command.Goals as goal
 
 abbrev top : App
-top = on_top (λ s. record s { subcommand_required = true; disable_help_subcommand = true }) (new_app (codes "shset"))
+top = on_top (λ s. record s { subcommand_required = true; disable_help_subcommand = true; has_version = true }) (new_app (codes "shset"))
 
 pub returns : goal.returns
 returns c =
-    let base : app_of c.disable_help_subcommand.result ≡ top = search rules in
+    let base : app_of c.after_help.result ≡ top = search rules in
     let lint = c.in_ok-subcommand.ensures.shape c.in_ok-lint.ensures.local ∙ ap₂ with_subcommand base (ap (λ (a : App). a.top) c.in_ok-lint.ensures.app) in
     let cert = c.in_ok-subcommand-2.ensures.shape c.in_ok-cert.ensures.local ∙ ap₂ with_subcommand lint (ap (λ (a : App). a.top) c.in_ok-cert.ensures.app) in
-    IfOk-weaker c.subcommand-3.result _ _
-    (λ r h. h.shape c.in_ok-check.ensures.local ∙ ap₂ with_subcommand cert (ap (λ (a : App). a.top) c.in_ok-check.ensures.app))
-    c.subcommand-3.ensures
+    let check = c.in_ok-subcommand-3.ensures.shape c.in_ok-check.ensures.local ∙ ap₂ with_subcommand cert (ap (λ (a : App). a.top) c.in_ok-check.ensures.app) in
+    IfOk-weaker c.subcommand-4.result _ _
+    (λ r h. h.shape c.in_ok-print.ensures.local ∙ ap₂ with_subcommand check (ap (λ (a : App). a.top) c.in_ok-print.ensures.app))
+    c.subcommand-4.ensures

@@ -1,5 +1,5 @@
-use Rattle.sh_accept.specs.Answers.{Checks, Lints}
-use Rattle.sh_report.proofs.RunLemmas.{certificate_told, verdict_told}
+use Rattle.sh_accept.specs.Answers.{Certifies, Checks, Lints, Prints}
+use Rattle.sh_report.proofs.RunLemmas.{text_told, verdict_told}
 use Rattle.sh_report.proofs.engine.answer_of.Goals as goal
 
 pub returns-in-Lint : goal.returns-in-Lint
@@ -11,11 +11,17 @@ returns-in-Lint c =
 pub returns-in-Cert : goal.returns-in-Cert
 returns-in-Cert c =
     rw c.in-Cert.is
-    (certificate_told c.args.script.now c.args.task.now.policy c.certificate.result c.of_certificate.result c.certificate.ensures
-    c.of_certificate.ensures.text c.of_certificate.ensures.status c.of_certificate.ensures.memory)
+    (text_told (Certifies c.args.script.now c.args.task.now.policy) c.args.script.now c.certificate.result c.of_text.result c.certificate.ensures
+    c.of_text.ensures.text c.of_text.ensures.status c.of_text.ensures.memory)
 
 pub returns-in-Check : goal.returns-in-Check
 returns-in-Check c =
     rw c.in-Check.is
     (verdict_told (Checks c.args.script.now c.args.task.now.policy c.args.text.now) c.args.script.now c.check.result c.of_verdict-in-Check.result c.check.ensures.answers
     c.of_verdict-in-Check.ensures.text c.of_verdict-in-Check.ensures.status c.of_verdict-in-Check.ensures.memory)
+
+pub returns-in-Print : goal.returns-in-Print
+returns-in-Print c =
+    rw c.in-Print.is
+    (text_told (Prints c.args.script.now) c.args.script.now c.canonical_text.result c.of_text-in-Print.result c.canonical_text.ensures
+    c.of_text-in-Print.ensures.text c.of_text-in-Print.ensures.status c.of_text-in-Print.ensures.memory)

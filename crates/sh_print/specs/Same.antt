@@ -1,0 +1,18 @@
+-- When two trees are the same, and what follows for their canonical texts.
+-- POSIX.1-2024, XCU 2.10 (shell grammar).
+use Rattle.std.specs.Prelude.{◌≡◌, ℕ, List}
+use Rattle.sh_tree.specs.declared.tree.Script.{Script}
+use Rattle.sh_print.specs.Trees.{script_of}
+use Rattle.sh_print.specs.Layout.{canon}
+
+-- t, a tree of the text b, and u, one of the text c, differ only in offsets and numbers
+abbrev pub IsSame : (b : List ℕ) → Script → (c : List ℕ) → Script → Type 0
+IsSame b t c u = script_of b t ≡ script_of c u
+
+-- Two trees that are the same have the same canonical text.
+abbrev pub SamePrintsAlike : Type 0
+SamePrintsAlike = (b c : List ℕ) (t u : Script) → IsSame b t c u → canon b t ≡ canon c u
+
+-- A tree of the canonical text that is the same as the tree that it was printed from prints as that text again.
+abbrev pub PrintsAgain : Type 0
+PrintsAgain = (b : List ℕ) (t u : Script) → IsSame b t (canon b t) u → canon (canon b t) u ≡ canon b t
