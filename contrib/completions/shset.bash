@@ -1,0 +1,30 @@
+# Completion of shset for bash, made from the program's help by contrib/make-man.
+_shset() {
+    local word=${COMP_WORDS[COMP_CWORD]} command=${COMP_WORDS[1]-} index operands=0
+    if [ "$COMP_CWORD" -eq 1 ]; then
+        mapfile -t COMPREPLY < <(compgen -W 'lint cert check print --help --version' -- "$word")
+        return
+    fi
+    for ((index = 2; index < COMP_CWORD; index++)); do
+        case ${COMP_WORDS[index]} in
+            --args) index=$((index + 1)) ;;
+            --args=* | =) ;;
+            *) operands=$((operands + 1)) ;;
+        esac
+    done
+    [ "${COMP_WORDS[COMP_CWORD - 1]}" != --args ] || return
+    case $word in
+        -?*) mapfile -t COMPREPLY < <(compgen -W '--args --help' -- "$word") ;;
+        *)
+            local files=1
+            [ "$command" != check ] || files=2
+            if [ "$operands" -lt "$files" ]; then
+                compopt -o filenames
+                mapfile -t COMPREPLY < <(compgen -f -- "$word")
+            else
+                mapfile -t COMPREPLY < <(compgen -e -- "$word")
+            fi
+            ;;
+    esac
+}
+complete -F _shset shset
