@@ -5,14 +5,14 @@ use Rattle.std.specs.Prelude.{◌≡◌, ℕ, Bool, true, false, not, List, [], 
 use Rattle.sh_tree.specs.declared.tree.Script.{Script}
 use Rattle.sh_tree.specs.standard.program.Syntax.{Text, Items}
 use Rattle.sh_tree.specs.standard.program.Trees.{script_of}
-use Rattle.sh_domain.specs.Admitted.{Fits, claims_in}
-use Rattle.sh_domain.specs.Facts.{Facts, facts, within}
-use Rattle.sh_domain.specs.Faults.{Fault, told}
+use Rattle.sh_domain.specs.Admitted.{Fits, KeepsRules, claims_in}
+use Rattle.sh_domain.specs.Facts.{Facts, Declared, facts, start_facts}
+use Rattle.sh_domain.specs.Faults.{broken}
 use Rattle.sh_domain.specs.Order.{IsBelow}
 use Rattle.sh_domain.specs.Rules.{Constraint, Within, Counted, script_bounds}
 use Rattle.sh_domain.specs.Sheets.{Sheet}
 use Rattle.sh_domain.specs.Spelling.{IsSheet}
-use Rattle.sh_domain.specs.Views.{Certificate, Slot, Before, AfterZero, AfterNonzero, Head, Entry, ReturnsZero, ReturnsNonzero, Source, Start, At, View, steps}
+use Rattle.sh_domain.specs.Views.{Certificate, Slot, Before, AfterZero, AfterNonzero, Head, Entry, ReturnsZero, ReturnsNonzero}
 
 -- what is claimed at each turn of a loop, and round a function, is stated; what is claimed round
 -- commands is filled in
@@ -30,23 +30,11 @@ unfoldable pub bounds_filled : Constraint → Bool
 bounds_filled (Within slot n rule v) = not (is_stated slot)
 bounds_filled (Counted function n loss) = false
 
--- what a view claims if these are the facts of the start
-unfoldable pub source_from : Facts → Certificate → Source → Facts
-source_from start c Start = start
-source_from start c (At s) = facts (c.claim s)
-
-abbrev pub view_from : Facts → Certificate → View → Facts
-view_from start c v = steps c v.steps (source_from start c v.source)
-
-unfoldable pub broken_from : Facts → Certificate → Constraint → List Fault
-broken_from start c (Within slot n rule v) = told (within (c.claim slot) (view_from start c v)) n rule
-broken_from start c (Counted function n loss) = []
-
 -- a certificate with the stated claims and drops, of which what is filled in keeps the rules
 pub record KeepsStated (start : Facts) (t : Items) (stated c : Certificate) : Type 0 where
   pub claims : (slot : Slot) → is_stated slot ≡ true → c.claim slot ≡ stated.claim slot
   pub drops : (function : Text) → c.drops function ≡ stated.drops function
-  pub rules : flat_map (broken_from start c) (filter bounds_filled (script_bounds t)) ≡ []
+  pub rules : flat_map (broken start c) (filter bounds_filled (script_bounds t)) ≡ []
 
 -- It is filled if it claims at each place what any other such one does. Its names stand as its text
 -- has them.
@@ -55,3 +43,13 @@ pub record IsFilled (b : List ℕ) (t : Script) (names : List Text) (start : Fac
   pub keeps : KeepsStated start (script_of b t) stated (claims_in b t c)
   pub above : (other : Sheet) → Fits b t names other → KeepsStated start (script_of b t) stated (claims_in b t other) → IsBelow (claims_in b t other) (claims_in b t c)
   pub spelled : IsSheet c
+
+-- Where a certificate keeps the rules, the one that is filled from its stated claims and from the
+-- start keeps them too, and claims no less. Two that are filled from the same claim the same.
+pub record FilledKeeps : Type 0 where
+  pub rules : (b : List ℕ) (d : Declared) (t : Script) (names : List Text) (c f : Sheet)
+      → Fits b t names c → KeepsRules b d t c → IsFilled b t names (start_facts d) (claims_in b t c) f → KeepsRules b d t f
+  pub above : (b : List ℕ) (d : Declared) (t : Script) (names : List Text) (c f : Sheet)
+      → Fits b t names c → KeepsRules b d t c → IsFilled b t names (start_facts d) (claims_in b t c) f → IsBelow (claims_in b t c) (claims_in b t f)
+  pub same : (b : List ℕ) (t : Script) (names : List Text) (start : Facts) (stated : Certificate) (f g : Sheet)
+      → IsFilled b t names start stated f → IsFilled b t names start stated g → (slot : Slot) → facts ((claims_in b t f).claim slot) ≡ facts ((claims_in b t g).claim slot)
