@@ -1,5 +1,5 @@
 -- What is filled from the stated claims of a certificate that keeps the rules keeps them.
-use Rattle.std.proofs.Common.{◌≡◌, ℕ, Bool, true, false, not, if◌then◌else◌, List, [], ◌∷◌, ◌++◌, filter, refl, sym, ap, ap₂, ◌∙◌, subst, true≢false}
+use Rattle.std.proofs.Common.{◌≡◌, ℕ, Bool, true, false, not, if◌then◌else◌, List, [], ◌∷◌, ◌++◌, filter, refl, sym, ap, ap₂, subst, true≢false}
 use Rattle.std.specs.List.{flat_map}
 use Rattle.sh_tree.specs.declared.tree.Script.{Script}
 use Rattle.sh_tree.specs.standard.program.Syntax.{Text}
@@ -8,7 +8,7 @@ use Rattle.sh_domain.specs.declared.rule.FlowRule.{FlowRule}
 use Rattle.sh_domain.specs.Admitted.{Fits, KeepsRules, claims_in}
 use Rattle.sh_domain.specs.Facts.{Facts, Declared, facts, within, start_facts}
 use Rattle.sh_domain.specs.Faults.{are_among, broken, faults, told}
-use Rattle.sh_domain.specs.Filled.{is_stated, bounds_filled, KeepsStated, IsFilled, FilledKeeps}
+use Rattle.sh_domain.specs.Filled.{is_stated, bounds_filled, IsFilled, FilledKeeps}
 use Rattle.sh_domain.specs.Order.{IsWithin, IsBelow, AreAmong, Fits as Allowed}
 use Rattle.sh_domain.specs.Rules.{Constraint, Within, Counted, script_bounds}
 use Rattle.sh_domain.specs.Sheets.{Sheet}
