@@ -32,3 +32,4 @@ pub mod Readings
 pub mod Places
 pub mod Meets
 pub mod Admitted
+pub mod Filled
