@@ -1,0 +1,2 @@
+-- What is read alike wherever its bytes stand: a whole word, and a here-document with its end line.
+-- POSIX.1-2024, XCU 2.2 (quoting), 2.3 (token recognition), 2.6 (word expansions), 2.7.4 (here-documents).
