@@ -2,3 +2,4 @@ pub mod TreeLemmas
 pub mod TextLemmas
 pub mod Printable
 pub mod MadeLemmas
+pub mod SourceLemmas
