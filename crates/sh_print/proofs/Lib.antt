@@ -3,3 +3,4 @@ pub mod TextLemmas
 pub mod Printable
 pub mod MadeLemmas
 pub mod SourceLemmas
+pub mod NameLemmas
