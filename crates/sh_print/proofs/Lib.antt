@@ -4,3 +4,4 @@ pub mod Printable
 pub mod MadeLemmas
 pub mod SourceLemmas
 pub mod NameLemmas
+pub mod PrintableLemmas
