@@ -1,0 +1,3 @@
+pub mod AlikeBytes
+pub mod AlikePlain
+pub mod AlikeSigns
