@@ -1,3 +1,5 @@
 pub mod AlikeBytes
 pub mod AlikePlain
 pub mod AlikeSigns
+pub mod Copies
+pub mod Forward
