@@ -84,10 +84,10 @@ behind_moves p w c r r' b n =
 one : (n : ℕ) → 1 + n ≡ suc n
 one n = omega arith
 
-run_yes : (p : ℕ → Bool) (c : ℕ) (cs : List ℕ) → p c ≡ true → run p (c ∷ cs) ≡ suc (run p cs)
+pub run_yes : (p : ℕ → Bool) (c : ℕ) (cs : List ℕ) → p c ≡ true → run p (c ∷ cs) ≡ suc (run p cs)
 run_yes p c cs h = ap length (take_while-cons p c cs ∙ cond-true _ _ _ h)
 
-run_no : (p : ℕ → Bool) (c : ℕ) (cs : List ℕ) → p c ≡ false → run p (c ∷ cs) ≡ 0
+pub run_no : (p : ℕ → Bool) (c : ℕ) (cs : List ℕ) → p c ≡ false → run p (c ∷ cs) ≡ 0
 run_no p c cs h = ap length (take_while-cons p c cs ∙ cond-false _ _ _ h)
 
 pub run_moves : (p : ℕ → Bool) (w : List ℕ) (c : ℕ) (r r' : List ℕ) → p c ≡ false → (run p (w ++ c ∷ r') ≡ run p (w ++ c ∷ r)) × (run p (w ++ c ∷ r) ≤ length w)

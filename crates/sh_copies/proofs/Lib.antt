@@ -1,5 +1,6 @@
 pub mod AlikeBytes
 pub mod AlikePlain
 pub mod AlikeSigns
+pub mod Boundary
 pub mod Copies
 pub mod Forward

@@ -1,0 +1,257 @@
+-- What begins in a whole word before what ends it is the same before a blank, a newline or `)`.
+-- POSIX.1-2024, XCU 2.2.1 (line continuation), 2.3 (token recognition), 2.6.1 (tilde expansion).
+use Rattle.std.proofs.Common.{◌≡◌, ℕ, zero, suc, ◌+◌, ◌≤◌, ◌<◌, ◌==◌, Bool, true, false, not, ◌&&◌, ◌||◌, if◌then◌else◌, List, [], ◌∷◌, ◌++◌, length, drop, ◌⊎◌, inl, inr, refl, sym, ap, subst, ◌∙◌, arith}
+use Rattle.std.proofs.lemmas.Bool.{cond-true, cond-false, true≢false, eqb-true, and_parts}
+use Rattle.std.proofs.lemmas.Bool.Decides.{nat_tests}
+use Rattle.std.proofs.lemmas.List.{drop-append-le}
+use Rattle.sh_tree.specs.declared.refusal.Form.TheVariants as form
+use Rattle.sh_tree.specs.declared.token.word.Context.{Context}
+use Rattle.sh_tree.specs.declared.token.word.Site.{Site}
+use Rattle.sh_tree.specs.declared.token.word.Site.TheVariants as site
+use Rattle.sh_tree.specs.declared.token.word.Sign.{Sign}
+use Rattle.sh_tree.specs.declared.token.word.Sign.TheVariants as sign
+use Rattle.sh_tree.specs.standard.language.Bytes.{is_blank, is_newline, is_backslash, ends_token, is_first, is_last_backquote, run, joined_length, behind_joined, is_joined}
+use Rattle.sh_tree.specs.standard.language.Words as words
+use Rattle.sh_reads.proofs.TakeLemmas.{is_part}
+use Rattle.sh_copies.proofs.AlikeBytes.{by_bool, run_yes, run_no, zero_not}
+
+-- a byte that ends a word of the canonical text
+abbrev pub breaks : ℕ → Bool
+breaks c = is_blank c || is_newline c || c == 41
+
+-- a byte that ends a word, or with which what ends it begins
+abbrev pub is_edge : ℕ → Bool
+is_edge c = ends_token c || c == 92 || c == 96
+
+-- what ends a word begins with such a byte
+edge_first : (r : List ℕ) → words.ends_joined r ≡ true → is_first (λ c. not (is_edge c)) r ≡ false
+unfolding joined_length is_first is_last_backquote
+edge_first [] h = refl
+edge_first (c ∷ []) h = grind (arith, nat_tests, h)
+edge_first (c ∷ d ∷ cs) h = by_bool (is_backslash c && is_newline d)
+    (λ yes. grind (arith, nat_tests, yes))
+    (λ other.
+    let none : joined_length (c ∷ d ∷ cs) ≡ 0 = cond-false _ _ _ other in
+    let k : words.ends_joined (c ∷ d ∷ cs) ≡ (ends_token c || false) = rw (none, zero_not (suc (length cs))) refl in
+    grind (arith, nat_tests, sym k ∙ h))
+
+break_first : (r : List ℕ) → is_first breaks r ≡ true → is_first (λ c. not (is_edge c)) r ≡ false
+unfolding is_first
+break_first [] h = refl
+break_first (c ∷ cs) h = grind (arith, nat_tests, h)
+
+-- a class without such bytes has none of them at its front
+edge_none : (p : ℕ → Bool) → ((c : ℕ) → is_edge c ≡ true → p c ≡ false) → (r : List ℕ) → is_first (λ c. not (is_edge c)) r ≡ false → is_first p r ≡ false
+unfolding is_first
+edge_none p none [] h = refl
+edge_none p none (c ∷ cs) h = none c (go (is_edge c) h)
+  where
+    go : (t : Bool) → not t ≡ false → t ≡ true
+    go true k = refl
+    go false k = absurd (true≢false k)
+
+-- The end of a word that is no part before r: it begins with a line continuation, or is a lone backslash, or a lone backquote that ends the text.
+pub loose : List ℕ → List ℕ → Bool
+loose [] r = false
+loose (c ∷ []) r = is_backslash c || (c == 96 && length r == 0)
+loose (c ∷ d ∷ cs) r = is_backslash c && is_newline d
+
+neither : (t : Bool) → (t && false) ≡ false
+neither true = refl
+neither false = refl
+
+no_literal : (cs : List ℕ) → words.is_literal_backslash site.Word cs ≡ false
+unfolding is_first
+no_literal [] = refl
+no_literal (d ∷ cs) = neither (not (length (d ∷ cs) == 0))
+
+lone_none : (c : ℕ) (r : List ℕ) → is_backslash c ≡ false → joined_length (c ∷ r) ≡ 0
+unfolding joined_length
+lone_none c [] h = refl
+lone_none c (d ∷ r) h = cond-false _ _ _ (ap (λ t. t && is_newline d) h)
+
+left_none : (s t : Bool) → s || t ≡ false → s ≡ false
+left_none false t h = refl
+left_none true t h = absurd (true≢false h)
+
+joined_not : (c : ℕ) (v r rest : List ℕ) → loose (c ∷ v) r ≡ false → joined_length (c ∷ (v ++ rest)) ≡ 0
+unfolding joined_length loose
+joined_not c [] r rest h = lone_none c rest (left_none _ _ h)
+joined_not c (d ∷ v) r rest h = cond-false _ _ _ h
+
+-- no continuation begins before a blank, a newline or `)`
+break_joined : (r : List ℕ) → is_first breaks r ≡ true → joined_length r ≡ 0
+unfolding is_first joined_length
+break_joined [] h = refl
+break_joined (c ∷ r) h = lone_none c r (grind (arith, nat_tests, h))
+
+abbrev makes_part : Sign × ℕ → Bool
+makes_part f = is_part f.0
+
+-- a tilde-prefix
+abbrev pub is_prefix : Sign → Bool
+is_prefix sign.Tilde = true
+is_prefix _ = false
+
+-- a whole word, in which a tilde-prefix may begin at o
+module _ (o : ℕ) (colons fields backquotes : Bool) where
+  abbrev pub outer : Context
+  outer = record { site = site.Word; origin = o; colons = colons; fields = fields; strip = false; body = false; backquotes = backquotes }
+
+  -- a token of so many bytes of the word, which is a part
+  pub record Goes (prior i : ℕ) (v r : List ℕ) : Type 0 where
+    pub part : is_part (words.sign_of outer prior i (v ++ r)).0 ≡ true
+    pub fits : (words.sign_of outer prior i (v ++ r)).1 ≤ length v
+    -- and behind a tilde-prefix it may be cut
+    pub behind : is_prefix (words.sign_of outer prior i (v ++ r)).0 ≡ true → loose (drop (words.sign_of outer prior i (v ++ r)).1 v) r ≡ false
+
+  -- the word ends here, or goes on with a part
+  abbrev pub GoesOn : List ℕ → List ℕ → Type 0
+  GoesOn v r = (v ≡ []) ⊎ ((prior : ℕ) × (i : ℕ) × Goes prior i v r)
+
+  -- neither a backslash nor a backquote stands for itself
+  backslash_stands : (prior i : ℕ) (cs : List ℕ) → words.stands outer prior i 92 cs ≡ false
+  unfolding words.stands words.is_tilde
+  backslash_stands prior i cs = rw (no_literal cs) refl
+
+  backquote_stands : (prior i : ℕ) (cs : List ℕ) → words.stands outer prior i 96 cs ≡ false
+  unfolding words.stands words.is_tilde
+  backquote_stands prior i cs = refl
+
+  backslash_sign : (prior i : ℕ) (cs : List ℕ) → words.sign_of outer prior i (92 ∷ cs) ≡ words.backslash outer cs
+  unfolding words.sign_of words.sign_by words.meant_by
+  backslash_sign prior i cs = rw (backslash_stands prior i cs) refl
+
+  backquote_sign : (prior i : ℕ) (cs : List ℕ) → words.sign_of outer prior i (96 ∷ cs) ≡ words.backquoted outer cs
+  unfolding words.sign_of words.sign_by words.meant_by
+  backquote_sign prior i cs = rw (backquote_stands prior i cs) refl
+
+  continuation_none : (cs : List ℕ) → is_part (words.continuation outer cs).0 ≡ false
+  unfolding words.continuation
+  continuation_none cs = either (words.ends_joined cs)
+    where
+      either : (t : Bool) → makes_part (if t then (sign.Stop, 0) else (sign.LeftOut form.Continuation, 0)) ≡ false
+      either true = refl
+      either false = refl
+
+  -- a backslash keeps the byte behind it
+  lone_backslash : (prior i : ℕ) (r : List ℕ) → Goes prior i (92 ∷ []) r → ⊥
+  unfolding words.backslash
+  lone_backslash prior i [] g = absurd (true≢false (sym g.part ∙ ap (λ f. is_part f.0) (backslash_sign prior i [])))
+  lone_backslash prior i (c ∷ r) g = either (is_newline c) refl (sym g.part ∙ ap (λ f. is_part f.0) (backslash_sign prior i (c ∷ r))) (ap (λ f. f.1) (backslash_sign prior i (c ∷ r)))
+    where
+      either : (t : Bool) → is_newline c ≡ t → true ≡ is_part (if t then words.continuation outer r else (sign.Escaped, 2)).0
+          → (words.sign_of outer prior i (92 ∷ c ∷ r)).1 ≡ (if t then words.continuation outer r else (sign.Escaped, 2)).1 → ⊥
+      either true e k n = absurd (true≢false (k ∙ continuation_none r))
+      either false e k n = let fits = g.fits in absurd (omega arith)
+
+  -- where a word goes on it may be cut
+  loose_goes : (v r : List ℕ) → GoesOn v r → loose v r ≡ false
+  unfolding loose words.backslash words.backquoted
+  loose_goes v r (inl e) = rw e refl
+  loose_goes [] r (inr g) = refl
+  loose_goes (c ∷ []) r (inr g) = by_bool (is_backslash c)
+      (λ is. absurd (lone_backslash g.0 g.1 r (subst (λ k. Goes g.0 g.1 (k ∷ []) r) (eqb-true c 92 is) g.2)))
+      (λ other. rw other (ended (c == 96) refl r g.2))
+    where
+      ended : (t : Bool) → (c == 96) ≡ t → (r : List ℕ) → Goes g.0 g.1 (c ∷ []) r → (t && length r == 0) ≡ false
+      ended false e r k = refl
+      ended true e [] k =
+          let here : Goes g.0 g.1 (96 ∷ []) [] = subst (λ (k : ℕ). Goes g.0 g.1 (k ∷ []) []) (eqb-true c 96 e) k in
+          absurd (true≢false (sym here.part ∙ ap (λ f. is_part f.0) (backquote_sign g.0 g.1 [])))
+      ended true e (d ∷ r) k = zero_not (length r)
+  loose_goes (c ∷ d ∷ v) r (inr g) = by_bool (is_backslash c && is_newline d)
+      (λ is.
+      let both = and_parts (is_backslash c) (is_newline d) is in
+      let here : Goes g.0 g.1 (92 ∷ 10 ∷ v) r = subst (λ (k : ℕ). Goes g.0 g.1 (92 ∷ k ∷ v) r) (eqb-true d 10 both.1) (subst (λ (k : ℕ). Goes g.0 g.1 (k ∷ d ∷ v) r) (eqb-true c 92 both.0) g.2) in
+      absurd (true≢false (sym here.part ∙ ap (λ f. is_part f.0) (backslash_sign g.0 g.1 (10 ∷ (v ++ r))) ∙ newline_none (v ++ r))))
+      (λ other. other)
+    where
+      newline_none : (cs : List ℕ) → is_part (words.backslash outer (10 ∷ cs)).0 ≡ false
+      newline_none cs = continuation_none cs
+
+  -- Tilde-prefixes
+
+  abbrev ends_prefix : List ℕ → Bool
+  ends_prefix cs = length cs == 0 || is_first (λ c. c == 47 || (colons && c == 58) || ends_token c) cs || is_joined cs || is_last_backquote cs
+
+  by_second : (e f j l : Bool) → f ≡ true → e || f || j || l ≡ true
+  by_second true f j l h = refl
+  by_second false f j l h = rw h refl
+
+  by_third : (e f j l : Bool) → j ≡ true → e || f || j || l ≡ true
+  by_third true f j l h = refl
+  by_third false true j l h = refl
+  by_third false false j l h = rw h refl
+
+  stop_also : (s t : Bool) → t ≡ true → s || t ≡ true
+  stop_also true t h = refl
+  stop_also false t h = h
+
+  source_ends : (r : List ℕ) → words.ends_joined r ≡ true → ends_prefix r ≡ true
+  unfolding joined_length is_first is_last_backquote
+  source_ends [] h = refl
+  source_ends (c ∷ []) h = grind (arith, nat_tests, h)
+  source_ends (c ∷ d ∷ cs) h = by_bool (is_backslash c && is_newline d)
+      (λ yes.
+      let some : joined_length (c ∷ d ∷ cs) ≡ 2 + joined_length cs = cond-true _ _ _ yes in
+      by_third _ (is_first (λ c. c == 47 || (colons && c == 58) || ends_token c) (c ∷ d ∷ cs)) (is_joined (c ∷ d ∷ cs)) false (rw some (ap not (two_not (joined_length cs)))))
+      (λ other.
+      let none : joined_length (c ∷ d ∷ cs) ≡ 0 = cond-false _ _ _ other in
+      let k : words.ends_joined (c ∷ d ∷ cs) ≡ (ends_token c || false) = rw (none, zero_not (suc (length cs))) refl in
+      by_second (length (c ∷ d ∷ cs) == 0) _ (is_joined (c ∷ d ∷ cs)) false (stop_also (c == 47 || (colons && c == 58)) (ends_token c) (no_more (ends_token c) (sym k ∙ h))))
+    where
+      two_not : (n : ℕ) → (2 + n == 0) ≡ false
+      two_not n = grind (arith, nat_tests)
+
+      no_more : (t : Bool) → t || false ≡ true → t ≡ true
+      no_more true h = refl
+      no_more false h = h
+
+  break_ends : (r : List ℕ) → is_first breaks r ≡ true → ends_prefix r ≡ true
+  unfolding is_first
+  break_ends [] h = absurd (true≢false (sym h))
+  break_ends (c ∷ cs) h = by_second (length (c ∷ cs) == 0) _ (is_joined (c ∷ cs)) (is_last_backquote (c ∷ cs)) (stop_also (c == 47 || (colons && c == 58)) (ends_token c) (grind (arith, nat_tests, h)))
+
+  -- no lone backquote ends either text
+  last_outer : (c : ℕ) (v r r' : List ℕ) → is_first breaks r' ≡ true → loose (c ∷ v) r ≡ false → (is_last_backquote (c ∷ (v ++ r)) ≡ false) × (is_last_backquote (c ∷ (v ++ r')) ≡ false)
+  unfolding is_first is_last_backquote loose
+  last_outer c [] [] [] k l = absurd (true≢false (sym k))
+  last_outer c [] [] (d ∷ r') k l = (alone (is_backslash c) (c == 96) l, refl)
+    where
+      alone : (s t : Bool) → s || (t && true) ≡ false → t ≡ false
+      alone false false h = refl
+      alone false true h = h
+      alone true t h = absurd (true≢false h)
+  last_outer c [] (d ∷ r) [] k l = absurd (true≢false (sym k))
+  last_outer c [] (d ∷ r) (e ∷ r') k l = (refl, refl)
+  last_outer c (d ∷ v) r r' k l = (refl, refl)
+
+  prefix_outer : (v r r' : List ℕ) → words.ends_joined r ≡ true → is_first breaks r' ≡ true → loose v r ≡ false → ends_prefix (v ++ r') ≡ ends_prefix (v ++ r)
+  unfolding is_first
+  prefix_outer [] r r' h k l = break_ends r' k ∙ sym (source_ends r h)
+  prefix_outer (c ∷ v) r r' h k l =
+      let last = last_outer c v r r' k l in
+      rw (zero_not (length (v ++ r')), zero_not (length (v ++ r)), joined_not c v r r' l, joined_not c v r r l, last.0, last.1) refl
+
+  run_outer : (p : ℕ → Bool) (w r : List ℕ) → is_first p r ≡ false → (run p (w ++ r) ≡ run p w) × (run p w ≤ length w)
+  unfolding is_first
+  run_outer p [] [] h = (refl, omega arith)
+  run_outer p [] (c ∷ r) h = (run_no p c r h, omega arith)
+  run_outer p (a ∷ w) r h = by_bool (p a)
+      (λ yes. let m = run_outer p w r h in let within = m.1 in let e = run_yes p a w yes in (run_yes p a (w ++ r) yes ∙ ap suc m.0 ∙ sym e, omega arith))
+      (λ other. let e = run_no p a w other in (run_no p a (w ++ r) other ∙ sym e, omega arith))
+
+  edge_login : (c : ℕ) → is_edge c ≡ true → words.is_login_byte c ≡ false
+  edge_login c h = grind (arith, nat_tests, h)
+
+  -- a tilde-prefix before what ends the word
+  pub tilde_outer : (w r r' : List ℕ) → words.ends_joined r ≡ true → is_first breaks r' ≡ true → loose (drop (run words.is_login_byte w) w) r ≡ false
+      → words.tilde_length outer (w ++ r') ≡ words.tilde_length outer (w ++ r)
+  unfolding words.tilde_length
+  tilde_outer w r r' h k l =
+      let here = run_outer words.is_login_byte w r' (edge_none words.is_login_byte edge_login r' (break_first r' k)) in
+      let there = run_outer words.is_login_byte w r (edge_none words.is_login_byte edge_login r (edge_first r h)) in
+      let n = run words.is_login_byte w in
+      let v = drop n w in
+      rw (here.0, there.0, drop-append-le n w r' here.1, drop-append-le n w r here.1) (ap (λ t. if t then n + 1 else 0) (prefix_outer v r r' h k l))
