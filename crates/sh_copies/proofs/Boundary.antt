@@ -5,6 +5,7 @@ use Rattle.std.proofs.lemmas.Bool.{cond-true, cond-false, true≢false, eqb-true
 use Rattle.std.proofs.lemmas.Bool.Decides.{nat_tests}
 use Rattle.std.proofs.lemmas.List.{drop-append-le}
 use Rattle.sh_tree.specs.declared.refusal.Form.TheVariants as form
+use Rattle.sh_tree.specs.declared.tree.CommandStyle.TheVariants.{Paren}
 use Rattle.sh_tree.specs.declared.token.word.Context.{Context}
 use Rattle.sh_tree.specs.declared.token.word.Site.{Site}
 use Rattle.sh_tree.specs.declared.token.word.Site.TheVariants as site
@@ -255,3 +256,87 @@ module _ (o : ℕ) (colons fields backquotes : Bool) where
       let n = run words.is_login_byte w in
       let v = drop n w in
       rw (here.0, there.0, drop-append-le n w r' here.1, drop-append-le n w r here.1) (ap (λ t. if t then n + 1 else 0) (prefix_outer v r r' h k l))
+
+  -- A literal `$`
+
+  edge_literal : (c : ℕ) → breaks c ≡ true → words.opens_dollar false c ≡ false
+  edge_literal c h = grind (arith, nat_tests, h)
+
+  break_literal : (r : List ℕ) → is_first breaks r ≡ true → words.is_literal_dollar false r ≡ true
+  unfolding is_first
+  break_literal [] h = absurd (true≢false (sym h))
+  break_literal (c ∷ cs) h = rw (break_joined (c ∷ cs) h) (ap not (edge_literal c h))
+
+  -- before what ends the word it is literal, and elsewhere if it was
+  dollar_outer : (w r r' : List ℕ) → is_first breaks r' ≡ true → (w ≡ [] → words.is_literal_dollar false r ≡ true) → loose w r ≡ false
+      → words.is_literal_dollar false (w ++ r') ≡ words.is_literal_dollar false (w ++ r)
+  unfolding is_first
+  dollar_outer [] r r' k lone l = break_literal r' k ∙ sym (lone refl)
+  dollar_outer (c ∷ w) r r' k lone l = rw (joined_not c w r r' l, joined_not c w r r l) refl
+
+  -- a `$` that begins a part
+  literal_or : (prior i : ℕ) (cs : List ℕ) → words.stands outer prior i 36 cs ≡ words.is_literal_dollar false cs
+  unfolding words.stands words.is_tilde
+  literal_or prior i cs = refl
+
+  dollar_sign : (prior i : ℕ) (cs : List ℕ) → words.is_literal_dollar false cs ≡ false → words.sign_of outer prior i (36 ∷ cs) ≡ words.dollar outer i cs
+  unfolding words.sign_of words.sign_by words.meant_by
+  dollar_sign prior i cs h = rw (literal_or prior i cs, h) refl
+
+  unjoined : (cs : List ℕ) → is_joined cs ≡ false → joined_length cs ≡ 0
+  unjoined cs h = eqb-true (joined_length cs) 0 (go (joined_length cs == 0) h)
+    where
+      go : (t : Bool) → not t ≡ false → t ≡ true
+      go true h = refl
+      go false h = absurd (true≢false h)
+
+  -- `$(` takes both bytes
+  parenthesis_takes : (i : ℕ) (cs : List ℕ) → is_joined (40 ∷ cs) ≡ false → 1 < (words.dollar outer i (40 ∷ cs)).1
+  unfolding words.dollar words.dollar_expansion words.parenthesis
+  parenthesis_takes i cs none = rw none (go (is_first (λ c. c == 40) cs) (is_first (λ c. c == 40) (behind_joined cs)))
+    where
+      takes : Sign × ℕ → Sign × ℕ
+      takes f = words.sign_in outer f
+
+      go : (t u : Bool) → 1 < (takes (if t then (sign.Arith, 3) else (if u then (sign.LeftOut form.Continuation, 2) else (sign.Substitution Paren, 2)))).1
+      go true u = omega arith
+      go false true = omega arith
+      go false false = omega arith
+
+  lone_takes : (i : ℕ) (r : List ℕ) → is_first (λ c. not (is_edge c)) r ≡ false → is_first (words.opens_dollar false) r ≡ true → is_joined r ≡ false → 1 < (words.dollar outer i r).1
+  unfolding is_first
+  lone_takes i [] edge opens none = absurd (true≢false (sym opens))
+  lone_takes i (c ∷ cs) edge opens none =
+      let is : c ≡ 40 = eqb-true c 40 (grind (arith, nat_tests, edge, opens)) in
+      subst (λ k. is_joined (k ∷ cs) ≡ false → 1 < (words.dollar outer i (k ∷ cs)).1) (sym is) (parenthesis_takes i cs) none
+
+  -- such a `$` is followed by what it opens, in the word
+  dollar_opens : (prior i : ℕ) (v r : List ℕ) → words.ends_joined r ≡ true → Goes prior i (36 ∷ v) r → words.is_literal_dollar false (v ++ r) ≡ false
+      → is_first (words.opens_dollar false) v ≡ true
+  unfolding is_first words.dollar
+  dollar_opens prior i v r h g lit = by_bool (is_joined (v ++ r))
+      (λ yes. absurd (true≢false (sym g.part ∙ ap makes_part (dollar_sign prior i (v ++ r) lit) ∙ ap makes_part (cond-true _ _ _ yes))))
+      (λ other. go v refl other (opens (is_first (words.opens_dollar false) (v ++ r)) (ap (λ n. not (is_first (words.opens_dollar false) (drop n (v ++ r)))) (sym (unjoined (v ++ r) other)) ∙ lit)))
+    where
+      opens : (t : Bool) → not t ≡ false → t ≡ true
+      opens true h = refl
+      opens false h = absurd (true≢false h)
+
+      go : (u : List ℕ) → u ≡ v → is_joined (v ++ r) ≡ false → is_first (words.opens_dollar false) (v ++ r) ≡ true → is_first (words.opens_dollar false) v ≡ true
+      go [] e none k =
+          let none' : is_joined r ≡ false = ap (λ w. is_joined (w ++ r)) e ∙ none in
+          let k' : is_first (words.opens_dollar false) r ≡ true = ap (λ w. is_first (words.opens_dollar false) (w ++ r)) e ∙ k in
+          let long = lone_takes i r (edge_first r h) k' none' in
+          let size : (words.sign_of outer prior i (36 ∷ r)).1 ≡ (words.dollar outer i r).1 = ap (λ f. f.1) (ap (λ w. words.sign_of outer prior i (36 ∷ (w ++ r))) e ∙ dollar_sign prior i (v ++ r) lit ∙ sym (ap (λ w. words.dollar outer i (w ++ r)) e)) in
+          let fits : (words.sign_of outer prior i (36 ∷ r)).1 ≤ 1 = subst (λ (w : List ℕ). (words.sign_of outer prior i (36 ∷ (w ++ r))).1 ≤ length (36 ∷ w)) (sym e) g.fits in
+          absurd (omega arith)
+      go (c ∷ u) e none k = sym (ap (is_first (words.opens_dollar false)) e) ∙ ap (λ w. is_first (words.opens_dollar false) (w ++ r)) e ∙ k
+
+  opens_not_loose : (v r : List ℕ) → is_first (words.opens_dollar false) v ≡ true → loose v r ≡ false
+  unfolding is_first loose
+  opens_not_loose [] r h = refl
+  opens_not_loose (c ∷ []) r h =
+      let a : is_backslash c ≡ false = grind (arith, nat_tests, h) in
+      let b : (c == 96) ≡ false = grind (arith, nat_tests, h) in
+      rw (a, b) refl
+  opens_not_loose (c ∷ d ∷ v) r h = let a : is_backslash c ≡ false = grind (arith, nat_tests, h) in rw a refl
