@@ -340,3 +340,64 @@ module _ (o : ℕ) (colons fields backquotes : Bool) where
       let b : (c == 96) ≡ false = grind (arith, nat_tests, h) in
       rw (a, b) refl
   opens_not_loose (c ∷ d ∷ v) r h = let a : is_backslash c ≡ false = grind (arith, nat_tests, h) in rw a refl
+
+  -- Bytes that stand for themselves
+
+  stands_other : (prior i a : ℕ) (cs cs' : List ℕ) → (a == 126) ≡ false → (a == 36) ≡ false → words.stands outer prior i a cs' ≡ words.stands outer prior i a cs
+  unfolding words.stands words.is_tilde
+  stands_other prior i a cs cs' t d = rw (t, d, no_literal cs, no_literal cs') refl
+
+  stands_tilde : (prior i : ℕ) (v r r' : List ℕ) → words.ends_joined r ≡ true → is_first breaks r' ≡ true → loose (drop (run words.is_login_byte v) v) r ≡ false
+      → words.stands outer prior i 126 (v ++ r') ≡ words.stands outer prior i 126 (v ++ r)
+  unfolding words.stands words.is_tilde
+  stands_tilde prior i v r r' h k l = rw (tilde_outer v r r' h k l) refl
+
+  tilde_sign : (prior i : ℕ) (cs : List ℕ) → words.stands outer prior i 126 cs ≡ false → words.sign_of outer prior i (126 ∷ cs) ≡ (sign.Tilde, words.tilde_length outer cs)
+  unfolding words.sign_of words.sign_by
+  tilde_sign prior i cs h = rw h refl
+
+  tilde_size : (cs : List ℕ) → 0 < words.tilde_length outer cs → words.tilde_length outer cs ≡ suc (run words.is_login_byte cs)
+  unfolding words.tilde_length
+  tilde_size cs some = go (ends_prefix (drop (run words.is_login_byte cs) cs)) some
+    where
+      go : (t : Bool) → 0 < (if t then run words.is_login_byte cs + 1 else 0) → (if t then run words.is_login_byte cs + 1 else 0) ≡ suc (run words.is_login_byte cs)
+      go true h = omega arith
+      go false h = absurd (omega arith)
+
+  tilde_takes : (prior i : ℕ) (cs : List ℕ) → words.stands outer prior i 126 cs ≡ false → 0 < words.tilde_length outer cs
+  unfolding words.stands words.is_tilde
+  tilde_takes prior i cs h = go (words.may_be_tilde outer prior i) (words.tilde_length outer cs) h
+    where
+      go : (m : Bool) (n : ℕ) → (not (m && not (n == 0)) && true) ≡ false → 0 < n
+      go false n h = absurd (true≢false h)
+      go true zero h = absurd (true≢false h)
+      go true (suc n) h = omega arith
+
+  -- behind a tilde-prefix the word may be cut
+  tilde_behind : (prior i : ℕ) (v r : List ℕ) → words.ends_joined r ≡ true → Goes prior i (126 ∷ v) r → words.stands outer prior i 126 (v ++ r) ≡ false → loose (drop (run words.is_login_byte v) v) r ≡ false
+  tilde_behind prior i v r h g none =
+      let is = tilde_sign prior i (v ++ r) none in
+      let takes = tilde_takes prior i (v ++ r) none in
+      let size = tilde_size (v ++ r) takes ∙ ap suc (run_outer words.is_login_byte v r (edge_none words.is_login_byte edge_login r (edge_first r h))).0 in
+      subst (λ n. loose (drop n (126 ∷ v)) r ≡ false) size (subst (λ (f : Sign × ℕ). loose (drop f.1 (126 ∷ v)) r ≡ false) is (g.behind (ap (λ f. is_prefix f.0) is)))
+
+  -- where a part begins that is no such byte none is in the copy
+  stands_goes : (prior i a : ℕ) (v r r' : List ℕ) → words.ends_joined r ≡ true → is_first breaks r' ≡ true → Goes prior i (a ∷ v) r → words.stands outer prior i a (v ++ r) ≡ false
+      → words.stands outer prior i a (v ++ r') ≡ false
+  unfolding is_first
+  stands_goes prior i a v r r' h k g none = by_bool (a == 126)
+      (λ is. subst Claim (sym (eqb-true a 126 is)) (λ g none. stands_tilde prior i v r r' h k (tilde_behind prior i v r h g none) ∙ none) g none)
+      (λ no_tilde. by_bool (a == 36)
+      (λ is. subst Claim (sym (eqb-true a 36 is)) dollar g none)
+      (λ no_dollar. stands_other prior i a (v ++ r) (v ++ r') no_tilde no_dollar ∙ none))
+    where
+      Claim : ℕ → Type 0
+      Claim a = Goes prior i (a ∷ v) r → words.stands outer prior i a (v ++ r) ≡ false → words.stands outer prior i a (v ++ r') ≡ false
+
+      none_opens : is_first (words.opens_dollar false) [] ≡ false
+      none_opens = refl
+
+      dollar : Goes prior i (36 ∷ v) r → words.stands outer prior i 36 (v ++ r) ≡ false → words.stands outer prior i 36 (v ++ r') ≡ false
+      dollar g none =
+          let opens = dollar_opens prior i v r h g (sym (literal_or prior i (v ++ r)) ∙ none) in
+          literal_or prior i (v ++ r') ∙ dollar_outer v r r' k (λ e. absurd (true≢false (sym opens ∙ ap (is_first (words.opens_dollar false)) e ∙ none_opens))) (opens_not_loose v r opens) ∙ sym (literal_or prior i (v ++ r)) ∙ none
