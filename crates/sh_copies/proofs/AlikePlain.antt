@@ -31,11 +31,11 @@ pub stands_alike : (x : Context) (prior i a : ℕ) (cs cs' : List ℕ) → Alike
 unfolding words.stands words.is_tilde
 stands_alike x prior i a cs cs' k = rw (tilde_alike x cs cs' k, literal_alike x.site a cs cs' k) refl
 
-plain_yes : (x : Context) (prior i c : ℕ) (cs : List ℕ) → words.stands x prior i c cs ≡ true → words.plain_length x prior i (c ∷ cs) ≡ 1 + words.plain_length x c (i + 1) cs
+pub plain_yes : (x : Context) (prior i c : ℕ) (cs : List ℕ) → words.stands x prior i c cs ≡ true → words.plain_length x prior i (c ∷ cs) ≡ 1 + words.plain_length x c (i + 1) cs
 unfolding words.plain_length
 plain_yes x prior i c cs h = cond-true _ _ _ h
 
-plain_no : (x : Context) (prior i c : ℕ) (cs : List ℕ) → words.stands x prior i c cs ≡ false → words.plain_length x prior i (c ∷ cs) ≡ 0
+pub plain_no : (x : Context) (prior i c : ℕ) (cs : List ℕ) → words.stands x prior i c cs ≡ false → words.plain_length x prior i (c ∷ cs) ≡ 0
 unfolding words.plain_length
 plain_no x prior i c cs h = cond-false _ _ _ h
 

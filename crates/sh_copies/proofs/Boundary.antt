@@ -15,6 +15,7 @@ use Rattle.sh_tree.specs.standard.language.Bytes.{is_blank, is_newline, is_backs
 use Rattle.sh_tree.specs.standard.language.Words as words
 use Rattle.sh_reads.proofs.TakeLemmas.{is_part}
 use Rattle.sh_copies.proofs.AlikeBytes.{by_bool, run_yes, run_no, zero_not}
+use Rattle.sh_copies.proofs.AlikePlain.{plain_yes, plain_no}
 
 -- a byte that ends a word of the canonical text
 abbrev pub breaks : ℕ → Bool
@@ -94,6 +95,15 @@ abbrev pub is_prefix : Sign → Bool
 is_prefix sign.Tilde = true
 is_prefix _ = false
 
+add_one : (n : ℕ) → 1 + n ≡ suc n
+add_one n = omega arith
+
+-- the byte before what is left of the text behind n bytes, or what stood before the text
+unfoldable pub before : ℕ → List ℕ → ℕ → ℕ
+before prior [] n = prior
+before prior (a ∷ w) zero = prior
+before prior (a ∷ w) (suc n) = before a w n
+
 -- a whole word, in which a tilde-prefix may begin at o
 module _ (o : ℕ) (colons fields backquotes : Bool) where
   abbrev pub outer : Context
@@ -109,6 +119,14 @@ module _ (o : ℕ) (colons fields backquotes : Bool) where
   -- the word ends here, or goes on with a part
   abbrev pub GoesOn : List ℕ → List ℕ → Type 0
   GoesOn v r = (v ≡ []) ⊎ ((prior : ℕ) × (i : ℕ) × Goes prior i v r)
+
+  -- the same, behind the byte `prior`
+  abbrev pub GoesAt : ℕ → ℕ → List ℕ → List ℕ → Type 0
+  GoesAt prior i v r = (v ≡ []) ⊎ Goes prior i v r
+
+  goes_on : (prior i : ℕ) (v r : List ℕ) → GoesAt prior i v r → GoesOn v r
+  goes_on prior i v r (inl e) = inl e
+  goes_on prior i v r (inr g) = inr (prior, i, g)
 
   -- neither a backslash nor a backquote stands for itself
   backslash_stands : (prior i : ℕ) (cs : List ℕ) → words.stands outer prior i 92 cs ≡ false
@@ -401,3 +419,83 @@ module _ (o : ℕ) (colons fields backquotes : Bool) where
       dollar g none =
           let opens = dollar_opens prior i v r h g (sym (literal_or prior i (v ++ r)) ∙ none) in
           literal_or prior i (v ++ r') ∙ dollar_outer v r r' k (λ e. absurd (true≢false (sym opens ∙ ap (is_first (words.opens_dollar false)) e ∙ none_opens))) (opens_not_loose v r opens) ∙ sym (literal_or prior i (v ++ r)) ∙ none
+
+  -- where a run of such bytes begins the word may be cut
+  run_settled : (v r : List ℕ) (prior i : ℕ) → GoesOn (drop (words.plain_length outer prior i (v ++ r)) v) r → loose v r ≡ false
+  unfolding loose
+  run_settled [] r prior i g = refl
+  run_settled (c ∷ v) r prior i g = by_bool (is_backslash c)
+      (λ is. stuck (ap (λ k. words.stands outer prior i k (v ++ r)) (eqb-true c 92 is) ∙ backslash_stands prior i (v ++ r)))
+      (λ other. by_bool (c == 96)
+      (λ is. stuck (ap (λ k. words.stands outer prior i k (v ++ r)) (eqb-true c 96 is) ∙ backquote_stands prior i (v ++ r)))
+      (λ others. go v other others))
+    where
+      stuck : words.stands outer prior i c (v ++ r) ≡ false → loose (c ∷ v) r ≡ false
+      stuck none = loose_goes (c ∷ v) r (subst (λ n. GoesOn (drop n (c ∷ v)) r) (plain_no outer prior i c (v ++ r) none) g)
+
+      go : (u : List ℕ) → is_backslash c ≡ false → (c == 96) ≡ false → loose (c ∷ u) r ≡ false
+      go [] a b = rw (a, b) refl
+      go (d ∷ u) a b = rw a refl
+
+  login_stands : (prior i c : ℕ) (cs : List ℕ) → words.is_login_byte c ≡ true → words.stands outer prior i c cs ≡ true
+  unfolding words.stands words.is_tilde
+  login_stands prior i c cs h =
+      let a : ends_token c ≡ false = grind (arith, nat_tests, h) in
+      let b : (c == 126) ≡ false = grind (arith, nat_tests, h) in
+      let s : words.is_special site.Word c ≡ false = grind (arith, nat_tests, h) in
+      rw (a, b, s) refl
+
+  -- and behind a login name in it
+  login_settled : (v r : List ℕ) (prior i : ℕ) → GoesOn (drop (words.plain_length outer prior i (v ++ r)) v) r → loose (drop (run words.is_login_byte v) v) r ≡ false
+  unfolding loose
+  login_settled [] r prior i g = refl
+  login_settled (c ∷ v) r prior i g = by_bool (words.is_login_byte c)
+      (λ is.
+      let one = plain_yes outer prior i c (v ++ r) (login_stands prior i c (v ++ r) is) in
+      let more : GoesOn (drop (words.plain_length outer c (i + 1) (v ++ r)) v) r = subst (λ n. GoesOn (drop n (c ∷ v)) r) (one ∙ add_one (words.plain_length outer c (i + 1) (v ++ r))) g in
+      ap (λ n. loose (drop n (c ∷ v)) r) (run_yes words.is_login_byte c v is) ∙ login_settled v r c (i + 1) more)
+      (λ other. ap (λ n. loose (drop n (c ∷ v)) r) (run_no words.is_login_byte c v other) ∙ run_settled (c ∷ v) r prior i g)
+
+  -- a byte of such a run stands for itself in the copy
+  stands_run : (prior i a : ℕ) (v r r' : List ℕ) → words.ends_joined r ≡ true → is_first breaks r' ≡ true → GoesOn (drop (words.plain_length outer a (i + 1) (v ++ r)) v) r
+      → words.stands outer prior i a (v ++ r) ≡ true → words.stands outer prior i a (v ++ r') ≡ true
+  stands_run prior i a v r r' h k g is = by_bool (a == 126)
+      (λ tilde. let e = eqb-true a 126 tilde in
+      ap (λ c. words.stands outer prior i c (v ++ r')) e ∙ stands_tilde prior i v r r' h k (login_settled v r a (i + 1) g) ∙ sym (ap (λ c. words.stands outer prior i c (v ++ r)) e) ∙ is)
+      (λ no_tilde. by_bool (a == 36)
+      (λ dollar. let e = eqb-true a 36 dollar in
+      let literal = sym (literal_or prior i (v ++ r)) ∙ sym (ap (λ c. words.stands outer prior i c (v ++ r)) e) ∙ is in
+      ap (λ c. words.stands outer prior i c (v ++ r')) e ∙ literal_or prior i (v ++ r') ∙ dollar_outer v r r' k (λ none. sym (ap (λ w. words.is_literal_dollar false (w ++ r)) none) ∙ literal) (run_settled v r a (i + 1) g) ∙ literal)
+      (λ no_dollar. stands_other prior i a (v ++ r) (v ++ r') no_tilde no_dollar ∙ is))
+
+  break_stops : (prior i : ℕ) (r : List ℕ) → is_first breaks r ≡ true → words.plain_length outer prior i r ≡ 0
+  unfolding is_first words.stands
+  break_stops prior i [] h = absurd (true≢false (sym h))
+  break_stops prior i (c ∷ cs) h = let ends : ends_token c ≡ true = grind (arith, nat_tests, h) in plain_no outer prior i c cs (rw ends refl)
+
+  -- so many bytes stand for themselves before whatever ends the word
+  pub plain_outer : (prior i : ℕ) (w r r' : List ℕ) → words.ends_joined r ≡ true → is_first breaks r' ≡ true → (n : ℕ) → words.plain_length outer prior i (w ++ r) ≡ n → n ≤ length w
+      → GoesAt (before prior w n) (i + n) (drop n w) r → words.plain_length outer prior i (w ++ r') ≡ n
+  unfolding before
+  plain_outer prior i [] r r' h k n size fits g = break_stops prior i r' k ∙ omega arith
+  plain_outer prior i (a ∷ v) r r' h k zero size fits g = by_bool (words.stands outer prior i a (v ++ r))
+      (λ yes. let e = plain_yes outer prior i a (v ++ r) yes in absurd (omega arith))
+      (λ other. plain_no outer prior i a (v ++ r') (ended (subst (λ j. GoesAt prior j (a ∷ v) r) (none i) g) other))
+    where
+      none : (i : ℕ) → i + 0 ≡ i
+      none i = omega arith
+
+      ended : GoesAt prior i (a ∷ v) r → words.stands outer prior i a (v ++ r) ≡ false → words.stands outer prior i a (v ++ r') ≡ false
+      ended (inl e) none = cc
+      ended (inr g) none = stands_goes prior i a v r r' h k g none
+  plain_outer prior i (a ∷ v) r r' h k (suc n) size fits g = by_bool (words.stands outer prior i a (v ++ r))
+      (λ yes.
+      let e = plain_yes outer prior i a (v ++ r) yes in
+      let inner : words.plain_length outer a (i + 1) (v ++ r) ≡ n = omega arith in
+      let more = subst (λ j. GoesAt (before a v n) j (drop n v) r) (along i n) g in
+      plain_yes outer prior i a (v ++ r') (stands_run prior i a v r r' h k (subst (λ m. GoesOn (drop m v) r) (sym inner) (goes_on _ _ _ r more)) yes)
+      ∙ ap (λ n. 1 + n) (plain_outer a (i + 1) v r r' h k n inner (omega arith) more) ∙ add_one n)
+      (λ other. let e = plain_no outer prior i a (v ++ r) other in absurd (omega arith))
+    where
+      along : (i n : ℕ) → i + suc n ≡ i + 1 + n
+      along i n = omega arith
