@@ -22,7 +22,7 @@ tilde_alike x cs cs' a =
         → (if e' || f' || j' || l' then n' + 1 else 0) ≡ (if e || f || j || l then n + 1 else 0)
     go e e' f f' j j' l l' n n' some first joined last size = rw (some.0, some.1, first, joined, last.0, last.1, size) refl
 
-literal_alike : (s : Site) (a : ℕ) (cs cs' : List ℕ) → Alike cs cs' → words.is_literal s a cs' ≡ words.is_literal s a cs
+pub literal_alike : (s : Site) (a : ℕ) (cs cs' : List ℕ) → Alike cs cs' → words.is_literal s a cs' ≡ words.is_literal s a cs
 literal_alike s a cs cs' k =
     let some = some_alike cs cs' k in
     rw (behind_alike (words.opens_dollar (words.is_quoted s)) cs cs' k, some.0, some.1, first_alike (words.is_escaped s) cs cs' k) refl
@@ -40,7 +40,7 @@ unfolding words.plain_length
 plain_no x prior i c cs h = cond-false _ _ _ h
 
 -- a closer stands for itself or does not, whatever follows
-closer_stands : (x : Context) (prior i c : ℕ) (r r' : List ℕ) → is_closer c ≡ true → words.stands x prior i c r' ≡ words.stands x prior i c r
+pub closer_stands : (x : Context) (prior i c : ℕ) (r r' : List ℕ) → is_closer c ≡ true → words.stands x prior i c r' ≡ words.stands x prior i c r
 unfolding words.stands words.is_tilde
 closer_stands x prior i c r r' h = let k = closer_plain c h in rw (k.dollar, k.tilde, k.backslash) refl
 

@@ -1,7 +1,7 @@
 -- What begins in a word before a byte that closes what it stands in is the same whatever follows that byte.
 -- POSIX.1-2024, XCU 2.2 (quoting), 2.6 (word expansions).
 use Rattle.std.proofs.Common.{◌≡◌, ℕ, zero, suc, ◌+◌, ◌≤◌, ◌<◌, ◌==◌, Bool, true, false, not, ◌&&◌, ◌||◌, if◌then◌else◌, nat_lt, List, [], ◌∷◌, ◌++◌, length, drop, ◌⊎◌, inl, inr, refl, sym, ap, subst, ◌∙◌, arith, length-append}
-use Rattle.std.proofs.lemmas.Bool.{cond-true, cond-false, true≢false, lt-ltb}
+use Rattle.std.proofs.lemmas.Bool.{cond-true, cond-false, true≢false, lt-ltb, eqb-true}
 use Rattle.std.proofs.lemmas.Bool.Decides.{nat_tests}
 use Rattle.sh_tree.specs.declared.tree.SingleStyle.TheVariants as style
 use Rattle.sh_tree.specs.declared.refusal.Fault.TheVariants as fault
@@ -11,10 +11,12 @@ use Rattle.sh_tree.specs.declared.token.word.Site.{Site}
 use Rattle.sh_tree.specs.declared.token.word.Site.TheVariants as site
 use Rattle.sh_tree.specs.declared.token.word.Sign.{Sign}
 use Rattle.sh_tree.specs.declared.token.word.Sign.TheVariants as sign
-use Rattle.sh_tree.specs.standard.language.Bytes.{is_backslash, is_newline, is_tab, is_name_start, is_name_byte, is_first, name_length, run}
+use Rattle.sh_tree.specs.standard.language.Bytes.{is_backslash, is_newline, is_tab, is_name_start, is_name_byte, is_first, is_joined, ends_token, name_length, run}
 use Rattle.sh_tree.specs.standard.language.Words as words
 use Rattle.sh_reads.proofs.TakeLemmas.{is_part}
-use Rattle.sh_copies.proofs.AlikeBytes.{is_closer, by_bool, run_yes, run_no}
+use Rattle.sh_copies.proofs.AlikeBytes.{is_closer, closer_plain, by_bool, run_yes, run_no, Alike, first_alike, joined_alike, some_alike, last_alike, by_first, behind_run, past_joined}
+use Rattle.sh_copies.proofs.AlikePlain.{stands_alike, closer_stands, plain_yes, plain_no, plain_alike, tilde_alike}
+use Rattle.sh_copies.proofs.AlikeSigns.{name_alike, named_alike, braced_alike, parenthesis_alike}
 
 -- Quotes that end in the copy
 
@@ -131,3 +133,115 @@ quoted_moves (c ∷ d ∷ w) r r' h fits = by_bool (c == 39)
     let t = told_single 1 (words.dollar_quoted (d ∷ (w ++ r))) (ap single_found (sym e) ∙ h) in
     let size : (words.dollar_quoted (c ∷ d ∷ (w ++ r))).1 ≡ 1 + (words.dollar_quoted (d ∷ (w ++ r))).1 = ap (λ g. g.1) e ∙ t.1 in
     quoted_other c d (w ++ r') other plain ∙ ap (words.told_or 1) (quoted_moves (d ∷ w) r r' t.0 (omega arith)) ∙ sym e))
+
+abbrev part_found : Sign × ℕ → Bool
+part_found f = is_part f.0
+
+told_part : (n : ℕ) (f : Sign × ℕ) → is_part (words.told_or n f).0 ≡ is_part f.0
+told_part n (sign.Single s, m) = refl
+told_part n (sign.LeftOut f, m) = refl
+told_part n (g, m) = refl
+
+told_is_single : (n : ℕ) (f : Sign × ℕ) → is_single f.0 ≡ true → is_single (words.told_or n f).0 ≡ true
+told_is_single n (sign.Single s, m) h = refl
+told_is_single n (g, m) h = absurd (true≢false (sym h))
+
+-- what follows `$'` is quotes, or is refused
+quoted_part : (cs : List ℕ) → is_part (words.dollar_quoted cs).0 ≡ true → is_single (words.dollar_quoted cs).0 ≡ true
+unfolding words.dollar_quoted
+quoted_part [] h = absurd (true≢false (sym h))
+quoted_part (c ∷ []) h = by_bool (c == 39)
+    (λ end. ap single_found (quoted_end c [] end))
+    (λ other. absurd (true≢false (sym h ∙ ap part_found (cond-false _ _ _ other))))
+quoted_part (c ∷ d ∷ cs) h = by_bool (c == 39)
+    (λ end. ap single_found (quoted_end c (d ∷ cs) end))
+    (λ other. by_bool (c == 92)
+    (λ slash. by_bool (words.is_dollar_escape d)
+    (λ escape.
+    let e = quoted_escape c d cs other slash ∙ cond-true _ _ _ escape in
+    ap single_found e ∙ told_is_single 2 (words.dollar_quoted cs) (quoted_part cs (sym (told_part 2 (words.dollar_quoted cs)) ∙ ap part_found (sym e) ∙ h)))
+    (λ bad. absurd (true≢false (sym h ∙ ap part_found (quoted_escape c d cs other slash ∙ cond-false _ _ _ bad)))))
+    (λ plain.
+    let e = quoted_other c d cs other plain in
+    ap single_found e ∙ told_is_single 1 (words.dollar_quoted (d ∷ cs)) (quoted_part (d ∷ cs) (sym (told_part 1 (words.dollar_quoted (d ∷ cs))) ∙ ap part_found (sym e) ∙ h))))
+
+-- `$'` and what it quotes, in the copy
+pub dollar_quotes : (w r r' : List ℕ) → is_part (words.told_or 2 (words.dollar_quoted (w ++ r))).0 ≡ true → (words.told_or 2 (words.dollar_quoted (w ++ r))).1 ≤ length w + 2
+    → words.dollar_quoted (w ++ r') ≡ words.dollar_quoted (w ++ r)
+dollar_quotes w r r' h fits =
+    let f = words.dollar_quoted (w ++ r) in
+    let is = quoted_part (w ++ r) (sym (told_part 2 f) ∙ h) in
+    let size = (told_single 2 f (told_is_single 2 f is)).1 in
+    quoted_moves w r r' is (omega arith)
+
+-- Expansions
+
+-- what stands behind a name is alike too
+behind_name : (cs cs' : List ℕ) → Alike cs cs' → Alike (drop (name_length cs) cs) (drop (name_length cs') cs')
+unfolding name_length
+behind_name cs cs' a = by_bool (is_first is_name_start cs)
+    (λ yes. rw (first_alike is_name_start cs cs' a, yes) (behind_run is_name_byte cs cs' a (λ c h. (closer_plain c h).name)))
+    (λ other. rw (first_alike is_name_start cs cs' a, other) a)
+
+named_whole : (i : ℕ) (cs cs' : List ℕ) → Alike cs cs' → words.named_value i (name_length cs') (drop (name_length cs') cs') ≡ words.named_value i (name_length cs) (drop (name_length cs) cs)
+named_whole i cs cs' a = ap (λ n. words.named_value i n (drop (name_length cs') cs')) (name_alike cs cs' a) ∙ named_alike i (name_length cs) _ _ (behind_name cs cs' a)
+
+pub quote_expansion : (i : ℕ) (cs : List ℕ) → words.dollar_expansion i (39 ∷ cs) ≡ words.told_or 2 (words.dollar_quoted cs)
+unfolding words.dollar_expansion
+quote_expansion i cs = refl
+
+closer_opens : (c : ℕ) → is_closer c ≡ true → (is_name_start c ≡ false) × ((c == 123) ≡ false) × ((c == 40) ≡ false) × ((c == 91) ≡ false) × ((c == 39) ≡ false)
+closer_opens c h = (grind (arith, nat_tests), grind (arith, nat_tests), grind (arith, nat_tests), grind (arith, nat_tests), grind (arith, nat_tests))
+
+expansion_alike : (i : ℕ) (w : List ℕ) (c : ℕ) (r r' : List ℕ) → is_closer c ≡ true → is_part (words.dollar_expansion i (w ++ c ∷ r)).0 ≡ true → (words.dollar_expansion i (w ++ c ∷ r)).1 ≤ length w + 1
+    → words.dollar_expansion i (w ++ c ∷ r') ≡ words.dollar_expansion i (w ++ c ∷ r)
+unfolding words.dollar_expansion
+expansion_alike i [] c r r' h part fits = let k = closer_opens c h in rw (k.0, k.1, k.2, k.3, k.4) refl
+expansion_alike i (a ∷ v) c r r' h part fits =
+    let inner : Alike (v ++ c ∷ r) (v ++ c ∷ r') = record { w = v; c = c; r = r; r' = r'; closes = h; there = refl; here = refl } in
+    let whole : Alike (a ∷ (v ++ c ∷ r)) (a ∷ (v ++ c ∷ r')) = record { w = a ∷ v; c = c; r = r; r' = r'; closes = h; there = refl; here = refl } in
+    by_bool (a == 39)
+    (λ quote. subst Claim (sym (eqb-true a 39 quote)) quotes part fits)
+    (λ other. rw (named_whole i _ _ whole, braced_alike i _ _ inner, parenthesis_alike _ _ inner, other) refl)
+  where
+    Claim : ℕ → Type 0
+    Claim a = is_part (words.dollar_expansion i (a ∷ (v ++ c ∷ r))).0 ≡ true → (words.dollar_expansion i (a ∷ (v ++ c ∷ r))).1 ≤ suc (length v) + 1 → words.dollar_expansion i (a ∷ (v ++ c ∷ r')) ≡ words.dollar_expansion i (a ∷ (v ++ c ∷ r))
+
+    quotes : Claim 39
+    quotes part fits = ap (words.told_or 2) (dollar_quotes v (c ∷ r) (c ∷ r') part (omega arith))
+
+-- A sign
+
+sign_in_part : (x : Context) (f : Sign × ℕ) → is_part (words.sign_in x f).0 ≡ true → words.sign_in x f ≡ f
+sign_in_part x f h = go (words.is_all f.0 && not x.fields) h
+  where
+    go : (t : Bool) → part_found (if t then (sign.LeftOut form.AllParameters, 0) else f) ≡ true → (if t then (sign.LeftOut form.AllParameters, 0) else f) ≡ f
+    go true h = absurd (true≢false (sym h))
+    go false h = refl
+
+dollar_alike : (x : Context) (i : ℕ) (w : List ℕ) (c : ℕ) (r r' : List ℕ) → is_closer c ≡ true → is_part (words.dollar x i (w ++ c ∷ r)).0 ≡ true → (words.dollar x i (w ++ c ∷ r)).1 ≤ length w + 1
+    → words.dollar x i (w ++ c ∷ r') ≡ words.dollar x i (w ++ c ∷ r)
+unfolding words.dollar
+dollar_alike x i w c r r' h part fits =
+    let alike : Alike (w ++ c ∷ r) (w ++ c ∷ r') = record { w = w; c = c; r = r; r' = r'; closes = h; there = refl; here = refl } in
+    by_bool (is_joined (w ++ c ∷ r))
+    (λ yes. cond-true _ _ _ (joined_alike _ _ alike ∙ yes) ∙ sym (cond-true _ _ _ yes))
+    (λ other.
+    let e : words.dollar x i (w ++ c ∷ r) ≡ words.sign_in x (words.dollar_expansion i (w ++ c ∷ r)) = cond-false _ _ _ other in
+    let same = sign_in_part x (words.dollar_expansion i (w ++ c ∷ r)) (ap part_found (sym e) ∙ part) in
+    let found = e ∙ same in
+    cond-false _ _ _ (joined_alike _ _ alike ∙ other)
+    ∙ ap (words.sign_in x) (expansion_alike i w c r r' h (ap part_found (sym found) ∙ part) (subst (λ (f : Sign × ℕ). f.1 ≤ length w + 1) found fits)) ∙ sym e)
+
+continuation_alike : (x : Context) (cs cs' : List ℕ) → Alike cs cs' → words.continuation x cs' ≡ words.continuation x cs
+unfolding words.continuation
+continuation_alike x cs cs' a =
+    let b = past_joined cs cs' a in
+    let some = some_alike _ _ b in
+    let last = last_alike _ _ b in
+    rw (first_alike is_tab cs cs' a, some.0, some.1, first_alike ends_token _ _ b, last.0, last.1) refl
+
+backslash_first : (x : Context) (d : ℕ) (ds ds' : List ℕ) → (is_closer d ≡ true) ⊎ Alike ds ds' → words.backslash x (d ∷ ds') ≡ words.backslash x (d ∷ ds)
+unfolding words.backslash
+backslash_first x d ds ds' (inl h) = rw (closer_plain d h).newline refl
+backslash_first x d ds ds' (inr a) = rw (continuation_alike x ds ds' a) refl
