@@ -1,1 +1,4 @@
+pub mod AlikeBytes
+pub mod AlikePlain
+pub mod AlikeSigns
 pub mod Forward
