@@ -2,3 +2,5 @@ pub mod AlikeBytes
 pub mod AlikePlain
 pub mod AlikeSigns
 pub mod Forward
+pub mod Tables
+pub mod Lexemes
