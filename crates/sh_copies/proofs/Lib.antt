@@ -4,3 +4,4 @@ pub mod AlikeSigns
 pub mod Forward
 pub mod Tables
 pub mod Lexemes
+pub mod Lines
