@@ -1,3 +1,6 @@
+pub mod Arithmetic
+pub mod Singles
+pub mod Places
 pub mod Tables
 pub mod Lexemes
 pub mod Lines
