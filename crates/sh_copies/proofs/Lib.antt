@@ -1,3 +1,5 @@
+pub mod Blanks
+pub mod Fronts
 pub mod Arithmetic
 pub mod Singles
 pub mod Places
