@@ -1,3 +1,11 @@
+pub mod Blanks
+pub mod Fronts
+pub mod Arithmetic
+pub mod Singles
+pub mod Places
+pub mod Tables
+pub mod Lexemes
+pub mod Lines
 pub mod AlikeBytes
 pub mod AlikePlain
 pub mod AlikeSigns

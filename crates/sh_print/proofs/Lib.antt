@@ -1,2 +1,4 @@
 pub mod TreeLemmas
 pub mod TextLemmas
+pub mod Printable
+pub mod MadeLemmas
