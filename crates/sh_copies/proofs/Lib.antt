@@ -13,3 +13,4 @@ pub mod AlikeTokens
 pub mod Boundary
 pub mod Copies
 pub mod Forward
+pub mod Shift
