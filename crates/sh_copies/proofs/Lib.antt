@@ -1,0 +1,16 @@
+pub mod Blanks
+pub mod Fronts
+pub mod Arithmetic
+pub mod Singles
+pub mod Places
+pub mod Tables
+pub mod Lexemes
+pub mod Lines
+pub mod AlikeBytes
+pub mod AlikePlain
+pub mod AlikeSigns
+pub mod AlikeTokens
+pub mod Boundary
+pub mod Copies
+pub mod Forward
+pub mod Shift
