@@ -5,3 +5,5 @@ pub mod MadeLemmas
 pub mod PlaceLemmas
 pub mod OwnTokens
 pub mod NameTokens
+pub mod SourceLemmas
+pub mod NameLemmas

@@ -1,7 +1,7 @@
 -- The bare tree of what the reading makes.
 use Rattle.std.proofs.Common.{◌≡◌, ℕ, Bool, List, ◌∷◌, map, Option, ap, ◌∙◌}
 use Rattle.sh_tree.specs.declared.tree.AndOr.{out-AndOr, out-roll-AndOr}
-use Rattle.sh_tree.specs.declared.tree.Branch.{out-roll-Branch}
+use Rattle.sh_tree.specs.declared.tree.Branch.{Branch, out-roll-Branch}
 use Rattle.sh_tree.specs.declared.tree.Clause.{Clause, out-roll-Clause}
 use Rattle.sh_tree.specs.declared.tree.ClauseEnd.{ClauseEnd}
 use Rattle.sh_tree.specs.declared.tree.Command.{Command, out-roll-Command}
