@@ -2,6 +2,9 @@ pub mod TreeLemmas
 pub mod TextLemmas
 pub mod Printable
 pub mod MadeLemmas
+pub mod PlaceLemmas
+pub mod OwnTokens
+pub mod NameTokens
 pub mod SourceLemmas
 pub mod NameLemmas
 pub mod PrintableLemmas
