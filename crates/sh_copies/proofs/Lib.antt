@@ -14,3 +14,4 @@ pub mod Boundary
 pub mod Copies
 pub mod Forward
 pub mod Shift
+pub mod Declaring
