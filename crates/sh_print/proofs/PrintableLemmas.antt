@@ -1,5 +1,5 @@
 -- A text that is read has a bare tree whose canonical text can be read.
-use Rattle.std.proofs.Common.{◌≡◌, ◌<◌, ℕ, ◌+◌, Bool, true, false, ◌||◌, List, [], ◌∷◌, map, length, drop, codes, Option, Some, None, refl, sym, ap, subst, ◌∙◌, ◌⊎◌, inl, inr, ⊎_elim}
+use Rattle.std.proofs.Common.{◌≡◌, if◌then◌else◌, ◌<◌, ℕ, ◌+◌, Bool, true, false, ◌||◌, List, [], ◌∷◌, map, length, drop, codes, Option, Some, None, refl, sym, ap, subst, ◌∙◌, ◌⊎◌, inl, inr, ⊎_elim}
 use Rattle.std.proofs.lemmas.Bool.{true≢false}
 use Rattle.sh_tree.specs.declared.tree.AndOr.{AndOr, out-AndOr, out-roll-AndOr}
 use Rattle.sh_tree.specs.declared.tree.Branch.{Branch}
@@ -18,6 +18,8 @@ use Rattle.sh_tree.specs.declared.tree.Redirect.{Redirect}
 use Rattle.sh_tree.specs.declared.tree.Script.{Script}
 use Rattle.sh_tree.specs.declared.tree.Span.{Span}
 use Rattle.sh_tree.specs.declared.tree.Word.{Word}
+use Rattle.sh_tree.specs.declared.token.word.Context.{Context}
+use Rattle.sh_tree.specs.declared.token.word.Site.TheVariants as site
 use Rattle.sh_tree.specs.declared.token.command.Lead.{Lead}
 use Rattle.sh_tree.specs.declared.token.command.Lead.TheVariants as lead
 use Rattle.sh_tree.specs.declared.token.command.Operator.TheVariants as op
@@ -25,8 +27,8 @@ use Rattle.sh_tree.specs.declared.token.command.Stage.{Stage}
 use Rattle.sh_tree.specs.declared.token.command.Stage.TheVariants.{First, Prefixed, Named}
 use Rattle.sh_tree.specs.standard.Tree.{text_of}
 use Rattle.sh_tree.specs.standard.language.Bytes.{is_name}
-use Rattle.sh_tree.specs.standard.language.Commands.{begins_compound, begins_simple, declares, entry_of, gap_length, is_open, is_redirection, is_word, lead_at, name_end, redirects, reserved_words}
-use Rattle.sh_tree.specs.standard.language.Contexts.{in_stage, in_unsplit}
+use Rattle.sh_tree.specs.standard.language.Commands.{is_assignment, begins_compound, begins_simple, declares, entry_of, gap_length, is_open, is_redirection, is_word, lead_at, name_end, redirects, reserved_words}
+use Rattle.sh_tree.specs.standard.language.Contexts.{in_operand, in_value, in_word, in_stage, in_unsplit}
 use Rattle.sh_tree.specs.standard.language.HereDocuments.{Mark, delimiter_of, is_delimiter}
 use Rattle.sh_tree.specs.standard.language.Parts.{is_quoted_word}
 use Rattle.sh_tree.specs.standard.language.Reading as r
@@ -37,6 +39,7 @@ use Rattle.sh_tree.specs.standard.language.Trees.{span}
 use Rattle.sh_reads.proofs.GapLemmas.{blanks_gap}
 use Rattle.sh_reads.proofs.SettledLemmas.{IsSettled, breaks_settled, settled_next, settled_past, settled_parted, redirect_settled, and_or_settled}
 use Rattle.sh_copies.specs.Copied.{Role, Field, Unsplit, Value, WordsAreCopied, TokenOf, context_of, form_of, is_declaring}
+use Rattle.sh_copies.proofs.Declaring.{declares_read}
 use Rattle.sh_print.specs.Bare as bare
 use Rattle.sh_print.specs.Lists.{links_from, items_from, commands_from, branches_from, clauses_from, words_from}
 use Rattle.sh_print.specs.Trees.{word_of, element_of, opened_of, opens_of, redirect_of, script_of, pipeline_of, command_of, kind_of}
@@ -48,10 +51,23 @@ use Rattle.sh_print.proofs.SourceLemmas as source
 use Rattle.sh_print.proofs.SourceLemmas.{Level, either, or_more, or_none, parted_level, redirection_numbered, unopened_level, waits_more}
 use Rattle.sh_print.proofs.TreeLemmas.{kind_of-Simple, kind_of-Group, kind_of-Subshell, kind_of-Cond, kind_of-Loop, kind_of-For, kind_of-Branches, kind_of-Define, otherwise_from}
 
--- a word names a command that declares where its text does
-abbrev pub DeclaresAlike : ℕ → List ℕ → Type 0
-DeclaresAlike limit b = (g : Stage) (s u : Spot) (w : Word) → gap_length (drop s.at b) ≡ 0 → lead_at b g s.at ≡ lead.Word → ReadsWord limit b (in_stage b g s.at) s u w
-    → declares b s.at ≡ is_declaring (text_of b w.span)
+-- Words of simple commands
+
+either_context : {A : Type 0} (f : Context → A) (v : A) (t : Bool) (x y : Context) → f x ≡ v → f y ≡ v → f (if t then x else y) ≡ v
+either_context f v true x y h k = h
+either_context f v false x y h k = k
+
+stage_kept : {A : Type 0} (f : Context → A) (v : A) (b : List ℕ) (g : Stage) (i : ℕ) → ((n : ℕ) → f (in_word n) ≡ v) → ((n : ℕ) → f (in_value n) ≡ v) → f (in_stage b g i) ≡ v
+unfolding in_stage in_operand
+stage_kept f v b First i word value = word i
+stage_kept f v b Prefixed i word value = word i
+stage_kept f v b (Named d) i word value =
+    either_context f v d (in_operand b i) (in_word i) (either_context f v (is_assignment (drop i b)) (in_value (name_end b i + 1)) (in_word i) (value (name_end b i + 1)) (word i)) (word i)
+
+stage_given : {limit : ℕ} {b : List ℕ} {s u : Spot} {w : Word} (g : Stage) → ReadsWord limit b (in_stage b g s.at) s u w → stage_behind b g s.at ≡ stage_after g (text_of b w.span)
+stage_given (Named d) reads = refl
+stage_given {b = b} {s = s} g reads =
+    ap Named (declares_read (stage_kept (λ x. x.site) site.Word b g s.at (λ n. refl) (λ n. refl)) (stage_kept (λ x. x.strip) false b g s.at (λ n. refl) (λ n. refl)) reads)
 
 -- Leads
 
@@ -74,7 +90,7 @@ not_simple (lead.Operator op.LeftParenthesis) h k = true≢false (sym k)
 not_simple (lead.Reserved o) h k = true≢false (sym k)
 not_simple l h k = true≢false (sym h)
 
-module _ (limit : ℕ) (b : List ℕ) (no_nul : HasNoNul b) (copies : WordsAreCopied) (declared : DeclaresAlike limit b) (body : ℕ → Document) where
+module _ (limit : ℕ) (b : List ℕ) (no_nul : HasNoNul b) (copies : WordsAreCopied) (body : ℕ → Document) where
   abbrev Fits : State → Type 0
   Fits s = source.Fits limit b no_nul copies body s
 
@@ -166,11 +182,6 @@ module _ (limit : ℕ) (b : List ℕ) (no_nul : HasNoNul b) (copies : WordsAreCo
 
   -- Simple commands
 
-  stage_given : (g : Stage) (i : ℕ) (t : List ℕ) → declares b i ≡ is_declaring t → stage_behind b g i ≡ stage_after g t
-  stage_given First i t h = ap Named h
-  stage_given Prefixed i t h = ap Named h
-  stage_given (Named d) i t h = refl
-
   elements_given : {g : Stage} {s u : State} {es : List Element} (depth : ℕ) (quiet : Bool) → Level depth s.spot → IsSettled b s.spot → (quiet ≡ true → waits s.pending ≡ true)
       → ReadsElements limit b body g s u es → Gives depth s u (PrintableElements limit depth g quiet (map (element_of b) es))
   unfolding element_of context_of
@@ -181,7 +192,7 @@ module _ (limit : ℕ) (b : List ℕ) (no_nul : HasNoNul b) (copies : WordsAreCo
       (rest.0, λ f. let e = rest.1 f in (e.0, p.assigned_element (not_named b g s.spot.at is) (assigned_name b g s.spot.at is) (word_facing s1 Value depth quiet k loud reads) e.1))
   elements_given depth quiet k here loud (r.word_element {g = g} {s = s} {u = u} {w = w} {es = es} is reads more) =
       let rest = elements_given depth quiet k (settled_past b u s) loud more in
-      let same = stage_given g s.spot.at (text_of b w.span) (declared g (facing s) u w here is reads) in (
+      let same = stage_given g reads in (
         rest.0,
         λ f.
             let e = rest.1 f in
@@ -477,11 +488,11 @@ module _ (limit : ℕ) (b : List ℕ) (no_nul : HasNoNul b) (copies : WordsAreCo
     sequence_given depth k here (r.sequence {s = s} {u = u} items) = map_given depth s u (λ e. p.sequence e) (list_given depth k here items)
 
 -- what is read from a spot outside of everything
-script_given : {limit : ℕ} {b : List ℕ} {s e : Spot} {t : Script} → HasNoNul b → WordsAreCopied → DeclaresAlike limit b → Level 0 s → IsSettled b s → ReadsScript limit b s e t
+script_given : {limit : ℕ} {b : List ℕ} {s e : Spot} {t : Script} → HasNoNul b → WordsAreCopied → Level 0 s → IsSettled b s → ReadsScript limit b s e t
     → Printable limit (script_of b t)
-script_given {limit = limit} {b = b} no_nul copies declared k here (r.script {u = u} items none) =
-    let m = sequence_given limit b no_nul copies declared (nth u.bodies) 0 k here items in
+script_given {limit = limit} {b = b} no_nul copies k here (r.script {u = u} items none) =
+    let m = sequence_given limit b no_nul copies (nth u.bodies) 0 k here items in
     (m.1 (λ i h. refl, source.none_wait limit b no_nul copies (nth u.bodies) (length u.bodies) u.pending none)).1
 
-pub printable : (b : List ℕ) (limit count : ℕ) (t : Script) → WordsAreCopied → DeclaresAlike limit b → ReadsTo b limit count t → Printable limit (script_of b t)
-printable b limit count t copies declared reads = script_given reads.no_nul copies declared (refl, refl, refl, refl) (blanks_gap false b 0) reads.script
+pub printable : (b : List ℕ) (limit count : ℕ) (t : Script) → WordsAreCopied → ReadsTo b limit count t → Printable limit (script_of b t)
+printable b limit count t copies reads = script_given reads.no_nul copies (refl, refl, refl, refl) (blanks_gap false b 0) reads.script
