@@ -27,7 +27,7 @@ use Rattle.sh_tree.specs.declared.token.command.Stage.{Stage}
 use Rattle.sh_tree.specs.declared.token.command.Stage.TheVariants.{First, Prefixed, Named}
 use Rattle.sh_tree.specs.standard.Tree.{text_of}
 use Rattle.sh_tree.specs.standard.language.Bytes.{is_name}
-use Rattle.sh_tree.specs.standard.language.Commands.{is_assignment, begins_compound, begins_simple, declares, entry_of, gap_length, is_open, is_redirection, is_word, lead_at, name_end, redirects, reserved_words}
+use Rattle.sh_tree.specs.standard.language.Commands.{is_assignment, begins_compound, begins_simple, entry_of, is_open, is_redirection, is_word, name_end, redirects, reserved_words}
 use Rattle.sh_tree.specs.standard.language.Contexts.{in_operand, in_value, in_word, in_stage, in_unsplit}
 use Rattle.sh_tree.specs.standard.language.HereDocuments.{Mark, delimiter_of, is_delimiter}
 use Rattle.sh_tree.specs.standard.language.Parts.{is_quoted_word}
@@ -38,7 +38,7 @@ use Rattle.sh_tree.specs.standard.language.Trees as tree
 use Rattle.sh_tree.specs.standard.language.Trees.{span}
 use Rattle.sh_reads.proofs.GapLemmas.{blanks_gap}
 use Rattle.sh_reads.proofs.SettledLemmas.{IsSettled, breaks_settled, settled_next, settled_past, settled_parted, redirect_settled, and_or_settled}
-use Rattle.sh_copies.specs.Copied.{Role, Field, Unsplit, Value, WordsAreCopied, TokenOf, context_of, form_of, is_declaring}
+use Rattle.sh_copies.specs.Copied.{Role, Field, Unsplit, Value, WordsAreCopied, TokenOf, context_of, form_of}
 use Rattle.sh_copies.proofs.Declaring.{declares_read}
 use Rattle.sh_print.specs.Bare as bare
 use Rattle.sh_print.specs.Lists.{links_from, items_from, commands_from, branches_from, clauses_from, words_from}
