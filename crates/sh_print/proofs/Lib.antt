@@ -8,3 +8,4 @@ pub mod NameTokens
 pub mod SourceLemmas
 pub mod NameLemmas
 pub mod PrintableLemmas
+pub mod NulLemmas
