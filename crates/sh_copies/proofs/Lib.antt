@@ -1,3 +1,4 @@
+pub mod Leads
 pub mod Blanks
 pub mod Fronts
 pub mod Arithmetic
