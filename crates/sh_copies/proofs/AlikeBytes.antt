@@ -84,10 +84,10 @@ behind_moves p w c r r' b n =
 one : (n : ℕ) → 1 + n ≡ suc n
 one n = omega arith
 
-run_yes : (p : ℕ → Bool) (c : ℕ) (cs : List ℕ) → p c ≡ true → run p (c ∷ cs) ≡ suc (run p cs)
+pub run_yes : (p : ℕ → Bool) (c : ℕ) (cs : List ℕ) → p c ≡ true → run p (c ∷ cs) ≡ suc (run p cs)
 run_yes p c cs h = ap length (take_while-cons p c cs ∙ cond-true _ _ _ h)
 
-run_no : (p : ℕ → Bool) (c : ℕ) (cs : List ℕ) → p c ≡ false → run p (c ∷ cs) ≡ 0
+pub run_no : (p : ℕ → Bool) (c : ℕ) (cs : List ℕ) → p c ≡ false → run p (c ∷ cs) ≡ 0
 run_no p c cs h = ap length (take_while-cons p c cs ∙ cond-false _ _ _ h)
 
 pub run_moves : (p : ℕ → Bool) (w : List ℕ) (c : ℕ) (r r' : List ℕ) → p c ≡ false → (run p (w ++ c ∷ r') ≡ run p (w ++ c ∷ r)) × (run p (w ++ c ∷ r) ≤ length w)
@@ -124,6 +124,25 @@ pub joined_alike : (cs cs' : List ℕ) → Alike cs cs' → is_joined cs' ≡ is
 joined_alike cs cs' a =
     let k = closer_plain a.c a.closes in
     ap is_joined a.here ∙ ap (λ n. not (n == 0)) (joined_moves a.w a.c a.r a.r' k.backslash k.newline).0 ∙ sym (ap is_joined a.there)
+
+-- what stands behind line continuations is alike too
+pub past_joined : (cs cs' : List ℕ) → Alike cs cs' → Alike (behind_joined cs) (behind_joined cs')
+past_joined cs cs' a =
+    let k = closer_plain a.c a.closes in
+    let m = joined_moves a.w a.c a.r a.r' k.backslash k.newline in
+    let n = joined_length cs in
+    let size : n ≡ joined_length (a.w ++ a.c ∷ a.r) = ap joined_length a.there in
+    let within : n ≤ length a.w = (let most = m.1 in omega arith) in
+    let same : joined_length cs' ≡ n = ap joined_length a.here ∙ m.0 ∙ sym size in
+    record {
+      w = drop n a.w;
+      c = a.c;
+      r = a.r;
+      r' = a.r';
+      closes = a.closes;
+      there = ap (drop n) a.there ∙ drop_moves n a.w a.c a.r within;
+      here = ap (λ n. drop n cs') same ∙ ap (drop n) a.here ∙ drop_moves n a.w a.c a.r' within;
+    }
 
 pub run_alike : (p : ℕ → Bool) (cs cs' : List ℕ) → Alike cs cs' → ((c : ℕ) → is_closer c ≡ true → p c ≡ false) → run p cs' ≡ run p cs
 run_alike p cs cs' a none = ap (run p) a.here ∙ (run_moves p a.w a.c a.r a.r' (none a.c a.closes)).0 ∙ sym (ap (run p) a.there)

@@ -22,7 +22,7 @@ tilde_alike x cs cs' a =
         → (if e' || f' || j' || l' then n' + 1 else 0) ≡ (if e || f || j || l then n + 1 else 0)
     go e e' f f' j j' l l' n n' some first joined last size = rw (some.0, some.1, first, joined, last.0, last.1, size) refl
 
-literal_alike : (s : Site) (a : ℕ) (cs cs' : List ℕ) → Alike cs cs' → words.is_literal s a cs' ≡ words.is_literal s a cs
+pub literal_alike : (s : Site) (a : ℕ) (cs cs' : List ℕ) → Alike cs cs' → words.is_literal s a cs' ≡ words.is_literal s a cs
 literal_alike s a cs cs' k =
     let some = some_alike cs cs' k in
     rw (behind_alike (words.opens_dollar (words.is_quoted s)) cs cs' k, some.0, some.1, first_alike (words.is_escaped s) cs cs' k) refl
@@ -31,16 +31,16 @@ pub stands_alike : (x : Context) (prior i a : ℕ) (cs cs' : List ℕ) → Alike
 unfolding words.stands words.is_tilde
 stands_alike x prior i a cs cs' k = rw (tilde_alike x cs cs' k, literal_alike x.site a cs cs' k) refl
 
-plain_yes : (x : Context) (prior i c : ℕ) (cs : List ℕ) → words.stands x prior i c cs ≡ true → words.plain_length x prior i (c ∷ cs) ≡ 1 + words.plain_length x c (i + 1) cs
+pub plain_yes : (x : Context) (prior i c : ℕ) (cs : List ℕ) → words.stands x prior i c cs ≡ true → words.plain_length x prior i (c ∷ cs) ≡ 1 + words.plain_length x c (i + 1) cs
 unfolding words.plain_length
 plain_yes x prior i c cs h = cond-true _ _ _ h
 
-plain_no : (x : Context) (prior i c : ℕ) (cs : List ℕ) → words.stands x prior i c cs ≡ false → words.plain_length x prior i (c ∷ cs) ≡ 0
+pub plain_no : (x : Context) (prior i c : ℕ) (cs : List ℕ) → words.stands x prior i c cs ≡ false → words.plain_length x prior i (c ∷ cs) ≡ 0
 unfolding words.plain_length
 plain_no x prior i c cs h = cond-false _ _ _ h
 
 -- a closer stands for itself or does not, whatever follows
-closer_stands : (x : Context) (prior i c : ℕ) (r r' : List ℕ) → is_closer c ≡ true → words.stands x prior i c r' ≡ words.stands x prior i c r
+pub closer_stands : (x : Context) (prior i c : ℕ) (r r' : List ℕ) → is_closer c ≡ true → words.stands x prior i c r' ≡ words.stands x prior i c r
 unfolding words.stands words.is_tilde
 closer_stands x prior i c r r' h = let k = closer_plain c h in rw (k.dollar, k.tilde, k.backslash) refl
 

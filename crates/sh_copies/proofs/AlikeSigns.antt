@@ -26,7 +26,7 @@ pub parenthesis_alike : (rest rest' : List ℕ) → Alike rest rest' → words.p
 unfolding words.parenthesis
 parenthesis_alike rest rest' a = rw (first_alike (λ c. c == 40) rest rest' a, behind_alike (λ c. c == 40) rest rest' a) refl
 
-name_alike : (cs cs' : List ℕ) → Alike cs cs' → name_length cs' ≡ name_length cs
+pub name_alike : (cs cs' : List ℕ) → Alike cs cs' → name_length cs' ≡ name_length cs
 unfolding name_length
 name_alike cs cs' a = rw (first_alike is_name_start cs cs' a, run_alike is_name_byte cs cs' a (λ c h. (closer_plain c h).name)) refl
 
@@ -36,7 +36,7 @@ parameter_alike i cs cs' a = rw (name_alike cs cs' a, taken_run is_digit cs cs' 
 
 -- Braced expansions
 
-misfit_alike : (k : ℕ) (cs cs' : List ℕ) → Alike cs cs' → words.misfit k cs' ≡ words.misfit k cs
+pub misfit_alike : (k : ℕ) (cs cs' : List ℕ) → Alike cs cs' → words.misfit k cs' ≡ words.misfit k cs
 unfolding words.misfit
 misfit_alike k cs cs' a =
     let some = some_alike cs cs' a in
@@ -144,7 +144,7 @@ unfolding words.special_or_length
 special_first i d ds ds' (inl h) b = let k = closer_special d h in rw (k.0, k.1, misfit_alike 2 (d ∷ ds) (d ∷ ds') b) refl
 special_first i d ds ds' (inr a) b = rw (first_alike (λ c. c == 125) ds ds' a, length_alike i ds ds' a, specially_alike (i + 2) d ds ds' (words.special_of d) a b) refl
 
-braced_alike : (i : ℕ) (cs cs' : List ℕ) → Alike cs cs' → words.braced_expansion i cs' ≡ words.braced_expansion i cs
+pub braced_alike : (i : ℕ) (cs cs' : List ℕ) → Alike cs cs' → words.braced_expansion i cs' ≡ words.braced_expansion i cs
 unfolding words.braced_expansion
 braced_alike i cs cs' a = ap (words.braced_expansion_by i cs') (parameter_alike (i + 2) cs cs' a) ∙ go (words.parameter (i + 2) cs) refl
   where
