@@ -1,6 +1,6 @@
 -- A token of commands before a closing parenthesis is the same whatever follows it, and wherever it stands.
 -- POSIX.1-2024, XCU 2.3 (token recognition), 2.4 (reserved words), 2.7 (redirection).
-use Rattle.std.proofs.Common.{◌≡◌, ℕ, zero, suc, ◌+◌, ◌-◌, ◌≤◌, ◌<◌, ◌==◌, Bool, true, false, not, ◌&&◌, ◌||◌, List, [], ◌∷◌, ◌++◌, length, drop, take, codes, nat_eq, nat_lt, nat_le, if◌then◌else◌, ◌⊎◌, inl, inr, refl, sym, ap, ◌∙◌, subst, arith, length-drop, length-take, ⊎_elim}
+use Rattle.std.proofs.Common.{◌≡◌, ℕ, zero, suc, ◌+◌, ◌-◌, ◌≤◌, ◌<◌, ◌==◌, Bool, true, false, not, ◌&&◌, ◌||◌, List, [], ◌∷◌, ◌++◌, length, drop, take, codes, nat_eq, nat_lt, nat_le, if◌then◌else◌, ◌⊎◌, inl, inr, refl, sym, ap, ◌∙◌, subst, arith, eqb-true, length-drop, length-take, ⊎_elim}
 use Rattle.std.specs.Prelude.{Option, Some, None}
 use Rattle.std.proofs.lemmas.Bool.{cond-true, cond-false, true≢false, cases_lt, le-ltb, lt-ltb, le-leb, leb-true}
 use Rattle.std.proofs.lemmas.Bool.Decides.{nat_tests}
@@ -19,7 +19,7 @@ use Rattle.sh_tree.specs.standard.language.Bytes.{is_newline, is_digit, is_name_
 use Rattle.sh_tree.specs.standard.language.Commands.{blanks, blank_length, gap_length, operator_of, long_operators, short_operators, is_longer, is_split, is_bare, bare_word, reserved_words, left_out_names, entry_of, is_assignment, is_angle, is_parenthesis, opening, whole_operator, operator_lead, bang, reserved_lead, is_definition, name_lead, first_lead, word_lead, is_named, number_lead, other_lead, lead_of, lead_at}
 use Rattle.sh_tree.specs.standard.language.Words.{ends_joined}
 use Rattle.sh_copies.proofs.AlikeBytes.{Alike, by_bool, joined_moves, first_alike, behind_alike, joined_alike, last_alike, some_alike, run_moves}
-use Rattle.sh_copies.proofs.Blanks.{gap_moves, parenthesis_behind}
+use Rattle.sh_copies.proofs.Blanks.{gap_moves, parenthesis_behind, is_number_sign}
 use Rattle.sh_copies.proofs.Fronts.{alike_behind, whole, run_behind, first_same, first_before, joined_at_is, never}
 use Rattle.sh_copies.proofs.Tables.{Within, longest_moves, longest_within}
 
@@ -47,7 +47,7 @@ word_front b First i w = first_front b i w (entry_of reserved_words w)
 word_front b Prefixed i w = refl
 word_front b (Named d) i w = refl
 
-bare_front : (b : List ℕ) (i : ℕ) → bare_word b i ≡ bare_word (drop i b) 0
+pub bare_front : (b : List ℕ) (i : ℕ) → bare_word b i ≡ bare_word (drop i b) 0
 unfolding bare_word
 bare_front b i = refl
 
@@ -278,7 +278,34 @@ of_moves g a w r r' None e =
     let other = other_moves g (a ∷ w) r r' (omega arith) in
     rw (some_byte a (w ++ 41 ∷ r), some_byte a (w ++ 41 ∷ r'), last.0, last.1, other) refl
 
-lead_moves : (g : Stage) (w r r' : List ℕ) → lead_at (w ++ 41 ∷ r') g 0 ≡ lead_at (w ++ 41 ∷ r) g 0
+pub lead_moves : (g : Stage) (w r r' : List ℕ) → lead_at (w ++ 41 ∷ r') g 0 ≡ lead_at (w ++ 41 ∷ r) g 0
 unfolding lead_at
 lead_moves g [] r r' = closing_lead g r' ∙ sym (closing_lead g r)
 lead_moves g (a ∷ w) r r' = ap (lead_of (a ∷ (w ++ 41 ∷ r')) g 0) (operators_move (a ∷ w) r r') ∙ of_moves g a w r r' (operator_of (a ∷ (w ++ 41 ∷ r))) refl
+
+-- what redirection's operator stands behind digits
+abbrev pub behind_digits : List ℕ → Option (Operator × ℕ)
+behind_digits cs = operator_of (drop (run is_digit cs) cs)
+
+pub digits_move : (w r r' : List ℕ) → run is_digit (w ++ 41 ∷ r') ≡ run is_digit (w ++ 41 ∷ r)
+digits_move w r r' = (run_moves is_digit w 41 r r' refl).0
+
+pub behind_digits_moves : (w r r' : List ℕ) → behind_digits (w ++ 41 ∷ r') ≡ behind_digits (w ++ 41 ∷ r)
+behind_digits_moves w r r' =
+    let m = run_moves is_digit w 41 r r' refl in
+    let n = run is_digit (w ++ 41 ∷ r) in
+    ap (λ k. operator_of (drop k (w ++ 41 ∷ r'))) m.0 ∙ ap operator_of (drop-append-le n w (41 ∷ r') m.1) ∙ operators_move (drop n w) r r' ∙ sym (ap operator_of (drop-append-le n w (41 ∷ r) m.1))
+
+-- a number sign at a token is none that anything goes on with
+number_sign_lead : (g : Stage) (cs : List ℕ) → is_first is_number_sign cs ≡ true → lead_at cs g 0 ≡ lead.LeftOut form.Continuation
+unfolding lead_at lead_of operator_of longest is_first
+number_sign_lead g [] h = absurd (true≢false (sym h))
+number_sign_lead g (c ∷ cs) h = let is : c ≡ 35 = eqb-true c 35 h in subst (λ d. lead_at (d ∷ cs) g 0 ≡ lead.LeftOut form.Continuation) (sym is) (here (some_byte 35 cs))
+  where
+    here : nat_le (length (35 ∷ cs)) 0 ≡ false → lead_at (35 ∷ cs) g 0 ≡ lead.LeftOut form.Continuation
+    here e = rw e refl
+
+pub lead_is_no_sign : (f : Lead → Bool) (b : List ℕ) (g : Stage) (i : ℕ) → f (lead.LeftOut form.Continuation) ≡ false → f (lead_at b g i) ≡ true → is_first is_number_sign (drop i b) ≡ false
+lead_is_no_sign f b g i none h = by_bool (is_first is_number_sign (drop i b))
+    (λ is. absurd (true≢false (sym h ∙ ap f (lead_front b g i ∙ number_sign_lead g (drop i b) is) ∙ none)))
+    (λ other. other)

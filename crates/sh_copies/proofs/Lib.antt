@@ -1,3 +1,4 @@
+pub mod CommandsTokens
 pub mod Inside
 pub mod Leads
 pub mod Blanks
