@@ -1,3 +1,4 @@
+pub mod CommandsReady
 pub mod CommandsTokens
 pub mod Inside
 pub mod Leads
