@@ -1,3 +1,4 @@
+pub mod CommandsDocuments
 pub mod CommandsReady
 pub mod CommandsTokens
 pub mod Inside
