@@ -14,3 +14,6 @@ pub mod Boundary
 pub mod Copies
 pub mod Forward
 pub mod Shift
+pub mod WordsKept
+pub mod WordsMove
+pub mod WordsTokens
