@@ -1,3 +1,5 @@
+pub mod Inside
+pub mod Leads
 pub mod Blanks
 pub mod Fronts
 pub mod Arithmetic
