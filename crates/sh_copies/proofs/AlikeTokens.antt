@@ -31,7 +31,7 @@ abbrev pub is_single : Sign → Bool
 is_single (sign.Single s) = true
 is_single _ = false
 
-run_inside : (p : ℕ → Bool) (w r r' : List ℕ) → run p (w ++ r) < length w → run p (w ++ r') ≡ run p (w ++ r)
+pub run_inside : (p : ℕ → Bool) (w r r' : List ℕ) → run p (w ++ r) < length w → run p (w ++ r') ≡ run p (w ++ r)
 run_inside p [] r r' h = absurd (omega arith)
 run_inside p (a ∷ w) r r' h = by_bool (p a)
     (λ yes. let e = run_yes p a (w ++ r) yes in run_yes p a (w ++ r') yes ∙ ap suc (run_inside p w r r' (omega arith)) ∙ sym e)
