@@ -35,6 +35,7 @@ use Rattle.sh_copies.proofs.Copies.{Copied, limit_of, Place, Moved, Turns, turne
 use Rattle.sh_copies.proofs.Forward.{parts_forward, part_forward, expression_forward, script_forward, over_forward}
 use Rattle.sh_copies.proofs.Places.{as_far, further, moved_to, moved_deeper, moved_behind}
 use Rattle.sh_copies.proofs.Shift.{placeless}
+use Rattle.sh_copies.proofs.WordsCommands.{commands_move}
 use Rattle.sh_copies.proofs.WordsKept.{kept_none, kept_more, kept_plain, kept_escaped, kept_joined, kept_single, kept_tilde, kept_double, kept_value, kept_length, kept_use, kept_removal, kept_arith, kept_command}
 use Rattle.sh_reads.proofs.TakeLemmas.{is_part}
 use Rattle.sh_copies.proofs.AlikeTokens.{is_sound, is_stop}
@@ -164,4 +165,13 @@ module _ {limit n : ℕ} (expressions : ExpressionsMove limit n) (scripts : Scri
           keeps = kept_arith b b' (span s.at ((over b u).at + 1)) (span s'.at ((over b' inside.to).at + 1)) a inside.tree inside.keeps;
           reads = r.arithmetic (less_deep s.depth s'.depth limit m.depth d) inside.reads (t.is ∙ h) (closed_same b b' _ _ closed k);
         })
-    part_move {b} {b'} c {x} {o'} {s = s} {s' = s'} {e = e} {e' = e'} m turns q f g' same (r.substitution {u = u} {style = y} {t = t} d k i h) size within = ?
+    part_move {b} {b'} c {x} {s = s} {s' = s'} {e = e} {e' = e'} m turns q f g' same (r.substitution {u = u} {style = y} {t = t} d k i h) size within =
+        let inside = commands_move scripts c y (is_quoted x.site) m q f k i h size within in
+        retold (same_sign (sign.Substitution y) g' refl same)
+        (record {
+          to = behind (inside.to.at + 1) inside.to s';
+          tree = part.Command y (span s'.at (inside.to.at + 1)) inside.tree;
+          moved = moved_behind c u inside.to m (further c 1 inside.place);
+          keeps = kept_command b b' (span s.at (u.at + 1)) (span s'.at (inside.to.at + 1)) y t inside.tree;
+          reads = r.substitution (less_deep s.depth s'.depth limit m.depth d) inside.keeps inside.reads inside.closed;
+        })
