@@ -19,3 +19,7 @@ pub mod Boundary
 pub mod Copies
 pub mod Forward
 pub mod Shift
+pub mod WordsCommands
+pub mod WordsKept
+pub mod WordsMove
+pub mod WordsTokens
