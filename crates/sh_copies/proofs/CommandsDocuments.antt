@@ -124,10 +124,10 @@ module _ {b b' : List ℕ} (c : Copied b b') (ahead : Ahead c) where
 
 -- Lines that are kept
 
-ambiguity_same : (m : Mark) (b b' : List ℕ) (i j i' j' : ℕ) → text_of b' (span i' j') ≡ text_of b (span i j) → is_ambiguous m b' i' j' ≡ is_ambiguous m b i j
+pub ambiguity_same : (m : Mark) (b b' : List ℕ) (i j i' j' : ℕ) → text_of b' (span i' j') ≡ text_of b (span i j) → is_ambiguous m b' i' j' ≡ is_ambiguous m b i j
 ambiguity_same m b b' i j i' j' e = ap (λ t. m.strip && not m.quoted && has_joined (is_first is_tab) t) e
 
-document_same : (b b' : List ℕ) (joins joins' tabs tabs' : Bool) (m : Mark) (l l' : Span) → joins' ≡ joins → tabs' ≡ tabs → text_of b' l' ≡ text_of b l
+pub document_same : (b b' : List ℕ) (joins joins' tabs tabs' : Bool) (m : Mark) (l l' : Span) → joins' ≡ joins → tabs' ≡ tabs → text_of b' l' ≡ text_of b l
     → keeps_document b' joins' tabs' m l' ≡ keeps_document b joins tabs m l
 unfolding keeps_document
 document_same b b' joins joins' tabs tabs' m l l' e f g =
