@@ -31,7 +31,7 @@ abbrev pub is_single : Sign → Bool
 is_single (sign.Single s) = true
 is_single _ = false
 
-run_inside : (p : ℕ → Bool) (w r r' : List ℕ) → run p (w ++ r) < length w → run p (w ++ r') ≡ run p (w ++ r)
+pub run_inside : (p : ℕ → Bool) (w r r' : List ℕ) → run p (w ++ r) < length w → run p (w ++ r') ≡ run p (w ++ r)
 run_inside p [] r r' h = absurd (omega arith)
 run_inside p (a ∷ w) r r' h = by_bool (p a)
     (λ yes. let e = run_yes p a (w ++ r) yes in run_yes p a (w ++ r') yes ∙ ap suc (run_inside p w r r' (omega arith)) ∙ sym e)
@@ -299,7 +299,7 @@ closer_sign x prior i c r r' h k = by_bool (words.stops x.site c)
     rw (other, closer_tab c h, neither (x.strip && prior == 10), no, closer_stands x prior i c r r' h ∙ no, u.tilde, u.backslash, (closer_opens c h).4, double) refl)
     (λ single. absurd (true≢false (sym (plain_stands x prior i c r other (closer_tab c h) (closer_plain c h).tilde (special_closer x.site c h single)) ∙ no)))))
 
-goes_no_stop : (f : Sign × ℕ) → ends f ≡ false → is_stop f.0 ≡ false
+pub goes_no_stop : (f : Sign × ℕ) → ends f ≡ false → is_stop f.0 ≡ false
 goes_no_stop (sign.Stop, n) h = absurd (true≢false h)
 goes_no_stop (g, n) h = refl
 

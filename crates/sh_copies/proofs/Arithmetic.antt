@@ -23,7 +23,7 @@ use Rattle.sh_copies.proofs.Copies.{Copied, Place, Moved, Found, Turns, turned, 
 use Rattle.sh_copies.proofs.Forward.{over_forward, expression_forward, conditional_forward, level_forward, operands_forward, unary_forward, part_forward}
 use Rattle.sh_copies.proofs.Lexemes.{SameLexeme, lexeme_alike, lexeme_shifts}
 use Rattle.sh_copies.proofs.Places.{near, as_far, moved_to, moved_deeper, moved_behind}
-use Rattle.sh_copies.proofs.Singles.{chained, of_constant, of_variable, of_expansion, of_parenthesis, of_unary, of_chain, of_choice, of_assign}
+use Rattle.sh_copies.proofs.Singles.{chained, of_constant, of_variable, of_expansion, of_parenthesis, of_unary, of_chain, of_choice, of_assign, of_operands}
 
 -- Tokens
 
@@ -62,11 +62,6 @@ module _ {limit : ℕ} {b : List ℕ} {x : Context} where
 
 -- What is kept
 
-singles_of_chain : (e : Expr) (es : List (Binary × Expr)) → expression_singles (tree.chain_of e es) ≡ expression_singles e ++ chained es
-unfolding chained
-singles_of_chain e [] = sym (append-nil (expression_singles e))
-singles_of_chain e (z ∷ zs) = of_chain e (z ∷ zs)
-
 module _ (b b' : List ℕ) where
   abbrev Keeps : List Span → List Span → Type 0
   Keeps ss ss' = map (text_of b') ss' ≡ map (text_of b) ss
@@ -82,7 +77,7 @@ module _ (b b' : List ℕ) where
   KeptOperands es es' = Keeps (chained es) (chained es')
 
   keeps_chain : (e e' : Expr) (es es' : List (Binary × Expr)) → KeptExpression b b' e e' → KeptOperands es es' → KeptExpression b b' (tree.chain_of e es) (tree.chain_of e' es')
-  keeps_chain e e' es es' h k = keeps_as _ _ _ _ (singles_of_chain e es) (singles_of_chain e' es') (keeps_both (expression_singles e) (chained es) (expression_singles e') (chained es') h k)
+  keeps_chain e e' es es' h k = keeps_as _ _ _ _ (of_operands e es) (of_operands e' es') (keeps_both (expression_singles e) (chained es) (expression_singles e') (chained es') h k)
 
   keeps_choice : (c y n c' y' n' : Expr) → KeptExpression b b' c c' → KeptExpression b b' y y' → KeptExpression b b' n n' → KeptExpression b b' (expr.Choice c y n) (expr.Choice c' y' n')
   keeps_choice c y n c' y' n' h i j =

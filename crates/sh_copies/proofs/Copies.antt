@@ -16,7 +16,8 @@ use Rattle.sh_tree.specs.standard.language.Arithmetic.{is_closed}
 use Rattle.sh_tree.specs.standard.language.HereDocuments.{is_dollar_quoted}
 use Rattle.sh_tree.specs.standard.language.Parts.{is_quotation, singles_in, singles, expression_singles}
 use Rattle.sh_tree.specs.standard.language.Reading.{figure_at, over, sign_at, after, is_expansion, ReadsParts, ReadsPart, ReadsWord, ReadsExpression, ReadsScript}
-use Rattle.sh_tree.specs.standard.language.States.{Spot}
+use Rattle.sh_tree.specs.standard.language.Commands.{blanks}
+use Rattle.sh_tree.specs.standard.language.States.{Spot, to}
 use Rattle.sh_tree.specs.standard.language.Words.{is_quoted, stop_length}
 use Rattle.sh_copies.proofs.AlikeBytes.{is_closer}
 
@@ -107,12 +108,12 @@ pub record ExpressionsMove (limit n : ℕ) : Type 0 where
       → figure_at b u ≡ figure.Close → (over b u).at ≤ limit_of c
       → Found c u (KeptExpression b b' e) (λ u' e'. ReadsExpression limit b' (turned o' x) s' u' e')
 
--- what follows the commands is the same, or closes them
+-- The commands begin behind blanks. What follows them is the same, or closes them.
 pub record ScriptsMove (limit n : ℕ) : Type 0 where
   pub script : {b b' : List ℕ} (c : Copied b b') {s s' u : Spot} {t : Script}
-      → Moved c s s' → ReadsScript limit b s u t → u.at < s.at + n
+      → Moved c s s' → ReadsScript limit b (to (blanks s.joins b s.at) s) u t → u.at < s.at + n
       → u.at ≤ limit_of c → (c.rest' ≡ c.rest) ⊎ (is_closed b u.at ≡ true)
-      → Found c u (λ t'. Unit {0}) (λ u' t'. ReadsScript limit b' s' u' t')
+      → Found c u (λ t'. Unit {0}) (λ u' t'. ReadsScript limit b' (to (blanks s'.joins b' s'.at) s') u' t')
 
 pub record PartsMove (limit n : ℕ) : Type 0 where
   pub parts : {b b' : List ℕ} (c : Copied b b') {x : Context} {o' prior : ℕ} {s s' u : Spot} {ps : List Part}

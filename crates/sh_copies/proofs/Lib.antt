@@ -1,3 +1,9 @@
+pub mod CommandsMove
+pub mod CommandsDocuments
+pub mod CommandsReady
+pub mod CommandsTokens
+pub mod Inside
+pub mod Leads
 pub mod Blanks
 pub mod Fronts
 pub mod Arithmetic
@@ -15,3 +21,7 @@ pub mod Copies
 pub mod Forward
 pub mod Shift
 pub mod Declaring
+pub mod WordsCommands
+pub mod WordsKept
+pub mod WordsMove
+pub mod WordsTokens

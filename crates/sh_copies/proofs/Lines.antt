@@ -188,3 +188,8 @@ module _ (m : Mark) where
       → end_line m b' j ≡ Some (span (j + length v) (j + length v + length e))
   unfolding end_line
   end_line_again b b' i j v e t t' l h start end there here long some = again (length b) (length b') b b' i j v e t t' l h start end there here long some (omega arith)
+
+  -- it begins in the text
+  pub end_line_inside : (b : List ℕ) (i : ℕ) (l : Span) → end_line m b i ≡ Some l → l.start < length b
+  unfolding end_line
+  end_line_inside b i l h = (found_is (length b) b i l h).inside

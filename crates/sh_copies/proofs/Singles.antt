@@ -1,5 +1,5 @@
 -- The single quotes in parts and expressions, by their kinds.
-use Rattle.std.proofs.Common.{◌≡◌, Bool, List, [], ◌∷◌, ◌++◌, Option, refl, ap, ◌∙◌}
+use Rattle.std.proofs.Common.{◌≡◌, Bool, List, [], ◌∷◌, ◌++◌, Option, refl, sym, ap, ◌∙◌}
 use Rattle.std.proofs.lemmas.List.{append-nil}
 use Rattle.sh_tree.specs.declared.tree.Action.{Action}
 use Rattle.sh_tree.specs.declared.tree.Binary.{Binary}
@@ -14,6 +14,7 @@ use Rattle.sh_tree.specs.declared.tree.Removal.{Removal}
 use Rattle.sh_tree.specs.declared.tree.Span.{Span}
 use Rattle.sh_tree.specs.declared.tree.Unary.{Unary}
 use Rattle.sh_tree.specs.declared.tree.Word.{Word}
+use Rattle.sh_tree.specs.standard.language.Trees as tree
 use Rattle.sh_tree.specs.standard.language.Parts.{singles, singles_in, row_singles, operator_singles, expression_singles, row_expression_singles, chain_singles}
 
 -- those of operands, one behind the other
@@ -131,3 +132,9 @@ of_choice c y n = rw (boxed_row c, boxed_row y, boxed_row n) refl
 pub of_assign : (s : Span) (o : Option Binary) (e : Expr) → expression_singles (expression.Assign s o e) ≡ expression_singles e
 unfolding singles_in
 of_assign s o e = boxed_row e
+
+-- an operand, and the operators of one level with theirs
+pub of_operands : (e : Expr) (es : List (Binary × Expr)) → expression_singles (tree.chain_of e es) ≡ expression_singles e ++ chained es
+unfolding chained
+of_operands e [] = sym (append-nil (expression_singles e))
+of_operands e (x ∷ xs) = of_chain e (x ∷ xs)
