@@ -17,6 +17,7 @@ pub mod Copies
 pub mod Forward
 pub mod Shift
 pub mod WordsCommands
+pub mod WordsFound
 pub mod WordsKept
 pub mod WordsMove
 pub mod WordsTokens
