@@ -13,6 +13,7 @@ pub mod AlikePlain
 pub mod AlikeSigns
 pub mod AlikeTokens
 pub mod Boundary
+pub mod BoundarySigns
 pub mod Copies
 pub mod Forward
 pub mod Shift
