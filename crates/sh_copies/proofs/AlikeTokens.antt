@@ -219,7 +219,7 @@ expansion_alike i (a ∷ v) c r r' h part fits =
 
 -- A sign
 
-sign_in_part : (x : Context) (f : Sign × ℕ) → is_sound (words.sign_in x f).0 ≡ true → words.sign_in x f ≡ f
+pub sign_in_part : (x : Context) (f : Sign × ℕ) → is_sound (words.sign_in x f).0 ≡ true → words.sign_in x f ≡ f
 sign_in_part x f h = go (words.is_all f.0 && not x.fields) h
   where
     go : (t : Bool) → sound_found (if t then (sign.LeftOut form.AllParameters, 0) else f) ≡ true → (if t then (sign.LeftOut form.AllParameters, 0) else f) ≡ f

@@ -9,6 +9,7 @@ use Rattle.sh_tree.specs.declared.tree.Action.{Action}
 use Rattle.sh_tree.specs.declared.tree.CommandStyle.TheVariants.{Paren}
 use Rattle.sh_tree.specs.declared.tree.Special.{Special as SpecialParameter}
 use Rattle.sh_tree.specs.declared.tree.Subject.{Subject}
+use Rattle.sh_tree.specs.declared.tree.Subject.TheVariants.{Name}
 use Rattle.sh_tree.specs.declared.token.word.Context.{Context}
 use Rattle.sh_tree.specs.declared.token.word.Site.TheVariants as site
 use Rattle.sh_tree.specs.declared.token.word.Sign.{Sign}
@@ -19,6 +20,8 @@ use Rattle.sh_tree.specs.standard.language.Words as words
 use Rattle.sh_reads.proofs.TakeLemmas.{is_part}
 use Rattle.sh_copies.proofs.AlikeBytes.{by_bool, Alike}
 use Rattle.sh_copies.proofs.AlikeSigns.{braced_alike}
+use Rattle.sh_copies.proofs.AlikeTokens.{single_moves, dollar_quotes, quote_expansion, sign_in_part, is_sound}
+use Rattle.sh_copies.proofs.Boundary.{breaks, is_edge, edge_first, edge_none, break_first, break_joined, joined_not, lone_none, loose, before, is_prefix, outer, Goes, GoesAt, run_outer, tilde_outer, tilde_behind, dollar_sign, literal_or, dollar_opens, opens_not_loose, stands_goes, plain_outer}
 
 -- a whole expansion
 abbrev is_whole : Sign → Bool
@@ -98,3 +101,65 @@ braced_outer i v r r' h fits =
     let k = (braced_closes i (v ++ r)).closes h in
     let size = k.1 in
     braced_alike i (v ++ r) (v ++ r') (split_closed k.0 v r r' k.2 (omega arith))
+
+-- Names
+
+edge_name : (c : ℕ) → is_edge c ≡ true → is_name_byte c ≡ false
+edge_name c h = grind (arith, nat_tests, h)
+
+-- no name goes on behind continuations there
+name_ends : (u r r' : List ℕ) → is_first breaks r' ≡ true → loose u r ≡ false → (is_joined (u ++ r') && is_first is_name_byte (behind_joined (u ++ r'))) ≡ false
+name_ends [] r r' k l = rw (break_joined r' k) refl
+name_ends (c ∷ u) r r' k l = rw (joined_not c u r r' l) refl
+
+named_value_outer : (i n : ℕ) (u r r' : List ℕ) → is_first breaks r' ≡ true → loose u r ≡ false → is_part (words.named_value i n (u ++ r)).0 ≡ true
+    → words.named_value i n (u ++ r') ≡ words.named_value i n (u ++ r)
+unfolding words.named_value
+named_value_outer i n u r r' k l part = cond-false _ _ _ (name_ends u r r' k l) ∙ sym (go (is_joined (u ++ r) && is_first is_name_byte (behind_joined (u ++ r))) part)
+  where
+    value : Sign × ℕ
+    value = (sign.Value (Name (span (i + 1) (i + 1 + n))), n + 1)
+
+    found : Bool → Sign × ℕ
+    found t = if t then (sign.LeftOut form.Continuation, n + 1) else value
+
+    go : (t : Bool) → is_part (found t).0 ≡ true → found t ≡ value
+    go true h = absurd (true≢false (sym h))
+    go false h = refl
+
+named_size : (i n : ℕ) (rest : List ℕ) → (words.named_value i n rest).1 ≡ suc n
+unfolding words.named_value
+named_size i n rest = go (is_joined rest && is_first is_name_byte (behind_joined rest))
+  where
+    found : Bool → Sign × ℕ
+    found t = if t then (sign.LeftOut form.Continuation, n + 1) else (sign.Value (Name (span (i + 1) (i + 1 + n))), n + 1)
+
+    go : (t : Bool) → (found t).1 ≡ suc n
+    go true = omega arith
+    go false = omega arith
+
+module _ (o : ℕ) (colons fields backquotes : Bool) where
+  abbrev x : Context
+  x = outer o colons fields backquotes
+
+  name_is : (c : ℕ) (v rest : List ℕ) → is_name_start c ≡ true → is_first is_name_byte rest ≡ false → name_length (c ∷ (v ++ rest)) ≡ run is_name_byte (c ∷ v)
+  unfolding name_length is_first
+  name_is c v rest first none = cond-true _ _ _ first ∙ (run_outer o colons fields backquotes is_name_byte (c ∷ v) rest none).0
+
+  -- the value of a name
+  named_outer : (i c : ℕ) (v r r' : List ℕ) → words.ends_joined r ≡ true → is_first breaks r' ≡ true → is_name_start c ≡ true → is_part (words.dollar_expansion i (c ∷ (v ++ r))).0 ≡ true
+      → ((n : ℕ) → (words.dollar_expansion i (c ∷ (v ++ r))).1 ≡ suc n → loose (drop n (c ∷ v)) r ≡ false)
+      → words.dollar_expansion i (c ∷ (v ++ r')) ≡ words.dollar_expansion i (c ∷ (v ++ r))
+  unfolding words.dollar_expansion
+  named_outer i c v r r' h k first part behind =
+      let n = run is_name_byte (c ∷ v) in
+      let within = (run_outer o colons fields backquotes is_name_byte (c ∷ v) r (edge_none is_name_byte edge_name r (edge_first r h))).1 in
+      let u = drop n (c ∷ v) in
+      let found : (rest : List ℕ) → is_first (λ c. not (is_edge c)) rest ≡ false → words.dollar_expansion i (c ∷ (v ++ rest)) ≡ words.named_value i n (u ++ rest) =
+      (λ rest edge.
+      let size = name_is c v rest first (edge_none is_name_byte edge_name rest edge) in
+      cond-true _ _ _ first ∙ ap (λ n. words.named_value i n (drop n (c ∷ (v ++ rest)))) size ∙ ap (words.named_value i n) (drop-append-le n (c ∷ v) rest within)) in
+      let there = found r (edge_first r h) in
+      let here = found r' (break_first r' k) in
+      let size : (words.dollar_expansion i (c ∷ (v ++ r))).1 ≡ suc n = ap (λ f. f.1) there ∙ named_size i n (u ++ r) in
+      here ∙ named_value_outer i n u r r' k (behind n size) (sym (ap (λ f. is_part f.0) there) ∙ part) ∙ sym there
