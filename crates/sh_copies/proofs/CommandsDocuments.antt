@@ -39,6 +39,7 @@ past_is b j =
   where
     some : (n : ℕ) → 0 < n → not (n == 0) ≡ true
     some n h = grind (arith, nat_tests)
+
     none : (n : ℕ) → n ≡ 0 → not (n == 0) ≡ false
     none n h = grind (arith, nat_tests)
 

@@ -116,7 +116,7 @@ module _ {limit n : ℕ} (words : WordsMove limit n) (parts : PartsMove limit n)
         reads = λ body'. (
           tree.redirect same.to.at same.to.number (Here (tree.here_doc strip found.tree (body' (document_count s')).text (body' (document_count s')).end)),
           r.here_document same.is (ap strip_of same.operator ∙ k) (ap is_word (lead_of_same c ahead at_word (omega arith) (Named false)) ∙ i) found.reads
-          (delimiter_same b b' w found.tree found.keeps text ∙ d),
+              (delimiter_same b b' w found.tree found.keeps text ∙ d),
         );
       }
 
@@ -133,9 +133,9 @@ module _ {limit n : ℕ} (words : WordsMove limit n) (parts : PartsMove limit n)
         to = rest.to;
         moved = rest.moved;
         reads = λ body'.
-        let y = one.reads body' in
-        let ys = rest.reads body' in
-        (y.0 ∷ ys.0, r.more_redirects (ap is_redirection (lead_of_same c ahead m (omega arith) (Named false)) ∙ h) y.1 ys.1);
+            let y = one.reads body' in
+            let ys = rest.reads body' in
+            (y.0 ∷ ys.0, r.more_redirects (ap is_redirection (lead_of_same c ahead m (omega arith) (Named false)) ∙ h) y.1 ys.1);
       }
 
   -- Newlines and the bodies behind them
@@ -172,10 +172,10 @@ module _ {limit n : ℕ} (words : WordsMove limit n) (parts : PartsMove limit n)
         rest.0,
         rest.1,
         r.more_bodies end.is (ambiguity_same k b b' s.spot.at l.start s'.spot.at end.to.start text ∙ a)
-        (document_same b b' s.spot.joins s'.spot.joins s.spot.tabs s'.spot.tabs k (span s.spot.at (behind_line b l.end)) (span s'.spot.at (behind_line b' end.to.end)) m.spot.joins m.spot.tabs
-        (text_between c m.spot.place end.behind (omega arith) (omega arith))
-        ∙ keeps)
-        found.reads found.keeps rest.2,
+            (document_same b b' s.spot.joins s'.spot.joins s.spot.tabs s'.spot.tabs k (span s.spot.at (behind_line b l.end)) (span s'.spot.at (behind_line b' end.to.end)) m.spot.joins m.spot.tabs
+            (text_between c m.spot.place end.behind (omega arith) (omega arith))
+            ∙ keeps)
+            found.reads found.keeps rest.2,
       )
 
   pub breaks_move : {s s' v : State} → MovedState c ahead s s' → ReadsBreaks limit b s v → v.spot.at < s.spot.at + n → v.spot.at ≤ limit_of c → Ready c ahead v.spot.at
@@ -191,5 +191,5 @@ module _ {limit n : ℕ} (words : WordsMove limit n) (parts : PartsMove limit n)
         rest.0,
         rest.1,
         r.more_breaks (ap is_newline_lead (lead_of_same c ahead m (omega arith) First) ∙ h) (not_quiet s.spot.quiet s'.spot.quiet m.spot.quiet q)
-        (subst (λ ms. ReadsDocuments limit b' ms (on_line (s'.spot.at + 1) s') docs.0) (sym m.pending) docs.2) rest.2,
+            (subst (λ ms. ReadsDocuments limit b' ms (on_line (s'.spot.at + 1) s') docs.0) (sym m.pending) docs.2) rest.2,
       )

@@ -165,13 +165,13 @@ edge c (d ∷ ds) h = by_bool (is_backslash c && is_newline d)
     Edge.token (grind (arith, nat_tests, sym k ∙ h)))
 
 -- what stands for itself in a word
-word_stands : (x : Context) (prior i c : ℕ) (cs : List ℕ) → x.site ≡ site.Word
+pub word_stands : (x : Context) (prior i c : ℕ) (cs : List ℕ) → x.site ≡ site.Word
     → words.stands x prior i c cs ≡ (not (ends_token c) && not (words.is_stripped x prior c) && not (words.is_tilde x prior i c cs) && (not (words.is_special site.Word c) || words.is_literal site.Word c cs))
 unfolding words.stands
 word_stands x prior i c cs word =
     ap (λ s. not (words.stops s c) && not (words.is_stripped x prior c) && not (words.is_tilde x prior i c cs) && (not (words.is_special s c) || words.is_literal s c cs)) word
 
-last_false : (t u v w : Bool) → w ≡ false → (t && u && v && w) ≡ false
+pub last_false : (t u v w : Bool) → w ≡ false → (t && u && v && w) ≡ false
 last_false true true true w h = h
 last_false true true false w h = refl
 last_false true false v w h = refl

@@ -258,6 +258,7 @@ closed_inside b i h = byte_inside (λ c. c == 41) b i h
 module _ {limit : ℕ} {b : List ℕ} where
   mutual
     unfolding singles chained
+
     -- the reading ends in the text, and so do its single quotes
     pub parts_inside : {x : Context} {prior : ℕ} {s u : Spot} {ps : List Part} → ReadsParts limit b x prior s u ps → s.at ≤ length b → (u.at ≤ length b) × Inside (length b) (singles ps)
     parts_inside (r.stop {x = x} {prior = prior} {s = s} h) l = (token_inside b x prior s.at l (ap is_read h), no_span)

@@ -155,8 +155,8 @@ bare_moves w r r' =
     let n = run is_bare (w ++ 41 ∷ r) in
     let text : take n (w ++ 41 ∷ r') ≡ take n (w ++ 41 ∷ r) = take-append-le n w (41 ∷ r') m.1 ∙ sym (take-append-le n w (41 ∷ r) m.1) in (
       ap (λ k. if ends_joined (drop k (w ++ 41 ∷ r')) then take k (w ++ 41 ∷ r') else []) m.0
-      ∙ ap (λ t. if t then take n (w ++ 41 ∷ r') else []) (ends_moves n w r r' m.1)
-      ∙ ap (λ x. if ends_joined (drop n (w ++ 41 ∷ r)) then x else []) text,
+          ∙ ap (λ t. if t then take n (w ++ 41 ∷ r') else []) (ends_moves n w r r' m.1)
+          ∙ ap (λ x. if ends_joined (drop n (w ++ 41 ∷ r)) then x else []) text,
       short n m.1 (ends_joined (drop n (w ++ 41 ∷ r))),
     )
   where
@@ -218,7 +218,7 @@ unfolding name_length
 name_moves w r r' =
     let m = run_moves is_name_byte w 41 r r' refl in (
       ap (λ t. if t then run is_name_byte (w ++ 41 ∷ r') else 0) (first_same is_name_start 0 w 41 r r' refl (omega arith))
-      ∙ ap (λ n. if is_first is_name_start (w ++ 41 ∷ r) then n else 0) m.0,
+          ∙ ap (λ n. if is_first is_name_start (w ++ 41 ∷ r) then n else 0) m.0,
       short (is_first is_name_start (w ++ 41 ∷ r)) m.1,
     )
   where

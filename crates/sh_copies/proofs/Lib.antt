@@ -27,3 +27,5 @@ pub mod WordsFound
 pub mod WordsKept
 pub mod WordsMove
 pub mod WordsTokens
+pub mod CopiedDocuments
+pub mod CopiedMarks
