@@ -635,7 +635,7 @@ module _ {limit n : ℕ} (words : WordsMove limit n) (parts : PartsMove limit n)
           reads = λ body'. let z = rest.reads body' in (tree.script z.0, r.list gap.2 (ap begins_pipeline (lead_of_same c ahead gap.1 (omega arith) First) ∙ h) z.1);
         }
 
-    sequence_moves : {body : ℕ → Document} {s s' u : State} {t : Script} → St s s' → ReadsSequence limit b body s u t → u.spot.at < s.spot.at + n → u.spot.at ≤ limit_of c → Rd u
+    pub sequence_moves : {body : ℕ → Document} {s s' u : State} {t : Script} → St s s' → ReadsSequence limit b body s u t → u.spot.at < s.spot.at + n → u.spot.at ≤ limit_of c → Rd u
         → Fd u (λ body' u' t'. ReadsSequence limit b' body' s' u' t')
     sequence_moves m (r.nothing k h) size within ready =
         let gap = breaks_move words parts c ahead m k size within ready in
