@@ -219,7 +219,7 @@ expansion_alike i (a ∷ v) c r r' h part fits =
 
 -- A sign
 
-sign_in_part : (x : Context) (f : Sign × ℕ) → is_sound (words.sign_in x f).0 ≡ true → words.sign_in x f ≡ f
+pub sign_in_part : (x : Context) (f : Sign × ℕ) → is_sound (words.sign_in x f).0 ≡ true → words.sign_in x f ≡ f
 sign_in_part x f h = go (words.is_all f.0 && not x.fields) h
   where
     go : (t : Bool) → sound_found (if t then (sign.LeftOut form.AllParameters, 0) else f) ≡ true → (if t then (sign.LeftOut form.AllParameters, 0) else f) ≡ f
@@ -256,6 +256,10 @@ backslash_first x d ds ds' (inr a) = rw (continuation_alike x ds ds' a) refl
 abbrev pub is_stop : Sign → Bool
 is_stop sign.Stop = true
 is_stop _ = false
+
+abbrev pub is_tabs : Sign → Bool
+is_tabs sign.Tabs = true
+is_tabs _ = false
 
 -- a sound sign, and its bytes are in the front of so many if it is no end
 pub record Sound (f : Sign × ℕ) (n : ℕ) : Type 0 where
@@ -303,7 +307,11 @@ pub goes_no_stop : (f : Sign × ℕ) → ends f ≡ false → is_stop f.0 ≡ fa
 goes_no_stop (sign.Stop, n) h = absurd (true≢false h)
 goes_no_stop (g, n) h = refl
 
-single_sound : (cs : List ℕ) → is_sound (words.single cs).0 ≡ true → (is_single (words.single cs).0 ≡ true) × (is_stop (words.single cs).0 ≡ false)
+pub goes_no_tabs : (f : Sign × ℕ) → ends f ≡ false → is_tabs f.0 ≡ false
+goes_no_tabs (sign.Tabs, n) h = absurd (true≢false h)
+goes_no_tabs (g, n) h = refl
+
+pub single_sound : (cs : List ℕ) → is_sound (words.single cs).0 ≡ true → (is_single (words.single cs).0 ≡ true) × (is_stop (words.single cs).0 ≡ false)
 unfolding words.single
 single_sound cs h = go (nat_lt (run (λ c. not (c == 39)) cs) (length cs)) h
   where

@@ -26,7 +26,7 @@ abbrev pub is_edge : ℕ → Bool
 is_edge c = ends_token c || c == 92 || c == 96
 
 -- what ends a word begins with such a byte
-edge_first : (r : List ℕ) → words.ends_joined r ≡ true → is_first (λ c. not (is_edge c)) r ≡ false
+pub edge_first : (r : List ℕ) → words.ends_joined r ≡ true → is_first (λ c. not (is_edge c)) r ≡ false
 unfolding joined_length is_first is_last_backquote
 edge_first [] h = refl
 edge_first (c ∷ []) h = grind (arith, nat_tests, h)
@@ -37,13 +37,13 @@ edge_first (c ∷ d ∷ cs) h = by_bool (is_backslash c && is_newline d)
     let k : words.ends_joined (c ∷ d ∷ cs) ≡ (ends_token c || false) = rw (none, zero_not (suc (length cs))) refl in
     grind (arith, nat_tests, sym k ∙ h))
 
-break_first : (r : List ℕ) → is_first breaks r ≡ true → is_first (λ c. not (is_edge c)) r ≡ false
+pub break_first : (r : List ℕ) → is_first breaks r ≡ true → is_first (λ c. not (is_edge c)) r ≡ false
 unfolding is_first
 break_first [] h = refl
 break_first (c ∷ cs) h = grind (arith, nat_tests, h)
 
 -- a class without such bytes has none of them at its front
-edge_none : (p : ℕ → Bool) → ((c : ℕ) → is_edge c ≡ true → p c ≡ false) → (r : List ℕ) → is_first (λ c. not (is_edge c)) r ≡ false → is_first p r ≡ false
+pub edge_none : (p : ℕ → Bool) → ((c : ℕ) → is_edge c ≡ true → p c ≡ false) → (r : List ℕ) → is_first (λ c. not (is_edge c)) r ≡ false → is_first p r ≡ false
 unfolding is_first
 edge_none p none [] h = refl
 edge_none p none (c ∷ cs) h = none c (go (is_edge c) h)
@@ -58,16 +58,16 @@ loose [] r = false
 loose (c ∷ []) r = is_backslash c || (c == 96 && length r == 0)
 loose (c ∷ d ∷ cs) r = is_backslash c && is_newline d
 
-neither : (t : Bool) → (t && false) ≡ false
+pub neither : (t : Bool) → (t && false) ≡ false
 neither true = refl
 neither false = refl
 
-no_literal : (cs : List ℕ) → words.is_literal_backslash site.Word cs ≡ false
+pub no_literal : (cs : List ℕ) → words.is_literal_backslash site.Word cs ≡ false
 unfolding is_first
 no_literal [] = refl
 no_literal (d ∷ cs) = neither (not (length (d ∷ cs) == 0))
 
-lone_none : (c : ℕ) (r : List ℕ) → is_backslash c ≡ false → joined_length (c ∷ r) ≡ 0
+pub lone_none : (c : ℕ) (r : List ℕ) → is_backslash c ≡ false → joined_length (c ∷ r) ≡ 0
 unfolding joined_length
 lone_none c [] h = refl
 lone_none c (d ∷ r) h = cond-false _ _ _ (ap (λ t. t && is_newline d) h)
@@ -76,13 +76,13 @@ left_none : (s t : Bool) → s || t ≡ false → s ≡ false
 left_none false t h = refl
 left_none true t h = absurd (true≢false h)
 
-joined_not : (c : ℕ) (v r rest : List ℕ) → loose (c ∷ v) r ≡ false → joined_length (c ∷ (v ++ rest)) ≡ 0
+pub joined_not : (c : ℕ) (v r rest : List ℕ) → loose (c ∷ v) r ≡ false → joined_length (c ∷ (v ++ rest)) ≡ 0
 unfolding joined_length loose
 joined_not c [] r rest h = lone_none c rest (left_none _ _ h)
 joined_not c (d ∷ v) r rest h = cond-false _ _ _ h
 
 -- no continuation begins before a blank, a newline or `)`
-break_joined : (r : List ℕ) → is_first breaks r ≡ true → joined_length r ≡ 0
+pub break_joined : (r : List ℕ) → is_first breaks r ≡ true → joined_length r ≡ 0
 unfolding is_first joined_length
 break_joined [] h = refl
 break_joined (c ∷ r) h = lone_none c r (grind (arith, nat_tests, h))
@@ -124,7 +124,7 @@ module _ (o : ℕ) (colons fields backquotes : Bool) where
   abbrev pub GoesAt : ℕ → ℕ → List ℕ → List ℕ → Type 0
   GoesAt prior i v r = (v ≡ []) ⊎ Goes prior i v r
 
-  goes_on : (prior i : ℕ) (v r : List ℕ) → GoesAt prior i v r → GoesOn v r
+  pub goes_on : (prior i : ℕ) (v r : List ℕ) → GoesAt prior i v r → GoesOn v r
   goes_on prior i v r (inl e) = inl e
   goes_on prior i v r (inr g) = inr (prior, i, g)
 
@@ -145,7 +145,7 @@ module _ (o : ℕ) (colons fields backquotes : Bool) where
   unfolding words.sign_of words.sign_by words.meant_by
   backquote_sign prior i cs = rw (backquote_stands prior i cs) refl
 
-  continuation_none : (cs : List ℕ) → is_part (words.continuation outer cs).0 ≡ false
+  pub continuation_none : (cs : List ℕ) → is_part (words.continuation outer cs).0 ≡ false
   unfolding words.continuation
   continuation_none cs = either (words.ends_joined cs)
     where
@@ -154,7 +154,7 @@ module _ (o : ℕ) (colons fields backquotes : Bool) where
       either false = refl
 
   -- a backslash keeps the byte behind it
-  lone_backslash : (prior i : ℕ) (r : List ℕ) → Goes prior i (92 ∷ []) r → ⊥
+  pub lone_backslash : (prior i : ℕ) (r : List ℕ) → Goes prior i (92 ∷ []) r → ⊥
   unfolding words.backslash
   lone_backslash prior i [] g = absurd (true≢false (sym g.part ∙ ap (λ f. is_part f.0) (backslash_sign prior i [])))
   lone_backslash prior i (c ∷ r) g = either (is_newline c) refl (sym g.part ∙ ap (λ f. is_part f.0) (backslash_sign prior i (c ∷ r))) (ap (λ f. f.1) (backslash_sign prior i (c ∷ r)))
@@ -165,7 +165,7 @@ module _ (o : ℕ) (colons fields backquotes : Bool) where
       either false e k n = let fits = g.fits in absurd (omega arith)
 
   -- where a word goes on it may be cut
-  loose_goes : (v r : List ℕ) → GoesOn v r → loose v r ≡ false
+  pub loose_goes : (v r : List ℕ) → GoesOn v r → loose v r ≡ false
   unfolding loose words.backslash words.backquoted
   loose_goes v r (inl e) = rw e refl
   loose_goes [] r (inr g) = refl
@@ -253,7 +253,7 @@ module _ (o : ℕ) (colons fields backquotes : Bool) where
       let last = last_outer c v r r' k l in
       rw (zero_not (length (v ++ r')), zero_not (length (v ++ r)), joined_not c v r r' l, joined_not c v r r l, last.0, last.1) refl
 
-  run_outer : (p : ℕ → Bool) (w r : List ℕ) → is_first p r ≡ false → (run p (w ++ r) ≡ run p w) × (run p w ≤ length w)
+  pub run_outer : (p : ℕ → Bool) (w r : List ℕ) → is_first p r ≡ false → (run p (w ++ r) ≡ run p w) × (run p w ≤ length w)
   unfolding is_first
   run_outer p [] [] h = (refl, omega arith)
   run_outer p [] (c ∷ r) h = (run_no p c r h, omega arith)
@@ -261,7 +261,7 @@ module _ (o : ℕ) (colons fields backquotes : Bool) where
       (λ yes. let m = run_outer p w r h in let within = m.1 in let e = run_yes p a w yes in (run_yes p a (w ++ r) yes ∙ ap suc m.0 ∙ sym e, omega arith))
       (λ other. let e = run_no p a w other in (run_no p a (w ++ r) other ∙ sym e, omega arith))
 
-  edge_login : (c : ℕ) → is_edge c ≡ true → words.is_login_byte c ≡ false
+  pub edge_login : (c : ℕ) → is_edge c ≡ true → words.is_login_byte c ≡ false
   edge_login c h = grind (arith, nat_tests, h)
 
   -- a tilde-prefix before what ends the word
@@ -293,11 +293,11 @@ module _ (o : ℕ) (colons fields backquotes : Bool) where
   dollar_outer (c ∷ w) r r' k lone l = rw (joined_not c w r r' l, joined_not c w r r l) refl
 
   -- a `$` that begins a part
-  literal_or : (prior i : ℕ) (cs : List ℕ) → words.stands outer prior i 36 cs ≡ words.is_literal_dollar false cs
+  pub literal_or : (prior i : ℕ) (cs : List ℕ) → words.stands outer prior i 36 cs ≡ words.is_literal_dollar false cs
   unfolding words.stands words.is_tilde
   literal_or prior i cs = refl
 
-  dollar_sign : (prior i : ℕ) (cs : List ℕ) → words.is_literal_dollar false cs ≡ false → words.sign_of outer prior i (36 ∷ cs) ≡ words.dollar outer i cs
+  pub dollar_sign : (prior i : ℕ) (cs : List ℕ) → words.is_literal_dollar false cs ≡ false → words.sign_of outer prior i (36 ∷ cs) ≡ words.dollar outer i cs
   unfolding words.sign_of words.sign_by words.meant_by
   dollar_sign prior i cs h = rw (literal_or prior i cs, h) refl
 
@@ -329,7 +329,7 @@ module _ (o : ℕ) (colons fields backquotes : Bool) where
       subst (λ k. is_joined (k ∷ cs) ≡ false → 1 < (words.dollar outer i (k ∷ cs)).1) (sym is) (parenthesis_takes i cs) none
 
   -- such a `$` is followed by what it opens, in the word
-  dollar_opens : (prior i : ℕ) (v r : List ℕ) → words.ends_joined r ≡ true → Goes prior i (36 ∷ v) r → words.is_literal_dollar false (v ++ r) ≡ false
+  pub dollar_opens : (prior i : ℕ) (v r : List ℕ) → words.ends_joined r ≡ true → Goes prior i (36 ∷ v) r → words.is_literal_dollar false (v ++ r) ≡ false
       → is_first (words.opens_dollar false) v ≡ true
   unfolding is_first words.dollar
   dollar_opens prior i v r h g lit = by_bool (is_joined (v ++ r))
@@ -350,7 +350,7 @@ module _ (o : ℕ) (colons fields backquotes : Bool) where
           absurd (omega arith)
       go (c ∷ u) e none k = sym (ap (is_first (words.opens_dollar false)) e) ∙ ap (λ w. is_first (words.opens_dollar false) (w ++ r)) e ∙ k
 
-  opens_not_loose : (v r : List ℕ) → is_first (words.opens_dollar false) v ≡ true → loose v r ≡ false
+  pub opens_not_loose : (v r : List ℕ) → is_first (words.opens_dollar false) v ≡ true → loose v r ≡ false
   unfolding is_first loose
   opens_not_loose [] r h = refl
   opens_not_loose (c ∷ []) r h =
@@ -392,7 +392,7 @@ module _ (o : ℕ) (colons fields backquotes : Bool) where
       go true (suc n) h = omega arith
 
   -- behind a tilde-prefix the word may be cut
-  tilde_behind : (prior i : ℕ) (v r : List ℕ) → words.ends_joined r ≡ true → Goes prior i (126 ∷ v) r → words.stands outer prior i 126 (v ++ r) ≡ false → loose (drop (run words.is_login_byte v) v) r ≡ false
+  pub tilde_behind : (prior i : ℕ) (v r : List ℕ) → words.ends_joined r ≡ true → Goes prior i (126 ∷ v) r → words.stands outer prior i 126 (v ++ r) ≡ false → loose (drop (run words.is_login_byte v) v) r ≡ false
   tilde_behind prior i v r h g none =
       let is = tilde_sign prior i (v ++ r) none in
       let takes = tilde_takes prior i (v ++ r) none in
@@ -400,7 +400,7 @@ module _ (o : ℕ) (colons fields backquotes : Bool) where
       subst (λ n. loose (drop n (126 ∷ v)) r ≡ false) size (subst (λ (f : Sign × ℕ). loose (drop f.1 (126 ∷ v)) r ≡ false) is (g.behind (ap (λ f. is_prefix f.0) is)))
 
   -- where a part begins that is no such byte none is in the copy
-  stands_goes : (prior i a : ℕ) (v r r' : List ℕ) → words.ends_joined r ≡ true → is_first breaks r' ≡ true → Goes prior i (a ∷ v) r → words.stands outer prior i a (v ++ r) ≡ false
+  pub stands_goes : (prior i a : ℕ) (v r r' : List ℕ) → words.ends_joined r ≡ true → is_first breaks r' ≡ true → Goes prior i (a ∷ v) r → words.stands outer prior i a (v ++ r) ≡ false
       → words.stands outer prior i a (v ++ r') ≡ false
   unfolding is_first
   stands_goes prior i a v r r' h k g none = by_bool (a == 126)

@@ -132,5 +132,5 @@ pub record ExpansionsMove (limit n : ℕ) : Type 0 where
 pub record WordsMove (limit n : ℕ) : Type 0 where
   pub word : {b b' : List ℕ} (c : Copied b b') {x : Context} {o' : ℕ} {s s' u : Spot} {w : Word}
       → Moved c s s' → Turns c x o' → ReadsWord limit b x s u w → u.at < s.at + n
-      → u.at ≤ limit_of c + stop_length x.site
+      → u.at ≤ limit_of c
       → Found c u (KeptWord b b' w) (λ u' w'. ReadsWord limit b' (turned o' x) s' u' w')

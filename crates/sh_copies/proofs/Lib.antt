@@ -20,10 +20,12 @@ pub mod AlikePlain
 pub mod AlikeSigns
 pub mod AlikeTokens
 pub mod Boundary
+pub mod BoundarySigns
 pub mod Copies
 pub mod Forward
 pub mod Shift
 pub mod WordsCommands
+pub mod WordsFound
 pub mod WordsKept
 pub mod WordsMove
 pub mod WordsTokens

@@ -70,7 +70,7 @@ retold {limit} {b' = b'} {x = x} {s = s} {e = e} same f = record { to = f.to; tr
 -- The parts and what they hold, where commands and arithmetic of fewer bytes are found
 module _ {limit n : ℕ} (expressions : ExpressionsMove limit n) (scripts : ScriptsMove limit n) where
   mutual
-    parts_move : {b b' : List ℕ} (c : Copied b b') {x : Context} {o' prior : ℕ} {s s' u : Spot} {ps : List Part}
+    pub parts_move : {b b' : List ℕ} (c : Copied b b') {x : Context} {o' prior : ℕ} {s s' u : Spot} {ps : List Part}
         → Moved c s s' → Turns c x o' → ReadsParts limit b x prior s u ps → u.at < s.at + suc n → u.at ≤ limit_of c + stop_length x.site
         → Found c u (Kept b b' ps) (λ u' ps'. ReadsParts limit b' (turned o' x) prior s' u' ps')
     parts_move {b} {b'} c {x} {o'} {prior} {s} {s'} m turns (r.stop h) size within =
@@ -101,7 +101,7 @@ module _ {limit n : ℕ} (expressions : ExpressionsMove limit n) (scripts : Scri
           reads = r.more refl one.reads (subst (λ k. ReadsParts limit b' (turned o' x) k one.to rest.to rest.tree) (sym same) rest.reads);
         }
 
-    part_move : {b b' : List ℕ} (c : Copied b b') {x : Context} {o' : ℕ} {g : Sign} {s s' u : Spot} {p : Part} {e e' : ℕ}
+    pub part_move : {b b' : List ℕ} (c : Copied b b') {x : Context} {o' : ℕ} {g : Sign} {s s' u : Spot} {p : Part} {e e' : ℕ}
         → Moved c s s' → Turns c x o' → Place c e e' → s.at ≤ e → (g' : Sign) → placeless g' ≡ placeless g → ReadsPart limit b x g s e u p → u.at < s.at + suc n → u.at ≤ limit_of c
         → Found c u (KeptPart b b' p) (λ u' p'. ReadsPart limit b' (turned o' x) g' s' e' u' p')
     part_move {b} {b'} c {s = s} {s' = s'} {e = e} {e' = e'} m turns q f g' same r.plain size within =
