@@ -1,3 +1,6 @@
+pub mod LinesDocuments
+pub mod CommandsScripts
+pub mod Commands
 pub mod CommandsMove
 pub mod CommandsDocuments
 pub mod CommandsReady

@@ -189,7 +189,10 @@ module _ (m : Mark) where
   unfolding end_line
   end_line_again b b' i j v e t t' l h start end there here long some = again (length b) (length b') b b' i j v e t t' l h start end there here long some (omega arith)
 
+  pub end_line_is : (b : List ℕ) (i : ℕ) (l : Span) → end_line m b i ≡ Some l → IsEnd b i l
+  unfolding end_line
+  end_line_is b i l h = found_is (length b) b i l h
+
   -- it begins in the text
   pub end_line_inside : (b : List ℕ) (i : ℕ) (l : Span) → end_line m b i ≡ Some l → l.start < length b
-  unfolding end_line
-  end_line_inside b i l h = (found_is (length b) b i l h).inside
+  end_line_inside b i l h = (end_line_is b i l h).inside
