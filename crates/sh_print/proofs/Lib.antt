@@ -7,3 +7,7 @@ pub mod OwnTokens
 pub mod NameTokens
 pub mod SourceLemmas
 pub mod NameLemmas
+pub mod RedirectTokens
+pub mod DocumentsPrinted
+pub mod ElementsPrinted
+pub mod JoinsPrinted

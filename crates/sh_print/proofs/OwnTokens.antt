@@ -26,14 +26,17 @@ pub data Gap : List ℕ → Type 0 where
 
 -- Runs
 
-pub run_over : (p : ℕ → Bool) (w : List ℕ) (c : ℕ) (r : List ℕ) → list_all p w ≡ true → p c ≡ false → run p (w ++ c ∷ r) ≡ length w
-run_over p [] c r all none = ap length (take_while-cons p c r ∙ cond-false _ _ _ none)
-run_over p (d ∷ w) c r all none =
+pub run_all : (p : ℕ → Bool) (w cs : List ℕ) → list_all p w ≡ true → run p cs ≡ 0 → run p (w ++ cs) ≡ length w
+run_all p [] cs all none = none
+run_all p (d ∷ w) cs all none =
     let both = and_parts (p d) (list_all p w) all in
-    ap length (take_while-cons p d (w ++ c ∷ r) ∙ cond-true _ _ _ both.0) ∙ ap suc (run_over p w c r both.1 none)
+    ap length (take_while-cons p d (w ++ cs) ∙ cond-true _ _ _ both.0) ∙ ap suc (run_all p w cs both.1 none)
 
 pub run_none : (p : ℕ → Bool) (c : ℕ) (r : List ℕ) → p c ≡ false → run p (c ∷ r) ≡ 0
-run_none p c r none = run_over p [] c r refl none
+run_none p c r none = ap length (take_while-cons p c r ∙ cond-false _ _ _ none)
+
+pub run_over : (p : ℕ → Bool) (w : List ℕ) (c : ℕ) (r : List ℕ) → list_all p w ≡ true → p c ≡ false → run p (w ++ c ∷ r) ≡ length w
+run_over p w c r all none = run_all p w (c ∷ r) all (run_none p c r none)
 
 pub joins_none : (c : ℕ) (cs : List ℕ) → is_backslash c ≡ false → joined_length (c ∷ cs) ≡ 0
 unfolding joined_length
