@@ -49,6 +49,11 @@ pub record IsTail (rest : List ℕ) : Type 0 where
   pub closed : is_first is_parenthesis (front rest) ≡ false
   pub ends : (g : Stage) → begins_simple (lead_at (front rest) g 0) ≡ false
 
+-- behind a closing word
+pub record IsClosed (rest : List ℕ) : Type 0 where
+  pub gap : Gap rest
+  pub closed : is_first is_parenthesis (front rest) ≡ false
+
 pub gap_word : (rest : List ℕ) → Gap rest → is_first is_parenthesis (front rest) ≡ false → IsBehindWord rest
 unfolding is_first
 gap_word _ (blank {r = r}) h = record { ends = refl; opens_nothing = h }
@@ -343,11 +348,6 @@ module _ (b : List ℕ) where
 
   abbrev pub redirects_text : List bare.Redirect → List ℕ
   redirects_text qs = flat_map (λ q. 32 ∷ redirect_text q) qs
-
-  -- what stands behind a closing word
-  pub record IsClosed (rest : List ℕ) : Type 0 where
-    pub gap : Gap rest
-    pub closed : is_first is_parenthesis (front rest) ≡ false
 
   pub behind_close : {limit k : ℕ} {quiet : Bool} {qs : List bare.Redirect} → PrintableRedirects limit k quiet qs → (rest : List ℕ) → IsTail rest → IsClosed (redirects_text qs ++ rest)
   behind_close p.no_redirects rest tail = record { gap = tail.gap; closed = tail.closed }

@@ -11,3 +11,5 @@ pub mod RedirectTokens
 pub mod DocumentsPrinted
 pub mod ElementsPrinted
 pub mod JoinsPrinted
+pub mod ListsPrinted
+pub mod CompoundsPrinted
