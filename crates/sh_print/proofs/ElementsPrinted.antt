@@ -226,7 +226,7 @@ module _ (b : List ℕ) where
   blank_element x es rest s =
       subst IsBehindWord (sym (append_assoc (32 ∷ element_text x) (tail_text es) rest)) (blank_word (element_text x ++ (tail_text es ++ rest)) s)
 
-  behind_element : {limit k : ℕ} {g : Stage} {quiet : Bool} {es : List bare.Element} → PrintableElements limit k g quiet es → (rest : List ℕ) → IsTail rest → IsBehindWord (tail_text es ++ rest)
+  pub behind_element : {limit k : ℕ} {g : Stage} {quiet : Bool} {es : List bare.Element} → PrintableElements limit k g quiet es → (rest : List ℕ) → IsTail rest → IsBehindWord (tail_text es ++ rest)
   behind_element p.no_elements rest tail = tail_word rest tail
   behind_element (p.assigned_element {name = name} {value = value} {es = es} stage named printable more) rest tail =
       blank_element (bare.Assigns name value) es rest (element_starts (p.assigned_element stage named printable more) (tail_text es ++ rest) (behind_element more rest tail))
@@ -236,7 +236,7 @@ module _ (b : List ℕ) where
       blank_element (bare.Redirects q) es rest (element_starts (p.redirect_element printable more) (tail_text es ++ rest) (behind_element more rest tail))
 
   -- an element behind a blank
-  over_blank : (x : bare.Element) (es : List bare.Element) (rest : List ℕ) → Starts (element_text x ++ (tail_text es ++ rest)) → front (tail_text (x ∷ es) ++ rest) ≡ element_text x ++ (tail_text es ++ rest)
+  pub over_blank : (x : bare.Element) (es : List bare.Element) (rest : List ℕ) → Starts (element_text x ++ (tail_text es ++ rest)) → front (tail_text (x ∷ es) ++ rest) ≡ element_text x ++ (tail_text es ++ rest)
   over_blank x es rest s =
       ap front (append_assoc (32 ∷ element_text x) (tail_text es) rest) ∙ front_blank 32 (element_text x ++ (tail_text es ++ rest)) refl ∙ s.front_is
 

@@ -13,3 +13,5 @@ pub mod ElementsPrinted
 pub mod JoinsPrinted
 pub mod ListsPrinted
 pub mod CompoundsPrinted
+pub mod LoopsPrinted
+pub mod CasesPrinted
