@@ -91,6 +91,75 @@ token_starts (c ∷ w) rest t h = record { front_is = ap (λ n. drop n (c ∷ w 
 pub blank_word : (cs : List ℕ) → Starts cs → IsBehindWord (32 ∷ cs)
 blank_word cs s = gap_word (32 ∷ cs) blank (ap (is_first is_parenthesis) (front_blank 32 cs refl ∙ s.front_is) ∙ s.closed)
 
+redirect_whole : (q : bare.Redirect) (rest : List ℕ) → redirect_text q ++ rest ≡ redirection_text q.number q.opens (q.word ++ rest)
+redirect_whole q rest = append_assoc (number_text q.number) (opens_text q.opens ++ 32 ∷ q.word) rest ∙ ap (λ t. number_text q.number ++ t) (append_assoc (opens_text q.opens) (32 ∷ q.word) rest)
+
+or_left : (s t : Bool) → s ≡ true → (s || t) ≡ true
+or_left s t h = ap (λ x. x || t) h
+
+or_right : (s : Bool) → (s || true) ≡ true
+or_right true = refl
+or_right false = refl
+
+-- the text of further elements
+abbrev pub tail_text : List bare.Element → List ℕ
+tail_text es = flat_map (λ t. (32 ∷ []) ++ t) (map element_text es)
+
+redirect_starts : {limit k : ℕ} {quiet : Bool} (q : bare.Redirect) (rest : List ℕ) → PrintableRedirect limit k quiet q → Starts (redirect_text q ++ rest)
+redirect_starts q rest (p.file {w = w} digits token printable) =
+    let first = redirect_first q.number q.opens (w ++ rest) digits in let same = redirect_whole q rest in
+    record { front_is = ap front same ∙ first.0 ∙ sym same; closed = ap (is_first is_parenthesis) same ∙ first.1 }
+redirect_starts q rest (p.here_document {w = w} digits token printable delimits printed) =
+    let first = redirect_first q.number q.opens (w ++ rest) digits in let same = redirect_whole q rest in
+    record { front_is = ap front same ∙ first.0 ∙ sym same; closed = ap (is_first is_parenthesis) same ∙ first.1 }
+
+pub element_starts : {limit k : ℕ} {g : Stage} {quiet : Bool} {e : bare.Element} {es : List bare.Element} → PrintableElements limit k g quiet (e ∷ es) → (rest : List ℕ) → IsBehindWord rest
+    → Starts (element_text e ++ rest)
+element_starts (p.assigned_element {name = name} {value = value} stage named printable more) rest behind =
+    let first = name_first name ((61 ∷ value) ++ rest) named in
+    let same = append_assoc name (61 ∷ value) rest in
+    record { front_is = ap front same ∙ first.0 ∙ sym same; closed = ap (is_first is_parenthesis) same ∙ first.1 }
+element_starts (p.word_element {w = w} token printable more) rest behind = token_starts w rest token behind
+element_starts (p.redirect_element {r = q} printable more) rest behind = redirect_starts q rest printable
+
+blank_element : (x : bare.Element) (es : List bare.Element) (rest : List ℕ) → Starts (element_text x ++ (tail_text es ++ rest)) → IsBehindWord (tail_text (x ∷ es) ++ rest)
+blank_element x es rest s =
+    subst IsBehindWord (sym (append_assoc (32 ∷ element_text x) (tail_text es) rest)) (blank_word (element_text x ++ (tail_text es ++ rest)) s)
+
+pub behind_element : {limit k : ℕ} {g : Stage} {quiet : Bool} {es : List bare.Element} → PrintableElements limit k g quiet es → (rest : List ℕ) → IsTail rest → IsBehindWord (tail_text es ++ rest)
+behind_element p.no_elements rest tail = tail_word rest tail
+behind_element (p.assigned_element {name = name} {value = value} {es = es} stage named printable more) rest tail =
+    blank_element (bare.Assigns name value) es rest (element_starts (p.assigned_element stage named printable more) (tail_text es ++ rest) (behind_element more rest tail))
+behind_element (p.word_element {w = w} {es = es} token printable more) rest tail =
+    blank_element (bare.Operand w) es rest (element_starts (p.word_element token printable more) (tail_text es ++ rest) (behind_element more rest tail))
+behind_element (p.redirect_element {r = q} {es = es} printable more) rest tail =
+    blank_element (bare.Redirects q) es rest (element_starts (p.redirect_element printable more) (tail_text es ++ rest) (behind_element more rest tail))
+
+-- an element behind a blank
+pub over_blank : (x : bare.Element) (es : List bare.Element) (rest : List ℕ) → Starts (element_text x ++ (tail_text es ++ rest)) → front (tail_text (x ∷ es) ++ rest) ≡ element_text x ++ (tail_text es ++ rest)
+over_blank x es rest s =
+    ap front (append_assoc (32 ∷ element_text x) (tail_text es) rest) ∙ front_blank 32 (element_text x ++ (tail_text es ++ rest)) refl ∙ s.front_is
+
+abbrev pub redirects_text : List bare.Redirect → List ℕ
+redirects_text qs = flat_map (λ q. 32 ∷ redirect_text q) qs
+
+pub behind_close : {limit k : ℕ} {quiet : Bool} {qs : List bare.Redirect} → PrintableRedirects limit k quiet qs → (rest : List ℕ) → IsTail rest → IsClosed (redirects_text qs ++ rest)
+behind_close p.no_redirects rest tail = record { gap = tail.gap; closed = tail.closed }
+behind_close (p.more_redirects {r = q} {rs = qs} printable more) rest tail =
+    let s = redirect_starts q (redirects_text qs ++ rest) printable in
+    let same = append_assoc (32 ∷ redirect_text q) (redirects_text qs) rest in
+    record {
+      gap = subst Gap (sym same) blank;
+      closed = ap (λ t. is_first is_parenthesis (front t)) same ∙ ap (is_first is_parenthesis) (front_blank 32 (redirect_text q ++ (redirects_text qs ++ rest)) refl ∙ s.front_is) ∙ s.closed;
+    }
+
+-- the first element
+pub first_starts : {limit k : ℕ} {g : Stage} {quiet : Bool} {e : bare.Element} {es : List bare.Element} → PrintableElements limit k g quiet (e ∷ es) → (rest : List ℕ) → IsTail rest
+    → Starts (element_text e ++ (tail_text es ++ rest))
+first_starts (p.assigned_element {es = es} stage named printable more) rest tail = element_starts (p.assigned_element stage named printable more) (tail_text es ++ rest) (behind_element more rest tail)
+first_starts (p.word_element {es = es} token printable more) rest tail = element_starts (p.word_element token printable more) (tail_text es ++ rest) (behind_element more rest tail)
+first_starts (p.redirect_element {es = es} printable more) rest tail = element_starts (p.redirect_element printable more) (tail_text es ++ rest) (behind_element more rest tail)
+
 module _ (b : List ℕ) where
   -- Words
 
@@ -127,16 +196,6 @@ module _ (b : List ℕ) where
     pub begins : (g : Stage) → is_redirection (lead_at b g i) ≡ true
     pub reads : (body : ℕ → Document) → Fits b body (length (so_far b ds waiting)) (redirect_documents q)
         → (x : Redirect) × ReadsRedirect limit b body (place i n k closed ms ds) (place at count k closed marks ds) x × (redirect_of b x ≡ q)
-
-  redirect_whole : (q : bare.Redirect) (rest : List ℕ) → redirect_text q ++ rest ≡ redirection_text q.number q.opens (q.word ++ rest)
-  redirect_whole q rest = append_assoc (number_text q.number) (opens_text q.opens ++ 32 ∷ q.word) rest ∙ ap (λ t. number_text q.number ++ t) (append_assoc (opens_text q.opens) (32 ∷ q.word) rest)
-
-  or_left : (s t : Bool) → s ≡ true → (s || t) ≡ true
-  or_left s t h = ap (λ x. x || t) h
-
-  or_right : (s : Bool) → (s || true) ≡ true
-  or_right true = refl
-  or_right false = refl
 
   pub redirect_print : {limit k : ℕ} {quiet : Bool} {q : bare.Redirect} → PrintableRedirect limit k quiet q → (i n : ℕ) (closed : Bool) (ms : List Mark) (ds : List Document) (waiting : List bare.Document) (rest : List ℕ)
       → Marked b limit ms waiting → (waits ms ≡ true → quiet ≡ true) → drop i b ≡ redirect_text q ++ rest → IsBehindWord rest → PrintedRedirect limit i n k closed ms ds waiting quiet q rest
@@ -200,45 +259,6 @@ module _ (b : List ℕ) where
       }
 
   -- Elements
-
-  -- the text of further elements
-  abbrev pub tail_text : List bare.Element → List ℕ
-  tail_text es = flat_map (λ t. (32 ∷ []) ++ t) (map element_text es)
-
-  redirect_starts : {limit k : ℕ} {quiet : Bool} (q : bare.Redirect) (rest : List ℕ) → PrintableRedirect limit k quiet q → Starts (redirect_text q ++ rest)
-  redirect_starts q rest (p.file {w = w} digits token printable) =
-      let first = redirect_first q.number q.opens (w ++ rest) digits in let same = redirect_whole q rest in
-      record { front_is = ap front same ∙ first.0 ∙ sym same; closed = ap (is_first is_parenthesis) same ∙ first.1 }
-  redirect_starts q rest (p.here_document {w = w} digits token printable delimits printed) =
-      let first = redirect_first q.number q.opens (w ++ rest) digits in let same = redirect_whole q rest in
-      record { front_is = ap front same ∙ first.0 ∙ sym same; closed = ap (is_first is_parenthesis) same ∙ first.1 }
-
-  pub element_starts : {limit k : ℕ} {g : Stage} {quiet : Bool} {e : bare.Element} {es : List bare.Element} → PrintableElements limit k g quiet (e ∷ es) → (rest : List ℕ) → IsBehindWord rest
-      → Starts (element_text e ++ rest)
-  element_starts (p.assigned_element {name = name} {value = value} stage named printable more) rest behind =
-      let first = name_first name ((61 ∷ value) ++ rest) named in
-      let same = append_assoc name (61 ∷ value) rest in
-      record { front_is = ap front same ∙ first.0 ∙ sym same; closed = ap (is_first is_parenthesis) same ∙ first.1 }
-  element_starts (p.word_element {w = w} token printable more) rest behind = token_starts w rest token behind
-  element_starts (p.redirect_element {r = q} printable more) rest behind = redirect_starts q rest printable
-
-  blank_element : (x : bare.Element) (es : List bare.Element) (rest : List ℕ) → Starts (element_text x ++ (tail_text es ++ rest)) → IsBehindWord (tail_text (x ∷ es) ++ rest)
-  blank_element x es rest s =
-      subst IsBehindWord (sym (append_assoc (32 ∷ element_text x) (tail_text es) rest)) (blank_word (element_text x ++ (tail_text es ++ rest)) s)
-
-  pub behind_element : {limit k : ℕ} {g : Stage} {quiet : Bool} {es : List bare.Element} → PrintableElements limit k g quiet es → (rest : List ℕ) → IsTail rest → IsBehindWord (tail_text es ++ rest)
-  behind_element p.no_elements rest tail = tail_word rest tail
-  behind_element (p.assigned_element {name = name} {value = value} {es = es} stage named printable more) rest tail =
-      blank_element (bare.Assigns name value) es rest (element_starts (p.assigned_element stage named printable more) (tail_text es ++ rest) (behind_element more rest tail))
-  behind_element (p.word_element {w = w} {es = es} token printable more) rest tail =
-      blank_element (bare.Operand w) es rest (element_starts (p.word_element token printable more) (tail_text es ++ rest) (behind_element more rest tail))
-  behind_element (p.redirect_element {r = q} {es = es} printable more) rest tail =
-      blank_element (bare.Redirects q) es rest (element_starts (p.redirect_element printable more) (tail_text es ++ rest) (behind_element more rest tail))
-
-  -- an element behind a blank
-  pub over_blank : (x : bare.Element) (es : List bare.Element) (rest : List ℕ) → Starts (element_text x ++ (tail_text es ++ rest)) → front (tail_text (x ∷ es) ++ rest) ≡ element_text x ++ (tail_text es ++ rest)
-  over_blank x es rest s =
-      ap front (append_assoc (32 ∷ element_text x) (tail_text es) rest) ∙ front_blank 32 (element_text x ++ (tail_text es ++ rest)) refl ∙ s.front_is
 
   -- a word's stage is the one behind its text
   stage_is : (g : Stage) (w rest : List ℕ) (i : ℕ) → TokenOf g w → drop i b ≡ w ++ rest → IsBehindWord rest → stage_behind b g i ≡ stage_after g w
@@ -345,19 +365,6 @@ module _ (b : List ℕ) where
       }
 
   -- Redirections behind a compound command
-
-  abbrev pub redirects_text : List bare.Redirect → List ℕ
-  redirects_text qs = flat_map (λ q. 32 ∷ redirect_text q) qs
-
-  pub behind_close : {limit k : ℕ} {quiet : Bool} {qs : List bare.Redirect} → PrintableRedirects limit k quiet qs → (rest : List ℕ) → IsTail rest → IsClosed (redirects_text qs ++ rest)
-  behind_close p.no_redirects rest tail = record { gap = tail.gap; closed = tail.closed }
-  behind_close (p.more_redirects {r = q} {rs = qs} printable more) rest tail =
-      let s = redirect_starts q (redirects_text qs ++ rest) printable in
-      let same = append_assoc (32 ∷ redirect_text q) (redirects_text qs) rest in
-      record {
-        gap = subst Gap (sym same) blank;
-        closed = ap (λ t. is_first is_parenthesis (front t)) same ∙ ap (is_first is_parenthesis) (front_blank 32 (redirect_text q ++ (redirects_text qs ++ rest)) refl ∙ s.front_is) ∙ s.closed;
-      }
 
   pub record PrintedRedirects (limit i n k : ℕ) (closed : Bool) (ms : List Mark) (ds : List Document) (waiting : List bare.Document) (qs : List bare.Redirect) (rest : List ℕ) : Type 0 where
     pub at : ℕ

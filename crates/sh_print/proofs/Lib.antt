@@ -15,3 +15,4 @@ pub mod ListsPrinted
 pub mod CompoundsPrinted
 pub mod LoopsPrinted
 pub mod CasesPrinted
+pub mod CommandsPrinted
