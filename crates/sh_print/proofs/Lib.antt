@@ -16,3 +16,4 @@ pub mod CompoundsPrinted
 pub mod LoopsPrinted
 pub mod CasesPrinted
 pub mod CommandsPrinted
+pub mod PipelinesPrinted
