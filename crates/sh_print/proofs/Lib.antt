@@ -17,3 +17,4 @@ pub mod LoopsPrinted
 pub mod CasesPrinted
 pub mod CommandsPrinted
 pub mod PipelinesPrinted
+pub mod ItemsPrinted
