@@ -18,3 +18,4 @@ pub mod CasesPrinted
 pub mod CommandsPrinted
 pub mod PipelinesPrinted
 pub mod ItemsPrinted
+pub mod ScriptsPrinted
