@@ -19,3 +19,5 @@ pub mod CommandsPrinted
 pub mod PipelinesPrinted
 pub mod ItemsPrinted
 pub mod ScriptsPrinted
+pub mod PrintableLemmas
+pub mod NulLemmas

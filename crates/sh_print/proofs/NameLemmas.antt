@@ -1,7 +1,7 @@
 -- The names of assignments, loops and functions in a text.
-use Rattle.std.proofs.Common.{◌≡◌, ℕ, ◌+◌, ◌==◌, Bool, true, false, not, ◌&&◌, ◌||◌, if◌then◌else◌, List, [], ◌∷◌, length, drop, take, codes, nat_le, Option, Some, None, refl, sym, ap, subst, ◌∙◌, arith}
+use Rattle.std.proofs.Common.{◌≡◌, ℕ, ◌+◌, Bool, true, false, not, ◌&&◌, if◌then◌else◌, List, [], ◌∷◌, length, drop, take, Option, Some, None, refl, sym, ap, subst, ◌∙◌, arith}
 use Rattle.std.specs.List.{list_all, take_while}
-use Rattle.std.proofs.lemmas.Bool.{true≢false, and_parts, cases_Bool, cond-true, cond-false}
+use Rattle.std.proofs.lemmas.Bool.{true≢false, and_parts, cond-true, cond-false}
 use Rattle.std.proofs.lemmas.Bool.Decides.{nat_tests}
 use Rattle.std.proofs.lemmas.List.Sums.{take_while-cons}
 use Rattle.sh_tree.specs.declared.refusal.Form.{Form}
@@ -15,7 +15,7 @@ use Rattle.sh_tree.specs.declared.token.command.Reserved.TheVariants as word
 use Rattle.sh_tree.specs.declared.token.command.Stage.{Stage}
 use Rattle.sh_tree.specs.declared.token.command.Stage.TheVariants.{First, Prefixed, Named}
 use Rattle.sh_tree.specs.standard.Tree.{text_of}
-use Rattle.sh_tree.specs.standard.language.Bytes.{is_digit, is_first, is_last_backquote, is_name, is_name_byte, is_name_start, is_newline, name_length, run}
+use Rattle.sh_tree.specs.standard.language.Bytes.{is_digit, is_first, is_name, is_name_byte, is_name_start, name_length, run}
 use Rattle.sh_tree.specs.standard.language.Words.{ends_joined}
 use Rattle.sh_tree.specs.standard.language.Commands.{bare_word, blanks, entry_of, first_lead, is_assignment, is_bare, is_bare_name, is_definition, is_named, is_parenthesis, lead_at, lead_of, left_out_names, name_end, name_lead, number_lead, opening, operator_lead, operator_of, other_lead, reserved_lead, reserved_words, whole_operator, word_lead}
 use Rattle.sh_tree.specs.standard.language.Trees.{span}

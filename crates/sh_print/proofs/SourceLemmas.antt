@@ -1,5 +1,5 @@
 -- What a reading of a text knows of its words, numbers and here-documents.
-use Rattle.std.proofs.Common.{◌≡◌, ◌<◌, ℕ, zero, suc, ◌+◌, ◌==◌, Bool, true, false, not, ◌&&◌, ◌||◌, if◌then◌else◌, List, [], ◌∷◌, ◌++◌, length, drop, take, Option, Some, None, refl, sym, ap, subst, ◌∙◌, arith, length-append}
+use Rattle.std.proofs.Common.{◌≡◌, ◌<◌, ℕ, zero, suc, ◌+◌, ◌==◌, Bool, true, false, ◌&&◌, ◌||◌, if◌then◌else◌, List, [], ◌∷◌, ◌++◌, length, drop, take, Option, Some, None, refl, sym, ap, subst, ◌∙◌, arith, length-append}
 use Rattle.std.specs.List.{list_any, list_all, take_while}
 use Rattle.std.specs.Option.{option_map}
 use Rattle.std.proofs.lemmas.Bool.{true≢false, eq-eqb}
@@ -13,7 +13,7 @@ use Rattle.sh_tree.specs.declared.token.command.Stage.TheVariants.{Named}
 use Rattle.sh_tree.specs.standard.Tree.{text_of}
 use Rattle.sh_tree.specs.standard.language.Bytes.{is_digit, is_first, run}
 use Rattle.sh_tree.specs.standard.language.Commands.{redirects, number_of, redirection_by, digits_end, operator, redirection, is_newline_lead, is_open}
-use Rattle.sh_tree.specs.standard.language.HereDocuments.{Mark, behind_line}
+use Rattle.sh_tree.specs.standard.language.HereDocuments.{Mark}
 use Rattle.sh_tree.specs.standard.language.Reading as r
 use Rattle.sh_tree.specs.standard.language.Reading.{HasNoNul, ReadsWord, ReadsDocuments, ReadsBreaks, lead_of, lead_here, parted, unopened, skip}
 use Rattle.sh_tree.specs.standard.language.States.{Spot, Document, State, nth, waits}
@@ -108,7 +108,7 @@ abbrev pub Level : ℕ → Spot → Type 0
 Level depth s = (s.depth ≡ depth) × (s.quiet ≡ false) × (s.joins ≡ false) × (s.tabs ≡ false)
 
 -- either state has what both have
-either : (P : State → Type 0) (c : Bool) (s u : State) → P s → P u → P (if c then s else u)
+pub either : (P : State → Type 0) (c : Bool) (s u : State) → P s → P u → P (if c then s else u)
 either P true s u h k = h
 either P false s u h k = k
 
