@@ -311,7 +311,7 @@ pub goes_no_tabs : (f : Sign × ℕ) → ends f ≡ false → is_tabs f.0 ≡ fa
 goes_no_tabs (sign.Tabs, n) h = absurd (true≢false h)
 goes_no_tabs (g, n) h = refl
 
-single_sound : (cs : List ℕ) → is_sound (words.single cs).0 ≡ true → (is_single (words.single cs).0 ≡ true) × (is_stop (words.single cs).0 ≡ false)
+pub single_sound : (cs : List ℕ) → is_sound (words.single cs).0 ≡ true → (is_single (words.single cs).0 ≡ true) × (is_stop (words.single cs).0 ≡ false)
 unfolding words.single
 single_sound cs h = go (nat_lt (run (λ c. not (c == 39)) cs) (length cs)) h
   where

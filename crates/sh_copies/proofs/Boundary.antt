@@ -145,7 +145,7 @@ module _ (o : ℕ) (colons fields backquotes : Bool) where
   unfolding words.sign_of words.sign_by words.meant_by
   backquote_sign prior i cs = rw (backquote_stands prior i cs) refl
 
-  continuation_none : (cs : List ℕ) → is_part (words.continuation outer cs).0 ≡ false
+  pub continuation_none : (cs : List ℕ) → is_part (words.continuation outer cs).0 ≡ false
   unfolding words.continuation
   continuation_none cs = either (words.ends_joined cs)
     where
@@ -154,7 +154,7 @@ module _ (o : ℕ) (colons fields backquotes : Bool) where
       either false = refl
 
   -- a backslash keeps the byte behind it
-  lone_backslash : (prior i : ℕ) (r : List ℕ) → Goes prior i (92 ∷ []) r → ⊥
+  pub lone_backslash : (prior i : ℕ) (r : List ℕ) → Goes prior i (92 ∷ []) r → ⊥
   unfolding words.backslash
   lone_backslash prior i [] g = absurd (true≢false (sym g.part ∙ ap (λ f. is_part f.0) (backslash_sign prior i [])))
   lone_backslash prior i (c ∷ r) g = either (is_newline c) refl (sym g.part ∙ ap (λ f. is_part f.0) (backslash_sign prior i (c ∷ r))) (ap (λ f. f.1) (backslash_sign prior i (c ∷ r)))

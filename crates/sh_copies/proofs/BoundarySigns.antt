@@ -18,11 +18,12 @@ use Rattle.sh_tree.specs.standard.language.Bytes.{is_backslash, is_name_start, i
 use Rattle.sh_tree.specs.standard.language.Trees.{span}
 use Rattle.sh_tree.specs.standard.language.Words as words
 use Rattle.sh_reads.proofs.TakeLemmas.{is_part}
-use Rattle.sh_copies.proofs.AlikeBytes.{by_bool, Alike}
+use Rattle.sh_copies.proofs.AlikeBytes.{by_bool, zero_not, Alike}
+use Rattle.sh_copies.proofs.AlikePlain.{plain_yes, plain_no}
 use Rattle.sh_copies.proofs.AlikeSigns.{braced_alike}
 use Rattle.sh_copies.proofs.WordsTokens.{part_sound}
-use Rattle.sh_copies.proofs.AlikeTokens.{single_moves, dollar_quotes, quote_expansion, sign_in_part, is_sound}
-use Rattle.sh_copies.proofs.Boundary.{breaks, is_edge, edge_first, edge_none, break_first, break_joined, joined_not, lone_none, loose, before, is_prefix, outer, Goes, GoesAt, run_outer, tilde_outer, tilde_behind, dollar_sign, literal_or, dollar_opens, opens_not_loose, stands_goes, plain_outer}
+use Rattle.sh_copies.proofs.AlikeTokens.{single_sound, single_moves, dollar_quotes, quote_expansion, sign_in_part, is_sound}
+use Rattle.sh_copies.proofs.Boundary.{lone_backslash, continuation_none, breaks, is_edge, edge_first, edge_none, break_first, break_joined, joined_not, lone_none, loose, before, is_prefix, outer, Goes, GoesAt, run_outer, tilde_outer, tilde_behind, dollar_sign, literal_or, dollar_opens, opens_not_loose, stands_goes, plain_outer}
 
 -- it opens what ends with a byte that closes it
 abbrev pub is_open : Sign → Bool
@@ -250,6 +251,30 @@ module _ (o : ℕ) (colons fields backquotes : Bool) where
   unfolding words.stands words.is_tilde
   other_stands prior i a cs e t d s q u b = let special : words.is_special site.Word a ≡ false = grind (arith, nat_tests, d, s, q, u, b) in rw (e, t, special) refl
 
+  -- a backslash in the word keeps the byte behind it
+  backslash_outer : (prior i : ℕ) (v r r' : List ℕ) → Goes o colons fields backquotes prior i (92 ∷ v) r → is_part (words.backslash x (v ++ r)).0 ≡ true → words.backslash x (v ++ r') ≡ words.backslash x (v ++ r)
+  unfolding words.backslash
+  backslash_outer prior i [] r r' g part = absurd (lone_backslash o colons fields backquotes prior i r g)
+  backslash_outer prior i (c ∷ v) r r' g part = by_bool (is_newline c)
+      (λ line. absurd (true≢false (sym part ∙ ap (λ (f : Sign × ℕ). is_part f.0) (cond-true _ _ _ line) ∙ continuation_none o colons fields backquotes (v ++ r))))
+      (λ other. rw other refl)
+
+  break_some : (v r : List ℕ) → is_first breaks r ≡ true → (length (v ++ r) == 0) ≡ false
+  unfolding is_first
+  break_some [] [] h = absurd (true≢false (sym h))
+  break_some [] (c ∷ r) h = zero_not (length r)
+  break_some (c ∷ v) r h = zero_not (length (v ++ r))
+
+  -- a backquote that opens a substitution
+  backquote_outer : (v r r' : List ℕ) → is_first breaks r' ≡ true → is_part (words.backquoted x (v ++ r)).0 ≡ true → words.backquoted x (v ++ r') ≡ words.backquoted x (v ++ r)
+  unfolding words.backquoted
+  backquote_outer v r r' k part = by_bool (length (v ++ r) == 0)
+      (λ none. absurd (true≢false (sym part ∙ ap (λ (f : Sign × ℕ). is_part f.0) (cond-true _ _ _ none))))
+      (λ some. rw (break_some v r' k, some) refl)
+
+  abbrev At : ℕ → List ℕ → List ℕ → ℕ → ℕ → Type 0
+  At a v r prior i = Goes o colons fields backquotes prior i (a ∷ v) r
+
   -- what begins in the word, and opens nothing
   pub outer_sign : (prior i a : ℕ) (v r r' : List ℕ) → words.ends_joined r ≡ true → is_first breaks r' ≡ true → Goes o colons fields backquotes prior i (a ∷ v) r
       → is_whole (words.sign_of x prior i (a ∷ (v ++ r))).0 ≡ true
@@ -260,17 +285,50 @@ module _ (o : ℕ) (colons fields backquotes : Bool) where
   outer_sign prior i a v r r' h k g whole behind plain = by_bool (ends_token a)
       (λ ends. rw ends refl)
       (λ goes. by_bool (words.stands x prior i a (v ++ r))
-      (λ stands. ?)
-      (λ none. by_bool (a == 126)
-      (λ tilde. ?)
+      (λ stands.
+      let n = words.plain_length x prior i (a ∷ (v ++ r)) in
+      let e : S r ≡ (sign.Plain, n) = rw (goes, stands) refl in
+      let size = plain_outer o colons fields backquotes prior i (a ∷ v) r r' h k n refl (subst (λ (f : Sign × ℕ). f.1 ≤ suc (length v)) e g.fits) (plain n e) in
+      by_bool (words.stands x prior i a (v ++ r'))
+      (λ stands'. let e' : S r' ≡ (sign.Plain, words.plain_length x prior i (a ∷ (v ++ r'))) = rw (goes, stands') refl in e' ∙ ap (λ n. (sign.Plain, n)) size ∙ sym e)
+      (λ none. let one = plain_yes x prior i a (v ++ r) stands in let zero' = plain_no x prior i a (v ++ r') none in absurd (omega arith)))
+      (λ none.
+      let none' = stands_goes o colons fields backquotes prior i a v r r' h k g none in
+      by_bool (a == 126)
+      (λ tilde.
+      let found : (rest : List ℕ) → words.stands x prior i a (v ++ rest) ≡ false → S rest ≡ (sign.Tilde, words.tilde_length x (v ++ rest)) = (λ rest none. rw (goes, none, tilde) refl) in
+      let is = eqb-true a 126 tilde in
+      let ends = tilde_behind o colons fields backquotes prior i v r h (subst (λ a. At a v r prior i) is g) (ap (λ a. words.stands x prior i a (v ++ r)) (sym is) ∙ none) in
+      found r' none' ∙ ap (λ n. (sign.Tilde, n)) (tilde_outer o colons fields backquotes v r r' h k ends) ∙ sym (found r none))
       (λ no_tilde. by_bool (a == 92)
-      (λ slash. ?)
+      (λ slash.
+      let found : (rest : List ℕ) → words.stands x prior i a (v ++ rest) ≡ false → S rest ≡ words.backslash x (v ++ rest) = (λ rest none. rw (goes, none, no_tilde, slash) refl) in
+      let e = found r none in
+      found r' none' ∙ backslash_outer prior i v r r' (subst (λ a. At a v r prior i) (eqb-true a 92 slash) g) (sym (ap (λ f. is_part f.0) e) ∙ g.part) ∙ sym e)
       (λ no_slash. by_bool (a == 39)
-      (λ quote. ?)
+      (λ quote.
+      let found : (rest : List ℕ) → words.stands x prior i a (v ++ rest) ≡ false → S rest ≡ words.single (v ++ rest) = (λ rest none. rw (goes, none, no_tilde, no_slash, quote) refl) in
+      let e = found r none in
+      let sound = part_sound (words.single (v ++ r)).0 (sym (ap (λ f. is_part f.0) e) ∙ g.part) in
+      found r' none' ∙ single_moves v r r' (single_sound (v ++ r) sound).0 (let size = ap (λ f. f.1) e in let fits = g.fits in omega arith) ∙ sym e)
       (λ no_quote. by_bool (a == 34)
-      (λ double. ?)
+      (λ double.
+      let found : (rest : List ℕ) → words.stands x prior i a (v ++ rest) ≡ false → S rest ≡ (sign.Double, 1) = (λ rest none. rw (goes, none, no_tilde, no_slash, no_quote, double) refl) in
+      found r' none' ∙ sym (found r none))
       (λ no_double. by_bool (a == 96)
-      (λ back. ?)
+      (λ back.
+      let found : (rest : List ℕ) → words.stands x prior i a (v ++ rest) ≡ false → S rest ≡ words.backquoted x (v ++ rest) = (λ rest none. rw (goes, none, no_tilde, no_slash, no_quote, no_double, back) refl) in
+      let e = found r none in
+      found r' none' ∙ backquote_outer v r r' k (sym (ap (λ f. is_part f.0) e) ∙ g.part) ∙ sym e)
       (λ no_back. by_bool (a == 36)
-      (λ dollar. ?)
+      (λ dollar.
+      let found : (rest : List ℕ) → words.stands x prior i a (v ++ rest) ≡ false → S rest ≡ words.dollar x i (v ++ rest) = (λ rest none. rw (goes, none, no_tilde, no_slash, no_quote, no_double, no_back) refl) in
+      let e = found r none in
+      let is = eqb-true a 36 dollar in
+      let opens = dollar_opens o colons fields backquotes prior i v r h (subst (λ a. At a v r prior i) is g) (sym (literal_or o colons fields backquotes prior i (v ++ r)) ∙ ap (λ a. words.stands x prior i a (v ++ r)) (sym is) ∙ none) in
+      found r' none' ∙ dollar_outer i v r r' h k opens (sym (ap (λ f. is_whole f.0) e) ∙ whole) (let size = ap (λ f. f.1) e in let fits = g.fits in omega arith)
+      (λ value n size. subst (λ m. loose (drop m (a ∷ v)) r ≡ false) (ap (λ f. f.1) e ∙ size) (behind (ap (λ f. is_value f.0) e ∙ value))) ∙ sym e)
       (λ no_dollar. absurd (true≢false (sym (other_stands prior i a (v ++ r) goes no_tilde no_dollar no_slash no_quote no_double no_back) ∙ none))))))))))
+    where
+      S : List ℕ → Sign × ℕ
+      S rest = words.sign_of x prior i (a ∷ (v ++ rest))

@@ -1,7 +1,7 @@
 -- The tokens of a word in a copy.
 -- POSIX.1-2024, XCU 2.2 (quoting), 2.6 (word expansions).
 use Rattle.std.proofs.Common.{◌≡◌, ℕ, zero, suc, ◌+◌, ◌-◌, ◌≤◌, ◌<◌, ◌==◌, Bool, true, false, not, ◌&&◌, ◌||◌, if◌then◌else◌, List, [], ◌∷◌, ◌++◌, length, drop, take, get_or, slice_index, slice_range, nat_lt, ◌⊎◌, inl, inr, refl, sym, ap, subst, ◌∙◌, ⊎_elim, arith, le_refl, le_trans, length-drop}
-use Rattle.std.proofs.lemmas.Bool.{cond-true, cond-false, true≢false, eqb-true}
+use Rattle.std.proofs.lemmas.Bool.{cond-true, cond-false, true≢false, eqb-true, and_parts}
 use Rattle.std.proofs.lemmas.Bool.Decides.{nat_tests}
 use Rattle.std.proofs.lemmas.List.{get_or-drop, take-append-le}
 use Rattle.sh_tree.specs.declared.tree.Span.{Span}
@@ -24,7 +24,7 @@ use Rattle.sh_tree.specs.standard.language.Words as words
 use Rattle.sh_tree.specs.standard.language.Words.{stop_length}
 use Rattle.sh_reads.proofs.BeginningLemmas.{dollar_goes}
 use Rattle.sh_reads.proofs.TakeLemmas.{is_part, part_begins, token_moves, token_takes}
-use Rattle.sh_copies.proofs.AlikeBytes.{first_alike, behind_alike}
+use Rattle.sh_copies.proofs.AlikeBytes.{is_closer, first_alike, behind_alike}
 use Rattle.sh_copies.proofs.AlikeTokens.{is_sound, is_stop, Sound, sign_alike, goes_no_stop, goes_no_tabs, is_tabs}
 use Rattle.sh_copies.proofs.Copies.{Copied, Closed, limit_of, Place, Moved, Turns, turned}
 use Rattle.sh_copies.proofs.Forward.{parts_forward, part_forward}
@@ -83,24 +83,20 @@ remove_sign p q g e = cc
 
 -- Ends
 
--- the end of a context is as long as that of its site, and only where tabs are stripped are there any
-pub record Ends (x : Context) (f : Sign × ℕ) : Type 0 where
-  pub stop : is_stop f.0 ≡ true → f.1 ≡ stop_length x.site
-  pub tabs : is_tabs f.0 ≡ true → x.strip ≡ true
+-- it ends no context but a word, before which it stands, and is no tabs
+record Ends (x : Context) (f : Sign × ℕ) : Type 0 where
+  stop : is_stop f.0 ≡ true → (words.is_word_site x.site ≡ true) × (f.1 ≡ 0)
+  tabs : is_tabs f.0 ≡ false
 
 no_end : {x : Context} {f : Sign × ℕ} → is_stop f.0 ≡ false → is_tabs f.0 ≡ false → Ends x f
-no_end h k = record { stop = λ e. absurd (true≢false (sym e ∙ h)); tabs = λ e. absurd (true≢false (sym e ∙ k)) }
+no_end h k = record { stop = λ e. absurd (true≢false (sym e ∙ h)); tabs = k }
 
 either_ends : {x : Context} {f g : Sign × ℕ} (t : Bool) → (t ≡ true → Ends x f) → (t ≡ false → Ends x g) → Ends x (if t then f else g)
 either_ends true h k = h refl
 either_ends false h k = k refl
 
 word_ends : (x : Context) (t : Bool) → words.is_word_site x.site && t ≡ true → Ends x (sign.Stop, 0)
-word_ends x t h = record { stop = λ k. go x.site h; tabs = λ e. absurd (true≢false (sym e)) }
-  where
-    go : (s : Site) → words.is_word_site s && t ≡ true → 0 ≡ stop_length s
-    go site.Word h = refl
-    go s h = absurd (true≢false (sym h))
+word_ends x t h = record { stop = λ k. ((and_parts (words.is_word_site x.site) t h).0, refl); tabs = refl }
 
 continuation_ends : (x : Context) (cs : List ℕ) → Ends x (words.continuation x cs)
 unfolding words.continuation
@@ -132,34 +128,66 @@ meant_ends x i c cs =
     (λ e. either_ends (c == 34) (λ e. either_ends (words.is_default_site x.site) (λ e. no_end refl refl) (λ e. no_end refl refl))
     (λ e. either_ends (c == 96) (λ e. backquoted_ends x cs) (λ e. let goes = dollar_goes x i cs in no_end (goes_no_stop _ goes) (goes_no_tabs _ goes)))))
 
-pub sign_ends : (x : Context) (prior i : ℕ) (cs : List ℕ) → Ends x (words.sign_of x prior i cs)
-unfolding words.sign_of words.sign_by
-sign_ends x prior i [] = record { stop = λ k. go x.site k; tabs = λ k. none x.site k }
+word_length : (s : Site) → words.is_word_site s ≡ true → stop_length s ≡ 0
+word_length site.Word h = refl
+word_length s h = absurd (true≢false (sym h))
+
+-- what a sign says if it is an end or tabs
+record Says (x : Context) (cs : List ℕ) (f : Sign × ℕ) : Type 0 where
+  stop : is_stop f.0 ≡ true → (f.1 ≡ stop_length x.site) × ((stop_length x.site ≡ 0) ⊎ (is_first (words.stops x.site) cs ≡ true))
+  tabs : is_tabs f.0 ≡ true → x.strip ≡ true
+
+either_says : {x : Context} {cs : List ℕ} {f g : Sign × ℕ} (t : Bool) → (t ≡ true → Says x cs f) → (t ≡ false → Says x cs g) → Says x cs (if t then f else g)
+either_says true h k = h refl
+either_says false h k = k refl
+
+says_ends : {x : Context} {cs : List ℕ} {f : Sign × ℕ} → Ends x f → Says x cs f
+says_ends {x} e = record { stop = λ k. let s = e.stop k in let none = word_length x.site s.0 in (s.1 ∙ sym none, inl none); tabs = λ k. absurd (true≢false (sym k ∙ e.tabs)) }
+
+sign_says : (x : Context) (prior i : ℕ) (cs : List ℕ) → Says x cs (words.sign_of x prior i cs)
+unfolding words.sign_of words.sign_by is_first
+sign_says x prior i [] = record { stop = λ k. go x.site k; tabs = λ k. none x.site k }
   where
-    go : (s : Site) → is_stop (words.sign_at_end s) ≡ true → 0 ≡ stop_length s
+    go : (s : Site) → is_stop (words.sign_at_end s) ≡ true → (0 ≡ stop_length s) × ((stop_length s ≡ 0) ⊎ (false ≡ true))
     go site.Double h = absurd (true≢false (sym h))
     go site.Braced h = absurd (true≢false (sym h))
     go site.QuotedBraced h = absurd (true≢false (sym h))
-    go s h = refl
+    go s h = (refl, inl refl)
 
     none : (s : Site) → is_tabs (words.sign_at_end s) ≡ true → x.strip ≡ true
     none site.Word h = absurd (true≢false (sym h))
     none s h = absurd (true≢false (sym h))
-sign_ends x prior i (c ∷ cs) =
-    either_ends (words.stops x.site c) (λ e. record { stop = λ k. refl; tabs = λ k. absurd (true≢false (sym k)) })
-    (λ e. either_ends (words.is_stripped x prior c) (λ e. record { stop = λ k. absurd (true≢false (sym k)); tabs = λ k. first (x.strip) (prior == 10) (c == 9) e })
-    (λ e. either_ends (words.stands x prior i c cs) (λ e. no_end refl refl)
-    (λ e. either_ends (c == 126) (λ e. no_end refl refl) (λ e. meant_ends x i c cs))))
+sign_says x prior i (c ∷ cs) =
+    either_says (words.stops x.site c) (λ e. record { stop = λ k. (refl, inr e); tabs = λ k. absurd (true≢false (sym k)) })
+    (λ e. either_says (words.is_stripped x prior c) (λ e. record { stop = λ k. absurd (true≢false (sym k)); tabs = λ k. first x.strip (prior == 10) (c == 9) e })
+    (λ e. either_says (words.stands x prior i c cs) (λ e. says_ends (no_end refl refl))
+    (λ e. either_says (c == 126) (λ e. says_ends (no_end refl refl)) (λ e. says_ends (meant_ends x i c cs)))))
   where
     first : (s t u : Bool) → s && t && u ≡ true → s ≡ true
     first true t u h = refl
     first false t u h = absurd (true≢false (sym h))
 
+module _ (b : List ℕ) (x : Context) (prior : ℕ) (s : Spot) where
+  -- the end of a context is as long as that of its site
+  pub stop_size : sign_at b x prior s ≡ sign.Stop → after b x prior s ≡ s.at + stop_length x.site
+  unfolding words.token
+  stop_size h = ap (λ n. s.at + n) ((sign_says x prior s.at (drop s.at b)).stop (ap is_stop h)).0
+
+  -- quotes and braces end with the byte that closes them
+  pub stop_closes : sign_at b x prior s ≡ sign.Stop → (stop_length x.site ≡ 0) ⊎ (is_first (words.stops x.site) (drop s.at b) ≡ true)
+  unfolding words.token
+  stop_closes h = ((sign_says x prior s.at (drop s.at b)).stop (ap is_stop h)).1
+
+  -- tabs stand only where they are stripped
+  pub tabs_strip : sign_at b x prior s ≡ sign.Tabs → x.strip ≡ true
+  unfolding words.token
+  tabs_strip h = (sign_says x prior s.at (drop s.at b)).tabs (ap is_tabs h)
+
 module _ {limit : ℕ} {b : List ℕ} where
   -- parts go over the end of their context
   pub parts_over : {x : Context} {prior : ℕ} {s u : Spot} {ps : List Part} → ReadsParts limit b x prior s u ps → s.at + stop_length x.site ≤ u.at
   unfolding words.token
-  parts_over (r.stop {x = x} {prior = prior} {s = s} h) = let e = (sign_ends x prior s.at (drop s.at b)).stop (ap is_stop h) in omega arith
+  parts_over (r.stop {x = x} {prior = prior} {s = s} h) = let e = stop_size b x prior s h in omega arith
   parts_over (r.tabs {x = x} {prior = prior} {s = s} h i) = let k = token_moves b x prior s.at in let more = parts_over i in omega arith
   parts_over (r.more {x = x} {prior = prior} {s = s} h p i) = let k = token_moves b x prior s.at in let f = part_forward p in let more = parts_over i in omega arith
 
@@ -263,3 +291,39 @@ module _ {b b' : List ℕ} (c : Copied b b') where
       go : (g : Sign) → prior_of b' g j' ≡ prior_of b g j
       go sign.Plain = plain
       go g = refl
+
+-- a site that a byte closes
+abbrev pub is_enclosed : Site → Bool
+is_enclosed site.Double = true
+is_enclosed site.Braced = true
+is_enclosed site.QuotedBraced = true
+is_enclosed _ = false
+
+enclosed_length : (s : Site) → is_enclosed s ≡ true → stop_length s ≡ 1
+enclosed_length site.Double h = refl
+enclosed_length site.Braced h = refl
+enclosed_length site.QuotedBraced h = refl
+enclosed_length s h = absurd (true≢false (sym h))
+
+enclosed_stops : (s : Site) (cs : List ℕ) → is_enclosed s ≡ true → is_first (words.stops s) cs ≡ true → is_first is_closer cs ≡ true
+unfolding is_first
+enclosed_stops s [] h k = absurd (true≢false (sym k))
+enclosed_stops site.Double (c ∷ cs) h k = grind (arith, nat_tests, k)
+enclosed_stops site.Braced (c ∷ cs) h k = grind (arith, nat_tests, k)
+enclosed_stops site.QuotedBraced (c ∷ cs) h k = grind (arith, nat_tests, k)
+enclosed_stops s (c ∷ cs) h k = absurd (true≢false (sym h))
+
+module _ {limit : ℕ} {b : List ℕ} where
+  -- parts in quotes or braces end with a byte that closes them
+  pub parts_closed : {x : Context} {prior : ℕ} {s u : Spot} {ps : List Part} → is_enclosed x.site ≡ true → ReadsParts limit b x prior s u ps → is_first is_closer (drop (u.at - 1) b) ≡ true
+  parts_closed q (r.stop {x = x} {prior = prior} {s = s} h) =
+      let one = enclosed_length x.site q in
+      let size = stop_size b x prior s h in
+      let here : after b x prior s - 1 ≡ s.at = omega arith in
+      ap (λ i. is_first is_closer (drop i b)) here
+      ∙ enclosed_stops x.site (drop s.at b) q (⊎_elim (λ none. absurd (one_some (stop_length x.site) one none)) (λ stops. stops) (stop_closes b x prior s h))
+    where
+      one_some : (n : ℕ) → n ≡ 1 → n ≡ 0 → ⊥
+      one_some n e f = absurd (omega arith)
+  parts_closed q (r.tabs h i) = parts_closed q i
+  parts_closed q (r.more h p i) = parts_closed q i
