@@ -2,7 +2,7 @@
 -- POSIX.1-2024, XCU 2.3 (token recognition), 2.4 (reserved words), 2.7 (redirection).
 use Rattle.std.proofs.Common.{◌≡◌, ℕ, zero, suc, ◌+◌, ◌-◌, ◌≤◌, ◌<◌, ◌==◌, Bool, true, false, not, ◌&&◌, ◌||◌, List, [], ◌∷◌, ◌++◌, length, drop, take, codes, nat_eq, nat_lt, nat_le, if◌then◌else◌, ◌⊎◌, inl, inr, refl, sym, ap, ◌∙◌, subst, arith, eqb-true, length-drop, length-take, ⊎_elim}
 use Rattle.std.specs.Prelude.{Option, Some, None}
-use Rattle.std.proofs.lemmas.Bool.{cond-true, cond-false, true≢false, cases_lt, le-ltb, lt-ltb, le-leb, leb-true}
+use Rattle.std.proofs.lemmas.Bool.{cond-true, cond-false, true≢false, cases_lt, le-ltb, lt-ltb, le-leb, leb-true, and_parts}
 use Rattle.std.proofs.lemmas.Bool.Decides.{nat_tests}
 use Rattle.std.proofs.lemmas.List.{drop-drop, drop-append-le, take-append-le, drop_all}
 use Rattle.sh_tree.specs.declared.refusal.Form.{Form}
@@ -309,3 +309,16 @@ pub lead_is_no_sign : (f : Lead → Bool) (b : List ℕ) (g : Stage) (i : ℕ) �
 lead_is_no_sign f b g i none h = by_bool (is_first is_number_sign (drop i b))
     (λ is. absurd (true≢false (sym h ∙ ap f (lead_front b g i ∙ number_sign_lead g (drop i b) is) ∙ none)))
     (λ other. other)
+
+-- a name begins with no number sign
+pub name_is_no_sign : (b : List ℕ) (i : ℕ) → is_name (bare_word b i) ≡ true → is_first is_number_sign (drop i b) ≡ false
+unfolding bare_word is_first
+name_is_no_sign b i h = go (drop i b) (run is_bare (drop i b)) (ends_joined (drop (run is_bare (drop i b)) (drop i b))) h
+  where
+    go : (cs : List ℕ) (n : ℕ) (t : Bool) → is_name (if t then take n cs else []) ≡ true → is_first is_number_sign cs ≡ false
+    go cs n false k = absurd (true≢false (sym k))
+    go [] n true k = refl
+    go (c ∷ cs) zero true k = absurd (true≢false (sym k))
+    go (c ∷ cs) (suc n) true k = by_bool (c == 35)
+        (λ is. let sign : c ≡ 35 = eqb-true c 35 is in absurd (true≢false (sym (and_parts (is_name_start c) _ k).0 ∙ ap is_name_start sign)))
+        (λ other. other)

@@ -1,3 +1,4 @@
+pub mod Commands
 pub mod CommandsMove
 pub mod CommandsDocuments
 pub mod CommandsReady
