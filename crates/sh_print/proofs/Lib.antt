@@ -21,3 +21,4 @@ pub mod ItemsPrinted
 pub mod ScriptsPrinted
 pub mod PrintableLemmas
 pub mod NulLemmas
+pub mod RoundTrip
