@@ -12,7 +12,7 @@ use Rattle.sh_tree.specs.declared.token.command.Operator.{Operator}
 use Rattle.sh_tree.specs.declared.token.command.Operator.TheVariants as op
 use Rattle.sh_tree.specs.declared.token.command.Stage.{Stage}
 use Rattle.sh_tree.specs.declared.token.command.Stage.TheVariants.{First, Prefixed, Named}
-use Rattle.sh_tree.specs.standard.language.Bytes.{is_in, is_newline, is_backslash, is_digit, is_operator_byte, is_name_start, is_name_byte, is_name, ends_token, run, is_first, is_joined, joined_length, behind_joined, longest, name_length, is_last_backquote}
+use Rattle.sh_tree.specs.standard.language.Bytes.{is_in, is_blank, is_newline, is_backslash, is_digit, is_operator_byte, is_name_start, is_name_byte, is_name, ends_token, run, is_first, is_joined, joined_length, behind_joined, longest, name_length, is_last_backquote}
 use Rattle.sh_tree.specs.standard.language.Words.{ends_joined}
 use Rattle.sh_tree.specs.standard.language.Commands.{operator_of, long_operators, short_operators, lead_at, lead_of, other_lead, word_lead, first_lead, bare_word, is_bare, is_definition, blanks, entry_of, reserved_words, is_assignment, is_parenthesis, is_named, is_angle, number_lead, name_end, is_bare_name}
 use Rattle.sh_print.proofs.PlaceLemmas.{front, front_none, fronted, lead_there, off}
@@ -26,7 +26,7 @@ all_weaker p q weaker (c ∷ w) all =
 
 -- No operator
 
-no_operator : (c : ℕ) (cs : List ℕ) → is_operator_byte c ≡ false → operator_of (c ∷ cs) ≡ None
+pub no_operator : (c : ℕ) (cs : List ℕ) → is_operator_byte c ≡ false → operator_of (c ∷ cs) ≡ None
 unfolding operator_of longest
 no_operator c cs h =
     let k = bytes c h in
@@ -52,7 +52,7 @@ name_bare : (c : ℕ) → is_name_byte c ≡ true → is_bare c ≡ true
 name_bare c h = grind (arith, nat_tests)
 
 -- the last byte alone is no backquote
-no_last : (c : ℕ) (cs : List ℕ) → (c == 96) ≡ false → is_last_backquote (c ∷ cs) ≡ false
+pub no_last : (c : ℕ) (cs : List ℕ) → (c == 96) ≡ false → is_last_backquote (c ∷ cs) ≡ false
 unfolding is_last_backquote
 no_last c [] h = h
 no_last c (d ∷ cs) h = refl
@@ -132,3 +132,20 @@ definition_leads (c ∷ w) r name none =
     fronted all (0 + length t) (40 ∷ r) (ap (λ n. drop n all) none_more ∙ behind) ∙ front_none 40 r refl refl refl in
     start_leads First c (w ++ 40 ∷ r) start ∙ cond-false _ _ _ assigned ∙ ap (word_lead all First 0) word
     ∙ ap (first_lead all 0 t) none ∙ cond-true _ _ _ (ap (λ x. x && is_first is_parenthesis (drop (blanks false all (0 + length t)) all)) name ∙ ap (is_first is_parenthesis) opens)
+
+-- a token begins with the name, which is no parenthesis
+pub name_first : (w cs : List ℕ) → Name w → (front (w ++ cs) ≡ w ++ cs) × (is_first is_parenthesis (w ++ cs) ≡ false)
+unfolding is_first
+name_first [] cs name = absurd (true≢false (sym name))
+name_first (c ∷ w) cs name =
+    let start = (and_parts (is_name_start c) (list_all is_name_byte (c ∷ w)) name).0 in
+    (front_none c (w ++ cs) (no_blank c start) (no_backslash c start) (start_byte c start).comment, no_opening c start)
+  where
+    no_blank : (c : ℕ) → is_name_start c ≡ true → is_blank c ≡ false
+    no_blank c h = grind (arith, nat_tests)
+
+    no_backslash : (c : ℕ) → is_name_start c ≡ true → is_backslash c ≡ false
+    no_backslash c h = grind (arith, nat_tests)
+
+    no_opening : (c : ℕ) → is_name_start c ≡ true → is_parenthesis c ≡ false
+    no_opening c h = grind (arith, nat_tests)

@@ -17,7 +17,7 @@ use Rattle.sh_tree.specs.declared.token.command.Stage.{Stage}
 use Rattle.sh_tree.specs.declared.token.command.Stage.TheVariants.{First, Prefixed, Named}
 use Rattle.sh_tree.specs.standard.language.Bytes.{is_in, is_newline, is_backslash, ends_token, run, is_first, is_joined, joined_length, joined_at, behind_joined, longest, name_length, is_last_backquote}
 use Rattle.sh_tree.specs.standard.language.Words.{ends_joined}
-use Rattle.sh_tree.specs.standard.language.Commands.{is_bare, operator_of, operator_lead, whole_operator, opening, is_split, is_longer, lead_at, lead_of, other_lead, word_lead, first_lead, reserved_lead, bang, bare_word, entry_of, is_assignment, is_parenthesis, is_esac, number_lead}
+use Rattle.sh_tree.specs.standard.language.Commands.{is_bare, operator_of, operator_lead, whole_operator, opening, is_split, is_longer, lead_at, lead_of, other_lead, word_lead, first_lead, reserved_lead, bang, bare_word, entry_of, is_assignment, is_parenthesis, is_esac, is_newline_lead}
 
 -- a blank or a newline, which stands behind every word of its own
 pub data Gap : List ℕ → Type 0 where
@@ -26,14 +26,17 @@ pub data Gap : List ℕ → Type 0 where
 
 -- Runs
 
-pub run_over : (p : ℕ → Bool) (w : List ℕ) (c : ℕ) (r : List ℕ) → list_all p w ≡ true → p c ≡ false → run p (w ++ c ∷ r) ≡ length w
-run_over p [] c r all none = ap length (take_while-cons p c r ∙ cond-false _ _ _ none)
-run_over p (d ∷ w) c r all none =
+pub run_all : (p : ℕ → Bool) (w cs : List ℕ) → list_all p w ≡ true → run p cs ≡ 0 → run p (w ++ cs) ≡ length w
+run_all p [] cs all none = none
+run_all p (d ∷ w) cs all none =
     let both = and_parts (p d) (list_all p w) all in
-    ap length (take_while-cons p d (w ++ c ∷ r) ∙ cond-true _ _ _ both.0) ∙ ap suc (run_over p w c r both.1 none)
+    ap length (take_while-cons p d (w ++ cs) ∙ cond-true _ _ _ both.0) ∙ ap suc (run_all p w cs both.1 none)
 
 pub run_none : (p : ℕ → Bool) (c : ℕ) (r : List ℕ) → p c ≡ false → run p (c ∷ r) ≡ 0
-run_none p c r none = run_over p [] c r refl none
+run_none p c r none = ap length (take_while-cons p c r ∙ cond-false _ _ _ none)
+
+pub run_over : (p : ℕ → Bool) (w : List ℕ) (c : ℕ) (r : List ℕ) → list_all p w ≡ true → p c ≡ false → run p (w ++ c ∷ r) ≡ length w
+run_over p w c r all none = run_all p w (c ∷ r) all (run_none p c r none)
 
 pub joins_none : (c : ℕ) (cs : List ℕ) → is_backslash c ≡ false → joined_length (c ∷ cs) ≡ 0
 unfolding joined_length
@@ -182,14 +185,23 @@ opening_leads _ (blank {r = c ∷ cs}) = refl
 opening_leads _ (line {r = []}) = refl
 opening_leads _ (line {r = c ∷ cs}) = refl
 
-pub open_is_no_esac : (cs : List ℕ) → is_esac (lead_at (40 ∷ cs) First 0) ≡ false
+-- whichever lead it is where a command may begin
+open_first : (f : Lead → Bool) → f (lead.LeftOut form.DoubleParenthesis) ≡ false → f (lead.LeftOut form.Continuation) ≡ false → f (lead.Operator op.LeftParenthesis) ≡ false
+    → (cs : List ℕ) → f (lead_at (40 ∷ cs) First 0) ≡ false
 unfolding lead_at lead_of operator_lead operator_of longest is_split whole_operator opening
-open_is_no_esac cs = ap (λ t. is_esac (cond t (lead.LeftOut form.Continuation) (opening cs))) (and_false (is_joined cs)) ∙ go (is_first is_parenthesis cs) (is_first is_parenthesis (behind_joined cs))
+open_first f double joined plain cs =
+    ap (λ t. f (cond t (lead.LeftOut form.Continuation) (opening cs))) (and_false (is_joined cs)) ∙ go (is_first is_parenthesis cs) (is_first is_parenthesis (behind_joined cs))
   where
-    go : (t u : Bool) → is_esac (cond t (lead.LeftOut form.DoubleParenthesis) (cond u (lead.LeftOut form.Continuation) (lead.Operator op.LeftParenthesis))) ≡ false
-    go true u = refl
-    go false true = refl
-    go false false = refl
+    go : (t u : Bool) → f (cond t (lead.LeftOut form.DoubleParenthesis) (cond u (lead.LeftOut form.Continuation) (lead.Operator op.LeftParenthesis))) ≡ false
+    go true u = double
+    go false true = joined
+    go false false = plain
+
+pub open_is_no_esac : (cs : List ℕ) → is_esac (lead_at (40 ∷ cs) First 0) ≡ false
+open_is_no_esac cs = open_first is_esac refl refl refl cs
+
+pub open_straight : (cs : List ℕ) → is_newline_lead (lead_at (40 ∷ cs) First 0) ≡ false
+open_straight cs = open_first is_newline_lead refl refl refl cs
 
 pub newline_leads : (g : Stage) (cs : List ℕ) → lead_at (10 ∷ cs) g 0 ≡ lead.Newline
 unfolding lead_at lead_of operator_of longest is_first
