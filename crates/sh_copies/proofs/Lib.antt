@@ -30,5 +30,4 @@ pub mod WordsFound
 pub mod WordsKept
 pub mod WordsMove
 pub mod WordsTokens
-pub mod CopiedDocuments
 pub mod CopiedMarks
