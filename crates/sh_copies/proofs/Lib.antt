@@ -31,4 +31,6 @@ pub mod WordsKept
 pub mod WordsMove
 pub mod WordsTokens
 pub mod CopiedMarks
+pub mod CopiedBare
+pub mod CopiedLeads
 pub mod CopiedTokens
