@@ -21,4 +21,5 @@ pub mod WordsCommands
 pub mod WordsFound
 pub mod WordsKept
 pub mod WordsMove
+pub mod WordsOuter
 pub mod WordsTokens

@@ -59,7 +59,7 @@ equal_far p q k n = by_bool (p + n == p + k)
 place_turns : {b b' : List ℕ} (c : Copied b b') (x : Context) (e e' : ℕ) → Place c e e' → Turns c (record x { origin = e }) e'
 place_turns c x e e' p = λ k n. ap (λ j. c.into + n == j) p.at' ∙ equal_far c.from c.into p.by n ∙ sym (ap (λ j. c.from + n == j) p.at)
 
-less_deep : (n m limit : ℕ) → m ≡ n → n < limit → m < limit
+pub less_deep : (n m limit : ℕ) → m ≡ n → n < limit → m < limit
 less_deep n m limit e h = omega arith
 
 closed_same : (b b' : List ℕ) (i i' : ℕ) → is_first (λ c. c == 41) (drop i' b') ≡ is_first (λ c. c == 41) (drop i b) → is_closed b i ≡ true → is_closed b' i' ≡ true
