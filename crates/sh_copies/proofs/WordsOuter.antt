@@ -232,3 +232,56 @@ module _ (b b' : List ℕ) (p q o o' : ℕ) (colons fields backquotes : Bool) (r
           end = ap (λ t. s.at + (words.sign_of x prior s.at t).1) rest.there;
           end' = ap (λ t. s'.at + (words.sign_of y prior s'.at t).1) rest.here ∙ ap (λ n. s'.at + n) (shift.size ∙ ap (λ f. f.1) same);
         }
+
+  -- a part found there
+  record OuterPart (limit : ℕ) (w : Spot) (z : Part) (g : Sign) (s' : Spot) (e : ℕ) : Type 0 where
+    to : Spot
+    tree : Part
+    along : Along w to
+    keeps : KeptPart b b' z tree
+    reads : ReadsPart limit b' y g s' e to tree
+
+  moved_along : {s s' w w' : Spot} (by : ℕ) → Along s s' → w.at ≡ s.at + by → w'.at ≡ s'.at + by → w'.depth ≡ w.depth → w'.joins ≡ w.joins → w'.tabs ≡ w.tabs → (w'.quiet ≡ true → w.quiet ≡ true) → Along w w'
+  moved_along by a e e' depth joins tabs quiet = record { by = a.by + by; at = (let k = a.at in omega arith); at' = (let k = a.at' in omega arith); depth = depth; joins = joins; tabs = tabs; quiet = quiet }
+
+  module _ {limit m : ℕ} (expressions : ExpressionsMove limit m) (scripts : ScriptsMove limit m) where
+    flat_there : {s s' w u : Spot} {g : Sign} {z : Part} (v : List ℕ) (e e' n : ℕ) (g' : Sign) → Rest s s' u v → placeless g' ≡ placeless g → e ≡ s.at + n → e' ≡ s'.at + n → n ≤ length v → is_flat g ≡ true
+        → ReadsPart limit b x g s e w z → OuterPart limit w z g' s' e'
+    flat_there {s} {s'} {w} {z = z} v e e' n g' rest same end end' within flat i =
+        let text : text_of b' (span s'.at e') ≡ text_of b (span s.at e) =
+        (let d : e - s.at ≡ n = omega arith in let d' : e' - s'.at ≡ n = omega arith in
+        ap (λ k. take k (drop s'.at b')) d' ∙ ap (take n) rest.here ∙ take-append-le n v r' within ∙ sym (ap (λ k. take k (drop s.at b)) d ∙ ap (take n) rest.there ∙ take-append-le n v r within)) in
+        let f = flat_move b' y s' e' g' flat same text i in
+        let a = rest.along in
+        subst (λ k. OuterPart limit k z g' s' e') (sym f.0)
+        (record { to = to e' s'; tree = f.1.tree; along = moved_along n a end end' a.depth a.joins a.tabs a.quiet; keeps = f.1.keeps; reads = f.1.reads })
+
+    nested_there : {s s' w u : Spot} {g : Sign} {z : Part} (v : List ℕ) (e e' n : ℕ) (g' : Sign) → Rest s s' u v → placeless g' ≡ placeless g → e ≡ s.at + n → e' ≡ s'.at + n → w.at ≤ u.at → closing g ≡ 1
+        → ReadsPart limit b x g s e w z → w.at < s.at + suc m → OuterPart limit w z g' s' e'
+    nested_there {s} {s'} {w} {u} v e e' n g' rest same end end' within one i size =
+        let inside = closing_within i in
+        let k = w.at - 1 - s.at in
+        let long = rest.long in
+        let at : s.at + k ≡ w.at - 1 = omega arith in
+        let byte : drop k (v ++ r) ≡ drop (s.at + k) b = sym (sym (drop-drop k s.at b) ∙ ap (drop k) rest.there) in
+        let cut = split v r k (ap (is_first is_closer) byte ∙ ap (λ i. is_first is_closer (drop i b)) at ∙ closing_byte one i) (omega arith) in
+        let cut_size = cut.size in
+        let text : (t : List ℕ) → v ++ t ≡ cut.w ++ cut.c ∷ (cut.rest ++ t) = (λ t. ap (λ v. v ++ t) cut.is ∙ append_assoc cut.w (cut.c ∷ cut.rest) t) in
+        let a = rest.along in
+        let c : Copied b b' = record {
+          from = s.at;
+          into = s'.at;
+          w = cut.w;
+          rest = cut.c ∷ (cut.rest ++ r);
+          rest' = cut.c ∷ (cut.rest ++ r');
+          there = rest.there ∙ text r;
+          here = rest.here ∙ text r';
+          edge = inr (record { c = cut.c; r = cut.rest ++ r; r' = cut.rest ++ r'; closes = cut.closes; there = refl; here = refl });
+        } in
+        let moved : Moved c s s' = record { place = record { by = 0; at = omega arith; at' = omega arith }; depth = a.depth; joins = a.joins; tabs = a.tabs; quiet = a.quiet } in
+        let turns' : Turns c x o' =
+        (λ outside n. (let h : s'.at + n ≡ q + (a.by + n) = (let z = a.at' in omega arith) in let h' : s.at + n ≡ p + (a.by + n) = (let z = a.at in omega arith) in
+        ap (λ i. i == o') h ∙ turns (a.by + n) ∙ sym (ap (λ i. i == o) h'))) in
+        let place : Place c e e' = record { by = n; at = end; at' = end' } in
+        let found = part_move expressions scripts c moved turns' place (omega arith) g' same i size (omega arith) in
+        record { to = found.to; tree = found.tree; along = moved_along found.moved.place.by a found.moved.place.at found.moved.place.at' found.moved.depth found.moved.joins found.moved.tabs found.moved.quiet; keeps = found.keeps; reads = found.reads }
