@@ -1,11 +1,10 @@
 -- A token of commands before a closing parenthesis is the same whatever follows it, and wherever it stands.
 -- POSIX.1-2024, XCU 2.3 (token recognition), 2.4 (reserved words), 2.7 (redirection).
-use Rattle.std.proofs.Common.{◌≡◌, ℕ, zero, suc, ◌+◌, ◌-◌, ◌≤◌, ◌<◌, ◌==◌, Bool, true, false, not, ◌&&◌, ◌||◌, List, [], ◌∷◌, ◌++◌, length, drop, take, codes, nat_eq, nat_lt, nat_le, if◌then◌else◌, ◌⊎◌, inl, inr, refl, sym, ap, ◌∙◌, subst, arith, eqb-true, length-drop, length-take, ⊎_elim}
+use Rattle.std.proofs.Common.{◌≡◌, ℕ, zero, suc, ◌+◌, ◌≤◌, ◌<◌, ◌==◌, Bool, true, false, not, ◌&&◌, ◌||◌, List, [], ◌∷◌, ◌++◌, length, drop, take, nat_le, if◌then◌else◌, inl, inr, refl, sym, ap, ◌∙◌, subst, arith, eqb-true, length-drop, length-take, ⊎_elim}
 use Rattle.std.specs.Prelude.{Option, Some, None}
-use Rattle.std.proofs.lemmas.Bool.{cond-true, cond-false, true≢false, cases_lt, le-ltb, lt-ltb, le-leb, leb-true, and_parts}
+use Rattle.std.proofs.lemmas.Bool.{cond-false, true≢false, cases_lt, le-leb, leb-true, and_parts}
 use Rattle.std.proofs.lemmas.Bool.Decides.{nat_tests}
-use Rattle.std.proofs.lemmas.List.{drop-drop, drop-append-le, take-append-le, drop_all}
-use Rattle.sh_tree.specs.declared.refusal.Form.{Form}
+use Rattle.std.proofs.lemmas.List.{drop-drop, drop-append-le, take-append-le}
 use Rattle.sh_tree.specs.declared.refusal.Form.TheVariants as form
 use Rattle.sh_tree.specs.declared.token.command.Lead.{Lead}
 use Rattle.sh_tree.specs.declared.token.command.Lead.TheVariants as lead
@@ -15,12 +14,12 @@ use Rattle.sh_tree.specs.declared.token.command.Reserved.{Reserved}
 use Rattle.sh_tree.specs.declared.token.command.Reserved.TheVariants as word
 use Rattle.sh_tree.specs.declared.token.command.Stage.{Stage}
 use Rattle.sh_tree.specs.declared.token.command.Stage.TheVariants.{First, Prefixed, Named}
-use Rattle.sh_tree.specs.standard.language.Bytes.{is_newline, is_digit, is_name_byte, is_name_start, is_name, ends_token, is_first, is_last_backquote, run, name_length, longest, behind_joined, is_joined, joined_length, joined_at}
+use Rattle.sh_tree.specs.standard.language.Bytes.{is_digit, is_name_byte, is_name_start, is_name, ends_token, is_first, run, name_length, longest, behind_joined, is_joined, joined_length, joined_at}
 use Rattle.sh_tree.specs.standard.language.Commands.{blanks, blank_length, gap_length, operator_of, long_operators, short_operators, is_longer, is_split, is_bare, bare_word, reserved_words, left_out_names, entry_of, is_assignment, is_angle, is_parenthesis, opening, whole_operator, operator_lead, bang, reserved_lead, is_definition, name_lead, first_lead, word_lead, is_named, number_lead, other_lead, lead_of, lead_at}
 use Rattle.sh_tree.specs.standard.language.Words.{ends_joined}
 use Rattle.sh_copies.proofs.AlikeBytes.{Alike, by_bool, joined_moves, first_alike, behind_alike, joined_alike, last_alike, some_alike, run_moves}
 use Rattle.sh_copies.proofs.Blanks.{gap_moves, parenthesis_behind, is_number_sign}
-use Rattle.sh_copies.proofs.Fronts.{alike_behind, whole, run_behind, first_same, first_before, joined_at_is, never}
+use Rattle.sh_copies.proofs.Fronts.{alike_behind, whole, first_same, joined_at_is, never}
 use Rattle.sh_copies.proofs.Tables.{Within, longest_moves, longest_within}
 
 -- Wherever it stands
@@ -155,8 +154,8 @@ bare_moves w r r' =
     let n = run is_bare (w ++ 41 ∷ r) in
     let text : take n (w ++ 41 ∷ r') ≡ take n (w ++ 41 ∷ r) = take-append-le n w (41 ∷ r') m.1 ∙ sym (take-append-le n w (41 ∷ r) m.1) in (
       ap (λ k. if ends_joined (drop k (w ++ 41 ∷ r')) then take k (w ++ 41 ∷ r') else []) m.0
-      ∙ ap (λ t. if t then take n (w ++ 41 ∷ r') else []) (ends_moves n w r r' m.1)
-      ∙ ap (λ x. if ends_joined (drop n (w ++ 41 ∷ r)) then x else []) text,
+          ∙ ap (λ t. if t then take n (w ++ 41 ∷ r') else []) (ends_moves n w r r' m.1)
+          ∙ ap (λ x. if ends_joined (drop n (w ++ 41 ∷ r)) then x else []) text,
       short n m.1 (ends_joined (drop n (w ++ 41 ∷ r))),
     )
   where
@@ -218,7 +217,7 @@ unfolding name_length
 name_moves w r r' =
     let m = run_moves is_name_byte w 41 r r' refl in (
       ap (λ t. if t then run is_name_byte (w ++ 41 ∷ r') else 0) (first_same is_name_start 0 w 41 r r' refl (omega arith))
-      ∙ ap (λ n. if is_first is_name_start (w ++ 41 ∷ r) then n else 0) m.0,
+          ∙ ap (λ n. if is_first is_name_start (w ++ 41 ∷ r) then n else 0) m.0,
       short (is_first is_name_start (w ++ 41 ∷ r)) m.1,
     )
   where

@@ -1,3 +1,4 @@
+pub mod Readings
 pub mod LinesDocuments
 pub mod CommandsScripts
 pub mod Commands
