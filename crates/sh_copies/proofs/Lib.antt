@@ -30,4 +30,5 @@ pub mod WordsCommands
 pub mod WordsFound
 pub mod WordsKept
 pub mod WordsMove
+pub mod WordsOuter
 pub mod WordsTokens

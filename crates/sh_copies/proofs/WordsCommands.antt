@@ -6,6 +6,8 @@ use Rattle.std.proofs.lemmas.List.{drop-take, drop-drop, take-append-le, drop-ap
 use Rattle.sh_tree.specs.declared.tree.CommandStyle.{CommandStyle}
 use Rattle.sh_tree.specs.declared.tree.CommandStyle.TheVariants.{Paren, Backquote}
 use Rattle.sh_tree.specs.declared.tree.Script.{Script}
+use Rattle.sh_tree.specs.declared.token.word.Sign.{Sign}
+use Rattle.sh_tree.specs.declared.token.word.Sign.TheVariants as sign
 use Rattle.sh_tree.specs.standard.language.Arithmetic.{is_closed}
 use Rattle.sh_tree.specs.standard.language.Bytes.{is_first, is_last_backquote, run}
 use Rattle.sh_tree.specs.standard.language.Commands.{blanks}
@@ -18,7 +20,16 @@ use Rattle.sh_copies.proofs.AlikeTokens.{run_inside}
 use Rattle.sh_copies.proofs.Copies.{Copied, limit_of, Place, Moved, ScriptsMove}
 use Rattle.sh_copies.proofs.Forward.{script_forward}
 use Rattle.sh_copies.proofs.Places.{left, as_far, moved_deeper}
-use Rattle.sh_copies.proofs.WordsTokens.{same_first}
+use Rattle.sh_copies.proofs.WordsTokens.{near_first}
+
+-- a part that such a sign begins ends with a byte that closes it
+abbrev pub closing : Sign → ℕ
+closing sign.Double = 1
+closing (sign.Use p a colon) = 1
+closing (sign.Remove p q) = 1
+closing sign.Arith = 1
+closing (sign.Substitution Paren) = 1
+closing _ = 0
 
 -- commands found in the copy, and what closes them there
 pub record FoundCommands (limit : ℕ) {b b' : List ℕ} (c : Copied b b') (style : CommandStyle) (quoted : Bool) (e' : ℕ) (s' u : Spot) : Type 0 where
@@ -121,12 +132,12 @@ module _ (b b' : List ℕ) (e e' : ℕ) (w rest rest' : List ℕ) (there : drop 
 
 module _ {limit n : ℕ} (scripts : ScriptsMove limit n) where
   parenthesis_move : {b b' : List ℕ} (c : Copied b b') {s s' u : Spot} {t : Script} {e e' : ℕ} (quoted : Bool) → Moved c s s' → Place c e e' → s.at ≤ e
-      → ReadsScript limit b (deeper (blanks s.joins b e) s) u t → is_closed b u.at ≡ true → u.at + 1 < s.at + suc n → u.at + 1 ≤ limit_of c
+      → ReadsScript limit b (deeper (blanks s.joins b e) s) u t → is_closed b u.at ≡ true → u.at + 1 < s.at + suc n → u.at ≤ limit_of c
       → FoundCommands limit c Paren quoted e' s' u
   unfolding is_closed commands_text closes keeps_backslashes
   parenthesis_move {b} {b'} c quoted m q f i h size within =
       let k = scripts.script c (moved_deeper c m q) i (omega arith) (omega arith) (inr h) in
-      record { to = k.to; tree = k.tree; place = k.moved.place; keeps = refl; reads = k.reads; closed = same_first c (λ c. c == 41) k.moved.place (omega arith) ∙ h }
+      record { to = k.to; tree = k.tree; place = k.moved.place; keeps = refl; reads = k.reads; closed = near_first c (λ c. c == 41) k.moved.place within ∙ h }
 
   -- between backquotes, whatever follows them
   pub backquotes_move : (b b' : List ℕ) (s s' : Spot) {u : Spot} {t : Script} (e e' : ℕ) (quoted : Bool) (w rest rest' : List ℕ) → drop e b ≡ w ++ rest → drop e' b' ≡ w ++ rest'
@@ -158,10 +169,10 @@ module _ {limit n : ℕ} (scripts : ScriptsMove limit n) where
 
   pub commands_move : {b b' : List ℕ} (c : Copied b b') {s s' u : Spot} {t : Script} {e e' : ℕ} (style : CommandStyle) (quoted : Bool) → Moved c s s' → Place c e e' → s.at ≤ e
       → keeps_backslashes style quoted b e ≡ true → ReadsScript limit (commands_text style b e) (deeper (blanks s.joins (commands_text style b e) e) s) u t
-      → closes style (commands_text style b e) u.at ≡ true → u.at + 1 < s.at + suc n → u.at + 1 ≤ limit_of c
+      → closes style (commands_text style b e) u.at ≡ true → u.at + 1 < s.at + suc n → u.at + 1 ≤ limit_of c + closing (sign.Substitution style)
       → FoundCommands limit c style quoted e' s' u
   unfolding commands_text closes keeps_backslashes
-  commands_move c Paren quoted m q f k i h size within = parenthesis_move c quoted m q f i h size within
+  commands_move c Paren quoted m q f k i h size within = parenthesis_move c quoted m q f i h size (omega arith)
   commands_move {b} {b'} c {s} {s'} {u} {e = e} {e' = e'} Backquote quoted m q f k i h size within =
       let l = left c q (let forward = script_forward i in let blank = blanks_move s.joins (take (backquote_end b e) b) e in omega arith) in
       let found = backquotes_move b b' s s' e e' quoted l.w c.rest c.rest' l.there l.here m.depth m.joins m.tabs m.quiet f k i h size (let long = l.long in omega arith) in

@@ -1,6 +1,6 @@
 -- The parts of a word are read wherever its bytes stand.
 -- POSIX.1-2024, XCU 2.2 (quoting), 2.6 (word expansions).
-use Rattle.std.proofs.Common.{◌≡◌, ℕ, suc, ◌+◌, ◌-◌, ◌≤◌, ◌<◌, ◌==◌, Bool, true, false, not, ◌&&◌, ◌||◌, List, [], ◌∷◌, ◌++◌, length, drop, take, ◌⊎◌, inl, inr, refl, sym, ap, subst, ◌∙◌, ⊎_elim, arith, le_refl, le_trans}
+use Rattle.std.proofs.Common.{◌≡◌, ℕ, suc, ◌+◌, ◌-◌, ◌≤◌, ◌<◌, ◌==◌, Bool, true, false, not, ◌&&◌, ◌||◌, if◌then◌else◌, List, [], ◌∷◌, ◌++◌, length, drop, take, ◌⊎◌, inl, inr, refl, sym, ap, subst, ◌∙◌, ⊎_elim, arith, le_refl, le_trans}
 use Rattle.std.proofs.lemmas.Bool.{cond-true, cond-false, true≢false, eqb-true, eqb-false, eq-eqb}
 use Rattle.std.proofs.lemmas.Bool.Decides.{nat_tests}
 use Rattle.sh_tree.specs.declared.tree.Action.{Action}
@@ -16,8 +16,10 @@ use Rattle.sh_tree.specs.declared.tree.Span.{Span}
 use Rattle.sh_tree.specs.declared.tree.Subject.{Subject}
 use Rattle.sh_tree.specs.declared.token.arithmetic.Figure.TheVariants as figure
 use Rattle.sh_tree.specs.declared.token.word.Context.{Context}
+use Rattle.sh_tree.specs.declared.token.word.Site.TheVariants as site
 use Rattle.sh_tree.specs.declared.token.word.Sign.{Sign}
 use Rattle.sh_tree.specs.declared.token.word.Sign.TheVariants as sign
+use Rattle.sh_tree.specs.standard.Tree.{text_of}
 use Rattle.sh_tree.specs.standard.language.Arithmetic.{is_closed}
 use Rattle.sh_tree.specs.standard.language.Bytes.{is_first}
 use Rattle.sh_tree.specs.standard.language.Commands.{blanks}
@@ -29,17 +31,18 @@ use Rattle.sh_tree.specs.standard.language.Trees as tree
 use Rattle.sh_tree.specs.standard.language.Trees.{span}
 use Rattle.sh_tree.specs.standard.language.Words.{is_quoted, stop_length, in_double, in_use, in_removal, in_arithmetic}
 use Rattle.sh_reads.proofs.TakeLemmas.{part_begins, token_moves, token_takes}
-use Rattle.sh_copies.proofs.AlikeBytes.{by_bool}
+use Rattle.sh_copies.proofs.AlikeBytes.{is_closer, by_bool}
+use Rattle.sh_reads.proofs.MoveLemmas.{blanks_move}
 use Rattle.sh_copies.proofs.Arithmetic.{same_figure}
 use Rattle.sh_copies.proofs.Copies.{Copied, limit_of, Place, Moved, Turns, turned, Kept, KeptPart, Found, ExpressionsMove, ScriptsMove, PartsMove}
 use Rattle.sh_copies.proofs.Forward.{parts_forward, part_forward, expression_forward, script_forward, over_forward}
 use Rattle.sh_copies.proofs.Places.{as_far, further, moved_to, moved_deeper, moved_behind}
 use Rattle.sh_copies.proofs.Shift.{placeless}
-use Rattle.sh_copies.proofs.WordsCommands.{commands_move}
+use Rattle.sh_copies.proofs.WordsCommands.{closing, commands_move}
 use Rattle.sh_copies.proofs.WordsKept.{kept_none, kept_more, kept_plain, kept_escaped, kept_joined, kept_single, kept_tilde, kept_double, kept_value, kept_length, kept_use, kept_removal, kept_arith, kept_command}
 use Rattle.sh_reads.proofs.TakeLemmas.{is_part}
 use Rattle.sh_copies.proofs.AlikeTokens.{is_sound, is_stop}
-use Rattle.sh_copies.proofs.WordsTokens.{is_placed, same_sign, value_sign, length_sign, use_sign, remove_sign, same_first, parts_over, same_token, same_text, same_prior, part_sound}
+use Rattle.sh_copies.proofs.WordsTokens.{is_enclosed, parts_closed, is_placed, same_sign, value_sign, length_sign, use_sign, remove_sign, near_first, parts_over, same_token, same_text, same_prior, part_sound}
 
 -- in quotes no tilde-prefix begins
 quoted_turns : {b b' : List ℕ} (c : Copied b b') (x : Context) (o' : ℕ) → is_quoted x.site ≡ true → Turns c x o'
@@ -56,7 +59,7 @@ equal_far p q k n = by_bool (p + n == p + k)
 place_turns : {b b' : List ℕ} (c : Copied b b') (x : Context) (e e' : ℕ) → Place c e e' → Turns c (record x { origin = e }) e'
 place_turns c x e e' p = λ k n. ap (λ j. c.into + n == j) p.at' ∙ equal_far c.from c.into p.by n ∙ sym (ap (λ j. c.from + n == j) p.at)
 
-less_deep : (n m limit : ℕ) → m ≡ n → n < limit → m < limit
+pub less_deep : (n m limit : ℕ) → m ≡ n → n < limit → m < limit
 less_deep n m limit e h = omega arith
 
 closed_same : (b b' : List ℕ) (i i' : ℕ) → is_first (λ c. c == 41) (drop i' b') ≡ is_first (λ c. c == 41) (drop i b) → is_closed b i ≡ true → is_closed b' i' ≡ true
@@ -66,6 +69,122 @@ closed_same b b' i i' e h = e ∙ h
 retold : {limit : ℕ} {b b' : List ℕ} {c : Copied b b'} {x : Context} {g g' : Sign} {s u : Spot} {e : ℕ} {p : Part} → g' ≡ g
     → Found c u (KeptPart b b' p) (λ u' p'. ReadsPart limit b' x g s e u' p') → Found c u (KeptPart b b' p) (λ u' p'. ReadsPart limit b' x g' s e u' p')
 retold {limit} {b' = b'} {x = x} {s = s} {e = e} same f = record { to = f.to; tree = f.tree; moved = f.moved; keeps = f.keeps; reads = subst (λ k. ReadsPart limit b' x k s e f.to f.tree) (sym same) f.reads }
+
+pub use_length : (x : Context) (a : Action) (e : ℕ) → stop_length (in_use x a e).site ≡ 1
+use_length x a e = go (is_quoted x.site)
+  where
+    go : (t : Bool) → stop_length (if t then site.QuotedBraced else site.Braced) ≡ 1
+    go true = refl
+    go false = refl
+
+use_enclosed : (x : Context) (a : Action) (e : ℕ) → is_enclosed (in_use x a e).site ≡ true
+use_enclosed x a e = go (is_quoted x.site)
+  where
+    go : (t : Bool) → is_enclosed (if t then site.QuotedBraced else site.Braced) ≡ true
+    go true = refl
+    go false = refl
+
+zero_one : {n m : ℕ} → n ≡ m → n < m → ⊥
+zero_one e h = absurd (omega arith)
+
+less_one : (n : ℕ) → n + 1 - 1 ≡ n
+less_one n = omega arith
+
+-- Parts that hold no others
+
+abbrev pub is_flat : Sign → Bool
+is_flat sign.Plain = true
+is_flat sign.Escaped = true
+is_flat sign.Joined = true
+is_flat (sign.Single y) = true
+is_flat sign.Tilde = true
+is_flat (sign.Value p) = true
+is_flat (sign.Length p) = true
+is_flat _ = false
+
+pub flat_ends : {limit : ℕ} {b : List ℕ} {x : Context} {g : Sign} {s u : Spot} {e : ℕ} {p : Part} → is_flat g ≡ true → ReadsPart limit b x g s e u p → u ≡ to e s
+flat_ends h r.plain = refl
+flat_ends h r.escaped = refl
+flat_ends h r.joined = refl
+flat_ends h r.single_quoted = refl
+flat_ends h r.tilde = refl
+flat_ends h r.value = refl
+flat_ends h r.length_value = refl
+flat_ends h (r.double_quoted i) = absurd (true≢false (sym h))
+flat_ends h (r.use_word d i) = absurd (true≢false (sym h))
+flat_ends h (r.removal d i) = absurd (true≢false (sym h))
+flat_ends h (r.arithmetic d i k l) = absurd (true≢false (sym h))
+flat_ends h (r.substitution d k i l) = absurd (true≢false (sym h))
+
+-- a part that a byte closes goes on behind its sign, and ends with that byte
+pub closing_within : {limit : ℕ} {b : List ℕ} {x : Context} {g : Sign} {s u : Spot} {e : ℕ} {p : Part} → ReadsPart limit b x g s e u p → e + closing g ≤ u.at
+closing_within r.plain = omega arith
+closing_within r.escaped = omega arith
+closing_within r.joined = omega arith
+closing_within r.single_quoted = omega arith
+closing_within r.tilde = omega arith
+closing_within r.value = omega arith
+closing_within r.length_value = omega arith
+closing_within (r.double_quoted i) = parts_over i
+closing_within {x = x} {e = e} (r.use_word {a = a} d i) = let one = use_length x a e in let over = parts_over i in omega arith
+closing_within (r.removal d i) = parts_over i
+closing_within {b = b} (r.arithmetic {u = u} d i h k) = let o = over_forward b u in let f = expression_forward i in omega arith
+closing_within {b = b} {e = e} (r.substitution {s = s} {style = Paren} d k i h) = let f = script_forward i in let blank = blanks_move s.joins (commands_text Paren b e) e in omega arith
+closing_within {b = b} {e = e} (r.substitution {s = s} {style = Backquote} d k i h) = let f = script_forward i in let blank = blanks_move s.joins (commands_text Backquote b e) e in omega arith
+
+parenthesis_closes : (cs : List ℕ) → is_first (λ c. c == 41) cs ≡ true → is_first is_closer cs ≡ true
+unfolding is_first
+parenthesis_closes [] h = absurd (true≢false (sym h))
+parenthesis_closes (c ∷ cs) h = grind (arith, nat_tests, h)
+
+pub closing_byte : {limit : ℕ} {b : List ℕ} {x : Context} {g : Sign} {s u : Spot} {e : ℕ} {p : Part} → closing g ≡ 1 → ReadsPart limit b x g s e u p → is_first is_closer (drop (u.at - 1) b) ≡ true
+unfolding is_closed closes commands_text
+closing_byte h r.plain = absurd (zero_one h (omega arith))
+closing_byte h r.escaped = absurd (zero_one h (omega arith))
+closing_byte h r.joined = absurd (zero_one h (omega arith))
+closing_byte h r.single_quoted = absurd (zero_one h (omega arith))
+closing_byte h r.tilde = absurd (zero_one h (omega arith))
+closing_byte h r.value = absurd (zero_one h (omega arith))
+closing_byte h r.length_value = absurd (zero_one h (omega arith))
+closing_byte h (r.double_quoted i) = parts_closed refl i
+closing_byte {x = x} {e = e} h (r.use_word {a = a} d i) = parts_closed (use_enclosed x a e) i
+closing_byte h (r.removal d i) = parts_closed refl i
+closing_byte {b = b} h (r.arithmetic {u = u} d i k l) = ap (λ j. is_first is_closer (drop j b)) (less_one (over b u).at) ∙ parenthesis_closes (drop (over b u).at b) l
+closing_byte {b = b} h (r.substitution {u = u} {style = Paren} d k i l) = ap (λ j. is_first is_closer (drop j b)) (less_one u.at) ∙ parenthesis_closes (drop u.at b) l
+closing_byte h (r.substitution {style = Backquote} d k i l) = absurd (zero_one h (omega arith))
+
+-- such a part up to e', and what it keeps
+pub record Flat (limit : ℕ) (b b' : List ℕ) (x : Context) (g : Sign) (s : Spot) (e : ℕ) (p : Part) : Type 0 where
+  pub tree : Part
+  pub keeps : KeptPart b b' p tree
+  pub reads : ReadsPart limit b' x g s e (to e s) tree
+
+reflat : {limit : ℕ} {b b' : List ℕ} {x : Context} {g g' : Sign} {s : Spot} {e : ℕ} {p : Part} → g' ≡ g → Flat limit b b' x g s e p → Flat limit b b' x g' s e p
+reflat {limit} {b' = b'} {x = x} {s = s} {e = e} same f = record { tree = f.tree; keeps = f.keeps; reads = subst (λ k. ReadsPart limit b' x k s e (to e s) f.tree) (sym same) f.reads }
+
+pub flat_move : {limit : ℕ} {b : List ℕ} (b' : List ℕ) {x : Context} (y : Context) {g : Sign} {s u : Spot} {e : ℕ} {p : Part} (s' : Spot) (e' : ℕ) (g' : Sign)
+    → is_flat g ≡ true → placeless g' ≡ placeless g → text_of b' (span s'.at e') ≡ text_of b (span s.at e) → ReadsPart limit b x g s e u p → (u ≡ to e s) × Flat limit b b' y g' s' e' p
+flat_move {b = b} b' y {s = s} {e = e} s' e' g' h same text r.plain = (refl, reflat (same_sign sign.Plain g' refl same) (record { tree = part.Plain (span s'.at e'); keeps = kept_plain b b' (span s.at e) (span s'.at e') text; reads = r.plain }))
+flat_move {b = b} b' y {s = s} {e = e} s' e' g' h same text r.escaped = (refl, reflat (same_sign sign.Escaped g' refl same) (record { tree = part.Escaped (span s'.at e'); keeps = kept_escaped b b' (span s.at e) (span s'.at e') text; reads = r.escaped }))
+flat_move {b = b} b' y {s = s} {e = e} s' e' g' h same text r.joined = (refl, reflat (same_sign sign.Joined g' refl same) (record { tree = part.Joined (span s'.at e'); keeps = kept_joined b b' (span s.at e) (span s'.at e'); reads = r.joined }))
+flat_move {b = b} b' y {s = s} {e = e} s' e' g' h same text (r.single_quoted {style = q}) =
+    (refl, reflat (same_sign (sign.Single q) g' refl same) (record { tree = part.Single q (span s'.at e'); keeps = kept_single b b' (span s.at e) (span s'.at e') q text; reads = r.single_quoted }))
+flat_move {b = b} b' y {s = s} {e = e} s' e' g' h same text r.tilde = (refl, reflat (same_sign sign.Tilde g' refl same) (record { tree = part.Tilde (span s'.at e'); keeps = kept_tilde b b' (span s.at e) (span s'.at e'); reads = r.tilde }))
+flat_move {b = b} b' y {s = s} {e = e} s' e' g' h same text (r.value {p = p}) =
+    let k = value_sign p g' same in (refl, reflat k.1 (record { tree = tree.param s'.at e' k.0 operator.Value; keeps = kept_value b b' s.at s'.at e e' p k.0; reads = r.value }))
+flat_move {b = b} b' y {s = s} {e = e} s' e' g' h same text (r.length_value {p = p}) =
+    let k = length_sign p g' same in (refl, reflat k.1 (record { tree = tree.param s'.at e' k.0 operator.Length; keeps = kept_length b b' s.at s'.at e e' p k.0; reads = r.length_value }))
+flat_move b' y s' e' g' h same text (r.double_quoted i) = absurd (true≢false (sym h))
+flat_move b' y s' e' g' h same text (r.use_word d i) = absurd (true≢false (sym h))
+flat_move b' y s' e' g' h same text (r.removal d i) = absurd (true≢false (sym h))
+flat_move b' y s' e' g' h same text (r.arithmetic d i k l) = absurd (true≢false (sym h))
+flat_move b' y s' e' g' h same text (r.substitution d k i l) = absurd (true≢false (sym h))
+
+flat_found : {limit : ℕ} {b b' : List ℕ} (c : Copied b b') (x : Context) (o' : ℕ) {g : Sign} {s s' : Spot} {p : Part} {e e' : ℕ} → Moved c s s' → Place c e e' → s.at ≤ e → (g' : Sign) → is_flat g ≡ true → placeless g' ≡ placeless g
+    → ReadsPart limit b x g s e (to e s) p → e ≤ limit_of c → Found c (to e s) (KeptPart b b' p) (λ u' p'. ReadsPart limit b' (turned o' x) g' s' e' u' p')
+flat_found {b' = b'} c x o' {s' = s'} {e' = e'} m q f g' h same i within =
+    let k = (flat_move b' (turned o' x) s' e' g' h same (same_text c m.place q f within) i).1 in
+    record { to = to e' s'; tree = k.tree; moved = moved_to c m q; keeps = k.keeps; reads = k.reads }
 
 -- The parts and what they hold, where commands and arithmetic of fewer bytes are found
 module _ {limit n : ℕ} (expressions : ExpressionsMove limit n) (scripts : ScriptsMove limit n) where
@@ -102,18 +221,13 @@ module _ {limit n : ℕ} (expressions : ExpressionsMove limit n) (scripts : Scri
         }
 
     pub part_move : {b b' : List ℕ} (c : Copied b b') {x : Context} {o' : ℕ} {g : Sign} {s s' u : Spot} {p : Part} {e e' : ℕ}
-        → Moved c s s' → Turns c x o' → Place c e e' → s.at ≤ e → (g' : Sign) → placeless g' ≡ placeless g → ReadsPart limit b x g s e u p → u.at < s.at + suc n → u.at ≤ limit_of c
+        → Moved c s s' → Turns c x o' → Place c e e' → s.at ≤ e → (g' : Sign) → placeless g' ≡ placeless g → ReadsPart limit b x g s e u p → u.at < s.at + suc n → u.at ≤ limit_of c + closing g
         → Found c u (KeptPart b b' p) (λ u' p'. ReadsPart limit b' (turned o' x) g' s' e' u' p')
-    part_move {b} {b'} c {s = s} {s' = s'} {e = e} {e' = e'} m turns q f g' same r.plain size within =
-        retold (same_sign sign.Plain g' refl same) (record { to = to e' s'; tree = part.Plain (span s'.at e'); moved = moved_to c m q; keeps = kept_plain b b' _ _ (same_text c m.place q f within); reads = r.plain })
-    part_move {b} {b'} c {s = s} {s' = s'} {e = e} {e' = e'} m turns q f g' same r.escaped size within =
-        retold (same_sign sign.Escaped g' refl same) (record { to = to e' s'; tree = part.Escaped (span s'.at e'); moved = moved_to c m q; keeps = kept_escaped b b' _ _ (same_text c m.place q f within); reads = r.escaped })
-    part_move {b} {b'} c {s = s} {s' = s'} {e = e} {e' = e'} m turns q f g' same r.joined size within =
-        retold (same_sign sign.Joined g' refl same) (record { to = to e' s'; tree = part.Joined (span s'.at e'); moved = moved_to c m q; keeps = kept_joined b b' (span s.at e) (span s'.at e'); reads = r.joined })
-    part_move {b} {b'} c {s = s} {s' = s'} {e = e} {e' = e'} m turns q f g' same (r.single_quoted {style = y}) size within =
-        retold (same_sign (sign.Single y) g' refl same) (record { to = to e' s'; tree = part.Single y (span s'.at e'); moved = moved_to c m q; keeps = kept_single b b' _ _ y (same_text c m.place q f within); reads = r.single_quoted })
-    part_move {b} {b'} c {s = s} {s' = s'} {e = e} {e' = e'} m turns q f g' same r.tilde size within =
-        retold (same_sign sign.Tilde g' refl same) (record { to = to e' s'; tree = part.Tilde (span s'.at e'); moved = moved_to c m q; keeps = kept_tilde b b' (span s.at e) (span s'.at e'); reads = r.tilde })
+    part_move c {x} {o'} m turns q f g' same r.plain size within = flat_found c x o' m q f g' refl same r.plain (omega arith)
+    part_move c {x} {o'} m turns q f g' same r.escaped size within = flat_found c x o' m q f g' refl same r.escaped (omega arith)
+    part_move c {x} {o'} m turns q f g' same r.joined size within = flat_found c x o' m q f g' refl same r.joined (omega arith)
+    part_move c {x} {o'} m turns q f g' same r.single_quoted size within = flat_found c x o' m q f g' refl same r.single_quoted (omega arith)
+    part_move c {x} {o'} m turns q f g' same r.tilde size within = flat_found c x o' m q f g' refl same r.tilde (omega arith)
     part_move {b} {b'} c {x} {o'} {s = s} {s' = s'} {e = e} {e' = e'} m turns q f g' same (r.double_quoted {u = u} i) size within =
         let inside = parts_move c (moved_to c m q) (quoted_turns c (in_double x) o' refl) i (omega arith) (omega arith) in
         retold (same_sign sign.Double g' refl same)
@@ -124,14 +238,11 @@ module _ {limit n : ℕ} (expressions : ExpressionsMove limit n) (scripts : Scri
           keeps = kept_double b b' (span s.at u.at) (span s'.at inside.to.at) inside.keeps;
           reads = r.double_quoted inside.reads;
         })
-    part_move {b} {b'} c {s = s} {s' = s'} {e = e} {e' = e'} m turns q f g' same (r.value {p = p}) size within =
-        let k = value_sign p g' same in
-        retold k.1 (record { to = to e' s'; tree = tree.param s'.at e' k.0 operator.Value; moved = moved_to c m q; keeps = kept_value b b' s.at s'.at e e' p k.0; reads = r.value })
-    part_move {b} {b'} c {s = s} {s' = s'} {e = e} {e' = e'} m turns q f g' same (r.length_value {p = p}) size within =
-        let k = length_sign p g' same in
-        retold k.1 (record { to = to e' s'; tree = tree.param s'.at e' k.0 operator.Length; moved = moved_to c m q; keeps = kept_length b b' s.at s'.at e e' p k.0; reads = r.length_value })
+    part_move c {x} {o'} m turns q f g' same r.value size within = flat_found c x o' m q f g' refl same r.value (omega arith)
+    part_move c {x} {o'} m turns q f g' same r.length_value size within = flat_found c x o' m q f g' refl same r.length_value (omega arith)
     part_move {b} {b'} c {x} {s = s} {s' = s'} {e = e} {e' = e'} m turns q f g' same (r.use_word {u = u} {p = p} {a = a} {colon = colon} d i) size within =
         let k = use_sign p a colon g' same in
+        let one = use_length x a e in
         let inside = parts_move c (moved_deeper c m q) (place_turns c (in_use x a e) e e' q) i (omega arith) (omega arith) in
         retold k.1
         (record {
@@ -156,7 +267,7 @@ module _ {limit n : ℕ} (expressions : ExpressionsMove limit n) (scripts : Scri
         let o = over_forward b u in
         let inside = expressions.expression c (moved_deeper c m q) (quoted_turns c (in_arithmetic x) o' refl) i (omega arith) h (omega arith) in
         let t = same_figure c inside.moved (omega arith) in
-        let closed = same_first c (λ c. c == 41) t.behind.place (omega arith) in
+        let closed = near_first c (λ c. c == 41) t.behind.place (omega arith) in
         retold (same_sign sign.Arith g' refl same)
         (record {
           to = behind ((over b' inside.to).at + 1) inside.to s';
