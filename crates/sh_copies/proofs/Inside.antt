@@ -1,6 +1,6 @@
 -- What begins in a text ends in it.
 -- POSIX.1-2024, XCU 2.2 (quoting), 2.6 (word expansions).
-use Rattle.std.proofs.Common.{◌≡◌, ℕ, ◌+◌, ◌-◌, ◌<◌, ◌≤◌, ◌==◌, Bool, true, false, not, ◌&&◌, ◌||◌, if◌then◌else◌, List, [], ◌∷◌, ◌++◌, length, drop, take, codes, Option, Some, None, refl, sym, ap, ◌∙◌, subst, arith, length-drop, length-take, nat_lt, ⊎_elim}
+use Rattle.std.proofs.Common.{◌≡◌, ℕ, ◌+◌, ◌-◌, ◌<◌, ◌≤◌, ◌==◌, Bool, true, false, not, ◌&&◌, ◌||◌, if◌then◌else◌, List, [], ◌∷◌, ◌++◌, length, drop, take, Option, Some, None, refl, sym, ap, ◌∙◌, subst, arith, length-drop, length-take, nat_lt, ⊎_elim}
 use Rattle.std.proofs.lemmas.Bool.{true≢false, cond_both, cases_lt, ltb-true}
 use Rattle.std.proofs.lemmas.List.{drop_all}
 use Rattle.sh_tree.specs.declared.tree.Action.{Action}
@@ -258,6 +258,7 @@ closed_inside b i h = byte_inside (λ c. c == 41) b i h
 module _ {limit : ℕ} {b : List ℕ} where
   mutual
     unfolding singles chained
+
     -- the reading ends in the text, and so do its single quotes
     pub parts_inside : {x : Context} {prior : ℕ} {s u : Spot} {ps : List Part} → ReadsParts limit b x prior s u ps → s.at ≤ length b → (u.at ≤ length b) × Inside (length b) (singles ps)
     parts_inside (r.stop {x = x} {prior = prior} {s = s} h) l = (token_inside b x prior s.at l (ap is_read h), no_span)

@@ -1,11 +1,10 @@
 -- A token of commands before a closing parenthesis is the same whatever follows it, and wherever it stands.
 -- POSIX.1-2024, XCU 2.3 (token recognition), 2.4 (reserved words), 2.7 (redirection).
-use Rattle.std.proofs.Common.{◌≡◌, ℕ, zero, suc, ◌+◌, ◌-◌, ◌≤◌, ◌<◌, ◌==◌, Bool, true, false, not, ◌&&◌, ◌||◌, List, [], ◌∷◌, ◌++◌, length, drop, take, codes, nat_eq, nat_lt, nat_le, if◌then◌else◌, ◌⊎◌, inl, inr, refl, sym, ap, ◌∙◌, subst, arith, length-drop, length-take, ⊎_elim}
+use Rattle.std.proofs.Common.{◌≡◌, ℕ, zero, suc, ◌+◌, ◌≤◌, ◌<◌, ◌==◌, Bool, true, false, not, ◌&&◌, ◌||◌, List, [], ◌∷◌, ◌++◌, length, drop, take, nat_le, if◌then◌else◌, inl, inr, refl, sym, ap, ◌∙◌, subst, arith, eqb-true, length-drop, length-take, ⊎_elim}
 use Rattle.std.specs.Prelude.{Option, Some, None}
-use Rattle.std.proofs.lemmas.Bool.{cond-true, cond-false, true≢false, cases_lt, le-ltb, lt-ltb, le-leb, leb-true}
+use Rattle.std.proofs.lemmas.Bool.{cond-false, true≢false, cases_lt, le-leb, leb-true, and_parts}
 use Rattle.std.proofs.lemmas.Bool.Decides.{nat_tests}
-use Rattle.std.proofs.lemmas.List.{drop-drop, drop-append-le, take-append-le, drop_all}
-use Rattle.sh_tree.specs.declared.refusal.Form.{Form}
+use Rattle.std.proofs.lemmas.List.{drop-drop, drop-append-le, take-append-le}
 use Rattle.sh_tree.specs.declared.refusal.Form.TheVariants as form
 use Rattle.sh_tree.specs.declared.token.command.Lead.{Lead}
 use Rattle.sh_tree.specs.declared.token.command.Lead.TheVariants as lead
@@ -15,12 +14,12 @@ use Rattle.sh_tree.specs.declared.token.command.Reserved.{Reserved}
 use Rattle.sh_tree.specs.declared.token.command.Reserved.TheVariants as word
 use Rattle.sh_tree.specs.declared.token.command.Stage.{Stage}
 use Rattle.sh_tree.specs.declared.token.command.Stage.TheVariants.{First, Prefixed, Named}
-use Rattle.sh_tree.specs.standard.language.Bytes.{is_newline, is_digit, is_name_byte, is_name_start, is_name, ends_token, is_first, is_last_backquote, run, name_length, longest, behind_joined, is_joined, joined_length, joined_at}
+use Rattle.sh_tree.specs.standard.language.Bytes.{is_digit, is_name_byte, is_name_start, is_name, ends_token, is_first, run, name_length, longest, behind_joined, is_joined, joined_length, joined_at}
 use Rattle.sh_tree.specs.standard.language.Commands.{blanks, blank_length, gap_length, operator_of, long_operators, short_operators, is_longer, is_split, is_bare, bare_word, reserved_words, left_out_names, entry_of, is_assignment, is_angle, is_parenthesis, opening, whole_operator, operator_lead, bang, reserved_lead, is_definition, name_lead, first_lead, word_lead, is_named, number_lead, other_lead, lead_of, lead_at}
 use Rattle.sh_tree.specs.standard.language.Words.{ends_joined}
 use Rattle.sh_copies.proofs.AlikeBytes.{Alike, by_bool, joined_moves, first_alike, behind_alike, joined_alike, last_alike, some_alike, run_moves}
-use Rattle.sh_copies.proofs.Blanks.{gap_moves, parenthesis_behind}
-use Rattle.sh_copies.proofs.Fronts.{alike_behind, whole, run_behind, first_same, first_before, joined_at_is, never}
+use Rattle.sh_copies.proofs.Blanks.{gap_moves, parenthesis_behind, is_number_sign}
+use Rattle.sh_copies.proofs.Fronts.{alike_behind, whole, first_same, joined_at_is, never}
 use Rattle.sh_copies.proofs.Tables.{Within, longest_moves, longest_within}
 
 -- Wherever it stands
@@ -47,7 +46,7 @@ word_front b First i w = first_front b i w (entry_of reserved_words w)
 word_front b Prefixed i w = refl
 word_front b (Named d) i w = refl
 
-bare_front : (b : List ℕ) (i : ℕ) → bare_word b i ≡ bare_word (drop i b) 0
+pub bare_front : (b : List ℕ) (i : ℕ) → bare_word b i ≡ bare_word (drop i b) 0
 unfolding bare_word
 bare_front b i = refl
 
@@ -155,8 +154,8 @@ bare_moves w r r' =
     let n = run is_bare (w ++ 41 ∷ r) in
     let text : take n (w ++ 41 ∷ r') ≡ take n (w ++ 41 ∷ r) = take-append-le n w (41 ∷ r') m.1 ∙ sym (take-append-le n w (41 ∷ r) m.1) in (
       ap (λ k. if ends_joined (drop k (w ++ 41 ∷ r')) then take k (w ++ 41 ∷ r') else []) m.0
-      ∙ ap (λ t. if t then take n (w ++ 41 ∷ r') else []) (ends_moves n w r r' m.1)
-      ∙ ap (λ x. if ends_joined (drop n (w ++ 41 ∷ r)) then x else []) text,
+          ∙ ap (λ t. if t then take n (w ++ 41 ∷ r') else []) (ends_moves n w r r' m.1)
+          ∙ ap (λ x. if ends_joined (drop n (w ++ 41 ∷ r)) then x else []) text,
       short n m.1 (ends_joined (drop n (w ++ 41 ∷ r))),
     )
   where
@@ -218,7 +217,7 @@ unfolding name_length
 name_moves w r r' =
     let m = run_moves is_name_byte w 41 r r' refl in (
       ap (λ t. if t then run is_name_byte (w ++ 41 ∷ r') else 0) (first_same is_name_start 0 w 41 r r' refl (omega arith))
-      ∙ ap (λ n. if is_first is_name_start (w ++ 41 ∷ r) then n else 0) m.0,
+          ∙ ap (λ n. if is_first is_name_start (w ++ 41 ∷ r) then n else 0) m.0,
       short (is_first is_name_start (w ++ 41 ∷ r)) m.1,
     )
   where
@@ -278,7 +277,47 @@ of_moves g a w r r' None e =
     let other = other_moves g (a ∷ w) r r' (omega arith) in
     rw (some_byte a (w ++ 41 ∷ r), some_byte a (w ++ 41 ∷ r'), last.0, last.1, other) refl
 
-lead_moves : (g : Stage) (w r r' : List ℕ) → lead_at (w ++ 41 ∷ r') g 0 ≡ lead_at (w ++ 41 ∷ r) g 0
+pub lead_moves : (g : Stage) (w r r' : List ℕ) → lead_at (w ++ 41 ∷ r') g 0 ≡ lead_at (w ++ 41 ∷ r) g 0
 unfolding lead_at
 lead_moves g [] r r' = closing_lead g r' ∙ sym (closing_lead g r)
 lead_moves g (a ∷ w) r r' = ap (lead_of (a ∷ (w ++ 41 ∷ r')) g 0) (operators_move (a ∷ w) r r') ∙ of_moves g a w r r' (operator_of (a ∷ (w ++ 41 ∷ r))) refl
+
+-- what redirection's operator stands behind digits
+abbrev pub behind_digits : List ℕ → Option (Operator × ℕ)
+behind_digits cs = operator_of (drop (run is_digit cs) cs)
+
+pub digits_move : (w r r' : List ℕ) → run is_digit (w ++ 41 ∷ r') ≡ run is_digit (w ++ 41 ∷ r)
+digits_move w r r' = (run_moves is_digit w 41 r r' refl).0
+
+pub behind_digits_moves : (w r r' : List ℕ) → behind_digits (w ++ 41 ∷ r') ≡ behind_digits (w ++ 41 ∷ r)
+behind_digits_moves w r r' =
+    let m = run_moves is_digit w 41 r r' refl in
+    let n = run is_digit (w ++ 41 ∷ r) in
+    ap (λ k. operator_of (drop k (w ++ 41 ∷ r'))) m.0 ∙ ap operator_of (drop-append-le n w (41 ∷ r') m.1) ∙ operators_move (drop n w) r r' ∙ sym (ap operator_of (drop-append-le n w (41 ∷ r) m.1))
+
+-- a number sign at a token is none that anything goes on with
+number_sign_lead : (g : Stage) (cs : List ℕ) → is_first is_number_sign cs ≡ true → lead_at cs g 0 ≡ lead.LeftOut form.Continuation
+unfolding lead_at lead_of operator_of longest is_first
+number_sign_lead g [] h = absurd (true≢false (sym h))
+number_sign_lead g (c ∷ cs) h = let is : c ≡ 35 = eqb-true c 35 h in subst (λ d. lead_at (d ∷ cs) g 0 ≡ lead.LeftOut form.Continuation) (sym is) (here (some_byte 35 cs))
+  where
+    here : nat_le (length (35 ∷ cs)) 0 ≡ false → lead_at (35 ∷ cs) g 0 ≡ lead.LeftOut form.Continuation
+    here e = rw e refl
+
+pub lead_is_no_sign : (f : Lead → Bool) (b : List ℕ) (g : Stage) (i : ℕ) → f (lead.LeftOut form.Continuation) ≡ false → f (lead_at b g i) ≡ true → is_first is_number_sign (drop i b) ≡ false
+lead_is_no_sign f b g i none h = by_bool (is_first is_number_sign (drop i b))
+    (λ is. absurd (true≢false (sym h ∙ ap f (lead_front b g i ∙ number_sign_lead g (drop i b) is) ∙ none)))
+    (λ other. other)
+
+-- a name begins with no number sign
+pub name_is_no_sign : (b : List ℕ) (i : ℕ) → is_name (bare_word b i) ≡ true → is_first is_number_sign (drop i b) ≡ false
+unfolding bare_word is_first
+name_is_no_sign b i h = go (drop i b) (run is_bare (drop i b)) (ends_joined (drop (run is_bare (drop i b)) (drop i b))) h
+  where
+    go : (cs : List ℕ) (n : ℕ) (t : Bool) → is_name (if t then take n cs else []) ≡ true → is_first is_number_sign cs ≡ false
+    go cs n false k = absurd (true≢false (sym k))
+    go [] n true k = refl
+    go (c ∷ cs) zero true k = absurd (true≢false (sym k))
+    go (c ∷ cs) (suc n) true k = by_bool (c == 35)
+        (λ is. let sign : c ≡ 35 = eqb-true c 35 is in absurd (true≢false (sym (and_parts (is_name_start c) _ k).0 ∙ ap is_name_start sign)))
+        (λ other. other)

@@ -1,3 +1,12 @@
+pub mod LeadsWords
+pub mod Readings
+pub mod LinesDocuments
+pub mod CommandsScripts
+pub mod Commands
+pub mod CommandsMove
+pub mod CommandsDocuments
+pub mod CommandsReady
+pub mod CommandsTokens
 pub mod Inside
 pub mod Leads
 pub mod Blanks

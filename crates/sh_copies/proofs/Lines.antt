@@ -15,7 +15,7 @@ use Rattle.sh_copies.proofs.AlikeBytes.{by_bool}
 
 -- Lines
 
-newline_ends : (joins : Bool) (c : ℕ) (cs : List ℕ) → is_newline c ≡ true → line_length joins (c ∷ cs) ≡ 0
+pub newline_ends : (joins : Bool) (c : ℕ) (cs : List ℕ) → is_newline c ≡ true → line_length joins (c ∷ cs) ≡ 0
 unfolding line_length
 newline_ends joins c [] h = cond-true _ _ _ h
 newline_ends joins c (d ∷ cs) h = cond-true _ _ _ h
@@ -188,3 +188,11 @@ module _ (m : Mark) where
       → end_line m b' j ≡ Some (span (j + length v) (j + length v + length e))
   unfolding end_line
   end_line_again b b' i j v e t t' l h start end there here long some = again (length b) (length b') b b' i j v e t t' l h start end there here long some (omega arith)
+
+  pub end_line_is : (b : List ℕ) (i : ℕ) (l : Span) → end_line m b i ≡ Some l → IsEnd b i l
+  unfolding end_line
+  end_line_is b i l h = found_is (length b) b i l h
+
+  -- it begins in the text
+  pub end_line_inside : (b : List ℕ) (i : ℕ) (l : Span) → end_line m b i ≡ Some l → l.start < length b
+  end_line_inside b i l h = (end_line_is b i l h).inside
