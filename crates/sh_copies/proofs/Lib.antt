@@ -33,5 +33,6 @@ pub mod WordsKept
 pub mod WordsMove
 pub mod WordsOuter
 pub mod WordsTokens
+pub mod WordsWhole
 pub mod CopiedMarks
 pub mod CopiedTokens
