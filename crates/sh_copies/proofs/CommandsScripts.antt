@@ -1,6 +1,6 @@
 -- The commands of a substitution are read wherever their bytes stand, up to what closes them.
 -- POSIX.1-2024, XCU 2.6.3 (command substitution).
-use Rattle.std.proofs.Common.{◌≡◌, ℕ, ◌+◌, ◌-◌, ◌<◌, ◌≤◌, ◌==◌, Bool, true, false, List, [], ◌∷◌, ◌++◌, length, drop, take, ◌⊎◌, inl, inr, refl, sym, ap, ◌∙◌, subst, arith, eqb-true, append_assoc, ⊎_elim}
+use Rattle.std.proofs.Common.{◌≡◌, ℕ, ◌+◌, ◌-◌, ◌<◌, ◌≤◌, ◌==◌, true, List, [], ◌∷◌, ◌++◌, drop, take, ◌⊎◌, inl, inr, refl, sym, ap, ◌∙◌, subst, arith, eqb-true, append_assoc, ⊎_elim}
 use Rattle.std.proofs.lemmas.Bool.{true≢false}
 use Rattle.std.proofs.lemmas.List.{drop-drop, drop-append-le, take-append-drop, length-take-le}
 use Rattle.sh_tree.specs.declared.tree.Script.{Script}
@@ -9,10 +9,10 @@ use Rattle.sh_tree.specs.standard.language.Bytes.{is_first}
 use Rattle.sh_tree.specs.standard.language.Commands.{blanks}
 use Rattle.sh_tree.specs.standard.language.Reading as r
 use Rattle.sh_tree.specs.standard.language.Reading.{ReadsScript}
-use Rattle.sh_tree.specs.standard.language.States.{Spot, State, nth, to, within, waits}
+use Rattle.sh_tree.specs.standard.language.States.{Spot, nth, to, within, waits}
 use Rattle.sh_reads.proofs.MoveLemmas.{blanks_move}
 use Rattle.sh_copies.proofs.Commands.{sequence_moves}
-use Rattle.sh_copies.proofs.CommandsMove.{FoundState, before}
+use Rattle.sh_copies.proofs.CommandsMove.{before}
 use Rattle.sh_copies.proofs.CommandsReady.{closed_no_sign, sequence_sign}
 use Rattle.sh_copies.proofs.CommandsTokens.{Closing, Ahead, Ready, MovedState, blanks_same}
 use Rattle.sh_copies.proofs.Copies.{Copied, Closed, Place, Moved, Found, limit_of, WordsMove, PartsMove, ScriptsMove}
@@ -63,31 +63,31 @@ pub scripts_move : {limit n : ℕ} → WordsMove limit n → PartsMove limit n �
 unfolding is_closed
 scripts_move {limit} {n} words parts = record {
   script = λ {b} {b'} c {s} {s'} {u} {t} m reads size inside end. ⊎_elim
-  (λ same. script_moves words parts c (inl same) m reads size inside (inl same))
-  (λ closed.
-  let first = blanks_move s.joins b s.at in
-  let second = script_forward reads in
-  let at = m.place.at in
-  let k = u.at - c.from in
-  let there : drop u.at b ≡ drop k c.w ++ c.rest =
-  ap (λ z. drop z b) (let z : u.at ≡ c.from + k = omega arith in z) ∙ sym (drop-drop k c.from b) ∙ ap (drop k) c.there ∙ drop-append-le k c.w c.rest (omega arith) in
-  let closing = closing_rest (drop k c.w) c.rest c.rest' c.edge (ap (is_first (λ z. z == 41)) (sym there) ∙ closed) in
-  let cut = cut_copy c k closing in
-  let long = length-take-le k c.w (omega arith) in
-  let moved : Moved cut s s' = record { place = record { by = m.place.by; at = m.place.at; at' = m.place.at' }; depth = m.depth; joins = m.joins; tabs = m.tabs; quiet = m.quiet } in
-  let found = script_moves words parts cut (inr closing) moved reads size (omega arith) (inr (closed_no_sign b u.at closed)) in
-  record {
-    to = found.to;
-    tree = found.tree;
-    moved = record {
-      place = record { by = found.moved.place.by; at = found.moved.place.at; at' = found.moved.place.at' };
-      depth = found.moved.depth;
-      joins = found.moved.joins;
-      tabs = found.moved.tabs;
-      quiet = found.moved.quiet;
-    };
-    keeps = tt;
-    reads = found.reads;
-  })
-  end;
+      (λ same. script_moves words parts c (inl same) m reads size inside (inl same))
+      (λ closed.
+      let first = blanks_move s.joins b s.at in
+      let second = script_forward reads in
+      let at = m.place.at in
+      let k = u.at - c.from in
+      let there : drop u.at b ≡ drop k c.w ++ c.rest =
+      ap (λ z. drop z b) (let z : u.at ≡ c.from + k = omega arith in z) ∙ sym (drop-drop k c.from b) ∙ ap (drop k) c.there ∙ drop-append-le k c.w c.rest (omega arith) in
+      let closing = closing_rest (drop k c.w) c.rest c.rest' c.edge (ap (is_first (λ z. z == 41)) (sym there) ∙ closed) in
+      let cut = cut_copy c k closing in
+      let long = length-take-le k c.w (omega arith) in
+      let moved : Moved cut s s' = record { place = record { by = m.place.by; at = m.place.at; at' = m.place.at' }; depth = m.depth; joins = m.joins; tabs = m.tabs; quiet = m.quiet } in
+      let found = script_moves words parts cut (inr closing) moved reads size (omega arith) (inr (closed_no_sign b u.at closed)) in
+      record {
+        to = found.to;
+        tree = found.tree;
+        moved = record {
+          place = record { by = found.moved.place.by; at = found.moved.place.at; at' = found.moved.place.at' };
+          depth = found.moved.depth;
+          joins = found.moved.joins;
+          tabs = found.moved.tabs;
+          quiet = found.moved.quiet;
+        };
+        keeps = tt;
+        reads = found.reads;
+      })
+      end;
 }

@@ -1,3 +1,5 @@
+pub mod LeadsWords
+pub mod Readings
 pub mod LinesDocuments
 pub mod CommandsScripts
 pub mod Commands
@@ -29,7 +31,9 @@ pub mod WordsCommands
 pub mod WordsFound
 pub mod WordsKept
 pub mod WordsMove
+pub mod WordsOuter
 pub mod WordsTokens
+pub mod WordsWhole
 pub mod CopiedMarks
 pub mod CopiedBare
 pub mod CopiedLeads
