@@ -1,6 +1,6 @@
 -- Where a whole word may be cut: behind bytes that mean no more than themselves stands no lone backslash, no continuation and no last backquote.
 -- POSIX.1-2024, XCU 2.2 (quoting), 2.3 (token recognition).
-use Rattle.std.proofs.Common.{◌≡◌, ℕ, zero, suc, ◌+◌, ◌-◌, ◌≤◌, ◌<◌, ◌==◌, Bool, true, false, not, ◌&&◌, ◌||◌, if◌then◌else◌, List, [], ◌∷◌, ◌++◌, length, drop, take, ◌⊎◌, inl, inr, refl, sym, ap, subst, ◌∙◌, arith, eqb-true, length-drop, ⊎_elim}
+use Rattle.std.proofs.Common.{◌≡◌, ℕ, zero, suc, ◌+◌, ◌-◌, ◌≤◌, ◌<◌, ◌==◌, Bool, true, false, not, ◌&&◌, ◌||◌, if◌then◌else◌, List, [], ◌∷◌, ◌++◌, length, drop, take, nat_lt, ◌⊎◌, inl, inr, refl, sym, ap, subst, ◌∙◌, arith, eqb-true, length-drop, ⊎_elim}
 use Rattle.std.proofs.lemmas.Bool.{cond-true, cond-false, cond_both, true≢false, and_parts, cases_lt}
 use Rattle.std.proofs.lemmas.Bool.Decides.{nat_tests}
 use Rattle.std.proofs.lemmas.List.{drop-drop, drop-append-le, drop_all}
@@ -13,13 +13,16 @@ use Rattle.sh_tree.specs.declared.token.word.Site.TheVariants as site
 use Rattle.sh_tree.specs.standard.language.Bytes.{is_newline, is_backslash, ends_token, is_first, is_last_backquote, is_joined, run, joined_length}
 use Rattle.sh_tree.specs.standard.language.Commands.{is_bare}
 use Rattle.sh_tree.specs.standard.language.Reading as r
-use Rattle.sh_tree.specs.standard.language.Reading.{ReadsParts}
+use Rattle.sh_tree.specs.standard.language.Reading.{after, sign_at, prior_of, ReadsParts, ReadsPart}
 use Rattle.sh_tree.specs.standard.language.States.{Spot}
 use Rattle.sh_tree.specs.standard.language.Words as words
 use Rattle.sh_reads.proofs.TakeLemmas.{is_part, token_takes, token_moves, part_begins}
-use Rattle.sh_copies.proofs.AlikeBytes.{by_bool, run_yes, run_no}
-use Rattle.sh_copies.proofs.Boundary.{outer, loose, no_literal}
+use Rattle.sh_reads.proofs.BeginningLemmas.{dollar_goes}
+use Rattle.sh_copies.proofs.AlikeBytes.{by_bool, run_yes, run_no, zero_not}
+use Rattle.sh_copies.proofs.AlikeTokens.{is_stop, goes_no_stop}
+use Rattle.sh_copies.proofs.Boundary.{outer, loose, no_literal, lone_none}
 use Rattle.sh_copies.proofs.Fronts.{never}
+use Rattle.sh_copies.proofs.WordsTokens.{stop_size, tabs_strip}
 use Rattle.sh_copies.proofs.Forward.{parts_forward, part_forward}
 
 -- a backslash or a backquote
@@ -35,6 +38,15 @@ run_less p q within [] = omega arith
 run_less p q within (c ∷ cs) = by_bool (p c)
     (λ is. let a = run_yes p c cs is in let b = run_yes q c cs (within c is) in let rest = run_less p q within cs in omega arith)
     (λ other. let a = run_no p c cs other in omega arith)
+
+-- what is left of a run behind k bytes
+run_rest : (p : ℕ → Bool) (v : List ℕ) (k m : ℕ) → k ≤ m → m ≤ run p v → m - k ≤ run p (drop k v)
+run_rest p v zero m h l = omega arith
+run_rest p [] (suc k) m h l = omega arith
+run_rest p (c ∷ v) (suc k) zero h l = absurd (omega arith)
+run_rest p (c ∷ v) (suc k) (suc m) h l = by_bool (p c)
+    (λ is. let e = run_yes p c v is in let rest = run_rest p v k m (omega arith) (omega arith) in omega arith)
+    (λ other. let e = run_no p c v other in absurd (omega arith))
 
 -- what begins with neither is not loose
 calm_first : (v r : List ℕ) → is_first odd v ≡ false → loose v r ≡ false
@@ -193,3 +205,130 @@ module _ (o : ℕ) (colons fields backquotes : Bool) where
       (λ special. cond_both {A = Sign × ℕ} (a == 126) _ _ (λ f. is_part f.0 ≡ true → Cuts a cs f)
       (λ is k. let tilde = tilde_run cs in let calm_is : calm a ≡ true = ap calm (eqb-true a 126 is) in let more = run_yes calm a cs calm_is in inl (refl, omega arith))
       (λ other k. inr (not_bare prior i a cs inside other special, meant_cuts i a cs k)))) h
+
+  -- Ends
+
+  -- where it says that a word ends, it does
+  record Tells (cs : List ℕ) (f : Sign × ℕ) : Type 0 where
+    told : is_stop f.0 ≡ true → words.ends_joined cs ≡ true
+
+  goes : {cs : List ℕ} {f : Sign × ℕ} → is_stop f.0 ≡ false → Tells cs f
+  goes h = record { told = λ k. absurd (true≢false (sym k ∙ h)) }
+
+  either_tells : {cs : List ℕ} {f g : Sign × ℕ} (t : Bool) → (t ≡ true → Tells cs f) → (t ≡ false → Tells cs g) → Tells cs (if t then f else g)
+  either_tells true h k = h refl
+  either_tells false h k = k refl
+
+  behind_pair : (cs : List ℕ) → words.ends_joined cs ≡ true → words.ends_joined (92 ∷ 10 ∷ cs) ≡ true
+  unfolding joined_length
+  behind_pair cs h =
+      let two : (n : ℕ) → drop (2 + n) (92 ∷ 10 ∷ cs) ≡ drop n cs = λ n. sym (drop-drop n 2 (92 ∷ 10 ∷ cs)) in
+      ap (λ t. length t == 0 || is_first ends_token t || is_last_backquote t) (two (joined_length cs)) ∙ h
+
+  backslash_tells : (cs : List ℕ) → Tells (92 ∷ cs) (words.backslash (outer o colons fields backquotes) cs)
+  unfolding words.backslash words.continuation
+  backslash_tells [] = goes refl
+  backslash_tells (c ∷ cs) = either_tells (is_newline c)
+      (λ line. subst (λ k. Tells (92 ∷ k ∷ cs) (if words.ends_joined cs then (sign.Stop, 0) else (sign.LeftOut form.Continuation, 0))) (sym (eqb-true c 10 line))
+      (either_tells (words.ends_joined cs) (λ e. record { told = λ k. behind_pair cs e }) (λ e. goes refl)))
+      (λ other. goes refl)
+
+  backquoted_tells : (cs : List ℕ) → Tells (96 ∷ cs) (words.backquoted (outer o colons fields backquotes) cs)
+  unfolding words.backquoted joined_length is_first is_last_backquote
+  backquoted_tells [] = record { told = λ k. refl }
+  backquoted_tells (c ∷ cs) = either_tells (length (c ∷ cs) == 0) (λ e. absurd (true≢false (sym e ∙ zero_not (length cs)))) (λ e. either_tells backquotes (λ t. goes refl) (λ t. goes refl))
+
+  single_tells : (cs ds : List ℕ) → Tells ds (words.single cs)
+  unfolding words.single
+  single_tells cs ds = either_tells (nat_lt (run (λ c. not (c == 39)) cs) (length cs)) (λ e. goes refl) (λ e. goes refl)
+
+  meant_tells : (i a : ℕ) (cs : List ℕ) → Tells (a ∷ cs) (words.meant_by (outer o colons fields backquotes) i a cs)
+  unfolding words.meant_by
+  meant_tells i a cs = either_tells (a == 92)
+      (λ e. subst (λ k. Tells (k ∷ cs) (words.backslash (outer o colons fields backquotes) cs)) (sym (eqb-true a 92 e)) (backslash_tells cs))
+      (λ e. either_tells (a == 39) (λ q. single_tells cs (a ∷ cs))
+      (λ q. either_tells (a == 34) (λ d. goes refl)
+      (λ d. either_tells (a == 96) (λ t. subst (λ k. Tells (k ∷ cs) (words.backquoted (outer o colons fields backquotes) cs)) (sym (eqb-true a 96 t)) (backquoted_tells cs))
+      (λ t. goes (goes_no_stop _ (dollar_goes (outer o colons fields backquotes) i cs))))))
+
+  stop_joined : (a : ℕ) (cs : List ℕ) → ends_token a ≡ true → words.ends_joined (a ∷ cs) ≡ true
+  unfolding is_first
+  stop_joined a cs h =
+      let none = lone_none a cs (grind (arith, nat_tests, h)) in
+      ap (λ n. length (drop n (a ∷ cs)) == 0 || is_first ends_token (drop n (a ∷ cs)) || is_last_backquote (drop n (a ∷ cs))) none
+      ∙ ap (λ t. length (a ∷ cs) == 0 || t || is_last_backquote (a ∷ cs)) h ∙ either (length (a ∷ cs) == 0)
+    where
+      either : (t : Bool) → t || true || is_last_backquote (a ∷ cs) ≡ true
+      either true = refl
+      either false = refl
+
+  sign_tells : (prior i : ℕ) (cs : List ℕ) → Tells cs (words.sign_of (outer o colons fields backquotes) prior i cs)
+  unfolding words.sign_of words.sign_by joined_length is_first is_last_backquote
+  sign_tells prior i [] = record { told = λ k. refl }
+  sign_tells prior i (a ∷ cs) = either_tells (ends_token a) (λ e. record { told = λ k. stop_joined a cs e })
+      (λ e. either_tells (words.stands (outer o colons fields backquotes) prior i a cs) (λ t. goes refl) (λ t. either_tells (a == 126) (λ d. goes refl) (λ d. meant_tells i a cs)))
+
+  module _ {limit : ℕ} {b : List ℕ} where
+    -- what is read of a whole word ends where a word does
+    pub word_ends : {prior : ℕ} {s u : Spot} {ps : List Part} → ReadsParts limit b (outer o colons fields backquotes) prior s u ps → words.ends_joined (drop u.at b) ≡ true
+    unfolding words.token
+    word_ends (r.stop {prior = prior} {s = s} h) =
+        let size = stop_size b (outer o colons fields backquotes) prior s h in
+        let here : after b (outer o colons fields backquotes) prior s ≡ s.at = omega arith in
+        ap (λ n. words.ends_joined (drop n b)) here ∙ (sign_tells prior s.at (drop s.at b)).told (ap is_stop h)
+    word_ends (r.tabs h i) = word_ends i
+    word_ends (r.more h i j) = word_ends j
+
+    flat_ends : {g : Sign} {s v : Spot} {e : ℕ} {p : Part} → ReadsPart limit b (outer o colons fields backquotes) g s e v p → is_flat g ≡ true → v.at ≡ e
+    flat_ends r.plain h = refl
+    flat_ends r.tilde h = refl
+    flat_ends r.escaped h = absurd (true≢false (sym h))
+    flat_ends r.joined h = absurd (true≢false (sym h))
+    flat_ends r.single_quoted h = absurd (true≢false (sym h))
+    flat_ends (r.double_quoted i) h = absurd (true≢false (sym h))
+    flat_ends r.value h = absurd (true≢false (sym h))
+    flat_ends r.length_value h = absurd (true≢false (sym h))
+    flat_ends (r.use_word d i) h = absurd (true≢false (sym h))
+    flat_ends (r.removal d i) h = absurd (true≢false (sym h))
+    flat_ends (r.arithmetic d i k c) h = absurd (true≢false (sym h))
+    flat_ends (r.substitution d k i c) h = absurd (true≢false (sym h))
+
+    -- behind bare bytes the word may be cut
+    pub word_cuts : {prior : ℕ} {s u : Spot} {ps : List Part} → ReadsParts limit b (outer o colons fields backquotes) prior s u ps
+        → (v t : List ℕ) → drop s.at b ≡ v ++ t → s.at + length v ≡ u.at → (m : ℕ) → m ≤ run is_bare v → loose (drop m v) t ≡ false
+    unfolding words.token loose
+    word_cuts (r.stop {prior = prior} {s = s} h) v t there long m l =
+        let size = stop_size b (outer o colons fields backquotes) prior s h in
+        ap (λ z. loose z t) (drop_all m v (omega arith))
+    word_cuts (r.tabs {prior = prior} {s = s} h i) v t there long m l = absurd (true≢false (sym (tabs_strip b (outer o colons fields backquotes) prior s h)))
+    word_cuts (r.more {prior = prior} {s = s} {u = u} {v = w} h i j) [] t there long m l =
+        let part : is_part (sign_at b (outer o colons fields backquotes) prior s) ≡ true = subst (λ g. is_part g ≡ true) (sym h) (part_begins i) in
+        let more = (token_takes b (outer o colons fields backquotes) prior s.at part).0 in
+        let first = part_forward i in
+        let second = parts_forward j in
+        absurd (omega arith)
+    word_cuts (r.more {prior = prior} {s = s} {u = u} {v = w} {g = g} h i j) (a ∷ v) t there long m l =
+        let f = words.sign_of (outer o colons fields backquotes) prior s.at (a ∷ (v ++ t)) in
+        let same : words.sign_of (outer o colons fields backquotes) prior s.at (drop s.at b) ≡ f = ap (words.sign_of (outer o colons fields backquotes) prior s.at) there in
+        let k = f.1 in
+        let size : (words.sign_of (outer o colons fields backquotes) prior s.at (drop s.at b)).1 ≡ k = ap (λ z. z.1) same in
+        let sign_is : f.0 ≡ g = sym (ap (λ z. z.0) same) ∙ h in
+        let first = part_forward i in
+        let second = parts_forward j in
+        ⊎_elim
+        (λ q. ⊎_elim
+        (λ inside. calm_inside (a ∷ v) t m (let most = q.1 in omega arith))
+        (λ past.
+        let flat = flat_ends i (ap is_flat (sym sign_is) ∙ q.0) in
+        let at : w.at ≡ s.at + k = omega arith in
+        let left = length-drop k (a ∷ v) in
+        let there' : drop w.at b ≡ drop k (a ∷ v) ++ t = ap (λ n. drop n b) at ∙ sym (drop-drop k s.at b) ∙ ap (drop k) there ∙ drop-append-le k (a ∷ v) t (omega arith) in
+        let rest = word_cuts j (drop k (a ∷ v)) t there' (omega arith) (m - k) (run_rest is_bare (a ∷ v) k m past l) in
+        let whole : k + (m - k) ≡ m = omega arith in
+        ap (λ z. loose z t) (ap (λ n. drop n (a ∷ v)) (sym whole) ∙ sym (drop-drop (m - k) k (a ∷ v))) ∙ rest)
+        (cases_lt m k))
+        (λ q.
+        let none : run is_bare (a ∷ v) ≡ 0 = run_no is_bare a v q.0 in
+        let zero_is : m ≡ 0 = omega arith in
+        ap (λ n. loose (drop n (a ∷ v)) t) zero_is ∙ q.1 (a ∷ v) t refl (omega arith) (omega arith))
+        (sign_cuts prior s.at a (v ++ t) (ap is_part sign_is ∙ part_begins i))
