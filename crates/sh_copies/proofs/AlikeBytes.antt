@@ -271,4 +271,3 @@ behind_first p cs cs' a none h = go a.w a.there a.here
     go : (w : List ℕ) → cs ≡ w ++ a.c ∷ a.r → cs' ≡ w ++ a.c ∷ a.r' → Alike (drop 1 cs) (drop 1 cs')
     go [] e f = absurd (true≢false (sym h ∙ ap (is_first p) e ∙ none a.c a.closes))
     go (d ∷ w) e f = record { w = w; c = a.c; r = a.r; r' = a.r'; closes = a.closes; there = ap (drop 1) e; here = ap (drop 1) f }
-

@@ -79,7 +79,6 @@ operator_alike p k cs cs' a = by_bool (is_first (λ c. c == 58) cs)
     rw (first_alike (λ c. c == 125) cs cs' a, first_alike (λ c. c == 58) cs cs' a, yes, action_alike true p (k + 1) (drop 1 cs) (drop 1 cs') b) refl)
     (λ other. rw (first_alike (λ c. c == 125) cs cs' a, first_alike (λ c. c == 58) cs cs' a, other, action_alike false p k cs cs' a) refl)
 
-
 numeric_size : (i : ℕ) (ds : List ℕ) (p : Subject × ℕ) → words.numeric_parameter i ds ≡ Some p → p.1 ≡ length ds
 unfolding words.numeric_parameter
 numeric_size i ds p h = go (length ds == 0) (is_first (λ c. c == 48) ds) (length ds == 1) (nat_le (length ds) 5 && nat_le (decimal 0 ds) 65535) refl h

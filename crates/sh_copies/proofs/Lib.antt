@@ -26,9 +26,13 @@ pub mod BoundarySigns
 pub mod Copies
 pub mod Forward
 pub mod Shift
+pub mod Declaring
 pub mod WordsCommands
 pub mod WordsFound
 pub mod WordsKept
 pub mod WordsMove
 pub mod WordsOuter
 pub mod WordsTokens
+pub mod WordsWhole
+pub mod CopiedMarks
+pub mod CopiedTokens

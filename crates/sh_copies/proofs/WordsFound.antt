@@ -45,8 +45,13 @@ same_location {b} {b'} c {i} {i'} {j} {j'} p q f h = by_bool (nat_le (i + 3) j)
     (λ long.
     let l = leb-true (i + 3) j long in
     let before : Place c (j - 1) (j' - 1) = record { by = q.by - 1; at = (let a = q.at in let a' = p.at in omega arith); at' = (let a = q.at' in let a' = p.at in let d = q.at in omega arith) } in
-    rw (le-leb (i' + 3) j' (let a = p.at in let a' = p.at' in let d = q.at in let d' = q.at' in omega arith), long,
-    near_first c (λ c. c == 123) p (omega arith), near_first c (λ c. c == 125) before (omega arith), near_behind c (λ c. c == 60 || c == 62) q h) refl)
+    rw (
+      le-leb (i' + 3) j' (let a = p.at in let a' = p.at' in let d = q.at in let d' = q.at' in omega arith),
+      long,
+      near_first c (λ c. c == 123) p (omega arith),
+      near_first c (λ c. c == 125) before (omega arith),
+      near_behind c (λ c. c == 60 || c == 62) q h,
+    ) refl)
     (λ other. by_bool (nat_le (i' + 3) j')
     (λ long.
     let l = leb-true (i' + 3) j' long in

@@ -48,7 +48,7 @@ use Rattle.sh_copies.proofs.WordsTokens.{is_enclosed, parts_closed, is_placed, s
 quoted_turns : {b b' : List ℕ} (c : Copied b b') (x : Context) (o' : ℕ) → is_quoted x.site ≡ true → Turns c x o'
 quoted_turns c x o' q = λ k. absurd (true≢false (sym q ∙ k))
 
-equal_far : (p q k n : ℕ) → (q + n == q + k) ≡ (p + n == p + k)
+pub equal_far : (p q k n : ℕ) → (q + n == q + k) ≡ (p + n == p + k)
 equal_far p q k n = by_bool (p + n == p + k)
     (λ yes. eq-eqb (q + n) (q + k) (let e = eqb-true (p + n) (p + k) yes in omega arith) ∙ sym yes)
     (λ other. by_bool (q + n == q + k)

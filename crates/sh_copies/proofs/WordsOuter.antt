@@ -2,6 +2,7 @@
 -- POSIX.1-2024, XCU 2.2 (quoting), 2.3 (token recognition), 2.6 (word expansions).
 use Rattle.std.proofs.Common.{◌≡◌, ℕ, zero, suc, ◌+◌, ◌-◌, ◌≤◌, ◌<◌, ◌==◌, Bool, true, false, not, ◌&&◌, ◌||◌, if◌then◌else◌, List, [], ◌∷◌, ◌++◌, length, drop, take, get_or, slice_index, ◌⊎◌, inl, inr, refl, sym, ap, subst, ◌∙◌, ⊎_elim, arith, length-drop, length-take, length-append}
 use Rattle.std.proofs.lemmas.Bool.{true≢false, and_from, eqb-true}
+use Rattle.std.proofs.lemmas.Bool.Decides.{nat_tests}
 use Rattle.std.proofs.lemmas.List.{drop-drop, drop-append-le, take-append-le, get_or-drop, append_assoc}
 use Rattle.sh_tree.specs.declared.tree.CommandStyle.TheVariants.{Paren, Backquote}
 use Rattle.sh_tree.specs.declared.tree.Part.{Part}
@@ -10,7 +11,9 @@ use Rattle.sh_tree.specs.declared.token.word.Context.{Context}
 use Rattle.sh_tree.specs.declared.token.word.Sign.{Sign}
 use Rattle.sh_tree.specs.declared.token.word.Sign.TheVariants as sign
 use Rattle.sh_tree.specs.standard.Tree.{text_of}
-use Rattle.sh_tree.specs.standard.language.Bytes.{is_first}
+use Rattle.sh_tree.specs.standard.language.Bytes.{ends_token, is_first}
+use Rattle.sh_tree.specs.standard.language.Substitutions.{commands_text}
+use Rattle.sh_reads.proofs.MoveLemmas.{blanks_move}
 use Rattle.sh_tree.specs.standard.language.Reading as reads
 use Rattle.sh_tree.specs.standard.language.Reading.{sign_at, after, prior_of, ReadsParts, ReadsPart}
 use Rattle.sh_tree.specs.standard.language.States.{Spot, to, behind}
@@ -22,12 +25,12 @@ use Rattle.sh_copies.proofs.AlikeTokens.{is_sound, is_stop, Sound, sign_alike}
 use Rattle.sh_copies.proofs.Boundary.{breaks, loose, before, is_prefix, outer, Goes, GoesAt, goes_on, loose_goes}
 use Rattle.sh_copies.proofs.BoundarySigns.{is_open, is_whole, is_value, outer_sign}
 use Rattle.sh_copies.proofs.Copies.{Copied, Closed, limit_of, Place, Moved, Turns, turned, Kept, KeptPart, Found, ExpressionsMove, ScriptsMove}
-use Rattle.sh_copies.proofs.Forward.{parts_forward, part_forward}
+use Rattle.sh_copies.proofs.Forward.{parts_forward, part_forward, script_forward}
 use Rattle.sh_copies.proofs.Shift.{placeless, Same, sign_shift}
 use Rattle.sh_copies.proofs.WordsCommands.{closing, backquotes_move}
 use Rattle.sh_copies.proofs.WordsKept.{kept_none, kept_more, kept_command}
 use Rattle.sh_copies.proofs.WordsMove.{is_flat, flat_move, flat_ends, closing_within, closing_byte, part_move, less_deep}
-use Rattle.sh_copies.proofs.WordsTokens.{same_sign, part_sound, stop_size, tabs_strip}
+use Rattle.sh_copies.proofs.WordsTokens.{prior_placeless, same_sign, part_sound, stop_size, tabs_strip}
 
 no_length : (v : List ℕ) → length v ≡ 0 → v ≡ []
 no_length [] h = refl
@@ -46,6 +49,11 @@ before_is prior (a ∷ w) r (suc n) h = before_is a w r n (omega arith)
 
 byte_at : (b : List ℕ) (i n : ℕ) (cs : List ℕ) → drop i b ≡ cs → slice_index b (i + n) ≡ get_or cs n 0
 byte_at b i n cs e = sym (get_or-drop i b n 0) ∙ ap (λ t. get_or t n 0) e
+
+front_byte : (v r r' : List ℕ) (n : ℕ) → n < length v → get_or (v ++ r') n 0 ≡ get_or (v ++ r) n 0
+front_byte [] r r' n h = absurd (omega arith)
+front_byte (a ∷ v) r r' zero h = refl
+front_byte (a ∷ v) r r' (suc n) h = front_byte v r r' n (omega arith)
 
 past : (i n : ℕ) (text v rest : List ℕ) → drop i text ≡ v ++ rest → n ≤ length v → drop (i + n) text ≡ drop n v ++ rest
 past i n text v rest there h = sym (drop-drop n i text) ∙ ap (drop n) there ∙ drop-append-le n v rest h
@@ -113,11 +121,11 @@ module _ (b b' : List ℕ) (p q o o' : ℕ) (colons fields backquotes : Bool) (r
     pub quiet : s'.quiet ≡ true → s.quiet ≡ true
 
   -- what is left of the word, up to u
-  record Rest (s s' u : Spot) (v : List ℕ) : Type 0 where
-    there : drop s.at b ≡ v ++ r
-    here : drop s'.at b' ≡ v ++ r'
-    long : s.at + length v ≡ u.at
-    along : Along s s'
+  pub record Rest (s s' u : Spot) (v : List ℕ) : Type 0 where
+    pub there : drop s.at b ≡ v ++ r
+    pub here : drop s'.at b' ≡ v ++ r'
+    pub long : s.at + length v ≡ u.at
+    pub along : Along s s'
 
   -- the token there
   record Token (prior : ℕ) (s s' : Spot) (n : ℕ) : Type 0 where
@@ -237,7 +245,7 @@ module _ (b b' : List ℕ) (p q o o' : ℕ) (colons fields backquotes : Bool) (r
   record OuterPart (limit : ℕ) (w : Spot) (z : Part) (g : Sign) (s' : Spot) (e : ℕ) : Type 0 where
     to : Spot
     tree : Part
-    along : Along w to
+    pub along : Along w to
     keeps : KeptPart b b' z tree
     reads : ReadsPart limit b' y g s' e to tree
 
@@ -285,3 +293,114 @@ module _ (b b' : List ℕ) (p q o o' : ℕ) (colons fields backquotes : Bool) (r
         let place : Place c e e' = record { by = n; at = end; at' = end' } in
         let found = part_move expressions scripts c moved turns' place (omega arith) g' same i size (omega arith) in
         record { to = found.to; tree = found.tree; along = moved_along found.moved.place.by a found.moved.place.at found.moved.place.at' found.moved.depth found.moved.joins found.moved.tabs found.moved.quiet; keeps = found.keeps; reads = found.reads }
+
+    -- between backquotes
+    back_there : {s s' w u : Spot} {g : Sign} {z : Part} (v : List ℕ) (e e' n : ℕ) (g' : Sign) → Rest s s' u v → placeless g' ≡ placeless g → e ≡ s.at + n → e' ≡ s'.at + n → w.at ≤ u.at
+        → is_flat g ≡ false → (closing g == 1) ≡ false → ReadsPart limit b x g s e w z → w.at < s.at + suc m → OuterPart limit w z g' s' e'
+    back_there {s} {s'} v e e' n g' rest same end end' within flat one (reads.substitution {u = u} {style = Backquote} {t = t} d k i h) size =
+        let a = rest.along in
+        let f = script_forward i in
+        let blank = blanks_move s.joins (commands_text Backquote b e) e in
+        let long = rest.long in
+        let fits : n ≤ length v = omega arith in
+        let l = length-drop n v in
+        let found = backquotes_move scripts b b' s s' e e' false (drop n v) r r' (ap (λ i. drop i b) end ∙ past s.at n b v r rest.there fits) (ap (λ i. drop i b') end' ∙ past s'.at n b' v r' rest.here fits)
+        a.depth a.joins a.tabs a.quiet (omega arith) k i h size (omega arith) in
+        let is = same_sign (sign.Substitution Backquote) g' refl same in
+        let e1 = found.at in
+        let e2 = found.at' in
+        record {
+          to = behind (found.to.at + 1) found.to s';
+          tree = part.Command Backquote (span s'.at (found.to.at + 1)) found.tree;
+          along = moved_along (n + found.by + 1) a (omega arith) (omega arith) a.depth a.joins a.tabs a.quiet;
+          keeps = kept_command b b' (span s.at (u.at + 1)) (span s'.at (found.to.at + 1)) Backquote t found.tree;
+          reads = subst (λ k. ReadsPart limit b' y k s' e' (behind (found.to.at + 1) found.to s') (part.Command Backquote (span s'.at (found.to.at + 1)) found.tree)) (sym is)
+          (reads.substitution (less_deep s.depth s'.depth limit a.depth d) found.keeps found.reads found.closed);
+        }
+    back_there v e e' n g' rest same end end' within flat one (reads.substitution {style = Paren} d k i h) size = absurd (true≢false one)
+    back_there v e e' n g' rest same end end' within flat one reads.plain size = absurd (true≢false flat)
+    back_there v e e' n g' rest same end end' within flat one reads.escaped size = absurd (true≢false flat)
+    back_there v e e' n g' rest same end end' within flat one reads.joined size = absurd (true≢false flat)
+    back_there v e e' n g' rest same end end' within flat one reads.single_quoted size = absurd (true≢false flat)
+    back_there v e e' n g' rest same end end' within flat one reads.tilde size = absurd (true≢false flat)
+    back_there v e e' n g' rest same end end' within flat one reads.value size = absurd (true≢false flat)
+    back_there v e e' n g' rest same end end' within flat one reads.length_value size = absurd (true≢false flat)
+    back_there v e e' n g' rest same end end' within flat one (reads.double_quoted i) size = absurd (true≢false one)
+    back_there v e e' n g' rest same end end' within flat one (reads.use_word d i) size = absurd (true≢false one)
+    back_there v e e' n g' rest same end end' within flat one (reads.removal d i) size = absurd (true≢false one)
+    back_there v e e' n g' rest same end end' within flat one (reads.arithmetic d i h k) size = absurd (true≢false one)
+
+    -- the parts found there
+    pub record OuterParts (prior : ℕ) (s' u : Spot) (ps : List Part) : Type 0 where
+      pub to : Spot
+      pub tree : List Part
+      pub along : Along u to
+      pub keeps : Kept b b' ps tree
+      pub reads : ReadsParts limit b' y prior s' to tree
+
+    break_stop : (prior i : ℕ) (cs : List ℕ) → is_first breaks cs ≡ true → words.sign_of y prior i cs ≡ (sign.Stop, 0)
+    unfolding is_first words.sign_of words.sign_by
+    break_stop prior i [] h = absurd (true≢false (sym h))
+    break_stop prior i (c ∷ cs) h = let stops : ends_token c ≡ true = grind (arith, nat_tests, h) in rw stops refl
+
+    -- the plain byte before what follows a part
+    prior_there : (s s' w w' : Spot) (v : List ℕ) (k : ℕ) (g g' : Sign) → drop s.at b ≡ v ++ r → drop s'.at b' ≡ v ++ r' → w.at ≡ s.at + k → w'.at ≡ s'.at + k → 0 < k → k ≤ length v → placeless g' ≡ placeless g
+        → prior_of b' g' w'.at ≡ prior_of b g w.at
+    prior_there s s' w w' v k g g' there here at at' some within same = sym (prior_placeless b' g' w'.at) ∙ ap (λ g. prior_of b' g w'.at) same ∙ prior_placeless b' g w'.at ∙ go g
+      where
+        plain : slice_index b' (w'.at - 1) ≡ slice_index b (w.at - 1)
+        plain =
+            let one : w.at - 1 ≡ s.at + (k - 1) = omega arith in
+            let one' : w'.at - 1 ≡ s'.at + (k - 1) = omega arith in
+            ap (slice_index b') one' ∙ byte_at b' s'.at (k - 1) (v ++ r') here ∙ front_byte v r r' (k - 1) (omega arith) ∙ sym (ap (slice_index b) one ∙ byte_at b s.at (k - 1) (v ++ r) there)
+
+        go : (g : Sign) → prior_of b' g w'.at ≡ prior_of b g w.at
+        go sign.Plain = plain
+        go g = refl
+
+    pub outer_parts : {prior : ℕ} {s s' u : Spot} {ps : List Part} (v : List ℕ) → Rest s s' u v → ReadsParts limit b x prior s u ps → u.at < s.at + suc m → OuterParts prior s' u ps
+    unfolding words.token
+    outer_parts {s' = s'} v rest (reads.stop {prior = prior} {s = s} h) size =
+        let stop = stop_size b x prior s h in
+        let long = rest.long in
+        let none = no_length v (omega arith) in
+        let e : words.sign_of y prior s'.at (drop s'.at b') ≡ (sign.Stop, 0) = ap (words.sign_of y prior s'.at) (rest.here ∙ ap (λ v. v ++ r') none) ∙ break_stop prior s'.at r' edge in
+        let a = rest.along in
+        let end : after b' y prior s' ≡ s'.at + 0 = ap (λ f. s'.at + f.1) e in
+        record { to = to (after b' y prior s') s'; tree = []; along = moved_along 0 a stop end a.depth a.joins a.tabs a.quiet; keeps = kept_none b b'; reads = reads.stop (ap (λ f. f.0) e) }
+    outer_parts v rest (reads.tabs {prior = prior} {s = s} h i) size = absurd (true≢false (sym (tabs_strip b x prior s h)))
+    outer_parts {s' = s'} {u = u} v rest (reads.more {prior = prior} {s = s} {v = w} {g = g} h i j) size =
+        let k = token_moves b x prior s.at in
+        let f = part_forward i in
+        let f' = parts_forward j in
+        let t = token_there prior v rest h i j in
+        let n = (words.sign_of x prior s.at (v ++ r)).1 in
+        let g' = sign_at b' y prior s' in
+        let same : placeless g' ≡ placeless g = t.sign ∙ ap placeless h in
+        let end = t.end in
+        let long = rest.long in
+        let one = by_bool (is_flat g)
+        (λ flat. flat_there v (after b x prior s) (after b' y prior s') n g' rest same t.end t.end' (omega arith) flat i)
+        (λ more. by_bool (closing g == 1)
+        (λ closed. nested_there v (after b x prior s) (after b' y prior s') n g' rest same t.end t.end' f' (eqb-true (closing g) 1 closed) i (omega arith))
+        (λ other. back_there v (after b x prior s) (after b' y prior s') n g' rest same t.end t.end' f' more other i (omega arith))) in
+        let takes = (token_takes b x prior s.at (ap is_part h ∙ part_begins i)).0 in
+        let d = w.at - s.at in
+        let at : w.at ≡ s.at + d = omega arith in
+        let at' : one.to.at ≡ s'.at + d = (let a = rest.along.at in let a' = rest.along.at' in let c = one.along.at in let c' = one.along.at' in omega arith) in
+        let within : d ≤ length v = omega arith in
+        let left : Rest w one.to u (drop d v) = record {
+          there = ap (λ i. drop i b) at ∙ past s.at d b v r rest.there within;
+          here = ap (λ i. drop i b') at' ∙ past s'.at d b' v r' rest.here within;
+          long = let l = length-drop d v in omega arith;
+          along = one.along;
+        } in
+        let more = outer_parts (drop d v) left j (omega arith) in
+        let last = prior_there s s' w one.to v d g g' rest.there rest.here at at' (omega arith) within same in
+        record {
+          to = more.to;
+          tree = one.tree ∷ more.tree;
+          along = more.along;
+          keeps = kept_more b b' one.keeps more.keeps;
+          reads = reads.more refl one.reads (subst (λ k. ReadsParts limit b' y k one.to more.to more.tree) (sym last) more.reads);
+        }

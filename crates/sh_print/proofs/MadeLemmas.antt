@@ -1,7 +1,7 @@
 -- The bare tree of what the reading makes.
-use Rattle.std.proofs.Common.{◌≡◌, ℕ, Bool, List, ◌∷◌, map, Option, ap, ◌∙◌}
-use Rattle.sh_tree.specs.declared.tree.AndOr.{out-AndOr, out-roll-AndOr}
-use Rattle.sh_tree.specs.declared.tree.Branch.{out-roll-Branch}
+use Rattle.std.proofs.Common.{◌≡◌, ℕ, Bool, List, ◌∷◌, map, ap, ◌∙◌}
+use Rattle.sh_tree.specs.declared.tree.AndOr.{AndOr, out-AndOr, out-roll-AndOr}
+use Rattle.sh_tree.specs.declared.tree.Branch.{Branch, out-roll-Branch}
 use Rattle.sh_tree.specs.declared.tree.Clause.{Clause, out-roll-Clause}
 use Rattle.sh_tree.specs.declared.tree.ClauseEnd.{ClauseEnd}
 use Rattle.sh_tree.specs.declared.tree.Command.{Command, out-roll-Command}
@@ -21,12 +21,16 @@ use Rattle.sh_print.proofs.TreeLemmas.{script_out, pipeline_out, command_out}
 pub script_made : (b : List ℕ) (is : List Item) → script_of b (tree.script is) ≡ items_from b is
 script_made b is = script_out b (tree.script is) ∙ ap (λ x. items_from b x.items) (out-roll-Script (record { items = is }))
 
+pub item_listed : (b : List ℕ) (l : AndOr) (g : Bool) (is : List Item)
+    → items_from b (tree.item l g ∷ is) ≡ bare.more_items (pipeline_of b (out-AndOr l).first) (links_from b (out-AndOr l).rest) g (items_from b is)
+unfolding items_from
+item_listed b l g is =
+    ap (λ x. bare.more_items (pipeline_of b (out-AndOr x.list).first) (links_from b (out-AndOr x.list).rest) x.background (items_from b is)) (out-roll-Item (record { list = l; background = g }))
+
 pub item_made : (b : List ℕ) (p : Pipe) (ps : List (Link × Pipe)) (g : Bool) (is : List Item)
     → items_from b (tree.item (tree.and_or p ps) g ∷ is) ≡ bare.more_items (pipeline_of b p) (links_from b ps) g (items_from b is)
-unfolding items_from
 item_made b p ps g is =
-    ap (λ x. bare.more_items (pipeline_of b (out-AndOr x.list).first) (links_from b (out-AndOr x.list).rest) x.background (items_from b is)) (out-roll-Item (record { list = tree.and_or p ps; background = g }))
-    ∙ ap (λ x. bare.more_items (pipeline_of b x.first) (links_from b x.rest) g (items_from b is)) (out-roll-AndOr (record { first = p; rest = ps }))
+    item_listed b (tree.and_or p ps) g is ∙ ap (λ x. bare.more_items (pipeline_of b x.first) (links_from b x.rest) g (items_from b is)) (out-roll-AndOr (record { first = p; rest = ps }))
 
 pub pipe_made : (b : List ℕ) (negated : Bool) (cs : List Command) → pipeline_of b (tree.pipe negated cs) ≡ bare.pipeline negated (commands_from b cs)
 pipe_made b negated cs = pipeline_out b (tree.pipe negated cs) ∙ ap (λ x. bare.pipeline x.negated (commands_from b x.parts)) (out-roll-Pipe (record { negated = negated; parts = cs }))

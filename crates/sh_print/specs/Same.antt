@@ -2,6 +2,7 @@
 -- POSIX.1-2024, XCU 2.10 (shell grammar).
 use Rattle.std.specs.Prelude.{◌≡◌, ℕ, List}
 use Rattle.sh_tree.specs.declared.tree.Script.{Script}
+use Rattle.sh_tree.specs.standard.language.Reading.{ReadsTo}
 use Rattle.sh_print.specs.Trees.{script_of}
 use Rattle.sh_print.specs.Layout.{canon}
 
@@ -16,3 +17,7 @@ SamePrintsAlike = (b c : List ℕ) (t u : Script) → IsSame b t c u → canon b
 -- A tree of the canonical text that is the same as the tree that it was printed from prints as that text again.
 abbrev pub PrintsAgain : Type 0
 PrintsAgain = (b : List ℕ) (t u : Script) → IsSame b t (canon b t) u → canon (canon b t) u ≡ canon b t
+
+-- The canonical text of a tree that a text reads to, nested no deeper than the limit, reads to a tree that is the same, nested no deeper.
+abbrev pub ReadsBack : Type 0
+ReadsBack = (b : List ℕ) (limit count : ℕ) (t : Script) → ReadsTo b limit count t → (n : ℕ) × (u : Script) × ReadsTo (canon b t) limit n u × IsSame b t (canon b t) u
