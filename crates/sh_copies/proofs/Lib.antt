@@ -34,5 +34,6 @@ pub mod WordsMove
 pub mod WordsOuter
 pub mod WordsTokens
 pub mod WordsWhole
+pub mod WordsCopied
 pub mod CopiedMarks
 pub mod CopiedTokens
