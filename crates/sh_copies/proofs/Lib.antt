@@ -36,4 +36,6 @@ pub mod WordsTokens
 pub mod WordsWhole
 pub mod WordsCopied
 pub mod CopiedMarks
+pub mod CopiedBare
+pub mod CopiedLeads
 pub mod CopiedTokens
