@@ -1,3 +1,4 @@
+pub mod LeadsOuter
 pub mod LeadsWords
 pub mod Readings
 pub mod LinesDocuments
