@@ -17,9 +17,7 @@ use Rattle.sh_tree.specs.standard.language.Reading.{after, sign_at, prior_of, Re
 use Rattle.sh_tree.specs.standard.language.States.{Spot}
 use Rattle.sh_tree.specs.standard.language.Words as words
 use Rattle.sh_reads.proofs.TakeLemmas.{is_part, token_takes, token_moves, part_begins}
-use Rattle.sh_reads.proofs.BeginningLemmas.{dollar_goes}
 use Rattle.sh_copies.proofs.AlikeBytes.{by_bool, run_yes, run_no, zero_not}
-use Rattle.sh_copies.proofs.AlikeTokens.{is_stop, goes_no_stop}
 use Rattle.sh_copies.proofs.Boundary.{outer, loose, no_literal, lone_none}
 use Rattle.sh_copies.proofs.Fronts.{never}
 use Rattle.sh_copies.proofs.WordsTokens.{stop_size, tabs_strip}
@@ -227,79 +225,7 @@ module _ (o : ℕ) (colons fields backquotes : Bool) where
       (λ is k. let tilde = tilde_run cs in let calm_is : calm a ≡ true = ap calm (eqb-true a 126 is) in let more = run_yes calm a cs calm_is in inl (refl, omega arith))
       (λ other k. inr (not_bare prior i a cs inside other special, λ v r e l some. record { tight = meant_cuts i a cs inside k v r e l some; inside = same_first v r e inside some })))) h
 
-  -- Ends
-
-  -- where it says that a word ends, it does
-  record Tells (cs : List ℕ) (f : Sign × ℕ) : Type 0 where
-    told : is_stop f.0 ≡ true → words.ends_joined cs ≡ true
-
-  goes : {cs : List ℕ} {f : Sign × ℕ} → is_stop f.0 ≡ false → Tells cs f
-  goes h = record { told = λ k. absurd (true≢false (sym k ∙ h)) }
-
-  either_tells : {cs : List ℕ} {f g : Sign × ℕ} (t : Bool) → (t ≡ true → Tells cs f) → (t ≡ false → Tells cs g) → Tells cs (if t then f else g)
-  either_tells true h k = h refl
-  either_tells false h k = k refl
-
-  behind_pair : (cs : List ℕ) → words.ends_joined cs ≡ true → words.ends_joined (92 ∷ 10 ∷ cs) ≡ true
-  unfolding joined_length
-  behind_pair cs h =
-      let two : (n : ℕ) → drop (2 + n) (92 ∷ 10 ∷ cs) ≡ drop n cs = λ n. sym (drop-drop n 2 (92 ∷ 10 ∷ cs)) in
-      ap (λ t. length t == 0 || is_first ends_token t || is_last_backquote t) (two (joined_length cs)) ∙ h
-
-  backslash_tells : (cs : List ℕ) → Tells (92 ∷ cs) (words.backslash (outer o colons fields backquotes) cs)
-  unfolding words.backslash words.continuation
-  backslash_tells [] = goes refl
-  backslash_tells (c ∷ cs) = either_tells (is_newline c)
-      (λ line. subst (λ k. Tells (92 ∷ k ∷ cs) (if words.ends_joined cs then (sign.Stop, 0) else (sign.LeftOut form.Continuation, 0))) (sym (eqb-true c 10 line))
-      (either_tells (words.ends_joined cs) (λ e. record { told = λ k. behind_pair cs e }) (λ e. goes refl)))
-      (λ other. goes refl)
-
-  backquoted_tells : (cs : List ℕ) → Tells (96 ∷ cs) (words.backquoted (outer o colons fields backquotes) cs)
-  unfolding words.backquoted joined_length is_first is_last_backquote
-  backquoted_tells [] = record { told = λ k. refl }
-  backquoted_tells (c ∷ cs) = either_tells (length (c ∷ cs) == 0) (λ e. absurd (true≢false (sym e ∙ zero_not (length cs)))) (λ e. either_tells backquotes (λ t. goes refl) (λ t. goes refl))
-
-  single_tells : (cs ds : List ℕ) → Tells ds (words.single cs)
-  unfolding words.single
-  single_tells cs ds = either_tells (nat_lt (run (λ c. not (c == 39)) cs) (length cs)) (λ e. goes refl) (λ e. goes refl)
-
-  meant_tells : (i a : ℕ) (cs : List ℕ) → Tells (a ∷ cs) (words.meant_by (outer o colons fields backquotes) i a cs)
-  unfolding words.meant_by
-  meant_tells i a cs = either_tells (a == 92)
-      (λ e. subst (λ k. Tells (k ∷ cs) (words.backslash (outer o colons fields backquotes) cs)) (sym (eqb-true a 92 e)) (backslash_tells cs))
-      (λ e. either_tells (a == 39) (λ q. single_tells cs (a ∷ cs))
-      (λ q. either_tells (a == 34) (λ d. goes refl)
-      (λ d. either_tells (a == 96) (λ t. subst (λ k. Tells (k ∷ cs) (words.backquoted (outer o colons fields backquotes) cs)) (sym (eqb-true a 96 t)) (backquoted_tells cs))
-      (λ t. goes (goes_no_stop _ (dollar_goes (outer o colons fields backquotes) i cs))))))
-
-  stop_joined : (a : ℕ) (cs : List ℕ) → ends_token a ≡ true → words.ends_joined (a ∷ cs) ≡ true
-  unfolding is_first
-  stop_joined a cs h =
-      let none = lone_none a cs (grind (arith, nat_tests, h)) in
-      ap (λ n. length (drop n (a ∷ cs)) == 0 || is_first ends_token (drop n (a ∷ cs)) || is_last_backquote (drop n (a ∷ cs))) none
-      ∙ ap (λ t. length (a ∷ cs) == 0 || t || is_last_backquote (a ∷ cs)) h ∙ either (length (a ∷ cs) == 0)
-    where
-      either : (t : Bool) → t || true || is_last_backquote (a ∷ cs) ≡ true
-      either true = refl
-      either false = refl
-
-  sign_tells : (prior i : ℕ) (cs : List ℕ) → Tells cs (words.sign_of (outer o colons fields backquotes) prior i cs)
-  unfolding words.sign_of words.sign_by joined_length is_first is_last_backquote
-  sign_tells prior i [] = record { told = λ k. refl }
-  sign_tells prior i (a ∷ cs) = either_tells (ends_token a) (λ e. record { told = λ k. stop_joined a cs e })
-      (λ e. either_tells (words.stands (outer o colons fields backquotes) prior i a cs) (λ t. goes refl) (λ t. either_tells (a == 126) (λ d. goes refl) (λ d. meant_tells i a cs)))
-
   module _ {limit : ℕ} {b : List ℕ} where
-    -- what is read of a whole word ends where a word does
-    pub word_ends : {prior : ℕ} {s u : Spot} {ps : List Part} → ReadsParts limit b (outer o colons fields backquotes) prior s u ps → words.ends_joined (drop u.at b) ≡ true
-    unfolding words.token
-    word_ends (r.stop {prior = prior} {s = s} h) =
-        let size = stop_size b (outer o colons fields backquotes) prior s h in
-        let here : after b (outer o colons fields backquotes) prior s ≡ s.at = omega arith in
-        ap (λ n. words.ends_joined (drop n b)) here ∙ (sign_tells prior s.at (drop s.at b)).told (ap is_stop h)
-    word_ends (r.tabs h i) = word_ends i
-    word_ends (r.more h i j) = word_ends j
-
     flat_ends : {g : Sign} {s v : Spot} {e : ℕ} {p : Part} → ReadsPart limit b (outer o colons fields backquotes) g s e v p → is_flat g ≡ true → v.at ≡ e
     flat_ends r.plain h = refl
     flat_ends r.tilde h = refl

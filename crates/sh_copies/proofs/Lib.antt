@@ -1,3 +1,4 @@
+pub mod LeadsOuter
 pub mod LeadsWords
 pub mod Readings
 pub mod LinesDocuments
@@ -34,6 +35,7 @@ pub mod WordsMove
 pub mod WordsOuter
 pub mod WordsTokens
 pub mod WordsWhole
+pub mod WordsCopied
 pub mod CopiedMarks
 pub mod CopiedBare
 pub mod CopiedLeads
