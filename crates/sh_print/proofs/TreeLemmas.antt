@@ -83,27 +83,25 @@ pub kind_of-Subshell : (b : List ℕ) (t : Script) → kind_of b (kind.Subshell 
 unfolding script_of
 kind_of-Subshell b t = refl
 
-otherwise_from : List ℕ → Option Script → bare.Otherwise
+abbrev pub otherwise_from : List ℕ → Option Script → bare.Otherwise
 otherwise_from b None = bare.no_else
 otherwise_from b (Some t) = bare.else_of (script_of b t)
 
 otherwise_row : (b : List ℕ) (o : Option Script) → otherwise_of b (back-Kind-Cond-1 o) ≡ otherwise_from b o
-unfolding script_of otherwise_from
+unfolding script_of
 otherwise_row b None = refl
 otherwise_row b (Some t) = refl
 
-kind_of-Cond : (b : List ℕ) (bs : List Branch) (o : Option Script) → kind_of b (kind.Cond bs o) ≡ bare.Conditional (branches_from b bs) (otherwise_from b o)
+pub kind_of-Cond : (b : List ℕ) (bs : List Branch) (o : Option Script) → kind_of b (kind.Cond bs o) ≡ bare.Conditional (branches_from b bs) (otherwise_from b o)
 unfolding script_of
 kind_of-Cond b bs o =
     ap (λ x. bare.Conditional x (otherwise_of b (back-Kind-Cond-1 o))) (branches_listed b (hidden-the_row-Branch-4 bs) ∙ ap (branches_from b) (items_hidden-the_row-Branch-4 bs))
     ∙ ap (bare.Conditional (branches_from b bs)) (otherwise_row b o)
 
 pub kind_of-if : (b : List ℕ) (bs : List Branch) → kind_of b (kind.Cond bs None) ≡ bare.Conditional (branches_from b bs) bare.no_else
-unfolding otherwise_from
 kind_of-if b bs = kind_of-Cond b bs None
 
 pub kind_of-else : (b : List ℕ) (bs : List Branch) (t : Script) → kind_of b (kind.Cond bs (Some t)) ≡ bare.Conditional (branches_from b bs) (bare.else_of (script_of b t))
-unfolding otherwise_from
 kind_of-else b bs t = kind_of-Cond b bs (Some t)
 
 pub kind_of-Loop : (b : List ℕ) (k : LoopKind) (c t : Script) → kind_of b (kind.Loop k c t) ≡ bare.Loop k (script_of b c) (script_of b t)

@@ -2,6 +2,7 @@
 -- POSIX.1-2024, XCU 2.10 (shell grammar).
 use Rattle.std.specs.Prelude.{◌≡◌, ℕ, List}
 use Rattle.sh_tree.specs.declared.tree.Script.{Script}
+use Rattle.sh_tree.specs.standard.language.Reading.{ReadsTo}
 use Rattle.sh_print.specs.Trees.{script_of}
 use Rattle.sh_print.specs.Layout.{canon}
 
@@ -16,3 +17,11 @@ SamePrintsAlike = (b c : List ℕ) (t u : Script) → IsSame b t c u → canon b
 -- A tree of the canonical text that is the same as the tree that it was printed from prints as that text again.
 abbrev pub PrintsAgain : Type 0
 PrintsAgain = (b : List ℕ) (t u : Script) → IsSame b t (canon b t) u → canon (canon b t) u ≡ canon b t
+
+-- If the text b reads to t, nested no deeper than the limit, then the text c reads to a tree that is the same, nested no deeper.
+abbrev pub IsReadBack : (b : List ℕ) → Script → (c : List ℕ) → Type 0
+IsReadBack b t c = (limit count : ℕ) → ReadsTo b limit count t → (n : ℕ) × (u : Script) × ReadsTo c limit n u × IsSame b t c u
+
+-- The canonical text of a tree that a text reads to is read again, as a tree that is the same.
+abbrev pub ReadsBack : Type 0
+ReadsBack = (b : List ℕ) (t : Script) → IsReadBack b t (canon b t)
