@@ -2,7 +2,7 @@
 """Measures shset beside other readers of shell scripts.
 
 Makes scripts of 10 KB, 100 KB and 1 MB, straight ones and ones of each kind of words, and prints for each the processor time and
-the peak memory of `shset lint`, `dash -n`, `shfmt` and, of straight ones, `shellcheck`, their ratios to shset's, and how they grew
+the peak memory of `shset lint`, `shset print`, `dash -n`, `shfmt` and, of straight ones, `shellcheck`, their ratios to shset's, and how they grew
 from the script a tenth as long: by 10 at most if they are linear in the text. All of them read a script whole, whether shset goes
 on to analyse it or not. A script of short lines is 130 KB long in place of 1 MB, one of
 pipelines 240 KB, and one of functions or nested loops 540 KB, since there may be no more commands. Kinds can be
@@ -232,6 +232,7 @@ def best(words):
 
 def tools(kind, path):
     yield "shset lint", [PROGRAM, "lint", path]
+    yield "shset print", [PROGRAM, "print", path]
     yield "shset cert", [PROGRAM, "cert", path]
     with open(path + ".cert", "wb") as file:
         try:
