@@ -14,7 +14,7 @@ use Rattle.sh_tree.specs.declared.token.word.Sign.TheVariants as sign
 use Rattle.sh_tree.specs.standard.language.Bytes.{is_tab, is_name_start, is_name_byte, is_first, is_joined, ends_token, name_length, run}
 use Rattle.sh_tree.specs.standard.language.Words as words
 use Rattle.sh_reads.proofs.BeginningLemmas.{ends, dollar_goes}
-use Rattle.sh_copies.proofs.AlikeBytes.{is_closer, closer_plain, neither, by_bool, run_inside, run_yes, run_no, Alike, first_alike, joined_alike, some_alike, last_alike, by_first, run_alike, behind_run, past_joined}
+use Rattle.sh_copies.proofs.AlikeBytes.{is_closer, closer_plain, neither, by_bool, run_inside, Alike, first_alike, joined_alike, some_alike, last_alike, by_first, run_alike, behind_run, past_joined}
 use Rattle.sh_copies.proofs.AlikePlain.{stands_alike, closer_stands, plain_yes, plain_alike, tilde_alike}
 use Rattle.sh_copies.proofs.AlikeSigns.{name_alike, named_alike, braced_alike, parenthesis_alike}
 
