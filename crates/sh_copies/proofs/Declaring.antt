@@ -43,7 +43,7 @@ is_stop _ = false
 abbrev stops : Sign × ℕ → Bool
 stops f = is_stop f.0
 
-token_first : (c : ℕ) (cs : List ℕ) → ends_token c ≡ true → words.ends_joined (c ∷ cs) ≡ true
+pub token_first : (c : ℕ) (cs : List ℕ) → ends_token c ≡ true → words.ends_joined (c ∷ cs) ≡ true
 unfolding joined_length is_first
 token_first c [] h = grind (arith, nat_tests, h)
 token_first c (d ∷ cs) h =
@@ -146,12 +146,12 @@ parts_end word (r.more is part others) = parts_end word others
 
 -- What may end a word
 
-data Edge (c : ℕ) (cs : List ℕ) : Type 0 where
+pub data Edge (c : ℕ) (cs : List ℕ) : Type 0 where
   token : ends_token c ≡ true → Edge c cs
   joined : (d : ℕ) (ds : List ℕ) → cs ≡ d ∷ ds → (c == 92) ≡ true → is_newline d ≡ true → words.ends_joined ds ≡ true → Edge c cs
   last : (c == 96) ≡ true → cs ≡ [] → Edge c cs
 
-edge : (c : ℕ) (cs : List ℕ) → words.ends_joined (c ∷ cs) ≡ true → Edge c cs
+pub edge : (c : ℕ) (cs : List ℕ) → words.ends_joined (c ∷ cs) ≡ true → Edge c cs
 unfolding joined_length is_first is_last_backquote
 edge c [] h = by_bool (ends_token c) (λ yes. Edge.token yes) (λ no. Edge.last (grind (arith, nat_tests, h, no)) refl)
 edge c (d ∷ ds) h = by_bool (is_backslash c && is_newline d)
@@ -177,7 +177,7 @@ last_false true true false w h = refl
 last_false true false v w h = refl
 last_false false u v w h = refl
 
-edge_stands : (x : Context) (prior i c : ℕ) (cs : List ℕ) → x.site ≡ site.Word → Edge c cs → words.stands x prior i c cs ≡ false
+pub edge_stands : (x : Context) (prior i c : ℕ) (cs : List ℕ) → x.site ≡ site.Word → Edge c cs → words.stands x prior i c cs ≡ false
 unfolding is_first
 edge_stands x prior i c cs word (Edge.token h) = word_stands x prior i c cs word ∙ rw h refl
 edge_stands x prior i c cs word (Edge.joined d ds is back line more) =
@@ -218,7 +218,7 @@ edge_stop x prior i c cs word strip (Edge.last quote none) =
     let e : words.sign_by x prior i c cs ≡ words.backquoted x cs = rw (k, stripped, stands, tilde, back, single, double, quote) refl in
     e ∙ ap (words.backquoted x) none ∙ rw w refl
 
-ends_stop : (x : Context) (prior i : ℕ) (cs : List ℕ) → x.site ≡ site.Word → x.strip ≡ false → words.ends_joined cs ≡ true → words.sign_of x prior i cs ≡ (sign.Stop, 0)
+pub ends_stop : (x : Context) (prior i : ℕ) (cs : List ℕ) → x.site ≡ site.Word → x.strip ≡ false → words.ends_joined cs ≡ true → words.sign_of x prior i cs ≡ (sign.Stop, 0)
 unfolding words.sign_of
 ends_stop x prior i [] word strip h = ap (λ s. (words.sign_at_end s, 0)) word
 ends_stop x prior i (c ∷ cs) word strip h = edge_stop x prior i c cs word strip (edge c cs h)
@@ -251,7 +251,7 @@ name_sign x prior i c t rest word strip h e =
     let stripped : words.is_stripped x prior c ≡ false = rw strip refl in
     rw (k, stripped, stands) (ap (λ n. (sign.Plain, n)) (name_plain x prior i (c ∷ t) rest word strip h e))
 
-edge_bare : (c : ℕ) (cs : List ℕ) → Edge c cs → is_bare c ≡ false
+pub edge_bare : (c : ℕ) (cs : List ℕ) → Edge c cs → is_bare c ≡ false
 edge_bare c cs (Edge.token h) = rw h refl
 edge_bare c cs (Edge.joined d ds is back line more) = subst (λ n. is_bare n ≡ false) (sym (eqb-true c 92 back)) refl
 edge_bare c cs (Edge.last quote none) = subst (λ n. is_bare n ≡ false) (sym (eqb-true c 96 quote)) refl

@@ -35,5 +35,8 @@ pub mod WordsMove
 pub mod WordsOuter
 pub mod WordsTokens
 pub mod WordsWhole
+pub mod WordsCopied
 pub mod CopiedMarks
+pub mod CopiedBare
+pub mod CopiedLeads
 pub mod CopiedTokens
