@@ -160,12 +160,14 @@ word_there limit b b' role s s' u ps text rest joins tabs i long there ends here
     let behind_it : drop found.to.at b' ≡ rest = ap (λ j. drop j b') end ∙ sym (drop-drop (length text) s'.at b') ∙ ap (drop (length text)) here ∙ drop-append_seam text rest in
     let location = no_location b' s'.at found.to.at rest behind_it behind.ends in
     let whole : ReadsWord limit b' (outer (s'.at + c.far) c.colons c.fields true) s' found.to (tree.word s'.at found.to.at found.tree) =
-    reads.whole_word found.reads (ap (λ t. not c.colons && t) location ∙ neither (not c.colons)) (ap (λ j. keeps_lines b' j found.tree) spot.joins) in
-    (found.to.count, found.tree,
-    subst (λ e. ReadsWord limit b' (context_of role b' s'.at) s' e (tree.word s'.at (s'.at + length text) found.tree)) to
-    (subst (λ j. ReadsWord limit b' (context_of role b' s'.at) s' found.to (tree.word s'.at j found.tree)) end
-    (subst (λ x. ReadsWord limit b' x s' found.to (tree.word s'.at found.to.at found.tree)) (sym c.here) whole)),
-    rw (found.keeps.text, found.keeps.quotes, found.keeps.dollar_quotes) refl)
+    reads.whole_word found.reads (ap (λ t. not c.colons && t) location ∙ neither (not c.colons)) (ap (λ j. keeps_lines b' j found.tree) spot.joins) in (
+      found.to.count,
+      found.tree,
+      subst (λ e. ReadsWord limit b' (context_of role b' s'.at) s' e (tree.word s'.at (s'.at + length text) found.tree)) to
+          (subst (λ j. ReadsWord limit b' (context_of role b' s'.at) s' found.to (tree.word s'.at j found.tree)) end
+          (subst (λ x. ReadsWord limit b' x s' found.to (tree.word s'.at found.to.at found.tree)) (sym c.here) whole)),
+      rw (found.keeps.text, found.keeps.quotes, found.keeps.dollar_quotes) refl,
+    )
 
 pub word_copied : (limit : ℕ) (b : List ℕ) (role : Role) (s u : Spot) (w : Word) → s.joins ≡ false → s.tabs ≡ false → ReadsWord limit b (context_of role b s.at) s u w
     → WordOf limit s.depth s.quiet role (form_of b w) (text_of b w.span)

@@ -27,7 +27,7 @@ use Rattle.sh_copies.proofs.WordsMove.{parts_move, part_move}
 use Rattle.sh_copies.proofs.WordsTokens.{same_token, part_sound, near_first, near_behind}
 
 -- the lines of single quotes are kept with their texts
-list_of_texts : (b : List ℕ) (ss : List Span) → list_all (λ s. not (is_split_text (text_of b s))) ss ≡ list_all (λ t. not (is_split_text t)) (map (text_of b) ss)
+pub list_of_texts : (b : List ℕ) (ss : List Span) → list_all (λ s. not (is_split_text (text_of b s))) ss ≡ list_all (λ t. not (is_split_text t)) (map (text_of b) ss)
 list_of_texts b [] = refl
 list_of_texts b (s ∷ ss) = ap (λ t. not (is_split_text (text_of b s)) && t) (list_of_texts b ss)
 

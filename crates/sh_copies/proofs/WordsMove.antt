@@ -28,7 +28,7 @@ use Rattle.sh_reads.proofs.MoveLemmas.{blanks_move}
 use Rattle.sh_copies.proofs.Arithmetic.{same_figure}
 use Rattle.sh_copies.proofs.Copies.{Copied, limit_of, Place, Moved, Turns, turned, Kept, KeptPart, Found, ExpressionsMove, ScriptsMove}
 use Rattle.sh_copies.proofs.Forward.{part_forward, expression_forward, script_forward, over_forward}
-use Rattle.sh_copies.proofs.Places.{further, moved_to, moved_deeper, moved_behind}
+use Rattle.sh_copies.proofs.Places.{less_deep, further, moved_to, moved_deeper, moved_behind}
 use Rattle.sh_copies.proofs.Shift.{placeless}
 use Rattle.sh_copies.proofs.WordsCommands.{closing, commands_move}
 use Rattle.sh_copies.proofs.WordsKept.{kept_none, kept_more, kept_plain, kept_escaped, kept_joined, kept_single, kept_tilde, kept_double, kept_value, kept_length, kept_use, kept_removal, kept_arith, kept_command}
@@ -50,9 +50,6 @@ equal_far p q k n = by_bool (p + n == p + k)
 -- where a context begins in the copy
 place_turns : {b b' : List ℕ} (c : Copied b b') (x : Context) (e e' : ℕ) → Place c e e' → Turns c (record x { origin = e }) e'
 place_turns c x e e' p = λ k n. ap (λ j. c.into + n == j) p.at' ∙ equal_far c.from c.into p.by n ∙ sym (ap (λ j. c.from + n == j) p.at)
-
-pub less_deep : (n m limit : ℕ) → m ≡ n → n < limit → m < limit
-less_deep n m limit e h = omega arith
 
 closed_same : (b b' : List ℕ) (i i' : ℕ) → is_first (λ c. c == 41) (drop i' b') ≡ is_first (λ c. c == 41) (drop i b) → is_closed b i ≡ true → is_closed b' i' ≡ true
 unfolding is_closed

@@ -29,7 +29,8 @@ use Rattle.sh_copies.proofs.Forward.{parts_forward, part_forward, script_forward
 use Rattle.sh_copies.proofs.Shift.{placeless, Same, sign_shift}
 use Rattle.sh_copies.proofs.WordsCommands.{closing, backquotes_move}
 use Rattle.sh_copies.proofs.WordsKept.{kept_none, kept_more, kept_command}
-use Rattle.sh_copies.proofs.WordsMove.{is_flat, flat_move, flat_ends, closing_within, closing_byte, part_move, less_deep}
+use Rattle.sh_copies.proofs.WordsMove.{is_flat, flat_move, flat_ends, closing_within, closing_byte, part_move}
+use Rattle.sh_copies.proofs.Places.{less_deep}
 use Rattle.sh_copies.proofs.WordsTokens.{prior_placeless, same_sign, part_sound, stop_size, tabs_strip}
 
 no_length : (v : List ℕ) → length v ≡ 0 → v ≡ []
@@ -308,7 +309,7 @@ module _ (b b' : List ℕ) (p q o o' : ℕ) (colons fields backquotes : Bool) (r
           along = moved_along (n + found.by + 1) a (omega arith) (omega arith) a.depth a.joins a.tabs a.quiet;
           keeps = kept_command b b' (span s.at (u.at + 1)) (span s'.at (found.to.at + 1)) Backquote t found.tree;
           reads = subst (λ k. ReadsPart limit b' y k s' e' (behind (found.to.at + 1) found.to s') (part.Command Backquote (span s'.at (found.to.at + 1)) found.tree)) (sym is)
-          (reads.substitution (less_deep s.depth s'.depth limit a.depth d) found.keeps found.reads found.closed);
+              (reads.substitution (less_deep s.depth s'.depth limit a.depth d) found.keeps found.reads found.closed);
         }
     back_there v e e' n g' rest same end end' within flat one (reads.substitution {style = Paren} d k i h) size = absurd (true≢false one)
     back_there v e e' n g' rest same end end' within flat one reads.plain size = absurd (true≢false flat)
