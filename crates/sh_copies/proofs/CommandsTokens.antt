@@ -1,22 +1,20 @@
 -- The same tokens and states among the commands of a copy.
 -- POSIX.1-2024, XCU 2.3 (token recognition), 2.10 (shell grammar).
-use Rattle.std.proofs.Common.{◌≡◌, ℕ, ◌+◌, ◌-◌, ◌≤◌, ◌==◌, Bool, true, false, ◌||◌, if◌then◌else◌, List, [], ◌∷◌, ◌++◌, length, drop, take, Option, Some, None, ◌⊎◌, refl, sym, ap, ◌∙◌, subst, arith, eqb-true, eq-eqb, length-append, ⊎_elim}
+use Rattle.std.proofs.Common.{◌≡◌, ℕ, ◌+◌, ◌≤◌, ◌==◌, Bool, true, false, ◌||◌, if◌then◌else◌, List, [], ◌∷◌, ◌++◌, length, drop, Option, Some, None, ◌⊎◌, refl, sym, ap, ◌∙◌, subst, arith, length-append, ⊎_elim}
 use Rattle.std.proofs.lemmas.Bool.{cond-true, cond-false, true≢false}
-use Rattle.std.proofs.lemmas.List.{drop-drop, take-append-le}
+use Rattle.std.proofs.lemmas.List.{drop-drop}
 use Rattle.std.proofs.lemmas.Option.{same_Some}
 use Rattle.sh_tree.specs.declared.token.command.Operator.{Operator}
 use Rattle.sh_tree.specs.declared.token.command.Redirection.{Redirection}
 use Rattle.sh_tree.specs.declared.token.command.Stage.{Stage}
 use Rattle.sh_tree.specs.declared.token.command.Stage.TheVariants.{First, Prefixed, Named}
 use Rattle.sh_tree.specs.declared.token.word.Context.{Context}
-use Rattle.sh_tree.specs.standard.Tree.{text_of}
 use Rattle.sh_tree.specs.standard.language.Bytes.{is_first, run, is_digit, name_length}
 use Rattle.sh_tree.specs.standard.language.Commands.{blanks, blank_length, lead_at, bare_word, declares, name_end, is_assignment, operator, operator_of, further, redirection, redirection_by, redirects, digits_end, number_of, is_bare_name, is_newline_lead, is_open}
 use Rattle.sh_tree.specs.standard.language.Contexts.{in_word, in_value, in_operand, in_stage}
 use Rattle.sh_tree.specs.standard.language.HereDocuments.{Mark}
 use Rattle.sh_tree.specs.standard.language.Reading.{lead_of, lead_here, skip, behind_name, parted, unopened, stage_behind}
 use Rattle.sh_tree.specs.standard.language.States.{Spot, State, Document, next, past, begun, lower, as_deep, closing, with_mark, on_line, with_document, facing, waits}
-use Rattle.sh_tree.specs.standard.language.Trees.{span}
 use Rattle.sh_copies.proofs.AlikeBytes.{by_bool}
 use Rattle.sh_copies.proofs.Blanks.{is_number_sign, blank_moves}
 use Rattle.sh_copies.proofs.Copies.{Copied, Place, Moved, Turns, turned, limit_of}
