@@ -115,10 +115,10 @@ module _ {limit n : ℕ} (words : WordsMove limit n) (parts : PartsMove limit n)
         to = rest.to;
         moved = rest.moved;
         reads = λ body'.
-        let z = rest.reads body' in (
-          found.tree ∷ z.0,
-          r.more_patterns (ap is_word (lead_of_same c ahead m (omega arith) (Named false)) ∙ h) found.reads (lead_of_same c ahead token (omega arith) (Named false) ∙ k) z.1,
-        );
+            let z = rest.reads body' in (
+              found.tree ∷ z.0,
+              r.more_patterns (ap is_word (lead_of_same c ahead m (omega arith) (Named false)) ∙ h) found.reads (lead_of_same c ahead token (omega arith) (Named false) ∙ k) z.1,
+            );
       }
 
   for_words_move : {s s' u : State} {o : Option (List Word)} → St s s' → ReadsForWords limit b s u o → u.spot.at < s.spot.at + n → u.spot.at ≤ limit_of c → Rd u
@@ -148,10 +148,10 @@ module _ {limit n : ℕ} (words : WordsMove limit n) (parts : PartsMove limit n)
         to = rest.0;
         moved = rest.1;
         reads = λ body'.
-        let z = list.reads body' in (
-          Some z.0,
-          r.listed gap.2 (lead_of_same c ahead gap.1 (omega arith) First ∙ h) z.1 (ap separator (lead_of_same c ahead list.moved (omega arith) First) ∙ i) rest.2,
-        );
+            let z = list.reads body' in (
+              Some z.0,
+              r.listed gap.2 (lead_of_same c ahead gap.1 (omega arith) First ∙ h) z.1 (ap separator (lead_of_same c ahead list.moved (omega arith) First) ∙ i) rest.2,
+            );
       }
 
   elements_move : {body : ℕ → Document} {g : Stage} {s s' u : State} {es : List Element} → St s s' → ReadsElements limit b body g s u es → u.spot.at < s.spot.at + n → u.spot.at ≤ limit_of c → Rd u
@@ -171,10 +171,10 @@ module _ {limit n : ℕ} (words : WordsMove limit n) (parts : PartsMove limit n)
         to = rest.to;
         moved = rest.moved;
         reads = λ body'.
-        let z = rest.reads body' in (
-          element.Assignment (span s'.spot.at (name_end b' s'.spot.at)) found.tree ∷ z.0,
-          r.assigned_element (lead_of_same c ahead m (omega arith) g ∙ h) found.reads z.1,
-        );
+            let z = rest.reads body' in (
+              element.Assignment (span s'.spot.at (name_end b' s'.spot.at)) found.tree ∷ z.0,
+              r.assigned_element (lead_of_same c ahead m (omega arith) g ∙ h) found.reads z.1,
+            );
       }
   elements_move {g = g} {s' = s'} m (r.word_element {s = s} {v = v} {u = u} h w es) size within ready =
       let first = word_forward w in
@@ -188,11 +188,11 @@ module _ {limit n : ℕ} (words : WordsMove limit n) (parts : PartsMove limit n)
         to = rest.to;
         moved = rest.moved;
         reads = λ body'.
-        let z = rest.reads body' in (
-          element.Word found.tree ∷ z.0,
-          r.word_element (lead_of_same c ahead m (omega arith) g ∙ h) (subst (λ x. ReadsWord limit b' x (facing s') found.to found.tree) context.is found.reads)
-          (subst (λ k. ReadsElements limit b' body' k (past b' found.to s') rest.to z.0) (sym (stage_same c ahead g m.spot.place (omega arith))) z.1),
-        );
+            let z = rest.reads body' in (
+              element.Word found.tree ∷ z.0,
+              r.word_element (lead_of_same c ahead m (omega arith) g ∙ h) (subst (λ x. ReadsWord limit b' x (facing s') found.to found.tree) context.is found.reads)
+                  (subst (λ k. ReadsElements limit b' body' k (past b' found.to s') rest.to z.0) (sym (stage_same c ahead g m.spot.place (omega arith))) z.1),
+            );
       }
   elements_move {g = g} {s = s} m (r.redirect_element {u = u} h i es) size within ready =
       let first = redirect_forward i in
@@ -203,9 +203,9 @@ module _ {limit n : ℕ} (words : WordsMove limit n) (parts : PartsMove limit n)
         to = rest.to;
         moved = rest.moved;
         reads = λ body'.
-        let y = one.reads body' in
-        let z = rest.reads body' in
-        (element.Redirection y.0 ∷ z.0, r.redirect_element (ap is_redirection (lead_of_same c ahead m (omega arith) g) ∙ h) y.1 z.1);
+            let y = one.reads body' in
+            let z = rest.reads body' in
+            (element.Redirection y.0 ∷ z.0, r.redirect_element (ap is_redirection (lead_of_same c ahead m (omega arith) g) ∙ h) y.1 z.1);
       }
 
   -- Commands
@@ -235,10 +235,10 @@ module _ {limit n : ℕ} (words : WordsMove limit n) (parts : PartsMove limit n)
           to = closing false found.to;
           moved = moved_closing c ahead false found.moved;
           reads = λ body'.
-          let z = found.reads body' in (
-            tree.command (s'.spot.count + 1) s'.spot.at (kind.Simple z.0) [],
-            r.simple_command (ap begins_simple (lead_of_same c ahead m (omega arith) First) ∙ h) z.1,
-          );
+              let z = found.reads body' in (
+                tree.command (s'.spot.count + 1) s'.spot.at (kind.Simple z.0) [],
+                r.simple_command (ap begins_simple (lead_of_same c ahead m (omega arith) First) ∙ h) z.1,
+              );
         }
     command_moves {s' = s'} m (r.compound_command {s = s} {u = u} {v = v} {rs = rs} h k rds) size within ready =
         let first = compound_forward k in
@@ -249,13 +249,13 @@ module _ {limit n : ℕ} (words : WordsMove limit n) (parts : PartsMove limit n)
           to = closing (is_empty rs) rest.to;
           moved = moved_closing c ahead (is_empty rs) rest.moved;
           reads = λ body'.
-          let y = one.reads body' in
-          let z = rest.reads body' in
-          let empty : is_empty z.0 ≡ is_empty rs = empty_is z.1 ∙ ap (λ l. not (is_redirection l)) (lead_of_same c ahead one.moved (omega arith) (Named false)) ∙ sym (empty_is rds) in (
-            tree.command (s'.spot.count + 1) s'.spot.at y.0 z.0,
-            subst (λ t. ReadsCommand limit b' body' s' (closing t rest.to) (tree.command (s'.spot.count + 1) s'.spot.at y.0 z.0)) empty
-            (r.compound_command (lead_of_same c ahead m (omega arith) First ∙ h) y.1 z.1),
-          );
+              let y = one.reads body' in
+              let z = rest.reads body' in
+              let empty : is_empty z.0 ≡ is_empty rs = empty_is z.1 ∙ ap (λ l. not (is_redirection l)) (lead_of_same c ahead one.moved (omega arith) (Named false)) ∙ sym (empty_is rds) in (
+                tree.command (s'.spot.count + 1) s'.spot.at y.0 z.0,
+                subst (λ t. ReadsCommand limit b' body' s' (closing t rest.to) (tree.command (s'.spot.count + 1) s'.spot.at y.0 z.0)) empty
+                    (r.compound_command (lead_of_same c ahead m (omega arith) First ∙ h) y.1 z.1),
+              );
         }
     command_moves {s' = s'} m (r.definition {s = s} {u = u} h o p k i body) size within ready =
         let name = behind_name b (begun s) in
@@ -276,11 +276,11 @@ module _ {limit n : ℕ} (words : WordsMove limit n) (parts : PartsMove limit n)
           to = rest.to;
           moved = rest.moved;
           reads = λ body'.
-          let z = rest.reads body' in (
-            tree.command (s'.spot.count + 1) s'.spot.at (kind.Define (span s'.spot.at (name_end b' s'.spot.at)) z.0) [],
-            r.definition (lead_of_same c ahead m (omega arith) First ∙ h) (lead_of_same c ahead at_name (omega arith) (Named false) ∙ o)
-            (lead_of_same c ahead at_open (omega arith) (Named false) ∙ p) gap.2 (ap begins_compound (lead_of_same c ahead gap.1 (omega arith) First) ∙ i) z.1,
-          );
+              let z = rest.reads body' in (
+                tree.command (s'.spot.count + 1) s'.spot.at (kind.Define (span s'.spot.at (name_end b' s'.spot.at)) z.0) [],
+                r.definition (lead_of_same c ahead m (omega arith) First ∙ h) (lead_of_same c ahead at_name (omega arith) (Named false) ∙ o)
+                    (lead_of_same c ahead at_open (omega arith) (Named false) ∙ p) gap.2 (ap begins_compound (lead_of_same c ahead gap.1 (omega arith) First) ∙ i) z.1,
+              );
         }
 
     compound_moves : {body : ℕ → Document} {l : Lead} {s s' u : State} {k : Kind} → St s s' → ReadsCompound limit b body l s u k → u.spot.at < s.spot.at + n → u.spot.at ≤ limit_of c → Rd u
@@ -295,8 +295,8 @@ module _ {limit n : ℕ} (words : WordsMove limit n) (parts : PartsMove limit n)
           to = as_deep s' (skip b' 1 inside.to);
           moved = moved_as_deep c ahead m behind;
           reads = λ body'.
-          let z = inside.reads body' in
-          (kind.Group z.0, r.group (less_deep s.spot.depth s'.spot.depth limit m.spot.depth d) z.1 (lead_of_same c ahead inside.moved (omega arith) First ∙ h));
+              let z = inside.reads body' in
+              (kind.Group z.0, r.group (less_deep s.spot.depth s'.spot.depth limit m.spot.depth d) z.1 (lead_of_same c ahead inside.moved (omega arith) First ∙ h));
         }
     compound_moves {s' = s'} m (r.subshell {s = s} {u = u} d t h) size within ready =
         let first = skip_forward b 1 s in
@@ -308,8 +308,8 @@ module _ {limit n : ℕ} (words : WordsMove limit n) (parts : PartsMove limit n)
           to = as_deep s' (skip b' 1 inside.to);
           moved = moved_as_deep c ahead m behind;
           reads = λ body'.
-          let z = inside.reads body' in
-          (kind.Subshell z.0, r.subshell (less_deep s.spot.depth s'.spot.depth limit m.spot.depth d) z.1 (lead_of_same c ahead inside.moved (omega arith) First ∙ h));
+              let z = inside.reads body' in
+              (kind.Subshell z.0, r.subshell (less_deep s.spot.depth s'.spot.depth limit m.spot.depth d) z.1 (lead_of_same c ahead inside.moved (omega arith) First ∙ h));
         }
     compound_moves {s' = s'} m (r.cond {s = s} d bs) size within ready =
         let first = skip_forward b 2 s in
@@ -330,9 +330,9 @@ module _ {limit n : ℕ} (words : WordsMove limit n) (parts : PartsMove limit n)
           to = as_deep s' rest.to;
           moved = moved_as_deep c ahead m rest.moved;
           reads = λ body'.
-          let y = inside.reads body' in
-          let z = rest.reads body' in
-          (kind.Loop loop.While y.0 z.0, r.while_loop (less_deep s.spot.depth s'.spot.depth limit m.spot.depth d) y.1 z.1);
+              let y = inside.reads body' in
+              let z = rest.reads body' in
+              (kind.Loop loop.While y.0 z.0, r.while_loop (less_deep s.spot.depth s'.spot.depth limit m.spot.depth d) y.1 z.1);
         }
     compound_moves {s' = s'} m (r.until_loop {s = s} {u = u} d k t) size within ready =
         let first = skip_forward b 5 s in
@@ -344,9 +344,9 @@ module _ {limit n : ℕ} (words : WordsMove limit n) (parts : PartsMove limit n)
           to = as_deep s' rest.to;
           moved = moved_as_deep c ahead m rest.moved;
           reads = λ body'.
-          let y = inside.reads body' in
-          let z = rest.reads body' in
-          (kind.Loop loop.Until y.0 z.0, r.until_loop (less_deep s.spot.depth s'.spot.depth limit m.spot.depth d) y.1 z.1);
+              let y = inside.reads body' in
+              let z = rest.reads body' in
+              (kind.Loop loop.Until y.0 z.0, r.until_loop (less_deep s.spot.depth s'.spot.depth limit m.spot.depth d) y.1 z.1);
         }
     compound_moves {s' = s'} m (r.for_loop {s = s} d name ws t) size within ready =
         let first = skip_forward b 3 s in
@@ -361,11 +361,11 @@ module _ {limit n : ℕ} (words : WordsMove limit n) (parts : PartsMove limit n)
           to = as_deep s' rest.to;
           moved = moved_as_deep c ahead m rest.moved;
           reads = λ body'.
-          let y = list.reads body' in
-          let z = rest.reads body' in (
-            kind.For (span (skip b' 3 s').spot.at (name_end b' (skip b' 3 s').spot.at)) y.0 z.0,
-            r.for_loop (less_deep s.spot.depth s'.spot.depth limit m.spot.depth d) (bare_name_same c ahead at_name.spot.place (omega arith) ∙ name) y.1 z.1,
-          );
+              let y = list.reads body' in
+              let z = rest.reads body' in (
+                kind.For (span (skip b' 3 s').spot.at (name_end b' (skip b' 3 s').spot.at)) y.0 z.0,
+                r.for_loop (less_deep s.spot.depth s'.spot.depth limit m.spot.depth d) (bare_name_same c ahead at_name.spot.place (omega arith) ∙ name) y.1 z.1,
+              );
         }
     compound_moves {s' = s'} m (r.case_of {s = s} {p = p} {q = q} {u = u} d h w k i j cs) size within ready =
         let entered = skip b 4 s in
@@ -388,11 +388,11 @@ module _ {limit n : ℕ} (words : WordsMove limit n) (parts : PartsMove limit n)
           to = as_deep s' rest.to;
           moved = moved_as_deep c ahead m rest.moved;
           reads = λ body'.
-          let z = rest.reads body' in (
-            kind.Branches found.tree z.0,
-            r.case_of (less_deep s.spot.depth s'.spot.depth limit m.spot.depth d) (ap is_word (lead_of_same c ahead at_word (omega arith) (Named false)) ∙ h) found.reads gap.2
-            (lead_of_same c ahead gap.1 (omega arith) First ∙ i) lines.2 z.1,
-          );
+              let z = rest.reads body' in (
+                kind.Branches found.tree z.0,
+                r.case_of (less_deep s.spot.depth s'.spot.depth limit m.spot.depth d) (ap is_word (lead_of_same c ahead at_word (omega arith) (Named false)) ∙ h) found.reads gap.2
+                    (lead_of_same c ahead gap.1 (omega arith) First ∙ i) lines.2 z.1,
+              );
         }
 
     do_moves : {body : ℕ → Document} {s s' u : State} {t : Script} → St s s' → ReadsDo limit b body s u t → u.spot.at < s.spot.at + n → u.spot.at ≤ limit_of c → Rd u
@@ -406,7 +406,7 @@ module _ {limit n : ℕ} (words : WordsMove limit n) (parts : PartsMove limit n)
           to = skip b' 4 inside.to;
           moved = moved_skip c ahead 4 inside.moved within ready;
           reads = λ body'.
-          let z = inside.reads body' in (z.0, r.do_group (lead_of_same c ahead m (omega arith) First ∙ h) z.1 (lead_of_same c ahead inside.moved (omega arith) First ∙ k));
+              let z = inside.reads body' in (z.0, r.do_group (lead_of_same c ahead m (omega arith) First ∙ h) z.1 (lead_of_same c ahead inside.moved (omega arith) First ∙ k));
         }
 
     branches_move : {body : ℕ → Document} {s s' u : State} {bs : List Branch} {o : Option Script} → St s s' → ReadsBranches limit b body s u bs o → u.spot.at < s.spot.at + n → u.spot.at ≤ limit_of c → Rd u
@@ -423,10 +423,10 @@ module _ {limit n : ℕ} (words : WordsMove limit n) (parts : PartsMove limit n)
           to = rest.to;
           moved = rest.moved;
           reads = λ body'.
-          let x = one.reads body' in
-          let y = two.reads body' in
-          let z = rest.reads body' in
-          ((tree.branch x.0 y.0 ∷ z.0.0, z.0.1), r.branch x.1 (lead_of_same c ahead one.moved (omega arith) First ∙ h) y.1 z.1);
+              let x = one.reads body' in
+              let y = two.reads body' in
+              let z = rest.reads body' in
+              ((tree.branch x.0 y.0 ∷ z.0.0, z.0.1), r.branch x.1 (lead_of_same c ahead one.moved (omega arith) First ∙ h) y.1 z.1);
         }
 
     else_moves : {body : ℕ → Document} {s s' u : State} {bs : List Branch} {o : Option Script} → St s s' → ReadsElse limit b body s u bs o → u.spot.at < s.spot.at + n → u.spot.at ≤ limit_of c → Rd u
@@ -443,8 +443,8 @@ module _ {limit n : ℕ} (words : WordsMove limit n) (parts : PartsMove limit n)
           to = skip b' 2 inside.to;
           moved = moved_skip c ahead 2 inside.moved within ready;
           reads = λ body'.
-          let z = inside.reads body' in
-          (([], Some z.0), r.otherwise (lead_of_same c ahead m (omega arith) First ∙ h) z.1 (lead_of_same c ahead inside.moved (omega arith) First ∙ k));
+              let z = inside.reads body' in
+              (([], Some z.0), r.otherwise (lead_of_same c ahead m (omega arith) First ∙ h) z.1 (lead_of_same c ahead inside.moved (omega arith) First ∙ k));
         }
     else_moves m (r.elif {s = s} h bs) size within ready =
         let first = skip_forward b 4 s in
@@ -471,11 +471,11 @@ module _ {limit n : ℕ} (words : WordsMove limit n) (parts : PartsMove limit n)
           to = skip b' 4 two.to;
           moved = moved_skip c ahead 4 two.moved within ready;
           reads = λ body'.
-          let y = one.reads body' in
-          let z = two.reads body' in (
-            tree.clause y.0 z.0 Break ∷ [],
-            r.last_clause (ap is_esac (lead_of_same c ahead m (omega arith) First) ∙ h) y.1 z.1 (lead_of_same c ahead two.moved (omega arith) First ∙ k),
-          );
+              let y = one.reads body' in
+              let z = two.reads body' in (
+                tree.clause y.0 z.0 Break ∷ [],
+                r.last_clause (ap is_esac (lead_of_same c ahead m (omega arith) First) ∙ h) y.1 z.1 (lead_of_same c ahead two.moved (omega arith) First ∙ k),
+              );
         }
     clauses_move m (r.more_clauses {s = s} {u = u} {v = v} {w = w} {e = e} h ps t i k cs) size within ready =
         let first = unopened_forward b s in
@@ -495,12 +495,12 @@ module _ {limit n : ℕ} (words : WordsMove limit n) (parts : PartsMove limit n)
           to = rest.to;
           moved = rest.moved;
           reads = λ body'.
-          let x = one.reads body' in
-          let y = two.reads body' in
-          let z = rest.reads body' in (
-            tree.clause x.0 y.0 e ∷ z.0,
-            r.more_clauses (ap is_esac (lead_of_same c ahead m (omega arith) First) ∙ h) x.1 y.1 (ap clause_end_of (lead_of_same c ahead two.moved (omega arith) First) ∙ i) gap.2 z.1,
-          );
+              let x = one.reads body' in
+              let y = two.reads body' in
+              let z = rest.reads body' in (
+                tree.clause x.0 y.0 e ∷ z.0,
+                r.more_clauses (ap is_esac (lead_of_same c ahead m (omega arith) First) ∙ h) x.1 y.1 (ap clause_end_of (lead_of_same c ahead two.moved (omega arith) First) ∙ i) gap.2 z.1,
+              );
         }
 
     pipeline_moves : {body : ℕ → Document} {s s' u : State} {p : Pipe} → St s s' → ReadsPipeline limit b body s u p → u.spot.at < s.spot.at + n → u.spot.at ≤ limit_of c → Rd u
@@ -536,9 +536,9 @@ module _ {limit n : ℕ} (words : WordsMove limit n) (parts : PartsMove limit n)
           to = rest.to;
           moved = rest.moved;
           reads = λ body'.
-          let y = one.reads body' in
-          let z = rest.reads body' in
-          (y.0 ∷ z.0, r.more_commands y.1 (ap is_bar (lead_of_same c ahead one.moved (omega arith) First) ∙ h) gap.2 z.1);
+              let y = one.reads body' in
+              let z = rest.reads body' in
+              (y.0 ∷ z.0, r.more_commands y.1 (ap is_bar (lead_of_same c ahead one.moved (omega arith) First) ∙ h) gap.2 z.1);
         }
 
     and_or_moves : {body : ℕ → Document} {s s' u : State} {l : AndOr} → St s s' → ReadsAndOr limit b body s u l → u.spot.at < s.spot.at + n → u.spot.at ≤ limit_of c → Rd u
@@ -569,9 +569,9 @@ module _ {limit n : ℕ} (words : WordsMove limit n) (parts : PartsMove limit n)
           to = rest.to;
           moved = rest.moved;
           reads = λ body'.
-          let y = one.reads body' in
-          let z = rest.reads body' in
-          ((l, y.0) ∷ z.0, r.more_links (ap link_of (lead_of_same c ahead m (omega arith) First) ∙ h) gap.2 y.1 z.1);
+              let y = one.reads body' in
+              let z = rest.reads body' in
+              ((l, y.0) ∷ z.0, r.more_links (ap link_of (lead_of_same c ahead m (omega arith) First) ∙ h) gap.2 y.1 z.1);
         }
 
     items_move : {body : ℕ → Document} {s s' u : State} {is : List Item} → St s s' → ReadsItems limit b body s u is → u.spot.at < s.spot.at + n → u.spot.at ≤ limit_of c → Rd u
@@ -583,8 +583,8 @@ module _ {limit n : ℕ} (words : WordsMove limit n) (parts : PartsMove limit n)
           to = one.to;
           moved = one.moved;
           reads = λ body'.
-          let z = one.reads body' in
-          (tree.item z.0 false ∷ [], r.last_item z.1 (ap separator token ∙ h) (ap (λ x. not (is_reserved x) || one.to.closed) token ∙ ap (λ t. not (is_reserved (lead_here b u)) || t) one.moved.closed ∙ k));
+              let z = one.reads body' in
+              (tree.item z.0 false ∷ [], r.last_item z.1 (ap separator token ∙ h) (ap (λ x. not (is_reserved x) || one.to.closed) token ∙ ap (λ t. not (is_reserved (lead_here b u)) || t) one.moved.closed ∙ k));
         }
     items_move {s = s} m (r.ended_item {u = u} {v = v} {g = g} l h k e) size within ready =
         let first = and_or_forward l in
@@ -597,10 +597,10 @@ module _ {limit n : ℕ} (words : WordsMove limit n) (parts : PartsMove limit n)
           to = rest.0;
           moved = rest.1;
           reads = λ body'.
-          let z = one.reads body' in (
-            tree.item z.0 g ∷ [],
-            r.ended_item z.1 (ap separator (lead_of_same c ahead one.moved (omega arith) First) ∙ h) rest.2 (ap begins_pipeline (lead_of_same c ahead rest.1 within First) ∙ e),
-          );
+              let z = one.reads body' in (
+                tree.item z.0 g ∷ [],
+                r.ended_item z.1 (ap separator (lead_of_same c ahead one.moved (omega arith) First) ∙ h) rest.2 (ap begins_pipeline (lead_of_same c ahead rest.1 within First) ∙ e),
+              );
         }
     items_move {s = s} m (r.more_items {u = u} {v = v} {g = g} l h k e is) size within ready =
         let first = and_or_forward l in
@@ -615,11 +615,11 @@ module _ {limit n : ℕ} (words : WordsMove limit n) (parts : PartsMove limit n)
           to = rest.to;
           moved = rest.moved;
           reads = λ body'.
-          let y = one.reads body' in
-          let z = rest.reads body' in (
-            tree.item y.0 g ∷ z.0,
-            r.more_items y.1 (ap separator (lead_of_same c ahead one.moved (omega arith) First) ∙ h) gap.2 (ap begins_pipeline (lead_of_same c ahead gap.1 (omega arith) First) ∙ e) z.1,
-          );
+              let y = one.reads body' in
+              let z = rest.reads body' in (
+                tree.item y.0 g ∷ z.0,
+                r.more_items y.1 (ap separator (lead_of_same c ahead one.moved (omega arith) First) ∙ h) gap.2 (ap begins_pipeline (lead_of_same c ahead gap.1 (omega arith) First) ∙ e) z.1,
+              );
         }
 
     list_moves : {body : ℕ → Document} {s s' u : State} {t : Script} → St s s' → ReadsList limit b body s u t → u.spot.at < s.spot.at + n → u.spot.at ≤ limit_of c → Rd u

@@ -63,31 +63,31 @@ pub scripts_move : {limit n : ℕ} → WordsMove limit n → PartsMove limit n �
 unfolding is_closed
 scripts_move {limit} {n} words parts = record {
   script = λ {b} {b'} c {s} {s'} {u} {t} m reads size inside end. ⊎_elim
-  (λ same. script_moves words parts c (inl same) m reads size inside (inl same))
-  (λ closed.
-  let first = blanks_move s.joins b s.at in
-  let second = script_forward reads in
-  let at = m.place.at in
-  let k = u.at - c.from in
-  let there : drop u.at b ≡ drop k c.w ++ c.rest =
-  ap (λ z. drop z b) (let z : u.at ≡ c.from + k = omega arith in z) ∙ sym (drop-drop k c.from b) ∙ ap (drop k) c.there ∙ drop-append-le k c.w c.rest (omega arith) in
-  let closing = closing_rest (drop k c.w) c.rest c.rest' c.edge (ap (is_first (λ z. z == 41)) (sym there) ∙ closed) in
-  let cut = cut_copy c k closing in
-  let long = length-take-le k c.w (omega arith) in
-  let moved : Moved cut s s' = record { place = record { by = m.place.by; at = m.place.at; at' = m.place.at' }; depth = m.depth; joins = m.joins; tabs = m.tabs; quiet = m.quiet } in
-  let found = script_moves words parts cut (inr closing) moved reads size (omega arith) (inr (closed_no_sign b u.at closed)) in
-  record {
-    to = found.to;
-    tree = found.tree;
-    moved = record {
-      place = record { by = found.moved.place.by; at = found.moved.place.at; at' = found.moved.place.at' };
-      depth = found.moved.depth;
-      joins = found.moved.joins;
-      tabs = found.moved.tabs;
-      quiet = found.moved.quiet;
-    };
-    keeps = tt;
-    reads = found.reads;
-  })
-  end;
+      (λ same. script_moves words parts c (inl same) m reads size inside (inl same))
+      (λ closed.
+      let first = blanks_move s.joins b s.at in
+      let second = script_forward reads in
+      let at = m.place.at in
+      let k = u.at - c.from in
+      let there : drop u.at b ≡ drop k c.w ++ c.rest =
+      ap (λ z. drop z b) (let z : u.at ≡ c.from + k = omega arith in z) ∙ sym (drop-drop k c.from b) ∙ ap (drop k) c.there ∙ drop-append-le k c.w c.rest (omega arith) in
+      let closing = closing_rest (drop k c.w) c.rest c.rest' c.edge (ap (is_first (λ z. z == 41)) (sym there) ∙ closed) in
+      let cut = cut_copy c k closing in
+      let long = length-take-le k c.w (omega arith) in
+      let moved : Moved cut s s' = record { place = record { by = m.place.by; at = m.place.at; at' = m.place.at' }; depth = m.depth; joins = m.joins; tabs = m.tabs; quiet = m.quiet } in
+      let found = script_moves words parts cut (inr closing) moved reads size (omega arith) (inr (closed_no_sign b u.at closed)) in
+      record {
+        to = found.to;
+        tree = found.tree;
+        moved = record {
+          place = record { by = found.moved.place.by; at = found.moved.place.at; at' = found.moved.place.at' };
+          depth = found.moved.depth;
+          joins = found.moved.joins;
+          tabs = found.moved.tabs;
+          quiet = found.moved.quiet;
+        };
+        keeps = tt;
+        reads = found.reads;
+      })
+      end;
 }

@@ -32,11 +32,11 @@ use Rattle.sh_copies.proofs.AlikeBytes.{by_bool, run_yes, run_no, zero_not}
 use Rattle.sh_copies.proofs.AlikePlain.{plain_yes, plain_no}
 
 -- where a word may end it does, and takes nothing more
-record Ends (f : Sign × ℕ) (cs : List ℕ) : Type 0 where
-  size : f.1 ≡ 0
-  ends : words.ends_joined cs ≡ true
+pub record Ends (f : Sign × ℕ) (cs : List ℕ) : Type 0 where
+  pub size : f.1 ≡ 0
+  pub ends : words.ends_joined cs ≡ true
 
-abbrev is_stop : Sign → Bool
+abbrev pub is_stop : Sign → Bool
 is_stop sign.Stop = true
 is_stop _ = false
 
@@ -119,7 +119,7 @@ meant_ends x i c cs word h =
     (λ yes. let e : words.meant_by x i c cs ≡ words.backquoted x cs = rw (n1, n2, n3, yes) refl in same e h (backquoted_ends x c cs word yes))
     (λ n4. let e : words.meant_by x i c cs ≡ words.dollar x i cs = rw (n1, n2, n3, n4) refl in same e h (λ s. absurd (not_stop (words.dollar x i cs) (dollar_goes x i cs) s))))))
 
-stop_ends : (x : Context) (prior i : ℕ) (cs : List ℕ) → x.site ≡ site.Word → is_stop (words.sign_of x prior i cs).0 ≡ true → Ends (words.sign_of x prior i cs) cs
+pub stop_ends : (x : Context) (prior i : ℕ) (cs : List ℕ) → x.site ≡ site.Word → is_stop (words.sign_of x prior i cs).0 ≡ true → Ends (words.sign_of x prior i cs) cs
 unfolding words.sign_of words.sign_by joined_length
 stop_ends x prior i [] word h = record { size = refl; ends = refl }
 stop_ends x prior i (c ∷ cs) word h =
@@ -146,12 +146,12 @@ parts_end word (r.more is part others) = parts_end word others
 
 -- What may end a word
 
-data Edge (c : ℕ) (cs : List ℕ) : Type 0 where
+pub data Edge (c : ℕ) (cs : List ℕ) : Type 0 where
   token : ends_token c ≡ true → Edge c cs
   joined : (d : ℕ) (ds : List ℕ) → cs ≡ d ∷ ds → (c == 92) ≡ true → is_newline d ≡ true → words.ends_joined ds ≡ true → Edge c cs
   last : (c == 96) ≡ true → cs ≡ [] → Edge c cs
 
-edge : (c : ℕ) (cs : List ℕ) → words.ends_joined (c ∷ cs) ≡ true → Edge c cs
+pub edge : (c : ℕ) (cs : List ℕ) → words.ends_joined (c ∷ cs) ≡ true → Edge c cs
 unfolding joined_length is_first is_last_backquote
 edge c [] h = by_bool (ends_token c) (λ yes. Edge.token yes) (λ no. Edge.last (grind (arith, nat_tests, h, no)) refl)
 edge c (d ∷ ds) h = by_bool (is_backslash c && is_newline d)
@@ -190,7 +190,7 @@ edge_stands x prior i c cs word (Edge.last quote none) =
     ∙ last_false (not (ends_token c)) (not (words.is_stripped x prior c)) (not (words.is_tilde x prior i c cs)) _ (subst (λ n. (not (words.is_special site.Word n) || words.is_literal site.Word n cs) ≡ false) (sym (eqb-true c 96 quote)) refl)
 
 -- so a word ends there
-edge_stop : (x : Context) (prior i c : ℕ) (cs : List ℕ) → x.site ≡ site.Word → x.strip ≡ false → Edge c cs → words.sign_of x prior i (c ∷ cs) ≡ (sign.Stop, 0)
+pub edge_stop : (x : Context) (prior i c : ℕ) (cs : List ℕ) → x.site ≡ site.Word → x.strip ≡ false → Edge c cs → words.sign_of x prior i (c ∷ cs) ≡ (sign.Stop, 0)
 unfolding words.sign_of words.sign_by words.meant_by words.backslash words.continuation words.backquoted
 edge_stop x prior i c cs word strip (Edge.token h) =
     let k : words.stops x.site c ≡ ends_token c = ap (λ s. words.stops s c) word in

@@ -31,3 +31,4 @@ pub mod WordsKept
 pub mod WordsMove
 pub mod WordsTokens
 pub mod CopiedMarks
+pub mod CopiedTokens

@@ -15,7 +15,7 @@ use Rattle.sh_copies.proofs.AlikeBytes.{by_bool}
 
 -- Lines
 
-newline_ends : (joins : Bool) (c : ℕ) (cs : List ℕ) → is_newline c ≡ true → line_length joins (c ∷ cs) ≡ 0
+pub newline_ends : (joins : Bool) (c : ℕ) (cs : List ℕ) → is_newline c ≡ true → line_length joins (c ∷ cs) ≡ 0
 unfolding line_length
 newline_ends joins c [] h = cond-true _ _ _ h
 newline_ends joins c (d ∷ cs) h = cond-true _ _ _ h

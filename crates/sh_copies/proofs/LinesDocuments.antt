@@ -169,18 +169,18 @@ document_copied limit moves b m s u l parts joins tabs mark found clear reads ke
     let back : take (length v) (drop i b) ≡ v = ap (take (length v)) cut.there ∙ take-append_seam v (e ++ drop l.end b) in
     record {
       ends = λ b' rest j here.
-      let some = length-append e (10 ∷ rest) in
-      end_line_again m b b' i j v e (drop l.end b) (10 ∷ rest) l found (omega arith) (omega arith) cut.there here
-      (line_ends (not m.quoted) e (drop l.end b) rest cut.size_is (end_hangs_not m e mark cut.is)) (omega arith);
+          let some = length-append e (10 ∷ rest) in
+          end_line_again m b b' i j v e (drop l.end b) (10 ∷ rest) l found (omega arith) (omega arith) cut.there here
+          (line_ends (not m.quoted) e (drop l.end b) rest cut.size_is (end_hangs_not m e mark cut.is)) (omega arith);
       is_unambiguous = λ b' rest j here.
-      let long : j + length v - j ≡ length v = omega arith in
-      ambiguity_same m b b' i l.start j (j + length v) (ap (λ n. take n (drop j b')) long ∙ front b' rest j here) ∙ clear;
+          let long : j + length v - j ≡ length v = omega arith in
+          ambiguity_same m b b' i l.start j (j + length v) (ap (λ n. take n (drop j b')) long ∙ front b' rest j here) ∙ clear;
       is_read = λ b' rest j n here.
-      let whole = length-append v (e ++ 10 ∷ rest) in
-      let far = length-drop j b' in
-      let far' : length (drop j b') ≡ length (v ++ (e ++ 10 ∷ rest)) = ap length here in
-      let some = length-append e (10 ∷ rest) in
-      let body = body_moves (moves (l.start + 1)) b b' v m (in_document m s) (body_spot m j n) u l.start (j + length v) parts (omega arith) refl back (front b' rest j here) refl refl
-      (sym (ap (λ t. t || m.strip) tabs)) (λ q. absurd (true≢false (sym q))) (omega arith) (omega arith) (omega arith) reads keeps in
-      (body.u, body.parts, body.reads, body.keeps);
+          let whole = length-append v (e ++ 10 ∷ rest) in
+          let far = length-drop j b' in
+          let far' : length (drop j b') ≡ length (v ++ (e ++ 10 ∷ rest)) = ap length here in
+          let some = length-append e (10 ∷ rest) in
+          let body = body_moves (moves (l.start + 1)) b b' v m (in_document m s) (body_spot m j n) u l.start (j + length v) parts (omega arith) refl back (front b' rest j here) refl refl
+          (sym (ap (λ t. t || m.strip) tabs)) (λ q. absurd (true≢false (sym q))) (omega arith) (omega arith) (omega arith) reads keeps in
+          (body.u, body.parts, body.reads, body.keeps);
     }

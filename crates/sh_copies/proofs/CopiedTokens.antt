@@ -1,0 +1,300 @@
+-- What begins a word begins one wherever the word stands, before a blank, a newline or `)`.
+-- POSIX.1-2024, XCU 2.3 (token recognition), 2.4 (reserved words), 2.10 (shell grammar).
+use Rattle.std.proofs.Common.{◌≡◌, ℕ, zero, suc, ◌+◌, ◌-◌, ◌<◌, ◌≤◌, ◌==◌, Bool, true, false, not, ◌&&◌, ◌||◌, if◌then◌else◌, List, [], ◌∷◌, ◌++◌, length, drop, take, Option, Some, None, refl, sym, ap, ◌∙◌, subst, arith, ⊎_elim, length-append, length-drop}
+use Rattle.std.specs.List.{list_all, list_any, take_while}
+use Rattle.std.proofs.lemmas.Bool.{cond-true, cond-false, true≢false, and_parts, eqb-true, cases_lt}
+use Rattle.std.proofs.lemmas.Bool.Decides.{nat_tests}
+use Rattle.std.proofs.lemmas.List.{drop-append-le, drop-drop, take-append-le}
+use Rattle.sh_tree.specs.declared.refusal.Form.TheVariants as form
+use Rattle.sh_tree.specs.declared.tree.Part.{Part}
+use Rattle.sh_tree.specs.declared.token.word.Context.{Context}
+use Rattle.sh_tree.specs.declared.token.word.Site.TheVariants as site
+use Rattle.sh_tree.specs.declared.token.word.Sign.{Sign}
+use Rattle.sh_tree.specs.declared.token.word.Sign.TheVariants as sign
+use Rattle.sh_tree.specs.standard.language.Bytes.{is_newline, is_tab, is_backslash, ends_token, is_first, is_joined, is_last_backquote, run}
+use Rattle.sh_tree.specs.standard.language.Commands.{is_bare}
+use Rattle.sh_tree.specs.standard.language.Reading as r
+use Rattle.sh_tree.specs.standard.language.Reading.{ReadsPart, ReadsParts}
+use Rattle.sh_tree.specs.standard.language.States.{Spot, to}
+use Rattle.sh_tree.specs.standard.language.Words as words
+use Rattle.sh_tree.proofs.Inversions.{PartIs, part_is}
+use Rattle.sh_reads.proofs.BeginningLemmas.{dollar_goes, ends, single_goes}
+use Rattle.sh_reads.proofs.FrontLemmas.{run_passes, run_taken, run_within}
+use Rattle.sh_reads.proofs.TakeLemmas.{is_part, part_begins}
+use Rattle.sh_copies.proofs.AlikeBytes.{by_bool, run_no, run_yes}
+use Rattle.sh_copies.proofs.AlikePlain.{plain_no, plain_yes}
+use Rattle.sh_copies.proofs.CopiedMarks.{backslash_stands}
+use Rattle.sh_copies.proofs.Declaring.{is_stop, last_false, stop_ends, word_stands}
+use Rattle.sh_copies.proofs.Forward.{part_forward, parts_forward}
+
+-- Inside a word
+
+-- Behind unquoted bytes a word of so many further bytes goes on with a: it is no end of a word.
+record GoesOn (a : ℕ) (z : List ℕ) (room : ℕ) : Type 0 where
+  token : ends_token a ≡ false
+  behind : (a == 92) ≡ true → (1 ≤ room) × (is_first is_newline z ≡ false)
+  last : is_last_backquote (a ∷ z) ≡ false
+
+abbrev is_tabs : Sign × ℕ → Bool
+is_tabs (sign.Tabs, n) = true
+is_tabs found = false
+
+not_tabs : (f : Sign × ℕ) → ends f ≡ false → is_tabs f ≡ false
+not_tabs (sign.Tabs, n) h = absurd (true≢false h)
+not_tabs f h = refl
+
+backslash_tabs : (x : Context) (cs : List ℕ) → is_tabs (words.backslash x cs) ≡ false
+unfolding words.backslash words.continuation
+backslash_tabs x [] = refl
+backslash_tabs x (c ∷ cs) = grind (arith, nat_tests)
+
+backquoted_tabs : (x : Context) (cs : List ℕ) → is_tabs (words.backquoted x cs) ≡ false
+unfolding words.backquoted
+backquoted_tabs x cs = grind (arith, nat_tests)
+
+meant_tabs : (x : Context) (i c : ℕ) (cs : List ℕ) → is_tabs (words.meant_by x i c cs) ≡ false
+unfolding words.meant_by
+meant_tabs x i c cs =
+    grind (arith, nat_tests, backslash_tabs x cs, backquoted_tabs x cs, not_tabs (words.single cs) (single_goes cs), not_tabs (words.dollar x i cs) (dollar_goes x i cs))
+
+-- what begins in a word with the byte c
+record Begins (x : Context) (i c : ℕ) (cs : List ℕ) (f : Sign × ℕ) : Type 0 where
+  bare : is_bare c ≡ false
+  token : ends_token c ≡ false
+  back : (c == 92) ≡ true → f ≡ words.backslash x cs
+  quote : (c == 96) ≡ true → f ≡ words.backquoted x cs
+  no_tabs : is_tabs f ≡ false
+
+data Form (x : Context) (prior i c : ℕ) (cs : List ℕ) (f : Sign × ℕ) : Type 0 where
+  plain : words.stands x prior i c cs ≡ true → f ≡ (sign.Plain, words.plain_length x prior i (c ∷ cs)) → Form x prior i c cs f
+  tilde : (c == 126) ≡ true → f ≡ (sign.Tilde, words.tilde_length x cs) → Form x prior i c cs f
+  stop : f.0 ≡ sign.Stop → Form x prior i c cs f
+  other : Begins x i c cs f → Form x prior i c cs f
+
+form_of : (x : Context) (prior i c : ℕ) (cs : List ℕ) → x.site ≡ site.Word → Form x prior i c cs (words.sign_of x prior i (c ∷ cs))
+unfolding words.sign_of words.sign_by words.meant_by words.is_tilde
+form_of x prior i c cs word =
+    let k : words.stops x.site c ≡ ends_token c = ap (λ s. words.stops s c) word in
+    by_bool (ends_token c)
+    (λ yes. let e : words.sign_by x prior i c cs ≡ (sign.Stop, words.stop_length x.site) = rw (k, yes) refl in Form.stop (ap (λ (f : Sign × ℕ). f.0) e))
+    (λ n0.
+    let no_tab : words.is_stripped x prior c ≡ false = by_bool (words.is_stripped x prior c)
+    (λ is. absurd (true≢false (sym (tab_ends c (and_parts (x.strip && is_newline prior) (is_tab c) is).1) ∙ n0))) (λ no. no) in
+    by_bool (words.stands x prior i c cs)
+    (λ yes. let e : words.sign_by x prior i c cs ≡ (sign.Plain, words.plain_length x prior i (c ∷ cs)) = rw (k, n0, no_tab, yes) refl in Form.plain yes e)
+    (λ n2. by_bool (c == 126)
+    (λ yes. let e : words.sign_by x prior i c cs ≡ (sign.Tilde, words.tilde_length x cs) = rw (k, n0, no_tab, n2, yes) refl in Form.tilde yes e)
+    (λ n3.
+    let e : words.sign_by x prior i c cs ≡ words.meant_by x i c cs = rw (k, n0, no_tab, n2, n3) refl in
+    Form.other (record {
+      bare = special_bare c (special x prior i c cs word n0 no_tab n2 n3);
+      token = n0;
+      back = λ h. e ∙ rw h refl;
+      quote = λ h. e ∙ backquote_is c h;
+      no_tabs = ap is_tabs e ∙ meant_tabs x i c cs;
+    }))))
+  where
+    tab_ends : (c : ℕ) → is_tab c ≡ true → ends_token c ≡ true
+    tab_ends c h = grind (arith, nat_tests, h)
+
+    special_bare : (c : ℕ) → words.is_special site.Word c ≡ true → is_bare c ≡ false
+    special_bare c h = grind (arith, nat_tests, h)
+
+    special : (x : Context) (prior i c : ℕ) (cs : List ℕ) → x.site ≡ site.Word → ends_token c ≡ false → words.is_stripped x prior c ≡ false → words.stands x prior i c cs ≡ false → (c == 126) ≡ false
+        → words.is_special site.Word c ≡ true
+    special x prior i c cs word n0 n1 n2 n3 = by_bool (words.is_special site.Word c) (λ yes. yes)
+        (λ no.
+        let tilde : words.is_tilde x prior i c cs ≡ false = rw n3 refl in
+        absurd (true≢false (sym (word_stands x prior i c cs word ∙ rw (n0, n1, tilde, no) refl) ∙ n2)))
+
+    backquote_is : (c : ℕ) → (c == 96) ≡ true → words.meant_by x i c cs ≡ words.backquoted x cs
+    backquote_is c h = subst (λ n. words.meant_by x i n cs ≡ words.backquoted x cs) (sym (eqb-true c 96 h)) refl
+
+-- Runs
+
+run_drop : (p : ℕ → Bool) (m : ℕ) (t : List ℕ) → m ≤ run p t → run p (drop m t) ≡ run p t - m
+run_drop p zero t h = omega arith
+run_drop p (suc m) [] h = let none : run p [] ≡ 0 = refl in omega arith
+run_drop p (suc m) (c ∷ t) h = by_bool (p c)
+    (λ yes. let long = run_yes p c t yes in let more = run_drop p m t (omega arith) in more ∙ omega arith)
+    (λ no. let none = run_no p c t no in absurd (omega arith))
+
+-- bytes of the class at the front are in the run
+run_covers : (p : ℕ → Bool) (m : ℕ) (t : List ℕ) → list_all p (take m t) ≡ true → m ≤ length t → m ≤ run p t
+run_covers p zero t h k = omega arith
+run_covers p (suc m) [] h k = absurd (omega arith)
+run_covers p (suc m) (c ∷ t) h k =
+    let both = and_parts (p c) (list_all p (take m t)) h in
+    let long = run_yes p c t both.0 in
+    let more = run_covers p m t both.1 (omega arith) in
+    omega arith
+
+-- what stands among plain bytes
+stands_in : (x : Context) (prior i n : ℕ) (cs : List ℕ) (a : ℕ) (z : List ℕ) → n < words.plain_length x prior i cs → drop n cs ≡ a ∷ z → (q : ℕ) × (j : ℕ) × (words.stands x q j a z ≡ true)
+unfolding words.plain_length
+stands_in x prior i n [] a z h e = absurd (omega arith)
+stands_in x prior i zero (c ∷ cs) a z h e = by_bool (words.stands x prior i c cs)
+    (λ yes. (prior, i, subst (λ (y : List ℕ). Stands y) e yes))
+    (λ no. let none = plain_no x prior i c cs no in absurd (omega arith))
+  where
+    Stands : List ℕ → Type 0
+    Stands [] = ⊥
+    Stands (d ∷ ds) = words.stands x prior i d ds ≡ true
+stands_in x prior i (suc n) (c ∷ cs) a z h e = by_bool (words.stands x prior i c cs)
+    (λ yes. let long = plain_yes x prior i c cs yes in stands_in x c (i + 1) n cs a z (omega arith) e)
+    (λ no. let none = plain_no x prior i c cs no in absurd (omega arith))
+
+-- no backquote of a word does
+backquote_stands : (x : Context) (prior i : ℕ) (cs : List ℕ) → x.site ≡ site.Word → words.stands x prior i 96 cs ≡ false
+backquote_stands x prior i cs word =
+    word_stands x prior i 96 cs word ∙ last_false (not (ends_token 96)) (not (words.is_stripped x prior 96)) (not (words.is_tilde x prior i 96 cs)) (not (words.is_special site.Word 96) || words.is_literal site.Word 96 cs) refl
+
+-- what stands for itself in a word
+stands_on : (x : Context) (q j a room : ℕ) (z : List ℕ) → x.site ≡ site.Word → words.stands x q j a z ≡ true → GoesOn a z room
+unfolding is_last_backquote
+stands_on x q j a room z word h =
+    let e = sym (word_stands x q j a z word) ∙ h in
+    let open_token = not (ends_token a) in
+    let parts = and_parts (open_token && not (words.is_stripped x q a) && not (words.is_tilde x q j a z)) (not (words.is_special site.Word a) || words.is_literal site.Word a z) e in
+    let first = and_parts open_token (not (words.is_stripped x q a)) (and_parts (open_token && not (words.is_stripped x q a)) (not (words.is_tilde x q j a z)) parts.0).0 in
+    record {
+      token = by_bool (ends_token a) (λ yes. absurd (true≢false (sym first.0 ∙ ap not yes))) (λ no. no);
+      behind = λ back. absurd (true≢false (sym h ∙ subst (λ n. words.stands x q j n z ≡ false) (sym (eqb-true a 92 back)) (backslash_stands x q j z word)));
+      last = no_last a z (by_bool (a == 96) (λ quote. absurd (true≢false (sym h ∙ subst (λ n. words.stands x q j n z ≡ false) (sym (eqb-true a 96 quote)) (backquote_stands x q j z word)))) (λ no. no));
+    }
+  where
+    no_last : (a : ℕ) (z : List ℕ) → (a == 96) ≡ false → is_last_backquote (a ∷ z) ≡ false
+    no_last a [] k = k
+    no_last a (d ∷ ds) k = refl
+
+-- A word goes on
+
+never_tabs : {x : Context} {prior i c : ℕ} {cs : List ℕ} {f : Sign × ℕ} → Form x prior i c cs f → f.0 ≡ sign.Tabs → ⊥
+never_tabs (Form.plain h e) is = true≢false (ap is_part (sym (ap (λ (f : Sign × ℕ). f.0) e) ∙ is))
+never_tabs (Form.tilde h e) is = true≢false (ap is_part (sym (ap (λ (f : Sign × ℕ). f.0) e) ∙ is))
+never_tabs (Form.stop e) is = true≢false (ap is_stop (sym e ∙ is))
+never_tabs {f = f} (Form.other e) is = true≢false (sym (ap (λ g. is_tabs (g, f.1)) is) ∙ e.no_tabs)
+
+backslash_goes : (x : Context) (cs : List ℕ) → x.site ≡ site.Word → is_part (words.backslash x cs).0 ≡ true → ((words.backslash x cs).1 ≡ 2) × (is_first is_newline cs ≡ false)
+unfolding words.backslash words.continuation is_first
+backslash_goes x [] word h = absurd (true≢false (sym h))
+backslash_goes x (c ∷ cs) word h =
+    let q : words.is_quoted x.site ≡ false = ap (λ s. words.is_quoted s) word in
+    let k : words.is_default_site x.site ≡ false = ap (λ s. words.is_default_site s) word in
+    by_bool (is_newline c)
+    (λ line.
+    let e : words.backslash x (c ∷ cs) ≡ (if words.is_word_site x.site && words.ends_joined cs then (sign.Stop, 0) else (sign.LeftOut form.Continuation, 0)) = rw (line, q) refl in
+    absurd (true≢false (sym h ∙ ap (λ (f : Sign × ℕ). is_part f.0) e ∙ neither (words.is_word_site x.site && words.ends_joined cs))))
+    (λ other. let e : words.backslash x (c ∷ cs) ≡ (sign.Escaped, 2) = rw (other, k) refl in (ap (λ (f : Sign × ℕ). f.1) e, other))
+  where
+    part_of : Sign × ℕ → Bool
+    part_of f = is_part f.0
+
+    neither : (t : Bool) → part_of (if t then (sign.Stop, 0) else (sign.LeftOut form.Continuation, 0)) ≡ false
+    neither true = refl
+    neither false = refl
+
+-- the bytes of a tilde-prefix
+login_bare : (c : ℕ) → words.is_login_byte c ≡ true → is_bare c ≡ true
+login_bare c h = grind (arith, nat_tests, h)
+
+all_weaker : (t : List ℕ) → list_all words.is_login_byte t ≡ true → list_all is_bare t ≡ true
+all_weaker [] h = refl
+all_weaker (c ∷ t) h = let both = and_parts (words.is_login_byte c) (list_all words.is_login_byte t) h in ap (λ y. y && list_all is_bare t) (login_bare c both.0) ∙ all_weaker t both.1
+
+tilde_covers : (x : Context) (c : ℕ) (t rest : List ℕ) → (c == 126) ≡ true → words.tilde_length x (t ++ rest) ≤ suc (length t) → words.tilde_length x (t ++ rest) ≤ run is_bare (c ∷ t)
+unfolding words.tilde_length
+tilde_covers x c t rest h within = go (tests x (drop (run words.is_login_byte (t ++ rest)) (t ++ rest))) within
+  where
+    tests : Context → List ℕ → Bool
+    tests x rest = length rest == 0 || is_first (λ d. d == 47 || (x.colons && d == 58) || words.stops x.site d) rest || is_joined rest || is_last_backquote rest
+
+    go : (y : Bool) → (if y then run words.is_login_byte (t ++ rest) + 1 else 0) ≤ suc (length t) → (if y then run words.is_login_byte (t ++ rest) + 1 else 0) ≤ run is_bare (c ∷ t)
+    go true k =
+        let m = run words.is_login_byte (t ++ rest) in
+        let front : take m t ≡ take_while words.is_login_byte (t ++ rest) = sym (take-append-le m t rest (omega arith)) ∙ run_taken words.is_login_byte (t ++ rest) in
+        let all : list_all words.is_login_byte (take m t) ≡ true = ap (list_all words.is_login_byte) front ∙ run_passes words.is_login_byte (t ++ rest) in
+        let bare : list_all is_bare (take (suc m) (c ∷ t)) ≡ true = ap (λ y. y && list_all is_bare (take m t)) (subst (λ d. is_bare d ≡ true) (sym (eqb-true c 126 h)) refl) ∙ all_weaker (take m t) all in
+        let found = run_covers is_bare (suc m) (c ∷ t) bare (omega arith) in
+        omega arith
+    go false k = omega arith
+
+-- a part that is its bytes
+abbrev is_flat : Sign → Bool
+is_flat sign.Plain = true
+is_flat sign.Tilde = true
+is_flat _ = false
+
+flat_at : (limit : ℕ) (b : List ℕ) (x : Context) (s v : Spot) (e : ℕ) (p : Part) (g : Sign) → is_flat g ≡ true → PartIs limit b x g s e v p → v ≡ to e s
+flat_at limit b x s v e p sign.Plain h q = q.0
+flat_at limit b x s v e p sign.Tilde h q = q.0
+flat_at limit b x s v e p g h q = absurd (true≢false (sym h))
+
+last_no : (c : ℕ) (ys : List ℕ) → ((c == 96) ≡ true → ys ≡ [] → ⊥) → is_last_backquote (c ∷ ys) ≡ false
+unfolding is_last_backquote
+last_no c [] h = by_bool (c == 96) (λ yes. absurd (h yes refl)) (λ no. no)
+last_no c (d ∷ ys) h = refl
+
+backquoted_stops : (x : Context) → x.site ≡ site.Word → is_part (words.backquoted x []).0 ≡ false
+unfolding words.backquoted
+backquoted_stops x word = let w : words.is_word_site x.site ≡ true = ap (λ s. words.is_word_site s) word in rw w refl
+
+step : (x : Context) (prior i c : ℕ) (t rest : List ℕ) (n room a : ℕ) (z : List ℕ) → x.site ≡ site.Word → run is_bare (c ∷ t) ≡ n → length (c ∷ t) ≡ n + suc room → drop n ((c ∷ t) ++ rest) ≡ a ∷ z
+    → (f : Sign × ℕ) → Form x prior i c (t ++ rest) f → is_part f.0 ≡ true → f.1 ≤ suc (length t) → (is_flat f.0 ≡ true → f.1 ≤ n → GoesOn a z room) → GoesOn a z room
+step x prior i c t rest n room a z word all long behind f (Form.plain h e) part within next =
+    let size : f.1 ≡ words.plain_length x prior i (c ∷ (t ++ rest)) = ap (λ (y : Sign × ℕ). y.1) e in
+    ⊎_elim
+    (λ less. let st = stands_in x prior i n (c ∷ (t ++ rest)) a z (omega arith) behind in stands_on x st.0 st.1 a room z word st.2)
+    (λ more. next (ap (λ (y : Sign × ℕ). is_flat y.0) e) more)
+    (cases_lt n f.1)
+step x prior i c t rest n room a z word all long behind f (Form.tilde h e) part within next =
+    let size : f.1 ≡ words.tilde_length x (t ++ rest) = ap (λ (y : Sign × ℕ). y.1) e in
+    let covers = tilde_covers x c t rest h (omega arith) in
+    next (ap (λ (y : Sign × ℕ). is_flat y.0) e) (omega arith)
+step x prior i c t rest n room a z word all long behind f (Form.stop e) part within next = absurd (true≢false (sym part ∙ ap is_part e))
+step x prior i c t rest n room a z word all long behind f (Form.other begins) part within next =
+    let none = run_no is_bare c t begins.bare in
+    let zero_long : n ≡ 0 = omega arith in
+    let same : c ∷ (t ++ rest) ≡ a ∷ z = ap (λ k. drop k ((c ∷ t) ++ rest)) (sym zero_long) ∙ behind in
+    subst On same (record {
+      token = begins.token;
+      behind = λ back.
+          let e = begins.back back in
+          let goes = backslash_goes x (t ++ rest) word (subst (λ (y : Sign × ℕ). is_part y.0 ≡ true) e part) in
+          let size : f.1 ≡ 2 = ap (λ (y : Sign × ℕ). y.1) e ∙ goes.0 in
+          (omega arith, goes.1);
+      last = last_no c (t ++ rest)
+          (λ quote empty. true≢false (sym (subst (λ (y : Sign × ℕ). is_part y.0 ≡ true) (begins.quote quote ∙ ap (words.backquoted x) empty) part) ∙ backquoted_stops x word));
+    })
+  where
+    On : List ℕ → Type 0
+    On [] = ⊥
+    On (d ∷ ds) = GoesOn d ds room
+
+module _ {limit : ℕ} {b : List ℕ} {x : Context} (word : x.site ≡ site.Word) where
+  word_on : {prior : ℕ} {s u : Spot} {ps : List Part} → ReadsParts limit b x prior s u ps → (t rest : List ℕ) → drop s.at b ≡ t ++ rest → u.at ≡ s.at + length t
+      → (n room : ℕ) → run is_bare t ≡ n → length t ≡ n + suc room → (a : ℕ) (z : List ℕ) → drop n (t ++ rest) ≡ a ∷ z → GoesOn a z room
+  unfolding words.token
+  word_on reads [] rest there size n room long all a z behind = absurd (omega arith)
+  word_on {prior = prior} (r.stop {s = s} is) (c ∷ t) rest there size n room long all a z behind =
+      let e = stop_ends x prior s.at (drop s.at b) word (ap is_stop is) in
+      let none = e.size in
+      absurd (omega arith)
+  word_on {prior = prior} (r.tabs {s = s} is others) (c ∷ t) rest there size n room long all a z behind =
+      absurd (never_tabs (form_of x prior s.at c (t ++ rest) word) (sym (ap (λ cs. (words.sign_of x prior s.at cs).0) there) ∙ is))
+  word_on {prior = prior} {u = u} (r.more {s = s} {v = v} {g = g} {p = p} is part others) (c ∷ t) rest there size n room long all a z behind =
+      let w = (c ∷ t) ++ rest in
+      let next : (m : ℕ) → v.at ≡ s.at + m → m ≤ n → GoesOn a z room = λ m at within.
+      let less = length-drop m (c ∷ t) in
+      let cut : drop m w ≡ drop m (c ∷ t) ++ rest = drop-append-le m (c ∷ t) rest (omega arith) in
+      let place : m + (n - m) ≡ n = omega arith in
+      word_on others (drop m (c ∷ t)) rest (ap (λ k. drop k b) at ∙ sym (drop-drop m s.at b) ∙ ap (drop m) there ∙ cut) (omega arith) (n - m) room
+      (run_drop is_bare m (c ∷ t) (omega arith) ∙ ap (λ k. k - m) long) (omega arith) a z
+      (ap (drop (n - m)) (sym cut) ∙ drop-drop (n - m) m w ∙ ap (λ k. drop k w) place ∙ behind) in
+      let here : words.sign_of x prior s.at (drop s.at b) ≡ words.sign_of x prior s.at w = ap (words.sign_of x prior s.at) there in
+      let ahead = part_forward part in
+      let further = parts_forward others in
+      let size_is = ap (λ (f : Sign × ℕ). f.1) here in
+      let kind : g ≡ (words.sign_of x prior s.at w).0 = sym is ∙ ap (λ (f : Sign × ℕ). f.0) here in
+      step x prior s.at c t rest n room a z word long all behind (words.sign_of x prior s.at w) (form_of x prior s.at c (t ++ rest) word) (subst (λ y. is_part y ≡ true) kind (part_begins part)) (omega arith)
+      (λ flat. next (words.sign_of x prior s.at w).1 (ap (λ (y : Spot). y.at) (flat_at limit b x s v (r.after b x prior s) p g (ap is_flat kind ∙ flat) (part_is part)) ∙ ap (λ (f : Sign × ℕ). s.at + f.1) here))
