@@ -2,7 +2,8 @@
 -- POSIX.1-2024, XCU 2.3 (token recognition), 2.4 (reserved words), 2.10 (shell grammar).
 use Rattle.std.proofs.Common.{◌≡◌, ℕ, zero, suc, ◌+◌, ◌-◌, ◌<◌, ◌≤◌, ◌==◌, Bool, true, false, not, ◌&&◌, ◌||◌, if◌then◌else◌, List, [], ◌∷◌, ◌++◌, length, drop, take, Option, Some, None, refl, sym, ap, ◌∙◌, subst, arith, ⊎_elim, length-append, length-drop}
 use Rattle.std.specs.List.{list_all, list_any, take_while}
-use Rattle.std.proofs.lemmas.Bool.{cond-true, cond-false, true≢false, and_parts, eqb-true, cases_lt}
+use Rattle.std.proofs.lemmas.Bool.{cond-true, cond-false, true≢false, and_parts, eq-eqb, eqb-true, ne_eqb, cases_lt}
+use Rattle.std.proofs.Math.Seq.{drop-append_seam, take-append_seam}
 use Rattle.std.proofs.lemmas.Bool.Decides.{nat_tests}
 use Rattle.std.proofs.lemmas.List.{drop-append-le, drop-drop, take-append-le}
 use Rattle.sh_tree.specs.declared.refusal.Form.TheVariants as form
@@ -11,8 +12,8 @@ use Rattle.sh_tree.specs.declared.token.word.Context.{Context}
 use Rattle.sh_tree.specs.declared.token.word.Site.TheVariants as site
 use Rattle.sh_tree.specs.declared.token.word.Sign.{Sign}
 use Rattle.sh_tree.specs.declared.token.word.Sign.TheVariants as sign
-use Rattle.sh_tree.specs.standard.language.Bytes.{is_newline, is_tab, is_backslash, ends_token, is_first, is_joined, is_last_backquote, run}
-use Rattle.sh_tree.specs.standard.language.Commands.{is_bare}
+use Rattle.sh_tree.specs.standard.language.Bytes.{is_name_byte, is_name_start, name_length, is_newline, is_tab, is_backslash, ends_token, is_first, is_joined, is_last_backquote, run}
+use Rattle.sh_tree.specs.standard.language.Commands.{bare_word, is_assignment, is_bare}
 use Rattle.sh_tree.specs.standard.language.Reading as r
 use Rattle.sh_tree.specs.standard.language.Reading.{ReadsPart, ReadsParts}
 use Rattle.sh_tree.specs.standard.language.States.{Spot, to}
@@ -23,8 +24,9 @@ use Rattle.sh_reads.proofs.FrontLemmas.{run_passes, run_taken, run_within}
 use Rattle.sh_reads.proofs.TakeLemmas.{is_part, part_begins}
 use Rattle.sh_copies.proofs.AlikeBytes.{by_bool, run_no, run_yes}
 use Rattle.sh_copies.proofs.AlikePlain.{plain_no, plain_yes}
+use Rattle.sh_copies.proofs.Boundary.{is_edge}
 use Rattle.sh_copies.proofs.CopiedMarks.{backslash_stands}
-use Rattle.sh_copies.proofs.Declaring.{is_stop, last_false, stop_ends, word_stands}
+use Rattle.sh_copies.proofs.Declaring.{Edge, edge, is_stop, last_false, stop_ends, word_stands}
 use Rattle.sh_copies.proofs.Forward.{part_forward, parts_forward}
 
 -- Inside a word
@@ -298,3 +300,105 @@ module _ {limit : ℕ} {b : List ℕ} {x : Context} (word : x.site ≡ site.Word
       let kind : g ≡ (words.sign_of x prior s.at w).0 = sym is ∙ ap (λ (f : Sign × ℕ). f.0) here in
       step x prior s.at c t rest n room a z word long all behind (words.sign_of x prior s.at w) (form_of x prior s.at c (t ++ rest) word) (subst (λ y. is_part y ≡ true) kind (part_begins part)) (omega arith)
       (λ flat. next (words.sign_of x prior s.at w).1 (ap (λ (y : Spot). y.at) (flat_at limit b x s v (r.after b x prior s) p g (ap is_flat kind ∙ flat) (part_is part)) ∙ ap (λ (f : Sign × ℕ). s.at + f.1) here))
+
+-- What a word is before what ends it
+
+-- The text is a word before the rest, as far as its tokens of commands go.
+record Stands (t rest : List ℕ) : Type 0 where
+  ends : words.ends_joined rest ≡ true
+  goes : (n room : ℕ) → run is_bare t ≡ n → length t ≡ n + suc room → (a : ℕ) (z : List ℕ) → drop n (t ++ rest) ≡ a ∷ z → GoesOn a z room
+
+edge_byte : (c : ℕ) (cs : List ℕ) → Edge c cs → is_edge c ≡ true
+edge_byte c cs (Edge.token h) = ap (λ t. t || c == 92 || c == 96) h
+edge_byte c cs (Edge.joined d ds is back line more) = subst (λ n. is_edge n ≡ true) (sym (eqb-true c 92 back)) refl
+edge_byte c cs (Edge.last quote none) = subst (λ n. is_edge n ≡ true) (sym (eqb-true c 96 quote)) refl
+
+first_none : (p : ℕ → Bool) → ((c : ℕ) → is_edge c ≡ true → p c ≡ false) → (rest : List ℕ) → words.ends_joined rest ≡ true → is_first p rest ≡ false
+unfolding is_first
+first_none p none [] h = refl
+first_none p none (c ∷ cs) h = none c (edge_byte c cs (edge c cs h))
+
+run_front : (p : ℕ → Bool) (t rest : List ℕ) → is_first p rest ≡ false → run p (t ++ rest) ≡ run p t
+unfolding is_first
+run_front p [] [] h = refl
+run_front p [] (c ∷ cs) h = run_no p c cs h
+run_front p (c ∷ t) rest h = by_bool (p c)
+    (λ yes. run_yes p c (t ++ rest) yes ∙ ap suc (run_front p t rest h) ∙ sym (run_yes p c t yes))
+    (λ no. run_no p c (t ++ rest) no ∙ sym (run_no p c t no))
+
+-- what is no end does not end a word
+goes_not : (a : ℕ) (z : List ℕ) {room : ℕ} → GoesOn a z room → words.ends_joined (a ∷ z) ≡ false
+unfolding is_first is_last_backquote
+goes_not a z g = by_bool (words.ends_joined (a ∷ z)) (λ yes. absurd (go (edge a z yes))) (λ no. no)
+  where
+    go : Edge a z → ⊥
+    go (Edge.token h) = true≢false (sym h ∙ g.token)
+    go (Edge.joined d ds is back line more) = true≢false (sym line ∙ ap (is_first is_newline) (sym is) ∙ (g.behind back).1)
+    go (Edge.last quote none) = true≢false (sym quote ∙ ap (λ y. is_last_backquote (a ∷ y)) (sym none) ∙ g.last)
+
+-- the text behind its n first bytes, which are not all
+behind_some : (n : ℕ) (t : List ℕ) → n < length t → (a : ℕ) × (z : List ℕ) × (room : ℕ) × (drop n t ≡ a ∷ z) × (length z ≡ room) × (length t ≡ n + suc room)
+behind_some n [] h = absurd (omega arith)
+behind_some zero (c ∷ t) h = (c, t, length t, refl, refl, omega arith)
+behind_some (suc n) (c ∷ t) h = let k = behind_some n t (omega arith) in let e = k.5 in (k.0, k.1, k.2, k.3, k.4, omega arith)
+
+-- the word, if all of its bytes are bare
+abbrev bare_text : List ℕ → List ℕ
+bare_text t = if run is_bare t == length t then t else []
+
+bare_edge : (c : ℕ) → is_edge c ≡ true → is_bare c ≡ false
+bare_edge c h = grind (arith, nat_tests, h)
+
+bare_is : (t rest : List ℕ) → Stands t rest → bare_word (t ++ rest) 0 ≡ bare_text t
+unfolding bare_word
+bare_is t rest s =
+    let long : run is_bare (t ++ rest) ≡ run is_bare t = run_front is_bare t rest (first_none is_bare bare_edge rest s.ends) in
+    let n = run is_bare t in
+    ap (λ k. if words.ends_joined (drop k (t ++ rest)) then take k (t ++ rest) else []) long
+    ∙ ⊎_elim
+    (λ less.
+    let k = behind_some n t less in
+    let cut : drop n (t ++ rest) ≡ k.0 ∷ (k.1 ++ rest) = drop-append-le n t rest (omega arith) ∙ ap (λ y. y ++ rest) k.3 in
+    let goes = goes_not k.0 (k.1 ++ rest) (s.goes n k.2 refl k.5 k.0 (k.1 ++ rest) cut) in
+    let other : (n == length t) ≡ false = ne_eqb n (length t) (omega arith) in
+    cond-false _ _ _ (ap (λ y. words.ends_joined y) cut ∙ goes) ∙ sym (cond-false _ _ _ other))
+    (λ all.
+    let within = run_within is_bare t in
+    let same : n ≡ length t = omega arith in
+    let rest_is : drop n (t ++ rest) ≡ rest = ap (λ k. drop k (t ++ rest)) same ∙ drop-append_seam t rest in
+    let text_is : take n (t ++ rest) ≡ t = ap (λ k. take k (t ++ rest)) same ∙ take-append_seam t rest in
+    cond-true _ _ _ (ap (λ y. words.ends_joined y) rest_is ∙ s.ends) ∙ text_is ∙ sym (cond-true _ _ _ (eq-eqb n (length t) same)))
+    (cases_lt n (length t))
+
+-- assignments
+name_edge : (c : ℕ) → is_edge c ≡ true → is_name_byte c ≡ false
+name_edge c h = grind (arith, nat_tests, h)
+
+equals_edge : (c : ℕ) → is_edge c ≡ true → (c == 61) ≡ false
+equals_edge c h = grind (arith, nat_tests, h)
+
+first_inside : (p : ℕ → Bool) (n : ℕ) (t rest : List ℕ) → is_first p rest ≡ false → n ≤ length t → is_first p (drop n (t ++ rest)) ≡ is_first p (drop n t)
+unfolding is_first
+first_inside p zero [] rest h l = h
+first_inside p zero (c ∷ t) rest h l = refl
+first_inside p (suc n) [] rest h l = absurd (omega arith)
+first_inside p (suc n) (c ∷ t) rest h l = first_inside p n t rest h (omega arith)
+
+name_inside : (c : ℕ) (t rest : List ℕ) → words.ends_joined rest ≡ true → name_length ((c ∷ t) ++ rest) ≡ name_length (c ∷ t)
+unfolding name_length is_first
+name_inside c t rest h = ap (λ n. if is_name_start c then n else 0) (run_front is_name_byte (c ∷ t) rest (first_none is_name_byte name_edge rest h))
+
+name_within : (t : List ℕ) → name_length t ≤ length t
+unfolding name_length
+name_within t = go (is_first is_name_start t)
+  where
+    go : (y : Bool) → (if y then run is_name_byte t else 0) ≤ length t
+    go true = run_within is_name_byte t
+    go false = omega arith
+
+assignment_inside : (c : ℕ) (t rest : List ℕ) → words.ends_joined rest ≡ true → is_assignment ((c ∷ t) ++ rest) ≡ is_assignment (c ∷ t)
+unfolding is_assignment
+assignment_inside c t rest h =
+    let size = name_inside c t rest h in
+    ap (λ n. not (n == 0) && is_first (λ d. d == 61) (drop n ((c ∷ t) ++ rest))) size
+    ∙ ap (λ y. not (name_length (c ∷ t) == 0) && y) (first_inside (λ d. d == 61) (name_length (c ∷ t)) (c ∷ t) rest (first_none (λ d. d == 61) equals_edge rest h) (name_within (c ∷ t)))
