@@ -12,8 +12,8 @@ use Rattle.sh_tree.specs.declared.token.word.Context.{Context}
 use Rattle.sh_tree.specs.declared.token.word.Site.TheVariants as site
 use Rattle.sh_tree.specs.declared.token.word.Sign.{Sign}
 use Rattle.sh_tree.specs.declared.token.word.Sign.TheVariants as sign
-use Rattle.sh_tree.specs.standard.language.Bytes.{is_name_byte, is_name_start, name_length, is_newline, is_tab, is_backslash, ends_token, is_first, is_joined, is_last_backquote, run}
-use Rattle.sh_tree.specs.standard.language.Commands.{bare_word, is_assignment, is_bare}
+use Rattle.sh_tree.specs.standard.language.Bytes.{is_blank, is_digit, behind_joined, joined_length, is_name_byte, is_name_start, name_length, is_newline, is_tab, is_backslash, ends_token, is_first, is_joined, is_last_backquote, run}
+use Rattle.sh_tree.specs.standard.language.Commands.{bare_word, is_angle, is_assignment, is_bare}
 use Rattle.sh_tree.specs.standard.language.Reading as r
 use Rattle.sh_tree.specs.standard.language.Reading.{ReadsPart, ReadsParts}
 use Rattle.sh_tree.specs.standard.language.States.{Spot, to}
@@ -24,9 +24,11 @@ use Rattle.sh_reads.proofs.FrontLemmas.{run_passes, run_taken, run_within}
 use Rattle.sh_reads.proofs.TakeLemmas.{is_part, part_begins}
 use Rattle.sh_copies.proofs.AlikeBytes.{by_bool, run_no, run_yes}
 use Rattle.sh_copies.proofs.AlikePlain.{plain_no, plain_yes}
+use Rattle.sh_copies.specs.Copied.{IsBehindWord}
 use Rattle.sh_copies.proofs.Boundary.{is_edge}
+use Rattle.sh_copies.proofs.Fronts.{never}
 use Rattle.sh_copies.proofs.CopiedMarks.{backslash_stands}
-use Rattle.sh_copies.proofs.Declaring.{Edge, edge, is_stop, last_false, stop_ends, word_stands}
+use Rattle.sh_copies.proofs.Declaring.{Edge, edge, is_stop, last_false, stop_ends, token_first, word_stands}
 use Rattle.sh_copies.proofs.Forward.{part_forward, parts_forward}
 
 -- Inside a word
@@ -402,3 +404,112 @@ assignment_inside c t rest h =
     let size = name_inside c t rest h in
     ap (λ n. not (n == 0) && is_first (λ d. d == 61) (drop n ((c ∷ t) ++ rest))) size
     ∙ ap (λ y. not (name_length (c ∷ t) == 0) && y) (first_inside (λ d. d == 61) (name_length (c ∷ t)) (c ∷ t) rest (first_none (λ d. d == 61) equals_edge rest h) (name_within (c ∷ t)))
+
+-- Before what may stand behind a word of the canonical text
+
+first_is : (y : List ℕ) → is_first (λ c. is_blank c || is_newline c || c == 41) y ≡ true → (c : ℕ) × (cs : List ℕ) × (y ≡ c ∷ cs) × ((is_blank c || is_newline c || c == 41) ≡ true)
+unfolding is_first
+first_is [] k = absurd (true≢false (sym k))
+first_is (c ∷ cs) k = (c, cs, refl, k)
+
+behind_first : (rest : List ℕ) → IsBehindWord rest → (c : ℕ) × (cs : List ℕ) × (rest ≡ c ∷ cs) × ((is_blank c || is_newline c || c == 41) ≡ true)
+behind_first rest h = first_is rest h.ends
+
+behind_token : (c : ℕ) → (is_blank c || is_newline c || c == 41) ≡ true → ends_token c ≡ true
+behind_token c h = grind (arith, nat_tests, h)
+
+first_front : (p : ℕ → Bool) (y r r' : List ℕ) → 1 ≤ length y → is_first p (y ++ r') ≡ is_first p (y ++ r)
+unfolding is_first
+first_front p [] r r' h = absurd (omega arith)
+first_front p (c ∷ y) r r' h = refl
+
+stands_copied : (t rest rest' : List ℕ) → Stands t rest → IsBehindWord rest' → Stands t rest'
+stands_copied t rest rest' s h =
+    let f = behind_first rest' h in
+    let some : 1 ≤ length rest' = (let e = ap length f.2 in omega arith) in
+    record {
+      ends = ap (λ y. words.ends_joined y) f.2 ∙ token_first f.0 f.1 (behind_token f.0 f.3);
+      goes = λ n room all long a z behind.
+          let k = behind_some n t (omega arith) in
+          let long' = k.4 in
+          let whole = k.5 in
+          let cut : (y : List ℕ) → drop n (t ++ y) ≡ k.0 ∷ (k.1 ++ y) = λ y. drop-append-le n t y (omega arith) ∙ ap (λ v. v ++ y) k.3 in
+          let g = s.goes n room all long k.0 (k.1 ++ rest) (cut rest) in
+          let more = length-append k.1 rest' in
+          subst (OnList room) (sym (cut rest') ∙ behind) (record {
+            token = g.token;
+            behind = λ back. let b = g.behind back in let one = b.0 in (one, first_front is_newline k.1 rest rest' (omega arith) ∙ b.1);
+            last = last_no k.0 (k.1 ++ rest') (λ quote none. (let e : length (k.1 ++ rest') ≡ 0 = ap length none in omega arith));
+          });
+    }
+  where
+    OnList : ℕ → List ℕ → Type 0
+    OnList room [] = ⊥
+    OnList room (d ∷ ds) = GoesOn d ds room
+
+-- Digits
+
+no_angle : (a : ℕ) → ends_token a ≡ false → (a == 60 || a == 62) ≡ false
+no_angle a h = grind (arith, nat_tests, h)
+
+angle_none : (a : ℕ) (z : List ℕ) → ends_token a ≡ false → ((a == 92) ≡ true → is_first is_newline z ≡ false) → (is_angle (a ∷ z) ≡ false) × (is_angle (behind_joined (a ∷ z)) ≡ false)
+unfolding is_first joined_length
+angle_none a [] h k = (no_angle a h, no_angle a h)
+angle_none a (d ∷ ds) h k =
+    let other : (is_backslash a && is_newline d) ≡ false = by_bool (is_backslash a) (λ yes. ap (λ y. is_backslash a && y) (k yes) ∙ never (is_backslash a)) (λ no. ap (λ y. y && is_newline d) no) in
+    let none : joined_length (a ∷ d ∷ ds) ≡ 0 = cond-false _ _ _ other in
+    (no_angle a h, ap (λ n. is_angle (drop n (a ∷ d ∷ ds))) none ∙ no_angle a h)
+
+run_byte : (p : ℕ → Bool) (m : ℕ) (t : List ℕ) (a : ℕ) (z : List ℕ) → m < run p t → drop m t ≡ a ∷ z → p a ≡ true
+run_byte p m [] a z h e = absurd (omega arith)
+run_byte p zero (c ∷ t) a z h e = by_bool (p c) (λ yes. subst (λ d. p d ≡ true) (let k : c ≡ a = cc in k) yes) (λ no. let none = run_no p c t no in absurd (omega arith))
+run_byte p (suc m) (c ∷ t) a z h e = by_bool (p c) (λ yes. let long = run_yes p c t yes in run_byte p m t a z (omega arith) e) (λ no. let none = run_no p c t no in absurd (omega arith))
+
+run_wider : (p q : ℕ → Bool) → ((c : ℕ) → p c ≡ true → q c ≡ true) → (t : List ℕ) → run p t ≤ run q t
+run_wider p q wider [] = omega arith
+run_wider p q wider (c ∷ t) = by_bool (p c)
+    (λ yes. let one = run_yes p c t yes in let two = run_yes q c t (wider c yes) in let more = run_wider p q wider t in omega arith)
+    (λ no. let none = run_no p c t no in omega arith)
+
+digit_bare : (c : ℕ) → is_digit c ≡ true → is_bare c ≡ true
+digit_bare c h = grind (arith, nat_tests, h)
+
+digit_edge : (c : ℕ) → is_edge c ≡ true → is_digit c ≡ false
+digit_edge c h = grind (arith, nat_tests, h)
+
+bare_token : (c : ℕ) → is_bare c ≡ true → (ends_token c ≡ false) × ((c == 92) ≡ false)
+bare_token c h = (grind (arith, nat_tests, h), grind (arith, nat_tests, h))
+
+behind_angle : (c : ℕ) (cs : List ℕ) → (is_blank c || is_newline c || c == 41) ≡ true → (is_angle (c ∷ cs) ≡ false) × (is_angle (behind_joined (c ∷ cs)) ≡ false)
+unfolding is_first joined_length
+behind_angle c [] h = let angle : (c == 60 || c == 62) ≡ false = grind (arith, nat_tests, h) in (angle, angle)
+behind_angle c (d ∷ ds) h =
+    let other : (is_backslash c && is_newline d) ≡ false = grind (arith, nat_tests, h) in
+    let none : joined_length (c ∷ d ∷ ds) ≡ 0 = cond-false _ _ _ other in
+    let angle : (c == 60 || c == 62) ≡ false = grind (arith, nat_tests, h) in
+    (angle, ap (λ n. is_angle (drop n (c ∷ d ∷ ds))) none ∙ angle)
+
+-- no redirection follows the digits
+digits_none : (t rest : List ℕ) → Stands t rest → IsBehindWord rest
+    → (is_angle (drop (run is_digit (t ++ rest)) (t ++ rest)) ≡ false) × (is_angle (behind_joined (drop (run is_digit (t ++ rest)) (t ++ rest))) ≡ false)
+digits_none t rest s h =
+    let m = run is_digit t in
+    let long : run is_digit (t ++ rest) ≡ m = run_front is_digit t rest (first_none is_digit digit_edge rest s.ends) in
+    let wide = run_wider is_digit is_bare digit_bare t in
+    let within = run_within is_digit t in
+    subst (λ k. (is_angle (drop k (t ++ rest)) ≡ false) × (is_angle (behind_joined (drop k (t ++ rest))) ≡ false)) (sym long)
+    (⊎_elim
+    (λ less.
+    let k = behind_some m t less in
+    let cut : drop m (t ++ rest) ≡ k.0 ∷ (k.1 ++ rest) = drop-append-le m t rest (omega arith) ∙ ap (λ v. v ++ rest) k.3 in
+    subst (λ y. (is_angle y ≡ false) × (is_angle (behind_joined y) ≡ false)) (sym cut)
+    (⊎_elim
+    (λ inside. let b = bare_token k.0 (run_byte is_bare m t k.0 k.1 inside k.3) in angle_none k.0 (k.1 ++ rest) b.0 (λ back. absurd (true≢false (sym back ∙ b.1))))
+    (λ past. let g = s.goes m k.2 (omega arith) k.5 k.0 (k.1 ++ rest) cut in angle_none k.0 (k.1 ++ rest) g.token (λ back. (g.behind back).1))
+    (cases_lt m (run is_bare t))))
+    (λ all.
+    let same : m ≡ length t = omega arith in
+    let f = behind_first rest h in
+    let rest_is : drop m (t ++ rest) ≡ f.0 ∷ f.1 = ap (λ k. drop k (t ++ rest)) same ∙ drop-append_seam t rest ∙ f.2 in
+    subst (λ y. (is_angle y ≡ false) × (is_angle (behind_joined y) ≡ false)) (sym rest_is) (behind_angle f.0 f.1 f.3))
+    (cases_lt m (length t)))

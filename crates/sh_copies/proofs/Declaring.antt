@@ -43,7 +43,7 @@ is_stop _ = false
 abbrev stops : Sign × ℕ → Bool
 stops f = is_stop f.0
 
-token_first : (c : ℕ) (cs : List ℕ) → ends_token c ≡ true → words.ends_joined (c ∷ cs) ≡ true
+pub token_first : (c : ℕ) (cs : List ℕ) → ends_token c ≡ true → words.ends_joined (c ∷ cs) ≡ true
 unfolding joined_length is_first
 token_first c [] h = grind (arith, nat_tests, h)
 token_first c (d ∷ cs) h =
@@ -269,7 +269,7 @@ name_run (c ∷ t) rest h e =
 -- Declaring
 
 -- texts of which both or neither are a third
-bytes_same : (t v w : List ℕ) → (v ≡ t → w ≡ t) → (w ≡ t → v ≡ t) → bytes_eq t v ≡ bytes_eq t w
+pub bytes_same : (t v w : List ℕ) → (v ≡ t → w ≡ t) → (w ≡ t → v ≡ t) → bytes_eq t v ≡ bytes_eq t w
 bytes_same t v w f g = by_bool (bytes_eq t v)
     (λ yes. yes ∙ sym (is w (f (sym ((bytes_eq-Decides t v).0 yes)))))
     (λ no. by_bool (bytes_eq t w) (λ yes. absurd (true≢false (sym (is v (g (sym ((bytes_eq-Decides t w).0 yes)))) ∙ no))) (λ neither. no ∙ sym neither))
