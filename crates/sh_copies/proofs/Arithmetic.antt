@@ -2,7 +2,7 @@
 -- POSIX.1-2024, XCU 2.6.4 (arithmetic expansion).
 use Rattle.std.proofs.Common.{◌≡◌, ℕ, ◌+◌, ◌<◌, ◌≤◌, true, ◌&&◌, List, [], ◌∷◌, ◌++◌, map, refl, sym, ap, ◌∙◌, le_refl, le_trans, arith, ⊎_elim}
 use Rattle.std.proofs.lemmas.Bool.{true≢false}
-use Rattle.std.proofs.lemmas.List.{map-append, append-nil}
+use Rattle.std.proofs.lemmas.List.{map-append}
 use Rattle.sh_tree.specs.declared.tree.Binary.{Binary}
 use Rattle.sh_tree.specs.declared.tree.Expr.{Expr}
 use Rattle.sh_tree.specs.declared.tree.Expr.TheVariants as expr
@@ -23,7 +23,7 @@ use Rattle.sh_copies.proofs.Copies.{Copied, Place, Moved, Found, Turns, turned, 
 use Rattle.sh_copies.proofs.Forward.{over_forward, expression_forward, conditional_forward, level_forward, operands_forward, unary_forward, part_forward}
 use Rattle.sh_copies.proofs.Lexemes.{SameLexeme, lexeme_alike, lexeme_shifts}
 use Rattle.sh_copies.proofs.Places.{near, as_far, moved_to, moved_deeper, moved_behind}
-use Rattle.sh_copies.proofs.Singles.{chained, of_constant, of_variable, of_expansion, of_parenthesis, of_unary, of_chain, of_choice, of_assign, of_operands}
+use Rattle.sh_copies.proofs.Singles.{chained, of_constant, of_variable, of_expansion, of_parenthesis, of_unary, of_choice, of_assign, of_operands}
 
 -- Tokens
 

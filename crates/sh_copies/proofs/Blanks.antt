@@ -1,6 +1,6 @@
 -- Blanks and comments before a closing parenthesis are the same whatever follows it.
 -- POSIX.1-2024, XCU 2.3 (token recognition), 2.7.4 (here-document).
-use Rattle.std.proofs.Common.{◌≡◌, ℕ, zero, suc, ◌+◌, ◌≤◌, ◌<◌, ◌==◌, Bool, true, false, not, ◌&&◌, ◌||◌, List, [], ◌∷◌, ◌++◌, length, drop, take, if◌then◌else◌, refl, sym, ap, ◌∙◌, arith, eqb-true, length-drop}
+use Rattle.std.proofs.Common.{◌≡◌, ℕ, suc, ◌+◌, ◌≤◌, ◌<◌, ◌==◌, Bool, true, false, not, ◌&&◌, ◌||◌, List, [], ◌∷◌, ◌++◌, length, drop, refl, sym, ap, ◌∙◌, arith, eqb-true, length-drop}
 use Rattle.std.proofs.lemmas.Bool.{cond-true, cond-false, true≢false, and_parts}
 use Rattle.std.proofs.lemmas.List.{drop-drop, drop-append-le}
 use Rattle.std.proofs.lemmas.List.Sums.{take_while-cons}

@@ -53,7 +53,7 @@ edge_none p none (c ∷ cs) h = none c (go (is_edge c) h)
     go false k = absurd (true≢false k)
 
 -- The end of a word that is no part before r: it begins with a line continuation, or is a lone backslash, or a lone backquote that ends the text.
-pub loose : List ℕ → List ℕ → Bool
+unfoldable pub loose : List ℕ → List ℕ → Bool
 loose [] r = false
 loose (c ∷ []) r = is_backslash c || (c == 96 && length r == 0)
 loose (c ∷ d ∷ cs) r = is_backslash c && is_newline d

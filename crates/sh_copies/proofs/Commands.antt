@@ -1,6 +1,6 @@
 -- The commands of a substitution are read wherever their bytes stand.
 -- POSIX.1-2024, XCU 2.6.3 (command substitution), 2.9 (commands), 2.10 (shell grammar).
-use Rattle.std.proofs.Common.{◌≡◌, ℕ, ◌+◌, ◌<◌, ◌≤◌, Bool, true, false, not, ◌||◌, List, [], ◌∷◌, codes, drop, length, Option, Some, None, ◌⊎◌, inl, inr, refl, sym, ap, ◌∙◌, subst, arith, ⊎_elim}
+use Rattle.std.proofs.Common.{◌≡◌, ℕ, ◌+◌, ◌<◌, ◌≤◌, Bool, true, false, not, ◌||◌, List, [], ◌∷◌, drop, Option, Some, None, inr, refl, sym, ap, ◌∙◌, subst, arith}
 use Rattle.sh_tree.specs.declared.tree.AndOr.{AndOr}
 use Rattle.sh_tree.specs.declared.tree.Branch.{Branch}
 use Rattle.sh_tree.specs.declared.tree.Clause.{Clause}
@@ -19,26 +19,23 @@ use Rattle.sh_tree.specs.declared.tree.Redirect.{Redirect}
 use Rattle.sh_tree.specs.declared.tree.Script.{Script}
 use Rattle.sh_tree.specs.declared.tree.Word.{Word}
 use Rattle.sh_tree.specs.declared.token.command.Lead.{Lead}
-use Rattle.sh_tree.specs.declared.token.command.Lead.TheVariants as lead
-use Rattle.sh_tree.specs.declared.token.command.Operator.TheVariants as op
-use Rattle.sh_tree.specs.declared.token.command.Reserved.TheVariants as word
 use Rattle.sh_tree.specs.declared.token.command.Stage.{Stage}
-use Rattle.sh_tree.specs.declared.token.command.Stage.TheVariants.{First, Prefixed, Named}
+use Rattle.sh_tree.specs.declared.token.command.Stage.TheVariants.{First, Named}
 use Rattle.sh_tree.specs.standard.language.Bytes.{is_first}
-use Rattle.sh_tree.specs.standard.language.Commands.{blanks, name_end, is_bare_name, bare_word, is_redirection, is_reserved, is_newline_lead, is_word, is_esac, is_open, is_bar, begins_simple, begins_compound, begins_command, begins_pipeline, separator, link_of, clause_end_of}
-use Rattle.sh_tree.specs.standard.language.Contexts.{in_word, in_unsplit, in_value, in_stage}
+use Rattle.sh_tree.specs.standard.language.Commands.{name_end, is_bare_name, is_redirection, is_reserved, is_word, is_esac, is_bar, begins_simple, begins_compound, begins_command, begins_pipeline, separator, link_of, clause_end_of}
+use Rattle.sh_tree.specs.standard.language.Contexts.{in_value}
 use Rattle.sh_tree.specs.standard.language.Reading as r
 use Rattle.sh_tree.specs.standard.language.Reading.{lead_of, lead_here, skip, behind_name, parted, unopened, stage_behind, redirected, is_empty, is_some, ReadsWord, ReadsRedirects, ReadsBreaks, ReadsElements, ReadsCommand, ReadsCompound, ReadsDo, ReadsBranches, ReadsElse, ReadsForWords, ReadsWords, ReadsClauses, ReadsPatterns, ReadsPipeline, ReadsCommands, ReadsAndOr, ReadsLinks, ReadsItems, ReadsList, ReadsSequence, ReadsScript}
-use Rattle.sh_tree.specs.standard.language.States.{Spot, State, Document, nth, to, next, past, facing, within, begun, lower, as_deep, closing, waits}
+use Rattle.sh_tree.specs.standard.language.States.{State, Document, past, facing, within, begun, as_deep, closing}
 use Rattle.sh_tree.specs.standard.language.Trees as tree
 use Rattle.sh_tree.specs.standard.language.Trees.{span}
 use Rattle.sh_reads.proofs.MoveLemmas.{blanks_move, name_moves}
 use Rattle.sh_copies.proofs.Blanks.{is_number_sign}
 use Rattle.sh_copies.proofs.CommandsMove.{FoundState, before, unsplit_moves, field_moves, redirect_moves, redirects_move, breaks_move}
-use Rattle.sh_copies.proofs.CommandsReady.{NoSign, by_test, by_lead, redirects_sign, breaks_sign, elements_sign, command_sign, words_sign, for_words_sign, do_sign, list_sign, branches_sign, else_sign, patterns_sign, clauses_sign, commands_sign, pipeline_sign, links_sign, and_or_sign, items_sign, sequence_sign}
-use Rattle.sh_copies.proofs.CommandsTokens.{Ahead, Ready, MovedState, turns_at, lead_of_same, context_same, bare_name_same, name_same, stage_same, moved_next, moved_past, moved_skip, moved_name, moved_begun, moved_lower, moved_as_deep, moved_closing, moved_facing, moved_parted, moved_unopened}
-use Rattle.sh_copies.proofs.Copies.{Copied, Place, Moved, Found, KeptWord, limit_of, WordsMove, PartsMove, ScriptsMove}
-use Rattle.sh_copies.proofs.Forward.{next_forward, skip_forward, name_forward, parted_forward, unopened_forward, word_forward, redirect_forward, redirects_forward, breaks_forward, elements_forward, command_forward, compound_forward, do_forward, branches_forward, else_forward, for_words_forward, words_forward, clauses_forward, patterns_forward, pipeline_forward, commands_forward, and_or_forward, links_forward, items_forward, list_forward, sequence_forward}
+use Rattle.sh_copies.proofs.CommandsReady.{NoSign, by_test, by_lead, redirects_sign, breaks_sign, elements_sign, command_sign, words_sign, for_words_sign, do_sign, list_sign, branches_sign, else_sign, patterns_sign, clauses_sign, commands_sign, pipeline_sign, links_sign, items_sign, sequence_sign}
+use Rattle.sh_copies.proofs.CommandsTokens.{Ahead, Ready, MovedState, turns_at, lead_of_same, context_same, bare_name_same, name_same, stage_same, moved_past, moved_skip, moved_name, moved_begun, moved_lower, moved_as_deep, moved_closing, moved_facing, moved_parted, moved_unopened}
+use Rattle.sh_copies.proofs.Copies.{Copied, limit_of, WordsMove, PartsMove}
+use Rattle.sh_copies.proofs.Forward.{skip_forward, name_forward, parted_forward, unopened_forward, word_forward, redirect_forward, redirects_forward, breaks_forward, elements_forward, command_forward, compound_forward, do_forward, branches_forward, else_forward, for_words_forward, words_forward, clauses_forward, patterns_forward, pipeline_forward, commands_forward, and_or_forward, links_forward, items_forward, list_forward, sequence_forward}
 use Rattle.sh_copies.proofs.Leads.{name_is_no_sign}
 use Rattle.sh_copies.proofs.Places.{further, moved_to}
 

@@ -1,32 +1,28 @@
 -- Here-documents among the commands of a copy are read there.
 -- POSIX.1-2024, XCU 2.7.4 (here-document).
-use Rattle.std.proofs.Common.{◌≡◌, ℕ, ◌+◌, ◌-◌, ◌<◌, ◌≤◌, ◌==◌, Bool, true, false, not, ◌&&◌, ◌||◌, if◌then◌else◌, List, [], ◌∷◌, ◌++◌, length, map, min, drop, take, nat_lt, Some, ◌⊎◌, inl, inr, refl, sym, ap, ◌∙◌, subst, arith, append_assoc, length-drop, length-take, length-append, ⊎_elim}
+use Rattle.std.proofs.Common.{◌≡◌, ℕ, ◌+◌, ◌-◌, ◌<◌, ◌≤◌, ◌==◌, Bool, true, false, not, ◌&&◌, ◌||◌, if◌then◌else◌, List, [], ◌∷◌, ◌++◌, length, map, drop, take, nat_lt, Some, inl, refl, sym, ap, ◌∙◌, subst, arith, append_assoc, length-drop, length-take, length-append, ⊎_elim}
 use Rattle.std.specs.List.{list_all}
-use Rattle.std.proofs.lemmas.Bool.{cond-true, cond-false, true≢false, cases_lt, lt-ltb, le-ltb}
+use Rattle.std.proofs.lemmas.Bool.{cond-true, true≢false, cases_lt, lt-ltb, le-ltb}
 use Rattle.std.proofs.lemmas.Bool.Decides.{nat_tests}
-use Rattle.std.proofs.lemmas.List.{drop-drop, drop-append-le, take-append-le, take-append-drop, length-take-le, drop-take, take-take, append-nil}
+use Rattle.std.proofs.lemmas.List.{drop-drop, drop-append-le, take-append-drop, length-take-le, drop-take, take-take, append-nil}
 use Rattle.sh_tree.specs.declared.tree.Part.{Part}
 use Rattle.sh_tree.specs.declared.tree.Span.{Span}
-use Rattle.sh_tree.specs.declared.token.word.Context.{Context}
 use Rattle.sh_tree.specs.declared.token.word.Site.TheVariants as site
 use Rattle.sh_tree.specs.standard.Tree.{text_of}
 use Rattle.sh_tree.specs.standard.language.Bytes.{is_first, is_tab}
 use Rattle.sh_tree.specs.standard.language.Contexts.{in_document_of}
 use Rattle.sh_tree.specs.standard.language.HereDocuments.{Mark, end_line, behind_line, is_ambiguous, keeps_document, is_split_text, has_tabbed_line, has_joined}
 use Rattle.sh_tree.specs.standard.language.Parts.{keeps_lines, singles}
-use Rattle.sh_tree.specs.standard.language.Reading as r
-use Rattle.sh_tree.specs.standard.language.Reading.{ReadsDocuments, ReadsParts}
-use Rattle.sh_tree.specs.standard.language.States.{Spot, State, Document, in_document, with_document}
-use Rattle.sh_tree.specs.standard.language.Trees as tree
+use Rattle.sh_tree.specs.standard.language.Reading.{ReadsParts}
+use Rattle.sh_tree.specs.standard.language.States.{Spot}
 use Rattle.sh_tree.specs.standard.language.Trees.{span}
 use Rattle.sh_tree.specs.standard.language.Words.{is_quoted, stop_length}
-use Rattle.sh_reads.proofs.MoveLemmas.{line_behind, end_line_moves}
-use Rattle.sh_copies.proofs.AlikeBytes.{some_alike, by_bool}
-use Rattle.sh_copies.proofs.CommandsTokens.{Ahead, Closing, MovedState, text_same, text_between, moved_document}
-use Rattle.sh_copies.proofs.Copies.{Copied, Place, Moved, Turns, turned, limit_of, Found, Kept, PartsMove}
-use Rattle.sh_copies.proofs.Forward.{documents_forward, parts_forward}
+use Rattle.sh_reads.proofs.MoveLemmas.{line_behind}
+use Rattle.sh_copies.proofs.AlikeBytes.{some_alike}
+use Rattle.sh_copies.proofs.CommandsTokens.{Ahead, text_same}
+use Rattle.sh_copies.proofs.Copies.{Copied, Place, turned, limit_of, PartsMove}
 use Rattle.sh_copies.proofs.Fronts.{whole}
-use Rattle.sh_copies.proofs.Inside.{Inside, no_span, more_spans, parts_inside}
+use Rattle.sh_copies.proofs.Inside.{Inside, more_spans, parts_inside}
 use Rattle.sh_copies.proofs.Lines.{size, found_is, end_line_again, line_moves}
 use Rattle.sh_copies.proofs.Places.{left, as_far}
 

@@ -1,10 +1,9 @@
 -- Redirections, here-documents and newlines are read wherever their bytes stand.
 -- POSIX.1-2024, XCU 2.7 (redirection), 2.7.4 (here-document), 2.10 (shell grammar).
-use Rattle.std.proofs.Common.{◌≡◌, ℕ, ◌+◌, ◌-◌, ◌<◌, ◌≤◌, Bool, true, false, not, ◌&&◌, ◌||◌, List, [], ◌∷◌, length, min, drop, take, ◌⊎◌, inl, inr, refl, sym, ap, ◌∙◌, subst, arith, length-drop, length-take, ⊎_elim}
+use Rattle.std.proofs.Common.{◌≡◌, ℕ, ◌+◌, ◌-◌, ◌<◌, ◌≤◌, Bool, true, false, not, ◌&&◌, ◌||◌, List, [], ◌∷◌, length, drop, take, inl, inr, refl, sym, ap, ◌∙◌, subst, arith, length-drop, length-take, ⊎_elim}
 use Rattle.std.specs.List.{list_any}
 use Rattle.std.proofs.lemmas.Bool.{true≢false}
 use Rattle.sh_tree.specs.declared.tree.Redirect.{Redirect}
-use Rattle.sh_tree.specs.declared.tree.Span.{Span}
 use Rattle.sh_tree.specs.declared.tree.Target.TheVariants.{File, Here}
 use Rattle.sh_tree.specs.declared.tree.Word.{Word}
 use Rattle.sh_tree.specs.declared.token.command.Stage.TheVariants.{First, Named}
@@ -12,21 +11,21 @@ use Rattle.sh_tree.specs.declared.token.word.Context.{Context}
 use Rattle.sh_tree.specs.standard.Tree.{text_of}
 use Rattle.sh_tree.specs.standard.Words.{parts_text}
 use Rattle.sh_tree.specs.standard.language.Bytes.{is_newline, is_first}
-use Rattle.sh_tree.specs.standard.language.Commands.{lead_at, direction_of, strip_of, is_word, is_redirection, is_newline_lead}
+use Rattle.sh_tree.specs.standard.language.Commands.{direction_of, strip_of, is_word, is_redirection, is_newline_lead}
 use Rattle.sh_tree.specs.standard.language.Contexts.{in_unsplit, in_word}
 use Rattle.sh_tree.specs.standard.language.HereDocuments.{Mark, is_static, or_none, is_dollar_quoted, is_delimiter, delimiter_of, behind_line}
 use Rattle.sh_tree.specs.standard.language.Parts.{is_quoted_word, is_quotation}
 use Rattle.sh_tree.specs.standard.language.Reading as r
 use Rattle.sh_tree.specs.standard.language.Reading.{lead_of, lead_here, is_empty, ReadsWord, ReadsRedirect, ReadsRedirects, ReadsDocuments, ReadsBreaks}
-use Rattle.sh_tree.specs.standard.language.States.{Spot, State, Document, document_count, facing, in_document, next, past, with_mark, on_line, with_document}
+use Rattle.sh_tree.specs.standard.language.States.{Spot, State, Document, document_count, facing, in_document, next, past, with_mark, on_line}
 use Rattle.sh_tree.specs.standard.language.Trees as tree
 use Rattle.sh_tree.specs.standard.language.Trees.{span}
 use Rattle.sh_reads.proofs.MoveLemmas.{blanks_move, redirection_moves, line_behind, end_line_moves}
 use Rattle.sh_copies.proofs.Blanks.{is_number_sign}
 use Rattle.sh_copies.proofs.CommandsDocuments.{end_same, ambiguity_same, document_same, body_moves}
-use Rattle.sh_copies.proofs.CommandsReady.{NoSign, by_test, redirects_sign, breaks_sign}
+use Rattle.sh_copies.proofs.CommandsReady.{by_test, redirects_sign, breaks_sign}
 use Rattle.sh_copies.proofs.CommandsTokens.{Ahead, Ready, MovedState, turns_at, text_between, lead_of_same, redirection_same, moved_next, moved_past, moved_mark, moved_line, moved_document, moved_facing}
-use Rattle.sh_copies.proofs.Copies.{Copied, Place, Moved, Found, KeptWord, limit_of, WordsMove, PartsMove}
+use Rattle.sh_copies.proofs.Copies.{Copied, Found, KeptWord, limit_of, WordsMove, PartsMove}
 use Rattle.sh_copies.proofs.Forward.{next_forward, word_forward, redirect_forward, redirects_forward, documents_forward, breaks_forward}
 use Rattle.sh_copies.proofs.Lines.{end_line_inside}
 use Rattle.sh_copies.proofs.Places.{further}

@@ -1,6 +1,6 @@
 -- If no number sign stands where commands end, none stands where they begin: a comment that a here-document must not hold is no token.
 -- POSIX.1-2024, XCU 2.3 (token recognition), 2.7.4 (here-document).
-use Rattle.std.proofs.Common.{◌≡◌, ℕ, Bool, true, false, if◌then◌else◌, List, [], ◌∷◌, ◌==◌, Option, Some, None, drop, refl, sym, ap, ◌∙◌, subst, eqb-true, ⊎_elim}
+use Rattle.std.proofs.Common.{◌≡◌, ℕ, Bool, true, false, List, [], ◌∷◌, ◌==◌, Option, drop, refl, ap, ◌∙◌, subst, eqb-true}
 use Rattle.std.proofs.lemmas.Bool.{cond-false}
 use Rattle.sh_tree.specs.declared.tree.AndOr.{AndOr}
 use Rattle.sh_tree.specs.declared.tree.Branch.{Branch}
@@ -21,7 +21,7 @@ use Rattle.sh_tree.specs.declared.token.command.Stage.{Stage}
 use Rattle.sh_tree.specs.declared.token.command.Stage.TheVariants.{First, Named}
 use Rattle.sh_tree.specs.standard.language.Arithmetic.{is_closed}
 use Rattle.sh_tree.specs.standard.language.Bytes.{is_first}
-use Rattle.sh_tree.specs.standard.language.Commands.{lead_at, is_redirection, is_newline_lead, is_word, is_open, begins_simple, begins_command, begins_compound, begins_pipeline, link_of, separator, clause_end_of}
+use Rattle.sh_tree.specs.standard.language.Commands.{is_redirection, is_newline_lead, is_word, is_open, begins_simple, begins_command, begins_compound, begins_pipeline, link_of}
 use Rattle.sh_tree.specs.standard.language.Reading as r
 use Rattle.sh_tree.specs.standard.language.Reading.{lead_of, lead_here, skip, unopened, is_some, ReadsRedirects, ReadsBreaks, ReadsElements, ReadsCommand, ReadsCompound, ReadsDo, ReadsBranches, ReadsElse, ReadsForWords, ReadsWords, ReadsClauses, ReadsPatterns, ReadsPipeline, ReadsCommands, ReadsAndOr, ReadsLinks, ReadsItems, ReadsList, ReadsSequence}
 use Rattle.sh_tree.specs.standard.language.States.{State, Document}

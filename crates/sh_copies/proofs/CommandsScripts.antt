@@ -1,6 +1,6 @@
 -- The commands of a substitution are read wherever their bytes stand, up to what closes them.
 -- POSIX.1-2024, XCU 2.6.3 (command substitution).
-use Rattle.std.proofs.Common.{◌≡◌, ℕ, ◌+◌, ◌-◌, ◌<◌, ◌≤◌, ◌==◌, Bool, true, false, List, [], ◌∷◌, ◌++◌, length, drop, take, ◌⊎◌, inl, inr, refl, sym, ap, ◌∙◌, subst, arith, eqb-true, append_assoc, ⊎_elim}
+use Rattle.std.proofs.Common.{◌≡◌, ℕ, ◌+◌, ◌-◌, ◌<◌, ◌≤◌, ◌==◌, true, List, [], ◌∷◌, ◌++◌, drop, take, ◌⊎◌, inl, inr, refl, sym, ap, ◌∙◌, subst, arith, eqb-true, append_assoc, ⊎_elim}
 use Rattle.std.proofs.lemmas.Bool.{true≢false}
 use Rattle.std.proofs.lemmas.List.{drop-drop, drop-append-le, take-append-drop, length-take-le}
 use Rattle.sh_tree.specs.declared.tree.Script.{Script}
@@ -9,10 +9,10 @@ use Rattle.sh_tree.specs.standard.language.Bytes.{is_first}
 use Rattle.sh_tree.specs.standard.language.Commands.{blanks}
 use Rattle.sh_tree.specs.standard.language.Reading as r
 use Rattle.sh_tree.specs.standard.language.Reading.{ReadsScript}
-use Rattle.sh_tree.specs.standard.language.States.{Spot, State, nth, to, within, waits}
+use Rattle.sh_tree.specs.standard.language.States.{Spot, nth, to, within, waits}
 use Rattle.sh_reads.proofs.MoveLemmas.{blanks_move}
 use Rattle.sh_copies.proofs.Commands.{sequence_moves}
-use Rattle.sh_copies.proofs.CommandsMove.{FoundState, before}
+use Rattle.sh_copies.proofs.CommandsMove.{before}
 use Rattle.sh_copies.proofs.CommandsReady.{closed_no_sign, sequence_sign}
 use Rattle.sh_copies.proofs.CommandsTokens.{Closing, Ahead, Ready, MovedState, blanks_same}
 use Rattle.sh_copies.proofs.Copies.{Copied, Closed, Place, Moved, Found, limit_of, WordsMove, PartsMove, ScriptsMove}

@@ -1,10 +1,9 @@
 -- The same tokens and states among the commands of a copy.
 -- POSIX.1-2024, XCU 2.3 (token recognition), 2.10 (shell grammar).
-use Rattle.std.proofs.Common.{◌≡◌, ℕ, ◌+◌, ◌-◌, ◌<◌, ◌≤◌, ◌==◌, Bool, true, false, not, ◌&&◌, ◌||◌, if◌then◌else◌, List, [], ◌∷◌, ◌++◌, length, drop, take, Option, Some, None, ◌⊎◌, inl, inr, refl, sym, ap, ◌∙◌, subst, arith, eqb-true, eq-eqb, length-append, ⊎_elim}
+use Rattle.std.proofs.Common.{◌≡◌, ℕ, ◌+◌, ◌-◌, ◌≤◌, ◌==◌, Bool, true, false, ◌||◌, if◌then◌else◌, List, [], ◌∷◌, ◌++◌, length, drop, take, Option, Some, None, ◌⊎◌, refl, sym, ap, ◌∙◌, subst, arith, eqb-true, eq-eqb, length-append, ⊎_elim}
 use Rattle.std.proofs.lemmas.Bool.{cond-true, cond-false, true≢false}
-use Rattle.std.proofs.lemmas.List.{drop-drop, drop-append-le, take-append-le}
+use Rattle.std.proofs.lemmas.List.{drop-drop, take-append-le}
 use Rattle.std.proofs.lemmas.Option.{same_Some}
-use Rattle.sh_tree.specs.declared.tree.Span.{Span}
 use Rattle.sh_tree.specs.declared.token.command.Operator.{Operator}
 use Rattle.sh_tree.specs.declared.token.command.Redirection.{Redirection}
 use Rattle.sh_tree.specs.declared.token.command.Stage.{Stage}
@@ -16,9 +15,8 @@ use Rattle.sh_tree.specs.standard.language.Commands.{blanks, blank_length, lead_
 use Rattle.sh_tree.specs.standard.language.Contexts.{in_word, in_value, in_operand, in_stage}
 use Rattle.sh_tree.specs.standard.language.HereDocuments.{Mark}
 use Rattle.sh_tree.specs.standard.language.Reading.{lead_of, lead_here, skip, behind_name, parted, unopened, stage_behind}
-use Rattle.sh_tree.specs.standard.language.States.{Spot, State, Document, to, behind, next, past, begun, lower, as_deep, closing, with_mark, on_line, with_document, facing, waits}
+use Rattle.sh_tree.specs.standard.language.States.{Spot, State, Document, next, past, begun, lower, as_deep, closing, with_mark, on_line, with_document, facing, waits}
 use Rattle.sh_tree.specs.standard.language.Trees.{span}
-use Rattle.sh_tree.specs.standard.language.Words.{is_quoted}
 use Rattle.sh_copies.proofs.AlikeBytes.{by_bool}
 use Rattle.sh_copies.proofs.Blanks.{is_number_sign, blank_moves}
 use Rattle.sh_copies.proofs.Copies.{Copied, Place, Moved, Turns, turned, limit_of}

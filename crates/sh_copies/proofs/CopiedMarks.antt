@@ -105,7 +105,7 @@ dollar_part x i c rest = grind (arith, nat_tests, expansion_part i c rest)
 -- Plain parts
 
 -- no backslash of a word stands for itself
-pub backslash_stands : (x : Context) (prior i : ℕ) (cs : List ℕ) → x.site ≡ site.Word → words.stands x prior i 92 cs ≡ false
+backslash_stands : (x : Context) (prior i : ℕ) (cs : List ℕ) → x.site ≡ site.Word → words.stands x prior i 92 cs ≡ false
 unfolding is_first
 backslash_stands x prior i cs word = word_stands x prior i 92 cs word ∙ last_false (not (ends_token 92)) (not (words.is_stripped x prior 92)) (not (words.is_tilde x prior i 92 cs)) _ (go cs)
   where

@@ -32,11 +32,11 @@ use Rattle.sh_copies.proofs.AlikeBytes.{by_bool, run_yes, run_no, zero_not}
 use Rattle.sh_copies.proofs.AlikePlain.{plain_yes, plain_no}
 
 -- where a word may end it does, and takes nothing more
-pub record Ends (f : Sign × ℕ) (cs : List ℕ) : Type 0 where
-  pub size : f.1 ≡ 0
-  pub ends : words.ends_joined cs ≡ true
+record Ends (f : Sign × ℕ) (cs : List ℕ) : Type 0 where
+  size : f.1 ≡ 0
+  ends : words.ends_joined cs ≡ true
 
-abbrev pub is_stop : Sign → Bool
+abbrev is_stop : Sign → Bool
 is_stop sign.Stop = true
 is_stop _ = false
 
@@ -119,7 +119,7 @@ meant_ends x i c cs word h =
     (λ yes. let e : words.meant_by x i c cs ≡ words.backquoted x cs = rw (n1, n2, n3, yes) refl in same e h (backquoted_ends x c cs word yes))
     (λ n4. let e : words.meant_by x i c cs ≡ words.dollar x i cs = rw (n1, n2, n3, n4) refl in same e h (λ s. absurd (not_stop (words.dollar x i cs) (dollar_goes x i cs) s))))))
 
-pub stop_ends : (x : Context) (prior i : ℕ) (cs : List ℕ) → x.site ≡ site.Word → is_stop (words.sign_of x prior i cs).0 ≡ true → Ends (words.sign_of x prior i cs) cs
+stop_ends : (x : Context) (prior i : ℕ) (cs : List ℕ) → x.site ≡ site.Word → is_stop (words.sign_of x prior i cs).0 ≡ true → Ends (words.sign_of x prior i cs) cs
 unfolding words.sign_of words.sign_by joined_length
 stop_ends x prior i [] word h = record { size = refl; ends = refl }
 stop_ends x prior i (c ∷ cs) word h =
@@ -177,7 +177,7 @@ last_false true true false w h = refl
 last_false true false v w h = refl
 last_false false u v w h = refl
 
-edge_stands : (x : Context) (prior i c : ℕ) (cs : List ℕ) → x.site ≡ site.Word → Edge c cs → words.stands x prior i c cs ≡ false
+pub edge_stands : (x : Context) (prior i c : ℕ) (cs : List ℕ) → x.site ≡ site.Word → Edge c cs → words.stands x prior i c cs ≡ false
 unfolding is_first
 edge_stands x prior i c cs word (Edge.token h) = word_stands x prior i c cs word ∙ rw h refl
 edge_stands x prior i c cs word (Edge.joined d ds is back line more) =
@@ -190,7 +190,7 @@ edge_stands x prior i c cs word (Edge.last quote none) =
     ∙ last_false (not (ends_token c)) (not (words.is_stripped x prior c)) (not (words.is_tilde x prior i c cs)) _ (subst (λ n. (not (words.is_special site.Word n) || words.is_literal site.Word n cs) ≡ false) (sym (eqb-true c 96 quote)) refl)
 
 -- so a word ends there
-pub edge_stop : (x : Context) (prior i c : ℕ) (cs : List ℕ) → x.site ≡ site.Word → x.strip ≡ false → Edge c cs → words.sign_of x prior i (c ∷ cs) ≡ (sign.Stop, 0)
+edge_stop : (x : Context) (prior i c : ℕ) (cs : List ℕ) → x.site ≡ site.Word → x.strip ≡ false → Edge c cs → words.sign_of x prior i (c ∷ cs) ≡ (sign.Stop, 0)
 unfolding words.sign_of words.sign_by words.meant_by words.backslash words.continuation words.backquoted
 edge_stop x prior i c cs word strip (Edge.token h) =
     let k : words.stops x.site c ≡ ends_token c = ap (λ s. words.stops s c) word in
@@ -218,7 +218,7 @@ edge_stop x prior i c cs word strip (Edge.last quote none) =
     let e : words.sign_by x prior i c cs ≡ words.backquoted x cs = rw (k, stripped, stands, tilde, back, single, double, quote) refl in
     e ∙ ap (words.backquoted x) none ∙ rw w refl
 
-ends_stop : (x : Context) (prior i : ℕ) (cs : List ℕ) → x.site ≡ site.Word → x.strip ≡ false → words.ends_joined cs ≡ true → words.sign_of x prior i cs ≡ (sign.Stop, 0)
+pub ends_stop : (x : Context) (prior i : ℕ) (cs : List ℕ) → x.site ≡ site.Word → x.strip ≡ false → words.ends_joined cs ≡ true → words.sign_of x prior i cs ≡ (sign.Stop, 0)
 unfolding words.sign_of
 ends_stop x prior i [] word strip h = ap (λ s. (words.sign_at_end s, 0)) word
 ends_stop x prior i (c ∷ cs) word strip h = edge_stop x prior i c cs word strip (edge c cs h)
@@ -251,7 +251,7 @@ name_sign x prior i c t rest word strip h e =
     let stripped : words.is_stripped x prior c ≡ false = rw strip refl in
     rw (k, stripped, stands) (ap (λ n. (sign.Plain, n)) (name_plain x prior i (c ∷ t) rest word strip h e))
 
-edge_bare : (c : ℕ) (cs : List ℕ) → Edge c cs → is_bare c ≡ false
+pub edge_bare : (c : ℕ) (cs : List ℕ) → Edge c cs → is_bare c ≡ false
 edge_bare c cs (Edge.token h) = rw h refl
 edge_bare c cs (Edge.joined d ds is back line more) = subst (λ n. is_bare n ≡ false) (sym (eqb-true c 92 back)) refl
 edge_bare c cs (Edge.last quote none) = subst (λ n. is_bare n ≡ false) (sym (eqb-true c 96 quote)) refl
@@ -269,7 +269,7 @@ name_run (c ∷ t) rest h e =
 -- Declaring
 
 -- texts of which both or neither are a third
-pub bytes_same : (t v w : List ℕ) → (v ≡ t → w ≡ t) → (w ≡ t → v ≡ t) → bytes_eq t v ≡ bytes_eq t w
+bytes_same : (t v w : List ℕ) → (v ≡ t → w ≡ t) → (w ≡ t → v ≡ t) → bytes_eq t v ≡ bytes_eq t w
 bytes_same t v w f g = by_bool (bytes_eq t v)
     (λ yes. yes ∙ sym (is w (f (sym ((bytes_eq-Decides t v).0 yes)))))
     (λ no. by_bool (bytes_eq t w) (λ yes. absurd (true≢false (sym (is v (g (sym ((bytes_eq-Decides t w).0 yes)))) ∙ no))) (λ neither. no ∙ sym neither))

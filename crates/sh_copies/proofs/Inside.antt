@@ -1,6 +1,6 @@
 -- What begins in a text ends in it.
 -- POSIX.1-2024, XCU 2.2 (quoting), 2.6 (word expansions).
-use Rattle.std.proofs.Common.{◌≡◌, ℕ, ◌+◌, ◌-◌, ◌<◌, ◌≤◌, ◌==◌, Bool, true, false, not, ◌&&◌, ◌||◌, if◌then◌else◌, List, [], ◌∷◌, ◌++◌, length, drop, take, codes, Option, Some, None, refl, sym, ap, ◌∙◌, subst, arith, length-drop, length-take, nat_lt, ⊎_elim}
+use Rattle.std.proofs.Common.{◌≡◌, ℕ, ◌+◌, ◌-◌, ◌<◌, ◌≤◌, ◌==◌, Bool, true, false, not, ◌&&◌, ◌||◌, if◌then◌else◌, List, [], ◌∷◌, ◌++◌, length, drop, take, Option, Some, None, refl, sym, ap, ◌∙◌, subst, arith, length-drop, length-take, nat_lt, ⊎_elim}
 use Rattle.std.proofs.lemmas.Bool.{true≢false, cond_both, cases_lt, ltb-true}
 use Rattle.std.proofs.lemmas.List.{drop_all}
 use Rattle.sh_tree.specs.declared.tree.Action.{Action}

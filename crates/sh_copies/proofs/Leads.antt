@@ -1,11 +1,10 @@
 -- A token of commands before a closing parenthesis is the same whatever follows it, and wherever it stands.
 -- POSIX.1-2024, XCU 2.3 (token recognition), 2.4 (reserved words), 2.7 (redirection).
-use Rattle.std.proofs.Common.{◌≡◌, ℕ, zero, suc, ◌+◌, ◌-◌, ◌≤◌, ◌<◌, ◌==◌, Bool, true, false, not, ◌&&◌, ◌||◌, List, [], ◌∷◌, ◌++◌, length, drop, take, codes, nat_eq, nat_lt, nat_le, if◌then◌else◌, ◌⊎◌, inl, inr, refl, sym, ap, ◌∙◌, subst, arith, eqb-true, length-drop, length-take, ⊎_elim}
+use Rattle.std.proofs.Common.{◌≡◌, ℕ, zero, suc, ◌+◌, ◌≤◌, ◌<◌, ◌==◌, Bool, true, false, not, ◌&&◌, ◌||◌, List, [], ◌∷◌, ◌++◌, length, drop, take, nat_le, if◌then◌else◌, inl, inr, refl, sym, ap, ◌∙◌, subst, arith, eqb-true, length-drop, length-take, ⊎_elim}
 use Rattle.std.specs.Prelude.{Option, Some, None}
-use Rattle.std.proofs.lemmas.Bool.{cond-true, cond-false, true≢false, cases_lt, le-ltb, lt-ltb, le-leb, leb-true, and_parts}
+use Rattle.std.proofs.lemmas.Bool.{cond-false, true≢false, cases_lt, le-leb, leb-true, and_parts}
 use Rattle.std.proofs.lemmas.Bool.Decides.{nat_tests}
-use Rattle.std.proofs.lemmas.List.{drop-drop, drop-append-le, take-append-le, drop_all}
-use Rattle.sh_tree.specs.declared.refusal.Form.{Form}
+use Rattle.std.proofs.lemmas.List.{drop-drop, drop-append-le, take-append-le}
 use Rattle.sh_tree.specs.declared.refusal.Form.TheVariants as form
 use Rattle.sh_tree.specs.declared.token.command.Lead.{Lead}
 use Rattle.sh_tree.specs.declared.token.command.Lead.TheVariants as lead
@@ -15,12 +14,12 @@ use Rattle.sh_tree.specs.declared.token.command.Reserved.{Reserved}
 use Rattle.sh_tree.specs.declared.token.command.Reserved.TheVariants as word
 use Rattle.sh_tree.specs.declared.token.command.Stage.{Stage}
 use Rattle.sh_tree.specs.declared.token.command.Stage.TheVariants.{First, Prefixed, Named}
-use Rattle.sh_tree.specs.standard.language.Bytes.{is_newline, is_digit, is_name_byte, is_name_start, is_name, ends_token, is_first, is_last_backquote, run, name_length, longest, behind_joined, is_joined, joined_length, joined_at}
+use Rattle.sh_tree.specs.standard.language.Bytes.{is_digit, is_name_byte, is_name_start, is_name, ends_token, is_first, run, name_length, longest, behind_joined, is_joined, joined_length, joined_at}
 use Rattle.sh_tree.specs.standard.language.Commands.{blanks, blank_length, gap_length, operator_of, long_operators, short_operators, is_longer, is_split, is_bare, bare_word, reserved_words, left_out_names, entry_of, is_assignment, is_angle, is_parenthesis, opening, whole_operator, operator_lead, bang, reserved_lead, is_definition, name_lead, first_lead, word_lead, is_named, number_lead, other_lead, lead_of, lead_at}
 use Rattle.sh_tree.specs.standard.language.Words.{ends_joined}
 use Rattle.sh_copies.proofs.AlikeBytes.{Alike, by_bool, joined_moves, first_alike, behind_alike, joined_alike, last_alike, some_alike, run_moves}
 use Rattle.sh_copies.proofs.Blanks.{gap_moves, parenthesis_behind, is_number_sign}
-use Rattle.sh_copies.proofs.Fronts.{alike_behind, whole, run_behind, first_same, first_before, joined_at_is, never}
+use Rattle.sh_copies.proofs.Fronts.{alike_behind, whole, first_same, joined_at_is, never}
 use Rattle.sh_copies.proofs.Tables.{Within, longest_moves, longest_within}
 
 -- Wherever it stands

@@ -1,18 +1,18 @@
 -- A token of arithmetic before a byte that closes what it stands in is the same whatever follows that byte, and wherever it stands.
 -- POSIX.1-2024, XCU 2.6.4 (arithmetic expansion).
-use Rattle.std.proofs.Common.{◌≡◌, ℕ, zero, suc, ◌+◌, ◌≤◌, ◌==◌, Bool, true, false, ◌&&◌, ◌||◌, List, [], ◌∷◌, ◌++◌, length, drop, take, codes, nat_eq, nat_lt, if◌then◌else◌, inl, inr, refl, sym, ap, ◌∙◌, subst, arith, append_assoc, eqb-true, length-drop, ⊎_elim}
+use Rattle.std.proofs.Common.{◌≡◌, ℕ, zero, suc, ◌+◌, ◌≤◌, ◌==◌, Bool, true, false, ◌&&◌, ◌||◌, List, [], ◌∷◌, ◌++◌, length, drop, codes, nat_eq, nat_lt, if◌then◌else◌, inl, inr, refl, sym, ap, ◌∙◌, subst, arith, eqb-true, ⊎_elim}
 use Rattle.std.specs.Prelude.{Option, Some, None}
 use Rattle.std.specs.List.{starts_with}
-use Rattle.std.proofs.lemmas.Bool.{cond-true, cond-false, cond_both, true≢false, le-ltb, and_parts}
+use Rattle.std.proofs.lemmas.Bool.{cond-true, cond-false, cond_both, le-ltb, and_parts}
 use Rattle.std.proofs.lemmas.Bool.Decides.{nat_tests}
-use Rattle.std.proofs.lemmas.List.{drop-drop, drop-append-le, take-append-le}
+use Rattle.std.proofs.lemmas.List.{drop-drop, drop-append-le}
 use Rattle.sh_tree.specs.declared.refusal.Form.TheVariants as form
 use Rattle.sh_tree.specs.declared.token.arithmetic.Figure.{Figure}
 use Rattle.sh_tree.specs.declared.token.arithmetic.Figure.TheVariants as figure
 use Rattle.sh_tree.specs.declared.token.arithmetic.Lexeme.{Lexeme}
 use Rattle.sh_tree.specs.standard.language.Arithmetic.{space_length, operator_table, constant_length, name_figure, unknown, figure_by, figure_of, is_split, lexeme_from, lexeme_start, lexeme}
-use Rattle.sh_tree.specs.standard.language.Bytes.{is_in, is_blank, is_newline, is_backslash, is_digit, is_octal, is_hexadecimal, is_name_byte, is_name_start, is_first, run, name_length, longest, joined_length, behind_joined, is_joined, joined_at}
-use Rattle.sh_copies.proofs.AlikeBytes.{Alike, is_closer, closer_plain, by_bool, joined_moves, run_moves, first_alike, joined_alike, lone_alike, some_alike}
+use Rattle.sh_tree.specs.standard.language.Bytes.{is_in, is_blank, is_newline, is_backslash, is_digit, is_octal, is_hexadecimal, is_name_byte, is_name_start, is_first, run, name_length, longest, behind_joined, is_joined, joined_at}
+use Rattle.sh_copies.proofs.AlikeBytes.{Alike, is_closer, closer_plain, by_bool, joined_alike, lone_alike, some_alike}
 use Rattle.sh_copies.proofs.Fronts.{alike_behind, whole, run_behind, first_before, first_same, joined_at_is, never}
 use Rattle.sh_copies.proofs.Tables.{Within, longest_moves, longest_within, settled_moves}
 

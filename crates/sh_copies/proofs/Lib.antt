@@ -1,3 +1,6 @@
+pub mod LeadsOuter
+pub mod LeadsWords
+pub mod Readings
 pub mod LinesDocuments
 pub mod CommandsScripts
 pub mod Commands
@@ -29,6 +32,11 @@ pub mod WordsCommands
 pub mod WordsFound
 pub mod WordsKept
 pub mod WordsMove
+pub mod WordsOuter
 pub mod WordsTokens
+pub mod WordsWhole
+pub mod WordsCopied
 pub mod CopiedMarks
+pub mod CopiedBare
+pub mod CopiedLeads
 pub mod CopiedTokens

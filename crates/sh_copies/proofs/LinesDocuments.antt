@@ -1,6 +1,6 @@
 -- A here-document and the line that ends it are read wherever their bytes stand before a newline.
 -- POSIX.1-2024, XCU 2.7.4 (here-document), 2.2.1 (line continuation).
-use Rattle.std.proofs.Common.{◌≡◌, ℕ, suc, zero, ◌+◌, ◌-◌, ◌<◌, ◌≤◌, ◌==◌, Bool, true, false, not, ◌&&◌, ◌||◌, if◌then◌else◌, List, [], ◌∷◌, ◌++◌, length, drop, take, Some, refl, sym, ap, ◌∙◌, subst, arith, eqb-true, append_assoc, length-drop, length-take, length-append, ⊎_elim}
+use Rattle.std.proofs.Common.{◌≡◌, ℕ, suc, ◌+◌, ◌-◌, ◌<◌, ◌≤◌, Bool, true, false, not, ◌&&◌, ◌||◌, if◌then◌else◌, List, [], ◌∷◌, ◌++◌, length, drop, take, Some, refl, sym, ap, ◌∙◌, arith, eqb-true, length-drop, length-append}
 use Rattle.std.specs.List.{list_any}
 use Rattle.std.specs.Str.{bytes_eq}
 use Rattle.std.proofs.Math.Seq.{take-append_seam}
@@ -22,7 +22,7 @@ use Rattle.sh_copies.specs.Copied.{DocumentOf, IsMark, body_spot}
 use Rattle.sh_copies.proofs.AlikeBytes.{by_bool}
 use Rattle.sh_copies.proofs.CommandsDocuments.{ambiguity_same, body_moves}
 use Rattle.sh_copies.proofs.Copies.{PartsMove}
-use Rattle.sh_copies.proofs.Lines.{IsEnd, size, compared, ends, end_line_is, end_line_again, newline_ends}
+use Rattle.sh_copies.proofs.Lines.{IsEnd, size, compared, end_line_is, end_line_again, newline_ends}
 
 -- How a line ends
 

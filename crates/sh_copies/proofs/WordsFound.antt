@@ -86,7 +86,7 @@ module _ {limit n : ℕ} (expressions : ExpressionsMove limit n) (scripts : Scri
         let t = same_token c {prior = 0} m turns (omega arith) (ap is_sound h ∙ part_sound g (part_begins i)) (λ e. omega arith) in
         let g' = sign_at b' (turned o' x) 0 s' in
         let same : placeless g' ≡ placeless g = t.sign ∙ ap placeless h in
-        let found = part_move expressions scripts c m turns t.end k g' same i size within in
+        let found = part_move expressions scripts c m turns t.end k g' same i size (omega arith) in
         record {
           to = found.to;
           tree = found.tree;

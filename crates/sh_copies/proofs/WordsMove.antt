@@ -31,7 +31,8 @@ use Rattle.sh_tree.specs.standard.language.Trees as tree
 use Rattle.sh_tree.specs.standard.language.Trees.{span}
 use Rattle.sh_tree.specs.standard.language.Words.{is_quoted, stop_length, in_double, in_use, in_removal, in_arithmetic}
 use Rattle.sh_reads.proofs.TakeLemmas.{part_begins, token_moves, token_takes}
-use Rattle.sh_copies.proofs.AlikeBytes.{by_bool}
+use Rattle.sh_copies.proofs.AlikeBytes.{is_closer, by_bool}
+use Rattle.sh_reads.proofs.MoveLemmas.{blanks_move}
 use Rattle.sh_copies.proofs.Arithmetic.{same_figure}
 use Rattle.sh_copies.proofs.Copies.{Copied, limit_of, Place, Moved, Turns, turned, Kept, KeptPart, Found, ExpressionsMove, ScriptsMove, PartsMove}
 use Rattle.sh_copies.proofs.Forward.{parts_forward, part_forward, expression_forward, script_forward, over_forward}
@@ -41,13 +42,13 @@ use Rattle.sh_copies.proofs.WordsCommands.{closing, commands_move}
 use Rattle.sh_copies.proofs.WordsKept.{kept_none, kept_more, kept_plain, kept_escaped, kept_joined, kept_single, kept_tilde, kept_double, kept_value, kept_length, kept_use, kept_removal, kept_arith, kept_command}
 use Rattle.sh_reads.proofs.TakeLemmas.{is_part}
 use Rattle.sh_copies.proofs.AlikeTokens.{is_sound, is_stop}
-use Rattle.sh_copies.proofs.WordsTokens.{is_placed, same_sign, value_sign, length_sign, use_sign, remove_sign, near_first, parts_over, same_token, same_text, same_prior, part_sound}
+use Rattle.sh_copies.proofs.WordsTokens.{is_enclosed, parts_closed, is_placed, same_sign, value_sign, length_sign, use_sign, remove_sign, near_first, parts_over, same_token, same_text, same_prior, part_sound}
 
 -- in quotes no tilde-prefix begins
 quoted_turns : {b b' : List ℕ} (c : Copied b b') (x : Context) (o' : ℕ) → is_quoted x.site ≡ true → Turns c x o'
 quoted_turns c x o' q = λ k. absurd (true≢false (sym q ∙ k))
 
-equal_far : (p q k n : ℕ) → (q + n == q + k) ≡ (p + n == p + k)
+pub equal_far : (p q k n : ℕ) → (q + n == q + k) ≡ (p + n == p + k)
 equal_far p q k n = by_bool (p + n == p + k)
     (λ yes. eq-eqb (q + n) (q + k) (let e = eqb-true (p + n) (p + k) yes in omega arith) ∙ sym yes)
     (λ other. by_bool (q + n == q + k)
@@ -58,12 +59,16 @@ equal_far p q k n = by_bool (p + n == p + k)
 place_turns : {b b' : List ℕ} (c : Copied b b') (x : Context) (e e' : ℕ) → Place c e e' → Turns c (record x { origin = e }) e'
 place_turns c x e e' p = λ k n. ap (λ j. c.into + n == j) p.at' ∙ equal_far c.from c.into p.by n ∙ sym (ap (λ j. c.from + n == j) p.at)
 
-less_deep : (n m limit : ℕ) → m ≡ n → n < limit → m < limit
+pub less_deep : (n m limit : ℕ) → m ≡ n → n < limit → m < limit
 less_deep n m limit e h = omega arith
 
 closed_same : (b b' : List ℕ) (i i' : ℕ) → is_first (λ c. c == 41) (drop i' b') ≡ is_first (λ c. c == 41) (drop i b) → is_closed b i ≡ true → is_closed b' i' ≡ true
 unfolding is_closed
 closed_same b b' i i' e h = e ∙ h
+
+retold : {limit : ℕ} {b b' : List ℕ} {c : Copied b b'} {x : Context} {g g' : Sign} {s u : Spot} {e : ℕ} {p : Part} → g' ≡ g
+    → Found c u (KeptPart b b' p) (λ u' p'. ReadsPart limit b' x g s e u' p') → Found c u (KeptPart b b' p) (λ u' p'. ReadsPart limit b' x g' s e u' p')
+retold {limit} {b' = b'} {x = x} {s = s} {e = e} same f = record { to = f.to; tree = f.tree; moved = f.moved; keeps = f.keeps; reads = subst (λ k. ReadsPart limit b' x k s e f.to f.tree) (sym same) f.reads }
 
 pub use_length : (x : Context) (a : Action) (e : ℕ) → stop_length (in_use x a e).site ≡ 1
 use_length x a e = go (is_quoted x.site)
@@ -72,9 +77,18 @@ use_length x a e = go (is_quoted x.site)
     go true = refl
     go false = refl
 
-retold : {limit : ℕ} {b b' : List ℕ} {c : Copied b b'} {x : Context} {g g' : Sign} {s u : Spot} {e : ℕ} {p : Part} → g' ≡ g
-    → Found c u (KeptPart b b' p) (λ u' p'. ReadsPart limit b' x g s e u' p') → Found c u (KeptPart b b' p) (λ u' p'. ReadsPart limit b' x g' s e u' p')
-retold {limit} {b' = b'} {x = x} {s = s} {e = e} same f = record { to = f.to; tree = f.tree; moved = f.moved; keeps = f.keeps; reads = subst (λ k. ReadsPart limit b' x k s e f.to f.tree) (sym same) f.reads }
+use_enclosed : (x : Context) (a : Action) (e : ℕ) → is_enclosed (in_use x a e).site ≡ true
+use_enclosed x a e = go (is_quoted x.site)
+  where
+    go : (t : Bool) → is_enclosed (if t then site.QuotedBraced else site.Braced) ≡ true
+    go true = refl
+    go false = refl
+
+zero_one : {n m : ℕ} → n ≡ m → n < m → ⊥
+zero_one e h = absurd (omega arith)
+
+less_one : (n : ℕ) → n + 1 - 1 ≡ n
+less_one n = omega arith
 
 -- Parts that hold no others
 
@@ -87,6 +101,57 @@ is_flat sign.Tilde = true
 is_flat (sign.Value p) = true
 is_flat (sign.Length p) = true
 is_flat _ = false
+
+pub flat_ends : {limit : ℕ} {b : List ℕ} {x : Context} {g : Sign} {s u : Spot} {e : ℕ} {p : Part} → is_flat g ≡ true → ReadsPart limit b x g s e u p → u ≡ to e s
+flat_ends h r.plain = refl
+flat_ends h r.escaped = refl
+flat_ends h r.joined = refl
+flat_ends h r.single_quoted = refl
+flat_ends h r.tilde = refl
+flat_ends h r.value = refl
+flat_ends h r.length_value = refl
+flat_ends h (r.double_quoted i) = absurd (true≢false (sym h))
+flat_ends h (r.use_word d i) = absurd (true≢false (sym h))
+flat_ends h (r.removal d i) = absurd (true≢false (sym h))
+flat_ends h (r.arithmetic d i k l) = absurd (true≢false (sym h))
+flat_ends h (r.substitution d k i l) = absurd (true≢false (sym h))
+
+-- a part that a byte closes goes on behind its sign, and ends with that byte
+pub closing_within : {limit : ℕ} {b : List ℕ} {x : Context} {g : Sign} {s u : Spot} {e : ℕ} {p : Part} → ReadsPart limit b x g s e u p → e + closing g ≤ u.at
+closing_within r.plain = omega arith
+closing_within r.escaped = omega arith
+closing_within r.joined = omega arith
+closing_within r.single_quoted = omega arith
+closing_within r.tilde = omega arith
+closing_within r.value = omega arith
+closing_within r.length_value = omega arith
+closing_within (r.double_quoted i) = parts_over i
+closing_within {x = x} {e = e} (r.use_word {a = a} d i) = let one = use_length x a e in let over = parts_over i in omega arith
+closing_within (r.removal d i) = parts_over i
+closing_within {b = b} (r.arithmetic {u = u} d i h k) = let o = over_forward b u in let f = expression_forward i in omega arith
+closing_within {b = b} {e = e} (r.substitution {s = s} {style = Paren} d k i h) = let f = script_forward i in let blank = blanks_move s.joins (commands_text Paren b e) e in omega arith
+closing_within {b = b} {e = e} (r.substitution {s = s} {style = Backquote} d k i h) = let f = script_forward i in let blank = blanks_move s.joins (commands_text Backquote b e) e in omega arith
+
+parenthesis_closes : (cs : List ℕ) → is_first (λ c. c == 41) cs ≡ true → is_first is_closer cs ≡ true
+unfolding is_first
+parenthesis_closes [] h = absurd (true≢false (sym h))
+parenthesis_closes (c ∷ cs) h = grind (arith, nat_tests, h)
+
+pub closing_byte : {limit : ℕ} {b : List ℕ} {x : Context} {g : Sign} {s u : Spot} {e : ℕ} {p : Part} → closing g ≡ 1 → ReadsPart limit b x g s e u p → is_first is_closer (drop (u.at - 1) b) ≡ true
+unfolding is_closed closes commands_text
+closing_byte h r.plain = absurd (zero_one h (omega arith))
+closing_byte h r.escaped = absurd (zero_one h (omega arith))
+closing_byte h r.joined = absurd (zero_one h (omega arith))
+closing_byte h r.single_quoted = absurd (zero_one h (omega arith))
+closing_byte h r.tilde = absurd (zero_one h (omega arith))
+closing_byte h r.value = absurd (zero_one h (omega arith))
+closing_byte h r.length_value = absurd (zero_one h (omega arith))
+closing_byte h (r.double_quoted i) = parts_closed refl i
+closing_byte {x = x} {e = e} h (r.use_word {a = a} d i) = parts_closed (use_enclosed x a e) i
+closing_byte h (r.removal d i) = parts_closed refl i
+closing_byte {b = b} h (r.arithmetic {u = u} d i k l) = ap (λ j. is_first is_closer (drop j b)) (less_one (over b u).at) ∙ parenthesis_closes (drop (over b u).at b) l
+closing_byte {b = b} h (r.substitution {u = u} {style = Paren} d k i l) = ap (λ j. is_first is_closer (drop j b)) (less_one u.at) ∙ parenthesis_closes (drop u.at b) l
+closing_byte h (r.substitution {style = Backquote} d k i l) = absurd (zero_one h (omega arith))
 
 -- such a part up to e', and what it keeps
 pub record Flat (limit : ℕ) (b b' : List ℕ) (x : Context) (g : Sign) (s : Spot) (e : ℕ) (p : Part) : Type 0 where

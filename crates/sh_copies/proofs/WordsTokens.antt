@@ -200,7 +200,7 @@ sound_placeless (sign.Use p a c) = refl
 sound_placeless (sign.Remove p r) = refl
 sound_placeless g = refl
 
-prior_placeless : (b : List ℕ) (g : Sign) (j : ℕ) → prior_of b (placeless g) j ≡ prior_of b g j
+pub prior_placeless : (b : List ℕ) (g : Sign) (j : ℕ) → prior_of b (placeless g) j ≡ prior_of b g j
 prior_placeless b (sign.Value p) j = refl
 prior_placeless b (sign.Length p) j = refl
 prior_placeless b (sign.Use p a c) j = refl
