@@ -40,3 +40,4 @@ pub mod CopiedMarks
 pub mod CopiedBare
 pub mod CopiedLeads
 pub mod CopiedTokens
+pub mod Copied

@@ -5,6 +5,7 @@ use Rattle.std.proofs.lemmas.Bool.{cond-true, cond-false, true≢false, and_part
 use Rattle.std.proofs.lemmas.Bool.Decides.{nat_tests}
 use Rattle.std.proofs.lemmas.List.{drop_at, take_at}
 use Rattle.std.proofs.lemmas.List.Sums.{take_while-cons}
+use Rattle.sh_copies.proofs.CopiedLeads.{no_operator, lead_inside}
 use Rattle.sh_tree.specs.declared.refusal.Form.TheVariants as form
 use Rattle.sh_tree.specs.declared.token.command.Lead.{Lead}
 use Rattle.sh_tree.specs.declared.token.command.Lead.TheVariants as lead
@@ -16,25 +17,13 @@ use Rattle.sh_tree.specs.standard.language.Bytes.{is_in, is_blank, is_newline, i
 use Rattle.sh_tree.specs.standard.language.Words.{ends_joined}
 use Rattle.sh_tree.specs.standard.language.Commands.{operator_of, long_operators, short_operators, lead_at, lead_of, other_lead, word_lead, first_lead, bare_word, is_bare, is_definition, blanks, entry_of, reserved_words, is_assignment, is_parenthesis, is_named, is_angle, number_lead, name_end, is_bare_name}
 use Rattle.sh_print.proofs.PlaceLemmas.{front, front_none, fronted, lead_there, off}
-use Rattle.sh_print.proofs.OwnTokens.{Gap, blank, line, run_over, run_none, bare_whole, lead_inside, and_false}
+use Rattle.sh_print.proofs.OwnTokens.{Gap, blank, line, run_over, run_none, bare_whole, and_false}
 
 all_weaker : (p q : ℕ → Bool) → ((c : ℕ) → p c ≡ true → q c ≡ true) → (w : List ℕ) → list_all p w ≡ true → list_all q w ≡ true
 all_weaker p q weaker [] all = refl
 all_weaker p q weaker (c ∷ w) all =
     let both = and_parts (p c) (list_all p w) all in
     ap (λ t. t && list_all q w) (weaker c both.0) ∙ all_weaker p q weaker w both.1
-
--- No operator
-
-pub no_operator : (c : ℕ) (cs : List ℕ) → is_operator_byte c ≡ false → operator_of (c ∷ cs) ≡ None
-unfolding operator_of longest
-no_operator c cs h =
-    let k = bytes c h in
-    rw (k.0, k.1, k.2, k.3, k.4, k.5, k.6) refl
-  where
-    bytes : (c : ℕ) → is_operator_byte c ≡ false
-        → (nat_eq 124 c ≡ false) × (nat_eq 38 c ≡ false) × (nat_eq 59 c ≡ false) × (nat_eq 60 c ≡ false) × (nat_eq 62 c ≡ false) × (nat_eq 40 c ≡ false) × (nat_eq 41 c ≡ false)
-    bytes c h = (grind (arith, nat_tests), grind (arith, nat_tests), grind (arith, nat_tests), grind (arith, nat_tests), grind (arith, nat_tests), grind (arith, nat_tests), grind (arith, nat_tests))
 
 -- First bytes of names
 

@@ -6,6 +6,7 @@ use Rattle.std.proofs.lemmas.Bool.{and_parts}
 use Rattle.std.proofs.lemmas.Bool.Decides.{nat_tests}
 use Rattle.std.proofs.lemmas.List.{drop_at, take_at}
 use Rattle.std.proofs.lemmas.List.Sums.{take_while-cons}
+use Rattle.sh_copies.proofs.CopiedLeads.{lead_inside}
 use Rattle.sh_tree.specs.declared.refusal.Form.TheVariants as form
 use Rattle.sh_tree.specs.declared.token.command.Lead.{Lead}
 use Rattle.sh_tree.specs.declared.token.command.Lead.TheVariants as lead
@@ -79,20 +80,6 @@ reserved_text word.In = codes "in"
 reserved_text word.Then = codes "then"
 reserved_text word.Until = codes "until"
 reserved_text word.While = codes "while"
-
-some_text : (n : ℕ) → nat_le (suc n) 0 ≡ false
-some_text n = grind (arith, nat_tests)
-
--- what the token is where bytes stand that are no operator
-abbrev pub lead_by : Stage → ℕ → List ℕ → Lead
-lead_by g c cs =
-    if is_newline c then lead.Newline
-    else (if c == 35 then lead.LeftOut form.Continuation
-    else (if is_last_backquote (c ∷ cs) then lead.Backquote else other_lead (c ∷ cs) g 0))
-
-pub lead_inside : (g : Stage) (c : ℕ) (cs : List ℕ) → operator_of (c ∷ cs) ≡ None → lead_at (c ∷ cs) g 0 ≡ lead_by g c cs
-unfolding lead_at lead_of is_first
-lead_inside g c cs none = ap (λ o. lead_of (c ∷ cs) g 0 o) none ∙ ap (λ t. cond t lead.End (lead_by g c cs)) (some_text (length cs))
 
 -- a token of plain bytes where a command may begin
 whole_leads : (w : List ℕ) (rest : List ℕ) → Gap rest → list_all is_bare w ≡ true → word_lead (w ++ rest) First 0 (bare_word (w ++ rest) 0) ≡ word_lead (w ++ rest) First 0 w

@@ -5,6 +5,7 @@ use Rattle.std.specs.Option.{option_map}
 use Rattle.std.proofs.lemmas.Bool.{cond-true, cond-false, true≢false, and_parts}
 use Rattle.std.proofs.lemmas.Bool.Decides.{nat_tests}
 use Rattle.std.proofs.lemmas.List.{drop-drop, drop_at, take_at}
+use Rattle.sh_copies.proofs.CopiedLeads.{no_operator, lead_inside}
 use Rattle.sh_tree.specs.declared.tree.Direction.{Direction}
 use Rattle.sh_tree.specs.declared.tree.Direction.TheVariants as direction
 use Rattle.sh_tree.specs.declared.tree.Span.{Span}
@@ -23,8 +24,8 @@ use Rattle.sh_print.specs.Bare as bare
 use Rattle.sh_print.specs.Bare.{Text, Opens}
 use Rattle.sh_print.specs.Layout.{opens_text, number_text}
 use Rattle.sh_print.proofs.PlaceLemmas.{front, front_none, lead_there, off}
-use Rattle.sh_print.proofs.OwnTokens.{run_all, lead_inside, operator_leads, unsplit, unjoined}
-use Rattle.sh_print.proofs.NameTokens.{no_operator, no_last}
+use Rattle.sh_print.proofs.OwnTokens.{run_all, operator_leads, unsplit, unjoined}
+use Rattle.sh_print.proofs.NameTokens.{no_last}
 use Rattle.sh_print.proofs.Printable.{is_number}
 
 -- the text that stands at i

@@ -18,6 +18,10 @@ SamePrintsAlike = (b c : List ℕ) (t u : Script) → IsSame b t c u → canon b
 abbrev pub PrintsAgain : Type 0
 PrintsAgain = (b : List ℕ) (t u : Script) → IsSame b t (canon b t) u → canon (canon b t) u ≡ canon b t
 
--- The canonical text of a tree that a text reads to, nested no deeper than the limit, reads to a tree that is the same, nested no deeper.
+-- If the text b reads to t, nested no deeper than the limit, then the text c reads to a tree that is the same, nested no deeper.
+abbrev pub IsReadBack : (b : List ℕ) → Script → (c : List ℕ) → Type 0
+IsReadBack b t c = (limit count : ℕ) → ReadsTo b limit count t → (n : ℕ) × (u : Script) × ReadsTo c limit n u × IsSame b t c u
+
+-- The canonical text of a tree that a text reads to is read again, as a tree that is the same.
 abbrev pub ReadsBack : Type 0
-ReadsBack = (b : List ℕ) (limit count : ℕ) (t : Script) → ReadsTo b limit count t → (n : ℕ) × (u : Script) × ReadsTo (canon b t) limit n u × IsSame b t (canon b t) u
+ReadsBack = (b : List ℕ) (t : Script) → IsReadBack b t (canon b t)

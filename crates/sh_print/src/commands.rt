@@ -4,6 +4,7 @@ ghost use Rattle.sh_tree.specs.standard.Tree.{text_of};
 ghost use Rattle.sh_print.specs.Layout as layout;
 ghost use Rattle.sh_print.specs.Layout.{canon};
 ghost use Rattle.sh_print.specs.Lists.{branch_text, branches_from, clause_text, clauses_from, item_text, words_from};
+ghost use Rattle.sh_print.specs.Same.{IsReadBack};
 ghost use Rattle.sh_print.specs.Trees.{command_of, kind_of, pipeline_of, script_of, word_of};
 
 use crate::documents::{push_join, push_line_end, push_pipe_join};
@@ -16,13 +17,15 @@ use std::alloc::{AllocError, Global};
 
 /// The canonical text of a tree of the script: one item a line, one tab for each level, opening
 /// and closing words on lines of their own, and no comments. A word is its bytes in the script.
-/// The bodies of here-documents follow the next newline outside words (XCU 2.7.4).
+/// The bodies of here-documents follow the next newline outside words (XCU 2.7.4). If the script
+/// reads to the tree, the text reads to a tree that differs only in offsets and numbers.
 ///
 /// # Errors
 ///
 /// `AllocError` if a growth was refused.
 pub fn print(alloc: Global, script: &[u8], tree: &Script) -> Result<Vec<u8>, AllocError>
     ensures text { IfOk result (λ v. v.items ≡ canon script.now tree.now) }
+    ensures reads { IfOk result (λ v. IsReadBack script.now tree.now v.items) }
 {
     let mut out = Vec::new(alloc);
     push_script(&mut out, script, 0, tree)?;

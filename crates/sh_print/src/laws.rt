@@ -1,5 +1,5 @@
-//! What holds of the canonical text by its definition.
-ghost use Rattle.sh_print.specs.Same.{PrintsAgain, SamePrintsAlike};
+//! What holds of the canonical text.
+ghost use Rattle.sh_print.specs.Same.{PrintsAgain, ReadsBack, SamePrintsAlike};
 ghost use Rattle.sh_print.specs.examples.Texts.{PrintsAsExpected};
 
 /// Two trees that differ only in offsets and numbers have the same canonical text, whatever the texts are that they are trees of.
@@ -10,6 +10,12 @@ pub fn alike()
 /// A tree of the canonical text that differs only in offsets and numbers from the tree that was printed prints as that text again.
 pub fn again()
     ensures { PrintsAgain }
+{}
+
+/// The canonical text of a tree that a text reads to is read again, as a tree that differs only in
+/// offsets and numbers, and nested no deeper.
+pub fn reads_back()
+    ensures { ReadsBack }
 {}
 
 /// Known trees have the canonical texts that they should have: each kind of command, redirection and here-document.
