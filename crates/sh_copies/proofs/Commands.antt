@@ -37,7 +37,7 @@ use Rattle.sh_copies.proofs.CommandsTokens.{Ahead, Ready, MovedState, turns_at, 
 use Rattle.sh_copies.proofs.Copies.{Copied, limit_of, WordsMove, PartsMove}
 use Rattle.sh_copies.proofs.Forward.{skip_forward, name_forward, parted_forward, unopened_forward, word_forward, redirect_forward, redirects_forward, breaks_forward, elements_forward, command_forward, compound_forward, do_forward, branches_forward, else_forward, for_words_forward, words_forward, clauses_forward, patterns_forward, pipeline_forward, commands_forward, and_or_forward, links_forward, items_forward, list_forward, sequence_forward}
 use Rattle.sh_copies.proofs.Leads.{name_is_no_sign}
-use Rattle.sh_copies.proofs.Places.{further, moved_to}
+use Rattle.sh_copies.proofs.Places.{less_deep, further, moved_to}
 
 -- there are redirections where one begins
 empty_is : {limit : ℕ} {b : List ℕ} {body : ℕ → Document} {s u : State} {ys : List Redirect} → ReadsRedirects limit b body s u ys → is_empty ys ≡ not (is_redirection (lead_of b (Named false) s))
@@ -48,9 +48,6 @@ empty_is (r.more_redirects h i j) = ap not (sym h)
 -- a token that separates items
 abbrev separates : Lead → Bool
 separates l = is_some (separator l)
-
-less_deep : (m n limit : ℕ) → n ≡ m → m < limit → n < limit
-less_deep m n limit e h = omega arith
 
 module _ {limit n : ℕ} (words : WordsMove limit n) (parts : PartsMove limit n) {b b' : List ℕ} (c : Copied b b') (ahead : Ahead c) where
   abbrev St : State → State → Type 0

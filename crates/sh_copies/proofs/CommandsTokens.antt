@@ -21,6 +21,7 @@ use Rattle.sh_copies.proofs.AlikeBytes.{by_bool}
 use Rattle.sh_copies.proofs.Blanks.{is_number_sign, blank_moves}
 use Rattle.sh_copies.proofs.Copies.{Copied, Place, Moved, Turns, turned, limit_of}
 use Rattle.sh_copies.proofs.Leads.{lead_front, lead_moves, bare_front, bare_moves, name_moves, assignment_moves, behind_digits, digits_move, behind_digits_moves}
+use Rattle.sh_copies.proofs.WordsMove.{equal_far}
 use Rattle.sh_copies.proofs.Places.{left, further as further_on, as_far, moved_to, moved_behind}
 
 -- a closing parenthesis stands behind the copy in both texts
@@ -33,31 +34,11 @@ pub record Closing (rest rest' : List ℕ) : Type 0 where
 abbrev pub Ahead : {b b' : List ℕ} → Copied b b' → Type 0
 Ahead c = (c.rest' ≡ c.rest) ⊎ Closing c.rest c.rest'
 
-eq_shift : (a n k : ℕ) → (a + n == a + k) ≡ (n == k)
-eq_shift a n k = by_bool (n == k)
-    (λ is. let same : n ≡ k = eqb-true n k is in eq-eqb (a + n) (a + k) (omega arith) ∙ sym is)
-    (λ other. by_bool (a + n == a + k)
-    (λ is. let same : a + n ≡ a + k = eqb-true (a + n) (a + k) is in let less : n ≡ k = omega arith in absurd (true≢false (sym (eq-eqb n k less) ∙ other)))
-    (λ none. none ∙ sym other))
-
 module _ {b b' : List ℕ} (c : Copied b b') where
   -- a context that begins at the same place
   pub turns_at : {i i' : ℕ} → Place c i i' → (x : Context) → x.origin ≡ i → Turns c x i'
   turns_at p x e quoted n =
-      ap (λ k. c.into + n == k) p.at' ∙ eq_shift c.into n p.by ∙ sym (eq_shift c.from n p.by) ∙ sym (ap (λ k. c.from + n == k) (e ∙ p.at))
-
-  -- the bytes between two places
-  pub text_between : {i i' j j' : ℕ} → Place c i i' → Place c j j' → i ≤ limit_of c → j ≤ limit_of c → text_of b' (span i' j') ≡ text_of b (span i j)
-  text_between {i = i} {i' = i'} {j = j} {j' = j'} p q h k =
-      let l = left c p h in
-      let long = l.long in
-      let a = p.at in
-      let a' = p.at' in
-      let z = q.at in
-      let z' = q.at' in
-      let size : j' - i' ≡ j - i = omega arith in
-      let within : j - i ≤ length l.w = omega arith in
-      ap (λ n. take n (drop i' b')) size ∙ ap (take (j - i)) l.here ∙ take-append-le (j - i) l.w c.rest' within ∙ sym (ap (take (j - i)) l.there ∙ take-append-le (j - i) l.w c.rest within)
+      ap (λ k. c.into + n == k) p.at' ∙ equal_far c.from c.into p.by n ∙ sym (ap (λ k. c.from + n == k) (e ∙ p.at))
 
 module _ {b b' : List ℕ} (c : Copied b b') (ahead : Ahead c) where
   -- what depends on no byte behind a closing parenthesis

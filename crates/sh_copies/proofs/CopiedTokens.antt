@@ -323,7 +323,7 @@ module _ (v r : List ℕ) (byte : Byte v r) (ends : words.ends_joined r ≡ true
       let n = run is_digit cs in
       let n' = run is_digit cs' in
       let source = last_word (not (n == 0) && is_angle (drop n cs)) (not (n == 0) && is_angle (behind_joined (drop n cs))) (not (is_named g) && is_assignment cs)
-                   (number_lead (drop n cs) (operator_of (drop n cs))) (lead.LeftOut form.Continuation) lead.Assignment (word_lead cs g 0 (bare_word cs 0)) (number_other (drop n cs) (operator_of (drop n cs))) refl refl is in
+      (number_lead (drop n cs) (operator_of (drop n cs))) (lead.LeftOut form.Continuation) lead.Assignment (word_lead cs g 0 (bare_word cs 0)) (number_other (drop n cs) (operator_of (drop n cs))) refl refl is in
       let angle = digits_angle r' e in
       let bare = bare_same r' e in
       let assigned : (not (is_named g) && is_assignment cs') ≡ false = go (not (is_named g)) source.0 (no_assignment r' e) in

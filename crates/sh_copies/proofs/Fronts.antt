@@ -52,7 +52,3 @@ joined_at_is n w c r r' h l =
     ∙ ap (λ t. take n w ++ t) (drop-append-le k v (c ∷ x) j.1)
     ∙ sym (append_assoc (take n w) (drop k v) (c ∷ x))) in
     (take n w ++ drop k v, text r refl, text r' j.0)
-
-pub never : (t : Bool) → (t && false) ≡ false
-never true = refl
-never false = refl

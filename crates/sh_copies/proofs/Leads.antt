@@ -2,6 +2,7 @@
 -- POSIX.1-2024, XCU 2.3 (token recognition), 2.4 (reserved words), 2.7 (redirection).
 use Rattle.std.proofs.Common.{◌≡◌, ℕ, zero, suc, ◌+◌, ◌≤◌, ◌<◌, ◌==◌, Bool, true, false, not, ◌&&◌, ◌||◌, List, [], ◌∷◌, ◌++◌, length, drop, take, nat_le, if◌then◌else◌, inl, inr, refl, sym, ap, ◌∙◌, subst, arith, eqb-true, length-drop, length-take, ⊎_elim}
 use Rattle.std.specs.Prelude.{Option, Some, None}
+use Rattle.std.proofs.Math.Bool.{and-false}
 use Rattle.std.proofs.lemmas.Bool.{cond-false, true≢false, cases_lt, le-leb, leb-true, and_parts}
 use Rattle.std.proofs.lemmas.Bool.Decides.{nat_tests}
 use Rattle.std.proofs.lemmas.List.{drop-drop, drop-append-le, take-append-le}
@@ -19,7 +20,7 @@ use Rattle.sh_tree.specs.standard.language.Commands.{blanks, blank_length, gap_l
 use Rattle.sh_tree.specs.standard.language.Words.{ends_joined}
 use Rattle.sh_copies.proofs.AlikeBytes.{Alike, by_bool, joined_moves, first_alike, behind_alike, joined_alike, last_alike, some_alike, run_moves}
 use Rattle.sh_copies.proofs.Blanks.{gap_moves, parenthesis_behind, is_number_sign}
-use Rattle.sh_copies.proofs.Fronts.{alike_behind, whole, first_same, joined_at_is, never}
+use Rattle.sh_copies.proofs.Fronts.{alike_behind, whole, first_same, joined_at_is}
 use Rattle.sh_copies.proofs.Tables.{Within, longest_moves, longest_within}
 
 -- Wherever it stands
@@ -102,7 +103,7 @@ split_inside n w r r' l =
 -- the closing parenthesis is no longer operator
 closing_alone : (r : List ℕ) → is_split (41 ∷ r) 1 ≡ false
 unfolding is_split
-closing_alone r = ap (λ o. is_joined (drop 1 (41 ∷ r)) && is_longer 1 o) (parenthesis_alone (behind_joined r)) ∙ never (is_joined (drop 1 (41 ∷ r)))
+closing_alone r = ap (λ o. is_joined (drop 1 (41 ∷ r)) && is_longer 1 o) (parenthesis_alone (behind_joined r)) ∙ and-false (is_joined (drop 1 (41 ∷ r)))
 
 split_moves : (n : ℕ) (w r r' : List ℕ) → Within n w → is_split (w ++ 41 ∷ r') n ≡ is_split (w ++ 41 ∷ r) n
 split_moves n w r r' (inr l) = split_inside n w r r' l
