@@ -77,7 +77,7 @@ Clean ds = Each document_text ds
 abbrev Texts : List Text → Type 0
 Texts ts = Each (λ t. t) ts
 
--- each behind a separator
+-- texts, each after a separator
 behind_none : (by : Text) (ts : List Text) → HasNoNul by → Texts ts → HasNoNul (flat_map (λ t. by ++ t) ts)
 behind_none by [] k h = refl
 behind_none by (t ∷ ts) k h = no_join (by ++ t) (flat_map (λ u. by ++ u) ts) (no_join by t k h.0) (behind_none by ts k h.1)
@@ -96,7 +96,7 @@ join_none depth (d ∷ ds) h = no_join (line_end (d ∷ ds)) (tabs depth) (line_
 block_none : (depth : ℕ) (opening inside : Text) → HasNoNul opening → HasNoNul inside → HasNoNul (block depth opening inside)
 block_none depth opening inside h k = no_join opening (10 ∷ (inside ++ tabs depth)) h (no_cons 10 (inside ++ tabs depth) refl (no_join inside (tabs depth) k (tabs_none depth)))
 
--- a command behind a bar
+-- a command after a bar
 piped_one : (depth : ℕ) (ds : List Document) (more : Text) → Clean ds → HasNoNul more → HasNoNul (codes " |" ++ (join depth ds ++ more))
 piped_one depth ds more h k = no_join (codes " |") (join depth ds ++ more) refl (no_join (join depth ds) more (join_none depth ds h) k)
 
