@@ -1,4 +1,4 @@
--- A token of commands before a closing parenthesis is the same whatever follows it, and wherever it stands.
+-- A token of commands before a closing parenthesis is the same wherever it stands, whatever follows.
 -- POSIX.1-2024, XCU 2.3 (token recognition), 2.4 (reserved words), 2.7 (redirection).
 use Rattle.std.proofs.Common.{◌≡◌, ℕ, zero, suc, ◌+◌, ◌≤◌, ◌<◌, ◌==◌, Bool, true, false, not, ◌&&◌, ◌||◌, List, [], ◌∷◌, ◌++◌, length, drop, take, nat_le, if◌then◌else◌, inl, inr, refl, sym, ap, ◌∙◌, subst, arith, eqb-true, length-drop, length-take, ⊎_elim}
 use Rattle.std.specs.Prelude.{Option, Some, None}

@@ -6,8 +6,6 @@ mod bodies;
 #[cfg(test)]
 mod certificates;
 #[cfg(test)]
-mod knowledge;
-#[cfg(test)]
 mod limit;
 #[cfg(test)]
 mod names;
