@@ -1,6 +1,6 @@
 -- Texts that are the same up to a byte that closes what they stand in: what begins before it is the same.
 -- POSIX.1-2024, XCU 2.2 (quoting), 2.6 (word expansions).
-use Rattle.std.proofs.Common.{◌≡◌, ℕ, zero, suc, ◌+◌, ◌≤◌, ◌==◌, Bool, true, false, not, ◌&&◌, ◌||◌, List, [], ◌∷◌, ◌++◌, length, drop, take, codes, ◌⊎◌, inl, inr, refl, sym, ap, ◌∙◌, arith, ⊎_elim}
+use Rattle.std.proofs.Common.{◌≡◌, ℕ, zero, suc, ◌+◌, ◌≤◌, ◌<◌, ◌==◌, Bool, true, false, not, ◌&&◌, List, [], ◌∷◌, ◌++◌, length, drop, take, codes, ◌⊎◌, inl, inr, refl, sym, ap, ◌∙◌, arith, ⊎_elim}
 use Rattle.std.proofs.lemmas.Bool.{cases_Bool, cond-true, cond-false, true≢false}
 use Rattle.std.proofs.lemmas.Bool.Decides.{nat_tests}
 use Rattle.std.proofs.lemmas.List.{drop-append-le, take-append-le}
@@ -14,6 +14,10 @@ is_closer c = is_in (codes "\"})") c
 
 pub by_bool : {P : Type 0} (t : Bool) → (t ≡ true → P) → (t ≡ false → P) → P
 by_bool t f g = ⊎_elim f g (cases_Bool t)
+
+pub neither : (t : Bool) → (t && false) ≡ false
+neither true = refl
+neither false = refl
 
 -- what such a byte is not
 pub record Unlike (c : ℕ) : Type 0 where
@@ -96,6 +100,13 @@ run_moves p (a ∷ w) c r r' h = by_bool (p a)
     (λ yes. let m = run_moves p w c r r' h in let within = m.1 in let e = run_yes p a (w ++ c ∷ r) yes in (run_yes p a (w ++ c ∷ r') yes ∙ ap suc m.0 ∙ sym e, omega arith))
     (λ other. let e = run_no p a (w ++ c ∷ r) other in (run_no p a (w ++ c ∷ r') other ∙ sym e, omega arith))
 
+-- a run that ends in the front of a text
+pub run_inside : (p : ℕ → Bool) (w r r' : List ℕ) → run p (w ++ r) < length w → run p (w ++ r') ≡ run p (w ++ r)
+run_inside p [] r r' h = absurd (omega arith)
+run_inside p (a ∷ w) r r' h = by_bool (p a)
+    (λ yes. let e = run_yes p a (w ++ r) yes in run_yes p a (w ++ r') yes ∙ ap suc (run_inside p w r r' (omega arith)) ∙ sym e)
+    (λ other. run_no p a (w ++ r') other ∙ sym (run_no p a (w ++ r) other))
+
 -- what stands behind a front that ends before the closer
 pub drop_moves : (n : ℕ) (w : List ℕ) (c : ℕ) (r : List ℕ) → n ≤ length w → drop n (w ++ c ∷ r) ≡ drop n w ++ c ∷ r
 drop_moves n w c r h = drop-append-le n w (c ∷ r) h
@@ -171,20 +182,6 @@ taken_run p cs cs' a none =
     ap (λ n. take n cs') (run_alike p cs cs' a none) ∙ ap (take (run p cs)) a.here ∙ take-append-le (run p cs) a.w (a.c ∷ a.r') within
     ∙ sym (ap (take (run p cs)) a.there ∙ take-append-le (run p cs) a.w (a.c ∷ a.r) within)
 
-first_byte : List ℕ → ℕ
-first_byte [] = 0
-first_byte (x ∷ xs) = x
-
--- behind a byte that closes nothing
-pub behind_byte : (c : ℕ) (cs cs' : List ℕ) → Alike (c ∷ cs) cs' → is_closer c ≡ false → (ds : List ℕ) × (cs' ≡ c ∷ ds) × Alike cs ds
-unfolding first_byte
-behind_byte c cs cs' a other = go a.w a.there a.here
-  where
-    go : (w : List ℕ) → c ∷ cs ≡ w ++ a.c ∷ a.r → cs' ≡ w ++ a.c ∷ a.r' → (ds : List ℕ) × (cs' ≡ c ∷ ds) × Alike cs ds
-    go [] e f = absurd (true≢false (sym a.closes ∙ ap is_closer (sym (ap first_byte e)) ∙ other))
-    go (d ∷ w) e f =
-        (w ++ a.c ∷ a.r', f ∙ ap (λ k. k ∷ (w ++ a.c ∷ a.r')) (sym (ap first_byte e)), record { w = w; c = a.c; r = a.r; r' = a.r'; closes = a.closes; there = ap (drop 1) e; here = refl })
-
 pub zero_not : (n : ℕ) → (suc n == 0) ≡ false
 zero_not n = grind (arith, nat_tests)
 
@@ -208,10 +205,6 @@ lone_alike cs cs' a =
     longer : (w : List ℕ) (d c : ℕ) (r : List ℕ) → (length (d ∷ (w ++ c ∷ r)) == 1) ≡ false
     longer [] d c r = one_not (length r)
     longer (e ∷ w) d c r = one_not (length (w ++ c ∷ r))
-
-    neither : (t : Bool) → (t && false) ≡ false
-    neither true = refl
-    neither false = refl
 
     go : (w : List ℕ) (c : ℕ) (r : List ℕ) → is_backslash c ≡ false → (length (w ++ c ∷ r) == 1 && is_first is_backslash (w ++ c ∷ r)) ≡ false
     go [] c r k = ap (λ t. length (c ∷ r) == 1 && t) k ∙ neither (length (c ∷ r) == 1)

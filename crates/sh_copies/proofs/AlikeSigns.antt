@@ -1,6 +1,6 @@
 -- What a `$` begins before a byte that closes what it stands in is the same whatever follows that byte.
 -- POSIX.1-2024, XCU 2.6.2 (parameter expansion), 2.6.3, 2.6.4.
-use Rattle.std.proofs.Common.{◌≡◌, ℕ, zero, suc, ◌+◌, ◌≤◌, ◌==◌, Bool, true, false, not, ◌&&◌, ◌||◌, List, [], ◌∷◌, ◌++◌, length, drop, take, Option, Some, None, ◌⊎◌, inl, inr, refl, sym, ap, subst, ◌∙◌, ◌<◌, if◌then◌else◌, arith, length-take, nat_le}
+use Rattle.std.proofs.Common.{◌≡◌, ℕ, ◌+◌, ◌≤◌, ◌==◌, Bool, true, false, ◌&&◌, List, ◌∷◌, length, drop, take, Option, Some, None, ◌⊎◌, inl, inr, refl, sym, ap, subst, ◌∙◌, if◌then◌else◌, arith, length-take, nat_le}
 use Rattle.std.proofs.lemmas.Bool.{cond-true, cond-false, true≢false, eqb-true}
 use Rattle.std.proofs.lemmas.Bool.Decides.{nat_tests}
 use Rattle.std.proofs.lemmas.Option.{same_Some}
@@ -11,10 +11,9 @@ use Rattle.sh_tree.specs.declared.tree.Subject.TheVariants.{Name, Positional, Sp
 use Rattle.sh_tree.specs.declared.tree.Action.{Action}
 use Rattle.sh_tree.specs.declared.tree.Special.{Special as SpecialParameter}
 use Rattle.sh_tree.specs.declared.tree.Special.TheVariants as special
-use Rattle.sh_tree.specs.declared.token.word.Sign.{Sign}
-use Rattle.sh_tree.specs.standard.language.Bytes.{is_backslash, is_digit, is_name_byte, is_name_start, is_first, name_length, run, decimal}
+use Rattle.sh_tree.specs.standard.language.Bytes.{is_digit, is_name_byte, is_name_start, is_first, name_length, run, decimal}
 use Rattle.sh_tree.specs.standard.language.Words as words
-use Rattle.sh_copies.proofs.AlikeBytes.{is_closer, closer_plain, by_bool, Alike, first_alike, behind_alike, joined_alike, run_alike, behind_run, taken_run, some_alike, lone_alike, by_first, behind_first, behind_byte}
+use Rattle.sh_copies.proofs.AlikeBytes.{is_closer, closer_plain, by_bool, Alike, first_alike, behind_alike, joined_alike, run_alike, behind_run, taken_run, some_alike, lone_alike, by_first, behind_first}
 
 -- Expansions
 
@@ -45,10 +44,6 @@ misfit_alike k cs cs' a =
 
 closer_operator : (c : ℕ) → is_closer c ≡ true → ((c == 37) ≡ false) × ((c == 35) ≡ false) × ((c == 58) ≡ false)
 closer_operator c h = (grind (arith, nat_tests), grind (arith, nat_tests), grind (arith, nat_tests))
-
-closer_action : (c : ℕ) → is_closer c ≡ true → words.action_of c ≡ None
-unfolding words.action_of
-closer_action c h = grind (arith, nat_tests)
 
 removal_first : (p : Subject) (k d : ℕ) (ds ds' : List ℕ) → (is_closer d ≡ true) ⊎ Alike ds ds' → words.misfit k (d ∷ ds') ≡ words.misfit k (d ∷ ds)
     → words.pattern_removal p k (d ∷ ds') ≡ words.pattern_removal p k (d ∷ ds)

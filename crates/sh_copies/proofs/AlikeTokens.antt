@@ -1,6 +1,6 @@
 -- What begins in a word before a byte that closes what it stands in is the same whatever follows that byte.
 -- POSIX.1-2024, XCU 2.2 (quoting), 2.6 (word expansions).
-use Rattle.std.proofs.Common.{◌≡◌, ℕ, zero, suc, ◌+◌, ◌≤◌, ◌<◌, ◌==◌, Bool, true, false, not, ◌&&◌, ◌||◌, if◌then◌else◌, nat_lt, List, [], ◌∷◌, ◌++◌, length, drop, ◌⊎◌, inl, inr, refl, sym, ap, subst, ◌∙◌, arith, length-append}
+use Rattle.std.proofs.Common.{◌≡◌, ℕ, suc, ◌+◌, ◌≤◌, ◌<◌, ◌==◌, Bool, true, false, not, ◌&&◌, if◌then◌else◌, nat_lt, List, [], ◌∷◌, ◌++◌, length, drop, ◌⊎◌, inl, inr, refl, sym, ap, subst, ◌∙◌, arith, length-append}
 use Rattle.std.proofs.lemmas.Bool.{cond-true, cond-false, true≢false, lt-ltb, eqb-true}
 use Rattle.std.proofs.lemmas.Bool.Decides.{nat_tests}
 use Rattle.sh_tree.specs.declared.tree.SingleStyle.TheVariants as style
@@ -11,11 +11,11 @@ use Rattle.sh_tree.specs.declared.token.word.Site.{Site}
 use Rattle.sh_tree.specs.declared.token.word.Site.TheVariants as site
 use Rattle.sh_tree.specs.declared.token.word.Sign.{Sign}
 use Rattle.sh_tree.specs.declared.token.word.Sign.TheVariants as sign
-use Rattle.sh_tree.specs.standard.language.Bytes.{is_backslash, is_newline, is_tab, is_name_start, is_name_byte, is_first, is_joined, ends_token, name_length, run}
+use Rattle.sh_tree.specs.standard.language.Bytes.{is_tab, is_name_start, is_name_byte, is_first, is_joined, ends_token, name_length, run}
 use Rattle.sh_tree.specs.standard.language.Words as words
 use Rattle.sh_reads.proofs.BeginningLemmas.{ends, dollar_goes}
-use Rattle.sh_copies.proofs.AlikeBytes.{is_closer, closer_plain, by_bool, run_yes, run_no, Alike, first_alike, joined_alike, some_alike, last_alike, by_first, run_alike, behind_run, past_joined}
-use Rattle.sh_copies.proofs.AlikePlain.{stands_alike, closer_stands, plain_yes, plain_no, plain_alike, tilde_alike}
+use Rattle.sh_copies.proofs.AlikeBytes.{is_closer, closer_plain, neither, by_bool, run_inside, Alike, first_alike, joined_alike, some_alike, last_alike, by_first, run_alike, behind_run, past_joined}
+use Rattle.sh_copies.proofs.AlikePlain.{stands_alike, closer_stands, plain_yes, plain_alike, tilde_alike}
 use Rattle.sh_copies.proofs.AlikeSigns.{name_alike, named_alike, braced_alike, parenthesis_alike}
 
 -- no fault, no form that is left out, and the text does not end where the context may not
@@ -30,12 +30,6 @@ is_sound _ = true
 abbrev pub is_single : Sign → Bool
 is_single (sign.Single s) = true
 is_single _ = false
-
-pub run_inside : (p : ℕ → Bool) (w r r' : List ℕ) → run p (w ++ r) < length w → run p (w ++ r') ≡ run p (w ++ r)
-run_inside p [] r r' h = absurd (omega arith)
-run_inside p (a ∷ w) r r' h = by_bool (p a)
-    (λ yes. let e = run_yes p a (w ++ r) yes in run_yes p a (w ++ r') yes ∙ ap suc (run_inside p w r r' (omega arith)) ∙ sym e)
-    (λ other. run_no p a (w ++ r') other ∙ sym (run_no p a (w ++ r) other))
 
 pub single_moves : (w r r' : List ℕ) → is_single (words.single (w ++ r)).0 ≡ true → (words.single (w ++ r)).1 ≤ length w + 1 → words.single (w ++ r') ≡ words.single (w ++ r)
 unfolding words.single
@@ -193,10 +187,6 @@ behind_name cs cs' a = by_bool (is_first is_name_start cs)
 named_whole : (i : ℕ) (cs cs' : List ℕ) → Alike cs cs' → words.named_value i (name_length cs') (drop (name_length cs') cs') ≡ words.named_value i (name_length cs) (drop (name_length cs) cs)
 named_whole i cs cs' a = ap (λ n. words.named_value i n (drop (name_length cs') cs')) (name_alike cs cs' a) ∙ named_alike i (name_length cs) _ _ (behind_name cs cs' a)
 
-pub quote_expansion : (i : ℕ) (cs : List ℕ) → words.dollar_expansion i (39 ∷ cs) ≡ words.told_or 2 (words.dollar_quoted cs)
-unfolding words.dollar_expansion
-quote_expansion i cs = refl
-
 closer_opens : (c : ℕ) → is_closer c ≡ true → (is_name_start c ≡ false) × ((c == 123) ≡ false) × ((c == 40) ≡ false) × ((c == 91) ≡ false) × ((c == 39) ≡ false)
 closer_opens c h = (grind (arith, nat_tests), grind (arith, nat_tests), grind (arith, nat_tests), grind (arith, nat_tests), grind (arith, nat_tests))
 
@@ -265,10 +255,6 @@ is_tabs _ = false
 pub record Sound (f : Sign × ℕ) (n : ℕ) : Type 0 where
   pub sound : is_sound f.0 ≡ true
   pub fits : is_stop f.0 ≡ false → f.1 ≤ n
-
-neither : (t : Bool) → (t && false) ≡ false
-neither true = refl
-neither false = refl
 
 closer_tab : (c : ℕ) → is_closer c ≡ true → is_tab c ≡ false
 closer_tab c h = grind (arith, nat_tests)

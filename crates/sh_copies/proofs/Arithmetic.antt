@@ -22,7 +22,7 @@ use Rattle.sh_copies.proofs.AlikeBytes.{by_bool}
 use Rattle.sh_copies.proofs.Copies.{Copied, Place, Moved, Found, Turns, turned, limit_of, KeptExpression, ExpansionsMove, ExpressionsMove}
 use Rattle.sh_copies.proofs.Forward.{over_forward, expression_forward, conditional_forward, level_forward, operands_forward, unary_forward, part_forward}
 use Rattle.sh_copies.proofs.Lexemes.{SameLexeme, lexeme_alike, lexeme_shifts}
-use Rattle.sh_copies.proofs.Places.{near, as_far, moved_to, moved_deeper, moved_behind}
+use Rattle.sh_copies.proofs.Places.{less_deep, near, as_far, moved_to, moved_deeper, moved_behind}
 use Rattle.sh_copies.proofs.Singles.{chained, of_constant, of_variable, of_expansion, of_parenthesis, of_unary, of_choice, of_assign, of_operands}
 
 -- Tokens
@@ -94,9 +94,6 @@ module _ (b b' : List ℕ) where
   keeps_operands o e e' es es' h k = keeps_both (expression_singles e) (chained es) (expression_singles e') (chained es') h k
 
 -- Readings
-
-less_deep : (m n limit : ℕ) → n ≡ m → m < limit → n < limit
-less_deep m n limit e h = omega arith
 
 module _ {limit n : ℕ} (expansions : ExpansionsMove limit n) {b b' : List ℕ} (c : Copied b b') (x : Context) (o' : ℕ) (turns : Turns c x o') where
   abbrev y : Context

@@ -3,35 +3,21 @@
 use Rattle.std.proofs.Common.{◌≡◌, ℕ, suc, ◌+◌, ◌≤◌, ◌<◌, ◌==◌, Bool, true, false, not, ◌&&◌, ◌||◌, List, [], ◌∷◌, ◌++◌, length, drop, refl, sym, ap, ◌∙◌, arith, eqb-true, length-drop}
 use Rattle.std.proofs.lemmas.Bool.{cond-true, cond-false, true≢false, and_parts}
 use Rattle.std.proofs.lemmas.List.{drop-drop, drop-append-le}
-use Rattle.std.proofs.lemmas.List.Sums.{take_while-cons}
 use Rattle.sh_tree.specs.standard.language.Bytes.{is_blank, is_newline, is_backslash, is_first, run}
 use Rattle.sh_tree.specs.standard.language.Commands.{gap_length, comment_length, is_comment, blank_length, is_parenthesis}
 use Rattle.sh_tree.specs.standard.language.HereDocuments.{line_length}
-use Rattle.sh_copies.proofs.AlikeBytes.{by_bool}
+use Rattle.sh_copies.proofs.AlikeBytes.{by_bool, run_yes, run_no, run_inside}
 use Rattle.sh_copies.proofs.Fronts.{first_same}
 use Rattle.sh_copies.proofs.Lines.{line_moves}
 
 -- Runs
 
-run_more : (p : ℕ → Bool) (c : ℕ) (cs : List ℕ) → p c ≡ true → run p (c ∷ cs) ≡ suc (run p cs)
-run_more p c cs h = ap length (take_while-cons p c cs ∙ cond-true _ _ _ h)
-
-run_ends : (p : ℕ → Bool) (c : ℕ) (cs : List ℕ) → p c ≡ false → run p (c ∷ cs) ≡ 0
-run_ends p c cs h = ap length (take_while-cons p c cs ∙ cond-false _ _ _ h)
-
--- a run that ends before the end of v is as long before any text
-pub run_inside : (p : ℕ → Bool) (v x y : List ℕ) → run p (v ++ x) < length v → run p (v ++ y) ≡ run p (v ++ x)
-run_inside p [] x y h = absurd (omega arith)
-run_inside p (a ∷ v) x y h = by_bool (p a)
-    (λ is. let e = run_more p a (v ++ x) is in run_more p a (v ++ y) is ∙ ap suc (run_inside p v x y (omega arith)) ∙ sym e)
-    (λ other. run_ends p a (v ++ y) other ∙ sym (run_ends p a (v ++ x) other))
-
 -- a run does not end before a byte that it takes
 run_before : (p : ℕ → Bool) (v : List ℕ) (c : ℕ) (r : List ℕ) → p c ≡ true → run p (v ++ c ∷ r) ≤ length v → run p (v ++ c ∷ r) < length v
-run_before p [] c r h k = let e = run_more p c r h in absurd (omega arith)
+run_before p [] c r h k = let e = run_yes p c r h in absurd (omega arith)
 run_before p (a ∷ v) c r h k = by_bool (p a)
-    (λ is. let e = run_more p a (v ++ c ∷ r) is in let rest = run_before p v c r h (omega arith) in omega arith)
-    (λ other. let e = run_ends p a (v ++ c ∷ r) other in omega arith)
+    (λ is. let e = run_yes p a (v ++ c ∷ r) is in let rest = run_before p v c r h (omega arith) in omega arith)
+    (λ other. let e = run_no p a (v ++ c ∷ r) other in omega arith)
 
 -- Gaps
 
@@ -89,11 +75,11 @@ unfolding is_first
 behind_comment [] = refl
 behind_comment (c ∷ cs) = by_bool (is_newline c)
     (λ line.
-    let none : comment_length (c ∷ cs) ≡ 0 = run_ends (λ d. not (is_newline d)) c cs (ap not line) in
+    let none : comment_length (c ∷ cs) ≡ 0 = run_no (λ d. not (is_newline d)) c cs (ap not line) in
     let is : c ≡ 10 = eqb-true c 10 line in
     ap (λ n. is_first is_parenthesis (drop n (c ∷ cs))) none ∙ ap is_parenthesis is)
     (λ other.
-    let more : comment_length (c ∷ cs) ≡ suc (comment_length cs) = run_more (λ d. not (is_newline d)) c cs (ap not other) in
+    let more : comment_length (c ∷ cs) ≡ suc (comment_length cs) = run_yes (λ d. not (is_newline d)) c cs (ap not other) in
     ap (λ n. is_first is_parenthesis (drop n (c ∷ cs))) more ∙ behind_comment cs)
 
 -- whether a parenthesis stands behind blanks does not depend on comments

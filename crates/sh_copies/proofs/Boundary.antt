@@ -7,14 +7,13 @@ use Rattle.std.proofs.lemmas.List.{drop-append-le}
 use Rattle.sh_tree.specs.declared.refusal.Form.TheVariants as form
 use Rattle.sh_tree.specs.declared.tree.CommandStyle.TheVariants.{Paren}
 use Rattle.sh_tree.specs.declared.token.word.Context.{Context}
-use Rattle.sh_tree.specs.declared.token.word.Site.{Site}
 use Rattle.sh_tree.specs.declared.token.word.Site.TheVariants as site
 use Rattle.sh_tree.specs.declared.token.word.Sign.{Sign}
 use Rattle.sh_tree.specs.declared.token.word.Sign.TheVariants as sign
 use Rattle.sh_tree.specs.standard.language.Bytes.{is_blank, is_newline, is_backslash, ends_token, is_first, is_last_backquote, run, joined_length, behind_joined, is_joined}
 use Rattle.sh_tree.specs.standard.language.Words as words
 use Rattle.sh_reads.proofs.TakeLemmas.{is_part}
-use Rattle.sh_copies.proofs.AlikeBytes.{by_bool, run_yes, run_no, zero_not}
+use Rattle.sh_copies.proofs.AlikeBytes.{neither, by_bool, run_yes, run_no, zero_not}
 use Rattle.sh_copies.proofs.AlikePlain.{plain_yes, plain_no}
 
 -- a byte that ends a word of the canonical text
@@ -57,10 +56,6 @@ unfoldable pub loose : List ℕ → List ℕ → Bool
 loose [] r = false
 loose (c ∷ []) r = is_backslash c || (c == 96 && length r == 0)
 loose (c ∷ d ∷ cs) r = is_backslash c && is_newline d
-
-pub neither : (t : Bool) → (t && false) ≡ false
-neither true = refl
-neither false = refl
 
 pub no_literal : (cs : List ℕ) → words.is_literal_backslash site.Word cs ≡ false
 unfolding is_first

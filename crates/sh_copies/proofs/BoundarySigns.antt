@@ -1,6 +1,6 @@
 -- The tokens of a whole word are the same before a blank, a newline or `)` as before what ends the word.
 -- POSIX.1-2024, XCU 2.2 (quoting), 2.3 (token recognition), 2.6 (word expansions).
-use Rattle.std.proofs.Common.{◌≡◌, ℕ, zero, suc, ◌+◌, ◌-◌, ◌≤◌, ◌<◌, ◌==◌, Bool, true, false, not, ◌&&◌, ◌||◌, if◌then◌else◌, List, [], ◌∷◌, ◌++◌, length, drop, take, Option, Some, None, ◌⊎◌, inl, inr, refl, sym, ap, subst, ◌∙◌, arith, length-drop, length-take}
+use Rattle.std.proofs.Common.{◌≡◌, ℕ, zero, suc, ◌+◌, ◌≤◌, ◌<◌, ◌==◌, Bool, true, false, not, ◌&&◌, if◌then◌else◌, List, [], ◌∷◌, ◌++◌, length, drop, Option, Some, None, refl, sym, ap, subst, ◌∙◌, arith}
 use Rattle.std.proofs.lemmas.Bool.{cond-true, cond-false, true≢false, eqb-true, and_parts}
 use Rattle.std.proofs.lemmas.Bool.Decides.{nat_tests}
 use Rattle.std.proofs.lemmas.List.{drop-append-le}
@@ -14,7 +14,7 @@ use Rattle.sh_tree.specs.declared.token.word.Context.{Context}
 use Rattle.sh_tree.specs.declared.token.word.Site.TheVariants as site
 use Rattle.sh_tree.specs.declared.token.word.Sign.{Sign}
 use Rattle.sh_tree.specs.declared.token.word.Sign.TheVariants as sign
-use Rattle.sh_tree.specs.standard.language.Bytes.{is_backslash, is_name_start, is_name_byte, is_newline, ends_token, is_first, name_length, run, joined_length, behind_joined, is_joined}
+use Rattle.sh_tree.specs.standard.language.Bytes.{is_backslash, is_name_start, is_name_byte, is_newline, ends_token, is_first, name_length, run, behind_joined, is_joined}
 use Rattle.sh_tree.specs.standard.language.Trees.{span}
 use Rattle.sh_tree.specs.standard.language.Words as words
 use Rattle.sh_reads.proofs.TakeLemmas.{is_part}
@@ -22,8 +22,8 @@ use Rattle.sh_copies.proofs.AlikeBytes.{by_bool, zero_not, Alike}
 use Rattle.sh_copies.proofs.AlikePlain.{plain_yes, plain_no}
 use Rattle.sh_copies.proofs.AlikeSigns.{braced_alike}
 use Rattle.sh_copies.proofs.WordsTokens.{part_sound}
-use Rattle.sh_copies.proofs.AlikeTokens.{single_sound, single_moves, dollar_quotes, quote_expansion, sign_in_part, is_sound}
-use Rattle.sh_copies.proofs.Boundary.{lone_backslash, continuation_none, breaks, is_edge, edge_first, edge_none, break_first, break_joined, joined_not, lone_none, loose, before, is_prefix, outer, Goes, GoesAt, run_outer, tilde_outer, tilde_behind, dollar_sign, literal_or, dollar_opens, opens_not_loose, stands_goes, plain_outer}
+use Rattle.sh_copies.proofs.AlikeTokens.{single_sound, single_moves, dollar_quotes, sign_in_part}
+use Rattle.sh_copies.proofs.Boundary.{lone_backslash, continuation_none, breaks, is_edge, edge_first, edge_none, break_first, break_joined, joined_not, lone_none, loose, before, outer, Goes, GoesAt, run_outer, tilde_outer, tilde_behind, literal_or, dollar_opens, stands_goes, plain_outer}
 
 -- it opens what ends with a byte that closes it
 abbrev pub is_open : Sign → Bool
@@ -112,7 +112,7 @@ braced_outer i v r r' h fits =
 
 -- Names
 
-edge_name : (c : ℕ) → is_edge c ≡ true → is_name_byte c ≡ false
+pub edge_name : (c : ℕ) → is_edge c ≡ true → is_name_byte c ≡ false
 edge_name c h = grind (arith, nat_tests, h)
 
 -- no name goes on behind continuations there

@@ -37,7 +37,7 @@ use Rattle.sh_copies.proofs.CommandsTokens.{Ahead, Ready, MovedState, turns_at, 
 use Rattle.sh_copies.proofs.Copies.{Copied, limit_of, WordsMove, PartsMove}
 use Rattle.sh_copies.proofs.Forward.{skip_forward, name_forward, parted_forward, unopened_forward, word_forward, redirect_forward, redirects_forward, breaks_forward, elements_forward, command_forward, compound_forward, do_forward, branches_forward, else_forward, for_words_forward, words_forward, clauses_forward, patterns_forward, pipeline_forward, commands_forward, and_or_forward, links_forward, items_forward, list_forward, sequence_forward}
 use Rattle.sh_copies.proofs.Leads.{name_is_no_sign}
-use Rattle.sh_copies.proofs.Places.{further, moved_to}
+use Rattle.sh_copies.proofs.Places.{less_deep, further, moved_to}
 
 -- there are redirections where one begins
 empty_is : {limit : ℕ} {b : List ℕ} {body : ℕ → Document} {s u : State} {ys : List Redirect} → ReadsRedirects limit b body s u ys → is_empty ys ≡ not (is_redirection (lead_of b (Named false) s))
@@ -49,18 +49,15 @@ empty_is (r.more_redirects h i j) = ap not (sym h)
 abbrev separates : Lead → Bool
 separates l = is_some (separator l)
 
-less_deep : (m n limit : ℕ) → n ≡ m → m < limit → n < limit
-less_deep m n limit e h = omega arith
-
 module _ {limit n : ℕ} (words : WordsMove limit n) (parts : PartsMove limit n) {b b' : List ℕ} (c : Copied b b') (ahead : Ahead c) where
-  abbrev St : State → State → Type 0
-  St s s' = MovedState c ahead s s'
+  abbrev SameState : State → State → Type 0
+  SameState s s' = MovedState c ahead s s'
 
-  abbrev Rd : State → Type 0
-  Rd s = Ready c ahead s.spot.at
+  abbrev IsReady : State → Type 0
+  IsReady s = Ready c ahead s.spot.at
 
-  abbrev Fd : State → {A : Type 0} → ((ℕ → Document) → State → A → Type 0) → Type 0
-  Fd u {A} reading = FoundState words parts c ahead u {A = A} reading
+  abbrev FoundAt : State → {A : Type 0} → ((ℕ → Document) → State → A → Type 0) → Type 0
+  FoundAt u {A} reading = FoundState words parts c ahead u {A = A} reading
 
   -- Words
 
@@ -68,8 +65,8 @@ module _ {limit n : ℕ} (words : WordsMove limit n) (parts : PartsMove limit n)
   unfolding separator is_some
   separated v i = by_test b separates First v refl (ap is_some i)
 
-  words_move : {s s' u : State} {ws : List Word} → St s s' → ReadsWords limit b s u ws → u.spot.at < s.spot.at + n → u.spot.at ≤ limit_of c → Rd u
-      → Fd u (λ body' u' ws'. ReadsWords limit b' s' u' ws')
+  words_move : {s s' u : State} {ws : List Word} → SameState s s' → ReadsWords limit b s u ws → u.spot.at < s.spot.at + n → u.spot.at ≤ limit_of c → IsReady u
+      → FoundAt u (λ body' u' ws'. ReadsWords limit b' s' u' ws')
   words_move {s' = s'} m (r.no_word h) size within ready = record { to = s'; moved = m; reads = λ body'. ([], r.no_word (ap is_word (lead_of_same c ahead m within (Named false)) ∙ h)) }
   words_move {s' = s'} m (r.more_words {s = s} {u = u} h w ws) size within ready =
       let first = word_forward w in
@@ -84,8 +81,8 @@ module _ {limit n : ℕ} (words : WordsMove limit n) (parts : PartsMove limit n)
         reads = λ body'. let z = rest.reads body' in (found.tree ∷ z.0, r.more_words (ap is_word (lead_of_same c ahead m (omega arith) (Named false)) ∙ h) found.reads z.1);
       }
 
-  patterns_move : {s s' u : State} {ws : List Word} → St s s' → ReadsPatterns limit b s u ws → u.spot.at < s.spot.at + n → u.spot.at ≤ limit_of c → Rd u
-      → Fd u (λ body' u' ws'. ReadsPatterns limit b' s' u' ws')
+  patterns_move : {s s' u : State} {ws : List Word} → SameState s s' → ReadsPatterns limit b s u ws → u.spot.at < s.spot.at + n → u.spot.at ≤ limit_of c → IsReady u
+      → FoundAt u (λ body' u' ws'. ReadsPatterns limit b' s' u' ws')
   patterns_move {s' = s'} m (r.last_pattern {s = s} {u = u} h w k) size within ready =
       let first = word_forward w in
       let second = blanks_move s.spot.joins b u.at in
@@ -118,8 +115,8 @@ module _ {limit n : ℕ} (words : WordsMove limit n) (parts : PartsMove limit n)
             );
       }
 
-  for_words_move : {s s' u : State} {o : Option (List Word)} → St s s' → ReadsForWords limit b s u o → u.spot.at < s.spot.at + n → u.spot.at ≤ limit_of c → Rd u
-      → Fd u (λ body' u' o'. ReadsForWords limit b' s' u' o')
+  for_words_move : {s s' u : State} {o : Option (List Word)} → SameState s s' → ReadsForWords limit b s u o → u.spot.at < s.spot.at + n → u.spot.at ≤ limit_of c → IsReady u
+      → FoundAt u (λ body' u' o'. ReadsForWords limit b' s' u' o')
   for_words_move m (r.arguments_ended {s = s} h k) size within ready =
       let first = skip_forward b 1 s in
       let second = breaks_forward k in
@@ -151,8 +148,8 @@ module _ {limit n : ℕ} (words : WordsMove limit n) (parts : PartsMove limit n)
             );
       }
 
-  elements_move : {body : ℕ → Document} {g : Stage} {s s' u : State} {es : List Element} → St s s' → ReadsElements limit b body g s u es → u.spot.at < s.spot.at + n → u.spot.at ≤ limit_of c → Rd u
-      → Fd u (λ body' u' es'. ReadsElements limit b' body' g s' u' es')
+  elements_move : {body : ℕ → Document} {g : Stage} {s s' u : State} {es : List Element} → SameState s s' → ReadsElements limit b body g s u es → u.spot.at < s.spot.at + n → u.spot.at ≤ limit_of c → IsReady u
+      → FoundAt u (λ body' u' es'. ReadsElements limit b' body' g s' u' es')
   elements_move {g = g} {s' = s'} m (r.no_element h) size within ready =
       record { to = s'; moved = m; reads = λ body'. ([], r.no_element (ap begins_simple (lead_of_same c ahead m within g) ∙ h)) }
   elements_move {g = g} {s' = s'} m (r.assigned_element {s = s} {u = u} h w es) size within ready =
@@ -219,12 +216,12 @@ module _ {limit n : ℕ} (words : WordsMove limit n) (parts : PartsMove limit n)
   unfolding is_bare_name
   bare_sign i h = name_is_no_sign b i h
 
-  abbrev go : (i j : ℕ) → (is_first is_number_sign (drop j b) ≡ false → is_first is_number_sign (drop i b) ≡ false) → Ready c ahead j → Ready c ahead i
-  go i j f ready = before words parts c ahead i j f ready
+  abbrev ready_before : (i j : ℕ) → (is_first is_number_sign (drop j b) ≡ false → is_first is_number_sign (drop i b) ≡ false) → Ready c ahead j → Ready c ahead i
+  ready_before i j f ready = before words parts c ahead i j f ready
 
   mutual
-    command_moves : {body : ℕ → Document} {s s' u : State} {k : Command} → St s s' → ReadsCommand limit b body s u k → u.spot.at < s.spot.at + n → u.spot.at ≤ limit_of c → Rd u
-        → Fd u (λ body' u' k'. ReadsCommand limit b' body' s' u' k')
+    command_moves : {body : ℕ → Document} {s s' u : State} {k : Command} → SameState s s' → ReadsCommand limit b body s u k → u.spot.at < s.spot.at + n → u.spot.at ≤ limit_of c → IsReady u
+        → FoundAt u (λ body' u' k'. ReadsCommand limit b' body' s' u' k')
     command_moves {s' = s'} m (r.simple_command {s = s} h es) size within ready =
         let first = elements_forward es in
         let found = elements_move (moved_begun c ahead m) es (omega arith) within ready in
@@ -240,7 +237,7 @@ module _ {limit n : ℕ} (words : WordsMove limit n) (parts : PartsMove limit n)
     command_moves {s' = s'} m (r.compound_command {s = s} {u = u} {v = v} {rs = rs} h k rds) size within ready =
         let first = compound_forward k in
         let second = redirects_forward rds in
-        let one = compound_moves (moved_begun c ahead m) k (omega arith) (omega arith) (go _ _ (redirects_sign rds) ready) in
+        let one = compound_moves (moved_begun c ahead m) k (omega arith) (omega arith) (ready_before _ _ (redirects_sign rds) ready) in
         let rest = redirects_move words parts c ahead one.moved rds (omega arith) within ready in
         record {
           to = closing (is_empty rs) rest.to;
@@ -280,8 +277,8 @@ module _ {limit n : ℕ} (words : WordsMove limit n) (parts : PartsMove limit n)
               );
         }
 
-    compound_moves : {body : ℕ → Document} {l : Lead} {s s' u : State} {k : Kind} → St s s' → ReadsCompound limit b body l s u k → u.spot.at < s.spot.at + n → u.spot.at ≤ limit_of c → Rd u
-        → Fd u (λ body' u' k'. ReadsCompound limit b' body' l s' u' k')
+    compound_moves : {body : ℕ → Document} {l : Lead} {s s' u : State} {k : Kind} → SameState s s' → ReadsCompound limit b body l s u k → u.spot.at < s.spot.at + n → u.spot.at ≤ limit_of c → IsReady u
+        → FoundAt u (λ body' u' k'. ReadsCompound limit b' body' l s' u' k')
     compound_moves {s' = s'} m (r.group {s = s} {u = u} d t h) size within ready =
         let first = skip_forward b 1 s in
         let second = list_forward t in
@@ -392,8 +389,8 @@ module _ {limit n : ℕ} (words : WordsMove limit n) (parts : PartsMove limit n)
               );
         }
 
-    do_moves : {body : ℕ → Document} {s s' u : State} {t : Script} → St s s' → ReadsDo limit b body s u t → u.spot.at < s.spot.at + n → u.spot.at ≤ limit_of c → Rd u
-        → Fd u (λ body' u' t'. ReadsDo limit b' body' s' u' t')
+    do_moves : {body : ℕ → Document} {s s' u : State} {t : Script} → SameState s s' → ReadsDo limit b body s u t → u.spot.at < s.spot.at + n → u.spot.at ≤ limit_of c → IsReady u
+        → FoundAt u (λ body' u' t'. ReadsDo limit b' body' s' u' t')
     do_moves {s' = s'} m (r.do_group {s = s} {u = u} h t k) size within ready =
         let first = skip_forward b 2 s in
         let second = list_forward t in
@@ -406,8 +403,8 @@ module _ {limit n : ℕ} (words : WordsMove limit n) (parts : PartsMove limit n)
               let z = inside.reads body' in (z.0, r.do_group (lead_of_same c ahead m (omega arith) First ∙ h) z.1 (lead_of_same c ahead inside.moved (omega arith) First ∙ k));
         }
 
-    branches_move : {body : ℕ → Document} {s s' u : State} {bs : List Branch} {o : Option Script} → St s s' → ReadsBranches limit b body s u bs o → u.spot.at < s.spot.at + n → u.spot.at ≤ limit_of c → Rd u
-        → Fd u {A = List Branch × Option Script} (λ body' u' z. ReadsBranches limit b' body' s' u' z.0 z.1)
+    branches_move : {body : ℕ → Document} {s s' u : State} {bs : List Branch} {o : Option Script} → SameState s s' → ReadsBranches limit b body s u bs o → u.spot.at < s.spot.at + n → u.spot.at ≤ limit_of c → IsReady u
+        → FoundAt u {A = List Branch × Option Script} (λ body' u' z. ReadsBranches limit b' body' s' u' z.0 z.1)
     branches_move {s = s} m (r.branch {u = u} {v = v} k h t e) size within ready =
         let first = list_forward k in
         let second = skip_forward b 4 u in
@@ -426,8 +423,8 @@ module _ {limit n : ℕ} (words : WordsMove limit n) (parts : PartsMove limit n)
               ((tree.branch x.0 y.0 ∷ z.0.0, z.0.1), r.branch x.1 (lead_of_same c ahead one.moved (omega arith) First ∙ h) y.1 z.1);
         }
 
-    else_moves : {body : ℕ → Document} {s s' u : State} {bs : List Branch} {o : Option Script} → St s s' → ReadsElse limit b body s u bs o → u.spot.at < s.spot.at + n → u.spot.at ≤ limit_of c → Rd u
-        → Fd u {A = List Branch × Option Script} (λ body' u' z. ReadsElse limit b' body' s' u' z.0 z.1)
+    else_moves : {body : ℕ → Document} {s s' u : State} {bs : List Branch} {o : Option Script} → SameState s s' → ReadsElse limit b body s u bs o → u.spot.at < s.spot.at + n → u.spot.at ≤ limit_of c → IsReady u
+        → FoundAt u {A = List Branch × Option Script} (λ body' u' z. ReadsElse limit b' body' s' u' z.0 z.1)
     else_moves {s' = s'} m (r.fi {s = s} h) size within ready =
         let first = skip_forward b 2 s in
         record { to = skip b' 2 s'; moved = moved_skip c ahead 2 m within ready; reads = λ body'. (([], None), r.fi (lead_of_same c ahead m (omega arith) First ∙ h)) }
@@ -449,8 +446,8 @@ module _ {limit n : ℕ} (words : WordsMove limit n) (parts : PartsMove limit n)
         let rest = branches_move (moved_skip c ahead 4 m (omega arith) (inr (branches_sign bs))) bs (omega arith) within ready in
         record { to = rest.to; moved = rest.moved; reads = λ body'. let z = rest.reads body' in (z.0, r.elif (lead_of_same c ahead m (omega arith) First ∙ h) z.1) }
 
-    clauses_move : {body : ℕ → Document} {s s' u : State} {cs : List Clause} → St s s' → ReadsClauses limit b body s u cs → u.spot.at < s.spot.at + n → u.spot.at ≤ limit_of c → Rd u
-        → Fd u (λ body' u' cs'. ReadsClauses limit b' body' s' u' cs')
+    clauses_move : {body : ℕ → Document} {s s' u : State} {cs : List Clause} → SameState s s' → ReadsClauses limit b body s u cs → u.spot.at < s.spot.at + n → u.spot.at ≤ limit_of c → IsReady u
+        → FoundAt u (λ body' u' cs'. ReadsClauses limit b' body' s' u' cs')
     clauses_move {s' = s'} m (r.esac {s = s} h) size within ready =
         let first = skip_forward b 4 s in
         record { to = skip b' 4 s'; moved = moved_skip c ahead 4 m within ready; reads = λ body'. ([], r.esac (lead_of_same c ahead m (omega arith) First ∙ h)) }
@@ -500,8 +497,8 @@ module _ {limit n : ℕ} (words : WordsMove limit n) (parts : PartsMove limit n)
               );
         }
 
-    pipeline_moves : {body : ℕ → Document} {s s' u : State} {p : Pipe} → St s s' → ReadsPipeline limit b body s u p → u.spot.at < s.spot.at + n → u.spot.at ≤ limit_of c → Rd u
-        → Fd u (λ body' u' p'. ReadsPipeline limit b' body' s' u' p')
+    pipeline_moves : {body : ℕ → Document} {s s' u : State} {p : Pipe} → SameState s s' → ReadsPipeline limit b body s u p → u.spot.at < s.spot.at + n → u.spot.at ≤ limit_of c → IsReady u
+        → FoundAt u (λ body' u' p'. ReadsPipeline limit b' body' s' u' p')
     pipeline_moves m (r.negated {s = s} h cs) size within ready =
         let first = skip_forward b 1 s in
         let second = commands_forward cs in
@@ -516,8 +513,8 @@ module _ {limit n : ℕ} (words : WordsMove limit n) (parts : PartsMove limit n)
           reads = λ body'. let z = rest.reads body' in (tree.pipe false z.0, r.straight (ap begins_command (lead_of_same c ahead m (omega arith) First) ∙ h) z.1);
         }
 
-    commands_move : {body : ℕ → Document} {s s' u : State} {cs : List Command} → St s s' → ReadsCommands limit b body s u cs → u.spot.at < s.spot.at + n → u.spot.at ≤ limit_of c → Rd u
-        → Fd u (λ body' u' cs'. ReadsCommands limit b' body' s' u' cs')
+    commands_move : {body : ℕ → Document} {s s' u : State} {cs : List Command} → SameState s s' → ReadsCommands limit b body s u cs → u.spot.at < s.spot.at + n → u.spot.at ≤ limit_of c → IsReady u
+        → FoundAt u (λ body' u' cs'. ReadsCommands limit b' body' s' u' cs')
     commands_move m (r.last_command k h) size within ready =
         let one = command_moves m k size within ready in
         record { to = one.to; moved = one.moved; reads = λ body'. let z = one.reads body' in (z.0 ∷ [], r.last_command z.1 (ap is_bar (lead_of_same c ahead one.moved within First) ∙ h)) }
@@ -538,12 +535,12 @@ module _ {limit n : ℕ} (words : WordsMove limit n) (parts : PartsMove limit n)
               (y.0 ∷ z.0, r.more_commands y.1 (ap is_bar (lead_of_same c ahead one.moved (omega arith) First) ∙ h) gap.2 z.1);
         }
 
-    and_or_moves : {body : ℕ → Document} {s s' u : State} {l : AndOr} → St s s' → ReadsAndOr limit b body s u l → u.spot.at < s.spot.at + n → u.spot.at ≤ limit_of c → Rd u
-        → Fd u (λ body' u' l'. ReadsAndOr limit b' body' s' u' l')
+    and_or_moves : {body : ℕ → Document} {s s' u : State} {l : AndOr} → SameState s s' → ReadsAndOr limit b body s u l → u.spot.at < s.spot.at + n → u.spot.at ≤ limit_of c → IsReady u
+        → FoundAt u (λ body' u' l'. ReadsAndOr limit b' body' s' u' l')
     and_or_moves {s = s} m (r.linked p ps) size within ready =
         let first = pipeline_forward p in
         let second = links_forward ps in
-        let one = pipeline_moves m p (omega arith) (omega arith) (go _ _ (links_sign ps) ready) in
+        let one = pipeline_moves m p (omega arith) (omega arith) (ready_before _ _ (links_sign ps) ready) in
         let rest = links_move one.moved ps (omega arith) within ready in
         record {
           to = rest.to;
@@ -551,8 +548,8 @@ module _ {limit n : ℕ} (words : WordsMove limit n) (parts : PartsMove limit n)
           reads = λ body'. let y = one.reads body' in let z = rest.reads body' in (tree.and_or y.0 z.0, r.linked y.1 z.1);
         }
 
-    links_move : {body : ℕ → Document} {s s' u : State} {ps : List (Link × Pipe)} → St s s' → ReadsLinks limit b body s u ps → u.spot.at < s.spot.at + n → u.spot.at ≤ limit_of c → Rd u
-        → Fd u (λ body' u' ps'. ReadsLinks limit b' body' s' u' ps')
+    links_move : {body : ℕ → Document} {s s' u : State} {ps : List (Link × Pipe)} → SameState s s' → ReadsLinks limit b body s u ps → u.spot.at < s.spot.at + n → u.spot.at ≤ limit_of c → IsReady u
+        → FoundAt u (λ body' u' ps'. ReadsLinks limit b' body' s' u' ps')
     links_move {s' = s'} m (r.no_link h) size within ready = record { to = s'; moved = m; reads = λ body'. ([], r.no_link (ap link_of (lead_of_same c ahead m within First) ∙ h)) }
     links_move m (r.more_links {s = s} {u = u} {l = l} h k p ps) size within ready =
         let first = skip_forward b 2 s in
@@ -560,7 +557,7 @@ module _ {limit n : ℕ} (words : WordsMove limit n) (parts : PartsMove limit n)
         let third = pipeline_forward p in
         let fourth = links_forward ps in
         let gap = breaks_move words parts c ahead (moved_skip c ahead 2 m (omega arith) (inr (breaks_sign k (pipeline_sign p)))) k (omega arith) (omega arith) (inr (pipeline_sign p)) in
-        let one = pipeline_moves gap.1 p (omega arith) (omega arith) (go _ _ (links_sign ps) ready) in
+        let one = pipeline_moves gap.1 p (omega arith) (omega arith) (ready_before _ _ (links_sign ps) ready) in
         let rest = links_move one.moved ps (omega arith) within ready in
         record {
           to = rest.to;
@@ -571,8 +568,8 @@ module _ {limit n : ℕ} (words : WordsMove limit n) (parts : PartsMove limit n)
               ((l, y.0) ∷ z.0, r.more_links (ap link_of (lead_of_same c ahead m (omega arith) First) ∙ h) gap.2 y.1 z.1);
         }
 
-    items_move : {body : ℕ → Document} {s s' u : State} {is : List Item} → St s s' → ReadsItems limit b body s u is → u.spot.at < s.spot.at + n → u.spot.at ≤ limit_of c → Rd u
-        → Fd u (λ body' u' is'. ReadsItems limit b' body' s' u' is')
+    items_move : {body : ℕ → Document} {s s' u : State} {is : List Item} → SameState s s' → ReadsItems limit b body s u is → u.spot.at < s.spot.at + n → u.spot.at ≤ limit_of c → IsReady u
+        → FoundAt u (λ body' u' is'. ReadsItems limit b' body' s' u' is')
     items_move m (r.last_item {u = u} l h k) size within ready =
         let one = and_or_moves m l size within ready in
         let token = lead_of_same c ahead one.moved within First in
@@ -588,7 +585,7 @@ module _ {limit n : ℕ} (words : WordsMove limit n) (parts : PartsMove limit n)
         let second = parted_forward b u in
         let third = breaks_forward k in
         let one = and_or_moves m l (omega arith) (omega arith) (inr (separated u h)) in
-        let token = moved_parted c ahead one.moved (omega arith) (omega arith) (go _ _ (breaks_sign k) ready) in
+        let token = moved_parted c ahead one.moved (omega arith) (omega arith) (ready_before _ _ (breaks_sign k) ready) in
         let rest = breaks_move words parts c ahead token k (omega arith) within ready in
         record {
           to = rest.0;
@@ -619,8 +616,8 @@ module _ {limit n : ℕ} (words : WordsMove limit n) (parts : PartsMove limit n)
               );
         }
 
-    list_moves : {body : ℕ → Document} {s s' u : State} {t : Script} → St s s' → ReadsList limit b body s u t → u.spot.at < s.spot.at + n → u.spot.at ≤ limit_of c → Rd u
-        → Fd u (λ body' u' t'. ReadsList limit b' body' s' u' t')
+    list_moves : {body : ℕ → Document} {s s' u : State} {t : Script} → SameState s s' → ReadsList limit b body s u t → u.spot.at < s.spot.at + n → u.spot.at ≤ limit_of c → IsReady u
+        → FoundAt u (λ body' u' t'. ReadsList limit b' body' s' u' t')
     list_moves {s = s} m (r.list {u = u} k h is) size within ready =
         let first = breaks_forward k in
         let second = items_forward is in
@@ -632,8 +629,8 @@ module _ {limit n : ℕ} (words : WordsMove limit n) (parts : PartsMove limit n)
           reads = λ body'. let z = rest.reads body' in (tree.script z.0, r.list gap.2 (ap begins_pipeline (lead_of_same c ahead gap.1 (omega arith) First) ∙ h) z.1);
         }
 
-    pub sequence_moves : {body : ℕ → Document} {s s' u : State} {t : Script} → St s s' → ReadsSequence limit b body s u t → u.spot.at < s.spot.at + n → u.spot.at ≤ limit_of c → Rd u
-        → Fd u (λ body' u' t'. ReadsSequence limit b' body' s' u' t')
+    pub sequence_moves : {body : ℕ → Document} {s s' u : State} {t : Script} → SameState s s' → ReadsSequence limit b body s u t → u.spot.at < s.spot.at + n → u.spot.at ≤ limit_of c → IsReady u
+        → FoundAt u (λ body' u' t'. ReadsSequence limit b' body' s' u' t')
     sequence_moves m (r.nothing k h) size within ready =
         let gap = breaks_move words parts c ahead m k size within ready in
         record { to = gap.0; moved = gap.1; reads = λ body'. (tree.script [], r.nothing gap.2 (ap begins_pipeline (lead_of_same c ahead gap.1 within First) ∙ h)) }

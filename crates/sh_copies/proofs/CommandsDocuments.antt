@@ -24,6 +24,7 @@ use Rattle.sh_copies.proofs.Copies.{Copied, Place, turned, limit_of, PartsMove}
 use Rattle.sh_copies.proofs.Fronts.{whole}
 use Rattle.sh_copies.proofs.Inside.{Inside, more_spans, parts_inside}
 use Rattle.sh_copies.proofs.Lines.{size, found_is, end_line_again, line_moves}
+use Rattle.sh_copies.proofs.WordsFound.{list_of_texts}
 use Rattle.sh_copies.proofs.Places.{left, as_far}
 
 -- End lines
@@ -150,19 +151,15 @@ cut_texts b n (z ∷ ss) (more_spans l h) =
     let long = length-take n b in
     ap (λ t. t ∷ map (text_of (take n b)) ss) (cut_text b n z (omega arith)) ∙ ap (λ ts. text_of b z ∷ ts) (cut_texts b n ss h)
 
-all_texts : (b : List ℕ) (ss : List Span) → list_all (λ s. not (is_split_text (text_of b s))) ss ≡ list_all (λ t. not (is_split_text t)) (map (text_of b) ss)
-all_texts b [] = refl
-all_texts b (z ∷ ss) = ap (λ t. not (is_split_text (text_of b z)) && t) (all_texts b ss)
-
 -- single quotes in bodies that are read in fronts of the texts
 pub keeps_same : (b b' : List ℕ) (joins : Bool) (n n' : ℕ) (ps ps' : List Part) → Inside (length (take n b)) (singles ps) → Inside (length (take n' b')) (singles ps')
     → map (text_of (take n' b')) (singles ps') ≡ map (text_of (take n b)) (singles ps) → keeps_lines b' joins ps' ≡ keeps_lines b joins ps
 unfolding keeps_lines
 keeps_same b b' joins n n' ps ps' h h' e =
     ap (λ t. not joins || t)
-    (all_texts b' (singles ps')
+    (list_of_texts b' (singles ps')
     ∙ ap (list_all (λ t. not (is_split_text t))) (sym (cut_texts b' n' (singles ps') h') ∙ e ∙ cut_texts b n (singles ps) h)
-    ∙ sym (all_texts b (singles ps)))
+    ∙ sym (list_of_texts b (singles ps)))
 
 pub quoted_body : (m : Mark) → is_quoted (in_document_of m).site ≡ true
 unfolding in_document_of

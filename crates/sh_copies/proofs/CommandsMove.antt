@@ -24,11 +24,12 @@ use Rattle.sh_reads.proofs.MoveLemmas.{blanks_move, redirection_moves, line_behi
 use Rattle.sh_copies.proofs.Blanks.{is_number_sign}
 use Rattle.sh_copies.proofs.CommandsDocuments.{end_same, ambiguity_same, document_same, body_moves}
 use Rattle.sh_copies.proofs.CommandsReady.{by_test, redirects_sign, breaks_sign}
-use Rattle.sh_copies.proofs.CommandsTokens.{Ahead, Ready, MovedState, turns_at, text_between, lead_of_same, redirection_same, moved_next, moved_past, moved_mark, moved_line, moved_document, moved_facing}
+use Rattle.sh_copies.proofs.CommandsTokens.{Ahead, Ready, MovedState, turns_at, lead_of_same, redirection_same, moved_next, moved_past, moved_mark, moved_line, moved_document, moved_facing}
 use Rattle.sh_copies.proofs.Copies.{Copied, Found, KeptWord, limit_of, WordsMove, PartsMove}
 use Rattle.sh_copies.proofs.Forward.{next_forward, word_forward, redirect_forward, redirects_forward, documents_forward, breaks_forward}
 use Rattle.sh_copies.proofs.Lines.{end_line_inside}
 use Rattle.sh_copies.proofs.Places.{further}
+use Rattle.sh_copies.proofs.WordsTokens.{same_text}
 
 -- Delimiters
 
@@ -104,7 +105,7 @@ module _ {limit n : ℕ} (words : WordsMove limit n) (parts : PartsMove limit n)
       let at_word = moved_next c ahead m same.end (omega arith) (inr (by_test b is_word (Named false) (next b o.end s) refl i)) in
       let found = unsplit_moves at_word word (omega arith) (omega arith) in
       let text : text_of b' found.tree.span ≡ text_of b w.span =
-      ap (text_of b') (word_span found.reads) ∙ text_between c at_word.spot.place found.moved.place (omega arith) (omega arith) ∙ sym (ap (text_of b) (word_span word)) in
+      ap (text_of b') (word_span found.reads) ∙ same_text c at_word.spot.place found.moved.place (omega arith) (omega arith) ∙ sym (ap (text_of b) (word_span word)) in
       let mark = mark_of b strip s.spot.depth w in
       let mark' = mark_of b' strip s'.spot.depth found.tree in
       let marks : mark' ≡ mark = mark_same b b' strip s.spot.depth s'.spot.depth w found.tree found.keeps m.spot.depth in
@@ -149,7 +150,7 @@ module _ {limit n : ℕ} (words : WordsMove limit n) (parts : PartsMove limit n)
       let second = line_behind b l.end in
       let third = documents_forward ds in
       let end = end_same c ahead k m.spot.place h (omega arith) in
-      let text = text_between c m.spot.place end.start (omega arith) (omega arith) in
+      let text = same_text c m.spot.place end.start (omega arith) (omega arith) in
       let inside = end_line_inside k b s.spot.at l h in
       let inside' = end_line_inside k b' s'.spot.at end.to end.is in
       let low' = (end_line_moves k b' s'.spot.at end.to end.is).0 in
@@ -172,7 +173,7 @@ module _ {limit n : ℕ} (words : WordsMove limit n) (parts : PartsMove limit n)
         rest.1,
         r.more_bodies end.is (ambiguity_same k b b' s.spot.at l.start s'.spot.at end.to.start text ∙ a)
             (document_same b b' s.spot.joins s'.spot.joins s.spot.tabs s'.spot.tabs k (span s.spot.at (behind_line b l.end)) (span s'.spot.at (behind_line b' end.to.end)) m.spot.joins m.spot.tabs
-            (text_between c m.spot.place end.behind (omega arith) (omega arith))
+            (same_text c m.spot.place end.behind (omega arith) (omega arith))
             ∙ keeps)
             found.reads found.keeps rest.2,
       )

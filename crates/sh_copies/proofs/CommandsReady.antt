@@ -1,4 +1,5 @@
--- If no number sign stands where commands end, none stands where they begin: a comment that a here-document must not hold is no token.
+-- If no number sign stands where commands end, none stands where they begin: a comment that a
+-- here-document must not hold is no token.
 -- POSIX.1-2024, XCU 2.3 (token recognition), 2.7.4 (here-document).
 use Rattle.std.proofs.Common.{◌≡◌, ℕ, Bool, true, false, List, [], ◌∷◌, ◌==◌, Option, drop, refl, ap, ◌∙◌, subst, eqb-true}
 use Rattle.std.proofs.lemmas.Bool.{cond-false}

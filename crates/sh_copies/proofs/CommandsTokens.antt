@@ -1,26 +1,25 @@
 -- The same tokens and states among the commands of a copy.
 -- POSIX.1-2024, XCU 2.3 (token recognition), 2.10 (shell grammar).
-use Rattle.std.proofs.Common.{◌≡◌, ℕ, ◌+◌, ◌-◌, ◌≤◌, ◌==◌, Bool, true, false, ◌||◌, if◌then◌else◌, List, [], ◌∷◌, ◌++◌, length, drop, take, Option, Some, None, ◌⊎◌, refl, sym, ap, ◌∙◌, subst, arith, eqb-true, eq-eqb, length-append, ⊎_elim}
+use Rattle.std.proofs.Common.{◌≡◌, ℕ, ◌+◌, ◌≤◌, ◌==◌, Bool, true, false, ◌||◌, if◌then◌else◌, List, [], ◌∷◌, ◌++◌, length, drop, Option, Some, None, ◌⊎◌, refl, sym, ap, ◌∙◌, subst, arith, length-append, ⊎_elim}
 use Rattle.std.proofs.lemmas.Bool.{cond-true, cond-false, true≢false}
-use Rattle.std.proofs.lemmas.List.{drop-drop, take-append-le}
+use Rattle.std.proofs.lemmas.List.{drop-drop}
 use Rattle.std.proofs.lemmas.Option.{same_Some}
 use Rattle.sh_tree.specs.declared.token.command.Operator.{Operator}
 use Rattle.sh_tree.specs.declared.token.command.Redirection.{Redirection}
 use Rattle.sh_tree.specs.declared.token.command.Stage.{Stage}
 use Rattle.sh_tree.specs.declared.token.command.Stage.TheVariants.{First, Prefixed, Named}
 use Rattle.sh_tree.specs.declared.token.word.Context.{Context}
-use Rattle.sh_tree.specs.standard.Tree.{text_of}
 use Rattle.sh_tree.specs.standard.language.Bytes.{is_first, run, is_digit, name_length}
 use Rattle.sh_tree.specs.standard.language.Commands.{blanks, blank_length, lead_at, bare_word, declares, name_end, is_assignment, operator, operator_of, further, redirection, redirection_by, redirects, digits_end, number_of, is_bare_name, is_newline_lead, is_open}
 use Rattle.sh_tree.specs.standard.language.Contexts.{in_word, in_value, in_operand, in_stage}
 use Rattle.sh_tree.specs.standard.language.HereDocuments.{Mark}
 use Rattle.sh_tree.specs.standard.language.Reading.{lead_of, lead_here, skip, behind_name, parted, unopened, stage_behind}
 use Rattle.sh_tree.specs.standard.language.States.{Spot, State, Document, next, past, begun, lower, as_deep, closing, with_mark, on_line, with_document, facing, waits}
-use Rattle.sh_tree.specs.standard.language.Trees.{span}
 use Rattle.sh_copies.proofs.AlikeBytes.{by_bool}
 use Rattle.sh_copies.proofs.Blanks.{is_number_sign, blank_moves}
 use Rattle.sh_copies.proofs.Copies.{Copied, Place, Moved, Turns, turned, limit_of}
 use Rattle.sh_copies.proofs.Leads.{lead_front, lead_moves, bare_front, bare_moves, name_moves, assignment_moves, behind_digits, digits_move, behind_digits_moves}
+use Rattle.sh_copies.proofs.WordsMove.{equal_far}
 use Rattle.sh_copies.proofs.Places.{left, further as further_on, as_far, moved_to, moved_behind}
 
 -- a closing parenthesis stands behind the copy in both texts
@@ -33,31 +32,11 @@ pub record Closing (rest rest' : List ℕ) : Type 0 where
 abbrev pub Ahead : {b b' : List ℕ} → Copied b b' → Type 0
 Ahead c = (c.rest' ≡ c.rest) ⊎ Closing c.rest c.rest'
 
-eq_shift : (a n k : ℕ) → (a + n == a + k) ≡ (n == k)
-eq_shift a n k = by_bool (n == k)
-    (λ is. let same : n ≡ k = eqb-true n k is in eq-eqb (a + n) (a + k) (omega arith) ∙ sym is)
-    (λ other. by_bool (a + n == a + k)
-    (λ is. let same : a + n ≡ a + k = eqb-true (a + n) (a + k) is in let less : n ≡ k = omega arith in absurd (true≢false (sym (eq-eqb n k less) ∙ other)))
-    (λ none. none ∙ sym other))
-
 module _ {b b' : List ℕ} (c : Copied b b') where
   -- a context that begins at the same place
   pub turns_at : {i i' : ℕ} → Place c i i' → (x : Context) → x.origin ≡ i → Turns c x i'
   turns_at p x e quoted n =
-      ap (λ k. c.into + n == k) p.at' ∙ eq_shift c.into n p.by ∙ sym (eq_shift c.from n p.by) ∙ sym (ap (λ k. c.from + n == k) (e ∙ p.at))
-
-  -- the bytes between two places
-  pub text_between : {i i' j j' : ℕ} → Place c i i' → Place c j j' → i ≤ limit_of c → j ≤ limit_of c → text_of b' (span i' j') ≡ text_of b (span i j)
-  text_between {i = i} {i' = i'} {j = j} {j' = j'} p q h k =
-      let l = left c p h in
-      let long = l.long in
-      let a = p.at in
-      let a' = p.at' in
-      let z = q.at in
-      let z' = q.at' in
-      let size : j' - i' ≡ j - i = omega arith in
-      let within : j - i ≤ length l.w = omega arith in
-      ap (λ n. take n (drop i' b')) size ∙ ap (take (j - i)) l.here ∙ take-append-le (j - i) l.w c.rest' within ∙ sym (ap (take (j - i)) l.there ∙ take-append-le (j - i) l.w c.rest within)
+      ap (λ k. c.into + n == k) p.at' ∙ equal_far c.from c.into p.by n ∙ sym (ap (λ k. c.from + n == k) (e ∙ p.at))
 
 module _ {b b' : List ℕ} (c : Copied b b') (ahead : Ahead c) where
   -- what depends on no byte behind a closing parenthesis

@@ -1,27 +1,26 @@
 -- Where the unquoted bytes end with which a word begins, and that they end there whatever follows the word.
 -- POSIX.1-2024, XCU 2.2.1 (backslash), 2.3 (token recognition), 2.6.1 (tilde expansion).
-use Rattle.std.proofs.Common.{◌≡◌, ℕ, zero, suc, ◌+◌, ◌≤◌, ◌<◌, ◌==◌, Bool, true, false, not, ◌&&◌, ◌||◌, if◌then◌else◌, List, [], ◌∷◌, ◌++◌, length, drop, take, codes, refl, sym, ap, subst, ◌∙◌, ◌⊎◌, inl, inr, ⊎_elim, ◌-◌, arith, append_assoc, append-nil, cond}
+use Rattle.std.proofs.Common.{◌≡◌, ℕ, zero, suc, ◌+◌, ◌≤◌, ◌<◌, ◌==◌, Bool, true, false, not, ◌&&◌, ◌||◌, if◌then◌else◌, List, [], ◌∷◌, ◌++◌, length, drop, codes, refl, sym, ap, subst, ◌∙◌, arith}
 use Rattle.std.specs.List.{list_all}
-use Rattle.std.proofs.lemmas.Bool.{cond-true, cond-false, true≢false, and_parts, eqb-true}
+use Rattle.std.proofs.lemmas.Bool.{true≢false, and_parts, eqb-true}
 use Rattle.std.proofs.lemmas.Bool.Decides.{nat_tests}
-use Rattle.std.proofs.lemmas.List.{drop-drop, drop_at, take_at, length-append}
-use Rattle.std.proofs.lemmas.List.Sums.{take_while-cons}
+use Rattle.std.proofs.lemmas.List.{drop-drop, drop_at}
 use Rattle.sh_tree.specs.declared.refusal.Form.TheVariants as form
 use Rattle.sh_tree.specs.declared.tree.Part.{Part}
 use Rattle.sh_tree.specs.declared.token.word.Context.{Context}
 use Rattle.sh_tree.specs.declared.token.word.Site.TheVariants as site
 use Rattle.sh_tree.specs.declared.token.word.Sign.{Sign}
 use Rattle.sh_tree.specs.declared.token.word.Sign.TheVariants as sign
-use Rattle.sh_tree.specs.standard.language.Bytes.{is_in, is_newline, is_backslash, ends_token, is_first, is_last_backquote, run, joined_length}
-use Rattle.sh_tree.specs.standard.language.Commands.{bare_word, is_bare}
+use Rattle.sh_tree.specs.standard.language.Bytes.{is_in, is_newline, is_backslash, ends_token, is_first, run, joined_length}
+use Rattle.sh_tree.specs.standard.language.Commands.{is_bare}
 use Rattle.sh_tree.specs.standard.language.Reading as r
 use Rattle.sh_tree.specs.standard.language.Reading.{ReadsPart, ReadsParts, sign_at, after}
-use Rattle.sh_tree.specs.standard.language.States.{Spot, to}
+use Rattle.sh_tree.specs.standard.language.States.{Spot}
 use Rattle.sh_tree.specs.standard.language.Words as words
 use Rattle.sh_tree.proofs.Inversions.{stopped, nothing_at}
 use Rattle.sh_copies.proofs.AlikeBytes.{by_bool, run_yes, run_no, zero_not}
 use Rattle.sh_copies.proofs.AlikePlain.{plain_yes, plain_no}
-use Rattle.sh_copies.proofs.Declaring.{Edge, edge, edge_stands, edge_bare, ends_stop, token_first, word_stands, last_false}
+use Rattle.sh_copies.proofs.Declaring.{Edge, edge, edge_stands, ends_stop, token_first, word_stands, last_false}
 use Rattle.sh_copies.proofs.Forward.{parts_forward, part_forward}
 
 -- What no plain bytes and no tilde-prefix go past

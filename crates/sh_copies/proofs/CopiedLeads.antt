@@ -1,6 +1,6 @@
 -- The lead of a token that is no operator.
 -- POSIX.1-2024, XCU 2.3 (token recognition), 2.10 (shell grammar).
-use Rattle.std.proofs.Common.{◌≡◌, ℕ, suc, ◌==◌, Bool, true, false, ◌&&◌, Option, None, List, [], ◌∷◌, length, nat_eq, nat_le, if◌then◌else◌, refl, ap, ◌∙◌, cond, arith}
+use Rattle.std.proofs.Common.{◌≡◌, ℕ, suc, ◌==◌, false, None, List, ◌∷◌, length, nat_eq, nat_le, if◌then◌else◌, refl, ap, ◌∙◌, cond, arith}
 use Rattle.std.proofs.lemmas.Bool.Decides.{nat_tests}
 use Rattle.sh_tree.specs.declared.refusal.Form.TheVariants as form
 use Rattle.sh_tree.specs.declared.token.command.Lead.{Lead}

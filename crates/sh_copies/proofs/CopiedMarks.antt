@@ -1,15 +1,14 @@
 -- An unquoted delimiter has no backslash.
 -- POSIX.1-2024, XCU 2.2.1 (escape character), 2.7.4 (here-document).
-use Rattle.std.proofs.Common.{◌≡◌, ℕ, zero, suc, ◌+◌, ◌-◌, ◌==◌, Bool, true, false, not, ◌&&◌, ◌||◌, if◌then◌else◌, List, [], ◌∷◌, ◌++◌, length, drop, take, Option, Some, None, refl, sym, ap, ◌∙◌, subst, arith}
+use Rattle.std.proofs.Common.{◌≡◌, ℕ, zero, suc, ◌+◌, ◌-◌, ◌==◌, Bool, true, false, not, ◌||◌, if◌then◌else◌, List, [], ◌∷◌, length, drop, take, Option, Some, None, refl, sym, ap, ◌∙◌, subst, arith}
 use Rattle.std.specs.List.{list_any}
-use Rattle.std.proofs.lemmas.Bool.{true≢false, and_parts, eqb-true}
+use Rattle.std.proofs.lemmas.Bool.{true≢false, and_parts, eqb-true, or_parts}
 use Rattle.std.proofs.lemmas.Bool.Decides.{nat_tests}
 use Rattle.std.proofs.lemmas.List.Folds.{list_any-append}
 use Rattle.sh_tree.specs.declared.tree.Action.{Action}
 use Rattle.sh_tree.specs.declared.tree.Special.{Special}
 use Rattle.sh_tree.specs.declared.tree.Subject.{Subject}
 use Rattle.sh_tree.specs.declared.tree.Part.{Part}
-use Rattle.sh_tree.specs.declared.tree.Part.TheVariants as part
 use Rattle.sh_tree.specs.declared.tree.Word.{Word}
 use Rattle.sh_tree.specs.declared.token.word.Context.{Context}
 use Rattle.sh_tree.specs.declared.token.word.Site.TheVariants as site
@@ -150,7 +149,7 @@ byte_none (suc n) c h = any_first c n h
     any_first c zero h = ap (λ t. t || false) h
     any_first c (suc n) h = ap (λ t. t || false) h
 
--- the bytes of a plain part that begins so
+-- if the sign is that of a plain part, its bytes hold no backslash
 abbrev HasNone : List ℕ → Sign × ℕ → Type 0
 HasNone cs f = is_plain f ≡ true → list_any is_backslash (take f.1 cs) ≡ false
 
@@ -198,7 +197,7 @@ plain_text b x prior s word is =
     let size : s.at + found.1 - s.at ≡ found.1 = omega arith in
     ap (λ n. list_any is_backslash (take n (drop s.at b))) size ∙ sign_none x prior s.at (drop s.at b) word (ap (λ g. is_plain (g, found.1)) is)
 
--- what unquoted parts without expansions say
+-- unquoted parts without expansions
 unquoted_part : {limit : ℕ} {b : List ℕ} {x : Context} {g : Sign} {s v : Spot} {e : ℕ} {p : Part} → (g ≡ sign.Plain → list_any is_backslash (text_of b (span s.at e)) ≡ false) → ReadsPart limit b x g s e v p
     → is_quotation p ≡ false → is_static (part_text b p) ≡ true → list_any is_backslash (or_none (part_text b p)) ≡ false
 unfolding is_quotation part_text is_static
@@ -214,10 +213,6 @@ unquoted_part text (r.use_word l h) none static = absurd (true≢false (sym stat
 unquoted_part text (r.removal l h) none static = absurd (true≢false (sym static))
 unquoted_part text (r.arithmetic l h f c) none static = absurd (true≢false (sym static))
 unquoted_part text (r.substitution l k h c) none static = absurd (true≢false (sym static))
-
-or_parts : (t u : Bool) → (t || u) ≡ false → (t ≡ false) × (u ≡ false)
-or_parts true u h = absurd (true≢false h)
-or_parts false u h = (refl, h)
 
 both_none : (t u : Option (List ℕ)) → is_static (both_texts t u) ≡ true → (is_static t ≡ true → list_any is_backslash (or_none t) ≡ false) → (is_static u ≡ true → list_any is_backslash (or_none u) ≡ false)
     → list_any is_backslash (or_none (both_texts t u)) ≡ false

@@ -1,14 +1,12 @@
 -- The token with which a whole word begins is a word wherever it stands, before what may stand behind a word.
 -- POSIX.1-2024, XCU 2.3 (token recognition), 2.4 (reserved words), 2.9.1 (simple commands).
-use Rattle.std.proofs.Common.{◌≡◌, ℕ, zero, suc, ◌+◌, ◌-◌, ◌≤◌, ◌<◌, ◌==◌, Bool, true, false, not, ◌&&◌, ◌||◌, if◌then◌else◌, Option, Some, None, List, [], ◌∷◌, ◌++◌, length, drop, take, codes, refl, sym, ap, subst, ◌∙◌, ◌⊎◌, inl, inr, ⊎_elim, arith, append-nil, append_assoc, length-drop, cond}
+use Rattle.std.proofs.Common.{◌≡◌, ℕ, suc, ◌+◌, ◌-◌, ◌<◌, ◌==◌, Bool, true, false, not, ◌&&◌, ◌||◌, if◌then◌else◌, Option, Some, None, List, [], ◌∷◌, ◌++◌, length, drop, take, refl, sym, ap, subst, ◌∙◌, ◌⊎◌, inl, inr, arith, append-nil, append_assoc, length-drop}
 use Rattle.std.specs.List.{list_all}
-use Rattle.std.specs.Str.{bytes_eq}
-use Rattle.std.proofs.lemmas.Bool.{cond-true, cond-false, true≢false, and_parts, eqb-true}
+use Rattle.std.proofs.lemmas.Bool.{cond-true, cond-false, true≢false, and_parts}
 use Rattle.std.proofs.lemmas.Bool.Decides.{nat_tests}
 use Rattle.std.proofs.lemmas.List.{drop-drop, drop_at, take_at, length-append, length-take-le}
 use Rattle.std.proofs.lemmas.List.Folds.{drop_split}
-use Rattle.sh_copies.specs.Copied.{Role, Field, Unsplit, Value, context_of, TokenOf, IsBehindWord, begins_word, is_declaring}
-use Rattle.sh_tree.specs.declared.refusal.Form.{Form}
+use Rattle.sh_copies.specs.Copied.{Role, Field, Unsplit, Value, context_of, TokenOf, IsBehindWord, is_declaring}
 use Rattle.sh_tree.specs.declared.refusal.Form.TheVariants as form
 use Rattle.sh_tree.specs.declared.tree.Part.{Part}
 use Rattle.sh_tree.specs.declared.tree.Word.{Word}
@@ -23,7 +21,7 @@ use Rattle.sh_tree.specs.declared.token.word.Context.{Context}
 use Rattle.sh_tree.specs.declared.token.word.Site.TheVariants as site
 use Rattle.sh_tree.specs.declared.token.word.Sign.{Sign}
 use Rattle.sh_tree.specs.standard.Tree.{text_of}
-use Rattle.sh_tree.specs.standard.language.Bytes.{is_in, is_blank, is_newline, is_backslash, is_digit, is_name_start, is_name_byte, is_name, is_operator_byte, ends_token, is_first, is_last_backquote, run, name_length, is_joined, joined_length, behind_joined}
+use Rattle.sh_tree.specs.standard.language.Bytes.{is_blank, is_newline, is_backslash, is_digit, is_name_start, is_name_byte, is_name, is_operator_byte, ends_token, is_first, is_last_backquote, run, name_length, joined_length, behind_joined}
 use Rattle.sh_tree.specs.standard.language.Commands.{bare_word, is_bare, blanks, blank_length, gap_length, lead_at, other_lead, word_lead, first_lead, reserved_lead, name_end, name_lead, number_lead, is_definition, is_parenthesis, is_assignment, is_named, is_angle, is_word, is_split, entry_of, reserved_words, left_out_names, declares, operator_of}
 use Rattle.sh_tree.specs.standard.language.Contexts.{in_word, in_value, in_operand, in_stage}
 use Rattle.sh_tree.specs.standard.language.Reading.{ReadsParts, ReadsWord}
@@ -35,7 +33,7 @@ use Rattle.sh_reads.proofs.BeginningLemmas.{word_goes}
 use Rattle.sh_reads.proofs.MoveLemmas.{is_end, lead_inside as text_inside}
 use Rattle.sh_copies.proofs.AlikeBytes.{by_bool, run_yes, run_no, zero_not}
 use Rattle.sh_copies.proofs.CopiedBare.{Beyond, beyond}
-use Rattle.sh_copies.proofs.CopiedLeads.{no_operator, lead_by, lead_inside}
+use Rattle.sh_copies.proofs.CopiedLeads.{no_operator, lead_inside}
 use Rattle.sh_copies.proofs.Declaring.{edge, edge_bare, ends_stop, token_first, parts_end, declares_read}
 use Rattle.sh_copies.proofs.Forward.{parts_forward}
 use Rattle.sh_copies.proofs.Inside.{parts_inside}
@@ -323,7 +321,7 @@ module _ (v r : List ℕ) (byte : Byte v r) (ends : words.ends_joined r ≡ true
       let n = run is_digit cs in
       let n' = run is_digit cs' in
       let source = last_word (not (n == 0) && is_angle (drop n cs)) (not (n == 0) && is_angle (behind_joined (drop n cs))) (not (is_named g) && is_assignment cs)
-                   (number_lead (drop n cs) (operator_of (drop n cs))) (lead.LeftOut form.Continuation) lead.Assignment (word_lead cs g 0 (bare_word cs 0)) (number_other (drop n cs) (operator_of (drop n cs))) refl refl is in
+      (number_lead (drop n cs) (operator_of (drop n cs))) (lead.LeftOut form.Continuation) lead.Assignment (word_lead cs g 0 (bare_word cs 0)) (number_other (drop n cs) (operator_of (drop n cs))) refl refl is in
       let angle = digits_angle r' e in
       let bare = bare_same r' e in
       let assigned : (not (is_named g) && is_assignment cs') ≡ false = go (not (is_named g)) source.0 (no_assignment r' e) in

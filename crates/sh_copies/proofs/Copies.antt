@@ -1,8 +1,7 @@
 -- What is copied: bytes of one text that stand in another too, and what is read of them there.
 -- POSIX.1-2024, XCU 2.2 (quoting), 2.6 (word expansions).
-use Rattle.std.proofs.Common.{◌≡◌, ℕ, ◌+◌, ◌<◌, ◌≤◌, ◌==◌, Bool, true, false, List, ◌∷◌, ◌++◌, length, map, drop, ◌⊎◌}
+use Rattle.std.proofs.Common.{◌≡◌, ℕ, ◌+◌, ◌<◌, ◌≤◌, ◌==◌, true, false, List, ◌∷◌, ◌++◌, length, map, drop, ◌⊎◌}
 use Rattle.std.specs.List.{list_any}
-use Rattle.sh_tree.specs.declared.tree.CommandStyle.{CommandStyle}
 use Rattle.sh_tree.specs.declared.tree.Expr.{Expr}
 use Rattle.sh_tree.specs.declared.tree.Part.{Part}
 use Rattle.sh_tree.specs.declared.tree.Script.{Script}

@@ -31,7 +31,7 @@ use Rattle.sh_copies.specs.Copied.{is_declaring}
 use Rattle.sh_copies.proofs.AlikeBytes.{by_bool, run_yes, run_no, zero_not}
 use Rattle.sh_copies.proofs.AlikePlain.{plain_yes, plain_no}
 
--- where a word may end it does, and takes nothing more
+-- the sign takes no byte, and a word may end before the text
 record Ends (f : Sign × ℕ) (cs : List ℕ) : Type 0 where
   size : f.1 ≡ 0
   ends : words.ends_joined cs ≡ true
@@ -97,7 +97,7 @@ backquoted_ends x c (d ∷ cs) word is h =
     go true k = true≢false (sym k)
     go false k = true≢false (sym k)
 
--- what takes bytes is no end
+-- a sign that takes bytes is no end
 not_stop : (f : Sign × ℕ) → ends f ≡ false → is_stop f.0 ≡ true → ⊥
 not_stop (sign.Stop, n) h k = true≢false h
 not_stop (g, n) h k = true≢false (sym k)
@@ -135,7 +135,7 @@ stop_ends x prior i (c ∷ cs) word h =
     (λ yes. let e : words.sign_by x prior i c cs ≡ (sign.Tilde, words.tilde_length x cs) = rw (k, n0, n1, n2, yes) refl in same e h (λ s. absurd (true≢false (sym s))))
     (λ n3. let e : words.sign_by x prior i c cs ≡ words.meant_by x i c cs = rw (k, n0, n1, n2, n3) refl in same e h (meant_ends x i c cs word)))))
 
--- a word ends where one may
+-- a whole word ends before what may end a word
 pub parts_end : {limit : ℕ} {b : List ℕ} {x : Context} {prior : ℕ} {s u : Spot} {ps : List Part} → x.site ≡ site.Word → ReadsParts limit b x prior s u ps → words.ends_joined (drop u.at b) ≡ true
 unfolding words.token
 parts_end {b = b} {x = x} {prior = prior} word (r.stop {s = s} is) =
@@ -189,7 +189,7 @@ edge_stands x prior i c cs word (Edge.last quote none) =
     word_stands x prior i c cs word
     ∙ last_false (not (ends_token c)) (not (words.is_stripped x prior c)) (not (words.is_tilde x prior i c cs)) _ (subst (λ n. (not (words.is_special site.Word n) || words.is_literal site.Word n cs) ≡ false) (sym (eqb-true c 96 quote)) refl)
 
--- so a word ends there
+-- a word ends before it
 edge_stop : (x : Context) (prior i c : ℕ) (cs : List ℕ) → x.site ≡ site.Word → x.strip ≡ false → Edge c cs → words.sign_of x prior i (c ∷ cs) ≡ (sign.Stop, 0)
 unfolding words.sign_of words.sign_by words.meant_by words.backslash words.continuation words.backquoted
 edge_stop x prior i c cs word strip (Edge.token h) =
@@ -256,7 +256,7 @@ edge_bare c cs (Edge.token h) = rw h refl
 edge_bare c cs (Edge.joined d ds is back line more) = subst (λ n. is_bare n ≡ false) (sym (eqb-true c 92 back)) refl
 edge_bare c cs (Edge.last quote none) = subst (λ n. is_bare n ≡ false) (sym (eqb-true c 96 quote)) refl
 
-name_bare : (c : ℕ) → is_name_byte c ≡ true → is_bare c ≡ true
+pub name_bare : (c : ℕ) → is_name_byte c ≡ true → is_bare c ≡ true
 name_bare c h = grind (arith, nat_tests)
 
 name_run : (t rest : List ℕ) → list_all is_name_byte t ≡ true → words.ends_joined rest ≡ true → run is_bare (t ++ rest) ≡ length t
@@ -268,7 +268,7 @@ name_run (c ∷ t) rest h e =
 
 -- Declaring
 
--- texts of which both or neither are a third
+-- two texts, of which both or neither are a third one
 bytes_same : (t v w : List ℕ) → (v ≡ t → w ≡ t) → (w ≡ t → v ≡ t) → bytes_eq t v ≡ bytes_eq t w
 bytes_same t v w f g = by_bool (bytes_eq t v)
     (λ yes. yes ∙ sym (is w (f (sym ((bytes_eq-Decides t v).0 yes)))))
@@ -277,7 +277,7 @@ bytes_same t v w f g = by_bool (bytes_eq t v)
     is : (y : List ℕ) → y ≡ t → bytes_eq t y ≡ true
     is y e = (bytes_eq-Decides t y).1 (sym e)
 
--- the unquoted word at i, if some is there
+-- the unquoted word at i, if it is not empty
 bare_front : (b : List ℕ) (i c : ℕ) (t : List ℕ) → bare_word b i ≡ c ∷ t → (drop i b ≡ (c ∷ t) ++ drop (run is_bare (drop i b)) (drop i b)) × (words.ends_joined (drop (run is_bare (drop i b)) (drop i b)) ≡ true)
 unfolding bare_word
 bare_front b i c t e = go (words.ends_joined (drop (run is_bare (drop i b)) (drop i b))) refl e
@@ -287,7 +287,7 @@ bare_front b i c t e = go (words.ends_joined (drop (run is_bare (drop i b)) (dro
     go true k h = (sym (take-append-drop (run is_bare (drop i b)) (drop i b)) ∙ ap (λ v. v ++ drop (run is_bare (drop i b)) (drop i b)) h, k)
     go false k h = absurd cc
 
--- a name of which no more of the token stands behind it is a whole word
+-- a name before what may end a word is a whole word
 name_ends : {limit : ℕ} {b : List ℕ} {x : Context} {s u : Spot} {w : Word} (c : ℕ) (t rest : List ℕ) → x.site ≡ site.Word → x.strip ≡ false → ReadsWord limit b x s u w
     → list_all is_name_byte (c ∷ t) ≡ true → drop s.at b ≡ (c ∷ t) ++ rest → words.ends_joined rest ≡ true → u.at ≡ s.at + suc (length t)
 unfolding words.token
@@ -335,7 +335,7 @@ module _ {limit : ℕ} {b : List ℕ} {x : Context} {s u : Spot} {w : Word} (wor
   same_name : (c : ℕ) (t : List ℕ) → list_all is_name_byte (c ∷ t) ≡ true → bytes_eq (c ∷ t) (bare_word b s.at) ≡ bytes_eq (c ∷ t) (text_of b (span s.at u.at))
   same_name c t h = bytes_same (c ∷ t) (bare_word b s.at) (text_of b (span s.at u.at)) (bare_text c t h) (text_bare c t h)
 
--- a word names a utility that declares where its text does
+-- the word names `export` or `readonly` if its text is that name
 pub declares_read : {limit : ℕ} {b : List ℕ} {x : Context} {s u : Spot} {w : Word} → x.site ≡ site.Word → x.strip ≡ false → ReadsWord limit b x s u w → declares b s.at ≡ is_declaring (text_of b w.span)
 unfolding declares
 declares_read {b = b} {s = s} {u = u} {w = w} word strip reads =

@@ -1,5 +1,5 @@
 -- What stands some bytes behind the front of a text, before a byte that closes something.
-use Rattle.std.proofs.Common.{◌≡◌, ℕ, zero, suc, ◌+◌, ◌≤◌, Bool, true, false, ◌&&◌, List, [], ◌∷◌, ◌++◌, length, drop, take, refl, sym, ap, ◌∙◌, arith, append_assoc, length-drop}
+use Rattle.std.proofs.Common.{◌≡◌, ℕ, zero, suc, ◌+◌, ◌≤◌, Bool, true, false, List, [], ◌∷◌, ◌++◌, length, drop, take, refl, sym, ap, ◌∙◌, arith, append_assoc, length-drop}
 use Rattle.std.proofs.lemmas.Bool.{true≢false}
 use Rattle.std.proofs.lemmas.List.{drop-append-le, take-append-le}
 use Rattle.sh_tree.specs.standard.language.Bytes.{is_first, run, joined_length, behind_joined, joined_at}
@@ -52,7 +52,3 @@ joined_at_is n w c r r' h l =
     ∙ ap (λ t. take n w ++ t) (drop-append-le k v (c ∷ x) j.1)
     ∙ sym (append_assoc (take n w) (drop k v) (c ∷ x))) in
     (take n w ++ drop k v, text r refl, text r' j.0)
-
-pub never : (t : Bool) → (t && false) ≡ false
-never true = refl
-never false = refl

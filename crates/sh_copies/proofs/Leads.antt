@@ -1,7 +1,8 @@
--- A token of commands before a closing parenthesis is the same whatever follows it, and wherever it stands.
+-- A token of commands before a closing parenthesis is the same wherever it stands, whatever follows.
 -- POSIX.1-2024, XCU 2.3 (token recognition), 2.4 (reserved words), 2.7 (redirection).
 use Rattle.std.proofs.Common.{◌≡◌, ℕ, zero, suc, ◌+◌, ◌≤◌, ◌<◌, ◌==◌, Bool, true, false, not, ◌&&◌, ◌||◌, List, [], ◌∷◌, ◌++◌, length, drop, take, nat_le, if◌then◌else◌, inl, inr, refl, sym, ap, ◌∙◌, subst, arith, eqb-true, length-drop, length-take, ⊎_elim}
 use Rattle.std.specs.Prelude.{Option, Some, None}
+use Rattle.std.proofs.Math.Bool.{and-false}
 use Rattle.std.proofs.lemmas.Bool.{cond-false, true≢false, cases_lt, le-leb, leb-true, and_parts}
 use Rattle.std.proofs.lemmas.Bool.Decides.{nat_tests}
 use Rattle.std.proofs.lemmas.List.{drop-drop, drop-append-le, take-append-le}
@@ -19,7 +20,7 @@ use Rattle.sh_tree.specs.standard.language.Commands.{blanks, blank_length, gap_l
 use Rattle.sh_tree.specs.standard.language.Words.{ends_joined}
 use Rattle.sh_copies.proofs.AlikeBytes.{Alike, by_bool, joined_moves, first_alike, behind_alike, joined_alike, last_alike, some_alike, run_moves}
 use Rattle.sh_copies.proofs.Blanks.{gap_moves, parenthesis_behind, is_number_sign}
-use Rattle.sh_copies.proofs.Fronts.{alike_behind, whole, first_same, joined_at_is, never}
+use Rattle.sh_copies.proofs.Fronts.{alike_behind, whole, first_same, joined_at_is}
 use Rattle.sh_copies.proofs.Tables.{Within, longest_moves, longest_within}
 
 -- Wherever it stands
@@ -75,9 +76,6 @@ pub lead_front : (b : List ℕ) (g : Stage) (i : ℕ) → lead_at b g i ≡ lead
 unfolding lead_at
 lead_front b g i = of_front b g i (operator_of (drop i b))
 
-pub lead_shifts : (b b' : List ℕ) (g : Stage) (i i' : ℕ) → drop i' b' ≡ drop i b → lead_at b' g i' ≡ lead_at b g i
-lead_shifts b b' g i i' e = lead_front b' g i' ∙ ap (λ cs. lead_at cs g 0) e ∙ sym (lead_front b g i)
-
 -- Operators
 
 pub operators_move : (w r r' : List ℕ) → operator_of (w ++ 41 ∷ r') ≡ operator_of (w ++ 41 ∷ r)
@@ -102,7 +100,7 @@ split_inside n w r r' l =
 -- the closing parenthesis is no longer operator
 closing_alone : (r : List ℕ) → is_split (41 ∷ r) 1 ≡ false
 unfolding is_split
-closing_alone r = ap (λ o. is_joined (drop 1 (41 ∷ r)) && is_longer 1 o) (parenthesis_alone (behind_joined r)) ∙ never (is_joined (drop 1 (41 ∷ r)))
+closing_alone r = ap (λ o. is_joined (drop 1 (41 ∷ r)) && is_longer 1 o) (parenthesis_alone (behind_joined r)) ∙ and-false (is_joined (drop 1 (41 ∷ r)))
 
 split_moves : (n : ℕ) (w r r' : List ℕ) → Within n w → is_split (w ++ 41 ∷ r') n ≡ is_split (w ++ 41 ∷ r) n
 split_moves n w r r' (inr l) = split_inside n w r r' l

@@ -1,8 +1,10 @@
--- A token of arithmetic before a byte that closes what it stands in is the same whatever follows that byte, and wherever it stands.
+-- A token of arithmetic before a byte that closes what it stands in is the same wherever it stands,
+-- whatever follows that byte.
 -- POSIX.1-2024, XCU 2.6.4 (arithmetic expansion).
 use Rattle.std.proofs.Common.{◌≡◌, ℕ, zero, suc, ◌+◌, ◌≤◌, ◌==◌, Bool, true, false, ◌&&◌, ◌||◌, List, [], ◌∷◌, ◌++◌, length, drop, codes, nat_eq, nat_lt, if◌then◌else◌, inl, inr, refl, sym, ap, ◌∙◌, subst, arith, eqb-true, ⊎_elim}
 use Rattle.std.specs.Prelude.{Option, Some, None}
 use Rattle.std.specs.List.{starts_with}
+use Rattle.std.proofs.Math.Bool.{and-false}
 use Rattle.std.proofs.lemmas.Bool.{cond-true, cond-false, cond_both, le-ltb, and_parts}
 use Rattle.std.proofs.lemmas.Bool.Decides.{nat_tests}
 use Rattle.std.proofs.lemmas.List.{drop-drop, drop-append-le}
@@ -13,7 +15,7 @@ use Rattle.sh_tree.specs.declared.token.arithmetic.Lexeme.{Lexeme}
 use Rattle.sh_tree.specs.standard.language.Arithmetic.{space_length, operator_table, constant_length, name_figure, unknown, figure_by, figure_of, is_split, lexeme_from, lexeme_start, lexeme}
 use Rattle.sh_tree.specs.standard.language.Bytes.{is_in, is_blank, is_newline, is_backslash, is_digit, is_octal, is_hexadecimal, is_name_byte, is_name_start, is_first, run, name_length, longest, behind_joined, is_joined, joined_at}
 use Rattle.sh_copies.proofs.AlikeBytes.{Alike, is_closer, closer_plain, by_bool, joined_alike, lone_alike, some_alike}
-use Rattle.sh_copies.proofs.Fronts.{alike_behind, whole, run_behind, first_before, first_same, joined_at_is, never}
+use Rattle.sh_copies.proofs.Fronts.{alike_behind, whole, run_behind, first_before, first_same, joined_at_is}
 use Rattle.sh_copies.proofs.Tables.{Within, longest_moves, longest_within, settled_moves}
 
 -- Blanks
@@ -165,7 +167,7 @@ closer_alone : (c : ℕ) (r : List ℕ) → is_closer c ≡ true → is_split (c
 closer_alone c r h =
     let x = behind_joined r in
     let most : (figure_of (c ∷ x)).1 ≤ 1 = ⊎_elim (λ k. k) (λ k. omega arith) (figure_moves [] c x x h).within in
-    ap (λ t. is_joined (drop 1 (c ∷ r)) && t) (le-ltb 1 (figure_of (joined_at 1 (c ∷ r))).1 most) ∙ never (is_joined (drop 1 (c ∷ r)))
+    ap (λ t. is_joined (drop 1 (c ∷ r)) && t) (le-ltb 1 (figure_of (joined_at 1 (c ∷ r))).1 most) ∙ and-false (is_joined (drop 1 (c ∷ r)))
 
 split_moves : (n : ℕ) (w : List ℕ) (c : ℕ) (r r' : List ℕ) → is_closer c ≡ true → Within n w → is_split (w ++ c ∷ r') n ≡ is_split (w ++ c ∷ r) n
 split_moves n w c r r' h (inr l) = split_inside n w c r r' h l

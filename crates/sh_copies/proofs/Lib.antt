@@ -1,5 +1,3 @@
-pub mod LeadsOuter
-pub mod LeadsWords
 pub mod Readings
 pub mod LinesDocuments
 pub mod CommandsScripts

@@ -1,5 +1,5 @@
 -- The same places and spots of a copy, and the texts from them on.
-use Rattle.std.proofs.Common.{◌≡◌, ℕ, ◌+◌, ◌≤◌, List, ◌++◌, length, drop, ◌⊎◌, inl, inr, sym, ap, ◌∙◌, arith, length-drop, ⊎_elim}
+use Rattle.std.proofs.Common.{◌≡◌, ℕ, ◌+◌, ◌<◌, ◌≤◌, List, ◌++◌, length, drop, ◌⊎◌, inl, inr, sym, ap, ◌∙◌, arith, length-drop, ⊎_elim}
 use Rattle.std.proofs.lemmas.List.{drop-drop, drop-append-le}
 use Rattle.sh_tree.specs.standard.language.States.{Spot, to, deeper, behind}
 use Rattle.sh_copies.proofs.AlikeBytes.{Alike}
@@ -8,6 +8,9 @@ use Rattle.sh_copies.proofs.Copies.{Copied, Place, Moved, limit_of}
 -- the same text, or the same up to a byte that closes what they stand in
 abbrev pub Near : List ℕ → List ℕ → Type 0
 Near cs cs' = (cs' ≡ cs) ⊎ Alike cs cs'
+
+pub less_deep : (n m limit : ℕ) → m ≡ n → n < limit → m < limit
+less_deep n m limit e h = omega arith
 
 module _ {b b' : List ℕ} (c : Copied b b') where
   -- what is left of the copied bytes

@@ -1,7 +1,6 @@
 -- What begins at one place of a text begins there too if the text stands elsewhere, but for the places of a parameter.
 -- POSIX.1-2024, XCU 2.2 (quoting), 2.6 (word expansions).
-use Rattle.std.proofs.Common.{◌≡◌, ℕ, ◌+◌, ◌==◌, Bool, true, false, not, ◌&&◌, ◌||◌, if◌then◌else◌, List, [], ◌∷◌, length, drop, Option, Some, None, take, nat_le, refl, sym, ap, ◌∙◌, arith}
-use Rattle.std.proofs.lemmas.Bool.{cond-true, cond-false, true≢false}
+use Rattle.std.proofs.Common.{◌≡◌, ℕ, ◌+◌, ◌==◌, Bool, true, false, not, ◌&&◌, if◌then◌else◌, List, [], ◌∷◌, length, drop, Option, Some, None, take, nat_le, refl, sym, ap, ◌∙◌, arith}
 use Rattle.sh_tree.specs.declared.tree.Action.{Action}
 use Rattle.sh_tree.specs.declared.tree.Removal.{Removal}
 use Rattle.sh_tree.specs.declared.tree.Special.{Special as SpecialParameter}

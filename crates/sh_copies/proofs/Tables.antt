@@ -1,4 +1,4 @@
--- What a table of texts finds before a byte that closes something is the same whatever follows that byte.
+-- What a table of texts finds before a byte that closes something is the same whatever follows.
 use Rattle.std.proofs.Common.{◌≡◌, ℕ, ◌≤◌, Bool, true, false, not, ◌&&◌, List, [], ◌∷◌, ◌++◌, length, nat_eq, ◌⊎◌, inl, inr, if◌then◌else◌, refl, sym, ap, ◌∙◌, subst, arith, eqb-true}
 use Rattle.std.specs.Prelude.{Some}
 use Rattle.std.specs.List.{starts_with, list_all}

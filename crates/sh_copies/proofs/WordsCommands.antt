@@ -1,8 +1,8 @@
 -- The commands of a substitution are read wherever its bytes stand.
 -- POSIX.1-2024, XCU 2.6.3 (command substitution).
-use Rattle.std.proofs.Common.{◌≡◌, ℕ, zero, suc, ◌+◌, ◌-◌, ◌≤◌, ◌<◌, ◌==◌, Bool, true, false, not, ◌&&◌, ◌||◌, List, [], ◌∷◌, ◌++◌, length, drop, take, ◌⊎◌, inl, inr, refl, sym, ap, subst, ◌∙◌, arith, length-drop, length-take, length-append}
+use Rattle.std.proofs.Common.{◌≡◌, ℕ, zero, suc, ◌+◌, ◌-◌, ◌≤◌, ◌<◌, ◌==◌, Bool, true, false, not, List, [], ◌∷◌, ◌++◌, length, drop, take, inl, inr, refl, sym, ap, ◌∙◌, arith, length-drop, length-take, length-append}
 use Rattle.std.proofs.lemmas.Bool.{true≢false}
-use Rattle.std.proofs.lemmas.List.{drop-take, drop-drop, take-append-le, drop-append-le, append-nil}
+use Rattle.std.proofs.lemmas.List.{drop-take, drop-drop, take-append-le, append-nil}
 use Rattle.sh_tree.specs.declared.tree.CommandStyle.{CommandStyle}
 use Rattle.sh_tree.specs.declared.tree.CommandStyle.TheVariants.{Paren, Backquote}
 use Rattle.sh_tree.specs.declared.tree.Script.{Script}
@@ -15,8 +15,7 @@ use Rattle.sh_tree.specs.standard.language.Reading.{ReadsScript}
 use Rattle.sh_tree.specs.standard.language.States.{Spot, deeper}
 use Rattle.sh_tree.specs.standard.language.Substitutions.{no_backquote, backquote_end, commands_text, closes, keeps_backslashes, has_kept_backslash}
 use Rattle.sh_reads.proofs.MoveLemmas.{blanks_move}
-use Rattle.sh_copies.proofs.AlikeBytes.{by_bool, run_yes, run_no}
-use Rattle.sh_copies.proofs.AlikeTokens.{run_inside}
+use Rattle.sh_copies.proofs.AlikeBytes.{by_bool, run_yes, run_no, run_inside}
 use Rattle.sh_copies.proofs.Copies.{Copied, limit_of, Place, Moved, ScriptsMove}
 use Rattle.sh_copies.proofs.Forward.{script_forward}
 use Rattle.sh_copies.proofs.Places.{left, as_far, moved_deeper}

@@ -1,19 +1,17 @@
 -- A whole word of the text is one wherever its bytes stand before what may stand behind a word.
 -- POSIX.1-2024, XCU 2.2 (quoting), 2.3 (token recognition), 2.6 (word expansions).
-use Rattle.std.proofs.Common.{◌≡◌, ℕ, zero, suc, ◌+◌, ◌-◌, ◌≤◌, ◌<◌, ◌==◌, Bool, true, false, not, ◌&&◌, ◌||◌, if◌then◌else◌, nat_le, List, [], ◌∷◌, ◌++◌, length, drop, take, ◌⊎◌, inl, inr, refl, sym, ap, subst, ◌∙◌, ⊎_elim, arith, length-drop, length-take, take-append-drop}
-use Rattle.std.proofs.lemmas.Bool.{true≢false, cond-true, cond-false}
+use Rattle.std.proofs.Common.{◌≡◌, ℕ, ◌+◌, ◌-◌, ◌≤◌, ◌==◌, Bool, true, false, not, ◌&&◌, nat_le, List, [], ◌∷◌, ◌++◌, length, drop, take, ◌⊎◌, inl, inr, refl, sym, ap, subst, ◌∙◌, ⊎_elim, arith, length-drop, length-take, take-append-drop}
+use Rattle.std.proofs.lemmas.Bool.{cond-true, cond-false}
 use Rattle.std.proofs.lemmas.Bool.Decides.{nat_tests}
 use Rattle.std.proofs.lemmas.List.{drop-drop, drop-append-le, append-nil}
 use Rattle.std.proofs.Math.Seq.{drop-append_seam}
 use Rattle.sh_tree.specs.declared.tree.Part.{Part}
 use Rattle.sh_tree.specs.declared.tree.Word.{Word}
-use Rattle.sh_tree.specs.declared.token.command.Stage.{Stage}
 use Rattle.sh_tree.specs.declared.token.command.Stage.TheVariants as stage
-use Rattle.sh_tree.specs.declared.token.word.Context.{Context}
 use Rattle.sh_tree.specs.standard.Tree.{text_of}
-use Rattle.sh_tree.specs.standard.language.Bytes.{is_first, is_name_start, is_name_byte, name_length, run, joined_length, behind_joined}
+use Rattle.sh_tree.specs.standard.language.Bytes.{is_first, is_name_start, is_name_byte, name_length, behind_joined}
 use Rattle.sh_tree.specs.standard.language.Commands.{is_assignment, is_location, is_angle, name_end}
-use Rattle.sh_tree.specs.standard.language.Contexts.{in_word, in_value, in_operand, in_stage, in_unsplit}
+use Rattle.sh_tree.specs.standard.language.Contexts.{in_word, in_value, in_operand, in_stage}
 use Rattle.sh_tree.specs.standard.language.Parts.{keeps_lines, is_quoted_word}
 use Rattle.sh_tree.specs.standard.language.Reading as reads
 use Rattle.sh_tree.specs.standard.language.Reading.{ReadsParts, ReadsWord}
@@ -22,9 +20,10 @@ use Rattle.sh_tree.specs.standard.language.Trees as tree
 use Rattle.sh_tree.specs.standard.language.Trees.{span}
 use Rattle.sh_tree.specs.standard.language.Words as words
 use Rattle.sh_copies.specs.Copied.{Role, Field, Unsplit, Value, context_of, form_of, counted, IsBehindWord, IsWordSpot, WordOf}
-use Rattle.sh_copies.proofs.AlikeBytes.{by_bool}
+use Rattle.sh_copies.proofs.AlikeBytes.{neither, by_bool}
 use Rattle.sh_copies.proofs.Arithmetic.{expressions_move}
-use Rattle.sh_copies.proofs.Boundary.{breaks, is_edge, edge_first, edge_none, break_first, break_joined, neither, outer, run_outer}
+use Rattle.sh_copies.proofs.Boundary.{breaks, is_edge, edge_first, edge_none, break_first, break_joined, outer, run_outer}
+use Rattle.sh_copies.proofs.BoundarySigns.{edge_name}
 use Rattle.sh_copies.proofs.CommandsScripts.{scripts_move}
 use Rattle.sh_copies.proofs.Forward.{parts_forward}
 use Rattle.sh_copies.proofs.Inside.{parts_inside}
@@ -34,9 +33,6 @@ use Rattle.sh_copies.proofs.WordsOuter.{outer_parts}
 use Rattle.sh_copies.proofs.WordsWhole.{parts_keep, parts_edge, parts_end}
 
 -- Contexts
-
-edge_name : (c : ℕ) → is_edge c ≡ true → is_name_byte c ≡ false
-edge_name c h = grind (arith, nat_tests, h)
 
 edge_start : (c : ℕ) → is_edge c ≡ true → is_name_start c ≡ false
 edge_start c h = grind (arith, nat_tests, h)
@@ -164,12 +160,14 @@ word_there limit b b' role s s' u ps text rest joins tabs i long there ends here
     let behind_it : drop found.to.at b' ≡ rest = ap (λ j. drop j b') end ∙ sym (drop-drop (length text) s'.at b') ∙ ap (drop (length text)) here ∙ drop-append_seam text rest in
     let location = no_location b' s'.at found.to.at rest behind_it behind.ends in
     let whole : ReadsWord limit b' (outer (s'.at + c.far) c.colons c.fields true) s' found.to (tree.word s'.at found.to.at found.tree) =
-    reads.whole_word found.reads (ap (λ t. not c.colons && t) location ∙ neither (not c.colons)) (ap (λ j. keeps_lines b' j found.tree) spot.joins) in
-    (found.to.count, found.tree,
-    subst (λ e. ReadsWord limit b' (context_of role b' s'.at) s' e (tree.word s'.at (s'.at + length text) found.tree)) to
-    (subst (λ j. ReadsWord limit b' (context_of role b' s'.at) s' found.to (tree.word s'.at j found.tree)) end
-    (subst (λ x. ReadsWord limit b' x s' found.to (tree.word s'.at found.to.at found.tree)) (sym c.here) whole)),
-    rw (found.keeps.text, found.keeps.quotes, found.keeps.dollar_quotes) refl)
+    reads.whole_word found.reads (ap (λ t. not c.colons && t) location ∙ neither (not c.colons)) (ap (λ j. keeps_lines b' j found.tree) spot.joins) in (
+      found.to.count,
+      found.tree,
+      subst (λ e. ReadsWord limit b' (context_of role b' s'.at) s' e (tree.word s'.at (s'.at + length text) found.tree)) to
+          (subst (λ j. ReadsWord limit b' (context_of role b' s'.at) s' found.to (tree.word s'.at j found.tree)) end
+          (subst (λ x. ReadsWord limit b' x s' found.to (tree.word s'.at found.to.at found.tree)) (sym c.here) whole)),
+      rw (found.keeps.text, found.keeps.quotes, found.keeps.dollar_quotes) refl,
+    )
 
 pub word_copied : (limit : ℕ) (b : List ℕ) (role : Role) (s u : Spot) (w : Word) → s.joins ≡ false → s.tabs ≡ false → ReadsWord limit b (context_of role b s.at) s u w
     → WordOf limit s.depth s.quiet role (form_of b w) (text_of b w.span)

@@ -1,6 +1,6 @@
 -- Parts, expansions and whole words are found in a copy, where the commands and the arithmetic in them are.
 -- POSIX.1-2024, XCU 2.2 (quoting), 2.6 (word expansions), 2.7 (redirection).
-use Rattle.std.proofs.Common.{◌≡◌, ℕ, suc, ◌+◌, ◌-◌, ◌≤◌, ◌<◌, Bool, true, false, not, ◌&&◌, ◌||◌, List, [], ◌∷◌, map, nat_le, drop, refl, sym, ap, subst, ◌∙◌, ◌==◌, arith}
+use Rattle.std.proofs.Common.{◌≡◌, ℕ, suc, ◌+◌, ◌-◌, ◌≤◌, ◌<◌, Bool, true, not, ◌&&◌, ◌||◌, List, [], ◌∷◌, map, nat_le, refl, sym, ap, ◌∙◌, ◌==◌, arith}
 use Rattle.std.specs.List.{list_all}
 use Rattle.std.proofs.lemmas.Bool.{true≢false, le-leb, leb-true}
 use Rattle.sh_tree.specs.declared.tree.Span.{Span}
@@ -10,15 +10,13 @@ use Rattle.sh_tree.specs.declared.token.word.Context.{Context}
 use Rattle.sh_tree.specs.declared.token.word.Sign.{Sign}
 use Rattle.sh_tree.specs.declared.token.word.Sign.TheVariants as sign
 use Rattle.sh_tree.specs.standard.Tree.{text_of}
-use Rattle.sh_tree.specs.standard.language.Bytes.{is_first, behind_joined}
-use Rattle.sh_tree.specs.standard.language.Commands.{is_location, is_angle}
+use Rattle.sh_tree.specs.standard.language.Commands.{is_location}
 use Rattle.sh_tree.specs.standard.language.HereDocuments.{is_split_text}
 use Rattle.sh_tree.specs.standard.language.Parts.{singles, keeps_lines}
 use Rattle.sh_tree.specs.standard.language.Reading as r
 use Rattle.sh_tree.specs.standard.language.Reading.{sign_at, after, is_expansion, ReadsWord}
 use Rattle.sh_tree.specs.standard.language.States.{Spot}
 use Rattle.sh_tree.specs.standard.language.Trees as tree
-use Rattle.sh_tree.specs.standard.language.Words.{stop_length}
 use Rattle.sh_reads.proofs.TakeLemmas.{is_part, part_begins, token_moves}
 use Rattle.sh_copies.proofs.AlikeBytes.{by_bool}
 use Rattle.sh_copies.proofs.AlikeTokens.{is_sound}
@@ -29,7 +27,7 @@ use Rattle.sh_copies.proofs.WordsMove.{parts_move, part_move}
 use Rattle.sh_copies.proofs.WordsTokens.{same_token, part_sound, near_first, near_behind}
 
 -- the lines of single quotes are kept with their texts
-list_of_texts : (b : List ℕ) (ss : List Span) → list_all (λ s. not (is_split_text (text_of b s))) ss ≡ list_all (λ t. not (is_split_text t)) (map (text_of b) ss)
+pub list_of_texts : (b : List ℕ) (ss : List Span) → list_all (λ s. not (is_split_text (text_of b s))) ss ≡ list_all (λ t. not (is_split_text t)) (map (text_of b) ss)
 list_of_texts b [] = refl
 list_of_texts b (s ∷ ss) = ap (λ t. not (is_split_text (text_of b s)) && t) (list_of_texts b ss)
 

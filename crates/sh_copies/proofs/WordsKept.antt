@@ -1,7 +1,6 @@
 -- What a word keeps where its bytes stand elsewhere: its text, whether it is quoted, and the texts of its single quotes.
 -- POSIX.1-2024, XCU 2.2 (quoting), 2.7.4 (here-documents).
-use Rattle.std.proofs.Common.{◌≡◌, ℕ, Bool, true, false, ◌||◌, List, [], ◌∷◌, ◌++◌, map, Option, Some, None, refl, sym, ap, ◌∙◌}
-use Rattle.std.specs.List.{list_any}
+use Rattle.std.proofs.Common.{◌≡◌, ℕ, Bool, List, [], ◌∷◌, Some, refl, sym, ap, ◌∙◌}
 use Rattle.std.proofs.lemmas.List.{map-append}
 use Rattle.sh_tree.specs.declared.tree.Action.{Action}
 use Rattle.sh_tree.specs.declared.tree.CommandStyle.{CommandStyle}
@@ -16,9 +15,9 @@ use Rattle.sh_tree.specs.declared.tree.SingleStyle.TheVariants as style
 use Rattle.sh_tree.specs.declared.tree.Span.{Span}
 use Rattle.sh_tree.specs.declared.tree.Subject.{Subject}
 use Rattle.sh_tree.specs.standard.Tree.{text_of}
-use Rattle.sh_tree.specs.standard.Words.{part_text, parts_text, both_texts, behind_first, single_text, part_text-Double}
+use Rattle.sh_tree.specs.standard.Words.{part_text, parts_text, behind_first, single_text, part_text-Double}
 use Rattle.sh_tree.specs.standard.language.HereDocuments.{is_dollar_quoted}
-use Rattle.sh_tree.specs.standard.language.Parts.{is_quotation, singles_in, singles, operator_singles}
+use Rattle.sh_tree.specs.standard.language.Parts.{is_quotation, singles_in, singles}
 use Rattle.sh_tree.specs.standard.language.Trees as tree
 use Rattle.sh_tree.specs.standard.language.Trees.{span}
 use Rattle.sh_copies.proofs.Copies.{KeptPart, Kept, KeptExpression}

@@ -1,20 +1,13 @@
 -- The parts of a word are read wherever its bytes stand.
 -- POSIX.1-2024, XCU 2.2 (quoting), 2.6 (word expansions).
-use Rattle.std.proofs.Common.{◌≡◌, ℕ, suc, ◌+◌, ◌-◌, ◌≤◌, ◌<◌, ◌==◌, Bool, true, false, not, ◌&&◌, ◌||◌, if◌then◌else◌, List, [], ◌∷◌, ◌++◌, length, drop, take, ◌⊎◌, inl, inr, refl, sym, ap, subst, ◌∙◌, ⊎_elim, arith, le_refl, le_trans}
-use Rattle.std.proofs.lemmas.Bool.{cond-true, cond-false, true≢false, eqb-true, eqb-false, eq-eqb}
+use Rattle.std.proofs.Common.{◌≡◌, ℕ, suc, ◌+◌, ◌-◌, ◌≤◌, ◌<◌, ◌==◌, Bool, true, false, if◌then◌else◌, List, [], ◌∷◌, drop, refl, sym, ap, subst, ◌∙◌, arith}
+use Rattle.std.proofs.lemmas.Bool.{true≢false, eqb-true, eqb-false, eq-eqb}
 use Rattle.std.proofs.lemmas.Bool.Decides.{nat_tests}
 use Rattle.sh_tree.specs.declared.tree.Action.{Action}
-use Rattle.sh_tree.specs.declared.tree.CommandStyle.{CommandStyle}
 use Rattle.sh_tree.specs.declared.tree.CommandStyle.TheVariants.{Paren, Backquote}
 use Rattle.sh_tree.specs.declared.tree.ParameterOperator.TheVariants as operator
 use Rattle.sh_tree.specs.declared.tree.Part.{Part}
 use Rattle.sh_tree.specs.declared.tree.Part.TheVariants as part
-use Rattle.sh_tree.specs.declared.tree.Removal.{Removal}
-use Rattle.sh_tree.specs.declared.tree.Script.{Script}
-use Rattle.sh_tree.specs.declared.tree.SingleStyle.{SingleStyle}
-use Rattle.sh_tree.specs.declared.tree.Span.{Span}
-use Rattle.sh_tree.specs.declared.tree.Subject.{Subject}
-use Rattle.sh_tree.specs.declared.token.arithmetic.Figure.TheVariants as figure
 use Rattle.sh_tree.specs.declared.token.word.Context.{Context}
 use Rattle.sh_tree.specs.declared.token.word.Site.TheVariants as site
 use Rattle.sh_tree.specs.declared.token.word.Sign.{Sign}
@@ -22,11 +15,10 @@ use Rattle.sh_tree.specs.declared.token.word.Sign.TheVariants as sign
 use Rattle.sh_tree.specs.standard.Tree.{text_of}
 use Rattle.sh_tree.specs.standard.language.Arithmetic.{is_closed}
 use Rattle.sh_tree.specs.standard.language.Bytes.{is_first}
-use Rattle.sh_tree.specs.standard.language.Commands.{blanks}
 use Rattle.sh_tree.specs.standard.language.Reading as r
 use Rattle.sh_tree.specs.standard.language.Reading.{sign_at, after, figure_at, over, prior_of, ReadsParts, ReadsPart, ReadsScript}
-use Rattle.sh_tree.specs.standard.language.States.{Spot, to, deeper, behind}
-use Rattle.sh_tree.specs.standard.language.Substitutions.{commands_text, closes, keeps_backslashes}
+use Rattle.sh_tree.specs.standard.language.States.{Spot, to, behind}
+use Rattle.sh_tree.specs.standard.language.Substitutions.{commands_text, closes}
 use Rattle.sh_tree.specs.standard.language.Trees as tree
 use Rattle.sh_tree.specs.standard.language.Trees.{span}
 use Rattle.sh_tree.specs.standard.language.Words.{is_quoted, stop_length, in_double, in_use, in_removal, in_arithmetic}
@@ -34,9 +26,9 @@ use Rattle.sh_reads.proofs.TakeLemmas.{part_begins, token_moves, token_takes}
 use Rattle.sh_copies.proofs.AlikeBytes.{is_closer, by_bool}
 use Rattle.sh_reads.proofs.MoveLemmas.{blanks_move}
 use Rattle.sh_copies.proofs.Arithmetic.{same_figure}
-use Rattle.sh_copies.proofs.Copies.{Copied, limit_of, Place, Moved, Turns, turned, Kept, KeptPart, Found, ExpressionsMove, ScriptsMove, PartsMove}
-use Rattle.sh_copies.proofs.Forward.{parts_forward, part_forward, expression_forward, script_forward, over_forward}
-use Rattle.sh_copies.proofs.Places.{as_far, further, moved_to, moved_deeper, moved_behind}
+use Rattle.sh_copies.proofs.Copies.{Copied, limit_of, Place, Moved, Turns, turned, Kept, KeptPart, Found, ExpressionsMove, ScriptsMove}
+use Rattle.sh_copies.proofs.Forward.{part_forward, expression_forward, script_forward, over_forward}
+use Rattle.sh_copies.proofs.Places.{less_deep, further, moved_to, moved_deeper, moved_behind}
 use Rattle.sh_copies.proofs.Shift.{placeless}
 use Rattle.sh_copies.proofs.WordsCommands.{closing, commands_move}
 use Rattle.sh_copies.proofs.WordsKept.{kept_none, kept_more, kept_plain, kept_escaped, kept_joined, kept_single, kept_tilde, kept_double, kept_value, kept_length, kept_use, kept_removal, kept_arith, kept_command}
@@ -58,9 +50,6 @@ equal_far p q k n = by_bool (p + n == p + k)
 -- where a context begins in the copy
 place_turns : {b b' : List ℕ} (c : Copied b b') (x : Context) (e e' : ℕ) → Place c e e' → Turns c (record x { origin = e }) e'
 place_turns c x e e' p = λ k n. ap (λ j. c.into + n == j) p.at' ∙ equal_far c.from c.into p.by n ∙ sym (ap (λ j. c.from + n == j) p.at)
-
-pub less_deep : (n m limit : ℕ) → m ≡ n → n < limit → m < limit
-less_deep n m limit e h = omega arith
 
 closed_same : (b b' : List ℕ) (i i' : ℕ) → is_first (λ c. c == 41) (drop i' b') ≡ is_first (λ c. c == 41) (drop i b) → is_closed b i ≡ true → is_closed b' i' ≡ true
 unfolding is_closed

@@ -1,6 +1,6 @@
 -- A whole word is read before a blank, a newline or `)` as before what ends it.
 -- POSIX.1-2024, XCU 2.2 (quoting), 2.3 (token recognition), 2.6 (word expansions).
-use Rattle.std.proofs.Common.{◌≡◌, ℕ, zero, suc, ◌+◌, ◌-◌, ◌≤◌, ◌<◌, ◌==◌, Bool, true, false, not, ◌&&◌, ◌||◌, if◌then◌else◌, List, [], ◌∷◌, ◌++◌, length, drop, take, get_or, slice_index, ◌⊎◌, inl, inr, refl, sym, ap, subst, ◌∙◌, ⊎_elim, arith, length-drop, length-take, length-append}
+use Rattle.std.proofs.Common.{◌≡◌, ℕ, zero, suc, ◌+◌, ◌-◌, ◌≤◌, ◌<◌, ◌==◌, Bool, true, false, not, List, [], ◌∷◌, ◌++◌, length, drop, take, get_or, slice_index, inl, inr, refl, sym, ap, subst, ◌∙◌, ⊎_elim, arith, length-drop}
 use Rattle.std.proofs.lemmas.Bool.{true≢false, and_from, eqb-true}
 use Rattle.std.proofs.lemmas.Bool.Decides.{nat_tests}
 use Rattle.std.proofs.lemmas.List.{drop-drop, drop-append-le, take-append-le, get_or-drop, append_assoc}
@@ -21,15 +21,16 @@ use Rattle.sh_tree.specs.standard.language.Trees.{span}
 use Rattle.sh_tree.specs.standard.language.Words as words
 use Rattle.sh_reads.proofs.TakeLemmas.{is_part, part_begins, token_moves, token_takes}
 use Rattle.sh_copies.proofs.AlikeBytes.{is_closer, by_bool}
-use Rattle.sh_copies.proofs.AlikeTokens.{is_sound, is_stop, Sound, sign_alike}
-use Rattle.sh_copies.proofs.Boundary.{breaks, loose, before, is_prefix, outer, Goes, GoesAt, goes_on, loose_goes}
+use Rattle.sh_copies.proofs.AlikeTokens.{Sound, sign_alike}
+use Rattle.sh_copies.proofs.Boundary.{breaks, before, is_prefix, outer, Goes, GoesAt, goes_on, loose_goes}
 use Rattle.sh_copies.proofs.BoundarySigns.{is_open, is_whole, is_value, outer_sign}
-use Rattle.sh_copies.proofs.Copies.{Copied, Closed, limit_of, Place, Moved, Turns, turned, Kept, KeptPart, Found, ExpressionsMove, ScriptsMove}
+use Rattle.sh_copies.proofs.Copies.{Copied, Place, Moved, Turns, Kept, KeptPart, ExpressionsMove, ScriptsMove}
 use Rattle.sh_copies.proofs.Forward.{parts_forward, part_forward, script_forward}
 use Rattle.sh_copies.proofs.Shift.{placeless, Same, sign_shift}
 use Rattle.sh_copies.proofs.WordsCommands.{closing, backquotes_move}
 use Rattle.sh_copies.proofs.WordsKept.{kept_none, kept_more, kept_command}
-use Rattle.sh_copies.proofs.WordsMove.{is_flat, flat_move, flat_ends, closing_within, closing_byte, part_move, less_deep}
+use Rattle.sh_copies.proofs.WordsMove.{is_flat, flat_move, flat_ends, closing_within, closing_byte, part_move}
+use Rattle.sh_copies.proofs.Places.{less_deep}
 use Rattle.sh_copies.proofs.WordsTokens.{prior_placeless, same_sign, part_sound, stop_size, tabs_strip}
 
 no_length : (v : List ℕ) → length v ≡ 0 → v ≡ []
@@ -90,13 +91,6 @@ closing_open sign.Arith k h = refl
 closing_open (sign.Substitution Paren) k h = refl
 closing_open (sign.Substitution Backquote) k h = absurd (true≢false (sym h))
 closing_open g k h = absurd (true≢false (sym h))
-
-open_placeless : (g : Sign) → is_open (placeless g) ≡ is_open g
-open_placeless (sign.Value p) = refl
-open_placeless (sign.Length p) = refl
-open_placeless (sign.Use p a colon) = refl
-open_placeless (sign.Remove p q) = refl
-open_placeless g = refl
 
 whole_not_open : (g : Sign) → is_part g ≡ true → is_open g ≡ false → is_whole g ≡ true
 whole_not_open g h k = and_from (is_part g) (not (is_open g)) h (ap not k)
@@ -315,7 +309,7 @@ module _ (b b' : List ℕ) (p q o o' : ℕ) (colons fields backquotes : Bool) (r
           along = moved_along (n + found.by + 1) a (omega arith) (omega arith) a.depth a.joins a.tabs a.quiet;
           keeps = kept_command b b' (span s.at (u.at + 1)) (span s'.at (found.to.at + 1)) Backquote t found.tree;
           reads = subst (λ k. ReadsPart limit b' y k s' e' (behind (found.to.at + 1) found.to s') (part.Command Backquote (span s'.at (found.to.at + 1)) found.tree)) (sym is)
-          (reads.substitution (less_deep s.depth s'.depth limit a.depth d) found.keeps found.reads found.closed);
+              (reads.substitution (less_deep s.depth s'.depth limit a.depth d) found.keeps found.reads found.closed);
         }
     back_there v e e' n g' rest same end end' within flat one (reads.substitution {style = Paren} d k i h) size = absurd (true≢false one)
     back_there v e e' n g' rest same end end' within flat one reads.plain size = absurd (true≢false flat)

@@ -1,10 +1,9 @@
 -- The tokens of a word in a copy.
 -- POSIX.1-2024, XCU 2.2 (quoting), 2.6 (word expansions).
-use Rattle.std.proofs.Common.{◌≡◌, ℕ, zero, suc, ◌+◌, ◌-◌, ◌≤◌, ◌<◌, ◌==◌, Bool, true, false, not, ◌&&◌, ◌||◌, if◌then◌else◌, List, [], ◌∷◌, ◌++◌, length, drop, take, get_or, slice_index, slice_range, nat_lt, ◌⊎◌, inl, inr, refl, sym, ap, subst, ◌∙◌, ⊎_elim, arith, le_refl, le_trans, length-drop}
-use Rattle.std.proofs.lemmas.Bool.{cond-true, cond-false, true≢false, eqb-true, and_parts}
+use Rattle.std.proofs.Common.{◌≡◌, ℕ, ◌+◌, ◌-◌, ◌≤◌, ◌<◌, ◌==◌, Bool, true, false, not, ◌&&◌, if◌then◌else◌, List, [], ◌∷◌, ◌++◌, length, drop, take, get_or, slice_index, nat_lt, ◌⊎◌, inl, inr, refl, sym, ap, subst, ◌∙◌, ⊎_elim, arith}
+use Rattle.std.proofs.lemmas.Bool.{true≢false, and_parts}
 use Rattle.std.proofs.lemmas.Bool.Decides.{nat_tests}
 use Rattle.std.proofs.lemmas.List.{get_or-drop, take-append-le}
-use Rattle.sh_tree.specs.declared.tree.Span.{Span}
 use Rattle.sh_tree.specs.declared.tree.Action.{Action}
 use Rattle.sh_tree.specs.declared.tree.Part.{Part}
 use Rattle.sh_tree.specs.declared.tree.Removal.{Removal}
@@ -23,11 +22,11 @@ use Rattle.sh_tree.specs.standard.language.Trees.{span}
 use Rattle.sh_tree.specs.standard.language.Words as words
 use Rattle.sh_tree.specs.standard.language.Words.{stop_length}
 use Rattle.sh_reads.proofs.BeginningLemmas.{dollar_goes}
-use Rattle.sh_reads.proofs.TakeLemmas.{is_part, part_begins, token_moves, token_takes}
+use Rattle.sh_reads.proofs.TakeLemmas.{is_part, token_moves}
 use Rattle.sh_copies.proofs.AlikeBytes.{is_closer, first_alike, behind_alike}
 use Rattle.sh_copies.proofs.AlikeTokens.{is_sound, is_stop, Sound, sign_alike, goes_no_stop, goes_no_tabs, is_tabs}
-use Rattle.sh_copies.proofs.Copies.{Copied, Closed, limit_of, Place, Moved, Turns, turned}
-use Rattle.sh_copies.proofs.Forward.{parts_forward, part_forward}
+use Rattle.sh_copies.proofs.Copies.{Copied, limit_of, Place, Moved, Turns, turned}
+use Rattle.sh_copies.proofs.Forward.{part_forward}
 use Rattle.sh_copies.proofs.Places.{left, near, as_far}
 use Rattle.sh_copies.proofs.Shift.{placeless, Same, sign_shift}
 
@@ -193,13 +192,6 @@ module _ {limit : ℕ} {b : List ℕ} where
 
 -- The same token
 
-sound_placeless : (g : Sign) → is_sound (placeless g) ≡ is_sound g
-sound_placeless (sign.Value p) = refl
-sound_placeless (sign.Length p) = refl
-sound_placeless (sign.Use p a c) = refl
-sound_placeless (sign.Remove p r) = refl
-sound_placeless g = refl
-
 pub prior_placeless : (b : List ℕ) (g : Sign) (j : ℕ) → prior_of b (placeless g) j ≡ prior_of b g j
 prior_placeless b (sign.Value p) j = refl
 prior_placeless b (sign.Length p) j = refl
@@ -249,18 +241,6 @@ module _ {b b' : List ℕ} (c : Copied b b') where
       get_zero xs n = let none : n + 0 ≡ n = omega arith in sym (get_or-drop n xs 0 0 ∙ ap (λ k. get_or xs k 0) none)
 
       first : (w : List ℕ) → 0 < length w → get_or (w ++ c.rest') 0 0 ≡ get_or (w ++ c.rest) 0 0
-      first [] h = absurd (omega arith)
-      first (a ∷ w) h = refl
-
-  -- the same byte of a class
-  pub same_first : (p : ℕ → Bool) {i i' : ℕ} → Place c i i' → i < limit_of c → is_first p (drop i' b') ≡ is_first p (drop i b)
-  unfolding is_first
-  same_first p {i = i} {i' = i'} q h =
-      let l = left c q (omega arith) in
-      let long = l.long in
-      ap (is_first p) l.here ∙ first l.w (omega arith) ∙ sym (ap (is_first p) l.there)
-    where
-      first : (w : List ℕ) → 0 < length w → is_first p (w ++ c.rest') ≡ is_first p (w ++ c.rest)
       first [] h = absurd (omega arith)
       first (a ∷ w) h = refl
 

@@ -1,33 +1,25 @@
 -- A whole word of the text is one wherever its bytes stand before what may stand behind a word.
 -- POSIX.1-2024, XCU 2.2 (quoting), 2.3 (token recognition), 2.6 (word expansions).
-use Rattle.std.proofs.Common.{◌≡◌, ℕ, zero, suc, ◌+◌, ◌-◌, ◌≤◌, ◌<◌, ◌==◌, Bool, true, false, not, ◌&&◌, ◌||◌, if◌then◌else◌, List, [], ◌∷◌, ◌++◌, length, drop, take, ◌⊎◌, inl, inr, refl, sym, ap, subst, ◌∙◌, ⊎_elim, arith, length-drop, length-take}
-use Rattle.std.proofs.lemmas.Bool.{true≢false, cond-true, cond-false, cases_lt, eqb-true}
+use Rattle.std.proofs.Common.{◌≡◌, ℕ, suc, ◌+◌, ◌≤◌, ◌==◌, Bool, true, false, ◌||◌, if◌then◌else◌, List, [], ◌∷◌, length, drop, ◌⊎◌, inl, inr, refl, sym, ap, ◌∙◌, arith}
+use Rattle.std.proofs.lemmas.Bool.{true≢false, cond-true, cond-false, eqb-true}
 use Rattle.std.proofs.lemmas.Bool.Decides.{nat_tests}
-use Rattle.std.proofs.lemmas.List.{drop-drop, drop-append-le, drop_all}
 use Rattle.sh_tree.specs.declared.refusal.Form.TheVariants as form
 use Rattle.sh_tree.specs.declared.tree.CommandStyle.TheVariants.{Backquote}
 use Rattle.sh_tree.specs.declared.tree.Part.{Part}
-use Rattle.sh_tree.specs.declared.tree.Word.{Word}
-use Rattle.sh_tree.specs.declared.token.command.Stage.{Stage}
-use Rattle.sh_tree.specs.declared.token.command.Stage.TheVariants as stage
 use Rattle.sh_tree.specs.declared.token.word.Context.{Context}
-use Rattle.sh_tree.specs.declared.token.word.Site.TheVariants as site
 use Rattle.sh_tree.specs.declared.token.word.Sign.{Sign}
 use Rattle.sh_tree.specs.declared.token.word.Sign.TheVariants as sign
-use Rattle.sh_tree.specs.standard.Tree.{text_of}
-use Rattle.sh_tree.specs.standard.language.Bytes.{is_newline, is_backslash, is_first, is_last_backquote, is_name_start, is_name_byte, name_length, ends_token, run, joined_length, behind_joined}
-use Rattle.sh_tree.specs.standard.language.Commands.{is_assignment, name_end}
-use Rattle.sh_tree.specs.standard.language.Contexts.{in_word, in_value, in_operand, in_stage, in_unsplit}
+use Rattle.sh_tree.specs.standard.language.Bytes.{is_newline, is_backslash, is_first, is_last_backquote, ends_token, joined_length}
 use Rattle.sh_tree.specs.standard.language.Reading as reads
 use Rattle.sh_tree.specs.standard.language.Reading.{sign_at, after, ReadsParts, ReadsPart, ReadsWord}
 use Rattle.sh_tree.specs.standard.language.States.{Spot}
 use Rattle.sh_tree.specs.standard.language.Words as words
 use Rattle.sh_reads.proofs.BeginningLemmas.{dollar_goes, single_goes}
 use Rattle.sh_reads.proofs.TakeLemmas.{part_begins, token_takes, is_part}
-use Rattle.sh_copies.specs.Copied.{Role, Field, Unsplit, Value, context_of, counted}
+use Rattle.sh_copies.specs.Copied.{counted}
 use Rattle.sh_copies.proofs.AlikeBytes.{by_bool, zero_not}
 use Rattle.sh_copies.proofs.AlikeTokens.{is_stop, goes_no_stop}
-use Rattle.sh_copies.proofs.Boundary.{lone_none, breaks, is_edge, edge_first, edge_none, break_first, outer, run_outer}
+use Rattle.sh_copies.proofs.Boundary.{lone_none, outer}
 use Rattle.sh_copies.proofs.WordsTokens.{stop_size, tabs_strip}
 
 -- Spots

@@ -1,47 +1,38 @@
 -- A printed `case` command is read, given that the lists in it are.
-use Rattle.std.proofs.Common.{◌≡◌, ℕ, zero, suc, ◌+◌, ◌<◌, ◌==◌, Bool, true, false, not, ◌&&◌, ◌||◌, if◌then◌else◌, Option, Some, None, List, [], ◌∷◌, ◌++◌, length, drop, map, codes, refl, sym, ap, subst, ◌∙◌, arith, cond, append_assoc, append-nil}
+use Rattle.std.proofs.Common.{◌≡◌, ℕ, ◌+◌, ◌<◌, Bool, false, if◌then◌else◌, Some, List, [], ◌∷◌, ◌++◌, length, drop, map, codes, refl, sym, ap, subst, ◌∙◌, append_assoc, append-nil}
 use Rattle.std.specs.List.{flat_map}
-use Rattle.std.proofs.lemmas.Bool.{cond-true, cond-false, true≢false}
-use Rattle.sh_copies.specs.Copied.{Role, Field, Unsplit, Value, Form, context_of, TokenOf, IsBehindWord}
+use Rattle.sh_copies.specs.Copied.{Unsplit, Form, context_of, TokenOf, IsBehindWord}
 use Rattle.sh_tree.specs.declared.tree.Clause.{Clause}
 use Rattle.sh_tree.specs.declared.tree.ClauseEnd.{ClauseEnd}
 use Rattle.sh_tree.specs.declared.tree.ClauseEnd.TheVariants as clause_end
-use Rattle.sh_tree.specs.declared.tree.Kind.{Kind}
 use Rattle.sh_tree.specs.declared.tree.Kind.TheVariants as kind
 use Rattle.sh_tree.specs.declared.tree.Script.{Script}
 use Rattle.sh_tree.specs.declared.tree.Word.{Word}
-use Rattle.sh_tree.specs.declared.token.command.Lead.{Lead}
 use Rattle.sh_tree.specs.declared.token.command.Lead.TheVariants as lead
-use Rattle.sh_tree.specs.declared.token.command.Operator.TheVariants as op
 use Rattle.sh_tree.specs.declared.token.command.Reserved.TheVariants as word
-use Rattle.sh_tree.specs.declared.token.command.Stage.TheVariants.{First, Prefixed, Named}
-use Rattle.sh_tree.specs.standard.Tree.{text_of}
+use Rattle.sh_tree.specs.declared.token.command.Stage.TheVariants.{First, Named}
 use Rattle.sh_tree.specs.standard.language.Bytes.{is_first}
-use Rattle.sh_tree.specs.standard.language.Commands.{lead_at, blanks, begins_pipeline, begins_command, begins_simple, begins_compound, is_redirection, redirects, is_newline_lead, is_word, is_bare_name, is_parenthesis, is_open, is_esac, name_end, separator, clause_end_of}
-use Rattle.sh_tree.specs.standard.language.Contexts.{in_stage}
-use Rattle.sh_tree.specs.standard.language.HereDocuments.{Mark}
+use Rattle.sh_tree.specs.standard.language.Commands.{lead_at, blanks, begins_pipeline, begins_command, begins_simple, begins_compound, is_redirection, redirects, is_newline_lead, is_word, is_parenthesis, is_open, is_esac, clause_end_of}
 use Rattle.sh_tree.specs.standard.language.Reading as r
 use Rattle.sh_tree.specs.standard.language.Reading.{ReadsList, ReadsDo, ReadsCompound, ReadsForWords, ReadsWords, ReadsBreaks, ReadsPatterns, ReadsClauses, ReadsSequence, lead_here, behind_token, parted, unopened}
-use Rattle.sh_tree.specs.standard.language.States.{State, Document, waits}
+use Rattle.sh_tree.specs.standard.language.States.{State, Document}
 use Rattle.sh_tree.specs.standard.language.Trees as tree
 use Rattle.sh_tree.specs.standard.language.Trees.{span}
 use Rattle.sh_print.specs.Bare as bare
 use Rattle.sh_print.specs.Bare.{Text}
-use Rattle.sh_print.specs.Layout.{tabs, separated, block, items_text, kind_text, clauses_text, clause_end_text, for_words_text}
+use Rattle.sh_print.specs.Layout.{tabs, separated, items_text, clauses_text, clause_end_text}
 use Rattle.sh_print.specs.Lists.{items_from, clauses_from}
-use Rattle.sh_print.specs.Trees.{word_of, script_of, kind_of}
-use Rattle.sh_print.proofs.TreeLemmas.{kind_of-For, kind_of-Branches}
+use Rattle.sh_print.specs.Trees.{word_of, script_of}
+use Rattle.sh_print.proofs.TreeLemmas.{kind_of-Branches}
 use Rattle.sh_print.proofs.MadeLemmas.{clause_made, script_made}
 use Rattle.sh_print.proofs.PlaceLemmas.{front, front_blank, front_none, front_tabs, fronted, lead_there, off, one_off}
-use Rattle.sh_print.proofs.OwnTokens.{Gap, blank, line, reserved_text, reserved_leads, open_leads, open_is_no_esac, open_straight, close_leads, bar_leads, newline_leads, break_leads, through_leads}
-use Rattle.sh_print.proofs.NameTokens.{Name, name_ends, for_name, name_first}
-use Rattle.sh_print.proofs.RedirectTokens.{text_there}
-use Rattle.sh_print.proofs.DocumentsPrinted.{place, document_of, so_far, Fits, no_fit, Marked, no_mark, break_print}
-use Rattle.sh_print.proofs.ElementsPrinted.{IsClosed, Starts, gap_word, token_starts, blank_word, word_print}
-use Rattle.sh_print.proofs.JoinsPrinted.{IsStop, end_print, line_tail}
-use Rattle.sh_print.proofs.ListsPrinted.{PrintsList, PrintedList, do_print, block_text, line_front, reserved_front, word_stops, kept_both, fits_both}
+use Rattle.sh_print.proofs.OwnTokens.{Gap, blank, line, reserved_text, reserved_leads, open_leads, open_is_no_esac, open_straight, close_leads, bar_leads, break_leads, through_leads}
+use Rattle.sh_print.proofs.DocumentsPrinted.{place, so_far, Fits, no_mark, break_print}
+use Rattle.sh_print.proofs.ElementsPrinted.{token_starts, blank_word, word_print}
+use Rattle.sh_print.proofs.JoinsPrinted.{IsStop}
+use Rattle.sh_print.proofs.ListsPrinted.{PrintsList, line_front, reserved_front, kept_both, fits_both}
 use Rattle.sh_print.proofs.LoopsPrinted.{no_waits}
-use Rattle.sh_print.proofs.CompoundsPrinted.{PrintsCompound, PrintedCompound}
+use Rattle.sh_print.proofs.CompoundsPrinted.{PrintsCompound}
 use Rattle.sh_print.proofs.Printable as p
 use Rattle.sh_print.proofs.Printable.{PrintableWord, PrintableWords, PrintableForWords, PrintablePatterns}
 
@@ -263,7 +254,7 @@ module _ (b : List ℕ) where
 
   clause_same : (ws : List Word) (t : Script) (end : ClauseEnd) (cs : List Clause) (patterns : List Text) (items : bare.Items) (clauses : bare.Clauses) → map (word_of b) ws ≡ patterns → script_of b t ≡ items
       → clauses_from b cs ≡ clauses → clauses_from b (tree.clause ws t end ∷ cs) ≡ bare.more_clauses patterns items end clauses
-  clause_same ws t end cs patterns items clauses h k l =
+  clause_same ws t end cs patterns items others h k l =
       clause_made b ws t end cs ∙ ap (λ m. bare.more_clauses m (script_of b t) end (clauses_from b cs)) h
       ∙ ap (λ m. bare.more_clauses patterns m end (clauses_from b cs)) k ∙ ap (bare.more_clauses patterns items end) l
 
@@ -289,7 +280,7 @@ module _ (b : List ℕ) where
       let ends = end_stands end cs in
       let here : front (tabs (d + 2) ++ text) ≡ text = front_tabs (d + 2) text ∙ ends.front_is in
       let one = list.print i n closed ds (tabs (d + 2) ++ text) e
-                (record { none = ap (λ t. begins_pipeline (lead_at t First 0)) here ∙ ends.none; straight = ap (λ t. is_newline_lead (lead_at t First 0)) here ∙ ends.straight }) in
+      (record { none = ap (λ t. begins_pipeline (lead_at t First 0)) here ∙ ends.none; straight = ap (λ t. is_newline_lead (lead_at t First 0)) here ∙ ends.straight }) in
       let marked : drop one.at b ≡ text = one.behind ∙ here in
       let q = blanks false b (one.at + 2) in
       let line_there : drop q b ≡ 10 ∷ cs =
@@ -359,7 +350,7 @@ module _ (b : List ℕ) where
         let e3 : drop p b ≡ in_text = one.behind ∙ front_blank 32 in_text refl ∙ reserved_front word.In (10 ∷ c) in
         let in_is = lead_there b First p in_text e3 ∙ reserved_leads word.In (10 ∷ c) line in
         let break = break_print b limit (blanks false b (p + 2)) one.count (k + 1) closed [] ds [] c no_mark
-                    (fronted b (p + 2) (10 ∷ c) (off b p (codes "in") (10 ∷ c) e3) ∙ front_none 10 c refl refl refl) (inner.straight rest close.gap) in
+        (fronted b (p + 2) (10 ∷ c) (off b p (codes "in") (10 ∷ c) e3) ∙ front_none 10 c refl refl refl) (inner.straight rest close.gap) in
         let two = inner.print break.at break.count closed break.bodies rest break.behind close.gap in
         record {
           at = two.at;

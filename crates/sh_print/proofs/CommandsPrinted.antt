@@ -1,36 +1,34 @@
 -- Printed commands are read, given that the compound commands among them are.
-use Rattle.std.proofs.Common.{◌≡◌, ℕ, zero, suc, ◌+◌, ◌<◌, ◌==◌, Bool, true, false, not, ◌&&◌, ◌||◌, if◌then◌else◌, Option, Some, None, List, [], ◌∷◌, ◌++◌, length, drop, map, codes, refl, sym, ap, subst, ◌∙◌, arith, cond, append_assoc, append-nil}
+use Rattle.std.proofs.Common.{◌≡◌, ℕ, ◌+◌, Bool, true, false, ◌||◌, None, List, [], ◌∷◌, ◌++◌, length, drop, map, codes, refl, sym, ap, subst, ◌∙◌, append_assoc, append-nil}
 use Rattle.std.specs.List.{flat_map}
-use Rattle.std.proofs.lemmas.Bool.{cond-true, cond-false, true≢false}
+use Rattle.std.proofs.lemmas.Bool.{true≢false}
 use Rattle.sh_tree.specs.declared.tree.Command.{Command}
-use Rattle.sh_tree.specs.declared.tree.Kind.{Kind}
 use Rattle.sh_tree.specs.declared.tree.Kind.TheVariants as kind
 use Rattle.sh_tree.specs.declared.tree.LoopKind.TheVariants as loop
 use Rattle.sh_tree.specs.declared.token.command.Lead.{Lead}
 use Rattle.sh_tree.specs.declared.token.command.Lead.TheVariants as lead
-use Rattle.sh_tree.specs.declared.token.command.Operator.TheVariants as op
 use Rattle.sh_tree.specs.declared.token.command.Reserved.TheVariants as word
-use Rattle.sh_tree.specs.declared.token.command.Stage.TheVariants.{First, Prefixed, Named}
+use Rattle.sh_tree.specs.declared.token.command.Stage.TheVariants.{First, Named}
 use Rattle.sh_tree.specs.standard.Tree.{text_of}
 use Rattle.sh_tree.specs.standard.language.Commands.{lead_at, blanks, begins_pipeline, begins_command, begins_simple, begins_compound, is_redirection, is_newline_lead, name_end, entry_of, reserved_words}
 use Rattle.sh_tree.specs.standard.language.HereDocuments.{Mark}
 use Rattle.sh_tree.specs.standard.language.Reading as r
 use Rattle.sh_tree.specs.standard.language.Reading.{ReadsCommand, ReadsCompound, ReadsBreaks, lead_here, behind_token, is_empty}
-use Rattle.sh_tree.specs.standard.language.States.{State, Document, closing}
+use Rattle.sh_tree.specs.standard.language.States.{Document}
 use Rattle.sh_tree.specs.standard.language.Trees as tree
 use Rattle.sh_tree.specs.standard.language.Trees.{span}
 use Rattle.sh_print.specs.Bare as bare
 use Rattle.sh_print.specs.Bare.{Text}
-use Rattle.sh_print.specs.Layout.{tabs, block, items_text, command_text, kind_text, branches_text, pending, kind_pending, element_text, element_documents, redirect_documents}
-use Rattle.sh_print.specs.Trees.{command_of, kind_of, redirect_of, element_of}
+use Rattle.sh_print.specs.Layout.{tabs, items_text, command_text, kind_text, pending, kind_pending, element_text, element_documents, redirect_documents}
+use Rattle.sh_print.specs.Trees.{command_of, redirect_of}
 use Rattle.sh_print.proofs.TreeLemmas.{kind_of-Simple, kind_of-Define}
 use Rattle.sh_print.proofs.MadeLemmas.{command_made}
-use Rattle.sh_print.proofs.PlaceLemmas.{front, front_blank, front_none, front_tabs, fronted, lead_there, off, one_off}
-use Rattle.sh_print.proofs.OwnTokens.{Gap, blank, line, reserved_text, reserved_leads, opening_leads, open_leads, close_leads}
+use Rattle.sh_print.proofs.PlaceLemmas.{front, front_none, front_tabs, fronted, lead_there, off, one_off}
+use Rattle.sh_print.proofs.OwnTokens.{blank, line, reserved_text, reserved_leads, opening_leads, open_leads, close_leads}
 use Rattle.sh_print.proofs.NameTokens.{Name, name_ends, name_first, definition_leads}
 use Rattle.sh_print.proofs.RedirectTokens.{text_there}
 use Rattle.sh_print.proofs.DocumentsPrinted.{place, document_of, so_far, Fits, Marked, no_mark, break_print}
-use Rattle.sh_print.proofs.ElementsPrinted.{IsTail, IsClosed, Starts, tail_word, tail_text, redirects_text, behind_close, redirects_print, first_starts, over_blank, elements_print, elements_begin}
+use Rattle.sh_print.proofs.ElementsPrinted.{IsTail, tail_text, redirects_text, behind_close, redirects_print, first_starts, over_blank, elements_print, elements_begin}
 use Rattle.sh_print.proofs.ListsPrinted.{kept_both, fits_both}
 use Rattle.sh_print.proofs.CompoundsPrinted.{PrintsCompound}
 use Rattle.sh_print.proofs.LoopsPrinted.{no_waits}
@@ -76,7 +74,7 @@ kind_starts (p.conditional deep (p.more_branches test list more) others) d rest 
 kind_starts (p.loop {kind = loop.While} deep test list) d rest = record { front_is = front_none 119 _ refl refl refl; begins = ap begins_compound (reserved_leads word.While (10 ∷ _) line) }
 kind_starts (p.loop {kind = loop.Until} deep test list) d rest = record { front_is = front_none 117 _ refl refl refl; begins = ap begins_compound (reserved_leads word.Until (10 ∷ _) line) }
 kind_starts (p.for_loop deep named words list) d rest = record { front_is = front_none 102 _ refl refl refl; begins = ap begins_compound (reserved_leads word.For (32 ∷ _) blank) }
-kind_starts (p.case_of deep token printable clauses) d rest = record { front_is = front_none 99 _ refl refl refl; begins = ap begins_compound (reserved_leads word.Case (32 ∷ _) blank) }
+kind_starts (p.case_of deep token printable others) d rest = record { front_is = front_none 99 _ refl refl refl; begins = ap begins_compound (reserved_leads word.Case (32 ∷ _) blank) }
 
 compound_pending : {limit k : ℕ} {what : bare.Kind} → PrintableCompound limit k what → kind_pending what ≡ []
 unfolding pending
@@ -85,7 +83,7 @@ compound_pending (p.subshell deep list) = refl
 compound_pending (p.conditional deep branches others) = refl
 compound_pending (p.loop deep test list) = refl
 compound_pending (p.for_loop deep named words list) = refl
-compound_pending (p.case_of deep token printable clauses) = refl
+compound_pending (p.case_of deep token printable others) = refl
 
 mapped_empty : {A C : Type 0} (f : A → C) (xs : List A) → is_empty xs ≡ is_empty (map f xs)
 unfolding is_empty
@@ -122,11 +120,11 @@ command_starts (p.simple_command {es = e ∷ es} some printable) d rest tail =
       front_is = ap front same ∙ (first_starts printable rest tail).front_is ∙ sym same;
       begins = ap (λ t. begins_command (lead_at t First 0)) same ∙ simple_command_begins _ (elements_begin text printable 0 rest tail refl);
     }
-command_starts (p.compound_command {k = what} {rs = qs} printable redirects) d rest tail =
+command_starts (p.compound_command {k = what} {rs = qs} printable opened) d rest tail =
     let same = compound_text d what qs rest in
     let s = kind_starts printable d (redirects_text qs ++ rest) in
     record { front_is = ap front same ∙ s.front_is ∙ sym same; begins = ap (λ t. begins_command (lead_at t First 0)) same ∙ compound_command_begins _ s.begins }
-command_starts (p.definition {name = name} {k = what} {rs = qs} named free printable redirects) d rest tail =
+command_starts (p.definition {name = name} {k = what} {rs = qs} named free printable opened) d rest tail =
     let c = bare.command what qs in
     let same = define_text d name c rest in
     let inner = 41 ∷ 10 ∷ (tabs d ++ (command_text d c ++ rest)) in
@@ -170,10 +168,10 @@ module _ (b : List ℕ) where
         kept = ap (λ x. map (document_of b) ds ++ x) (append-nil met) ∙ ap (λ x. x ++ met) (sym (append-nil (map (document_of b) ds)));
         behind = p.behind;
         reads = λ body f. let xs = p.reads body f in (
-            tree.command (n + 1) i (kind.Simple xs.0) [],
-            r.simple_command (elements_begin b printable i rest tail here) xs.1,
-            command_made b (n + 1) i (kind.Simple xs.0) [] ∙ ap (λ x. bare.command x []) (kind_of-Simple b xs.0 ∙ ap bare.Simple xs.2),
-          );
+          tree.command (n + 1) i (kind.Simple xs.0) [],
+          r.simple_command (elements_begin b printable i rest tail here) xs.1,
+          command_made b (n + 1) i (kind.Simple xs.0) [] ∙ ap (λ x. bare.command x []) (kind_of-Simple b xs.0 ∙ ap bare.Simple xs.2),
+        );
       }
 
   -- a compound command and its redirections
@@ -230,7 +228,7 @@ module _ (b : List ℕ) where
       let begins : begins_compound (lead_at text First 0) ≡ true = ap (λ t. begins_compound (lead_at t First 0)) same ∙ starts.begins in
       let at_text : front (tabs d ++ text) ≡ text = front_tabs d text ∙ ap front same ∙ starts.front_is ∙ sym same in
       let p = break_print b limit q (n + 1) k closed [] ds [] (tabs d ++ text) no_mark e3
-              (ap (λ t. is_newline_lead (lead_at t First 0)) at_text ∙ command_straight _ (compound_command_begins _ begins)) in
+      (ap (λ t. is_newline_lead (lead_at t First 0)) at_text ∙ command_straight _ (compound_command_begins _ begins)) in
       let e4 : drop p.at b ≡ text = p.behind ∙ at_text in
       let one = compound_print prints (compound_pending printable) redirects p.at p.count closed p.bodies rest e4 tail in
       record {
@@ -251,7 +249,7 @@ module _ (b : List ℕ) where
                   (lead_there b (Named false) j (40 ∷ inner) e1 ∙ open_leads false inner) (lead_there b (Named false) v inner e2 ∙ close_leads (Named false) (10 ∷ (tabs d ++ text)))
                   p.reads (ap begins_compound (lead_there b First p.at text e4) ∙ begins) x.1,
               command_made b (n + 1) i (kind.Define s x.0) [] ∙ ap (λ y. bare.command y []) (kind_of-Define b s x.0
-              ∙ ap (λ m. bare.Define (text_of b (span i m)) (command_of b x.0)) end ∙ ap (λ t. bare.Define t (command_of b x.0)) (text_there b i name (40 ∷ inner) here) ∙ ap (bare.Define name) x.2),
+                  ∙ ap (λ m. bare.Define (text_of b (span i m)) (command_of b x.0)) end ∙ ap (λ t. bare.Define t (command_of b x.0)) (text_there b i name (40 ∷ inner) here) ∙ ap (bare.Define name) x.2),
             );
       }
 

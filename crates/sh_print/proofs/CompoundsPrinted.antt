@@ -1,44 +1,34 @@
 -- Printed compound commands are read, given that the lists in them are.
-use Rattle.std.proofs.Common.{◌≡◌, ℕ, zero, suc, ◌+◌, ◌<◌, ◌==◌, Bool, true, false, not, ◌&&◌, ◌||◌, if◌then◌else◌, Option, Some, None, List, [], ◌∷◌, ◌++◌, length, drop, map, codes, refl, sym, ap, subst, ◌∙◌, arith, cond, append_assoc, append-nil}
-use Rattle.std.specs.List.{flat_map}
-use Rattle.std.proofs.lemmas.Bool.{cond-true, cond-false, true≢false}
-use Rattle.sh_copies.specs.Copied.{Role, Field, Unsplit, Value, Form, context_of, TokenOf}
+use Rattle.std.proofs.Common.{◌≡◌, ℕ, ◌+◌, ◌<◌, Bool, true, false, Option, Some, None, List, [], ◌∷◌, ◌++◌, length, drop, codes, refl, sym, ap, subst, ◌∙◌, append_assoc, append-nil}
 use Rattle.sh_tree.specs.declared.tree.Branch.{Branch}
 use Rattle.sh_tree.specs.declared.tree.Kind.{Kind}
 use Rattle.sh_tree.specs.declared.tree.Kind.TheVariants as kind
 use Rattle.sh_tree.specs.declared.tree.LoopKind.{LoopKind}
 use Rattle.sh_tree.specs.declared.tree.LoopKind.TheVariants as loop
 use Rattle.sh_tree.specs.declared.tree.Script.{Script}
-use Rattle.sh_tree.specs.declared.tree.Word.{Word}
 use Rattle.sh_tree.specs.declared.token.command.Lead.{Lead}
 use Rattle.sh_tree.specs.declared.token.command.Lead.TheVariants as lead
 use Rattle.sh_tree.specs.declared.token.command.Operator.TheVariants as op
 use Rattle.sh_tree.specs.declared.token.command.Reserved.TheVariants as word
-use Rattle.sh_tree.specs.declared.token.command.Stage.TheVariants.{First, Prefixed, Named}
-use Rattle.sh_tree.specs.standard.Tree.{text_of}
-use Rattle.sh_tree.specs.standard.language.Commands.{lead_at, blanks, begins_pipeline, begins_command, begins_simple, begins_compound, is_redirection, redirects, is_newline_lead, is_word, is_bare_name, name_end, separator}
-use Rattle.sh_tree.specs.standard.language.HereDocuments.{Mark}
+use Rattle.sh_tree.specs.declared.token.command.Stage.TheVariants.{First}
+use Rattle.sh_tree.specs.standard.language.Commands.{lead_at, blanks, begins_pipeline, begins_command, begins_simple, begins_compound, is_redirection, redirects, is_newline_lead}
 use Rattle.sh_tree.specs.standard.language.Reading as r
 use Rattle.sh_tree.specs.standard.language.Reading.{ReadsList, ReadsDo, ReadsCompound, ReadsBranches, ReadsElse, ReadsForWords, ReadsWords, ReadsBreaks, lead_here, behind_token, parted}
 use Rattle.sh_tree.specs.standard.language.States.{State, Document}
 use Rattle.sh_tree.specs.standard.language.Trees as tree
 use Rattle.sh_tree.specs.standard.language.Trees.{span}
 use Rattle.sh_print.specs.Bare as bare
-use Rattle.sh_print.specs.Layout.{tabs, block, items_text, kind_text, branches_text, otherwise_text, loop_text, for_words_text}
-use Rattle.sh_print.specs.Lists.{branches_from, words_from}
-use Rattle.sh_print.specs.Trees.{word_of, script_of, kind_of}
-use Rattle.sh_print.proofs.TreeLemmas.{kind_of-Group, kind_of-Subshell, kind_of-if, kind_of-else, kind_of-Loop, kind_of-For}
+use Rattle.sh_print.specs.Layout.{tabs, block, items_text, kind_text, branches_text, otherwise_text}
+use Rattle.sh_print.specs.Lists.{branches_from}
+use Rattle.sh_print.specs.Trees.{script_of, kind_of}
+use Rattle.sh_print.proofs.TreeLemmas.{kind_of-Group, kind_of-Subshell, kind_of-if, kind_of-else, kind_of-Loop}
 use Rattle.sh_print.proofs.MadeLemmas.{branch_made}
-use Rattle.sh_print.proofs.PlaceLemmas.{front, front_blank, front_none, front_tabs, fronted, lead_there, off, one_off}
-use Rattle.sh_print.proofs.OwnTokens.{Gap, blank, line, reserved_text, reserved_leads, opening_leads, close_leads, newline_leads}
-use Rattle.sh_print.proofs.NameTokens.{Name, name_ends, for_name, name_first}
-use Rattle.sh_print.proofs.RedirectTokens.{text_there}
-use Rattle.sh_print.proofs.DocumentsPrinted.{place, document_of, so_far, Fits, Marked, no_mark, break_print}
-use Rattle.sh_print.proofs.ElementsPrinted.{IsClosed, Starts, gap_word, token_starts, blank_word, word_print}
+use Rattle.sh_print.proofs.PlaceLemmas.{front, front_none, front_tabs, fronted, lead_there, off, one_off}
+use Rattle.sh_print.proofs.OwnTokens.{Gap, line, reserved_text, reserved_leads, opening_leads, close_leads}
+use Rattle.sh_print.proofs.DocumentsPrinted.{place, so_far, Fits}
+use Rattle.sh_print.proofs.ElementsPrinted.{IsClosed}
 use Rattle.sh_print.proofs.JoinsPrinted.{IsStop}
-use Rattle.sh_print.proofs.ListsPrinted.{PrintsList, PrintedList, PrintedDo, block_print, block_text, do_print, line_front, reserved_front, word_stops, kept_both, fits_both}
-use Rattle.sh_print.proofs.Printable as p
-use Rattle.sh_print.proofs.Printable.{PrintableWord, PrintableWords}
+use Rattle.sh_print.proofs.ListsPrinted.{PrintsList, block_print, block_text, do_print, line_front, reserved_front, word_stops, kept_both, fits_both}
 
 module _ (b : List ℕ) where
   -- a compound command from its first token to the token behind it
@@ -288,7 +278,7 @@ module _ (b : List ℕ) where
                 o.1,
                 r.branch c.1 (lead_there b First one.at _ there ∙ reserved_leads word.Then inner line) t.1 o.2,
                 branch_made b c.0 t.0 o.0 ∙ ap (λ y. bare.more_branches y (script_of b t.0) (branches_from b o.0)) c.2
-                ∙ ap (λ y. bare.more_branches condition y (branches_from b o.0)) t.2 ∙ ap (bare.more_branches condition items) o.3,
+                    ∙ ap (λ y. bare.more_branches condition y (branches_from b o.0)) t.2 ∙ ap (bare.more_branches condition items) o.3,
                 o.4,
               );
         };
@@ -301,15 +291,15 @@ module _ (b : List ℕ) where
     stops = λ rest gap. word_stops d word.Fi rest gap refl;
     front_is = λ rest. reserved_front word.Fi rest;
     print = λ i n closed ds rest e gap. record {
-        at = blanks false b (i + 2);
-        count = n;
-        ended = closed;
-        bodies = ds;
-        met = [];
-        kept = sym (append-nil (so_far b ds []));
-        behind = fronted b (i + 2) rest (off b i (codes "fi") rest e);
-        reads = λ body f. ([], None, r.fi (lead_there b First i _ e ∙ reserved_leads word.Fi rest gap), refl, refl);
-      };
+      at = blanks false b (i + 2);
+      count = n;
+      ended = closed;
+      bodies = ds;
+      met = [];
+      kept = sym (append-nil (so_far b ds []));
+      behind = fronted b (i + 2) rest (off b i (codes "fi") rest e);
+      reads = λ body f. ([], None, r.fi (lead_there b First i _ e ∙ reserved_leads word.Fi rest gap), refl, refl);
+    };
   }
 
   -- else, a list and fi
@@ -372,7 +362,7 @@ module _ (b : List ℕ) where
   conditional_prints {branches = branches} {otherwise = otherwise} d deep more = record {
     print = λ i n closed ds rest e close.
         let p = more.print (codes "if") i n closed ds rest (e ∙ append_assoc (branches_text d (codes "if") branches) (otherwise_text d otherwise ++ codes "fi") rest
-                ∙ ap (λ t. branches_text d (codes "if") branches ++ t) (append_assoc (otherwise_text d otherwise) (codes "fi") rest)) close.gap in
+        ∙ ap (λ t. branches_text d (codes "if") branches ++ t) (append_assoc (otherwise_text d otherwise) (codes "fi") rest)) close.gap in
         record {
           at = p.at;
           count = p.count;

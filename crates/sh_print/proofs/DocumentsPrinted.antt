@@ -1,26 +1,22 @@
 -- Printed here-documents are read at the newline before them.
-use Rattle.std.proofs.Common.{◌≡◌, ℕ, zero, suc, ◌+◌, ◌-◌, ◌<◌, ◌≤◌, ◌==◌, Bool, true, false, not, ◌&&◌, ◌||◌, if◌then◌else◌, Option, Some, None, List, [], ◌∷◌, ◌++◌, length, drop, take, map, nat_lt, refl, sym, ap, subst, ◌∙◌, arith, cond, length-drop, length-append, append_assoc, append-nil}
+use Rattle.std.proofs.Common.{◌≡◌, ℕ, suc, ◌+◌, ◌-◌, ◌≤◌, Bool, true, false, List, [], ◌∷◌, ◌++◌, length, drop, map, nat_lt, refl, sym, ap, subst, ◌∙◌, arith, length-drop, length-append, append_assoc, append-nil}
 use Rattle.std.specs.List.{flat_map}
-use Rattle.std.proofs.lemmas.Bool.{cond-true, cond-false, true≢false}
+use Rattle.std.proofs.lemmas.Bool.{cond-true}
 use Rattle.std.proofs.lemmas.Bool.Decides.{nat_tests}
-use Rattle.std.proofs.lemmas.List.{drop-drop, drop_at, take_at, map-append, length-map}
-use Rattle.sh_copies.specs.Copied.{DocumentOf}
-use Rattle.sh_tree.specs.declared.tree.Span.{Span}
-use Rattle.sh_tree.specs.declared.token.command.Lead.{Lead}
-use Rattle.sh_tree.specs.declared.token.command.Lead.TheVariants as lead
-use Rattle.sh_tree.specs.declared.token.command.Stage.TheVariants.{First, Prefixed, Named}
+use Rattle.std.proofs.lemmas.List.{map-append, length-map}
+use Rattle.sh_tree.specs.declared.token.command.Stage.TheVariants.{First}
 use Rattle.sh_tree.specs.standard.Tree.{text_of}
 use Rattle.sh_tree.specs.standard.language.Commands.{lead_at, blanks, blank_length, gap_length, is_newline_lead}
 use Rattle.sh_tree.specs.standard.language.Bytes.{is_first}
-use Rattle.sh_tree.specs.standard.language.HereDocuments.{Mark, end_line, behind_line, keeps_document}
+use Rattle.sh_tree.specs.standard.language.HereDocuments.{Mark, behind_line, keeps_document}
 use Rattle.sh_tree.specs.standard.language.Reading as r
 use Rattle.sh_tree.specs.standard.language.Reading.{ReadsDocuments, ReadsBreaks, lead_here}
-use Rattle.sh_tree.specs.standard.language.States.{Spot, State, Document, document_count, on_line, next}
+use Rattle.sh_tree.specs.standard.language.States.{State, Document}
 use Rattle.sh_tree.specs.standard.language.Trees as tree
 use Rattle.sh_tree.specs.standard.language.Trees.{span}
 use Rattle.sh_print.specs.Bare as bare
 use Rattle.sh_print.specs.Layout.{document_text, line_end}
-use Rattle.sh_print.proofs.PlaceLemmas.{front, front_none, fronted, lead_there, off, one_off}
+use Rattle.sh_print.proofs.PlaceLemmas.{front, fronted, lead_there, off, one_off}
 use Rattle.sh_print.proofs.OwnTokens.{newline_leads}
 use Rattle.sh_print.proofs.RedirectTokens.{text_there}
 use Rattle.sh_print.proofs.Printable.{PrintableDocument}

@@ -1,31 +1,26 @@
 -- The printed elements of a simple command and the printed redirections of a compound command are read.
-use Rattle.std.proofs.Common.{◌≡◌, ℕ, zero, suc, ◌+◌, ◌-◌, ◌<◌, ◌==◌, Bool, true, false, not, ◌&&◌, ◌||◌, if◌then◌else◌, Option, Some, None, List, [], ◌∷◌, ◌++◌, length, drop, take, map, nat_lt, refl, sym, ap, subst, ◌∙◌, arith, cond, append_assoc, append-nil}
+use Rattle.std.proofs.Common.{◌≡◌, ℕ, ◌+◌, Bool, true, false, not, ◌&&◌, ◌||◌, List, [], ◌∷◌, ◌++◌, length, drop, map, refl, sym, ap, subst, ◌∙◌, arith, append_assoc, append-nil}
 use Rattle.std.specs.List.{flat_map, list_any}
 use Rattle.std.specs.Option.{option_map}
-use Rattle.std.proofs.lemmas.Bool.{cond-true, cond-false, true≢false, and_parts}
+use Rattle.std.proofs.lemmas.Bool.{true≢false}
 use Rattle.std.proofs.lemmas.Bool.Decides.{nat_tests}
-use Rattle.sh_copies.specs.Copied.{Role, Field, Unsplit, Value, Form, form_of, context_of, IsBehindWord, IsWordSpot, counted, WordOf, TokenOf, begins_word, is_declaring}
-use Rattle.sh_tree.specs.declared.tree.Direction.{Direction}
+use Rattle.sh_copies.specs.Copied.{Role, Field, Unsplit, Form, form_of, context_of, IsBehindWord, counted, TokenOf, begins_word}
 use Rattle.sh_tree.specs.declared.tree.Element.{Element}
 use Rattle.sh_tree.specs.declared.tree.Element.TheVariants as element
 use Rattle.sh_tree.specs.declared.tree.Part.{Part}
 use Rattle.sh_tree.specs.declared.tree.Redirect.{Redirect}
-use Rattle.sh_tree.specs.declared.tree.Span.{Span}
-use Rattle.sh_tree.specs.declared.tree.Target.{Target}
 use Rattle.sh_tree.specs.declared.tree.Target.TheVariants as target
-use Rattle.sh_tree.specs.declared.tree.Word.{Word}
 use Rattle.sh_tree.specs.declared.token.command.Lead.{Lead}
 use Rattle.sh_tree.specs.declared.token.command.Lead.TheVariants as lead
-use Rattle.sh_tree.specs.declared.token.command.Redirection.{Redirection}
 use Rattle.sh_tree.specs.declared.token.command.Stage.{Stage}
 use Rattle.sh_tree.specs.declared.token.command.Stage.TheVariants.{First, Prefixed, Named}
 use Rattle.sh_tree.specs.standard.Tree.{text_of}
 use Rattle.sh_tree.specs.standard.language.Bytes.{is_newline, is_first}
-use Rattle.sh_tree.specs.standard.language.Commands.{lead_at, blanks, blank_length, is_parenthesis, is_word, is_redirection, begins_simple, name_end, direction_of, strip_of, redirection}
-use Rattle.sh_tree.specs.standard.language.HereDocuments.{Mark, is_static, is_dollar_quoted, is_delimiter, delimiter_of}
+use Rattle.sh_tree.specs.standard.language.Commands.{lead_at, blanks, is_parenthesis, is_word, is_redirection, begins_simple, name_end, direction_of, strip_of}
+use Rattle.sh_tree.specs.standard.language.HereDocuments.{Mark, is_static, is_delimiter, delimiter_of}
 use Rattle.sh_tree.specs.standard.language.Reading as r
 use Rattle.sh_tree.specs.standard.language.Reading.{ReadsWord, ReadsRedirect, ReadsRedirects, ReadsElements, stage_behind, redirected}
-use Rattle.sh_tree.specs.standard.language.States.{Spot, State, Document, facing, to, waits}
+use Rattle.sh_tree.specs.standard.language.States.{Document, facing, to, waits}
 use Rattle.sh_tree.specs.standard.language.Trees as tree
 use Rattle.sh_tree.specs.standard.language.Trees.{span}
 use Rattle.sh_print.specs.Bare as bare
@@ -33,9 +28,9 @@ use Rattle.sh_print.specs.Bare.{Text}
 use Rattle.sh_print.specs.Layout.{opens_text, number_text, redirect_text, element_text, redirect_documents, element_documents}
 use Rattle.sh_print.specs.Trees.{word_of, opened_of, redirect_of, element_of}
 use Rattle.sh_print.proofs.TreeLemmas.{element_of-Assignment, element_of-Word, element_of-Redirection, opens_of-File, opens_of-Here, opened_of-File, opened_of-Here}
-use Rattle.sh_print.proofs.PlaceLemmas.{front, front_blank, front_none, fronted, lead_there, off, one_off}
+use Rattle.sh_print.proofs.PlaceLemmas.{front, front_blank, fronted, lead_there, off, one_off}
 use Rattle.sh_print.proofs.OwnTokens.{Gap, blank, line}
-use Rattle.sh_print.proofs.NameTokens.{Name, name_ends, assignment_leads, name_first}
+use Rattle.sh_print.proofs.NameTokens.{name_ends, assignment_leads, name_first}
 use Rattle.sh_print.proofs.RedirectTokens.{text_there, redirection_text, redirect_begins, redirect_first, sign_directs, sign_strips}
 use Rattle.sh_print.proofs.DocumentsPrinted.{place, document_of, so_far, Fits, fits_first, fits_parts, Marked, no_mark, one_mark, marked_join, count_is}
 use Rattle.sh_print.proofs.Printable as p
@@ -217,12 +212,12 @@ module _ (b : List ℕ) where
         behind = one.behind;
         begins = begins.leads;
         reads = λ body f. (
-            tree.redirect begins.token.at begins.token.number (target.File direction x),
-            r.file begins.is (ap direction_of begins.operator_is ∙ sign_directs direction) (ap is_word (token.is_lead b rest j e1 behind)) one.reads,
-            ap (λ o. record { number = option_map (text_of b) begins.token.number; opens = o; word = opened_of b (target.File direction x) }) (opens_of-File b direction x)
-            ∙ ap (λ t. record { number = option_map (text_of b) begins.token.number; opens = bare.File direction; word = t }) (opened_of-File b direction x ∙ one.word_is)
-            ∙ ap (λ m. record { number = m; opens = bare.File direction; word = w }) begins.number_is,
-          );
+          tree.redirect begins.token.at begins.token.number (target.File direction x),
+          r.file begins.is (ap direction_of begins.operator_is ∙ sign_directs direction) (ap is_word (token.is_lead b rest j e1 behind)) one.reads,
+          ap (λ o. record { number = option_map (text_of b) begins.token.number; opens = o; word = opened_of b (target.File direction x) }) (opens_of-File b direction x)
+              ∙ ap (λ t. record { number = option_map (text_of b) begins.token.number; opens = bare.File direction; word = t }) (opened_of-File b direction x ∙ one.word_is)
+              ∙ ap (λ m. record { number = m; opens = bare.File direction; word = w }) begins.number_is,
+        );
       }
   redirect_print {limit = limit} {k = k} {quiet = quiet} (p.here_document {number = number} {strip = strip} {document = document} {form = form} {w = w} digits token printable delimits printed) i n closed ms ds waiting rest marked quietly e behind =
       let q : bare.Redirect = record { number = number; opens = bare.Here strip document; word = w } in
@@ -252,9 +247,9 @@ module _ (b : List ℕ) where
               tree.redirect begins.token.at begins.token.number (target.Here h),
               r.here_document begins.is (ap strip_of begins.operator_is ∙ sign_strips strip document) (ap is_word (token.is_lead b rest j e1 behind)) one.reads delimiter,
               ap (λ o. record { number = option_map (text_of b) begins.token.number; opens = o; word = opened_of b (target.Here h) }) (opens_of-Here b h)
-              ∙ ap (λ y. record { number = option_map (text_of b) begins.token.number; opens = bare.Here strip y; word = opened_of b (target.Here h) }) there
-              ∙ ap (λ t. record { number = option_map (text_of b) begins.token.number; opens = bare.Here strip document; word = t }) (opened_of-Here b h ∙ one.word_is)
-              ∙ ap (λ m. record { number = m; opens = bare.Here strip document; word = w }) begins.number_is,
+                  ∙ ap (λ y. record { number = option_map (text_of b) begins.token.number; opens = bare.Here strip y; word = opened_of b (target.Here h) }) there
+                  ∙ ap (λ t. record { number = option_map (text_of b) begins.token.number; opens = bare.Here strip document; word = t }) (opened_of-Here b h ∙ one.word_is)
+                  ∙ ap (λ m. record { number = m; opens = bare.Here strip document; word = w }) begins.number_is,
             );
       }
 
@@ -311,11 +306,11 @@ module _ (b : List ℕ) where
               element.Assignment (span i (name_end b i)) x ∷ others.0,
               r.assigned_element (lead_there b g i (name ++ 61 ∷ (value ++ later)) e1 ∙ assignment_leads g name (value ++ later) stage named) one.2 others.1,
               ap (λ y. y ∷ map (element_of b) others.0) (
-              element_of-Assignment b (span i (name_end b i)) x
-              ∙ ap (λ m. bare.Assigns (text_of b (span i m)) (word_of b x)) end
-              ∙ ap (λ t. bare.Assigns t (word_of b x)) (text_there b i name (61 ∷ (value ++ later)) e1)
-              ∙ ap (λ t. bare.Assigns name t) (text_there b v value later e2)
-              ) ∙ ap (λ ys. bare.Assigns name value ∷ ys) others.2,
+                  element_of-Assignment b (span i (name_end b i)) x
+                  ∙ ap (λ m. bare.Assigns (text_of b (span i m)) (word_of b x)) end
+                  ∙ ap (λ t. bare.Assigns t (word_of b x)) (text_there b i name (61 ∷ (value ++ later)) e1)
+                  ∙ ap (λ t. bare.Assigns name t) (text_there b v value later e2)
+                  ) ∙ ap (λ ys. bare.Assigns name value ∷ ys) others.2,
             );
       }
   elements_print {limit = limit} {k = k} {g = g} {quiet = quiet} (p.word_element {w = w} {form = form} {es = es} token printable more) i n closed ms ds waiting rest marked quietly e tail =

@@ -1,17 +1,12 @@
 -- Printed items and lists are read, given that the pipelines in them are.
-use Rattle.std.proofs.Common.{◌≡◌, ℕ, zero, suc, ◌+◌, ◌<◌, ◌==◌, Bool, true, false, not, ◌&&◌, ◌||◌, if◌then◌else◌, Option, Some, None, List, [], ◌∷◌, ◌++◌, length, drop, map, codes, refl, sym, ap, subst, ◌∙◌, arith, cond, append_assoc, append-nil}
+use Rattle.std.proofs.Common.{◌≡◌, ℕ, ◌+◌, Bool, true, false, Some, None, List, [], ◌∷◌, ◌++◌, length, drop, codes, refl, sym, ap, subst, ◌∙◌, append_assoc, append-nil}
 use Rattle.std.specs.List.{flat_map}
-use Rattle.std.proofs.lemmas.Bool.{cond-true, cond-false, true≢false}
-use Rattle.sh_tree.specs.declared.tree.AndOr.{AndOr}
 use Rattle.sh_tree.specs.declared.tree.Item.{Item}
 use Rattle.sh_tree.specs.declared.tree.Link.{Link}
 use Rattle.sh_tree.specs.declared.tree.Link.TheVariants as link
 use Rattle.sh_tree.specs.declared.tree.Pipe.{Pipe}
-use Rattle.sh_tree.specs.declared.token.command.Lead.{Lead}
-use Rattle.sh_tree.specs.declared.token.command.Lead.TheVariants as lead
-use Rattle.sh_tree.specs.declared.token.command.Operator.TheVariants as op
-use Rattle.sh_tree.specs.declared.token.command.Stage.TheVariants.{First, Prefixed, Named}
-use Rattle.sh_tree.specs.standard.language.Commands.{lead_at, blanks, begins_pipeline, is_newline_lead, is_bar, link_of, separator}
+use Rattle.sh_tree.specs.declared.token.command.Stage.TheVariants.{First}
+use Rattle.sh_tree.specs.standard.language.Commands.{lead_at, begins_pipeline, is_newline_lead, is_bar, link_of, separator}
 use Rattle.sh_tree.specs.standard.language.HereDocuments.{Mark}
 use Rattle.sh_tree.specs.standard.language.Reading as r
 use Rattle.sh_tree.specs.standard.language.Reading.{ReadsPipeline, ReadsLinks, ReadsAndOr, ReadsItems, ReadsList, ReadsBreaks, lead_here, behind_token, parted}
@@ -20,15 +15,14 @@ use Rattle.sh_tree.specs.standard.language.Trees as tree
 use Rattle.sh_print.specs.Bare as bare
 use Rattle.sh_print.specs.Layout.{tabs, join, line_end, document_text, background_text, link_text, items_text, links_text, pipeline_text, pipeline_pending}
 use Rattle.sh_print.specs.Lists.{links_from, items_from}
-use Rattle.sh_print.specs.Trees.{pipeline_of, script_of}
+use Rattle.sh_print.specs.Trees.{pipeline_of}
 use Rattle.sh_print.proofs.MadeLemmas.{item_made, script_made}
-use Rattle.sh_print.proofs.PlaceLemmas.{front, front_blank, front_none, front_tabs, fronted, lead_there, off, one_off}
-use Rattle.sh_print.proofs.OwnTokens.{Gap, blank, line, newline_leads, background_leads, and_leads, or_leads}
-use Rattle.sh_print.proofs.DocumentsPrinted.{place, document_of, so_far, Fits, Marked, no_mark, break_print}
-use Rattle.sh_print.proofs.ElementsPrinted.{IsTail}
+use Rattle.sh_print.proofs.PlaceLemmas.{front, front_blank, front_none, front_tabs, lead_there, off}
+use Rattle.sh_print.proofs.OwnTokens.{Gap, line, newline_leads, background_leads, and_leads, or_leads}
+use Rattle.sh_print.proofs.DocumentsPrinted.{place, so_far, Fits, Marked, no_mark, break_print}
 use Rattle.sh_print.proofs.JoinsPrinted.{IsStop, join_gap, links_tail, begins_straight, join_print, end_print}
 use Rattle.sh_print.proofs.ListsPrinted.{PrintsList, kept_both, fits_both}
-use Rattle.sh_print.proofs.PipelinesPrinted.{IsPipeTail, PipelineStarts, PrintsPipeline}
+use Rattle.sh_print.proofs.PipelinesPrinted.{IsPipeTail, PrintsPipeline}
 
 -- the here-documents that wait behind the further pipelines of an item
 unfoldable pub links_pending : List bare.Document → bare.Links → List bare.Document
@@ -147,7 +141,7 @@ module _ (b : List ℕ) where
         let tail = links_pipe_tail d (pipeline_pending x) links background rest in
         let starts = one.starts after tail.tail in
         let q = join_print b marked (i + 2) n k closed ds d text (ap (λ m. drop (i + m) b) (sym s.long) ∙ off b i (link_sign l) inner here)
-                (ap (λ t. is_newline_lead (lead_at t First 0)) starts.front_is ∙ begins_straight _ starts.begins) in
+        (ap (λ t. is_newline_lead (lead_at t First 0)) starts.front_is ∙ begins_straight _ starts.begins) in
         let p = one.print q.at q.count closed q.bodies after (q.behind ∙ starts.front_is) tail in
         let two = others.print p.at p.count p.ended p.marks p.bodies (pipeline_pending x) background rest p.marked p.behind in
         let first_kept = p.kept ∙ ap (λ t. t ++ p.met) q.kept in
@@ -271,10 +265,10 @@ module _ (b : List ℕ) where
           behind = p.behind;
           to_end = p.to_end;
           reads = λ body f. let x = p.reads body f in (
-              tree.item (tree.and_or x.0 x.1) background ∷ [],
-              r.ended_item x.2 p.separates p.breaks (ap begins_pipeline (lead_there b First p.at (front rest) p.behind) ∙ stop.none),
-              item_made b x.0 x.1 background [] ∙ ap (λ y. bare.more_items y (links_from b x.1) background bare.no_items) x.3 ∙ ap (λ y. bare.more_items first y background bare.no_items) x.4,
-            );
+            tree.item (tree.and_or x.0 x.1) background ∷ [],
+            r.ended_item x.2 p.separates p.breaks (ap begins_pipeline (lead_there b First p.at (front rest) p.behind) ∙ stop.none),
+            item_made b x.0 x.1 background [] ∙ ap (λ y. bare.more_items y (links_from b x.1) background bare.no_items) x.3 ∙ ap (λ y. bare.more_items first y background bare.no_items) x.4,
+          );
         };
   }
 
@@ -303,7 +297,7 @@ module _ (b : List ℕ) where
                 tree.item (tree.and_or x.0 x.1) background ∷ xs.0,
                 r.more_items x.2 p.separates p.breaks (ap begins_pipeline (lead_there b First p.at (front after) p.behind) ∙ begins) xs.1,
                 item_made b x.0 x.1 background xs.0 ∙ ap (λ y. bare.more_items y (links_from b x.1) background (items_from b xs.0)) x.3
-                ∙ ap (λ y. bare.more_items first y background (items_from b xs.0)) x.4 ∙ ap (bare.more_items first links background) xs.2,
+                    ∙ ap (λ y. bare.more_items first y background (items_from b xs.0)) x.4 ∙ ap (bare.more_items first links background) xs.2,
               );
         };
   }

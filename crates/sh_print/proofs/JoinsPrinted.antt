@@ -1,27 +1,23 @@
 -- What stands between printed commands is read: the newline behind an item, and what follows `|`, `&&` and `||`.
-use Rattle.std.proofs.Common.{◌≡◌, ℕ, zero, suc, ◌+◌, ◌<◌, ◌==◌, Bool, true, false, not, ◌&&◌, ◌||◌, if◌then◌else◌, Option, Some, None, List, [], ◌∷◌, ◌++◌, length, drop, map, codes, refl, sym, ap, subst, ◌∙◌, arith, cond, append_assoc, append-nil}
+use Rattle.std.proofs.Common.{◌≡◌, ℕ, ◌+◌, Bool, true, false, if◌then◌else◌, Some, List, [], ◌∷◌, ◌++◌, length, drop, codes, refl, sym, ap, subst, ◌∙◌, append_assoc}
 use Rattle.std.specs.List.{flat_map}
-use Rattle.std.proofs.lemmas.Bool.{cond-true, cond-false, true≢false}
-use Rattle.sh_tree.specs.declared.tree.Link.{Link}
+use Rattle.std.proofs.lemmas.Bool.{true≢false}
 use Rattle.sh_tree.specs.declared.tree.Link.TheVariants as link
 use Rattle.sh_tree.specs.declared.token.command.Lead.{Lead}
 use Rattle.sh_tree.specs.declared.token.command.Lead.TheVariants as lead
-use Rattle.sh_tree.specs.declared.token.command.Operator.TheVariants as op
-use Rattle.sh_tree.specs.declared.token.command.Reserved.{Reserved}
-use Rattle.sh_tree.specs.declared.token.command.Reserved.TheVariants as word
 use Rattle.sh_tree.specs.declared.token.command.Stage.{Stage}
-use Rattle.sh_tree.specs.declared.token.command.Stage.TheVariants.{First, Prefixed, Named}
+use Rattle.sh_tree.specs.declared.token.command.Stage.TheVariants.{First}
 use Rattle.sh_tree.specs.standard.language.Bytes.{is_first}
-use Rattle.sh_tree.specs.standard.language.Commands.{lead_at, blanks, is_parenthesis, is_redirection, begins_simple, begins_command, begins_pipeline, begins_compound, is_newline_lead, separator, link_of, is_bar, redirects}
+use Rattle.sh_tree.specs.standard.language.Commands.{lead_at, blanks, is_parenthesis, is_redirection, begins_simple, begins_command, begins_pipeline, begins_compound, is_newline_lead, separator, redirects}
 use Rattle.sh_tree.specs.standard.language.HereDocuments.{Mark}
 use Rattle.sh_tree.specs.standard.language.Reading as r
 use Rattle.sh_tree.specs.standard.language.Reading.{ReadsBreaks, lead_here, parted, behind_token}
-use Rattle.sh_tree.specs.standard.language.States.{State, Document}
+use Rattle.sh_tree.specs.standard.language.States.{Document}
 use Rattle.sh_print.specs.Bare as bare
-use Rattle.sh_print.specs.Layout.{tabs, join, line_end, background_text, link_text, document_text, links_text, piped_text}
-use Rattle.sh_print.proofs.PlaceLemmas.{front, front_blank, front_none, front_tabs, fronted, lead_there, off, one_off}
-use Rattle.sh_print.proofs.OwnTokens.{Gap, blank, line, reserved_text, reserved_leads, newline_leads, background_leads, bar_leads, and_leads, or_leads}
-use Rattle.sh_print.proofs.DocumentsPrinted.{place, document_of, so_far, Marked, no_mark, one_mark, break_print}
+use Rattle.sh_print.specs.Layout.{tabs, join, line_end, background_text, document_text, links_text}
+use Rattle.sh_print.proofs.PlaceLemmas.{front, front_blank, front_none, front_tabs, fronted, lead_there, one_off}
+use Rattle.sh_print.proofs.OwnTokens.{Gap, blank, line, newline_leads, background_leads, bar_leads, and_leads, or_leads}
+use Rattle.sh_print.proofs.DocumentsPrinted.{place, so_far, Marked, no_mark, one_mark, break_print}
 use Rattle.sh_print.proofs.ElementsPrinted.{IsTail}
 
 -- Tails of commands
@@ -108,7 +104,7 @@ module _ (b : List ℕ) where
       let e1 : drop i b ≡ 10 ∷ (text ++ (tabs d ++ rest)) = e ∙ append_assoc (10 ∷ text) (tabs d) rest in
       let j = blanks false b i in
       let p = break_print b limit j n k closed (m ∷ ms) ds (x ∷ waiting) (tabs d ++ rest) (one_mark document marked)
-              (fronted b i _ e1 ∙ front_none 10 (text ++ (tabs d ++ rest)) refl refl refl) (ap (λ t. is_newline_lead (lead_at t First 0)) (front_tabs d rest) ∙ straight) in
+      (fronted b i _ e1 ∙ front_none 10 (text ++ (tabs d ++ rest)) refl refl refl) (ap (λ t. is_newline_lead (lead_at t First 0)) (front_tabs d rest) ∙ straight) in
       record {
         at = p.at;
         count = p.count;

@@ -1,25 +1,20 @@
 -- Printed lists between an opening and a closing word, and what the commands of the canonical text begin with.
-use Rattle.std.proofs.Common.{◌≡◌, ℕ, zero, suc, ◌+◌, ◌<◌, ◌==◌, Bool, true, false, not, ◌&&◌, ◌||◌, if◌then◌else◌, Option, Some, None, List, [], ◌∷◌, ◌++◌, length, drop, map, codes, refl, sym, ap, subst, ◌∙◌, arith, cond, append_assoc, append-nil}
-use Rattle.std.specs.List.{flat_map}
-use Rattle.std.proofs.lemmas.Bool.{cond-true, cond-false, true≢false}
+use Rattle.std.proofs.Common.{◌≡◌, ℕ, ◌+◌, Bool, false, List, [], ◌∷◌, ◌++◌, length, drop, codes, refl, sym, ap, subst, ◌∙◌, append_assoc}
 use Rattle.sh_tree.specs.declared.tree.Script.{Script}
-use Rattle.sh_tree.specs.declared.token.command.Lead.{Lead}
 use Rattle.sh_tree.specs.declared.token.command.Lead.TheVariants as lead
 use Rattle.sh_tree.specs.declared.token.command.Reserved.{Reserved}
 use Rattle.sh_tree.specs.declared.token.command.Reserved.TheVariants as word
-use Rattle.sh_tree.specs.declared.token.command.Stage.TheVariants.{First, Prefixed, Named}
+use Rattle.sh_tree.specs.declared.token.command.Stage.TheVariants.{First}
 use Rattle.sh_tree.specs.standard.language.Commands.{lead_at, blanks, begins_pipeline, begins_command, begins_simple, begins_compound, is_redirection, is_newline_lead}
-use Rattle.sh_tree.specs.standard.language.HereDocuments.{Mark}
 use Rattle.sh_tree.specs.standard.language.Reading as r
 use Rattle.sh_tree.specs.standard.language.Reading.{ReadsList, ReadsDo, ReadsSequence, lead_here, behind_token}
-use Rattle.sh_tree.specs.standard.language.States.{State, Document}
+use Rattle.sh_tree.specs.standard.language.States.{Document}
 use Rattle.sh_print.specs.Bare as bare
 use Rattle.sh_print.specs.Layout.{tabs, block, items_text}
 use Rattle.sh_print.specs.Trees.{script_of}
-use Rattle.sh_print.proofs.PlaceLemmas.{front, front_blank, front_none, front_tabs, fronted, lead_there, off, one_off}
-use Rattle.sh_print.proofs.OwnTokens.{Gap, blank, line, reserved_text, reserved_leads}
-use Rattle.sh_print.proofs.DocumentsPrinted.{place, document_of, so_far, Fits, fits_parts, Marked, no_mark}
-use Rattle.sh_print.proofs.ElementsPrinted.{IsTail, IsClosed}
+use Rattle.sh_print.proofs.PlaceLemmas.{front, front_none, front_tabs, fronted, lead_there, off}
+use Rattle.sh_print.proofs.OwnTokens.{Gap, line, reserved_text, reserved_leads}
+use Rattle.sh_print.proofs.DocumentsPrinted.{place, so_far, Fits, fits_parts}
 use Rattle.sh_print.proofs.JoinsPrinted.{IsStop}
 
 -- Reserved words
@@ -121,8 +116,8 @@ module _ (b : List ℕ) where
         kept = one.kept;
         behind = fronted b (one.at + 4) rest (off b one.at (codes "done") rest there);
         reads = λ body f. let t = one.reads body f in (
-            t.0,
-            r.do_group (lead_there b First i _ e1 ∙ reserved_leads word.Do (10 ∷ (items_text (d + 1) items ++ tail)) line) t.1 (lead_there b First one.at _ there ∙ reserved_leads word.Done rest gap),
-            t.2,
-          );
+          t.0,
+          r.do_group (lead_there b First i _ e1 ∙ reserved_leads word.Do (10 ∷ (items_text (d + 1) items ++ tail)) line) t.1 (lead_there b First one.at _ there ∙ reserved_leads word.Done rest gap),
+          t.2,
+        );
       }

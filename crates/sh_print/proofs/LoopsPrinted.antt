@@ -1,46 +1,35 @@
 -- A printed loop over words is read, given that the list in it is.
-use Rattle.std.proofs.Common.{◌≡◌, ℕ, zero, suc, ◌+◌, ◌<◌, ◌==◌, Bool, true, false, not, ◌&&◌, ◌||◌, if◌then◌else◌, Option, Some, None, List, [], ◌∷◌, ◌++◌, length, drop, map, codes, refl, sym, ap, subst, ◌∙◌, arith, cond, append_assoc, append-nil}
+use Rattle.std.proofs.Common.{◌≡◌, ℕ, ◌+◌, ◌<◌, Bool, true, false, Option, Some, None, List, [], ◌∷◌, ◌++◌, length, drop, map, codes, refl, sym, ap, subst, ◌∙◌, append_assoc}
 use Rattle.std.specs.List.{flat_map}
-use Rattle.std.proofs.lemmas.Bool.{cond-true, cond-false, true≢false}
-use Rattle.sh_copies.specs.Copied.{Role, Field, Unsplit, Value, Form, context_of, TokenOf, IsBehindWord}
-use Rattle.sh_tree.specs.declared.tree.Clause.{Clause}
-use Rattle.sh_tree.specs.declared.tree.ClauseEnd.{ClauseEnd}
-use Rattle.sh_tree.specs.declared.tree.ClauseEnd.TheVariants as clause_end
-use Rattle.sh_tree.specs.declared.tree.Kind.{Kind}
+use Rattle.sh_copies.specs.Copied.{Field, context_of, IsBehindWord}
 use Rattle.sh_tree.specs.declared.tree.Kind.TheVariants as kind
-use Rattle.sh_tree.specs.declared.tree.Script.{Script}
 use Rattle.sh_tree.specs.declared.tree.Word.{Word}
-use Rattle.sh_tree.specs.declared.token.command.Lead.{Lead}
 use Rattle.sh_tree.specs.declared.token.command.Lead.TheVariants as lead
-use Rattle.sh_tree.specs.declared.token.command.Operator.TheVariants as op
 use Rattle.sh_tree.specs.declared.token.command.Reserved.TheVariants as word
-use Rattle.sh_tree.specs.declared.token.command.Stage.TheVariants.{First, Prefixed, Named}
+use Rattle.sh_tree.specs.declared.token.command.Stage.TheVariants.{First, Named}
 use Rattle.sh_tree.specs.standard.Tree.{text_of}
-use Rattle.sh_tree.specs.standard.language.Bytes.{is_first}
-use Rattle.sh_tree.specs.standard.language.Commands.{lead_at, blanks, begins_pipeline, begins_command, begins_simple, begins_compound, is_redirection, redirects, is_newline_lead, is_word, is_bare_name, is_parenthesis, is_open, is_esac, name_end, separator, clause_end_of}
+use Rattle.sh_tree.specs.standard.language.Commands.{lead_at, blanks, begins_compound, is_newline_lead, is_word, name_end, separator}
 use Rattle.sh_tree.specs.standard.language.Contexts.{in_stage}
-use Rattle.sh_tree.specs.standard.language.HereDocuments.{Mark}
 use Rattle.sh_tree.specs.standard.language.Reading as r
 use Rattle.sh_tree.specs.standard.language.Reading.{ReadsList, ReadsDo, ReadsCompound, ReadsForWords, ReadsWords, ReadsBreaks, ReadsPatterns, ReadsClauses, ReadsSequence, lead_here, behind_token, parted, unopened}
-use Rattle.sh_tree.specs.standard.language.States.{State, Document, waits}
+use Rattle.sh_tree.specs.standard.language.States.{Document, waits}
 use Rattle.sh_tree.specs.standard.language.Trees as tree
 use Rattle.sh_tree.specs.standard.language.Trees.{span}
 use Rattle.sh_print.specs.Bare as bare
 use Rattle.sh_print.specs.Bare.{Text}
-use Rattle.sh_print.specs.Layout.{tabs, separated, block, items_text, kind_text, clauses_text, clause_end_text, for_words_text}
-use Rattle.sh_print.specs.Lists.{clauses_from, words_from}
-use Rattle.sh_print.specs.Trees.{word_of, script_of, kind_of}
-use Rattle.sh_print.proofs.TreeLemmas.{kind_of-For, kind_of-Branches}
-use Rattle.sh_print.proofs.MadeLemmas.{clause_made, script_made}
-use Rattle.sh_print.proofs.PlaceLemmas.{front, front_blank, front_none, front_tabs, fronted, lead_there, off, one_off}
-use Rattle.sh_print.proofs.OwnTokens.{Gap, blank, line, reserved_text, reserved_leads, open_leads, open_is_no_esac, close_leads, bar_leads, newline_leads, break_leads, through_leads}
+use Rattle.sh_print.specs.Layout.{tabs, block, items_text, for_words_text}
+use Rattle.sh_print.specs.Lists.{words_from}
+use Rattle.sh_print.specs.Trees.{word_of, script_of}
+use Rattle.sh_print.proofs.TreeLemmas.{kind_of-For}
+use Rattle.sh_print.proofs.PlaceLemmas.{front, front_blank, front_none, front_tabs, fronted, lead_there, off}
+use Rattle.sh_print.proofs.OwnTokens.{Gap, blank, line, reserved_text, reserved_leads, newline_leads}
 use Rattle.sh_print.proofs.NameTokens.{Name, name_ends, for_name, name_first}
 use Rattle.sh_print.proofs.RedirectTokens.{text_there}
-use Rattle.sh_print.proofs.DocumentsPrinted.{place, document_of, so_far, Fits, no_fit, Marked, no_mark, break_print}
-use Rattle.sh_print.proofs.ElementsPrinted.{IsClosed, Starts, gap_word, token_starts, blank_word, word_print}
-use Rattle.sh_print.proofs.JoinsPrinted.{IsStop, end_print, line_tail}
-use Rattle.sh_print.proofs.ListsPrinted.{PrintsList, PrintedList, do_print, block_text, line_front, reserved_front, word_stops, kept_both, fits_both}
-use Rattle.sh_print.proofs.CompoundsPrinted.{PrintsCompound, PrintedCompound}
+use Rattle.sh_print.proofs.DocumentsPrinted.{place, so_far, Fits, no_mark, break_print}
+use Rattle.sh_print.proofs.ElementsPrinted.{gap_word, token_starts, blank_word, word_print}
+use Rattle.sh_print.proofs.JoinsPrinted.{end_print, line_tail}
+use Rattle.sh_print.proofs.ListsPrinted.{PrintsList, do_print, block_text, reserved_front}
+use Rattle.sh_print.proofs.CompoundsPrinted.{PrintsCompound}
 use Rattle.sh_print.proofs.Printable as p
 use Rattle.sh_print.proofs.Printable.{PrintableWord, PrintableWords, PrintableForWords, PrintablePatterns}
 
@@ -58,7 +47,7 @@ module _ (b : List ℕ) where
   behind_words p.no_words cs = gap_word (10 ∷ cs) line (line_tail cs).closed
   behind_words (p.more_words {w = w} {ws = ws} token printable more) cs =
       subst IsBehindWord (sym (append_assoc (32 ∷ w) (words_text ws) (10 ∷ cs)))
-          (blank_word (w ++ (words_text ws ++ 10 ∷ cs)) (token_starts w (words_text ws ++ 10 ∷ cs) token (behind_words more cs)))
+      (blank_word (w ++ (words_text ws ++ 10 ∷ cs)) (token_starts w (words_text ws ++ 10 ∷ cs) token (behind_words more cs)))
 
   record PrintedWords (limit i n k : ℕ) (closed : Bool) (ds : List Document) (ws : List Text) (cs : List ℕ) : Type 0 where
     at : ℕ
@@ -189,9 +178,9 @@ module _ (b : List ℕ) where
                 kind.For (span j (name_end b j)) words.words t.0,
                 r.for_loop deep (for_name b j name after named (for_gap ws tail) e2) words.reads t.1,
                 kind_of-For b (span j (name_end b j)) words.words t.0
-                ∙ ap (λ m. bare.For (text_of b (span j m)) (words_from b words.words) (script_of b t.0)) end
-                ∙ ap (λ m. bare.For m (words_from b words.words) (script_of b t.0)) (text_there b j name after e2)
-                ∙ ap (λ m. bare.For name m (script_of b t.0)) words.same ∙ ap (bare.For name ws) t.2,
+                    ∙ ap (λ m. bare.For (text_of b (span j m)) (words_from b words.words) (script_of b t.0)) end
+                    ∙ ap (λ m. bare.For m (words_from b words.words) (script_of b t.0)) (text_there b j name after e2)
+                    ∙ ap (λ m. bare.For name m (script_of b t.0)) words.same ∙ ap (bare.For name ws) t.2,
               );
         };
   }

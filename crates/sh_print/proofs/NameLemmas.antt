@@ -19,17 +19,18 @@ use Rattle.sh_tree.specs.standard.language.Bytes.{is_digit, is_first, is_name, i
 use Rattle.sh_tree.specs.standard.language.Words.{ends_joined}
 use Rattle.sh_tree.specs.standard.language.Commands.{bare_word, blanks, entry_of, first_lead, is_assignment, is_bare, is_bare_name, is_definition, is_named, is_parenthesis, lead_at, lead_of, left_out_names, name_end, name_lead, number_lead, opening, operator_lead, operator_of, other_lead, reserved_lead, reserved_words, whole_operator, word_lead}
 use Rattle.sh_tree.specs.standard.language.Trees.{span}
+use Rattle.sh_copies.proofs.Declaring.{name_bare}
 use Rattle.sh_reads.proofs.BeginningLemmas.{assignment_begins, bare_begins}
 use Rattle.sh_reads.proofs.FrontLemmas.{front_whole, name_run, name_stands, run_taken, run_within, stands_at, stands_text}
 
 -- Leads
 
--- what is neither of two is not what the test chooses
+-- if neither of two leads passes, the chosen one does not
 neither : (f : Lead → Bool) (t : Bool) (x y : Lead) → f x ≡ false → f y ≡ false → f (if t then x else y) ≡ false
 neither f true x y h k = h
 neither f false x y h k = k
 
--- what is not the first is the other
+-- if the first lead does not pass and the chosen one does, the other does
 other : (f : Lead → Bool) (t : Bool) (x y : Lead) → f x ≡ false → f (if t then x else y) ≡ true → f y ≡ true
 other f true x y h k = absurd (true≢false (sym k ∙ h))
 other f false x y h k = k
@@ -55,7 +56,7 @@ unfolding number_lead
 number_other {f} k rest (Some found) = neither f _ (lead.LeftOut form.Continuation) lead.Number (k.left_out form.Continuation) k.number
 number_other k rest None = k.number
 
--- it is an assignment, or a word is looked at
+-- it is an assignment, or its word decides
 of_name : {f : Lead → Bool} → IsOfName f → (b : List ℕ) (g : Stage) (i : ℕ) → f (lead_at b g i) ≡ true
     → f (if not (is_named g) && is_assignment (drop i b) then lead.Assignment else word_lead b g i (bare_word b i)) ≡ true
 unfolding lead_at lead_of operator_lead other_lead
@@ -75,7 +76,7 @@ is_assigned _ = false
 assigned_of_name : IsOfName is_assigned
 assigned_of_name = record { operator = λ o. refl; left_out = λ x. refl; end = refl; newline = refl; backquote = refl; number = refl }
 
--- behind a command name nothing is assigned
+-- after a command name nothing is an assignment
 pub not_named : (b : List ℕ) (g : Stage) (i : ℕ) → lead_at b g i ≡ lead.Assignment → is_named g ≡ false
 unfolding word_lead
 not_named b First i is = refl
@@ -110,7 +111,7 @@ first_defines b i w None h = (go (is_name w) (is_first is_parenthesis (drop (bla
 
 -- Names
 
--- a name of bytes of a class is as long as the run of that class
+-- two runs end together, if the shorter one's class holds of the longer run
 runs_meet : (p q : ℕ → Bool) → ((c : ℕ) → q c ≡ true → p c ≡ true) → (cs : List ℕ) → list_all q (take_while p cs) ≡ true → take_while q cs ≡ take_while p cs
 runs_meet p q within [] h = refl
 runs_meet p q within (c ∷ cs) h = go (p c) (q c) refl refl (runs_meet p q within cs)
@@ -122,9 +123,6 @@ runs_meet p q within (c ∷ cs) h = go (p c) (q c) refl refl (runs_meet p q with
         take_while-cons q c cs ∙ cond-true _ _ _ both.0 ∙ ap (λ xs. c ∷ xs) (more both.1) ∙ sym long
     go false true is also more = absurd (true≢false (sym (within c also) ∙ is))
     go false false is also more = take_while-cons q c cs ∙ cond-false _ _ _ also ∙ sym (take_while-cons p c cs ∙ cond-false _ _ _ is)
-
-name_bare : (c : ℕ) → is_name_byte c ≡ true → is_bare c ≡ true
-name_bare c h = grind (arith, nat_tests)
 
 -- the name at i is the unquoted word there
 pub bare_name_text : (b : List ℕ) (i : ℕ) → is_name (bare_word b i) ≡ true → text_of b (span i (name_end b i)) ≡ bare_word b i

@@ -1,22 +1,17 @@
 -- The leads of names: of an assignment, of a function and of the loop `for`.
-use Rattle.std.proofs.Common.{◌≡◌, ℕ, zero, suc, ◌+◌, ◌==◌, ◌<◌, Bool, true, false, not, ◌&&◌, ◌||◌, Option, Some, None, List, [], ◌∷◌, ◌++◌, length, drop, take, codes, nat_le, nat_eq, if◌then◌else◌, refl, sym, ap, subst, ◌∙◌, arith, cond}
-use Rattle.std.specs.List.{list_all, list_any, starts_with}
+use Rattle.std.proofs.Common.{◌≡◌, ℕ, suc, ◌+◌, ◌==◌, Bool, true, false, not, ◌&&◌, None, List, [], ◌∷◌, ◌++◌, length, drop, if◌then◌else◌, refl, sym, ap, ◌∙◌, arith}
+use Rattle.std.specs.List.{list_all}
 use Rattle.std.proofs.lemmas.Bool.{cond-true, cond-false, true≢false, and_parts}
 use Rattle.std.proofs.lemmas.Bool.Decides.{nat_tests}
-use Rattle.std.proofs.lemmas.List.{drop_at, take_at}
-use Rattle.std.proofs.lemmas.List.Sums.{take_while-cons}
+use Rattle.std.proofs.lemmas.List.{drop_at}
 use Rattle.sh_copies.proofs.CopiedLeads.{no_operator, lead_inside}
 use Rattle.sh_tree.specs.declared.refusal.Form.TheVariants as form
-use Rattle.sh_tree.specs.declared.token.command.Lead.{Lead}
 use Rattle.sh_tree.specs.declared.token.command.Lead.TheVariants as lead
-use Rattle.sh_tree.specs.declared.token.command.Operator.{Operator}
-use Rattle.sh_tree.specs.declared.token.command.Operator.TheVariants as op
 use Rattle.sh_tree.specs.declared.token.command.Stage.{Stage}
-use Rattle.sh_tree.specs.declared.token.command.Stage.TheVariants.{First, Prefixed, Named}
-use Rattle.sh_tree.specs.standard.language.Bytes.{is_in, is_blank, is_newline, is_backslash, is_digit, is_operator_byte, is_name_start, is_name_byte, is_name, ends_token, run, is_first, is_joined, joined_length, behind_joined, longest, name_length, is_last_backquote}
-use Rattle.sh_tree.specs.standard.language.Words.{ends_joined}
-use Rattle.sh_tree.specs.standard.language.Commands.{operator_of, long_operators, short_operators, lead_at, lead_of, other_lead, word_lead, first_lead, bare_word, is_bare, is_definition, blanks, entry_of, reserved_words, is_assignment, is_parenthesis, is_named, is_angle, number_lead, name_end, is_bare_name}
-use Rattle.sh_print.proofs.PlaceLemmas.{front, front_none, fronted, lead_there, off}
+use Rattle.sh_tree.specs.declared.token.command.Stage.TheVariants.{First}
+use Rattle.sh_tree.specs.standard.language.Bytes.{is_blank, is_newline, is_backslash, is_digit, is_operator_byte, is_name_start, is_name_byte, is_name, ends_token, run, is_first, behind_joined, name_length, is_last_backquote}
+use Rattle.sh_tree.specs.standard.language.Commands.{operator_of, lead_at, other_lead, word_lead, first_lead, bare_word, is_bare, is_definition, blanks, entry_of, reserved_words, is_assignment, is_parenthesis, is_named, is_angle, number_lead, name_end, is_bare_name}
+use Rattle.sh_print.proofs.PlaceLemmas.{front, front_none, fronted}
 use Rattle.sh_print.proofs.OwnTokens.{Gap, blank, line, run_over, run_none, bare_whole, and_false}
 
 all_weaker : (p q : ℕ → Bool) → ((c : ℕ) → p c ≡ true → q c ≡ true) → (w : List ℕ) → list_all p w ≡ true → list_all q w ≡ true

@@ -1,7 +1,7 @@
 -- The canonical text has no NUL, as its words and here-documents have none.
-use Rattle.std.proofs.Common.{◌≡◌, ℕ, zero, suc, ◌+◌, ◌==◌, Bool, true, false, ◌||◌, ◌&&◌, List, [], ◌∷◌, ◌++◌, map, codes, Option, Some, None, refl, sym, ap, subst, ◌∙◌, arith}
+use Rattle.std.proofs.Common.{◌≡◌, ℕ, zero, suc, ◌+◌, ◌==◌, Bool, true, false, ◌||◌, List, [], ◌∷◌, ◌++◌, map, codes, Option, Some, None, refl, ap, ◌∙◌, arith}
 use Rattle.std.specs.List.{list_any, list_all, flat_map}
-use Rattle.std.proofs.lemmas.Bool.{true≢false, and_parts}
+use Rattle.std.proofs.lemmas.Bool.{and_parts}
 use Rattle.std.proofs.lemmas.Bool.Decides.{nat_tests}
 use Rattle.std.proofs.lemmas.List.Folds.{list_any-append}
 use Rattle.sh_tree.specs.declared.token.command.Stage.{Stage}
@@ -13,11 +13,11 @@ use Rattle.sh_tree.specs.declared.tree.Link.{Link}
 use Rattle.sh_tree.specs.declared.tree.Link.TheVariants as link
 use Rattle.sh_tree.specs.declared.tree.LoopKind.{LoopKind}
 use Rattle.sh_tree.specs.declared.tree.LoopKind.TheVariants as loop
-use Rattle.sh_tree.specs.standard.language.Bytes.{is_digit, is_first, is_name, is_name_byte}
+use Rattle.sh_tree.specs.standard.language.Bytes.{is_digit, is_name, is_name_byte}
 use Rattle.sh_tree.specs.standard.language.Reading.{HasNoNul}
 use Rattle.sh_print.specs.Bare as bare
 use Rattle.sh_print.specs.Bare.{Text, Document}
-use Rattle.sh_print.specs.Layout.{tabs, separated, direction_text, here_text, opens_text, number_text, redirect_text, element_text, redirect_documents, element_documents, document_text, line_end, join, negation, background_text, link_text, loop_text, clause_end_text, for_words_text, block, pending, kind_pending, last_pending, pipeline_pending, items_text, links_text, pipeline_text, commands_text, piped_text, command_text, kind_text, branches_text, otherwise_text, clauses_text}
+use Rattle.sh_print.specs.Layout.{tabs, separated, direction_text, here_text, number_text, redirect_text, element_text, redirect_documents, element_documents, document_text, line_end, join, negation, background_text, link_text, loop_text, clause_end_text, for_words_text, block, pending, kind_pending, last_pending, pipeline_pending, items_text, links_text, pipeline_text, commands_text, piped_text, command_text, kind_text, branches_text, otherwise_text, clauses_text}
 use Rattle.sh_print.proofs.Printable as p
 use Rattle.sh_print.proofs.Printable.{Printable, PrintableSequence, PrintableList, PrintableLinks, PrintablePipeline, PrintableCommands, PrintableCommand, PrintableCompound, PrintableBranches, PrintableOtherwise, PrintableForWords, PrintableWords, PrintableClauses, PrintablePatterns, PrintableRedirect, PrintableRedirects, PrintableElements, is_number}
 
@@ -77,7 +77,7 @@ Clean ds = Each document_text ds
 abbrev Texts : List Text → Type 0
 Texts ts = Each (λ t. t) ts
 
--- each behind a separator
+-- texts, each after a separator
 behind_none : (by : Text) (ts : List Text) → HasNoNul by → Texts ts → HasNoNul (flat_map (λ t. by ++ t) ts)
 behind_none by [] k h = refl
 behind_none by (t ∷ ts) k h = no_join (by ++ t) (flat_map (λ u. by ++ u) ts) (no_join by t k h.0) (behind_none by ts k h.1)
@@ -96,7 +96,7 @@ join_none depth (d ∷ ds) h = no_join (line_end (d ∷ ds)) (tabs depth) (line_
 block_none : (depth : ℕ) (opening inside : Text) → HasNoNul opening → HasNoNul inside → HasNoNul (block depth opening inside)
 block_none depth opening inside h k = no_join opening (10 ∷ (inside ++ tabs depth)) h (no_cons 10 (inside ++ tabs depth) refl (no_join inside (tabs depth) k (tabs_none depth)))
 
--- a command behind a bar
+-- a command after a bar
 piped_one : (depth : ℕ) (ds : List Document) (more : Text) → Clean ds → HasNoNul more → HasNoNul (codes " |" ++ (join depth ds ++ more))
 piped_one depth ds more h k = no_join (codes " |") (join depth ds ++ more) refl (no_join (join depth ds) more (join_none depth ds h) k)
 
@@ -245,7 +245,7 @@ module _ {limit : ℕ} where
         let lines = no_join (items_text (depth + 2) items) (tabs (depth + 2) ++ ending) (sequence_none (depth + 2) inner) (no_join (tabs (depth + 2)) ending (tabs_none (depth + 2)) last) in
         no_join (tabs (depth + 1)) (40 ∷ separated (codes " | ") ws ++ (41 ∷ 10 ∷ behind)) (tabs_none (depth + 1))
         (no_cons 40 (separated (codes " | ") ws ++ (41 ∷ 10 ∷ behind)) refl
-            (no_join (separated (codes " | ") ws) (41 ∷ 10 ∷ behind) (separated_none (codes " | ") ws refl (patterns_none patterns)) (no_join (41 ∷ 10 ∷ []) behind refl lines)))
+        (no_join (separated (codes " | ") ws) (41 ∷ 10 ∷ behind) (separated_none (codes " | ") ws refl (patterns_none patterns)) (no_join (41 ∷ 10 ∷ []) behind refl lines)))
 
     pipeline_none : {k : ℕ} {x : bare.Pipeline} (depth : ℕ) → PrintablePipeline limit k x → HasNoNul (pipeline_text depth x) × Clean (pipeline_pending x)
     pipeline_none depth (p.pipeline {negated = negated} {parts = parts} commands) =

@@ -1,35 +1,27 @@
 -- Printed pipelines and the further pipelines of an item are read, given that the commands in them are.
-use Rattle.std.proofs.Common.{◌≡◌, ℕ, zero, suc, ◌+◌, ◌<◌, ◌==◌, Bool, true, false, not, ◌&&◌, ◌||◌, if◌then◌else◌, Option, Some, None, List, [], ◌∷◌, ◌++◌, length, drop, map, codes, refl, sym, ap, subst, ◌∙◌, arith, cond, append_assoc, append-nil}
-use Rattle.std.specs.List.{flat_map}
-use Rattle.std.proofs.lemmas.Bool.{cond-true, cond-false, true≢false}
-use Rattle.sh_tree.specs.declared.tree.AndOr.{AndOr}
+use Rattle.std.proofs.Common.{◌≡◌, ℕ, ◌+◌, Bool, true, false, List, [], ◌∷◌, ◌++◌, length, drop, codes, refl, sym, ap, subst, ◌∙◌, append_assoc, append-nil}
 use Rattle.sh_tree.specs.declared.tree.Command.{Command}
-use Rattle.sh_tree.specs.declared.tree.Link.{Link}
-use Rattle.sh_tree.specs.declared.tree.Link.TheVariants as link
 use Rattle.sh_tree.specs.declared.tree.Pipe.{Pipe}
-use Rattle.sh_tree.specs.declared.token.command.Lead.{Lead}
-use Rattle.sh_tree.specs.declared.token.command.Lead.TheVariants as lead
-use Rattle.sh_tree.specs.declared.token.command.Operator.TheVariants as op
 use Rattle.sh_tree.specs.declared.token.command.Reserved.TheVariants as word
-use Rattle.sh_tree.specs.declared.token.command.Stage.TheVariants.{First, Prefixed, Named}
-use Rattle.sh_tree.specs.standard.language.Commands.{lead_at, blanks, begins_pipeline, begins_command, begins_simple, begins_compound, is_redirection, is_newline_lead, is_bar, link_of}
+use Rattle.sh_tree.specs.declared.token.command.Stage.TheVariants.{First}
+use Rattle.sh_tree.specs.standard.language.Commands.{lead_at, blanks, begins_pipeline, begins_command, is_newline_lead, is_bar}
 use Rattle.sh_tree.specs.standard.language.HereDocuments.{Mark}
 use Rattle.sh_tree.specs.standard.language.Reading as r
 use Rattle.sh_tree.specs.standard.language.Reading.{ReadsCommand, ReadsCommands, ReadsPipeline, ReadsLinks, ReadsBreaks, lead_here, behind_token}
-use Rattle.sh_tree.specs.standard.language.States.{State, Document}
+use Rattle.sh_tree.specs.standard.language.States.{Document}
 use Rattle.sh_tree.specs.standard.language.Trees as tree
 use Rattle.sh_print.specs.Bare as bare
-use Rattle.sh_print.specs.Layout.{tabs, join, line_end, document_text, negation, background_text, link_text, items_text, links_text, pipeline_text, commands_text, piped_text, command_text, pending, last_pending, pipeline_pending}
-use Rattle.sh_print.specs.Lists.{links_from, commands_from}
-use Rattle.sh_print.specs.Trees.{command_of, pipeline_of}
+use Rattle.sh_print.specs.Layout.{join, items_text, pipeline_text, commands_text, piped_text, command_text, pending, last_pending, pipeline_pending}
+use Rattle.sh_print.specs.Lists.{commands_from}
+use Rattle.sh_print.specs.Trees.{pipeline_of}
 use Rattle.sh_print.proofs.MadeLemmas.{pipe_made}
-use Rattle.sh_print.proofs.PlaceLemmas.{front, front_blank, front_none, front_tabs, fronted, lead_there, off, one_off}
-use Rattle.sh_print.proofs.OwnTokens.{Gap, blank, line, reserved_text, reserved_leads, newline_leads, background_leads, bar_leads, and_leads, or_leads}
-use Rattle.sh_print.proofs.DocumentsPrinted.{place, document_of, so_far, Fits, no_fit, Marked, no_mark}
+use Rattle.sh_print.proofs.PlaceLemmas.{front, front_blank, front_none, fronted, lead_there, one_off}
+use Rattle.sh_print.proofs.OwnTokens.{blank, reserved_text, reserved_leads, bar_leads}
+use Rattle.sh_print.proofs.DocumentsPrinted.{place, so_far, Fits, Marked}
 use Rattle.sh_print.proofs.ElementsPrinted.{IsTail}
-use Rattle.sh_print.proofs.JoinsPrinted.{join_gap, bar_tail, links_tail, begins_straight, join_print}
+use Rattle.sh_print.proofs.JoinsPrinted.{join_gap, bar_tail, join_print}
 use Rattle.sh_print.proofs.ListsPrinted.{kept_both, fits_both}
-use Rattle.sh_print.proofs.CommandsPrinted.{CommandStarts, command_straight, command_pipeline, PrintsCommand, PrintedCommand}
+use Rattle.sh_print.proofs.CommandsPrinted.{CommandStarts, command_straight, command_pipeline, PrintsCommand}
 
 -- behind a pipeline: what stands behind a command, and no `|`
 pub record IsPipeTail (rest : List ℕ) : Type 0 where
@@ -104,7 +96,7 @@ module _ (b : List ℕ) where
             let there : drop p.at b ≡ 124 ∷ inner = p.behind ∙ front_blank 32 (124 ∷ inner) refl ∙ front_none 124 inner refl refl refl in
             let bar_is = lead_there b First p.at (124 ∷ inner) there ∙ bar_leads First inner (join_gap d (pending c) text) in
             let q = join_print b p.marked (p.at + 1) p.count k p.ended p.bodies d text (one_off b p.at there)
-                    (ap (λ t. is_newline_lead (lead_at t First 0)) starts.front_is ∙ command_straight _ starts.begins) in
+            (ap (λ t. is_newline_lead (lead_at t First 0)) starts.front_is ∙ command_straight _ starts.begins) in
             let two = others.print q.at q.count p.ended q.bodies rest (q.behind ∙ starts.front_is) tail in
             let first_kept = q.kept ∙ p.kept in
             record {
@@ -156,9 +148,9 @@ module _ (b : List ℕ) where
   unfolding items_text reserved_text pipeline_pending begins_pipeline
   pipeline_prints {cs = cs} d true commands = record {
     starts = λ rest tail. record {
-        front_is = front_none 33 (32 ∷ (commands_text d cs ++ rest)) refl refl refl;
-        begins = ap begins_pipeline (reserved_leads word.Bang (32 ∷ (commands_text d cs ++ rest)) blank);
-      };
+      front_is = front_none 33 (32 ∷ (commands_text d cs ++ rest)) refl refl refl;
+      begins = ap begins_pipeline (reserved_leads word.Bang (32 ∷ (commands_text d cs ++ rest)) blank);
+    };
     print = λ i n closed ds rest e tail.
         let text = commands_text d cs ++ rest in
         let starts = commands.starts rest tail.tail in

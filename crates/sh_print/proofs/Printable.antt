@@ -1,5 +1,6 @@
--- What the text of a bare tree must be to be read again: each word and here-document is read alike wherever it stands, and nothing that the grammar wants is missing.
--- A constructor for each production. The depth is the one of the piece's first token.
+-- Which bare trees have a canonical text that is read again: a constructor for each production.
+-- Each word and here-document is read alike wherever it stands, and the grammar misses nothing.
+-- The depth is that of the piece's first token.
 use Rattle.std.proofs.Common.{◌≡◌, ◌<◌, ℕ, ◌+◌, Bool, true, false, not, ◌&&◌, ◌||◌, List, [], ◌∷◌, Option, Some, None}
 use Rattle.std.specs.List.{list_any, list_all}
 use Rattle.sh_copies.specs.Copied.{Role, Field, Unsplit, Value, Form, WordOf, TokenOf, DocumentOf, is_declaring}
@@ -33,7 +34,7 @@ is_delimiting form w = is_static form.text && not form.dollar_quoted && not (lis
 abbrev pub mark_of : (strip : Bool) → Form → (depth : ℕ) → Mark
 mark_of strip form depth = record { strip = strip; quoted = form.quoted; delimiter = or_none form.text; depth = depth }
 
--- the stage behind a word
+-- the stage after a word
 abbrev pub stage_after : Stage → Text → Stage
 stage_after (Named d) w = Named d
 stage_after g w = Named (is_declaring w)

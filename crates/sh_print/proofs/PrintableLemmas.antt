@@ -1,6 +1,6 @@
 -- A text that is read has a bare tree whose canonical text can be read.
 use Rattle.std.proofs.Common.{◌≡◌, if◌then◌else◌, ◌<◌, ℕ, ◌+◌, Bool, true, false, ◌||◌, List, [], ◌∷◌, map, length, drop, codes, Option, Some, None, refl, sym, ap, subst, ◌∙◌, ◌⊎◌, inl, inr, ⊎_elim}
-use Rattle.std.proofs.lemmas.Bool.{true≢false}
+use Rattle.std.proofs.lemmas.Bool.{or_right, true≢false}
 use Rattle.sh_tree.specs.declared.tree.AndOr.{AndOr, out-AndOr, out-roll-AndOr}
 use Rattle.sh_tree.specs.declared.tree.Branch.{Branch}
 use Rattle.sh_tree.specs.declared.tree.Clause.{Clause}
@@ -48,7 +48,7 @@ use Rattle.sh_print.proofs.Printable.{Printable, PrintableSequence, PrintableLis
 use Rattle.sh_print.proofs.MadeLemmas.{script_made, item_listed, pipe_made, command_made, branch_made, clause_made}
 use Rattle.sh_print.proofs.NameLemmas.{assigned_name, defined_name, name_read, not_named}
 use Rattle.sh_print.proofs.SourceLemmas as source
-use Rattle.sh_print.proofs.SourceLemmas.{Level, either, or_more, or_none, parted_level, redirection_numbered, unopened_level, waits_more}
+use Rattle.sh_print.proofs.SourceLemmas.{Level, either, or_none, parted_level, redirection_numbered, unopened_level, waits_more}
 use Rattle.sh_print.proofs.TreeLemmas.{kind_of-Simple, kind_of-Group, kind_of-Subshell, kind_of-Cond, kind_of-Loop, kind_of-For, kind_of-Branches, kind_of-Define, otherwise_from}
 
 -- Words of simple commands
@@ -94,14 +94,14 @@ module _ (limit : ℕ) (b : List ℕ) (no_nul : HasNoNul b) (copies : WordsAreCo
   abbrev Fits : State → Type 0
   Fits s = source.Fits limit b no_nul copies body s
 
-  -- so deep still, and what fits behind it fits before it and makes it so
+  -- The depth stays. What fits after the reading fits before it, and then P holds.
   abbrev Gives : ℕ → State → State → Type 0 → Type 0
   Gives depth s u P = Level depth u.spot × (Fits u → Fits s × P)
 
   lowered : (depth : ℕ) (s : Spot) → Level depth s → Level (depth + 1) (record s { depth = s.depth + 1 })
   lowered depth s k = (ap (λ n. n + 1) k.0, k.1, k.2, k.3)
 
-  -- so deep still, and what fits behind it fits before it
+  -- The depth stays, and what fits after the reading fits before it.
   abbrev Leads : ℕ → State → State → Type 0
   Leads depth s u = Level depth u.spot × (Fits u → Fits s)
 
@@ -117,7 +117,7 @@ module _ (limit : ℕ) (b : List ℕ) (no_nul : HasNoNul b) (copies : WordsAreCo
   given_led : {P : Type 0} (depth : ℕ) (s u v : State) → Gives depth s u P → (Level depth u.spot → Leads depth u v) → Gives depth s v P
   given_led depth s u v m more = let n = more m.0 in (n.0, λ f. m.1 (n.1 f))
 
-  -- what is one level deeper
+  -- a reading one level deeper
   raised : {P : Type 0} (depth : ℕ) (s u : State) → Level depth s.spot → (Level (depth + 1) (lower s).spot → Gives (depth + 1) (lower s) u P) → Gives depth s (as_deep s u) P
   raised depth s u k more = let m = more (ap (λ n. n + 1) k.0, k.1, k.2, k.3) in ((k.0, m.0.1, m.0.2, m.0.3), m.1)
 
@@ -126,12 +126,12 @@ module _ (limit : ℕ) (b : List ℕ) (no_nul : HasNoNul b) (copies : WordsAreCo
   word_facing : {u : Spot} {w : Word} (s : State) (role : Role) (depth : ℕ) (quiet : Bool) → Level depth s.spot → (quiet ≡ true → waits s.pending ≡ true)
       → ReadsWord limit b (context_of role b s.spot.at) (facing s) u w → PrintableWord limit depth quiet role (form_of b w) (text_of b w.span)
   word_facing s role depth quiet k loud reads =
-      source.word_given limit b no_nul copies role depth quiet k.0 k.2 k.3 (λ h. or_more s.spot.quiet (waits s.pending) (loud h)) reads
+      source.word_given limit b no_nul copies role depth quiet k.0 k.2 k.3 (λ h. or_right s.spot.quiet (waits s.pending) (loud h)) reads
 
   never : {P : Type 0} → false ≡ true → P
   never h = absurd (true≢false (sym h))
 
-  -- where nothing waits
+  -- if no here-document waits
   word_loud : {u : Spot} {w : Word} (s : State) (role : Role) (depth : ℕ) → Level depth s.spot
       → ReadsWord limit b (context_of role b s.spot.at) (facing s) u w → PrintableWord limit depth false role (form_of b w) (text_of b w.span)
   word_loud s role depth k reads = word_facing s role depth false k never reads
@@ -142,7 +142,7 @@ module _ (limit : ℕ) (b : List ℕ) (no_nul : HasNoNul b) (copies : WordsAreCo
 
   -- Redirections
 
-  -- what waits behind a redirection
+  -- also, what waits after a redirection
   abbrev Goes : ℕ → Bool → State → State → Redirect → Type 0
   Goes depth quiet s u q = Level depth u.spot × ((quiet || is_here (redirect_of b q).opens) ≡ true → waits u.pending ≡ true) × (Fits u → Fits s × PrintableRedirect limit depth quiet (redirect_of b q))
 
@@ -263,7 +263,7 @@ module _ (limit : ℕ) (b : List ℕ) (no_nul : HasNoNul b) (copies : WordsAreCo
   leads_breaks : {s u : State} (depth : ℕ) → r.ReadsBreaks limit b s u → Level depth s.spot → Leads depth s u
   leads_breaks depth breaks k = breaks_given depth breaks k
 
-  -- newlines behind a separator
+  -- newlines after a separator
   leads_parted : {u : State} (depth : ℕ) (s : State) → r.ReadsBreaks limit b (parted b s) u → Level depth s.spot → Leads depth s u
   leads_parted depth s breaks k = let m = breaks_given depth breaks (parted_level b depth s k) in (m.0, λ f. parted_fits s (m.1 f))
 
@@ -306,7 +306,7 @@ module _ (limit : ℕ) (b : List ℕ) (no_nul : HasNoNul b) (copies : WordsAreCo
   more_made : (l : AndOr) (is : List Item) (depth : ℕ) (g : Bool) → Pipelines depth l × PrintableList limit depth (items_from b is) → PrintableList limit depth (items_from b (tree.item l g ∷ is))
   more_made l is depth g given = subst (PrintableList limit depth) (sym (item_listed b l g is)) (p.more_items given.0.0 given.0.1 given.1)
 
-  -- what follows a branch of `if`: nothing more, or further branches
+  -- what follows a branch of `if`: no branch or further ones, and `else` or nothing
   abbrev More : ℕ → List Branch → Option Script → Type 0
   More depth bs o = ((branches_from b bs ≡ bare.no_branches) ⊎ PrintableBranches limit depth (branches_from b bs)) × PrintableOtherwise limit depth (otherwise_from b o)
 
@@ -487,7 +487,7 @@ module _ (limit : ℕ) (b : List ℕ) (no_nul : HasNoNul b) (copies : WordsAreCo
         (m.0, λ f. (m.1 f, nothing_made depth))
     sequence_given depth k here (r.sequence {s = s} {u = u} items) = map_given depth s u (λ e. p.sequence e) (list_given depth k here items)
 
--- what is read from a spot outside of everything
+-- a script that is read at depth 0
 script_given : {limit : ℕ} {b : List ℕ} {s e : Spot} {t : Script} → HasNoNul b → WordsAreCopied → Level 0 s → IsSettled b s → ReadsScript limit b s e t
     → Printable limit (script_of b t)
 script_given {limit = limit} {b = b} no_nul copies k here (r.script {u = u} items none) =

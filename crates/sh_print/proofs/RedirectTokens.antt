@@ -1,14 +1,13 @@
 -- The tokens with which a redirection of the canonical text begins.
-use Rattle.std.proofs.Common.{◌≡◌, ℕ, zero, suc, ◌+◌, ◌-◌, ◌==◌, Bool, true, false, not, ◌&&◌, ◌||◌, if◌then◌else◌, Option, Some, None, List, [], ◌∷◌, ◌++◌, length, drop, take, codes, nat_le, refl, sym, ap, subst, ◌∙◌, arith, cond}
+use Rattle.std.proofs.Common.{◌≡◌, ℕ, suc, ◌+◌, ◌-◌, ◌==◌, Bool, true, false, not, ◌&&◌, if◌then◌else◌, Option, Some, None, List, [], ◌∷◌, ◌++◌, length, drop, take, refl, sym, ap, ◌∙◌, arith}
 use Rattle.std.specs.List.{list_all}
 use Rattle.std.specs.Option.{option_map}
 use Rattle.std.proofs.lemmas.Bool.{cond-true, cond-false, true≢false, and_parts}
 use Rattle.std.proofs.lemmas.Bool.Decides.{nat_tests}
-use Rattle.std.proofs.lemmas.List.{drop-drop, drop_at, take_at}
+use Rattle.std.proofs.lemmas.List.{drop_at, take_at}
 use Rattle.sh_copies.proofs.CopiedLeads.{no_operator, lead_inside}
 use Rattle.sh_tree.specs.declared.tree.Direction.{Direction}
 use Rattle.sh_tree.specs.declared.tree.Direction.TheVariants as direction
-use Rattle.sh_tree.specs.declared.tree.Span.{Span}
 use Rattle.sh_tree.specs.declared.refusal.Form.TheVariants as form
 use Rattle.sh_tree.specs.declared.token.command.Lead.{Lead}
 use Rattle.sh_tree.specs.declared.token.command.Lead.TheVariants as lead
@@ -17,7 +16,7 @@ use Rattle.sh_tree.specs.declared.token.command.Operator.TheVariants as op
 use Rattle.sh_tree.specs.declared.token.command.Redirection.{Redirection}
 use Rattle.sh_tree.specs.declared.token.command.Stage.{Stage}
 use Rattle.sh_tree.specs.standard.Tree.{text_of}
-use Rattle.sh_tree.specs.standard.language.Bytes.{is_blank, is_newline, is_backslash, is_operator_byte, is_digit, is_first, run, is_joined, behind_joined, longest}
+use Rattle.sh_tree.specs.standard.language.Bytes.{is_blank, is_newline, is_backslash, is_operator_byte, is_digit, is_first, run, behind_joined, longest}
 use Rattle.sh_tree.specs.standard.language.Commands.{operator_of, operator, further, lead_at, other_lead, word_lead, bare_word, number_lead, is_angle, is_split, is_named, is_assignment, is_redirection, is_parenthesis, redirects, redirection, redirection_by, digits_end, number_of, direction_of, strip_of}
 use Rattle.sh_tree.specs.standard.language.Trees.{span}
 use Rattle.sh_print.specs.Bare as bare

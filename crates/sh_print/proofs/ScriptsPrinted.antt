@@ -1,15 +1,12 @@
 -- A canonical text is read, and its bare tree is the one that it is the text of.
-use Rattle.std.proofs.Common.{◌≡◌, ℕ, zero, suc, ◌+◌, ◌<◌, Bool, true, false, Option, Some, None, List, [], ◌∷◌, ◌++◌, length, drop, map, codes, refl, sym, ap, subst, ◌∙◌, arith, append_assoc, append-nil}
-use Rattle.sh_tree.specs.declared.tree.ClauseEnd.{ClauseEnd}
+use Rattle.std.proofs.Common.{◌≡◌, ℕ, suc, ◌+◌, false, List, [], ◌∷◌, ◌++◌, drop, map, refl, sym, ap, subst, ◌∙◌, arith, append-nil}
 use Rattle.sh_tree.specs.declared.tree.Script.{Script}
-use Rattle.sh_tree.specs.declared.token.command.Lead.TheVariants as lead
-use Rattle.sh_tree.specs.declared.token.command.Stage.TheVariants.{First, Prefixed, Named}
+use Rattle.sh_tree.specs.declared.token.command.Stage.TheVariants.{First}
 use Rattle.sh_tree.specs.standard.language.Bytes.{is_first}
-use Rattle.sh_tree.specs.standard.language.Commands.{lead_at, blanks, blank_length, gap_length, begins_pipeline, begins_command, begins_simple, begins_compound, is_redirection, is_newline_lead}
-use Rattle.sh_tree.specs.standard.language.HereDocuments.{Mark}
+use Rattle.sh_tree.specs.standard.language.Commands.{blanks, blank_length, gap_length, begins_pipeline, begins_command, begins_simple, begins_compound, is_redirection, is_newline_lead}
 use Rattle.sh_tree.specs.standard.language.Reading as r
 use Rattle.sh_tree.specs.standard.language.Reading.{ReadsTo, HasNoNul}
-use Rattle.sh_tree.specs.standard.language.States.{State, Document, nth, waits}
+use Rattle.sh_tree.specs.standard.language.States.{Document, nth, waits}
 use Rattle.sh_tree.specs.standard.language.Trees as tree
 use Rattle.sh_print.specs.Bare as bare
 use Rattle.sh_print.specs.Layout.{items_text}
@@ -18,9 +15,8 @@ use Rattle.sh_print.specs.Trees.{script_of}
 use Rattle.sh_print.proofs.MadeLemmas.{script_made}
 use Rattle.sh_print.proofs.PlaceLemmas.{front, fronted, lead_there}
 use Rattle.sh_print.proofs.OwnTokens.{end_leads}
-use Rattle.sh_print.proofs.DocumentsPrinted.{place, document_of, so_far, Fits, no_fit, one_fit}
+use Rattle.sh_print.proofs.DocumentsPrinted.{place, document_of, Fits, no_fit, one_fit}
 use Rattle.sh_print.proofs.JoinsPrinted.{IsStop, begins_straight}
-use Rattle.sh_print.proofs.ListsPrinted.{PrintsList}
 use Rattle.sh_print.proofs.CompoundsPrinted.{PrintsCompound, PrintsElse, PrintsBranches, group_prints, subshell_prints, loop_prints, branch_prints, fi_prints, otherwise_prints, elif_prints, conditional_prints}
 use Rattle.sh_print.proofs.LoopsPrinted.{for_prints}
 use Rattle.sh_print.proofs.CasesPrinted.{PrintsSequence, PrintsClauses, nothing_prints, sequence_prints, esac_prints, clause_prints, case_prints}

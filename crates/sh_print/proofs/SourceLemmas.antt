@@ -2,7 +2,7 @@
 use Rattle.std.proofs.Common.{◌≡◌, ◌<◌, ℕ, zero, suc, ◌+◌, ◌==◌, Bool, true, false, ◌&&◌, ◌||◌, if◌then◌else◌, List, [], ◌∷◌, ◌++◌, length, drop, take, Option, Some, None, refl, sym, ap, subst, ◌∙◌, arith, length-append}
 use Rattle.std.specs.List.{list_any, list_all, take_while}
 use Rattle.std.specs.Option.{option_map}
-use Rattle.std.proofs.lemmas.Bool.{true≢false, eq-eqb}
+use Rattle.std.proofs.lemmas.Bool.{eq-eqb, or_parts, true≢false}
 use Rattle.std.proofs.lemmas.List.{take-append-drop}
 use Rattle.std.proofs.lemmas.List.Folds.{list_any-append}
 use Rattle.sh_tree.specs.declared.tree.Span.{Span}
@@ -26,19 +26,11 @@ use Rattle.sh_print.proofs.Printable.{is_number, PrintableWord, PrintableDocumen
 
 -- Over plain variables
 
-pub or_more : (t u : Bool) → u ≡ true → (t || u) ≡ true
-or_more true u h = refl
-or_more false u h = h
-
 pub or_none : (t : Bool) → (t || false) ≡ true → t ≡ true
 or_none true h = refl
 or_none false h = h
 
-or_parts : (t u : Bool) → (t || u) ≡ false → (t ≡ false) × (u ≡ false)
-or_parts true u h = absurd (true≢false h)
-or_parts false u h = (refl, h)
-
--- no byte of the text passes, so none of its front and none of what stands behind
+-- If no byte of a text passes, none of its front and none of the rest does.
 any_split : (p : ℕ → Bool) (n : ℕ) (cs : List ℕ) → list_any p cs ≡ false → (list_any p (take n cs) ≡ false) × (list_any p (drop n cs) ≡ false)
 any_split p n cs h =
     or_parts (list_any p (take n cs)) (list_any p (drop n cs)) (sym (list_any-append p (take n cs) (drop n cs)) ∙ ap (list_any p) (take-append-drop n cs) ∙ h)
@@ -103,11 +95,11 @@ redirection_numbered b i o h =
 
 -- Levels
 
--- so deep, and outside of here-documents
+-- The spot is so deep, and in no here-document.
 abbrev pub Level : ℕ → Spot → Type 0
 Level depth s = (s.depth ≡ depth) × (s.quiet ≡ false) × (s.joins ≡ false) × (s.tabs ≡ false)
 
--- either state has what both have
+-- what both states have, the chosen one has
 pub either : (P : State → Type 0) (c : Bool) (s u : State) → P s → P u → P (if c then s else u)
 either P true s u h k = h
 either P false s u h k = k
@@ -151,7 +143,7 @@ module _ (limit : ℕ) (b : List ℕ) (no_nul : HasNoNul b) (copies : WordsAreCo
     Waiting n [] = Unit {0}
     Waiting n (m ∷ ms) = (IsMark m → PrintableDocument limit m (document_of (body n))) × Waiting (n + 1) ms
 
-    -- the bodies are those that came, and those that will come are read
+    -- The bodies that came are the first ones, and each that waits will be read.
     abbrev pub Fits : State → Type 0
     Fits s = Has s.bodies × Waiting (length s.bodies) s.pending
 
@@ -197,7 +189,7 @@ module _ (limit : ℕ) (b : List ℕ) (no_nul : HasNoNul b) (copies : WordsAreCo
     pub unopened_fits : (s : State) → Fits (unopened b s) → Fits s
     unopened_fits s = either (λ u. Fits u → Fits s) (is_open (lead_of b (Named false) s)) (skip b 1 s) s (λ f. f) (λ f. f)
 
-    -- behind an operator the body of its number is read
+    -- what fits after an operator fits before it, and its own body is read
     pub last_fits : (s : State) (m : Mark) → Has s.bodies × Waiting (length s.bodies) (s.pending ++ m ∷ [])
         → Fits s × (IsMark m → PrintableDocument limit m (document_of (body (length s.bodies + length s.pending))))
     last_fits s m f = let last = last_waits (length s.bodies) s.pending m f.1 in ((f.0, last.0), last.1)
