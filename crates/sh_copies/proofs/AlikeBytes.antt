@@ -182,20 +182,6 @@ taken_run p cs cs' a none =
     ap (λ n. take n cs') (run_alike p cs cs' a none) ∙ ap (take (run p cs)) a.here ∙ take-append-le (run p cs) a.w (a.c ∷ a.r') within
     ∙ sym (ap (take (run p cs)) a.there ∙ take-append-le (run p cs) a.w (a.c ∷ a.r) within)
 
-first_byte : List ℕ → ℕ
-first_byte [] = 0
-first_byte (x ∷ xs) = x
-
--- behind a byte that closes nothing
-pub behind_byte : (c : ℕ) (cs cs' : List ℕ) → Alike (c ∷ cs) cs' → is_closer c ≡ false → (ds : List ℕ) × (cs' ≡ c ∷ ds) × Alike cs ds
-unfolding first_byte
-behind_byte c cs cs' a other = go a.w a.there a.here
-  where
-    go : (w : List ℕ) → c ∷ cs ≡ w ++ a.c ∷ a.r → cs' ≡ w ++ a.c ∷ a.r' → (ds : List ℕ) × (cs' ≡ c ∷ ds) × Alike cs ds
-    go [] e f = absurd (true≢false (sym a.closes ∙ ap is_closer (sym (ap first_byte e)) ∙ other))
-    go (d ∷ w) e f =
-        (w ++ a.c ∷ a.r', f ∙ ap (λ k. k ∷ (w ++ a.c ∷ a.r')) (sym (ap first_byte e)), record { w = w; c = a.c; r = a.r; r' = a.r'; closes = a.closes; there = ap (drop 1) e; here = refl })
-
 pub zero_not : (n : ℕ) → (suc n == 0) ≡ false
 zero_not n = grind (arith, nat_tests)
 

@@ -187,10 +187,6 @@ behind_name cs cs' a = by_bool (is_first is_name_start cs)
 named_whole : (i : ℕ) (cs cs' : List ℕ) → Alike cs cs' → words.named_value i (name_length cs') (drop (name_length cs') cs') ≡ words.named_value i (name_length cs) (drop (name_length cs) cs)
 named_whole i cs cs' a = ap (λ n. words.named_value i n (drop (name_length cs') cs')) (name_alike cs cs' a) ∙ named_alike i (name_length cs) _ _ (behind_name cs cs' a)
 
-pub quote_expansion : (i : ℕ) (cs : List ℕ) → words.dollar_expansion i (39 ∷ cs) ≡ words.told_or 2 (words.dollar_quoted cs)
-unfolding words.dollar_expansion
-quote_expansion i cs = refl
-
 closer_opens : (c : ℕ) → is_closer c ≡ true → (is_name_start c ≡ false) × ((c == 123) ≡ false) × ((c == 40) ≡ false) × ((c == 91) ≡ false) × ((c == 39) ≡ false)
 closer_opens c h = (grind (arith, nat_tests), grind (arith, nat_tests), grind (arith, nat_tests), grind (arith, nat_tests), grind (arith, nat_tests))
 

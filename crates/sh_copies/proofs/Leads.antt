@@ -76,9 +76,6 @@ pub lead_front : (b : List ℕ) (g : Stage) (i : ℕ) → lead_at b g i ≡ lead
 unfolding lead_at
 lead_front b g i = of_front b g i (operator_of (drop i b))
 
-pub lead_shifts : (b b' : List ℕ) (g : Stage) (i i' : ℕ) → drop i' b' ≡ drop i b → lead_at b' g i' ≡ lead_at b g i
-lead_shifts b b' g i i' e = lead_front b' g i' ∙ ap (λ cs. lead_at cs g 0) e ∙ sym (lead_front b g i)
-
 -- Operators
 
 pub operators_move : (w r r' : List ℕ) → operator_of (w ++ 41 ∷ r') ≡ operator_of (w ++ 41 ∷ r)

@@ -244,18 +244,6 @@ module _ {b b' : List ℕ} (c : Copied b b') where
       first [] h = absurd (omega arith)
       first (a ∷ w) h = refl
 
-  -- the same byte of a class
-  pub same_first : (p : ℕ → Bool) {i i' : ℕ} → Place c i i' → i < limit_of c → is_first p (drop i' b') ≡ is_first p (drop i b)
-  unfolding is_first
-  same_first p {i = i} {i' = i'} q h =
-      let l = left c q (omega arith) in
-      let long = l.long in
-      ap (is_first p) l.here ∙ first l.w (omega arith) ∙ sym (ap (is_first p) l.there)
-    where
-      first : (w : List ℕ) → 0 < length w → is_first p (w ++ c.rest') ≡ is_first p (w ++ c.rest)
-      first [] h = absurd (omega arith)
-      first (a ∷ w) h = refl
-
   -- the same byte of a class, up to where the copy ends, and behind continuations there
   pub near_first : (p : ℕ → Bool) {i i' : ℕ} → Place c i i' → i ≤ limit_of c → is_first p (drop i' b') ≡ is_first p (drop i b)
   near_first p q h = ⊎_elim (λ same. ap (is_first p) same) (λ alike. first_alike p _ _ alike) (near c q h)
