@@ -1,4 +1,4 @@
--- Where the unquoted bytes end with which a word begins, and that they end there whatever follows the word.
+-- Where the unquoted bytes end with which a word begins, whatever follows the word.
 -- POSIX.1-2024, XCU 2.2.1 (backslash), 2.3 (token recognition), 2.6.1 (tilde expansion).
 use Rattle.std.proofs.Common.{◌≡◌, ℕ, zero, suc, ◌+◌, ◌≤◌, ◌<◌, ◌==◌, Bool, true, false, not, ◌&&◌, ◌||◌, if◌then◌else◌, List, [], ◌∷◌, ◌++◌, length, drop, codes, refl, sym, ap, subst, ◌∙◌, arith}
 use Rattle.std.specs.List.{list_all}
@@ -231,7 +231,7 @@ escapes_at {limit = limit} {b = b} {x = x} {prior = prior} {s = s} {u = u} reads
     let is : words.sign_of x prior s.at (drop s.at b) ≡ (sign.Escaped, 2) = found ∙ rw (other, k) refl in
     record { byte = d; rest = ds; is = refl; other = other; inside = escape_forward reads (ap (λ (f : Sign × ℕ). f.0) is) (ap (λ (f : Sign × ℕ). f.1) is) })
 
--- a byte of the word at the end of its unquoted bytes: the word does not end there, whatever stands behind the word
+-- a byte of the word behind its unquoted bytes: no word ends there, whatever stands behind it
 pub record Beyond (c : ℕ) (v r : List ℕ) : Type 0 where
   pub no_token : ends_token c ≡ false
   pub none : (r' : List ℕ) → joined_length (c ∷ (v ++ r')) ≡ 0

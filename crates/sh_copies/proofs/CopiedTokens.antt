@@ -1,4 +1,4 @@
--- The token with which a whole word begins is a word wherever it stands, before what may stand behind a word.
+-- The token with which a whole word begins is a word wherever it stands.
 -- POSIX.1-2024, XCU 2.3 (token recognition), 2.4 (reserved words), 2.9.1 (simple commands).
 use Rattle.std.proofs.Common.{◌≡◌, ℕ, suc, ◌+◌, ◌-◌, ◌<◌, ◌==◌, Bool, true, false, not, ◌&&◌, ◌||◌, if◌then◌else◌, Option, Some, None, List, [], ◌∷◌, ◌++◌, length, drop, take, refl, sym, ap, subst, ◌∙◌, ◌⊎◌, inl, inr, arith, append-nil, append_assoc, length-drop}
 use Rattle.std.specs.List.{list_all}

@@ -1,5 +1,6 @@
 -- What is read alike wherever its bytes stand: a whole word, and a here-document with its end line.
--- POSIX.1-2024, XCU 2.2 (quoting), 2.3 (token recognition), 2.6 (word expansions), 2.7.4 (here-documents).
+-- POSIX.1-2024, XCU 2.2 (quoting), 2.3 (token recognition), 2.6 (word expansions), 2.7.4
+-- (here-documents).
 use Rattle.std.specs.Prelude.{◌≡◌, ℕ, ◌+◌, ◌==◌, Bool, true, false, not, ◌&&◌, ◌||◌, List, ◌∷◌, ◌++◌, length, take, drop, codes, Option, Some}
 use Rattle.std.specs.List.{list_any}
 use Rattle.std.specs.Str.{bytes_eq}
@@ -26,7 +27,7 @@ use Rattle.sh_tree.specs.standard.language.Trees.{span}
 
 -- what a whole word is
 pub data Role : Type 0 where
-  -- the command name, an operand or, where the command is named and declares nothing, a word of `for`
+  -- the command name or an operand at this stage; a word of `for` is one behind a name
   Field : (stage : Stage) → Role
   -- the target of a redirection, a delimiter, the word of `case` or a pattern
   Unsplit : Role
@@ -39,7 +40,8 @@ context_of (Field g) b i = in_stage b g i
 context_of Unsplit b i = in_unsplit i
 context_of Value b i = in_value i
 
--- what a word is as a delimiter: its text without quoting, if it has one, whether a part is quoted, and whether one is quoted by `$'`
+-- what a word is as a delimiter: its text without quoting, if it has one, whether a part is
+-- quoted, and whether one is quoted by `$'`
 pub record Form : Type 0 where
   pub text : Option (List ℕ)
   pub quoted : Bool
@@ -53,7 +55,8 @@ pub record IsBehindWord (rest : List ℕ) : Type 0 where
   pub ends : is_first (λ c. is_blank c || is_newline c || c == byte.right_parenthesis) rest ≡ true
   pub opens_nothing : is_first is_parenthesis (drop (blank_length false rest) rest) ≡ false
 
--- a spot outside of here-documents, so deep; only if `quiet` may it be one where no newline token may come
+-- a spot outside of here-documents, so deep; only if `quiet` may it be one where no newline token
+-- may come
 pub record IsWordSpot (depth : ℕ) (quiet : Bool) (s : Spot) : Type 0 where
   pub depth_is : s.depth ≡ depth
   pub quiet_only : s.quiet ≡ true → quiet ≡ true
@@ -64,7 +67,8 @@ pub record IsWordSpot (depth : ℕ) (quiet : Bool) (s : Spot) : Type 0 where
 abbrev pub counted : ℕ → ℕ → Spot → Spot
 counted i n s = record s { at = i; count = n }
 
--- Behind any bytes and before what may stand behind a word, the text is a whole word of this role and form.
+-- Behind any bytes and before what may stand behind a word, the text is a whole word of this role
+-- and form.
 pub record WordOf (limit depth : ℕ) (quiet : Bool) (role : Role) (form : Form) (text : List ℕ) : Type 0 where
   pub is_read : (b rest : List ℕ) (s : Spot) → drop s.at b ≡ text ++ rest → IsBehindWord rest → IsWordSpot depth quiet s
       → (n : ℕ) × (parts : List Part)
@@ -79,7 +83,8 @@ begins_word c = not (ends_token c) && not (c == byte.number_sign)
 abbrev pub is_declaring : List ℕ → Bool
 is_declaring t = bytes_eq (codes "export") t || bytes_eq (codes "readonly") t
 
--- Behind any bytes and before what may stand behind a word, the text begins as a word does at this stage, and its first byte is at a token.
+-- Behind any bytes and before what may stand behind a word, the text begins as a word does at this
+-- stage, and its first byte is at a token.
 pub record TokenOf (stage : Stage) (text : List ℕ) : Type 0 where
   pub first : is_first begins_word text ≡ true
   pub at_token : (rest : List ℕ) → IsBehindWord rest → blank_length false (text ++ rest) ≡ 0
@@ -88,11 +93,12 @@ pub record TokenOf (stage : Stage) (text : List ℕ) : Type 0 where
 
 -- Here-documents
 
--- the spot of the body of a here-document that begins at i behind n commands, outside of other here-documents
+-- the spot of the body of a here-document that begins at i behind n commands, outside of others
 abbrev pub body_spot : Mark → ℕ → ℕ → Spot
 body_spot m i n = record { at = i; count = n; depth = m.depth; quiet = false; joins = not m.quoted; tabs = m.strip }
 
--- Behind any bytes and before a newline, the text and the end line are the body of the here-document and the line that ends it.
+-- Behind any bytes and before a newline, the text and the end line are the body of the
+-- here-document and the line that ends it.
 pub record DocumentOf (limit : ℕ) (mark : Mark) (text end : List ℕ) : Type 0 where
   pub ends : (b rest : List ℕ) (i : ℕ) → drop i b ≡ text ++ (end ++ 10 ∷ rest)
       → end_line mark b i ≡ Some (span (i + length text) (i + length text + length end))

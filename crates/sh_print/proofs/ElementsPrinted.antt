@@ -1,4 +1,4 @@
--- The printed elements of a simple command and the printed redirections of a compound command are read.
+-- Printed elements of a simple command and redirections of a compound command are read.
 use Rattle.std.proofs.Common.{◌≡◌, ℕ, ◌+◌, Bool, true, false, not, ◌&&◌, ◌||◌, List, [], ◌∷◌, ◌++◌, length, drop, map, refl, sym, ap, subst, ◌∙◌, arith, append_assoc, append-nil}
 use Rattle.std.specs.List.{flat_map, list_any}
 use Rattle.std.specs.Option.{option_map}
@@ -38,7 +38,7 @@ use Rattle.sh_print.proofs.Printable.{PrintableWord, PrintableRedirect, Printabl
 
 -- What stands behind a word, a command or a list
 
--- behind a command, in which a word may be the last: a blank or a newline, and no element and no redirection at the token behind
+-- behind a command: a blank or a newline, and no element and no redirection at the token behind
 pub record IsTail (rest : List ℕ) : Type 0 where
   pub gap : Gap rest
   pub closed : is_first is_parenthesis (front rest) ≡ false

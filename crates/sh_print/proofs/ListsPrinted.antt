@@ -1,4 +1,4 @@
--- Printed lists between an opening and a closing word, and what the commands of the canonical text begin with.
+-- Printed lists between an opening and a closing word.
 use Rattle.std.proofs.Common.{◌≡◌, ℕ, ◌+◌, Bool, false, List, [], ◌∷◌, ◌++◌, length, drop, codes, refl, sym, ap, subst, ◌∙◌, append_assoc}
 use Rattle.sh_tree.specs.declared.tree.Script.{Script}
 use Rattle.sh_tree.specs.declared.token.command.Lead.TheVariants as lead

@@ -1,4 +1,4 @@
--- Printed pipelines and the further pipelines of an item are read, given that the commands in them are.
+-- Printed pipelines are read, given that the commands in them are.
 use Rattle.std.proofs.Common.{◌≡◌, ℕ, ◌+◌, Bool, true, false, List, [], ◌∷◌, ◌++◌, length, drop, codes, refl, sym, ap, subst, ◌∙◌, append_assoc, append-nil}
 use Rattle.sh_tree.specs.declared.tree.Command.{Command}
 use Rattle.sh_tree.specs.declared.tree.Pipe.{Pipe}

@@ -14,11 +14,12 @@ IsSame b t c u = script_of b t ≡ script_of c u
 abbrev pub SamePrintsAlike : Type 0
 SamePrintsAlike = (b c : List ℕ) (t u : Script) → IsSame b t c u → canon b t ≡ canon c u
 
--- A tree of the canonical text that is the same as the tree that it was printed from prints as that text again.
+-- A tree of the canonical text that is the same as the tree that it was printed from prints as
+-- that text again.
 abbrev pub PrintsAgain : Type 0
 PrintsAgain = (b : List ℕ) (t u : Script) → IsSame b t (canon b t) u → canon (canon b t) u ≡ canon b t
 
--- If the text b reads to t, nested no deeper than the limit, then the text c reads to a tree that is the same, nested no deeper.
+-- If b reads to t within this limit of nesting, then c reads within it to a tree that is the same.
 abbrev pub IsReadBack : (b : List ℕ) → Script → (c : List ℕ) → Type 0
 IsReadBack b t c = (limit count : ℕ) → ReadsTo b limit count t → (n : ℕ) × (u : Script) × ReadsTo c limit n u × IsSame b t c u
 
