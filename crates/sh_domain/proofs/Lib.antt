@@ -22,6 +22,7 @@ pub mod SlotLemmas
 pub mod SpotExampleLemmas
 pub mod SpotLemmas
 pub mod TextLemmas
+pub mod CompactTextLemmas
 pub mod SpellingLemmas
 pub mod ReadBackLemmas
 pub mod WritingLemmas

@@ -17,6 +17,11 @@ pub mod Forms
 pub mod Spelling
 pub mod Reading
 pub mod Certificates
+pub mod Compacts
+pub mod CompactForms
+pub mod CompactReading
+pub mod CompactSpelling
+pub mod CompactRoundTrips
 pub mod Numbered
 pub mod Slots
 pub mod Table

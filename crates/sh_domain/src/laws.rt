@@ -12,6 +12,7 @@ ghost use Rattle.sh_domain.specs.Spelling.{HasOneText};
 ghost use Rattle.sh_domain.specs.Places.{PlacesStandOnce, ReadPlacesStandOnce};
 ghost use Rattle.sh_domain.specs.Readings.{ReadGivesFields, ReadHasFewCommands, ReadHasRows, ReadIsFormed, ReadIsNumbered, ReadNamesVariables, ReadNumbersDiffer};
 ghost use Rattle.sh_domain.specs.examples.Spots.{SpotsAsExpected};
+ghost use Rattle.sh_domain.specs.examples.CompactTexts.{CompactTextsAsExpected};
 ghost use Rattle.sh_domain.specs.examples.Texts.{TextsAsExpected};
 
 /// Known certificates of known scripts are answered as they should be: the first rule that one breaks, or the places of the demands
@@ -77,6 +78,12 @@ pub fn once()
 /// form is told.
 pub fn certificate_texts()
     ensures { TextsAsExpected }
+{}
+
+/// Known compact certificates are those of known certificates with their start, state what they should at each place, and have the texts that they
+/// should have; these texts claim what they should, of others the first line that has not the form is told, and the first line tells the version.
+pub fn compact_texts()
+    ensures { CompactTextsAsExpected }
 {}
 
 /// Of a certificate's claims there is one text, and it reads as these claims.
