@@ -23,6 +23,7 @@ pub mod SpotExampleLemmas
 pub mod SpotLemmas
 pub mod TextLemmas
 pub mod CompactTextLemmas
+pub mod CompactSpellingLemmas
 pub mod SpellingLemmas
 pub mod ReadBackLemmas
 pub mod WritingLemmas

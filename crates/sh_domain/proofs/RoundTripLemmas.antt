@@ -149,7 +149,7 @@ written_reads_back = record {
 
 -- What is read is a sheet
 
-lines_good : {A : Type 0} (f : ℕ → Text → Option A) (good : A → Bool) → ((i : ℕ) (l : Text) (a : A) → f i l ≡ Some a → good a ≡ true) → (k i n : ℕ) (t : Text) (y : List A × Text)
+pub lines_good : {A : Type 0} (f : ℕ → Text → Option A) (good : A → Bool) → ((i : ℕ) (l : Text) (a : A) → f i l ≡ Some a → good a ≡ true) → (k i n : ℕ) (t : Text) (y : List A × Text)
     → read_lines f k i n t ≡ Ok y → list_all good y.0 ≡ true
 unfolding read_lines
 lines_good {A} f good s k i zero t y e = ap (λ (z : List A × Text). list_all good z.0) (sym (ok_same e))

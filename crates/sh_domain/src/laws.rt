@@ -12,6 +12,7 @@ ghost use Rattle.sh_domain.specs.Spelling.{HasOneText};
 ghost use Rattle.sh_domain.specs.Places.{PlacesStandOnce, ReadPlacesStandOnce};
 ghost use Rattle.sh_domain.specs.Readings.{ReadGivesFields, ReadHasFewCommands, ReadHasRows, ReadIsFormed, ReadIsNumbered, ReadNamesVariables, ReadNumbersDiffer};
 ghost use Rattle.sh_domain.specs.examples.Spots.{SpotsAsExpected};
+ghost use Rattle.sh_domain.specs.CompactSpelling.{CompactHasOneText};
 ghost use Rattle.sh_domain.specs.examples.CompactTexts.{CompactTextsAsExpected};
 ghost use Rattle.sh_domain.specs.examples.Texts.{TextsAsExpected};
 
@@ -89,6 +90,11 @@ pub fn compact_texts()
 /// Of a certificate's claims there is one text, and it reads as these claims.
 pub fn spelling()
     ensures { HasOneText }
+{}
+
+/// Of a compact certificate's claims there is one text, and it reads as these claims.
+pub fn compact_spelling()
+    ensures { CompactHasOneText }
 {}
 
 /// A kept certificate whose rows name variables and functions, and that has no more of anything than a text may have, is written with
