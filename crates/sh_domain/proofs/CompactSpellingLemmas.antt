@@ -59,13 +59,13 @@ at_least_some least None n e = absurd (none_some e)
 at_least_some least (Some m) n e = let i = if_some (nat_le least m) (Some m) n e in (i.1, subst (λ k. nat_le least k ≡ true) (some_same i.1) i.0)
 
 -- what is so of a line of a loop
-record IsTurn (least : ℕ) (ts : List Text) (h : ℕ × Claim) : Type 0 where
-  fields : turn_fields h ≡ ts
-  number : nat_le least h.0 ≡ true
-  few : nat_le h.0 65535 ≡ true
-  claim : is_writable h.1 ≡ true
+pub record IsTurn (least : ℕ) (ts : List Text) (h : ℕ × Claim) : Type 0 where
+  pub fields : turn_fields h ≡ ts
+  pub number : nat_le least h.0 ≡ true
+  pub few : nat_le h.0 65535 ≡ true
+  pub claim : is_writable h.1 ≡ true
 
-turn_fields_spelled : (least : ℕ) (ts : List Text) (h : ℕ × Claim) → turn_of least ts ≡ Some h → IsTurn least ts h
+pub turn_fields_spelled : (least : ℕ) (ts : List Text) (h : ℕ × Claim) → turn_of least ts ≡ Some h → IsTurn least ts h
 unfolding turn_of
 turn_fields_spelled least [] h e = absurd (none_some e)
 turn_fields_spelled least (l ∷ []) h e = absurd (none_some e)
@@ -109,7 +109,7 @@ turns_spelled k least (suc n) t y e =
       ap (λ (z : List (ℕ × Claim) × Text). turns_rise least z.0) (sym same) ∙ rw (turn.number, turn.few, turn.claim) rest.2,
     )
 
-three_some : (a b c : Option ℕ) (x : Counts) → three_counts a b c ≡ Some x → (a ≡ Some x.commands) × (b ≡ Some x.functions) × (c ≡ Some x.loops)
+pub three_some : (a b c : Option ℕ) (x : Counts) → three_counts a b c ≡ Some x → (a ≡ Some x.commands) × (b ≡ Some x.functions) × (c ≡ Some x.loops)
 unfolding three_counts
 three_some (Some n) (Some m) (Some l) x e =
     let same : record { commands = n; functions = m; loops = l } ≡ x = cc in

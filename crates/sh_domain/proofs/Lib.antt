@@ -24,6 +24,8 @@ pub mod SpotLemmas
 pub mod TextLemmas
 pub mod CompactTextLemmas
 pub mod CompactSpellingLemmas
+pub mod CompactRoundTripLemmas
+pub mod CompactLemmas
 pub mod SpellingLemmas
 pub mod ReadBackLemmas
 pub mod WritingLemmas

@@ -34,7 +34,7 @@ use Rattle.sh_domain.proofs.SpellingLemmas.{none_some, if_some, both_some, behin
 use Rattle.sh_domain.proofs.WritableLemmas.{short, within, ok_same, ok_err}
 use Rattle.sh_domain.proofs.WritingLemmas.{length_commands}
 
-true_false : true ≡ false → ⊥
+pub true_false : true ≡ false → ⊥
 true_false e = cc
 
 -- The names of a row
@@ -81,7 +81,7 @@ module _ (names : List Text) (rows : KeptRows) (distinct : are_distinct names �
   sets_rise : (d : Drops) → SetsPass names rows d.vars d.functions → are_writable (drops_of (in_byte_order names) rows d) ≡ true
   sets_rise d h = rw (row_rises is_variable d.vars h.vars) (row_rises is_name d.functions h.functions)
 
-  fact_rises : (f : value.Facts) → FactsPass names rows f → is_writable (claim_of (in_byte_order names) rows f) ≡ true
+  pub fact_rises : (f : value.Facts) → FactsPass names rows f → is_writable (claim_of (in_byte_order names) rows f) ≡ true
   unfolding FactsPass is_writable claim_of
   fact_rises value_kind.NotReached h = refl
   fact_rises (value_kind.Known v f a) h =
@@ -101,7 +101,7 @@ module _ (names : List Text) (rows : KeptRows) (distinct : are_distinct names �
   function_rises : (e : FunctionEntry) → FunctionPasses names rows e → is_function (function_claims (in_byte_order names) rows e) ≡ true
   function_rises e h = rw (fact_rises e.before h.before, sets_rise e.drops h.drops, fact_rises e.zero h.zero) (fact_rises e.nonzero h.nonzero)
 
-  functions_rise : (es : List FunctionEntry) → AllByRecursion (FunctionPasses names rows) es → list_all is_function (map (function_claims (in_byte_order names) rows) es) ≡ true
+  pub functions_rise : (es : List FunctionEntry) → AllByRecursion (FunctionPasses names rows) es → list_all is_function (map (function_claims (in_byte_order names) rows) es) ≡ true
   functions_rise [] h = refl
   functions_rise (e ∷ es) h = rw (function_rises e h.0) (functions_rise es h.1)
 
@@ -110,7 +110,7 @@ unfolding commands_from
 commands_rise names c h k [] a = refl
 commands_rise names c h k (e ∷ es) a = rw (entry_rises names c.rows h.distinct e (get nat_eq c.heads k) a.0 (h.heads k)) (commands_rise names c h (k + 1) es a.1)
 
-few : (n m : ℕ) → n ≡ m → m ≤ 65535 → nat_le n 65535 ≡ true
+pub few : (n m : ℕ) → n ≡ m → m ≤ 65535 → nat_le n 65535 ≡ true
 few n m e l = grind (arith, nat_tests)
 
 pub written_rises : (names : List Text) (c : Certificate) → HasText names c → IsSheet (claimed names c)

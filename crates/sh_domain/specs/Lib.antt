@@ -22,6 +22,7 @@ pub mod CompactForms
 pub mod CompactReading
 pub mod CompactSpelling
 pub mod CompactRoundTrips
+pub mod CompactStates
 pub mod Numbered
 pub mod Slots
 pub mod Table
