@@ -1,27 +1,32 @@
 -- What the compact certificate of a certificate states, by its turns.
-use Rattle.std.proofs.Common.{◌≡◌, ℕ, zero, suc, ◌+◌, ◌-◌, ◌<◌, ◌≤◌, nat_eq, nat_lt, Bool, true, false, cond, Option, Some, None, List, [], ◌∷◌, length, map, refl, sym, ◌∙◌, ap, ap₂, arith, slice_get}
+use Rattle.std.proofs.Common.{◌≡◌, ℕ, zero, suc, ◌+◌, ◌-◌, ◌<◌, ◌≤◌, nat_eq, nat_lt, Bool, true, false, ◌&&◌, ◌||◌, cond, is_some, Option, Some, None, List, [], ◌∷◌, length, map, refl, sym, ◌∙◌, ap, ap₂, arith, slice_get}
 use Rattle.std.specs.Prelude.{option_map, unwrap_or}
+use Rattle.std.specs.List.{AllByRecursion, filter}
 use Rattle.std.specs.Map.{lookup}
 use Rattle.std.proofs.lemmas.Bool.Decides.{nat_tests}
 use Rattle.indexmap.specs.IndexMap.{get}
 use Rattle.sh_tree.specs.standard.program.Syntax.{Text}
+use Rattle.sh_table.specs.standard.runs.Environment.{is_one_of}
+use Rattle.sh_table.specs.standard.runs.Worlds.{start_names}
 use Rattle.sh_domain.specs.declared.certificate.Certificate.{Certificate}
 use Rattle.sh_domain.specs.declared.certificate.Entry.{Entry}
 use Rattle.sh_domain.specs.declared.certificate.Facts as value
 use Rattle.sh_domain.specs.declared.compact.Compact.{Compact}
 use Rattle.sh_domain.specs.declared.knowledge.Knowledge.{Knowledge}
 use Rattle.sh_domain.specs.declared.knowledge.Knowledge.TheVariants as knowledge
-use Rattle.sh_domain.specs.Certificates.{claim_of, command_claims, commands_from, function_claims, in_byte_order, sheet_of}
-use Rattle.sh_domain.specs.Compacts.{CompactSheet, compact_claims, compact_of_sheet, known_claim, names_among, stated_commands, stated_by, stated_sheet, turns_from, turns_of, with_turn}
+use Rattle.sh_domain.specs.Certificates.{claim_of, commands_from, function_claims, in_byte_order, sheet_of}
+use Rattle.sh_domain.specs.Compacts.{compact_claims, compact_of_sheet, known_claim, start_claim, stated_commands, stated_by, stated_sheet, turns_from, turns_of, with_turn}
 use Rattle.sh_domain.specs.CompactStates.{CompactsState, unreached_entry}
-use Rattle.sh_domain.specs.Facts.{Claim, Unreached, Claimed, facts}
-use Rattle.sh_domain.specs.Knowledge.{AreNumbered, knowledge_facts}
+use Rattle.sh_domain.specs.Facts.{Claim, Unreached, Declared, Facts, NotReached, Known, facts, start_facts}
+use Rattle.sh_domain.specs.Knowledge.{AreNumbered, among, at_number, knowledge_facts}
 use Rattle.sh_domain.specs.KeptRows.{KeptRows}
+use Rattle.sh_domain.specs.Names.{number_of}
 use Rattle.sh_domain.specs.NumberSets.{numbers_of}
 use Rattle.sh_domain.specs.Sheets.{Sheet, CommandClaims, FunctionClaims, certificate_of, claim_at, nowhere}
 use Rattle.sh_domain.specs.Views.{Head}
-use Rattle.sh_domain.proofs.KnowledgeLemmas.{row_names}
+use Rattle.sh_domain.proofs.KnowledgeLemmas.{has_number, row_names}
 use Rattle.sh_domain.proofs.MeetLemmas.{known_same}
+use Rattle.sh_domain.proofs.RowReadLemmas.{IsAt, order_at}
 
 -- Turns by their numbers
 
@@ -101,6 +106,51 @@ unfolding known_claim facts knowledge_facts
 known_facts names knowledge.NotReached h = refl
 known_facts names (knowledge.Known s) h = known_same _ _ _ _ _ _ (λ t. row_names names h (numbers_of s.vars) t) (λ t. row_names names h (numbers_of s.functions) t) refl
 
+-- of names in their order, those whose numbers pass are those that pass by name
+by_name : (names : List Text) → AreNumbered names → (p : ℕ → Bool) (q : Text → Bool) → ((t : Text) → at_number p (number_of names t) ≡ (is_one_of names t && q t)) → (xs : List (ℕ × Text)) → AllByRecursion (IsAt names) xs
+    → filter (λ (x : ℕ × Text). p x.0) xs ≡ filter (λ (x : ℕ × Text). q x.1) xs
+unfolding at_number
+by_name names h p q e [] a = refl
+by_name names h p q e (x ∷ xs) a =
+    let own : number_of names x.1 ≡ Some x.0 = h.own x.0 x.1 a.0 in
+    let one : is_one_of names x.1 ≡ true = has_number names x.1 ∙ ap is_some own in
+    let here : p x.0 ≡ q x.1 = sym (ap (at_number p) own) ∙ e x.1 ∙ ap (λ b. b && q x.1) one in
+    rw (here, by_name names h p q e xs a.1) refl
+
+none_kept : (xs : List (ℕ × Text)) → filter (λ (x : ℕ × Text). false) xs ≡ []
+none_kept [] = refl
+none_kept (x ∷ xs) = none_kept xs
+
+and_false : (b : Bool) → (b && false) ≡ false
+and_false true = refl
+and_false false = refl
+
+nowhere_known : (v f : Text → Bool) (n : ℕ) → NotReached ≡ Known v f n → ⊥
+nowhere_known v f n e = cc
+
+known_start : (names : List Text) (k : Knowledge) (d : Declared) → AreNumbered names → knowledge_facts names k ≡ among names (start_facts d) → known_claim (in_byte_order names) k ≡ start_claim names d
+unfolding known_claim knowledge_facts among start_facts
+known_start names knowledge.NotReached d h e = absurd (nowhere_known _ _ _ e)
+known_start names (knowledge.Known s) d h e =
+    let order = in_byte_order names in
+    let is_set : Text → Bool = λ t. is_one_of start_names t || is_one_of d.names t in
+    let vars = by_name names h (numbers_of s.vars) is_set (λ t. ap (λ (g : Facts). variable_of g t) e) order (order_at names) in
+    let functions = by_name names h (numbers_of s.functions) (λ t. false) (λ t. ap (λ (g : Facts). function_of g t) e) order (order_at names) ∙ none_kept order in
+    let args : s.args ≡ d.args = ap args_of e in
+    cc
+  where
+    variable_of : Facts → Text → Bool
+    variable_of NotReached t = false
+    variable_of (Known v f n) t = v t
+
+    function_of : Facts → Text → Bool
+    function_of NotReached t = false
+    function_of (Known v f n) t = f t
+
+    args_of : Facts → ℕ
+    args_of NotReached = 0
+    args_of (Known v f n) = n
+
 -- What a kept one states
 
 kept_turn : (order : List (ℕ × Text)) (rows : KeptRows) (n : ℕ) (hs : List (ℕ × value.Facts)) → lookup (nat_eq n) (turns_of order rows hs) ≡ option_map (claim_of order rows) (lookup (nat_eq n) hs)
@@ -139,5 +189,6 @@ compacts_state = record {
   returns_nonzero = λ functions start s f. refl;
   drops = λ functions start s f. refl;
   start = known_facts;
+  started = known_start;
   kept = kept_sheet;
 }

@@ -1,6 +1,5 @@
 -- The first line of a text tells its version, and what is written of a compact certificate reads back.
-use Rattle.std.proofs.Common.{◌≡◌, ℕ, ◌+◌, ◌≤◌, nat_le, Bool, true, false, ◌&&◌, if◌then◌else◌, List, [], ◌∷◌, length, map, Option, Some, None, Result, Ok, Err, refl, sym, ap, ◌∙◌, arith}
-use Rattle.std.specs.List.{list_all}
+use Rattle.std.proofs.Common.{◌≡◌, ℕ, ◌+◌, ◌≤◌, nat_le, Bool, true, false, if◌then◌else◌, List, [], ◌∷◌, length, map, Option, Some, None, Result, Ok, Err, refl, sym, ap, ◌∙◌, arith}
 use Rattle.std.specs.Str.{bytes_eq}
 use Rattle.std.proofs.lemmas.Bool.Decides.{nat_tests}
 use Rattle.std.proofs.lemmas.List.{length-map}
@@ -10,7 +9,6 @@ use Rattle.sh_tree.specs.declared.refusal.Refusal.TheVariants.{TooLong, NulByte,
 use Rattle.sh_tree.specs.declared.tree.Script.{Script}
 use Rattle.sh_tree.specs.standard.program.Syntax.{Text}
 use Rattle.sh_domain.specs.declared.certificate.Facts as value
-use Rattle.sh_domain.specs.declared.certificate.FunctionEntry.{FunctionEntry}
 use Rattle.sh_domain.specs.declared.compact.Compact.{Compact}
 use Rattle.sh_domain.specs.declared.compact.Given.{Given}
 use Rattle.sh_domain.specs.declared.compact.Given.TheVariants as given
@@ -30,7 +28,7 @@ use Rattle.sh_domain.specs.RoundTrips.{FunctionPasses}
 use Rattle.sh_domain.specs.Sheets.{Sheet, first_line, certificate_text}
 use Rattle.sh_domain.proofs.CompactSpellingLemmas.{compact_spelled, compact_read_back}
 use Rattle.sh_domain.proofs.RoundTripLemmas.{true_false, fact_rises, functions_rise, few}
-use Rattle.sh_domain.proofs.SpellingLemmas.{err_ok, behind_ok, if_some, same_text, spelled}
+use Rattle.sh_domain.proofs.SpellingLemmas.{err_ok, behind_ok, same_text, spelled}
 use Rattle.sh_domain.proofs.WritableLemmas.{ok_same, ok_err, within}
 
 -- The version of a text

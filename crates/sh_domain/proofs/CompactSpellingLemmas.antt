@@ -1,5 +1,5 @@
 -- A text that reads as a compact certificate is that certificate's text, and its text reads as that certificate.
-use Rattle.std.proofs.Common.{◌≡◌, ℕ, zero, suc, ◌+◌, ◌<◌, ◌≤◌, ◌==◌, nat_le, Bool, true, false, not, ◌&&◌, if◌then◌else◌, List, [], ◌∷◌, ◌++◌, length, append_assoc, append-nil, Option, Some, None, Ok, Err, refl, sym, ap, ap₂, ◌∙◌, subst, arith, codes}
+use Rattle.std.proofs.Common.{◌≡◌, ℕ, zero, suc, ◌+◌, ◌≤◌, ◌==◌, nat_le, true, false, ◌&&◌, List, [], ◌∷◌, ◌++◌, length, append_assoc, append-nil, Option, Some, None, Ok, refl, sym, ap, ap₂, ◌∙◌, subst, arith, codes}
 use Rattle.std.specs.Fmt.{decimal}
 use Rattle.std.specs.List.{list_all}
 use Rattle.std.specs.Str.{bytes_eq}
@@ -12,11 +12,11 @@ use Rattle.sh_domain.specs.Compacts.{CompactSheet, compact_line, compact_counts,
 use Rattle.sh_domain.specs.CompactSpelling.{turns_rise, IsCompactSheet}
 use Rattle.sh_domain.specs.Facts.{Claim}
 use Rattle.sh_domain.specs.Forms.{pieces, number_in, both, claim_in, read_line, read_lines, function_in, behind, ended}
-use Rattle.sh_domain.specs.Sheets.{FunctionClaims, joined, claim_text, function_fields, numbered_lines}
+use Rattle.sh_domain.specs.Sheets.{joined, claim_text, function_fields, numbered_lines}
 use Rattle.sh_domain.specs.Spelling.{is_writable, is_function}
-use Rattle.sh_domain.proofs.ReadBackLemmas.{same_bytes, lacks, pieces_joined, lacks_joined, letter_lacks, decimal_lacks, claim_lacks, claim_read, number_read, blank, newline, line_read, lines_read, functions_read}
+use Rattle.sh_domain.proofs.ReadBackLemmas.{lacks, pieces_joined, lacks_joined, letter_lacks, decimal_lacks, claim_lacks, claim_read, number_read, blank, newline, line_read, lines_read, functions_read}
 use Rattle.sh_domain.proofs.RoundTripLemmas.{lines_good}
-use Rattle.sh_domain.proofs.SpellingLemmas.{err_ok, none_some, if_some, both_some, behind_ok, same_text, joined_pieces, number_spelled, claim_spelled, line_spelled, lines_spelled, function_spelled, glued, ended_some}
+use Rattle.sh_domain.proofs.SpellingLemmas.{none_some, if_some, both_some, behind_ok, same_text, joined_pieces, number_spelled, claim_spelled, line_spelled, lines_spelled, function_spelled, glued, ended_some}
 use Rattle.sh_domain.proofs.WritableLemmas.{claim_writable, function_writable}
 
 abbrev start_letter : Text

@@ -9,9 +9,9 @@ use Rattle.sh_domain.specs.declared.certificate.Facts.TheVariants.{NotReached}
 use Rattle.sh_domain.specs.declared.compact.Compact.{Compact}
 use Rattle.sh_domain.specs.declared.knowledge.Knowledge.{Knowledge}
 use Rattle.sh_domain.specs.Certificates.{in_byte_order, sheet_of}
-use Rattle.sh_domain.specs.Compacts.{CompactSheet, compact_claims, compact_of_sheet, known_claim, stated_by, stated_sheet}
-use Rattle.sh_domain.specs.Facts.{Claim, facts}
-use Rattle.sh_domain.specs.Knowledge.{AreNumbered, knowledge_facts}
+use Rattle.sh_domain.specs.Compacts.{compact_claims, compact_of_sheet, known_claim, start_claim, stated_by, stated_sheet}
+use Rattle.sh_domain.specs.Facts.{Claim, Declared, facts, start_facts}
+use Rattle.sh_domain.specs.Knowledge.{AreNumbered, among, knowledge_facts}
 use Rattle.sh_domain.specs.Sheets.{Sheet, certificate_of}
 use Rattle.sh_domain.specs.Views.{Head, Entry as Entered, ReturnsZero, ReturnsNonzero}
 
@@ -19,7 +19,7 @@ use Rattle.sh_domain.specs.Views.{Head, Entry as Entered, ReturnsZero, ReturnsNo
 abbrev pub unreached_entry : Entry
 unreached_entry = record { before = NotReached; zero = NotReached; nonzero = NotReached }
 
--- At each turn of a loop and round each function it states what the certificate claims, and of the start what is known. A kept one states what a
+-- At each turn of a loop and round each function it states what the certificate claims, and of the start what is known, which where a script starts are the names that are set there. A kept one states what a
 -- certificate claims that has its heads and functions, and of whose commands nothing is claimed.
 pub record CompactsState : Type 0 where
   pub head : (functions : List Text) (start : Claim) (s : Sheet) (n : ℕ) → (stated_by functions (compact_of_sheet start s)).claim (Head n) ≡ (certificate_of functions s).claim (Head n)
@@ -29,5 +29,6 @@ pub record CompactsState : Type 0 where
       → (stated_by functions (compact_of_sheet start s)).claim (ReturnsNonzero f) ≡ (certificate_of functions s).claim (ReturnsNonzero f)
   pub drops : (functions : List Text) (start : Claim) (s : Sheet) (f : Text) → (stated_by functions (compact_of_sheet start s)).drops f ≡ (certificate_of functions s).drops f
   pub start : (names : List Text) (k : Knowledge) → AreNumbered names → facts (known_claim (in_byte_order names) k) ≡ knowledge_facts names k
+  pub started : (names : List Text) (k : Knowledge) (d : Declared) → AreNumbered names → knowledge_facts names k ≡ among names (start_facts d) → known_claim (in_byte_order names) k ≡ start_claim names d
   pub kept : (order : List (ℕ × Text)) (k : Compact) (c : Certificate) → map (λ (e : Entry). unreached_entry) c.entries.items ≡ c.entries.items → length c.entries.items ≡ k.commands
       → ((n : ℕ) → get nat_eq c.heads n ≡ get nat_eq k.heads n) → c.rows ≡ k.rows → c.functions.items ≡ k.functions.items → stated_sheet (compact_claims order k) ≡ sheet_of order c

@@ -1,17 +1,19 @@
 -- A compact certificate as claims about names, and its text.
 -- The standard has no such thing: what is surely set (XCU 2.5) at the start, at each turn of a loop and round each function; what holds round the
 -- commands follows from these.
-use Rattle.std.specs.Prelude.{ℕ, zero, suc, ◌+◌, nat_eq, List, [], ◌∷◌, ◌++◌, filter, length, map, codes, Option, Some, None}
+use Rattle.std.specs.Prelude.{ℕ, zero, suc, ◌+◌, nat_eq, ◌||◌, List, [], ◌∷◌, ◌++◌, filter, length, map, codes, Option, Some, None}
 use Rattle.std.specs.Fmt.{decimal}
 use Rattle.std.specs.Map.{lookup}
 use Rattle.sh_tree.specs.standard.program.Syntax.{Text}
+use Rattle.sh_table.specs.standard.runs.Environment.{is_one_of}
+use Rattle.sh_table.specs.standard.runs.Worlds.{start_names}
 use Rattle.sh_domain.specs.declared.certificate.Facts as value
 use Rattle.sh_domain.specs.declared.compact.Compact.{Compact}
 use Rattle.sh_domain.specs.declared.knowledge.Knowledge.{Knowledge}
 use Rattle.sh_domain.specs.declared.knowledge.Knowledge.TheVariants as knowledge
 use Rattle.sh_domain.specs.declared.number_set.NumberSet.{NumberSet}
-use Rattle.sh_domain.specs.Certificates.{claim_of, function_claims}
-use Rattle.sh_domain.specs.Facts.{Claim, Unreached, Claimed}
+use Rattle.sh_domain.specs.Certificates.{claim_of, function_claims, in_byte_order}
+use Rattle.sh_domain.specs.Facts.{Claim, Unreached, Claimed, Declared}
 use Rattle.sh_domain.specs.KeptRows.{KeptRows}
 use Rattle.sh_domain.specs.NumberSets.{numbers_of}
 use Rattle.sh_domain.specs.Sheets.{Sheet, CommandClaims, FunctionClaims, certificate_of, claim_text, line, numbered_lines, function_fields}
@@ -73,6 +75,10 @@ names_among order s = map (λ x. x.1) (filter (λ x. numbers_of s x.0) order)
 unfoldable pub known_claim : (order : List (ℕ × Text)) → Knowledge → Claim
 known_claim order knowledge.NotReached = Unreached
 known_claim order (knowledge.Known s) = Claimed (names_among order s.vars) (names_among order s.functions) s.args
+
+-- where a script with these names starts: those that are set there, and no function
+abbrev pub start_claim : List Text → Declared → Claim
+start_claim names d = Claimed (map (λ x. x.1) (filter (λ x. is_one_of start_names x.1 || is_one_of d.names x.1) (in_byte_order names))) [] d.args
 
 -- Texts
 

@@ -1,5 +1,5 @@
 -- The fields of a compact certificate's line, one after the other.
-use Rattle.std.proofs.Common.{◌≡◌, ℕ, ◌&&◌, Bool, if◌then◌else◌, List, [], ◌∷◌, Option, Some, None, refl, codes}
+use Rattle.std.proofs.Common.{◌≡◌, ℕ, ◌&&◌, Bool, if◌then◌else◌, ◌∷◌, Option, None, refl, codes}
 use Rattle.std.specs.Str.{bytes_eq}
 use Rattle.sh_tree.specs.standard.program.Syntax.{Text}
 use Rattle.sh_domain.specs.CompactForms as form

@@ -1,5 +1,5 @@
 -- The lines of a compact certificate's text, one after the other.
-use Rattle.std.proofs.Common.{◌≡◌, ℕ, suc, ◌+◌, ◌-◌, ◌<◌, ◌≤◌, List, ◌∷◌, length, Option, Some, None, Ok, Err, refl, sym, ap, ◌∙◌, arith}
+use Rattle.std.proofs.Common.{◌≡◌, ℕ, suc, ◌+◌, ◌-◌, ◌<◌, ◌≤◌, length, Some, None, Ok, Err, refl, ap, ◌∙◌, arith}
 use Rattle.sh_tree.specs.standard.program.Syntax.{Text}
 use Rattle.sh_domain.specs.CompactForms.{Counts, is_compact_line, compact_counts_in, start_in, turn_in, read_turns, read_compact_sheet}
 use Rattle.sh_domain.specs.Compacts.{CompactSheet}

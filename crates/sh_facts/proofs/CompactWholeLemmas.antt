@@ -1,5 +1,5 @@
 -- The whole text of a compact certificate, and whether it fits a script.
-use Rattle.std.proofs.Common.{◌≡◌, ℕ, suc, ◌+◌, ◌<◌, ◌≤◌, nat_eq, nat_le, Bool, true, false, ◌&&◌, if◌then◌else◌, List, [], ◌∷◌, length, map, Result, Ok, Err, refl, sym, ap, ap₂, ◌∙◌, arith}
+use Rattle.std.proofs.Common.{◌≡◌, ℕ, suc, ◌+◌, ◌<◌, ◌≤◌, nat_eq, nat_le, Bool, true, false, ◌&&◌, List, [], ◌∷◌, length, map, Result, Ok, Err, refl, sym, ap, ap₂, ◌∙◌, arith}
 use Rattle.std.specs.List.{list_all}
 use Rattle.std.proofs.lemmas.Bool.{and_parts}
 use Rattle.std.proofs.lemmas.Bool.Decides.{nat_tests}
@@ -10,16 +10,15 @@ use Rattle.sh_tree.specs.standard.program.Syntax.{Text}
 use Rattle.sh_domain.specs.declared.certificate.Certificate.{Certificate}
 use Rattle.sh_domain.specs.declared.certificate.Facts as value
 use Rattle.sh_domain.specs.declared.compact.Compact.{Compact}
-use Rattle.sh_domain.specs.declared.compact.Given.{Given}
 use Rattle.sh_domain.specs.declared.compact.Given.TheVariants as given
 use Rattle.sh_domain.specs.declared.limits.TheConstants.{MAX_CERTIFICATE}
 use Rattle.sh_domain.specs.Certificates.{in_byte_order, claim_of, function_claims, sheet_of}
 use Rattle.sh_domain.specs.CompactForms as form
 use Rattle.sh_domain.specs.CompactForms.{Counts, is_compact, is_compact_line, compact_counts_in, start_in, read_turns, read_compact_sheet, read_compact_text, read_given, given_as}
-use Rattle.sh_domain.specs.CompactReading.{loop_numbers, turns_fit, compact_fits, given_fits, given_claims, IsGiven, IsOtherGiven, ReadsGiven}
+use Rattle.sh_domain.specs.CompactReading.{loop_numbers, turns_fit, compact_fits, given_fits, given_claims, ReadsGiven}
 use Rattle.sh_domain.specs.Compacts.{CompactSheet, compact_claims, turns_of}
 use Rattle.sh_domain.specs.Facts.{Claim}
-use Rattle.sh_domain.specs.Forms.{read_line, read_lines, function_in, read_text}
+use Rattle.sh_domain.specs.Forms.{read_line, read_lines, function_in}
 use Rattle.sh_domain.specs.KeptRows.{KeptRows}
 use Rattle.sh_domain.specs.Reading.{AreLoops, Reads, claim_fits, functions_fit, function_fits}
 use Rattle.sh_domain.specs.Sheets.{FunctionClaims, function_fields}
@@ -32,7 +31,7 @@ use Rattle.sh_facts.specs.declared.forms.FactText.{FactText}
 use Rattle.sh_facts.specs.CompactParts.{IsCompactOf, IsOtherCompact, AnswersCompact, ReadsCompact, ReadsTurns, NoTurnsFit}
 use Rattle.sh_facts.specs.Fields as field
 use Rattle.sh_facts.specs.Fields.{left_of, outcome}
-use Rattle.sh_facts.specs.ReadParts.{ReadsFacts, ReadsFunctions, NoFunctionsFit, Misfits, Misses}
+use Rattle.sh_facts.specs.ReadParts.{ReadsFacts, ReadsFunctions, NoFunctionsFit, Misses}
 use Rattle.sh_facts.proofs.ReadingLemmas.{stay_on}
 use Rattle.sh_facts.proofs.WholeLemmas.{true_false, and_false, has_sheet, refused_so}
 

@@ -1,9 +1,8 @@
 -- Rows that are kept of another certificate's claim what those claim.
-use Rattle.std.proofs.Common.{◌≡◌, ℕ, suc, ◌+◌, ◌<◌, ◌≤◌, nat_eq, Bool, true, false, ◌&&◌, if◌then◌else◌, List, [], ◌∷◌, ◌++◌, length, map, take, get_or, Option, Some, None, slice_get, nat_lt, option_map, length-append, append-nil, append_assoc, refl, sym, ap, ap₂, ◌∙◌, subst, arith}
+use Rattle.std.proofs.Common.{◌≡◌, ℕ, ◌+◌, ◌<◌, ◌≤◌, nat_eq, Bool, true, false, ◌&&◌, List, [], ◌∷◌, ◌++◌, length, map, take, get_or, Option, Some, None, nat_lt, option_map, append-nil, refl, sym, ap, ap₂, ◌∙◌, subst, arith}
 use Rattle.std.specs.List.{filter}
 use Rattle.std.proofs.Math.Path.{fun_ext}
 use Rattle.sh_tree.specs.standard.program.Syntax.{Text}
-use Rattle.sh_rows.specs.declared.bits.BitRow.{BitRow}
 use Rattle.sh_domain.specs.declared.certificate.Drops.{Drops}
 use Rattle.sh_domain.specs.declared.certificate.Facts as value
 use Rattle.sh_domain.specs.declared.certificate.Facts.TheVariants as value_kind
@@ -27,8 +26,8 @@ use Rattle.sh_domain.specs.NumberSets.{numbers_of}
 use Rattle.sh_domain.specs.Sheets.{CommandClaims, FunctionClaims}
 use Rattle.sh_domain.proofs.RowReadLemmas.{IsAt, order_at}
 use Rattle.sh_domain.proofs.WritingLemmas.{commands_append, length_commands}
-use Rattle.sh_domain.specs.Facts.{Claim, Unreached, Claimed}
-use Rattle.sh_domain.specs.KeptRows.{KeptRows, Stay, bits_of, bits_in, holds_at}
+use Rattle.sh_domain.specs.Facts.{Claim, Claimed}
+use Rattle.sh_domain.specs.KeptRows.{KeptRows, Stay, bits_in, holds_at}
 use Rattle.sh_domain.specs.Operands.{Names}
 use Rattle.sh_facts.specs.Compacting.{Keeps}
 use Rattle.sh_facts.proofs.ReadingLemmas.{stay_on}

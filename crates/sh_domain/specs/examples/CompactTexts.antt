@@ -1,11 +1,11 @@
 -- Known compact certificates and their texts, and texts that are none.
 -- The standard has no such thing: the compact certificates of known scripts, and what is told of texts that have not the form.
-use Rattle.std.specs.Prelude.{◌≡◌, [], ◌∷◌, ◌++◌, codes, Some, Ok, Err}
+use Rattle.std.specs.Prelude.{◌≡◌, [], ◌∷◌, codes, Ok, Err}
 use Rattle.sh_tree.specs.standard.program.Syntax.{Text}
 use Rattle.sh_domain.specs.Compacts.{CompactSheet, compact_of_sheet, compact_text, stated_by}
 use Rattle.sh_domain.specs.CompactForms.{Full, Compact, read_compact_sheet, read_given}
 use Rattle.sh_domain.specs.examples.Programs.{known, dropping}
-use Rattle.sh_domain.specs.examples.Texts.{lines, header, empty_sheet, skipped_sheet, function_sheet, loop_sheet, empty_text, loop_text}
+use Rattle.sh_domain.specs.examples.Texts.{lines, header, empty_sheet, skipped_sheet, function_sheet, loop_sheet, loop_text}
 use Rattle.sh_domain.specs.Facts.{Claim, Unreached}
 use Rattle.sh_domain.specs.Sheets.{FunctionClaims}
 use Rattle.sh_domain.specs.Views.{Before, AfterZero, AfterNonzero, Head, Entry, ReturnsZero, ReturnsNonzero}

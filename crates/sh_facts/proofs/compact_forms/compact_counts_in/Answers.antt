@@ -1,5 +1,4 @@
-use Rattle.std.proofs.Common.{◌≡◌, true, false, ◌&&◌, codes, refl, rules}
-use Rattle.std.specs.Str.{bytes_eq}
+use Rattle.std.proofs.Common.{◌≡◌, true, false, refl, rules}
 use Rattle.sh_domain.specs.CompactForms.{counts_of}
 use Rattle.sh_facts.proofs.CompactFormLemmas.{are_words, counts_sole}
 use Rattle.sh_facts.proofs.compact_forms.compact_counts_in.Goals as goal

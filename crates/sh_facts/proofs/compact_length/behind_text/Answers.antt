@@ -1,4 +1,4 @@
-use Rattle.std.proofs.Common.{◌≡◌, ◌+◌, ◌-◌, List, length, map, subst, rules, arith}
+use Rattle.std.proofs.Common.{◌-◌, List, length, map, subst, rules, arith}
 use Rattle.sh_domain.specs.declared.certificate.FunctionEntry.{FunctionEntry}
 use Rattle.sh_domain.specs.Certificates.{in_byte_order, claim_of, function_claims}
 use Rattle.sh_domain.specs.Sheets.{numbered_lines, function_fields}

@@ -1,4 +1,4 @@
-use Rattle.std.proofs.Common.{◌≡◌, ◌+◌, ◌++◌, [], ◌∷◌, List, true, false, ap, ◌∙◌, subst, rules, arith, drop}
+use Rattle.std.proofs.Common.{◌≡◌, ◌+◌, ◌++◌, [], ◌∷◌, List, true, false, ap, ◌∙◌, rules, arith, drop}
 use Rattle.sh_domain.specs.CompactReading.{loop_numbers}
 use Rattle.sh_domain.specs.Reading.{is_loop, loops_of}
 use Rattle.sh_facts.proofs.CompactReadLemmas.{numbers_on, number_pushed, number_skipped, numbers_end}

@@ -1,12 +1,10 @@
-use Rattle.std.proofs.Common.{◌≡◌, ℕ, ◌+◌, nat_eq, false, List, None, Some, get_or, refl, sym, ap, ◌∙◌, subst, rules, arith}
+use Rattle.std.proofs.Common.{◌≡◌, ℕ, ◌+◌, nat_eq, false, List, get_or, refl, sym, subst, rules, arith}
 use Rattle.std.proofs.lemmas.Result.{err_from_is_err_and}
 use Rattle.indexmap.specs.IndexMap.{get}
 use Rattle.sh_domain.specs.declared.certificate.Facts as value
-use Rattle.sh_domain.specs.CompactForms.{turn_in}
 use Rattle.sh_domain.specs.Reading.{claim_fits}
-use Rattle.sh_facts.specs.CompactFields.{turn_of}
 use Rattle.sh_facts.specs.CompactParts.{NoTurnsFit}
-use Rattle.sh_facts.specs.Fields.{claim_of, line_in}
+use Rattle.sh_facts.specs.Fields.{claim_of}
 use Rattle.sh_facts.proofs.CertificateLemmas.{missing}
 use Rattle.sh_facts.proofs.CompactReadLemmas.{InTurns, turns_begin, turns_on, other_turn, turn_misfits, turn_free, no_turn, turns_end}
 use Rattle.sh_facts.proofs.compact_reading.read_turns.Goals as goal

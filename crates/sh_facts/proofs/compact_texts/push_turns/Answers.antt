@@ -1,7 +1,7 @@
-use Rattle.std.proofs.Common.{sym, append-nil, arith}
+use Rattle.std.proofs.Common.{sym, append-nil}
 use Rattle.sh_domain.specs.Certificates.{in_byte_order}
 use Rattle.sh_domain.specs.Compacts.{turn_lines}
-use Rattle.sh_facts.proofs.CompactTextLemmas.{turns_written, all_turns}
+use Rattle.sh_facts.proofs.CompactTextLemmas.{turns_written}
 use Rattle.sh_facts.proofs.compact_texts.push_turns.Goals as goal
 
 pub loop-index-init : goal.loop-index-init

@@ -1,7 +1,7 @@
-use Rattle.std.proofs.Common.{◌≡◌, ◌+◌, ◌<◌, ◌≤◌, List, length, get_or, sym, ap, subst, rules, arith}
+use Rattle.std.proofs.Common.{◌≡◌, ◌+◌, ◌<◌, List, length, get_or, sym, ap, subst}
 use Rattle.sh_domain.specs.declared.certificate.Facts.TheVariants.{NotReached}
 use Rattle.sh_domain.specs.declared.certificate.FunctionEntry.{FunctionEntry}
-use Rattle.sh_facts.proofs.CompactingLemmas.{KeepsFunctions, functions_begin, functions_on, functions_end}
+use Rattle.sh_facts.proofs.CompactingLemmas.{KeepsFunctions, functions_on}
 use Rattle.sh_facts.proofs.compacting.keep_functions.Goals as goal
 
 abbrev default : FunctionEntry

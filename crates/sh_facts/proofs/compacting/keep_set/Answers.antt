@@ -1,4 +1,4 @@
-use Rattle.std.proofs.Common.{◌≡◌, ◌<◌, ◌&&◌, ap, ◌∙◌, sym, rules, arith}
+use Rattle.std.proofs.Common.{◌<◌, ◌&&◌, ap, ◌∙◌, arith}
 use Rattle.sh_rows.specs.Numbers.{has_bit}
 use Rattle.sh_domain.specs.NumberSets.{numbers_of}
 use Rattle.sh_facts.proofs.CompactingLemmas.{below_kept, set_kept}
