@@ -13,7 +13,7 @@ use Rattle.sh_tree.specs.standard.program.Syntax.{Text}
 use Rattle.sh_tree.specs.standard.program.Trees.{script_of}
 use Rattle.sh_table.specs.Admits.{Admits}
 use Rattle.sh_table.specs.Profile.{first_refused}
-use Rattle.sh_domain.specs.Facts.{Declared}
+use Rattle.sh_domain.specs.Facts.{Declared, start_facts}
 use Rattle.sh_domain.specs.Faults.{Fault, faults, least}
 use Rattle.sh_domain.specs.Forms.{read_text}
 use Rattle.sh_domain.specs.Names.{IsNumbering, HasTooMany}
@@ -81,19 +81,19 @@ module _ (b : List ℕ) (d : Declared) (t : Script) (names : List Text) (loops :
   abbrev found : Sheet → List Contents
   found c = in_order (map (contents_at b) (places b d t c))
 
-  none_least : (c : Sheet) → faults d (claims_in b t c) (script_of b t) ≡ [] → least (faults d (claims_in b t c) (script_of b t)) ≡ None
+  none_least : (c : Sheet) → faults (start_facts d) (claims_in b t c) (script_of b t) ≡ [] → least (faults (start_facts d) (claims_in b t c) (script_of b t)) ≡ None
   unfolding least
   none_least c h = ap least h
 
-  keeps : (c : Sheet) → IsCertified b d text t c → faults d (claims_in b t c) (script_of b t) ≡ [] → answer ≡ of_findings (found c)
+  keeps : (c : Sheet) → IsCertified b d text t c → faults (start_facts d) (claims_in b t c) (script_of b t) ≡ [] → answer ≡ of_findings (found c)
   unfolding of_fault
   keeps c h k = certified c h ∙ ap (λ o. of_fault o (of_findings (found c))) (none_least c k)
 
-  passes : (c : Sheet) → IsCertified b d text t c → faults d (claims_in b t c) (script_of b t) ≡ [] → places b d t c ≡ [] → answer ≡ Passes
+  passes : (c : Sheet) → IsCertified b d text t c → faults (start_facts d) (claims_in b t c) (script_of b t) ≡ [] → places b d t c ≡ [] → answer ≡ Passes
   unfolding of_findings in_order
   passes c h k e = keeps c h k ∙ ap (λ ps. of_findings (in_order (map (contents_at b) ps))) e
 
-  fails : (c : Sheet) (fs : List Finding) → IsCertified b d text t c → faults d (claims_in b t c) (script_of b t) ≡ [] → 0 < length fs → AreFindings b (places b d t c) fs
+  fails : (c : Sheet) (fs : List Finding) → IsCertified b d text t c → faults (start_facts d) (claims_in b t c) (script_of b t) ≡ [] → 0 < length fs → AreFindings b (places b d t c) fs
       → answer ≡ Finds (map contents_of fs)
   unfolding of_findings
   fails c fs h k some f = keeps c h k ∙ ap of_findings (sym (found_in_order b (places b d t c) fs f)) ∙ has_some fs some
@@ -102,7 +102,7 @@ module _ (b : List ℕ) (d : Declared) (t : Script) (names : List Text) (loops :
       has_some [] h = absurd (omega arith)
       has_some (x ∷ xs) h = refl
 
-  forges : (c : Sheet) (f : Fault) → IsCertified b d text t c → least (faults d (claims_in b t c) (script_of b t)) ≡ Some f → answer ≡ Breaks f.number f.rule
+  forges : (c : Sheet) (f : Fault) → IsCertified b d text t c → least (faults (start_facts d) (claims_in b t c) (script_of b t)) ≡ Some f → answer ≡ Breaks f.number f.rule
   unfolding of_fault
   forges c f h k = certified c h ∙ ap (λ o. of_fault o (of_findings (found c))) k
 
@@ -133,7 +133,7 @@ module _ (b : List ℕ) (d : Declared) (t : Script) (names : List Text) (loops :
       let c = h.certificate in
       let e : a.tree ≡ t = tree_is a.tree a.admitted.reading in
       let own : IsCertified b d text a.tree c = record { names = a.names; admitted = a.admitted; claims = h.claims; fit = a.fit } in
-      passes c (subst (λ u. IsCertified b d text u c) e own) (subst (λ u. faults d (claims_in b u c) (script_of b u) ≡ []) e a.rules)
+      passes c (subst (λ u. IsCertified b d text u c) e own) (subst (λ u. faults (start_facts d) (claims_in b u c) (script_of b u) ≡ []) e a.rules)
       (subst (λ u. places b d u c ≡ []) e (none_left _ _ a.met a.quoted))
     where
       none_left : (xs ys : List Place) → xs ≡ [] → ys ≡ [] → xs ++ ys ≡ []
@@ -143,7 +143,7 @@ module _ (b : List ℕ) (d : Declared) (t : Script) (names : List Text) (loops :
   of_fail fs h =
       let c = h.certificate in
       let e : h.tree ≡ t = tree_is h.tree h.certified.admitted.reading in
-      fails c fs (subst (λ u. IsCertified b d text u c) e h.certified) (subst (λ u. faults d (claims_in b u c) (script_of b u) ≡ []) e h.rules) h.some
+      fails c fs (subst (λ u. IsCertified b d text u c) e h.certified) (subst (λ u. faults (start_facts d) (claims_in b u c) (script_of b u) ≡ []) e h.rules) h.some
       (subst (λ u. AreFindings b (places b d u c) fs) e h.found)
 
   of_forgery : (k : ℕ) (r : FlowRule) → IsForged b d text k r → answer ≡ Breaks k r
@@ -151,7 +151,7 @@ module _ (b : List ℕ) (d : Declared) (t : Script) (names : List Text) (loops :
       let c = h.certificate in
       let e : h.tree ≡ t = tree_is h.tree h.certified.admitted.reading in
       forges c (record { number = k; rule = r }) (subst (λ u. IsCertified b d text u c) e h.certified)
-      (subst (λ u. least (faults d (claims_in b u c) (script_of b u)) ≡ Some (record { number = k; rule = r })) e h.told)
+      (subst (λ u. least (faults (start_facts d) (claims_in b u c) (script_of b u)) ≡ Some (record { number = k; rule = r })) e h.told)
 
   of_many : Refuses b d (RefusesText b d text) TooMany → answer ≡ Tells TooMany
   of_many (inl p) = absurd (p.1 t read.reading.1)

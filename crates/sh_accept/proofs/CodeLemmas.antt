@@ -19,7 +19,7 @@ use Rattle.sh_table.specs.Surroundings.{Located, outside, items_located}
 use Rattle.sh_reads.specs.Spots.{EachOnce}
 use Rattle.sh_domain.specs.Demands.{elements_unmet, clauses_unmet, for_words_unmet, kind_unmet, drop_at, move_at, shared_unmet, unmet, demands}
 use Rattle.sh_domain.specs.Entries.{Entered, script_entered}
-use Rattle.sh_domain.specs.Facts.{Facts, Declared, Variable, claims}
+use Rattle.sh_domain.specs.Facts.{Facts, Declared, Variable, claims, start_facts}
 use Rattle.sh_domain.specs.Gains.{redirect_gains, through, with_gains}
 use Rattle.sh_domain.specs.Needs.{wanted, covers, parameter_text, needed, name_needed, target_needed, reads_unmet, operands_read, part_unmet, word_unmet, operator_unmet, expanded_unmet, operands_expanded, words_unmet, patterns_unmet, redirect_unmet, redirects_unmet}
 use Rattle.sh_domain.specs.Rules.{functions_of}
@@ -197,7 +197,7 @@ if_other : (b : Bool) (qs : List Place) → Other qs → Other (if b then qs els
 if_other true qs h = h
 if_other false qs h = none
 
-unmet_other : (d : Declared) (c : Certificate) (functions : List Text) (e : Entered) → Other (unmet d c functions e)
+unmet_other : (d : Facts) (c : Certificate) (functions : List Text) (e : Entered) → Other (unmet d c functions e)
 unfolding unmet shared_unmet
 unmet_other d c functions e = go e.command
   where
@@ -206,7 +206,7 @@ unmet_other d c functions e = go e.command
         join (join (redirects_other _ rs) (kind_other _ k))
         (if_other e.around.shares _ (join (drops_other at _) (moves_other at _)))
 
-demands_other : (d : Declared) (c : Certificate) (t : p.Items) → Other (demands d c t)
+demands_other : (d : Facts) (c : Certificate) (t : p.Items) → Other (demands d c t)
 unfolding demands
 demands_other d c t = gathered (unmet d c (functions_of (script_entered t))) (script_entered t) (unmet_other d c (functions_of (script_entered t)))
 
@@ -269,6 +269,6 @@ once_joined (x ∷ xs) ys h k o c =
 pub places_once : (b : List ℕ) (d : Declared) (t : Script) (c : Sheet) → Parses b (Ok t) → EachOnce (places b d t c)
 places_once b d t c read =
     let reads : Reads b t = (MAX_NESTING, read.1.0, read.1.1) in
-    once_joined (demands d (claims_in b t c) (script_of b t)) (unquoted (script_of b t))
-    (read_places_once d (claims_in b t c) b t reads) (read_unquoted_once b t reads)
-    (demands_other d (claims_in b t c) (script_of b t)).passes (unquoted_quoting (script_of b t)).passes
+    once_joined (demands (start_facts d) (claims_in b t c) (script_of b t)) (unquoted (script_of b t))
+    (read_places_once (start_facts d) (claims_in b t c) b t reads) (read_unquoted_once b t reads)
+    (demands_other (start_facts d) (claims_in b t c) (script_of b t)).passes (unquoted_quoting (script_of b t)).passes

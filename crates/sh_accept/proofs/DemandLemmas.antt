@@ -15,7 +15,7 @@ use Rattle.sh_tree.specs.standard.program.Words.{operands_in}
 use Rattle.sh_table.specs.standard.runs.Environment.{is_one_of}
 use Rattle.sh_domain.specs.Demands.{elements_unmet, clauses_unmet, for_words_unmet, kind_unmet, with_text, dropped, command_moves, drop_at, move_at, is_reached, shared_unmet, unmet, demands}
 use Rattle.sh_domain.specs.Entries.{Around, Entered, script_entered}
-use Rattle.sh_domain.specs.Facts.{Facts, Declared, Nowhere, Variable, Parameters, claims, facts, Unreached}
+use Rattle.sh_domain.specs.Facts.{Facts, Nowhere, Variable, Parameters, claims, facts, Unreached}
 use Rattle.sh_domain.specs.Gains.{Gains, sure, part_gains, expanded_gains, word_gains, words_gains, redirect_gains, redirects_gains, with_gains, job}
 use Rattle.sh_domain.specs.Needs.{wanted, covers, needed, name_needed, target_needed, reads_unmet, operands_read, part_unmet, word_unmet, operator_unmet, expanded_unmet, operands_expanded, words_unmet, patterns_unmet, redirect_unmet, redirects_unmet}
 use Rattle.sh_domain.specs.Operands.{Names, no_names}
@@ -252,7 +252,7 @@ texts_found test xs (y ∷ ys) h e = go (test y) refl e (texts_found test xs ys 
 abbrev pub all_of : List Names → List Text
 all_of ls = flat_map (λ l. l.vars ++ l.functions) ls
 
-module _ (d : Declared) (c e : Certificate) (below : IsBelow c e) where
+module _ (d : Facts) (c e : Certificate) (below : IsBelow c e) where
   -- a command drops no more by the certificate with more claims
   drops_fewer : (n : ℕ) (ls : List Loss) → Falls (all_of (map (lost d c n) ls)) (all_of (map (lost d e n) ls))
   drops_fewer n [] = same _

@@ -7,7 +7,7 @@ use Rattle.sh_tree.specs.declared.place.Place.{Place}
 use Rattle.sh_tree.specs.declared.tree.Script.{Script}
 use Rattle.sh_tree.specs.standard.program.Syntax.{Text}
 use Rattle.sh_tree.specs.standard.program.Trees.{script_of}
-use Rattle.sh_domain.specs.Facts.{Declared}
+use Rattle.sh_domain.specs.Facts.{Declared, start_facts}
 use Rattle.sh_domain.specs.Names.{IsNumbering}
 use Rattle.sh_domain.specs.Order.{IsBelow}
 use Rattle.sh_domain.specs.Sheets.{Sheet}
@@ -36,7 +36,7 @@ renamed b d t ns ms c n m h = record {
 fewest : (b : List ℕ) (d : Declared) (t : Script) (names : List Text) (c other : Sheet)
     → IsGreatest b d t names c → Fits b t names other → KeepsRules b d t other → AreAmong (places b d t c) (places b d t other)
 fewest b d t names c other g f k =
-    let all : Falls (places b d t other) (places b d t c) = join (demands_fall d (claims_in b t other) (claims_in b t c) (g.above other f k) (script_of b t)) (same (unquoted (script_of b t))) in
+    let all : Falls (places b d t other) (places b d t c) = join (demands_fall (start_facts d) (claims_in b t other) (claims_in b t c) (g.above other f k) (script_of b t)) (same (unquoted (script_of b t))) in
     all.kept
 
 -- where another one is accepted, it meets its demands
@@ -46,7 +46,7 @@ meets b d t c other best a =
     let own : IsAdmitted b d t a.names = subst (λ u. IsAdmitted b d u a.names) e a.admitted in
     let fit : Fits b t best.names other = renamed b d t a.names best.names other own.numbered.0 best.admitted.numbered.0 (subst (λ u. Fits b u a.names other) e a.fit) in
     let below : IsBelow (claims_in b t other) (claims_in b t c) = best.greatest.above other fit (subst (λ u. KeepsRules b d u other) e a.rules) in
-    (nothing_left _ _ (demands_fall d (claims_in b t other) (claims_in b t c) below (script_of b t)) (subst (λ u. MeetsDemands b d u other) e a.met), subst (λ u. IsQuoted b u) e a.quoted)
+    (nothing_left _ _ (demands_fall (start_facts d) (claims_in b t other) (claims_in b t c) below (script_of b t)) (subst (λ u. MeetsDemands b d u other) e a.met), subst (λ u. IsQuoted b u) e a.quoted)
 
 pub accepted : (b : List ℕ) (d : Declared) (t : Script) (c other : Sheet) → IsBest b d t c → IsAccepted b d other → IsAccepted b d c
 accepted b d t c other best a =

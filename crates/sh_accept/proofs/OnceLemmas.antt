@@ -13,7 +13,7 @@ use Rattle.sh_scan.specs.Places.{next_place, place_of}
 use Rattle.sh_reads.specs.Spots.{EachOnce}
 use Rattle.sh_reads.proofs.OnceLemmas.{hits_inside}
 use Rattle.sh_domain.specs.Demands.{demands}
-use Rattle.sh_domain.specs.Facts.{Declared}
+use Rattle.sh_domain.specs.Facts.{Declared, start_facts}
 use Rattle.sh_domain.specs.Sheets.{Sheet}
 use Rattle.sh_domain.proofs.CountLemmas.{times, times_join, places_inside}
 use Rattle.sh_domain.proofs.SpotLemmas.{script_counted}
@@ -98,8 +98,8 @@ contents_once b (p ∷ ps) h once = (
 told_inside : (b : List ℕ) (d : Declared) (t : Script) (c : Sheet) → Parses b (Ok t) → (q : Place) → 0 < times q (places b d t c) → q.at < length b
 told_inside b d t c read q some =
     let reads : Reads b t = (MAX_NESTING, read.1.0, read.1.1) in
-    let both = times_join q (demands d (claims_in b t c) (script_of b t)) (unquoted (script_of b t)) in
-    let first = script_counted d (claims_in b t c) q (script_of b t) in
+    let both = times_join q (demands (start_facts d) (claims_in b t c) (script_of b t)) (unquoted (script_of b t)) in
+    let first = script_counted (start_facts d) (claims_in b t c) q (script_of b t) in
     let second = unquoted_counted q (script_of b t) in
     hits_inside b t reads q (omega arith)
 

@@ -6,14 +6,14 @@ use Rattle.sh_tree.specs.standard.program.Syntax.{Text}
 use Rattle.sh_tree.specs.standard.program.Trees.{script_of}
 use Rattle.sh_domain.specs.Admitted.{IsAdmitted, Fits, KeepsRules, claims_in}
 use Rattle.sh_domain.specs.Demands.{demands}
-use Rattle.sh_domain.specs.Facts.{Declared}
+use Rattle.sh_domain.specs.Facts.{Declared, start_facts}
 use Rattle.sh_domain.specs.Forms.{read_text}
 use Rattle.sh_domain.specs.Sheets.{Sheet}
 use Rattle.sh_quote.specs.Places.{unquoted}
 
 -- no demand is unmet
 abbrev pub MeetsDemands : List ℕ → Declared → Script → Sheet → Type 0
-MeetsDemands b d t c = demands d (claims_in b t c) (script_of b t) ≡ []
+MeetsDemands b d t c = demands (start_facts d) (claims_in b t c) (script_of b t) ≡ []
 
 -- no expansion is told that splitting or pathname expansion could change
 abbrev pub IsQuoted : List ℕ → Script → Type 0

@@ -12,7 +12,7 @@ use Rattle.sh_tree.specs.standard.program.Trees.{script_of}
 use Rattle.sh_table.specs.Admits.{Admits}
 use Rattle.sh_table.specs.Profile.{first_refused}
 use Rattle.sh_domain.specs.Demands.{demands}
-use Rattle.sh_domain.specs.Facts.{Declared}
+use Rattle.sh_domain.specs.Facts.{Declared, start_facts}
 use Rattle.sh_domain.specs.Faults.{faults, least}
 use Rattle.sh_domain.specs.Forms.{read_text}
 use Rattle.sh_domain.specs.Names.{Numbers}
@@ -47,7 +47,7 @@ Refuses b d P CertShape = P CertShape
 
 -- the places of the demands that it leaves unmet, and those that the rules of quoting tell
 abbrev pub places : List ℕ → Declared → Script → Sheet → List Place
-places b d t c = demands d (claims_in b t c) (script_of b t) ++ unquoted (script_of b t)
+places b d t c = demands (start_facts d) (claims_in b t c) (script_of b t) ++ unquoted (script_of b t)
 
 -- the text claims what fits a script that is admitted
 pub record IsCertified (b : List ℕ) (d : Declared) (text : Text) (t : Script) (c : Sheet) : Type 0 where
@@ -61,7 +61,7 @@ pub record IsForged (b : List ℕ) (d : Declared) (text : Text) (number : ℕ) (
   pub tree : Script
   pub certificate : Sheet
   pub certified : IsCertified b d text tree certificate
-  pub told : least (faults d (claims_in b tree certificate) (script_of b tree)) ≡ Some (record { number = number; rule = rule })
+  pub told : least (faults (start_facts d) (claims_in b tree certificate) (script_of b tree)) ≡ Some (record { number = number; rule = rule })
 
 -- it breaks none, and these are the findings
 pub record HasFindings (b : List ℕ) (d : Declared) (text : Text) (fs : List Finding) : Type 0 where

@@ -11,7 +11,7 @@ use Rattle.sh_tree.specs.standard.program.Syntax.{Text, Items}
 use Rattle.sh_tree.specs.standard.program.Trees.{script_of}
 use Rattle.sh_table.specs.Profile.{Refused, first_refused}
 use Rattle.sh_domain.specs.Demands.{demands}
-use Rattle.sh_domain.specs.Facts.{Declared}
+use Rattle.sh_domain.specs.Facts.{Declared, start_facts}
 use Rattle.sh_domain.specs.Faults.{Fault, faults, least}
 use Rattle.sh_domain.specs.Forms.{read_text}
 use Rattle.sh_domain.specs.Names.{IsNumbering}
@@ -61,8 +61,8 @@ of_fault None x = x
 
 abbrev pub of_certificate : List ℕ → Declared → Items → List Text → Sheet → Answer
 of_certificate b d p functions c =
-    of_fault (least (faults d (certificate_of functions c) p))
-    (of_findings (in_order (map (contents_at b) (demands d (certificate_of functions c) p ++ unquoted p))))
+    of_fault (least (faults (start_facts d) (certificate_of functions c) p))
+    (of_findings (in_order (map (contents_at b) (demands (start_facts d) (certificate_of functions c) p ++ unquoted p))))
 
 unfoldable pub of_fit : Bool → Answer → Answer
 of_fit true x = x

@@ -9,7 +9,7 @@ use Rattle.sh_tree.specs.standard.program.Trees.{script_of}
 use Rattle.sh_table.specs.Admits.{Admits}
 use Rattle.sh_table.specs.Profile.{first_refused}
 use Rattle.sh_domain.specs.Certificates.{in_byte_order, sheet_of}
-use Rattle.sh_domain.specs.Facts.{Declared}
+use Rattle.sh_domain.specs.Facts.{Declared, start_facts}
 use Rattle.sh_domain.specs.Faults.{Fault, faults, least}
 use Rattle.sh_domain.specs.Names.{Numbers}
 use Rattle.sh_domain.specs.Reading.{Reads}
@@ -31,7 +31,7 @@ pub record PartsAnswer (b : List ℕ) (d : Declared) (text : Text) : Type 0 wher
   pub certified : (t : Script) (names : List Text) (c : Certificate) → IsAdmitted b d t names → Reads text t (length (functions_in b t)) names (Ok c)
       → IsCertified b d text t (sheet_of (in_byte_order names) c)
   pub passes : (t : Script) (c : Sheet) → IsCertified b d text t c → KeepsRules b d t c → places b d t c ≡ [] → Checks b d text (Ok Pass)
-  pub forged : (t : Script) (c : Sheet) (f : Fault) → IsCertified b d text t c → least (faults d (claims_in b t c) (script_of b t)) ≡ Some f
+  pub forged : (t : Script) (c : Sheet) (f : Fault) → IsCertified b d text t c → least (faults (start_facts d) (claims_in b t c) (script_of b t)) ≡ Some f
       → Checks b d text (Ok (Forged f.number f.rule))
   pub fails : (t : Script) (c : Sheet) (r : Report) → IsCertified b d text t c → KeepsRules b d t c → 0 < length r.findings.items
       → AreFindings b (places b d t c) r.findings.items → Checks b d text (Ok (Fail r))

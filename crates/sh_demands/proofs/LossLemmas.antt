@@ -15,7 +15,7 @@ use Rattle.sh_table.specs.declared.kind.Kind.{Kind}
 use Rattle.sh_table.specs.declared.kind.Kind.TheVariants as kind
 use Rattle.sh_table.specs.standard.runs.Environment.{is_one_of}
 use Rattle.sh_table.proofs.FunctionLemmas.{is_placed}
-use Rattle.sh_domain.specs.Facts.{Facts, NotReached, Known, Declared, facts, claims, Variable}
+use Rattle.sh_domain.specs.Facts.{Facts, NotReached, Known, facts, claims, Variable}
 use Rattle.sh_domain.specs.Gains.{Gains, words_gains, with_gains}
 use Rattle.sh_domain.specs.Operands.{Names, no_names, statics, unset_names}
 use Rattle.sh_domain.specs.Rules.{utility_losses, builtin_losses, losses_by}
@@ -25,8 +25,8 @@ use Rattle.sh_domain.specs.Views.{Certificate, Before, Loss, OfNames, OfFunction
 use Rattle.sh_demands.specs.Drops.{listed, optarg, unset_drops, utility_drops, builtin_drops, unseen, call_drops}
 use Rattle.sh_demands.specs.Places.{Source, known_behind, function_drops, called_drops, texts_drops}
 
-abbrev pub names_lost : Declared → Certificate → ℕ → List Loss → List Text
-names_lost d c n ls = flat_map (λ l. l.vars ++ l.functions) (map (lost d c n) ls)
+abbrev pub names_lost : Facts → Certificate → ℕ → List Loss → List Text
+names_lost start c n ls = flat_map (λ l. l.vars ++ l.functions) (map (lost start c n) ls)
 
 -- operands that are static
 pub texts_listed : (ws : List Word) → listed (map static_of ws) ≡ statics ws
@@ -49,58 +49,58 @@ place names t = position_from (λ n. bytes_eq n t) 1 names
 -- A command to which some run comes
 
 -- names that are lost there
-lost_names : (d : Declared) (c : Certificate) (n : ℕ) (v f : Text → Bool) (a : ℕ) (x : Names) → facts (c.claim (Before n)) ≡ Known v f a → lost d c n (OfNames x) ≡ x
+lost_names : (start : Facts) (c : Certificate) (n : ℕ) (v f : Text → Bool) (a : ℕ) (x : Names) → facts (c.claim (Before n)) ≡ Known v f a → lost start c n (OfNames x) ≡ x
 unfolding lost where_reached
-lost_names d c n v f a x e = ap (λ g. where_reached g x) e
+lost_names start c n v f a x e = ap (λ g. where_reached g x) e
 
-lost_function : (d : Declared) (c : Certificate) (n : ℕ) (v f : Text → Bool) (a : ℕ) (t : Text) → facts (c.claim (Before n)) ≡ Known v f a → lost d c n (OfFunction t) ≡ c.drops t
+lost_function : (start : Facts) (c : Certificate) (n : ℕ) (v f : Text → Bool) (a : ℕ) (t : Text) → facts (c.claim (Before n)) ≡ Known v f a → lost start c n (OfFunction t) ≡ c.drops t
 unfolding lost where_reached
-lost_function d c n v f a t e = ap (λ g. where_reached g (c.drops t)) e
+lost_function start c n v f a t e = ap (λ g. where_reached g (c.drops t)) e
 
-utility_lost : (d : Declared) (c : Certificate) (n : ℕ) (v f : Text → Bool) (a : ℕ) (functions names : List Text) → ((t : Text) → is_one_of names t ≡ is_one_of functions t)
-    → facts (c.claim (Before n)) ≡ Known v f a → (k : Kind) (ws : List Word) → names_lost d c n (utility_losses functions k ws) ≡ utility_drops names k (map static_of ws)
+utility_lost : (start : Facts) (c : Certificate) (n : ℕ) (v f : Text → Bool) (a : ℕ) (functions names : List Text) → ((t : Text) → is_one_of names t ≡ is_one_of functions t)
+    → facts (c.claim (Before n)) ≡ Known v f a → (k : Kind) (ws : List Word) → names_lost start c n (utility_losses functions k ws) ≡ utility_drops names k (map static_of ws)
 unfolding utility_losses utility_drops unset_names
-utility_lost d c n v f a functions names same e (kind.Special known.Unset) ws =
+utility_lost start c n v f a functions names same e (kind.Special known.Unset) ws =
     let x : Names = record { vars = (unset_names ws).vars; functions = filter (is_one_of functions) (unset_names ws).functions } in
-    ap (λ (l : Names). (l.vars ++ l.functions) ++ []) (lost_names d c n v f a x e)
+    ap (λ (l : Names). (l.vars ++ l.functions) ++ []) (lost_names start c n v f a x e)
     ∙ append-nil (x.vars ++ x.functions)
     ∙ ap (λ fs. (unset_names ws).vars ++ fs) (filter_agree (is_one_of functions) (is_one_of names) (λ t. sym (same t)) (unset_names ws).functions)
     ∙ ap (unset_drops names) (sym (texts_listed ws))
-utility_lost d c n v f a functions names same e kind.Getopts ws =
-    ap (λ (l : Names). (l.vars ++ l.functions) ++ []) (lost_names d c n v f a (record { vars = codes "OPTARG" ∷ []; functions = [] }) e)
-utility_lost d c n v f a functions names same e k ws = refl
+utility_lost start c n v f a functions names same e kind.Getopts ws =
+    ap (λ (l : Names). (l.vars ++ l.functions) ++ []) (lost_names start c n v f a (record { vars = codes "OPTARG" ∷ []; functions = [] }) e)
+utility_lost start c n v f a functions names same e k ws = refl
 
 -- what is not known behind the words
-prefixes_lost : (d : Declared) (c : Certificate) (n : ℕ) (es : p.Elements)
-    → names_lost d c n (map (OfUnseen (prefixes es)) (behind_words es (at (Before n)))) ≡ unseen (with_gains (words_gains (operands_in es)) (facts (c.claim (Before n)))) es
+prefixes_lost : (start : Facts) (c : Certificate) (n : ℕ) (es : p.Elements)
+    → names_lost start c n (map (OfUnseen (prefixes es)) (behind_words es (at (Before n)))) ≡ unseen (with_gains (words_gains (operands_in es)) (facts (c.claim (Before n)))) es
 unfolding lost steps step source_facts unseen
-prefixes_lost d c n es =
+prefixes_lost start c n es =
     append-nil (unseen (with_gains (words_gains (operands_in es)) (facts (c.claim (Before n)))) es ++ [])
     ∙ append-nil (unseen (with_gains (words_gains (operands_in es)) (facts (c.claim (Before n)))) es)
 
-builtin_lost : (d : Declared) (c : Certificate) (n : ℕ) (v f : Text → Bool) (a : ℕ) (t : Text) (ls : List Loss) → facts (c.claim (Before n)) ≡ Known v f a
-    → names_lost d c n (builtin_losses t ++ ls) ≡ builtin_drops t ++ names_lost d c n ls
+builtin_lost : (start : Facts) (c : Certificate) (n : ℕ) (v f : Text → Bool) (a : ℕ) (t : Text) (ls : List Loss) → facts (c.claim (Before n)) ≡ Known v f a
+    → names_lost start c n (builtin_losses t ++ ls) ≡ builtin_drops t ++ names_lost start c n ls
 unfolding builtin_drops
-builtin_lost d c n v f a t ls e = go (bytes_eq t (codes "getopts"))
+builtin_lost start c n v f a t ls e = go (bytes_eq t (codes "getopts"))
   where
-    go : (b : Bool) → names_lost d c n ((if b then OfNames (record { vars = codes "OPTARG" ∷ []; functions = [] }) ∷ [] else []) ++ ls)
-        ≡ (if b then optarg else []) ++ names_lost d c n ls
-    go true = ap (λ (l : Names). (l.vars ++ l.functions) ++ names_lost d c n ls) (lost_names d c n v f a (record { vars = codes "OPTARG" ∷ []; functions = [] }) e)
+    go : (b : Bool) → names_lost start c n ((if b then OfNames (record { vars = codes "OPTARG" ∷ []; functions = [] }) ∷ [] else []) ++ ls)
+        ≡ (if b then optarg else []) ++ names_lost start c n ls
+    go true = ap (λ (l : Names). (l.vars ++ l.functions) ++ names_lost start c n ls) (lost_names start c n v f a (record { vars = codes "OPTARG" ∷ []; functions = [] }) e)
     go false = refl
 
-call_lost : (d : Declared) (c : Certificate) (n : ℕ) (v f : Text → Bool) (a : ℕ) (functions : List Text) (es : p.Elements) (t : Text) (ws : List Word) → facts (c.claim (Before n)) ≡ Known v f a
-    → names_lost d c n (losses_by functions es (behind_words es (at (Before n))) (table.Call t ws))
+call_lost : (start : Facts) (c : Certificate) (n : ℕ) (v f : Text → Bool) (a : ℕ) (functions : List Text) (es : p.Elements) (t : Text) (ws : List Word) → facts (c.claim (Before n)) ≡ Known v f a
+    → names_lost start c n (losses_by functions es (behind_words es (at (Before n))) (table.Call t ws))
     ≡ call_drops (c.drops t) t (with_gains (words_gains (operands_in es)) (facts (c.claim (Before n)))) es
 unfolding losses_by
-call_lost d c n v f a functions es t ws e =
+call_lost start c n v f a functions es t ws e =
     let prefixed = map (OfUnseen (prefixes es)) (behind_words es (at (Before n))) in
-    ap (λ (l : Names). (l.vars ++ l.functions) ++ names_lost d c n (builtin_losses t ++ prefixed)) (lost_function d c n v f a t e)
+    ap (λ (l : Names). (l.vars ++ l.functions) ++ names_lost start c n (builtin_losses t ++ prefixed)) (lost_function start c n v f a t e)
     ∙ ap (λ us. ((c.drops t).vars ++ (c.drops t).functions) ++ us)
-    (builtin_lost d c n v f a t prefixed e ∙ ap (λ us. builtin_drops t ++ us) (prefixes_lost d c n es))
+    (builtin_lost start c n v f a t prefixed e ∙ ap (λ us. builtin_drops t ++ us) (prefixes_lost start c n es))
 
 -- By the texts of its words
 
-module _ (d : Declared) (c : Certificate) (n : ℕ) (v f : Text → Bool) (a : ℕ) (functions : List Text) (s : Source) (es : p.Elements)
+module _ (start : Facts) (c : Certificate) (n : ℕ) (v f : Text → Bool) (a : ℕ) (functions : List Text) (s : Source) (es : p.Elements)
     (same : (t : Text) → is_one_of s.table.functions.names t ≡ is_one_of functions t)
     (kept : (t : Text) (k : ℕ) → place s.table.functions.names t ≡ Some k → function_drops s k ≡ c.drops t)
     (behind : (known_behind s n es).facts ≡ with_gains (words_gains (operands_in es)) (facts (c.claim (Before n))))
@@ -109,19 +109,19 @@ module _ (d : Declared) (c : Certificate) (n : ℕ) (v f : Text → Bool) (a : �
   seen = behind_words es (at (Before n))
 
   abbrev lost_as : Manner → List Text
-  lost_as m = names_lost d c n (losses_by functions es seen m)
+  lost_as m = names_lost start c n (losses_by functions es seen m)
 
   abbrev chosen : Text → List Word → Bool → Manner
   chosen t ws b = if b then table.Call t ws else Utility (kind_of t) ws
 
   as_utility : (t : Text) (ws : List Word) → lost_as (Utility (kind_of t) ws) ≡ called_drops s n es t (map static_of ws) None
   unfolding called_drops losses_by
-  as_utility t ws = utility_lost d c n v f a functions s.table.functions.names same reached (kind_of t) ws
+  as_utility t ws = utility_lost start c n v f a functions s.table.functions.names same reached (kind_of t) ws
 
   as_call : (t : Text) (ws : List Word) (k : ℕ) → place s.table.functions.names t ≡ Some k → lost_as (table.Call t ws) ≡ called_drops s n es t (map static_of ws) (Some k)
   unfolding called_drops
   as_call t ws k h =
-      call_lost d c n v f a functions es t ws reached
+      call_lost start c n v f a functions es t ws reached
       ∙ ap₂ (λ (x : Names) (g : Facts). call_drops x t g es) (sym (kept t k h)) (sym behind)
 
   by_place : (t : Text) (ws : List Word) (z : Bool) (o : Option ℕ) → kinds.is_special (kind_of t) ≡ z → place s.table.functions.names t ≡ o
@@ -167,40 +167,40 @@ unfolding with_gains claims
 none_unseen g [] = refl
 none_unseen g (t ∷ ns) = none_unseen g ns
 
-none_lost : (d : Declared) (c : Certificate) (n : ℕ) (x : Names) → facts (c.claim (Before n)) ≡ NotReached → lost d c n (OfNames x) ≡ no_names
+none_lost : (start : Facts) (c : Certificate) (n : ℕ) (x : Names) → facts (c.claim (Before n)) ≡ NotReached → lost start c n (OfNames x) ≡ no_names
 unfolding lost where_reached
-none_lost d c n x e = ap (λ g. where_reached g x) e
+none_lost start c n x e = ap (λ g. where_reached g x) e
 
-none_dropped : (d : Declared) (c : Certificate) (n : ℕ) (t : Text) → facts (c.claim (Before n)) ≡ NotReached → lost d c n (OfFunction t) ≡ no_names
+none_dropped : (start : Facts) (c : Certificate) (n : ℕ) (t : Text) → facts (c.claim (Before n)) ≡ NotReached → lost start c n (OfFunction t) ≡ no_names
 unfolding lost where_reached
-none_dropped d c n t e = ap (λ g. where_reached g (c.drops t)) e
+none_dropped start c n t e = ap (λ g. where_reached g (c.drops t)) e
 
-no_builtin : (d : Declared) (c : Certificate) (n : ℕ) (t : Text) (ls : List Loss) → facts (c.claim (Before n)) ≡ NotReached → names_lost d c n (builtin_losses t ++ ls) ≡ names_lost d c n ls
-no_builtin d c n t ls e = go (bytes_eq t (codes "getopts"))
+no_builtin : (start : Facts) (c : Certificate) (n : ℕ) (t : Text) (ls : List Loss) → facts (c.claim (Before n)) ≡ NotReached → names_lost start c n (builtin_losses t ++ ls) ≡ names_lost start c n ls
+no_builtin start c n t ls e = go (bytes_eq t (codes "getopts"))
   where
-    go : (b : Bool) → names_lost d c n ((if b then OfNames (record { vars = codes "OPTARG" ∷ []; functions = [] }) ∷ [] else []) ++ ls) ≡ names_lost d c n ls
-    go true = ap (λ (l : Names). (l.vars ++ l.functions) ++ names_lost d c n ls) (none_lost d c n (record { vars = codes "OPTARG" ∷ []; functions = [] }) e)
+    go : (b : Bool) → names_lost start c n ((if b then OfNames (record { vars = codes "OPTARG" ∷ []; functions = [] }) ∷ [] else []) ++ ls) ≡ names_lost start c n ls
+    go true = ap (λ (l : Names). (l.vars ++ l.functions) ++ names_lost start c n ls) (none_lost start c n (record { vars = codes "OPTARG" ∷ []; functions = [] }) e)
     go false = refl
 
-no_utility : (d : Declared) (c : Certificate) (n : ℕ) (functions : List Text) → facts (c.claim (Before n)) ≡ NotReached → (k : Kind) (ws : List Word)
-    → names_lost d c n (utility_losses functions k ws) ≡ []
+no_utility : (start : Facts) (c : Certificate) (n : ℕ) (functions : List Text) → facts (c.claim (Before n)) ≡ NotReached → (k : Kind) (ws : List Word)
+    → names_lost start c n (utility_losses functions k ws) ≡ []
 unfolding utility_losses
-no_utility d c n functions e (kind.Special known.Unset) ws =
+no_utility start c n functions e (kind.Special known.Unset) ws =
     ap (λ (l : Names). (l.vars ++ l.functions) ++ [])
-    (none_lost d c n (record { vars = (unset_names ws).vars; functions = filter (is_one_of functions) (unset_names ws).functions }) e)
-no_utility d c n functions e kind.Getopts ws =
-    ap (λ (l : Names). (l.vars ++ l.functions) ++ []) (none_lost d c n (record { vars = codes "OPTARG" ∷ []; functions = [] }) e)
-no_utility d c n functions e k ws = refl
+    (none_lost start c n (record { vars = (unset_names ws).vars; functions = filter (is_one_of functions) (unset_names ws).functions }) e)
+no_utility start c n functions e kind.Getopts ws =
+    ap (λ (l : Names). (l.vars ++ l.functions) ++ []) (none_lost start c n (record { vars = codes "OPTARG" ∷ []; functions = [] }) e)
+no_utility start c n functions e k ws = refl
 
-pub losses_nowhere : (d : Declared) (c : Certificate) (n : ℕ) (functions : List Text) (es : p.Elements) → facts (c.claim (Before n)) ≡ NotReached → (m : Manner)
-    → names_lost d c n (losses_by functions es (behind_words es (at (Before n))) m) ≡ []
+pub losses_nowhere : (start : Facts) (c : Certificate) (n : ℕ) (functions : List Text) (es : p.Elements) → facts (c.claim (Before n)) ≡ NotReached → (m : Manner)
+    → names_lost start c n (losses_by functions es (behind_words es (at (Before n))) m) ≡ []
 unfolding losses_by unseen
-losses_nowhere d c n functions es e Nameless = refl
-losses_nowhere d c n functions es e (Utility k ws) = no_utility d c n functions e k ws
-losses_nowhere d c n functions es e (table.Call t ws) =
+losses_nowhere start c n functions es e Nameless = refl
+losses_nowhere start c n functions es e (Utility k ws) = no_utility start c n functions e k ws
+losses_nowhere start c n functions es e (table.Call t ws) =
     let prefixed = map (OfUnseen (prefixes es)) (behind_words es (at (Before n))) in
-    ap (λ (l : Names). (l.vars ++ l.functions) ++ names_lost d c n (builtin_losses t ++ prefixed)) (none_dropped d c n t e)
-    ∙ no_builtin d c n t prefixed e
-    ∙ prefixes_lost d c n es
+    ap (λ (l : Names). (l.vars ++ l.functions) ++ names_lost start c n (builtin_losses t ++ prefixed)) (none_dropped start c n t e)
+    ∙ no_builtin start c n t prefixed e
+    ∙ prefixes_lost start c n es
     ∙ ap (λ g. filter (λ x. not (claims (with_gains (words_gains (operands_in es)) g) (Variable x))) (prefixes es)) e
     ∙ none_unseen (words_gains (operands_in es)) (prefixes es)

@@ -22,7 +22,7 @@ use Rattle.sh_domain.specs.declared.rule.FlowRule.{FlowRule}
 use Rattle.sh_domain.specs.Certificates.{claim_of, drops_of, in_byte_order, sheet_of}
 use Rattle.sh_domain.specs.Demands.{kind_unmet, with_text, drop_at, move_at, is_reached, command_moves, shared_unmet, unmet, demands}
 use Rattle.sh_domain.specs.Entries.{Around, Entered, script_entered}
-use Rattle.sh_domain.specs.Facts.{Unreached, Facts, NotReached, Known, Declared, facts, claims}
+use Rattle.sh_domain.specs.Facts.{Unreached, Facts, NotReached, Known, facts, claims}
 use Rattle.sh_domain.specs.Gains.{words_gains, redirects_gains, with_gains}
 use Rattle.sh_domain.specs.Knowledge.{AreNumbered}
 use Rattle.sh_domain.specs.Names.{number_of}
@@ -92,7 +92,7 @@ all_false : (b : Bool) → (b && false) ≡ false
 all_false true = refl
 all_false false = refl
 
-module _ (d : Declared) (c : Certificate) (s : Source) (functions : List Text) (n at : ℕ) (es : p.Elements)
+module _ (start : Facts) (c : Certificate) (s : Source) (functions : List Text) (n at : ℕ) (es : p.Elements)
     (same : (t : Text) → is_one_of s.table.functions.names t ≡ is_one_of functions t)
     (kept : (t : Text) (k : ℕ) → position_from (λ m. bytes_eq m t) 1 s.table.functions.names ≡ Some k → function_drops s k ≡ c.drops t)
     (before : (known_before s n).facts ≡ facts (c.claim (Before n)))
@@ -104,7 +104,7 @@ module _ (d : Declared) (c : Certificate) (s : Source) (functions : List Text) (
   moved : moves_by (texts_with n s.table.rows) ≡ command_moves functions (p.Simple es)
   moved = ap moves_by texts ∙ moves_tell.moves functions es
 
-  by_facts : (e : Entered) (qs : List Place) (f : Facts) → facts (c.claim (Before n)) ≡ f → (names : List Text) → names ≡ names_lost d c n (losses functions e)
+  by_facts : (e : Entered) (qs : List Place) (f : Facts) → facts (c.claim (Before n)) ≡ f → (names : List Text) → names ≡ names_lost start c n (losses functions e)
       → (f ≡ NotReached → names ≡ []) → ((v w : Text → Bool) (a : ℕ) → f ≡ Known v w a → names ≡ texts_drops s n es (texts_with n s.table.rows))
       → (if is_reached f then sharing s n at qs es else qs) ≡ qs ++ told e names (is_reached f)
   unfolding is_reached claims sharing move_at with_text
@@ -118,32 +118,32 @@ module _ (d : Declared) (c : Certificate) (s : Source) (functions : List Text) (
 
   pub simple_shared : (rs : p.Redirects) (rule : FlowRule) (x : Around) (seen : Seen) (qs : List Place)
       → reached_sharing s n at qs (p.Simple es)
-      ≡ qs ++ shared_unmet d c functions (record { command = p.command n at (p.Simple es) rs; rule = rule; around = x; seen = seen }) n at (p.Simple es)
+      ≡ qs ++ shared_unmet start c functions (record { command = p.command n at (p.Simple es) rs; rule = rule; around = x; seen = seen }) n at (p.Simple es)
   unfolding reached_sharing shared_unmet losses
   simple_shared rs rule x seen qs =
       let e : Entered = record { command = p.command n at (p.Simple es) rs; rule = rule; around = x; seen = seen } in
       ap (λ f. if is_reached f then sharing s n at qs es else qs) before
-      ∙ by_facts e qs (facts (c.claim (Before n))) refl (names_lost d c n (losses functions e)) refl
-      (λ h. losses_nowhere d c n functions es h (manner functions es))
-      (λ v w a h. losses_told d c n v w a functions s es same kept behind h texts)
+      ∙ by_facts e qs (facts (c.claim (Before n))) refl (names_lost start c n (losses functions e)) refl
+      (λ h. losses_nowhere start c n functions es h (manner functions es))
+      (λ v w a h. losses_told start c n v w a functions s es same kept behind h texts)
 
 -- A command, as it is entered
 
-command_shared : (d : Declared) (b : List ℕ) (t : Script) (names : List Text) (c : kept.Certificate) (functions : List Text)
+command_shared : (start : Facts) (b : List ℕ) (t : Script) (names : List Text) (c : kept.Certificate) (functions : List Text)
     → ((u : Text) → is_one_of (table_of b t).functions.names u ≡ is_one_of functions u)
     → (n at : ℕ) (k : p.Kind) (rs : p.Redirects) (rule : FlowRule) (x : Around) (seen : Seen) (qs : List Place) → kind_within (is_one_of names) k ≡ true
     → has_texts (table_of b t).rows (p.command n at k rs) ≡ true
     → reached_sharing (source_of names c (table_of b t)) n at qs k
-    ≡ qs ++ shared_unmet d (kept_claims b t names c) functions (record { command = p.command n at k rs; rule = rule; around = x; seen = seen }) n at k
+    ≡ qs ++ shared_unmet start (kept_claims b t names c) functions (record { command = p.command n at k rs; rule = rule; around = x; seen = seen }) n at k
 unfolding reached_sharing shared_unmet losses command_moves kind_within move_at
-command_shared d b t names c functions same n at (p.Simple es) rs rule x seen qs w h =
+command_shared start b t names c functions same n at (p.Simple es) rs rule x seen qs w h =
     let fs = (table_of b t).functions.names in
     let s = source_of names c (table_of b t) in
     let before = claimed fs names c (table_of b t) n in
-    simple_shared d (kept_claims b t names c) s functions n at es same (λ u k e. dropped fs names c (table_of b t) u k e) before
+    simple_shared start (kept_claims b t names c) s functions n at es same (λ u k e. dropped fs names c (table_of b t) u k e) before
     (facts_whole (words_gains (operands_in es)) (known_before s n) (elements_pass (is_one_of names) es w) ∙ ap (with_gains (words_gains (operands_in es))) before)
     (own_texts (table_of b t).rows n at es rs h) rs rule x seen qs
-command_shared d b t names c functions same n at k rs rule x seen qs w h = sym (append-nil qs)
+command_shared start b t names c functions same n at k rs rule x seen qs w h = sym (append-nil qs)
 
 maybe_shared : (s : Source) (shares : Bool) (n at : ℕ) (qs xs : List Place) (k : p.Kind) → reached_sharing s n at qs k ≡ qs ++ xs
     → shared s shares n at qs k ≡ qs ++ (if shares then xs else [])
@@ -151,39 +151,39 @@ unfolding shared
 maybe_shared s true n at qs xs k h = h
 maybe_shared s false n at qs xs k h = sym (append-nil qs)
 
-one_told : (d : Declared) (b : List ℕ) (t : Script) (names : List Text) (c : kept.Certificate) (functions : List Text)
+one_told : (start : Facts) (b : List ℕ) (t : Script) (names : List Text) (c : kept.Certificate) (functions : List Text)
     → ((u : Text) → is_one_of (table_of b t).functions.names u ≡ is_one_of functions u)
     → (y : p.Command) (rule : FlowRule) (x : Around) (seen : Seen) (ps : List Place) → command_within (is_one_of names) y ≡ true → has_texts (table_of b t).rows y ≡ true
     → command_places (source_of names c (table_of b t)) x.shares ps y
-    ≡ ps ++ unmet d (kept_claims b t names c) functions (record { command = y; rule = rule; around = x; seen = seen })
+    ≡ ps ++ unmet start (kept_claims b t names c) functions (record { command = y; rule = rule; around = x; seen = seen })
 unfolding command_places command_within unmet
-one_told d b t names c functions same (p.command n at kind rs) rule x seen ps w h =
+one_told start b t names c functions same (p.command n at kind rs) rule x seen ps w h =
     let e : Entered = record { command = p.command n at kind rs; rule = rule; around = x; seen = seen } in
     let s = source_of names c (table_of b t) in
     let cert = kept_claims b t names c in
     let both = and_parts (redirects_within (is_one_of names) rs) (kind_within (is_one_of names) kind) w in
     let own = redirects_unmet (facts (cert.claim (Before n))) rs ++ kind_unmet (with_gains (redirects_gains rs) (facts (cert.claim (Before n)))) kind in
-    let more = if x.shares then shared_unmet d cert functions e n at kind else [] in
+    let more = if x.shares then shared_unmet start cert functions e n at kind else [] in
     ap (λ qs. shared s x.shares n at qs kind)
     (own_told kind rs (known_before s n) ps both.0 both.1
     ∙ ap (λ f. ps ++ (redirects_unmet f rs ++ kind_unmet (with_gains (redirects_gains rs) f) kind)) (claimed (table_of b t).functions.names names c (table_of b t) n))
-    ∙ maybe_shared s x.shares n at (ps ++ own) (shared_unmet d cert functions e n at kind) kind
-    (command_shared d b t names c functions same n at kind rs rule x seen (ps ++ own) both.1 h)
+    ∙ maybe_shared s x.shares n at (ps ++ own) (shared_unmet start cert functions e n at kind) kind
+    (command_shared start b t names c functions same n at kind rs rule x seen (ps ++ own) both.1 h)
     ∙ append_assoc ps own more
 
-each_told : (d : Declared) (b : List ℕ) (t : Script) (names : List Text) (c : kept.Certificate) (functions : List Text)
+each_told : (start : Facts) (b : List ℕ) (t : Script) (names : List Text) (c : kept.Certificate) (functions : List Text)
     → ((u : Text) → is_one_of (table_of b t).functions.names u ≡ is_one_of functions u)
     → (es : List Entered) → list_all (λ (e : Entered). command_within (is_one_of names) e.command) es ≡ true
     → list_all (λ (e : Entered). has_texts (table_of b t).rows e.command) es ≡ true → (ps : List Place)
-    → fold (entered_told (command_places (source_of names c (table_of b t)))) ps es ≡ ps ++ flat_map (unmet d (kept_claims b t names c) functions) es
-each_told d b t names c functions same [] w h ps = sym (append-nil ps)
-each_told d b t names c functions same (e ∷ es) w h ps =
+    → fold (entered_told (command_places (source_of names c (table_of b t)))) ps es ≡ ps ++ flat_map (unmet start (kept_claims b t names c) functions) es
+each_told start b t names c functions same [] w h ps = sym (append-nil ps)
+each_told start b t names c functions same (e ∷ es) w h ps =
     let cert = kept_claims b t names c in
     let within = and_parts (command_within (is_one_of names) e.command) (list_all (λ (x : Entered). command_within (is_one_of names) x.command) es) w in
     let have = and_parts (has_texts (table_of b t).rows e.command) (list_all (λ (x : Entered). has_texts (table_of b t).rows x.command) es) h in
-    each_told d b t names c functions same es within.1 have.1 (command_places (source_of names c (table_of b t)) e.around.shares ps e.command)
-    ∙ ap (λ qs. qs ++ flat_map (unmet d cert functions) es) (one_told d b t names c functions same e.command e.rule e.around e.seen ps within.0 have.0)
-    ∙ append_assoc ps (unmet d cert functions e) (flat_map (unmet d cert functions) es)
+    each_told start b t names c functions same es within.1 have.1 (command_places (source_of names c (table_of b t)) e.around.shares ps e.command)
+    ∙ ap (λ qs. qs ++ flat_map (unmet start cert functions) es) (one_told start b t names c functions same e.command e.rule e.around e.seen ps within.0 have.0)
+    ∙ append_assoc ps (unmet start cert functions e) (flat_map (unmet start cert functions) es)
 
 -- A script
 
@@ -199,18 +199,18 @@ table_texts b t h = entered_have (script_of b t) h
 pub demands_are_told : DemandsAreTold
 unfolding demands
 demands_are_told = record {
-  told = λ d b t names c numbered within ps.
+  told = λ start b t names c numbered within ps.
       script_goes (command_places (source_of names c (table_of b t))) (script_of b t) ps
-      ∙ each_told d b t names c (functions_of (script_entered (script_of b t))) (table_functions b t) (script_entered (script_of b t)) within (table_texts b t numbered) ps;
+      ∙ each_told start b t names c (functions_of (script_entered (script_of b t))) (table_functions b t) (script_entered (script_of b t)) within (table_texts b t numbered) ps;
 }
 
 pub whole_told : (b : List ℕ) (t : Script) (names : List Text) (c : kept.Certificate) (x : Table) (s : Source)
     → x ≡ table_of b t → is_numbered (script_of b t) ≡ true → AreNamesOf b t names → s ≡ source_of names c x
-    → (d : Declared) → script_step (command_places s) b false [] t ≡ demands d (kept_claims b t names c) (script_of b t)
+    → (start : Facts) → script_step (command_places s) b false [] t ≡ demands start (kept_claims b t names c) (script_of b t)
 unfolding script_step
-whole_told b t names c x s e numbered a k d =
+whole_told b t names c x s e numbered a k start =
     ap (λ y. items_told (command_places y) false [] (script_of b t)) (k ∙ ap (source_of names c) e)
-    ∙ demands_are_told.told d b t names c numbered (names_reach.within b t a.declared names a.numbered) []
+    ∙ demands_are_told.told start b t names c numbered (names_reach.within b t a.declared names a.numbered) []
 
 -- the names of a script are numbered, and its table has its text
 

@@ -14,7 +14,7 @@ use Rattle.sh_domain.specs.declared.certificate.Certificate as kept
 use Rattle.sh_domain.specs.Certificates.{in_byte_order, sheet_of}
 use Rattle.sh_domain.specs.Demands.{demands}
 use Rattle.sh_domain.specs.Entries.{script_entered}
-use Rattle.sh_domain.specs.Facts.{Declared}
+use Rattle.sh_domain.specs.Facts.{Facts, Declared}
 use Rattle.sh_domain.specs.Names.{IsNumbering}
 use Rattle.sh_domain.specs.Sheets.{certificate_of}
 use Rattle.sh_domain.specs.Views.{Certificate}
@@ -34,8 +34,8 @@ pub record AreNamesOf (b : List ℕ) (t : Script) (names : List Text) : Type 0 w
 
 -- Where no two commands have one number and each name that a command may set is numbered, the walk tells the unmet places, in their order.
 pub record DemandsAreTold : Type 0 where
-  pub told : (d : Declared) (b : List ℕ) (t : Script) (names : List Text) (c : kept.Certificate)
+  pub told : (start : Facts) (b : List ℕ) (t : Script) (names : List Text) (c : kept.Certificate)
       → is_numbered (script_of b t) ≡ true
       → list_all (λ e. command_within (is_one_of names) e.command) (script_entered (script_of b t)) ≡ true
       → (ps : List Place)
-      → items_told (command_places (source_of names c (table_of b t))) false ps (script_of b t) ≡ ps ++ demands d (kept_claims b t names c) (script_of b t)
+      → items_told (command_places (source_of names c (table_of b t))) false ps (script_of b t) ≡ ps ++ demands start (kept_claims b t names c) (script_of b t)

@@ -4,7 +4,7 @@ ghost use Rattle.sh_tree.specs.standard.program.Trees.{command_of, script_of};
 ghost use Rattle.sh_table.specs.Calls.{table_of};
 ghost use Rattle.sh_table.specs.Numbering.{is_numbered};
 ghost use Rattle.sh_domain.specs.Demands.{demands};
-ghost use Rattle.sh_domain.specs.Facts.{Declared};
+ghost use Rattle.sh_domain.specs.Facts.{Facts};
 ghost use Rattle.sh_demands.specs.Places.{command_places};
 ghost use Rattle.sh_demands.specs.Reported.{Adds};
 ghost use Rattle.sh_demands.specs.Told.{item_shares};
@@ -475,8 +475,8 @@ pub fn check_demands(
     requires table { calls.now ≡ table_of script.now tree.now }
     requires numbered { is_numbered (script_of script.now tree.now) ≡ true }
     requires names { AreNamesOf script.now tree.now names.now }
-    ensures places { IfOk result (λ places. (d : Declared) → places.items ≡ demands d (kept_claims script.now tree.now names.now certificate.now) (script_of script.now tree.now)) }
-    ensures memory { IfErr result (λ _. (d : Declared) → 0 < length (demands d (kept_claims script.now tree.now names.now certificate.now) (script_of script.now tree.now))) }
+    ensures places { IfOk result (λ places. (start : Facts) → places.items ≡ demands start (kept_claims script.now tree.now names.now certificate.now) (script_of script.now tree.now)) }
+    ensures memory { IfErr result (λ _. (start : Facts) → 0 < length (demands start (kept_claims script.now tree.now names.now certificate.now) (script_of script.now tree.now))) }
 {
     let source = Source::new(names, certificate, calls, script);
     let mut reports = Reports::new(alloc);

@@ -10,6 +10,7 @@ pub mod NumberSetLemmas
 pub mod KnownNameLemmas
 pub mod LeastLemmas
 pub mod MeetLemmas
+pub mod FilledLemmas
 pub mod MonotoneLemmas
 pub mod NameLemmas
 pub mod OrderLemmas

@@ -6,7 +6,7 @@ use Rattle.std.proofs.Math.Path.{fun_ext}
 use Rattle.std.proofs.lemmas.Bool.{cases_lt}
 use Rattle.sh_tree.specs.standard.program.Syntax.{Text}
 use Rattle.sh_table.specs.standard.runs.Environment.{is_one_of}
-use Rattle.sh_domain.specs.Facts.{Facts, NotReached, Known, meet, Declared}
+use Rattle.sh_domain.specs.Facts.{Facts, NotReached, Known, meet}
 use Rattle.sh_domain.specs.Gains.{Gains, with_gains}
 use Rattle.sh_domain.specs.Inclusions.{Each}
 use Rattle.sh_domain.specs.Meets.{is_call, SeenIsMeet}
@@ -104,26 +104,26 @@ unfolding steps
 steps_more c [] x f = refl
 steps_more c (y ∷ xs) x f = steps_more c xs x (step c y f)
 
-each_to : (d : Declared) (c : Certificate) (f : Facts) (s : Seen) → IsWithin f (seen_facts d c s) → Each (λ v. IsWithin f (view_facts d c v)) s
+each_to : (start : Facts) (c : Certificate) (f : Facts) (s : Seen) → IsWithin f (seen_facts start c s) → Each (λ v. IsWithin f (view_facts start c v)) s
 unfolding Each seen_facts
-each_to d c f [] h = tt
-each_to d c f (v ∷ s) h = (within_through _ _ _ h (meet_first _ _), each_to d c f s (within_through _ _ _ h (meet_second _ _)))
+each_to start c f [] h = tt
+each_to start c f (v ∷ s) h = (within_through _ _ _ h (meet_first _ _), each_to start c f s (within_through _ _ _ h (meet_second _ _)))
 
-each_from : (d : Declared) (c : Certificate) (f : Facts) (s : Seen) → Each (λ v. IsWithin f (view_facts d c v)) s → IsWithin f (seen_facts d c s)
+each_from : (start : Facts) (c : Certificate) (f : Facts) (s : Seen) → Each (λ v. IsWithin f (view_facts start c v)) s → IsWithin f (seen_facts start c s)
 unfolding Each seen_facts
-each_from d c f [] h = within_nowhere f
-each_from d c f (v ∷ s) h = meet_greatest _ _ f h.0 (each_from d c f s h.1)
+each_from start c f [] h = within_nowhere f
+each_from start c f (v ∷ s) h = meet_greatest _ _ f h.0 (each_from start c f s h.1)
 
-seen_joined : (d : Declared) (c : Certificate) (s t : Seen) → seen_facts d c (s ++ t) ≡ meet (seen_facts d c s) (seen_facts d c t)
+seen_joined : (start : Facts) (c : Certificate) (s t : Seen) → seen_facts start c (s ++ t) ≡ meet (seen_facts start c s) (seen_facts start c t)
 unfolding seen_facts
-seen_joined d c [] t = nowhere_meet (seen_facts d c t)
-seen_joined d c (v ∷ s) t = ap (meet (view_facts d c v)) (seen_joined d c s t) ∙ sym (meet_over (view_facts d c v) (seen_facts d c s) (seen_facts d c t))
+seen_joined start c [] t = nowhere_meet (seen_facts start c t)
+seen_joined start c (v ∷ s) t = ap (meet (view_facts start c v)) (seen_joined start c s t) ∙ sym (meet_over (view_facts start c v) (seen_facts start c s) (seen_facts start c t))
 
-seen_behind : (d : Declared) (c : Certificate) (x : Step) (s : Seen) → is_call x ≡ false → seen_facts d c (stepped x s) ≡ step c x (seen_facts d c s)
+seen_behind : (start : Facts) (c : Certificate) (x : Step) (s : Seen) → is_call x ≡ false → seen_facts start c (stepped x s) ≡ step c x (seen_facts start c s)
 unfolding seen_facts
-seen_behind d c x [] e = sym (step_nowhere c x e)
-seen_behind d c x (v ∷ s) e =
-    ap₂ meet (steps_more c v.steps x (source_facts d c v.source)) (seen_behind d c x s e) ∙ sym (step_apart c x (view_facts d c v) (seen_facts d c s) e)
+seen_behind start c x [] e = sym (step_nowhere c x e)
+seen_behind start c x (v ∷ s) e =
+    ap₂ meet (steps_more c v.steps x (source_facts start c v.source)) (seen_behind start c x s e) ∙ sym (step_apart c x (view_facts start c v) (seen_facts start c s) e)
 
 pub seen_is_meet : SeenIsMeet
-seen_is_meet = record { each = λ d c f s. (each_to d c f s, each_from d c f s); joined = seen_joined; behind = seen_behind }
+seen_is_meet = record { each = λ start c f s. (each_to start c f s, each_from start c f s); joined = seen_joined; behind = seen_behind }

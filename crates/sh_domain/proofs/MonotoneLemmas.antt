@@ -7,7 +7,7 @@ use Rattle.std.proofs.lemmas.Bool.{and_parts, and_from, or_left, or_right}
 use Rattle.sh_tree.specs.standard.program.Syntax.{Text}
 use Rattle.sh_table.specs.standard.runs.Environment.{is_one_of}
 use Rattle.sh_domain.specs.declared.rule.FlowRule.{FlowRule}
-use Rattle.sh_domain.specs.Facts.{Facts, NotReached, Known, meet, Variable, claims, Declared}
+use Rattle.sh_domain.specs.Facts.{Facts, NotReached, Known, meet, Variable, claims}
 use Rattle.sh_domain.specs.Faults.{told, broken}
 use Rattle.sh_domain.specs.Gains.{Gains, with_gains}
 use Rattle.sh_domain.specs.Operands.{Names}
@@ -118,21 +118,21 @@ unfolding steps
 steps_grow c d [] f g below k = k
 steps_grow c d (x ∷ xs) f g below k = steps_grow c d xs _ _ below (step_grows c d x f g below k)
 
-source_grows : (known : Declared) (c d : Certificate) (s : Source) → IsBelow c d → IsWithin (source_facts known c s) (source_facts known d s)
+source_grows : (start : Facts) (c d : Certificate) (s : Source) → IsBelow c d → IsWithin (source_facts start c s) (source_facts start d s)
 unfolding source_facts
-source_grows known c d Start below = within_itself _
-source_grows known c d (At slot) below = below.claimed slot
+source_grows start c d Start below = within_itself _
+source_grows start c d (At slot) below = below.claimed slot
 
-pub view_grows : (known : Declared) (c d : Certificate) (v : View) → IsBelow c d → IsWithin (view_facts known c v) (view_facts known d v)
-view_grows known c d v below = steps_grow c d v.steps _ _ below (source_grows known c d v.source below)
+pub view_grows : (start : Facts) (c d : Certificate) (v : View) → IsBelow c d → IsWithin (view_facts start c v) (view_facts start d v)
+view_grows start c d v below = steps_grow c d v.steps _ _ below (source_grows start c d v.source below)
 
 pub meet_grows : (f g h k : Facts) → IsWithin f h → IsWithin g k → IsWithin (meet f g) (meet h k)
 meet_grows f g h k p q = meet_greatest h k _ (within_through _ f h (meet_first f g) p) (within_through _ g k (meet_second f g) q)
 
-pub seen_grows : (known : Declared) (c d : Certificate) (s : Seen) → IsBelow c d → IsWithin (seen_facts known c s) (seen_facts known d s)
+pub seen_grows : (start : Facts) (c d : Certificate) (s : Seen) → IsBelow c d → IsWithin (seen_facts start c s) (seen_facts start d s)
 unfolding seen_facts
-seen_grows known c d [] below = within_itself _
-seen_grows known c d (v ∷ s) below = meet_grows _ _ _ _ (view_grows known c d v below) (seen_grows known c d s below)
+seen_grows start c d [] below = within_itself _
+seen_grows start c d (v ∷ s) below = meet_grows _ _ _ _ (view_grows start c d v below) (seen_grows start c d s below)
 
 -- Drops
 
@@ -160,12 +160,12 @@ filter_falls p q h (n ∷ names) x e = go (q n) (p n) (h n) e (filter_falls p q 
     go false true f d rest = or_right (bytes_eq n x) _ (rest d)
     go false false f d rest = rest d
 
-pub loss_falls : (known : Declared) (c d : Certificate) (n : ℕ) (l : Loss) → IsBelow c d → AreAmong (lost known d n l) (lost known c n l)
+pub loss_falls : (start : Facts) (c d : Certificate) (n : ℕ) (l : Loss) → IsBelow c d → AreAmong (lost start d n l) (lost start c n l)
 unfolding lost
-loss_falls known c d n (OfNames names) below = reached_falls _ _ names names (below.claimed (Before n)) (among_itself names)
-loss_falls known c d n (OfFunction function) below = reached_falls _ _ _ _ (below.claimed (Before n)) (below.dropped function)
-loss_falls known c d n (OfUnseen vars v) below = record {
-  vars = filter_falls _ _ (λ x. not_falls (claims (view_facts known c v) (Variable x)) (claims (view_facts known d v) (Variable x)) ((view_grows known c d v below).claimed (Variable x))) vars;
+loss_falls start c d n (OfNames names) below = reached_falls _ _ names names (below.claimed (Before n)) (among_itself names)
+loss_falls start c d n (OfFunction function) below = reached_falls _ _ _ _ (below.claimed (Before n)) (below.dropped function)
+loss_falls start c d n (OfUnseen vars v) below = record {
+  vars = filter_falls _ _ (λ x. not_falls (claims (view_facts start c v) (Variable x)) (claims (view_facts start d v) (Variable x)) ((view_grows start c d v below).claimed (Variable x))) vars;
   functions = λ x e. e;
 }
 
@@ -178,10 +178,10 @@ unfolding told
 told_none true n rule e = refl
 told_none false n rule e = cc
 
-pub fits_below : (known : Declared) (c d : Certificate) (k : Constraint) → IsBelow c d → broken known c k ≡ [] → Fits known c d k
+pub fits_below : (start : Facts) (c d : Certificate) (k : Constraint) → IsBelow c d → broken start c k ≡ [] → Fits start c d k
 unfolding broken Fits
-fits_below known c d (Within slot n rule v) below e = within_through _ _ _ ((within_test (c.claim slot) (view_facts known c v)).0 (told_none _ n rule e)) (view_grows known c d v below)
-fits_below known c d (Counted function n loss) below e = among_through _ _ _ (loss_falls known c d n loss below) ((among_test _ _).0 (told_none _ n _ e))
+fits_below start c d (Within slot n rule v) below e = within_through _ _ _ ((within_test (c.claim slot) (view_facts start c v)).0 (told_none _ n rule e)) (view_grows start c d v below)
+fits_below start c d (Counted function n loss) below e = among_through _ _ _ (loss_falls start c d n loss below) ((among_test _ _).0 (told_none _ n _ e))
 
 pub monotone : Monotone
 monotone = record { step = step_grows; view = view_grows; seen = seen_grows; loss = loss_falls; fits = fits_below }

@@ -12,7 +12,7 @@ use Rattle.sh_tree.specs.standard.program.Trees.{script_of}
 use Rattle.sh_domain.specs.declared.rule.FlowRule.{FlowRule}
 use Rattle.sh_domain.specs.Demands.{elements_unmet, clauses_unmet, for_words_unmet, kind_unmet, dropped, command_moves, drop_at, move_at, is_reached, shared_unmet, unmet, demands}
 use Rattle.sh_domain.specs.Entries.{Around, Entered, items_entered, list_entered, links_entered, pipeline_entered, commands_entered, command_entered, kind_entered, elements_entered, redirect_entered, redirects_entered, branches_entered, otherwise_entered, for_words_entered, words_entered, clauses_entered, patterns_entered, word_entered, part_entered, operator_entered, expression_entered, operands_entered, script_entered}
-use Rattle.sh_domain.specs.Facts.{Facts, Declared, facts, claims, Variable}
+use Rattle.sh_domain.specs.Facts.{Facts, facts, claims, Variable}
 use Rattle.sh_domain.specs.Gains.{with_gains, redirects_gains}
 use Rattle.sh_domain.specs.Needs.{wanted, covers, parameter_text, needed, name_needed, target_needed, reads_unmet, operands_read, part_unmet, word_unmet, operator_unmet, expanded_unmet, operands_expanded, words_unmet, patterns_unmet, redirect_unmet, redirects_unmet}
 use Rattle.sh_domain.specs.Rules.{functions_of, losses}
@@ -242,26 +242,26 @@ shared_or_not : (q : Place) (at : ℕ) (shares : Bool) (xs : List Place) → tim
 shared_or_not q at true xs h = h
 shared_or_not q at false xs h = let none = times_none q in omega arith
 
-own_counted : (d : Declared) (c : Certificate) (functions : List Text) (q : Place) (n at : ℕ) (k : p.Kind) (rs : p.Redirects) (rule : FlowRule) (x : Around) (s : Seen)
-    → times q (unmet d c functions (record { command = p.command n at k rs; rule = rule; around = x; seen = s }))
+own_counted : (start : Facts) (c : Certificate) (functions : List Text) (q : Place) (n at : ℕ) (k : p.Kind) (rs : p.Redirects) (rule : FlowRule) (x : Around) (s : Seen)
+    → times q (unmet start c functions (record { command = p.command n at k rs; rule = rule; around = x; seen = s }))
     ≤ hits q (OfCommand at ∷ []) + times q (redirects_unmet (facts (c.claim (Before n))) rs) + times q (kind_unmet (with_gains (redirects_gains rs) (facts (c.claim (Before n)))) k)
 unfolding unmet shared_unmet
-own_counted d c functions q n at k rs rule x s =
+own_counted start c functions q n at k rs rule x s =
     let e : Entered = record { command = p.command n at k rs; rule = rule; around = x; seen = s } in
     let f = facts (c.claim (Before n)) in
-    let shared = map (drop_at at) (dropped d c n (losses functions e)) ++ move_at at (command_moves functions k && is_reached f) in
-    let most = shared_or_not q at x.shares shared (shared_once q at (dropped d c n (losses functions e)) _ (names_once (map (lost d c n) (losses functions e)))) in
+    let shared = map (drop_at at) (dropped start c n (losses functions e)) ++ move_at at (command_moves functions k && is_reached f) in
+    let most = shared_or_not q at x.shares shared (shared_once q at (dropped start c n (losses functions e)) _ (names_once (map (lost start c n) (losses functions e)))) in
     let inner = times_join q (redirects_unmet f rs) (kind_unmet (with_gains (redirects_gains rs) f) k) in
     let outer = times_join q (redirects_unmet f rs ++ kind_unmet (with_gains (redirects_gains rs) f) k) (if x.shares then shared else []) in
     omega arith
 
-pub script_counted : (d : Declared) (c : Certificate) (q : Place) (t : p.Items) → times q (demands d c t) ≤ hits q (items_spots t)
+pub script_counted : (start : Facts) (c : Certificate) (q : Place) (t : p.Items) → times q (demands start c t) ≤ hits q (items_spots t)
 unfolding demands script_entered nested
-script_counted d c q t =
-    items_counted (unmet d c (functions_of (script_entered t))) q (λ n. facts (c.claim (Before n))) (own_counted d c (functions_of (script_entered t)) q) _ _ _ t
+script_counted start c q t =
+    items_counted (unmet start c (functions_of (script_entered t))) q (λ n. facts (c.claim (Before n))) (own_counted start c (functions_of (script_entered t)) q) _ _ _ t
 
 pub places_stand_once : PlacesStandOnce
-places_stand_once d c t h = places_once (demands d c t) (λ q. let all = script_counted d c q t in let most = spots_once q (items_spots t) h in omega arith)
+places_stand_once start c t h = places_once (demands start c t) (λ q. let all = script_counted start c q t in let most = spots_once q (items_spots t) h in omega arith)
 
 pub read_places_once : ReadPlacesStandOnce
-read_places_once d c b t reads = places_stand_once d c (script_of b t) (read_spots_once b t reads)
+read_places_once start c b t reads = places_stand_once start c (script_of b t) (read_spots_once b t reads)

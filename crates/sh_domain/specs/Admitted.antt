@@ -7,7 +7,7 @@ use Rattle.sh_tree.specs.standard.program.Syntax.{Text}
 use Rattle.sh_tree.specs.standard.program.Trees.{script_of}
 use Rattle.sh_table.specs.Calls.{table_of}
 use Rattle.sh_table.specs.Profile.{first_refused}
-use Rattle.sh_domain.specs.Facts.{Declared}
+use Rattle.sh_domain.specs.Facts.{Declared, start_facts}
 use Rattle.sh_domain.specs.Faults.{faults}
 use Rattle.sh_domain.specs.Names.{Numbers}
 use Rattle.sh_domain.specs.Order.{IsBelow}
@@ -38,7 +38,7 @@ claims_in b t c = certificate_of (functions_in b t) c
 
 -- no flow rule is broken
 abbrev pub KeepsRules : List ℕ → Declared → Script → Sheet → Type 0
-KeepsRules b d t c = faults d (claims_in b t c) (script_of b t) ≡ []
+KeepsRules b d t c = faults (start_facts d) (claims_in b t c) (script_of b t) ≡ []
 
 -- The certificate fits, breaks no rule, and claims at each place what any other such one does; no function drops more by it. Its names stand as
 -- its text has them.

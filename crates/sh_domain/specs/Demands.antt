@@ -12,7 +12,7 @@ use Rattle.sh_tree.specs.standard.program.Words.{operands_in}
 use Rattle.sh_table.specs.declared.kind.Kind.TheVariants as kind
 use Rattle.sh_table.specs.standard.runs.Environment.{is_one_of}
 use Rattle.sh_domain.specs.Entries.{Entered, script_entered}
-use Rattle.sh_domain.specs.Facts.{Facts, Declared, facts, claims, Nowhere}
+use Rattle.sh_domain.specs.Facts.{Facts, facts, claims, Nowhere}
 use Rattle.sh_domain.specs.Gains.{with_gains, through, words_gains, redirects_gains}
 use Rattle.sh_domain.specs.Needs.{word_unmet, words_unmet, patterns_unmet, redirect_unmet, redirects_unmet}
 use Rattle.sh_domain.specs.Operands.{Names, positional_words}
@@ -54,8 +54,8 @@ abbrev pub each_once : List Names → List Text
 each_once losses = fold with_text [] (flat_map (λ l. l.vars ++ l.functions) losses)
 
 -- the names that a command drops
-abbrev pub dropped : Declared → Certificate → ℕ → List Loss → List Text
-dropped d c n ls = each_once (map (lost d c n) ls)
+abbrev pub dropped : Facts → Certificate → ℕ → List Loss → List Text
+dropped start c n ls = each_once (map (lost start c n) ls)
 
 -- N5: a command that changes the positional parameters
 
@@ -85,20 +85,20 @@ unfoldable pub is_reached : Facts → Bool
 is_reached f = not (claims f Nowhere)
 
 -- N4 and N5 of the command n that stands there, in a part of a pipeline
-unfoldable pub shared_unmet : Declared → Certificate → List Text → Entered → ℕ → ℕ → p.Kind → List Place
-shared_unmet d c functions e n at kind =
-    map (drop_at at) (dropped d c n (losses functions e)) ++ move_at at (command_moves functions kind && is_reached (facts (c.claim (Before n))))
+unfoldable pub shared_unmet : Facts → Certificate → List Text → Entered → ℕ → ℕ → p.Kind → List Place
+shared_unmet start c functions e n at kind =
+    map (drop_at at) (dropped start c n (losses functions e)) ++ move_at at (command_moves functions kind && is_reached (facts (c.claim (Before n))))
 
 -- of a command
-unfoldable pub unmet : Declared → Certificate → List Text → Entered → List Place
-unmet d c functions e = of_command e.command
+unfoldable pub unmet : Facts → Certificate → List Text → Entered → List Place
+unmet start c functions e = of_command e.command
   where
     of_command : p.Command → List Place
     of_command (p.command n at kind rs) =
         redirects_unmet (facts (c.claim (Before n))) rs
         ++ kind_unmet (with_gains (redirects_gains rs) (facts (c.claim (Before n)))) kind
-        ++ (if e.around.shares then shared_unmet d c functions e n at kind else [])
+        ++ (if e.around.shares then shared_unmet start c functions e n at kind else [])
 
 -- of a script
-unfoldable pub demands : Declared → Certificate → p.Items → List Place
-demands d c t = flat_map (unmet d c (functions_of (script_entered t))) (script_entered t)
+unfoldable pub demands : Facts → Certificate → p.Items → List Place
+demands start c t = flat_map (unmet start c (functions_of (script_entered t))) (script_entered t)

@@ -6,7 +6,7 @@ use Rattle.sh_tree.specs.standard.program.Syntax.{Items}
 use Rattle.sh_table.specs.standard.runs.Environment.{is_one_of}
 use Rattle.sh_domain.specs.declared.rule.FlowRule.{FlowRule}
 use Rattle.sh_domain.specs.declared.rule.FlowRule.TheVariants.{F1, F2, F3, F4, F5, F6, F7, F8, F9, F10, F11, F12, F13, F14, F15}
-use Rattle.sh_domain.specs.Facts.{Declared, within}
+use Rattle.sh_domain.specs.Facts.{Facts, within}
 use Rattle.sh_domain.specs.Operands.{Names}
 use Rattle.sh_domain.specs.Rules.{Constraint, Within, Counted, script_bounds}
 use Rattle.sh_domain.specs.Views.{Certificate, view_facts, lost}
@@ -26,13 +26,13 @@ told true n rule = []
 told false n rule = record { number = n; rule = rule } ∷ []
 
 -- the fault of a constraint that fails
-unfoldable pub broken : Declared → Certificate → Constraint → List Fault
-broken d c (Within slot n rule v) = told (within (c.claim slot) (view_facts d c v)) n rule
-broken d c (Counted function n loss) = told (are_among (lost d c n loss) (c.drops function)) n F13
+unfoldable pub broken : Facts → Certificate → Constraint → List Fault
+broken start c (Within slot n rule v) = told (within (c.claim slot) (view_facts start c v)) n rule
+broken start c (Counted function n loss) = told (are_among (lost start c n loss) (c.drops function)) n F13
 
 -- the faults of a certificate of a script
-unfoldable pub faults : Declared → Certificate → Items → List Fault
-faults d c t = flat_map (broken d c) (script_bounds t)
+unfoldable pub faults : Facts → Certificate → Items → List Fault
+faults start c t = flat_map (broken start c) (script_bounds t)
 
 -- the place of a rule in their order
 unfoldable pub rank : FlowRule → ℕ

@@ -16,7 +16,7 @@ use Rattle.sh_table.specs.Surroundings.{Surroundings, Located, outside, items_lo
 use Rattle.sh_table.specs.Admitted.{is_admitted}
 use Rattle.sh_domain.specs.Demands.{kind_unmet, command_moves, is_reached, demands}
 use Rattle.sh_domain.specs.Entries.{Around, Entered, items_after, behind_redirects, otherwise_seen, turns, ends, behind_list, falls, script_entered}
-use Rattle.sh_domain.specs.Facts.{Declared, facts, within}
+use Rattle.sh_domain.specs.Facts.{Facts, facts, within}
 use Rattle.sh_domain.specs.Faults.{are_among, faults}
 use Rattle.sh_domain.specs.Gains.{and_gains, word_gains, with_gains, redirects_gains}
 use Rattle.sh_domain.specs.Needs.{redirects_unmet}
@@ -125,10 +125,10 @@ surroundings_of x = record { loop = not (length x.loops == 0); function = is_som
 
 -- Inclusions
 
-module _ (d : Declared) (c : Certificate) where
+module _ (start : Facts) (c : Certificate) where
   -- what is claimed there is no more than each of these views claims
   abbrev pub Covers : Slot → Seen → Type 0
-  Covers slot s = Each (λ v. within (c.claim slot) (view_facts d c v) ≡ true) s
+  Covers slot s = Each (λ v. within (c.claim slot) (view_facts start c v) ≡ true) s
 
   -- and so after the command n, by its status
   pub record Leaves (n : ℕ) (o : After) : Type 0 where
@@ -230,7 +230,7 @@ module _ (d : Declared) (c : Certificate) where
     pub before : Covers (Before n) s
     pub kind : KindRules functions x n (behind_redirects n rs) k
     pub redirected : is_redirected rs ≡ true → Covers (AfterNonzero n) (at (Before n))
-    pub losses : Each (λ l. MayDrop x (lost d c n l)) ls
+    pub losses : Each (λ l. MayDrop x (lost start c n l)) ls
     pub stays : x.shares ≡ true → (command_moves functions k && is_reached (facts (c.claim (Before n)))) ≡ false
     pub redirects_met : redirects_unmet (facts (c.claim (Before n))) rs ≡ []
     pub words_met : kind_unmet (with_gains (redirects_gains rs) (facts (c.claim (Before n)))) k ≡ []
@@ -246,6 +246,6 @@ module _ (d : Declared) (c : Certificate) where
 -- Where no rule fails, no demand is unmet, and the program is admitted and formed, all of that holds of each of its commands.
 abbrev pub RulesGive : Type 0
 RulesGive =
-    (d : Declared) (c : Certificate) (t : p.Items)
-    → is_admitted t ≡ true → is_formed t ≡ true → faults d c t ≡ [] → demands d c t ≡ []
-    → Each (EnteredRules d c (functions_of (script_entered t))) (script_entered t)
+    (start : Facts) (c : Certificate) (t : p.Items)
+    → is_admitted t ≡ true → is_formed t ≡ true → faults start c t ≡ [] → demands start c t ≡ []
+    → Each (EnteredRules start c (functions_of (script_entered t))) (script_entered t)

@@ -38,3 +38,4 @@ pub mod Readings
 pub mod Places
 pub mod Meets
 pub mod Admitted
+pub mod Filled

@@ -3,7 +3,7 @@
 use Rattle.std.specs.Prelude.{◌≡◌, ◌↔◌, ℕ, true, [], ◌∷◌}
 use Rattle.sh_tree.specs.standard.program.Syntax.{Text}
 use Rattle.sh_table.specs.standard.runs.Environment.{is_one_of}
-use Rattle.sh_domain.specs.Facts.{Facts, NotReached, Claim, facts, within, meet, Atom, claims, Declared}
+use Rattle.sh_domain.specs.Facts.{Facts, NotReached, Claim, facts, within, meet, Atom, claims}
 use Rattle.sh_domain.specs.Operands.{Names}
 use Rattle.sh_domain.specs.Views.{Slot, Certificate, Step, step, View, Seen, view_facts, Loss, lost}
 use Rattle.sh_domain.specs.Rules.{Constraint, Within, Counted}
@@ -19,9 +19,9 @@ pub record AreAmong (a b : Names) : Type 0 where
   pub functions : (x : Text) → is_one_of a.functions x ≡ true → is_one_of b.functions x ≡ true
 
 -- what all views of a list claim
-unfoldable pub seen_facts : Declared → Certificate → Seen → Facts
-seen_facts d c [] = NotReached
-seen_facts d c (v ∷ s) = meet (view_facts d c v) (seen_facts d c s)
+unfoldable pub seen_facts : Facts → Certificate → Seen → Facts
+seen_facts start c [] = NotReached
+seen_facts start c (v ∷ s) = meet (view_facts start c v) (seen_facts start c s)
 
 -- Facts are ordered: NotReached claims most, and a meet is the greatest of what is within both. The tests of claims and of drops are this order.
 pub record Ordered : Type 0 where
@@ -41,15 +41,15 @@ pub record IsBelow (c d : Certificate) : Type 0 where
   pub dropped : (function : Text) → AreAmong (d.drops function) (c.drops function)
 
 -- what the first claims, or has a function drop, fits what a constraint asks by the claims of the second
-unfoldable pub Fits : Declared → Certificate → Certificate → Constraint → Type 0
-Fits known c d (Within slot n rule v) = IsWithin (facts (c.claim slot)) (view_facts known d v)
-Fits known c d (Counted function n loss) = AreAmong (lost known d n loss) (c.drops function)
+unfoldable pub Fits : Facts → Certificate → Certificate → Constraint → Type 0
+Fits start c d (Within slot n rule v) = IsWithin (facts (c.claim slot)) (view_facts start d v)
+Fits start c d (Counted function n loss) = AreAmong (lost start d n loss) (c.drops function)
 
 -- Where more is claimed and less dropped, each step leaves more, each view and what is seen claim more, and each command drops less. So a
 -- certificate without a fault that is below another fits all that this one asks: lowering that one to what it asks leaves it above.
 pub record Monotone : Type 0 where
   pub step : (c d : Certificate) (x : Step) (f g : Facts) → IsBelow c d → IsWithin f g → IsWithin (step c x f) (step d x g)
-  pub view : (known : Declared) (c d : Certificate) (v : View) → IsBelow c d → IsWithin (view_facts known c v) (view_facts known d v)
-  pub seen : (known : Declared) (c d : Certificate) (s : Seen) → IsBelow c d → IsWithin (seen_facts known c s) (seen_facts known d s)
-  pub loss : (known : Declared) (c d : Certificate) (n : ℕ) (l : Loss) → IsBelow c d → AreAmong (lost known d n l) (lost known c n l)
-  pub fits : (known : Declared) (c d : Certificate) (k : Constraint) → IsBelow c d → broken known c k ≡ [] → Fits known c d k
+  pub view : (start : Facts) (c d : Certificate) (v : View) → IsBelow c d → IsWithin (view_facts start c v) (view_facts start d v)
+  pub seen : (start : Facts) (c d : Certificate) (s : Seen) → IsBelow c d → IsWithin (seen_facts start c s) (seen_facts start d s)
+  pub loss : (start : Facts) (c d : Certificate) (n : ℕ) (l : Loss) → IsBelow c d → AreAmong (lost start d n l) (lost start c n l)
+  pub fits : (start : Facts) (c d : Certificate) (k : Constraint) → IsBelow c d → broken start c k ≡ [] → Fits start c d k

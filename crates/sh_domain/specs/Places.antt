@@ -7,13 +7,13 @@ use Rattle.sh_tree.specs.standard.program.Syntax as p
 use Rattle.sh_tree.specs.standard.program.Trees.{script_of}
 use Rattle.sh_reads.specs.Spots.{EachOnce, items_spots}
 use Rattle.sh_domain.specs.Demands.{demands}
-use Rattle.sh_domain.specs.Facts.{Declared}
+use Rattle.sh_domain.specs.Facts.{Facts}
 use Rattle.sh_domain.specs.Views.{Certificate}
 
 -- where each spot stands once, so does each unmet place
 abbrev pub PlacesStandOnce : Type 0
-PlacesStandOnce = (d : Declared) (c : Certificate) (t : p.Items) → EachOnce (items_spots t) → EachOnce (demands d c t)
+PlacesStandOnce = (start : Facts) (c : Certificate) (t : p.Items) → EachOnce (items_spots t) → EachOnce (demands start c t)
 
 -- so no place of an unmet demand is told twice of what is read
 abbrev pub ReadPlacesStandOnce : Type 0
-ReadPlacesStandOnce = (d : Declared) (c : Certificate) (b : List ℕ) (t : Script) → Reads b t → EachOnce (demands d c (script_of b t))
+ReadPlacesStandOnce = (start : Facts) (c : Certificate) (b : List ℕ) (t : Script) → Reads b t → EachOnce (demands start c (script_of b t))

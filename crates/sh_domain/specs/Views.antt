@@ -4,7 +4,7 @@ use Rattle.std.specs.Prelude.{ℕ, ◌+◌, ◌-◌, ◌*◌, min, Bool, true, f
 use Rattle.std.specs.Str.{bytes_eq}
 use Rattle.sh_tree.specs.standard.program.Syntax.{Text}
 use Rattle.sh_table.specs.standard.runs.Environment.{is_one_of}
-use Rattle.sh_domain.specs.Facts.{Facts, NotReached, Known, Claim, facts, Declared, start_facts, claims, Variable}
+use Rattle.sh_domain.specs.Facts.{Facts, NotReached, Known, Claim, facts, claims, Variable}
 use Rattle.sh_domain.specs.Gains.{Gains, named, with_gains, job}
 use Rattle.sh_domain.specs.Operands.{Names, no_names, Total}
 
@@ -154,13 +154,13 @@ unfoldable pub steps : Certificate → List Step → Facts → Facts
 steps c [] f = f
 steps c (x ∷ xs) f = steps c xs (step c x f)
 
-unfoldable pub source_facts : Declared → Certificate → Source → Facts
-source_facts d c Start = start_facts d
-source_facts d c (At s) = facts (c.claim s)
+unfoldable pub source_facts : Facts → Certificate → Source → Facts
+source_facts start c Start = start
+source_facts start c (At s) = facts (c.claim s)
 
 -- what a view claims
-abbrev pub view_facts : Declared → Certificate → View → Facts
-view_facts d c v = steps c v.steps (source_facts d c v.source)
+abbrev pub view_facts : Facts → Certificate → View → Facts
+view_facts start c v = steps c v.steps (source_facts start c v.source)
 
 -- Drops
 
@@ -178,7 +178,7 @@ where_reached NotReached names = no_names
 where_reached (Known v f a) names = names
 
 -- the names that a command drops, if it is reached
-unfoldable pub lost : Declared → Certificate → ℕ → Loss → Names
-lost d c n (OfNames names) = where_reached (facts (c.claim (Before n))) names
-lost d c n (OfFunction function) = where_reached (facts (c.claim (Before n))) (c.drops function)
-lost d c n (OfUnseen vars v) = record { vars = filter (λ x. not (claims (view_facts d c v) (Variable x))) vars; functions = [] }
+unfoldable pub lost : Facts → Certificate → ℕ → Loss → Names
+lost start c n (OfNames names) = where_reached (facts (c.claim (Before n))) names
+lost start c n (OfFunction function) = where_reached (facts (c.claim (Before n))) (c.drops function)
+lost start c n (OfUnseen vars v) = record { vars = filter (λ x. not (claims (view_facts start c v) (Variable x))) vars; functions = [] }

@@ -1,5 +1,6 @@
 //! What holds of the rules and the demands that `specs/` defines.
 ghost use Rattle.sh_domain.specs.examples.Answers.{AnswersAsExpected};
+ghost use Rattle.sh_domain.specs.Filled.{FilledKeeps};
 ghost use Rattle.sh_domain.specs.Inclusions.{RulesGive};
 ghost use Rattle.sh_domain.specs.Knowledge.{LostOneByOne, NamesSuffice};
 ghost use Rattle.sh_domain.specs.examples.Knowledge.{KnowledgeAsExpected};
@@ -33,6 +34,12 @@ pub fn order()
 /// certificate without a fault stays below whatever a greater one is lowered to.
 pub fn monotone()
     ensures { Monotone }
+{}
+
+/// Where a certificate keeps the flow rules, the one that is filled from what it states (the turns of loops, the functions and the start)
+/// keeps them too, and claims no less. Two that are filled from the same claim the same.
+pub fn filled()
+    ensures { FilledKeeps }
 {}
 
 /// What is seen at several places is the meet of what each view claims: a fact is within it where it is within each, and a step, unless

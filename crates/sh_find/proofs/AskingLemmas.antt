@@ -65,6 +65,7 @@ use Rattle.sh_find.specs.declared.subject.Subject.{Subject}
 use Rattle.sh_find.specs.Sweeps.{setting_by}
 use Rattle.sh_find.specs.Turns.{sheet_by}
 use Rattle.sh_find.specs.Working.{Sets, joined}
+use Rattle.sh_find.specs.Starts.{start_of}
 use Rattle.sh_find.proofs.NumberLemmas.{claim_known}
 use Rattle.sh_find.proofs.TogetherLemmas.{gathered_together}
 
@@ -244,7 +245,7 @@ module _ (x : Setting) (h : AreNumbered x.names) where
   slot_fits (views.ReturnsZero f) = claimed_fits (λ (e : FunctionEntry). e.zero) _ _ ((entries x).returns_zero f)
   slot_fits (views.ReturnsNonzero f) = claimed_fits (λ (e : FunctionEntry). e.nonzero) _ _ ((entries x).returns_nonzero f)
 
-  pub by_constraints : (d : Declared) → ByConstraints Gathered gathering x d
+  pub by_constraints : (d : Facts) → ByConstraints Gathered gathering x d
   unfolding claimed_at knows gathered
   by_constraints d = record {
     all = all_gathered x.names x.functions d (certificate x);
@@ -264,22 +265,22 @@ module _ (b : List ℕ) (d : Declared) (t : Script) (names : List Text) (a : IsA
   few_commands = read_has_few_commands b t a.reading.1
 
   walk_gathers : (x : Setting) (old : Gathered) → AreNumbered x.names → x.names ≡ names → x.functions ≡ (table_of b t).functions.names → x.rows ≡ (table_of b t).rows
-      → script_walked x (command_by gathering x) (among x.names (start_facts d)) old (script_of b t) ≡ all_gathered x.names x.functions d (certificate x) old (script_bounds (script_of b t))
+      → script_walked x (command_by gathering x) (among x.names (start_facts d)) old (script_of b t) ≡ all_gathered x.names x.functions (start_facts d) (certificate x) old (script_bounds (script_of b t))
   unfolding by_constraints table_of
   walk_gathers x old h same functions rows =
       let few = few_commands in
       let length = rows_length b t in
-      walk_same gathering x d h (script_of b t) old
+      walk_same gathering x (start_facts d) h (script_of b t) old
       (ap (λ rs. list_all (λ (e : Entered). has_texts rs e.command) (script_entered (script_of b t))) rows ∙ entered_have (script_of b t) commands_numbered)
       (script_shallow most (script_of b t) (omega (arith, few, length)))
-      ∙ script_told gathering x h d (by_constraints x h d) (script_of b t) old (subst (λ fs. AreDefined fs (script_of b t)) (sym functions) (table_defines b t))
+      ∙ script_told gathering x h (start_facts d) (by_constraints x h (start_facts d)) (script_of b t) old (subst (λ fs. AreDefined fs (script_of b t)) (sym functions) (table_defines b t))
       (prefixes_are_numbered b t d x.names (subst (IsNumbering b t d) (sym same) a.numbered.0))
 
 -- all that is asked of a certificate of it is gathered by a walk
 pub walk_asks : (s : Subject) (c : kept.Certificate) (z : Claims) → setting z ≡ setting_by s c → (start : Knowledge) (old new : Gathered)
     → AreNumbered s.names.now → IsAdmitted s.script.now s.policy.now s.tree.now s.names.now
-    → knowledge_facts s.names.now start ≡ among s.names.now (start_facts s.policy.now) → new ≡ script_walked (setting z) (command_by gathering (setting z)) (facts_in (setting z) start) old (script_of (setting z).script s.tree.now)
-    → new ≡ all_gathered s.names.now (functions_in s.script.now s.tree.now) s.policy.now (claims_in s.script.now s.tree.now (sheet_by s.names.now c)) old (script_bounds (script_of s.script.now s.tree.now))
+    → knowledge_facts s.names.now start ≡ among s.names.now (start_of s) → new ≡ script_walked (setting z) (command_by gathering (setting z)) (facts_in (setting z) start) old (script_of (setting z).script s.tree.now)
+    → new ≡ all_gathered s.names.now (functions_in s.script.now s.tree.now) (start_of s) (claims_in s.script.now s.tree.now (sheet_by s.names.now c)) old (script_bounds (script_of s.script.now s.tree.now))
 unfolding facts_in
 walk_asks s c z same start old new h admitted begun walked =
     let x = setting_by s c in

@@ -8,7 +8,7 @@ use Rattle.sh_tree.proofs.ProgramRules as rules
 use Rattle.sh_domain.specs.declared.rule.FlowRule.{FlowRule}
 use Rattle.sh_domain.specs.declared.rule.FlowRule.TheVariants.{F13}
 use Rattle.sh_domain.specs.Entries.{Around, Entered, behind_redirects, command_entered}
-use Rattle.sh_domain.specs.Facts.{Facts, Declared, facts}
+use Rattle.sh_domain.specs.Facts.{Facts, facts}
 use Rattle.sh_domain.specs.Faults.{broken}
 use Rattle.sh_domain.specs.Inclusions.{Each}
 use Rattle.sh_domain.specs.Knowledge.{among}
@@ -37,6 +37,7 @@ use Rattle.sh_find.specs.Numbers.{by_name, by_number}
 use Rattle.sh_find.specs.Places.{at, claim_there, place_of}
 use Rattle.sh_find.specs.Spots.{place_at}
 use Rattle.sh_find.specs.Sweeps.{IsCommand, IsPart, Keeps, Knows}
+use Rattle.sh_find.specs.Starts.{start_of}
 use Rattle.sh_find.proofs.GatherLemmas.{claim_among, number_named, within_among}
 use Rattle.sh_find.proofs.MetLemmas.{keeps_here}
 use Rattle.sh_find.proofs.NumberLemmas.{back}
@@ -45,7 +46,7 @@ use Rattle.sh_find.proofs.SheetLemmas.{placed}
 
 -- By the rules of a command
 
-module _ (d : Declared) (c : Certificate) where
+module _ (d : Facts) (c : Certificate) where
   abbrev Unbroken : Constraint → Type 0
   Unbroken k = broken d c k ≡ []
 
@@ -99,17 +100,17 @@ module _ (s : Subject) (admitted : IsAdmitted s.script.now s.policy.now s.tree.n
   abbrev functions : List Text
   functions = functions_in s.script.now s.tree.now
 
-  slot_within : (slot : Slot) (q : Seen) (k : Facts) → IsWithin (facts (claims.claim slot)) (seen_facts s.policy.now claims q) → Knows s q k → IsWithin (facts (claim_there other (place_of functions slot))) k
+  slot_within : (slot : Slot) (q : Seen) (k : Facts) → IsWithin (facts (claims.claim slot)) (seen_facts (start_of s) claims q) → Knows s q k → IsWithin (facts (claim_there other (place_of functions slot))) k
   slot_within slot q k within knows =
       let there : claims.claim slot ≡ claim_there other (place_of functions slot) = placed functions other slot in
       let named : among s.names.now (facts (claims.claim slot)) ≡ facts (claims.claim slot) =
       claim_among s.names.now _ (ap (claim_fits s.names.now) there ∙ keeps.fit (place_of functions slot)) in
       subst (λ a. IsWithin (facts a) k) there
-      (within_through _ (sees s.names.now s.policy.now claims q) _
-      (subst (λ f. IsWithin f (sees s.names.now s.policy.now claims q)) named (among_grows s.names.now _ _ within))
+      (within_through _ (sees s.names.now (start_of s) claims q) _
+      (subst (λ f. IsWithin f (sees s.names.now (start_of s) claims q)) named (among_grows s.names.now _ _ within))
       (knows other keeps))
 
-  kept_there : (by : FlowRule) (y : Around) (q : Seen) (m : p.Command) → IsPart s (command_entered by y q m) → KeepsThere s.policy.now claims functions (record { command = m; rule = by; around = y; seen = q } ∷ [])
+  kept_there : (by : FlowRule) (y : Around) (q : Seen) (m : p.Command) → IsPart s (command_entered by y q m) → KeepsThere (start_of s) claims functions (record { command = m; rule = by; around = y; seen = q } ∷ [])
   kept_there by y q m part = keeps_here s admitted _ (own_of s by y q m part) other keeps
 
 module _ (s : Subject) (admitted : IsAdmitted s.script.now s.policy.now s.tree.now s.names.now) where
@@ -118,8 +119,8 @@ module _ (s : Subject) (admitted : IsAdmitted s.script.now s.policy.now s.tree.n
   unfolding place_of
   before_within by y k c here other keeps =
       slot_within s admitted other keeps (views.Before (out-Command c).number) here.seen k
-      (own_within s.policy.now (claims s admitted other keeps) (functions s admitted other keeps) _ _ _ _ by y here.seen
-      (subst (λ m. KeepsThere s.policy.now (claims s admitted other keeps) (functions s admitted other keeps) (record { command = m; rule = by; around = y; seen = here.seen } ∷ [])) (rules.command_of-out s.script.now c)
+      (own_within (start_of s) (claims s admitted other keeps) (functions s admitted other keeps) _ _ _ _ by y here.seen
+      (subst (λ m. KeepsThere (start_of s) (claims s admitted other keeps) (functions s admitted other keeps) (record { command = m; rule = by; around = y; seen = here.seen } ∷ [])) (rules.command_of-out s.script.now c)
       (kept_there s admitted other keeps by y here.seen (trees.command_of s.script.now c) here.part)))
       here.knows
 
@@ -127,14 +128,14 @@ module _ (s : Subject) (admitted : IsAdmitted s.script.now s.policy.now s.tree.n
   module _ (by : FlowRule) (y : Around) (q : Seen) (n offset : ℕ) (name : Text) (body : Command) (rs : p.Redirects)
       (part : IsPart s (command_entered by y q (p.command n offset (p.Define name (trees.command_of s.script.now body)) rs))) where
     returned : (other : Sheet) (keeps : Keeps s other)
-        → IsWithin (facts ((claims s admitted other keeps).claim (ReturnsZero name))) (seen_facts s.policy.now (claims s admitted other keeps) (views.at (AfterZero (out-Command body).number)))
-        × IsWithin (facts ((claims s admitted other keeps).claim (ReturnsNonzero name))) (seen_facts s.policy.now (claims s admitted other keeps) (views.at (AfterNonzero (out-Command body).number)))
+        → IsWithin (facts ((claims s admitted other keeps).claim (ReturnsZero name))) (seen_facts (start_of s) (claims s admitted other keeps) (views.at (AfterZero (out-Command body).number)))
+        × IsWithin (facts ((claims s admitted other keeps).claim (ReturnsNonzero name))) (seen_facts (start_of s) (claims s admitted other keeps) (views.at (AfterNonzero (out-Command body).number)))
     returned other keeps =
         let c : Certificate = claims s admitted other keeps in
         let fs : List Text = functions s admitted other keeps in
-        defined_within s.policy.now c fs y n (behind_redirects n rs) name _ _ _ _
-        (subst (λ m. Each (Unbroken s.policy.now c) (r.kind_bounds fs y n (behind_redirects n rs) (p.Define name m))) (rules.command_of-out s.script.now body)
-        (parts_of s.policy.now c fs n offset (p.Define name (trees.command_of s.script.now body)) rs by y q (kept_there s admitted other keeps by y q _ part)).1)
+        defined_within (start_of s) c fs y n (behind_redirects n rs) name _ _ _ _
+        (subst (λ m. Each (Unbroken (start_of s) c) (r.kind_bounds fs y n (behind_redirects n rs) (p.Define name m))) (rules.command_of-out s.script.now body)
+        (parts_of (start_of s) c fs n offset (p.Define name (trees.command_of s.script.now body)) rs by y q (kept_there s admitted other keeps by y q _ part)).1)
 
     pub returns_zero : (k : Facts) → Knows s (views.at (AfterZero (out-Command body).number)) k → (other : Sheet) → Keeps s other
         → IsWithin (facts (claim_there other (place_of (functions_in s.script.now s.tree.now) (ReturnsZero name)))) k
@@ -154,7 +155,7 @@ fits_place o p q some fits = go (nat_lt q.index 65536) (sym some ∙ fits)
     go true e = sym (ap (λ r. unwrap_or r q) e)
     go false e = absurd (true≢false (ap is_some e))
 
-pub named_at : (d : Declared) (names : List Text) (f : Facts) (g : number.Facts) → g ≡ by_number names f → IsNamed (length names) g
+pub named_at : (d : Facts) (names : List Text) (f : Facts) (g : number.Facts) → g ≡ by_number names f → IsNamed (length names) g
 named_at d names f g is = subst (IsNamed (length names)) (sym is) (number_named names [] d f)
 
 pub within_place : (names : List Text) (other : Sheet) (p q : Place) (f : Facts) (g : number.Facts) → claim_fits names (claim_there other (Some p)) ≡ true → q ≡ p → g ≡ by_number names f

@@ -60,10 +60,10 @@ module _ (c : Certificate) (n : ClaimsNames c) where
   steps_know [] f e h = h
   steps_know (x ∷ xs) f e h = let parts = and_parts (step_names x) (list_all step_names xs) e in steps_know xs (step c x f) parts.1 (step_knows x f parts.0 h)
 
-  module _ (d : Declared) where
+  module _ (d : Facts) (known : KnowsNames d) where
     source_knows : (s : Source) → KnowsNames (source_facts d c s)
-    unfolding source_facts start_facts KnowsNames
-    source_knows Start = λ x e. absurd (true≢false (sym e))
+    unfolding source_facts
+    source_knows Start = known
     source_knows (At slot) = n.known slot
 
     view_knows : (v : View) → list_all step_names v.steps ≡ true → KnowsNames (view_facts d c v)
@@ -87,7 +87,12 @@ module _ (c : Certificate) (n : ClaimsNames c) where
     bound_knows (Within slot number rule v) e = view_knows v e
     bound_knows (Counted function number loss) e = loss_loses number loss e
 
+-- no function is defined at the start
+pub start_knows : (d : Declared) → KnowsNames (start_facts d)
+unfolding start_facts KnowsNames
+start_knows d = λ x e. absurd (true≢false (sym e))
+
 pub rules_know_names : RulesKnowNames
-rules_know_names b d t names c a n =
+rules_know_names b d t names start c a known n =
     let ks = script_bounds (script_of b t) in
-    each_weaker (bound_knows c n d) ks (each_passes bound_names ks (rules_define_names b d t names a))
+    each_weaker (bound_knows c n start known) ks (each_passes bound_names ks (rules_define_names b d t names a))

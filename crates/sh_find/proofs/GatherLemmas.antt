@@ -6,7 +6,7 @@ use Rattle.std.proofs.lemmas.Bool.{cases_Bool, and_parts, and_from, or_cases, eq
 use Rattle.std.proofs.lemmas.Option.{slice_get_within}
 use Rattle.sh_tree.specs.standard.program.Syntax.{Text}
 use Rattle.sh_table.specs.standard.runs.Environment.{is_one_of}
-use Rattle.sh_domain.specs.Facts.{Facts, NotReached, Known, Claim, Unreached, Claimed, facts, within, Declared}
+use Rattle.sh_domain.specs.Facts.{Facts, NotReached, Known, Claim, Unreached, Claimed, facts, within}
 use Rattle.sh_domain.specs.Faults.{Fault, are_among, told, broken}
 use Rattle.sh_domain.specs.Knowledge.{among, at_number}
 use Rattle.sh_domain.specs.Names.{number_of}
@@ -67,7 +67,7 @@ rest_none : (xs ys : List Fault) → xs ++ ys ≡ [] → ys ≡ []
 rest_none [] ys e = e
 rest_none (x ∷ xs) ys e = cc
 
-module _ (names functions : List Text) (d : Declared) where
+module _ (names functions : List Text) (d : Facts) where
   -- where all is kept, no constraint is broken
   pub all_kept : (c : Certificate) (ks : List Constraint) (g : Gathered) → (all_gathered names functions d c g ks).kept ≡ true → (g.kept ≡ true) × (flat_map (broken d c) ks ≡ [])
   unfolding gathered bounded counted broken told

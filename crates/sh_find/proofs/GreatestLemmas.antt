@@ -8,7 +8,7 @@ use Rattle.sh_tree.specs.standard.program.Syntax.{Text}
 use Rattle.sh_tree.specs.standard.program.Trees.{script_of}
 use Rattle.sh_tree.specs.Commands.{commands_of}
 use Rattle.sh_domain.specs.declared.certificate.Certificate as kept
-use Rattle.sh_domain.specs.Facts.{Declared}
+use Rattle.sh_domain.specs.Facts.{Facts, Declared, start_facts}
 use Rattle.sh_domain.specs.Faults.{faults}
 use Rattle.sh_domain.specs.Knowledge.{AreNumbered}
 use Rattle.sh_domain.specs.Names.{are_distinct}
@@ -43,11 +43,11 @@ few_commands b d t names a cs same =
 abbrev pub left : List Text → kept.Certificate → Bool → ℕ
 left names c done = cond done 0 (height (length names) (length c.entries.items) (length c.functions.items) c + 1)
 
-module _ (names : List Text) (loops : List Bool) (m : ℕ) (declared : Declared) (defined : List Text) (ks : List Constraint) where
+module _ (names : List Text) (loops : List Bool) (m : ℕ) (start : Facts) (defined : List Text) (ks : List Constraint) where
   pub heights : (c : kept.Certificate) → IsWorking names loops m c → height (length names) (length c.entries.items) (length c.functions.items) c ≡ height (length names) (length loops) m c
   heights c w = rw (w.commands, w.defined) refl
 
-  pub less_left : (mid new : kept.Certificate) (before done : Bool) → before ≡ false → IsWorking names loops m mid → IsTurn names loops m declared defined ks mid new done → left names new done < left names mid before
+  pub less_left : (mid new : kept.Certificate) (before done : Bool) → before ≡ false → IsWorking names loops m mid → IsTurn names loops m start defined ks mid new done → left names new done < left names mid before
   less_left mid new before done e w t = subst (λ x. left names new done < left names mid x) (sym e) (go done refl)
     where
       go : (x : Bool) → done ≡ x → left names new done < left names mid false
@@ -61,7 +61,7 @@ module _ (b : List ℕ) (d : Declared) (t : Script) (names : List Text) (admitte
   defined = functions_in b t
 
   pub is_greatest : (first c : kept.Certificate) → IsWorking names loops (length defined) first → ClaimsAll first → DropsNothing first
-      → IsSettled names loops (length defined) d defined (script_bounds (script_of b t)) first c → are_distinct names ≡ true → length loops ≤ 65535 → length defined ≤ 65535
+      → IsSettled names loops (length defined) (start_facts d) defined (script_bounds (script_of b t)) first c → are_distinct names ≡ true → length loops ≤ 65535 → length defined ≤ 65535
       → IsGreatest b d t names (sheet_by names c)
   unfolding faults
   is_greatest first c working all none s distinct few some =
@@ -75,7 +75,7 @@ module _ (b : List ℕ) (d : Declared) (t : Script) (names : List Text) (admitte
 
   -- by any count that is that of its functions
   pub is_greatest_of : (m : ℕ) → m ≡ length defined → (first c : kept.Certificate) → IsWorking names loops m first → ClaimsAll first → DropsNothing first
-      → IsSettled names loops m d defined (script_bounds (script_of b t)) first c → are_distinct names ≡ true → length loops ≤ 65535 → m ≤ 65535 → IsGreatest b d t names (sheet_by names c)
+      → IsSettled names loops m (start_facts d) defined (script_bounds (script_of b t)) first c → are_distinct names ≡ true → length loops ≤ 65535 → m ≤ 65535 → IsGreatest b d t names (sheet_by names c)
   is_greatest_of m e first c working all none s distinct few some =
-      is_greatest first c (subst (λ n. IsWorking names loops n first) e working) all none (subst (λ n. IsSettled names loops n d defined (script_bounds (script_of b t)) first c) e s) distinct few
+      is_greatest first c (subst (λ n. IsWorking names loops n first) e working) all none (subst (λ n. IsSettled names loops n (start_facts d) defined (script_bounds (script_of b t)) first c) e s) distinct few
       (subst (λ n. n ≤ 65535) e some)

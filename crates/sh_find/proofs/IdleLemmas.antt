@@ -15,7 +15,7 @@ use Rattle.sh_domain.specs.declared.certificate.Drops.{Drops}
 use Rattle.sh_domain.specs.declared.certificate.Facts as value
 use Rattle.sh_domain.specs.declared.certificate.Facts.TheVariants as value_kind
 use Rattle.sh_domain.specs.declared.rule.FlowRule.TheVariants.{F13}
-use Rattle.sh_domain.specs.Facts.{Claim, Facts, NotReached, Known, Variable, facts, within, claims as holds, Declared}
+use Rattle.sh_domain.specs.Facts.{Claim, Facts, NotReached, Known, Variable, facts, within, claims as holds, Declared, start_facts}
 use Rattle.sh_domain.specs.Faults.{are_among, broken, told}
 use Rattle.sh_domain.specs.Forms.{is_variable}
 use Rattle.sh_domain.specs.Inclusions.{Each}
@@ -49,7 +49,7 @@ use Rattle.sh_find.specs.There.{HasPlace, HasDrops, AsksThere}
 use Rattle.sh_find.specs.Turns.{AreNumbers, IsNew, gathered_of, sheet_by}
 use Rattle.sh_find.specs.Working.{Sets, sets_of, names_of, joined, claims, dropped, AreWithin, AreBelow, IsFine, IsWorking}
 use Rattle.sh_find.specs.Writable.{IsWritten, HasWritable}
-use Rattle.sh_find.proofs.FunctionLemmas.{rules_know_names}
+use Rattle.sh_find.proofs.FunctionLemmas.{rules_know_names, start_knows}
 use Rattle.sh_find.proofs.GatherLemmas.{among_less, place_stays, function_stays, numbered_only}
 use Rattle.sh_find.proofs.GreatestLemmas.{numbered}
 use Rattle.sh_find.proofs.KeptLemmas.{place_same}
@@ -177,7 +177,7 @@ module _ (names : List Text) where
     if_sets true s z a b = a
     if_sets false s z a b = b
 
-    module _ (functions : List Text) (d : Declared) (c : Certificate) where
+    module _ (functions : List Text) (d : Facts) (c : Certificate) where
       one_written : (k : Constraint) (g : Gathered) → BoundsNames d c k → Written g → Written (gathered names functions d c g k)
       unfolding gathered bounded counted BoundsNames
       one_written (Within slot n rule v) g asks w = record {
@@ -196,7 +196,7 @@ module _ (names : List Text) where
 
 -- All that is asked there is gathered
 
-module _ (names functions : List Text) (d : Declared) (c : Certificate) where
+module _ (names functions : List Text) (d : Facts) (c : Certificate) where
   if_less : (b : Bool) (f g : number.Facts) → number.IsWithin f g → number.IsWithin (if b then f else g) g
   if_less true f g w = w
   if_less false f g w = order.within_itself g
@@ -293,7 +293,7 @@ record AreNamesOf (names : List Text) (lost : Names) : Type 0 where
   vars : (x : Text) → is_one_of lost.vars x ≡ true → is_one_of names x ≡ true
   functions : (x : Text) → is_one_of lost.functions x ≡ true → is_one_of names x ≡ true
 
-module _ (names functions : List Text) (h : AreNumbered names) (loops : List Bool) (m : ℕ) (c : kept.Certificate) (w : IsWorking names loops m c) (d : Declared) where
+module _ (names functions : List Text) (h : AreNumbered names) (loops : List Bool) (m : ℕ) (c : kept.Certificate) (w : IsWorking names loops m c) (d : Facts) where
   abbrev own : Certificate
   own = certificate_of functions (sheet_by names c)
 
@@ -457,10 +457,10 @@ module _ (names functions : List Text) (h : AreNumbered names) (loops : List Boo
 -- of a script that is admitted
 pub idle_keeps : (b : List ℕ) (d : Declared) (t : Script) (names : List Text) → IsAdmitted b d t names → list_all is_variable names ≡ true → (loops : List Bool) → AreLoops t loops
     → (c : kept.Certificate) → IsWorking names loops (length (functions_in b t)) c
-    → (target : Target) (first : Gather) → IsNew target first → (g : Gathered) → g ≡ all_gathered names (functions_in b t) d (claims_in b t (sheet_by names c)) (gathered_of first) (script_bounds (script_of b t))
-    → (may : Sets) → HasWritable names MAX_NAMES may → IsIdle c may g → Each (IsKeptAt (functions_in b t) d (claims_in b t (sheet_by names c)) g.place g.function) (script_bounds (script_of b t))
+    → (target : Target) (first : Gather) → IsNew target first → (g : Gathered) → g ≡ all_gathered names (functions_in b t) (start_facts d) (claims_in b t (sheet_by names c)) (gathered_of first) (script_bounds (script_of b t))
+    → (may : Sets) → HasWritable names MAX_NAMES may → IsIdle c may g → Each (IsKeptAt (functions_in b t) (start_facts d) (claims_in b t (sheet_by names c)) g.place g.function) (script_bounds (script_of b t))
 idle_keeps b d t names a variables loops are c w target first new g is may all idle =
     let functions = functions_in b t in
     let h = numbered b d t names a in
-    all_idle names functions h loops (length functions) c w d target first new variables (script_bounds (script_of b t)) g is (all_lost b d t names a.numbered.0) (rules_ask_there b d t names loops c a are w)
-    (rules_know_names b d t names (claims_in b t (sheet_by names c)) a (claims_names names functions h loops (length functions) c w d)) may all idle
+    all_idle names functions h loops (length functions) c w (start_facts d) target first new variables (script_bounds (script_of b t)) g is (all_lost b d t names a.numbered.0) (rules_ask_there b d t names loops c a are w)
+    (rules_know_names b d t names (start_facts d) (claims_in b t (sheet_by names c)) a (start_knows d) (claims_names names functions h loops (length functions) c w (start_facts d))) may all idle

@@ -36,6 +36,7 @@ use Rattle.sh_find.specs.Gathering.{gathering}
 use Rattle.sh_find.specs.Places.{place_of}
 use Rattle.sh_find.specs.Sweeps.{IsOver, IsPart, Keeps, Knows, setting_by}
 use Rattle.sh_find.specs.Turns.{AreNumbers, Stands}
+use Rattle.sh_find.specs.Starts.{start_of}
 use Rattle.sh_find.proofs.AskingLemmas.{by_constraints, commands_numbered, few_commands}
 use Rattle.sh_find.proofs.GatherLemmas.{claim_among, drop_numbered, drop_stands, place_numbered, place_stands}
 use Rattle.sh_find.proofs.GreatestLemmas.{numbered}
@@ -47,8 +48,8 @@ module _ (s : Subject) (c : kept.Certificate) where
   asks_numbered : (qs : List Ask) (g : Gathered) → AreNumbers (length s.names.now) g → AreNumbers (length s.names.now) (fold (ask gathering (setting_by s c)) g qs)
   unfolding ask
   asks_numbered [] g a = a
-  asks_numbered (OfPlace slot f k ∷ qs) g a = asks_numbered qs _ (place_numbered s.names.now (functions_in s.script.now s.tree.now) s.policy.now slot (claimed_at (setting_by s c) slot) k g a)
-  asks_numbered (OfFunction function f lost ∷ qs) g a = asks_numbered qs _ (drop_numbered s.names.now (functions_in s.script.now s.tree.now) s.policy.now function _ lost g a)
+  asks_numbered (OfPlace slot f k ∷ qs) g a = asks_numbered qs _ (place_numbered s.names.now (functions_in s.script.now s.tree.now) (start_of s) slot (claimed_at (setting_by s c) slot) k g a)
+  asks_numbered (OfFunction function f lost ∷ qs) g a = asks_numbered qs _ (drop_numbered s.names.now (functions_in s.script.now s.tree.now) (start_of s) function _ lost g a)
 
   module _ (other : Sheet) (keeps : Keeps s other) where
     pub named_claim : (slot : Slot) → among s.names.now (facts ((claims_in s.script.now s.tree.now other).claim slot)) ≡ facts ((claims_in s.script.now s.tree.now other).claim slot)
@@ -62,9 +63,9 @@ module _ (s : Subject) (c : kept.Certificate) where
     asks_stand [] g all st = st
     asks_stand (OfPlace slot f k ∷ qs) g all st =
         asks_stand qs _ all.1
-        (place_stands s.names.now (functions_in s.script.now s.tree.now) s.policy.now other keeps.fit slot (claimed_at (setting_by s c) slot) k g (subst (λ m. IsWithin m k) (named_claim slot) all.0) st)
+        (place_stands s.names.now (functions_in s.script.now s.tree.now) (start_of s) other keeps.fit slot (claimed_at (setting_by s c) slot) k g (subst (λ m. IsWithin m k) (named_claim slot) all.0) st)
     asks_stand (OfFunction function f lost ∷ qs) g all st =
-        asks_stand qs _ all.1 (drop_stands s.names.now (functions_in s.script.now s.tree.now) s.policy.now other keeps.fit function _ lost g all.0 st)
+        asks_stand qs _ all.1 (drop_stands s.names.now (functions_in s.script.now s.tree.now) (start_of s) other keeps.fit function _ lost g all.0 st)
 
 -- Commands of a script that is admitted
 
@@ -89,14 +90,14 @@ module _ (s : Subject) (admitted : IsAdmitted s.script.now s.policy.now s.tree.n
   all_numbered : list_all (has_numbered_prefixes s.names.now) commands ≡ true
   all_numbered = prefixes_are_numbered s.script.now s.tree.now s.policy.now s.names.now admitted.numbered.0
 
-  all_kept : (other : Sheet) → Keeps s other → KeepsThere s.policy.now (claims_in s.script.now s.tree.now other) functions commands
+  all_kept : (other : Sheet) → Keeps s other → KeepsThere (start_of s) (claims_in s.script.now s.tree.now other) functions commands
   all_kept other keeps =
-      ap (flat_map (broken s.policy.now (claims_in s.script.now s.tree.now other))) (script_asks functions (script_of s.script.now s.tree.now) (table_defines s.script.now s.tree.now)) ∙ keeps.rules
+      ap (flat_map (broken (start_of s) (claims_in s.script.now s.tree.now other))) (script_asks functions (script_of s.script.now s.tree.now) (table_defines s.script.now s.tree.now)) ∙ keeps.rules
 
-  kept_parts : (other : Sheet) (es fs : List Entered) → KeepsThere s.policy.now (claims_in s.script.now s.tree.now other) functions (es ++ fs)
-      → KeepsThere s.policy.now (claims_in s.script.now s.tree.now other) functions es × KeepsThere s.policy.now (claims_in s.script.now s.tree.now other) functions fs
+  kept_parts : (other : Sheet) (es fs : List Entered) → KeepsThere (start_of s) (claims_in s.script.now s.tree.now other) functions (es ++ fs)
+      → KeepsThere (start_of s) (claims_in s.script.now s.tree.now other) functions es × KeepsThere (start_of s) (claims_in s.script.now s.tree.now other) functions fs
   kept_parts other es fs none =
-      let f = broken s.policy.now (claims_in s.script.now s.tree.now other) in
+      let f = broken (start_of s) (claims_in s.script.now s.tree.now other) in
       let ks : List Constraint = flat_map (bounds functions) es in
       let ls : List Constraint = flat_map (bounds functions) fs in
       none_both (flat_map f ks) (flat_map f ls) (sym (flat_map-append f ks ls) ∙ sym (ap (flat_map f) (flat_map-append (bounds functions) es fs)) ∙ none)
@@ -112,15 +113,15 @@ module _ (s : Subject) (admitted : IsAdmitted s.script.now s.policy.now s.tree.n
         let behind = (and_parts (list_all f part.front) (list_all f (es ++ part.back)) (sym (list_all-append f part.front (es ++ part.back)) ∙ whole)).1 in
         (and_parts (list_all f es) (list_all f part.back) (sym (list_all-append f es part.back) ∙ behind)).0
 
-    pub keeps_here : (other : Sheet) → Keeps s other → KeepsThere s.policy.now (claims_in s.script.now s.tree.now other) functions es
+    pub keeps_here : (other : Sheet) → Keeps s other → KeepsThere (start_of s) (claims_in s.script.now s.tree.now other) functions es
     keeps_here other keeps =
-        let all : KeepsThere s.policy.now (claims_in s.script.now s.tree.now other) functions (part.front ++ (es ++ part.back)) =
-        subst (KeepsThere s.policy.now (claims_in s.script.now s.tree.now other) functions) part.whole (all_kept other keeps) in
+        let all : KeepsThere (start_of s) (claims_in s.script.now s.tree.now other) functions (part.front ++ (es ++ part.back)) =
+        subst (KeepsThere (start_of s) (claims_in s.script.now s.tree.now other) functions) part.whole (all_kept other keeps) in
         (kept_parts other es part.back (kept_parts other part.front (es ++ part.back) all).1).0
 
   -- one command by itself, whatever is done with what it asks
 
-  module _ {K : Type 0} (a : Asking K) (e : Entered) (part : IsPart s (e ∷ [])) (c : kept.Certificate) (by : ByConstraints K a (setting_by s c) s.policy.now) (k : Facts) (old : K) where
+  module _ {K : Type 0} (a : Asking K) (e : Entered) (part : IsPart s (e ∷ [])) (c : kept.Certificate) (by : ByConstraints K a (setting_by s c) (start_of s)) (k : Facts) (old : K) where
     abbrev visited : K
     visited = command_by a (setting_by s c) old (met_at e k)
 
@@ -132,12 +133,12 @@ module _ (s : Subject) (admitted : IsAdmitted s.script.now s.policy.now s.tree.n
     prefixed = (and_parts (has_numbered_prefixes s.names.now e) true (prefixes_here (e ∷ []) part)).0
 
     pub one_asks : Asks a (setting_by s c) Anything old visited
-    one_asks = subst (Asks a (setting_by s c) Anything old) (sym same_told) ((stays_above a).asks (setting_by s c) s.policy.now by functions names_numbered e k old prefixed)
+    one_asks = subst (Asks a (setting_by s c) Anything old) (sym same_told) ((stays_above a).asks (setting_by s c) (start_of s) by functions names_numbered e k old prefixed)
 
     pub one_allows : IsOver s c → Knows s e.seen k → (other : Sheet) → Keeps s other → Asks a (setting_by s c) (Allows s.names.now (claims_in s.script.now s.tree.now other)) old visited
     one_allows over knows other keeps =
         subst (Asks a (setting_by s c) (Allows s.names.now (claims_in s.script.now s.tree.now other)) old) (sym same_told)
-        ((stays_above a).allows (setting_by s c) s.policy.now by functions (claims_in s.script.now s.tree.now other) names_numbered (over other keeps) e k old prefixed (knows other keeps)
+        ((stays_above a).allows (setting_by s c) (start_of s) by functions (claims_in s.script.now s.tree.now other) names_numbered (over other keeps) e k old prefixed (knows other keeps)
         (keeps_here (e ∷ []) part other keeps))
 
   -- what is gathered of it
@@ -146,8 +147,8 @@ module _ (s : Subject) (admitted : IsAdmitted s.script.now s.policy.now s.tree.n
     abbrev new : Gathered
     new = command_by gathering (setting_by s c) old (met_at e k)
 
-    abbrev constraints : ByConstraints Gathered gathering (setting_by s c) s.policy.now
-    constraints = by_constraints (setting_by s c) names_numbered s.policy.now
+    abbrev constraints : ByConstraints Gathered gathering (setting_by s c) (start_of s)
+    constraints = by_constraints (setting_by s c) names_numbered (start_of s)
 
     pub one_numbers : AreNumbers (length s.names.now) old → AreNumbers (length s.names.now) new
     one_numbers a =

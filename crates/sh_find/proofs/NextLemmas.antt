@@ -13,7 +13,7 @@ use Rattle.sh_domain.specs.declared.certificate.Certificate as kept
 use Rattle.sh_domain.specs.declared.certificate.Facts.TheVariants as value_kind
 use Rattle.sh_domain.specs.declared.rule.FlowRule.{FlowRule}
 use Rattle.sh_domain.specs.declared.rule.FlowRule.TheVariants.{F13}
-use Rattle.sh_domain.specs.Facts.{Declared, within}
+use Rattle.sh_domain.specs.Facts.{Facts, Declared, within}
 use Rattle.sh_domain.specs.Faults.{are_among, broken, told}
 use Rattle.sh_domain.specs.Inclusions.{Each}
 use Rattle.sh_domain.specs.Names.{number_of}
@@ -40,7 +40,7 @@ use Rattle.sh_find.proofs.ThereLemmas.{rules_ask_there}
 
 -- Constraints that are broken
 
-module _ (functions : List Text) (d : Declared) (c : Certificate) (p : Place) (i : ℕ) where
+module _ (functions : List Text) (d : Facts) (c : Certificate) (p : Place) (i : ℕ) where
   broken_first : (k : Constraint) (ks : List Constraint) → stands_at functions p i k ≡ true → ¬ (broken d c k ≡ []) → BrokenAt functions d c (k ∷ ks) p i
   broken_first k ks s b = record { constraint = k; front = []; back = ks; one = refl; there = s; breaks = b }
 
@@ -116,7 +116,7 @@ not_told false n r e = λ h. cc
 
 -- What is gathered
 
-module _ (names functions : List Text) (d : Declared) (c : Certificate) where
+module _ (names functions : List Text) (d : Facts) (c : Certificate) where
   abbrev after : Gathered → Constraint → Gathered
   after g k = gathered names functions d c g k
 

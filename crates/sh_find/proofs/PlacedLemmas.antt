@@ -23,7 +23,7 @@ use Rattle.sh_domain.specs.declared.rule.FlowRule.{FlowRule}
 use Rattle.sh_domain.specs.declared.rule.FlowRule.TheVariants.{F1, F2, F3, F6, F7, F8, F9, F10, F11, F12, F13}
 use Rattle.sh_domain.specs.Entries as e
 use Rattle.sh_domain.specs.Entries.{Around, Entered, behind_redirects}
-use Rattle.sh_domain.specs.Facts.{Facts, NotReached, meet, start_facts}
+use Rattle.sh_domain.specs.Facts.{Facts, NotReached, meet}
 use Rattle.sh_domain.specs.Gains.{word_gains}
 use Rattle.sh_domain.specs.Knowledge.{AreNumbered, among, knowledge_facts}
 use Rattle.sh_domain.specs.declared.knowledge.Knowledge.{Knowledge}
@@ -39,6 +39,7 @@ use Rattle.sh_domain.specs.Admitted.{claims_in}
 use Rattle.sh_find.specs.declared.subject.Subject.{Subject}
 use Rattle.sh_find.specs.Gathering.{gathering}
 use Rattle.sh_find.specs.Sweeps.{AreBranches, AreClauses, AreItems, AreLinks, AreParts, ArePassed, IsAndOr, IsCommand, IsIn, IsInside, IsList, IsOver, IsPart, IsPassed, IsPipe, Knows, KnowsBehind, known_behind, setting_by}
+use Rattle.sh_find.specs.Starts.{start_of}
 use Rattle.sh_find.proofs.SweepLemmas.{first_part, knows_follow, last_part, stands_of}
 
 module _ (s : Subject) where
@@ -139,16 +140,16 @@ module _ (s : Subject) where
       })
 
   -- the list of the script
-  pub start_placed : (at : Course) (k : Knowledge) → at.by ≡ F1 → known_behind s at.behind ≡ both (knowledge_facts s.names.now k) → knowledge_facts s.names.now k ≡ among s.names.now (start_facts s.policy.now)
+  pub start_placed : (at : Course) (k : Knowledge) → at.by ≡ F1 → known_behind s at.behind ≡ both (knowledge_facts s.names.now k) → knowledge_facts s.names.now k ≡ among s.names.now (start_of s)
       → AreItems s at.by e.alone (known_behind s at.behind) (out-Script s.tree.now).items
   unfolding e.script_entered
   start_placed at k by known start =
       subst (λ o. AreItems s at.by e.alone o (out-Script s.tree.now).items) (sym (known ∙ ap both start))
-      (subst (λ f. AreItems s f e.alone (both (among s.names.now (start_facts s.policy.now))) (out-Script s.tree.now).items) (sym by)
+      (subst (λ f. AreItems s f e.alone (both (among s.names.now (start_of s))) (out-Script s.tree.now).items) (sym by)
       (record {
         seen = Both at_start;
         part = record { front = []; back = []; whole = ap (e.items_entered F1 e.alone (Both at_start)) (rules.script_of-out s.script.now s.tree.now) ∙ sym (append-nil _) };
-        knows = λ other keeps. (stays_above gathering).start s.names.now s.policy.now (claims_in s.script.now s.tree.now other);
+        knows = λ other keeps. (stays_above gathering).start s.names.now (start_of s) (claims_in s.script.now s.tree.now other);
       }))
 
   pub both_known : (q : Seen) (k : Facts) (b : Behind) → b ≡ both k → Knows s q k → KnowsBehind s (Both q) b

@@ -5,7 +5,7 @@ use Rattle.sh_tree.specs.standard.program.Syntax.{Text}
 use Rattle.sh_domain.specs.declared.certificate.Certificate as kept
 use Rattle.sh_domain.specs.declared.rule.FlowRule.{FlowRule}
 use Rattle.sh_domain.specs.Entries.{Entered}
-use Rattle.sh_domain.specs.Facts.{Facts, Claim, Declared, facts, meet}
+use Rattle.sh_domain.specs.Facts.{Facts, Claim, facts, meet}
 use Rattle.sh_domain.specs.Inclusions.{Each}
 use Rattle.sh_domain.specs.Knowledge.{AreNumbered, among}
 use Rattle.sh_domain.specs.Operands.{Names}
@@ -34,6 +34,7 @@ use Rattle.sh_find.specs.Places.{claim_there, place_of}
 use Rattle.sh_find.specs.Sides.{Sided, AreNumbersBeside, StandsBeside, bounded_at, counted_of, first_of, second_of, known_at, sided_of, siding, with_beside}
 use Rattle.sh_find.specs.Sweeps.{IsOver, IsPart, Keeps, Knows, setting_by}
 use Rattle.sh_find.specs.Turns.{AreNumbers, IsNew, Stands, gathered_of}
+use Rattle.sh_find.specs.Starts.{start_of}
 use Rattle.sh_find.proofs.GatherLemmas.{drop_numbered, drop_stands, place_numbered, place_stands}
 use Rattle.sh_find.proofs.MetLemmas.{names_numbered, named_claim, one_allows, one_asks}
 use Rattle.sh_find.proofs.NumberLemmas.{among_numbered, meet_numbered}
@@ -86,7 +87,7 @@ module _ (target : Target) (g : Gather) (new : IsNew target g) (p : Place) where
 
 -- What is gathered goes by constraints
 
-module _ (names functions : List Text) (d : Declared) (c : Certificate) where
+module _ (names functions : List Text) (d : Facts) (c : Certificate) where
   unfoldable one : Sided → Constraint → Sided
   one g (Within slot n rule v) = bounded_at names functions slot (view_facts d c v) g
   one g (Counted f n loss) = counted_of names functions f (views.lost d c n loss) g
@@ -113,7 +114,7 @@ module _ (names functions : List Text) (d : Declared) (c : Certificate) where
         (met_both (is_at (place_of functions slot) g.place) g.known (view_facts d c v) (seen_facts d c s))
         (met_both (is_at (place_of functions slot) g.other) g.beside (view_facts d c v) (seen_facts d c s))
 
-pub sides_by : (x : Setting) (d : Declared) → AreNumbered x.names → ByConstraints Sided siding x d
+pub sides_by : (x : Setting) (d : Facts) → AreNumbered x.names → ByConstraints Sided siding x d
 unfolding knows one
 sides_by x d h = record {
   all = λ g ks. fold (one x.names x.functions d (certificate x)) g ks;
@@ -133,12 +134,12 @@ module _ (s : Subject) (c : kept.Certificate) where
   unfolding ask bounded bounded_at counted counted_of
   asks_numbered [] g a = a
   asks_numbered (OfPlace slot f k ∷ qs) g a =
-      let one = place_numbered s.names.now functions s.policy.now slot (claimed_at (setting_by s c) slot) k (first_of g) a.first in
-      let two = place_numbered s.names.now functions s.policy.now slot (claimed_at (setting_by s c) slot) k (second_of g) a.second in
+      let one = place_numbered s.names.now functions (start_of s) slot (claimed_at (setting_by s c) slot) k (first_of g) a.first in
+      let two = place_numbered s.names.now functions (start_of s) slot (claimed_at (setting_by s c) slot) k (second_of g) a.second in
       asks_numbered qs _ (record { first = record { known = one.known; sets = one.sets }; second = record { known = two.known; sets = two.sets } })
   asks_numbered (OfFunction function f lost ∷ qs) g a =
-      let one = drop_numbered s.names.now functions s.policy.now function lost lost (first_of g) a.first in
-      let two = drop_numbered s.names.now functions s.policy.now function lost lost (second_of g) a.second in
+      let one = drop_numbered s.names.now functions (start_of s) function lost lost (first_of g) a.first in
+      let two = drop_numbered s.names.now functions (start_of s) function lost lost (second_of g) a.second in
       asks_numbered qs _ (record { first = record { known = one.known; sets = one.sets }; second = record { known = two.known; sets = two.sets } })
 
   module _ (other : Sheet) (keeps : Keeps s other) where
@@ -148,16 +149,16 @@ module _ (s : Subject) (c : kept.Certificate) where
     asks_stand [] g all st = st
     asks_stand (OfPlace slot f k ∷ qs) g all st =
         let within : IsWithin (facts ((claims_in s.script.now s.tree.now other).claim slot)) k = subst (λ m. IsWithin m k) (named_claim s c other keeps slot) all.0 in
-        let one = place_stands s.names.now functions s.policy.now other keeps.fit slot (claimed_at (setting_by s c) slot) k (first_of g) within st.first in
-        let two = place_stands s.names.now functions s.policy.now other keeps.fit slot (claimed_at (setting_by s c) slot) k (second_of g) within st.second in
+        let one = place_stands s.names.now functions (start_of s) other keeps.fit slot (claimed_at (setting_by s c) slot) k (first_of g) within st.first in
+        let two = place_stands s.names.now functions (start_of s) other keeps.fit slot (claimed_at (setting_by s c) slot) k (second_of g) within st.second in
         asks_stand qs _ all.1
         (record {
           first = record { place = one.place; vars = one.vars; functions = one.functions };
           second = record { place = two.place; vars = two.vars; functions = two.functions };
         })
     asks_stand (OfFunction function f lost ∷ qs) g all st =
-        let one = drop_stands s.names.now functions s.policy.now other keeps.fit function lost lost (first_of g) all.0 st.first in
-        let two = drop_stands s.names.now functions s.policy.now other keeps.fit function lost lost (second_of g) all.0 st.second in
+        let one = drop_stands s.names.now functions (start_of s) other keeps.fit function lost lost (first_of g) all.0 st.first in
+        let two = drop_stands s.names.now functions (start_of s) other keeps.fit function lost lost (second_of g) all.0 st.second in
         asks_stand qs _ all.1
         (record {
           first = record { place = one.place; vars = one.vars; functions = one.functions };
@@ -170,8 +171,8 @@ module _ (s : Subject) (admitted : IsAdmitted s.script.now s.policy.now s.tree.n
   abbrev new : Sided
   new = command_by siding (setting_by s c) old (met_at e k)
 
-  abbrev by : ByConstraints Sided siding (setting_by s c) s.policy.now
-  by = sides_by (setting_by s c) s.policy.now (names_numbered s admitted)
+  abbrev by : ByConstraints Sided siding (setting_by s c) (start_of s)
+  by = sides_by (setting_by s c) (start_of s) (names_numbered s admitted)
 
   pub sides_numbers : AreNumbersBeside (length s.names.now) old → AreNumbersBeside (length s.names.now) new
   sides_numbers a =

@@ -15,6 +15,7 @@ use Rattle.sh_find.specs.Idle.{IsIdle}
 use Rattle.sh_find.specs.Next.{IsBroken, IsKeptAt, IsOfScript}
 use Rattle.sh_find.specs.Turns.{IsNew, gathered_of, sheet_by}
 use Rattle.sh_find.specs.Writable.{sets_in}
+use Rattle.sh_find.specs.Starts.{start_of}
 use Rattle.sh_find.proofs.GatherLemmas.{function_stays, place_stays}
 use Rattle.sh_find.proofs.IdleLemmas.{idle_keeps}
 use Rattle.sh_find.proofs.NextLemmas.{none_broken}
@@ -32,13 +33,13 @@ module _ (s : Subject) (c : kept.Certificate) (a : IsAdmitted s.script.now s.pol
   unfolding gathered_of
   sought_function = ap (λ (t : Target). t.function) new.at
 
-  pub idle_whole : g ≡ all_gathered s.names.now (functions_in s.script.now s.tree.now) s.policy.now (claims_in s.script.now s.tree.now (sheet_by s.names.now c)) (gathered_of first) ks
+  pub idle_whole : g ≡ all_gathered s.names.now (functions_in s.script.now s.tree.now) (start_of s) (claims_in s.script.now s.tree.now (sheet_by s.names.now c)) (gathered_of first) ks
       → IsIdle c (sets_in s.writable.now.vars s.writable.now.functions) g → IsBroken s c target → ⊥
   idle_whole is idle broken =
       let functions = functions_in s.script.now s.tree.now in
       let own = claims_in s.script.now s.tree.now (sheet_by s.names.now c) in
       let all = idle_keeps s.script.now s.policy.now s.tree.now s.names.now a variables w.loops w.are_loops c w.working target first new g is _ s.all_writable idle in
-      let place : g.place ≡ target.place = ap (λ (x : Gathered). x.place) is ∙ place_stays s.names.now functions s.policy.now own ks (gathered_of first) ∙ sought_place in
-      let function : g.function ≡ target.function = ap (λ (x : Gathered). x.function) is ∙ function_stays s.names.now functions s.policy.now own ks (gathered_of first) ∙ sought_function in
-      none_broken functions s.policy.now own target.place target.function ks
-      (subst (λ p. Each (IsKeptAt functions s.policy.now own p target.function) ks) place (subst (λ i. Each (IsKeptAt functions s.policy.now own g.place i) ks) function all)) broken
+      let place : g.place ≡ target.place = ap (λ (x : Gathered). x.place) is ∙ place_stays s.names.now functions (start_of s) own ks (gathered_of first) ∙ sought_place in
+      let function : g.function ≡ target.function = ap (λ (x : Gathered). x.function) is ∙ function_stays s.names.now functions (start_of s) own ks (gathered_of first) ∙ sought_function in
+      none_broken functions (start_of s) own target.place target.function ks
+      (subst (λ p. Each (IsKeptAt functions (start_of s) own p target.function) ks) place (subst (λ i. Each (IsKeptAt functions (start_of s) own g.place i) ks) function all)) broken

@@ -28,6 +28,7 @@ use Rattle.sh_find.specs.Sweeps.{setting_by, Keeps, IsOver, Knows, KnowsBehind, 
 use Rattle.sh_find.specs.Gathered.{Gathered}
 use Rattle.sh_find.specs.Turns.{IsSettled, IsSunk, IsTurn, Stands, sheet_by}
 use Rattle.sh_find.specs.Working.{IsLowered, IsWorking, height}
+use Rattle.sh_find.specs.Starts.{start_of}
 use Rattle.sh_find.proofs.AboveLemmas.{lowered_above}
 use Rattle.sh_find.proofs.GreatestLemmas.{numbered}
 use Rattle.sh_find.proofs.HeightLemmas.{lowered_less}
@@ -83,13 +84,13 @@ module _ (s : Subject) where
 
   pub knows_follow : (c : kept.Certificate) → AreNumbered s.names.now → IsOver s c → Follows (setting_by s c) (Knows s)
   knows_follow c h over = record {
-    slot = λ p other keeps. (above (setting_by s c) h s.policy.now (claims_in s.script.now s.tree.now other) (over other keeps)).slot p;
-    gain = λ g q k w other keeps. (above (setting_by s c) h s.policy.now (claims_in s.script.now s.tree.now other) (over other keeps)).gain g q k (w other keeps);
-    gains = λ g j q k w other keeps. (above (setting_by s c) h s.policy.now (claims_in s.script.now s.tree.now other) (over other keeps)).gains g j q k (w other keeps);
-    job = λ q k w other keeps. (above (setting_by s c) h s.policy.now (claims_in s.script.now s.tree.now other) (over other keeps)).job q k (w other keeps);
-    joined = λ q r k l w v other keeps. (above (setting_by s c) h s.policy.now (claims_in s.script.now s.tree.now other) (over other keeps)).joined q r k l (w other keeps) (v other keeps);
-    twice = λ q k l w v other keeps. (above (setting_by s c) h s.policy.now (claims_in s.script.now s.tree.now other) (over other keeps)).twice q k l (w other keeps) (v other keeps);
-    nothing = λ other keeps. (above (setting_by s c) h s.policy.now (claims_in s.script.now s.tree.now other) (over other keeps)).nothing;
+    slot = λ p other keeps. (above (setting_by s c) h (start_of s) (claims_in s.script.now s.tree.now other) (over other keeps)).slot p;
+    gain = λ g q k w other keeps. (above (setting_by s c) h (start_of s) (claims_in s.script.now s.tree.now other) (over other keeps)).gain g q k (w other keeps);
+    gains = λ g j q k w other keeps. (above (setting_by s c) h (start_of s) (claims_in s.script.now s.tree.now other) (over other keeps)).gains g j q k (w other keeps);
+    job = λ q k w other keeps. (above (setting_by s c) h (start_of s) (claims_in s.script.now s.tree.now other) (over other keeps)).job q k (w other keeps);
+    joined = λ q r k l w v other keeps. (above (setting_by s c) h (start_of s) (claims_in s.script.now s.tree.now other) (over other keeps)).joined q r k l (w other keeps) (v other keeps);
+    twice = λ q k l w v other keeps. (above (setting_by s c) h (start_of s) (claims_in s.script.now s.tree.now other) (over other keeps)).twice q k l (w other keeps) (v other keeps);
+    nothing = λ other keeps. (above (setting_by s c) h (start_of s) (claims_in s.script.now s.tree.now other) (over other keeps)).nothing;
   }
 
   -- behind a list
@@ -106,10 +107,10 @@ module _ (s : Subject) where
     pub working : (loops : List Bool) (m : ℕ) → IsWorking s.names.now loops m old → IsWorking s.names.now loops m new
     pub over : IsOver s new
     pub probe : probed ≡ length s.names.now
-    pub rules : done ≡ true → flat_map (broken s.policy.now (claims_in s.script.now s.tree.now (sheet_by s.names.now new))) (script_bounds (script_of s.script.now s.tree.now)) ≡ []
+    pub rules : done ≡ true → flat_map (broken (start_of s) (claims_in s.script.now s.tree.now (sheet_by s.names.now new))) (script_bounds (script_of s.script.now s.tree.now)) ≡ []
 
   abbrev Turns : List Bool → ℕ → kept.Certificate → kept.Certificate → Bool → Type 0
-  Turns loops m old new done = IsTurn s.names.now loops m s.policy.now (functions_in s.script.now s.tree.now) (script_bounds (script_of s.script.now s.tree.now)) old new done
+  Turns loops m old new done = IsTurn s.names.now loops m (start_of s) (functions_in s.script.now s.tree.now) (script_bounds (script_of s.script.now s.tree.now)) old new done
 
   pub turned_more : (old mid swept new : kept.Certificate) (n h k l : ℕ) (was done : Bool) → IsReady s old n → IsTurned old mid h was → IsSwept s mid swept k
       → ((loops : List Bool) (m : ℕ) → IsWorking s.names.now loops m swept → Turns loops m swept new done) → l ≡ length s.names.now → IsTurned old new l done
@@ -132,7 +133,7 @@ module _ (s : Subject) where
   }
 
   pub settled : (loops : List Bool) (m : ℕ) (old new : kept.Certificate) (n : ℕ) (done : Bool) → done ≡ true → IsTurned old new n done → IsWorking s.names.now loops m old
-      → IsSettled s.names.now loops m s.policy.now (functions_in s.script.now s.tree.now) (script_bounds (script_of s.script.now s.tree.now)) old new
+      → IsSettled s.names.now loops m (start_of s) (functions_in s.script.now s.tree.now) (script_bounds (script_of s.script.now s.tree.now)) old new
   settled loops m old new n done e t w = record { working = t.working loops m w; rules = t.rules e; above = λ d fit none below. t.over d (record { fit = fit; rules = none }) }
 
 -- What a walk by the table of the script goes by

@@ -6,7 +6,7 @@ use Rattle.std.proofs.lemmas.Bool.{and_parts, and_from}
 use Rattle.std.proofs.lemmas.List.Sums.{fold-append}
 use Rattle.sh_tree.specs.standard.program.Syntax.{Text}
 use Rattle.sh_domain.specs.declared.rule.FlowRule.{FlowRule}
-use Rattle.sh_domain.specs.Facts.{Facts, Claim, facts, within, meet, Declared}
+use Rattle.sh_domain.specs.Facts.{Facts, Claim, facts, within, meet}
 use Rattle.sh_domain.specs.Knowledge.{AreNumbered, among}
 use Rattle.sh_domain.specs.Order.{seen_facts}
 use Rattle.sh_domain.specs.Reading.{claim_fits}
@@ -65,7 +65,7 @@ module _ (names functions : List Text) where
   nothing_met true (number.Known v f a) = refl
   nothing_met false g = refl
 
-  module _ (h : AreNumbered names) (d : Declared) (c : Certificate) (slot : Slot) (fit : claim_fits names (c.claim slot) ≡ true) where
+  module _ (h : AreNumbered names) (d : Facts) (c : Certificate) (slot : Slot) (fit : claim_fits names (c.claim slot) ≡ true) where
     -- the views of a place together ask what is known where all are seen
     pub seen_together : (n : ℕ) (rule : FlowRule) (s : Seen) (g : Gathered) → all_gathered names functions d c g (bound slot n rule s) ≡ bounded names functions slot (c.claim slot) (among names (seen_facts d c s)) g
     unfolding gathered bounded next_of seen_facts within among by_number
@@ -91,7 +91,7 @@ module _ (names functions : List Text) where
         ∙ next_twice t first last (option_and_then fitting_place (place_of functions slot)) g.next_place))
 
 -- lists of constraints ask what they ask one after the other
-lists : (names functions : List Text) (d : Declared) (c : Certificate) (g : Gathered) (ks ls : List Constraint)
+lists : (names functions : List Text) (d : Facts) (c : Certificate) (g : Gathered) (ks ls : List Constraint)
     → all_gathered names functions d c g (ks ++ ls) ≡ all_gathered names functions d c (all_gathered names functions d c g ks) ls
 lists names functions d c g ks ls = fold-append (gathered names functions d c) g ks ls
 

@@ -3,7 +3,7 @@ use Rattle.std.proofs.Common.{◌≡◌, ℕ, ◌<◌, Bool, true, false, ◌||�
 use Rattle.std.proofs.lemmas.Bool.{cases_Bool}
 use Rattle.sh_tree.specs.standard.program.Syntax.{Text}
 use Rattle.sh_domain.specs.declared.certificate.Certificate as kept
-use Rattle.sh_domain.specs.Facts.{facts, Declared}
+use Rattle.sh_domain.specs.Facts.{Facts, facts}
 use Rattle.sh_domain.specs.Faults.{broken}
 use Rattle.sh_domain.specs.Knowledge.{AreNumbered, at_number}
 use Rattle.sh_domain.specs.Names.{number_of}
@@ -53,21 +53,21 @@ module _ (target : Target) (g : Gather) (new : IsNew target g) where
     functions = λ x e. absurd (true≢false (sym e ∙ none_at (numbers_of g.functions) new.functions (number_of names x)));
   }
 
-  module _ (names defined : List Text) (declared : Declared) (c : Sheet) (ks : List Constraint) (after : Gather)
-      (is : gathered_of after ≡ all_gathered names defined declared (certificate_of defined c) (gathered_of g) ks) where
+  module _ (names defined : List Text) (start : Facts) (c : Sheet) (ks : List Constraint) (after : Gather)
+      (is : gathered_of after ≡ all_gathered names defined start (certificate_of defined c) (gathered_of g) ks) where
     pub asked_numbers : AreNumbers (length names) (gathered_of after)
-    asked_numbers = subst (AreNumbers (length names)) (sym is) (numbered_only names defined declared (certificate_of defined c) ks (gathered_of g) (new_numbers (length names)))
+    asked_numbers = subst (AreNumbers (length names)) (sym is) (numbered_only names defined start (certificate_of defined c) ks (gathered_of g) (new_numbers (length names)))
 
-    pub asked_rules : after.kept ≡ true → flat_map (broken declared (certificate_of defined c)) ks ≡ []
-    asked_rules e = (all_kept names defined declared (certificate_of defined c) ks (gathered_of g) (sym (ap (λ (x : Gathered). x.kept) is) ∙ kept_is ∙ e)).1
+    pub asked_rules : after.kept ≡ true → flat_map (broken start (certificate_of defined c)) ks ≡ []
+    asked_rules e = (all_kept names defined start (certificate_of defined c) ks (gathered_of g) (sym (ap (λ (x : Gathered). x.kept) is) ∙ kept_is ∙ e)).1
       where
         kept_is : (gathered_of after).kept ≡ after.kept
         kept_is = kept_of after
 
-    pub asked_stands : (d : Sheet) → ((o : Option Place) → claim_fits names (claim_there d o) ≡ true) → flat_map (broken declared (certificate_of defined d)) ks ≡ []
+    pub asked_stands : (d : Sheet) → ((o : Option Place) → claim_fits names (claim_there d o) ≡ true) → flat_map (broken start (certificate_of defined d)) ks ≡ []
         → IsBelow (certificate_of defined d) (certificate_of defined c) → Stands names d (gathered_of after)
     asked_stands d fit none below =
-        subst (Stands names d) (sym is) (stands_all names defined declared (certificate_of defined c) d below fit ks (gathered_of g) none (new_stands names d))
+        subst (Stands names d) (sym is) (stands_all names defined start (certificate_of defined c) d below fit ks (gathered_of g) none (new_stands names d))
 
 -- A certificate that is lowered twice
 
@@ -124,11 +124,11 @@ sunk_else names loops m old new g false y e s = s
 
 -- Turns
 
-module _ (names : List Text) (loops : List Bool) (m : ℕ) (declared : Declared) (defined : List Text) (ks : List Constraint) where
+module _ (names : List Text) (loops : List Bool) (m : ℕ) (start : Facts) (defined : List Text) (ks : List Constraint) where
   pub sunk_turn : AreNumbered names → (old new : kept.Certificate) (g : Gathered)
-      → ((d : Sheet) → ((o : Option Place) → claim_fits names (claim_there d o) ≡ true) → flat_map (broken declared (certificate_of defined d)) ks ≡ []
+      → ((d : Sheet) → ((o : Option Place) → claim_fits names (claim_there d o) ≡ true) → flat_map (broken start (certificate_of defined d)) ks ≡ []
       → IsBelow (certificate_of defined d) (certificate_of defined (sheet_by names old)) → Stands names d g)
-      → (changed : Bool) → (changed ≡ false → ⊥) → IsSunk names loops m old new g changed → IsTurn names loops m declared defined ks old new false
+      → (changed : Bool) → (changed ≡ false → ⊥) → IsSunk names loops m old new g changed → IsTurn names loops m start defined ks old new false
   sunk_turn h old new g stands false none sunk = absurd (none refl)
   sunk_turn h old new g stands true none sunk = record {
     working = sunk.working;

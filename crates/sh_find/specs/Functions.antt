@@ -48,11 +48,12 @@ pub record ClaimsNames (c : Certificate) : Type 0 where
   pub known : (slot : Slot) → KnowsNames (facts (c.claim slot))
   pub lost : (function : Text) → LosesNames (c.drops function)
 
-unfoldable pub BoundsNames : Declared → Certificate → Constraint → Type 0
-BoundsNames d c (Within slot n rule v) = KnowsNames (view_facts d c v)
-BoundsNames d c (Counted function n loss) = LosesNames (lost d c n loss)
+unfoldable pub BoundsNames : Facts → Certificate → Constraint → Type 0
+BoundsNames start c (Within slot n rule v) = KnowsNames (view_facts start c v)
+BoundsNames start c (Counted function n loss) = LosesNames (lost start c n loss)
 
--- Of a certificate that claims only names, no rule lets any other function be known, and none counts another as lost.
+-- Of a start that knows only names and a certificate that claims only names, no rule lets any other function be known, and none counts another as lost.
 abbrev pub RulesKnowNames : Type 0
 RulesKnowNames =
-    (b : List ℕ) (d : Declared) (t : Script) (names : List Text) (c : Certificate) → IsAdmitted b d t names → ClaimsNames c → Each (BoundsNames d c) (script_bounds (script_of b t))
+    (b : List ℕ) (d : Declared) (t : Script) (names : List Text) (start : Facts) (c : Certificate)
+    → IsAdmitted b d t names → KnowsNames start → ClaimsNames c → Each (BoundsNames start c) (script_bounds (script_of b t))

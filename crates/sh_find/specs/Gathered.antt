@@ -3,7 +3,7 @@
 -- The standard has no such rules: what is claimed of a place has to be known there in every run.
 use Rattle.std.specs.Prelude.{ℕ, nat_lt, ◌==◌, Bool, true, false, ◌&&◌, ◌||◌, if◌then◌else◌, List, fold, Option, Some, None, option_map, option_and_then, unwrap_or}
 use Rattle.sh_tree.specs.standard.program.Syntax.{Text}
-use Rattle.sh_domain.specs.Facts.{Facts, Claim, within, Declared}
+use Rattle.sh_domain.specs.Facts.{Facts, Claim, within}
 use Rattle.sh_domain.specs.Faults.{are_among}
 use Rattle.sh_domain.specs.Names.{number_of}
 use Rattle.sh_domain.specs.Operands.{Names}
@@ -79,9 +79,9 @@ module _ (names functions : List Text) where
   }
 
   -- one constraint after the other
-  unfoldable pub gathered : Declared → Certificate → Gathered → Constraint → Gathered
-  gathered d c g (Within slot n rule v) = bounded slot (c.claim slot) (view_facts d c v) g
-  gathered d c g (Counted f n loss) = counted f (c.drops f) (lost d c n loss) g
+  unfoldable pub gathered : Facts → Certificate → Gathered → Constraint → Gathered
+  gathered start c g (Within slot n rule v) = bounded slot (c.claim slot) (view_facts start c v) g
+  gathered start c g (Counted f n loss) = counted f (c.drops f) (lost start c n loss) g
 
-  abbrev pub all_gathered : Declared → Certificate → Gathered → List Constraint → Gathered
-  all_gathered d c g ks = fold (gathered d c) g ks
+  abbrev pub all_gathered : Facts → Certificate → Gathered → List Constraint → Gathered
+  all_gathered start c g ks = fold (gathered start c) g ks

@@ -11,6 +11,7 @@ pub mod Gathering
 pub mod Turns
 pub mod Together
 pub mod Spots
+pub mod Starts
 pub mod Sweeps
 pub mod There
 pub mod Next

@@ -4,7 +4,7 @@ use Rattle.std.specs.Prelude.{◌≡◌, ℕ, Bool, true, List, [], ◌∷◌, �
 use Rattle.sh_tree.specs.standard.program.Syntax.{Text}
 use Rattle.sh_tree.specs.standard.program.Trees.{script_of}
 use Rattle.sh_domain.specs.declared.certificate.Certificate as kept
-use Rattle.sh_domain.specs.Facts.{Declared}
+use Rattle.sh_domain.specs.Facts.{Facts}
 use Rattle.sh_domain.specs.Faults.{broken}
 use Rattle.sh_domain.specs.Names.{number_of}
 use Rattle.sh_domain.specs.Reading.{AreLoops}
@@ -18,6 +18,7 @@ use Rattle.sh_find.specs.Gathered.{is_at, is_number}
 use Rattle.sh_find.specs.Places.{place_of}
 use Rattle.sh_find.specs.Turns.{sheet_by}
 use Rattle.sh_find.specs.Working.{IsWorking}
+use Rattle.sh_find.specs.Starts.{start_of}
 
 -- a constraint asks something of the place, or of the function of the index
 unfoldable pub stands_at : List Text → Place → ℕ → Constraint → Bool
@@ -25,17 +26,17 @@ stands_at functions p i (Within slot n rule v) = is_at (place_of functions slot)
 stands_at functions p i (Counted function n loss) = is_number (number_of functions function) i
 
 -- it is kept, if it asks something there
-pub record IsKeptAt (functions : List Text) (d : Declared) (c : Certificate) (p : Place) (i : ℕ) (k : Constraint) : Type 0 where
-  pub kept : stands_at functions p i k ≡ true → broken d c k ≡ []
+pub record IsKeptAt (functions : List Text) (start : Facts) (c : Certificate) (p : Place) (i : ℕ) (k : Constraint) : Type 0 where
+  pub kept : stands_at functions p i k ≡ true → broken start c k ≡ []
 
 -- one of the constraints asks something there, and is broken
-pub record BrokenAt (functions : List Text) (d : Declared) (c : Certificate) (ks : List Constraint) (p : Place) (i : ℕ) : Type 0 where
+pub record BrokenAt (functions : List Text) (start : Facts) (c : Certificate) (ks : List Constraint) (p : Place) (i : ℕ) : Type 0 where
   pub constraint : Constraint
   pub front : List Constraint
   pub back : List Constraint
   pub one : ks ≡ front ++ (constraint ∷ back)
   pub there : stands_at functions p i constraint ≡ true
-  pub breaks : ¬ (broken d c constraint ≡ [])
+  pub breaks : ¬ (broken start c constraint ≡ [])
 
 module _ (s : Subject) where
   -- a certificate that is lowered, with as many commands and functions as the script has, and heads at its loops
@@ -47,4 +48,4 @@ module _ (s : Subject) where
   -- it breaks a flow rule that asks something of the place or of the function
   abbrev pub IsBroken : kept.Certificate → Target → Type 0
   IsBroken c target =
-      BrokenAt (functions_in s.script.now s.tree.now) s.policy.now (claims_in s.script.now s.tree.now (sheet_by s.names.now c)) (script_bounds (script_of s.script.now s.tree.now)) target.place target.function
+      BrokenAt (functions_in s.script.now s.tree.now) (start_of s) (claims_in s.script.now s.tree.now (sheet_by s.names.now c)) (script_bounds (script_of s.script.now s.tree.now)) target.place target.function

@@ -39,6 +39,7 @@ use Rattle.sh_find.specs.declared.subject.Subject.{Subject}
 use Rattle.sh_find.specs.Places.{claim_there}
 use Rattle.sh_find.specs.Turns.{sheet_by}
 use Rattle.sh_find.specs.Working.{IsWorking, height}
+use Rattle.sh_find.specs.Starts.{start_of}
 
 module _ (s : Subject) where
   -- what a walk over the script goes by
@@ -56,7 +57,7 @@ module _ (s : Subject) where
   -- a sheet of names of the script that keeps all rules
   pub record Keeps (other : Sheet) : Type 0 where
     pub fit : (o : Option Place) → claim_fits s.names.now (claim_there other o) ≡ true
-    pub rules : flat_map (broken s.policy.now (claims_in s.script.now s.tree.now other)) (script_bounds (script_of s.script.now s.tree.now)) ≡ []
+    pub rules : flat_map (broken (start_of s) (claims_in s.script.now s.tree.now other)) (script_bounds (script_of s.script.now s.tree.now)) ≡ []
 
   -- each of those is below the certificate
   abbrev pub IsOver : kept.Certificate → Type 0
@@ -66,11 +67,11 @@ module _ (s : Subject) where
 
   -- each of those sees no more there
   abbrev pub Knows : Seen → Facts → Type 0
-  Knows q k = (other : Sheet) → Keeps other → IsWithin (sees s.names.now s.policy.now (claims_in s.script.now s.tree.now other) q) k
+  Knows q k = (other : Sheet) → Keeps other → IsWithin (sees s.names.now (start_of s) (claims_in s.script.now s.tree.now other) q) k
 
   -- nor behind a list, by its status
   abbrev pub KnowsBehind : After → Behind → Type 0
-  KnowsBehind o b = (other : Sheet) → Keeps other → SeesWithin s.names.now s.policy.now (claims_in s.script.now s.tree.now other) o b
+  KnowsBehind o b = (other : Sheet) → Keeps other → SeesWithin s.names.now (start_of s) (claims_in s.script.now s.tree.now other) o b
 
   abbrev pub known_behind : code.Behind → Behind
   known_behind o = record { zero = knowledge_facts s.names.now o.zero; nonzero = knowledge_facts s.names.now o.nonzero }

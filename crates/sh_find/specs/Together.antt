@@ -3,7 +3,7 @@
 use Rattle.std.specs.Prelude.{◌≡◌, ℕ, true, List, ◌++◌}
 use Rattle.sh_tree.specs.standard.program.Syntax.{Text}
 use Rattle.sh_domain.specs.declared.rule.FlowRule.{FlowRule}
-use Rattle.sh_domain.specs.Facts.{Declared}
+use Rattle.sh_domain.specs.Facts.{Facts}
 use Rattle.sh_domain.specs.Knowledge.{AreNumbered, among}
 use Rattle.sh_domain.specs.Operands.{Names, no_names}
 use Rattle.sh_domain.specs.Order.{seen_facts}
@@ -18,7 +18,7 @@ pub record GatheredTogether : Type 0 where
   pub nothing : (names functions : List Text) (f : Text) (may : Names) (g : Gathered) → counted names functions f may no_names g ≡ g
   pub names : (names functions : List Text) (f : Text) (may a b : Names) (g : Gathered)
       → counted names functions f may (record { vars = a.vars ++ b.vars; functions = a.functions ++ b.functions }) g ≡ counted names functions f may b (counted names functions f may a g)
-  pub views : (names functions : List Text) → AreNumbered names → (d : Declared) (c : Certificate) (slot : Slot) → claim_fits names (c.claim slot) ≡ true → (n : ℕ) (rule : FlowRule) (s : Seen) (g : Gathered)
-      → all_gathered names functions d c g (bound slot n rule s) ≡ bounded names functions slot (c.claim slot) (among names (seen_facts d c s)) g
-  pub lists : (names functions : List Text) (d : Declared) (c : Certificate) (g : Gathered) (ks ls : List Constraint)
-      → all_gathered names functions d c g (ks ++ ls) ≡ all_gathered names functions d c (all_gathered names functions d c g ks) ls
+  pub views : (names functions : List Text) → AreNumbered names → (start : Facts) (c : Certificate) (slot : Slot) → claim_fits names (c.claim slot) ≡ true → (n : ℕ) (rule : FlowRule) (s : Seen) (g : Gathered)
+      → all_gathered names functions start c g (bound slot n rule s) ≡ bounded names functions slot (c.claim slot) (among names (seen_facts start c s)) g
+  pub lists : (names functions : List Text) (start : Facts) (c : Certificate) (g : Gathered) (ks ls : List Constraint)
+      → all_gathered names functions start c g (ks ++ ls) ≡ all_gathered names functions start c (all_gathered names functions start c g ks) ls

@@ -5,7 +5,7 @@ use Rattle.sh_tree.specs.standard.program.Syntax.{Text}
 use Rattle.sh_table.specs.standard.runs.Environment.{is_one_of}
 use Rattle.sh_domain.specs.declared.certificate.Certificate.{Certificate}
 use Rattle.sh_domain.specs.Certificates.{in_byte_order, sheet_of}
-use Rattle.sh_domain.specs.Facts.{facts, Declared}
+use Rattle.sh_domain.specs.Facts.{Facts, facts}
 use Rattle.sh_domain.specs.Faults.{broken}
 use Rattle.sh_domain.specs.Knowledge.{AreNumbered, at_number}
 use Rattle.sh_domain.specs.Names.{number_of}
@@ -70,16 +70,16 @@ pub record IsSunk (names : List Text) (loops : List Bool) (m : ℕ) (old new : C
       → IsBelow (certificate_of defined d) (certificate_of defined (sheet_by names new))
 
 -- The certificate keeps all constraints, or is lowered; and stays above each one that keeps them.
-pub record IsTurn (names : List Text) (loops : List Bool) (m : ℕ) (declared : Declared) (defined : List Text) (ks : List Constraint) (old new : Certificate) (kept : Bool) : Type 0 where
+pub record IsTurn (names : List Text) (loops : List Bool) (m : ℕ) (start : Facts) (defined : List Text) (ks : List Constraint) (old new : Certificate) (kept : Bool) : Type 0 where
   pub working : IsWorking names loops m new
-  pub rules : kept ≡ true → flat_map (broken declared (certificate_of defined (sheet_by names new))) ks ≡ []
+  pub rules : kept ≡ true → flat_map (broken start (certificate_of defined (sheet_by names new))) ks ≡ []
   pub less : kept ≡ false → height (length names) (length loops) m new < height (length names) (length loops) m old
-  pub above : (d : Sheet) → ((o : Option Place) → claim_fits names (claim_there d o) ≡ true) → flat_map (broken declared (certificate_of defined d)) ks ≡ []
+  pub above : (d : Sheet) → ((o : Option Place) → claim_fits names (claim_there d o) ≡ true) → flat_map (broken start (certificate_of defined d)) ks ≡ []
       → IsBelow (certificate_of defined d) (certificate_of defined (sheet_by names old)) → IsBelow (certificate_of defined d) (certificate_of defined (sheet_by names new))
 
 -- the certificate keeps all constraints, and stays above each one that keeps them
-pub record IsSettled (names : List Text) (loops : List Bool) (m : ℕ) (declared : Declared) (defined : List Text) (ks : List Constraint) (old new : Certificate) : Type 0 where
+pub record IsSettled (names : List Text) (loops : List Bool) (m : ℕ) (start : Facts) (defined : List Text) (ks : List Constraint) (old new : Certificate) : Type 0 where
   pub working : IsWorking names loops m new
-  pub rules : flat_map (broken declared (certificate_of defined (sheet_by names new))) ks ≡ []
-  pub above : (d : Sheet) → ((o : Option Place) → claim_fits names (claim_there d o) ≡ true) → flat_map (broken declared (certificate_of defined d)) ks ≡ []
+  pub rules : flat_map (broken start (certificate_of defined (sheet_by names new))) ks ≡ []
+  pub above : (d : Sheet) → ((o : Option Place) → claim_fits names (claim_there d o) ≡ true) → flat_map (broken start (certificate_of defined d)) ks ≡ []
       → IsBelow (certificate_of defined d) (certificate_of defined (sheet_by names old)) → IsBelow (certificate_of defined d) (certificate_of defined (sheet_by names new))

@@ -5,6 +5,7 @@ ghost use Rattle.sh_domain.specs.Rules.{script_bounds};
 ghost use Rattle.sh_domain.specs.Admitted.{IsAdmitted, claims_in, functions_in};
 ghost use Rattle.sh_find.specs.Gathered.{all_gathered};
 ghost use Rattle.sh_find.specs.Turns.{gathered_of, sheet_by};
+ghost use Rattle.sh_find.specs.Starts.{start_of};
 
 use crate::gather::Gather;
 use crate::spot::{index_of, spot_of};
@@ -63,7 +64,7 @@ impl Asked for Gather {
 pub fn ask(subject: &Subject<'_>, certificate: &Certificate, gather: Gather) -> Gather
     requires sized { certificate.now.rows.count ≡ length subject.now.names.now }
     requires admitted { IsAdmitted subject.now.script.now subject.now.policy.now subject.now.tree.now subject.now.names.now }
-    ensures { gathered_of result ≡ all_gathered subject.now.names.now (functions_in subject.now.script.now subject.now.tree.now) subject.now.policy.now
+    ensures { gathered_of result ≡ all_gathered subject.now.names.now (functions_in subject.now.script.now subject.now.tree.now) (start_of subject.now)
         (claims_in subject.now.script.now subject.now.tree.now (sheet_by subject.now.names.now certificate.now)) (gathered_of gather)
         (script_bounds (script_of subject.now.script.now subject.now.tree.now)) }
 {

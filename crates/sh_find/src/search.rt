@@ -14,6 +14,7 @@ ghost use Rattle.sh_find.specs.Next.{IsOfScript};
 ghost use Rattle.sh_find.specs.Sweeps.{IsReady, IsSwept};
 ghost use Rattle.sh_find.specs.Turns.{IsSettled, sheet_by};
 ghost use Rattle.sh_find.specs.Working.{IsWorking};
+ghost use Rattle.sh_find.specs.Starts.{start_of};
 
 use crate::bodies::{sweep_by_rounds, sweep_waiting};
 use crate::draft::Draft;
@@ -55,7 +56,7 @@ fn settle(subject: &Subject<'_>, draft: &mut Draft, way: Way) -> Result<(), Allo
     requires variables { list_all is_variable subject.now.names.now ≡ true }
     requires working { IsOfScript subject.now draft.old.certificate }
     ensures { OnOk result ((loops : List Bool) (functions : ℕ) → IsWorking subject.now.names.now loops functions draft.old.certificate
-        → IsSettled subject.now.names.now loops functions subject.now.policy.now (functions_in subject.now.script.now subject.now.tree.now)
+        → IsSettled subject.now.names.now loops functions (start_of subject.now) (functions_in subject.now.script.now subject.now.tree.now)
         (script_bounds (script_of subject.now.script.now subject.now.tree.now)) draft.old.certificate draft.new.certificate) }
 {
     let mut target = Target::FIRST;

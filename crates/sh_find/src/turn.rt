@@ -18,6 +18,7 @@ ghost use Rattle.sh_find.specs.Next.{IsBroken, IsOfScript};
 ghost use Rattle.sh_find.specs.Turns.{AreNumbers, IsSunk, IsTurn, Stands, gathered_of, sheet_by};
 ghost use Rattle.sh_find.specs.Working.{IsLowered, IsWorking};
 ghost use Rattle.sh_find.specs.Writable.{IsWritten, sets_in};
+ghost use Rattle.sh_find.specs.Starts.{start_of};
 
 use crate::asked::ask;
 use crate::gather::{Gather, Target};
@@ -35,10 +36,10 @@ fn asked(subject: &Subject<'_>, certificate: &Certificate, target: Target) -> Ga
     requires sized { certificate.now.rows.count ≡ length subject.now.names.now }
     requires admitted { IsAdmitted subject.now.script.now subject.now.policy.now subject.now.tree.now subject.now.names.now }
     ensures numbers { AreNumbers (length subject.now.names.now) (gathered_of result) }
-    ensures rules { result.kept ≡ true → flat_map (broken subject.now.policy.now (claims_in subject.now.script.now subject.now.tree.now (sheet_by subject.now.names.now certificate.now)))
+    ensures rules { result.kept ≡ true → flat_map (broken (start_of subject.now) (claims_in subject.now.script.now subject.now.tree.now (sheet_by subject.now.names.now certificate.now)))
         (script_bounds (script_of subject.now.script.now subject.now.tree.now)) ≡ [] }
     ensures stands { (d : Sheet) → ((o : Option place.Place) → claim_fits subject.now.names.now (claim_there d o) ≡ true)
-        → flat_map (broken subject.now.policy.now (claims_in subject.now.script.now subject.now.tree.now d)) (script_bounds (script_of subject.now.script.now subject.now.tree.now)) ≡ []
+        → flat_map (broken (start_of subject.now) (claims_in subject.now.script.now subject.now.tree.now d)) (script_bounds (script_of subject.now.script.now subject.now.tree.now)) ≡ []
         → IsBelow (claims_in subject.now.script.now subject.now.tree.now d) (claims_in subject.now.script.now subject.now.tree.now (sheet_by subject.now.names.now certificate.now))
         → Stands subject.now.names.now d (gathered_of result) }
     ensures next { result.kept ≡ false → IsOfScript subject.now certificate.now
@@ -136,7 +137,7 @@ fn lower_next(
     requires breaks { IsBroken subject.now certificate.old target }
     requires probed { probe.old.count ≡ length subject.now.names.now }
     ensures turn { IfOk result (λ next. (loops : List Bool) (functions : ℕ) → IsWorking subject.now.names.now loops functions certificate.old
-        → IsTurn subject.now.names.now loops functions subject.now.policy.now (functions_in subject.now.script.now subject.now.tree.now)
+        → IsTurn subject.now.names.now loops functions (start_of subject.now) (functions_in subject.now.script.now subject.now.tree.now)
         (script_bounds (script_of subject.now.script.now subject.now.tree.now)) certificate.old certificate.new false) }
     ensures probed { IfOk result (λ next. probe.new.count ≡ length subject.now.names.now) }
 {
@@ -162,7 +163,7 @@ pub fn turn(
     requires working { IsOfScript subject.now certificate.old }
     requires probed { probe.old.count ≡ length subject.now.names.now }
     ensures turn { IfOk result (λ kept. (loops : List Bool) (functions : ℕ) → IsWorking subject.now.names.now loops functions certificate.old
-        → IsTurn subject.now.names.now loops functions subject.now.policy.now (functions_in subject.now.script.now subject.now.tree.now)
+        → IsTurn subject.now.names.now loops functions (start_of subject.now) (functions_in subject.now.script.now subject.now.tree.now)
         (script_bounds (script_of subject.now.script.now subject.now.tree.now)) certificate.old certificate.new kept) }
     ensures probed { IfOk result (λ kept. probe.new.count ≡ length subject.now.names.now) }
 {

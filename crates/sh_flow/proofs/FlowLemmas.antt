@@ -10,7 +10,7 @@ use Rattle.sh_tree.specs.standard.program.Trees.{script_of}
 use Rattle.sh_table.specs.Calls.{Table, table_of}
 use Rattle.sh_table.specs.Numbering.{is_numbered}
 use Rattle.sh_domain.specs.Admitted.{KeepsRules, claims_in}
-use Rattle.sh_domain.specs.Facts.{Declared}
+use Rattle.sh_domain.specs.Facts.{Declared, start_facts}
 use Rattle.sh_domain.specs.Faults.{faults}
 use Rattle.sh_domain.specs.Names.{Numbers}
 use Rattle.sh_domain.specs.Sheets.{Sheet}
@@ -40,7 +40,7 @@ pub names_of : (b : List ℕ) (t : Script) (d : Declared) (names : List Text) �
 names_of b t d names n = record { declared = d; numbered = n.0; few = n.1 }
 
 pub rules_kept : (b : List ℕ) (d : Declared) (t : Script) (c : Sheet) → FindsFault b d t c None → KeepsRules b d t c
-rules_kept b d t c h = none_least (faults d (claims_in b t c) (script_of b t)) h
+rules_kept b d t c h = none_least (faults (start_facts d) (claims_in b t c) (script_of b t)) h
 
 -- no rule is broken, and these are the unmet demands
 pub found : (b : List ℕ) (d : Declared) (t : Script) (c : Sheet) (ps : List Place) (f : Flow) → FindsFault b d t c None → ps ≡ unmet_in b d t c → Tells ps f → Flows b d t c f

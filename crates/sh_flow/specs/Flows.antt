@@ -6,7 +6,7 @@ use Rattle.sh_tree.specs.declared.tree.Script.{Script}
 use Rattle.sh_tree.specs.standard.program.Trees.{script_of}
 use Rattle.sh_domain.specs.Admitted.{KeepsRules, claims_in}
 use Rattle.sh_domain.specs.Demands.{demands}
-use Rattle.sh_domain.specs.Facts.{Declared}
+use Rattle.sh_domain.specs.Facts.{Declared, start_facts}
 use Rattle.sh_domain.specs.Faults.{faults, least}
 use Rattle.sh_domain.specs.Sheets.{Sheet}
 use Rattle.sh_rules.specs.declared.fault.Fault as found
@@ -16,11 +16,11 @@ use Rattle.sh_flow.specs.declared.flow.Flow.TheVariants.{Holds, Rule, Demand}
 
 -- the places of the demands that the certificate leaves unmet
 abbrev pub unmet_in : List ℕ → Declared → Script → Sheet → List Place
-unmet_in b d t c = demands d (claims_in b t c) (script_of b t)
+unmet_in b d t c = demands (start_facts d) (claims_in b t c) (script_of b t)
 
 -- this is the least of the flow rules that it breaks, if it breaks one
 abbrev pub FindsFault : List ℕ → Declared → Script → Sheet → Option found.Fault → Type 0
-FindsFault b d t c o = least (faults d (claims_in b t c) (script_of b t)) ≡ option_map fault_of o
+FindsFault b d t c o = least (faults (start_facts d) (claims_in b t c) (script_of b t)) ≡ option_map fault_of o
 
 -- Holds if there is no place, and otherwise Demand
 abbrev pub Tells : List Place → Flow → Type 0
@@ -39,5 +39,5 @@ LeavesUnmet b d t c = KeepsRules b d t c × (0 < length (unmet_in b d t c))
 -- Holds if no rule is broken and no demand unmet; Rule with the least broken rule of the least command; Demand with the unmet demands.
 abbrev pub Flows : List ℕ → Declared → Script → Sheet → Flow → Type 0
 Flows b d t c Holds = FindsPlaces b d t c []
-Flows b d t c (Rule k f) = least (faults d (claims_in b t c) (script_of b t)) ≡ Some (record { number = k; rule = f })
+Flows b d t c (Rule k f) = least (faults (start_facts d) (claims_in b t c) (script_of b t)) ≡ Some (record { number = k; rule = f })
 Flows b d t c (Demand ps) = (0 < length ps.items) × FindsPlaces b d t c ps.items

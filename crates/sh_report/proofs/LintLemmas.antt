@@ -11,7 +11,7 @@ use Rattle.sh_domain.specs.declared.certificate.Certificate.{Certificate}
 use Rattle.sh_domain.specs.declared.certificate.Entry.{Entry}
 use Rattle.sh_domain.specs.Certificates.{commands_from, function_claims, in_byte_order}
 use Rattle.sh_domain.specs.Demands.{demands}
-use Rattle.sh_domain.specs.Facts.{Declared}
+use Rattle.sh_domain.specs.Facts.{Declared, start_facts}
 use Rattle.sh_domain.specs.Sheets.{Sheet, certificate_text}
 use Rattle.sh_domain.specs.declared.limits.TheConstants.{MAX_CERTIFICATE}
 use Rattle.sh_domain.proofs.EachLemmas.{none_both}
@@ -36,7 +36,7 @@ module _ (b : List ℕ) (d : Declared) (p : Prepared) (i : IsPrepared b d p) whe
 
   told : (c : Sheet) → IsGreatest b d p.tree p.names c → (v : Verdict) → Judges b d p.tree c v → Lints b d (Ok v)
   told c g Pass h =
-      let none = none_both (demands d (claims_in b p.tree c) (script_of b p.tree)) (unquoted (script_of b p.tree)) h.1 in
+      let none = none_both (demands (start_facts d) (claims_in b p.tree c) (script_of b p.tree)) (unquoted (script_of b p.tree)) h.1 in
       (c, record { tree = p.tree; names = p.names; admitted = i.admitted; fit = g.fit; rules = g.rules; met = none.0; quoted = none.1 })
   told c g (Fail r) h = record { tree = p.tree; certificate = c; best = best c g; some = h.1; found = h.2 }
   told c g (Forged n f) h = absurd (no_fault _ _ g.rules h)

@@ -3,7 +3,7 @@
 use Rattle.std.specs.Prelude.{◌≡◌, ◌<◌, ℕ, List, [], length, Some}
 use Rattle.sh_tree.specs.declared.tree.Script.{Script}
 use Rattle.sh_tree.specs.standard.program.Trees.{script_of}
-use Rattle.sh_domain.specs.Facts.{Declared}
+use Rattle.sh_domain.specs.Facts.{Declared, start_facts}
 use Rattle.sh_domain.specs.Faults.{faults, least}
 use Rattle.sh_domain.specs.Sheets.{Sheet}
 use Rattle.sh_answers.specs.Findings.{AreFindings}
@@ -16,4 +16,4 @@ use Rattle.sh_accept.specs.Answers.{places}
 abbrev pub Judges : List ℕ → Declared → Script → Sheet → Verdict → Type 0
 Judges b d t c Pass = KeepsRules b d t c × (places b d t c ≡ [])
 Judges b d t c (Fail r) = KeepsRules b d t c × (0 < length r.findings.items) × AreFindings b (places b d t c) r.findings.items
-Judges b d t c (Forged k f) = least (faults d (claims_in b t c) (script_of b t)) ≡ Some (record { number = k; rule = f })
+Judges b d t c (Forged k f) = least (faults (start_facts d) (claims_in b t c) (script_of b t)) ≡ Some (record { number = k; rule = f })

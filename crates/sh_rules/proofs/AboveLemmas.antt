@@ -9,7 +9,7 @@ use Rattle.sh_table.specs.standard.runs.Environment.{is_one_of}
 use Rattle.sh_domain.specs.declared.rule.FlowRule.{FlowRule}
 use Rattle.sh_domain.specs.declared.rule.FlowRule.TheVariants.{F13}
 use Rattle.sh_domain.specs.Entries.{Around, Entered, behind_redirects}
-use Rattle.sh_domain.specs.Facts.{Facts, NotReached, Known, Declared, facts, meet, start_facts}
+use Rattle.sh_domain.specs.Facts.{Facts, NotReached, Known, facts, meet}
 use Rattle.sh_domain.specs.Faults.{Fault, broken}
 use Rattle.sh_domain.specs.Gains.{Gains, and_gains, job}
 use Rattle.sh_domain.specs.Inclusions.{Each}
@@ -58,7 +58,7 @@ below_itself c = record { claimed = λ s. within_itself _; dropped = λ f. recor
 
 -- What is known follows what a certificate below sees
 
-module _ (x : Setting) (h : AreNumbered x.names) (d : Declared) (c : Certificate) (below : IsBelow c (certificate x)) where
+module _ (x : Setting) (h : AreNumbered x.names) (d : Facts) (c : Certificate) (below : IsBelow c (certificate x)) where
   abbrev seen : Seen → Facts
   seen s = sees x.names d c s
 
@@ -120,12 +120,12 @@ module _ {K : Type 0} (a : Asking K) (x : Setting) (Q : Ask → Type 0) where
   function_asked function f names kept q = record { asks = OfFunction function f names ∷ []; each = (q, tt); reached = refl }
 
 -- what holds of all that is asked, where this holds of each constraint and of what is known where something is seen
-pub record Judges (x : Setting) (d : Declared) (R : Seen → Facts → Type 0) (E : Constraint → Type 0) (Q : Ask → Type 0) : Type 0 where
+pub record Judges (x : Setting) (d : Facts) (R : Seen → Facts → Type 0) (E : Constraint → Type 0) (Q : Ask → Type 0) : Type 0 where
   pub place : (slot : Slot) (n : ℕ) (rule : FlowRule) (s : Seen) (k : Facts) → R s k → Each E (bound slot n rule s) → Q (OfPlace slot (fault n rule) k)
   pub view : (slot : Slot) (n : ℕ) (rule : FlowRule) (v : View) → E (Within slot n rule v) → Q (OfPlace slot (fault n rule) (knows x d (v ∷ [])))
   pub loss : (function : Text) (n : ℕ) (l : Loss) → E (Counted function n l) → Q (OfFunction function (fault n F13) (lost d (certificate x) n l))
 
-module _ {K : Type 0} (a : Asking K) (x : Setting) (h : AreNumbered x.names) (d : Declared) (i : ByConstraints K a x d)
+module _ {K : Type 0} (a : Asking K) (x : Setting) (h : AreNumbered x.names) (d : Facts) (i : ByConstraints K a x d)
     (R : Seen → Facts → Type 0) (E : Constraint → Type 0) (Q : Ask → Type 0) (j : Judges x d R E Q) where
   constraint_asked : (k : Constraint) (kept : K) → E k → Asks a x Q kept (i.all kept (k ∷ []))
   constraint_asked (Within slot n rule v) kept q = subst (Asks a x Q kept) (sym (i.bounded slot n rule (v ∷ []) kept)) (place_asked a x Q slot (fault n rule) (knows x d (v ∷ [])) kept (j.view slot n rule v q))
@@ -183,17 +183,17 @@ Whatever s k = Unit {0}
 abbrev Any : Constraint → Type 0
 Any k = Unit {0}
 
-anything : (x : Setting) (d : Declared) → Judges x d Whatever Any Anything
+anything : (x : Setting) (d : Facts) → Judges x d Whatever Any Anything
 anything x d = record { place = λ slot n rule s k w all. tt; view = λ slot n rule v q. tt; loss = λ function n l q. tt }
 
-command_asks : {K : Type 0} (a : Asking K) (x : Setting) (d : Declared) (i : ByConstraints K a x d) (functions : List Text) → AreNumbered x.names
+command_asks : {K : Type 0} (a : Asking K) (x : Setting) (d : Facts) (i : ByConstraints K a x d) (functions : List Text) → AreNumbered x.names
     → (y : Entered) (k : Facts) (kept : K) → has_numbered_prefixes x.names y ≡ true → Asks a x Anything kept (command_told a x functions kept (met_at y k))
 command_asks a x d i functions h y k kept named =
     command_asked a x h d i Whatever Any Anything (anything x d) functions y k kept tt named (each_of_all (λ k. tt) _)
 
 -- What a certificate below allows
 
-module _ (x : Setting) (h : AreNumbered x.names) (d : Declared) (c : Certificate) (below : IsBelow c (certificate x)) where
+module _ (x : Setting) (h : AreNumbered x.names) (d : Facts) (c : Certificate) (below : IsBelow c (certificate x)) where
   abbrev Unbroken : Constraint → Type 0
   Unbroken k = broken d c k ≡ []
 
@@ -228,10 +228,10 @@ module _ (x : Setting) (h : AreNumbered x.names) (d : Declared) (c : Certificate
       command_asked a x h d i (Above x h d c below) Unbroken (Allows x.names c) allowed functions y k kept w named
       (subst (Each Unbroken) (append-nil (bounds functions y)) (each_none (broken d c) _ none))
 
-sees_start : (names : List Text) (d : Declared) (c : Certificate) → SeesWithin names d c (Both at_start) (both (among names (start_facts d)))
+sees_start : (names : List Text) (d : Facts) (c : Certificate) → SeesWithin names d c (Both at_start) (both (among names d))
 unfolding if_zero if_nonzero
 sees_start names d c =
-    let same = subst (λ f. IsWithin f (among names (start_facts d))) (start_sees names d c) (within_itself (among names (start_facts d))) in
+    let same = subst (λ f. IsWithin f (among names d)) (start_sees names d c) (within_itself (among names d)) in
     record { zero = same; nonzero = same }
 
 pub stays_above : {K : Type 0} (a : Asking K) → StaysAbove K a

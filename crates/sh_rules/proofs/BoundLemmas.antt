@@ -10,7 +10,7 @@ use Rattle.sh_domain.specs.declared.rule.FlowRule.{FlowRule}
 use Rattle.sh_domain.specs.declared.rule.FlowRule.TheVariants.{F6, F7, F8, F9, F10, F11, F13}
 use Rattle.sh_domain.specs.Entries as e
 use Rattle.sh_domain.specs.Entries.{items_after, otherwise_seen}
-use Rattle.sh_domain.specs.Facts.{Facts, NotReached, Known, Declared, meet}
+use Rattle.sh_domain.specs.Facts.{Facts, NotReached, Known, meet}
 use Rattle.sh_domain.specs.Gains.{named, word_gains, words_gains}
 use Rattle.sh_domain.specs.Knowledge.{AreNumbered, among}
 use Rattle.sh_domain.specs.Meets.{is_call}
@@ -47,7 +47,7 @@ among_defined ns c name NotReached = refl
 among_defined ns c name (Known v f a) =
     known_same _ _ _ _ a a (λ t. among_twice (is_one_of ns t) (v t)) (λ t. named_once (is_one_of ns t) (bytes_eq name t) (f t)) refl
 
-module _ (x : Setting) (h : AreNumbered x.names) (d : Declared) where
+module _ (x : Setting) (h : AreNumbered x.names) (d : Facts) where
   abbrev known : Seen → Facts
   known s = knows x d s
 
@@ -88,7 +88,7 @@ module _ (x : Setting) (h : AreNumbered x.names) (d : Declared) where
       sym (ap (among x.names) (seen_is_meet.behind d (certificate x) (views.Define name) s refl)
       ∙ among_defined x.names (certificate x) name (seen_facts d (certificate x) s))
 
-module _ {K : Type 0} (a : Asking K) (x : Setting) (h : AreNumbered x.names) (d : Declared) (g : ByConstraints K a x d) where
+module _ {K : Type 0} (a : Asking K) (x : Setting) (h : AreNumbered x.names) (d : Facts) (g : ByConstraints K a x d) where
   pub joined : (kept mid last : K) (ks ls : List Constraint) → g.all kept ks ≡ mid → g.all mid ls ≡ last → g.all kept (ks ++ ls) ≡ last
   joined kept mid last ks ls one two = g.joined kept ks ls ∙ ap (λ b. g.all b ls) one ∙ two
 

@@ -13,7 +13,7 @@ use Rattle.sh_table.specs.standard.runs.Environment.{is_one_of}
 use Rattle.sh_domain.specs.declared.rule.FlowRule.{FlowRule}
 use Rattle.sh_domain.specs.Entries as e
 use Rattle.sh_domain.specs.Entries.{Entered, behind_redirects}
-use Rattle.sh_domain.specs.Facts.{Facts, NotReached, Known, Declared, Variable, claims, facts}
+use Rattle.sh_domain.specs.Facts.{Facts, NotReached, Known, Variable, claims, facts}
 use Rattle.sh_domain.specs.Gains.{Gains, with_gains, words_gains, redirects_gains}
 use Rattle.sh_domain.specs.Knowledge.{AreNumbered, among}
 use Rattle.sh_domain.specs.Operands.{Names, unset_names}
@@ -49,14 +49,14 @@ claimed_once ns NotReached t named = refl
 claimed_once ns (Known v f a) t named = ap (λ b. b && v t) named
 
 -- what is known behind the words is what is seen there
-known_same_at : (x : Setting) (d : Declared) (g : Gains) (s : Slot) (k : Facts) (t : Text) → k ≡ knows x d (gaining g (at s)) → is_one_of x.names t ≡ true
+known_same_at : (x : Setting) (d : Facts) (g : Gains) (s : Slot) (k : Facts) (t : Text) → k ≡ knows x d (gaining g (at s)) → is_one_of x.names t ≡ true
     → claims k (Variable t) ≡ claims (with_gains g (facts ((certificate x).claim s))) (Variable t)
 unfolding knows seen_facts steps source_facts step
 known_same_at x d g s k t same named =
     ap (λ m. claims m (Variable t)) (same ∙ ap (among x.names) (meet_last (with_gains g (facts ((certificate x).claim s)))))
     ∙ claimed_once x.names (with_gains g (facts ((certificate x).claim s))) t named
 
-module _ {K : Type 0} (a : Asking K) (x : Setting) (h : AreNumbered x.names) (d : Declared) (g : ByConstraints K a x d) where
+module _ {K : Type 0} (a : Asking K) (x : Setting) (h : AreNumbered x.names) (d : Facts) (g : ByConstraints K a x d) where
   -- Drops
 
   module _ (n : ℕ) (f : Text) where

@@ -13,7 +13,7 @@ use Rattle.sh_domain.specs.declared.certificate.FunctionEntry.{FunctionEntry}
 use Rattle.sh_domain.specs.declared.rows.RowId.{RowId}
 use Rattle.sh_domain.specs.Certificates.{claim_of, in_byte_order, names_at}
 use Rattle.sh_domain.specs.Entries.{script_entered}
-use Rattle.sh_domain.specs.Facts.{Facts, NotReached, Known, Claim, Unreached, facts, meet, Declared, start_facts}
+use Rattle.sh_domain.specs.Facts.{Facts, NotReached, Known, Claim, Unreached, facts, meet}
 use Rattle.sh_domain.specs.Gains.{Gains, job, with_gains}
 use Rattle.sh_domain.specs.KeptRows.{holds_at}
 use Rattle.sh_domain.specs.Knowledge.{AreNumbered, among}
@@ -87,11 +87,11 @@ among_lost ns c names (Known v f a) =
 
 -- What a certificate sees, step by step
 
-pub start_sees : (names : List Text) (d : Declared) (c : Certificate) → among names (start_facts d) ≡ sees names d c at_start
+pub start_sees : (names : List Text) (d : Facts) (c : Certificate) → among names d ≡ sees names d c at_start
 unfolding seen_facts steps source_facts
-start_sees names d c = ap (among names) (sym (meet_last (start_facts d)))
+start_sees names d c = ap (among names) (sym (meet_last d))
 
-module _ (x : Setting) (d : Declared) (c : Certificate) where
+module _ (x : Setting) (d : Facts) (c : Certificate) where
   pub gain_seen : (g : Gains) (s : Seen) → sees x.names d c (gaining g s) ≡ gained x g (sees x.names d c s)
   unfolding gained step is_call
   gain_seen g s = ap (among x.names) (seen_is_meet.behind d c (Gain g) s refl) ∙ among_gained x.names g (seen_facts d c s)
@@ -145,12 +145,12 @@ module _ (x : Setting) (h : AreNumbered x.names) where
   slot_named (ReturnsZero f) = by_option (λ (e : FunctionEntry). e.zero) _ _ (ap facts ((entries x).returns_zero f))
   slot_named (ReturnsNonzero f) = by_option (λ (e : FunctionEntry). e.nonzero) _ _ (ap facts ((entries x).returns_nonzero f))
 
-  module _ (d : Declared) where
+  module _ (d : Facts) where
     slot_seen : (s : Slot) → knows x d (at s) ≡ known_at x s
     unfolding knows seen_facts steps source_facts known_at
     slot_seen s = ap (among x.names) (meet_last (facts ((certificate x).claim s))) ∙ slot_named s
 
-    pub start_seen : among x.names (start_facts d) ≡ knows x d at_start
+    pub start_seen : among x.names d ≡ knows x d at_start
     unfolding knows
     start_seen = start_sees x.names d (certificate x)
 

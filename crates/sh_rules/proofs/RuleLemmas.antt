@@ -113,7 +113,7 @@ module _ {K : Type 0} (a : Asking K) (x : Setting) where
       let less = and_parts (nat_le (length e.around.loops) most) (list_all (λ (f : Entered). nat_le (length f.around.loops) most) es) few in
       (λ k kept. command_same e k kept own.0 less.0, each_does es own.1 less.1)
 
-  module _ (d : Declared) where
+  module _ (d : Facts) where
     each_same : (kept : K) (es : List Entered) → Each (DoesAsked a x x.functions (command_by a x)) es
         → fold (command_by a x) kept (map (met_of x d) es) ≡ fold (command_told a x x.functions) kept (map (met_of x d) es)
     unfolding Each
@@ -124,11 +124,11 @@ module _ {K : Type 0} (a : Asking K) (x : Setting) where
 
     pub walk_same : (h : AreNumbered x.names) (t : p.Items) (kept : K) → list_all (λ (e : Entered). has_texts x.rows e.command) (script_entered t) ≡ true
         → list_all (λ (e : Entered). nat_le (length e.around.loops) most) (script_entered t) ≡ true
-        → script_walked x (command_by a x) (among x.names (start_facts d)) kept t ≡ script_walked x (command_told a x x.functions) (among x.names (start_facts d)) kept t
+        → script_walked x (command_by a x) (among x.names d) kept t ≡ script_walked x (command_told a x x.functions) (among x.names d) kept t
     walk_same h t kept texts few =
-        script_same x (knows x d) (interprets x h d) (command_by a x) (among x.names (start_facts d)) kept t (start_seen x h d)
+        script_same x (knows x d) (interprets x h d) (command_by a x) (among x.names d) kept t (start_seen x h d)
         ∙ each_same kept (script_entered t) (each_does (script_entered t) texts few)
-        ∙ sym (script_same x (knows x d) (interprets x h d) (command_told a x x.functions) (among x.names (start_facts d)) kept t (start_seen x h d))
+        ∙ sym (script_same x (knows x d) (interprets x h d) (command_told a x x.functions) (among x.names d) kept t (start_seen x h d))
 
 -- A script
 
@@ -149,21 +149,21 @@ visits_do_asked a x b t rows numbered few =
 -- what a walk over facts tells is the least fault
 told : (x : Setting) (d : Declared) (b : List ℕ) (t : Script) → AreNumbered x.names → x.script ≡ b → x.functions ≡ (table_of b t).functions.names → x.rows ≡ (table_of b t).rows
     → is_numbered (script_of b t) ≡ true → length (table_of b t).rows ≤ MAX_COMMANDS → IsNumbering b t d x.names
-    → script_walked x (command_by least_told x) (among x.names (start_facts d)) None (script_of b t) ≡ least (faults d (certificate x) (script_of b t))
+    → script_walked x (command_by least_told x) (among x.names (start_facts d)) None (script_of b t) ≡ least (faults (start_facts d) (certificate x) (script_of b t))
 told x d b t h script functions rows numbered few names =
-    walk_same least_told x d h (script_of b t) None
+    walk_same least_told x (start_facts d) h (script_of b t) None
     (ap (λ rs. list_all (λ (e : Entered). has_texts rs e.command) (script_entered (script_of b t))) rows ∙ table_texts b t numbered)
     (few_loops_in b t few)
-    ∙ least_of_scripts x d (script_of b t) h (subst (λ fs. AreDefined fs (script_of b t)) (sym functions) (table_defines b t)) (prefixes_are_numbered b t d x.names names)
+    ∙ least_of_scripts x (start_facts d) (script_of b t) h (subst (λ fs. AreDefined fs (script_of b t)) (sym functions) (table_defines b t)) (prefixes_are_numbered b t d x.names names)
 
 pub rules_told : (c : Claims) (d : Declared) (t : Script) (start : Knowledge) (new : Option Fault) → c.calls.now ≡ table_of c.script.now t
     → is_numbered (script_of c.script.now t) ≡ true → length (table_of c.script.now t).rows ≤ MAX_COMMANDS → IsNumbering c.script.now t d c.names.now
     → knowledge_facts c.names.now start ≡ among c.names.now (start_facts d)
     → new ≡ script_walked (setting c) (command_by least_told (setting c)) (facts_in (setting c) start) None (script_of (setting c).script t)
-    → new ≡ least (faults d (kept_claims c.script.now t c.names.now c.certificate.now) (script_of c.script.now t))
+    → new ≡ least (faults (start_facts d) (kept_claims c.script.now t c.names.now c.certificate.now) (script_of c.script.now t))
 unfolding setting facts_in
 rules_told c d t start new table numbered few names begun walked =
     walked
     ∙ ap (λ k. script_walked (setting c) (command_by least_told (setting c)) k None (script_of c.script.now t)) begun
     ∙ told (setting c) d c.script.now t c.numbered refl (ap (λ (y : Table). y.functions.names) table) (ap (λ (y : Table). y.rows) table) numbered few names
-    ∙ ap (λ (y : Table). least (faults d (certificate_of y.functions.names (sheet_of (in_byte_order c.names.now) c.certificate.now)) (script_of c.script.now t))) table
+    ∙ ap (λ (y : Table). least (faults (start_facts d) (certificate_of y.functions.names (sheet_of (in_byte_order c.names.now) c.certificate.now)) (script_of c.script.now t))) table

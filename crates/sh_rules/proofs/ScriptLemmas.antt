@@ -12,7 +12,7 @@ use Rattle.sh_table.specs.declared.kind.Kind.TheVariants as kind
 use Rattle.sh_table.specs.standard.runs.Environment.{is_one_of}
 use Rattle.sh_domain.specs.declared.rule.FlowRule.{FlowRule}
 use Rattle.sh_domain.specs.Entries.{Around, Entered, behind_redirects, script_entered}
-use Rattle.sh_domain.specs.Facts.{Declared, start_facts}
+use Rattle.sh_domain.specs.Facts.{Facts}
 use Rattle.sh_domain.specs.Faults.{least, faults}
 use Rattle.sh_domain.specs.Knowledge.{AreNumbered, among}
 use Rattle.sh_domain.specs.Operands.{unset_names}
@@ -107,7 +107,7 @@ pub script_asks : (functions : List Text) (t : p.Items) → AreDefined functions
 unfolding script_bounds
 script_asks functions t defined = all_ask functions (functions_of (script_entered t)) defined (script_entered t)
 
-module _ {K : Type 0} (a : Asking K) (x : Setting) (h : AreNumbered x.names) (d : Declared) (g : ByConstraints K a x d) where
+module _ {K : Type 0} (a : Asking K) (x : Setting) (h : AreNumbered x.names) (d : Facts) (g : ByConstraints K a x d) where
   each_same : (functions : List Text) (kept : K) (es : List Entered) → list_all (has_numbered_prefixes x.names) es ≡ true
       → fold (command_told a x functions) kept (map (met_of x d) es) ≡ g.all kept (flat_map (bounds functions) es)
   each_same functions kept [] named = sym (g.none kept)
@@ -118,9 +118,9 @@ module _ {K : Type 0} (a : Asking K) (x : Setting) (h : AreNumbered x.names) (d 
       ∙ sym (g.joined kept (bounds functions e) (flat_map (bounds functions) es))
 
   pub script_told : (t : p.Items) (kept : K) → AreDefined x.functions t → list_all (has_numbered_prefixes x.names) (script_entered t) ≡ true
-      → script_walked x (command_told a x x.functions) (among x.names (start_facts d)) kept t ≡ g.all kept (script_bounds t)
+      → script_walked x (command_told a x x.functions) (among x.names d) kept t ≡ g.all kept (script_bounds t)
   script_told t kept defined named =
-      script_same x (knows x d) (interprets x h d) (command_told a x x.functions) (among x.names (start_facts d)) kept t (start_seen x h d)
+      script_same x (knows x d) (interprets x h d) (command_told a x x.functions) (among x.names d) kept t (start_seen x h d)
       ∙ each_same x.functions kept (script_entered t) named
       ∙ ap (g.all kept) (script_asks x.functions t defined)
 

@@ -9,7 +9,7 @@ use Rattle.sh_table.specs.declared.kind.Kind.TheVariants as kind
 use Rattle.sh_table.specs.standard.runs.Environment.{is_one_of}
 use Rattle.sh_domain.specs.declared.rule.FlowRule.TheVariants.{F4, F5, F14, F15}
 use Rattle.sh_domain.specs.Entries as e
-use Rattle.sh_domain.specs.Facts.{Facts, NotReached, Known, Declared, Function, claims, facts, meet}
+use Rattle.sh_domain.specs.Facts.{Facts, NotReached, Known, Function, claims, facts, meet}
 use Rattle.sh_domain.specs.Gains.{Gains, named, with_gains, words_gains}
 use Rattle.sh_domain.specs.Knowledge.{AreNumbered, among}
 use Rattle.sh_domain.specs.Meets.{is_call}
@@ -102,7 +102,7 @@ module _ (ns : List Text) (d : Names) (f : Text) (prefixes : List Text) where
       among_where r (g f) v g a
       ∙ ap (λ b. among ns (if b then returned d prefixes r (of_names v) (of_names g) a else views.left d f (of_names v) (of_names g) a)) (sym e)
 
-module _ (x : Setting) (h : AreNumbered x.names) (d : Declared) where
+module _ (x : Setting) (h : AreNumbered x.names) (d : Facts) where
   abbrev known : Seen → Facts
   known s = knows x d s
 
@@ -243,7 +243,7 @@ module _ (x : Setting) (h : AreNumbered x.names) (d : Declared) where
         or_settled true = refl
         or_settled false = settled_same
 
-module _ {K : Type 0} (a : Asking K) (x : Setting) (h : AreNumbered x.names) (d : Declared) (g : ByConstraints K a x d) where
+module _ {K : Type 0} (a : Asking K) (x : Setting) (h : AreNumbered x.names) (d : Facts) (g : ByConstraints K a x d) where
   -- Jumps
 
   module _ (n : ℕ) (s : Seen) (k : Facts) (same : k ≡ knows x d s) where

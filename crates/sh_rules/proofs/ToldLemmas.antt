@@ -8,7 +8,7 @@ use Rattle.sh_tree.specs.standard.program.Syntax.{Text}
 use Rattle.sh_table.specs.standard.runs.Environment.{is_one_of}
 use Rattle.sh_domain.specs.declared.rule.FlowRule.{FlowRule}
 use Rattle.sh_domain.specs.declared.rule.FlowRule.TheVariants.{F13}
-use Rattle.sh_domain.specs.Facts.{Facts, NotReached, Known, Claim, facts, meet, within, Declared}
+use Rattle.sh_domain.specs.Facts.{Facts, NotReached, Known, Claim, facts, meet, within}
 use Rattle.sh_domain.specs.Faults.{Fault, lesser, told, broken, are_among}
 use Rattle.sh_domain.specs.Knowledge.{AreNumbered, among}
 use Rattle.sh_domain.specs.Order.{IsWithin, seen_facts}
@@ -53,7 +53,7 @@ unfolding with_test told
 test_told true n rule least = refl
 test_told false n rule least = refl
 
-module _ (x : Setting) (d : Declared) where
+module _ (x : Setting) (d : Facts) where
   pub all_split : (least : Option Fault) (ks ls : List Constraint) → with_all x d least (ks ++ ls) ≡ with_all x d (with_all x d least ks) ls
   all_split least ks ls =
       ap (fold lesser least) (flat_map-append (broken d (certificate x)) ks ls)
@@ -66,7 +66,7 @@ module _ (x : Setting) (d : Declared) where
       let one : Bool = are_among (lost d (certificate x) n l) ((certificate x).drops f) in
       ap (fold lesser least) (append-nil (told one n F13)) ∙ test_told one n F13 least
 
-module _ (x : Setting) (h : AreNumbered x.names) (d : Declared) where
+module _ (x : Setting) (h : AreNumbered x.names) (d : Facts) where
   is_within_seen : (slot : Slot) (s : Seen) → is_within x slot (knows x d s) ≡ within ((certificate x).claim slot) (seen_facts d (certificate x) s)
   unfolding claimed_at knows known_at
   is_within_seen slot s = within_among x.names ((certificate x).claim slot) (seen_facts d (certificate x) s) (slot_named x h slot)

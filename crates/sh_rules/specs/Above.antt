@@ -9,7 +9,7 @@ use Rattle.sh_tree.specs.standard.program.Trees.{script_of}
 use Rattle.sh_table.specs.Calls.{table_of}
 use Rattle.sh_table.specs.Numbering.{is_numbered}
 use Rattle.sh_domain.specs.Entries.{Entered, script_entered}
-use Rattle.sh_domain.specs.Facts.{Facts, Declared, facts, start_facts}
+use Rattle.sh_domain.specs.Facts.{Facts, facts}
 use Rattle.sh_domain.specs.Faults.{Fault, broken}
 use Rattle.sh_domain.specs.Inclusions.{Each}
 use Rattle.sh_domain.specs.Knowledge.{AreNumbered, among}
@@ -51,22 +51,22 @@ Allows names c (OfPlace slot f k) = IsWithin (among names (facts (c.claim slot))
 Allows names c (OfFunction function f lost) = AreAmong lost (c.drops function)
 
 -- what the certificate sees behind a list, by its status, is known there
-pub record SeesWithin (names : List Text) (d : Declared) (c : Certificate) (o : After) (b : Behind) : Type 0 where
-  pub zero : IsWithin (sees names d c (if_zero o)) b.zero
-  pub nonzero : IsWithin (sees names d c (if_nonzero o)) b.nonzero
+pub record SeesWithin (names : List Text) (start : Facts) (c : Certificate) (o : After) (b : Behind) : Type 0 where
+  pub zero : IsWithin (sees names start c (if_zero o)) b.zero
+  pub nonzero : IsWithin (sees names start c (if_nonzero o)) b.nonzero
 
 -- the certificate breaks no rule at these commands
-abbrev pub KeepsThere : Declared → Certificate → List Text → List Entered → Type 0
-KeepsThere d c functions es = flat_map (broken d c) (flat_map (bounds functions) es) ≡ []
+abbrev pub KeepsThere : Facts → Certificate → List Text → List Entered → Type 0
+KeepsThere start c functions es = flat_map (broken start c) (flat_map (bounds functions) es) ≡ []
 
 -- What is asked at a command goes by its constraints: whatever is known there, nothing else is asked. And where a certificate below that of the
 -- setting sees no more than is known there, and breaks none of its rules, it allows all that is asked. It sees no more at the start of a script.
 pub record StaysAbove (K : Type 0) (a : Asking K) : Type 0 where
-  pub start : (names : List Text) (d : Declared) (c : Certificate) → SeesWithin names d c (Both at_start) (both (among names (start_facts d)))
-  pub asks : (x : Setting) (d : Declared) (i : ByConstraints K a x d) (functions : List Text) → AreNumbered x.names
+  pub start : (names : List Text) (f : Facts) (c : Certificate) → SeesWithin names f c (Both at_start) (both (among names f))
+  pub asks : (x : Setting) (start : Facts) (i : ByConstraints K a x start) (functions : List Text) → AreNumbered x.names
       → (e : Entered) (k : Facts) (kept : K) → has_numbered_prefixes x.names e ≡ true → Asks a x Anything kept (command_told a x functions kept (met_at e k))
-  pub allows : (x : Setting) (d : Declared) (i : ByConstraints K a x d) (functions : List Text) (c : Certificate) → AreNumbered x.names → IsBelow c (certificate x)
-      → (e : Entered) (k : Facts) (kept : K) → has_numbered_prefixes x.names e ≡ true → IsWithin (sees x.names d c e.seen) k → KeepsThere d c functions (e ∷ [])
+  pub allows : (x : Setting) (start : Facts) (i : ByConstraints K a x start) (functions : List Text) (c : Certificate) → AreNumbered x.names → IsBelow c (certificate x)
+      → (e : Entered) (k : Facts) (kept : K) → has_numbered_prefixes x.names e ≡ true → IsWithin (sees x.names start c e.seen) k → KeepsThere start c functions (e ∷ [])
       → Asks a x (Allows x.names c) kept (command_told a x functions kept (met_at e k))
 
 -- at this command, whatever is known there, what is done is what the flow rules ask

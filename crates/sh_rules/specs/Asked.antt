@@ -12,7 +12,7 @@ use Rattle.sh_table.specs.standard.runs.Environment.{is_one_of}
 use Rattle.sh_domain.specs.declared.rule.FlowRule.{FlowRule}
 use Rattle.sh_domain.specs.declared.rule.FlowRule.TheVariants.{F13}
 use Rattle.sh_domain.specs.Entries.{Around, Entered, script_entered}
-use Rattle.sh_domain.specs.Facts.{Declared, start_facts}
+use Rattle.sh_domain.specs.Facts.{Facts, Declared}
 use Rattle.sh_domain.specs.Faults.{Fault, lesser, least, faults, broken}
 use Rattle.sh_domain.specs.Knowledge.{AreNumbered, among}
 use Rattle.sh_domain.specs.Names.{IsNumbering}
@@ -34,12 +34,12 @@ is_compound _ = true
 
 -- What is done goes by constraints: what a list of them asks, one after the other. Those over views of a place ask what is known of the
 -- numbered names where all of these are seen, and those of a function that it drops what is lost there.
-pub record ByConstraints (K : Type 0) (a : Asking K) (x : Setting) (d : Declared) : Type 0 where
+pub record ByConstraints (K : Type 0) (a : Asking K) (x : Setting) (start : Facts) : Type 0 where
   pub all : K → List Constraint → K
   pub none : (kept : K) → all kept [] ≡ kept
   pub joined : (kept : K) (ks ls : List Constraint) → all kept (ks ++ ls) ≡ all (all kept ks) ls
-  pub bounded : (slot : Slot) (n : ℕ) (rule : FlowRule) (s : Seen) (kept : K) → all kept (bound slot n rule s) ≡ a.bound x slot (fault n rule) (knows x d s) kept
-  pub counted : (function : Text) (n : ℕ) (l : Loss) (kept : K) → all kept (Counted function n l ∷ []) ≡ a.drop x function (fault n F13) (lost d (certificate x) n l) kept
+  pub bounded : (slot : Slot) (n : ℕ) (rule : FlowRule) (s : Seen) (kept : K) → all kept (bound slot n rule s) ≡ a.bound x slot (fault n rule) (knows x start s) kept
+  pub counted : (function : Text) (n : ℕ) (l : Loss) (kept : K) → all kept (Counted function n l ∷ []) ≡ a.drop x function (fault n F13) (lost start (certificate x) n l) kept
 
 -- the names of its prefix assignments are numbered
 unfoldable pub has_numbered_prefixes : List Text → Entered → Bool
@@ -52,33 +52,33 @@ AreDefined functions t = (name : Text) → is_one_of functions name ≡ is_one_o
 -- A compound command and its redirections, a simple command, and a whole command as it is entered, if the names of its prefix assignments
 -- are numbered: what is done is done for their constraints. And for those of a script, by a walk that does it at each command.
 pub record AskedOfFacts (K : Type 0) (a : Asking K) : Type 0 where
-  pub compound : (x : Setting) (d : Declared) (i : ByConstraints K a x d) (functions : List Text) (y : Around) (n : ℕ) (s : Seen) (k : p.Kind) (kept : K)
-      → AreNumbered x.names → is_compound k ≡ true → i.all kept (kind_bounds functions y n s k) ≡ compound_told a x n (knows x d s) k kept
-  pub redirects : (x : Setting) (d : Declared) (i : ByConstraints K a x d) (n : ℕ) (rs : p.Redirects) (kept : K)
+  pub compound : (x : Setting) (start : Facts) (i : ByConstraints K a x start) (functions : List Text) (y : Around) (n : ℕ) (s : Seen) (k : p.Kind) (kept : K)
+      → AreNumbered x.names → is_compound k ≡ true → i.all kept (kind_bounds functions y n s k) ≡ compound_told a x n (knows x start s) k kept
+  pub redirects : (x : Setting) (start : Facts) (i : ByConstraints K a x start) (n : ℕ) (rs : p.Redirects) (kept : K)
       → AreNumbered x.names → i.all kept (redirects_bounds n rs) ≡ redirects_told a x n (is_redirected rs) kept
-  pub simple : (x : Setting) (d : Declared) (i : ByConstraints K a x d) (functions : List Text) (y : Around) (n : ℕ) (s : Seen) (es : p.Elements) (kept : K)
+  pub simple : (x : Setting) (start : Facts) (i : ByConstraints K a x start) (functions : List Text) (y : Around) (n : ℕ) (s : Seen) (es : p.Elements) (kept : K)
       → AreNumbered x.names → i.all kept (kind_bounds functions y n s (p.Simple es)) ≡ simple_told a x n y es (manner functions es) kept
-  pub command : (x : Setting) (d : Declared) (i : ByConstraints K a x d) (functions : List Text) (e : Entered) (kept : K)
-      → AreNumbered x.names → has_numbered_prefixes x.names e ≡ true → i.all kept (bounds functions e) ≡ command_told a x functions kept (met_of x d e)
-  pub script : (x : Setting) (d : Declared) (i : ByConstraints K a x d) (t : p.Items) (kept : K)
+  pub command : (x : Setting) (start : Facts) (i : ByConstraints K a x start) (functions : List Text) (e : Entered) (kept : K)
+      → AreNumbered x.names → has_numbered_prefixes x.names e ≡ true → i.all kept (bounds functions e) ≡ command_told a x functions kept (met_of x start e)
+  pub script : (x : Setting) (start : Facts) (i : ByConstraints K a x start) (t : p.Items) (kept : K)
       → AreNumbered x.names → AreDefined x.functions t → list_all (has_numbered_prefixes x.names) (script_entered t) ≡ true
-      → script_walked x (command_told a x x.functions) (among x.names (start_facts d)) kept t ≡ i.all kept (script_bounds t)
+      → script_walked x (command_told a x x.functions) (among x.names start) kept t ≡ i.all kept (script_bounds t)
 
 -- the least fault so far, with those of these constraints
-abbrev pub with_all : Setting → Declared → Option Fault → List Constraint → Option Fault
-with_all x d least ks = fold lesser least (flat_map (broken d (certificate x)) ks)
+abbrev pub with_all : Setting → Facts → Option Fault → List Constraint → Option Fault
+with_all x start least ks = fold lesser least (flat_map (broken start (certificate x)) ks)
 
 -- The least fault goes by constraints.
 abbrev pub LeastOfConstraints : Type 0
 LeastOfConstraints =
-    (x : Setting) (d : Declared) → AreNumbered x.names
-    → (i : ByConstraints (Option Fault) least_told x d) × ((least : Option Fault) (ks : List Constraint) → i.all least ks ≡ with_all x d least ks)
+    (x : Setting) (start : Facts) → AreNumbered x.names
+    → (i : ByConstraints (Option Fault) least_told x start) × ((least : Option Fault) (ks : List Constraint) → i.all least ks ≡ with_all x start least ks)
 
 -- So a walk over a script, of which the names of prefix assignments are numbered, that tells of each command tells the least fault of the certificate.
 abbrev pub LeastOfScripts : Type 0
 LeastOfScripts =
-    (x : Setting) (d : Declared) (t : p.Items) → AreNumbered x.names → AreDefined x.functions t → list_all (has_numbered_prefixes x.names) (script_entered t) ≡ true
-    → script_walked x (command_told least_told x x.functions) (among x.names (start_facts d)) None t ≡ least (faults d (certificate x) t)
+    (x : Setting) (start : Facts) (t : p.Items) → AreNumbered x.names → AreDefined x.functions t → list_all (has_numbered_prefixes x.names) (script_entered t) ≡ true
+    → script_walked x (command_told least_told x x.functions) (among x.names start) None t ≡ least (faults start (certificate x) t)
 
 -- The names of prefix assignments are numbered with those of the script.
 abbrev pub PrefixesAreNumbered : Type 0

@@ -8,6 +8,7 @@ ghost use Rattle.sh_tree.specs.standard.program.Trees.{script_of};
 ghost use Rattle.sh_table.specs.Calls.{table_of, texts_with};
 ghost use Rattle.sh_table.specs.Numbering.{is_numbered};
 ghost use Rattle.sh_table.specs.WordTexts.{text_in};
+ghost use Rattle.sh_domain.specs.Facts.{start_facts};
 ghost use Rattle.sh_domain.specs.Faults.{faults, least};
 ghost use Rattle.sh_domain.specs.Names.{IsNumbering};
 ghost use Rattle.sh_domain.specs.Table.{is_redirected};
@@ -226,7 +227,7 @@ pub fn check_rules(claims: &Claims<'_>, policy: &Policy, tree: &Script) -> Optio
     requires numbered { is_numbered (script_of claims.now.script.now tree.now) ≡ true }
     requires few { length (table_of claims.now.script.now tree.now).rows ≤ MAX_COMMANDS }
     requires names { IsNumbering claims.now.script.now tree.now policy.now claims.now.names.now }
-    ensures { option_map fault_of result ≡ least (faults policy.now (kept_claims claims.now.script.now tree.now claims.now.names.now claims.now.certificate.now) (script_of claims.now.script.now tree.now)) }
+    ensures { option_map fault_of result ≡ least (faults (start_facts policy.now) (kept_claims claims.now.script.now tree.now claims.now.names.now claims.now.certificate.now) (script_of claims.now.script.now tree.now)) }
 {
     let start = Knowledge::start(claims.names, policy);
     let mut rules = Rules {

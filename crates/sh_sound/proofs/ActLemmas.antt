@@ -7,7 +7,7 @@ use Rattle.sh_table.specs.standard.runs.Answers.{Answer}
 use Rattle.sh_table.specs.standard.runs.Steps.{act_on, act}
 use Rattle.sh_table.specs.standard.runs.Work.{Work, Items, Links, Pipeline, Negation, Command, Words, Prepare, Utility, Call, Return, Compound, If, Then, Test, Again, ForWords, ForFields, Clauses, Patterns, Fall, Effect}
 use Rattle.sh_domain.specs.Entries.{Around}
-use Rattle.sh_domain.specs.Facts.{Declared}
+use Rattle.sh_domain.specs.Facts.{Facts}
 use Rattle.sh_domain.specs.Views.{Certificate}
 use Rattle.sh_sound.specs.Going.{front, ProcessOk, StepOk}
 use Rattle.sh_sound.specs.Doing.{SimpleAt}
@@ -23,7 +23,7 @@ use Rattle.sh_sound.proofs.UtilityStepLemmas.{utility_ok}
 use Rattle.sh_sound.proofs.CallStepLemmas.{call_ok}
 use Rattle.sh_sound.proofs.ReturnLemmas.{return_ok}
 
-module _ (d : Declared) (c : Certificate) (defined : List Text) where
+module _ (d : Facts) (c : Certificate) (defined : List Text) where
   abbrev Well : Around → Environment → List Frame → ℕ → List Work → Type 0
   Well base e fs status ws = ProcessOk d c defined (SimpleAt d c defined) base e fs status ws
 

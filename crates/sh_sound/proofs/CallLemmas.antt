@@ -12,7 +12,7 @@ use Rattle.sh_table.specs.standard.runs.Builtins.{restored}
 use Rattle.sh_table.specs.standard.runs.Environment.{Environment, Frame, is_one_of}
 use Rattle.sh_table.specs.standard.runs.Work.{Saved}
 use Rattle.sh_domain.specs.Entries.{Around}
-use Rattle.sh_domain.specs.Facts.{Facts, NotReached, Known, Variable, claims, facts, Declared}
+use Rattle.sh_domain.specs.Facts.{Facts, NotReached, Known, Variable, claims, facts}
 use Rattle.sh_domain.specs.Faults.{are_among}
 use Rattle.sh_domain.specs.Gains.{Gains, named, with_gains, words_gains, job}
 use Rattle.sh_domain.specs.Inclusions as i
@@ -137,7 +137,7 @@ unfolding Holds with_gains where_reached
 reached_same g NotReached names e f h = absurd h
 reached_same g (Known v q a) names e f h = refl
 
-module _ (d : Declared) (c : Certificate) (defined : List Text) where
+module _ (d : Facts) (c : Certificate) (defined : List Text) where
   -- behind the words one view is seen
   pub behind_known : (n : ℕ) (es : p.Elements) (e : Environment) (f : Frame) → OneHolds d c (behind d c n es) e f → Holds (behind_facts c n es) e f
   unfolding OneHolds steps step source_facts

@@ -18,7 +18,7 @@ use Rattle.sh_table.specs.standard.runs.Steps as steps
 use Rattle.sh_table.specs.standard.runs.Work.{Saved, Work, Command, Call, Return, Pushes, Effect, goes, ends, after_expansion}
 use Rattle.sh_table.proofs.EnvironmentLemmas.{if_either, hiding_kept}
 use Rattle.sh_domain.specs.Entries.{Around}
-use Rattle.sh_domain.specs.Facts.{Facts, NotReached, Known, Variable, claims, Declared}
+use Rattle.sh_domain.specs.Facts.{Facts, NotReached, Known, Variable, claims}
 use Rattle.sh_domain.specs.Gains.{no_gains, named, word_gains}
 use Rattle.sh_domain.specs.Inclusions as i
 use Rattle.sh_domain.specs.Inclusions.{MayDrop, behind}
@@ -103,7 +103,7 @@ pushed_stays [] g = tt
 pushed_stays (f ∷ []) g = tt
 pushed_stays (f ∷ k ∷ fs) g = tt
 
-module _ (d : Declared) (c : Certificate) (defined : List Text) where
+module _ (d : Facts) (c : Certificate) (defined : List Text) where
   abbrev Well : Around → Environment → List Frame → ℕ → List Work → Type 0
   Well base e fs status ws = ProcessOk d c defined (SimpleAt d c defined) base e fs status ws
 

@@ -16,7 +16,7 @@ use Rattle.sh_table.specs.standard.runs.Work.{Work, Items, ForWords, ForFields, 
 use Rattle.sh_domain.specs.declared.rule.FlowRule.TheVariants.{F9}
 use Rattle.sh_domain.specs.Entries as entries
 use Rattle.sh_domain.specs.Entries.{Around, items_after}
-use Rattle.sh_domain.specs.Facts.{Facts, Declared}
+use Rattle.sh_domain.specs.Facts.{Facts}
 use Rattle.sh_domain.specs.Gains.{Gains, and_gains, no_gains, word_gains, words_gains}
 use Rattle.sh_domain.specs.Rules.{is_last, matches_always}
 use Rattle.sh_domain.specs.Views.{Certificate, AfterZero, Head, Seen, After, Both, if_zero, in_any_case, after_command, at, gaining}
@@ -38,7 +38,7 @@ module _ (test : p.Word → Bool) where
       let both = or_parts (test w) (list_any test (words_in (picked k v vs).1)) n in
       rw (both.0) (picked_none k v vs h both.1)
 
-module _ (d : Declared) (c : Certificate) (defined : List Text) where
+module _ (d : Facts) (c : Certificate) (defined : List Text) where
   picked_at : (s : Seen) (k : ℕ) (w : p.Word) (vs : p.Words) → WordAt d c defined s w → PatternsAt d c defined s vs
       → WordAt d c defined s (picked k w vs).0 × PatternsAt d c defined s (picked k w vs).1
   unfolding picked PatternsAt

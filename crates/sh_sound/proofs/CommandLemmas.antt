@@ -13,7 +13,7 @@ use Rattle.sh_domain.specs.declared.rule.FlowRule.{FlowRule}
 use Rattle.sh_domain.specs.Demands.{kind_unmet, elements_unmet}
 use Rattle.sh_domain.specs.Entries as entries
 use Rattle.sh_domain.specs.Entries.{Around, Entered, behind_redirects}
-use Rattle.sh_domain.specs.Facts.{Facts, facts, Declared}
+use Rattle.sh_domain.specs.Facts.{Facts, facts}
 use Rattle.sh_domain.specs.Gains.{no_gains, with_gains, word_gains, words_gains, redirects_gains}
 use Rattle.sh_domain.specs.Inclusions as i
 use Rattle.sh_domain.specs.Inclusions.{behind, CommandRules, EnteredRules, elements_formed, field_formed, word_formed, redirect_formed, redirects_formed, kind_formed, command_formed}
@@ -31,7 +31,7 @@ use Rattle.sh_sound.proofs.ListLemmas.{step_goes, leads_same}
 use Rattle.sh_sound.proofs.StepLemmas.{grown_in}
 use Rattle.sh_sound.proofs.EnterLemmas.{Known, known_gain, word_at, redirect_at, redirects_at, is_compound, kind_at}
 
-module _ (d : Declared) (c : Certificate) (defined : List Text) where
+module _ (d : Facts) (c : Certificate) (defined : List Text) where
   -- the words, redirections and values of a simple command may be expanded
   pub record ElementsAt (b behind : Seen) (es : p.Elements) : Type 0 where
     pub words : WordsAt d c defined b (operands_in es)

@@ -12,7 +12,7 @@ use Rattle.sh_table.specs.standard.runs.Expansion.{in_one, expand}
 use Rattle.sh_table.specs.standard.runs.Steps.{opened, begun, over_words, redirected_before, failed_before, unless_ended, status_behind}
 use Rattle.sh_table.specs.standard.runs.Work.{Work, Items, Compound, If, ForWords, Clauses, Start, Effect, goes, ends, after_expansion}
 use Rattle.sh_domain.specs.Entries.{Around, alone, behind_list}
-use Rattle.sh_domain.specs.Facts.{Facts, NotReached, Known, Declared}
+use Rattle.sh_domain.specs.Facts.{Facts, NotReached, Known}
 use Rattle.sh_domain.specs.Gains.{job, and_gains, word_gains, redirect_gains, redirects_gains}
 use Rattle.sh_domain.specs.Views.{Certificate, Before, AfterZero, AfterNonzero, Lose, Define, Seen, After, Both, if_zero, if_nonzero, in_any_case, after_command, at, gaining, stepped, without_job, where_known, step}
 use Rattle.sh_sound.specs.Holding.{Holds, Grows, OneHolds, Entails, Expanded}
@@ -52,7 +52,7 @@ defined_holds c (Known v g n) e f name body h = record {
   parameters = h.parameters;
 }
 
-module _ (d : Declared) (c : Certificate) (defined : List Text) where
+module _ (d : Facts) (c : Certificate) (defined : List Text) where
   -- without `!` less is claimed
   pub lose_job : (s : Seen) → Entails d c s (without_job s)
   unfolding Holds step where_known

@@ -9,7 +9,7 @@ use Rattle.sh_table.specs.standard.runs.Environment.{Environment, Frame, is_one_
 use Rattle.sh_table.specs.standard.runs.Work.{Saved, Work, Items, Links, Pipeline, Negation, Command, Words, Prepare, Utility, Call, Return, Compound, If, Then, Test, Again, ForWords, ForFields, Clauses, Patterns, Fall}
 use Rattle.sh_table.proofs.EnvironmentLemmas.{restored_kept}
 use Rattle.sh_domain.specs.Entries.{Around, in_loop, items_after, links_after, pipeline_after}
-use Rattle.sh_domain.specs.Facts.{Facts, NotReached, Known, Declared}
+use Rattle.sh_domain.specs.Facts.{Facts, NotReached, Known}
 use Rattle.sh_domain.specs.Faults.{are_among}
 use Rattle.sh_domain.specs.Inclusions.{MayDrop}
 use Rattle.sh_domain.specs.Operands.{Names}
@@ -135,7 +135,7 @@ restored_spares restores n e ((name, None) ∷ xs) = go (restores n) (λ x. rest
 pub restored_functions : (restores : ℕ → Bool) (n : ℕ) (e : Environment) (saved : Saved) → (restored restores n e saved).functions ≡ e.functions
 restored_functions restores n e saved = restored_kept (λ (x : Environment). x.functions ≡ e.functions) (λ x name v h. h) restores n e saved refl
 
-module _ (d : Declared) (c : Certificate) where
+module _ (d : Facts) (c : Certificate) where
   -- fewer may be dropped where more may
   pub drops_fewer : (x : Around) (a b : Names) → are_among a b ≡ true → MayDrop d c x b → MayDrop d c x a
   unfolding are_among

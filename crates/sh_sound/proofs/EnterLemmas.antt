@@ -14,7 +14,7 @@ use Rattle.sh_domain.specs.declared.rule.FlowRule.TheVariants.{F7, F8, F9, F10, 
 use Rattle.sh_domain.specs.Demands.{kind_unmet, clauses_unmet, for_words_unmet}
 use Rattle.sh_domain.specs.Entries as entries
 use Rattle.sh_domain.specs.Entries.{Around, alone, in_loop, in_function, items_after, turns, behind_list}
-use Rattle.sh_domain.specs.Facts.{Facts, Declared}
+use Rattle.sh_domain.specs.Facts.{Facts}
 use Rattle.sh_domain.specs.Gains.{Gains, no_gains, with_gains, word_gains, redirect_gains, redirects_gains}
 use Rattle.sh_domain.specs.Needs.{word_unmet, words_unmet, patterns_unmet, redirect_unmet, redirects_unmet}
 use Rattle.sh_domain.specs.Views.{Certificate, Before, Head, Seen, After, Both, in_any_case, after_command, at, gaining, without_job}
@@ -27,7 +27,7 @@ use Rattle.sh_sound.proofs.ExpansionLemmas.{none_both}
 use Rattle.sh_sound.proofs.ListLemmas.{began_alone, good_weaker, turned, leads_same}
 use Rattle.sh_sound.proofs.CompoundLemmas.{lose_job, starts_ok, begun_ok, redirected_ok}
 
-module _ (d : Declared) (c : Certificate) (defined : List Text) where
+module _ (d : Facts) (c : Certificate) (defined : List Text) where
   -- where b is seen, this is seen and these facts are known
   pub record Known (b seen : Seen) (x : Facts) : Type 0 where
     pub entails : Entails d c b seen

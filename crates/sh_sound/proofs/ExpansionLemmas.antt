@@ -20,7 +20,7 @@ use Rattle.sh_table.specs.standard.runs.Numbers.{is_zero, is_computed, is_operan
 use Rattle.sh_table.specs.standard.runs.States.{State, taken, ending, stray}
 use Rattle.sh_domain.specs.declared.rule.FlowRule.TheVariants.{F11}
 use Rattle.sh_domain.specs.Entries.{word_entered, part_entered, operator_entered, expression_entered, operands_entered, operand_seen}
-use Rattle.sh_domain.specs.Facts.{Facts, NotReached, Known, claims, Declared}
+use Rattle.sh_domain.specs.Facts.{Facts, NotReached, Known, claims}
 use Rattle.sh_domain.specs.Gains.{Gains, no_gains, named, and_gains, with_gains, job, sure, operator_gains, surely, assigned_in, operands_assigned, part_gains, word_gains, expanded_gains, operands_gains}
 use Rattle.sh_domain.specs.Needs.{wanted, covers, parameter_text, needed as needs, name_needed, target_needed, reads_unmet, operands_read, part_unmet, word_unmet, operator_unmet, expanded_unmet, operands_expanded}
 use Rattle.sh_domain.specs.Views.{Certificate, Seen, Lose, gaining, without_job, kept, where_known, step}
@@ -99,7 +99,7 @@ copied_holds x b e f v g n h = record {
   parameters = h.parameters;
 }
 
-module _ (d : Declared) (c : Certificate) (defined : List Text) where
+module _ (d : Facts) (c : Certificate) (defined : List Text) where
   pub without_job_holds : (s : Seen) (b : Bool) (e : Environment) (f : Frame) → OneHolds d c s e f → OneHolds d c (without_job s) (copied b e) f
   unfolding Holds step where_known
   without_job_holds s b e f h = one_stepped d c (Lose (record { vars = job ∷ []; functions = [] })) s e (copied b e) f f go h

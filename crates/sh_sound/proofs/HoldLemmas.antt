@@ -6,7 +6,7 @@ use Rattle.std.proofs.lemmas.Slice.Eq.{bytes_eq-Decides}
 use Rattle.std.proofs.lemmas.List.Folds.{list_any-append}
 use Rattle.sh_tree.specs.standard.program.Syntax.{Text}
 use Rattle.sh_table.specs.standard.runs.Environment.{Environment, Frame, is_one_of}
-use Rattle.sh_domain.specs.Facts.{Facts, NotReached, Known, Claim, Unreached, Claimed, facts, within, Declared}
+use Rattle.sh_domain.specs.Facts.{Facts, NotReached, Known, Claim, Unreached, Claimed, facts, within}
 use Rattle.sh_domain.specs.Gains.{Gains, no_gains, and_gains, with_gains, job}
 use Rattle.sh_domain.specs.Views.{Certificate, Slot, AfterZero, AfterNonzero, Step, Gain, Seen, After, Both, Each, if_zero, if_nonzero, in_any_case, at, stepped, gaining, after_command, step, steps, source_facts, view_facts}
 use Rattle.sh_sound.specs.Holding.{HoldKnown, Holds, Has, Grows, OneHolds, AfterHolds, Entails, Leads}
@@ -145,7 +145,7 @@ holds_gained g (Known v fs a) e f h = record {
 
 -- What is seen
 
-module _ (d : Declared) (c : Certificate) where
+module _ (d : Facts) (c : Certificate) where
   pub steps_end : (xs : List Step) (x : Step) (y : Facts) → steps c (xs ++ x ∷ []) y ≡ step c x (steps c xs y)
   unfolding steps
   steps_end [] x y = refl

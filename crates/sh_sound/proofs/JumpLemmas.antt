@@ -4,7 +4,7 @@ use Rattle.sh_tree.specs.standard.program.Syntax.{Text}
 use Rattle.sh_table.specs.standard.runs.Environment.{Environment, Frame}
 use Rattle.sh_table.specs.standard.runs.Work.{Saved, Work, Return, Test, Again, ForFields, Mark, no_loop, marked, or_nearer, nth_mark, loop_mark, broken_off, continued, return_mark, Effect, goes}
 use Rattle.sh_domain.specs.Entries.{Around}
-use Rattle.sh_domain.specs.Facts.{Facts, Declared}
+use Rattle.sh_domain.specs.Facts.{Facts}
 use Rattle.sh_domain.specs.Inclusions.{BreakRules, ContinueRules}
 use Rattle.sh_domain.specs.Rules.{loop_at}
 use Rattle.sh_domain.specs.Views.{Certificate, Head, Seen, After, Both, in_any_case, after_command, at}
@@ -24,7 +24,7 @@ loop_found n l (m ∷ ls) = go (nat_le n 1) (loop_found (n - 1) m ls)
     go true ih = refl
     go false ih = ih
 
-module _ (d : Declared) (c : Certificate) (defined : List Text) (SimpleAt : Around → Work → Seen → Type 0) where
+module _ (d : Facts) (c : Certificate) (defined : List Text) (SimpleAt : Around → Work → Seen → Type 0) where
   abbrev Well : Around → Environment → List Frame → ℕ → List Work → Type 0
   Well base e fs status ws = ProcessOk d c defined SimpleAt base e fs status ws
 

@@ -17,7 +17,7 @@ use Rattle.sh_table.specs.standard.runs.Numbers.{number_in}
 use Rattle.sh_table.specs.standard.runs.Operands.{count_operand, status_operand}
 use Rattle.sh_table.specs.standard.runs.Work.{Work, loop_mark, broken_off, continued, Effect, goes}
 use Rattle.sh_domain.specs.Entries.{Around}
-use Rattle.sh_domain.specs.Facts.{Declared}
+use Rattle.sh_domain.specs.Facts.{Facts}
 use Rattle.sh_domain.specs.Inclusions.{surroundings_of, BreakRules, ContinueRules, ReturnRules, JumpRules}
 use Rattle.sh_domain.specs.Operands.{first_number}
 use Rattle.sh_domain.specs.Rules.{loop_at, jump_loop}
@@ -68,7 +68,7 @@ in_loops : (n : ℕ) (ls : List ℕ) → not (length ls == 0) ≡ true → is_so
 in_loops n [] h = cc
 in_loops n (l ∷ ls) h = loop_found n l ls
 
-module _ (d : Declared) (c : Certificate) (defined : List Text) (SimpleAt : Around → Work → Seen → Type 0) (base : Around) (e : Environment) (fs : List Frame) (status : ℕ) (ws : List Work) (a : Answer) where
+module _ (d : Facts) (c : Certificate) (defined : List Text) (SimpleAt : Around → Work → Seen → Type 0) (base : Around) (e : Environment) (fs : List Frame) (status : ℕ) (ws : List Work) (a : Answer) where
   abbrev Well : List Work → Type 0
   Well us = ProcessOk d c defined SimpleAt base e fs status us
 

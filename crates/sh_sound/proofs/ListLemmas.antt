@@ -14,7 +14,7 @@ use Rattle.sh_table.specs.standard.runs.Steps as steps
 use Rattle.sh_domain.specs.declared.rule.FlowRule.TheVariants.{F2, F3, F6}
 use Rattle.sh_domain.specs.Entries.{Around, alone, in_part, items_after, item_after, links_after, linked, link_seen, list_after, pipeline_after, turns, ends as loop_ends}
 use Rattle.sh_domain.specs.Entries as entries
-use Rattle.sh_domain.specs.Facts.{Facts, Declared}
+use Rattle.sh_domain.specs.Facts.{Facts}
 use Rattle.sh_domain.specs.Gains.{named}
 use Rattle.sh_domain.specs.Views.{Certificate, AfterZero, Head, Seen, After, Both, if_zero, if_nonzero, in_any_case, swapped, after_command, at, gaining_names}
 use Rattle.sh_sound.specs.Holding.{Stands, Grows, OneHolds, AfterHolds, Leads}
@@ -31,7 +31,7 @@ began_alone = record { none_waits = refl; no_loop = refl; no_function = refl }
 pub began_part : (x : Around) → Began (in_part x) []
 began_part x = record { none_waits = refl; no_loop = refl; no_function = refl }
 
-module _ (d : Declared) (c : Certificate) (defined : List Text) (SimpleAt : Around → Work → Seen → Type 0) where
+module _ (d : Facts) (c : Certificate) (defined : List Text) (SimpleAt : Around → Work → Seen → Type 0) where
   -- more may be known than the work asks
   pub good_weaker : (base : Around) (callers : List Facts) (ws : List Work) (a b : After) → Leads d c a b → Good d c defined SimpleAt base callers ws b → Good d c defined SimpleAt base callers ws a
   unfolding Good OfFirst

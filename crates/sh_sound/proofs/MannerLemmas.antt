@@ -9,7 +9,7 @@ use Rattle.sh_table.specs.standard.Kinds.{kind_of, is_declaration}
 use Rattle.sh_table.specs.declared.kind.Kind.TheVariants as kind
 use Rattle.sh_table.specs.standard.runs.Environment.{Environment, Frame, is_one_of}
 use Rattle.sh_domain.specs.Entries.{Around}
-use Rattle.sh_domain.specs.Facts.{Facts, NotReached, Known, Declared}
+use Rattle.sh_domain.specs.Facts.{Facts, NotReached, Known}
 use Rattle.sh_domain.specs.Inclusions as i
 use Rattle.sh_domain.specs.Inclusions.{Covers, MayDrop, behind, KindRules, SimpleRules, UtilityRules, CallRules}
 use Rattle.sh_domain.specs.Operands.{Names}
@@ -64,7 +64,7 @@ unfoldable pub is_ordinary : Manner → Bool
 is_ordinary (Utility k ws) = not (is_special k)
 is_ordinary _ = true
 
-module _ (d : Declared) (c : Certificate) where
+module _ (d : Facts) (c : Certificate) where
   -- behind names that may be gone less is known
   pub lose_holds : (names : Names) (s : Seen) (e e' : Environment) (f : Frame) → Spares names e e' → OneHolds d c s e f → OneHolds d c (stepped (Lose names) s) e' f
   unfolding Holds step where_known

@@ -16,7 +16,7 @@ use Rattle.sh_table.specs.standard.runs.States.{State, fresh}
 use Rattle.sh_table.specs.standard.runs.Steps.{opened, Manner, Nameless, Special, Named, named_manner, manner, status_behind, may_copy, invoked, unless_ended, failed_in, redirected, assignment}
 use Rattle.sh_table.specs.standard.runs.Work.{Simple, Work, Prepare, Utility, Call, Effect, goes, after_expansion}
 use Rattle.sh_domain.specs.Entries.{Around}
-use Rattle.sh_domain.specs.Facts.{Facts, NotReached, Known, Function, claims, Declared}
+use Rattle.sh_domain.specs.Facts.{Facts, NotReached, Known, Function, claims}
 use Rattle.sh_domain.specs.Gains.{Gains, named, and_gains, word_gains, redirect_gains, redirects_gains}
 use Rattle.sh_domain.specs.Inclusions.{Leaves, SimpleRules, behind}
 use Rattle.sh_domain.specs.Table as table
@@ -47,7 +47,7 @@ unfolding is_special is_declaration
 no_declaration (kind.Special name) h = cc
 no_declaration k h = refl
 
-module _ (d : Declared) (c : Certificate) (defined : List Text) where
+module _ (d : Facts) (c : Certificate) (defined : List Text) where
   -- Gains of what is left
 
   -- an assignment gains what its value does, and its name

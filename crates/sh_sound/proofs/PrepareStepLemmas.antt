@@ -18,7 +18,7 @@ use Rattle.sh_table.specs.standard.runs.Steps.{Manner, Special, Named, named_man
 use Rattle.sh_table.specs.standard.runs.Work.{Simple, Work, Prepare, Effect, ends}
 use Rattle.sh_domain.specs.Demands.{command_moves, moves, kind_moves, is_reached}
 use Rattle.sh_domain.specs.Entries.{Around}
-use Rattle.sh_domain.specs.Facts.{Facts, NotReached, Known, claims, facts, Declared}
+use Rattle.sh_domain.specs.Facts.{Facts, NotReached, Known, claims, facts}
 use Rattle.sh_domain.specs.Gains.{Gains, and_gains, with_gains, words_gains, redirects_gains}
 use Rattle.sh_domain.specs.Inclusions as i
 use Rattle.sh_domain.specs.Inclusions.{MayDrop, SimpleRules, UtilityRules, behind, surroundings_of}
@@ -67,7 +67,7 @@ unfolding Holds with_gains is_reached claims
 reached g NotReached e f h = absurd h
 reached g (Known v q m) e f h = refl
 
-module _ (d : Declared) (c : Certificate) (defined : List Text) where
+module _ (d : Facts) (c : Certificate) (defined : List Text) where
   abbrev Well : Around → Environment → List Frame → ℕ → List Work → Type 0
   Well base e fs status ws = ProcessOk d c defined (SimpleAt d c defined) base e fs status ws
 

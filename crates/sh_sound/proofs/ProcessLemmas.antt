@@ -11,7 +11,7 @@ use Rattle.sh_domain.specs.declared.rule.FlowRule.{FlowRule}
 use Rattle.sh_domain.specs.declared.rule.FlowRule.TheVariants.{F2, F11, F12}
 use Rattle.sh_domain.specs.Entries as entries
 use Rattle.sh_domain.specs.Entries.{Around, alone, in_part, items_after, item_after, links_after, pipeline_after, parts_after, list_after}
-use Rattle.sh_domain.specs.Facts.{Facts, Declared}
+use Rattle.sh_domain.specs.Facts.{Facts}
 use Rattle.sh_domain.specs.Gains.{named, job}
 use Rattle.sh_domain.specs.Views.{Certificate, Seen, After, Both, if_zero, in_any_case, swapped, after_command, without_job}
 use Rattle.sh_sound.specs.Holding.{Stands, Has, Grows, OneHolds}
@@ -29,7 +29,7 @@ job_grows e = record { variables = λ t i h. h; functions = λ t i h. h; job = �
 job_has : (e : Environment) (f : Frame) → Has (named (job ∷ [])) (record e { job = true }) f
 job_has e f = record { variables = λ t i s. absurd (job_no_name t i (sym (one_name job t s))); job = λ s. refl; functions = λ t i s. cc; parameters = omega arith }
 
-module _ (d : Declared) (c : Certificate) (defined : List Text) (SimpleAt : Around → Work → Seen → Type 0) where
+module _ (d : Facts) (c : Certificate) (defined : List Text) (SimpleAt : Around → Work → Seen → Type 0) where
   abbrev Well : Around → Environment → List Frame → ℕ → List Work → Type 0
   Well base e fs status ws = ProcessOk d c defined SimpleAt base e fs status ws
 

@@ -8,7 +8,7 @@ use Rattle.sh_table.specs.standard.runs.States.{State, fresh}
 use Rattle.sh_table.specs.standard.runs.Steps.{Manner, Nameless, Special, Named, status_behind, unless_ended, failed_in, redirected}
 use Rattle.sh_table.specs.standard.runs.Work.{Work, Effect, goes, ends, after_expansion}
 use Rattle.sh_domain.specs.Entries.{Around}
-use Rattle.sh_domain.specs.Facts.{Declared}
+use Rattle.sh_domain.specs.Facts.{Facts}
 use Rattle.sh_domain.specs.Gains.{Gains}
 use Rattle.sh_domain.specs.Views.{Certificate, AfterNonzero, Seen, after_command, at, if_nonzero}
 use Rattle.sh_sound.specs.Holding.{Grows, OneHolds, Expanded}
@@ -18,7 +18,7 @@ use Rattle.sh_sound.proofs.ListLemmas.{step_goes, step_ends, nonzero_holds}
 use Rattle.sh_sound.proofs.StepLemmas.{Plain, goes_plain, ends_plain, expanded_ok, grown}
 use Rattle.sh_sound.proofs.CompoundLemmas.{is_nonzero}
 
-module _ (d : Declared) (c : Certificate) (defined : List Text) (SimpleAt : Around → Work → Seen → Type 0) where
+module _ (d : Facts) (c : Certificate) (defined : List Text) (SimpleAt : Around → Work → Seen → Type 0) where
   abbrev Well : Around → Environment → List Frame → ℕ → List Work → Type 0
   Well base e fs status ws = ProcessOk d c defined SimpleAt base e fs status ws
 

@@ -10,7 +10,7 @@ use Rattle.sh_table.specs.standard.runs.Operands.{status_operand}
 use Rattle.sh_table.specs.standard.runs.Steps.{act_on}
 use Rattle.sh_table.specs.standard.runs.Work.{Saved, Work, Return, return_mark, Pops, Effect, goes}
 use Rattle.sh_domain.specs.Entries.{Around}
-use Rattle.sh_domain.specs.Facts.{Facts, Declared}
+use Rattle.sh_domain.specs.Facts.{Facts}
 use Rattle.sh_domain.specs.Inclusions.{Covers, StatusRules, ReturnRules}
 use Rattle.sh_domain.specs.Operands.{status, return_status}
 use Rattle.sh_domain.specs.Views.{Certificate, ReturnsZero, ReturnsNonzero, Seen, After, if_zero, if_nonzero, after_command}
@@ -28,7 +28,7 @@ same_status p.no_words w ws h = cc
 same_status (p.more_words v p.no_words) w ws h = cc
 same_status (p.more_words v (p.more_words u vs)) w ws h = cc
 
-module _ (d : Declared) (c : Certificate) (defined : List Text) (SimpleAt : Around → Work → Seen → Type 0) where
+module _ (d : Facts) (c : Certificate) (defined : List Text) (SimpleAt : Around → Work → Seen → Type 0) where
   abbrev Well : Around → Environment → List Frame → ℕ → List Work → Type 0
   Well base e fs status ws = ProcessOk d c defined SimpleAt base e fs status ws
 

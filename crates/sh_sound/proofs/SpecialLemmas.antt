@@ -4,7 +4,7 @@ use Rattle.sh_tree.specs.standard.program.Syntax.{Text}
 use Rattle.sh_table.specs.standard.runs.Environment.{Environment, Frame}
 use Rattle.sh_table.specs.standard.runs.Work.{Work, Return, Keeps, Effect, goes}
 use Rattle.sh_domain.specs.Entries.{Around}
-use Rattle.sh_domain.specs.Facts.{Facts, NotReached, Known, Declared}
+use Rattle.sh_domain.specs.Facts.{Facts, NotReached, Known}
 use Rattle.sh_domain.specs.Gains.{Gains, named}
 use Rattle.sh_domain.specs.Inclusions as i
 use Rattle.sh_domain.specs.Inclusions.{Leaves, MayDrop, UtilityRules, behind, surroundings_of}
@@ -18,7 +18,7 @@ use Rattle.sh_sound.proofs.DropLemmas.{Spares, spares_grow, front_goes, quiet_dr
 use Rattle.sh_sound.proofs.CallLemmas.{counted_holds}
 
 -- the frame of the caller is not looked at
-stays_front : (d : Declared) (c : Certificate) (defined : List Text) (SimpleAt : Around → Work → Seen → Type 0) (callers : List Facts) (e : Environment) (fs : List Frame) (g : Frame)
+stays_front : (d : Facts) (c : Certificate) (defined : List Text) (SimpleAt : Around → Work → Seen → Type 0) (callers : List Facts) (e : Environment) (fs : List Frame) (g : Frame)
     → Stays d c defined SimpleAt callers e fs → Stays d c defined SimpleAt callers e (frames_behind fs (Keeps g))
 unfolding Stays frames_behind
 stays_front d c defined SimpleAt [] e [] g h = cc
@@ -28,7 +28,7 @@ stays_front d c defined SimpleAt (kept ∷ callers) e [] g h = h
 stays_front d c defined SimpleAt (kept ∷ callers) e (f ∷ []) g h = h
 stays_front d c defined SimpleAt (kept ∷ callers) e (f ∷ k ∷ fs) g h = h
 
-front_moved : (d : Declared) (c : Certificate) (defined : List Text) (SimpleAt : Around → Work → Seen → Type 0) (callers : List Facts) (e : Environment) (fs : List Frame) (g : Frame)
+front_moved : (d : Facts) (c : Certificate) (defined : List Text) (SimpleAt : Around → Work → Seen → Type 0) (callers : List Facts) (e : Environment) (fs : List Frame) (g : Frame)
     → Stays d c defined SimpleAt callers e fs → front (frames_behind fs (Keeps g)) ≡ g
 unfolding Stays frames_behind front
 front_moved d c defined SimpleAt [] e [] g h = cc
@@ -36,7 +36,7 @@ front_moved d c defined SimpleAt (kept ∷ callers) e [] g h = absurd h
 front_moved d c defined SimpleAt callers e (f ∷ fs) g h = refl
 
 -- the frame that the process began with is at the front where nobody waits
-frame_of : (d : Declared) (c : Certificate) (defined : List Text) (SimpleAt : Around → Work → Seen → Type 0) (callers : List Facts) (e : Environment) (fs : List Frame) (g : Frame)
+frame_of : (d : Facts) (c : Certificate) (defined : List Text) (SimpleAt : Around → Work → Seen → Type 0) (callers : List Facts) (e : Environment) (fs : List Frame) (g : Frame)
     → Stays d c defined SimpleAt callers e fs → (callers ≡ [] → ⊥) → FrameStays fs (Keeps g)
 unfolding Stays FrameStays
 frame_of d c defined SimpleAt [] e fs g h k = absurd (k refl)
@@ -45,7 +45,7 @@ frame_of d c defined SimpleAt (kept ∷ callers) e (f ∷ []) g h k = absurd h
 frame_of d c defined SimpleAt (kept ∷ callers) e (f ∷ j ∷ fs) g h k = tt
 
 -- where nobody waits, the place shares what its process does
-module _ (d : Declared) (c : Certificate) (defined : List Text) (SimpleAt : Around → Work → Seen → Type 0) where
+module _ (d : Facts) (c : Certificate) (defined : List Text) (SimpleAt : Around → Work → Seen → Type 0) where
   same_shares : (base : Around) (callers : List Facts) (ws : List Work) (o : After) → callers ≡ [] → Good d c defined SimpleAt base callers ws o → (around base ws).shares ≡ base.shares
   unfolding Good around OfFirst
   same_shares base callers [] o none good = refl
@@ -102,7 +102,7 @@ module _ (d : Declared) (c : Certificate) (defined : List Text) (SimpleAt : Arou
 
 -- Steps over what is known behind the words
 
-module _ (d : Declared) (c : Certificate) where
+module _ (d : Facts) (c : Certificate) where
   pub shift_holds : (n : ℕ) (s : Seen) (e : Environment) (f g : Frame) → length f - n ≤ length g → OneHolds d c s e f → OneHolds d c (stepped (Shift n) s) e g
   unfolding Holds step where_known
   shift_holds n s e f g l h = one_stepped d c (Shift n) s e e f g go h

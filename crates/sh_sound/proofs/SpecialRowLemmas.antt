@@ -18,7 +18,7 @@ use Rattle.sh_table.specs.standard.runs.Work.{Work, Effect, goes}
 use Rattle.sh_table.proofs.EnvironmentLemmas.{all_removed_kept}
 use Rattle.sh_domain.specs.Demands.{kind_moves}
 use Rattle.sh_domain.specs.Entries.{Around}
-use Rattle.sh_domain.specs.Facts.{facts, Declared}
+use Rattle.sh_domain.specs.Facts.{Facts, facts}
 use Rattle.sh_domain.specs.Gains.{Gains, named, and_gains, words_gains}
 use Rattle.sh_domain.specs.Inclusions as i
 use Rattle.sh_domain.specs.Inclusions.{Leaves, MayDrop, UtilityRules, behind, surroundings_of}
@@ -45,7 +45,7 @@ use Rattle.sh_sound.proofs.SpecialLemmas.{drops_ok, moves_ok, shift_holds, none_
 use Rattle.sh_sound.proofs.LeaveLemmas.{passed, break_leaves, continue_leaves, return_leaves}
 
 -- a function that is defined behind `unset` was defined before
-undefined_bodies : (d : Declared) (c : Certificate) (defined : List Text) (e : Environment) (name : Text) → Bodies d c defined e.functions → Bodies d c defined (with_function e name None).functions
+undefined_bodies : (d : Facts) (c : Certificate) (defined : List Text) (e : Environment) (name : Text) → Bodies d c defined e.functions → Bodies d c defined (with_function e name None).functions
 unfolding put_text
 undefined_bodies d c defined e name h t body k = go (bytes_eq t name) k
   where
@@ -53,7 +53,7 @@ undefined_bodies d c defined e name h t body k = go (bytes_eq t name) k
     go true q = cc
     go false q = h t body q
 
-module _ (d : Declared) (c : Certificate) (defined : List Text) (SimpleAt : Around → Work → Seen → Type 0) (base : Around) (e : Environment) (fs : List Frame) (status : ℕ) (ws : List Work) (a : Answer) where
+module _ (d : Facts) (c : Certificate) (defined : List Text) (SimpleAt : Around → Work → Seen → Type 0) (base : Around) (e : Environment) (fs : List Frame) (status : ℕ) (ws : List Work) (a : Answer) where
   abbrev Well : List Work → Type 0
   Well us = ProcessOk d c defined SimpleAt base e fs status us
 

@@ -9,7 +9,7 @@ use Rattle.sh_table.specs.standard.runs.Expansion.{Context, expand}
 use Rattle.sh_table.specs.standard.runs.Steps.{unless_ended}
 use Rattle.sh_table.specs.standard.runs.Work.{Work, Items, Keeps, Effect, goes, ends, of_copies, after_expansion}
 use Rattle.sh_domain.specs.Entries.{Around, alone}
-use Rattle.sh_domain.specs.Facts.{Declared}
+use Rattle.sh_domain.specs.Facts.{Facts}
 use Rattle.sh_domain.specs.Gains.{Gains, word_gains}
 use Rattle.sh_domain.specs.Views.{Certificate, Seen, After, Both, gaining}
 use Rattle.sh_sound.specs.Holding.{Grows, OneHolds, AfterHolds, CopyWell, Expanded}
@@ -19,7 +19,7 @@ use Rattle.sh_sound.proofs.HoldLemmas.{each_both, one_grows, gain_holds, both_ho
 use Rattle.sh_sound.proofs.ExpansionLemmas.{word_does}
 use Rattle.sh_sound.proofs.ListLemmas.{began_alone, good_in, frame_stays, step_goes, step_ends, stays_grow, leads_same}
 
-module _ (d : Declared) (c : Certificate) (defined : List Text) (SimpleAt : Around → Work → Seen → Type 0) where
+module _ (d : Facts) (c : Certificate) (defined : List Text) (SimpleAt : Around → Work → Seen → Type 0) where
   abbrev Well : Around → Environment → List Frame → ℕ → List Work → Type 0
   Well base e fs status ws = ProcessOk d c defined SimpleAt base e fs status ws
 

@@ -12,7 +12,7 @@ use Rattle.sh_table.specs.standard.runs.Work.{Work, Items}
 use Rattle.sh_table.specs.standard.runs.Worlds.{Process, World, start_names, start_world, IsStart}
 use Rattle.sh_domain.specs.declared.rule.FlowRule.TheVariants.{F1}
 use Rattle.sh_domain.specs.Entries.{Around, Entered, alone, script_entered}
-use Rattle.sh_domain.specs.Facts.{Declared, start_facts}
+use Rattle.sh_domain.specs.Facts.{Facts, Declared, start_facts}
 use Rattle.sh_domain.specs.Gains.{job}
 use Rattle.sh_domain.specs.Inclusions.{Each, EnteredRules, is_formed, command_formed, kind_formed, redirects_formed}
 use Rattle.sh_domain.specs.Rules.{defined_by, functions_of}
@@ -75,7 +75,7 @@ all_listed (x ∷ es) all h = (here, all_listed es all (λ f k. h f (later (defi
     here : (f : Text) → defined_by x.command ≡ Some f → is_one_of all f ≡ true
     here f e = h f (first (defined_by x.command) f e)
 
-module _ (d : Declared) (c : Certificate) where
+module _ (d : Facts) (c : Certificate) where
   stand_each : (defined : List Text) (es : List Entered) → ((f : Text) → is_one_of defined f ≡ true → is_name f ≡ true) → Each (EnteredRules d c defined) es
       → Each (λ x. (f : Text) → defined_by x.command ≡ Some f → is_one_of defined f ≡ true) es → Each (Stands d c defined) es
   unfolding Each
@@ -89,8 +89,9 @@ module _ (d : Declared) (c : Certificate) where
       let es : List Entered = script_entered t in
       stand_each (functions_of es) es (names_named es (script_formed t formed)) rules (all_listed es (functions_of es) (λ f k. k))
 
-  -- The start
+-- The start
 
+module _ (d : Declared) (c : Certificate) where
   -- what is declared is true
   start_holds : (e : Environment) (f : Frame) → list_all is_name d.names ≡ true → IsStart d.names d.args e f → Holds (start_facts d) e f
   unfolding Holds start_facts
@@ -106,11 +107,11 @@ module _ (d : Declared) (c : Certificate) where
 
   -- one process, which has the script to run
   pub start_well : (SimpleAt : Around → Work → Seen → Type 0) (defined : List Text) (e : Environment) (f : Frame) (t : p.Items) → list_all is_name d.names ≡ true → IsStart d.names d.args e f
-      → Each (Stands d c defined) (script_entered t) → WorldWell d c defined SimpleAt (start_world e f t)
+      → Each (Stands (start_facts d) c defined) (script_entered t) → WorldWell (start_facts d) c defined SimpleAt (start_world e f t)
   unfolding start_world script_entered GoodIn Good FrontGood Stays around front OneHolds steps source_facts
   start_well SimpleAt defined e f t named begin stand = record {
     sharing = copy_shares empty 0 (Items t ∷ []) nobody;
-    lives = put_lives d c defined SimpleAt (λ n. None) (λ n. e) (λ n. f) 0 first (record { base = alone; shares = λ h. cc; well = well }) (λ q s h. absurd (none-some s h));
+    lives = put_lives (start_facts d) c defined SimpleAt (λ n. None) (λ n. e) (λ n. f) 0 first (record { base = alone; shares = λ h. cc; well = well }) (λ q s h. absurd (none-some s h));
   }
     where
       empty : World
@@ -126,12 +127,12 @@ module _ (d : Declared) (c : Certificate) where
         frame = λ p q r s h k n a b. absurd (none-some r h);
       }
 
-      well : ProcessOk d c defined SimpleAt alone e (f ∷ []) 0 (Items t ∷ [])
+      well : ProcessOk (start_facts d) c defined SimpleAt alone e (f ∷ []) 0 (Items t ∷ [])
       well = record {
         known = Both at_start;
         callers = [];
-        good = record { after = Both at_start; leads = leads_same d c defined SimpleAt (Both at_start); goes = ((F1, stand), record { none_waits = refl; no_loop = refl; no_function = refl }) };
-        holds = both_holds d c 0 at_start e f (inl (start_holds e f named begin));
+        good = record { after = Both at_start; leads = leads_same (start_facts d) c defined SimpleAt (Both at_start); goes = ((F1, stand), record { none_waits = refl; no_loop = refl; no_function = refl }) };
+        holds = both_holds (start_facts d) c 0 at_start e f (inl (start_holds e f named begin));
         stays = (f, refl);
         bodies = λ g body h. absurd (none-some body (sym (begin.functions g) ∙ h));
       }
@@ -139,8 +140,9 @@ module _ (d : Declared) (c : Certificate) where
 -- The theorem
 pub rules_suffice : RulesSuffice
 rules_suffice d c t named admitted formed rules met e f begin moves w runs whole m =
+    let known : Facts = start_facts d in
     let defined : List Text = functions_of (script_entered t) in
-    let stand = all_stand d c t formed (rules_give d c t admitted formed rules met) in
-    let start : WorldWell d c defined (SimpleAt d c defined) (start_world e f t) = start_well d c (SimpleAt d c defined) defined e f t named begin stand in
-    no_unset_event d c defined (SimpleAt d c defined) (act_ok d c defined) w m
-    (run_well d c defined (SimpleAt d c defined) (act_ok d c defined) moves (start_world e f t) w start whole runs)
+    let stand = all_stand known c t formed (rules_give known c t admitted formed rules met) in
+    let start : WorldWell known c defined (SimpleAt known c defined) (start_world e f t) = start_well d c (SimpleAt known c defined) defined e f t named begin stand in
+    no_unset_event known c defined (SimpleAt known c defined) (act_ok known c defined) w m
+    (run_well known c defined (SimpleAt known c defined) (act_ok known c defined) moves (start_world e f t) w start whole runs)

@@ -17,7 +17,7 @@ use Rattle.sh_table.specs.standard.runs.Operands as o
 use Rattle.sh_table.specs.standard.runs.Operands.{getopts_name}
 use Rattle.sh_table.specs.standard.runs.Work.{Work, Effect, goes}
 use Rattle.sh_domain.specs.Entries.{Around}
-use Rattle.sh_domain.specs.Facts.{Facts, NotReached, Known, Function, claims, facts, Declared}
+use Rattle.sh_domain.specs.Facts.{Facts, NotReached, Known, Function, claims, facts}
 use Rattle.sh_domain.specs.Gains.{Gains, job, named, words_gains}
 use Rattle.sh_domain.specs.Inclusions as i
 use Rattle.sh_domain.specs.Inclusions.{Leaves, MayDrop, CallRules, behind}
@@ -92,7 +92,7 @@ uncalled_holds drops r (Known w q m) t ns names e e' f k v g u h = subst (λ b. 
   parameters = h.parameters;
 }
 
-module _ (d : Declared) (c : Certificate) (defined : List Text) (SimpleAt : Around → Work → Seen → Type 0) (base : Around) (e : Environment) (fs : List Frame) (status : ℕ) (ws : List Work) (a : Answer) where
+module _ (d : Facts) (c : Certificate) (defined : List Text) (SimpleAt : Around → Work → Seen → Type 0) (base : Around) (e : Environment) (fs : List Frame) (status : ℕ) (ws : List Work) (a : Answer) where
   abbrev Well : List Work → Type 0
   Well us = ProcessOk d c defined SimpleAt base e fs status us
 

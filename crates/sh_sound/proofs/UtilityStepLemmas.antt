@@ -13,7 +13,7 @@ use Rattle.sh_table.specs.standard.runs.States.{State, fresh}
 use Rattle.sh_table.specs.standard.runs.Steps.{opened, Named, status_behind, unless_ended, failed_in, redirected, kept, seen, utility_step, act_on}
 use Rattle.sh_table.specs.standard.runs.Work.{Simple, Work, Utility, Effect, goes, ends, after_expansion}
 use Rattle.sh_domain.specs.Entries.{Around}
-use Rattle.sh_domain.specs.Facts.{Facts, Declared}
+use Rattle.sh_domain.specs.Facts.{Facts}
 use Rattle.sh_domain.specs.Gains.{no_gains, and_gains, word_gains}
 use Rattle.sh_domain.specs.Inclusions as i
 use Rattle.sh_domain.specs.Inclusions.{MayDrop, SimpleRules, behind}
@@ -35,7 +35,7 @@ use Rattle.sh_sound.proofs.RedirectLemmas.{Fine, either_fine, ends_fine, goes_fi
 use Rattle.sh_sound.proofs.PrepareLemmas.{no_declaration}
 use Rattle.sh_sound.proofs.UtilityLemmas.{uncalled_ok, table_ok}
 
-module _ (d : Declared) (c : Certificate) (defined : List Text) where
+module _ (d : Facts) (c : Certificate) (defined : List Text) where
   abbrev Well : Around → Environment → List Frame → ℕ → List Work → Type 0
   Well base e fs status ws = ProcessOk d c defined (SimpleAt d c defined) base e fs status ws
 

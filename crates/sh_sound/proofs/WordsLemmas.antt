@@ -15,7 +15,7 @@ use Rattle.sh_table.specs.standard.runs.States.{fresh}
 use Rattle.sh_table.specs.standard.runs.Steps.{Manner, Nameless, Special, Named, manner, is_declared, word_context, word_fields, word_splits, status_behind, unless_ended, words, act_on}
 use Rattle.sh_table.specs.standard.runs.Work.{Simple, Work, Words, Prepare, Effect, goes, after_expansion}
 use Rattle.sh_domain.specs.Entries.{Around}
-use Rattle.sh_domain.specs.Facts.{Facts, NotReached, Known, Declared}
+use Rattle.sh_domain.specs.Facts.{Facts, NotReached, Known}
 use Rattle.sh_domain.specs.Gains.{Gains, no_gains, word_gains, words_gains}
 use Rattle.sh_domain.specs.Inclusions.{behind, elements_formed, kind_formed, command_formed, redirects_formed, surroundings_of}
 use Rattle.sh_domain.specs.Table.{is_redirected}
@@ -43,7 +43,7 @@ unfolding words_in words_rule
 name_static x p.no_words w left h k = cc
 name_static x (p.more_words v vs) w left h k = let same : v ≡ w = cc in subst (λ v. (t : Text) × (static_of v ≡ Some t)) same (named_static x v (static_of v) (map static_of (words_in vs)) k)
 
-module _ (d : Declared) (c : Certificate) (defined : List Text) where
+module _ (d : Facts) (c : Certificate) (defined : List Text) where
   pub enough : (y : Facts) (e : Environment) (f : Frame) → Holds y e f → parameters y ≤ length f
   unfolding Holds parameters
   enough NotReached e f h = absurd h

@@ -9,7 +9,7 @@ use Rattle.sh_table.specs.standard.runs.Work.{Work, Start, Shares, Copies, Frame
 use Rattle.sh_table.specs.standard.runs.Worlds.{Process, World, Move, put, innermost, waits, outer, frames_after, first_frame, with_frames, with_environment, with_process, stepped, start, start_all, apply, effect_of, may_step, step, run, has_unset_event, has_split_event}
 use Rattle.sh_table.proofs.WorldLemmas.{put_same, put_other, put_cases, Made, step_made}
 use Rattle.sh_domain.specs.Entries.{Around}
-use Rattle.sh_domain.specs.Facts.{Facts, Declared}
+use Rattle.sh_domain.specs.Facts.{Facts}
 use Rattle.sh_domain.specs.Inclusions.{Each}
 use Rattle.sh_domain.specs.Views.{Certificate, Seen}
 use Rattle.sh_sound.specs.Holding.{Grows}
@@ -114,7 +114,7 @@ unfolding has_front innermost_of
 front_numbered frames [] = refl
 front_numbered frames (n ∷ ns) = refl
 
-module _ (d : Declared) (c : Certificate) (defined : List Text) (SimpleAt : Around → Work → Seen → Type 0) where
+module _ (d : Facts) (c : Certificate) (defined : List Text) (SimpleAt : Around → Work → Seen → Type 0) where
   abbrev Well : Around → Environment → List Frame → ℕ → List Work → Type 0
   Well base e fs status ws = ProcessOk d c defined SimpleAt base e fs status ws
 

@@ -10,7 +10,7 @@ use Rattle.sh_table.specs.standard.runs.Environment.{is_one_of}
 use Rattle.sh_table.specs.standard.runs.Steps.{opened, Manner, Nameless, Special, Named, manner}
 use Rattle.sh_table.specs.standard.runs.Work.{Simple, Saved, Work, Words, Prepare, Utility, Call}
 use Rattle.sh_domain.specs.Entries.{Around}
-use Rattle.sh_domain.specs.Facts.{Facts, NotReached, Known, Function, Variable, claims, facts, Declared}
+use Rattle.sh_domain.specs.Facts.{Facts, NotReached, Known, Function, Variable, claims, facts}
 use Rattle.sh_domain.specs.Gains.{Gains, named, and_gains, with_gains, words_gains, redirects_gains}
 use Rattle.sh_domain.specs.Inclusions.{CommandRules, behind}
 use Rattle.sh_domain.specs.Operands.{total}
@@ -39,30 +39,30 @@ unfoldable pub parameters : Facts → ℕ
 parameters NotReached = 0
 parameters (Known v f a) = a
 
-module _ (d : Declared) (c : Certificate) (defined : List Text) where
+module _ (start : Facts) (c : Certificate) (defined : List Text) where
   -- what rules and demands give of the command, and that functions of the script have names
   pub record RulesAt (x : Around) (n : ℕ) (es : p.Elements) : Type 0 where
     pub seen : Seen
     pub offset : ℕ
     pub redirects : p.Redirects
-    pub rules : CommandRules d c defined x seen n offset (p.Simple es) redirects (losses_by defined es (behind d c n es) (table.manner defined es))
+    pub rules : CommandRules start c defined x seen n offset (p.Simple es) redirects (losses_by defined es (behind start c n es) (table.manner defined es))
     pub named : (t : Text) → is_one_of defined t ≡ true → is_name t ≡ true
 
   -- redirections and assignments are judged behind the words, each by itself
 
   unfoldable pub EachOpened : Seen → p.Redirects → Type 0
   EachOpened b p.no_redirects = Unit {0}
-  EachOpened b (p.more_redirects r rs) = WordAt d c defined b (opened r) × EachOpened b rs
+  EachOpened b (p.more_redirects r rs) = WordAt start c defined b (opened r) × EachOpened b rs
 
   unfoldable pub EachValue : Seen → Assignments → Type 0
   EachValue b [] = Unit {0}
-  EachValue b (x ∷ xs) = (is_name x.0 ≡ true) × WordAt d c defined b x.1 × EachValue b xs
+  EachValue b (x ∷ xs) = (is_name x.0 ≡ true) × WordAt start c defined b x.1 × EachValue b xs
 
   -- the redirections and assignments that are left of a command behind its words
   pub record LeftAt (n : ℕ) (es : p.Elements) (rs : p.Redirects) (xs : Assignments) (s : Seen) : Type 0 where
-    pub behind_words : Entails d c s (behind d c n es)
-    pub opened : EachOpened (behind d c n es) rs
-    pub values : EachValue (behind d c n es) xs
+    pub behind_words : Entails start c s (behind start c n es)
+    pub opened : EachOpened (behind start c n es) rs
+    pub values : EachValue (behind start c n es) xs
     pub redirected : is_redirected rs ≡ true → is_redirected (redirects_in es) ≡ true
 
   -- The words
@@ -70,21 +70,21 @@ module _ (d : Declared) (c : Certificate) (defined : List Text) where
   -- the words that are left may be expanded one after the other, and behind them is known what the rules say
   pub record WordsStage (x : Around) (k : Simple) (left : p.Words) (rs : p.Redirects) (xs : Assignments) (s : Seen) : Type 0 where
     pub rules : RulesAt x k.number k.elements
-    pub words : WordsAt d c defined s left
-    pub behind_words : Entails d c (gaining (words_gains left) s) (behind d c k.number k.elements)
+    pub words : WordsAt start c defined s left
+    pub behind_words : Entails start c (gaining (words_gains left) s) (behind start c k.number k.elements)
     pub redirects : rs ≡ redirects_in k.elements
     pub assignments : xs ≡ assignments_in k.elements
-    pub opened : EachOpened (behind d c k.number k.elements) rs
-    pub values : EachValue (behind d c k.number k.elements) xs
+    pub opened : EachOpened (behind start c k.number k.elements) rs
+    pub values : EachValue (behind start c k.number k.elements) xs
 
   -- Redirections and assignments
 
   -- what will be known when they are done: without a name what the assignments leave, at a special built-in utility what the redirections
   -- leave too; a function and another utility have all assignments left
   unfoldable pub Settles : Manner → ℕ → p.Elements → p.Redirects → Assignments → Seen → Type 0
-  Settles Nameless n es rs xs s = Entails d c (gaining (left_gains xs) s) (gaining (assignments_gains es) (behind d c n es))
+  Settles Nameless n es rs xs s = Entails start c (gaining (left_gains xs) s) (gaining (assignments_gains es) (behind start c n es))
   Settles (Special name ts) n es rs xs s =
-      Entails d c (gaining (and_gains (left_gains xs) (redirects_gains rs)) s) (gaining (and_gains (assignments_gains es) (redirections_gains es)) (behind d c n es))
+      Entails start c (gaining (and_gains (left_gains xs) (redirects_gains rs)) s) (gaining (and_gains (assignments_gains es) (redirections_gains es)) (behind start c n es))
   Settles (Named name ts) n es rs xs s = xs ≡ assignments_in es
 
   -- The words are expanded, and have given these fields; what is left of the redirections and assignments may be expanded; a redirection has
@@ -117,10 +117,10 @@ module _ (d : Declared) (c : Certificate) (defined : List Text) where
     pub words : List Word
     pub rules : RulesAt x n elements
     pub calls : table.manner defined elements ≡ table.Call function words
-    pub entered : BodyOk d c defined function body
+    pub entered : BodyOk start c defined function body
     pub left : LeftAt n elements rs xs s
     pub counted : counted_by (total words) (parameters (behind_facts c n elements)) ≤ length operands
-    pub prefixed : Entails d c (gaining_names (names_of xs) s) (gaining_names (prefixes elements) (behind d c n elements))
+    pub prefixed : Entails start c (gaining_names (names_of xs) s) (gaining_names (prefixes elements) (behind start c n elements))
     pub among : (t : Text) → is_one_of (names_of xs) t ≡ true → is_one_of (prefixes elements) t ≡ true
     pub unset_among : (t : Text) → is_one_of (unset_before saved) t ≡ true → is_one_of (prefixes elements) t ≡ true
     pub unclaimed : (t : Text) → is_one_of (unset_before saved) t ≡ true → claims (behind_facts c n elements) (Variable t) ≡ false

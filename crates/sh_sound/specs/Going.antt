@@ -15,7 +15,7 @@ use Rattle.sh_table.specs.standard.runs.Steps.{opened}
 use Rattle.sh_table.specs.standard.runs.Work.{Saved, Work, Items, Links, Pipeline, Negation, Command, Words, Prepare, Utility, Call, Return, Compound, If, Then, Test, Again, ForWords, ForFields, Clauses, Patterns, Fall, Start, Shares, Copies, Frames, Keeps, Pushes, Pops, Effect}
 use Rattle.sh_domain.specs.declared.rule.FlowRule.{FlowRule}
 use Rattle.sh_domain.specs.Entries.{Around, alone, in_loop, in_function, items_after, links_after, pipeline_after, behind_list, otherwise_seen, turns, falls, items_entered, links_entered, pipeline_entered, command_entered, branches_entered, otherwise_entered, clauses_entered, word_entered}
-use Rattle.sh_domain.specs.Facts.{Facts, NotReached, Known, Declared}
+use Rattle.sh_domain.specs.Facts.{Facts, NotReached, Known}
 use Rattle.sh_domain.specs.Gains.{word_gains, words_gains, redirect_gains, redirects_gains}
 use Rattle.sh_domain.specs.Needs.{word_unmet}
 use Rattle.sh_domain.specs.Operands.{Names}
@@ -82,16 +82,16 @@ unfoldable pub Apart : Facts → Names → Type 0
 Apart NotReached names = Unit {0}
 Apart (Known v g a) names = ((t : Text) → is_one_of names.vars t ≡ true → v t ≡ false) × ((t : Text) → is_one_of names.functions t ≡ true → g t ≡ false)
 
-module _ (d : Declared) (c : Certificate) (defined : List Text) where
+module _ (start : Facts) (c : Certificate) (defined : List Text) where
   -- Words
 
   -- a word that may be expanded where this is seen
   pub record WordAt (b : Seen) (w : p.Word) : Type 0 where
     pub seen : Seen
     pub facts : Facts
-    pub entails : Entails d c b seen
-    pub knows : (e : Environment) (f : Frame) → OneHolds d c b e f → Holds facts e f
-    pub rules : Each (Stands d c defined) (word_entered seen w)
+    pub entails : Entails start c b seen
+    pub knows : (e : Environment) (f : Frame) → OneHolds start c b e f → Holds facts e f
+    pub rules : Each (Stands start c defined) (word_entered seen w)
     pub met : word_unmet facts w ≡ []
     pub formed : word_formed w ≡ true
 
@@ -117,32 +117,32 @@ module _ (d : Declared) (c : Certificate) (defined : List Text) where
 
   -- what may be entered there, by some rule
   abbrev pub ItemsAt : Around → After → p.Items → Type 0
-  ItemsAt x o is = (rule : FlowRule) × Each (Stands d c defined) (items_entered rule x o is)
+  ItemsAt x o is = (rule : FlowRule) × Each (Stands start c defined) (items_entered rule x o is)
 
   abbrev pub PipelineAt : Around → Seen → p.Pipeline → Type 0
-  PipelineAt x s q = (rule : FlowRule) × Each (Stands d c defined) (pipeline_entered rule x s q)
+  PipelineAt x s q = (rule : FlowRule) × Each (Stands start c defined) (pipeline_entered rule x s q)
 
   abbrev pub CommandAt : Around → Seen → p.Command → Type 0
-  CommandAt x s k = (rule : FlowRule) × Each (Stands d c defined) (command_entered rule x s k)
+  CommandAt x s k = (rule : FlowRule) × Each (Stands start c defined) (command_entered rule x s k)
 
   -- Compound commands
 
   -- the branches of `if` that are left
   pub record BranchesAt (x : Around) (n : ℕ) (s : Seen) (branches : p.Branches) (otherwise : p.Otherwise) : Type 0 where
-    pub inside : Each (Stands d c defined) (branches_entered x s branches)
-    pub last : Each (Stands d c defined) (otherwise_entered x (otherwise_seen s branches) otherwise)
-    pub leave : BranchesLeave d c n s branches
-    pub leaves : OtherwiseLeaves d c n (otherwise_seen s branches) otherwise
+    pub inside : Each (Stands start c defined) (branches_entered x s branches)
+    pub last : Each (Stands start c defined) (otherwise_entered x (otherwise_seen s branches) otherwise)
+    pub leave : BranchesLeave start c n s branches
+    pub leaves : OtherwiseLeaves start c n (otherwise_seen s branches) otherwise
 
   pub record LoopAt (x : Around) (n : ℕ) (kind : LoopKind) (condition body : p.Items) : Type 0 where
     pub first : ItemsAt (in_loop n x) (Both (at (Head n))) condition
     pub turn : ItemsAt (in_loop n x) (Both (turns kind (items_after (Both (at (Head n))) condition))) body
-    pub rules : LoopRules d c n kind condition body
+    pub rules : LoopRules start c n kind condition body
 
   pub record ForAt (x : Around) (n : ℕ) (name : Text) (body : p.Items) : Type 0 where
     pub named : is_name name ≡ true
     pub turn : ItemsAt (in_loop n x) (Both (gaining_names (name ∷ []) (at (Head n)))) body
-    pub rules : ForRules d c n name body
+    pub rules : ForRules start c n name body
 
   unfoldable pub PatternsOf : Seen → p.Clauses → Type 0
   PatternsOf s p.no_clauses = Unit {0}
@@ -150,29 +150,29 @@ module _ (d : Declared) (c : Certificate) (defined : List Text) where
 
   -- the clauses of `case` that are left; the list of the first may be entered from the list before it
   pub record ClausesAt (x : Around) (n : ℕ) (s fallen : Seen) (cs : p.Clauses) : Type 0 where
-    pub entered : Each (Stands d c defined) (clauses_entered x s fallen cs)
-    pub leave : ClausesLeave d c n s fallen cs
+    pub entered : Each (Stands start c defined) (clauses_entered x s fallen cs)
+    pub leave : ClausesLeave start c n s fallen cs
     pub patterns : PatternsOf s cs
 
   -- a clause, with the patterns of it that are left
   pub record ClauseAt (x : Around) (n : ℕ) (s fallen : Seen) (left : p.Words) (body : p.Items) (end : ClauseEnd) (rest : p.Clauses) : Type 0 where
     pub patterns : PatternsAt s left
     pub entered : ItemsAt x (Both (s ++ fallen)) body
-    pub leaves : is_last end rest ≡ true → Leaves d c n (items_after (Both (s ++ fallen)) body)
+    pub leaves : is_last end rest ≡ true → Leaves start c n (items_after (Both (s ++ fallen)) body)
     pub behind : ClausesAt x n s (falls end (items_after (Both (s ++ fallen)) body)) rest
-    pub unmatched : (list_any (is_plainly (codes "*")) (words_in left) || matches_always rest) ≡ false → Covers d c (AfterZero n) s
+    pub unmatched : (list_any (is_plainly (codes "*")) (words_in left) || matches_always rest) ≡ false → Covers start c (AfterZero n) s
 
   -- behind `;&`
   unfoldable pub FallAt : Around → ℕ → After → p.Clauses → Type 0
-  FallAt x n q p.no_clauses = Leads d c q (after_command n)
-  FallAt x n q (p.more_clauses patterns body end rest) = (s : Seen) × (fallen : Seen) × Leads d c q (Both fallen) × ClausesAt x n s fallen (p.more_clauses patterns body end rest)
+  FallAt x n q p.no_clauses = Leads start c q (after_command n)
+  FallAt x n q (p.more_clauses patterns body end rest) = (s : Seen) × (fallen : Seen) × Leads start c q (Both fallen) × ClausesAt x n s fallen (p.more_clauses patterns body end rest)
 
   -- a function's body: it is entered where the function is, and returns where it returns
   pub record BodyOk (f : Text) (body : p.Command) : Type 0 where
     pub named : is_name f ≡ true
     pub listed : is_one_of defined f ≡ true
     pub entered : CommandAt (in_function f) (at (Entry f)) body
-    pub rules : BodyRules d c f body
+    pub rules : BodyRules start c f body
 
   -- each function that is defined is one of the script's
   abbrev pub Bodies : (Text → Option p.Command) → Type 0
@@ -182,21 +182,21 @@ module _ (d : Declared) (c : Certificate) (defined : List Text) where
   unfoldable pub KindAt : Around → ℕ → p.Kind → Seen → (After → Type 0) → Type 0
   KindAt x n (p.Simple es) s K = ⊥
   KindAt x n (p.Group list) s K = ItemsAt x (Both s) list × K (items_after (Both s) list)
-  KindAt x n (p.Subshell list) s K = ItemsAt alone (Both (without_job (at (Before n)))) list × Leaves d c n (Both (at (Before n)))
+  KindAt x n (p.Subshell list) s K = ItemsAt alone (Both (without_job (at (Before n)))) list × Leaves start c n (Both (at (Before n)))
   KindAt x n (p.Conditional branches otherwise) s K = BranchesAt x n s branches otherwise
-  KindAt x n (p.Loop kind condition body) s K = Entails d c s (at (Head n)) × LoopAt x n kind condition body
-  KindAt x n (p.For name ws body) s K = ForWordsAt s ws × Entails d c (behind_list ws s) (at (Head n)) × ForAt x n name body
+  KindAt x n (p.Loop kind condition body) s K = Entails start c s (at (Head n)) × LoopAt x n kind condition body
+  KindAt x n (p.For name ws body) s K = ForWordsAt s ws × Entails start c (behind_list ws s) (at (Head n)) × ForAt x n name body
   KindAt x n (p.Case w cs) s K =
-      WordAt s w × ClausesAt x n (gaining (word_gains w) s) [] cs × (matches_always cs ≡ false → Covers d c (AfterZero n) (gaining (word_gains w) s))
-  KindAt x n (p.Define name body) s K = Covers d c (AfterZero n) (stepped (Define name) (at (Before n))) × BodyOk name body
+      WordAt s w × ClausesAt x n (gaining (word_gains w) s) [] cs × (matches_always cs ≡ false → Covers start c (AfterZero n) (gaining (word_gains w) s))
+  KindAt x n (p.Define name body) s K = Covers start c (AfterZero n) (stepped (Define name) (at (Before n))) × BodyOk name body
 
   -- redirections that are left, and the command behind them
   pub record CompoundAt (x : Around) (n : ℕ) (rs : p.Redirects) (kind : p.Kind) (s : Seen) (K : After → Type 0) : Type 0 where
     pub redirects : RedirectsAt s rs
-    pub failed : Entails d c s (at (AfterNonzero n)) ⊎ (rs ≡ p.no_redirects)
-    pub first : Entails d c s (at (Before n))
+    pub failed : Entails start c s (at (AfterNonzero n)) ⊎ (rs ≡ p.no_redirects)
+    pub first : Entails start c s (at (Before n))
     pub behind : Seen
-    pub through : Entails d c (gaining (redirects_gains rs) s) behind
+    pub through : Entails start c (gaining (redirects_gains rs) s) behind
     pub needs : KindAt x n kind behind K
 
   -- Calls
@@ -205,10 +205,10 @@ module _ (d : Declared) (c : Certificate) (defined : List Text) where
   -- function returns, what is claimed behind the call is true, whichever of the prefix assignments stay.
   pub record ReturnAt (x : Around) (n : ℕ) (f : Text) (saved : Saved) (kept : Facts) : Type 0 where
     pub comes : (restores : ℕ → Bool) (status : ℕ) (e : Environment) (inner outer : Frame)
-        → AfterHolds d c status (after_function f) e inner → Holds kept e outer → AfterHolds d c status (after_command n) (restored restores 0 e saved) outer
+        → AfterHolds start c status (after_function f) e inner → Holds kept e outer → AfterHolds start c status (after_command n) (restored restores 0 e saved) outer
     pub apart : Apart kept (c.drops f)
-    pub dropped : MayDrop d c x (c.drops f)
-    pub unset : MayDrop d c x (record { vars = unset_before saved; functions = [] })
+    pub dropped : MayDrop start c x (c.drops f)
+    pub unset : MayDrop start c x (record { vars = unset_before saved; functions = [] })
 
   -- The simple command that is done, and what it needs (`Doing` says so of each of its four stages).
   module _ (SimpleAt : Around → Work → Seen → Type 0) where
@@ -216,7 +216,7 @@ module _ (d : Declared) (c : Certificate) (defined : List Text) where
     -- words of a simple command are expanded it stands behind no other work.
     unfoldable pub FrontGood : Around → Work → (After → Type 0) → After → Type 0
     FrontGood x (Items is) K q = ItemsAt x q is × K (items_after q is)
-    FrontGood x (Links ls) K q = Each (Stands d c defined) (links_entered x q ls) × K (links_after q ls)
+    FrontGood x (Links ls) K q = Each (Stands start c defined) (links_entered x q ls) × K (links_after q ls)
     FrontGood x (Pipeline pipe) K q = PipelineAt x (in_any_case q) pipe × K (pipeline_after (in_any_case q) pipe)
     FrontGood x Negation K q = K (swapped true q)
     FrontGood x (Command k) K q = CommandAt x (in_any_case q) k × K (after_command (number_of k))
@@ -229,22 +229,22 @@ module _ (d : Declared) (c : Certificate) (defined : List Text) where
     FrontGood x (Compound n rs kind) K q = CompoundAt x n rs kind (in_any_case q) K × K (after_command n)
     FrontGood x (If n branches otherwise) K q = BranchesAt x n (in_any_case q) branches otherwise × K (after_command n)
     FrontGood x (Then n body branches otherwise) K q =
-        ItemsAt x (Both (if_zero q)) body × Leaves d c n (items_after (Both (if_zero q)) body) × BranchesAt x n (if_nonzero q) branches otherwise × K (after_command n)
+        ItemsAt x (Both (if_zero q)) body × Leaves start c n (items_after (Both (if_zero q)) body) × BranchesAt x n (if_nonzero q) branches otherwise × K (after_command n)
     FrontGood x (Test n kind condition body last) K q =
-        Leads d c q (items_after (Both (at (Head n))) condition) × LoopAt x n kind condition body × K (after_command n)
-    FrontGood x (Again n kind condition body) K q = Leads d c q (Both (at (Head n))) × LoopAt x n kind condition body × K (after_command n)
+        Leads start c q (items_after (Both (at (Head n))) condition) × LoopAt x n kind condition body × K (after_command n)
+    FrontGood x (Again n kind condition body) K q = Leads start c q (Both (at (Head n))) × LoopAt x n kind condition body × K (after_command n)
     FrontGood x (ForWords n name left fields body) K q =
-        WordsAt (in_any_case q) left × Entails d c (gaining (words_gains left) (in_any_case q)) (at (Head n)) × ForAt x n name body × K (after_command n)
-    FrontGood x (ForFields n name fields body) K q = Leads d c q (Both (at (Head n))) × ForAt x n name body × K (after_command n)
+        WordsAt (in_any_case q) left × Entails start c (gaining (words_gains left) (in_any_case q)) (at (Head n)) × ForAt x n name body × K (after_command n)
+    FrontGood x (ForFields n name fields body) K q = Leads start c q (Both (at (Head n))) × ForAt x n name body × K (after_command n)
     FrontGood x (Clauses n cs) K q =
-        ((fallen : Seen) × ClausesAt x n (in_any_case q) fallen cs) × (matches_always cs ≡ false → Covers d c (AfterZero n) (in_any_case q)) × K (after_command n)
+        ((fallen : Seen) × ClausesAt x n (in_any_case q) fallen cs) × (matches_always cs ≡ false → Covers start c (AfterZero n) (in_any_case q)) × K (after_command n)
     FrontGood x (Patterns n left body end rest) K q = ((fallen : Seen) × ClauseAt x n (in_any_case q) fallen left body end rest) × K (after_command n)
     FrontGood x (Fall n cs) K q = FallAt x n q cs × K (after_command n)
 
     -- less may be claimed than is known
     pub record Weaker (K : After → Type 0) (o : After) : Type 0 where
       pub after : After
-      pub leads : Leads d c o after
+      pub leads : Leads start c o after
       pub goes : K after
 
     -- The work meets the rules where o is known; each caller that waits for a return keeps the facts of its place in the list, the
@@ -252,7 +252,7 @@ module _ (d : Declared) (c : Certificate) (defined : List Text) where
     unfoldable pub Good : Around → List Facts → List Work → After → Type 0
     Good base callers [] o = Began base callers
     Good base callers (Return n f saved ∷ ws) o =
-        OfFirst callers (λ kept others. Leads d c o (after_function f) × ReturnAt (around base ws) n f saved kept × Good base others ws (after_command n))
+        OfFirst callers (λ kept others. Leads start c o (after_function f) × ReturnAt (around base ws) n f saved kept × Good base others ws (after_command n))
     Good base callers (w ∷ ws) o = Weaker (λ q. FrontGood (around base ws) w (λ r. Good base callers ws r) q) o
 
     -- The work of a process in this frame: where the words of a simple command are expanded, the fields so far are those of this frame.
@@ -274,7 +274,7 @@ module _ (d : Declared) (c : Certificate) (defined : List Text) where
       pub known : After
       pub callers : List Facts
       pub good : GoodIn (front fs) base callers ws known
-      pub holds : AfterHolds d c status known e (front fs)
+      pub holds : AfterHolds start c status known e (front fs)
       pub stays : Stays callers e fs
       pub bodies : Bodies e.functions
 

@@ -7,7 +7,7 @@ use Rattle.sh_table.specs.standard.runs.Environment.{Environment, Frame, is_one_
 use Rattle.sh_table.specs.standard.runs.States.{State, Copy}
 use Rattle.sh_domain.specs.declared.rule.FlowRule.{FlowRule}
 use Rattle.sh_domain.specs.Entries.{Entered, alone, items_entered}
-use Rattle.sh_domain.specs.Facts.{Facts, NotReached, Known, Declared}
+use Rattle.sh_domain.specs.Facts.{Facts, NotReached, Known}
 use Rattle.sh_domain.specs.Gains.{Gains, job}
 use Rattle.sh_domain.specs.Rules.{defined_by}
 use Rattle.sh_domain.specs.Views.{Certificate, Seen, After, Both, if_zero, if_nonzero, view_facts}
@@ -36,11 +36,11 @@ pub record Grows (e e' : Environment) : Type 0 where
   pub functions : (t : Text) → is_name t ≡ true → is_some (e.functions t) ≡ true → is_some (e'.functions t) ≡ true
   pub job : e.job ≡ true → e'.job ≡ true
 
-module _ (d : Declared) (c : Certificate) where
+module _ (start : Facts) (c : Certificate) where
   -- a run comes to a place by one of the ways that are seen there
   unfoldable pub OneHolds : Seen → Environment → Frame → Type 0
   OneHolds [] e f = ⊥
-  OneHolds (v ∷ vs) e f = Holds (view_facts d c v) e f ⊎ OneHolds vs e f
+  OneHolds (v ∷ vs) e f = Holds (view_facts start c v) e f ⊎ OneHolds vs e f
 
   -- what is known by the last status
   abbrev pub AfterHolds : ℕ → After → Environment → Frame → Type 0
@@ -54,21 +54,21 @@ module _ (d : Declared) (c : Certificate) where
   Leads o o' = (status : ℕ) (e : Environment) (f : Frame) → AfterHolds status o e f → AfterHolds status o' e f
 
 -- What every command of the script has: its rules and demands hold, the function that it defines is one of the script's, and these have names.
-pub record Stands (d : Declared) (c : Certificate) (defined : List Text) (x : Entered) : Type 0 where
-  pub rules : EnteredRules d c defined x
+pub record Stands (start : Facts) (c : Certificate) (defined : List Text) (x : Entered) : Type 0 where
+  pub rules : EnteredRules start c defined x
   pub listed : (f : Text) → defined_by x.command ≡ Some f → is_one_of defined f ≡ true
   pub named : (f : Text) → is_one_of defined f ≡ true → is_name f ≡ true
 
 -- Words
 
-module _ (d : Declared) (c : Certificate) (defined : List Text) (f : Frame) where
+module _ (start : Facts) (c : Certificate) (defined : List Text) (f : Frame) where
   -- the process of a substitution: it has these functions, and its list is entered where it has rules
   pub record CopyWell (bodies : Text → Option Command) (x : Copy) : Type 0 where
     pub functions : x.environment.functions ≡ bodies
     pub seen : Seen
-    pub holds : OneHolds d c seen x.environment f
+    pub holds : OneHolds start c seen x.environment f
     pub rule : FlowRule
-    pub rules : Each (Stands d c defined) (items_entered rule alone (Both seen) x.list)
+    pub rules : Each (Stands start c defined) (items_entered rule alone (Both seen) x.list)
 
   -- What an expansion does with this frame: it meets no parameter that is not set, unsets nothing, and defines nothing; each process that it
   -- starts is entered where it has rules; and unless it ends the process these are gained.

@@ -11,7 +11,7 @@ use Rattle.sh_table.specs.Admitted.{is_admitted}
 use Rattle.sh_table.specs.standard.runs.Environment.{Environment, Frame}
 use Rattle.sh_table.specs.standard.runs.Worlds.{World, Move, step, run, has_unset_event, has_split_event, start_world, IsStart}
 use Rattle.sh_domain.specs.Demands.{demands}
-use Rattle.sh_domain.specs.Facts.{Declared}
+use Rattle.sh_domain.specs.Facts.{Declared, start_facts}
 use Rattle.sh_domain.specs.Faults.{faults}
 use Rattle.sh_domain.specs.Inclusions.{is_formed}
 use Rattle.sh_domain.specs.Views.{Certificate}
@@ -27,7 +27,7 @@ splits (m ∷ ms) w = has_split_event w m || unwrap_or (option_map (splits ms) (
 abbrev pub RulesSuffice : Type 0
 RulesSuffice =
     (d : Declared) (c : Certificate) (t : Items) → list_all is_name d.names ≡ true → is_admitted t ≡ true → is_formed t ≡ true
-    → faults d c t ≡ [] → demands d c t ≡ []
+    → faults (start_facts d) c t ≡ [] → demands (start_facts d) c t ≡ []
     → (e : Environment) (f : Frame) → IsStart d.names d.args e f
     → (moves : List Move) (w : World) → run moves (start_world e f t) ≡ Some w → splits moves (start_world e f t) ≡ false
     → (m : Move) → has_unset_event w m ≡ false
@@ -37,7 +37,7 @@ RulesSuffice =
 abbrev pub HaveNoEvents : Type 0
 HaveNoEvents =
     (d : Declared) (c : Certificate) (t : Items) → list_all is_name d.names ≡ true → is_admitted t ≡ true → is_formed t ≡ true
-    → faults d c t ≡ [] → demands d c t ≡ [] → unquoted t ≡ []
+    → faults (start_facts d) c t ≡ [] → demands (start_facts d) c t ≡ [] → unquoted t ≡ []
     → (e : Environment) (f : Frame) → IsStart d.names d.args e f
     → (moves : List Move) (w : World) → run moves (start_world e f t) ≡ Some w
     → (m : Move) → (has_unset_event w m ≡ false) × (has_split_event w m ≡ false)
@@ -47,7 +47,7 @@ HaveNoEvents =
 abbrev pub ScriptsExpandNothingUnset : Type 0
 ScriptsExpandNothingUnset =
     (d : Declared) (c : Certificate) (b : List ℕ) (t : Script) → list_all is_name d.names ≡ true → Reads b t → is_admitted (script_of b t) ≡ true
-    → faults d c (script_of b t) ≡ [] → demands d c (script_of b t) ≡ []
+    → faults (start_facts d) c (script_of b t) ≡ [] → demands (start_facts d) c (script_of b t) ≡ []
     → (e : Environment) (f : Frame) → IsStart d.names d.args e f
     → (moves : List Move) (w : World) → run moves (start_world e f (script_of b t)) ≡ Some w → splits moves (start_world e f (script_of b t)) ≡ false
     → (m : Move) → has_unset_event w m ≡ false
@@ -55,7 +55,7 @@ ScriptsExpandNothingUnset =
 abbrev pub ScriptsHaveNoEvents : Type 0
 ScriptsHaveNoEvents =
     (d : Declared) (c : Certificate) (b : List ℕ) (t : Script) → list_all is_name d.names ≡ true → Reads b t → is_admitted (script_of b t) ≡ true
-    → faults d c (script_of b t) ≡ [] → demands d c (script_of b t) ≡ [] → unquoted (script_of b t) ≡ []
+    → faults (start_facts d) c (script_of b t) ≡ [] → demands (start_facts d) c (script_of b t) ≡ [] → unquoted (script_of b t) ≡ []
     → (e : Environment) (f : Frame) → IsStart d.names d.args e f
     → (moves : List Move) (w : World) → run moves (start_world e f (script_of b t)) ≡ Some w
     → (m : Move) → (has_unset_event w m ≡ false) × (has_split_event w m ≡ false)

@@ -8,7 +8,7 @@ use Rattle.sh_tree.specs.examples.Program.{only, plain}
 use Rattle.sh_tree.specs.standard.program.Syntax.{Text, Parameter, Variable, Part, Double, Expansion, Value, Items, Command, command, Kind, no_redirects, Elements, operand}
 use Rattle.sh_domain.specs.declared.rule.FlowRule.{FlowRule}
 use Rattle.sh_domain.specs.Demands.{demands}
-use Rattle.sh_domain.specs.Facts.{Claim, Unreached, Claimed, Declared}
+use Rattle.sh_domain.specs.Facts.{Claim, Unreached, Claimed, Declared, start_facts}
 use Rattle.sh_domain.specs.Faults.{Fault, faults, least}
 use Rattle.sh_domain.specs.Operands.{Names, no_names}
 use Rattle.sh_domain.specs.Views.{Slot, Before, AfterZero, AfterNonzero, Head, Entry, ReturnsZero, ReturnsNonzero, Certificate}
@@ -132,7 +132,7 @@ told_of (Some f) places = Breaks f.number f.rule
 
 -- what a check of the certificate tells
 unfoldable pub answer : Declared → Items → Certificate → Answer
-answer d t c = told_of (least (faults d c t)) (demands d c t)
+answer d t c = told_of (least (faults (start_facts d) c t)) (demands (start_facts d) c t)
 
 -- of a certificate, and of it with each change by itself
 unfoldable pub answers : Declared → Items → Sheet → List Change → List Answer

@@ -5,6 +5,7 @@ use Rattle.sh_tree.specs.declared.place.Code.TheVariants.{U1}
 use Rattle.sh_tree.specs.examples.Program.{only, simple, lone}
 use Rattle.sh_tree.specs.standard.program.Syntax.{Items, Variable, Expansion, Value, more_parts, no_elements, operand}
 use Rattle.sh_domain.specs.Demands.{demands}
+use Rattle.sh_domain.specs.Facts.{start_facts}
 use Rattle.sh_domain.specs.examples.Programs.{text, certificate, declared, place}
 use Rattle.sh_domain.specs.examples.LongerScripts.{script_44_program, script_49_program}
 use Rattle.sh_domain.specs.examples.ShortScripts.{script_4_sheet}
@@ -28,4 +29,4 @@ pub record SpotsAsExpected : Type 0 where
       ≡ OfCommand 0 ∷ OfCommand 4 ∷ OfCommand 6 ∷ OfWord 20 ∷ OfWord 16 ∷ OfCommand 27 ∷ OfCommand 31 ∷ OfCommand 33 ∷ OfCommand 48 ∷ OfWord 54 ∷ OfWord 67
       ∷ OfCommand 83 ∷ OfCommand 91 ∷ OfWord 97 ∷ []
   -- where a spot stands twice, a place may be told twice
-  pub twice : demands (declared [] 0) (certificate script_4_sheet) doubled ≡ place 5 U1 (codes "x") ∷ place 5 U1 (codes "x") ∷ []
+  pub twice : demands (start_facts (declared [] 0)) (certificate script_4_sheet) doubled ≡ place 5 U1 (codes "x") ∷ place 5 U1 (codes "x") ∷ []

@@ -3,6 +3,7 @@ use Rattle.sh_domain.specs.Knowledge.{assured_facts}
 use Rattle.sh_find.proofs.BeforeLemmas.{named_at, within_place}
 use Rattle.sh_find.proofs.SweepLemmas.{names_numbered}
 use Rattle.sh_find.proofs.before.lower_assured.Goals as goal
+use Rattle.sh_find.specs.Starts.{start_of}
 
 pub sight_of-sight-requires : goal.sight_of-sight-requires
 sight_of-sight-requires c = names_numbered c.args.subject.now _ _ c.requires.ready
@@ -10,7 +11,7 @@ sight_of-sight-requires c = names_numbered c.args.subject.now _ _ c.requires.rea
 pub lower_at-requires-clause-named : goal.lower_at-requires-clause-named
 lower_at-requires-clause-named c =
     let s = c.args.subject.now in
-    named_at s.policy.now s.names.now (assured_facts s.names.now c.args.assured.now) _ c.sight_of-sight.ensures
+    named_at (start_of s) s.names.now (assured_facts s.names.now c.args.assured.now) _ c.sight_of-sight.ensures
 
 pub lower_at-requires-clause-stands : goal.lower_at-requires-clause-stands
 lower_at-requires-clause-stands c = λ other keeps.

@@ -2,6 +2,7 @@ use Rattle.sh_tree.specs.standard.program.Trees.{script_of}
 use Rattle.sh_domain.specs.Rules.{script_bounds}
 use Rattle.sh_domain.specs.Admitted.{functions_in}
 use Rattle.sh_find.specs.Turns.{gathered_of}
+use Rattle.sh_find.specs.Starts.{start_of}
 use Rattle.sh_find.proofs.GreatestLemmas.{numbered}
 use Rattle.sh_find.proofs.TurnLemmas.{sunk_turn}
 use Rattle.sh_find.proofs.turn.lower_next.Goals as goal
@@ -13,6 +14,6 @@ pub returns-clause-turn : goal.returns-clause-turn
 returns-clause-turn c = λ loops m working.
     let s = c.args.subject.now in
     let q = c.requires in
-    sunk_turn s.names.now loops m s.policy.now (functions_in s.script.now s.tree.now) (script_bounds (script_of s.script.now s.tree.now)) (numbered s.script.now s.policy.now s.tree.now s.names.now q.admitted)
+    sunk_turn s.names.now loops m (start_of s) (functions_in s.script.now s.tree.now) (script_bounds (script_of s.script.now s.tree.now)) (numbered s.script.now s.policy.now s.tree.now s.names.now q.admitted)
     c.args.certificate.now c.lower_gathered.new.certificate (gathered_of c.asked-gather.result) c.asked-gather.ensures.stands _ (λ e. c.asked-gather.ensures.idle q.variables q.working (c.in_ok-lower_gathered.ensures.idle e) q.breaks)
     (c.in_ok-lower_gathered.ensures.sunk loops m working)
