@@ -1,8 +1,9 @@
 -- What the compact certificate of a certificate states, by its turns.
-use Rattle.std.proofs.Common.{◌≡◌, ℕ, zero, suc, ◌+◌, ◌-◌, ◌<◌, ◌≤◌, nat_eq, nat_lt, Bool, true, false, ◌&&◌, ◌||◌, cond, is_some, Option, Some, None, List, [], ◌∷◌, length, map, refl, sym, ◌∙◌, ap, ap₂, arith, slice_get}
+use Rattle.std.proofs.Common.{◌≡◌, ℕ, zero, suc, ◌+◌, ◌-◌, ◌<◌, ◌≤◌, nat_eq, nat_le, nat_lt, Bool, true, false, ◌&&◌, ◌||◌, cond, is_some, Option, Some, None, List, [], ◌∷◌, length, map, refl, sym, ◌∙◌, ap, ap₂, arith, slice_get}
 use Rattle.std.specs.Prelude.{option_map, unwrap_or}
-use Rattle.std.specs.List.{AllByRecursion, filter}
+use Rattle.std.specs.List.{AllByRecursion, filter, list_all}
 use Rattle.std.specs.Map.{lookup}
+use Rattle.std.proofs.lemmas.Bool.{and_parts}
 use Rattle.std.proofs.lemmas.Bool.Decides.{nat_tests}
 use Rattle.indexmap.specs.IndexMap.{get}
 use Rattle.sh_tree.specs.standard.program.Syntax.{Text}
@@ -20,13 +21,17 @@ use Rattle.sh_domain.specs.CompactStates.{CompactsState, unreached_entry}
 use Rattle.sh_domain.specs.Facts.{Claim, Unreached, Declared, Facts, NotReached, Known, facts, start_facts}
 use Rattle.sh_domain.specs.Knowledge.{AreNumbered, among, at_number, knowledge_facts}
 use Rattle.sh_domain.specs.KeptRows.{KeptRows}
-use Rattle.sh_domain.specs.Names.{number_of}
+use Rattle.sh_domain.specs.Forms.{is_rising, is_variable}
+use Rattle.sh_domain.specs.Names.{are_distinct, number_of}
 use Rattle.sh_domain.specs.NumberSets.{numbers_of}
 use Rattle.sh_domain.specs.Sheets.{Sheet, CommandClaims, FunctionClaims, certificate_of, claim_at, nowhere}
+use Rattle.sh_domain.specs.Spelling.{is_writable}
 use Rattle.sh_domain.specs.Views.{Head}
 use Rattle.sh_domain.proofs.KnowledgeLemmas.{has_number, row_names}
+use Rattle.sh_domain.proofs.SpellingLemmas.{none_some}
 use Rattle.sh_domain.proofs.MeetLemmas.{known_same}
-use Rattle.sh_domain.proofs.RowReadLemmas.{IsAt, order_at}
+use Rattle.sh_domain.proofs.RoundTripLemmas.{filtered_rises, passing}
+use Rattle.sh_domain.proofs.RowReadLemmas.{IsAt, names_of, order_at, order_rises, rises_rising}
 
 -- Turns by their numbers
 
@@ -151,6 +156,20 @@ known_start names (knowledge.Known s) d h e =
     args_of NotReached = 0
     args_of (Known v f n) = n
 
+all_at : (q : Text → Bool) (ts : List Text) (k : ℕ) (t : Text) → list_all q ts ≡ true → slice_get ts k ≡ Some t → q t ≡ true
+all_at q [] k t h e = absurd (none_some e)
+all_at q (u ∷ ts) zero t h e = let same : u ≡ t = cc in ap q (sym same) ∙ (and_parts (q u) (list_all q ts) h).0
+all_at q (u ∷ ts) (suc k) t h e = all_at q ts k t (and_parts (q u) (list_all q ts) h).1 e
+
+start_written : (names : List Text) (d : Declared) → are_distinct names ≡ true → list_all is_variable names ≡ true → d.args ≤ 65535 → is_writable (start_claim names d) ≡ true
+unfolding is_writable is_rising
+start_written names d distinct named few =
+    let held : ℕ × Text → Bool = λ x. is_one_of start_names x.1 || is_one_of d.names x.1 in
+    let all : list_all is_variable (names_of (filter held (in_byte_order names))) ≡ true = passing is_variable held names (in_byte_order names) (λ x a e. all_at is_variable names x.0 x.1 named a) (order_at names) in
+    let rising : is_rising (names_of (filter held (in_byte_order names))) ≡ true = rises_rising (names_of (filter held (in_byte_order names))) (filtered_rises held (in_byte_order names) (order_rises names distinct)) in
+    let small : nat_le d.args 65535 ≡ true = grind (arith, nat_tests) in
+    rw (all, rising) small
+
 -- What a kept one states
 
 kept_turn : (order : List (ℕ × Text)) (rows : KeptRows) (n : ℕ) (hs : List (ℕ × value.Facts)) → lookup (nat_eq n) (turns_of order rows hs) ≡ option_map (claim_of order rows) (lookup (nat_eq n) hs)
@@ -190,5 +209,6 @@ compacts_state = record {
   drops = λ functions start s f. refl;
   start = known_facts;
   started = known_start;
+  written = start_written;
   kept = kept_sheet;
 }

@@ -47,7 +47,7 @@ filtered_all q f (x ∷ xs) h = let p = and_parts (q x.1) (list_all q (names_of 
     go true e r = rw e r
     go false e r = r
 
-filtered_rises : (f : ℕ × Text → Bool) (xs : List (ℕ × Text)) → rises (names_of xs) ≡ true → rises (names_of (filter f xs)) ≡ true
+pub filtered_rises : (f : ℕ × Text → Bool) (xs : List (ℕ × Text)) → rises (names_of xs) ≡ true → rises (names_of (filter f xs)) ≡ true
 unfolding rises
 filtered_rises f [] h = refl
 filtered_rises f (x ∷ xs) h =
@@ -58,7 +58,7 @@ filtered_rises f (x ∷ xs) h =
     go true e r = rw e r
     go false e r = r
 
-passing : (q : Text → Bool) (f : ℕ × Text → Bool) (names : List Text) (xs : List (ℕ × Text)) → ((x : ℕ × Text) → IsAt names x → f x ≡ true → q x.1 ≡ true) → AllByRecursion (IsAt names) xs
+pub passing : (q : Text → Bool) (f : ℕ × Text → Bool) (names : List Text) (xs : List (ℕ × Text)) → ((x : ℕ × Text) → IsAt names x → f x ≡ true → q x.1 ≡ true) → AllByRecursion (IsAt names) xs
     → list_all q (names_of (filter f xs)) ≡ true
 passing q f names [] h a = refl
 passing q f names (x ∷ xs) h a = go (f x) refl (passing q f names xs h a.1)
