@@ -23,6 +23,10 @@ pub mod SlotLemmas
 pub mod SpotExampleLemmas
 pub mod SpotLemmas
 pub mod TextLemmas
+pub mod CompactTextLemmas
+pub mod CompactSpellingLemmas
+pub mod CompactRoundTripLemmas
+pub mod CompactLemmas
 pub mod SpellingLemmas
 pub mod ReadBackLemmas
 pub mod WritingLemmas

@@ -60,14 +60,14 @@ piece_front c (d ∷ t) u h =
     let other : (d == c) ≡ false = not_true (d == c) p.0 in
     rw (other, piece_front c t u p.1) refl
 
-pieces_joined : (c : ℕ) (t : Text) (ts : List Text) → list_all (lacks c) (t ∷ ts) ≡ true → pieces c (joined c (t ∷ ts)) ≡ t ∷ ts
+pub pieces_joined : (c : ℕ) (t : Text) (ts : List Text) → list_all (lacks c) (t ∷ ts) ≡ true → pieces c (joined c (t ∷ ts)) ≡ t ∷ ts
 unfolding joined
 pieces_joined c t [] h = piece_last c t (and_parts (lacks c t) true h).0
 pieces_joined c t (u ∷ ts) h =
     let p = and_parts (lacks c t) (list_all (lacks c) (u ∷ ts)) h in
     piece_front c t (joined c (u ∷ ts)) p.0 ∙ ap (λ us. t ∷ us) (pieces_joined c u ts p.1)
 
-lacks_joined : (c d : ℕ) (ts : List Text) → (d == c) ≡ false → list_all (lacks c) ts ≡ true → lacks c (joined d ts) ≡ true
+pub lacks_joined : (c d : ℕ) (ts : List Text) → (d == c) ≡ false → list_all (lacks c) ts ≡ true → lacks c (joined d ts) ≡ true
 unfolding joined
 lacks_joined c d [] o h = refl
 lacks_joined c d (t ∷ []) o h = (and_parts (lacks c t) true h).0
@@ -136,7 +136,7 @@ colon = record { no_name = refl; no_job = refl; no_dash = refl }
 pub blank : Apart 32
 blank = record { no_name = refl; no_job = refl; no_dash = refl }
 
-newline : Apart 10
+pub newline : Apart 10
 newline = record { no_name = refl; no_job = refl; no_dash = refl }
 
 -- Numbers
@@ -226,7 +226,7 @@ claim_lacks c a o p (Claimed v f n) h =
     let small : n ≤ 65535 = grind (arith, nat_tests) in
     lacks_joined c 58 (decimal n ∷ names_text v ∷ names_text f ∷ []) p (rw (decimal_lacks c a n small) (sets_lack c a o (record { vars = v; functions = f }) q.0))
 
-claim_read : (x : Claim) → is_writable x ≡ true → claim_in (claim_text x) ≡ Some x
+pub claim_read : (x : Claim) → is_writable x ≡ true → claim_in (claim_text x) ≡ Some x
 unfolding claim_text is_writable claim_in known_of both joined
 claim_read Unreached h = refl
 claim_read (Claimed v f n) h =
@@ -278,7 +278,7 @@ function_parts f h =
     let r = and_parts (is_writable f.before) (are_writable f.drops) q.0 in
     record { before = r.0; drops = r.1; zero_status = q.1; nonzero = p.1 }
 
-letter_lacks : (c d : ℕ) → (d == c) ≡ false → lacks c (d ∷ []) ≡ true
+pub letter_lacks : (c d : ℕ) → (d == c) ≡ false → lacks c (d ∷ []) ≡ true
 letter_lacks c d o = rw o refl
 
 command_lacks : (c k : ℕ) → Apart c → (44 == c) ≡ false → (58 == c) ≡ false → (99 == c) ≡ false → (x : CommandClaims) → k ≤ 65535 → is_command x ≡ true → list_all (lacks c) (command_fields k x) ≡ true
@@ -324,11 +324,11 @@ cut_read (c ∷ l) r h =
     let other : (c == 10) ≡ false = not_true (c == 10) p.0 in
     rw (other, cut_read l r p.1) refl
 
-line_read : {A : Type 0} (f : Text → Option A) (k : ℕ) (l r : Text) (x : A) → lacks 10 l ≡ true → f l ≡ Some x → read_line f k (l ++ 10 ∷ r) ≡ Ok (x, r)
+pub line_read : {A : Type 0} (f : Text → Option A) (k : ℕ) (l r : Text) (x : A) → lacks 10 l ≡ true → f l ≡ Some x → read_line f k (l ++ 10 ∷ r) ≡ Ok (x, r)
 unfolding whole_line formed
 line_read f k l r x h e = ap (whole_line f k) (cut_read l r h) ∙ ap (formed k r) e
 
-lines_read : {A : Type 0} (f : ℕ → Text → Option A) (fields : ℕ → A → List Text) (good : A → Bool)
+pub lines_read : {A : Type 0} (f : ℕ → Text → Option A) (fields : ℕ → A → List Text) (good : A → Bool)
     → ((i : ℕ) (x : A) → i ≤ 65535 → good x ≡ true → (f i (joined 32 (fields i x)) ≡ Some x) × (lacks 10 (joined 32 (fields i x)) ≡ true))
     → (k i : ℕ) (xs : List A) (rest : Text) → list_all good xs ≡ true → i + length xs ≤ 65536 → read_lines f k i (length xs) (numbered_lines fields i xs ++ rest) ≡ Ok (xs, rest)
 unfolding read_lines numbered_lines behind
@@ -343,7 +343,7 @@ lines_read f fields good each k i (x ∷ xs) rest h l =
 commands_read : (i : ℕ) (x : CommandClaims) → i ≤ 65535 → is_command x ≡ true → (command_in i (joined 32 (command_fields i x)) ≡ Some x) × (lacks 10 (joined 32 (command_fields i x)) ≡ true)
 commands_read i x l h = (command_read i x l h, lacks_joined 10 32 (command_fields i x) refl (command_lacks 10 i newline refl refl refl x l h))
 
-functions_read : (i : ℕ) (x : FunctionClaims) → i ≤ 65535 → is_function x ≡ true → (function_in i (joined 32 (function_fields i x)) ≡ Some x) × (lacks 10 (joined 32 (function_fields i x)) ≡ true)
+pub functions_read : (i : ℕ) (x : FunctionClaims) → i ≤ 65535 → is_function x ≡ true → (function_in i (joined 32 (function_fields i x)) ≡ Some x) × (lacks 10 (joined 32 (function_fields i x)) ≡ true)
 functions_read i x l h = (function_read i x l h, lacks_joined 10 32 (function_fields i x) refl (function_lacks 10 i newline refl refl refl x l h))
 
 pub read_back : (s : Sheet) → IsSheet s → read_sheet (certificate_text s) ≡ Ok s

@@ -34,7 +34,7 @@ use Rattle.sh_domain.proofs.SpellingLemmas.{none_some, if_some, both_some, behin
 use Rattle.sh_domain.proofs.WritableLemmas.{short, within, ok_same, ok_err}
 use Rattle.sh_domain.proofs.WritingLemmas.{length_commands}
 
-true_false : true ≡ false → ⊥
+pub true_false : true ≡ false → ⊥
 true_false e = cc
 
 -- The names of a row
@@ -47,7 +47,7 @@ filtered_all q f (x ∷ xs) h = let p = and_parts (q x.1) (list_all q (names_of 
     go true e r = rw e r
     go false e r = r
 
-filtered_rises : (f : ℕ × Text → Bool) (xs : List (ℕ × Text)) → rises (names_of xs) ≡ true → rises (names_of (filter f xs)) ≡ true
+pub filtered_rises : (f : ℕ × Text → Bool) (xs : List (ℕ × Text)) → rises (names_of xs) ≡ true → rises (names_of (filter f xs)) ≡ true
 unfolding rises
 filtered_rises f [] h = refl
 filtered_rises f (x ∷ xs) h =
@@ -58,7 +58,7 @@ filtered_rises f (x ∷ xs) h =
     go true e r = rw e r
     go false e r = r
 
-passing : (q : Text → Bool) (f : ℕ × Text → Bool) (names : List Text) (xs : List (ℕ × Text)) → ((x : ℕ × Text) → IsAt names x → f x ≡ true → q x.1 ≡ true) → AllByRecursion (IsAt names) xs
+pub passing : (q : Text → Bool) (f : ℕ × Text → Bool) (names : List Text) (xs : List (ℕ × Text)) → ((x : ℕ × Text) → IsAt names x → f x ≡ true → q x.1 ≡ true) → AllByRecursion (IsAt names) xs
     → list_all q (names_of (filter f xs)) ≡ true
 passing q f names [] h a = refl
 passing q f names (x ∷ xs) h a = go (f x) refl (passing q f names xs h a.1)
@@ -81,7 +81,7 @@ module _ (names : List Text) (rows : KeptRows) (distinct : are_distinct names �
   sets_rise : (d : Drops) → SetsPass names rows d.vars d.functions → are_writable (drops_of (in_byte_order names) rows d) ≡ true
   sets_rise d h = rw (row_rises is_variable d.vars h.vars) (row_rises is_name d.functions h.functions)
 
-  fact_rises : (f : value.Facts) → FactsPass names rows f → is_writable (claim_of (in_byte_order names) rows f) ≡ true
+  pub fact_rises : (f : value.Facts) → FactsPass names rows f → is_writable (claim_of (in_byte_order names) rows f) ≡ true
   unfolding FactsPass is_writable claim_of
   fact_rises value_kind.NotReached h = refl
   fact_rises (value_kind.Known v f a) h =
@@ -101,7 +101,7 @@ module _ (names : List Text) (rows : KeptRows) (distinct : are_distinct names �
   function_rises : (e : FunctionEntry) → FunctionPasses names rows e → is_function (function_claims (in_byte_order names) rows e) ≡ true
   function_rises e h = rw (fact_rises e.before h.before, sets_rise e.drops h.drops, fact_rises e.zero h.zero) (fact_rises e.nonzero h.nonzero)
 
-  functions_rise : (es : List FunctionEntry) → AllByRecursion (FunctionPasses names rows) es → list_all is_function (map (function_claims (in_byte_order names) rows) es) ≡ true
+  pub functions_rise : (es : List FunctionEntry) → AllByRecursion (FunctionPasses names rows) es → list_all is_function (map (function_claims (in_byte_order names) rows) es) ≡ true
   functions_rise [] h = refl
   functions_rise (e ∷ es) h = rw (function_rises e h.0) (functions_rise es h.1)
 
@@ -110,7 +110,7 @@ unfolding commands_from
 commands_rise names c h k [] a = refl
 commands_rise names c h k (e ∷ es) a = rw (entry_rises names c.rows h.distinct e (get nat_eq c.heads k) a.0 (h.heads k)) (commands_rise names c h (k + 1) es a.1)
 
-few : (n m : ℕ) → n ≡ m → m ≤ 65535 → nat_le n 65535 ≡ true
+pub few : (n m : ℕ) → n ≡ m → m ≤ 65535 → nat_le n 65535 ≡ true
 few n m e l = grind (arith, nat_tests)
 
 pub written_rises : (names : List Text) (c : Certificate) → HasText names c → IsSheet (claimed names c)
@@ -149,7 +149,7 @@ written_reads_back = record {
 
 -- What is read is a sheet
 
-lines_good : {A : Type 0} (f : ℕ → Text → Option A) (good : A → Bool) → ((i : ℕ) (l : Text) (a : A) → f i l ≡ Some a → good a ≡ true) → (k i n : ℕ) (t : Text) (y : List A × Text)
+pub lines_good : {A : Type 0} (f : ℕ → Text → Option A) (good : A → Bool) → ((i : ℕ) (l : Text) (a : A) → f i l ≡ Some a → good a ≡ true) → (k i n : ℕ) (t : Text) (y : List A × Text)
     → read_lines f k i n t ≡ Ok y → list_all good y.0 ≡ true
 unfolding read_lines
 lines_good {A} f good s k i zero t y e = ap (λ (z : List A × Text). list_all good z.0) (sym (ok_same e))

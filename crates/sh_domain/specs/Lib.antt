@@ -17,6 +17,12 @@ pub mod Forms
 pub mod Spelling
 pub mod Reading
 pub mod Certificates
+pub mod Compacts
+pub mod CompactForms
+pub mod CompactReading
+pub mod CompactSpelling
+pub mod CompactRoundTrips
+pub mod CompactStates
 pub mod Numbered
 pub mod Slots
 pub mod Table

@@ -1,4 +1,5 @@
 pub mod Answers
+pub mod CompactTexts
 pub mod ForgedScripts
 pub mod Knowledge
 pub mod LongerScripts

@@ -13,6 +13,10 @@ ghost use Rattle.sh_domain.specs.Spelling.{HasOneText};
 ghost use Rattle.sh_domain.specs.Places.{PlacesStandOnce, ReadPlacesStandOnce};
 ghost use Rattle.sh_domain.specs.Readings.{ReadGivesFields, ReadHasFewCommands, ReadHasRows, ReadIsFormed, ReadIsNumbered, ReadNamesVariables, ReadNumbersDiffer};
 ghost use Rattle.sh_domain.specs.examples.Spots.{SpotsAsExpected};
+ghost use Rattle.sh_domain.specs.CompactRoundTrips.{GivenIsWritten, WrittenCompactReadsBack};
+ghost use Rattle.sh_domain.specs.CompactStates.{CompactsState};
+ghost use Rattle.sh_domain.specs.CompactSpelling.{CompactHasOneText};
+ghost use Rattle.sh_domain.specs.examples.CompactTexts.{CompactTextsAsExpected};
 ghost use Rattle.sh_domain.specs.examples.Texts.{TextsAsExpected};
 
 /// Known certificates of known scripts are answered as they should be: the first rule that one breaks, or the places of the demands
@@ -86,9 +90,20 @@ pub fn certificate_texts()
     ensures { TextsAsExpected }
 {}
 
+/// Known compact certificates are those of known certificates with their start, state what they should at each place, and have the texts that they
+/// should have; these texts claim what they should, of others the first line that has not the form is told, and the first line tells the version.
+pub fn compact_texts()
+    ensures { CompactTextsAsExpected }
+{}
+
 /// Of a certificate's claims there is one text, and it reads as these claims.
 pub fn spelling()
     ensures { HasOneText }
+{}
+
+/// Of a compact certificate's claims there is one text, and it reads as these claims.
+pub fn compact_spelling()
+    ensures { CompactHasOneText }
 {}
 
 /// A kept certificate whose rows name variables and functions, and that has no more of anything than a text may have, is written with
@@ -96,6 +111,19 @@ pub fn spelling()
 pub fn round_trips()
     ensures written { WrittenReadsBack }
     ensures read { ReadIsWritten }
+{}
+
+/// A compact certificate whose rows name variables and functions, whose loops rise, and that has no more of anything than a text may have, is written
+/// with rising names, and what is written is read as one that claims the same. What is read of a text of either version is what is written again.
+pub fn compact_round_trips()
+    ensures written { WrittenCompactReadsBack }
+    ensures read { GivenIsWritten }
+{}
+
+/// The compact certificate of a certificate states, at each turn of a loop and round each function, what that claims, and of the start what is known.
+/// A kept one states what a certificate claims that has its heads and its functions, and nothing round its commands.
+pub fn compact_states()
+    ensures { CompactsState }
 {}
 
 /// The names that are numbered of a script are enough: each has a number of its own, those of the start have one, and what is known

@@ -3,6 +3,7 @@
 #![tactic(auto)]
 
 mod certificate;
+mod compact;
 mod knowledge;
 pub mod laws;
 mod limits;
@@ -19,6 +20,7 @@ mod rule;
 mod sights;
 
 pub use certificate::{Certificate, Drops, Entry, Facts, FunctionEntry};
+pub use compact::{Compact, Given};
 pub use knowledge::{Assured, Knowledge, Return};
 pub use limits::MAX_CERTIFICATE;
 pub use loops::is_loop;

@@ -1,5 +1,5 @@
 -- The lines of a certificate, read one after the other.
-use Rattle.std.proofs.Common.{◌≡◌, ℕ, suc, ◌+◌, ◌*◌, ◌-◌, ◌<◌, ◌≤◌, nat_eq, Bool, true, false, ◌&&◌, List, [], ◌∷◌, ◌++◌, length, map, drop, get_or, append_assoc, append-nil, Option, Some, None, Ok, Err, refl, sym, ap, ap₂, ◌∙◌, arith}
+use Rattle.std.proofs.Common.{◌≡◌, ℕ, suc, ◌+◌, ◌-◌, ◌<◌, ◌≤◌, nat_eq, Bool, true, false, ◌&&◌, List, [], ◌∷◌, ◌++◌, length, map, drop, get_or, append_assoc, append-nil, Option, Some, None, Ok, Err, refl, sym, ap, ap₂, ◌∙◌, arith}
 use Rattle.std.specs.Borrow.{Bor}
 use Rattle.std.specs.List.{list_all}
 use Rattle.std.proofs.lemmas.Bool.Decides.{nat_tests}
@@ -36,17 +36,17 @@ use Rattle.sh_domain.proofs.WritingLemmas.{commands_append}
 unfoldable pub onto : {A : Type 0} → List A → Reading (List A) → Reading (List A)
 onto xs r = behind r (λ y. Ok (xs ++ y.0, y.1))
 
-onto_step : {A : Type 0} (xs : List A) (a : A) (r : Reading (List A)) → onto xs (behind r (λ y. Ok (a ∷ y.0, y.1))) ≡ onto (xs ++ a ∷ []) r
+pub onto_step : {A : Type 0} (xs : List A) (a : A) (r : Reading (List A)) → onto xs (behind r (λ y. Ok (a ∷ y.0, y.1))) ≡ onto (xs ++ a ∷ []) r
 unfolding onto behind
 onto_step xs a (Err k) = refl
 onto_step xs a (Ok y) = ap (λ us. Ok (us, y.1)) (sym (append_assoc xs (a ∷ []) y.0))
 
-onto_none : {A : Type 0} (r : Reading (List A)) → r ≡ onto [] r
+pub onto_none : {A : Type 0} (r : Reading (List A)) → r ≡ onto [] r
 unfolding onto behind
 onto_none (Err k) = refl
 onto_none (Ok y) = refl
 
-onto_ok : {A : Type 0} (xs : List A) (r : Reading (List A)) (z : List A × Text) → onto xs r ≡ Ok z → (ys : List A) × (z.0 ≡ xs ++ ys)
+pub onto_ok : {A : Type 0} (xs : List A) (r : Reading (List A)) (z : List A × Text) → onto xs r ≡ Ok z → (ys : List A) × (z.0 ≡ xs ++ ys)
 unfolding onto behind
 onto_ok xs (Err k) z e = absurd (err_ok e)
 onto_ok {A} xs (Ok y) z e = let same : (xs ++ y.0, y.1) ≡ z = cc in (y.0, sym (ap (λ (u : List A × Text). u.0) same))
@@ -56,7 +56,7 @@ unfolding line_of
 by_line f None x e = absurd (none_some e)
 by_line {A} f (Some y) x e = let i = map_some {B = A × Text} (λ a. (a, y.1)) (f y.0) x e in (y.0, i.1 ∙ ap (λ (z : A × Text). Some z.0) i.2)
 
-line_is : {A : Type 0} (f : Text → Option A) (t : Text) (x : A × Text) → line_in f t ≡ Some x → (l : Text) × (f l ≡ Some x.0)
+pub line_is : {A : Type 0} (f : Text → Option A) (t : Text) (x : A × Text) → line_in f t ≡ Some x → (l : Text) × (f l ≡ Some x.0)
 line_is f t x e = by_line f (cut_at 10 t) x e
 
 module _ {A : Type 0} (f : ℕ → Text → Option A) (first count j : ℕ) (t left : Text) (xs : List A) (lt : j < count)

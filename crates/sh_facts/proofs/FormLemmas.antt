@@ -196,13 +196,13 @@ named is_one (c ∷ t) b e = go (are_rising is_one (pieces 44 (c ∷ t))) b e
 
 -- Fields that end a line or a field have no blank and no colon
 
-claim_whole : (t : Text) (c : Claim) → claim_in t ≡ Some c → pieces 32 t ≡ t ∷ []
+pub claim_whole : (t : Text) (c : Claim) → claim_in t ≡ Some c → pieces 32 t ≡ t ∷ []
 claim_whole t c e = piece_last 32 t (subst (λ u. lacks 32 u ≡ true) (claim_spelled t c e) (claim_lacks 32 blank refl refl c (claim_writable t c e)))
 
 names_whole : (t : Text) (ns : List Text) → form.names_in is_name t ≡ Some ns → pieces 58 t ≡ t ∷ []
 names_whole t ns e = piece_last 58 t (subst (λ u. lacks 58 u ≡ true) (names_spelled is_name t ns e) (names_lack 58 colon refl is_name name_is_variable ns (names_rise is_name t ns e)))
 
-number_whole : (t : Text) (n : ℕ) → number_in t ≡ Some n → pieces 32 t ≡ t ∷ []
+pub number_whole : (t : Text) (n : ℕ) → number_in t ≡ Some n → pieces 32 t ≡ t ∷ []
 number_whole t n e = let p = number_spelled t n e in piece_last 32 t (subst (λ u. lacks 32 u ≡ true) p.0 (decimal_lacks 32 blank n p.1))
 
 pub head_sole : (t : Text) → head_of (pieces 32 t) ≡ option_map Some (claim_in t)

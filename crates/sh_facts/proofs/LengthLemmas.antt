@@ -29,7 +29,7 @@ unfolding joined bytes_of
 joined_bytes c t [] = omega arith
 joined_bytes c t (u ∷ ts) = omega (arith, length-append t (c ∷ joined c (u ∷ ts)), joined_bytes c u ts)
 
-line_bytes : (t : Text) (ts : List Text) → length (line (t ∷ ts)) ≡ bytes_of (t ∷ ts)
+pub line_bytes : (t : Text) (ts : List Text) → length (line (t ∷ ts)) ≡ bytes_of (t ∷ ts)
 line_bytes t ts = omega (arith, length-append (joined 32 (t ∷ ts)) (10 ∷ []), joined_bytes 32 t ts)
 
 -- Facts

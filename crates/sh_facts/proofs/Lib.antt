@@ -1,9 +1,15 @@
 pub mod SplitLemmas
 pub mod FormLemmas
+pub mod CompactFormLemmas
 pub mod LineLemmas
+pub mod CompactLineLemmas
 pub mod ReadingLemmas
 pub mod CertificateLemmas
+pub mod CompactReadLemmas
 pub mod WholeLemmas
+pub mod CompactWholeLemmas
 pub mod LengthLemmas
+pub mod CompactTextLemmas
+pub mod CompactingLemmas
 pub mod RowLengthLemmas
 pub mod RoomLemmas

@@ -50,7 +50,7 @@ left_err (Err j) k e = let same : j ≡ k = cc in ap Err same
 
 -- Lines
 
-left_behind : {A : Type 0} (a : A) (r : Reading (List A)) → left_of (behind r (λ y. Ok (a ∷ y.0, y.1))) ≡ left_of r
+pub left_behind : {A : Type 0} (a : A) (r : Reading (List A)) → left_of (behind r (λ y. Ok (a ∷ y.0, y.1))) ≡ left_of r
 unfolding left_of behind
 left_behind a (Ok y) = refl
 left_behind a (Err k) = refl
@@ -83,17 +83,17 @@ module _ {A : Type 0} (f : ℕ → Text → Option A) (first count done : ℕ) (
 
 -- The text
 
-any_end : {A : Type 0} (k : ℕ) (x : A) (z : Text) → outcome (ended k x z) ≡ outcome (ended k (tt {0}) z)
+pub any_end : {A : Type 0} (k : ℕ) (x : A) (z : Text) → outcome (ended k x z) ≡ outcome (ended k (tt {0}) z)
 unfolding ended outcome
 any_end k x [] = refl
 any_end k x (c ∷ t) = refl
 
-more_left : (k : ℕ) (z : Text) → 0 < length z → outcome (ended k (tt {0}) z) ≡ Err k
+pub more_left : (k : ℕ) (z : Text) → 0 < length z → outcome (ended k (tt {0}) z) ≡ Err k
 unfolding ended outcome
 more_left k [] l = absurd (omega arith)
 more_left k (c ∷ t) l = refl
 
-none_left : (k : ℕ) (z : Text) → length z ≡ 0 → outcome (ended k (tt {0}) z) ≡ Ok (tt {0})
+pub none_left : (k : ℕ) (z : Text) → length z ≡ 0 → outcome (ended k (tt {0}) z) ≡ Ok (tt {0})
 unfolding ended outcome
 none_left k [] l = refl
 none_left k (c ∷ t) l = absurd (omega arith)

@@ -1,5 +1,5 @@
 -- The whole text of a certificate, and whether it fits a script.
-use Rattle.std.proofs.Common.{◌≡◌, ℕ, suc, ◌+◌, ◌<◌, ◌≤◌, nat_eq, nat_le, Bool, true, false, ◌&&◌, if◌then◌else◌, List, [], ◌∷◌, length, map, Option, Result, Ok, Err, refl, sym, ap, ap₂, ◌∙◌, arith}
+use Rattle.std.proofs.Common.{◌≡◌, ℕ, suc, ◌+◌, ◌<◌, ◌≤◌, nat_eq, nat_le, Bool, true, false, ◌&&◌, List, [], ◌∷◌, length, map, Option, Result, Ok, Err, refl, sym, ap, ap₂, ◌∙◌, arith}
 use Rattle.std.specs.List.{list_all}
 use Rattle.std.proofs.lemmas.Bool.{and_parts}
 use Rattle.std.proofs.lemmas.Bool.Decides.{nat_tests}
@@ -24,22 +24,22 @@ use Rattle.sh_domain.proofs.WritableLemmas.{short, within, ok_same, ok_err}
 
 -- The form
 
-true_false : true ≡ false → ⊥
+pub true_false : true ≡ false → ⊥
 true_false e = cc
 
 false_true : false ≡ true → ⊥
 false_true e = cc
 
-and_false : (a : Bool) → (a && false) ≡ false
+pub and_false : (a : Bool) → (a && false) ≡ false
 and_false true = refl
 and_false false = refl
 
-has_sheet : (r : Result Sheet ℕ) → outcome r ≡ Ok (tt {0}) → (s : Sheet) × (r ≡ Ok s)
+pub has_sheet : {A : Type 0} (r : Result A ℕ) → outcome r ≡ Ok (tt {0}) → (s : A) × (r ≡ Ok s)
 unfolding outcome
 has_sheet (Ok s) e = (s, refl)
 has_sheet (Err k) e = absurd (err_ok e)
 
-refused_so : (r : Result Sheet ℕ) (k : ℕ) → outcome r ≡ Err k → r ≡ Err k
+pub refused_so : {A : Type 0} (r : Result A ℕ) (k : ℕ) → outcome r ≡ Err k → r ≡ Err k
 unfolding outcome
 refused_so (Ok s) k e = absurd (ok_err e)
 refused_so (Err j) k e = let same : j ≡ k = cc in ap Err same

@@ -1,6 +1,6 @@
 -- Clauses of private functions: what is read of a part of a text, and which rows stand then.
 -- The standard has no such thing: parts of the text of a certificate, and rows of the numbers of names.
-use Rattle.std.specs.Prelude.{◌≡◌, ℕ, ◌+◌, ◌*◌, ◌≤◌, nat_eq, Bool, true, false, List, length, map, Ok, Option, option_map}
+use Rattle.std.specs.Prelude.{◌≡◌, ℕ, nat_eq, Bool, true, false, List, length, map, Ok, Option, option_map}
 use Rattle.std.specs.List.{list_all}
 use Rattle.indexmap.specs.IndexMap.{get}
 use Rattle.sh_rows.specs.declared.bits.BitRow.{BitRow}

@@ -72,7 +72,8 @@ pub fn counts_in(line: &[u8]) -> Option<Counts>
     }
 }
 
-fn is_counts(first: &[u8], second: &[u8]) -> bool
+/// Whether these are the words of the first two counts.
+pub fn is_counts(first: &[u8], second: &[u8]) -> bool
     ensures { result ≡ (bytes_eq (codes "commands") first.now && bytes_eq (codes "functions") second.now) }
 {
     matches!(first, b"commands") && matches!(second, b"functions")
@@ -115,7 +116,8 @@ fn behind_number(letter: u8, number: u16, line: &[u8]) -> Option<&[u8]>
     }
 }
 
-fn is_letter(letter: u8, text: &[u8]) -> bool
+/// Whether the text is this letter.
+pub fn is_letter(letter: u8, text: &[u8]) -> bool
     ensures { result ≡ bytes_eq (letter ∷ []) text.now }
 {
     match text {
@@ -192,9 +194,9 @@ fn function_texts<'t>(
     })
 }
 
-// `-`, or the count of parameters and the two sets.
+/// The facts of a field: `-`, or the count of parameters and the two sets.
 #[tactic(auto, unfolding(sh_domain::specs::Forms::claim_in))]
-fn fact_in(text: &[u8]) -> Option<FactText<'_>>
+pub fn fact_in(text: &[u8]) -> Option<FactText<'_>>
     ensures { option_map field.claim_of result ≡ form.claim_in text.now }
 {
     if matches!(text, b"-") {
@@ -260,8 +262,8 @@ fn is_held(held: Held, name: &[u8]) -> bool
     }
 }
 
-// The number that a text writes in decimal digits, without a leading zero.
-fn number_in(text: &[u8]) -> Option<u16>
+/// The number that a text writes in decimal digits, without a leading zero.
+pub fn number_in(text: &[u8]) -> Option<u16>
     ensures { result ≡ form.number_in text.now }
 {
     if !leads_no_zero(text) {

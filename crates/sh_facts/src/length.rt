@@ -40,8 +40,8 @@ fn behind_counts(commands: usize, functions: usize, room: usize) -> Option<usize
     room.checked_sub(words + digits_of(commands) + digits_of(functions))
 }
 
-// How many digits a number has.
-fn digits_of(number: usize) -> usize
+/// How many digits a number has.
+pub fn digits_of(number: usize) -> usize
     ensures value { result ≡ length (decimal number) }
     ensures few { result ≤ 20 }
 {
@@ -88,7 +88,8 @@ fn behind_entry(
     }
 }
 
-fn behind_functions(
+/// Behind the lines of the functions.
+pub fn behind_functions(
     rows: &Rows,
     names: &Names,
     functions: &[FunctionEntry],
@@ -122,8 +123,8 @@ fn behind_function(
     behind_fact(rows, names, entry.nonzero, zero)
 }
 
-// Behind facts, and the blank or the newline that follows them.
-fn behind_fact(rows: &Rows, names: &Names, facts: Facts, room: usize) -> Option<usize>
+/// Behind facts, and the blank or the newline that follows them.
+pub fn behind_fact(rows: &Rows, names: &Names, facts: Facts, room: usize) -> Option<usize>
     ensures { Leaves room (length (text.claim_text (claims.claim_of (claims.in_byte_order names.now) rows.now facts)) + 1) result }
 {
     match facts {

@@ -1,5 +1,5 @@
 //! The lines of a certificate: which is the first that has not the form.
-ghost use Rattle.std.specs.Prelude.{◌≡◌, ◌+◌, ◌≤◌, length, option_map, IfOk, IfErr, Ok, Err};
+ghost use Rattle.std.specs.Prelude.{◌≡◌, ◌+◌, ◌^◌, ◌<◌, ◌≤◌, length, option_map, IfOk, IfErr, Ok, Err};
 ghost use Rattle.std.specs.Str.{bytes_eq};
 ghost use Rattle.sh_facts.specs.Fields as field;
 ghost use Rattle.sh_domain.specs.Forms as form;
@@ -16,11 +16,12 @@ pub fn test_lines(text: &[u8]) -> Result<(), u32>
     let left = behind_first(text)?;
     let (counts, left) = behind_counts(left)?;
     let left = behind_commands(counts.commands, left)?;
-    let left = behind_functions(counts, left)?;
+    let next = 3 + counts.commands as u32;
+    let left = behind_functions(next, counts.functions, left)?;
     if left.is_empty() {
         Ok(())
     } else {
-        Err(3 + counts.commands as u32 + counts.functions as u32)
+        Err(next + counts.functions as u32)
     }
 }
 
@@ -83,14 +84,15 @@ fn behind_commands(count: u16, text: &[u8]) -> Result<&[u8], u32>
     Ok(left)
 }
 
-// What is behind the lines of the functions, which stand behind those of the commands.
-fn behind_functions(counts: Counts, text: &[u8]) -> Result<&[u8], u32>
-    ensures { field.text_left result ≡ field.left_of (form.read_lines form.function_in (3 + counts.commands) 1 counts.functions text.now) }
+/// What is behind the lines of so many functions, of which the first has this number.
+pub fn behind_functions(first: u32, count: u16, text: &[u8]) -> Result<&[u8], u32>
+    requires { first < 2 ^ 31 }
+    ensures { field.text_left result ≡ field.left_of (form.read_lines form.function_in first 1 count text.now) }
 {
     let mut left = text;
-    for done in 0..counts.functions {
+    for done in 0..count {
         let Some((_, behind)) = function_line(done + 1, left) else {
-            return Err(3 + counts.commands as u32 + done as u32);
+            return Err(first + done as u32);
         };
         left = behind;
     }

@@ -77,7 +77,7 @@ fn read_lines(
         alloc,
         names,
         &mut rows,
-        counts.commands,
+        3 + counts.commands as u32,
         counts.functions,
         read.left,
     )?;
@@ -144,17 +144,18 @@ fn put_head(
     Ok(())
 }
 
-fn read_functions(
+/// The facts of so many functions, of which the first stands in the line of this number.
+pub fn read_functions(
     alloc: Global,
     names: &Names,
     rows: &mut Rows,
-    commands: u16,
+    first: u32,
     functions: u16,
     text: &[u8],
 ) -> Result<Vec<FunctionEntry>, Refusal>
     requires count { rows.old.count ≡ length names.now }
-    ensures ok { IfOk result (λ x. part.ReadsFunctions names.now (3 + commands) functions text.now rows.old x.items rows.new) }
-    ensures refusal { IfErr result (part.Misses (part.NoFunctionsFit names.now (3 + commands) functions text.now)) }
+    ensures ok { IfOk result (λ x. part.ReadsFunctions names.now first functions text.now rows.old x.items rows.new) }
+    ensures refusal { IfErr result (part.Misses (part.NoFunctionsFit names.now first functions text.now)) }
 {
     let mut left = text;
     let mut entries = Vec::new(alloc);
@@ -233,7 +234,8 @@ fn read_function(
     })
 }
 
-fn read_facts(
+/// The facts of a field, if the script has its names.
+pub fn read_facts(
     alloc: Global,
     names: &Names,
     rows: &mut Rows,

@@ -98,7 +98,8 @@ fn push_entry(
     Ok(())
 }
 
-fn push_functions(
+/// The lines of the functions.
+pub fn push_functions(
     out: &mut Vec<u8>,
     rows: &Rows,
     names: &Names,
@@ -134,9 +135,14 @@ fn push_function(
     Ok(())
 }
 
-// A blank, and the facts.
+/// A blank, and the facts.
 #[tactic(auto, unfolding(sh_domain::specs::Sheets::joined, sh_domain::specs::Sheets::claim_text, sh_domain::specs::Certificates::claim_of))]
-fn push_fact(out: &mut Vec<u8>, rows: &Rows, names: &Names, facts: Facts) -> Result<(), AllocError>
+pub fn push_fact(
+    out: &mut Vec<u8>,
+    rows: &Rows,
+    names: &Names,
+    facts: Facts,
+) -> Result<(), AllocError>
     ensures { OnOk result (out.new.items ≡ out.old.items ++ 32 ∷ text.claim_text (claims.claim_of (claims.in_byte_order names.now) rows.now facts)) }
 {
     match facts {

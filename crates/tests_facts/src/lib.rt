@@ -6,6 +6,8 @@ mod bodies;
 #[cfg(test)]
 mod certificates;
 #[cfg(test)]
+mod compacts;
+#[cfg(test)]
 mod limit;
 #[cfg(test)]
 mod names;

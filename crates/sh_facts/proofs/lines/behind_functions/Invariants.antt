@@ -5,4 +5,4 @@ use Rattle.sh_facts.proofs.lines.behind_functions.Given as goal
 
 -- what is behind the lines that are left is what is behind all
 abbrev pub invariant-loop-done : goal.invariant-loop-done
-invariant-loop-done l = left_of (read_lines function_in (3 + l.counts.commands) 1 l.counts.functions l.text) ≡ left_of (read_lines function_in (3 + l.counts.commands + l.done) (l.done + 1) (l.counts.functions - l.done) l.left)
+invariant-loop-done l = left_of (read_lines function_in (l.first) 1 l.count l.text) ≡ left_of (read_lines function_in (l.first + l.done) (l.done + 1) (l.count - l.done) l.left)

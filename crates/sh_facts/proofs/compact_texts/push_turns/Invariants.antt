@@ -1,0 +1,7 @@
+use Rattle.std.proofs.Common.{◌≡◌, ◌++◌, take}
+use Rattle.sh_domain.specs.Certificates.{in_byte_order}
+use Rattle.sh_domain.specs.Compacts.{turn_lines, turns_of}
+use Rattle.sh_facts.proofs.compact_texts.push_turns.Given as goal
+
+abbrev pub invariant-loop-index : goal.invariant-loop-index
+invariant-loop-index l = l.out.items ≡ l.initial.out.items ++ turn_lines (turns_of (in_byte_order l.names) l.compact.rows (take l.index l.compact.heads.entries))
