@@ -18,8 +18,9 @@ use Rattle.sh_tree.specs.standard.language.Reading.{ReadsPart, ReadsParts, sign_
 use Rattle.sh_tree.specs.standard.language.States.{Spot}
 use Rattle.sh_tree.specs.standard.language.Words as words
 use Rattle.sh_tree.proofs.Inversions.{stopped, nothing_at}
-use Rattle.sh_copies.proofs.AlikeBytes.{by_bool, run_yes, run_no, zero_not}
+use Rattle.sh_copies.proofs.AlikeBytes.{by_bool, neither, run_yes, run_no, zero_not}
 use Rattle.sh_copies.proofs.AlikePlain.{plain_yes, plain_no}
+use Rattle.sh_copies.proofs.Boundary.{lone_none}
 use Rattle.sh_copies.proofs.Declaring.{Edge, edge, edge_stands, ends_stop, token_first, word_stands, last_false}
 use Rattle.sh_copies.proofs.Forward.{parts_forward, part_forward}
 
@@ -41,7 +42,7 @@ edge_barrier (c ∷ cs) h =
     let e = edge c cs h in
     record { plain = λ x prior i word. plain_no x prior i c cs (edge_stands x prior i c cs word e); login = run_no words.is_login_byte c cs (edge_login c cs e) }
 
-backslash_stands : (x : Context) (prior i : ℕ) (cs : List ℕ) → x.site ≡ site.Word → words.stands x prior i 92 cs ≡ false
+pub backslash_stands : (x : Context) (prior i : ℕ) (cs : List ℕ) → x.site ≡ site.Word → words.stands x prior i 92 cs ≡ false
 unfolding is_first
 backslash_stands x prior i cs word = word_stands x prior i 92 cs word ∙ last_false (not (ends_token 92)) (not (words.is_stripped x prior 92)) (not (words.is_tilde x prior i 92 cs)) _ (go cs)
   where
@@ -237,18 +238,9 @@ pub record Beyond (c : ℕ) (v r : List ℕ) : Type 0 where
   pub none : (r' : List ℕ) → joined_length (c ∷ (v ++ r')) ≡ 0
   pub goes_on : words.ends_joined (c ∷ (v ++ r)) ≡ false
 
-joins_none : (c : ℕ) (cs : List ℕ) → is_backslash c ≡ false → joined_length (c ∷ cs) ≡ 0
-unfolding joined_length
-joins_none c [] h = refl
-joins_none c (d ∷ cs) h = ap (λ t. if t && is_newline d then 2 + joined_length cs else 0) h
-
 escaped_none : (c d : ℕ) (cs : List ℕ) → is_newline d ≡ false → joined_length (c ∷ d ∷ cs) ≡ 0
 unfolding joined_length
 escaped_none c d cs h = ap (λ t. if t then 2 + joined_length cs else 0) (ap (λ t. is_backslash c && t) h ∙ neither (is_backslash c))
-  where
-    neither : (t : Bool) → (t && false) ≡ false
-    neither true = refl
-    neither false = refl
 
 pub beyond : {limit : ℕ} {b : List ℕ} {x : Context} {prior : ℕ} {s u : Spot} {ps : List Part} → ReadsParts limit b x prior s u ps → x.site ≡ site.Word → x.strip ≡ false → (front : List ℕ) (c : ℕ) (v r : List ℕ)
     → drop s.at b ≡ front ++ (c ∷ (v ++ r)) → list_all is_bare front ≡ true → u.at ≡ s.at + (length front + suc (length v)) → Beyond c v r
@@ -256,7 +248,7 @@ beyond {limit = limit} {b = b} {x = x} {s = s} {u = u} reads word strip front c 
   no_token = by_bool (ends_token c) (λ yes. let at = ends_there reads word strip front (c ∷ (v ++ r)) e bare (token_first c (v ++ r) yes) in absurd (omega arith)) (λ no. no);
   none = by_bool (is_backslash c)
       (λ yes. escaped (eqb-true c 92 yes))
-      (λ no. λ r'. joins_none c (v ++ r') no);
+      (λ no. λ r'. lone_none c (v ++ r') no);
   goes_on = by_bool (words.ends_joined (c ∷ (v ++ r))) (λ yes. let at = ends_there reads word strip front (c ∷ (v ++ r)) e bare yes in absurd (omega arith)) (λ no. no);
 }
   where

@@ -31,10 +31,11 @@ use Rattle.sh_tree.specs.standard.language.Words as words
 use Rattle.sh_tree.proofs.Inversions.{word_parts}
 use Rattle.sh_reads.proofs.BeginningLemmas.{word_goes}
 use Rattle.sh_reads.proofs.MoveLemmas.{is_end, lead_inside as text_inside}
-use Rattle.sh_copies.proofs.AlikeBytes.{by_bool, run_yes, run_no, zero_not}
+use Rattle.sh_copies.proofs.AlikeBytes.{by_bool, neither, run_yes, run_no, zero_not}
+use Rattle.sh_copies.proofs.Boundary.{lone_none}
 use Rattle.sh_copies.proofs.CopiedBare.{Beyond, beyond}
 use Rattle.sh_copies.proofs.CopiedLeads.{no_operator, lead_inside}
-use Rattle.sh_copies.proofs.Declaring.{edge, edge_bare, ends_stop, token_first, parts_end, declares_read}
+use Rattle.sh_copies.proofs.Declaring.{edge, edge_bare, name_bare, ends_stop, token_first, parts_end, declares_read}
 use Rattle.sh_copies.proofs.Forward.{parts_forward}
 use Rattle.sh_copies.proofs.Inside.{parts_inside}
 use Rattle.sh_copies.proofs.Leads.{bare_front, lead_front, lead_is_no_sign}
@@ -56,7 +57,7 @@ split p (c ∷ v) = by_bool (p c)
     (λ yes. let more = split p v in record { front = c ∷ more.front; back = more.back; is = ap (λ t. c ∷ t) more.is; all = ap (λ t. t && list_all p more.front) yes ∙ more.all; none = more.none })
     (λ no. record { front = []; back = c ∷ v; is = refl; all = refl; none = no })
 
-run_front : (p : ℕ → Bool) (v cs : List ℕ) → list_all p v ≡ true → is_first p cs ≡ false → run p (v ++ cs) ≡ length v
+pub run_front : (p : ℕ → Bool) (v cs : List ℕ) → list_all p v ≡ true → is_first p cs ≡ false → run p (v ++ cs) ≡ length v
 unfolding is_first
 run_front p [] [] all none = refl
 run_front p [] (c ∷ cs) all none = run_no p c cs none
@@ -70,7 +71,7 @@ unfolding is_first
 first_behind p [] r h k = k
 first_behind p (c ∷ back) r h k = h
 
-all_weaker : (p q : ℕ → Bool) → ((c : ℕ) → p c ≡ true → q c ≡ true) → (w : List ℕ) → list_all p w ≡ true → list_all q w ≡ true
+pub all_weaker : (p q : ℕ → Bool) → ((c : ℕ) → p c ≡ true → q c ≡ true) → (w : List ℕ) → list_all p w ≡ true → list_all q w ≡ true
 all_weaker p q weaker [] all = refl
 all_weaker p q weaker (c ∷ w) all =
     let both = and_parts (p c) (list_all p w) all in
@@ -78,9 +79,6 @@ all_weaker p q weaker (c ∷ w) all =
 
 digit_bare : (c : ℕ) → is_digit c ≡ true → is_bare c ≡ true
 digit_bare c h = grind (arith, nat_tests)
-
-name_bare : (c : ℕ) → is_name_byte c ≡ true → is_bare c ≡ true
-name_bare c h = grind (arith, nat_tests)
 
 -- no byte of a class stands where a word may end
 edge_none : (p : ℕ → Bool) → ((c : ℕ) → p c ≡ true → is_bare c ≡ true) → (r : List ℕ) → words.ends_joined r ≡ true → is_first p r ≡ false
@@ -118,11 +116,6 @@ ending (c ∷ cs) h = let k = h.ends in record { byte = c; rest = cs; is = refl;
 
 ending_joined : (r : List ℕ) → Ending r → words.ends_joined r ≡ true
 ending_joined r e = ap words.ends_joined e.is ∙ token_first e.byte e.rest e.ends
-
-joins_none : (c : ℕ) (cs : List ℕ) → is_backslash c ≡ false → joined_length (c ∷ cs) ≡ 0
-unfolding joined_length
-joins_none c [] h = refl
-joins_none c (d ∷ cs) h = ap (λ t. if t && is_newline d then 2 + joined_length cs else 0) h
 
 no_gap : (c : ℕ) (cs : List ℕ) → is_blank c ≡ false → joined_length (c ∷ cs) ≡ 0 → gap_length (c ∷ cs) ≡ 0
 unfolding gap_length joined_length
@@ -211,7 +204,7 @@ module _ (v r : List ℕ) (byte : Byte v r) (ends : words.ends_joined r ≡ true
       subst NoAngle (sym behind) (go s.front s.back s.is (all_weaker is_digit is_bare digit_bare s.front s.all))
     where
       go : (front back : List ℕ) → v ≡ front ++ back → list_all is_bare front ≡ true → NoAngle (back ++ r')
-      go front [] is all = subst NoAngle (sym e.is) (plain_angle e.byte e.rest e.angle (joins_none e.byte e.rest e.backslash))
+      go front [] is all = subst NoAngle (sym e.is) (plain_angle e.byte e.rest e.angle (lone_none e.byte e.rest e.backslash))
       go front (c ∷ back) is all = let at = byte front c back is all in plain_angle c (back ++ r') (angle_byte c at.no_token) (at.none r')
 
   -- An assignment begins both texts or neither
@@ -292,10 +285,6 @@ module _ (v r : List ℕ) (byte : Byte v r) (ends : words.ends_joined r ≡ true
       ap (λ t. drop (blanks false cs (0 + length t)) cs) whole ∙ ap (λ n. drop (n + blank_length false (drop n cs)) cs) zero_more
       ∙ ap (λ t. drop (length v + blank_length false t) cs) behind ∙ sym (drop-drop (blank_length false r') (length v) cs) ∙ ap (drop (blank_length false r')) behind in
       ap (λ t. is_name w && is_first is_parenthesis t) there ∙ ap (λ t. is_name w && t) h.opens_nothing ∙ neither (is_name w)
-    where
-      neither : (t : Bool) → (t && false) ≡ false
-      neither true = refl
-      neither false = refl
 
   first_word : (r' : List ℕ) → IsBehindWord r' → (w : List ℕ) (o : Option Reserved) → (w ≡ v) ⊎ (w ≡ []) → first_lead (v ++ r) 0 w o ≡ lead.Word → first_lead (v ++ r') 0 w o ≡ lead.Word
   unfolding first_lead
@@ -329,10 +318,6 @@ module _ (v r : List ℕ) (byte : Byte v r) (ends : words.ends_joined r ≡ true
       ∙ cond-false _ _ _ (ap (λ t. not (n' == 0) && t) angle.joined ∙ neither (not (n' == 0)))
       ∙ cond-false _ _ _ assigned ∙ word_same g r' h (bare_word cs' 0) bare.either (ap (word_lead cs g 0) bare.same ∙ source.1)
     where
-      neither : (t : Bool) → (t && false) ≡ false
-      neither true = refl
-      neither false = refl
-
       go : (t : Bool) {x y : Bool} → (t && x) ≡ false → (x ≡ false → y ≡ false) → (t && y) ≡ false
       go true h k = k h
       go false h k = refl

@@ -23,9 +23,6 @@ use Rattle.sh_print.proofs.ElementsPrinted.{IsTail}
 
 -- Tails of commands
 
-abbrev pub is_line : Lead → Bool
-is_line l = is_newline_lead l
-
 pub line_tail : (cs : List ℕ) → IsTail (10 ∷ cs)
 unfolding begins_simple is_redirection is_first
 line_tail cs =

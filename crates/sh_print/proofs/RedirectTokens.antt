@@ -5,6 +5,7 @@ use Rattle.std.specs.Option.{option_map}
 use Rattle.std.proofs.lemmas.Bool.{cond-true, cond-false, true≢false, and_parts}
 use Rattle.std.proofs.lemmas.Bool.Decides.{nat_tests}
 use Rattle.std.proofs.lemmas.List.{drop_at, take_at}
+use Rattle.sh_copies.proofs.CopiedTokens.{run_front}
 use Rattle.sh_copies.proofs.CopiedLeads.{no_operator, lead_inside}
 use Rattle.sh_tree.specs.declared.tree.Direction.{Direction}
 use Rattle.sh_tree.specs.declared.tree.Direction.TheVariants as direction
@@ -23,7 +24,7 @@ use Rattle.sh_print.specs.Bare as bare
 use Rattle.sh_print.specs.Bare.{Text, Opens}
 use Rattle.sh_print.specs.Layout.{opens_text, number_text}
 use Rattle.sh_print.proofs.PlaceLemmas.{front, front_none, lead_there, off}
-use Rattle.sh_print.proofs.OwnTokens.{run_all, operator_leads, unsplit, unjoined}
+use Rattle.sh_print.proofs.OwnTokens.{operator_leads, unsplit, unjoined}
 use Rattle.sh_print.proofs.NameTokens.{no_last}
 use Rattle.sh_print.proofs.Printable.{is_number}
 
@@ -65,7 +66,7 @@ record SignStands (o : Opens) (r : List ℕ) : Type 0 where
   is : operator_of (opens_text o ++ 32 ∷ r) ≡ Some (sign_of o, length (opens_text o))
   redirects_is : redirects (sign_of o) ≡ true
   angle : is_angle (opens_text o ++ 32 ∷ r) ≡ true
-  digits : run is_digit (opens_text o ++ 32 ∷ r) ≡ 0
+  digits : is_first is_digit (opens_text o ++ 32 ∷ r) ≡ false
   opens_none : is_first is_parenthesis (opens_text o ++ 32 ∷ r) ≡ false
   split_none : is_split (opens_text o ++ 32 ∷ r) (length (opens_text o)) ≡ false
   front_is : front (opens_text o ++ 32 ∷ r) ≡ opens_text o ++ 32 ∷ r
@@ -88,8 +89,8 @@ abbrev pub redirection_text : Option Text → Opens → List ℕ → List ℕ
 redirection_text number o r = number_text number ++ (opens_text o ++ 32 ∷ r)
 
 digits_long : (number : Option Text) (o : Opens) (r : List ℕ) → is_number number ≡ true → run is_digit (redirection_text number o r) ≡ length (number_text number)
-digits_long None o r h = (sign_stands o r).digits
-digits_long (Some t) o r h = run_all is_digit t (opens_text o ++ 32 ∷ r) (and_parts (is_first is_digit t) (list_all is_digit t) h).1 (sign_stands o r).digits
+digits_long None o r h = run_front is_digit [] (opens_text o ++ 32 ∷ r) refl (sign_stands o r).digits
+digits_long (Some t) o r h = run_front is_digit t (opens_text o ++ 32 ∷ r) (and_parts (is_first is_digit t) (list_all is_digit t) h).1 (sign_stands o r).digits
 
 -- what a redirection begins with
 pub record RedirectBegins (b : List ℕ) (i : ℕ) (number : Option Text) (o : Opens) (r : List ℕ) : Type 0 where
