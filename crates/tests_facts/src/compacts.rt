@@ -218,24 +218,31 @@ fn are_refused(
     Ok(is_refused(alloc, script, &text, refusal))
 }
 
+/// Lines behind the first one, and the first that has not the form.
+const MALFORMED: &[(&[u8], u32)] = &[
+    (b"", 2),
+    (b"commands 3 functions 0\n", 2),
+    (b"commands 3 functions 0 loops 1", 2),
+    (b"commands 3 functions 0 loops 1\n", 3),
+    (b"commands 3 functions 0 loops 1\ns 0:IFS,PPID,OPTIND:\n", 3),
+    (b"commands 3 functions 0 loops 1\ns -\n", 4),
+    (b"commands 3 functions 0 loops 1\ns -\nh 1 -\nh 2 -\n", 5),
+    (b"commands 3 functions 0 loops 2\ns -\nh 1 -\nh 1 -\n", 5),
+    (b"commands 3 functions 0 loops 2\ns -\nh 2 -\nh 1 -\n", 5),
+    (b"commands 3 functions 0 loops 1\nh 1 -\ns -\n", 3),
+];
+
 #[test]
 fn lines_without_the_form_are_told(rt: HostRuntime) -> Result<(), Fail> {
-    let rows: [(&[u8], u32); 10] = [
-        (b"", 2),
-        (b"commands 3 functions 0\n", 2),
-        (b"commands 3 functions 0 loops 1", 2),
-        (b"commands 3 functions 0 loops 1\n", 3),
-        (b"commands 3 functions 0 loops 1\ns 0:IFS,PPID,OPTIND:\n", 3),
-        (b"commands 3 functions 0 loops 1\ns -\n", 4),
-        (b"commands 3 functions 0 loops 1\ns -\nh 1 -\nh 2 -\n", 5),
-        (b"commands 3 functions 0 loops 2\ns -\nh 1 -\nh 1 -\n", 5),
-        (b"commands 3 functions 0 loops 2\ns -\nh 2 -\nh 1 -\n", 5),
-        (b"commands 3 functions 0 loops 1\nh 1 -\ns -\n", 3),
-    ];
-    for (lines, line) in rows {
-        let is_told = are_refused(rt.alloc(), READS, lines, Refusal::CertSyntax(line))?;
+    for (lines, line) in MALFORMED {
+        let is_told = are_refused(rt.alloc(), READS, lines, Refusal::CertSyntax(*line))?;
         assert!(rt; is_told, "{line}");
     }
+    Ok(())
+}
+
+#[test]
+fn other_versions_are_refused(rt: HostRuntime) -> Result<(), Fail> {
     let first = Refusal::CertSyntax(1);
     assert!(rt; is_refused(rt.alloc(), READS, b"", first));
     let third = b"shset certificate 3\ncommands 0 functions 0 loops 0\ns -\n";
@@ -243,19 +250,21 @@ fn lines_without_the_form_are_told(rt: HostRuntime) -> Result<(), Fail> {
     Ok(())
 }
 
+/// Lines behind the first one that are those of another script.
+const OTHERS: &[&[u8]] = &[
+    b"commands 3 functions 0 loops 1\ns 0:IFS,OPTIND,PPID:\nh 2 0:IFS,OPTIND,PPID:\n",
+    b"commands 3 functions 0 loops 1\ns -\nh 0 -\n",
+    b"commands 3 functions 0 loops 0\ns -\n",
+    b"commands 3 functions 0 loops 2\ns -\nh 1 -\nh 2 -\n",
+    b"commands 2 functions 0 loops 1\ns -\nh 1 -\n",
+    b"commands 3 functions 1 loops 1\ns -\nh 1 -\nf 1 - : - -\n",
+    b"commands 3 functions 0 loops 1\ns 0:IFS:zz\nh 1 -\n",
+    b"commands 3 functions 0 loops 1\ns -\nh 1 0:zz:\n",
+];
+
 #[test]
 fn others_do_not_fit(rt: HostRuntime) -> Result<(), Fail> {
-    let rows: [&[u8]; 8] = [
-        b"commands 3 functions 0 loops 1\ns 0:IFS,OPTIND,PPID:\nh 2 0:IFS,OPTIND,PPID:\n",
-        b"commands 3 functions 0 loops 1\ns -\nh 0 -\n",
-        b"commands 3 functions 0 loops 0\ns -\n",
-        b"commands 3 functions 0 loops 2\ns -\nh 1 -\nh 2 -\n",
-        b"commands 2 functions 0 loops 1\ns -\nh 1 -\n",
-        b"commands 3 functions 1 loops 1\ns -\nh 1 -\nf 1 - : - -\n",
-        b"commands 3 functions 0 loops 1\ns 0:IFS:zz\nh 1 -\n",
-        b"commands 3 functions 0 loops 1\ns -\nh 1 0:zz:\n",
-    ];
-    for lines in rows {
+    for lines in OTHERS {
         let is_told = are_refused(rt.alloc(), READS, lines, Refusal::CertShape)?;
         assert!(rt; is_told);
     }
