@@ -1,6 +1,6 @@
 -- An unquoted delimiter has no backslash.
 -- POSIX.1-2024, XCU 2.2.1 (escape character), 2.7.4 (here-document).
-use Rattle.std.proofs.Common.{◌≡◌, ℕ, zero, suc, ◌+◌, ◌-◌, ◌==◌, Bool, true, false, not, ◌||◌, if◌then◌else◌, List, [], ◌∷◌, length, drop, take, Option, Some, None, refl, sym, ap, ◌∙◌, subst, arith}
+use Rattle.std.proofs.Common.{◌≡◌, ℕ, zero, suc, ◌+◌, ◌-◌, ◌==◌, Bool, true, false, ◌||◌, if◌then◌else◌, List, [], ◌∷◌, drop, take, Option, Some, None, refl, sym, ap, ◌∙◌, subst, arith}
 use Rattle.std.specs.List.{list_any}
 use Rattle.std.proofs.lemmas.Bool.{true≢false, and_parts, eqb-true, or_parts}
 use Rattle.std.proofs.lemmas.Bool.Decides.{nat_tests}
@@ -16,7 +16,7 @@ use Rattle.sh_tree.specs.declared.token.word.Sign.{Sign}
 use Rattle.sh_tree.specs.declared.token.word.Sign.TheVariants as sign
 use Rattle.sh_tree.specs.standard.Tree.{text_of}
 use Rattle.sh_tree.specs.standard.Words.{both_texts, part_text, parts_text}
-use Rattle.sh_tree.specs.standard.language.Bytes.{ends_token, is_backslash, is_first, is_tab, run}
+use Rattle.sh_tree.specs.standard.language.Bytes.{is_backslash, is_tab, run}
 use Rattle.sh_tree.specs.standard.language.Contexts.{in_unsplit}
 use Rattle.sh_tree.specs.standard.language.HereDocuments.{delimiter_of, is_delimiter, is_static, or_none}
 use Rattle.sh_tree.specs.standard.language.Parts.{is_quotation, is_quoted_word}
@@ -26,9 +26,9 @@ use Rattle.sh_tree.specs.standard.language.States.{Spot}
 use Rattle.sh_tree.specs.standard.language.Trees.{span}
 use Rattle.sh_tree.specs.standard.language.Words as words
 use Rattle.sh_copies.specs.Copied.{IsMark}
-use Rattle.sh_copies.proofs.AlikeBytes.{by_bool, zero_not}
+use Rattle.sh_copies.proofs.AlikeBytes.{by_bool}
 use Rattle.sh_copies.proofs.AlikePlain.{plain_yes, plain_no}
-use Rattle.sh_copies.proofs.Declaring.{last_false, word_stands}
+use Rattle.sh_copies.proofs.CopiedBare.{backslash_stands}
 
 -- What a `$` begins is no plain part
 
@@ -102,15 +102,6 @@ unfolding words.dollar
 dollar_part x i c rest = grind (arith, nat_tests, expansion_part i c rest)
 
 -- Plain parts
-
--- no backslash of a word stands for itself
-backslash_stands : (x : Context) (prior i : ℕ) (cs : List ℕ) → x.site ≡ site.Word → words.stands x prior i 92 cs ≡ false
-unfolding is_first
-backslash_stands x prior i cs word = word_stands x prior i 92 cs word ∙ last_false (not (ends_token 92)) (not (words.is_stripped x prior 92)) (not (words.is_tilde x prior i 92 cs)) _ (go cs)
-  where
-    go : (cs : List ℕ) → (not (words.is_special site.Word 92) || words.is_literal site.Word 92 cs) ≡ false
-    go [] = refl
-    go (d ∷ ds) = rw (zero_not (length ds)) refl
 
 plain_none : (x : Context) (prior i : ℕ) (cs : List ℕ) → x.site ≡ site.Word → list_any is_backslash (take (words.plain_length x prior i cs) cs) ≡ false
 unfolding words.plain_length

@@ -1,5 +1,6 @@
 -- The leads of names: of an assignment, of a function and of the loop `for`.
 use Rattle.std.proofs.Common.{◌≡◌, ℕ, suc, ◌+◌, ◌==◌, Bool, true, false, not, ◌&&◌, None, List, [], ◌∷◌, ◌++◌, length, drop, if◌then◌else◌, refl, sym, ap, ◌∙◌, arith}
+use Rattle.std.proofs.Math.Bool.{and-false}
 use Rattle.std.specs.List.{list_all}
 use Rattle.std.proofs.lemmas.Bool.{cond-true, cond-false, true≢false, and_parts}
 use Rattle.std.proofs.lemmas.Bool.Decides.{nat_tests}
@@ -12,13 +13,10 @@ use Rattle.sh_tree.specs.declared.token.command.Stage.TheVariants.{First}
 use Rattle.sh_tree.specs.standard.language.Bytes.{is_blank, is_newline, is_backslash, is_digit, is_operator_byte, is_name_start, is_name_byte, is_name, ends_token, run, is_first, behind_joined, name_length, is_last_backquote}
 use Rattle.sh_tree.specs.standard.language.Commands.{operator_of, lead_at, other_lead, word_lead, first_lead, bare_word, is_bare, is_definition, blanks, entry_of, reserved_words, is_assignment, is_parenthesis, is_named, is_angle, number_lead, name_end, is_bare_name}
 use Rattle.sh_print.proofs.PlaceLemmas.{front, front_none, fronted}
-use Rattle.sh_print.proofs.OwnTokens.{Gap, blank, line, run_over, run_none, bare_whole, and_false}
-
-all_weaker : (p q : ℕ → Bool) → ((c : ℕ) → p c ≡ true → q c ≡ true) → (w : List ℕ) → list_all p w ≡ true → list_all q w ≡ true
-all_weaker p q weaker [] all = refl
-all_weaker p q weaker (c ∷ w) all =
-    let both = and_parts (p c) (list_all p w) all in
-    ap (λ t. t && list_all q w) (weaker c both.0) ∙ all_weaker p q weaker w both.1
+use Rattle.sh_print.proofs.OwnTokens.{Gap, blank, line, run_over, bare_whole}
+use Rattle.sh_copies.proofs.AlikeBytes.{run_no}
+use Rattle.sh_copies.proofs.CopiedTokens.{all_weaker}
+use Rattle.sh_copies.proofs.Declaring.{name_bare}
 
 -- First bytes of names
 
@@ -32,9 +30,6 @@ record IsStart (c : ℕ) : Type 0 where
 start_byte : (c : ℕ) → is_name_start c ≡ true → IsStart c
 start_byte c h = record { operator = grind (arith, nat_tests); newline = grind (arith, nat_tests); comment = grind (arith, nat_tests); backquote = grind (arith, nat_tests); digit = grind (arith, nat_tests) }
 
-name_bare : (c : ℕ) → is_name_byte c ≡ true → is_bare c ≡ true
-name_bare c h = grind (arith, nat_tests)
-
 -- the last byte alone is no backquote
 pub no_last : (c : ℕ) (cs : List ℕ) → (c == 96) ≡ false → is_last_backquote (c ∷ cs) ≡ false
 unfolding is_last_backquote
@@ -47,7 +42,7 @@ start_leads : (g : Stage) (c : ℕ) (cs : List ℕ) → is_name_start c ≡ true
 unfolding other_lead
 start_leads g c cs h =
     let s = start_byte c h in
-    let digits : run is_digit (c ∷ cs) ≡ 0 = run_none is_digit c cs s.digit in
+    let digits : run is_digit (c ∷ cs) ≡ 0 = run_no is_digit c cs s.digit in
     let word = if not (is_named g) && is_assignment (c ∷ cs) then lead.Assignment else word_lead (c ∷ cs) g 0 (bare_word (c ∷ cs) 0) in
     lead_inside g c cs (no_operator c cs s.operator)
     ∙ cond-false _ _ _ s.newline ∙ cond-false _ _ _ s.comment ∙ cond-false _ _ _ (no_last c cs s.backquote)
@@ -109,7 +104,7 @@ definition_leads (c ∷ w) r name none =
     let size = name_long t 40 r name refl in
     let behind : drop (length t) all ≡ 40 ∷ r = drop_at t (40 ∷ r) (length t) refl in
     let assigned : is_assignment all ≡ false =
-    ap (λ n. not (n == 0) && is_first (λ d. d == 61) (drop n all)) size ∙ ap (λ x. not (length t == 0) && is_first (λ d. d == 61) x) behind ∙ and_false (not (length t == 0)) in
+    ap (λ n. not (n == 0) && is_first (λ d. d == 61) (drop n all)) size ∙ ap (λ x. not (length t == 0) && is_first (λ d. d == 61) x) behind ∙ and-false (not (length t == 0)) in
     let word : bare_word all 0 ≡ t = bare_name all 0 t 40 r name refl refl refl in
     let none_more : 0 + length t ≡ length t = omega arith in
     let opens : drop (blanks false all (0 + length t)) all ≡ 40 ∷ r =

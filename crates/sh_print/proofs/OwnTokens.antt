@@ -1,8 +1,8 @@
 -- The leads of the words and operators that the canonical text has of its own.
 use Rattle.std.proofs.Common.{◌≡◌, ℕ, suc, ◌+◌, ◌==◌, Bool, true, false, not, ◌&&◌, ◌||◌, Some, List, [], ◌∷◌, ◌++◌, length, drop, take, codes, if◌then◌else◌, refl, ap, ◌∙◌, cond}
-use Rattle.std.proofs.lemmas.Bool.{cond-true, cond-false, true≢false}
+use Rattle.std.proofs.Math.Bool.{and-false}
+use Rattle.std.proofs.lemmas.Bool.{cond-true, cond-false, true≢false, and_parts}
 use Rattle.std.specs.List.{list_all}
-use Rattle.std.proofs.lemmas.Bool.{and_parts}
 use Rattle.std.proofs.lemmas.List.{drop_at, take_at}
 use Rattle.std.proofs.lemmas.List.Sums.{take_while-cons}
 use Rattle.sh_copies.proofs.CopiedLeads.{lead_inside}
@@ -18,8 +18,9 @@ use Rattle.sh_tree.specs.declared.token.command.Stage.TheVariants.{First, Prefix
 use Rattle.sh_tree.specs.standard.language.Bytes.{is_in, is_newline, is_backslash, ends_token, run, is_first, is_joined, joined_length, joined_at, behind_joined, longest, name_length, is_last_backquote}
 use Rattle.sh_tree.specs.standard.language.Words.{ends_joined}
 use Rattle.sh_tree.specs.standard.language.Commands.{is_bare, operator_of, operator_lead, whole_operator, opening, is_split, is_longer, lead_at, lead_of, other_lead, word_lead, first_lead, reserved_lead, bang, bare_word, entry_of, is_assignment, is_parenthesis, is_esac, is_newline_lead}
+use Rattle.sh_copies.proofs.AlikeBytes.{run_no, not_joined}
 
--- a blank or a newline, which stands behind every word of its own
+-- a blank or a newline, which follows every word of its own
 pub data Gap : List ℕ → Type 0 where
   blank : {r : List ℕ} → Gap (32 ∷ r)
   line : {r : List ℕ} → Gap (10 ∷ r)
@@ -32,16 +33,8 @@ run_all p (d ∷ w) cs all none =
     let both = and_parts (p d) (list_all p w) all in
     ap length (take_while-cons p d (w ++ cs) ∙ cond-true _ _ _ both.0) ∙ ap suc (run_all p w cs both.1 none)
 
-pub run_none : (p : ℕ → Bool) (c : ℕ) (r : List ℕ) → p c ≡ false → run p (c ∷ r) ≡ 0
-run_none p c r none = ap length (take_while-cons p c r ∙ cond-false _ _ _ none)
-
 pub run_over : (p : ℕ → Bool) (w : List ℕ) (c : ℕ) (r : List ℕ) → list_all p w ≡ true → p c ≡ false → run p (w ++ c ∷ r) ≡ length w
-run_over p w c r all none = run_all p w (c ∷ r) all (run_none p c r none)
-
-pub joins_none : (c : ℕ) (cs : List ℕ) → is_backslash c ≡ false → joined_length (c ∷ cs) ≡ 0
-unfolding joined_length
-joins_none c [] h = refl
-joins_none c (d ∷ cs) h = ap (λ t. cond (t && is_newline d) (2 + joined_length cs) 0) h
+run_over p w c r all none = run_all p w (c ∷ r) all (run_no p c r none)
 
 -- Reserved words
 
@@ -51,7 +44,7 @@ unfolding bare_word is_first
 bare_whole b i w c r all ends plain e =
     let size : run is_bare (drop i b) ≡ length w = ap (run is_bare) e ∙ run_over is_bare w c r all (ap (λ t. not t && not (is_in (codes "$`\"'\\") c)) ends) in
     let rest : drop (length w) (drop i b) ≡ c ∷ r = ap (drop (length w)) e ∙ drop_at w (c ∷ r) (length w) refl in
-    let none : joined_length (c ∷ r) ≡ 0 = joins_none c r plain in
+    let none : joined_length (c ∷ r) ≡ 0 = not_joined c r plain in
     ap (λ n. if ends_joined (drop n (drop i b)) then take n (drop i b) else []) size
     ∙ ap (λ t. if ends_joined t then take (length w) (drop i b) else []) rest
     ∙ cond-true _ _ _ (ap (λ n. length (drop n (c ∷ r)) == 0 || is_first ends_token (drop n (c ∷ r)) || is_last_backquote (drop n (c ∷ r))) none
@@ -130,7 +123,7 @@ reserved_leads word.While _ (line {r = r}) = lead_inside First 119 (104 ∷ 105 
 -- Operators
 
 pub unjoined : (c : ℕ) (cs : List ℕ) → is_backslash c ≡ false → is_joined (c ∷ cs) ≡ false
-unjoined c cs h = ap (λ n. not (n == 0)) (joins_none c cs h)
+unjoined c cs h = ap (λ n. not (n == 0)) (not_joined c cs h)
 
 abbrev opens : Operator → Bool
 opens op.LeftParenthesis = true
@@ -152,17 +145,9 @@ pub unsplit : (cs : List ℕ) (n : ℕ) → is_joined (drop n cs) ≡ false → 
 unfolding is_split
 unsplit cs n h = ap (λ t. t && is_longer n (operator_of (joined_at n cs))) h
 
-pub and_false : (t : Bool) → (t && false) ≡ false
-and_false true = refl
-and_false false = refl
-
-pub close_leads : (g : Stage) (cs : List ℕ) → lead_at (41 ∷ cs) g 0 ≡ lead.Operator op.RightParenthesis
-unfolding operator_of longest is_split
-close_leads g cs = operator_leads g (41 ∷ cs) op.RightParenthesis 1 refl (and_false (is_joined cs)) refl
-
 pub open_leads : (d : Bool) (cs : List ℕ) → lead_at (40 ∷ cs) (Named d) 0 ≡ lead.Operator op.LeftParenthesis
 unfolding lead_at lead_of operator_lead operator_of longest is_split whole_operator
-open_leads d cs = ap (λ t. cond t (lead.LeftOut form.Continuation) (lead.Operator op.LeftParenthesis)) (and_false (is_joined cs))
+open_leads d cs = ap (λ t. cond t (lead.LeftOut form.Continuation) (lead.Operator op.LeftParenthesis)) (and-false (is_joined cs))
 
 pub opening_leads : (cs : List ℕ) → Gap cs → lead_at (40 ∷ cs) First 0 ≡ lead.Operator op.LeftParenthesis
 unfolding lead_at lead_of operator_lead operator_of longest is_split whole_operator opening is_first joined_length
@@ -176,7 +161,7 @@ open_first : (f : Lead → Bool) → f (lead.LeftOut form.DoubleParenthesis) ≡
     → (cs : List ℕ) → f (lead_at (40 ∷ cs) First 0) ≡ false
 unfolding lead_at lead_of operator_lead operator_of longest is_split whole_operator opening
 open_first f double joined plain cs =
-    ap (λ t. f (cond t (lead.LeftOut form.Continuation) (opening cs))) (and_false (is_joined cs)) ∙ go (is_first is_parenthesis cs) (is_first is_parenthesis (behind_joined cs))
+    ap (λ t. f (cond t (lead.LeftOut form.Continuation) (opening cs))) (and-false (is_joined cs)) ∙ go (is_first is_parenthesis cs) (is_first is_parenthesis (behind_joined cs))
   where
     go : (t u : Bool) → f (cond t (lead.LeftOut form.DoubleParenthesis) (cond u (lead.LeftOut form.Continuation) (lead.Operator op.LeftParenthesis))) ≡ false
     go true u = double

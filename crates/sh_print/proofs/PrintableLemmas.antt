@@ -98,9 +98,6 @@ module _ (limit : ℕ) (b : List ℕ) (no_nul : HasNoNul b) (copies : WordsAreCo
   abbrev Gives : ℕ → State → State → Type 0 → Type 0
   Gives depth s u P = Level depth u.spot × (Fits u → Fits s × P)
 
-  lowered : (depth : ℕ) (s : Spot) → Level depth s → Level (depth + 1) (record s { depth = s.depth + 1 })
-  lowered depth s k = (ap (λ n. n + 1) k.0, k.1, k.2, k.3)
-
   -- The depth stays, and what fits after the reading fits before it.
   abbrev Leads : ℕ → State → State → Type 0
   Leads depth s u = Level depth u.spot × (Fits u → Fits s)
