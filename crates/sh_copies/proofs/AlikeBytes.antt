@@ -1,7 +1,9 @@
--- Texts that are the same up to a byte that closes what they stand in: what begins before it is the same.
+-- Texts that are the same up to a byte that closes their context: what begins before it is the
+-- same.
 -- POSIX.1-2024, XCU 2.2 (quoting), 2.6 (word expansions).
 use Rattle.std.proofs.Common.{◌≡◌, ℕ, zero, suc, ◌+◌, ◌≤◌, ◌<◌, ◌==◌, Bool, true, false, not, ◌&&◌, List, [], ◌∷◌, ◌++◌, length, drop, take, codes, ◌⊎◌, inl, inr, refl, sym, ap, ◌∙◌, arith, ⊎_elim}
-use Rattle.std.proofs.lemmas.Bool.{cases_Bool, cond-true, cond-false, true≢false}
+use Rattle.std.proofs.Math.Bool.{and-false}
+use Rattle.std.proofs.lemmas.Bool.{cases_Bool, cond-true, cond-false, true≢false, and_right}
 use Rattle.std.proofs.lemmas.Bool.Decides.{nat_tests}
 use Rattle.std.proofs.lemmas.List.{drop-append-le, take-append-le}
 use Rattle.std.proofs.lemmas.List.Sums.{take_while-cons}
@@ -14,10 +16,6 @@ is_closer c = is_in (codes "\"})") c
 
 pub by_bool : {P : Type 0} (t : Bool) → (t ≡ true → P) → (t ≡ false → P) → P
 by_bool t f g = ⊎_elim f g (cases_Bool t)
-
-pub neither : (t : Bool) → (t && false) ≡ false
-neither true = refl
-neither false = refl
 
 -- what such a byte is not
 pub record Unlike (c : ℕ) : Type 0 where
@@ -44,18 +42,14 @@ closer_plain c h = record {
 
 -- Continuations
 
-not_joined : (c : ℕ) (cs : List ℕ) → is_backslash c ≡ false → joined_length (c ∷ cs) ≡ 0
+pub not_joined : (c : ℕ) (cs : List ℕ) → is_backslash c ≡ false → joined_length (c ∷ cs) ≡ 0
 unfolding joined_length
 not_joined c [] e = refl
 not_joined c (d ∷ cs) e = cond-false _ _ _ (ap (λ t. t && is_newline d) e)
 
-lone : (a c : ℕ) (cs : List ℕ) → is_newline c ≡ false → joined_length (a ∷ c ∷ cs) ≡ 0
+pub lone : (a c : ℕ) (cs : List ℕ) → is_newline c ≡ false → joined_length (a ∷ c ∷ cs) ≡ 0
 unfolding joined_length
-lone a c cs e = cond-false _ _ _ (go (is_backslash a) e)
-  where
-    go : (t : Bool) → is_newline c ≡ false → (t && is_newline c) ≡ false
-    go true e = e
-    go false e = refl
+lone a c cs e = cond-false _ _ _ (and_right (is_backslash a) (is_newline c) e)
 
 pub joined_moves : (w : List ℕ) (c : ℕ) (r r' : List ℕ) → is_backslash c ≡ false → is_newline c ≡ false → (joined_length (w ++ c ∷ r') ≡ joined_length (w ++ c ∷ r)) × (joined_length (w ++ c ∷ r) ≤ length w)
 unfolding joined_length
@@ -85,9 +79,6 @@ behind_moves p w c r r' b n =
 
 -- Runs
 
-one : (n : ℕ) → 1 + n ≡ suc n
-one n = omega arith
-
 pub run_yes : (p : ℕ → Bool) (c : ℕ) (cs : List ℕ) → p c ≡ true → run p (c ∷ cs) ≡ suc (run p cs)
 run_yes p c cs h = ap length (take_while-cons p c cs ∙ cond-true _ _ _ h)
 
@@ -107,7 +98,7 @@ run_inside p (a ∷ w) r r' h = by_bool (p a)
     (λ yes. let e = run_yes p a (w ++ r) yes in run_yes p a (w ++ r') yes ∙ ap suc (run_inside p w r r' (omega arith)) ∙ sym e)
     (λ other. run_no p a (w ++ r') other ∙ sym (run_no p a (w ++ r) other))
 
--- what stands behind a front that ends before the closer
+-- what follows a front that ends before the closer
 pub drop_moves : (n : ℕ) (w : List ℕ) (c : ℕ) (r : List ℕ) → n ≤ length w → drop n (w ++ c ∷ r) ≡ drop n w ++ c ∷ r
 drop_moves n w c r h = drop-append-le n w (c ∷ r) h
 
@@ -136,7 +127,7 @@ joined_alike cs cs' a =
     let k = closer_plain a.c a.closes in
     ap is_joined a.here ∙ ap (λ n. not (n == 0)) (joined_moves a.w a.c a.r a.r' k.backslash k.newline).0 ∙ sym (ap is_joined a.there)
 
--- what stands behind line continuations is alike too
+-- what follows line continuations is alike too
 pub past_joined : (cs cs' : List ℕ) → Alike cs cs' → Alike (behind_joined cs) (behind_joined cs')
 past_joined cs cs' a =
     let k = closer_plain a.c a.closes in
@@ -158,7 +149,7 @@ past_joined cs cs' a =
 pub run_alike : (p : ℕ → Bool) (cs cs' : List ℕ) → Alike cs cs' → ((c : ℕ) → is_closer c ≡ true → p c ≡ false) → run p cs' ≡ run p cs
 run_alike p cs cs' a none = ap (run p) a.here ∙ (run_moves p a.w a.c a.r a.r' (none a.c a.closes)).0 ∙ sym (ap (run p) a.there)
 
--- what stands behind a run is alike too
+-- what follows a run is alike too
 pub behind_run : (p : ℕ → Bool) (cs cs' : List ℕ) → Alike cs cs' → ((c : ℕ) → is_closer c ≡ true → p c ≡ false) → Alike (drop (run p cs) cs) (drop (run p cs') cs')
 behind_run p cs cs' a none =
     let m = run_moves p a.w a.c a.r a.r' (none a.c a.closes) in
@@ -207,7 +198,7 @@ lone_alike cs cs' a =
     longer (e ∷ w) d c r = one_not (length (w ++ c ∷ r))
 
     go : (w : List ℕ) (c : ℕ) (r : List ℕ) → is_backslash c ≡ false → (length (w ++ c ∷ r) == 1 && is_first is_backslash (w ++ c ∷ r)) ≡ false
-    go [] c r k = ap (λ t. length (c ∷ r) == 1 && t) k ∙ neither (length (c ∷ r) == 1)
+    go [] c r k = ap (λ t. length (c ∷ r) == 1 && t) k ∙ and-false (length (c ∷ r) == 1)
     go (d ∷ w) c r k = ap (λ t. t && is_backslash d) (longer w d c r)
 
 -- no lone backquote is the text
@@ -226,7 +217,7 @@ last_alike cs cs' a =
     go (d ∷ []) c r k = refl
     go (d ∷ e ∷ w) c r k = refl
 
--- the first byte, which closes or has alike texts behind it
+-- the first byte, which closes or has alike texts after it
 pub record First (cs cs' : List ℕ) : Type 0 where
   pub d : ℕ
   pub ds : List ℕ
@@ -256,7 +247,7 @@ by_first f cs cs' a h =
     let both : Alike (t.d ∷ t.ds) (t.d ∷ t.ds') = record { w = a.w; c = a.c; r = a.r; r' = a.r'; closes = a.closes; there = sym t.there ∙ a.there; here = sym t.here ∙ a.here } in
     ap f t.here ∙ h t.d t.ds t.ds' t.rest both ∙ sym (ap f t.there)
 
--- behind a byte for which a test holds that no closer passes
+-- after a byte for which a test holds that no closer passes
 pub behind_first : (p : ℕ → Bool) (cs cs' : List ℕ) → Alike cs cs' → ((c : ℕ) → is_closer c ≡ true → p c ≡ false) → is_first p cs ≡ true → Alike (drop 1 cs) (drop 1 cs')
 unfolding is_first
 behind_first p cs cs' a none h = go a.w a.there a.here

@@ -1,4 +1,4 @@
--- Plain bytes and tilde-prefixes before a byte that closes what they stand in.
+-- Plain bytes and tilde-prefixes before a byte that closes their context.
 -- POSIX.1-2024, XCU 2.2 (quoting), 2.6.1 (tilde expansion).
 use Rattle.std.proofs.Common.{◌≡◌, ℕ, ◌+◌, ◌≤◌, ◌==◌, Bool, true, false, ◌&&◌, ◌||◌, if◌then◌else◌, List, [], ◌∷◌, ◌++◌, length, drop, refl, sym, ap, ◌∙◌, arith}
 use Rattle.std.proofs.lemmas.Bool.{cond-true, cond-false}

@@ -1,4 +1,4 @@
--- What a `$` begins before a byte that closes what it stands in is the same whatever follows that byte.
+-- What a `$` begins before a byte that closes its context is the same whatever follows that byte.
 -- POSIX.1-2024, XCU 2.6.2 (parameter expansion), 2.6.3, 2.6.4.
 use Rattle.std.proofs.Common.{◌≡◌, ℕ, ◌+◌, ◌≤◌, ◌==◌, Bool, true, false, ◌&&◌, List, ◌∷◌, length, drop, take, Option, Some, None, ◌⊎◌, inl, inr, refl, sym, ap, subst, ◌∙◌, if◌then◌else◌, arith, length-take, nat_le}
 use Rattle.std.proofs.lemmas.Bool.{cond-true, cond-false, true≢false, eqb-true}

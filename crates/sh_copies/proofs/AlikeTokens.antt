@@ -1,6 +1,8 @@
--- What begins in a word before a byte that closes what it stands in is the same whatever follows that byte.
+-- What begins in a word before a byte that closes its context is the same whatever follows that
+-- byte.
 -- POSIX.1-2024, XCU 2.2 (quoting), 2.6 (word expansions).
 use Rattle.std.proofs.Common.{◌≡◌, ℕ, suc, ◌+◌, ◌≤◌, ◌<◌, ◌==◌, Bool, true, false, not, ◌&&◌, if◌then◌else◌, nat_lt, List, [], ◌∷◌, ◌++◌, length, drop, ◌⊎◌, inl, inr, refl, sym, ap, subst, ◌∙◌, arith, length-append}
+use Rattle.std.proofs.Math.Bool.{and-false}
 use Rattle.std.proofs.lemmas.Bool.{cond-true, cond-false, true≢false, lt-ltb, eqb-true}
 use Rattle.std.proofs.lemmas.Bool.Decides.{nat_tests}
 use Rattle.sh_tree.specs.declared.tree.SingleStyle.TheVariants as style
@@ -14,7 +16,7 @@ use Rattle.sh_tree.specs.declared.token.word.Sign.TheVariants as sign
 use Rattle.sh_tree.specs.standard.language.Bytes.{is_tab, is_name_start, is_name_byte, is_first, is_joined, ends_token, name_length, run}
 use Rattle.sh_tree.specs.standard.language.Words as words
 use Rattle.sh_reads.proofs.BeginningLemmas.{ends, dollar_goes}
-use Rattle.sh_copies.proofs.AlikeBytes.{is_closer, closer_plain, neither, by_bool, run_inside, Alike, first_alike, joined_alike, some_alike, last_alike, by_first, run_alike, behind_run, past_joined}
+use Rattle.sh_copies.proofs.AlikeBytes.{is_closer, closer_plain, by_bool, run_inside, Alike, first_alike, joined_alike, some_alike, last_alike, by_first, run_alike, behind_run, past_joined}
 use Rattle.sh_copies.proofs.AlikePlain.{stands_alike, closer_stands, plain_yes, plain_alike, tilde_alike}
 use Rattle.sh_copies.proofs.AlikeSigns.{name_alike, named_alike, braced_alike, parenthesis_alike}
 
@@ -177,7 +179,7 @@ dollar_quotes w r r' h fits =
 
 -- Expansions
 
--- what stands behind a name is alike too
+-- what follows a name is alike too
 behind_name : (cs cs' : List ℕ) → Alike cs cs' → Alike (drop (name_length cs) cs) (drop (name_length cs') cs')
 unfolding name_length
 behind_name cs cs' a = by_bool (is_first is_name_start cs)
@@ -269,7 +271,7 @@ special_closer site.Verbatim c h k = refl
 
 plain_stands : (x : Context) (prior i c : ℕ) (cs : List ℕ) → words.stops x.site c ≡ false → is_tab c ≡ false → (c == 126) ≡ false → words.is_special x.site c ≡ false → words.stands x prior i c cs ≡ true
 unfolding words.stands words.is_tilde
-plain_stands x prior i c cs s t k q = rw (s, t, neither (x.strip && prior == 10), k, q) refl
+plain_stands x prior i c cs s t k q = rw (s, t, and-false (x.strip && prior == 10), k, q) refl
 
 -- at the closer itself
 closer_sign : (x : Context) (prior i c : ℕ) (r r' : List ℕ) → is_closer c ≡ true → Sound (words.sign_by x prior i c r) 0 → words.sign_by x prior i c r' ≡ words.sign_by x prior i c r
@@ -279,14 +281,14 @@ closer_sign x prior i c r r' h k = by_bool (words.stops x.site c)
     (λ other. by_bool (words.stands x prior i c r)
     (λ plain.
     let u = closer_plain c h in
-    let e : words.sign_by x prior i c r ≡ (sign.Plain, words.plain_length x prior i (c ∷ r)) = rw (other, closer_tab c h, neither (x.strip && prior == 10), plain) refl in
+    let e : words.sign_by x prior i c r ≡ (sign.Plain, words.plain_length x prior i (c ∷ r)) = rw (other, closer_tab c h, and-false (x.strip && prior == 10), plain) refl in
     let one = plain_yes x prior i c r plain in
     let fits = (subst (λ (f : Sign × ℕ). Sound f 0) e k).fits refl in
     absurd (omega arith))
     (λ no. by_bool (c == 34)
     (λ double.
     let u = closer_plain c h in
-    rw (other, closer_tab c h, neither (x.strip && prior == 10), no, closer_stands x prior i c r r' h ∙ no, u.tilde, u.backslash, (closer_opens c h).4, double) refl)
+    rw (other, closer_tab c h, and-false (x.strip && prior == 10), no, closer_stands x prior i c r r' h ∙ no, u.tilde, u.backslash, (closer_opens c h).4, double) refl)
     (λ single. absurd (true≢false (sym (plain_stands x prior i c r other (closer_tab c h) (closer_plain c h).tilde (special_closer x.site c h single)) ∙ no)))))
 
 pub goes_no_stop : (f : Sign × ℕ) → ends f ≡ false → is_stop f.0 ≡ false

@@ -1,6 +1,7 @@
 -- Blanks and comments before a closing parenthesis are the same whatever follows it.
 -- POSIX.1-2024, XCU 2.3 (token recognition), 2.7.4 (here-document).
 use Rattle.std.proofs.Common.{◌≡◌, ℕ, suc, ◌+◌, ◌≤◌, ◌<◌, ◌==◌, Bool, true, false, not, ◌&&◌, ◌||◌, List, [], ◌∷◌, ◌++◌, length, drop, refl, sym, ap, ◌∙◌, arith, eqb-true, length-drop}
+use Rattle.std.proofs.Math.Bool.{and-false}
 use Rattle.std.proofs.lemmas.Bool.{cond-true, cond-false, true≢false, and_parts}
 use Rattle.std.proofs.lemmas.List.{drop-drop, drop-append-le}
 use Rattle.sh_tree.specs.standard.language.Bytes.{is_blank, is_newline, is_backslash, is_first, run}
@@ -23,11 +24,7 @@ run_before p (a ∷ v) c r h k = by_bool (p a)
 
 lone_gap : (a : ℕ) (r : List ℕ) → is_blank a ≡ false → gap_length (a ∷ 41 ∷ r) ≡ 0
 unfolding gap_length
-lone_gap a r h = cond-false _ _ _ h ∙ cond-false _ _ _ (go (is_backslash a))
-  where
-    go : (t : Bool) → (t && false) ≡ false
-    go true = refl
-    go false = refl
+lone_gap a r h = cond-false _ _ _ h ∙ cond-false _ _ _ (and-false (is_backslash a))
 
 no_gap : (r : List ℕ) → gap_length (41 ∷ r) ≡ 0
 unfolding gap_length
@@ -69,7 +66,7 @@ unfolding is_first
 no_parenthesis [] h = absurd (true≢false (sym h))
 no_parenthesis (c ∷ cs) h = let is : c ≡ 35 = eqb-true c 35 h in ap is_parenthesis is
 
--- what stands behind a comment is a newline, or nothing
+-- what follows a comment is a newline, or nothing
 behind_comment : (cs : List ℕ) → is_first is_parenthesis (drop (comment_length cs) cs) ≡ false
 unfolding is_first
 behind_comment [] = refl
@@ -82,7 +79,7 @@ behind_comment (c ∷ cs) = by_bool (is_newline c)
     let more : comment_length (c ∷ cs) ≡ suc (comment_length cs) = run_yes (λ d. not (is_newline d)) c cs (ap not other) in
     ap (λ n. is_first is_parenthesis (drop n (c ∷ cs))) more ∙ behind_comment cs)
 
--- whether a parenthesis stands behind blanks does not depend on comments
+-- whether a parenthesis follows blanks does not depend on comments
 pub parenthesis_behind : (joins : Bool) (cs : List ℕ) → is_first is_parenthesis (drop (blank_length joins cs) cs) ≡ is_first is_parenthesis (drop (gap_length cs) cs)
 unfolding blank_length
 parenthesis_behind joins cs =

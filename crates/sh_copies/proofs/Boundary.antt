@@ -1,6 +1,7 @@
 -- What begins in a whole word before what ends it is the same before a blank, a newline or `)`.
 -- POSIX.1-2024, XCU 2.2.1 (line continuation), 2.3 (token recognition), 2.6.1 (tilde expansion).
 use Rattle.std.proofs.Common.{◌≡◌, ℕ, zero, suc, ◌+◌, ◌≤◌, ◌<◌, ◌==◌, Bool, true, false, not, ◌&&◌, ◌||◌, if◌then◌else◌, List, [], ◌∷◌, ◌++◌, length, drop, ◌⊎◌, inl, inr, refl, sym, ap, subst, ◌∙◌, arith}
+use Rattle.std.proofs.Math.Bool.{and-false}
 use Rattle.std.proofs.lemmas.Bool.{cond-true, cond-false, true≢false, eqb-true, and_parts}
 use Rattle.std.proofs.lemmas.Bool.Decides.{nat_tests}
 use Rattle.std.proofs.lemmas.List.{drop-append-le}
@@ -13,7 +14,7 @@ use Rattle.sh_tree.specs.declared.token.word.Sign.TheVariants as sign
 use Rattle.sh_tree.specs.standard.language.Bytes.{is_blank, is_newline, is_backslash, ends_token, is_first, is_last_backquote, run, joined_length, behind_joined, is_joined}
 use Rattle.sh_tree.specs.standard.language.Words as words
 use Rattle.sh_reads.proofs.TakeLemmas.{is_part}
-use Rattle.sh_copies.proofs.AlikeBytes.{neither, by_bool, run_yes, run_no, zero_not}
+use Rattle.sh_copies.proofs.AlikeBytes.{by_bool, run_yes, run_no, zero_not, not_joined}
 use Rattle.sh_copies.proofs.AlikePlain.{plain_yes, plain_no}
 
 -- a byte that ends a word of the canonical text
@@ -51,7 +52,8 @@ edge_none p none (c ∷ cs) h = none c (go (is_edge c) h)
     go true k = refl
     go false k = absurd (true≢false k)
 
--- The end of a word that is no part before r: it begins with a line continuation, or is a lone backslash, or a lone backquote that ends the text.
+-- The end of a word that is no part before r: it begins with a line continuation, or is a lone
+-- backslash, or a lone backquote that ends the text.
 unfoldable pub loose : List ℕ → List ℕ → Bool
 loose [] r = false
 loose (c ∷ []) r = is_backslash c || (c == 96 && length r == 0)
@@ -60,12 +62,7 @@ loose (c ∷ d ∷ cs) r = is_backslash c && is_newline d
 pub no_literal : (cs : List ℕ) → words.is_literal_backslash site.Word cs ≡ false
 unfolding is_first
 no_literal [] = refl
-no_literal (d ∷ cs) = neither (not (length (d ∷ cs) == 0))
-
-pub lone_none : (c : ℕ) (r : List ℕ) → is_backslash c ≡ false → joined_length (c ∷ r) ≡ 0
-unfolding joined_length
-lone_none c [] h = refl
-lone_none c (d ∷ r) h = cond-false _ _ _ (ap (λ t. t && is_newline d) h)
+no_literal (d ∷ cs) = and-false (not (length (d ∷ cs) == 0))
 
 left_none : (s t : Bool) → s || t ≡ false → s ≡ false
 left_none false t h = refl
@@ -73,14 +70,14 @@ left_none true t h = absurd (true≢false h)
 
 pub joined_not : (c : ℕ) (v r rest : List ℕ) → loose (c ∷ v) r ≡ false → joined_length (c ∷ (v ++ rest)) ≡ 0
 unfolding joined_length loose
-joined_not c [] r rest h = lone_none c rest (left_none _ _ h)
+joined_not c [] r rest h = not_joined c rest (left_none _ _ h)
 joined_not c (d ∷ v) r rest h = cond-false _ _ _ h
 
 -- no continuation begins before a blank, a newline or `)`
 pub break_joined : (r : List ℕ) → is_first breaks r ≡ true → joined_length r ≡ 0
 unfolding is_first joined_length
 break_joined [] h = refl
-break_joined (c ∷ r) h = lone_none c r (grind (arith, nat_tests, h))
+break_joined (c ∷ r) h = not_joined c r (grind (arith, nat_tests, h))
 
 abbrev makes_part : Sign × ℕ → Bool
 makes_part f = is_part f.0
@@ -93,7 +90,7 @@ is_prefix _ = false
 add_one : (n : ℕ) → 1 + n ≡ suc n
 add_one n = omega arith
 
--- the byte before what is left of the text behind n bytes, or what stood before the text
+-- the byte before what is left of the text after n bytes, or what stood before the text
 unfoldable pub before : ℕ → List ℕ → ℕ → ℕ
 before prior [] n = prior
 before prior (a ∷ w) zero = prior
@@ -108,14 +105,14 @@ module _ (o : ℕ) (colons fields backquotes : Bool) where
   pub record Goes (prior i : ℕ) (v r : List ℕ) : Type 0 where
     pub part : is_part (words.sign_of outer prior i (v ++ r)).0 ≡ true
     pub fits : (words.sign_of outer prior i (v ++ r)).1 ≤ length v
-    -- and behind a tilde-prefix it may be cut
+    -- and after a tilde-prefix it may be cut
     pub behind : is_prefix (words.sign_of outer prior i (v ++ r)).0 ≡ true → loose (drop (words.sign_of outer prior i (v ++ r)).1 v) r ≡ false
 
   -- the word ends here, or goes on with a part
   abbrev pub GoesOn : List ℕ → List ℕ → Type 0
   GoesOn v r = (v ≡ []) ⊎ ((prior : ℕ) × (i : ℕ) × Goes prior i v r)
 
-  -- the same, behind the byte `prior`
+  -- the same, after the byte `prior`
   abbrev pub GoesAt : ℕ → ℕ → List ℕ → List ℕ → Type 0
   GoesAt prior i v r = (v ≡ []) ⊎ Goes prior i v r
 
@@ -148,7 +145,7 @@ module _ (o : ℕ) (colons fields backquotes : Bool) where
       either true = refl
       either false = refl
 
-  -- a backslash keeps the byte behind it
+  -- a backslash keeps the byte after it
   pub lone_backslash : (prior i : ℕ) (r : List ℕ) → Goes prior i (92 ∷ []) r → ⊥
   unfolding words.backslash
   lone_backslash prior i [] g = absurd (true≢false (sym g.part ∙ ap (λ f. is_part f.0) (backslash_sign prior i [])))
@@ -159,7 +156,7 @@ module _ (o : ℕ) (colons fields backquotes : Bool) where
       either true e k n = absurd (true≢false (k ∙ continuation_none r))
       either false e k n = let fits = g.fits in absurd (omega arith)
 
-  -- where a word goes on it may be cut
+  -- if a word goes on, it may be cut
   pub loose_goes : (v r : List ℕ) → GoesOn v r → loose v r ≡ false
   unfolding loose words.backslash words.backquoted
   loose_goes v r (inl e) = rw e refl
@@ -386,7 +383,7 @@ module _ (o : ℕ) (colons fields backquotes : Bool) where
       go true zero h = absurd (true≢false h)
       go true (suc n) h = omega arith
 
-  -- behind a tilde-prefix the word may be cut
+  -- after a tilde-prefix the word may be cut
   pub tilde_behind : (prior i : ℕ) (v r : List ℕ) → words.ends_joined r ≡ true → Goes prior i (126 ∷ v) r → words.stands outer prior i 126 (v ++ r) ≡ false → loose (drop (run words.is_login_byte v) v) r ≡ false
   tilde_behind prior i v r h g none =
       let is = tilde_sign prior i (v ++ r) none in
@@ -394,7 +391,7 @@ module _ (o : ℕ) (colons fields backquotes : Bool) where
       let size = tilde_size (v ++ r) takes ∙ ap suc (run_outer words.is_login_byte v r (edge_none words.is_login_byte edge_login r (edge_first r h))).0 in
       subst (λ n. loose (drop n (126 ∷ v)) r ≡ false) size (subst (λ (f : Sign × ℕ). loose (drop f.1 (126 ∷ v)) r ≡ false) is (g.behind (ap (λ f. is_prefix f.0) is)))
 
-  -- where a part begins that is no such byte none is in the copy
+  -- if a part begins that is no such byte, none is in the copy
   pub stands_goes : (prior i a : ℕ) (v r r' : List ℕ) → words.ends_joined r ≡ true → is_first breaks r' ≡ true → Goes prior i (a ∷ v) r → words.stands outer prior i a (v ++ r) ≡ false
       → words.stands outer prior i a (v ++ r') ≡ false
   unfolding is_first
@@ -415,7 +412,7 @@ module _ (o : ℕ) (colons fields backquotes : Bool) where
           let opens = dollar_opens prior i v r h g (sym (literal_or prior i (v ++ r)) ∙ none) in
           literal_or prior i (v ++ r') ∙ dollar_outer v r r' k (λ e. absurd (true≢false (sym opens ∙ ap (is_first (words.opens_dollar false)) e ∙ none_opens))) (opens_not_loose v r opens) ∙ sym (literal_or prior i (v ++ r)) ∙ none
 
-  -- where a run of such bytes begins the word may be cut
+  -- if a run of such bytes begins, the word may be cut
   run_settled : (v r : List ℕ) (prior i : ℕ) → GoesOn (drop (words.plain_length outer prior i (v ++ r)) v) r → loose v r ≡ false
   unfolding loose
   run_settled [] r prior i g = refl
@@ -440,7 +437,7 @@ module _ (o : ℕ) (colons fields backquotes : Bool) where
       let s : words.is_special site.Word c ≡ false = grind (arith, nat_tests, h) in
       rw (a, b, s) refl
 
-  -- and behind a login name in it
+  -- and after a login name in it
   login_settled : (v r : List ℕ) (prior i : ℕ) → GoesOn (drop (words.plain_length outer prior i (v ++ r)) v) r → loose (drop (run words.is_login_byte v) v) r ≡ false
   unfolding loose
   login_settled [] r prior i g = refl

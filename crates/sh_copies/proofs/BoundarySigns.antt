@@ -1,4 +1,5 @@
--- The tokens of a whole word are the same before a blank, a newline or `)` as before what ends the word.
+-- The tokens of a whole word are the same before a blank, a newline or `)` as before what ends
+-- the word.
 -- POSIX.1-2024, XCU 2.2 (quoting), 2.3 (token recognition), 2.6 (word expansions).
 use Rattle.std.proofs.Common.{◌≡◌, ℕ, zero, suc, ◌+◌, ◌≤◌, ◌<◌, ◌==◌, Bool, true, false, not, ◌&&◌, if◌then◌else◌, List, [], ◌∷◌, ◌++◌, length, drop, Option, Some, None, refl, sym, ap, subst, ◌∙◌, arith}
 use Rattle.std.proofs.lemmas.Bool.{cond-true, cond-false, true≢false, eqb-true, and_parts}
@@ -18,12 +19,12 @@ use Rattle.sh_tree.specs.standard.language.Bytes.{is_backslash, is_name_start, i
 use Rattle.sh_tree.specs.standard.language.Trees.{span}
 use Rattle.sh_tree.specs.standard.language.Words as words
 use Rattle.sh_reads.proofs.TakeLemmas.{is_part}
-use Rattle.sh_copies.proofs.AlikeBytes.{by_bool, zero_not, Alike}
+use Rattle.sh_copies.proofs.AlikeBytes.{by_bool, zero_not, Alike, not_joined}
 use Rattle.sh_copies.proofs.AlikePlain.{plain_yes, plain_no}
 use Rattle.sh_copies.proofs.AlikeSigns.{braced_alike}
 use Rattle.sh_copies.proofs.WordsTokens.{part_sound}
 use Rattle.sh_copies.proofs.AlikeTokens.{single_sound, single_moves, dollar_quotes, sign_in_part}
-use Rattle.sh_copies.proofs.Boundary.{lone_backslash, continuation_none, breaks, is_edge, edge_first, edge_none, break_first, break_joined, joined_not, lone_none, loose, before, outer, Goes, GoesAt, run_outer, tilde_outer, tilde_behind, literal_or, dollar_opens, stands_goes, plain_outer}
+use Rattle.sh_copies.proofs.Boundary.{lone_backslash, continuation_none, breaks, is_edge, edge_first, edge_none, break_first, break_joined, joined_not, loose, before, outer, Goes, GoesAt, run_outer, tilde_outer, tilde_behind, literal_or, dollar_opens, stands_goes, plain_outer}
 
 -- it opens what ends with a byte that closes it
 abbrev pub is_open : Sign → Bool
@@ -37,7 +38,7 @@ is_open _ = false
 abbrev pub is_whole : Sign → Bool
 is_whole g = is_part g && not (is_open g)
 
--- such an expansion ends with a brace, so many bytes behind `${`
+-- such an expansion ends with a brace, so many bytes after `${`
 record Closes (f : Sign × ℕ) (cs : List ℕ) : Type 0 where
   closes : is_whole f.0 ≡ true → (n : ℕ) × (f.1 ≡ n + 3) × (words.closes (drop n cs) ≡ true)
 
@@ -115,7 +116,7 @@ braced_outer i v r r' h fits =
 pub edge_name : (c : ℕ) → is_edge c ≡ true → is_name_byte c ≡ false
 edge_name c h = grind (arith, nat_tests, h)
 
--- no name goes on behind continuations there
+-- no name goes on after continuations there
 name_ends : (u r r' : List ℕ) → is_first breaks r' ≡ true → loose u r ≡ false → (is_joined (u ++ r') && is_first is_name_byte (behind_joined (u ++ r'))) ≡ false
 name_ends [] r r' k l = rw (break_joined r' k) refl
 name_ends (c ∷ u) r r' k l = rw (joined_not c u r r' l) refl
@@ -239,7 +240,7 @@ module _ (o : ℕ) (colons fields backquotes : Bool) where
   dollar_outer i [] r r' h k opens whole fits behind = absurd (true≢false (sym opens))
   dollar_outer i (c ∷ v) r r' h k opens whole fits behind =
       let slash : is_backslash c ≡ false = grind (arith, nat_tests, opens) in
-      let found : (rest : List ℕ) → words.dollar x i (c ∷ (v ++ rest)) ≡ words.sign_in x (words.dollar_expansion i (c ∷ (v ++ rest))) = (λ rest. rw (lone_none c (v ++ rest) slash) refl) in
+      let found : (rest : List ℕ) → words.dollar x i (c ∷ (v ++ rest)) ≡ words.sign_in x (words.dollar_expansion i (c ∷ (v ++ rest))) = (λ rest. rw (not_joined c (v ++ rest) slash) refl) in
       let there = found r in
       let same = there ∙ sign_in_part x (words.dollar_expansion i (c ∷ (v ++ r))) (part_sound (words.sign_in x (words.dollar_expansion i (c ∷ (v ++ r)))).0 (sym (ap (λ f. is_part f.0) there) ∙ part_of (words.dollar x i (c ∷ (v ++ r))).0 whole)) in
       found r' ∙ ap (words.sign_in x) (expansion_outer i c v r r' h k (sym (ap (λ f. is_whole f.0) same) ∙ whole) (let size = ap (λ f. f.1) same in omega arith)
@@ -251,7 +252,7 @@ module _ (o : ℕ) (colons fields backquotes : Bool) where
   unfolding words.stands words.is_tilde
   other_stands prior i a cs e t d s q u b = let special : words.is_special site.Word a ≡ false = grind (arith, nat_tests, d, s, q, u, b) in rw (e, t, special) refl
 
-  -- a backslash in the word keeps the byte behind it
+  -- a backslash in the word keeps the byte after it
   backslash_outer : (prior i : ℕ) (v r r' : List ℕ) → Goes o colons fields backquotes prior i (92 ∷ v) r → is_part (words.backslash x (v ++ r)).0 ≡ true → words.backslash x (v ++ r') ≡ words.backslash x (v ++ r)
   unfolding words.backslash
   backslash_outer prior i [] r r' g part = absurd (lone_backslash o colons fields backquotes prior i r g)

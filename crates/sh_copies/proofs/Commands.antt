@@ -39,7 +39,7 @@ use Rattle.sh_copies.proofs.Forward.{skip_forward, name_forward, parted_forward,
 use Rattle.sh_copies.proofs.Leads.{name_is_no_sign}
 use Rattle.sh_copies.proofs.Places.{less_deep, further, moved_to}
 
--- there are redirections where one begins
+-- there are redirections if one begins
 empty_is : {limit : ℕ} {b : List ℕ} {body : ℕ → Document} {s u : State} {ys : List Redirect} → ReadsRedirects limit b body s u ys → is_empty ys ≡ not (is_redirection (lead_of b (Named false) s))
 unfolding is_empty
 empty_is (r.no_redirect h) = ap not (sym h)

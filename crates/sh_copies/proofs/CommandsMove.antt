@@ -58,7 +58,7 @@ not_quiet t true f h = absurd (true≢false (sym (f refl) ∙ h))
 not_quiet t false f h = refl
 
 module _ {limit n : ℕ} (words : WordsMove limit n) (parts : PartsMove limit n) {b b' : List ℕ} (c : Copied b b') (ahead : Ahead c) where
-  -- the state behind what is read at the copy, and for any bodies its tree
+  -- the state after what is read at the copy, and for any bodies its tree
   pub record FoundState (u : State) {A : Type 0} (Reading : (ℕ → Document) → State → A → Type 0) : Type 0 where
     pub to : State
     pub moved : MovedState c ahead u to
@@ -138,7 +138,7 @@ module _ {limit n : ℕ} (words : WordsMove limit n) (parts : PartsMove limit n)
             (y.0 ∷ ys.0, r.more_redirects (ap is_redirection (lead_of_same c ahead m (omega arith) (Named false)) ∙ h) y.1 ys.1);
       }
 
-  -- Newlines and the bodies behind them
+  -- Newlines and the bodies after them
 
   pub documents_move : {ms : List Mark} {s s' v : State} → MovedState c ahead s s' → ReadsDocuments limit b ms s v → v.spot.at < s.spot.at + n → v.spot.at ≤ limit_of c
       → (v' : State) × MovedState c ahead v v' × ReadsDocuments limit b' ms s' v'

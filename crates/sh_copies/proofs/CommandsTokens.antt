@@ -22,7 +22,7 @@ use Rattle.sh_copies.proofs.Leads.{lead_front, lead_moves, bare_front, bare_move
 use Rattle.sh_copies.proofs.WordsMove.{equal_far}
 use Rattle.sh_copies.proofs.Places.{left, further as further_on, as_far, moved_to, moved_behind}
 
--- a closing parenthesis stands behind the copy in both texts
+-- a closing parenthesis follows the copy in both texts
 pub record Closing (rest rest' : List ℕ) : Type 0 where
   pub r : List ℕ
   pub r' : List ℕ
@@ -39,7 +39,7 @@ module _ {b b' : List ℕ} (c : Copied b b') where
       ap (λ k. c.into + n == k) p.at' ∙ equal_far c.from c.into p.by n ∙ sym (ap (λ k. c.from + n == k) (e ∙ p.at))
 
 module _ {b b' : List ℕ} (c : Copied b b') (ahead : Ahead c) where
-  -- what depends on no byte behind a closing parenthesis
+  -- what depends on no byte after a closing parenthesis
   pub text_same : {A : Type 0} (f : List ℕ → A) → ((w r r' : List ℕ) → f (w ++ 41 ∷ r') ≡ f (w ++ 41 ∷ r)) → {i i' : ℕ} → Place c i i' → i ≤ limit_of c → f (drop i' b') ≡ f (drop i b)
   text_same f moves p h =
       let l = left c p h in
@@ -162,7 +162,7 @@ module _ {b b' : List ℕ} (c : Copied b b') (ahead : Ahead c) where
     pub pending : s'.pending ≡ s.pending
     pub count : length s'.bodies ≡ length s.bodies
 
-  -- at the token at or behind a place
+  -- at the token at or after a place
   pub moved_next : {i i' : ℕ} {s s' : State} → MovedState s s' → Place c i i' → (next b i s).spot.at ≤ limit_of c → Ready (next b i s).spot.at → MovedState (next b i s) (next b' i' s')
   moved_next {i} {i'} {s} {s'} m p h ready = record {
     spot = moved_to c m.spot (subst (λ j. Place c (blanks s.spot.joins b i) (blanks j b' i')) (sym m.spot.joins) (blanks_same s.spot.joins p h ready));

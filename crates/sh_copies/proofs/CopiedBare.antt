@@ -1,6 +1,6 @@
 -- Where the unquoted bytes end with which a word begins, whatever follows the word.
 -- POSIX.1-2024, XCU 2.2.1 (backslash), 2.3 (token recognition), 2.6.1 (tilde expansion).
-use Rattle.std.proofs.Common.{◌≡◌, ℕ, zero, suc, ◌+◌, ◌≤◌, ◌<◌, ◌==◌, Bool, true, false, not, ◌&&◌, ◌||◌, if◌then◌else◌, List, [], ◌∷◌, ◌++◌, length, drop, codes, refl, sym, ap, subst, ◌∙◌, arith}
+use Rattle.std.proofs.Common.{◌≡◌, ℕ, zero, suc, ◌+◌, ◌≤◌, ◌<◌, ◌==◌, Bool, true, false, not, ◌||◌, if◌then◌else◌, List, [], ◌∷◌, ◌++◌, length, drop, codes, refl, sym, ap, subst, ◌∙◌, arith}
 use Rattle.std.specs.List.{list_all}
 use Rattle.std.proofs.lemmas.Bool.{true≢false, and_parts, eqb-true}
 use Rattle.std.proofs.lemmas.Bool.Decides.{nat_tests}
@@ -18,9 +18,8 @@ use Rattle.sh_tree.specs.standard.language.Reading.{ReadsPart, ReadsParts, sign_
 use Rattle.sh_tree.specs.standard.language.States.{Spot}
 use Rattle.sh_tree.specs.standard.language.Words as words
 use Rattle.sh_tree.proofs.Inversions.{stopped, nothing_at}
-use Rattle.sh_copies.proofs.AlikeBytes.{by_bool, neither, run_yes, run_no, zero_not}
+use Rattle.sh_copies.proofs.AlikeBytes.{by_bool, run_yes, run_no, zero_not, not_joined, lone}
 use Rattle.sh_copies.proofs.AlikePlain.{plain_yes, plain_no}
-use Rattle.sh_copies.proofs.Boundary.{lone_none}
 use Rattle.sh_copies.proofs.Declaring.{Edge, edge, edge_stands, ends_stop, token_first, word_stands, last_false}
 use Rattle.sh_copies.proofs.Forward.{parts_forward, part_forward}
 
@@ -42,6 +41,7 @@ edge_barrier (c ∷ cs) h =
     let e = edge c cs h in
     record { plain = λ x prior i word. plain_no x prior i c cs (edge_stands x prior i c cs word e); login = run_no words.is_login_byte c cs (edge_login c cs e) }
 
+-- no backslash of a word stands for itself
 pub backslash_stands : (x : Context) (prior i : ℕ) (cs : List ℕ) → x.site ≡ site.Word → words.stands x prior i 92 cs ≡ false
 unfolding is_first
 backslash_stands x prior i cs word = word_stands x prior i 92 cs word ∙ last_false (not (ends_token 92)) (not (words.is_stripped x prior 92)) (not (words.is_tilde x prior i 92 cs)) _ (go cs)
@@ -184,7 +184,7 @@ ends_there {b = b} {x = x} {s = s} reads word strip v rest e bare ends =
     let at = p.at in
     ap (λ (t : Spot). t.at) stop.0 ∙ (let k : p.spot.at + (words.sign_of x p.prior p.spot.at (drop p.spot.at b)).1 ≡ s.at + length v = omega arith in k)
 
--- behind a backslash that is unquoted, a byte of the word that is no newline
+-- after a backslash that is unquoted, a byte of the word that is no newline
 record Escapes (i : ℕ) (u : Spot) (cs : List ℕ) : Type 0 where
   byte : ℕ
   rest : List ℕ
@@ -232,15 +232,11 @@ escapes_at {limit = limit} {b = b} {x = x} {prior = prior} {s = s} {u = u} reads
     let is : words.sign_of x prior s.at (drop s.at b) ≡ (sign.Escaped, 2) = found ∙ rw (other, k) refl in
     record { byte = d; rest = ds; is = refl; other = other; inside = escape_forward reads (ap (λ (f : Sign × ℕ). f.0) is) (ap (λ (f : Sign × ℕ). f.1) is) })
 
--- a byte of the word behind its unquoted bytes: no word ends there, whatever stands behind it
+-- a byte of the word after its unquoted bytes: no word ends there, whatever follows it
 pub record Beyond (c : ℕ) (v r : List ℕ) : Type 0 where
   pub no_token : ends_token c ≡ false
   pub none : (r' : List ℕ) → joined_length (c ∷ (v ++ r')) ≡ 0
   pub goes_on : words.ends_joined (c ∷ (v ++ r)) ≡ false
-
-escaped_none : (c d : ℕ) (cs : List ℕ) → is_newline d ≡ false → joined_length (c ∷ d ∷ cs) ≡ 0
-unfolding joined_length
-escaped_none c d cs h = ap (λ t. if t then 2 + joined_length cs else 0) (ap (λ t. is_backslash c && t) h ∙ neither (is_backslash c))
 
 pub beyond : {limit : ℕ} {b : List ℕ} {x : Context} {prior : ℕ} {s u : Spot} {ps : List Part} → ReadsParts limit b x prior s u ps → x.site ≡ site.Word → x.strip ≡ false → (front : List ℕ) (c : ℕ) (v r : List ℕ)
     → drop s.at b ≡ front ++ (c ∷ (v ++ r)) → list_all is_bare front ≡ true → u.at ≡ s.at + (length front + suc (length v)) → Beyond c v r
@@ -248,7 +244,7 @@ beyond {limit = limit} {b = b} {x = x} {s = s} {u = u} reads word strip front c 
   no_token = by_bool (ends_token c) (λ yes. let at = ends_there reads word strip front (c ∷ (v ++ r)) e bare (token_first c (v ++ r) yes) in absurd (omega arith)) (λ no. no);
   none = by_bool (is_backslash c)
       (λ yes. escaped (eqb-true c 92 yes))
-      (λ no. λ r'. lone_none c (v ++ r') no);
+      (λ no. λ r'. not_joined c (v ++ r') no);
   goes_on = by_bool (words.ends_joined (c ∷ (v ++ r))) (λ yes. let at = ends_there reads word strip front (c ∷ (v ++ r)) e bare yes in absurd (omega arith)) (λ no. no);
 }
   where
@@ -264,7 +260,7 @@ beyond {limit = limit} {b = b} {x = x} {s = s} {u = u} reads word strip front c 
       where
         go : (w : List ℕ) {d : ℕ} {ds : List ℕ} → w ++ r ≡ d ∷ ds → is_newline d ≡ false → 1 ≤ length w → joined_length (c ∷ (w ++ r')) ≡ 0
         go [] k other some = absurd (omega arith)
-        go (a ∷ w) {d = d} k other some = escaped_none c a (w ++ r') (ap (λ t. is_newline (first t)) k ∙ other)
+        go (a ∷ w) {d = d} k other some = lone c a (w ++ r') (ap (λ t. is_newline (first t)) k ∙ other)
           where
             first : List ℕ → ℕ
             first [] = 0

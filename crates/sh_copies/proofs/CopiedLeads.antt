@@ -22,7 +22,7 @@ no_operator c cs h =
 some_text : (n : ℕ) → nat_le (suc n) 0 ≡ false
 some_text n = grind (arith, nat_tests)
 
--- what the token is where bytes stand that are no operator
+-- what the token is if the bytes are no operator
 abbrev pub lead_by : Stage → ℕ → List ℕ → Lead
 lead_by g c cs =
     if is_newline c then lead.Newline

@@ -103,7 +103,6 @@ dollar_part x i c rest = grind (arith, nat_tests, expansion_part i c rest)
 
 -- Plain parts
 
--- no backslash of a word stands for itself
 plain_none : (x : Context) (prior i : ℕ) (cs : List ℕ) → x.site ≡ site.Word → list_any is_backslash (take (words.plain_length x prior i cs) cs) ≡ false
 unfolding words.plain_length
 plain_none x prior i [] word = refl

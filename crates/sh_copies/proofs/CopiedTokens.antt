@@ -1,6 +1,7 @@
 -- The token with which a whole word begins is a word wherever it stands.
 -- POSIX.1-2024, XCU 2.3 (token recognition), 2.4 (reserved words), 2.9.1 (simple commands).
 use Rattle.std.proofs.Common.{◌≡◌, ℕ, suc, ◌+◌, ◌-◌, ◌<◌, ◌==◌, Bool, true, false, not, ◌&&◌, ◌||◌, if◌then◌else◌, Option, Some, None, List, [], ◌∷◌, ◌++◌, length, drop, take, refl, sym, ap, subst, ◌∙◌, ◌⊎◌, inl, inr, arith, append-nil, append_assoc, length-drop}
+use Rattle.std.proofs.Math.Bool.{and-false}
 use Rattle.std.specs.List.{list_all}
 use Rattle.std.proofs.lemmas.Bool.{cond-true, cond-false, true≢false, and_parts}
 use Rattle.std.proofs.lemmas.Bool.Decides.{nat_tests}
@@ -31,11 +32,10 @@ use Rattle.sh_tree.specs.standard.language.Words as words
 use Rattle.sh_tree.proofs.Inversions.{word_parts}
 use Rattle.sh_reads.proofs.BeginningLemmas.{word_goes}
 use Rattle.sh_reads.proofs.MoveLemmas.{is_end, lead_inside as text_inside}
-use Rattle.sh_copies.proofs.AlikeBytes.{by_bool, neither, run_yes, run_no, zero_not}
-use Rattle.sh_copies.proofs.Boundary.{lone_none}
+use Rattle.sh_copies.proofs.AlikeBytes.{by_bool, run_yes, run_no, zero_not, not_joined}
 use Rattle.sh_copies.proofs.CopiedBare.{Beyond, beyond}
 use Rattle.sh_copies.proofs.CopiedLeads.{no_operator, lead_inside}
-use Rattle.sh_copies.proofs.Declaring.{edge, edge_bare, name_bare, ends_stop, token_first, parts_end, declares_read}
+use Rattle.sh_copies.proofs.Declaring.{edge, edge_bare, ends_stop, token_first, parts_end, declares_read, name_bare}
 use Rattle.sh_copies.proofs.Forward.{parts_forward}
 use Rattle.sh_copies.proofs.Inside.{parts_inside}
 use Rattle.sh_copies.proofs.Leads.{bare_front, lead_front, lead_is_no_sign}
@@ -65,7 +65,7 @@ run_front p (c ∷ v) cs all none =
     let both = and_parts (p c) (list_all p v) all in
     run_yes p c (v ++ cs) both.0 ∙ ap suc (run_front p v cs both.1 none)
 
--- what stands behind the front, before other bytes
+-- what follows the front, before other bytes
 first_behind : (p : ℕ → Bool) (back r : List ℕ) → is_first p back ≡ false → is_first p r ≡ false → is_first p (back ++ r) ≡ false
 unfolding is_first
 first_behind p [] r h k = k
@@ -86,7 +86,7 @@ unfolding is_first
 edge_none p weaker [] h = refl
 edge_none p weaker (c ∷ cs) h = by_bool (p c) (λ yes. absurd (true≢false (sym (weaker c yes) ∙ edge_bare c cs (edge c cs h)))) (λ no. no)
 
--- What may stand behind a word
+-- What may follow a word
 
 record Ending (r : List ℕ) : Type 0 where
   byte : ℕ
@@ -128,7 +128,7 @@ no_gap c (d ∷ cs) h k = cond-false _ _ _ h ∙ go (is_backslash c && is_newlin
 
 -- A whole word
 
--- a byte of the word behind unquoted bytes
+-- a byte of the word after unquoted bytes
 abbrev Byte : List ℕ → List ℕ → Type 0
 Byte v r = (front : List ℕ) (c : ℕ) (back : List ℕ) → v ≡ front ++ (c ∷ back) → list_all is_bare front ≡ true → Beyond c back r
 
@@ -180,7 +180,7 @@ module _ (v r : List ℕ) (byte : Byte v r) (ends : words.ends_joined r ≡ true
           let two = bare_by r front (c ∷ back) is all k ∙ cond-false _ _ _ at.goes_on in
           record { same = one ∙ sym two; either = inr one }
 
-  -- No `<` or `>` stands behind the digits
+  -- No `<` or `>` follows the digits
 
   angle_byte : (c : ℕ) → ends_token c ≡ false → (c == 60 || c == 62) ≡ false
   angle_byte c h = grind (arith, nat_tests)
@@ -204,7 +204,7 @@ module _ (v r : List ℕ) (byte : Byte v r) (ends : words.ends_joined r ≡ true
       subst NoAngle (sym behind) (go s.front s.back s.is (all_weaker is_digit is_bare digit_bare s.front s.all))
     where
       go : (front back : List ℕ) → v ≡ front ++ back → list_all is_bare front ≡ true → NoAngle (back ++ r')
-      go front [] is all = subst NoAngle (sym e.is) (plain_angle e.byte e.rest e.angle (lone_none e.byte e.rest e.backslash))
+      go front [] is all = subst NoAngle (sym e.is) (plain_angle e.byte e.rest e.angle (not_joined e.byte e.rest e.backslash))
       go front (c ∷ back) is all = let at = byte front c back is all in plain_angle c (back ++ r') (angle_byte c at.no_token) (at.none r')
 
   -- An assignment begins both texts or neither
@@ -284,7 +284,7 @@ module _ (v r : List ℕ) (byte : Byte v r) (ends : words.ends_joined r ≡ true
       let there : drop (blanks false cs (0 + length w)) cs ≡ drop (blank_length false r') r' =
       ap (λ t. drop (blanks false cs (0 + length t)) cs) whole ∙ ap (λ n. drop (n + blank_length false (drop n cs)) cs) zero_more
       ∙ ap (λ t. drop (length v + blank_length false t) cs) behind ∙ sym (drop-drop (blank_length false r') (length v) cs) ∙ ap (drop (blank_length false r')) behind in
-      ap (λ t. is_name w && is_first is_parenthesis t) there ∙ ap (λ t. is_name w && t) h.opens_nothing ∙ neither (is_name w)
+      ap (λ t. is_name w && is_first is_parenthesis t) there ∙ ap (λ t. is_name w && t) h.opens_nothing ∙ and-false (is_name w)
 
   first_word : (r' : List ℕ) → IsBehindWord r' → (w : List ℕ) (o : Option Reserved) → (w ≡ v) ⊎ (w ≡ []) → first_lead (v ++ r) 0 w o ≡ lead.Word → first_lead (v ++ r') 0 w o ≡ lead.Word
   unfolding first_lead
@@ -314,8 +314,8 @@ module _ (v r : List ℕ) (byte : Byte v r) (ends : words.ends_joined r ≡ true
       let angle = digits_angle r' e in
       let bare = bare_same r' e in
       let assigned : (not (is_named g) && is_assignment cs') ≡ false = go (not (is_named g)) source.0 (no_assignment r' e) in
-      cond-false _ _ _ (ap (λ t. not (n' == 0) && t) angle.here ∙ neither (not (n' == 0)))
-      ∙ cond-false _ _ _ (ap (λ t. not (n' == 0) && t) angle.joined ∙ neither (not (n' == 0)))
+      cond-false _ _ _ (ap (λ t. not (n' == 0) && t) angle.here ∙ and-false (not (n' == 0)))
+      ∙ cond-false _ _ _ (ap (λ t. not (n' == 0) && t) angle.joined ∙ and-false (not (n' == 0)))
       ∙ cond-false _ _ _ assigned ∙ word_same g r' h (bare_word cs' 0) bare.either (ap (word_lead cs g 0) bare.same ∙ source.1)
     where
       go : (t : Bool) {x y : Bool} → (t && x) ≡ false → (x ≡ false → y ≡ false) → (t && y) ≡ false
@@ -376,7 +376,7 @@ role_word b (Field g) i = stage_word b g i
 role_word b Unsplit i = record { word = refl; strip = refl }
 role_word b Value i = record { word = refl; strip = refl }
 
--- what the text of a word is before what may stand behind a word
+-- what the text of a word is before what may follow a word
 copied_by : {limit : ℕ} {b : List ℕ} {x : Context} {s u : Spot} {ps : List Part} (stage : Stage) (v r : List ℕ) → IsWordContext x → ReadsParts limit b x 0 s u ps → drop s.at b ≡ v ++ r → u.at ≡ s.at + length v
     → words.ends_joined r ≡ true → gap_length (drop s.at b) ≡ 0 → lead_at b stage s.at ≡ lead.Word → declares b s.at ≡ is_declaring v → TokenOf stage v
 unfolding words.token declares is_first

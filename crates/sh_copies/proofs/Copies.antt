@@ -1,4 +1,4 @@
--- What is copied: bytes of one text that stand in another too, and what is read of them there.
+-- What is copied: bytes of one text that are in another too, and what is read of them there.
 -- POSIX.1-2024, XCU 2.2 (quoting), 2.6 (word expansions).
 use Rattle.std.proofs.Common.{◌≡◌, ℕ, ◌+◌, ◌<◌, ◌≤◌, ◌==◌, true, false, List, ◌∷◌, ◌++◌, length, map, drop, ◌⊎◌}
 use Rattle.std.specs.List.{list_any}
@@ -22,7 +22,7 @@ use Rattle.sh_copies.proofs.AlikeBytes.{is_closer}
 
 -- Places
 
--- both texts go on with the same byte, which closes what the copy stands in
+-- both texts go on with the same byte, which closes the context of the copy
 pub record Closed (rest rest' : List ℕ) : Type 0 where
   pub c : ℕ
   pub r : List ℕ
@@ -31,7 +31,8 @@ pub record Closed (rest rest' : List ℕ) : Type 0 where
   pub there : rest ≡ c ∷ r
   pub here : rest' ≡ c ∷ r'
 
--- Bytes of b that stand in b' too. Both texts go on alike behind them: to the end, or with a byte that closes what they stand in.
+-- Bytes of b that are in b' too. Both texts go on alike after them: to the end, or with a byte that
+-- closes their context.
 pub record Copied (b b' : List ℕ) : Type 0 where
   pub from : ℕ
   pub into : ℕ
@@ -52,7 +53,8 @@ pub record Place {b b' : List ℕ} (c : Copied b b') (i i' : ℕ) : Type 0 where
   pub at : i ≡ c.from + by
   pub at' : i' ≡ c.into + by
 
--- The same spot of the copy. There a newline token may come where it might not before, and other commands have begun.
+-- The same spot of the copy. There a newline token may come that might not before, and other
+-- commands have begun.
 pub record Moved {b b' : List ℕ} (c : Copied b b') (s s' : Spot) : Type 0 where
   pub place : Place c s.at s'.at
   pub depth : s'.depth ≡ s.depth
@@ -107,7 +109,7 @@ pub record ExpressionsMove (limit n : ℕ) : Type 0 where
       → figure_at b u ≡ figure.Close → (over b u).at ≤ limit_of c
       → Found c u (KeptExpression b b' e) (λ u' e'. ReadsExpression limit b' (turned o' x) s' u' e')
 
--- The commands begin behind blanks. What follows them is the same, or closes them.
+-- The commands begin after blanks. What follows them is the same, or closes them.
 pub record ScriptsMove (limit n : ℕ) : Type 0 where
   pub script : {b b' : List ℕ} (c : Copied b b') {s s' u : Spot} {t : Script}
       → Moved c s s' → ReadsScript limit b (to (blanks s.joins b s.at) s) u t → u.at < s.at + n

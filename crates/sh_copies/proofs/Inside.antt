@@ -80,7 +80,7 @@ operator_fits n p k rest l =
     pick n (words.closes rest) _ _ (λ f. most (let some = first_some _ rest f in omega arith))
     (λ e. pick n (is_first (λ c. c == 58) rest) _ _ (λ f. let some = first_some _ rest f in let less = length-drop 1 rest in parameter_fits n true p (k + 1) (drop 1 rest) (omega arith)) (λ f. parameter_fits n false p k rest l))
 
--- behind the end nothing goes on
+-- nothing goes on after the end
 nothing_fits : (n : ℕ) (p : Subject) (k : ℕ) → Fits n (words.parameter_operator p k [])
 unfolding words.parameter_operator words.parameter_action is_first
 nothing_fits n p k = misfit_fits n k []

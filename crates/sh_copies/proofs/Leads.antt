@@ -1,4 +1,4 @@
--- A token of commands before a closing parenthesis is the same wherever it stands, whatever follows.
+-- A token of commands before a closing parenthesis is the same at every place, whatever follows.
 -- POSIX.1-2024, XCU 2.3 (token recognition), 2.4 (reserved words), 2.7 (redirection).
 use Rattle.std.proofs.Common.{◌≡◌, ℕ, zero, suc, ◌+◌, ◌≤◌, ◌<◌, ◌==◌, Bool, true, false, not, ◌&&◌, ◌||◌, List, [], ◌∷◌, ◌++◌, length, drop, take, nat_le, if◌then◌else◌, inl, inr, refl, sym, ap, ◌∙◌, subst, arith, eqb-true, length-drop, length-take, ⊎_elim}
 use Rattle.std.specs.Prelude.{Option, Some, None}
@@ -109,7 +109,7 @@ split_moves zero [] r r' (inl l) = split_inside zero [] r r' (omega arith)
 split_moves (suc zero) [] r r' (inl l) = closing_alone r' ∙ sym (closing_alone r)
 split_moves (suc (suc n)) [] r r' (inl l) = absurd (omega arith)
 
--- whether a byte of the class stands behind n bytes and continuations
+-- whether a byte of the class follows n bytes and continuations
 behind_same : (p : ℕ → Bool) (n : ℕ) (w r r' : List ℕ) → n ≤ length w → is_first p (behind_joined (drop n (w ++ 41 ∷ r'))) ≡ is_first p (behind_joined (drop n (w ++ 41 ∷ r)))
 behind_same p n w r r' l = behind_alike p _ _ (alike_behind n w 41 r r' refl l)
 
@@ -254,7 +254,7 @@ other_moves g w r r' some =
 
 -- All tokens
 
-closing_lead : (g : Stage) (r : List ℕ) → lead_at (41 ∷ r) g 0 ≡ lead.Operator op.RightParenthesis
+pub closing_lead : (g : Stage) (r : List ℕ) → lead_at (41 ∷ r) g 0 ≡ lead.Operator op.RightParenthesis
 unfolding lead_at lead_of operator_lead whole_operator
 closing_lead First r = ap (lead_of (41 ∷ r) First 0) (parenthesis_alone r) ∙ cond-false _ _ _ (closing_alone r)
 closing_lead Prefixed r = ap (lead_of (41 ∷ r) Prefixed 0) (parenthesis_alone r) ∙ cond-false _ _ _ (closing_alone r)
@@ -280,7 +280,7 @@ unfolding lead_at
 lead_moves g [] r r' = closing_lead g r' ∙ sym (closing_lead g r)
 lead_moves g (a ∷ w) r r' = ap (lead_of (a ∷ (w ++ 41 ∷ r')) g 0) (operators_move (a ∷ w) r r') ∙ of_moves g a w r r' (operator_of (a ∷ (w ++ 41 ∷ r))) refl
 
--- what redirection's operator stands behind digits
+-- what redirection's operator follows digits
 abbrev pub behind_digits : List ℕ → Option (Operator × ℕ)
 behind_digits cs = operator_of (drop (run is_digit cs) cs)
 

@@ -1,11 +1,11 @@
--- A token of arithmetic before a byte that closes what it stands in is the same wherever it stands,
+-- A token of arithmetic before a byte that closes its context is the same wherever it stands,
 -- whatever follows that byte.
 -- POSIX.1-2024, XCU 2.6.4 (arithmetic expansion).
 use Rattle.std.proofs.Common.{◌≡◌, ℕ, zero, suc, ◌+◌, ◌≤◌, ◌==◌, Bool, true, false, ◌&&◌, ◌||◌, List, [], ◌∷◌, ◌++◌, length, drop, codes, nat_eq, nat_lt, if◌then◌else◌, inl, inr, refl, sym, ap, ◌∙◌, subst, arith, eqb-true, ⊎_elim}
 use Rattle.std.specs.Prelude.{Option, Some, None}
 use Rattle.std.specs.List.{starts_with}
 use Rattle.std.proofs.Math.Bool.{and-false}
-use Rattle.std.proofs.lemmas.Bool.{cond-true, cond-false, cond_both, le-ltb, and_parts}
+use Rattle.std.proofs.lemmas.Bool.{cond-true, cond-false, cond_both, le-ltb, and_parts, and_right}
 use Rattle.std.proofs.lemmas.Bool.Decides.{nat_tests}
 use Rattle.std.proofs.lemmas.List.{drop-drop, drop-append-le}
 use Rattle.sh_tree.specs.declared.refusal.Form.TheVariants as form
@@ -30,11 +30,7 @@ no_space c (d ∷ cs) h = cond-false _ _ _ (closer_no_space c h) ∙ cond-false 
 
 lone_space : (a c : ℕ) (r : List ℕ) → is_closer c ≡ true → (is_blank a || is_newline a) ≡ false → space_length (a ∷ c ∷ r) ≡ 0
 unfolding space_length
-lone_space a c r h k = cond-false _ _ _ k ∙ cond-false _ _ _ (go (is_backslash a) (closer_plain c h).newline)
-  where
-    go : (t : Bool) → is_newline c ≡ false → (t && is_newline c) ≡ false
-    go true e = e
-    go false e = refl
+lone_space a c r h k = cond-false _ _ _ k ∙ cond-false _ _ _ (and_right (is_backslash a) (is_newline c) (closer_plain c h).newline)
 
 space_moves : (w : List ℕ) (c : ℕ) (r r' : List ℕ) → is_closer c ≡ true → (space_length (w ++ c ∷ r') ≡ space_length (w ++ c ∷ r)) × (space_length (w ++ c ∷ r) ≤ length w)
 unfolding space_length
@@ -212,7 +208,7 @@ lexeme_is b i k found t space token split =
     ∙ ap (λ f. lexeme_from (drop k (drop i b)) (i + k) f) token
     ∙ ap (made (i + k) found) split
 
--- the token at or behind a place before the closer
+-- the token at or after a place before the closer
 pub lexeme_alike : (b b' : List ℕ) (i j : ℕ) → Alike (drop i b) (drop j b') → SameLexeme i j (lexeme b i) (lexeme b' j)
 lexeme_alike b b' i j a =
     let space = space_moves a.w a.c a.r a.r' a.closes in
@@ -227,7 +223,7 @@ lexeme_alike b b' i j a =
     let second = lexeme_is b' j k found t (ap space_length a.here ∙ space.0) (ap figure_of here ∙ m.same) (ap (λ cs. is_split cs found.1) here ∙ split_moves found.1 v a.c a.r a.r' a.closes m.within) in
     subst (λ l. SameLexeme i j l (lexeme b' j)) (sym first) (subst (λ l. SameLexeme i j (made (i + k) found t) l) (sym second) (made_same i j k found t))
 
--- the token at or behind the front of one text
+-- the token at or after the front of one text
 pub lexeme_shifts : (b b' : List ℕ) (i j : ℕ) → drop i b ≡ drop j b' → SameLexeme i j (lexeme b i) (lexeme b' j)
 lexeme_shifts b b' i j e =
     let k = space_length (drop i b) in

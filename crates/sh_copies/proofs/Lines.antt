@@ -5,7 +5,7 @@ use Rattle.std.specs.Prelude.{Some, None}
 use Rattle.std.specs.Str.{bytes_eq}
 use Rattle.std.proofs.Math.Seq.{take-append_seam}
 use Rattle.std.proofs.lemmas.Bool.{cond-true, cond-false, cases_lt, lt-ltb, le-ltb}
-use Rattle.std.proofs.lemmas.List.{drop-drop, drop-append-le, take-append-le}
+use Rattle.std.proofs.lemmas.List.{drop-drop, drop-append-le, take-append-le, nil_from_length}
 use Rattle.std.proofs.lemmas.Option.{same_Some}
 use Rattle.sh_tree.specs.declared.tree.Span.{Span}
 use Rattle.sh_tree.specs.standard.language.Bytes.{is_newline, is_backslash, is_tab, run}
@@ -128,10 +128,6 @@ module _ (m : Mark) where
       let same : ends (drop j b') ≡ true = ap (λ x. bytes_eq (compared x) m.delimiter) (line' ∙ sym line) ∙ is in
       found_here n b' j inside same ∙ ap (λ k. Some (span j (j + k))) size'
 
-  no_byte : (v : List ℕ) → length v ≡ 0 → v ≡ []
-  no_byte [] h = refl
-  no_byte (c ∷ v) h = absurd (omega arith)
-
   again : (n n' : ℕ) (b b' : List ℕ) (i j : ℕ) (v e t t' : List ℕ) (l : Span) → end_line_within n m b i ≡ Some l → l.start ≡ i + length v → l.end ≡ l.start + length e
       → drop i b ≡ v ++ (e ++ t) → drop j b' ≡ v ++ (e ++ t') → size (e ++ t') ≡ length e → 0 < length (e ++ t') → length b' ≤ n' + j
       → end_line_within n' m b' j ≡ Some (span (j + length v) (j + length v + length e))
@@ -145,7 +141,7 @@ module _ (m : Mark) where
       let same : span i (i + size (drop i b)) ≡ l = same_Some _ l (sym (found_here n b i inside is) ∙ h) in
       let first : i ≡ l.start = ap (λ z. z.start) same in
       let last : i + size (drop i b) ≡ l.end = ap (λ z. z.end) same in
-      let none : v ≡ [] = no_byte v (omega arith) in
+      let none : v ≡ [] = nil_from_length v (omega arith) in
       let found = at_once n' b b' i j e t t' (there ∙ ap (λ x. x ++ (e ++ t)) none) (here ∙ ap (λ x. x ++ (e ++ t')) none) (omega arith) long some is in
       found ∙ ap (λ k. Some (span k (k + length e))) (let zero_long : length v ≡ 0 = omega arith in omega arith))
       (λ other.
@@ -182,7 +178,7 @@ module _ (m : Mark) where
       (λ past. absurd (no_line (sym (none_behind (suc n) b i past) ∙ h)))
       (cases_lt i (length b))
 
-  -- the line is found again behind the same lines
+  -- the line is found again after the same lines
   pub end_line_again : (b b' : List ℕ) (i j : ℕ) (v e t t' : List ℕ) (l : Span) → end_line m b i ≡ Some l → l.start ≡ i + length v → l.end ≡ l.start + length e
       → drop i b ≡ v ++ (e ++ t) → drop j b' ≡ v ++ (e ++ t') → size (e ++ t') ≡ length e → 0 < length (e ++ t')
       → end_line m b' j ≡ Some (span (j + length v) (j + length v + length e))

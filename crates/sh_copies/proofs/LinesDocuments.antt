@@ -38,7 +38,7 @@ line_within joins (c ∷ d ∷ cs) = by_bool (is_newline c)
     (λ pair. let rest = line_within joins cs in let two : line_length joins (c ∷ d ∷ cs) ≡ 2 + line_length joins cs = cond-false _ _ _ other ∙ cond-true _ _ _ pair in omega arith)
     (λ alone. let rest = line_within joins (d ∷ cs) in let more : line_length joins (c ∷ d ∷ cs) ≡ 1 + line_length joins (d ∷ cs) = cond-false _ _ _ other ∙ cond-false _ _ _ alone in omega arith))
 
--- a backslash that nothing stands behind ends the text
+-- a backslash that nothing follows ends the text
 hangs : List ℕ → Bool
 hangs [] = false
 hangs (c ∷ []) = is_backslash c

@@ -5,7 +5,7 @@ use Rattle.sh_tree.specs.standard.language.States.{Spot, to, deeper, behind}
 use Rattle.sh_copies.proofs.AlikeBytes.{Alike}
 use Rattle.sh_copies.proofs.Copies.{Copied, Place, Moved, limit_of}
 
--- the same text, or the same up to a byte that closes what they stand in
+-- the same text, or the same up to a byte that closes its context
 abbrev pub Near : List ℕ → List ℕ → Type 0
 Near cs cs' = (cs' ≡ cs) ⊎ Alike cs cs'
 

@@ -1,4 +1,5 @@
--- What begins at one place of a text begins there too if the text stands elsewhere, but for the places of a parameter.
+-- What begins at one place of a text begins there too if the text stands elsewhere, except for the
+-- places of a parameter.
 -- POSIX.1-2024, XCU 2.2 (quoting), 2.6 (word expansions).
 use Rattle.std.proofs.Common.{◌≡◌, ℕ, ◌+◌, ◌==◌, Bool, true, false, not, ◌&&◌, if◌then◌else◌, List, [], ◌∷◌, length, drop, Option, Some, None, take, nat_le, refl, sym, ap, ◌∙◌, arith}
 use Rattle.sh_tree.specs.declared.tree.Action.{Action}
@@ -33,7 +34,7 @@ placeless g = g
 record SameSubject (p' p : Subject) : Type 0 where
   is : unplaced p' ≡ unplaced p
 
--- the same sign of the same length, but for the place of its parameter
+-- the same sign of the same length, except for the place of its parameter
 pub record Same (f' f : Sign × ℕ) : Type 0 where
   pub sign : placeless f'.0 ≡ placeless f.0
   pub size : f'.1 ≡ f.1

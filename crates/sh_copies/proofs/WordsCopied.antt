@@ -1,6 +1,7 @@
--- A whole word of the text is one wherever its bytes stand before what may stand behind a word.
+-- A whole word of the text is one wherever its bytes stand before what may follow a word.
 -- POSIX.1-2024, XCU 2.2 (quoting), 2.3 (token recognition), 2.6 (word expansions).
 use Rattle.std.proofs.Common.{◌≡◌, ℕ, ◌+◌, ◌-◌, ◌≤◌, ◌==◌, Bool, true, false, not, ◌&&◌, nat_le, List, [], ◌∷◌, ◌++◌, length, drop, take, ◌⊎◌, inl, inr, refl, sym, ap, subst, ◌∙◌, ⊎_elim, arith, length-drop, length-take, take-append-drop}
+use Rattle.std.proofs.Math.Bool.{and-false}
 use Rattle.std.proofs.lemmas.Bool.{cond-true, cond-false}
 use Rattle.std.proofs.lemmas.Bool.Decides.{nat_tests}
 use Rattle.std.proofs.lemmas.List.{drop-drop, drop-append-le, append-nil}
@@ -20,7 +21,7 @@ use Rattle.sh_tree.specs.standard.language.Trees as tree
 use Rattle.sh_tree.specs.standard.language.Trees.{span}
 use Rattle.sh_tree.specs.standard.language.Words as words
 use Rattle.sh_copies.specs.Copied.{Role, Field, Unsplit, Value, context_of, form_of, counted, IsBehindWord, IsWordSpot, WordOf}
-use Rattle.sh_copies.proofs.AlikeBytes.{neither, by_bool}
+use Rattle.sh_copies.proofs.AlikeBytes.{by_bool}
 use Rattle.sh_copies.proofs.Arithmetic.{expressions_move}
 use Rattle.sh_copies.proofs.Boundary.{breaks, is_edge, edge_first, edge_none, break_first, break_joined, outer, run_outer}
 use Rattle.sh_copies.proofs.BoundarySigns.{edge_name}
@@ -45,7 +46,7 @@ unfolding is_first
 first_front p [] r h = h
 first_front p (c ∷ v) r h = refl
 
--- the name and the `=` with which a word begins, whatever stands behind it
+-- the name and the `=` with which a word begins, whatever follows it
 name_front : (v r : List ℕ) → is_first (λ c. not (is_edge c)) r ≡ false → (name_length (v ++ r) ≡ name_length v) × (name_length v ≤ length v)
 unfolding name_length
 name_front v r h =
@@ -70,17 +71,14 @@ record Contexts (role : Role) (b b' : List ℕ) (i i' : ℕ) : Type 0 where
   there : context_of role b i ≡ outer (i + far) colons fields true
   here : context_of role b' i' ≡ outer (i' + far) colons fields true
 
+no_further : (i : ℕ) → i ≡ i + 0
+no_further i = omega arith
+
 same_contexts : (role : Role) (b b' v r r' : List ℕ) (i i' : ℕ) → drop i b ≡ v ++ r → drop i' b' ≡ v ++ r' → is_first (λ c. not (is_edge c)) r ≡ false → is_first (λ c. not (is_edge c)) r' ≡ false
     → Contexts role b b' i i'
 unfolding context_of in_stage in_operand name_end
-same_contexts Unsplit b b' v r r' i i' there here h k = record { far = 0; colons = false; fields = false; there = ap (λ o. outer o false false true) (none i); here = ap (λ o. outer o false false true) (none i') }
-  where
-    none : (i : ℕ) → i ≡ i + 0
-    none i = omega arith
-same_contexts Value b b' v r r' i i' there here h k = record { far = 0; colons = true; fields = false; there = ap (λ o. outer o true false true) (none i); here = ap (λ o. outer o true false true) (none i') }
-  where
-    none : (i : ℕ) → i ≡ i + 0
-    none i = omega arith
+same_contexts Unsplit b b' v r r' i i' there here h k = record { far = 0; colons = false; fields = false; there = ap (λ o. outer o false false true) (no_further i); here = ap (λ o. outer o false false true) (no_further i') }
+same_contexts Value b b' v r r' i i' there here h k = record { far = 0; colons = true; fields = false; there = ap (λ o. outer o true false true) (no_further i); here = ap (λ o. outer o true false true) (no_further i') }
 same_contexts (Field (stage.Named true)) b b' v r r' i i' there here h k = by_bool (is_assignment v)
     (λ yes.
     let n = name_length v in
@@ -96,19 +94,13 @@ same_contexts (Field (stage.Named true)) b b' v r r' i i' there here h k = by_bo
       far = 0;
       colons = false;
       fields = true;
-      there = cond-false _ _ _ (ap is_assignment there ∙ assignment_front v r h ∙ other) ∙ ap in_word (none i);
-      here = cond-false _ _ _ (ap is_assignment here ∙ assignment_front v r' k ∙ other) ∙ ap in_word (none i');
+      there = cond-false _ _ _ (ap is_assignment there ∙ assignment_front v r h ∙ other) ∙ ap in_word (no_further i);
+      here = cond-false _ _ _ (ap is_assignment here ∙ assignment_front v r' k ∙ other) ∙ ap in_word (no_further i');
     })
   where
-    none : (i : ℕ) → i ≡ i + 0
-    none i = omega arith
-
     far : (i n : ℕ) → i + n + 1 ≡ i + (n + 1)
     far i n = omega arith
-same_contexts (Field g) b b' v r r' i i' there here h k = record { far = 0; colons = false; fields = true; there = ap in_word (none i); here = ap in_word (none i') }
-  where
-    none : (i : ℕ) → i ≡ i + 0
-    none i = omega arith
+same_contexts (Field g) b b' v r r' i i' there here h k = record { far = 0; colons = false; fields = true; there = ap in_word (no_further i); here = ap in_word (no_further i') }
 
 -- Words
 
@@ -124,12 +116,12 @@ break_angle (c ∷ rest) h = grind (arith, nat_tests, h)
 -- no IO location ends before a blank, a newline or `)`
 no_location : (b : List ℕ) (i j : ℕ) (rest : List ℕ) → drop j b ≡ rest → is_first breaks rest ≡ true → is_location b i j ≡ false
 unfolding is_location
-no_location b i j rest e h = ap (λ t. nat_le (i + 3) j && is_first (λ c. c == 123) (drop i b) && is_first (λ c. c == 125) (drop (j - 1) b) && t) none ∙ neither (nat_le (i + 3) j && is_first (λ c. c == 123) (drop i b) && is_first (λ c. c == 125) (drop (j - 1) b))
+no_location b i j rest e h = ap (λ t. nat_le (i + 3) j && is_first (λ c. c == 123) (drop i b) && is_first (λ c. c == 125) (drop (j - 1) b) && t) none ∙ and-false (nat_le (i + 3) j && is_first (λ c. c == 123) (drop i b) && is_first (λ c. c == 125) (drop (j - 1) b))
   where
     none : is_angle (behind_joined (drop j b)) ≡ false
     none = ap (λ t. is_angle (behind_joined t)) e ∙ ap (λ n. is_angle (drop n rest)) (break_joined rest h) ∙ break_angle rest h
 
--- the bytes of the word, and what stands behind it
+-- the bytes of the word, and what follows it
 word_text : (b : List ℕ) (s u : ℕ) → s ≤ u → (u ≤ length b) ⊎ (u ≡ s) → (s + length (text_of b (span s u)) ≡ u) × (drop s b ≡ text_of b (span s u) ++ drop u b)
 word_text b s u f h =
     let size : length (take (u - s) (drop s b)) ≡ u - s = (let a = length-take (u - s) (drop s b) in let c = length-drop s b in ⊎_elim (λ inside. omega arith) (λ same. omega arith) h) in
@@ -160,7 +152,7 @@ word_there limit b b' role s s' u ps text rest joins tabs i long there ends here
     let behind_it : drop found.to.at b' ≡ rest = ap (λ j. drop j b') end ∙ sym (drop-drop (length text) s'.at b') ∙ ap (drop (length text)) here ∙ drop-append_seam text rest in
     let location = no_location b' s'.at found.to.at rest behind_it behind.ends in
     let whole : ReadsWord limit b' (outer (s'.at + c.far) c.colons c.fields true) s' found.to (tree.word s'.at found.to.at found.tree) =
-    reads.whole_word found.reads (ap (λ t. not c.colons && t) location ∙ neither (not c.colons)) (ap (λ j. keeps_lines b' j found.tree) spot.joins) in (
+    reads.whole_word found.reads (ap (λ t. not c.colons && t) location ∙ and-false (not c.colons)) (ap (λ j. keeps_lines b' j found.tree) spot.joins) in (
       found.to.count,
       found.tree,
       subst (λ e. ReadsWord limit b' (context_of role b' s'.at) s' e (tree.word s'.at (s'.at + length text) found.tree)) to

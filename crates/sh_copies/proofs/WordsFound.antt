@@ -1,4 +1,5 @@
--- Parts, expansions and whole words are found in a copy, where the commands and the arithmetic in them are.
+-- Parts, expansions and whole words are found in a copy if the commands and the arithmetic in them
+-- are.
 -- POSIX.1-2024, XCU 2.2 (quoting), 2.6 (word expansions), 2.7 (redirection).
 use Rattle.std.proofs.Common.{◌≡◌, ℕ, suc, ◌+◌, ◌-◌, ◌≤◌, ◌<◌, Bool, true, not, ◌&&◌, ◌||◌, List, [], ◌∷◌, map, nat_le, refl, sym, ap, ◌∙◌, ◌==◌, arith}
 use Rattle.std.specs.List.{list_all}
@@ -17,7 +18,7 @@ use Rattle.sh_tree.specs.standard.language.Reading as r
 use Rattle.sh_tree.specs.standard.language.Reading.{sign_at, after, is_expansion, ReadsWord}
 use Rattle.sh_tree.specs.standard.language.States.{Spot}
 use Rattle.sh_tree.specs.standard.language.Trees as tree
-use Rattle.sh_reads.proofs.TakeLemmas.{is_part, part_begins, token_moves}
+use Rattle.sh_reads.proofs.TakeLemmas.{part_begins, token_moves}
 use Rattle.sh_copies.proofs.AlikeBytes.{by_bool}
 use Rattle.sh_copies.proofs.AlikeTokens.{is_sound}
 use Rattle.sh_copies.proofs.Copies.{Copied, limit_of, Place, Moved, Turns, turned, Kept, KeptWord, Found, ExpressionsMove, ScriptsMove, PartsMove, ExpansionsMove, WordsMove}
@@ -60,14 +61,6 @@ same_location {b} {b'} c {i} {i'} {j} {j'} p q f h = by_bool (nat_le (i + 3) j)
 module _ {limit n : ℕ} (expressions : ExpressionsMove limit n) (scripts : ScriptsMove limit n) where
   pub parts_found : PartsMove limit (suc n)
   parts_found = record { parts = λ {b} {b'} c {x} {o'} {prior} {s} {s'} {u} {ps} m turns i size within. parts_move expressions scripts c m turns i size within }
-
-  expansion_part : (g : Sign) → is_expansion g ≡ true → is_part g ≡ true
-  expansion_part sign.Stop h = h
-  expansion_part sign.Open h = h
-  expansion_part sign.Tabs h = h
-  expansion_part (sign.Fault f) h = h
-  expansion_part (sign.LeftOut f) h = h
-  expansion_part g h = refl
 
   expansion_placeless : (g : Sign) → is_expansion (placeless g) ≡ is_expansion g
   expansion_placeless (sign.Value p) = refl

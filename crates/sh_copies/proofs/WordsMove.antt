@@ -105,7 +105,7 @@ flat_ends h (r.removal d i) = absurd (true≢false (sym h))
 flat_ends h (r.arithmetic d i k l) = absurd (true≢false (sym h))
 flat_ends h (r.substitution d k i l) = absurd (true≢false (sym h))
 
--- a part that a byte closes goes on behind its sign, and ends with that byte
+-- a part that a byte closes goes on after its sign, and ends with that byte
 pub closing_within : {limit : ℕ} {b : List ℕ} {x : Context} {g : Sign} {s u : Spot} {e : ℕ} {p : Part} → ReadsPart limit b x g s e u p → e + closing g ≤ u.at
 closing_within r.plain = omega arith
 closing_within r.escaped = omega arith
@@ -175,7 +175,7 @@ flat_found {b' = b'} c x o' {s' = s'} {e' = e'} m q f g' h same i within =
     let k = (flat_move b' (turned o' x) s' e' g' h same (same_text c m.place q f within) i).1 in
     record { to = to e' s'; tree = k.tree; moved = moved_to c m q; keeps = k.keeps; reads = k.reads }
 
--- The parts and what they hold, where commands and arithmetic of fewer bytes are found
+-- The parts and what they hold, if commands and arithmetic of fewer bytes are found
 module _ {limit n : ℕ} (expressions : ExpressionsMove limit n) (scripts : ScriptsMove limit n) where
   mutual
     pub parts_move : {b b' : List ℕ} (c : Copied b b') {x : Context} {o' prior : ℕ} {s s' u : Spot} {ps : List Part}

@@ -3,7 +3,7 @@
 use Rattle.std.proofs.Common.{◌≡◌, ℕ, zero, suc, ◌+◌, ◌-◌, ◌≤◌, ◌<◌, ◌==◌, Bool, true, false, not, List, [], ◌∷◌, ◌++◌, length, drop, take, get_or, slice_index, inl, inr, refl, sym, ap, subst, ◌∙◌, ⊎_elim, arith, length-drop}
 use Rattle.std.proofs.lemmas.Bool.{true≢false, and_from, eqb-true}
 use Rattle.std.proofs.lemmas.Bool.Decides.{nat_tests}
-use Rattle.std.proofs.lemmas.List.{drop-drop, drop-append-le, take-append-le, get_or-drop, append_assoc}
+use Rattle.std.proofs.lemmas.List.{drop-drop, drop-append-le, take-append-le, get_or-drop, append_assoc, nil_from_length}
 use Rattle.sh_tree.specs.declared.tree.CommandStyle.TheVariants.{Paren, Backquote}
 use Rattle.sh_tree.specs.declared.tree.Part.{Part}
 use Rattle.sh_tree.specs.declared.tree.Part.TheVariants as part
@@ -33,11 +33,7 @@ use Rattle.sh_copies.proofs.WordsMove.{is_flat, flat_move, flat_ends, closing_wi
 use Rattle.sh_copies.proofs.Places.{less_deep}
 use Rattle.sh_copies.proofs.WordsTokens.{prior_placeless, same_sign, part_sound, stop_size, tabs_strip}
 
-no_length : (v : List ℕ) → length v ≡ 0 → v ≡ []
-no_length [] h = refl
-no_length (a ∷ v) h = absurd (omega arith)
-
--- the byte before what is left of a text behind some bytes
+-- the byte before what is left of a text after some bytes
 before_is : (prior : ℕ) (w r : List ℕ) (n : ℕ) → n < length w → before prior w (suc n) ≡ get_or (w ++ r) n 0
 unfolding before
 before_is prior [] r n h = absurd (omega arith)
@@ -67,7 +63,7 @@ value_flat : (g : Sign) → is_value g ≡ true → is_flat g ≡ true
 value_flat (sign.Value p) h = refl
 value_flat g h = absurd (true≢false (sym h))
 
--- the word up to a byte that closes something, and behind it
+-- the word up to a byte that closes something, and after it
 record Split (v : List ℕ) (m : ℕ) : Type 0 where
   w : List ℕ
   c : ℕ
@@ -128,10 +124,10 @@ module _ (b b' : List ℕ) (p q o o' : ℕ) (colons fields backquotes : Bool) (r
     end' : after b' y prior s' ≡ s'.at + n
 
   module _ {limit : ℕ} where
-    -- where parts are read the word goes on with a part
+    -- if parts are read, the word goes on with a part
     goes : {prior : ℕ} {s u : Spot} {ps : List Part} (v : List ℕ) → drop s.at b ≡ v ++ r → s.at + length v ≡ u.at → ReadsParts limit b x prior s u ps → GoesAt o colons fields backquotes prior s.at v r
     unfolding words.token
-    goes v there long (reads.stop {prior = prior} {s = s} h) = let size = stop_size b x prior s h in inl (no_length v (omega arith))
+    goes v there long (reads.stop {prior = prior} {s = s} h) = let size = stop_size b x prior s h in inl (nil_from_length v (omega arith))
     goes v there long (reads.tabs {prior = prior} {s = s} h i) = absurd (true≢false (sym (tabs_strip b x prior s h)))
     goes {u = u} v there long (reads.more {prior = prior} {s = s} {v = w} {g = g} h i j) =
         let k = token_moves b x prior s.at in
@@ -357,7 +353,7 @@ module _ (b b' : List ℕ) (p q o o' : ℕ) (colons fields backquotes : Bool) (r
     outer_parts {s' = s'} v rest (reads.stop {prior = prior} {s = s} h) size =
         let stop = stop_size b x prior s h in
         let long = rest.long in
-        let none = no_length v (omega arith) in
+        let none = nil_from_length v (omega arith) in
         let e : words.sign_of y prior s'.at (drop s'.at b') ≡ (sign.Stop, 0) = ap (words.sign_of y prior s'.at) (rest.here ∙ ap (λ v. v ++ r') none) ∙ break_stop prior s'.at r' edge in
         let a = rest.along in
         let end : after b' y prior s' ≡ s'.at + 0 = ap (λ f. s'.at + f.1) e in

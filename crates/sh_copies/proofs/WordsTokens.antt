@@ -244,7 +244,7 @@ module _ {b b' : List ℕ} (c : Copied b b') where
       first [] h = absurd (omega arith)
       first (a ∷ w) h = refl
 
-  -- the same byte of a class, up to where the copy ends, and behind continuations there
+  -- the same byte of a class, up to where the copy ends, and after continuations there
   pub near_first : (p : ℕ → Bool) {i i' : ℕ} → Place c i i' → i ≤ limit_of c → is_first p (drop i' b') ≡ is_first p (drop i b)
   near_first p q h = ⊎_elim (λ same. ap (is_first p) same) (λ alike. first_alike p _ _ alike) (near c q h)
 

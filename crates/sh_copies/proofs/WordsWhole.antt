@@ -1,4 +1,4 @@
--- A whole word of the text is one wherever its bytes stand before what may stand behind a word.
+-- A whole word of the text is one wherever its bytes stand before what may follow a word.
 -- POSIX.1-2024, XCU 2.2 (quoting), 2.3 (token recognition), 2.6 (word expansions).
 use Rattle.std.proofs.Common.{◌≡◌, ℕ, suc, ◌+◌, ◌≤◌, ◌==◌, Bool, true, false, ◌||◌, if◌then◌else◌, List, [], ◌∷◌, length, drop, ◌⊎◌, inl, inr, refl, sym, ap, ◌∙◌, arith}
 use Rattle.std.proofs.lemmas.Bool.{true≢false, cond-true, cond-false, eqb-true}
@@ -17,9 +17,9 @@ use Rattle.sh_tree.specs.standard.language.Words as words
 use Rattle.sh_reads.proofs.BeginningLemmas.{dollar_goes, single_goes}
 use Rattle.sh_reads.proofs.TakeLemmas.{part_begins, token_takes, is_part}
 use Rattle.sh_copies.specs.Copied.{counted}
-use Rattle.sh_copies.proofs.AlikeBytes.{by_bool, zero_not}
+use Rattle.sh_copies.proofs.AlikeBytes.{by_bool, zero_not, not_joined}
 use Rattle.sh_copies.proofs.AlikeTokens.{is_stop, goes_no_stop}
-use Rattle.sh_copies.proofs.Boundary.{lone_none, outer}
+use Rattle.sh_copies.proofs.Boundary.{outer}
 use Rattle.sh_copies.proofs.WordsTokens.{stop_size, tabs_strip}
 
 -- Spots
@@ -51,7 +51,7 @@ by_second : (e f l : Bool) → f ≡ true → e || f || l ≡ true
 by_second true f l h = refl
 by_second false f l h = rw h refl
 
--- continuations behind which a word ends
+-- continuations after which a word ends
 joined_ends : (rest : List ℕ) → words.ends_joined rest ≡ true → words.ends_joined (92 ∷ 10 ∷ rest) ≡ true
 unfolding joined_length
 joined_ends rest h = ap (λ n. length (drop n (92 ∷ 10 ∷ rest)) == 0 || is_first ends_token (drop n (92 ∷ 10 ∷ rest)) || is_last_backquote (drop n (92 ∷ 10 ∷ rest))) (two (joined_length rest)) ∙ h
@@ -93,14 +93,14 @@ module _ (o : ℕ) (colons fields backquotes : Bool) where
       go true = refl
       go false = refl
 
-  -- where a word ends stands what may end it
+  -- what may end a word stands where it ends
   stop_edge : (prior i : ℕ) (cs : List ℕ) → is_stop (words.sign_of x prior i cs).0 ≡ true → words.ends_joined cs ≡ true
   unfolding words.sign_of words.sign_by words.meant_by is_first
   stop_edge prior i [] h = nothing_ends
   stop_edge prior i (c ∷ cs) h = by_bool (ends_token c)
       (λ ends.
       let slash : is_backslash c ≡ false = grind (arith, nat_tests, ends) in
-      ap (λ n. length (drop n (c ∷ cs)) == 0 || is_first ends_token (drop n (c ∷ cs)) || is_last_backquote (drop n (c ∷ cs))) (lone_none c cs slash) ∙ by_second (length (c ∷ cs) == 0) (ends_token c) (is_last_backquote (c ∷ cs)) ends)
+      ap (λ n. length (drop n (c ∷ cs)) == 0 || is_first ends_token (drop n (c ∷ cs)) || is_last_backquote (drop n (c ∷ cs))) (not_joined c cs slash) ∙ by_second (length (c ∷ cs) == 0) (ends_token c) (is_last_backquote (c ∷ cs)) ends)
       (λ goes. by_bool (words.stands x prior i c cs)
       (λ stands. let e : S ≡ (sign.Plain, words.plain_length x prior i (c ∷ cs)) = rw (goes, stands) refl in absurd (true≢false (sym h ∙ ap stops e)))
       (λ none. by_bool (c == 126)
@@ -128,7 +128,7 @@ module _ (o : ℕ) (colons fields backquotes : Bool) where
       S = words.sign_of x prior i (c ∷ cs)
 
   module _ {limit : ℕ} {b : List ℕ} where
-    -- behind a word stands what may end it
+    -- what may end a word follows it
     pub parts_edge : {prior : ℕ} {s u : Spot} {ps : List Part} → ReadsParts limit b x prior s u ps → words.ends_joined (drop u.at b) ≡ true
     unfolding words.token
     parts_edge (reads.stop {prior = prior} {s = s} h) =

@@ -27,7 +27,7 @@ use Rattle.sh_tree.specs.standard.language.Trees.{span}
 
 -- what a whole word is
 pub data Role : Type 0 where
-  -- the command name or an operand at this stage; a word of `for` is one behind a name
+  -- the command name or an operand at this stage; a word of `for` is one after a name
   Field : (stage : Stage) → Role
   -- the target of a redirection, a delimiter, the word of `case` or a pattern
   Unsplit : Role
@@ -50,7 +50,7 @@ pub record Form : Type 0 where
 abbrev pub form_of : List ℕ → Word → Form
 form_of b w = record { text = parts_text b w.parts; quoted = is_quoted_word w; dollar_quoted = list_any is_dollar_quoted w.parts }
 
--- What may stand behind a word: a blank, a newline or `)`, and no `(` at the token behind.
+-- What may follow a word: a blank, a newline or `)`, and no `(` at the next token.
 pub record IsBehindWord (rest : List ℕ) : Type 0 where
   pub ends : is_first (λ c. is_blank c || is_newline c || c == byte.right_parenthesis) rest ≡ true
   pub opens_nothing : is_first is_parenthesis (drop (blank_length false rest) rest) ≡ false
@@ -67,7 +67,7 @@ pub record IsWordSpot (depth : ℕ) (quiet : Bool) (s : Spot) : Type 0 where
 abbrev pub counted : ℕ → ℕ → Spot → Spot
 counted i n s = record s { at = i; count = n }
 
--- Behind any bytes and before what may stand behind a word, the text is a whole word of this role
+-- After any bytes and before what may follow a word, the text is a whole word of this role
 -- and form.
 pub record WordOf (limit depth : ℕ) (quiet : Bool) (role : Role) (form : Form) (text : List ℕ) : Type 0 where
   pub is_read : (b rest : List ℕ) (s : Spot) → drop s.at b ≡ text ++ rest → IsBehindWord rest → IsWordSpot depth quiet s
@@ -83,7 +83,7 @@ begins_word c = not (ends_token c) && not (c == byte.number_sign)
 abbrev pub is_declaring : List ℕ → Bool
 is_declaring t = bytes_eq (codes "export") t || bytes_eq (codes "readonly") t
 
--- Behind any bytes and before what may stand behind a word, the text begins as a word does at this
+-- After any bytes and before what may follow a word, the text begins as a word does at this
 -- stage, and its first byte is at a token.
 pub record TokenOf (stage : Stage) (text : List ℕ) : Type 0 where
   pub first : is_first begins_word text ≡ true
@@ -93,11 +93,11 @@ pub record TokenOf (stage : Stage) (text : List ℕ) : Type 0 where
 
 -- Here-documents
 
--- the spot of the body of a here-document that begins at i behind n commands, outside of others
+-- the spot of the body of a here-document that begins at i after n commands, outside of others
 abbrev pub body_spot : Mark → ℕ → ℕ → Spot
 body_spot m i n = record { at = i; count = n; depth = m.depth; quiet = false; joins = not m.quoted; tabs = m.strip }
 
--- Behind any bytes and before a newline, the text and the end line are the body of the
+-- After any bytes and before a newline, the text and the end line are the body of the
 -- here-document and the line that ends it.
 pub record DocumentOf (limit : ℕ) (mark : Mark) (text end : List ℕ) : Type 0 where
   pub ends : (b rest : List ℕ) (i : ℕ) → drop i b ≡ text ++ (end ++ 10 ∷ rest)

@@ -1,4 +1,5 @@
-//! That words and here-documents are read alike wherever their bytes stand: lemmas on tokens and readings, and in `specs/` what is exported.
+//! Words and here-documents are read alike wherever their bytes stand. The lemmas are on tokens and
+//! readings; `specs/` holds what is exported.
 #![tactic(auto)]
 
 pub mod laws;

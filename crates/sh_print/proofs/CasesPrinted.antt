@@ -26,7 +26,7 @@ use Rattle.sh_print.specs.Trees.{word_of, script_of}
 use Rattle.sh_print.proofs.TreeLemmas.{kind_of-Branches}
 use Rattle.sh_print.proofs.MadeLemmas.{clause_made, script_made}
 use Rattle.sh_print.proofs.PlaceLemmas.{front, front_blank, front_none, front_tabs, fronted, lead_there, off, one_off}
-use Rattle.sh_print.proofs.OwnTokens.{Gap, blank, line, reserved_text, reserved_leads, open_leads, open_is_no_esac, open_straight, close_leads, bar_leads, break_leads, through_leads}
+use Rattle.sh_print.proofs.OwnTokens.{Gap, blank, line, reserved_text, reserved_leads, open_leads, open_is_no_esac, open_straight, bar_leads, break_leads, through_leads}
 use Rattle.sh_print.proofs.DocumentsPrinted.{place, so_far, Fits, no_mark, break_print}
 use Rattle.sh_print.proofs.ElementsPrinted.{token_starts, blank_word, word_print}
 use Rattle.sh_print.proofs.JoinsPrinted.{IsStop}
@@ -35,6 +35,7 @@ use Rattle.sh_print.proofs.LoopsPrinted.{no_waits}
 use Rattle.sh_print.proofs.CompoundsPrinted.{PrintsCompound}
 use Rattle.sh_print.proofs.Printable as p
 use Rattle.sh_print.proofs.Printable.{PrintableWord, PrintableWords, PrintableForWords, PrintablePatterns}
+use Rattle.sh_copies.proofs.Leads.{closing_lead}
 
 module _ (b : List ℕ) where
   -- Patterns
@@ -54,7 +55,7 @@ module _ (b : List ℕ) where
   barred (p.last_pattern {w = w} token printable) = append_assoc (codes " | ") w []
   barred (p.more_patterns {w = w} {ws = ws} token printable more) = append_assoc (codes " | ") w (flat_map (λ u. codes " | " ++ u) ws)
 
-  -- one pattern and those behind it
+  -- one pattern and those after it
   barred_text : {limit k : ℕ} {ws : List Text} (w : Text) → PrintablePatterns limit k ws → (cs : List ℕ) → patterns_text (w ∷ ws) ++ cs ≡ w ++ (32 ∷ 124 ∷ 32 ∷ (patterns_text ws ++ cs))
   barred_text {ws = ws} w more cs = append_assoc w (flat_map (λ u. codes " | " ++ u) ws) cs ∙ ap (λ t. w ++ (t ++ cs)) (barred more)
 
@@ -90,7 +91,7 @@ module _ (b : List ℕ) where
         count = one.count;
         behind = here;
         words = tree.word i (i + length w) one.parts ∷ [];
-        reads = r.last_pattern (ap is_word (token.is_lead b (41 ∷ cs) i e1 (close_word cs))) one.reads (lead_there b (Named false) j (41 ∷ cs) here ∙ close_leads (Named false) cs);
+        reads = r.last_pattern (ap is_word (token.is_lead b (41 ∷ cs) i e1 (close_word cs))) one.reads (lead_there b (Named false) j (41 ∷ cs) here ∙ closing_lead (Named false) cs);
         same = ap (λ t. t ∷ []) one.word_is;
       }
   patterns_print {limit = limit} {k = k} (p.more_patterns {w = w} {ws = ws} {form = form} token printable more) i n closed ds cs e =
@@ -162,7 +163,7 @@ module _ (b : List ℕ) where
 
   -- Clauses
 
-  -- what stands behind the clauses
+  -- what follows the clauses
   abbrev pub esac_text : ℕ → List ℕ → List ℕ
   esac_text d rest = tabs d ++ (codes "esac" ++ rest)
 
@@ -258,7 +259,7 @@ module _ (b : List ℕ) where
       clause_made b ws t end cs ∙ ap (λ m. bare.more_clauses m (script_of b t) end (clauses_from b cs)) h
       ∙ ap (λ m. bare.more_clauses patterns m end (clauses_from b cs)) k ∙ ap (bare.more_clauses patterns items end) l
 
-  -- the list of a clause and its mark, from its newline to the token behind the newline of the mark
+  -- the list of a clause and its mark, from its newline to the token after the newline of the mark
   record PrintedInside (limit i n k : ℕ) (closed : Bool) (ds : List Document) (items : bare.Items) (end : ClauseEnd) (cs : List ℕ) : Type 0 where
     at : ℕ
     count : ℕ

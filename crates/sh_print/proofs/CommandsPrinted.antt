@@ -1,5 +1,6 @@
 -- Printed commands are read, given that the compound commands among them are.
 use Rattle.std.proofs.Common.{◌≡◌, ℕ, ◌+◌, Bool, true, false, ◌||◌, None, List, [], ◌∷◌, ◌++◌, length, drop, map, codes, refl, sym, ap, subst, ◌∙◌, append_assoc, append-nil}
+use Rattle.std.proofs.Math.Bool.{or-true}
 use Rattle.std.specs.List.{flat_map}
 use Rattle.std.proofs.lemmas.Bool.{true≢false}
 use Rattle.sh_tree.specs.declared.tree.Command.{Command}
@@ -24,7 +25,7 @@ use Rattle.sh_print.specs.Trees.{command_of, redirect_of}
 use Rattle.sh_print.proofs.TreeLemmas.{kind_of-Simple, kind_of-Define}
 use Rattle.sh_print.proofs.MadeLemmas.{command_made}
 use Rattle.sh_print.proofs.PlaceLemmas.{front, front_none, front_tabs, fronted, lead_there, off, one_off}
-use Rattle.sh_print.proofs.OwnTokens.{blank, line, reserved_text, reserved_leads, opening_leads, open_leads, close_leads}
+use Rattle.sh_print.proofs.OwnTokens.{blank, line, reserved_text, reserved_leads, opening_leads, open_leads}
 use Rattle.sh_print.proofs.NameTokens.{Name, name_ends, name_first, definition_leads}
 use Rattle.sh_print.proofs.RedirectTokens.{text_there}
 use Rattle.sh_print.proofs.DocumentsPrinted.{place, document_of, so_far, Fits, Marked, no_mark, break_print}
@@ -34,17 +35,14 @@ use Rattle.sh_print.proofs.CompoundsPrinted.{PrintsCompound}
 use Rattle.sh_print.proofs.LoopsPrinted.{no_waits}
 use Rattle.sh_print.proofs.Printable as p
 use Rattle.sh_print.proofs.Printable.{PrintableRedirects, PrintableElements, PrintableCompound, PrintableCommand}
+use Rattle.sh_copies.proofs.Leads.{closing_lead}
 
 -- What a command begins with
 
 compound_command_begins : (l : Lead) → begins_compound l ≡ true → begins_command l ≡ true
 unfolding begins_command
 compound_command_begins lead.Definition h = refl
-compound_command_begins l h = ap (λ t. begins_simple l || t) h ∙ or_true (begins_simple l)
-  where
-    or_true : (t : Bool) → (t || true) ≡ true
-    or_true true = refl
-    or_true false = refl
+compound_command_begins l h = ap (λ t. begins_simple l || t) h ∙ or-true (begins_simple l)
 
 simple_command_begins : (l : Lead) → begins_simple l ≡ true → begins_command l ≡ true
 unfolding begins_command
@@ -90,7 +88,7 @@ unfolding is_empty
 mapped_empty f [] = refl
 mapped_empty f (x ∷ xs) = refl
 
--- a command's text, before what stands behind it
+-- a command's text, before what follows it
 simple_text : (d : ℕ) (e : bare.Element) (es : List bare.Element) (rest : List ℕ) → command_text d (bare.command (bare.Simple (e ∷ es)) []) ++ rest ≡ element_text e ++ (tail_text es ++ rest)
 unfolding items_text
 simple_text d e es rest = ap (λ t. t ++ rest) (append-nil (element_text e ++ tail_text es)) ∙ append_assoc (element_text e) (tail_text es) rest
@@ -246,7 +244,7 @@ module _ (b : List ℕ) where
             let s = span i (name_end b i) in (
               tree.command (n + 1) i (kind.Define s x.0) [],
               r.definition (lead_there b First i (name ++ 40 ∷ inner) here ∙ definition_leads name inner named free)
-                  (lead_there b (Named false) j (40 ∷ inner) e1 ∙ open_leads false inner) (lead_there b (Named false) v inner e2 ∙ close_leads (Named false) (10 ∷ (tabs d ++ text)))
+                  (lead_there b (Named false) j (40 ∷ inner) e1 ∙ open_leads false inner) (lead_there b (Named false) v inner e2 ∙ closing_lead (Named false) (10 ∷ (tabs d ++ text)))
                   p.reads (ap begins_compound (lead_there b First p.at text e4) ∙ begins) x.1,
               command_made b (n + 1) i (kind.Define s x.0) [] ∙ ap (λ y. bare.command y []) (kind_of-Define b s x.0
                   ∙ ap (λ m. bare.Define (text_of b (span i m)) (command_of b x.0)) end ∙ ap (λ t. bare.Define t (command_of b x.0)) (text_there b i name (40 ∷ inner) here) ∙ ap (bare.Define name) x.2),

@@ -24,14 +24,15 @@ use Rattle.sh_print.specs.Trees.{script_of, kind_of}
 use Rattle.sh_print.proofs.TreeLemmas.{kind_of-Group, kind_of-Subshell, kind_of-if, kind_of-else, kind_of-Loop}
 use Rattle.sh_print.proofs.MadeLemmas.{branch_made}
 use Rattle.sh_print.proofs.PlaceLemmas.{front, front_none, front_tabs, fronted, lead_there, off, one_off}
-use Rattle.sh_print.proofs.OwnTokens.{Gap, line, reserved_text, reserved_leads, opening_leads, close_leads}
+use Rattle.sh_print.proofs.OwnTokens.{Gap, line, reserved_text, reserved_leads, opening_leads}
 use Rattle.sh_print.proofs.DocumentsPrinted.{place, so_far, Fits}
 use Rattle.sh_print.proofs.ElementsPrinted.{IsClosed}
 use Rattle.sh_print.proofs.JoinsPrinted.{IsStop}
 use Rattle.sh_print.proofs.ListsPrinted.{PrintsList, block_print, block_text, do_print, line_front, reserved_front, word_stops, kept_both, fits_both}
+use Rattle.sh_copies.proofs.Leads.{closing_lead}
 
 module _ (b : List ℕ) where
-  -- a compound command from its first token to the token behind it
+  -- a compound command from its first token to the token after it
   pub record PrintedCompound (limit i n k : ℕ) (closed : Bool) (ds : List Document) (what : bare.Kind) (rest : List ℕ) : Type 0 where
     pub at : ℕ
     pub count : ℕ
@@ -84,7 +85,7 @@ module _ (b : List ℕ) where
         let text = items_text (d + 1) items ++ tail in
         let e1 : drop i b ≡ codes "(" ++ 10 ∷ text = e ∙ append_assoc (block d (codes "(") (items_text (d + 1) items)) (codes ")") rest ∙ block_text d (codes "(") (items_text (d + 1) items) (41 ∷ rest) in
         let here : front tail ≡ 41 ∷ rest = front_tabs d (41 ∷ rest) ∙ front_none 41 rest refl refl refl in
-        let closes = ap (λ t. lead_at t First 0) here ∙ close_leads First rest in
+        let closes = ap (λ t. lead_at t First 0) here ∙ closing_lead First rest in
         let one = block_print b list (codes "(") i n closed ds tail e1 (record { none = ap begins_pipeline closes; straight = ap is_newline_lead closes }) in
         let there : drop one.at b ≡ 41 ∷ rest = one.behind ∙ here in
         record {
@@ -99,11 +100,11 @@ module _ (b : List ℕ) where
           kept = one.kept;
           behind = fronted b (one.at + 1) rest (one_off b one.at there);
           reads = λ body f. let t = one.reads body f in
-              (kind.Subshell t.0, r.subshell deep t.1 (lead_there b First one.at _ there ∙ close_leads First rest), kind_of-Subshell b t.0 ∙ ap bare.Subshell t.2);
+              (kind.Subshell t.0, r.subshell deep t.1 (lead_there b First one.at _ there ∙ closing_lead First rest), kind_of-Subshell b t.0 ∙ ap bare.Subshell t.2);
         };
   }
 
-  -- a condition behind its word, and `do`, a list and `done`
+  -- a condition after its word, and `do`, a list and `done`
   record PrintedLoop (limit i n k : ℕ) (closed : Bool) (ds : List Document) (w : List ℕ) (condition items : bare.Items) (rest : List ℕ) : Type 0 where
     at : ℕ
     count : ℕ
@@ -197,7 +198,7 @@ module _ (b : List ℕ) where
   otherwise_from None = bare.no_else
   otherwise_from (Some t) = bare.else_of (script_of b t)
 
-  -- the branches behind the first, `else` and `fi`
+  -- the branches after the first, `else` and `fi`
   abbrev pub else_text : ℕ → bare.Branches → bare.Otherwise → List ℕ → List ℕ
   else_text d branches otherwise rest = branches_text d (codes "elif") branches ++ (otherwise_text d otherwise ++ (codes "fi" ++ rest))
 
@@ -235,7 +236,7 @@ module _ (b : List ℕ) where
     pub print : (w : List ℕ) (i n : ℕ) (closed : Bool) (ds : List Document) (rest : List ℕ) → drop i b ≡ branches_text d w branches ++ (otherwise_text d otherwise ++ (codes "fi" ++ rest)) → Gap rest
         → PrintedBranches limit i n k closed ds w branches otherwise rest
 
-  -- a condition behind its word, `then`, a list, and what follows
+  -- a condition after its word, `then`, a list, and what follows
   pub branch_prints : {limit k : ℕ} {condition items : bare.Items} {branches : bare.Branches} {otherwise : bare.Otherwise} (d : ℕ) → PrintsList b limit k (d + 1) condition → PrintsList b limit k (d + 1) items
       → PrintsElse limit k d branches otherwise → PrintsBranches limit k d (bare.more_branches condition items branches) otherwise
   unfolding items_text reserved_text begins_pipeline begins_command begins_simple begins_compound is_redirection

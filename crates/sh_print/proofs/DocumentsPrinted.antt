@@ -71,7 +71,7 @@ module _ (b : List ℕ) where
   pub count_is : {limit : ℕ} {ms : List Mark} {waiting : List bare.Document} (ds : List Document) → Marked limit ms waiting → length (so_far ds waiting) ≡ length ds + length ms
   count_is {ms = ms} {waiting = waiting} ds h = length-append (map document_of ds) waiting ∙ ap (λ n. n + length waiting) (length-map ds document_of) ∙ ap (λ n. length ds + n) (sym (marked_long h))
 
-  -- the bodies behind a newline
+  -- the bodies after a newline
   pub record PrintedDocuments (limit : ℕ) (ms : List Mark) (i n k : ℕ) (closed : Bool) (pending : List Mark) (ds : List Document) (documents : List bare.Document) (rest : List ℕ) : Type 0 where
     pub at : ℕ
     pub count : ℕ
@@ -129,7 +129,7 @@ module _ (b : List ℕ) where
       let long : length b - i ≡ 0 = sym (length-drop i b) ∙ ap length e in
       omega arith
 
-  -- a printed newline, the here-documents that waited, and the token behind them
+  -- a printed newline, the here-documents that waited, and the token after them
   pub record PrintedBreak (limit i n k : ℕ) (closed : Bool) (ms : List Mark) (ds : List Document) (waiting : List bare.Document) (rest : List ℕ) : Type 0 where
     pub at : ℕ
     pub count : ℕ

@@ -1,5 +1,6 @@
 -- Printed elements of a simple command and redirections of a compound command are read.
 use Rattle.std.proofs.Common.{◌≡◌, ℕ, ◌+◌, Bool, true, false, not, ◌&&◌, ◌||◌, List, [], ◌∷◌, ◌++◌, length, drop, map, refl, sym, ap, subst, ◌∙◌, arith, append_assoc, append-nil}
+use Rattle.std.proofs.Math.Bool.{or-true}
 use Rattle.std.specs.List.{flat_map, list_any}
 use Rattle.std.specs.Option.{option_map}
 use Rattle.std.proofs.lemmas.Bool.{true≢false}
@@ -36,15 +37,15 @@ use Rattle.sh_print.proofs.DocumentsPrinted.{place, document_of, so_far, Fits, f
 use Rattle.sh_print.proofs.Printable as p
 use Rattle.sh_print.proofs.Printable.{PrintableWord, PrintableRedirect, PrintableRedirects, PrintableElements, is_here, stage_after, mark_of}
 
--- What stands behind a word, a command or a list
+-- What follows a word, a command or a list
 
--- behind a command: a blank or a newline, and no element and no redirection at the token behind
+-- after a command: a blank or a newline, and no element and no redirection at the next token
 pub record IsTail (rest : List ℕ) : Type 0 where
   pub gap : Gap rest
   pub closed : is_first is_parenthesis (front rest) ≡ false
   pub ends : (g : Stage) → begins_simple (lead_at (front rest) g 0) ≡ false
 
--- behind a closing word
+-- after a closing word
 pub record IsClosed (rest : List ℕ) : Type 0 where
   pub gap : Gap rest
   pub closed : is_first is_parenthesis (front rest) ≡ false
@@ -82,7 +83,7 @@ token_starts (c ∷ w) rest t h = record { front_is = ap (λ n. drop n (c ∷ w 
     closes : (c : ℕ) → begins_word c ≡ true → is_parenthesis c ≡ false
     closes c h = grind (arith, nat_tests)
 
--- behind a blank, a token
+-- after a blank, a token
 pub blank_word : (cs : List ℕ) → Starts cs → IsBehindWord (32 ∷ cs)
 blank_word cs s = gap_word (32 ∷ cs) blank (ap (is_first is_parenthesis) (front_blank 32 cs refl ∙ s.front_is) ∙ s.closed)
 
@@ -91,10 +92,6 @@ redirect_whole q rest = append_assoc (number_text q.number) (opens_text q.opens 
 
 or_left : (s t : Bool) → s ≡ true → (s || t) ≡ true
 or_left s t h = ap (λ x. x || t) h
-
-or_right : (s : Bool) → (s || true) ≡ true
-or_right true = refl
-or_right false = refl
 
 -- the text of further elements
 abbrev pub tail_text : List bare.Element → List ℕ
@@ -130,7 +127,7 @@ behind_element (p.word_element {w = w} {es = es} token printable more) rest tail
 behind_element (p.redirect_element {r = q} {es = es} printable more) rest tail =
     blank_element (bare.Redirects q) es rest (element_starts (p.redirect_element printable more) (tail_text es ++ rest) (behind_element more rest tail))
 
--- an element behind a blank
+-- an element after a blank
 pub over_blank : (x : bare.Element) (es : List bare.Element) (rest : List ℕ) → Starts (element_text x ++ (tail_text es ++ rest)) → front (tail_text (x ∷ es) ++ rest) ≡ element_text x ++ (tail_text es ++ rest)
 over_blank x es rest s =
     ap front (append_assoc (32 ∷ element_text x) (tail_text es) rest) ∙ front_blank 32 (element_text x ++ (tail_text es ++ rest)) refl ∙ s.front_is
@@ -237,7 +234,7 @@ module _ (b : List ℕ) where
         count = one.count;
         marks = ms ++ mark ∷ [];
         marked = marked_join b marked (one_mark mine no_mark);
-        quietly = λ h. or_right quiet;
+        quietly = λ h. or-true quiet;
         behind = one.behind;
         begins = begins.leads;
         reads = λ body f.
@@ -255,7 +252,7 @@ module _ (b : List ℕ) where
 
   -- Elements
 
-  -- a word's stage is the one behind its text
+  -- a word's stage is the one after its text
   stage_is : (g : Stage) (w rest : List ℕ) (i : ℕ) → TokenOf g w → drop i b ≡ w ++ rest → IsBehindWord rest → stage_behind b g i ≡ stage_after g w
   stage_is (Named d) w rest i token e behind = refl
   stage_is First w rest i token e behind = ap Named (token.declaring b rest i e behind)
@@ -270,7 +267,7 @@ module _ (b : List ℕ) where
     pub reads : (body : ℕ → Document) → Fits b body (length (so_far b ds waiting)) (flat_map element_documents es)
         → (xs : List Element) × ReadsElements limit b body g (place i n k closed ms ds) (place at count k closed marks ds) xs × (map (element_of b) xs ≡ es)
 
-  -- the elements from the token at or behind a blank on
+  -- the elements from the token at or after a blank on
   pub elements_print : {limit k : ℕ} {g : Stage} {quiet : Bool} {es : List bare.Element} → PrintableElements limit k g quiet es → (i n : ℕ) (closed : Bool) (ms : List Mark) (ds : List Document) (waiting : List bare.Document) (rest : List ℕ)
       → Marked b limit ms waiting → (waits ms ≡ true → quiet ≡ true) → drop i b ≡ front (tail_text es ++ rest) → IsTail rest → PrintedElements limit i n k closed g ms ds waiting es rest
   unfolding context_of
@@ -359,7 +356,7 @@ module _ (b : List ℕ) where
             );
       }
 
-  -- Redirections behind a compound command
+  -- Redirections after a compound command
 
   pub record PrintedRedirects (limit i n k : ℕ) (closed : Bool) (ms : List Mark) (ds : List Document) (waiting : List bare.Document) (qs : List bare.Redirect) (rest : List ℕ) : Type 0 where
     pub at : ℕ

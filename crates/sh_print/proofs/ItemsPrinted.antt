@@ -24,7 +24,7 @@ use Rattle.sh_print.proofs.JoinsPrinted.{IsStop, join_gap, links_tail, begins_st
 use Rattle.sh_print.proofs.ListsPrinted.{PrintsList, kept_both, fits_both}
 use Rattle.sh_print.proofs.PipelinesPrinted.{IsPipeTail, PrintsPipeline}
 
--- the here-documents that wait behind the further pipelines of an item
+-- the here-documents that wait after the further pipelines of an item
 unfoldable pub links_pending : List bare.Document → bare.Links → List bare.Document
 links_pending waiting bare.no_links = waiting
 links_pending waiting (bare.more_links l x rest) = links_pending (pipeline_pending x) rest
@@ -50,7 +50,7 @@ link_stands link.OrElse cs gap =
     let is = or_leads First cs gap in
     record { text_is = refl; front_is = front_none 124 (124 ∷ cs) refl refl refl; long = refl; is_link = ap link_of is; no_bar = ap is_bar is }
 
--- the text behind a pipeline that is the last of its item
+-- the text after a pipeline that is the last of its item
 record EndStands (background : Bool) (cs : List ℕ) : Type 0 where
   no_link : link_of (lead_at (front (background_text background ++ 10 ∷ cs)) First 0) ≡ None
   no_bar : is_bar (lead_at (front (background_text background ++ 10 ∷ cs)) First 0) ≡ false
@@ -168,7 +168,7 @@ module _ (b : List ℕ) where
 
   -- Items
 
-  -- an and-or list, what ends it, and the token behind
+  -- an and-or list, what ends it, and the next token
   record PrintedItem (limit i n k : ℕ) (closed : Bool) (ds : List Document) (first : bare.Pipeline) (links : bare.Links) (background : Bool) (rest : List ℕ) : Type 0 where
     at : ℕ
     count : ℕ
@@ -234,7 +234,7 @@ module _ (b : List ℕ) where
       append_assoc (tabs d) (pipeline_text d first ++ (ends ++ items_text d items)) rest
       ∙ ap (λ t. tabs d ++ t) (append_assoc (pipeline_text d first) (ends ++ items_text d items) rest ∙ ap (λ t. pipeline_text d first ++ t) (append_assoc ends (items_text d items) rest))
 
-  -- the first item's text, at the token behind its tabs
+  -- the first item's text, at the token after its tabs
   item_front : {limit k : ℕ} {first : bare.Pipeline} (d : ℕ) → PrintsPipeline b limit k d first → (links : bare.Links) (background : Bool) (items : bare.Items) (rest : List ℕ)
       → front (items_text d (bare.more_items first links background items) ++ rest) ≡ pipeline_text d first ++ (links_text d (pipeline_pending first) links background ++ (items_text d items ++ rest))
   item_front {first = first} d one links background items rest =

@@ -29,7 +29,7 @@ line_tail cs =
     let here = front_none 10 cs refl refl refl in
     record { gap = line; closed = ap (is_first is_parenthesis) here; ends = λ g. ap (λ t. begins_simple (lead_at t g 0)) here ∙ ap begins_simple (newline_leads g cs) }
 
--- behind a blank, an operator that is none of a redirection
+-- after a blank, an operator that is none of a redirection
 blank_tail : (c : ℕ) (cs : List ℕ) → front (c ∷ cs) ≡ c ∷ cs → is_parenthesis c ≡ false → ((g : Stage) → begins_simple (lead_at (c ∷ cs) g 0) ≡ false) → IsTail (32 ∷ c ∷ cs)
 unfolding is_first
 blank_tail c cs here plain ends =
@@ -65,7 +65,7 @@ links_tail d waiting bare.no_links true cs = background_tail (line_end waiting +
 links_tail d waiting (bare.more_links link.AndThen p rest) background cs = and_tail _ (subst Gap (sym (append_assoc (join d waiting) _ cs)) (join_gap d waiting _))
 links_tail d waiting (bare.more_links link.OrElse p rest) background cs = or_tail _ (subst Gap (sym (append_assoc (join d waiting) _ cs)) (join_gap d waiting _))
 
--- What stands behind a list: a token that begins no pipeline, and no newline
+-- What follows a list: a token that begins no pipeline, and no newline
 pub record IsStop (rest : List ℕ) : Type 0 where
   pub none : begins_pipeline (lead_at (front rest) First 0) ≡ false
   pub straight : is_newline_lead (lead_at (front rest) First 0) ≡ false
@@ -84,7 +84,7 @@ module _ (b : List ℕ) where
     pub behind : drop at b ≡ front rest
     pub kept : so_far b bodies [] ≡ so_far b ds waiting
 
-  -- behind `|`, `&&` or `||`
+  -- after `|`, `&&` or `||`
   pub join_print : {limit : ℕ} {ms : List Mark} {waiting : List bare.Document} → Marked b limit ms waiting → (i n k : ℕ) (closed : Bool) (ds : List Document) (d : ℕ) (rest : List ℕ)
       → drop i b ≡ join d waiting ++ rest → is_newline_lead (lead_at (front rest) First 0) ≡ false → PrintedJoin limit i n k closed ms ds waiting rest
   join_print no_mark i n k closed ds d rest e straight =
@@ -122,7 +122,7 @@ module _ (b : List ℕ) where
     pub kept : so_far b bodies [] ≡ so_far b ds waiting
     pub to_end : rest ≡ [] → at ≡ length b
 
-  -- behind an item
+  -- after an item
   pub end_print : {limit : ℕ} {ms : List Mark} {waiting : List bare.Document} → Marked b limit ms waiting → (i n k : ℕ) (closed : Bool) (ds : List Document) (background : Bool) (rest : List ℕ)
       → drop i b ≡ front (background_text background ++ (line_end waiting ++ rest)) → is_newline_lead (lead_at (front rest) First 0) ≡ false → PrintedEnd limit i n k closed ms ds waiting background rest
   unfolding separator

@@ -53,7 +53,7 @@ word_stops d w rest gap h =
 pub block_text : (d : ℕ) (opening inside rest : List ℕ) → block d opening inside ++ rest ≡ opening ++ 10 ∷ (inside ++ (tabs d ++ rest))
 block_text d opening inside rest = append_assoc opening (10 ∷ (inside ++ tabs d)) rest ∙ ap (λ t. opening ++ 10 ∷ t) (append_assoc inside (tabs d) rest)
 
--- Documents of two pieces, one behind the other
+-- Documents of two pieces, one after the other
 
 pub kept_both : {D : Type 0} (x y z m n : List D) → y ≡ x ++ m → z ≡ y ++ n → z ≡ x ++ (m ++ n)
 kept_both x y z m n h k = k ∙ ap (λ t. t ++ n) h ∙ append_assoc x m n
@@ -64,7 +64,7 @@ fits_both b {body} x y m n h f =
     (parts.0, subst (λ t. Fits b body (length t) n) (sym h) parts.1)
 
 module _ (b : List ℕ) where
-  -- a newline and a list, from its newline to the token behind it
+  -- a newline and a list, from its newline to the token after it
   pub record PrintedList (limit i n k : ℕ) (closed : Bool) (ds : List Document) (items : bare.Items) (rest : List ℕ) : Type 0 where
     pub at : ℕ
     pub count : ℕ
@@ -80,7 +80,7 @@ module _ (b : List ℕ) where
   pub record PrintsList (limit k d : ℕ) (items : bare.Items) : Type 0 where
     pub print : (i n : ℕ) (closed : Bool) (ds : List Document) (rest : List ℕ) → drop i b ≡ 10 ∷ (items_text d items ++ rest) → IsStop rest → PrintedList limit i n k closed ds items rest
 
-  -- a list behind an opening word, from the end of that word
+  -- a list after an opening word, from the end of that word
   pub block_print : {limit k d : ℕ} {items : bare.Items} → PrintsList limit k d items → (w : List ℕ) (i n : ℕ) (closed : Bool) (ds : List Document) (rest : List ℕ)
       → drop i b ≡ w ++ 10 ∷ (items_text d items ++ rest) → IsStop rest → PrintedList limit (blanks false b (i + length w)) n k closed ds items rest
   block_print {d = d} {items = items} p w i n closed ds rest e stop =

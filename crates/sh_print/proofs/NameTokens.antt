@@ -1,10 +1,11 @@
 -- The leads of names: of an assignment, of a function and of the loop `for`.
-use Rattle.std.proofs.Common.{◌≡◌, ℕ, suc, ◌+◌, ◌==◌, true, false, not, ◌&&◌, None, List, [], ◌∷◌, ◌++◌, length, drop, if◌then◌else◌, refl, sym, ap, ◌∙◌, arith}
+use Rattle.std.proofs.Common.{◌≡◌, ℕ, suc, ◌+◌, ◌==◌, Bool, true, false, not, ◌&&◌, None, List, [], ◌∷◌, ◌++◌, length, drop, if◌then◌else◌, refl, sym, ap, ◌∙◌, arith}
+use Rattle.std.proofs.Math.Bool.{and-false}
 use Rattle.std.specs.List.{list_all}
 use Rattle.std.proofs.lemmas.Bool.{cond-true, cond-false, true≢false, and_parts}
 use Rattle.std.proofs.lemmas.Bool.Decides.{nat_tests}
 use Rattle.std.proofs.lemmas.List.{drop_at}
-use Rattle.sh_copies.proofs.AlikeBytes.{neither, run_no}
+use Rattle.sh_copies.proofs.AlikeBytes.{run_no}
 use Rattle.sh_copies.proofs.CopiedTokens.{all_weaker}
 use Rattle.sh_copies.proofs.Declaring.{name_bare}
 use Rattle.sh_copies.proofs.CopiedLeads.{no_operator, lead_inside}
@@ -103,7 +104,7 @@ definition_leads (c ∷ w) r name none =
     let size = name_long t 40 r name refl in
     let behind : drop (length t) all ≡ 40 ∷ r = drop_at t (40 ∷ r) (length t) refl in
     let assigned : is_assignment all ≡ false =
-    ap (λ n. not (n == 0) && is_first (λ d. d == 61) (drop n all)) size ∙ ap (λ x. not (length t == 0) && is_first (λ d. d == 61) x) behind ∙ neither (not (length t == 0)) in
+    ap (λ n. not (n == 0) && is_first (λ d. d == 61) (drop n all)) size ∙ ap (λ x. not (length t == 0) && is_first (λ d. d == 61) x) behind ∙ and-false (not (length t == 0)) in
     let word : bare_word all 0 ≡ t = bare_name all 0 t 40 r name refl refl refl in
     let none_more : 0 + length t ≡ length t = omega arith in
     let opens : drop (blanks false all (0 + length t)) all ≡ 40 ∷ r =

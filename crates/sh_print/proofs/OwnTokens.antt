@@ -1,10 +1,9 @@
 -- The leads of the words and operators that the canonical text has of its own.
-use Rattle.std.proofs.Common.{◌≡◌, ℕ, ◌==◌, Bool, true, false, not, ◌&&◌, ◌||◌, Some, List, [], ◌∷◌, ◌++◌, length, drop, take, codes, if◌then◌else◌, refl, ap, ◌∙◌, cond}
-use Rattle.std.proofs.lemmas.Bool.{cond-true, cond-false, true≢false}
+use Rattle.std.proofs.Common.{◌≡◌, ℕ, suc, ◌+◌, ◌==◌, Bool, true, false, not, ◌&&◌, ◌||◌, Some, List, [], ◌∷◌, ◌++◌, length, drop, take, codes, if◌then◌else◌, refl, ap, ◌∙◌, cond}
+use Rattle.std.proofs.Math.Bool.{and-false}
+use Rattle.std.proofs.lemmas.Bool.{cond-true, cond-false, true≢false, and_parts}
 use Rattle.std.specs.List.{list_all}
 use Rattle.std.proofs.lemmas.List.{drop_at, take_at}
-use Rattle.sh_copies.proofs.AlikeBytes.{neither}
-use Rattle.sh_copies.proofs.Boundary.{lone_none}
 use Rattle.sh_copies.proofs.CopiedTokens.{run_front}
 use Rattle.sh_copies.proofs.CopiedLeads.{lead_inside}
 use Rattle.sh_tree.specs.declared.refusal.Form.TheVariants as form
@@ -19,8 +18,9 @@ use Rattle.sh_tree.specs.declared.token.command.Stage.TheVariants.{First, Prefix
 use Rattle.sh_tree.specs.standard.language.Bytes.{is_in, is_backslash, ends_token, run, is_first, is_joined, joined_length, joined_at, behind_joined, longest, name_length, is_last_backquote}
 use Rattle.sh_tree.specs.standard.language.Words.{ends_joined}
 use Rattle.sh_tree.specs.standard.language.Commands.{is_bare, operator_of, operator_lead, whole_operator, opening, is_split, is_longer, lead_at, lead_of, other_lead, word_lead, first_lead, reserved_lead, bang, bare_word, entry_of, is_assignment, is_parenthesis, is_esac, is_newline_lead}
+use Rattle.sh_copies.proofs.AlikeBytes.{run_no, not_joined}
 
--- a blank or a newline, which stands behind every word of its own
+-- a blank or a newline, which follows every word of its own
 pub data Gap : List ℕ → Type 0 where
   blank : {r : List ℕ} → Gap (32 ∷ r)
   line : {r : List ℕ} → Gap (10 ∷ r)
@@ -39,7 +39,7 @@ unfolding bare_word is_first
 bare_whole b i w c r all ends plain e =
     let size : run is_bare (drop i b) ≡ length w = ap (run is_bare) e ∙ run_over is_bare w c r all (ap (λ t. not t && not (is_in (codes "$`\"'\\") c)) ends) in
     let rest : drop (length w) (drop i b) ≡ c ∷ r = ap (drop (length w)) e ∙ drop_at w (c ∷ r) (length w) refl in
-    let none : joined_length (c ∷ r) ≡ 0 = lone_none c r plain in
+    let none : joined_length (c ∷ r) ≡ 0 = not_joined c r plain in
     ap (λ n. if ends_joined (drop n (drop i b)) then take n (drop i b) else []) size
     ∙ ap (λ t. if ends_joined t then take (length w) (drop i b) else []) rest
     ∙ cond-true _ _ _ (ap (λ n. length (drop n (c ∷ r)) == 0 || is_first ends_token (drop n (c ∷ r)) || is_last_backquote (drop n (c ∷ r))) none
@@ -118,7 +118,7 @@ reserved_leads word.While _ (line {r = r}) = lead_inside First 119 (104 ∷ 105 
 -- Operators
 
 pub unjoined : (c : ℕ) (cs : List ℕ) → is_backslash c ≡ false → is_joined (c ∷ cs) ≡ false
-unjoined c cs h = ap (λ n. not (n == 0)) (lone_none c cs h)
+unjoined c cs h = ap (λ n. not (n == 0)) (not_joined c cs h)
 
 abbrev opens : Operator → Bool
 opens op.LeftParenthesis = true
@@ -140,13 +140,9 @@ pub unsplit : (cs : List ℕ) (n : ℕ) → is_joined (drop n cs) ≡ false → 
 unfolding is_split
 unsplit cs n h = ap (λ t. t && is_longer n (operator_of (joined_at n cs))) h
 
-pub close_leads : (g : Stage) (cs : List ℕ) → lead_at (41 ∷ cs) g 0 ≡ lead.Operator op.RightParenthesis
-unfolding operator_of longest is_split
-close_leads g cs = operator_leads g (41 ∷ cs) op.RightParenthesis 1 refl (neither (is_joined cs)) refl
-
 pub open_leads : (d : Bool) (cs : List ℕ) → lead_at (40 ∷ cs) (Named d) 0 ≡ lead.Operator op.LeftParenthesis
 unfolding lead_at lead_of operator_lead operator_of longest is_split whole_operator
-open_leads d cs = ap (λ t. cond t (lead.LeftOut form.Continuation) (lead.Operator op.LeftParenthesis)) (neither (is_joined cs))
+open_leads d cs = ap (λ t. cond t (lead.LeftOut form.Continuation) (lead.Operator op.LeftParenthesis)) (and-false (is_joined cs))
 
 pub opening_leads : (cs : List ℕ) → Gap cs → lead_at (40 ∷ cs) First 0 ≡ lead.Operator op.LeftParenthesis
 unfolding lead_at lead_of operator_lead operator_of longest is_split whole_operator opening is_first joined_length
@@ -160,7 +156,7 @@ open_first : (f : Lead → Bool) → f (lead.LeftOut form.DoubleParenthesis) ≡
     → (cs : List ℕ) → f (lead_at (40 ∷ cs) First 0) ≡ false
 unfolding lead_at lead_of operator_lead operator_of longest is_split whole_operator opening
 open_first f double joined plain cs =
-    ap (λ t. f (cond t (lead.LeftOut form.Continuation) (opening cs))) (neither (is_joined cs)) ∙ go (is_first is_parenthesis cs) (is_first is_parenthesis (behind_joined cs))
+    ap (λ t. f (cond t (lead.LeftOut form.Continuation) (opening cs))) (and-false (is_joined cs)) ∙ go (is_first is_parenthesis cs) (is_first is_parenthesis (behind_joined cs))
   where
     go : (t u : Bool) → f (cond t (lead.LeftOut form.DoubleParenthesis) (cond u (lead.LeftOut form.Continuation) (lead.Operator op.LeftParenthesis))) ≡ false
     go true u = double

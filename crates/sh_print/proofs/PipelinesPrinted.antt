@@ -23,7 +23,7 @@ use Rattle.sh_print.proofs.JoinsPrinted.{join_gap, bar_tail, join_print}
 use Rattle.sh_print.proofs.ListsPrinted.{kept_both, fits_both}
 use Rattle.sh_print.proofs.CommandsPrinted.{CommandStarts, command_straight, command_pipeline, PrintsCommand}
 
--- behind a pipeline: what stands behind a command, and no `|`
+-- after a pipeline: what follows a command, and no `|`
 pub record IsPipeTail (rest : List ℕ) : Type 0 where
   pub tail : IsTail rest
   pub no_bar : is_bar (lead_at (front rest) First 0) ≡ false
@@ -46,7 +46,7 @@ module _ (b : List ℕ) where
 
   pub record PrintsCommands (limit k d : ℕ) (cs : bare.Commands) : Type 0 where
     pub starts : (rest : List ℕ) → IsTail rest → CommandStarts (commands_text d cs ++ rest)
-    -- behind another command
+    -- after another command
     pub piped : (waiting : List bare.Document) → piped_text d waiting cs ≡ codes " |" ++ (join d waiting ++ commands_text d cs)
     pub last : (waiting : List bare.Document) → last_pending waiting cs ≡ last_pending [] cs
     pub print : (i n : ℕ) (closed : Bool) (ds : List Document) (rest : List ℕ) → drop i b ≡ commands_text d cs ++ rest → IsPipeTail rest → PrintedCommands limit i n k closed ds cs rest

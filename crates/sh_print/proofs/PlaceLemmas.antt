@@ -7,23 +7,23 @@ use Rattle.sh_tree.specs.declared.token.command.Stage.{Stage}
 use Rattle.sh_tree.specs.standard.language.Bytes.{is_blank, is_newline, is_backslash, is_first}
 use Rattle.sh_tree.specs.standard.language.Commands.{gap_length, comment_length, blank_length, blanks, lead_at}
 
--- the token at or behind the start of a text
+-- the token at or after the start of a text
 abbrev pub front : List ℕ → List ℕ
 front cs = drop (blank_length false cs) cs
 
--- behind a text that stands at i
+-- after a text that stands at i
 pub off : (b : List ℕ) (i : ℕ) (w cs : List ℕ) → drop i b ≡ w ++ cs → drop (i + length w) b ≡ cs
 off b i w cs e = sym (drop-drop (length w) i b) ∙ ap (drop (length w)) e ∙ drop_at w cs (length w) refl
 
 pub one_off : (b : List ℕ) (i : ℕ) {c : ℕ} {cs : List ℕ} → drop i b ≡ c ∷ cs → drop (i + 1) b ≡ cs
 one_off b i e = sym (drop-drop 1 i b) ∙ ap (drop 1) e
 
--- at the token at or behind i
+-- at the token at or after i
 pub fronted : (b : List ℕ) (i : ℕ) (cs : List ℕ) → drop i b ≡ cs → drop (blanks false b i) b ≡ front cs
 unfolding blanks
 fronted b i cs e = sym (drop-drop (blank_length false (drop i b)) i b) ∙ ap front e
 
--- how far the token is behind so many bytes of blanks
+-- how far the token is after so many bytes of blanks
 abbrev over : ℕ → List ℕ → ℕ
 over g cs = cond (is_first (λ c. c == 35) (drop g cs)) (g + comment_length (drop g cs)) g
 

@@ -60,7 +60,7 @@ module _ (b : List ℕ) where
     branches_print (p.last_branch condition list) d last = branch_prints b d (list_prints b (items_print condition (d + 1))) (list_prints b (items_print list (d + 1))) last
     branches_print (p.more_branches condition list branches) d last = branch_prints b d (list_prints b (items_print condition (d + 1))) (list_prints b (items_print list (d + 1))) (more_print branches d last)
 
-    -- the branches behind the first
+    -- the branches after the first
     more_print : {limit k : ℕ} {branches : bare.Branches} {otherwise : bare.Otherwise} → PrintableBranches limit k branches → (d : ℕ) → PrintsElse b limit k d bare.no_branches otherwise → PrintsElse b limit k d branches otherwise
     more_print (p.last_branch condition list) d last = elif_prints b d (branch_prints b d (list_prints b (items_print condition (d + 1))) (list_prints b (items_print list (d + 1))) last)
     more_print (p.more_branches condition list branches) d last =

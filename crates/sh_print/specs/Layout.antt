@@ -1,4 +1,5 @@
--- The canonical text: one text for each bare tree, in which an item, an opening word and a closing word each begin a line.
+-- The canonical text: one text for each bare tree, in which an item, an opening word and a closing
+-- word each begin a line.
 -- POSIX.1-2024, XCU 2.7 (redirection), 2.9 (shell commands).
 use Rattle.std.specs.Prelude.{ℕ, ◌+◌, Bool, true, false, List, [], ◌∷◌, ◌++◌, map, codes, replicate, Option, None, Some}
 use Rattle.std.specs.List.{flat_map}
@@ -95,7 +96,8 @@ document_text d = d.body ++ (d.end ++ 10 ∷ [])
 abbrev pub line_end : List Document → Text
 line_end documents = 10 ∷ flat_map document_text documents
 
--- what comes after `&&`, `||` or `|`: one blank; if a here-document is pending, a newline, the bodies and the tabs of the line
+-- what comes after `&&`, `||` or `|`: one blank; if a here-document is pending, a newline, the
+-- bodies and the tabs of the line
 abbrev pub join : (depth : ℕ) → List Document → Text
 join depth [] = 32 ∷ []
 join depth (d ∷ documents) = line_end (d ∷ documents) ++ tabs depth
@@ -137,7 +139,7 @@ unfoldable mutual
   items_text depth (bare.more_items first links background rest) =
       tabs depth ++ (pipeline_text depth first ++ (links_text depth (pipeline_pending first) links background ++ items_text depth rest))
 
-  -- the further pipelines of an item and its end, where these here-documents are pending
+  -- the further pipelines of an item and its end, while these here-documents are pending
   pub links_text : (depth : ℕ) → List Document → Links → (background : Bool) → Text
   links_text depth documents bare.no_links background = background_text background ++ line_end documents
   links_text depth documents (bare.more_links l p rest) background =
@@ -150,7 +152,7 @@ unfoldable mutual
   commands_text depth bare.no_commands = []
   commands_text depth (bare.more_commands c rest) = command_text depth c ++ piped_text depth (pending c) rest
 
-  -- the further commands of a pipeline, where these here-documents are pending
+  -- the further commands of a pipeline, while these here-documents are pending
   pub piped_text : (depth : ℕ) → List Document → Commands → Text
   piped_text depth documents bare.no_commands = []
   piped_text depth documents (bare.more_commands c rest) = codes " |" ++ (join depth documents ++ (command_text depth c ++ piped_text depth (pending c) rest))

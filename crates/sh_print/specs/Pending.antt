@@ -1,4 +1,5 @@
--- Clauses of private functions: pending here-documents as they are printed, each after a newline and up to the newline of its end line.
+-- Clauses of private functions: pending here-documents as they are printed, each after a newline
+-- and up to the newline of its end line.
 -- POSIX.1-2024, XCU 2.7.4 (here-document).
 use Rattle.std.specs.Prelude.{ℕ, Bool, true, false, List, [], ◌∷◌, ◌++◌}
 use Rattle.std.specs.List.{flat_map}

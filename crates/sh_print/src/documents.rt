@@ -101,7 +101,7 @@ fn push_pipe_pending(out: &mut Vec<u8>, script: &[u8], pipe: &Pipe) -> Result<()
     }
 }
 
-// What comes after an operator, where the text was so long before the pending here-documents.
+// What comes after an operator, if the text was this long before the pending here-documents.
 fn push_gap(out: &mut Vec<u8>, depth: usize, before: usize) -> Result<(), AllocError>
     ensures { OnOk result (out.new.items ≡ out.old.items ++ gap depth (length out.old.items == before)) }
 {

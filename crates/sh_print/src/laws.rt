@@ -2,12 +2,14 @@
 ghost use Rattle.sh_print.specs.Same.{PrintsAgain, ReadsBack, SamePrintsAlike};
 ghost use Rattle.sh_print.specs.examples.Texts.{PrintsAsExpected};
 
-/// Two trees that differ only in offsets and numbers have the same canonical text, whatever the texts are that they are trees of.
+/// Two trees that differ only in offsets and numbers have the same canonical text, whatever the
+/// texts are that they are trees of.
 pub fn alike()
     ensures { SamePrintsAlike }
 {}
 
-/// A tree of the canonical text that differs only in offsets and numbers from the tree that was printed prints as that text again.
+/// A tree of the canonical text that differs only in offsets and numbers from the tree that was
+/// printed prints as that text again.
 pub fn again()
     ensures { PrintsAgain }
 {}
@@ -18,7 +20,8 @@ pub fn reads_back()
     ensures { ReadsBack }
 {}
 
-/// Known trees have the canonical texts that they should have: each kind of command, redirection and here-document.
+/// Known trees have the canonical texts that they should have: each kind of command, redirection
+/// and here-document.
 pub fn examples()
     ensures { PrintsAsExpected }
 {}

@@ -17,7 +17,8 @@ use Rattle.sh_tree.specs.examples.Documents as d
 use Rattle.sh_tree.specs.standard.language.Trees.{redirect, here_doc, command, pipe, and_or, item, item_of, script, clause, span}
 use Rattle.sh_print.specs.Layout.{canon}
 
--- the here-document whose operator stands at `at`, with the word, the body and the end line from these offsets on
+-- the here-document whose operator is at `at`, with the word, the body and the end line from these
+-- offsets on
 abbrev here : (at word end_word body end end_line : ℕ) → Redirect
 here at word end_word body end end_line = redirect at None (Here (here_doc false (bare word end_word) (bare body end) (span end end_line)))
 
