@@ -1,6 +1,7 @@
 use Rattle.std.proofs.Common.{subst}
 use Rattle.sh_flow.proofs.FlowLemmas.{found, names_of, numbered}
 use Rattle.sh_domain.specs.Certificates.{in_byte_order, sheet_of}
+use Rattle.sh_domain.specs.Facts.{start_facts}
 use Rattle.sh_flow.specs.Flows.{FindsFault}
 use Rattle.sh_flow.proofs.flow.check_flow.Goals as goal
 
@@ -14,5 +15,5 @@ pub returns-in_ok-places-in-None-clause-flows : goal.returns-in_ok-places-in-Non
 returns-in_ok-places-in-None-clause-flows c =
     let sheet = sheet_of (in_byte_order c.args.names.now) c.args.certificate.now in
     let none = subst (FindsFault c.args.script.now c.args.policy.now c.args.tree.now sheet) c.in-None.is c.fault_of.ensures in
-    found c.args.script.now c.args.policy.now c.args.tree.now sheet c.in_ok-places-in-None.places.items c.flow_of.result none (c.in_ok-places-in-None.ensures.places c.args.policy.now)
+    found c.args.script.now c.args.policy.now c.args.tree.now sheet c.in_ok-places-in-None.places.items c.flow_of.result none (c.in_ok-places-in-None.ensures.places (start_facts c.args.policy.now))
     c.flow_of.ensures
