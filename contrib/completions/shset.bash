@@ -8,13 +8,13 @@ _shset() {
     for ((index = 2; index < COMP_CWORD; index++)); do
         case ${COMP_WORDS[index]} in
             --args) index=$((index + 1)) ;;
-            --args=* | =) ;;
+            --* | =) ;;
             *) operands=$((operands + 1)) ;;
         esac
     done
     [ "${COMP_WORDS[COMP_CWORD - 1]}" != --args ] || return
     case $word in
-        -?*) mapfile -t COMPREPLY < <(compgen -W '--args --help' -- "$word") ;;
+        -?*) mapfile -t COMPREPLY < <(compgen -W '--args --help --full' -- "$word") ;;
         *)
             local files=1
             [ "$command" != check ] || files=2

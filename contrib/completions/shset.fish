@@ -7,7 +7,7 @@ function __shset_operands
         switch $words[$index]
             case --args
                 set index (math $index + 1)
-            case '--args=*'
+            case '--*'
             case '*'
                 set count (math $count + 1)
         end
@@ -21,12 +21,13 @@ function __shset_takes_file
 end
 complete -c shset -f
 complete -c shset -n __fish_use_subcommand -a lint -d 'Prints what is wrong with a script, or that it is clean'
-complete -c shset -n __fish_use_subcommand -a cert -d 'Prints what is surely set at each place of a script, as a certificate'
+complete -c shset -n __fish_use_subcommand -a cert -d 'Prints what is surely set at the start, in loops and round functions, as a certificate'
 complete -c shset -n __fish_use_subcommand -a check -d 'Prints what is wrong with a script by a certificate of it, or that it is clean'
 complete -c shset -n __fish_use_subcommand -a print -d 'Prints a script in one layout, without its comments'
 complete -c shset -n __fish_use_subcommand -s h -l help -d 'Print help'
 complete -c shset -n __fish_use_subcommand -s V -l version -d 'Print version'
-complete -c shset -n '__fish_seen_subcommand_from lint cert check print' -l args -x -d 'How many positional parameters are set at least when the script starts; 0 if it is not given'
+complete -c shset -n '__fish_seen_subcommand_from lint cert check' -l args -x -d 'How many positional parameters are set at least when the script starts; 0 if it is not given'
 complete -c shset -n '__fish_seen_subcommand_from lint cert check print' -s h -l help -d 'Print help'
+complete -c shset -n '__fish_seen_subcommand_from cert' -l full -d 'Prints what is claimed round each command too'
 complete -c shset -n __shset_takes_file -F
 complete -c shset -n '__fish_seen_subcommand_from lint cert check print; and not __shset_takes_file' -a '(set -n)'

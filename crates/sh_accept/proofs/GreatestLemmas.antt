@@ -40,7 +40,7 @@ fewest b d t names c other g f k =
     all.kept
 
 -- where another one is accepted, it meets its demands
-meets : (b : List ℕ) (d : Declared) (t : Script) (c other : Sheet) → IsBest b d t c → IsAccepted b d other → MeetsDemands b d t c × IsQuoted b t
+pub meets : (b : List ℕ) (d : Declared) (t : Script) (c other : Sheet) → IsBest b d t c → IsAccepted b d other → MeetsDemands b d t c × IsQuoted b t
 meets b d t c other best a =
     let e : a.tree ≡ t = best.admitted.reading.2 a.tree (MAX_NESTING, a.admitted.reading.1.0, a.admitted.reading.1.1) in
     let own : IsAdmitted b d t a.names = subst (λ u. IsAdmitted b d u a.names) e a.admitted in

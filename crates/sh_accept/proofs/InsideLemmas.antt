@@ -41,5 +41,5 @@ pub refusals_stand_inside : RefusalsStandInside
 refusals_stand_inside = record {
   checked = λ b d text r h. inside b d (RefusesText b d text) r h;
   linted = λ b d r h. inside b d NoRefusal r h;
-  certified = λ b d r h. inside b d (RefusesLong b d) r h;
+  certified = λ full b d r h. inside b d (RefusesLong full b d) r h;
 }

@@ -5,6 +5,10 @@ pub mod PartLemmas
 pub mod FindingLemmas
 pub mod NumberingLemmas
 pub mod LoopLemmas
+pub mod FilledLemmas
+pub mod CompactLemmas
+pub mod StatedLemmas
+pub mod JoinLemmas
 pub mod AnswerLemmas
 pub mod ExampleLemmas
 pub mod DemandLemmas

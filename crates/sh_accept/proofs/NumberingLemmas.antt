@@ -8,6 +8,8 @@ use Rattle.sh_tree.specs.declared.tree.Script.{Script}
 use Rattle.sh_tree.specs.standard.program.Syntax.{Text}
 use Rattle.sh_tree.specs.Commands.{commands_of}
 use Rattle.sh_table.specs.standard.runs.Environment.{is_one_of}
+use Rattle.sh_domain.specs.CompactForms.{GivenSheet, Full, Compact}
+use Rattle.sh_domain.specs.CompactReading.{loop_numbers, turns_fit, given_fits}
 use Rattle.sh_domain.specs.Facts.{Claim, Unreached, Claimed, Declared}
 use Rattle.sh_domain.specs.Names.{IsNumbering, IsInTextOrder, numbering, first_names, are_distinct}
 use Rattle.sh_domain.specs.Operands.{Names}
@@ -91,5 +93,18 @@ module _ (ns ms : List Text) (same : (u : Text) → is_one_of ns u ≡ is_one_of
   each_function [] = refl
   each_function (f ∷ fs) = λ i. (claim f.before i && sets f.drops i && claim f.zero i && claim f.nonzero i) && each_function fs i
 
+  turns : (ks : List ℕ) (hs : List (ℕ × Claim)) → turns_fit ns ks hs ≡ turns_fit ms ks hs
+  unfolding turns_fit
+  turns [] [] = refl
+  turns [] (h ∷ hs) = refl
+  turns (k ∷ ks) [] = refl
+  turns (k ∷ ks) (h ∷ hs) = λ i. nat_eq k h.0 && claim h.1 i && turns ks hs i
+
   pub same_fit : (ls : List Bool) (count : ℕ) (c : Sheet) → fits ns ls count c ≡ fits ms ls count c
   same_fit ls count c = λ i. commands ls c.commands i && (nat_eq (length c.functions) count && each_function c.functions i)
+
+  pub same_given_fit : (ls : List Bool) (count : ℕ) (g : GivenSheet) → given_fits ns ls count g ≡ given_fits ms ls count g
+  unfolding given_fits
+  same_given_fit ls count (Full c) = same_fit ls count c
+  same_given_fit ls count (Compact k) =
+      λ i. nat_eq k.commands (length ls) && claim k.start i && turns (loop_numbers 1 ls) k.heads i && (nat_eq (length k.functions) count && each_function k.functions i)

@@ -37,7 +37,7 @@ all_at test (y ∷ ys) (suc i) x h e = all_at test ys i x (and_parts (test y) (l
 at_index : (s : Sheet) (i : ℕ) (x : CommandClaims) → slice_get s.commands i ≡ Some x → command_at s (i + 1) ≡ x
 at_index s i x h = let e : i + 1 - 1 ≡ i = omega arith in ap (λ k. unwrap_or (slice_get s.commands k) nowhere) e ∙ ap (λ o. unwrap_or o nowhere) h
 
-as_many : (names : List Text) (ls : List Bool) (cs : List CommandClaims) → commands_fit names ls cs ≡ true → length cs ≡ length ls
+pub as_many : (names : List Text) (ls : List Bool) (cs : List CommandClaims) → commands_fit names ls cs ≡ true → length cs ≡ length ls
 unfolding commands_fit
 as_many names [] [] h = refl
 as_many names [] (c ∷ cs) h = absurd (true≢false (sym h))

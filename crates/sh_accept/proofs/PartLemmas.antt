@@ -8,17 +8,18 @@ use Rattle.sh_tree.specs.standard.program.Syntax.{Text}
 use Rattle.sh_tree.specs.standard.program.Trees.{script_of}
 use Rattle.sh_table.specs.Admits.{Admits}
 use Rattle.sh_table.specs.Profile.{first_refused}
-use Rattle.sh_domain.specs.Certificates.{in_byte_order, sheet_of}
+use Rattle.sh_domain.specs.CompactReading.{ReadsGiven, given_claims}
 use Rattle.sh_domain.specs.Facts.{Declared}
 use Rattle.sh_domain.specs.Names.{Numbers}
-use Rattle.sh_domain.specs.Reading.{Reads}
 use Rattle.sh_domain.specs.Sheets.{Sheet}
-use Rattle.sh_domain.specs.declared.certificate.Certificate.{Certificate}
+use Rattle.sh_domain.specs.declared.compact.Given.{Given}
 use Rattle.sh_domain.proofs.EachLemmas.{none_both}
 use Rattle.sh_answers.specs.declared.verdict.Verdict.TheVariants.{Pass}
 use Rattle.sh_domain.specs.Admitted.{IsAdmitted, KeepsRules, functions_in}
+use Rattle.sh_accept.specs.Accepted.{Gives}
 use Rattle.sh_accept.specs.Answers.{Checks, IsCertified, places}
 use Rattle.sh_accept.specs.Parts.{PartsAlwaysAnswer}
+use Rattle.sh_accept.proofs.FilledLemmas.{claims_fit}
 
 module _ (b : List ℕ) (d : Declared) (text : Text) where
   unread : (e : Refusal) → Parses b (Err e) → Checks b d text (Err e)
@@ -57,7 +58,7 @@ module _ (b : List ℕ) (d : Declared) (text : Text) where
   unnumbered t (CertSyntax n) p a h = absurd h
   unnumbered t CertShape p a h = absurd h
 
-  uncertified : (t : Script) (names : List Text) (e : Refusal) → IsAdmitted b d t names → Reads text t (length (functions_in b t)) names (Err e) → Checks b d text (Err e)
+  uncertified : (t : Script) (names : List Text) (e : Refusal) → IsAdmitted b d t names → ReadsGiven text t (length (functions_in b t)) names (Err e) → Checks b d text (Err e)
   uncertified t names TooLong a h = absurd h
   uncertified t names (NulByte at) a h = absurd h
   uncertified t names (Syntax f at) a h = absurd h
@@ -69,8 +70,13 @@ module _ (b : List ℕ) (d : Declared) (text : Text) where
   uncertified t names (CertSyntax n) a h = (t, names, a, h)
   uncertified t names CertShape a h = (t, names, a, h)
 
-  certified : (t : Script) (names : List Text) (c : Certificate) → IsAdmitted b d t names → Reads text t (length (functions_in b t)) names (Ok c) → IsCertified b d text t (sheet_of (in_byte_order names) c)
-  certified t names c a h = record { names = names; admitted = a; claims = h.2.claims; fit = record { loops = h.0; are_loops = h.1; fit = h.2.fit } }
+  certified : (t : Script) (names : List Text) (g : Given) (c : Sheet) → IsAdmitted b d t names → ReadsGiven text t (length (functions_in b t)) names (Ok g) → Gives b t names (given_claims names g) c
+      → IsCertified b d text t c
+  certified t names g c a h is = record {
+    names = names;
+    admitted = a;
+    claims = record { given = given_claims names g; reads = h.2.claims; fit = record { loops = h.0; are_loops = h.1; fit = h.2.fit }; gives = is };
+  }
 
   passes : (t : Script) (c : Sheet) → IsCertified b d text t c → KeepsRules b d t c → places b d t c ≡ [] → Checks b d text (Ok Pass)
   passes t c h k e =
@@ -78,7 +84,7 @@ module _ (b : List ℕ) (d : Declared) (text : Text) where
       record {
         certificate = c;
         claims = h.claims;
-        accepted = record { tree = t; names = h.names; admitted = h.admitted; fit = h.fit; rules = k; met = both.0; quoted = both.1 };
+        accepted = record { tree = t; names = h.names; admitted = h.admitted; fit = claims_fit b t h.names text c h.claims; rules = k; met = both.0; quoted = both.1 };
       }
 
 pub parts_always_answer : PartsAlwaysAnswer

@@ -1,20 +1,17 @@
 -- Two greatest certificates of a script are one, and so are two answers where no certificate is given.
-use Rattle.std.proofs.Common.{◌≡◌, ℕ, Bool, true, List, [], map, length, Result, Ok, Err, refl, sym, ◌∙◌, ap, subst}
-use Rattle.std.specs.List.{filter_map}
-use Rattle.std.specs.Prelude.{Vec}
-use Rattle.std.specs.declared.alloc.Global.{Global}
+use Rattle.std.proofs.Common.{◌≡◌, ℕ, Bool, true, false, List, [], map, Result, Ok, Err, refl, sym, ◌∙◌, ap, subst}
 use Rattle.sh_tree.specs.declared.refusal.Refusal.{Refusal}
 use Rattle.sh_tree.specs.declared.refusal.Refusal.TheVariants.{TooLong, NulByte, Syntax, LeftOut, TooDeep, TooMany, Memory, Profile, CertSyntax, CertShape}
 use Rattle.sh_tree.specs.declared.tree.Script.{Script}
 use Rattle.sh_tree.specs.standard.program.Syntax.{Text}
 use Rattle.sh_tree.specs.standard.program.Trees.{script_of}
-use Rattle.sh_table.specs.Calls.{table_of, functions_of, names_of, with_name, defined}
-use Rattle.sh_table.specs.Sites.{sites_of}
-use Rattle.sh_domain.specs.Facts.{Declared}
+use Rattle.sh_domain.specs.Compacts.{compact_of_sheet, compact_text}
+use Rattle.sh_domain.specs.Facts.{Declared, facts}
+use Rattle.sh_domain.specs.CompactForms.{begins_compact, given_as, read_given}
 use Rattle.sh_domain.specs.Forms.{read_text}
-use Rattle.sh_domain.specs.Names.{are_distinct}
-use Rattle.sh_domain.specs.Reading.{fits}
-use Rattle.sh_domain.specs.Sheets.{Sheet, certificate_text}
+use Rattle.sh_domain.specs.Sheets.{Sheet}
+use Rattle.sh_domain.specs.Order.{IsWithin}
+use Rattle.sh_domain.proofs.OrderLemmas.{within_itself}
 use Rattle.sh_domain.proofs.TextLemmas.{computes as texts}
 use Rattle.sh_answers.specs.Findings.{contents_at}
 use Rattle.sh_answers.specs.Verdicts.{contents_of}
@@ -22,50 +19,49 @@ use Rattle.sh_answers.specs.declared.verdict.Finding.{Finding}
 use Rattle.sh_answers.specs.declared.verdict.Verdict.{Verdict}
 use Rattle.sh_answers.specs.declared.verdict.Verdict.TheVariants.{Pass, Fail, Forged}
 use Rattle.sh_domain.specs.Admitted.{IsAdmitted, functions_in}
-use Rattle.sh_accept.specs.Answers.{Refuses, RefusesText, NoRefusal, IsBest, HasLeastFindings, Lints, Certifies, places}
+use Rattle.sh_accept.specs.Answers.{Refuses, RefusesText, NoRefusal, IsBest, HasLeastFindings, HasBestText, IsTextOf, Lints, places}
 use Rattle.sh_accept.specs.Computed.{Answer, Passes, Finds, Breaks, Tells, shown, in_order, computed, IsRead, is_refusal, is_told}
 use Rattle.sh_accept.specs.Single.{HasOneGreatest}
-use Rattle.sh_accept.proofs.AnswerLemmas.{loops_are, malformed, of_refusal, tree_is}
-use Rattle.sh_accept.proofs.DistinctLemmas.{distinct_fold}
+use Rattle.sh_accept.proofs.AnswerLemmas.{malformed, nothing, of_refusal}
+use Rattle.sh_accept.proofs.FilledLemmas.{one_sheet, tree_is}
 use Rattle.sh_accept.proofs.FindingLemmas.{found_in_order}
 use Rattle.sh_accept.proofs.GreatestLemmas.{renamed, failed}
-use Rattle.sh_accept.proofs.NumberingLemmas.{same_names, same_fit}
-use Rattle.sh_accept.proofs.OneGreatestLemmas.{same_sheet}
-
-functions_differ : (b : List ℕ) (t : Script) → are_distinct (functions_in b t) ≡ true
-unfolding table_of functions_of names_of with_name are_distinct
-functions_differ b t = distinct_fold [] (filter_map (λ s. defined s.form) (sites_of (script_of b t))) refl
+use Rattle.sh_accept.proofs.SheetLemmas.{same_claim}
 
 module _ (b : List ℕ) (d : Declared) (t : Script) (names : List Text) (loops : List Bool) (read : IsRead b d t names loops) where
-  fits_read : (c : Sheet) → IsBest b d t c → fits names loops (length (functions_in b t)) c ≡ true
-  fits_read c h =
-      let f = h.greatest.fit in
-      same_fit names h.names (same_names b t d names h.names read.numbering h.admitted.numbered.0) loops (length (functions_in b t)) c
-      ∙ ap (λ ls. fits h.names ls (length (functions_in b t)) c) (sym (loops_are b d t names loops [] read f.loops f.are_loops))
-      ∙ f.fit
-
   pub one : (c e : Sheet) → IsBest b d t c → IsBest b d t e → c ≡ e
   one c e h k =
-      same_sheet names (functions_in b t) loops c e
+      one_sheet b d t names loops read h.names k.names h.admitted.numbered.0 k.admitted.numbered.0 c e h.greatest.fit k.greatest.fit h.greatest.spelled k.greatest.spelled
       (k.greatest.above c (renamed b d t h.names k.names c h.admitted.numbered.0 k.admitted.numbered.0 h.greatest.fit) h.greatest.rules)
       (h.greatest.above e (renamed b d t k.names h.names e k.admitted.numbered.0 h.admitted.numbered.0 k.greatest.fit) k.greatest.rules)
-      (fits_read c h) (fits_read e k) h.greatest.spelled k.greatest.spelled (functions_differ b t)
 
   -- along the one reading
   pub best_read : (u : Script) (c : Sheet) → IsBest b d u c → IsBest b d t c
-  best_read u c h = subst (λ v. IsBest b d v c) (tree_is b d t names loops [] read u h.admitted.reading) h
+  best_read u c h = subst (λ v. IsBest b d v c) (tree_is b d t names loops read u h.admitted.reading) h
 
   findings : (fs : List Finding) → HasLeastFindings b d fs → (gs : List Finding) → HasLeastFindings b d gs → map contents_of fs ≡ map contents_of gs
   findings fs h gs k =
-      let p = tree_is b d t names loops [] read h.tree h.best.admitted.reading in
-      let q = tree_is b d t names loops [] read k.tree k.best.admitted.reading in
+      let p = tree_is b d t names loops read h.tree h.best.admitted.reading in
+      let q = tree_is b d t names loops read k.tree k.best.admitted.reading in
       let same : h.certificate ≡ k.certificate = one h.certificate k.certificate (best_read h.tree h.certificate h.best) (best_read k.tree k.certificate k.best) in
       found_in_order b (places b d h.tree h.certificate) fs h.found
       ∙ (λ i. in_order (map (contents_at b) (places b d ((p ∙ sym q) i) (same i))))
       ∙ sym (found_in_order b (places b d k.tree k.certificate) gs k.found)
 
-  shows : (v w : Vec ℕ Global) → Certifies b d (Ok v) → Certifies b d (Ok w) → v.items ≡ w.items
-  shows v w h k = h.3 ∙ ap certificate_text (one h.1 k.1 (best_read h.0 h.1 h.2) (best_read k.0 k.1 k.2)) ∙ sym k.3
+  -- of a certificate there is one text of each version
+  text_of : (full : Bool) (c : Sheet) (x y : Text) → IsTextOf full d c x → IsTextOf full d c y → x ≡ y
+  unfolding IsTextOf
+  text_of true c x y h k = h ∙ sym k
+  text_of false c x y h k =
+      let known : facts h.0 ≡ facts k.0 = h.1.known ∙ sym k.1.known in
+      let start : h.0 ≡ k.0 =
+      same_claim h.0 k.0 h.1.written k.1.written (subst (IsWithin (facts h.0)) known (within_itself (facts h.0))) (subst (λ f. IsWithin f (facts h.0)) known (within_itself (facts h.0))) in
+      h.2 ∙ ap (λ s. compact_text (compact_of_sheet s c)) start ∙ sym k.2
+
+  pub one_text : (full : Bool) (x y : Text) → HasBestText full b d x → HasBestText full b d y → x ≡ y
+  one_text full x y h k =
+      let same : h.certificate ≡ k.certificate = one h.certificate k.certificate (best_read h.tree h.certificate h.best) (best_read k.tree k.certificate k.best) in
+      text_of full k.certificate x y (subst (λ c. IsTextOf full d c x) same h.spelled) k.spelled
 
   -- a refusal is that of a check of no text at all, and otherwise this text is malformed
   as_checked : (e : Refusal) → Refuses b d NoRefusal e → Refuses b d (RefusesText b d []) e
@@ -81,18 +77,18 @@ module _ (b : List ℕ) (d : Declared) (t : Script) (names : List Text) (loops :
   as_checked CertShape h = absurd h
 
   abbrev checked : Answer
-  checked = computed b d (script_of b t) (functions_in b t) names loops []
+  checked = computed b d (script_of b t) (functions_in b t) names loops nothing []
 
   pub of_error : (e : Refusal) → Refuses b d NoRefusal e → is_refusal e ≡ true → checked ≡ Tells e
-  of_error e h k = of_refusal b d t names loops [] read e (as_checked e h) k
+  of_error e h k = of_refusal b d t names loops nothing [] read e (as_checked e h) k
 
-  nothing : read_text [] ≡ Err 1
-  unfolding texts read_text
-  nothing = refl
+  no_text : read_given [] ≡ Err 1
+  unfolding texts begins_compact given_as read_text
+  no_text = refl
 
   of_admitted : (u : Script) (others : List Text) → IsAdmitted b d u others → checked ≡ Tells (CertSyntax 1)
   of_admitted u others a =
-      malformed b d t names loops [] read others 1 (subst (λ v. IsAdmitted b d v others) (tree_is b d t names loops [] read u a.reading) a) nothing
+      malformed b d t names loops nothing [] read others 1 (subst (λ v. IsAdmitted b d v others) (tree_is b d t names loops read u a.reading) a) no_text
 
   unfoldable refusal_in : Answer → Refusal
   refusal_in (Tells e) = e
@@ -127,5 +123,5 @@ pub has_one_greatest : HasOneGreatest
 has_one_greatest = record {
   one = λ b d t names loops c other r h k. one b d t names loops r c other h k;
   linted = λ b d t names loops x y r h g k l. linted b d t names loops r x y h g k l;
-  certified = λ b d t names loops v w r h k. shows b d t names loops r v w h k;
+  certified = λ full b d t names loops v w r h k. one_text b d t names loops r full v.items w.items h.0 k.0;
 }

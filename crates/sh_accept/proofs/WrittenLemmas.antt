@@ -1,26 +1,26 @@
 -- What is written of an answer is a function of what it shows; so there is one text and one status.
-use Rattle.std.proofs.Common.{◌≡◌, ℕ, ◌<◌, ◌≤◌, ◌⊎◌, inl, inr, true, List, [], length, Vec, Result, Ok, Err, refl, sym, ◌∙◌, ap, arith}
+use Rattle.std.proofs.Common.{◌≡◌, ℕ, ◌<◌, ◌≤◌, ◌⊎◌, inl, inr, Bool, true, List, [], length, Vec, Result, Ok, Err, refl, sym, ◌∙◌, ap, arith}
 use Rattle.std.specs.declared.alloc.Global.{Global}
 use Rattle.sh_tree.specs.Answers.{Parses}
 use Rattle.sh_tree.specs.declared.refusal.Refusal.{Refusal}
 use Rattle.sh_tree.specs.declared.refusal.Refusal.TheVariants.{TooLong, NulByte, Syntax, LeftOut, TooDeep, TooMany, Memory, Profile, CertSyntax, CertShape}
 use Rattle.sh_tree.specs.declared.tree.Script.{Script}
+use Rattle.sh_tree.specs.standard.program.Syntax.{Text}
 use Rattle.sh_domain.specs.Facts.{Declared}
-use Rattle.sh_domain.specs.Sheets.{Sheet, certificate_text}
 use Rattle.sh_domain.specs.declared.limits.TheConstants.{MAX_CERTIFICATE}
 use Rattle.sh_answers.specs.Texts.{answer_text, refusal_text, report_text, forged_text, status_of}
 use Rattle.sh_answers.specs.declared.task.Action.{Action}
 use Rattle.sh_answers.specs.declared.task.Action.TheVariants.{Lint, Cert, Check, Print}
 use Rattle.sh_answers.specs.declared.verdict.Verdict.{Verdict}
 use Rattle.sh_answers.specs.declared.verdict.Verdict.TheVariants.{Pass, Fail, Forged}
-use Rattle.sh_accept.specs.Answers.{Checks, Lints, Certifies, Refuses, RefusesLong, NoRefusal, IsBest}
+use Rattle.sh_accept.specs.Answers.{Checks, Lints, Certifies, HasBestText, Refuses, RefusesLong, NoRefusal}
 use Rattle.sh_accept.specs.Computed.{Answer, Passes, Finds, Breaks, Tells, shown, is_refusal, is_told}
 use Rattle.sh_accept.specs.Written as w
 use Rattle.sh_accept.specs.Written.{TellsVerdict, TellsOneAnswer, shown_text, shown_status}
 use Rattle.sh_accept.proofs.AnswerLemmas.{has_one_answer}
 use Rattle.sh_accept.proofs.PrintLemmas.{prints}
 use Rattle.sh_accept.proofs.ReadLemmas.{known}
-use Rattle.sh_accept.proofs.SingleLemmas.{has_one_greatest, best_read, not_both, of_error, one, same_refusal}
+use Rattle.sh_accept.proofs.SingleLemmas.{has_one_greatest, not_both, of_error, one_text, same_refusal}
 
 -- by what is shown
 
@@ -72,71 +72,61 @@ verdicts Should b text other status another single h k =
 -- Where a certificate is shown
 
 -- the text of the greatest certificate is too long
-record IsLong (b : List ℕ) (d : Declared) (e : Refusal) : Type 0 where
+record IsLong (full : Bool) (b : List ℕ) (d : Declared) (e : Refusal) : Type 0 where
   is : e ≡ CertSyntax 0
-  tree : Script
-  certificate : Sheet
-  best : IsBest b d tree certificate
-  long : MAX_CERTIFICATE < length (certificate_text certificate)
+  text : Text
+  best : HasBestText full b d text
+  long : MAX_CERTIFICATE < length text
 
-cases_long : (b : List ℕ) (d : Declared) (e : Refusal) → Refuses b d (RefusesLong b d) e → Refuses b d NoRefusal e ⊎ IsLong b d e
-cases_long b d TooLong h = inl h
-cases_long b d (NulByte at) h = inl h
-cases_long b d (Syntax f at) h = inl h
-cases_long b d (LeftOut f at) h = inl h
-cases_long b d (TooDeep at) h = inl h
-cases_long b d TooMany h = inl h
-cases_long b d Memory h = inl h
-cases_long b d (Profile r at) h = inl h
-cases_long b d (CertSyntax n) h = inr (record { is = ap CertSyntax h.4; tree = h.0; certificate = h.1; best = h.2; long = h.3 })
-cases_long b d CertShape h = absurd h
+cases_long : (full : Bool) (b : List ℕ) (d : Declared) (e : Refusal) → Refuses b d (RefusesLong full b d) e → Refuses b d NoRefusal e ⊎ IsLong full b d e
+cases_long full b d TooLong h = inl h
+cases_long full b d (NulByte at) h = inl h
+cases_long full b d (Syntax f at) h = inl h
+cases_long full b d (LeftOut f at) h = inl h
+cases_long full b d (TooDeep at) h = inl h
+cases_long full b d TooMany h = inl h
+cases_long full b d Memory h = inl h
+cases_long full b d (Profile r at) h = inl h
+cases_long full b d (CertSyntax n) h = inr (record { is = ap CertSyntax h.3; text = h.0; best = h.1; long = h.2 })
+cases_long full b d CertShape h = absurd h
 
 module _ (b : List ℕ) (d : Declared) (t : Script) (reading : Parses b (Ok t)) where
   -- no certificate is shown and refused
-  not_refused : (v : Vec ℕ Global) (e : Refusal) → Certifies b d (Ok v) → Refuses b d (RefusesLong b d) e → (e ≡ Memory → ⊥) → ⊥
-  not_refused v e h k apart =
+  not_refused : (full : Bool) (v : Vec ℕ Global) (e : Refusal) → Certifies full b d (Ok v) → Refuses b d (RefusesLong full b d) e → (e ≡ Memory → ⊥) → ⊥
+  not_refused full v e h k apart =
       let x = known b d t reading in
-      elim (cases_long b d e k) [
-        | inl r ↦ not_both b d t x.names x.loops x.read e h.0 h.2.names r (refused e apart) h.2.admitted
-        | inr l ↦
-            let same : h.1 ≡ l.certificate =
-            one b d t x.names x.loops x.read h.1 l.certificate
-            (best_read b d t x.names x.loops x.read h.0 h.1 h.2) (best_read b d t x.names x.loops x.read l.tree l.certificate l.best) in
-            let shorter : length (certificate_text h.1) ≤ MAX_CERTIFICATE = few v.items (certificate_text h.1) h.3 h.4 in
-            let longer = l.long in
-            over (certificate_text h.1) (certificate_text l.certificate) (ap certificate_text same) shorter longer
+      elim (cases_long full b d e k) [
+        | inl r ↦ not_both b d t x.names x.loops x.read e h.0.tree h.0.best.names r (refused e apart) h.0.best.admitted
+        | inr l ↦ over v.items l.text (one_text b d t x.names x.loops x.read full v.items l.text h.0 l.best) h.1 l.long
       ]
     where
-      few : (xs ys : List ℕ) → xs ≡ ys → length xs ≤ MAX_CERTIFICATE → length ys ≤ MAX_CERTIFICATE
-      few xs ys is l = let long = ap length is in omega arith
-
       over : (xs ys : List ℕ) → xs ≡ ys → length xs ≤ MAX_CERTIFICATE → MAX_CERTIFICATE < length ys → ⊥
       over xs ys is l m = let long = ap length is in omega arith
 
   -- two refusals are one
-  one_refusal : (e f : Refusal) → Refuses b d (RefusesLong b d) e → Refuses b d (RefusesLong b d) f → (e ≡ Memory → ⊥) → (f ≡ Memory → ⊥) → e ≡ f
-  one_refusal e f h k g l =
+  one_refusal : (full : Bool) (e f : Refusal) → Refuses b d (RefusesLong full b d) e → Refuses b d (RefusesLong full b d) f → (e ≡ Memory → ⊥) → (f ≡ Memory → ⊥) → e ≡ f
+  one_refusal full e f h k g l =
       let x = known b d t reading in
-      elim (cases_long b d e h) [
-        | inl r ↦ elim (cases_long b d f k) [
+      elim (cases_long full b d e h) [
+        | inl r ↦ elim (cases_long full b d f k) [
           | inl s ↦
               same_refusal b d t x.names x.loops x.read e f
               (sym (of_error b d t x.names x.loops x.read e r (refused e g)) ∙ of_error b d t x.names x.loops x.read f s (refused f l))
-          | inr s ↦ absurd (not_both b d t x.names x.loops x.read e s.tree s.best.names r (refused e g) s.best.admitted)
+          | inr s ↦ absurd (not_both b d t x.names x.loops x.read e s.best.tree s.best.best.names r (refused e g) s.best.best.admitted)
         ]
-        | inr r ↦ elim (cases_long b d f k) [
-          | inl s ↦ absurd (not_both b d t x.names x.loops x.read f r.tree r.best.names s (refused f l) r.best.admitted)
+        | inr r ↦ elim (cases_long full b d f k) [
+          | inl s ↦ absurd (not_both b d t x.names x.loops x.read f r.best.tree r.best.best.names s (refused f l) r.best.best.admitted)
           | inr s ↦ r.is ∙ sym s.is
         ]
       ]
 
-  certificates : (x y : Result (Vec ℕ Global) Refusal) → Certifies b d x → Certifies b d y → (x ≡ Err Memory → ⊥) → (y ≡ Err Memory → ⊥)
+  certificates : (full : Bool) (x y : Result (Vec ℕ Global) Refusal) → Certifies full b d x → Certifies full b d y → (x ≡ Err Memory → ⊥) → (y ≡ Err Memory → ⊥)
       → (shown_text b x ≡ shown_text b y) × (shown_status x ≡ shown_status y)
-  certificates (Ok v) (Ok w) h k g l = let x = known b d t reading in (has_one_greatest.certified b d t x.names x.loops v w x.read h k, refl)
-  certificates (Ok v) (Err f) h k g l = absurd (not_refused v f h k (λ is. l (ap Err is)))
-  certificates (Err e) (Ok w) h k g l = absurd (not_refused w e k h (λ is. g (ap Err is)))
-  certificates (Err e) (Err f) h k g l =
-      let same = one_refusal e f h k (λ is. g (ap Err is)) (λ is. l (ap Err is)) in
+  certificates full (Ok v) (Ok w) h k g l = let x = known b d t reading in (has_one_greatest.certified full b d t x.names x.loops v w x.read h k, refl)
+  certificates full (Ok v) (Err f) h k g l = absurd (not_refused full v f h k (λ is. l (ap Err is)))
+  certificates full (Err e) (Ok w) h k g l = absurd (not_refused full w e k h (λ is. g (ap Err is)))
+  certificates full (Err e) (Err f) h k g l =
+      let same = one_refusal full e f h k (λ is. g (ap Err is)) (λ is. l (ap Err is)) in
       (ap (refusal_text b) same, ap (λ (r : Refusal). status_of (Err r)) same)
 
   -- whatever the action
@@ -145,8 +135,8 @@ module _ (b : List ℕ) (d : Declared) (t : Script) (reading : Parses b (Ok t)) 
   tells_one Lint certificate text other status another h k =
       let x = known b d t reading in
       verdicts (Lints b d) b text other status another (λ y z. has_one_greatest.linted b d t x.names x.loops y z x.read) h k
-  tells_one Cert certificate text other status another h k =
-      let same = certificates h.answer k.answer h.answers k.answers h.memory k.memory in
+  tells_one (Cert full) certificate text other status another h k =
+      let same = certificates full h.answer k.answer h.answers k.answers h.memory k.memory in
       (h.text_is ∙ same.0 ∙ sym k.text_is, h.status_is ∙ same.1 ∙ sym k.status_is)
   tells_one Check certificate text other status another h k =
       let x = known b d t reading in

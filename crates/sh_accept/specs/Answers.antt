@@ -1,6 +1,6 @@
 -- What may be answered of a script: of a certificate of it, of all its certificates, which certificate is shown, and how it is printed.
 -- shset's own; the standard has none.
-use Rattle.std.specs.Prelude.{◌≡◌, ◌≤◌, ◌<◌, ◌⊎◌, ℕ, List, ◌++◌, length, None, Some, Result, Ok, Err, Vec}
+use Rattle.std.specs.Prelude.{◌≡◌, ◌≤◌, ◌<◌, ◌⊎◌, ℕ, Bool, true, false, List, ◌++◌, length, None, Some, Result, Ok, Err, Vec}
 use Rattle.std.specs.declared.alloc.Global.{Global}
 use Rattle.sh_tree.specs.Answers.{IsText, Parses}
 use Rattle.sh_tree.specs.declared.place.Place.{Place}
@@ -11,13 +11,14 @@ use Rattle.sh_tree.specs.standard.program.Syntax.{Text}
 use Rattle.sh_tree.specs.standard.program.Trees.{script_of}
 use Rattle.sh_table.specs.Admits.{Admits}
 use Rattle.sh_table.specs.Profile.{first_refused}
+use Rattle.sh_domain.specs.CompactReading.{ReadsGiven}
 use Rattle.sh_domain.specs.Demands.{demands}
-use Rattle.sh_domain.specs.Facts.{Declared, start_facts}
+use Rattle.sh_domain.specs.Compacts.{compact_of_sheet, compact_text}
+use Rattle.sh_domain.specs.Facts.{Claim, Declared, facts, start_facts}
 use Rattle.sh_domain.specs.Faults.{faults, least}
-use Rattle.sh_domain.specs.Forms.{read_text}
 use Rattle.sh_domain.specs.Names.{Numbers}
-use Rattle.sh_domain.specs.Reading.{Reads}
 use Rattle.sh_domain.specs.Sheets.{Sheet, certificate_text}
+use Rattle.sh_domain.specs.Spelling.{is_writable}
 use Rattle.sh_domain.specs.declared.limits.TheConstants.{MAX_CERTIFICATE}
 use Rattle.sh_domain.specs.declared.rule.FlowRule.{FlowRule}
 use Rattle.sh_quote.specs.Places.{unquoted}
@@ -25,9 +26,9 @@ use Rattle.sh_answers.specs.Findings.{AreFindings}
 use Rattle.sh_answers.specs.declared.verdict.Finding.{Finding}
 use Rattle.sh_answers.specs.declared.verdict.Verdict.{Verdict}
 use Rattle.sh_answers.specs.declared.verdict.Verdict.TheVariants.{Pass, Fail, Forged}
-use Rattle.sh_domain.specs.Admitted.{IsAdmitted, IsGreatest, KeepsRules, Fits, claims_in, functions_in}
+use Rattle.sh_domain.specs.Admitted.{IsAdmitted, IsGreatest, KeepsRules, claims_in, functions_in}
 use Rattle.sh_print.specs.Layout.{canon}
-use Rattle.sh_accept.specs.Accepted.{IsAccepted, IsAcceptedText}
+use Rattle.sh_accept.specs.Accepted.{IsAccepted, IsAcceptedText, Claims}
 
 -- Refusals, in the order script, profile, names, certificate: of the latter P says which come
 
@@ -53,8 +54,7 @@ places b d t c = demands (start_facts d) (claims_in b t c) (script_of b t) ++ un
 pub record IsCertified (b : List ℕ) (d : Declared) (text : Text) (t : Script) (c : Sheet) : Type 0 where
   pub names : List Text
   pub admitted : IsAdmitted b d t names
-  pub claims : read_text text ≡ Ok c
-  pub fit : Fits b t names c
+  pub claims : Claims b t names text c
 
 -- it breaks a flow rule, the least of them at this command
 pub record IsForged (b : List ℕ) (d : Declared) (text : Text) (number : ℕ) (rule : FlowRule) : Type 0 where
@@ -74,7 +74,7 @@ pub record HasFindings (b : List ℕ) (d : Declared) (text : Text) (fs : List Fi
 
 -- the text is no certificate, or does not fit a script that is admitted
 abbrev pub RefusesText : List ℕ → Declared → Text → Refusal → Type 0
-RefusesText b d text r = (t : Script) × (names : List Text) × IsAdmitted b d t names × Reads text t (length (functions_in b t)) names (Err r)
+RefusesText b d text r = (t : Script) × (names : List Text) × IsAdmitted b d t names × ReadsGiven text t (length (functions_in b t)) names (Err r)
 
 -- what a check of a certificate's text answers: Pass exactly where it is accepted
 abbrev pub Checks : List ℕ → Declared → Text → Result Verdict Refusal → Type 0
@@ -109,15 +109,32 @@ Lints b d (Ok (Fail r)) = HasLeastFindings b d r.findings.items
 Lints b d (Ok (Forged k f)) = ⊥
 Lints b d (Err r) = Refuses b d NoRefusal r
 
--- the greatest certificate has a longer text than is read
-abbrev pub RefusesLong : List ℕ → Declared → Refusal → Type 0
-RefusesLong b d (CertSyntax n) = (t : Script) × (c : Sheet) × IsBest b d t c × (MAX_CERTIFICATE < length (certificate_text c)) × (n ≡ 0)
-RefusesLong b d _ = ⊥
+-- what is known at the start, as a certificate has it
+pub record IsStart (d : Declared) (c : Claim) : Type 0 where
+  pub known : facts c ≡ start_facts d
+  pub written : is_writable c ≡ true
+
+-- the full text of a certificate, or that of its compact form
+unfoldable pub IsTextOf : (full : Bool) → Declared → Sheet → Text → Type 0
+IsTextOf true d c text = text ≡ certificate_text c
+IsTextOf false d c text = (start : Claim) × IsStart d start × (text ≡ compact_text (compact_of_sheet start c))
+
+-- the greatest certificate of a script that is admitted, with its text
+pub record HasBestText (full : Bool) (b : List ℕ) (d : Declared) (text : Text) : Type 0 where
+  pub tree : Script
+  pub certificate : Sheet
+  pub best : IsBest b d tree certificate
+  pub spelled : IsTextOf full d certificate text
+
+-- the text is longer than is read
+abbrev pub RefusesLong : (full : Bool) → List ℕ → Declared → Refusal → Type 0
+RefusesLong full b d (CertSyntax n) = (text : Text) × HasBestText full b d text × (MAX_CERTIFICATE < length text) × (n ≡ 0)
+RefusesLong full b d _ = ⊥
 
 -- the text of the greatest certificate, whether it passes or not
-abbrev pub Certifies : List ℕ → Declared → Result (Vec ℕ Global) Refusal → Type 0
-Certifies b d (Ok v) = (t : Script) × (c : Sheet) × IsBest b d t c × (v.items ≡ certificate_text c) × (length v.items ≤ MAX_CERTIFICATE)
-Certifies b d (Err r) = Refuses b d (RefusesLong b d) r
+abbrev pub Certifies : (full : Bool) → List ℕ → Declared → Result (Vec ℕ Global) Refusal → Type 0
+Certifies full b d (Ok v) = HasBestText full b d v.items × (length v.items ≤ MAX_CERTIFICATE)
+Certifies full b d (Err r) = Refuses b d (RefusesLong full b d) r
 
 -- Of the text alone
 

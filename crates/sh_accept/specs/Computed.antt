@@ -11,11 +11,14 @@ use Rattle.sh_tree.specs.standard.program.Syntax.{Text, Items}
 use Rattle.sh_tree.specs.standard.program.Trees.{script_of}
 use Rattle.sh_table.specs.Profile.{Refused, first_refused}
 use Rattle.sh_domain.specs.Demands.{demands}
+use Rattle.sh_domain.specs.CompactForms.{GivenSheet, Full, Compact, read_given}
+use Rattle.sh_domain.specs.CompactReading.{compact_fits, given_fits}
+use Rattle.sh_domain.specs.Compacts.{CompactSheet}
 use Rattle.sh_domain.specs.Facts.{Declared, start_facts}
 use Rattle.sh_domain.specs.Faults.{Fault, faults, least}
-use Rattle.sh_domain.specs.Forms.{read_text}
+use Rattle.sh_domain.specs.Filled.{FillsTo}
 use Rattle.sh_domain.specs.Names.{IsNumbering}
-use Rattle.sh_domain.specs.Reading.{AreLoops, fits}
+use Rattle.sh_domain.specs.Reading.{AreLoops}
 use Rattle.sh_domain.specs.Sheets.{Sheet, certificate_of}
 use Rattle.sh_domain.specs.declared.rule.FlowRule.{FlowRule}
 use Rattle.sh_quote.specs.Places.{unquoted}
@@ -68,9 +71,9 @@ unfoldable pub of_fit : Bool → Answer → Answer
 of_fit true x = x
 of_fit false x = Tells CertShape
 
-unfoldable pub of_claims : (Sheet → Bool) → (Sheet → Answer) → Result Sheet ℕ → Answer
+unfoldable pub of_claims : (GivenSheet → Bool) → (GivenSheet → Answer) → Result GivenSheet ℕ → Answer
 of_claims fit x (Err n) = Tells (CertSyntax n)
-of_claims fit x (Ok c) = of_fit (fit c) (x c)
+of_claims fit x (Ok g) = of_fit (fit g) (x g)
 
 unfoldable pub of_count : Bool → Answer → Answer
 of_count true x = x
@@ -80,12 +83,17 @@ unfoldable pub of_profile : Option Refused → Answer → Answer
 of_profile (Some q) x = Tells (Profile q.rule q.at)
 of_profile None x = x
 
--- of a program with these functions, names and loops
-abbrev pub computed : List ℕ → Declared → Items → (functions names : List Text) → (loops : List Bool) → Text → Answer
-computed b d p functions names loops text =
+-- a certificate, or that to which a compact one is filled
+unfoldable pub filled_to : Sheet → GivenSheet → Sheet
+filled_to filled (Full c) = c
+filled_to filled (Compact k) = filled
+
+-- of a program with these functions, names and loops, if a compact certificate is filled to this one
+abbrev pub computed : List ℕ → Declared → Items → (functions names : List Text) → (loops : List Bool) → (filled : Sheet) → Text → Answer
+computed b d p functions names loops filled text =
     of_profile (first_refused p)
     (of_count (nat_le (length names) MAX_NAMES)
-    (of_claims (fits names loops (length functions)) (of_certificate b d p functions) (read_text text)))
+    (of_claims (given_fits names loops (length functions)) (λ g. of_certificate b d p functions (filled_to filled g)) (read_given text)))
 
 -- Where it is the answer
 
@@ -94,6 +102,12 @@ pub record IsRead (b : List ℕ) (d : Declared) (t : Script) (names : List Text)
   pub reading : Parses b (Ok t)
   pub numbering : IsNumbering b t d names
   pub are_loops : AreLoops t loops
+
+-- if the text is that of a compact certificate that fits, it is filled to this one
+abbrev pub IsFilledBy : List ℕ → Script → List Text → (loops : List Bool) → Text → Sheet → Type 0
+IsFilledBy b t names loops text filled =
+    (k : CompactSheet) → read_given text ≡ Ok (Compact k) → compact_fits names loops (length (functions_in b t)) k ≡ true
+    → FillsTo b t names k filled
 
 -- no want of memory
 unfoldable pub is_refusal : Refusal → Bool
@@ -106,7 +120,7 @@ is_told (Err e) = is_refusal e
 
 -- Of a script that is read, whatever a check may answer, memory aside, is the computed answer: so there is one.
 pub record HasOneAnswer : Type 0 where
-  pub computes : (b : List ℕ) (d : Declared) (t : Script) (names : List Text) (loops : List Bool) (text : Text) (x : Result Verdict Refusal)
-      → IsRead b d t names loops → Checks b d text x → is_told x ≡ true → shown x ≡ computed b d (script_of b t) (functions_in b t) names loops text
+  pub computes : (b : List ℕ) (d : Declared) (t : Script) (names : List Text) (loops : List Bool) (filled : Sheet) (text : Text) (x : Result Verdict Refusal)
+      → IsRead b d t names loops → IsFilledBy b t names loops text filled → Checks b d text x → is_told x ≡ true → shown x ≡ computed b d (script_of b t) (functions_in b t) names loops filled text
   pub one : (b : List ℕ) (d : Declared) (t : Script) (names : List Text) (loops : List Bool) (text : Text) (x y : Result Verdict Refusal)
       → IsRead b d t names loops → Checks b d text x → Checks b d text y → is_told x ≡ true → is_told y ≡ true → shown x ≡ shown y

@@ -1,6 +1,6 @@
 -- Where a refusal is told: inside the script's text.
 -- POSIX.1-2024, XCU 2.3 (token recognition), 2.10 (shell grammar).
-use Rattle.std.specs.Prelude.{◌<◌, ◌≤◌, ℕ, List, length, Err}
+use Rattle.std.specs.Prelude.{◌<◌, ◌≤◌, ℕ, Bool, List, length, Err}
 use Rattle.sh_tree.specs.declared.refusal.Refusal.{Refusal}
 use Rattle.sh_tree.specs.declared.refusal.Refusal.TheVariants.{NulByte, Syntax, LeftOut, TooDeep, Profile}
 use Rattle.sh_tree.specs.standard.program.Syntax.{Text}
@@ -21,4 +21,4 @@ IsInside b _ = Unit {0}
 pub record RefusalsStandInside : Type 0 where
   pub checked : (b : List ℕ) (d : Declared) (text : Text) (r : Refusal) → Checks b d text (Err r) → IsInside b r
   pub linted : (b : List ℕ) (d : Declared) (r : Refusal) → Lints b d (Err r) → IsInside b r
-  pub certified : (b : List ℕ) (d : Declared) (r : Refusal) → Certifies b d (Err r) → IsInside b r
+  pub certified : (full : Bool) (b : List ℕ) (d : Declared) (r : Refusal) → Certifies full b d (Err r) → IsInside b r

@@ -16,5 +16,5 @@ pub record HasOneGreatest : Type 0 where
       → IsRead b d t names loops → IsBest b d t c → IsBest b d t other → c ≡ other
   pub linted : (b : List ℕ) (d : Declared) (t : Script) (names : List Text) (loops : List Bool) (x y : Result Verdict Refusal)
       → IsRead b d t names loops → Lints b d x → Lints b d y → is_told x ≡ true → is_told y ≡ true → shown x ≡ shown y
-  pub certified : (b : List ℕ) (d : Declared) (t : Script) (names : List Text) (loops : List Bool) (v w : Vec ℕ Global)
-      → IsRead b d t names loops → Certifies b d (Ok v) → Certifies b d (Ok w) → v.items ≡ w.items
+  pub certified : (full : Bool) (b : List ℕ) (d : Declared) (t : Script) (names : List Text) (loops : List Bool) (v w : Vec ℕ Global)
+      → IsRead b d t names loops → Certifies full b d (Ok v) → Certifies full b d (Ok w) → v.items ≡ w.items

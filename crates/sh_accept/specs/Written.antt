@@ -41,7 +41,7 @@ pub record TellsText (Should : Result (Vec ℕ Global) Refusal → Type 0) (b te
 -- the text and the status are those of an answer of the action on the script's bytes and the certificate's
 abbrev pub Tells : Action → (b certificate : List ℕ) → Declared → List ℕ → ℕ → Type 0
 Tells Lint b certificate d = TellsVerdict (Lints b d) b
-Tells Cert b certificate d = TellsText (Certifies b d) b
+Tells (Cert full) b certificate d = TellsText (Certifies full b d) b
 Tells Check b certificate d = TellsVerdict (Checks b d certificate) b
 Tells Print b certificate d = TellsText (Prints b) b
 

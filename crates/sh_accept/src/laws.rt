@@ -23,7 +23,8 @@ pub fn parts()
     ensures { PartsAlwaysAnswer }
 {}
 
-/// Of a script that is read, whatever a check may answer of a certificate's text, memory aside, is the computed answer: so there is one. The
+/// Of a script that is read, whatever a check may answer of a certificate's text, memory aside, is the
+/// computed answer, of the filled certificate if the text is compact. So there is one answer. The
 /// refusals come in the order script, profile, names, certificate.
 pub fn answers()
     ensures { HasOneAnswer }
@@ -41,12 +42,13 @@ pub fn greatest()
 {}
 
 /// A script that is read has at most one greatest certificate; so there is at most one answer, memory aside, where no certificate is given, and at most one
-/// text of the certificate that is shown.
+/// text of each version of the certificate that is shown.
 pub fn single()
     ensures { HasOneGreatest }
 {}
 
-/// Where a lint passes, a check of the certificate's text that is shown of the script passes.
+/// If a lint passes, a check of the certificate's text that is shown of the script passes, of the full
+/// text and of the compact one.
 pub fn passed()
     ensures { LintedIsChecked }
 {}

@@ -5,8 +5,9 @@ use Rattle.std.specs.Prelude.{◌≡◌, ℕ, Bool, true, false, not, List, [], 
 use Rattle.sh_tree.specs.declared.tree.Script.{Script}
 use Rattle.sh_tree.specs.standard.program.Syntax.{Text, Items}
 use Rattle.sh_tree.specs.standard.program.Trees.{script_of}
-use Rattle.sh_domain.specs.Admitted.{Fits, KeepsRules, claims_in}
-use Rattle.sh_domain.specs.Facts.{Facts, Declared, facts, start_facts}
+use Rattle.sh_domain.specs.Admitted.{Fits, KeepsRules, claims_in, functions_in}
+use Rattle.sh_domain.specs.Compacts.{CompactSheet, compact_of_sheet, stated_by}
+use Rattle.sh_domain.specs.Facts.{Facts, Claim, Declared, facts, start_facts}
 use Rattle.sh_domain.specs.Faults.{broken}
 use Rattle.sh_domain.specs.Order.{IsBelow}
 use Rattle.sh_domain.specs.Rules.{Constraint, Within, Counted, script_bounds}
@@ -44,12 +45,16 @@ pub record IsFilled (b : List ℕ) (t : Script) (names : List Text) (start : Fac
   pub above : (other : Sheet) → Fits b t names other → KeepsStated start (script_of b t) stated (claims_in b t other) → IsBelow (claims_in b t other) (claims_in b t c)
   pub spelled : IsSheet c
 
--- Where a certificate keeps the rules, the one that is filled from its stated claims and from the
--- start keeps them too, and claims no less. Two that are filled from the same claim the same.
+-- What a compact certificate states is filled to this.
+abbrev pub FillsTo : List ℕ → Script → List Text → CompactSheet → Sheet → Type 0
+FillsTo b t names k c = IsFilled b t names (facts k.start) (stated_by (functions_in b t) k) c
+
+-- If a certificate keeps the rules, what its compact form with the start is filled to keeps them too,
+-- and claims no less. Two that are filled from the same claim the same.
 pub record FilledKeeps : Type 0 where
-  pub rules : (b : List ℕ) (d : Declared) (t : Script) (names : List Text) (c f : Sheet)
-      → Fits b t names c → KeepsRules b d t c → IsFilled b t names (start_facts d) (claims_in b t c) f → KeepsRules b d t f
-  pub above : (b : List ℕ) (d : Declared) (t : Script) (names : List Text) (c f : Sheet)
-      → Fits b t names c → KeepsRules b d t c → IsFilled b t names (start_facts d) (claims_in b t c) f → IsBelow (claims_in b t c) (claims_in b t f)
+  pub rules : (b : List ℕ) (d : Declared) (t : Script) (names : List Text) (start : Claim) (c f : Sheet)
+      → facts start ≡ start_facts d → Fits b t names c → KeepsRules b d t c → FillsTo b t names (compact_of_sheet start c) f → KeepsRules b d t f
+  pub above : (b : List ℕ) (d : Declared) (t : Script) (names : List Text) (start : Claim) (c f : Sheet)
+      → facts start ≡ start_facts d → Fits b t names c → KeepsRules b d t c → FillsTo b t names (compact_of_sheet start c) f → IsBelow (claims_in b t c) (claims_in b t f)
   pub same : (b : List ℕ) (t : Script) (names : List Text) (start : Facts) (stated : Certificate) (f g : Sheet)
       → IsFilled b t names start stated f → IsFilled b t names start stated g → (slot : Slot) → facts ((claims_in b t f).claim slot) ≡ facts ((claims_in b t g).claim slot)

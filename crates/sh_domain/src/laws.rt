@@ -36,8 +36,8 @@ pub fn monotone()
     ensures { Monotone }
 {}
 
-/// Where a certificate keeps the flow rules, the one that is filled from what it states (the turns of loops, the functions and the start)
-/// keeps them too, and claims no less. Two that are filled from the same claim the same.
+/// If a certificate keeps the flow rules, what its compact form with the start is filled to keeps them
+/// too, and claims no less. Two that are filled from the same claim the same.
 pub fn filled()
     ensures { FilledKeeps }
 {}

@@ -25,7 +25,7 @@ use Rattle.sh_domain.specs.declared.knowledge.Knowledge.{Knowledge}
 use Rattle.sh_domain.specs.declared.rows.RowId.{RowId}
 use Rattle.sh_domain.specs.Certificates.{claim_of, drops_of, in_byte_order, names_at}
 use Rattle.sh_domain.specs.Entries.{Entered, script_entered}
-use Rattle.sh_domain.specs.Facts.{Facts, Claim, Unreached, Declared, start_facts, within}
+use Rattle.sh_domain.specs.Facts.{Facts, Claim, Unreached, Declared, within}
 use Rattle.sh_domain.specs.Faults.{are_among}
 use Rattle.sh_domain.specs.KeptRows.{KeptRows, holds_at, bits_of}
 use Rattle.sh_domain.specs.Knowledge.{AreNumbered, among, assured_facts, at_number, knowledge_facts}
@@ -50,6 +50,7 @@ use Rattle.sh_rules.specs.Walks.{facts_in, setting}
 use Rattle.sh_rules.specs.Meaning.{knows}
 use Rattle.sh_rules.specs.Visits.{command_by}
 use Rattle.sh_rules.specs.Asked.{ByConstraints, AreDefined}
+use Rattle.sh_rules.specs.Asking.{Asking}
 use Rattle.sh_rules.proofs.NestLemmas.{script_shallow}
 use Rattle.sh_rules.proofs.PrefixLemmas.{prefixes_are_numbered, table_defines}
 use Rattle.sh_rules.proofs.RuleLemmas.{walk_same}
@@ -62,11 +63,13 @@ use Rattle.sh_find.specs.Gathering.{tested_at, tested_by, met, with_sets, gather
 use Rattle.sh_find.specs.Numbers.{name_passes, by_number, numbers_in}
 use Rattle.sh_find.specs.Places.{place_of}
 use Rattle.sh_find.specs.declared.subject.Subject.{Subject}
+use Rattle.sh_find.specs.Stated.{asked_bounds, asking_by}
 use Rattle.sh_find.specs.Sweeps.{setting_by}
 use Rattle.sh_find.specs.Turns.{sheet_by}
 use Rattle.sh_find.specs.Working.{Sets, joined}
 use Rattle.sh_find.specs.Starts.{start_of}
 use Rattle.sh_find.proofs.NumberLemmas.{claim_known}
+use Rattle.sh_find.proofs.StatedLemmas.{asked_all, by_asked}
 use Rattle.sh_find.proofs.TogetherLemmas.{gathered_together}
 
 -- Tests of names, by their numbers
@@ -257,33 +260,39 @@ module _ (x : Setting) (h : AreNumbered x.names) where
 
 -- A script that is admitted
 
-module _ (b : List ℕ) (d : Declared) (t : Script) (names : List Text) (a : IsAdmitted b d t names) where
+module _ (b : List ℕ) (d : Declared) (t : Script) (names : List Text) (admitted : IsAdmitted b d t names) where
   pub commands_numbered : is_numbered (script_of b t) ≡ true
-  commands_numbered = read_is_numbered b t (MAX_NESTING, a.reading.1.0, a.reading.1.1)
+  commands_numbered = read_is_numbered b t (MAX_NESTING, admitted.reading.1.0, admitted.reading.1.1)
 
   pub few_commands : length (table_of b t).rows ≤ MAX_COMMANDS
-  few_commands = read_has_few_commands b t a.reading.1
+  few_commands = read_has_few_commands b t admitted.reading.1
 
-  walk_gathers : (x : Setting) (old : Gathered) → AreNumbered x.names → x.names ≡ names → x.functions ≡ (table_of b t).functions.names → x.rows ≡ (table_of b t).rows
-      → script_walked x (command_by gathering x) (among x.names (start_facts d)) old (script_of b t) ≡ all_gathered x.names x.functions (start_facts d) (certificate x) old (script_bounds (script_of b t))
+  walk_gathers : (stated : Bool) (x : Setting) (start : Facts) (old : Gathered) → AreNumbered x.names → x.names ≡ names → x.functions ≡ (table_of b t).functions.names → x.rows ≡ (table_of b t).rows
+      → script_walked x (command_by (asking_by stated gathering) x) (among x.names start) old (script_of b t)
+      ≡ all_gathered x.names x.functions start (certificate x) old (asked_bounds stated (script_bounds (script_of b t)))
   unfolding by_constraints table_of
-  walk_gathers x old h same functions rows =
+  walk_gathers stated x start old h same functions rows =
+      let a : Asking Gathered = asking_by stated gathering in
+      let i = by_asked gathering x stated start (by_constraints x h start) in
       let few = few_commands in
       let length = rows_length b t in
-      walk_same gathering x (start_facts d) h (script_of b t) old
+      walk_same a x start h (script_of b t) old
       (ap (λ rs. list_all (λ (e : Entered). has_texts rs e.command) (script_entered (script_of b t))) rows ∙ entered_have (script_of b t) commands_numbered)
       (script_shallow most (script_of b t) (omega (arith, few, length)))
-      ∙ script_told gathering x h (start_facts d) (by_constraints x h (start_facts d)) (script_of b t) old (subst (λ fs. AreDefined fs (script_of b t)) (sym functions) (table_defines b t))
-      (prefixes_are_numbered b t d x.names (subst (IsNumbering b t d) (sym same) a.numbered.0))
+      ∙ script_told a x h start i (script_of b t) old (subst (λ fs. AreDefined fs (script_of b t)) (sym functions) (table_defines b t))
+      (prefixes_are_numbered b t d x.names (subst (IsNumbering b t d) (sym same) admitted.numbered.0))
+      ∙ asked_all gathering x stated start (by_constraints x h start) old (script_bounds (script_of b t))
 
 -- all that is asked of a certificate of it is gathered by a walk
 pub walk_asks : (s : Subject) (c : kept.Certificate) (z : Claims) → setting z ≡ setting_by s c → (start : Knowledge) (old new : Gathered)
     → AreNumbered s.names.now → IsAdmitted s.script.now s.policy.now s.tree.now s.names.now
-    → knowledge_facts s.names.now start ≡ among s.names.now (start_of s) → new ≡ script_walked (setting z) (command_by gathering (setting z)) (facts_in (setting z) start) old (script_of (setting z).script s.tree.now)
-    → new ≡ all_gathered s.names.now (functions_in s.script.now s.tree.now) (start_of s) (claims_in s.script.now s.tree.now (sheet_by s.names.now c)) old (script_bounds (script_of s.script.now s.tree.now))
+    → knowledge_facts s.names.now start ≡ among s.names.now (start_of s)
+    → (stated : Bool) → s.stated ≡ stated → new ≡ script_walked (setting z) (command_by (asking_by stated gathering) (setting z)) (facts_in (setting z) start) old (script_of (setting z).script s.tree.now)
+    → new ≡ all_gathered s.names.now (functions_in s.script.now s.tree.now) (start_of s) (claims_in s.script.now s.tree.now (sheet_by s.names.now c)) old (asked_bounds s.stated (script_bounds (script_of s.script.now s.tree.now)))
 unfolding facts_in
-walk_asks s c z same start old new h admitted begun walked =
+walk_asks s c z same start old new h admitted begun stated is walked =
     let x = setting_by s c in
-    subst (λ y. new ≡ script_walked y (command_by gathering y) (facts_in y start) old (script_of y.script s.tree.now)) same walked
-    ∙ ap (λ k. script_walked x (command_by gathering x) k old (script_of s.script.now s.tree.now)) begun
-    ∙ walk_gathers s.script.now s.policy.now s.tree.now s.names.now admitted x old h refl refl refl
+    subst (λ y. new ≡ script_walked y (command_by (asking_by stated gathering) y) (facts_in y start) old (script_of y.script s.tree.now)) same walked
+    ∙ ap (λ k. script_walked x (command_by (asking_by stated gathering) x) k old (script_of s.script.now s.tree.now)) begun
+    ∙ walk_gathers s.script.now s.policy.now s.tree.now s.names.now admitted stated x (start_of s) old h refl refl refl
+    ∙ ap (λ b. all_gathered s.names.now (functions_in s.script.now s.tree.now) (start_of s) (claims_in s.script.now s.tree.now (sheet_by s.names.now c)) old (asked_bounds b (script_bounds (script_of s.script.now s.tree.now)))) (sym is)

@@ -8,7 +8,7 @@ use Rattle.sh_tree.specs.standard.language.Bytes.{is_name}
 use Rattle.sh_tree.specs.standard.program.Syntax.{Text}
 use Rattle.sh_tree.specs.standard.program.Trees.{script_of}
 use Rattle.sh_table.specs.standard.runs.Environment.{is_one_of}
-use Rattle.sh_domain.specs.Facts.{Facts, NotReached, Known, Declared, facts, start_facts}
+use Rattle.sh_domain.specs.Facts.{Facts, NotReached, Known, Declared, facts}
 use Rattle.sh_domain.specs.Gains.{with_gains}
 use Rattle.sh_domain.specs.Operands.{Names}
 use Rattle.sh_domain.specs.Rules.{Constraint, Within, Counted, script_bounds}
@@ -86,11 +86,6 @@ module _ (c : Certificate) (n : ClaimsNames c) where
     unfolding bound_names BoundsNames
     bound_knows (Within slot number rule v) e = view_knows v e
     bound_knows (Counted function number loss) e = loss_loses number loss e
-
--- no function is defined at the start
-pub start_knows : (d : Declared) → KnowsNames (start_facts d)
-unfolding start_facts KnowsNames
-start_knows d = λ x e. absurd (true≢false (sym e))
 
 pub rules_know_names : RulesKnowNames
 rules_know_names b d t names start c a known n =

@@ -1,5 +1,5 @@
 -- What is found is the greatest certificate.
-use Rattle.std.proofs.Common.{◌≡◌, ℕ, ◌+◌, ◌<◌, ◌≤◌, cond, Bool, true, false, List, map, length, refl, sym, subst, arith}
+use Rattle.std.proofs.Common.{◌≡◌, ℕ, ◌+◌, ◌<◌, ◌≤◌, cond, Bool, true, false, Option, List, [], map, length, refl, sym, subst, arith}
 use Rattle.std.specs.Borrow.{Bor}
 use Rattle.std.specs.List.Sorted.{IsPermutation}
 use Rattle.sh_tree.specs.declared.tree.Command.{Command}
@@ -8,20 +8,21 @@ use Rattle.sh_tree.specs.standard.program.Syntax.{Text}
 use Rattle.sh_tree.specs.standard.program.Trees.{script_of}
 use Rattle.sh_tree.specs.Commands.{commands_of}
 use Rattle.sh_domain.specs.declared.certificate.Certificate as kept
-use Rattle.sh_domain.specs.Facts.{Facts, Declared, start_facts}
+use Rattle.sh_domain.specs.Facts.{Declared, start_facts}
 use Rattle.sh_domain.specs.Faults.{faults}
 use Rattle.sh_domain.specs.Knowledge.{AreNumbered}
 use Rattle.sh_domain.specs.Names.{are_distinct}
-use Rattle.sh_domain.specs.Reading.{AreLoops}
-use Rattle.sh_domain.specs.Rules.{Constraint, script_bounds}
+use Rattle.sh_domain.specs.Order.{IsBelow}
+use Rattle.sh_domain.specs.Reading.{AreLoops, claim_fits}
+use Rattle.sh_domain.specs.Sheets.{Sheet}
 use Rattle.sh_domain.proofs.KnownNameLemmas.{names_suffice}
 use Rattle.sh_domain.proofs.RoundTripLemmas.{written_reads_back}
-use Rattle.sh_domain.specs.Admitted.{IsAdmitted, functions_in}
+use Rattle.sh_domain.specs.Admitted.{IsAdmitted, claims_in, functions_in}
 use Rattle.sh_domain.specs.Admitted.{IsGreatest}
-use Rattle.sh_find.specs.First.{ClaimsAll, DropsNothing}
-use Rattle.sh_find.specs.Turns.{sheet_by, IsTurn, IsSettled}
+use Rattle.sh_find.specs.declared.place.Place.{Place}
+use Rattle.sh_find.specs.Places.{claim_there}
+use Rattle.sh_find.specs.Turns.{sheet_by}
 use Rattle.sh_find.specs.Working.{IsWorking, height}
-use Rattle.sh_find.proofs.AboveLemmas.{first_above}
 use Rattle.sh_find.proofs.LoopsLemmas.{all_counted}
 use Rattle.sh_find.proofs.SheetLemmas.{fits_there, has_text, known_there}
 
@@ -43,16 +44,17 @@ few_commands b d t names a cs same =
 abbrev pub left : List Text → kept.Certificate → Bool → ℕ
 left names c done = cond done 0 (height (length names) (length c.entries.items) (length c.functions.items) c + 1)
 
-module _ (names : List Text) (loops : List Bool) (m : ℕ) (start : Facts) (defined : List Text) (ks : List Constraint) where
+module _ (names : List Text) (loops : List Bool) (m : ℕ) where
   pub heights : (c : kept.Certificate) → IsWorking names loops m c → height (length names) (length c.entries.items) (length c.functions.items) c ≡ height (length names) (length loops) m c
   heights c w = rw (w.commands, w.defined) refl
 
-  pub less_left : (mid new : kept.Certificate) (before done : Bool) → before ≡ false → IsWorking names loops m mid → IsTurn names loops m start defined ks mid new done → left names new done < left names mid before
-  less_left mid new before done e w t = subst (λ x. left names new done < left names mid x) (sym e) (go done refl)
+  pub less_left : (mid new : kept.Certificate) (before done : Bool) → before ≡ false → IsWorking names loops m mid → IsWorking names loops m new
+      → (done ≡ false → height (length names) (length loops) m new < height (length names) (length loops) m mid) → left names new done < left names mid before
+  less_left mid new before done e w v less = subst (λ x. left names new done < left names mid x) (sym e) (go done refl)
     where
       go : (x : Bool) → done ≡ x → left names new done < left names mid false
       go true is = rw is (omega arith)
-      go false is = rw is (let l = t.less is in let a = heights new t.working in let z = heights mid w in omega (arith, l, a, z))
+      go false is = rw is (let l = less is in let a = heights new v in let z = heights mid w in omega (arith, l, a, z))
 
 -- The greatest one
 
@@ -60,22 +62,16 @@ module _ (b : List ℕ) (d : Declared) (t : Script) (names : List Text) (admitte
   abbrev defined : List Text
   defined = functions_in b t
 
-  pub is_greatest : (first c : kept.Certificate) → IsWorking names loops (length defined) first → ClaimsAll first → DropsNothing first
-      → IsSettled names loops (length defined) (start_facts d) defined (script_bounds (script_of b t)) first c → are_distinct names ≡ true → length loops ≤ 65535 → length defined ≤ 65535
-      → IsGreatest b d t names (sheet_by names c)
-  unfolding faults
-  is_greatest first c working all none s distinct few some =
+  -- it keeps the rules, and stays above each other one of these names that does
+  pub is_greatest : (m : ℕ) → m ≡ length defined → (c : kept.Certificate) → IsWorking names loops m c → faults (start_facts d) (claims_in b t (sheet_by names c)) (script_of b t) ≡ []
+      → ((other : Sheet) → ((o : Option Place) → claim_fits names (claim_there other o) ≡ true) → faults (start_facts d) (claims_in b t other) (script_of b t) ≡ [] → IsBelow (claims_in b t other) (claims_in b t (sheet_by names c)))
+      → are_distinct names ≡ true → length loops ≤ 65535 → m ≤ 65535 → IsGreatest b d t names (sheet_by names c)
+  is_greatest m e c working rules above distinct few some =
       let h = numbered b d t names admitted in
+      let own = subst (λ n. IsWorking names loops n c) e working in
       record {
-        fit = record { loops = loops; are_loops = are_loops; fit = fits_there names h loops (length defined) c s.working };
-        rules = s.rules;
-        above = λ other fit keeps. s.above other (known_there names fit.loops (length defined) other fit.fit) keeps (first_above names h defined loops (length defined) first working all none other);
-        spelled = written_reads_back.rising names c (has_text names h loops (length defined) c s.working distinct few some);
+        fit = record { loops = loops; are_loops = are_loops; fit = fits_there names h loops (length defined) c own };
+        rules = rules;
+        above = λ other fit keeps. above other (known_there names fit.loops (length defined) other fit.fit) keeps;
+        spelled = written_reads_back.rising names c (has_text names h loops (length defined) c own distinct few (subst (λ n. n ≤ 65535) e some));
       }
-
-  -- by any count that is that of its functions
-  pub is_greatest_of : (m : ℕ) → m ≡ length defined → (first c : kept.Certificate) → IsWorking names loops m first → ClaimsAll first → DropsNothing first
-      → IsSettled names loops m (start_facts d) defined (script_bounds (script_of b t)) first c → are_distinct names ≡ true → length loops ≤ 65535 → m ≤ 65535 → IsGreatest b d t names (sheet_by names c)
-  is_greatest_of m e first c working all none s distinct few some =
-      is_greatest first c (subst (λ n. IsWorking names loops n first) e working) all none (subst (λ n. IsSettled names loops n (start_facts d) defined (script_bounds (script_of b t)) first c) e s) distinct few
-      (subst (λ n. n ≤ 65535) e some)

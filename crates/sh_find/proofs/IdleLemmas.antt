@@ -15,7 +15,7 @@ use Rattle.sh_domain.specs.declared.certificate.Drops.{Drops}
 use Rattle.sh_domain.specs.declared.certificate.Facts as value
 use Rattle.sh_domain.specs.declared.certificate.Facts.TheVariants as value_kind
 use Rattle.sh_domain.specs.declared.rule.FlowRule.TheVariants.{F13}
-use Rattle.sh_domain.specs.Facts.{Claim, Facts, NotReached, Known, Variable, facts, within, claims as holds, Declared, start_facts}
+use Rattle.sh_domain.specs.Facts.{Claim, Facts, NotReached, Known, Variable, facts, within, claims as holds, Declared}
 use Rattle.sh_domain.specs.Faults.{are_among, broken, told}
 use Rattle.sh_domain.specs.Forms.{is_variable}
 use Rattle.sh_domain.specs.Inclusions.{Each}
@@ -35,6 +35,7 @@ use Rattle.sh_domain.specs.Admitted.{IsAdmitted, claims_in, functions_in}
 use Rattle.sh_find.specs.Facts as number
 use Rattle.sh_find.specs.Kept.{fact_of, IsNamed}
 use Rattle.sh_find.specs.Ranks.{IsNumbered}
+use Rattle.sh_find.specs.Stated.{asked_bounds, is_asked}
 use Rattle.sh_find.proofs.FactLemmas as order
 use Rattle.sh_find.specs.declared.gather.Gather.{Gather}
 use Rattle.sh_find.specs.declared.gather.Target.{Target}
@@ -49,7 +50,7 @@ use Rattle.sh_find.specs.There.{HasPlace, HasDrops, AsksThere}
 use Rattle.sh_find.specs.Turns.{AreNumbers, IsNew, gathered_of, sheet_by}
 use Rattle.sh_find.specs.Working.{Sets, sets_of, names_of, joined, claims, dropped, AreWithin, AreBelow, IsFine, IsWorking}
 use Rattle.sh_find.specs.Writable.{IsWritten, HasWritable}
-use Rattle.sh_find.proofs.FunctionLemmas.{rules_know_names, start_knows}
+use Rattle.sh_find.proofs.FunctionLemmas.{rules_know_names}
 use Rattle.sh_find.proofs.GatherLemmas.{among_less, place_stays, function_stays, numbered_only}
 use Rattle.sh_find.proofs.GreatestLemmas.{numbered}
 use Rattle.sh_find.proofs.KeptLemmas.{place_same}
@@ -58,6 +59,7 @@ use Rattle.sh_find.proofs.NumberLemmas.{back}
 use Rattle.sh_find.proofs.SheetLemmas.{placed, drops_placed, claimed, drops_vars, drops_functions}
 use Rattle.sh_find.proofs.ThereLemmas.{rules_ask_there}
 use Rattle.sh_find.proofs.TurnLemmas.{new_numbers}
+use Rattle.sh_find.proofs.StatedLemmas.{all_passing, each_passing}
 
 -- Names that may be written
 
@@ -71,7 +73,7 @@ module _ (names : List Text) where
   none_below : AreBelow (length names) no_sets
   none_below = record { vars = λ k e. absurd (true≢false (sym e)); functions = λ k e. absurd (true≢false (sym e)) }
 
-  written_within : (s may : Sets) → length names ≤ MAX_NAMES → IsWritten names s → AreBelow (length names) s → HasWritable names MAX_NAMES may → AreWithin s may
+  pub written_within : (s may : Sets) → length names ≤ MAX_NAMES → IsWritten names s → AreBelow (length names) s → HasWritable names MAX_NAMES may → AreWithin s may
   written_within s may few w below all = record {
     vars = λ k e. let l = below.vars k e in let is = slice_get-get_or names k [] l in all.vars k _ (omega (arith, l, few)) is (w.vars k _ is e);
     functions = λ k e. let l = below.functions k e in let is = slice_get-get_or names k [] l in all.functions k _ (omega (arith, l, few)) is (w.functions k _ is e);
@@ -102,7 +104,7 @@ module _ (names : List Text) where
   met_below (number.Known v f n) number.NotReached a b = a
   met_below (number.Known v f n) (number.Known w g m) a b = record { vars = λ k e. a.vars k (and_parts (v k) (w k) e).0; functions = λ k e. a.functions k (and_parts (f k) (g k) e).0 }
 
-  named_below : (f : number.Facts) → IsNamed (length names) f → AreBelow (length names) (names_of f)
+  pub named_below : (f : number.Facts) → IsNamed (length names) f → AreBelow (length names) (names_of f)
   unfolding names_of IsNamed
   named_below number.NotReached h = none_below
   named_below (number.Known v f n) h = record { vars = h.vars; functions = h.functions }
@@ -455,12 +457,15 @@ module _ (names functions : List Text) (h : AreNumbered names) (loops : List Boo
         (subst (λ (x : Gathered). Each (IsTaken names functions d own x) ks) (sym is) (all_taken names functions d own ks (gathered_of first)))
 
 -- of a script that is admitted
-pub idle_keeps : (b : List ℕ) (d : Declared) (t : Script) (names : List Text) → IsAdmitted b d t names → list_all is_variable names ≡ true → (loops : List Bool) → AreLoops t loops
+pub idle_keeps : (b : List ℕ) (d : Declared) (t : Script) (names : List Text) (start : Facts) → KnowsNames start → IsAdmitted b d t names → list_all is_variable names ≡ true → (loops : List Bool) → AreLoops t loops
     → (c : kept.Certificate) → IsWorking names loops (length (functions_in b t)) c
-    → (target : Target) (first : Gather) → IsNew target first → (g : Gathered) → g ≡ all_gathered names (functions_in b t) (start_facts d) (claims_in b t (sheet_by names c)) (gathered_of first) (script_bounds (script_of b t))
-    → (may : Sets) → HasWritable names MAX_NAMES may → IsIdle c may g → Each (IsKeptAt (functions_in b t) (start_facts d) (claims_in b t (sheet_by names c)) g.place g.function) (script_bounds (script_of b t))
-idle_keeps b d t names a variables loops are c w target first new g is may all idle =
+    → (target : Target) (first : Gather) → IsNew target first → (g : Gathered) (stated : Bool) → g ≡ all_gathered names (functions_in b t) start (claims_in b t (sheet_by names c)) (gathered_of first) (asked_bounds stated (script_bounds (script_of b t)))
+    → (may : Sets) → HasWritable names MAX_NAMES may → IsIdle c may g → Each (IsKeptAt (functions_in b t) start (claims_in b t (sheet_by names c)) g.place g.function) (asked_bounds stated (script_bounds (script_of b t)))
+idle_keeps b d t names start knows a variables loops are c w target first new g stated is may all idle =
     let functions = functions_in b t in
     let h = numbered b d t names a in
-    all_idle names functions h loops (length functions) c w (start_facts d) target first new variables (script_bounds (script_of b t)) g is (all_lost b d t names a.numbered.0) (rules_ask_there b d t names loops c a are w)
-    (rules_know_names b d t names (start_facts d) (claims_in b t (sheet_by names c)) a (start_knows d) (claims_names names functions h loops (length functions) c w (start_facts d))) may all idle
+    let ks = script_bounds (script_of b t) in
+    all_idle names functions h loops (length functions) c w start target first new variables (asked_bounds stated ks) g is (all_passing (asked_passes (is_one_of names)) (is_asked stated) ks (all_lost b d t names a.numbered.0))
+    (each_passing (AsksThere functions c) (is_asked stated) ks (rules_ask_there b d t names loops c a are w))
+    (each_passing (BoundsNames start (claims_in b t (sheet_by names c))) (is_asked stated) ks
+    (rules_know_names b d t names start (claims_in b t (sheet_by names c)) a knows (claims_names names functions h loops (length functions) c w start))) may all idle

@@ -15,6 +15,7 @@ pub mod UnitLemmas
 pub mod GreatestLemmas
 pub mod TogetherLemmas
 pub mod AskingLemmas
+pub mod StatedLemmas
 pub mod SweepLemmas
 pub mod MetLemmas
 pub mod PlacedLemmas
@@ -25,9 +26,12 @@ pub mod WordLemmas
 pub mod SeenLemmas
 pub mod DefineLemmas
 pub mod FunctionLemmas
+pub mod StartLemmas
 pub mod LostLemmas
 pub mod IdleLemmas
 pub mod StayLemmas
+pub mod BegunLemmas
+pub mod FillLemmas
 pub mod SideLemmas
 pub mod BeforeLemmas
 pub mod InnerLemmas

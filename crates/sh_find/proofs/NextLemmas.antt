@@ -30,12 +30,14 @@ use Rattle.sh_find.specs.Gathered.{Gathered, all_gathered, bounded, counted, fit
 use Rattle.sh_find.specs.Gathering.{and_true}
 use Rattle.sh_find.specs.Next.{BrokenAt, IsKeptAt, stands_at}
 use Rattle.sh_find.specs.Places.{place_of, drops_at, kept_at, is_of_command, is_of_function}
+use Rattle.sh_find.specs.Stated.{asked_bounds, is_asked}
 use Rattle.sh_find.specs.There.{AsksThere}
 use Rattle.sh_find.specs.Turns.{gathered_of, IsNew}
 use Rattle.sh_find.specs.Working.{IsWorking, claims, dropped, sets_of}
 use Rattle.sh_find.proofs.AskingLemmas.{few_commands}
 use Rattle.sh_find.proofs.GreatestLemmas as greatest
 use Rattle.sh_find.proofs.KeptLemmas.{command_needs, drops_within, function_needs, kept_head}
+use Rattle.sh_find.proofs.StatedLemmas.{each_passing}
 use Rattle.sh_find.proofs.ThereLemmas.{rules_ask_there}
 
 -- Constraints that are broken
@@ -66,7 +68,7 @@ place_fits : (p : Place) → p.index < 65536 → fitting_place p ≡ Some p
 unfolding fitting_place
 place_fits p l = rw (index_fits p.index l) refl
 
-same_itself : (p : Place) → is_at (Some p) p ≡ true
+pub same_itself : (p : Place) → is_at (Some p) p ≡ true
 unfolding is_at
 same_itself p = go _ _ (eq-eqb p.index p.index refl) (eq-eqb _ _ refl)
   where
@@ -237,11 +239,15 @@ module _ (names : List Text) (loops : List Bool) (functions : List Text) (c : ke
   fitting_there (Counted f n loss ∷ ks) h = ((h.0.index, h.0.at, index_low h.0.index h.0.there), fitting_there ks h.1)
 
 -- each constraint of a script that is admitted asks something of an index that may be
-pub all_fitting : (b : List ℕ) (d : Declared) (t : Script) (names : List Text) (loops : List Bool) (c : kept.Certificate) → IsAdmitted b d t names → AreLoops t loops
+all_of_script : (b : List ℕ) (d : Declared) (t : Script) (names : List Text) (loops : List Bool) (c : kept.Certificate) → IsAdmitted b d t names → AreLoops t loops
     → IsWorking names loops (length (functions_in b t)) c → Each (AsksFitting (functions_in b t)) (script_bounds (script_of b t))
-all_fitting b d t names loops c a are w =
+all_of_script b d t names loops c a are w =
     let long : length loops ≡ length are.commands = ap length are.each ∙ length-map are.commands _ in
     let few = greatest.few_commands b d t names a are.commands are.all in
     let rows : length (table_of b t).rows ≤ 65535 = few_commands b d t names a in
     let functions = names_few b t in
     fitting_there names loops (functions_in b t) c w (omega (arith, long, few)) (omega (arith, functions, rows)) (script_bounds (script_of b t)) (rules_ask_there b d t names loops c a are w)
+
+pub all_fitting : (b : List ℕ) (d : Declared) (t : Script) (names : List Text) (loops : List Bool) (c : kept.Certificate) (stated : Bool) → IsAdmitted b d t names → AreLoops t loops
+    → IsWorking names loops (length (functions_in b t)) c → Each (AsksFitting (functions_in b t)) (asked_bounds stated (script_bounds (script_of b t)))
+all_fitting b d t names loops c stated a are w = each_passing (AsksFitting (functions_in b t)) (is_asked stated) (script_bounds (script_of b t)) (all_of_script b d t names loops c a are w)

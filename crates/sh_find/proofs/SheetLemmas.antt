@@ -1,6 +1,7 @@
 -- What a sheet claims at each place, and what that of a kept certificate does.
-use Rattle.std.proofs.Common.{◌≡◌, ℕ, zero, suc, ◌+◌, ◌-◌, ◌<◌, ◌≤◌, nat_eq, Bool, true, false, ◌&&◌, Option, Some, None, option_map, List, [], ◌∷◌, length, map, slice_get, is_some, refl, sym, ap, ◌∙◌, subst, arith, inl, inr, true≢false}
+use Rattle.std.proofs.Common.{◌≡◌, ℕ, zero, suc, ◌+◌, ◌-◌, ◌<◌, ◌≤◌, nat_eq, Bool, true, false, ◌&&◌, Option, Some, None, option_map, List, [], ◌∷◌, length, map, slice_get, is_some, refl, sym, ap, ap₂, ◌∙◌, subst, arith, inl, inr, true≢false}
 use Rattle.std.specs.Prelude.{option_and_then, unwrap_or}
+use Rattle.std.proofs.Math.Path.{fun_ext}
 use Rattle.std.specs.List.{list_all}
 use Rattle.std.proofs.lemmas.Bool.{cases_lt, and_parts, and_from, eq-eqb}
 use Rattle.std.proofs.lemmas.List.{length-map}
@@ -15,7 +16,8 @@ use Rattle.sh_domain.specs.declared.certificate.Facts as value
 use Rattle.sh_domain.specs.declared.certificate.Facts.TheVariants as value_kind
 use Rattle.sh_domain.specs.declared.certificate.FunctionEntry.{FunctionEntry}
 use Rattle.sh_domain.specs.Certificates.{claim_of, command_claims, commands_from, function_claims, in_byte_order, sheet_of}
-use Rattle.sh_domain.specs.Facts.{Claim, Unreached, facts}
+use Rattle.sh_domain.specs.Facts.{Claim, Unreached, Known, facts}
+use Rattle.sh_domain.specs.KeptRows.{KeptRows}
 use Rattle.sh_domain.specs.Knowledge.{AreNumbered}
 use Rattle.sh_domain.specs.Names.{number_of, are_distinct}
 use Rattle.sh_domain.specs.Reading.{claim_fits, sets_fit, head_fits, command_fits, commands_fit, function_fits, fits}
@@ -23,17 +25,18 @@ use Rattle.sh_domain.specs.RoundTrips.{FactsPass, EntryPasses, FunctionPasses, H
 use Rattle.sh_domain.specs.Sheets.{Sheet, CommandClaims, FunctionClaims, claim_at, function_at, nowhere, uncalled}
 use Rattle.sh_domain.specs.Views as views
 use Rattle.sh_domain.specs.Views.{Slot}
-use Rattle.sh_domain.proofs.KnowledgeLemmas.{in_row}
+use Rattle.sh_domain.proofs.KnowledgeLemmas.{in_row, row_names}
 use Rattle.sh_domain.proofs.SlotLemmas.{function_of}
 use Rattle.sh_find.specs.Kept.{fact_of}
 use Rattle.sh_find.specs.declared.place.Part.{Part}
 use Rattle.sh_find.specs.declared.place.Part.TheVariants.{Before, Zero, Nonzero, Head, Entered, ReturnZero, ReturnNonzero}
 use Rattle.sh_find.specs.declared.place.Place.{Place}
-use Rattle.sh_find.specs.Numbers.{named, is_dropped}
+use Rattle.sh_find.specs.Facts as number
+use Rattle.sh_find.specs.Numbers.{by_name, claim_by, named, names_by, is_dropped}
 use Rattle.sh_find.specs.Places.{at, place_of, part_claim, claim_there, drops_there, is_of_command, is_of_function, entry_part, function_part, kept_at}
 use Rattle.sh_find.specs.Working.{sets_of, claims, dropped, IsWorking}
 use Rattle.sh_find.proofs.LowerLemmas.{heads_at}
-use Rattle.sh_find.proofs.NumberLemmas.{claim_named, claim_known, sets_known}
+use Rattle.sh_find.proofs.NumberLemmas.{claim_known, sets_known}
 
 -- The function of a name is that of its number
 
@@ -61,8 +64,6 @@ pub drops_placed : (functions : List Text) (s : Sheet) (f : Text) → (function_
 unfolding drops_there
 drops_placed functions s f = function_part_at s functions (λ x. x.drops) f (drops_there s) refl (λ k. refl)
 
--- The sheet of a kept certificate
-
 command_from : (order : List (ℕ × Text)) (c : Certificate) (k : ℕ) (es : List Entry) (j : ℕ)
     → slice_get (commands_from order c k es) j ≡ option_map (λ e. command_claims order c.rows e (get nat_eq c.heads (j + k))) (slice_get es j)
 unfolding commands_from
@@ -71,6 +72,52 @@ command_from order c k (e ∷ es) zero = let same : k ≡ 0 + k = omega arith in
 command_from order c k (e ∷ es) (suc j) =
     let same : j + (k + 1) ≡ suc j + k = omega arith in
     command_from order c (k + 1) es j ∙ ap (λ n. option_map (λ f. command_claims order c.rows f (get nat_eq c.heads n)) (slice_get es j)) same
+
+pub claim_is : (order : List (ℕ × Text)) (rows : KeptRows) (f : value.Facts) → claim_of order rows f ≡ claim_by order (Some (fact_of rows.rows f))
+unfolding claim_of claim_by fact_of
+claim_is order rows value_kind.NotReached = refl
+claim_is order rows (value_kind.Known v f a) = refl
+
+facts_by : (names : List Text) → AreNumbered names → (o : Option number.Facts) → facts (claim_by (in_byte_order names) o) ≡ named names o
+unfolding facts claim_by named by_name
+facts_by names h None = refl
+facts_by names h (Some number.NotReached) = refl
+facts_by names h (Some (number.Known v f a)) = ap₂ (λ (p q : Text → Bool). Known p q a) (fun_ext (row_names names h v)) (fun_ext (row_names names h f))
+
+-- what functions claim by their entries
+module _ (order : List (ℕ × Text)) (rows : KeptRows) (items : List FunctionEntry) where
+  of_function : (i : ℕ) (part : FunctionClaims → Claim) (own : FunctionEntry → value.Facts) → part uncalled ≡ Unreached → ((e : FunctionEntry) → part (function_claims order rows e) ≡ claim_of order rows (own e))
+      → (kept : Option FunctionEntry → Option value.Facts) → kept None ≡ None → ((e : FunctionEntry) → kept (Some e) ≡ Some (own e))
+      → part (unwrap_or (slice_get (map (function_claims order rows) items) i) uncalled) ≡ claim_by order (option_map (fact_of rows.rows) (kept (slice_get items i)))
+  unfolding claim_by
+  of_function i part own none some kept kept_none kept_some =
+      ap (λ o. part (unwrap_or o uncalled)) (slice_get-map (function_claims order rows) items i) ∙ by (slice_get items i)
+    where
+      by : (o : Option FunctionEntry) → part (unwrap_or (option_map (function_claims order rows) o) uncalled) ≡ claim_by order (option_map (fact_of rows.rows) (kept o))
+      by None = none ∙ sym (ap (λ o. claim_by order (option_map (fact_of rows.rows) o)) kept_none)
+      by (Some e) = some e ∙ claim_is order rows (own e) ∙ sym (ap (λ o. claim_by order (option_map (fact_of rows.rows) o)) (kept_some e))
+
+  pub entered_by : (i : ℕ) → (unwrap_or (slice_get (map (function_claims order rows) items) i) uncalled).before ≡ claim_by order (option_map (fact_of rows.rows) (option_and_then (λ e. function_part e Entered) (slice_get items i)))
+  unfolding function_part
+  entered_by i = of_function i (λ x. x.before) (λ e. e.before) refl (λ e. refl) (option_and_then (λ e. function_part e Entered)) refl (λ e. refl)
+
+  pub zero_by : (i : ℕ) → (unwrap_or (slice_get (map (function_claims order rows) items) i) uncalled).zero ≡ claim_by order (option_map (fact_of rows.rows) (option_and_then (λ e. function_part e ReturnZero) (slice_get items i)))
+  unfolding function_part
+  zero_by i = of_function i (λ x. x.zero) (λ e. e.zero) refl (λ e. refl) (option_and_then (λ e. function_part e ReturnZero)) refl (λ e. refl)
+
+  pub nonzero_by : (i : ℕ) → (unwrap_or (slice_get (map (function_claims order rows) items) i) uncalled).nonzero ≡ claim_by order (option_map (fact_of rows.rows) (option_and_then (λ e. function_part e ReturnNonzero) (slice_get items i)))
+  unfolding function_part
+  nonzero_by i = of_function i (λ x. x.nonzero) (λ e. e.nonzero) refl (λ e. refl) (option_and_then (λ e. function_part e ReturnNonzero)) refl (λ e. refl)
+
+  pub drops_by : (i : ℕ) → (unwrap_or (slice_get (map (function_claims order rows) items) i) uncalled).drops ≡ names_by order (option_map (λ (e : FunctionEntry). sets_of rows e.drops) (slice_get items i))
+  unfolding names_by
+  drops_by i = ap (λ o. (unwrap_or o uncalled).drops) (slice_get-map (function_claims order rows) items i) ∙ by (slice_get items i)
+    where
+      by : (o : Option FunctionEntry) → (unwrap_or (option_map (function_claims order rows) o) uncalled).drops ≡ names_by order (option_map (λ (e : FunctionEntry). sets_of rows e.drops) o)
+      by None = refl
+      by (Some e) = refl
+
+-- The sheet of a kept certificate
 
 module _ (names : List Text) (h : AreNumbered names) (loops : List Bool) (m : ℕ) (c : Certificate) (working : IsWorking names loops m c) where
   abbrev order : List (ℕ × Text)
@@ -82,32 +129,21 @@ module _ (names : List Text) (h : AreNumbered names) (loops : List Bool) (m : �
   -- one part of a command, and of a function
   of_entry : (i : ℕ) (part : CommandClaims → Claim) (own : Entry → value.Facts) → part nowhere ≡ Unreached → ((e : Entry) (f : Option value.Facts) → part (command_claims order c.rows e f) ≡ claim_of order c.rows (own e))
       → (kept : Option Entry → Option value.Facts) → kept None ≡ None → ((e : Entry) → kept (Some e) ≡ Some (own e))
-      → facts (part (unwrap_or (slice_get (commands_from order c 1 c.entries.items) i) nowhere)) ≡ named names (option_map (fact_of c.rows.rows) (kept (slice_get c.entries.items i)))
-  unfolding named facts
-  of_entry i part own none some kept kept_none kept_some = ap (λ o. facts (part (unwrap_or o nowhere))) (command_from order c 1 c.entries.items i) ∙ by (slice_get c.entries.items i)
+      → part (unwrap_or (slice_get (commands_from order c 1 c.entries.items) i) nowhere) ≡ claim_by order (option_map (fact_of c.rows.rows) (kept (slice_get c.entries.items i)))
+  unfolding claim_by
+  of_entry i part own none some kept kept_none kept_some = ap (λ o. part (unwrap_or o nowhere)) (command_from order c 1 c.entries.items i) ∙ by (slice_get c.entries.items i)
     where
-      by : (o : Option Entry) → facts (part (unwrap_or (option_map (λ e. command_claims order c.rows e (get nat_eq c.heads (i + 1))) o) nowhere)) ≡ named names (option_map (fact_of c.rows.rows) (kept o))
-      by None = ap facts none ∙ sym (ap (λ o. named names (option_map (fact_of c.rows.rows) o)) kept_none)
-      by (Some e) = ap facts (some e (get nat_eq c.heads (i + 1))) ∙ claim_named names h c.rows (own e) ∙ sym (ap (λ o. named names (option_map (fact_of c.rows.rows) o)) (kept_some e))
+      by : (o : Option Entry) → part (unwrap_or (option_map (λ e. command_claims order c.rows e (get nat_eq c.heads (i + 1))) o) nowhere) ≡ claim_by order (option_map (fact_of c.rows.rows) (kept o))
+      by None = none ∙ sym (ap (λ o. claim_by order (option_map (fact_of c.rows.rows) o)) kept_none)
+      by (Some e) = some e (get nat_eq c.heads (i + 1)) ∙ claim_is order c.rows (own e) ∙ sym (ap (λ o. claim_by order (option_map (fact_of c.rows.rows) o)) (kept_some e))
 
-  of_function : (i : ℕ) (part : FunctionClaims → Claim) (own : FunctionEntry → value.Facts) → part uncalled ≡ Unreached → ((e : FunctionEntry) → part (function_claims order c.rows e) ≡ claim_of order c.rows (own e))
-      → (kept : Option FunctionEntry → Option value.Facts) → kept None ≡ None → ((e : FunctionEntry) → kept (Some e) ≡ Some (own e))
-      → facts (part (unwrap_or (slice_get (map (function_claims order c.rows) c.functions.items) i) uncalled)) ≡ named names (option_map (fact_of c.rows.rows) (kept (slice_get c.functions.items i)))
-  unfolding named facts
-  of_function i part own none some kept kept_none kept_some =
-      ap (λ o. facts (part (unwrap_or o uncalled))) (slice_get-map (function_claims order c.rows) c.functions.items i) ∙ by (slice_get c.functions.items i)
+  of_head : (i : ℕ) → unwrap_or (unwrap_or (slice_get (commands_from order c 1 c.entries.items) i) nowhere).head Unreached ≡ claim_by order (option_map (fact_of c.rows.rows) (get nat_eq c.heads (i + 1)))
+  unfolding claim_by
+  of_head i = ap (λ o. unwrap_or (unwrap_or o nowhere).head Unreached) (command_from order c 1 c.entries.items i) ∙ by (slice_get c.entries.items i) refl
     where
-      by : (o : Option FunctionEntry) → facts (part (unwrap_or (option_map (function_claims order c.rows) o) uncalled)) ≡ named names (option_map (fact_of c.rows.rows) (kept o))
-      by None = ap facts none ∙ sym (ap (λ o. named names (option_map (fact_of c.rows.rows) o)) kept_none)
-      by (Some e) = ap facts (some e) ∙ claim_named names h c.rows (own e) ∙ sym (ap (λ o. named names (option_map (fact_of c.rows.rows) o)) (kept_some e))
-
-  of_head : (i : ℕ) → facts (unwrap_or (unwrap_or (slice_get (commands_from order c 1 c.entries.items) i) nowhere).head Unreached) ≡ named names (option_map (fact_of c.rows.rows) (get nat_eq c.heads (i + 1)))
-  unfolding named facts
-  of_head i = ap (λ o. facts (unwrap_or (unwrap_or o nowhere).head Unreached)) (command_from order c 1 c.entries.items i) ∙ by (slice_get c.entries.items i) refl
-    where
-      there : (o : Option value.Facts) → facts (unwrap_or (option_map (claim_of order c.rows) o) Unreached) ≡ named names (option_map (fact_of c.rows.rows) o)
+      there : (o : Option value.Facts) → unwrap_or (option_map (claim_of order c.rows) o) Unreached ≡ claim_by order (option_map (fact_of c.rows.rows) o)
       there None = refl
-      there (Some f) = claim_named names h c.rows f
+      there (Some f) = claim_is order c.rows f
 
       no_loop : slice_get c.entries.items i ≡ None → slice_get loops i ≡ None
       no_loop e = elim (cases_lt i (length loops)) [
@@ -122,24 +158,35 @@ module _ (names : List Text) (h : AreNumbered names) (loops : List Bool) (m : �
       away (Some f) e = absurd (true≢false e)
 
       by : (o : Option Entry) → slice_get c.entries.items i ≡ o
-          → facts (unwrap_or (unwrap_or (option_map (λ e. command_claims order c.rows e (get nat_eq c.heads (i + 1))) o) nowhere).head Unreached) ≡ named names (option_map (fact_of c.rows.rows) (get nat_eq c.heads (i + 1)))
+          → unwrap_or (unwrap_or (option_map (λ e. command_claims order c.rows e (get nat_eq c.heads (i + 1))) o) nowhere).head Unreached ≡ claim_by order (option_map (fact_of c.rows.rows) (get nat_eq c.heads (i + 1)))
       by None e =
           let none : get nat_eq c.heads (i + 1) ≡ None = away _ (working.heads i ∙ ap (λ o. unwrap_or o false) (no_loop e)) in
-          sym (ap (λ o. named names (option_map (fact_of c.rows.rows) o)) none)
+          sym (ap (λ o. claim_by order (option_map (fact_of c.rows.rows) o)) none)
       by (Some x) e = there (get nat_eq c.heads (i + 1))
 
-  pub claimed : (p : Place) → facts (claim_there sheet (Some p)) ≡ named names (claims c p)
-  unfolding claim_there part_claim claims kept_at is_of_command is_of_function entry_part function_part
-  claimed p = of_part p.part p.index
+  pub claimed_by : (p : Place) → claim_there sheet (Some p) ≡ claim_by order (claims c p)
+  unfolding claim_there part_claim claims kept_at is_of_command is_of_function entry_part
+  claimed_by p = of_part p.part p.index
     where
-      of_part : (part : Part) (i : ℕ) → facts (claim_there sheet (Some (at part i))) ≡ named names (claims c (at part i))
+      of_part : (part : Part) (i : ℕ) → claim_there sheet (Some (at part i)) ≡ claim_by order (claims c (at part i))
       of_part Before i = of_entry i (λ x. x.before) (λ e. e.before) refl (λ e f. refl) (option_and_then (λ e. entry_part e Before)) refl (λ e. refl)
       of_part Zero i = of_entry i (λ x. x.zero) (λ e. e.zero) refl (λ e f. refl) (option_and_then (λ e. entry_part e Zero)) refl (λ e. refl)
       of_part Nonzero i = of_entry i (λ x. x.nonzero) (λ e. e.nonzero) refl (λ e f. refl) (option_and_then (λ e. entry_part e Nonzero)) refl (λ e. refl)
       of_part Head i = of_head i
-      of_part Entered i = of_function i (λ x. x.before) (λ e. e.before) refl (λ e. refl) (option_and_then (λ e. function_part e Entered)) refl (λ e. refl)
-      of_part ReturnZero i = of_function i (λ x. x.zero) (λ e. e.zero) refl (λ e. refl) (option_and_then (λ e. function_part e ReturnZero)) refl (λ e. refl)
-      of_part ReturnNonzero i = of_function i (λ x. x.nonzero) (λ e. e.nonzero) refl (λ e. refl) (option_and_then (λ e. function_part e ReturnNonzero)) refl (λ e. refl)
+      of_part Entered i = entered_by order c.rows c.functions.items i
+      of_part ReturnZero i = zero_by order c.rows c.functions.items i
+      of_part ReturnNonzero i = nonzero_by order c.rows c.functions.items i
+
+  pub claimed : (p : Place) → facts (claim_there sheet (Some p)) ≡ named names (claims c p)
+  claimed p = ap facts (claimed_by p) ∙ facts_by names h (claims c p)
+
+  pub dropped_by : (i : ℕ) → drops_there sheet (Some i) ≡ names_by order (dropped c i)
+  unfolding drops_there dropped
+  dropped_by i = drops_by order c.rows c.functions.items i ∙ ap (names_by order) (same (slice_get c.functions.items i))
+    where
+      same : (o : Option FunctionEntry) → option_map (λ (e : FunctionEntry). sets_of c.rows e.drops) o ≡ option_map (sets_of c.rows) (option_map (λ (e : FunctionEntry). e.drops) o)
+      same None = refl
+      same (Some e) = refl
 
   drops_at_index : (i : ℕ) → drops_there sheet (Some i) ≡ (unwrap_or (option_map (function_claims order c.rows) (slice_get c.functions.items i)) uncalled).drops
   unfolding drops_there

@@ -1,7 +1,9 @@
 -- What is gathered of two places in one visit is numbered, and stands for each certificate that keeps the rules.
-use Rattle.std.proofs.Common.{◌≡◌, ℕ, Bool, true, false, if◌then◌else◌, Option, None, Some, List, [], ◌∷◌, length, fold, refl, sym, ap, ap₂, ◌∙◌, subst}
+use Rattle.std.proofs.Common.{◌≡◌, ℕ, Bool, true, false, if◌then◌else◌, Option, None, Some, List, [], ◌∷◌, length, fold, refl, sym, ap, ap₂, ◌∙◌, subst, true≢false}
+use Rattle.std.proofs.lemmas.Bool.{false_from_ne_true}
 use Rattle.std.proofs.lemmas.List.Sums.{fold-append}
 use Rattle.sh_tree.specs.standard.program.Syntax.{Text}
+use Rattle.sh_domain.specs.Filled.{is_stated}
 use Rattle.sh_domain.specs.declared.certificate.Certificate as kept
 use Rattle.sh_domain.specs.declared.rule.FlowRule.{FlowRule}
 use Rattle.sh_domain.specs.Entries.{Entered}
@@ -14,6 +16,7 @@ use Rattle.sh_domain.specs.Rules.{Constraint, Within, Counted, bound}
 use Rattle.sh_domain.specs.Sheets.{Sheet}
 use Rattle.sh_domain.specs.Views as views
 use Rattle.sh_domain.specs.Views.{Certificate, Slot, Seen, view_facts}
+use Rattle.sh_domain.proofs.EachLemmas.{each_weaker}
 use Rattle.sh_domain.proofs.OrderLemmas.{within_nowhere}
 use Rattle.sh_find.specs.Facts as number
 use Rattle.sh_find.specs.Kept.{IsNamed, seen_of}
@@ -30,16 +33,19 @@ use Rattle.sh_find.specs.declared.sides.Sides.{Sides}
 use Rattle.sh_find.specs.declared.subject.Subject.{Subject}
 use Rattle.sh_find.specs.Gathered.{Gathered, bounded, counted, is_at}
 use Rattle.sh_find.specs.Numbers.{by_name, by_number}
-use Rattle.sh_find.specs.Places.{claim_there, place_of}
-use Rattle.sh_find.specs.Sides.{Sided, AreNumbersBeside, StandsBeside, bounded_at, counted_of, first_of, second_of, known_at, sided_of, siding, with_beside}
+use Rattle.sh_find.specs.Places.{claim_there, is_stated_part, place_of}
+use Rattle.sh_find.specs.Sides.{Sided, AreNumbersBeside, IsQuietBeside, StandsBeside, bounded_at, counted_of, first_of, second_of, known_at, sided_of, siding, with_beside}
+use Rattle.sh_find.specs.declared.sight.Sight.{Sight}
+use Rattle.sh_find.specs.Stated.{asking_by, is_asked_of, is_free}
 use Rattle.sh_find.specs.Sweeps.{IsOver, IsPart, Keeps, Knows, setting_by}
-use Rattle.sh_find.specs.Turns.{AreNumbers, IsNew, Stands, gathered_of}
+use Rattle.sh_find.specs.Turns.{AreNumbers, IsNew, IsQuiet, Stands, gathered_of}
 use Rattle.sh_find.specs.Starts.{start_of}
 use Rattle.sh_find.proofs.GatherLemmas.{drop_numbered, drop_stands, place_numbered, place_stands}
 use Rattle.sh_find.proofs.MetLemmas.{names_numbered, named_claim, one_allows, one_asks}
 use Rattle.sh_find.proofs.NumberLemmas.{among_numbered, meet_numbered}
 use Rattle.sh_find.proofs.TogetherLemmas.{if_meet, meets_grouped, nothing_met}
-use Rattle.sh_find.proofs.TurnLemmas.{new_numbers, new_stands}
+use Rattle.sh_find.proofs.StatedLemmas.{not_true}
+use Rattle.sh_find.proofs.TurnLemmas.{met_quiet, new_numbers, new_quiet, new_stands}
 
 -- One thing more, beside what is gathered for a place
 
@@ -84,6 +90,12 @@ module _ (target : Target) (g : Gather) (new : IsNew target g) (p : Place) where
         first = record { place = one.place; vars = one.vars; functions = one.functions };
         second = record { place = within_nowhere _; vars = one.vars; functions = one.functions };
       }
+
+  pub begun_quiet : IsQuietBeside (sided_of begun)
+  unfolding sided_of gathered_of seen_of
+  begun_quiet =
+      let one = new_quiet target g new in
+      record { first = record { known = one.known; vars = one.vars; functions = one.functions }; second = record { known = λ e. refl; vars = one.vars; functions = one.functions } }
 
 -- What is gathered goes by constraints
 
@@ -142,6 +154,17 @@ module _ (s : Subject) (c : kept.Certificate) where
       let two = drop_numbered s.names.now functions (start_of s) function lost lost (second_of g) a.second in
       asks_numbered qs _ (record { first = record { known = one.known; sets = one.sets }; second = record { known = two.known; sets = two.sets } })
 
+  asks_quiet : (qs : List Ask) (g : Sided) → Each (λ q. is_asked_of true q ≡ true) qs → IsQuietBeside g → IsQuietBeside (fold (ask siding (setting_by s c)) g qs)
+  unfolding Each ask is_asked_of is_free bounded_at
+  asks_quiet [] g h q = q
+  asks_quiet (OfPlace slot f k ∷ qs) g h q =
+      let free = not_true (is_stated slot) h.0 in
+      asks_quiet qs _ h.1 (record {
+        first = record { known = met_quiet s.names.now functions slot g.place (by_number s.names.now k) g.known free q.first.known; vars = q.first.vars; functions = q.first.functions };
+        second = record { known = met_quiet s.names.now functions slot g.other (by_number s.names.now k) g.beside free q.second.known; vars = q.second.vars; functions = q.second.functions };
+      })
+  asks_quiet (OfFunction function f lost ∷ qs) g h q = absurd (true≢false (sym h.0))
+
   module _ (other : Sheet) (keeps : Keeps s other) where
     asks_stand : (qs : List Ask) (g : Sided) → Each (Allows s.names.now (claims_in s.script.now s.tree.now other)) qs → StandsBeside s.names.now other g
         → StandsBeside s.names.now other (fold (ask siding (setting_by s c)) g qs)
@@ -169,7 +192,7 @@ module _ (s : Subject) (c : kept.Certificate) where
 
 module _ (s : Subject) (admitted : IsAdmitted s.script.now s.policy.now s.tree.now s.names.now) (e : Entered) (part : IsPart s (e ∷ [])) (c : kept.Certificate) (k : Facts) (old : Sided) where
   abbrev new : Sided
-  new = command_by siding (setting_by s c) old (met_at e k)
+  new = command_by (asking_by s.stated siding) (setting_by s c) old (met_at e k)
 
   abbrev by : ByConstraints Sided siding (setting_by s c) (start_of s)
   by = sides_by (setting_by s c) (start_of s) (names_numbered s admitted)
@@ -182,9 +205,17 @@ module _ (s : Subject) (admitted : IsAdmitted s.script.now s.policy.now s.tree.n
   pub sides_stand : IsOver s c → Knows s e.seen k → (other : Sheet) → Keeps s other → StandsBeside s.names.now other old → StandsBeside s.names.now other new
   sides_stand over knows other keeps st =
       let asks = one_allows s admitted siding e part c by k old over knows other keeps in
-      subst (StandsBeside s.names.now other) (sym asks.reached) (asks_stand s c other keeps asks.asks old asks.each st)
+      subst (StandsBeside s.names.now other) (sym asks.reached) (asks_stand s c other keeps asks.asks old (each_weaker (λ q p. p.1) asks.asks asks.each) st)
+
+  pub sides_quiet : s.stated ≡ true → IsQuietBeside old → IsQuietBeside new
+  sides_quiet is q =
+      let asks = one_asks s admitted siding e part c by k old in
+      subst IsQuietBeside (sym asks.reached) (asks_quiet s c asks.asks old (each_weaker (λ r p. subst (λ b. is_asked_of b r ≡ true) is p.0) asks.asks asks.each) q)
 
 -- The first place as it was gathered
+
+apart_known : (v f : ℕ → Bool) (a : ℕ) → number.Known v f a ≡ number.NotReached → ⊥
+apart_known v f a e = cc
 
 module _ (g : Sides) where
   pub first_numbers : (names : ℕ) → AreNumbersBeside names (sided_of g) → AreNumbers names (gathered_of g.gather)
@@ -194,6 +225,15 @@ module _ (g : Sides) where
   pub first_stands : (names : List Text) (other : Sheet) → StandsBeside names other (sided_of g) → Stands names other (gathered_of g.gather)
   unfolding sided_of
   first_stands names other st = record { place = st.first.place; vars = st.first.vars; functions = st.first.functions }
+
+  pub first_quiet : IsQuietBeside (sided_of g) → IsQuiet (gathered_of g.gather)
+  unfolding sided_of
+  first_quiet q = record { known = q.first.known; vars = q.first.vars; functions = q.first.functions }
+
+  -- where something is known at the second place, its claim is not stated
+  pub second_free : IsQuietBeside (sided_of g) → (sight : Sight) → g.known ≡ Some sight → is_stated_part g.place.part ≡ false
+  unfolding sided_of seen_of
+  second_free q sight is = false_from_ne_true (is_stated_part g.place.part) (λ e. apart_known _ _ _ (sym (ap seen_of is) ∙ q.second.known e))
 
   pub second_named : (names : ℕ) → AreNumbersBeside names (sided_of g) → IsNamed names (seen_of g.known)
   unfolding sided_of

@@ -13,17 +13,19 @@ use Rattle.sh_find.specs.declared.subject.Subject.{Subject}
 use Rattle.sh_find.specs.Gathered.{Gathered, all_gathered}
 use Rattle.sh_find.specs.Idle.{IsIdle}
 use Rattle.sh_find.specs.Next.{IsBroken, IsKeptAt, IsOfScript}
+use Rattle.sh_find.specs.Stated.{asked_bounds}
 use Rattle.sh_find.specs.Turns.{IsNew, gathered_of, sheet_by}
 use Rattle.sh_find.specs.Writable.{sets_in}
 use Rattle.sh_find.specs.Starts.{start_of}
 use Rattle.sh_find.proofs.GatherLemmas.{function_stays, place_stays}
 use Rattle.sh_find.proofs.IdleLemmas.{idle_keeps}
 use Rattle.sh_find.proofs.NextLemmas.{none_broken}
+use Rattle.sh_find.proofs.StartLemmas.{start_knows}
 
 module _ (s : Subject) (c : kept.Certificate) (a : IsAdmitted s.script.now s.policy.now s.tree.now s.names.now) (variables : list_all is_variable s.names.now ≡ true) (w : IsOfScript s c) (target : Target) (first : Gather)
     (new : IsNew target first) (g : Gathered) where
   abbrev ks : List Constraint
-  ks = script_bounds (script_of s.script.now s.tree.now)
+  ks = asked_bounds s.stated (script_bounds (script_of s.script.now s.tree.now))
 
   sought_place : (gathered_of first).place ≡ target.place
   unfolding gathered_of
@@ -38,7 +40,7 @@ module _ (s : Subject) (c : kept.Certificate) (a : IsAdmitted s.script.now s.pol
   idle_whole is idle broken =
       let functions = functions_in s.script.now s.tree.now in
       let own = claims_in s.script.now s.tree.now (sheet_by s.names.now c) in
-      let all = idle_keeps s.script.now s.policy.now s.tree.now s.names.now a variables w.loops w.are_loops c w.working target first new g is _ s.all_writable idle in
+      let all = idle_keeps s.script.now s.policy.now s.tree.now s.names.now (start_of s) (start_knows s) a variables w.loops w.are_loops c w.working target first new g s.stated is _ s.all_writable idle in
       let place : g.place ≡ target.place = ap (λ (x : Gathered). x.place) is ∙ place_stays s.names.now functions (start_of s) own ks (gathered_of first) ∙ sought_place in
       let function : g.function ≡ target.function = ap (λ (x : Gathered). x.function) is ∙ function_stays s.names.now functions (start_of s) own ks (gathered_of first) ∙ sought_function in
       none_broken functions (start_of s) own target.place target.function ks

@@ -1,12 +1,11 @@
 -- A sweep over the commands of a script stays above each certificate that keeps the rules.
-use Rattle.std.proofs.Common.{◌≡◌, ℕ, ◌≤◌, Bool, true, false, Some, List, [], ◌++◌, append_assoc, length, flat_map, refl, sym, ap, ◌∙◌, subst, arith}
+use Rattle.std.proofs.Common.{◌≡◌, ℕ, ◌<◌, ◌≤◌, Bool, true, false, Some, List, [], ◌++◌, append_assoc, length, flat_map, refl, sym, ap, ◌∙◌, subst, arith, true≢false}
 use Rattle.sh_domain.specs.declared.certificate.Certificate as kept
 use Rattle.sh_domain.specs.Entries.{Entered}
 use Rattle.sh_domain.specs.Facts.{facts}
 use Rattle.sh_domain.specs.Faults.{broken}
 use Rattle.sh_domain.specs.Knowledge.{AreNumbered}
 use Rattle.sh_domain.specs.Order.{IsBelow, IsWithin}
-use Rattle.sh_domain.specs.Rules.{script_bounds}
 use Rattle.sh_domain.specs.Sheets.{Sheet}
 use Rattle.sh_domain.specs.Views.{After}
 use Rattle.sh_find.specs.Facts as number
@@ -17,21 +16,21 @@ use Rattle.sh_rules.proofs.LedLemmas.{Follows}
 use Rattle.sh_domain.specs.Admitted.{claims_in, functions_in}
 use Rattle.sh_table.specs.Calls.{Table, table_of}
 use Rattle.sh_tree.specs.declared.tree.Script.{Script}
-use Rattle.sh_tree.specs.standard.program.Trees.{script_of}
 use Rattle.sh_rules.specs.declared.claims.Claims.{Claims}
 use Rattle.sh_rules.specs.Walks.{setting}
 use Rattle.sh_find.specs.declared.subject.Subject.{Subject}
 use Rattle.sh_find.specs.declared.place.Place.{Place}
 use Rattle.sh_find.specs.Numbers.{by_name}
-use Rattle.sh_find.specs.Places.{claim_there}
-use Rattle.sh_find.specs.Sweeps.{setting_by, Keeps, IsOver, Knows, KnowsBehind, IsPart, IsReady, IsSwept}
+use Rattle.sh_find.specs.Places.{claim_there, is_stated_part}
+use Rattle.sh_find.specs.Sweeps.{setting_by, asked_of, Keeps, IsOver, Knows, KnowsBehind, IsPart, IsReady, IsSettled, IsSwept}
 use Rattle.sh_find.specs.Gathered.{Gathered}
-use Rattle.sh_find.specs.Turns.{IsSettled, IsSunk, IsTurn, Stands, sheet_by}
+use Rattle.sh_find.specs.Turns.{IsQuiet, IsSunk, IsTurn, Stands, StatedStays, sheet_by}
 use Rattle.sh_find.specs.Working.{IsLowered, IsWorking, height}
 use Rattle.sh_find.specs.Starts.{start_of}
 use Rattle.sh_find.proofs.AboveLemmas.{lowered_above}
 use Rattle.sh_find.proofs.GreatestLemmas.{numbered}
 use Rattle.sh_find.proofs.HeightLemmas.{lowered_less}
+use Rattle.sh_find.proofs.TurnLemmas.{lowered_stays}
 
 module _ (s : Subject) where
   -- One after the other
@@ -39,14 +38,21 @@ module _ (s : Subject) where
   same_height : (n : ℕ) → n ≤ n
   same_height n = omega arith
 
+  stays_none : (c : kept.Certificate) → StatedStays c c
+  stays_none c = record { claims = λ p e. refl; drops = λ i. refl }
+
+  stays_more : (old mid new : kept.Certificate) → StatedStays old mid → StatedStays mid new → StatedStays old new
+  stays_more old mid new a z = record { claims = λ p e. z.claims p e ∙ a.claims p e; drops = λ i. z.drops i ∙ a.drops i }
+
   pub swept_none : (c : kept.Certificate) (n : ℕ) → IsReady s c n → IsSwept s c c n
-  swept_none c n r = record { working = λ loops m w. w; no_more = λ loops m w. same_height _; over = r.over; probe = r.probe }
+  swept_none c n r = record { working = λ loops m w. w; no_more = λ loops m w. same_height _; over = r.over; stays = λ e. stays_none c; probe = r.probe }
 
   pub swept_more : (old mid new : kept.Certificate) (n k : ℕ) → IsSwept s old mid n → IsSwept s mid new k → IsSwept s old new k
   swept_more old mid new n k a z = record {
     working = λ loops m w. z.working loops m (a.working loops m w);
     no_more = λ loops m w. let x = a.no_more loops m w in let y = z.no_more loops m (a.working loops m w) in omega (arith, x, y);
     over = z.over;
+    stays = λ e. stays_more old mid new (a.stays e) (z.stays e);
     probe = z.probe;
   }
 
@@ -107,10 +113,11 @@ module _ (s : Subject) where
     pub working : (loops : List Bool) (m : ℕ) → IsWorking s.names.now loops m old → IsWorking s.names.now loops m new
     pub over : IsOver s new
     pub probe : probed ≡ length s.names.now
-    pub rules : done ≡ true → flat_map (broken (start_of s) (claims_in s.script.now s.tree.now (sheet_by s.names.now new))) (script_bounds (script_of s.script.now s.tree.now)) ≡ []
+    pub stays : s.stated ≡ true → StatedStays old new
+    pub rules : done ≡ true → flat_map (broken (start_of s) (claims_in s.script.now s.tree.now (sheet_by s.names.now new))) (asked_of s) ≡ []
 
   abbrev Turns : List Bool → ℕ → kept.Certificate → kept.Certificate → Bool → Type 0
-  Turns loops m old new done = IsTurn s.names.now loops m (start_of s) (functions_in s.script.now s.tree.now) (script_bounds (script_of s.script.now s.tree.now)) old new done
+  Turns loops m old new done = IsTurn s.names.now loops m (start_of s) (functions_in s.script.now s.tree.now) s.stated (asked_of s) old new done
 
   pub turned_more : (old mid swept new : kept.Certificate) (n h k l : ℕ) (was done : Bool) → IsReady s old n → IsTurned old mid h was → IsSwept s mid swept k
       → ((loops : List Bool) (m : ℕ) → IsWorking s.names.now loops m swept → Turns loops m swept new done) → l ≡ length s.names.now → IsTurned old new l done
@@ -119,22 +126,21 @@ module _ (s : Subject) where
       record {
         working = λ loops m is. (turn loops m (w.working loops m (t.working loops m is))).working;
         over = λ other keeps. first.above other keeps.fit keeps.rules (w.over other keeps);
+        stays = λ e. stays_more old swept new (stays_more old mid swept (t.stays e) (w.stays e)) (first.stays e);
         probe = probe;
         rules = first.rules;
       }
 
-  -- a turn behind a sweep, as one
-  pub swept_turn : (loops : List Bool) (m : ℕ) (old mid new : kept.Certificate) (n : ℕ) (done : Bool) → IsWorking s.names.now loops m old → IsSwept s old mid n → Turns loops m mid new done → Turns loops m old new done
-  swept_turn loops m old mid new n done working w t = record {
-    working = t.working;
-    rules = t.rules;
-    less = λ e. let l = t.less e in let k = w.no_more loops m working in omega (arith, l, k);
-    above = λ d fit none below. t.above d fit none (w.over d (record { fit = fit; rules = none }));
-  }
+  pub turned_none : (c : kept.Certificate) (n : ℕ) → IsReady s c n → IsTurned c c n false
+  turned_none c n r = record { working = λ loops m w. w; over = r.over; stays = λ e. stays_none c; probe = r.probe; rules = λ e. absurd (true≢false (sym e)) }
 
-  pub settled : (loops : List Bool) (m : ℕ) (old new : kept.Certificate) (n : ℕ) (done : Bool) → done ≡ true → IsTurned old new n done → IsWorking s.names.now loops m old
-      → IsSettled s.names.now loops m (start_of s) (functions_in s.script.now s.tree.now) (script_bounds (script_of s.script.now s.tree.now)) old new
-  settled loops m old new n done e t w = record { working = t.working loops m w; rules = t.rules e; above = λ d fit none below. t.over d (record { fit = fit; rules = none }) }
+  -- a turn behind a sweep lowers
+  pub swept_less : (loops : List Bool) (m : ℕ) (old mid new : kept.Certificate) (n : ℕ) (done : Bool) → IsWorking s.names.now loops m old → IsSwept s old mid n → Turns loops m mid new done
+      → done ≡ false → height (length s.names.now) (length loops) m new < height (length s.names.now) (length loops) m old
+  swept_less loops m old mid new n done working w t e = let l = t.less e in let k = w.no_more loops m working in omega (arith, l, k)
+
+  pub settled : (loops : List Bool) (m : ℕ) (old new : kept.Certificate) (n : ℕ) (done : Bool) → done ≡ true → IsTurned old new n done → IsWorking s.names.now loops m old → IsSettled s loops m old new
+  settled loops m old new n done e t w = record { working = t.working loops m w; rules = t.rules e; over = t.over; stays = t.stays }
 
 -- What a walk by the table of the script goes by
 
@@ -146,14 +152,15 @@ setting_is c t table = ap (λ (y : Table). record { script = c.script.now; names
 -- What is lowered by what was gathered
 
 pub sunk_swept : (s : Subject) (old new : kept.Certificate) (g : Gathered) (changed : Bool) (n k : ℕ) → IsReady s old n
-    → ((loops : List Bool) (m : ℕ) → IsWorking s.names.now loops m old → IsSunk s.names.now loops m old new g changed) → ((other : Sheet) → Keeps s other → Stands s.names.now other g) → k ≡ length s.names.now → IsSwept s old new k
-sunk_swept s old new g changed n k r sunk stand probe =
+    → ((loops : List Bool) (m : ℕ) → IsWorking s.names.now loops m old → IsSunk s.names.now loops m old new g changed) → ((other : Sheet) → Keeps s other → Stands s.names.now other g) → (s.stated ≡ true → IsQuiet g) → k ≡ length s.names.now → IsSwept s old new k
+sunk_swept s old new g changed n k r sunk stand quiet probe =
     let h = names_numbered s old n r in
     let one = sunk r.loops r.functions r.working in
     record {
       working = λ loops m w. (sunk loops m w).working;
       no_more = λ loops m w. lower loops m (sunk loops m w) changed refl;
       over = λ other keeps. one.above h (functions_in s.script.now s.tree.now) other (stand other keeps) (r.over other keeps);
+      stays = λ e. one.stated (quiet e);
       probe = probe;
     }
   where
@@ -169,12 +176,13 @@ sunk_swept s old new g changed n k r sunk stand probe =
 pub lowered_swept : (s : Subject) (old new : kept.Certificate) (p : Place) (known : number.Facts) (changed : Bool) (n k : ℕ) → IsReady s old n
     → ((loops : List Bool) (m : ℕ) → IsWorking s.names.now loops m old → IsLowered old new p known changed)
     → ((loops : List Bool) (m : ℕ) → IsWorking s.names.now loops m old → IsWorking s.names.now loops m new)
-    → ((other : Sheet) → Keeps s other → IsWithin (facts (claim_there other (Some p))) (by_name s.names.now known)) → k ≡ length s.names.now → IsSwept s old new k
-lowered_swept s old new p known changed n k r low works stand probe =
+    → ((other : Sheet) → Keeps s other → IsWithin (facts (claim_there other (Some p))) (by_name s.names.now known)) → (s.stated ≡ true → is_stated_part p.part ≡ false) → k ≡ length s.names.now → IsSwept s old new k
+lowered_swept s old new p known changed n k r low works stand free probe =
     record {
       working = works;
       no_more = λ loops m w. lower loops m w (low loops m w) changed refl;
       over = λ other keeps. above other keeps changed refl;
+      stays = λ e. lowered_stays old new p known changed (low r.loops r.functions r.working) (λ s. absurd (true≢false (sym s ∙ free e)));
       probe = probe;
     }
   where

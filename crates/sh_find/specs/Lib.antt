@@ -8,6 +8,8 @@ pub mod Numbers
 pub mod First
 pub mod Gathered
 pub mod Gathering
+pub mod Begun
+pub mod Stated
 pub mod Turns
 pub mod Together
 pub mod Spots

@@ -16,6 +16,7 @@ use Rattle.sh_find.specs.declared.place.Place.{Place}
 use Rattle.sh_find.specs.declared.subject.Subject.{Subject}
 use Rattle.sh_find.specs.Gathered.{is_at, is_number}
 use Rattle.sh_find.specs.Places.{place_of}
+use Rattle.sh_find.specs.Stated.{asked_bounds}
 use Rattle.sh_find.specs.Turns.{sheet_by}
 use Rattle.sh_find.specs.Working.{IsWorking}
 use Rattle.sh_find.specs.Starts.{start_of}
@@ -48,4 +49,4 @@ module _ (s : Subject) where
   -- it breaks a flow rule that asks something of the place or of the function
   abbrev pub IsBroken : kept.Certificate → Target → Type 0
   IsBroken c target =
-      BrokenAt (functions_in s.script.now s.tree.now) (start_of s) (claims_in s.script.now s.tree.now (sheet_by s.names.now c)) (script_bounds (script_of s.script.now s.tree.now)) target.place target.function
+      BrokenAt (functions_in s.script.now s.tree.now) (start_of s) (claims_in s.script.now s.tree.now (sheet_by s.names.now c)) (asked_bounds s.stated (script_bounds (script_of s.script.now s.tree.now))) target.place target.function

@@ -1,12 +1,12 @@
 -- Facts and names by the numbers of names, and back.
 -- The standard has no such thing: what is surely set (XCU 2.5), of the names that are numbered.
-use Rattle.std.specs.Prelude.{ℕ, Bool, false, List, Option, Some, None, slice_get}
+use Rattle.std.specs.Prelude.{ℕ, Bool, false, List, filter, map, Option, Some, None, slice_get}
 use Rattle.sh_tree.specs.standard.program.Syntax.{Text}
 use Rattle.sh_table.specs.standard.runs.Environment.{is_one_of}
-use Rattle.sh_domain.specs.Facts.{Facts, NotReached, Known}
+use Rattle.sh_domain.specs.Facts.{Claim, Claimed, Unreached, Facts, NotReached, Known}
 use Rattle.sh_domain.specs.Knowledge.{at_number}
 use Rattle.sh_domain.specs.Names.{number_of}
-use Rattle.sh_domain.specs.Operands.{Names}
+use Rattle.sh_domain.specs.Operands.{Names, no_names}
 use Rattle.sh_find.specs.Facts as number
 use Rattle.sh_find.specs.Working.{Sets}
 
@@ -36,3 +36,14 @@ named names (Some f) = by_name names f
 unfoldable pub is_dropped : (Sets → ℕ → Bool) → List Text → Option Sets → Text → Bool
 is_dropped part names None t = false
 is_dropped part names (Some s) t = at_number (part s) (number_of names t)
+
+-- the claim of these, of names in this order
+unfoldable pub claim_by : List (ℕ × Text) → Option number.Facts → Claim
+claim_by order None = Unreached
+claim_by order (Some number.NotReached) = Unreached
+claim_by order (Some (number.Known v f a)) = Claimed (map (λ x. x.1) (filter (λ x. v x.0) order)) (map (λ x. x.1) (filter (λ x. f x.0) order)) a
+
+-- and the names that are dropped
+unfoldable pub names_by : List (ℕ × Text) → Option Sets → Names
+names_by order None = no_names
+names_by order (Some s) = record { vars = map (λ x. x.1) (filter (λ x. s.vars x.0) order); functions = map (λ x. x.1) (filter (λ x. s.functions x.0) order) }

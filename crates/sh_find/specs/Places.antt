@@ -43,6 +43,16 @@ place_of functions (views.Entry f) = option_map (at Entered) (number_of function
 place_of functions (views.ReturnsZero f) = option_map (at ReturnZero) (number_of functions f)
 place_of functions (views.ReturnsNonzero f) = option_map (at ReturnNonzero) (number_of functions f)
 
+-- the parts of which a compact certificate states what is claimed
+unfoldable pub is_stated_part : Part → Bool
+is_stated_part Before = false
+is_stated_part Zero = false
+is_stated_part Nonzero = false
+is_stated_part Head = true
+is_stated_part Entered = true
+is_stated_part ReturnZero = true
+is_stated_part ReturnNonzero = true
+
 -- What a sheet claims there
 
 unfoldable pub part_claim : Sheet → ℕ → Part → Claim

@@ -17,7 +17,7 @@ use Rattle.sh_find.specs.Gathered.{Gathered, counted, is_at, is_number}
 use Rattle.sh_find.specs.Gathering.{drops_nothing, drops_both}
 use Rattle.sh_find.specs.Numbers.{by_number, numbers_in}
 use Rattle.sh_find.specs.Places.{place_of}
-use Rattle.sh_find.specs.Turns.{AreNumbers, Stands, gathered_of}
+use Rattle.sh_find.specs.Turns.{AreNumbers, IsQuiet, Stands, gathered_of}
 use Rattle.sh_find.specs.Working.{Sets, joined}
 
 -- what is known at a place and at another; what the function of the index has to drop
@@ -55,6 +55,11 @@ pub record AreNumbersBeside (names : ℕ) (g : Sided) : Type 0 where
 pub record StandsBeside (names : List Text) (other : Sheet) (g : Sided) : Type 0 where
   pub first : Stands names other (first_of g)
   pub second : Stands names other (second_of g)
+
+-- nothing was gathered of claims that are stated
+pub record IsQuietBeside (g : Sided) : Type 0 where
+  pub first : IsQuiet (first_of g)
+  pub second : IsQuiet (second_of g)
 
 -- One thing more
 

@@ -24,7 +24,7 @@ use Rattle.sh_domain.specs.Gains.{Gains}
 use Rattle.sh_domain.specs.Knowledge.{knowledge_facts}
 use Rattle.sh_domain.specs.Order.{IsBelow, IsWithin}
 use Rattle.sh_domain.specs.Reading.{claim_fits}
-use Rattle.sh_domain.specs.Rules.{script_bounds}
+use Rattle.sh_domain.specs.Rules.{Constraint, script_bounds}
 use Rattle.sh_domain.specs.Sheets.{Sheet}
 use Rattle.sh_domain.specs.Views.{After, Before, Both, Seen, at, gaining, in_any_case}
 use Rattle.sh_rules.specs.declared.behind.Behind as code
@@ -37,7 +37,8 @@ use Rattle.sh_domain.specs.Admitted.{IsAdmitted, claims_in, functions_in}
 use Rattle.sh_find.specs.declared.place.Place.{Place}
 use Rattle.sh_find.specs.declared.subject.Subject.{Subject}
 use Rattle.sh_find.specs.Places.{claim_there}
-use Rattle.sh_find.specs.Turns.{sheet_by}
+use Rattle.sh_find.specs.Stated.{ClaimsStated, asked_bounds}
+use Rattle.sh_find.specs.Turns.{StatedStays, sheet_by}
 use Rattle.sh_find.specs.Working.{IsWorking, height}
 use Rattle.sh_find.specs.Starts.{start_of}
 
@@ -54,10 +55,15 @@ module _ (s : Subject) where
 
   -- What a certificate stays above
 
-  -- a sheet of names of the script that keeps all rules
+  -- the constraints that are asked
+  abbrev pub asked_of : List Constraint
+  asked_of = asked_bounds s.stated (script_bounds (script_of s.script.now s.tree.now))
+
+  -- a sheet of names of the script that claims what is stated, and keeps all rules that are asked
   pub record Keeps (other : Sheet) : Type 0 where
     pub fit : (o : Option Place) → claim_fits s.names.now (claim_there other o) ≡ true
-    pub rules : flat_map (broken (start_of s) (claims_in s.script.now s.tree.now other)) (script_bounds (script_of s.script.now s.tree.now)) ≡ []
+    pub stated : ClaimsStated s.names.now (functions_in s.script.now s.tree.now) s.stated s.compact.now (claims_in s.script.now s.tree.now other)
+    pub rules : flat_map (broken (start_of s) (claims_in s.script.now s.tree.now other)) asked_of ≡ []
 
   -- each of those is below the certificate
   abbrev pub IsOver : kept.Certificate → Type 0
@@ -183,9 +189,17 @@ module _ (s : Subject) where
     pub probe : probed ≡ length s.names.now
     pub commands : IsPermutation (commands_of s.tree.now) (map (λ c. c.now) s.commands.now)
 
-  -- it is lowered, or stays, and stays above each certificate that keeps all rules
+  -- it is lowered, or stays, claims what was stated, and stays above each certificate that keeps the rules
   pub record IsSwept (old new : kept.Certificate) (probed : ℕ) : Type 0 where
     pub working : (loops : List Bool) (m : ℕ) → IsWorking s.names.now loops m old → IsWorking s.names.now loops m new
     pub no_more : (loops : List Bool) (m : ℕ) → IsWorking s.names.now loops m old → height (length s.names.now) (length loops) m new ≤ height (length s.names.now) (length loops) m old
     pub over : IsOver new
+    pub stays : s.stated ≡ true → StatedStays old new
     pub probe : probed ≡ length s.names.now
+
+  -- it keeps all rules that are asked, claims what was stated, and stays above each certificate that does
+  pub record IsSettled (loops : List Bool) (m : ℕ) (old new : kept.Certificate) : Type 0 where
+    pub working : IsWorking s.names.now loops m new
+    pub rules : flat_map (broken (start_of s) (claims_in s.script.now s.tree.now (sheet_by s.names.now new))) asked_of ≡ []
+    pub over : IsOver new
+    pub stays : s.stated ≡ true → StatedStays old new

@@ -21,8 +21,8 @@ use Rattle.sh_find.specs.declared.gather.Target.{Target}
 use Rattle.sh_find.specs.declared.place.Place.{Place}
 use Rattle.sh_find.specs.Gathered.{Gathered}
 use Rattle.sh_find.specs.Numbers.{by_name}
-use Rattle.sh_find.specs.Places.{claim_there, drops_there}
-use Rattle.sh_find.specs.Working.{AreBelow, IsWorking, height}
+use Rattle.sh_find.specs.Places.{claim_there, drops_there, is_stated_part}
+use Rattle.sh_find.specs.Working.{AreBelow, IsWorking, claims, dropped, height}
 use Rattle.sh_find.specs.Writable.{sets_in}
 
 -- what is gathered, by numbers
@@ -61,25 +61,31 @@ pub record Stands (names : List Text) (other : Sheet) (g : Gathered) : Type 0 wh
 abbrev pub sheet_by : List Text → Certificate → Sheet
 sheet_by names c = sheet_of (in_byte_order names) c
 
+-- nothing was gathered of claims that are stated
+pub record IsQuiet (g : Gathered) : Type 0 where
+  pub known : is_stated_part g.place.part ≡ true → g.known ≡ number.NotReached
+  pub vars : (k : ℕ) → g.sets.vars k ≡ false
+  pub functions : (k : ℕ) → g.sets.functions k ≡ false
+
+-- what is claimed where claims are stated stays, and what functions drop
+pub record StatedStays (old new : Certificate) : Type 0 where
+  pub claims : (p : Place) → is_stated_part p.part ≡ true → claims new p ≡ claims old p
+  pub drops : (i : ℕ) → dropped new i ≡ dropped old i
+
 -- A certificate is lowered by what was gathered, and stays above each one that stands.
 pub record IsSunk (names : List Text) (loops : List Bool) (m : ℕ) (old new : Certificate) (g : Gathered) (changed : Bool) : Type 0 where
   pub stays : changed ≡ false → new ≡ old
   pub working : IsWorking names loops m new
   pub less : changed ≡ true → height (length names) (length loops) m new < height (length names) (length loops) m old
+  pub stated : IsQuiet g → StatedStays old new
   pub above : AreNumbered names → (defined : List Text) (d : Sheet) → Stands names d g → IsBelow (certificate_of defined d) (certificate_of defined (sheet_by names old))
       → IsBelow (certificate_of defined d) (certificate_of defined (sheet_by names new))
 
--- The certificate keeps all constraints, or is lowered; and stays above each one that keeps them.
-pub record IsTurn (names : List Text) (loops : List Bool) (m : ℕ) (start : Facts) (defined : List Text) (ks : List Constraint) (old new : Certificate) (kept : Bool) : Type 0 where
+-- The certificate keeps all constraints, or is lowered; claims what is stated, if any is; and stays above each one that keeps them.
+pub record IsTurn (names : List Text) (loops : List Bool) (m : ℕ) (start : Facts) (defined : List Text) (stated : Bool) (ks : List Constraint) (old new : Certificate) (kept : Bool) : Type 0 where
   pub working : IsWorking names loops m new
   pub rules : kept ≡ true → flat_map (broken start (certificate_of defined (sheet_by names new))) ks ≡ []
+  pub stays : stated ≡ true → StatedStays old new
   pub less : kept ≡ false → height (length names) (length loops) m new < height (length names) (length loops) m old
-  pub above : (d : Sheet) → ((o : Option Place) → claim_fits names (claim_there d o) ≡ true) → flat_map (broken start (certificate_of defined d)) ks ≡ []
-      → IsBelow (certificate_of defined d) (certificate_of defined (sheet_by names old)) → IsBelow (certificate_of defined d) (certificate_of defined (sheet_by names new))
-
--- the certificate keeps all constraints, and stays above each one that keeps them
-pub record IsSettled (names : List Text) (loops : List Bool) (m : ℕ) (start : Facts) (defined : List Text) (ks : List Constraint) (old new : Certificate) : Type 0 where
-  pub working : IsWorking names loops m new
-  pub rules : flat_map (broken start (certificate_of defined (sheet_by names new))) ks ≡ []
   pub above : (d : Sheet) → ((o : Option Place) → claim_fits names (claim_there d o) ≡ true) → flat_map (broken start (certificate_of defined d)) ks ≡ []
       → IsBelow (certificate_of defined d) (certificate_of defined (sheet_by names old)) → IsBelow (certificate_of defined d) (certificate_of defined (sheet_by names new))

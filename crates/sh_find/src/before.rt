@@ -1,5 +1,5 @@
 //! A command is lowered where it is entered, to what is known there, without a visit.
-ghost use Rattle.std.specs.Prelude.{◌≡◌, ◌-◌, length, Some, IfOk};
+ghost use Rattle.std.specs.Prelude.{◌≡◌, ◌-◌, true, false, length, Some, IfOk};
 ghost use Rattle.sh_domain.specs.declared.rule.FlowRule as rule;
 ghost use Rattle.sh_domain.specs.Entries as entries;
 ghost use Rattle.sh_domain.specs.Facts.{facts};
@@ -12,7 +12,7 @@ ghost use Rattle.sh_find.specs.Gathered.{fitting_place};
 ghost use Rattle.sh_find.specs.Idle.{ClaimStays};
 ghost use Rattle.sh_find.specs.Numbers.{by_name};
 ghost use Rattle.sh_find.specs.Places as spec;
-ghost use Rattle.sh_find.specs.Places.{claim_there};
+ghost use Rattle.sh_find.specs.Places.{claim_there, is_stated_part};
 ghost use Rattle.sh_find.specs.Sweeps.{IsCommand, IsReady, IsSwept, Keeps};
 ghost use Rattle.sh_find.specs.Writable.{sets_in};
 
@@ -41,6 +41,7 @@ pub fn lower_at(
     known: &Sight,
 ) -> Result<(), AllocError>
     requires ready { IsReady subject.now draft.old.certificate draft.old.probe.count }
+    requires free { subject.now.stated ≡ true → is_stated_part place.part ≡ false }
     requires named { IsNamed (length subject.now.names.now) (sight_facts known.now) }
     requires stands { (other : Sheet) → Keeps subject.now other → IsWithin (facts (claim_there other (Some place))) (by_name subject.now.names.now (sight_facts known.now)) }
     ensures swept { IfOk result (λ unit. IsSwept subject.now draft.old.certificate draft.new.certificate draft.new.probe.count) }
@@ -85,6 +86,7 @@ pub fn lower_assured(
     assured: &Assured,
 ) -> Result<(), AllocError>
     requires ready { IsReady subject.now draft.old.certificate draft.old.probe.count }
+    requires free { subject.now.stated ≡ true → is_stated_part place.part ≡ false }
     requires stands { (other : Sheet) → Keeps subject.now other → IsWithin (facts (claim_there other (Some place))) (assured_facts subject.now.names.now assured.now) }
     ensures swept { IfOk result (λ unit. IsSwept subject.now draft.old.certificate draft.new.certificate draft.new.probe.count) }
 {

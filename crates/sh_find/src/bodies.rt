@@ -1,6 +1,6 @@
 //! The bodies of functions are units of their own, and the commands outside of them are another
 //! (XCU 2.9.5).
-ghost use Rattle.std.specs.Prelude.{◌≡◌, ℕ, Some, IfOk, IfSome};
+ghost use Rattle.std.specs.Prelude.{◌≡◌, ℕ, false, Some, IfOk, IfSome};
 ghost use Rattle.sh_tree.specs.standard.Tree.{text_of};
 ghost use Rattle.sh_tree.specs.standard.program.Syntax as p;
 ghost use Rattle.sh_tree.specs.standard.program.Trees as trees;
@@ -96,11 +96,15 @@ fn sweep_function(
     draft.waiting.units.end(number)
 }
 
-// The place of which the rules speak so, if a script may have it.
+// The place of which the rules speak so, if a script may have it, and nothing is stated.
 fn place_in(subject: &Subject<'_>, certificate: &Certificate, slot: Slot<'_>) -> Option<Place>
     requires { (probed : ℕ) × IsReady subject.now certificate.now probed }
-    ensures { IfSome result (λ place. Some place ≡ place_of (functions_in subject.now.script.now subject.now.tree.now) (slot_of slot.entry)) }
+    ensures there { IfSome result (λ place. Some place ≡ place_of (functions_in subject.now.script.now subject.now.tree.now) (slot_of slot.entry)) }
+    ensures free { IfSome result (λ place. subject.now.stated ≡ false) }
 {
+    if subject.stated {
+        return None;
+    }
     let claims = subject.claims(certificate);
     let spot = spot_of(&claims, slot)?;
     spot.place()
@@ -114,7 +118,8 @@ fn lower_return(
     known: &Knowledge,
 ) -> Result<(), AllocError>
     requires ready { IsReady subject.now draft.old.certificate draft.old.probe.count }
-    requires stands { IfSome place (λ there. (other : Sheet) → Keeps subject.now other
+    requires free { IfSome place (λ there. subject.now.stated ≡ false) }
+    requires stands { subject.now.stated ≡ false → IfSome place (λ there. (other : Sheet) → Keeps subject.now other
         → IsWithin (facts (claim_there other (Some there))) (knowledge_facts subject.now.names.now known.now)) }
     ensures swept { IfOk result (λ unit. IsSwept subject.now draft.old.certificate draft.new.certificate draft.new.probe.count) }
 {
@@ -175,7 +180,7 @@ fn sweep_outside(subject: &Subject<'_>, draft: &mut Draft) -> Result<(), AllocEr
     requires { IsReady subject.now draft.old.certificate draft.old.probe.count }
     ensures { IfOk result (λ unit. IsSwept subject.now draft.old.certificate draft.new.certificate draft.new.probe.count) }
 {
-    let start = Knowledge::start(subject.names, subject.policy);
+    let start = subject.start();
     let mut course = begun(FlowRule::F1, &start);
     let outside = alone();
     let items = subject.tree.items.as_slice();
@@ -226,8 +231,12 @@ fn sweep_if_defined(
     sweep_function(subject, draft, LEVELS, command.number)
 }
 
-// Lowers a certificate at all commands once, those outside of functions first.
-fn sweep_round(subject: &Subject<'_>, draft: &mut Draft) -> Result<(), AllocError>
+/// Lowers a certificate at all commands once, those outside of functions first.
+///
+/// # Errors
+///
+/// If a growth was refused or no place for a row is left.
+pub fn sweep_round(subject: &Subject<'_>, draft: &mut Draft) -> Result<(), AllocError>
     requires { IsReady subject.now draft.old.certificate draft.old.probe.count }
     ensures { IfOk result (λ unit. IsSwept subject.now draft.old.certificate draft.new.certificate draft.new.probe.count) }
 {

@@ -23,9 +23,9 @@ fn entry_part(entry: &Entry, part: Part) -> Option<Facts>
     }
 }
 
-// A part of what is claimed of a function.
+/// A part of what is claimed of a function.
 #[tactic(auto, unfolding(crate::specs::Places::function_part))]
-fn function_part(entry: &FunctionEntry, part: Part) -> Option<Facts>
+pub fn function_part(entry: &FunctionEntry, part: Part) -> Option<Facts>
     ensures { result ≡ spec.function_part entry.now part }
 {
     match part {

@@ -4,10 +4,12 @@
 
 mod asked;
 mod before;
+mod begun;
 mod bodies;
 mod choices;
 mod claims;
 mod draft;
+mod filling;
 mod first;
 mod gather;
 mod inner;
@@ -24,6 +26,7 @@ mod sides;
 mod sight;
 mod sights;
 mod spot;
+mod stated;
 mod subject;
 mod sweep;
 mod turn;
@@ -31,4 +34,5 @@ mod wakes;
 mod words;
 mod writable;
 
+pub use filling::fill;
 pub use search::{find, find_by_rounds, find_counted};

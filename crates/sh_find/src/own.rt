@@ -1,14 +1,15 @@
 //! A command is lowered by what it asks itself, and not by what the commands in it ask.
-ghost use Rattle.std.specs.Prelude.{◌≡◌, ℕ, length, IfOk};
+ghost use Rattle.std.specs.Prelude.{◌≡◌, ℕ, true, length, IfOk};
 ghost use Rattle.sh_domain.specs.Knowledge.{knowledge_facts};
 ghost use Rattle.sh_domain.specs.Sheets.{Sheet};
 ghost use Rattle.sh_rules.specs.Steps.{met_in};
 ghost use Rattle.sh_rules.specs.Visits.{command_by};
 ghost use Rattle.sh_rules.specs.Walks as walks;
 ghost use Rattle.sh_domain.specs.Admitted.{IsAdmitted};
-ghost use Rattle.sh_find.specs.Sides.{AreNumbersBeside, StandsBeside, sided_of};
+ghost use Rattle.sh_find.specs.Sides.{AreNumbersBeside, IsQuietBeside, StandsBeside, sided_of};
+ghost use Rattle.sh_find.specs.Stated.{asking_by};
 ghost use Rattle.sh_find.specs.Sweeps.{IsCommand, IsReady, IsSwept, Keeps, setting_by};
-ghost use Rattle.sh_find.specs.Turns.{AreNumbers, Stands, gathered_of};
+ghost use Rattle.sh_find.specs.Turns.{AreNumbers, IsQuiet, Stands, gathered_of};
 
 use crate::before::{lower_at, lower_before};
 use crate::draft::Draft;
@@ -16,6 +17,7 @@ use crate::gather::{Gather, Target};
 use crate::kept::{drops_of, facts_at};
 use crate::place::{Part, Place};
 use crate::sides::Sides;
+use crate::stated::Unstated;
 use crate::subject::Subject;
 use crate::turn::lower_gathered;
 use crate::wakes::note_lowered;
@@ -32,14 +34,22 @@ fn tell<A: Asked>(
     around: &Around<'_>,
     known: &Knowledge,
     command: &Command,
-    asked: &mut A,
-)
+    asked: A,
+) -> A
     requires sized { certificate.now.rows.count ≡ length subject.now.names.now }
     requires admitted { IsAdmitted subject.now.script.now subject.now.policy.now subject.now.tree.now subject.now.names.now }
-    ensures { A.kept asked.new ≡ command_by A.asked (setting_by subject.now certificate.now) (A.kept asked.old) (met_in (setting_by subject.now certificate.now) by around.now known.now command.now) }
+    ensures { A.kept result ≡ command_by (asking_by subject.now.stated A.asked) (setting_by subject.now certificate.now) (A.kept asked) (met_in (setting_by subject.now certificate.now) by around.now known.now command.now) }
 {
     let claims = subject.claims(certificate);
-    tell_command(&claims, by, around, known, command, asked);
+    if subject.stated {
+        let mut unstated = Unstated { asked };
+        tell_command(&claims, by, around, known, command, &mut unstated);
+        let Unstated { asked } = unstated;
+        return asked;
+    }
+    let mut asked = asked;
+    tell_command(&claims, by, around, known, command, &mut asked);
+    asked
 }
 
 // What the flow rules ask at a command, gathered for a place and a function.
@@ -55,19 +65,11 @@ fn asked_of(
     requires ready { (probed : ℕ) × IsReady subject.now certificate.now probed }
     requires placed { IsCommand subject.now by (walks.around subject.now.script.now around.now) (knowledge_facts subject.now.names.now known.now) command.now }
     ensures numbers { AreNumbers (length subject.now.names.now) (gathered_of result) }
+    ensures quiet { subject.now.stated ≡ true → IsQuiet (gathered_of result) }
     ensures stands { (other : Sheet) → Keeps subject.now other → Stands subject.now.names.now other (gathered_of result) }
 {
-    let mut gather = Gather::new(target);
-    tell(
-        subject,
-        certificate,
-        by,
-        around,
-        known,
-        command,
-        &mut gather,
-    );
-    gather
+    let gather = Gather::new(target);
+    tell(subject, certificate, by, around, known, command, gather)
 }
 
 // The index of a command, or the first where a script may not have its number: a hint.
@@ -189,6 +191,7 @@ fn asked_behind(
     requires ready { (probed : ℕ) × IsReady subject.now certificate.now probed }
     requires placed { IsCommand subject.now by (walks.around subject.now.script.now around.now) (knowledge_facts subject.now.names.now known.now) command.now }
     ensures numbers { AreNumbersBeside (length subject.now.names.now) (sided_of result) }
+    ensures quiet { subject.now.stated ≡ true → IsQuietBeside (sided_of result) }
     ensures stands { (other : Sheet) → Keeps subject.now other → StandsBeside subject.now.names.now other (sided_of result) }
 {
     let part = Part::Zero;
@@ -197,19 +200,19 @@ fn asked_behind(
     let part = Part::Nonzero;
     let place = Place { part, index };
     let gather = Gather::new(target);
-    let mut sides = Sides {
+    let sides = Sides {
         gather,
         place,
         known: None,
     };
-    tell(subject, certificate, by, around, known, command, &mut sides);
-    sides
+    tell(subject, certificate, by, around, known, command, sides)
 }
 
 // Lowers what is claimed at the first of two places, and what a function may drop, by what was gathered.
 fn lower_first(subject: &Subject<'_>, draft: &mut Draft, sides: &Sides) -> Result<(), AllocError>
     requires ready { IsReady subject.now draft.old.certificate draft.old.probe.count }
     requires numbers { AreNumbersBeside (length subject.now.names.now) (sided_of sides.now) }
+    requires quiet { subject.now.stated ≡ true → IsQuietBeside (sided_of sides.now) }
     requires stands { (other : Sheet) → Keeps subject.now other → StandsBeside subject.now.names.now other (sided_of sides.now) }
     ensures swept { IfOk result (λ unit. IsSwept subject.now draft.old.certificate draft.new.certificate draft.new.probe.count) }
 {
@@ -230,6 +233,7 @@ fn lower_first(subject: &Subject<'_>, draft: &mut Draft, sides: &Sides) -> Resul
 fn lower_second(subject: &Subject<'_>, draft: &mut Draft, sides: &Sides) -> Result<(), AllocError>
     requires ready { IsReady subject.now draft.old.certificate draft.old.probe.count }
     requires numbers { AreNumbersBeside (length subject.now.names.now) (sided_of sides.now) }
+    requires quiet { subject.now.stated ≡ true → IsQuietBeside (sided_of sides.now) }
     requires stands { (other : Sheet) → Keeps subject.now other → StandsBeside subject.now.names.now other (sided_of sides.now) }
     ensures swept { IfOk result (λ unit. IsSwept subject.now draft.old.certificate draft.new.certificate draft.new.probe.count) }
 {

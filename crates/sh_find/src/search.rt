@@ -1,29 +1,27 @@
 //! The search for the greatest certificate.
-ghost use Rattle.std.specs.Prelude.{◌≡◌, ◌≤◌, ℕ, List, Bool, true, length, map, IfOk, OnOk};
+ghost use Rattle.std.specs.Prelude.{◌≡◌, ◌≤◌, ℕ, List, Bool, true, false, length, map, IfOk, OnOk};
 ghost use Rattle.std.specs.List.{list_all};
 ghost use Rattle.std.specs.List.Sorted.{IsNonDecreasingBy, IsPermutation};
 ghost use Rattle.sh_tree.specs.Commands.{commands_of};
 ghost use Rattle.sh_tree.specs.declared.tree.Command.{out-Command};
-ghost use Rattle.sh_tree.specs.standard.program.Trees.{script_of};
 ghost use Rattle.sh_domain.specs.Forms.{is_variable};
-ghost use Rattle.sh_domain.specs.Rules.{script_bounds};
 ghost use Rattle.sh_table.specs.Calls.{table_of};
-ghost use Rattle.sh_domain.specs.Admitted.{IsAdmitted, IsGreatest, functions_in};
+ghost use Rattle.sh_domain.specs.Admitted.{IsAdmitted, IsGreatest};
 ghost use Rattle.sh_domain.specs.Certificates.{in_byte_order, sheet_of};
 ghost use Rattle.sh_find.specs.Next.{IsOfScript};
-ghost use Rattle.sh_find.specs.Sweeps.{IsReady, IsSwept};
-ghost use Rattle.sh_find.specs.Turns.{IsSettled, sheet_by};
+ghost use Rattle.sh_find.specs.Sweeps.{IsReady, IsSettled, IsSwept};
+ghost use Rattle.sh_find.specs.Turns.{sheet_by};
 ghost use Rattle.sh_find.specs.Working.{IsWorking};
-ghost use Rattle.sh_find.specs.Starts.{start_of};
 
-use crate::bodies::{sweep_by_rounds, sweep_waiting};
+use crate::bodies::{sweep_by_rounds, sweep_round, sweep_waiting};
 use crate::draft::Draft;
 use crate::first::unreached;
 use crate::gather::Target;
 use crate::subject::Subject;
 use crate::turn::turn;
 use crate::writable::Writable;
-use sh_domain::{Certificate, Names, Policy};
+use indexmap::IndexMap;
+use sh_domain::{Certificate, Compact, Facts, Names, Policy, Rows};
 use sh_rows::{BitRow, Row};
 use sh_table::CallTable;
 use sh_tree::{Script, commands};
@@ -32,11 +30,13 @@ use std::alloc::{AllocError, Global};
 
 /// How a search sweeps over a script between its turns.
 #[derive(Clone, Copy, Debug, PartialEq, Eq)]
-enum Way {
+pub enum Way {
     /// By rounds over all commands until one lowers nothing.
     ByRounds,
     /// Over the commands that wait, since something that they look at fell.
     ByNeed,
+    /// Once over all commands.
+    Once,
 }
 
 // Sweeps over the commands of a script between two turns.
@@ -47,17 +47,21 @@ fn sweep_so(subject: &Subject<'_>, draft: &mut Draft, way: Way) -> Result<(), Al
     match way {
         Way::ByRounds => sweep_by_rounds(subject, draft),
         Way::ByNeed => sweep_waiting(subject, draft),
+        Way::Once => sweep_round(subject, draft),
     }
 }
 
-// Sweeps over the commands, and takes a turn, until the certificate keeps all flow rules.
-fn settle(subject: &Subject<'_>, draft: &mut Draft, way: Way) -> Result<(), AllocError>
+/// Sweeps over the commands, and takes a turn, until the certificate keeps all flow rules.
+///
+/// # Errors
+///
+/// If a growth was refused or no place for a row is left.
+pub fn settle(subject: &Subject<'_>, draft: &mut Draft, way: Way) -> Result<(), AllocError>
     requires ready { IsReady subject.now draft.old.certificate draft.old.probe.count }
     requires variables { list_all is_variable subject.now.names.now ≡ true }
     requires working { IsOfScript subject.now draft.old.certificate }
     ensures { OnOk result ((loops : List Bool) (functions : ℕ) → IsWorking subject.now.names.now loops functions draft.old.certificate
-        → IsSettled subject.now.names.now loops functions (start_of subject.now) (functions_in subject.now.script.now subject.now.tree.now)
-        (script_bounds (script_of subject.now.script.now subject.now.tree.now)) draft.old.certificate draft.new.certificate) }
+        → IsSettled subject.now loops functions draft.old.certificate draft.new.certificate) }
 {
     let mut target = Target::FIRST;
     let mut kept = false;
@@ -81,6 +85,7 @@ fn settled(alloc: Global, subject: &Subject<'_>, way: Way) -> Result<(Certificat
     requires admitted { IsAdmitted subject.now.script.now subject.now.policy.now subject.now.tree.now subject.now.names.now }
     requires commands { IsPermutation (commands_of subject.now.tree.now) (map (λ c. c.now) subject.now.commands.now) }
     requires ordered { IsNonDecreasingBy (λ c. (out-Command c.now).number) subject.now.commands.now }
+    requires unstated { subject.now.stated ≡ false }
     ensures greatest { IfOk result (λ found. IsGreatest subject.now.script.now subject.now.policy.now subject.now.tree.now subject.now.names.now (sheet_by subject.now.names.now found.0)) }
     ensures sized { IfOk result (λ found. found.0.rows.count ≡ length subject.now.names.now) }
 {
@@ -103,6 +108,17 @@ fn settled(alloc: Global, subject: &Subject<'_>, way: Way) -> Result<(Certificat
     Ok((draft.certificate, looks))
 }
 
+// A compact certificate that states nothing.
+fn nothing(alloc: Global) -> Compact {
+    Compact {
+        commands: 0,
+        start: Facts::NotReached,
+        rows: Rows::new(alloc, 0),
+        heads: IndexMap::new(alloc),
+        functions: Vec::new(alloc),
+    }
+}
+
 // As `settled`, of a script by its parts.
 fn searched(
     alloc: Global,
@@ -120,6 +136,7 @@ fn searched(
 {
     let commands = commands(alloc, tree)?;
     let writable = Writable::of(names);
+    let compact = nothing(alloc);
     let subject = Subject {
         script,
         policy,
@@ -128,6 +145,8 @@ fn searched(
         names,
         commands: &commands,
         writable: &writable,
+        stated: false,
+        compact: &compact,
     };
     settled(alloc, &subject, way)
 }

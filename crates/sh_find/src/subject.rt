@@ -1,11 +1,14 @@
 //! A script of which a certificate is sought.
-ghost use Rattle.std.specs.Prelude.{◌≡◌};
+ghost use Rattle.std.specs.Prelude.{◌≡◌, true};
 ghost use Rattle.sh_tree.specs.declared.limits.TheConstants.{MAX_NAMES};
 ghost use Rattle.sh_table.specs.Calls.{table_of};
+ghost use Rattle.sh_domain.specs.Certificates.{in_byte_order};
+ghost use Rattle.sh_domain.specs.Compacts.{compact_claims};
+ghost use Rattle.sh_domain.specs.Spelling.{is_writable};
 ghost use Rattle.sh_find.specs.Writable.{HasWritable, IsWritten, sets_in};
 
 use crate::writable::Writable;
-use sh_domain::{Names, Policy};
+use sh_domain::{Compact, Names, Policy};
 use sh_table::CallTable;
 use sh_tree::{Command, Script};
 
@@ -21,7 +24,13 @@ pub struct Subject<'a> {
     pub commands: &'a [&'a Command],
     /// The names that a text of its certificates may have.
     pub writable: &'a Writable,
+    /// Whether a compact certificate states what is claimed at the start, at the turns of loops and round functions.
+    /// Then only what is claimed round commands is lowered.
+    pub stated: bool,
+    /// What is stated, if anything is.
+    pub compact: &'a Compact,
     ghost listed: { table.now ≡ table_of script.now tree.now },
+    ghost started: { stated ≡ true → is_writable (compact_claims (in_byte_order names.now) compact.now).start ≡ true },
     ghost written: { IsWritten names.now (sets_in writable.now.vars writable.now.functions) },
     ghost all_writable: { HasWritable names.now MAX_NAMES (sets_in writable.now.vars writable.now.functions) },
 }

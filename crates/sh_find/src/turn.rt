@@ -15,7 +15,8 @@ ghost use Rattle.sh_find.specs.declared.place.Place as place;
 ghost use Rattle.sh_find.specs.Idle.{ClaimStays, IsIdle};
 ghost use Rattle.sh_find.specs.Places.{claim_there};
 ghost use Rattle.sh_find.specs.Next.{IsBroken, IsOfScript};
-ghost use Rattle.sh_find.specs.Turns.{AreNumbers, IsSunk, IsTurn, Stands, gathered_of, sheet_by};
+ghost use Rattle.sh_find.specs.Stated.{asked_bounds};
+ghost use Rattle.sh_find.specs.Turns.{AreNumbers, IsQuiet, IsSunk, IsTurn, Stands, gathered_of, sheet_by};
 ghost use Rattle.sh_find.specs.Working.{IsLowered, IsWorking};
 ghost use Rattle.sh_find.specs.Writable.{IsWritten, sets_in};
 ghost use Rattle.sh_find.specs.Starts.{start_of};
@@ -37,11 +38,12 @@ fn asked(subject: &Subject<'_>, certificate: &Certificate, target: Target) -> Ga
     requires admitted { IsAdmitted subject.now.script.now subject.now.policy.now subject.now.tree.now subject.now.names.now }
     ensures numbers { AreNumbers (length subject.now.names.now) (gathered_of result) }
     ensures rules { result.kept ≡ true → flat_map (broken (start_of subject.now) (claims_in subject.now.script.now subject.now.tree.now (sheet_by subject.now.names.now certificate.now)))
-        (script_bounds (script_of subject.now.script.now subject.now.tree.now)) ≡ [] }
+        (asked_bounds subject.now.stated (script_bounds (script_of subject.now.script.now subject.now.tree.now))) ≡ [] }
     ensures stands { (d : Sheet) → ((o : Option place.Place) → claim_fits subject.now.names.now (claim_there d o) ≡ true)
-        → flat_map (broken (start_of subject.now) (claims_in subject.now.script.now subject.now.tree.now d)) (script_bounds (script_of subject.now.script.now subject.now.tree.now)) ≡ []
+        → flat_map (broken (start_of subject.now) (claims_in subject.now.script.now subject.now.tree.now d)) (asked_bounds subject.now.stated (script_bounds (script_of subject.now.script.now subject.now.tree.now))) ≡ []
         → IsBelow (claims_in subject.now.script.now subject.now.tree.now d) (claims_in subject.now.script.now subject.now.tree.now (sheet_by subject.now.names.now certificate.now))
         → Stands subject.now.names.now d (gathered_of result) }
+    ensures quiet { subject.now.stated ≡ true → IsQuiet (gathered_of result) }
     ensures next { result.kept ≡ false → IsOfScript subject.now certificate.now
         → IsBroken subject.now certificate.now target ⊎ IsBroken subject.now certificate.now result.next }
     ensures idle { list_all is_variable subject.now.names.now ≡ true → IsOfScript subject.now certificate.now
@@ -51,9 +53,13 @@ fn asked(subject: &Subject<'_>, certificate: &Certificate, target: Target) -> Ga
     ask(subject, certificate, gather)
 }
 
-// Lowers the claim of a place where any run comes to it.
+/// Lowers the claim of a place where any run comes to it.
+///
+/// # Errors
+///
+/// Where a growth was refused or no place for a row is left.
 #[tactic(auto, unfolding(crate::specs::Kept::seen_of))]
-fn lower_known(
+pub fn lower_known(
     names: &Names,
     writable: &Writable,
     certificate: &mut Certificate,
@@ -138,7 +144,7 @@ fn lower_next(
     requires probed { probe.old.count ≡ length subject.now.names.now }
     ensures turn { IfOk result (λ next. (loops : List Bool) (functions : ℕ) → IsWorking subject.now.names.now loops functions certificate.old
         → IsTurn subject.now.names.now loops functions (start_of subject.now) (functions_in subject.now.script.now subject.now.tree.now)
-        (script_bounds (script_of subject.now.script.now subject.now.tree.now)) certificate.old certificate.new false) }
+        subject.now.stated (asked_bounds subject.now.stated (script_bounds (script_of subject.now.script.now subject.now.tree.now))) certificate.old certificate.new false) }
     ensures probed { IfOk result (λ next. probe.new.count ≡ length subject.now.names.now) }
 {
     let gather = asked(subject, certificate, target);
@@ -164,7 +170,7 @@ pub fn turn(
     requires probed { probe.old.count ≡ length subject.now.names.now }
     ensures turn { IfOk result (λ kept. (loops : List Bool) (functions : ℕ) → IsWorking subject.now.names.now loops functions certificate.old
         → IsTurn subject.now.names.now loops functions (start_of subject.now) (functions_in subject.now.script.now subject.now.tree.now)
-        (script_bounds (script_of subject.now.script.now subject.now.tree.now)) certificate.old certificate.new kept) }
+        subject.now.stated (asked_bounds subject.now.stated (script_bounds (script_of subject.now.script.now subject.now.tree.now))) certificate.old certificate.new kept) }
     ensures probed { IfOk result (λ kept. probe.new.count ≡ length subject.now.names.now) }
 {
     let gather = asked(subject, certificate, *target);

@@ -1,5 +1,5 @@
 //! The check of a certificate against a script: the flow rules first, then the demands. What a certificate that passes is good
-//! for in the runs of the script stands in `laws`.
+//! for in the runs of the script stands in `laws`. A compact certificate is filled, and then checked as any other.
 #![tactic(auto)]
 
 mod flow;
@@ -7,3 +7,4 @@ pub mod laws;
 
 pub use flow::{Flow, check_flow};
 pub use sh_domain::FlowRule;
+pub use sh_find::fill;

@@ -1,5 +1,5 @@
 -- From clap's facts on a parse to what a line says.
-use Rattle.std.proofs.Common.{◌≡◌, ◌∙◌, ◌⊎◌, ℕ, false, true, true≢false, refl, sym, ap, codes, subst, List, [], Option, Some, None, inl, inr}
+use Rattle.std.proofs.Common.{◌≡◌, ◌∙◌, ◌⊎◌, ℕ, Bool, false, true, true≢false, refl, sym, ap, codes, subst, List, [], Option, Some, None, inl, inr}
 use Rattle.std.specs.Prelude.{IsSome, option_map}
 use Rattle.std.specs.Str.{bytes_eq}
 use Rattle.clap.specs.Words.{IsAmong, Row, Text, fault_of, first_of, first_value, is_simple, is_simple_and_free, rows_of, subcommand_of}
@@ -18,7 +18,7 @@ use Rattle.sh_line.specs.declared.line.Stop.{Stop}
 use Rattle.sh_line.specs.declared.line.Stop.TheVariants.{Usage, Help, BadName, Memory}
 use Rattle.sh_answers.specs.declared.task.Action.{Action}
 use Rattle.sh_answers.specs.declared.task.Action.TheVariants.{Lint, Cert, Check, Print}
-use Rattle.sh_line.proofs.LineWholeLemmas.{certificate_found, checking, checking_counts, checking_reads, file_found, found_passes, number_found, printing, printing_reads, reading, reading_counts, reading_reads}
+use Rattle.sh_line.proofs.LineWholeLemmas.{certificate_found, certifying, certifying_counts, certifying_reads, checking, checking_counts, checking_reads, file_found, found_passes, number_found, printing, printing_reads, reading, reading_counts, reading_reads}
 
 -- clap's clauses say what the program's command line takes
 pub is_simple-shset : is_simple shset_app ≡ true
@@ -58,7 +58,7 @@ lint_whole words passes =
   where
     cert : (a : Action) → action_name Lint ≡ action_name a → HasCertificate a (rows_after (reading (action_name Lint)).rules [] words)
     cert Lint e = tt
-    cert Cert e = tt
+    cert (Cert full) e = tt
     cert Check e = cc
     cert Print e = tt
 
@@ -67,32 +67,32 @@ lint_whole words passes =
 
     args : (a : Action) → action_name Lint ≡ action_name a → HasNumber a (rows_after (reading (action_name Lint)).rules [] words)
     args Lint e = number
-    args Cert e = number
+    args (Cert full) e = number
     args Check e = number
     args Print e = tt
 
-cert_whole : (words : List Text) → level_fault (reading (action_name Cert)) [] nothing_held words false [] ≡ []
-    → IsWhole (action_name Cert) (rows_after (reading (action_name Cert)).rules [] words)
+cert_whole : (words : List Text) → level_fault certifying [] nothing_held words false [] ≡ []
+    → IsWhole (codes "cert") (rows_after certifying.rules [] words)
 cert_whole words passes =
     record {
-      action = (Cert, refl);
-      file = file_found (reading (action_name Cert)) (reading_reads (action_name Cert)) words passes;
+      action = (Cert false, refl);
+      file = file_found certifying certifying_reads words passes;
       cert = cert;
       args = args;
     }
   where
-    cert : (a : Action) → action_name Cert ≡ action_name a → HasCertificate a (rows_after (reading (action_name Cert)).rules [] words)
+    cert : (a : Action) → codes "cert" ≡ action_name a → HasCertificate a (rows_after certifying.rules [] words)
     cert Lint e = tt
-    cert Cert e = tt
+    cert (Cert full) e = tt
     cert Check e = cc
     cert Print e = tt
 
-    number : GivesNumber (rows_after (reading (action_name Cert)).rules [] words)
-    number = number_found (reading (action_name Cert)) (reading_reads (action_name Cert)) words passes (reading_counts (action_name Cert))
+    number : GivesNumber (rows_after certifying.rules [] words)
+    number = number_found certifying certifying_reads words passes certifying_counts
 
-    args : (a : Action) → action_name Cert ≡ action_name a → HasNumber a (rows_after (reading (action_name Cert)).rules [] words)
+    args : (a : Action) → codes "cert" ≡ action_name a → HasNumber a (rows_after certifying.rules [] words)
     args Lint e = number
-    args Cert e = number
+    args (Cert full) e = number
     args Check e = number
     args Print e = tt
 
@@ -108,7 +108,7 @@ check_whole words passes =
   where
     cert : (a : Action) → action_name Check ≡ action_name a → HasCertificate a (rows_after checking.rules [] words)
     cert Lint e = tt
-    cert Cert e = tt
+    cert (Cert full) e = tt
     cert Check e = certificate_found words passes
     cert Print e = tt
 
@@ -117,7 +117,7 @@ check_whole words passes =
 
     args : (a : Action) → action_name Check ≡ action_name a → HasNumber a (rows_after checking.rules [] words)
     args Lint e = number
-    args Cert e = number
+    args (Cert full) e = number
     args Check e = number
     args Print e = tt
 
@@ -137,13 +137,13 @@ print_whole words passes =
   where
     cert : (a : Action) → action_name Print ≡ action_name a → HasCertificate a (rows_after printing.rules [] words)
     cert Lint e = tt
-    cert Cert e = tt
+    cert (Cert full) e = tt
     cert Check e = absurd (not_printed (codes "check") refl e)
     cert Print e = tt
 
     args : (a : Action) → action_name Print ≡ action_name a → HasNumber a (rows_after printing.rules [] words)
     args Lint e = absurd (not_printed (codes "lint") refl e)
-    args Cert e = absurd (not_printed (codes "cert") refl e)
+    args (Cert full) e = absurd (not_printed (codes "cert") refl e)
     args Check e = absurd (not_printed (codes "check") refl e)
     args Print e = tt
 
@@ -157,7 +157,7 @@ module _ (name : Text) (rows : List Row) (file : Text) where
   pub two_inputs : (a : Action) (script : Source) (cert : Option Source) → name ≡ action_name a → first_of (codes "FILE") rows ≡ Some file
       → IsSourceOf file script → IsCertificateOf a rows cert → (script ≡ Input) × (cert ≡ Some Input) → HasTwoInputs name rows
   two_inputs Lint Input (Some Input) is given named other both = absurd other
-  two_inputs Cert Input (Some Input) is given named other both = absurd other
+  two_inputs (Cert full) Input (Some Input) is given named other both = absurd other
   two_inputs Print Input (Some Input) is given named other both = absurd other
   two_inputs Check Input (Some Input) is given named other both = (is, given ∙ ap Some named, other.1 ∙ ap Some other.2)
   two_inputs a Input None is given named other both = cc
@@ -170,7 +170,7 @@ module _ (name : Text) (rows : List Row) (file : Text) where
       let same : Some file ≡ Some (codes "-") = sym given ∙ two.1 in
       named.0 cc
   not_two Lint Input cert is given named other apart two = cc
-  not_two Cert Input cert is given named other apart two = cc
+  not_two (Cert full) Input cert is given named other apart two = cc
   not_two Print Input cert is given named other apart two = not_printed (codes "check") refl (sym is ∙ two.0)
   not_two Check Input None is given named other apart two = other
   not_two Check Input (Some Input) is given named other apart two = apart
@@ -191,22 +191,22 @@ no_certificate f some none = no_file f (codes "CERT") some none
 
 -- the actions that have one
 abbrev pub Counts : Action → Type 0
-Counts a = (a ≡ Lint) ⊎ ((a ≡ Cert) ⊎ (a ≡ Check))
+Counts a = (a ≡ Lint) ⊎ (((full : Bool) × (a ≡ Cert full)) ⊎ (a ≡ Check))
 
 not_print : (a : Action) → Counts a → a ≡ Print → ⊥
 not_print a (inl e) is = let same : Lint ≡ Print = sym e ∙ is in cc
-not_print a (inr (inl e)) is = let same : Cert ≡ Print = sym e ∙ is in cc
+not_print a (inr (inl e)) is = let same : Cert e.0 ≡ Print = sym e.1 ∙ is in cc
 not_print a (inr (inr e)) is = let same : Check ≡ Print = sym e ∙ is in cc
 
 pub number_given : (a : Action) (rows : List Row) → Counts a → HasNumber a rows → GivesNumber rows
 number_given Lint rows other has = has
-number_given Cert rows other has = has
+number_given (Cert full) rows other has = has
 number_given Check rows other has = has
 number_given Print rows other has = absurd (not_print Print other refl)
 
 pub number_is : (a : Action) (rows : List Row) (n : ℕ) → Counts a → IsGivenNumber rows n → IsNumberOf a rows n
 number_is Lint rows n other is = is
-number_is Cert rows n other is = is
+number_is (Cert full) rows n other is = is
 number_is Check rows n other is = is
 number_is Print rows n other is = absurd (not_print Print other refl)
 

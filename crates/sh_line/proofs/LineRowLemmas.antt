@@ -45,9 +45,9 @@ pub record Good (F : Text → Reading → Text → Type 0) (r : Row) : Type 0 wh
   pub is : slice_get r.values 0 ≡ Some first
   pub fits : F r.id r.reading first
 
--- a use of the argument has a value, or asks for help, and a value that passes fits
+-- a use of the argument has a value, or asks for help, or stands for one that fits; and a value that passes fits
 pub record Sound (F : Text → Reading → Text → Type 0) (a : Rule) : Type 0 where
-  pub takes : (0 < (unwrap_or_range a.range).start_inclusive) ⊎ (action_of a ≡ action.Help)
+  pub takes : (0 < (unwrap_or_range a.range).start_inclusive) ⊎ ((action_of a ≡ action.Help) ⊎ ((v : Text) × (vs : List Text) × (values_or_missing a [] ≡ v ∷ vs) × F a.id (reading_by a) v))
   pub fits : (v : Text) → value_kinds a.ignore_case (parser_of_value a.parser) v ≡ [] → F a.id (reading_by a) v
 
 abbrev pub AllGood : (Text → Reading → Text → Type 0) → List Row → Type 0
@@ -121,7 +121,8 @@ module _ (F : Text → Reading → Text → Type 0) where
       → AllGood F rows → AllGood F (used a values rows)
   used-good again a [] rows s e g = elim s.takes [
     | inl some ↦ absurd (no_values _ _ some (both_pass _ _ e).0)
-    | inr help ↦ subst (λ x. AllGood F (used_as x a.id (reading_by a) (values_or_missing a []) rows)) (sym help) g
+    | inr (inl help) ↦ subst (λ x. AllGood F (used_as x a.id (reading_by a) (values_or_missing a []) rows)) (sym help) g
+    | inr (inr flag) ↦ subst (λ vs. AllGood F (used_as (action_of a) a.id (reading_by a) vs rows)) (sym flag.2) (used_as-good (action_of a) a.id (reading_by a) flag.0 flag.1 rows flag.3 g)
   ]
   used-good again a (v ∷ vs) rows s e g =
       let passes = action_values (action_of a) again a v vs rows (both_pass _ _ e).1 in

@@ -17,7 +17,7 @@ use Rattle.clap.specs.declared.builder.value_parser.ValueParser.{ValueParser}
 use Rattle.clap.specs.declared.builder.value_parser.ValueParser.TheVariants.{Signed}
 use Rattle.clap.specs.declared.error.kind.ErrorKind.TheVariants as kind
 use Rattle.clap.proofs.ValueTestLemmas.{accepts-Accepts}
-use Rattle.sh_line.specs.App.{args_rule, checking_app, printing_app, reading_app, shset_app}
+use Rattle.sh_line.specs.App.{args_rule, certifying_app, checking_app, printing_app, reading_app, shset_app}
 use Rattle.sh_line.specs.Line.{GivesNumber}
 use Rattle.sh_line.proofs.LineRowLemmas.{AllGood, AllSound, Sound, default_row, given_row, level-good, level_checks, row_found}
 
@@ -45,6 +45,10 @@ Fits id how v = bytes_eq id (codes "args") ≡ true → (how ≡ WithoutMinus) �
 -- a check, as it is built
 abbrev pub checking : Shape
 checking = built_leaf (inherited above (checking_app (codes "check")).top)
+
+-- a certificate that is shown, as it is built
+abbrev pub certifying : Shape
+certifying = built_leaf (inherited above (certifying_app (codes "cert")).top)
 
 -- a print, as it is built
 abbrev pub printing : Shape
@@ -85,7 +89,7 @@ reading_reads name =
     record {
       sound = (
         args_sound,
-        (record { takes = inl (omega arith); fits = λ v e is. cc }, (record { takes = inl (omega arith); fits = λ v e is. cc }, (record { takes = inr refl; fits = λ v e is. cc }, tt))),
+        (record { takes = inl (omega arith); fits = λ v e is. cc }, (record { takes = inl (omega arith); fits = λ v e is. cc }, (record { takes = inr (inl refl); fits = λ v e is. cc }, tt))),
       );
       file = λ rows e. one_given (is_given (codes "FILE") rows) e;
     }
@@ -93,10 +97,26 @@ reading_reads name =
 pub reading_counts : (name : Text) → Counts (reading name)
 reading_counts name = record { later = drop 1 (reading name).rules; first = refl }
 
+pub certifying_reads : Reads certifying
+certifying_reads =
+    record {
+      sound = (
+        args_sound,
+        (
+          record { takes = inr (inr (codes "true", [], refl, λ is. cc)); fits = λ v e is. cc },
+          (record { takes = inl (omega arith); fits = λ v e is. cc }, (record { takes = inl (omega arith); fits = λ v e is. cc }, (record { takes = inr (inl refl); fits = λ v e is. cc }, tt))),
+        ),
+      );
+      file = λ rows e. one_given (is_given (codes "FILE") rows) e;
+    }
+
+pub certifying_counts : Counts certifying
+certifying_counts = record { later = drop 1 certifying.rules; first = refl }
+
 pub printing_reads : Reads printing
 printing_reads =
     record {
-      sound = (record { takes = inl (omega arith); fits = λ v e is. cc }, (record { takes = inr refl; fits = λ v e is. cc }, tt));
+      sound = (record { takes = inl (omega arith); fits = λ v e is. cc }, (record { takes = inr (inl refl); fits = λ v e is. cc }, tt));
       file = λ rows e. one_given (is_given (codes "FILE") rows) e;
     }
 
@@ -110,7 +130,7 @@ checking_reads =
         args_sound,
         (
           record { takes = inl (omega arith); fits = λ v e is. cc },
-          (record { takes = inl (omega arith); fits = λ v e is. cc }, (record { takes = inl (omega arith); fits = λ v e is. cc }, (record { takes = inr refl; fits = λ v e is. cc }, tt))),
+          (record { takes = inl (omega arith); fits = λ v e is. cc }, (record { takes = inl (omega arith); fits = λ v e is. cc }, (record { takes = inr (inl refl); fits = λ v e is. cc }, tt))),
         ),
       );
       file = λ rows e. (certificate_given rows e).0;

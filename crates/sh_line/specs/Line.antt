@@ -1,6 +1,6 @@
 -- What a command line asks for, by what clap found in its words, and why there is none.
 -- POSIX.1-2024, XBD 12.2 (utility syntax guidelines: `-` is standard input); a name is as in XBD 3.216.
-use Rattle.std.specs.Prelude.{◌≡◌, ◌≢◌, ◌⊎◌, ⊤, ℕ, List, [], Option, Some, None, IsSome, Ok, codes, pos, string_bytes, unwrap_or}
+use Rattle.std.specs.Prelude.{◌≡◌, ◌≢◌, ◌⊎◌, ⊤, ℕ, Bool, true, false, List, [], Option, Some, None, IsSome, Ok, codes, pos, string_bytes, unwrap_or}
 use Rattle.std.specs.Str.Parse.{ParsesUnsigned}
 use Rattle.std.specs.declared.num.ParseIntError.{ParseIntError}
 use Rattle.clap.specs.Lexer.{without_minus}
@@ -24,7 +24,7 @@ use Rattle.sh_answers.specs.declared.task.Action.TheVariants.{Lint, Cert, Check,
 -- the subcommand that asks for the action
 abbrev pub action_name : Action → Text
 action_name Lint = codes "lint"
-action_name Cert = codes "cert"
+action_name (Cert full) = codes "cert"
 action_name Check = codes "check"
 action_name Print = codes "print"
 
@@ -37,8 +37,8 @@ IsSourceOf text (File name) = (text ≢ codes "-") × (name.now ≡ text)
 abbrev pub IsCertificateOf : Action → List Row → Option Source → Type 0
 IsCertificateOf Lint rows None = ⊤
 IsCertificateOf Lint rows (Some s) = ⊥
-IsCertificateOf Cert rows None = ⊤
-IsCertificateOf Cert rows (Some s) = ⊥
+IsCertificateOf (Cert full) rows None = ⊤
+IsCertificateOf (Cert full) rows (Some s) = ⊥
 IsCertificateOf Print rows None = ⊤
 IsCertificateOf Print rows (Some s) = ⊥
 IsCertificateOf Check rows None = ⊥
@@ -47,7 +47,7 @@ IsCertificateOf Check rows (Some s) = (t : Text) × (first_of (codes "CERT") row
 -- there is one for a check
 abbrev pub HasCertificate : Action → List Row → Type 0
 HasCertificate Lint rows = ⊤
-HasCertificate Cert rows = ⊤
+HasCertificate (Cert full) rows = ⊤
 HasCertificate Print rows = ⊤
 HasCertificate Check rows = IsSome (first_of (codes "CERT") rows)
 
@@ -72,9 +72,22 @@ IsGivenNumber rows n = (t : Text) × (one_of (codes "args") rows ≡ Some t) × 
 -- how many positional parameters are set; no number is declared for a script that is only printed
 abbrev pub IsNumberOf : Action → List Row → ℕ → Type 0
 IsNumberOf Lint rows n = IsGivenNumber rows n
-IsNumberOf Cert rows n = IsGivenNumber rows n
+IsNumberOf (Cert full) rows n = IsGivenNumber rows n
 IsNumberOf Check rows n = IsGivenNumber rows n
 IsNumberOf Print rows n = n ≡ 0
+
+-- whether the flag is among the words, by what clap found
+pub record IsFull (rows : List Row) (full : Bool) : Type 0 where
+  pub given : one_of (codes "full") rows ≡ Some (codes "true") → full ≡ true
+  pub by_default : one_of (codes "full") rows ≡ Some (codes "false") → full ≡ false
+  pub none : one_of (codes "full") rows ≡ None → full ≡ false
+
+-- only a certificate is shown in full
+abbrev pub IsShownAs : Action → List Row → Type 0
+IsShownAs Lint rows = ⊤
+IsShownAs (Cert full) rows = IsFull rows full
+IsShownAs Check rows = ⊤
+IsShownAs Print rows = ⊤
 
 -- the policy says what clap found
 pub record IsPolicyOf (action : Action) (rows : List Row) (p : Declared) : Type 0 where
@@ -85,6 +98,7 @@ pub record IsPolicyOf (action : Action) (rows : List Row) (p : Declared) : Type 
 -- the line says what clap found for the subcommand of this name
 pub record IsLineOf (name : Text) (rows : List Row) (l : Line) : Type 0 where
   pub action : name ≡ action_name l.task.action
+  pub shown : IsShownAs l.task.action rows
   pub script : (t : Text) × (first_of (codes "FILE") rows ≡ Some t) × IsSourceOf t l.script
   pub cert : IsCertificateOf l.task.action rows l.cert
   pub apart : AreApart l.script l.cert
@@ -97,7 +111,7 @@ GivesNumber rows = (t : Text) × (one_of (codes "args") rows ≡ Some (without_m
 -- there is one for each action but that which only prints
 abbrev pub HasNumber : Action → List Row → Type 0
 HasNumber Lint rows = GivesNumber rows
-HasNumber Cert rows = GivesNumber rows
+HasNumber (Cert full) rows = GivesNumber rows
 HasNumber Check rows = GivesNumber rows
 HasNumber Print rows = ⊤
 

@@ -2,8 +2,8 @@
 ghost use Rattle.std.specs.Prelude.{◌≡◌, IfOk, IfErr, Some, [], codes, false, true, map, List};
 ghost use Rattle.clap.specs.Words.{Row, Text, app_of, fault_of, found_of, kind_of, rows_of, rule_of, subcommand_of};
 ghost use Rattle.clap.specs.declared.builder.command.Command.TheViews.{out-Command};
-ghost use Rattle.sh_line.specs.App.{args_rule, checking_app, file_rule, name_rule, printing_app, reading_app, shset_app};
-ghost use Rattle.sh_line.specs.Line.{AreApart, HasCertificate, HasNumber, IsCertificateOf, IsLineOf, IsNumberOf, IsPolicyOf, IsSourceOf, IsWhole, StopsAs, StopsAt, StopsPolicy, StopsRead, action_name, declared_texts, fault_stop};
+ghost use Rattle.sh_line.specs.App.{args_rule, certifying_app, checking_app, file_rule, full_rule, name_rule, printing_app, reading_app, shset_app};
+ghost use Rattle.sh_line.specs.Line.{AreApart, HasCertificate, HasNumber, IsCertificateOf, IsLineOf, IsNumberOf, IsPolicyOf, IsShownAs, IsSourceOf, IsWhole, StopsAs, StopsAt, StopsPolicy, StopsRead, action_name, declared_texts, fault_stop};
 ghost use Rattle.sh_line.specs.declared.line.Source.TheVariants.{Input};
 
 use clap::error::ErrorKind;
@@ -33,6 +33,7 @@ Examples:
   shset lint deploy.sh HOME PATH   HOME and PATH are set when the script starts
   shset lint --args 2 copy.sh      the script always gets two operands, or more
   shset cert x.sh >x.cert && shset check x.sh x.cert
+  shset cert --full x.sh           what is set before and after each command too
 
 One call reads one script: 'shset lint a.sh b' takes b for the name of a variable.";
 
@@ -111,6 +112,16 @@ fn args_arg<'a>(alloc: Global) -> Arg<'a>
         .help("How many positional parameters are set at least when the script starts")
 }
 
+fn full_arg<'a>(alloc: Global) -> Arg<'a>
+    ensures rule { rule_of result ≡ full_rule }
+    ensures local { result.global ≡ false }
+{
+    Arg::new(alloc, "full")
+        .long("full")
+        .action(ArgAction::SetTrue)
+        .help("Prints what is claimed round each command too")
+}
+
 fn file_arg<'a>(alloc: Global) -> Arg<'a>
     ensures rule { rule_of result ≡ file_rule (codes "FILE") }
     ensures local { result.global ≡ false }
@@ -171,6 +182,23 @@ fn checking_command<'a>(
         .arg(name_arg(alloc))
 }
 
+fn certifying_command<'a>(
+    alloc: Global,
+    name: &'a str,
+    about: &'a str,
+) -> Result<Command<'a>, AllocError>
+    ensures app { IfOk result (λ c. app_of c ≡ certifying_app name.entry.now) }
+    ensures local { IfOk result (λ c. (out-Command c).has_globals ≡ false) }
+{
+    Command::new(alloc, name)
+        .about(about)
+        .after_help(AFTER_SUBCOMMAND)
+        .arg(args_arg(alloc))?
+        .arg(full_arg(alloc))?
+        .arg(file_arg(alloc))?
+        .arg(name_arg(alloc))
+}
+
 fn printing_command<'a>(
     alloc: Global,
     name: &'a str,
@@ -190,10 +218,10 @@ fn shset_command<'a>(alloc: Global) -> Result<Command<'a>, AllocError>
         "lint",
         "Prints what is wrong with a script, or that it is clean",
     )?;
-    let cert = reading_command(
+    let cert = certifying_command(
         alloc,
         "cert",
-        "Prints what is surely set at each place of a script, as a certificate",
+        "Prints what is surely set at the start, in loops and round functions, as a certificate",
     )?;
     let check = checking_command(
         alloc,
@@ -234,16 +262,27 @@ fn stop_of(alloc: Global, error: Error) -> Stop
     }
 }
 
-fn action_of(name: &str) -> Action
+fn action_of(name: &str, sub: &ArgMatches<'_>) -> Action
     requires { (a : Action) × (name.now ≡ action_name a) }
-    ensures { name.now ≡ action_name result }
+    ensures name { name.now ≡ action_name result }
+    ensures shown { IsShownAs result (rows_of (found_of sub.now)) }
 {
     match name {
         "lint" => Action::Lint,
-        "cert" => Action::Cert,
+        "cert" => certifying(sub),
         "check" => Action::Check,
         "print" => Action::Print,
         _ => unreachable!(),
+    }
+}
+
+// A certificate is shown, in full if the flag is among the words.
+fn certifying(sub: &ArgMatches<'_>) -> Action
+    ensures name { codes "cert" ≡ action_name result }
+    ensures shown { IsShownAs result (rows_of (found_of sub.now)) }
+{
+    Action::Cert {
+        full: sub.get_flag("full"),
     }
 }
 
@@ -263,7 +302,7 @@ fn certificate_of<'a>(action: Action, sub: &ArgMatches<'a>) -> Option<Source<'a>
     ensures { IsCertificateOf action (rows_of (found_of sub.now)) result }
 {
     match action {
-        Action::Lint | Action::Cert | Action::Print => None,
+        Action::Lint | Action::Cert { .. } | Action::Print => None,
         Action::Check => {
             let Some(file) = sub.get_str("CERT") else {
                 unreachable!()
@@ -306,7 +345,7 @@ fn args_of(action: Action, sub: &ArgMatches<'_>) -> u16
 {
     match action {
         Action::Print => 0,
-        Action::Lint | Action::Cert | Action::Check => {
+        Action::Lint | Action::Cert { .. } | Action::Check => {
             let Some(args) = sub.get_one::<u16>("args") else {
                 unreachable!()
             };
@@ -334,7 +373,7 @@ fn read_line<'a>(alloc: Global, name: &str, sub: &ArgMatches<'a>) -> Result<Line
     let Some(file) = sub.get_str("FILE") else {
         unreachable!()
     };
-    let action = action_of(name);
+    let action = action_of(name, sub);
     let script = source_of(file);
     let cert = certificate_of(action, sub);
     if are_both_input(script, cert) {
@@ -348,7 +387,7 @@ fn read_line<'a>(alloc: Global, name: &str, sub: &ArgMatches<'a>) -> Result<Line
     })
 }
 
-/// Reads the words of a command line, the program's name first: `lint [--args N] FILE [NAME..]`, `cert` with the same words, or
+/// Reads the words of a command line, the program's name first: `lint [--args N] FILE [NAME..]`, `cert [--args N] [--full] FILE [NAME..]`, or
 /// `check [--args N] FILE CERT [NAME..]`. N is 0 to 65535, and 0 where it is not given; FILE or CERT `-` is standard input; each NAME is a variable that is set
 /// when the script starts.
 ///

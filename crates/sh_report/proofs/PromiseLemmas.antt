@@ -1,5 +1,5 @@
 -- A pass promises that the script is safe, and so does an exit status of zero.
-use Rattle.std.proofs.Common.{◌≡◌, ℕ, true, List, Result, Ok, Err, refl, sym, ◌∙◌, subst}
+use Rattle.std.proofs.Common.{◌≡◌, ℕ, Bool, true, List, Result, Ok, Err, refl, sym, ◌∙◌, subst}
 use Rattle.std.specs.List.{list_all}
 use Rattle.sh_tree.specs.declared.refusal.Refusal.{Refusal}
 use Rattle.sh_tree.specs.declared.refusal.Refusal.TheVariants.{TooLong, NulByte, Syntax, LeftOut, TooDeep, TooMany, Memory, Profile, CertSyntax, CertShape}
@@ -40,8 +40,8 @@ zero_is_pass (Err CertShape) e = cc
 
 -- what is told with zero promises so
 pub told_safe : (a : Action) (b certificate : List ℕ) (d : Declared) (text : List ℕ) (status : ℕ) → list_all is_name d.names ≡ true → Tells a b certificate d text status
-    → (a ≡ Cert → ⊥) → (a ≡ Print → ⊥) → status ≡ 0 → IsSafe b d
+    → ((full : Bool) → a ≡ Cert full → ⊥) → (a ≡ Print → ⊥) → status ≡ 0 → IsSafe b d
 told_safe Lint b certificate d text status names tells shown printed is = linted b d tells.answer names tells.answers (zero_is_pass tells.answer (sym tells.status_is ∙ is))
-told_safe Cert b certificate d text status names tells shown printed is = absurd (shown refl)
+told_safe (Cert full) b certificate d text status names tells shown printed is = absurd (shown full refl)
 told_safe Check b certificate d text status names tells shown printed is = checked b d certificate tells.answer names tells.answers (zero_is_pass tells.answer (sym tells.status_is ∙ is))
 told_safe Print b certificate d text status names tells shown printed is = absurd (printed refl)

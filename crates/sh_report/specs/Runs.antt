@@ -18,7 +18,7 @@ certificate_read = 67108865
 -- the certificate's text, of which at most so many bytes are asked for, where the action reads one
 abbrev pub HadText : Action → Option (List ℕ) → ℕ → List ℕ → Type 0
 HadText Lint bytes limit text = text ≡ []
-HadText Cert bytes limit text = text ≡ []
+HadText (Cert full) bytes limit text = text ≡ []
 HadText Check bytes limit text = Had bytes limit text
 HadText Print bytes limit text = text ≡ []
 

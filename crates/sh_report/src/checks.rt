@@ -80,7 +80,7 @@ fn check_prepared(
     requires { IsPrepared script.now policy.now prepared.now }
     ensures { Checks script.now policy.now text.now result }
 {
-    let certificate = certified(alloc, prepared, text)?;
+    let certificate = certified(alloc, script, policy, prepared, text)?;
     let verdict = judged(alloc, script, policy, prepared, &certificate)?;
     Ok(verdict)
 }

@@ -87,7 +87,7 @@ fn read_certificate<C: Feed>(alloc: Global, action: Action, cert: &mut C) -> Res
     ensures written { IsErrOf result Fault.Write → ⊥ }
 {
     match action {
-        Action::Lint | Action::Cert | Action::Print => Ok(Vec::new(alloc)),
+        Action::Lint | Action::Cert { .. } | Action::Print => Ok(Vec::new(alloc)),
         Action::Check => read_all(alloc, cert, CERTIFICATE_READ),
     }
 }
@@ -141,7 +141,9 @@ fn answer_of(alloc: Global, task: &Task, script: &[u8], text: &[u8]) -> Result<A
     let policy = &task.policy;
     match task.action {
         Action::Lint => Answer::of_verdict(alloc, script, &lint(alloc, script, policy)),
-        Action::Cert => Answer::of_text(alloc, script, certificate(alloc, script, policy)),
+        Action::Cert { full } => {
+            Answer::of_text(alloc, script, certificate(alloc, script, policy, full))
+        }
         Action::Check => Answer::of_verdict(alloc, script, &check(alloc, script, policy, text)),
         Action::Print => Answer::of_text(alloc, script, canonical_text(alloc, script)),
     }

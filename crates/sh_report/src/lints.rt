@@ -1,16 +1,18 @@
 //! What is answered of a script without a certificate, and which certificate is shown.
-ghost use Rattle.std.specs.Prelude.{◌≡◌, Ok, IfOk, length};
+ghost use Rattle.std.specs.Prelude.{◌≡◌, true, false, Ok, IfOk, length};
 ghost use Rattle.sh_answers.specs.declared.verdict.Verdict.TheVariants as verdicts;
 ghost use Rattle.sh_accept.specs.Answers.{Certifies, Lints};
 ghost use Rattle.sh_domain.specs.Admitted.{IsGreatest};
 ghost use Rattle.sh_accept.specs.Theorem.{IsSafe};
-ghost use Rattle.sh_report.specs.Prepared.{IsPrepared, sheet_in};
+ghost use Rattle.sh_report.specs.Prepared.{IsPrepared, StatesGreatest, sheet_in};
 
 use crate::checks::judged;
 use crate::prepared::{Prepared, prepare};
 use sh_answers::Verdict;
-use sh_domain::{Certificate, Policy};
-use sh_facts::{is_too_long, write_certificate};
+use sh_domain::{Certificate, Compact, Policy};
+use sh_facts::{
+    compact_of, is_compact_too_long, is_too_long, start_of, write_certificate, write_compact,
+};
 use sh_find::find;
 use sh_tree::Refusal;
 use std::alloc::{AllocError, Global};
@@ -68,16 +70,17 @@ pub fn lint(alloc: Global, script: &[u8], policy: &Policy) -> Result<Verdict, Re
     Ok(verdict)
 }
 
-// The text of the greatest certificate of a script that is admitted, if it is no longer than a text may be. It is counted before it is made.
+// The full text of the greatest certificate of a script that is admitted, if it is no longer than a
+// text may be. It is counted before it is made.
 #[tactic(auto, using(crate::proofs::LintLemmas::uncertified))]
-fn certificate_prepared(
+fn full_text(
     alloc: Global,
     script: &[u8],
     policy: &Policy,
     prepared: &Prepared,
 ) -> Result<Vec<u8>, Refusal>
     requires { IsPrepared script.now policy.now prepared.now }
-    ensures { Certifies script.now policy.now result }
+    ensures { Certifies true script.now policy.now result }
 {
     let certificate = greatest(alloc, script, policy, prepared)?;
     if is_too_long(&certificate, &prepared.names) {
@@ -87,15 +90,61 @@ fn certificate_prepared(
     Ok(text)
 }
 
-/// The text of the greatest certificate of a script, whether it passes or not.
+// The compact form of the greatest certificate of a script that is admitted.
+fn greatest_compact(
+    alloc: Global,
+    script: &[u8],
+    policy: &Policy,
+    prepared: &Prepared,
+) -> Result<Compact, AllocError>
+    requires { IsPrepared script.now policy.now prepared.now }
+    ensures { IfOk result (StatesGreatest script.now policy.now prepared.now) }
+{
+    // As in `check`. The clause of `args` says that a `u16` holds their number.
+    let _declared = policy.names();
+    let _args = policy.args();
+    let certificate = greatest(alloc, script, policy, prepared)?;
+    let start = start_of(&prepared.names, policy);
+    compact_of(alloc, &certificate, &start)
+}
+
+// As `full_text`, of the compact form.
+#[tactic(auto, using(crate::proofs::LintLemmas::uncertified))]
+fn compact_text(
+    alloc: Global,
+    script: &[u8],
+    policy: &Policy,
+    prepared: &Prepared,
+) -> Result<Vec<u8>, Refusal>
+    requires { IsPrepared script.now policy.now prepared.now }
+    ensures { Certifies false script.now policy.now result }
+{
+    let compact = greatest_compact(alloc, script, policy, prepared)?;
+    if is_compact_too_long(&compact, &prepared.names) {
+        return Err(Refusal::CertSyntax(0));
+    }
+    let text = write_compact(alloc, &compact, &prepared.names)?;
+    Ok(text)
+}
+
+/// The text of the greatest certificate of a script, whether it passes or not: the full one, or that
+/// of its compact form.
 ///
 /// # Errors
 ///
-/// As `lint`; and `CertSyntax` with 0 where the text would be longer than `MAX_CERTIFICATE`.
+/// As `lint`; and `CertSyntax` with 0 if the text would be longer than `MAX_CERTIFICATE`.
 #[tactic(auto, using(crate::proofs::RefusalLemmas::widened))]
-pub fn certificate(alloc: Global, script: &[u8], policy: &Policy) -> Result<Vec<u8>, Refusal>
-    ensures { Certifies script.now policy.now result }
+pub fn certificate(
+    alloc: Global,
+    script: &[u8],
+    policy: &Policy,
+    full: bool,
+) -> Result<Vec<u8>, Refusal>
+    ensures { Certifies full script.now policy.now result }
 {
     let prepared = prepare(alloc, script, policy)?;
-    certificate_prepared(alloc, script, policy, &prepared)
+    if full {
+        return full_text(alloc, script, policy, &prepared);
+    }
+    compact_text(alloc, script, policy, &prepared)
 }

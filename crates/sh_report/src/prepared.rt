@@ -1,18 +1,20 @@
 //! Scripts that are admitted, and their certificates.
-ghost use Rattle.std.specs.Prelude.{◌≡◌, ℕ, List, Ok, IfErr, IfOk, length};
+ghost use Rattle.std.specs.Prelude.{◌≡◌, Ok, IfErr, IfOk, length};
 ghost use Rattle.sh_tree.specs.Answers.{Parses};
 ghost use Rattle.sh_table.specs.Calls.{table_of};
-ghost use Rattle.sh_domain.specs.Facts.{Declared};
 ghost use Rattle.sh_domain.specs.Admitted.{IsAdmitted};
+ghost use Rattle.sh_domain.specs.CompactReading.{given_claims, given_rows};
+ghost use Rattle.sh_accept.specs.Accepted.{Gives};
 ghost use Rattle.sh_accept.specs.Answers.{NoRefusal, Refuses};
-ghost use Rattle.sh_report.specs.Prepared.{AnswersText, IsPrepared};
+ghost use Rattle.sh_report.specs.Prepared.{AnswersText, IsPrepared, IsRead, sheet_in};
 
-use sh_domain::{Certificate, Names, Policy};
-use sh_facts::read_certificate;
+use sh_domain::{Certificate, Given, Names, Policy};
+use sh_facts::read_any;
+use sh_flow::fill;
 use sh_grammar::parse;
 use sh_table::{CallTable, admit};
 use sh_tree::{Refusal, Script};
-use std::alloc::Global;
+use std::alloc::{AllocError, Global};
 
 /// The tree of a script, its call table and its names.
 #[derive(Drop)]
@@ -79,21 +81,59 @@ fn names_of(
     Ok(names)
 }
 
-/// The certificate that a text claims of a script that is admitted.
+/// The certificate that a text of either version claims of a script that is admitted: the one that
+/// is given in full, or the one to which a compact one is filled.
 ///
 /// # Errors
 ///
-/// `CertSyntax` and `CertShape` as `read_certificate` tells them; `Memory` where a growth was refused.
-#[tactic(auto, using(crate::proofs::CertificateLemmas::answered))]
-pub fn certified(alloc: Global, prepared: &Prepared, text: &[u8]) -> Result<Certificate, Refusal>
-    ensures answers { (b : List ℕ) (d : Declared) → IsPrepared b d prepared.now → AnswersText b d text.now prepared.now result }
+/// `CertSyntax` and `CertShape` as `read_any` reports them; `Memory` if a growth was refused.
+#[tactic(auto, using(crate::proofs::CertificateLemmas::unread, crate::proofs::CertificateLemmas::exhausted, crate::proofs::CertificateLemmas::certifies))]
+pub fn certified(
+    alloc: Global,
+    script: &[u8],
+    policy: &Policy,
+    prepared: &Prepared,
+    text: &[u8],
+) -> Result<Certificate, Refusal>
+    requires { IsPrepared script.now policy.now prepared.now }
+    ensures answers { AnswersText script.now policy.now text.now prepared.now result }
     ensures sized { IfOk result (λ c. c.rows.count ≡ length prepared.now.names) }
 {
-    read_certificate(
+    let given = read_any(
         alloc,
         text,
         &prepared.tree,
         &prepared.table,
         &prepared.names,
-    )
+    )?;
+    let certificate = given_certificate(alloc, script, policy, prepared, given)?;
+    Ok(certificate)
+}
+
+// The certificate that is given, or the one to which a compact one is filled.
+fn given_certificate(
+    alloc: Global,
+    script: &[u8],
+    policy: &Policy,
+    prepared: &Prepared,
+    given: Given,
+) -> Result<Certificate, AllocError>
+    requires prepared { IsPrepared script.now policy.now prepared.now }
+    requires read { IsRead prepared.now given }
+    requires sized { (given_rows given).count ≡ length prepared.now.names }
+    ensures gives { IfOk result (λ c. Gives script.now prepared.now.tree prepared.now.names (given_claims prepared.now.names given) (sheet_in prepared.now c)) }
+    ensures sized { IfOk result (λ c. c.rows.count ≡ length prepared.now.names) }
+{
+    match given {
+        Given::Full(certificate) => Ok(certificate),
+        Given::Compact(compact) => fill(
+            alloc,
+            &prepared.tree,
+            script,
+            &prepared.table,
+            &prepared.names,
+            policy,
+            &compact,
+        ),
+    }
 }

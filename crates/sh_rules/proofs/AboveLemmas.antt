@@ -165,7 +165,7 @@ module _ {K : Type 0} (a : Asking K) (x : Setting) (h : AreNumbered x.names) (d 
         (subst (Asks a x Q three) (counted_same a x h d i functions by z s n offset rs z.drops kind three named) (constraints_asked counted three last.1))
 
     -- a whole command
-    command_asked : (y : Entered) (k : Facts) (kept : K) → R y.seen k → has_numbered_prefixes x.names y ≡ true → Each E (bounds functions y)
+    pub command_asked : (y : Entered) (k : Facts) (kept : K) → R y.seen k → has_numbered_prefixes x.names y ≡ true → Each E (bounds functions y)
         → Asks a x Q kept (command_told a x functions kept (met_at y k))
     unfolding has_numbered_prefixes
     command_asked y k kept w named all = by_command y.command y.rule y.around y.seen w named all
@@ -204,17 +204,17 @@ module _ (x : Setting) (h : AreNumbered x.names) (d : Facts) (c : Certificate) (
   entered_within slot n rule (v ∷ s) all =
       meet_greatest _ _ _ ((within_test (c.claim slot) (view_facts d c v)).0 (told_none _ n rule all.0)) (entered_within slot n rule s all.1)
 
-  place_allowed : (slot : Slot) (n : ℕ) (rule : FlowRule) (s : Seen) (k : Facts) → Above x h d c below s k → Each Unbroken (bound slot n rule s) → Allows x.names c (OfPlace slot (fault n rule) k)
+  pub place_allowed : (slot : Slot) (n : ℕ) (rule : FlowRule) (s : Seen) (k : Facts) → Above x h d c below s k → Each Unbroken (bound slot n rule s) → Allows x.names c (OfPlace slot (fault n rule) k)
   unfolding Allows
   place_allowed slot n rule s k w all = within_through _ (sees x.names d c s) _ (among_grows x.names _ _ (entered_within slot n rule s all)) w
 
-  view_allowed : (slot : Slot) (n : ℕ) (rule : FlowRule) (v : View) → Unbroken (Within slot n rule v) → Allows x.names c (OfPlace slot (fault n rule) (knows x d (v ∷ [])))
+  pub view_allowed : (slot : Slot) (n : ℕ) (rule : FlowRule) (v : View) → Unbroken (Within slot n rule v) → Allows x.names c (OfPlace slot (fault n rule) (knows x d (v ∷ [])))
   unfolding Allows Fits knows seen_facts
   view_allowed slot n rule v none =
       let fits : IsWithin (facts (c.claim slot)) (view_facts d (certificate x) v) = fits_below d c (certificate x) (Within slot n rule v) below none in
       subst (IsWithin (among x.names (facts (c.claim slot)))) (ap (among x.names) (sym (meet_last (view_facts d (certificate x) v)))) (among_grows x.names _ _ fits)
 
-  loss_allowed : (function : Text) (n : ℕ) (l : Loss) → Unbroken (Counted function n l) → Allows x.names c (OfFunction function (fault n F13) (lost d (certificate x) n l))
+  pub loss_allowed : (function : Text) (n : ℕ) (l : Loss) → Unbroken (Counted function n l) → Allows x.names c (OfFunction function (fault n F13) (lost d (certificate x) n l))
   unfolding Allows Fits
   loss_allowed function n l none = fits_below d c (certificate x) (Counted function n l) below none
 

@@ -4,7 +4,8 @@ ghost use Rattle.sh_report.specs.Prepared.{IsPrepared};
 use sh_domain::{Certificate, Names, Policy};
 use sh_facts::write_certificate;
 use sh_find::{find_by_rounds, find_counted};
-use sh_report::Prepared;
+use sh_report::{Prepared, certificate, certified};
+use sh_tree::Refusal;
 use std::alloc::{AllocError, Global};
 
 // The text of a certificate of a script of few commands, and else an empty one.
@@ -65,4 +66,19 @@ pub fn texts_by_rounds(
         policy,
     )?;
     text_of(alloc, &certificate, &prepared.names)
+}
+
+/// The text of the certificate to which the compact one of the script is filled.
+pub fn texts_of_filled(
+    alloc: Global,
+    script: &[u8],
+    policy: &Policy,
+    prepared: &Prepared,
+) -> Result<Vec<u8>, Refusal>
+    requires { IsPrepared script.now policy.now prepared.now }
+{
+    let compact = certificate(alloc, script, policy, false)?;
+    let filled = certified(alloc, script, policy, prepared, &compact)?;
+    let text = text_of(alloc, &filled, &prepared.names)?;
+    Ok(text)
 }

@@ -1,6 +1,6 @@
 //! Both ways of the search find one certificate of each script.
 
-use crate::found::{texts_by_need, texts_by_rounds};
+use crate::found::{texts_by_need, texts_by_rounds, texts_of_filled};
 use sh_domain::Policy;
 use sh_report::prepare;
 use std::process::Abort;
@@ -348,6 +348,13 @@ fn check(rt: &(impl Abort + AllocGlobal), row: &Row) -> Result<(), Fail> {
         "{script:?}: {found:?}",
         script = row.script,
         found = found
+    );
+    let filled = texts_of_filled(rt.alloc(), row.script, &policy, &prepared)?;
+    assert!(rt;
+        found.as_slice() == filled.as_slice(),
+        "{script:?}: {filled:?}",
+        script = row.script,
+        filled = filled
     );
     Ok(())
 }

@@ -11,7 +11,8 @@ type Row = (&'static [&'static str], &'static str);
 fn line_text(alloc: Global, line: &Line<'_>) -> Result<String, Fail> {
     let action = match line.task.action {
         Action::Lint => "lint",
-        Action::Cert => "cert",
+        Action::Cert { full: false } => "cert",
+        Action::Cert { full: true } => "cert in full",
         Action::Check => "check",
         Action::Print => "print",
     };
@@ -101,6 +102,14 @@ const LINES: &[Row] = &[
     (
         &["shset", "cert", "--args", "1", "script.sh", "y"],
         "cert file script.sh args 1 name y",
+    ),
+    (
+        &["shset", "cert", "--full", "script.sh"],
+        "cert in full file script.sh args 0",
+    ),
+    (
+        &["shset", "cert", "-", "y", "--full"],
+        "cert in full standard input args 0 name y",
     ),
     (
         &["shset", "check", "script.sh", "certificate"],
@@ -194,6 +203,17 @@ For more information, try '--help'.
         "usage: error: unexpected argument '--all' found
 
   tip: to pass '--all' as a value, use '-- --all'
+
+Usage: shset lint [OPTIONS] <FILE> [NAME]...
+
+For more information, try '--help'.
+",
+    ),
+    (
+        &["shset", "lint", "--full", "f"],
+        "usage: error: unexpected argument '--full' found
+
+  tip: to pass '--full' as a value, use '-- --full'
 
 Usage: shset lint [OPTIONS] <FILE> [NAME]...
 

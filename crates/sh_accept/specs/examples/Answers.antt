@@ -29,7 +29,7 @@ pub record Known : Type 0 where
 
 -- what is told of it and of a certificate's text
 abbrev pub told : Known → Text → Answer
-told x t = computed x.script x.start x.program (names_of (sites_of x.program)) x.names x.loops t
+told x t = computed x.script x.start x.program (names_of (sites_of x.program)) x.names x.loops (record { commands = []; functions = [] }) t
 
 abbrev pub finding : ℕ → Code → Text → Contents
 finding column code subject = record { line = 1; column = column; code = code; subject = subject }

@@ -110,14 +110,14 @@ pub sweep_body-lower_return-requires-clause-ready : goal.bodies::sweep_body-lowe
 sweep_body-lower_return-requires-clause-ready t c = ready_again c.args.subject.now _ _ _ _ c.requires.ready c.in_ok-sweep_definition.ensures.swept
 
 pub sweep_body-lower_return-requires-clause-stands : goal.bodies::sweep_body-lower_return-requires-clause-stands
-sweep_body-lower_return-requires-clause-stands t c =
+sweep_body-lower_return-requires-clause-stands t c = λ unstated.
     let s = c.args.subject.now in
     let w = c.requires.placed in
     let k = knowledge_facts s.names.now c.zero_of-zero.result in
     let fs = functions_in s.script.now s.tree.now in
-    there_if s fs (ReturnsZero c.text-text.result.now) k c.place_in-place.result c.place_in-place.ensures (λ other keeps.
+    there_if s fs (ReturnsZero c.text-text.result.now) k c.place_in-place.result c.place_in-place.ensures.there (λ other keeps.
     subst (λ u. IsWithin (facts (claim_there other (place_of fs (ReturnsZero u)))) k) (sym c.text-text.ensures)
-    (returns_zero s c.requires.ready.admitted w.0 w.1 w.2 w.3 w.4 (text_of s.script.now c.args.name) c.args.body.now w.5 w.6 k c.zero_of-zero.ensures other keeps))
+    (returns_zero s c.requires.ready.admitted w.0 w.1 w.2 w.3 w.4 (text_of s.script.now c.args.name) c.args.body.now w.5 w.6 unstated k c.zero_of-zero.ensures other keeps))
 
 pub sweep_body-lower_return-requires-2-clause-ready : goal.bodies::sweep_body-lower_return-requires-2-clause-ready
 sweep_body-lower_return-requires-2-clause-ready t c =
@@ -125,14 +125,14 @@ sweep_body-lower_return-requires-2-clause-ready t c =
     ready_again s _ _ _ _ (ready_again s _ _ _ _ c.requires.ready c.in_ok-sweep_definition.ensures.swept) c.in_ok-lower_return.ensures.swept
 
 pub sweep_body-lower_return-requires-2-clause-stands : goal.bodies::sweep_body-lower_return-requires-2-clause-stands
-sweep_body-lower_return-requires-2-clause-stands t c =
+sweep_body-lower_return-requires-2-clause-stands t c = λ unstated.
     let s = c.args.subject.now in
     let w = c.requires.placed in
     let k = knowledge_facts s.names.now c.nonzero_of-nonzero.result in
     let fs = functions_in s.script.now s.tree.now in
-    there_if s fs (ReturnsNonzero c.text-text.result.now) k c.place_in-other.result c.place_in-other.ensures (λ other keeps.
+    there_if s fs (ReturnsNonzero c.text-text.result.now) k c.place_in-other.result c.place_in-other.ensures.there (λ other keeps.
     subst (λ u. IsWithin (facts (claim_there other (place_of fs (ReturnsNonzero u)))) k) (sym c.text-text.ensures)
-    (returns_nonzero s c.requires.ready.admitted w.0 w.1 w.2 w.3 w.4 (text_of s.script.now c.args.name) c.args.body.now w.5 w.6 k c.nonzero_of-nonzero.ensures other keeps))
+    (returns_nonzero s c.requires.ready.admitted w.0 w.1 w.2 w.3 w.4 (text_of s.script.now c.args.name) c.args.body.now w.5 w.6 unstated k c.nonzero_of-nonzero.ensures other keeps))
 
 pub sweep_body-place_in-other-requires : goal.bodies::sweep_body-place_in-other-requires
 sweep_body-place_in-other-requires t c =

@@ -7,8 +7,8 @@ use Rattle.sh_find.specs.Spots.{place_at}
 use Rattle.sh_find.proofs.BeforeLemmas.{spot_place}
 use Rattle.sh_find.proofs.bodies.place_in.Goals as goal
 
-pub returns : goal.returns
-returns c =
+pub returns-clause-there : goal.returns-clause-there
+returns-clause-there c =
     let s = c.args.subject.now in
     let slot = slot_of c.args.slot in
     let same : Some (place_at c.in_ok-spot.spot) ≡ place_of (functions_in s.script.now s.tree.now) slot = c.in_ok-spot.ensures ∙ ap (λ (x : Setting). place_of x.functions slot) c.claims-claims.ensures in

@@ -12,5 +12,5 @@ lower_gathered-requires-clause-working c = (c.requires.ready.loops, c.requires.r
 pub returns : goal.returns
 returns c = record {
   swept = swept_same c.args.subject.now _ _ _ _ _ (sunk_swept c.args.subject.now c.args.draft.now.certificate c.lower_gathered.new.certificate (gathered_of c.asked_of-gather.result) _ c.args.draft.now.probe.count _ c.requires.ready c.in_ok-is_lowered.ensures.sunk
-      c.asked_of-gather.ensures.stands c.in_ok-is_lowered.ensures.probed) c.note_lowered.ensures.certificate (ap (λ p. p.count) c.note_lowered.ensures.probe);
+      c.asked_of-gather.ensures.stands c.asked_of-gather.ensures.quiet c.in_ok-is_lowered.ensures.probed) c.note_lowered.ensures.certificate (ap (λ p. p.count) c.note_lowered.ensures.probe);
 }

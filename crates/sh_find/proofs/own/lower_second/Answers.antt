@@ -4,7 +4,7 @@ use Rattle.sh_domain.specs.Order.{IsWithin}
 use Rattle.sh_find.specs.Kept.{IsNamed, seen_of}
 use Rattle.sh_find.specs.Numbers.{by_name}
 use Rattle.sh_find.specs.Places.{claim_there}
-use Rattle.sh_find.proofs.SideLemmas.{second_named, second_stands}
+use Rattle.sh_find.proofs.SideLemmas.{second_free, second_named, second_stands}
 use Rattle.sh_find.proofs.own.lower_second.Goals as goal
 
 pub lower_at-requires-clause-named : goal.lower_at-requires-clause-named
@@ -18,3 +18,6 @@ unfolding seen_of
 lower_at-requires-clause-stands c = λ other keeps.
     let names = c.args.subject.now.names.now in
     subst (λ o. IsWithin (facts (claim_there other (Some c.args.sides.now.place))) (by_name names (seen_of o))) c.in-Some.is (second_stands c.args.sides.now names other (c.requires.stands other keeps))
+
+pub lower_at-requires-clause-free : goal.lower_at-requires-clause-free
+lower_at-requires-clause-free c = λ e. second_free c.args.sides.now (c.requires.quiet e) _ c.in-Some.is

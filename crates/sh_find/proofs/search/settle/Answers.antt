@@ -1,11 +1,8 @@
 use Rattle.std.proofs.Common.{length}
-use Rattle.sh_tree.specs.standard.program.Trees.{script_of}
-use Rattle.sh_domain.specs.Rules.{script_bounds}
 use Rattle.sh_domain.specs.Admitted.{functions_in}
 use Rattle.sh_find.proofs.GreatestLemmas.{less_left}
-use Rattle.sh_find.proofs.SweepLemmas.{settled, swept_turn, turned_more}
+use Rattle.sh_find.proofs.SweepLemmas.{settled, swept_less, turned_more, turned_none}
 use Rattle.sh_find.proofs.search.settle.Goals as goal
-use Rattle.sh_find.specs.Starts.{start_of}
 
 pub turn-requires-clause-admitted : goal.turn-requires-clause-admitted
 turn-requires-clause-admitted c = c.requires.ready.admitted
@@ -22,9 +19,9 @@ turns-smaller c =
     let s = c.args.subject.now in
     let r = c.requires.ready in
     let now = c.turns.invariant.turned.working r.loops r.functions r.working in
-    less_left s.names.now r.loops r.functions (start_of s) (functions_in s.script.now s.tree.now) (script_bounds (script_of s.script.now s.tree.now)) c.turns.draft.certificate c.turn.new.certificate c.turns.kept c.in_ok-kept.kept c.turns-test.true now
-    (swept_turn s r.loops r.functions c.turns.draft.certificate c.sweep_so.new.draft.certificate c.turn.new.certificate _ c.in_ok-kept.kept now c.in_ok-sweep_so.ensures
-    (c.in_ok-kept.ensures.turn r.loops r.functions (c.in_ok-sweep_so.ensures.working r.loops r.functions now)))
+    let turned = c.in_ok-kept.ensures.turn r.loops r.functions (c.in_ok-sweep_so.ensures.working r.loops r.functions now) in
+    less_left s.names.now r.loops r.functions c.turns.draft.certificate c.turn.new.certificate c.turns.kept c.in_ok-kept.kept c.turns-test.true now turned.working
+    (swept_less s r.loops r.functions c.turns.draft.certificate c.sweep_so.new.draft.certificate c.turn.new.certificate _ c.in_ok-kept.kept now c.in_ok-sweep_so.ensures turned)
 
 pub turns-preserved : goal.turns-preserved
 turns-preserved c = record {
@@ -34,3 +31,6 @@ turns-preserved c = record {
 
 pub returns : goal.returns
 returns c = λ loops m working. settled c.args.subject.now loops m c.args.draft.now.certificate c.turns.draft.certificate _ c.turns.kept c.turns-test.false c.turns.invariant.turned working
+
+pub turns-start : goal.turns-start
+turns-start c = record { turned = turned_none c.args.subject.now c.args.draft.now.certificate _ c.requires.ready }

@@ -1,16 +1,26 @@
-use Rattle.std.proofs.Common.{rules, ◌≡◌, ℕ, true, length, refl, sym, ap, ◌∙◌, subst, arith}
+use Rattle.std.proofs.Common.{rules, ◌≡◌, ℕ, true, List, [], flat_map, length, refl, sym, ap, ◌∙◌, subst, arith}
 use Rattle.std.specs.List.{list_all}
 use Rattle.std.proofs.lemmas.List.{length-map}
 use Rattle.sh_tree.specs.declared.limits.TheConstants.{MAX_NESTING}
 use Rattle.sh_tree.specs.standard.language.Bytes.{is_name}
+use Rattle.sh_tree.specs.standard.program.Trees.{script_of}
 use Rattle.sh_table.specs.Calls.{Table}
+use Rattle.sh_domain.specs.Facts.{start_facts}
+use Rattle.sh_domain.specs.Faults.{broken, faults}
+use Rattle.sh_domain.specs.Rules.{script_bounds}
 use Rattle.sh_domain.specs.Reading.{AreLoops}
 use Rattle.sh_domain.specs.Reading.{loops_of}
 use Rattle.sh_domain.proofs.VariableLemmas.{read_names_variables}
-use Rattle.sh_domain.specs.Admitted.{functions_in}
+use Rattle.sh_domain.specs.Admitted.{claims_in, functions_in}
+use Rattle.sh_find.specs.Stated.{ClaimsStated, asked_bounds}
+use Rattle.sh_find.specs.Sweeps.{asked_of}
+use Rattle.sh_find.specs.Turns.{sheet_by}
 use Rattle.sh_find.specs.Working.{IsWorking}
+use Rattle.sh_find.specs.Starts.{start_of}
 use Rattle.sh_find.proofs.AboveLemmas.{first_above}
-use Rattle.sh_find.proofs.GreatestLemmas.{few_commands, is_greatest_of, numbered}
+use Rattle.sh_find.proofs.GreatestLemmas.{few_commands, is_greatest, numbered}
+use Rattle.sh_find.proofs.StartLemmas.{declared_start}
+use Rattle.sh_find.proofs.StatedLemmas.{all_asked}
 use Rattle.sh_find.proofs.search.settled.Goals as goal
 
 pub unreached-requires : goal.unreached-requires
@@ -56,6 +66,7 @@ settle-requires-clause-variables c =
     read_names_variables s.script.now s.tree.now s.policy.now s.names.now (MAX_NESTING, reading.0, reading.1) named c.requires.admitted.numbered
 
 pub returns-clause-greatest : goal.returns-clause-greatest
+unfolding ClaimsStated faults
 returns-clause-greatest c =
     let s = c.args.subject.now in
     let m : ℕ = length c.functions-functions.result.now in
@@ -66,8 +77,20 @@ returns-clause-greatest c =
     let long : length loops ≡ length s.commands.now = length-map s.commands.now _ in
     let few = few_commands s.script.now s.policy.now s.tree.now s.names.now c.requires.admitted s.commands.now c.requires.commands in
     let working = c.in_ok-certificate.ensures.working s.names.now (sym c.count-count.ensures.count) in
-    is_greatest_of s.script.now s.policy.now s.tree.now s.names.now c.requires.admitted loops are m same c.in_ok-certificate.certificate c.settle.new.draft.certificate working c.in_ok-certificate.ensures.claims
-    c.in_ok-certificate.ensures.drops (c.in_ok-settle.ensures loops m working) c.count-count.ensures.distinct (omega (arith, long, few)) (omega (arith, c.functions-functions.ensures.few))
+    let found = c.in_ok-settle.ensures loops m working in
+    let ks = script_bounds (script_of s.script.now s.tree.now) in
+    let all : asked_of s ≡ ks = ap (λ b. asked_bounds b ks) c.requires.unstated ∙ all_asked ks in
+    let here : start_of s ≡ start_facts s.policy.now = declared_start s c.requires.unstated in
+    is_greatest s.script.now s.policy.now s.tree.now s.names.now c.requires.admitted loops are m same c.settle.new.draft.certificate found.working
+    (subst (λ f. flat_map (broken f (claims_in s.script.now s.tree.now (sheet_by s.names.now c.settle.new.draft.certificate))) ks ≡ []) here
+    (subst (λ ls. flat_map (broken (start_of s) (claims_in s.script.now s.tree.now (sheet_by s.names.now c.settle.new.draft.certificate))) ls ≡ []) all found.rules))
+    (λ other fit keeps. found.over other (record {
+      fit = fit;
+      stated = subst (λ b. ClaimsStated s.names.now (functions_in s.script.now s.tree.now) b s.compact.now (claims_in s.script.now s.tree.now other)) (sym c.requires.unstated) tt;
+      rules = subst (λ ls. flat_map (broken (start_of s) (claims_in s.script.now s.tree.now other)) ls ≡ []) (sym all)
+          (subst (λ f. flat_map (broken f (claims_in s.script.now s.tree.now other)) ks ≡ []) (sym here) keeps);
+    }))
+    c.count-count.ensures.distinct (omega (arith, long, few)) (omega (arith, c.functions-functions.ensures.few))
 
 pub returns-clause-sized : goal.returns-clause-sized
 returns-clause-sized c =

@@ -1,6 +1,5 @@
-use Rattle.sh_tree.specs.standard.program.Trees.{script_of}
-use Rattle.sh_domain.specs.Rules.{script_bounds}
 use Rattle.sh_domain.specs.Admitted.{functions_in}
+use Rattle.sh_find.specs.Sweeps.{asked_of}
 use Rattle.sh_find.specs.Turns.{gathered_of}
 use Rattle.sh_find.specs.Starts.{start_of}
 use Rattle.sh_find.proofs.GreatestLemmas.{numbered}
@@ -14,6 +13,6 @@ pub returns-clause-turn : goal.returns-clause-turn
 returns-clause-turn c = λ loops m working.
     let s = c.args.subject.now in
     let q = c.requires in
-    sunk_turn s.names.now loops m (start_of s) (functions_in s.script.now s.tree.now) (script_bounds (script_of s.script.now s.tree.now)) (numbered s.script.now s.policy.now s.tree.now s.names.now q.admitted)
-    c.args.certificate.now c.lower_gathered.new.certificate (gathered_of c.asked-gather.result) c.asked-gather.ensures.stands _ (λ e. c.asked-gather.ensures.idle q.variables q.working (c.in_ok-lower_gathered.ensures.idle e) q.breaks)
+    sunk_turn s.names.now loops m (start_of s) (functions_in s.script.now s.tree.now) s.stated (asked_of s) (numbered s.script.now s.policy.now s.tree.now s.names.now q.admitted)
+    c.args.certificate.now c.lower_gathered.new.certificate (gathered_of c.asked-gather.result) c.asked-gather.ensures.stands c.asked-gather.ensures.quiet _ (λ e. c.asked-gather.ensures.idle q.variables q.working (c.in_ok-lower_gathered.ensures.idle e) q.breaks)
     (c.in_ok-lower_gathered.ensures.sunk loops m working)

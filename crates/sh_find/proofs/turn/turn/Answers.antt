@@ -1,9 +1,8 @@
 use Rattle.std.proofs.Common.{◌≡◌, false, inl, inr, sym, subst, true≢false, ◌∙◌}
-use Rattle.sh_tree.specs.standard.program.Trees.{script_of}
 use Rattle.sh_domain.specs.declared.certificate.Certificate.{Certificate}
-use Rattle.sh_domain.specs.Rules.{script_bounds}
 use Rattle.sh_domain.specs.Admitted.{functions_in}
 use Rattle.sh_find.specs.Next.{IsBroken, IsOfScript}
+use Rattle.sh_find.specs.Sweeps.{asked_of}
 use Rattle.sh_find.specs.Turns.{IsTurn, gathered_of}
 use Rattle.sh_find.specs.Working.{IsWorking}
 use Rattle.sh_find.specs.Starts.{start_of}
@@ -17,8 +16,8 @@ asked-gather-requires-clause-sized c = c.requires.working.working.count
 pub returns-then-branch-clause-turn : goal.returns-then-branch-clause-turn
 returns-then-branch-clause-turn c = λ loops m working.
     let s = c.args.subject.now in
-    sunk_turn s.names.now loops m (start_of s) (functions_in s.script.now s.tree.now) (script_bounds (script_of s.script.now s.tree.now)) (numbered s.script.now s.policy.now s.tree.now s.names.now c.requires.admitted)
-    c.args.certificate.now c.lower_gathered.new.certificate (gathered_of c.asked-gather.result) c.asked-gather.ensures.stands _ (λ e. true≢false (sym c.if-branch.true ∙ e)) (c.in_ok-lower_gathered.ensures.sunk loops m working)
+    sunk_turn s.names.now loops m (start_of s) (functions_in s.script.now s.tree.now) s.stated (asked_of s) (numbered s.script.now s.policy.now s.tree.now s.names.now c.requires.admitted)
+    c.args.certificate.now c.lower_gathered.new.certificate (gathered_of c.asked-gather.result) c.asked-gather.ensures.stands c.asked-gather.ensures.quiet _ (λ e. true≢false (sym c.if-branch.true ∙ e)) (c.in_ok-lower_gathered.ensures.sunk loops m working)
 
 pub lower_next-requires-clause-working : goal.lower_next-requires-clause-working
 lower_next-requires-clause-working c =
@@ -30,7 +29,7 @@ pub returns-clause-turn : goal.returns-clause-turn
 returns-clause-turn c = λ loops m working.
     let s = c.args.subject.now in
     let same : c.lower_gathered.new.certificate ≡ c.args.certificate.now = (c.in_ok-lower_gathered.ensures.sunk loops m working).stays c.if-branch.false in
-    subst (λ (x : Certificate). IsTurn s.names.now loops m (start_of s) (functions_in s.script.now s.tree.now) (script_bounds (script_of s.script.now s.tree.now)) x c.lower_next.new.certificate false) same
+    subst (λ (x : Certificate). IsTurn s.names.now loops m (start_of s) (functions_in s.script.now s.tree.now) s.stated (asked_of s) x c.lower_next.new.certificate false) same
     (c.in_ok-target.ensures.turn loops m (subst (λ (x : Certificate). IsWorking s.names.now loops m x) (sym same) working))
 
 pub lower_next-requires-clause-breaks : goal.lower_next-requires-clause-breaks

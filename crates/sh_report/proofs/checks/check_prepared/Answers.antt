@@ -5,9 +5,9 @@ use Rattle.sh_report.proofs.checks.check_prepared.Goals as goal
 pub returns-in_err-certificate : goal.returns-in_err-certificate
 returns-in_err-certificate c =
     let p = err_from_is_err_and c.from_residual.result c.from_residual.ensures.1 in
-    rw (p.1, p.2) (c.in_err-certificate.ensures.answers c.args.script.now c.args.policy.now c.requires)
+    rw (p.1, p.2) c.in_err-certificate.ensures.answers
 
 pub returns : goal.returns
 returns c =
     certifies c.args.script.now c.args.policy.now c.args.text.now c.args.prepared.now c.in_ok-certificate.certificate c.in_ok-verdict.verdict
-    (c.in_ok-certificate.ensures.answers c.args.script.now c.args.policy.now c.requires) c.in_ok-verdict.ensures
+    c.in_ok-certificate.ensures.answers c.in_ok-verdict.ensures

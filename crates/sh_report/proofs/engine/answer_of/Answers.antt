@@ -11,7 +11,7 @@ returns-in-Lint c =
 pub returns-in-Cert : goal.returns-in-Cert
 returns-in-Cert c =
     rw c.in-Cert.is
-    (text_told (Certifies c.args.script.now c.args.task.now.policy) c.args.script.now c.certificate.result c.of_text.result c.certificate.ensures
+    (text_told (Certifies c.in-Cert.full c.args.script.now c.args.task.now.policy) c.args.script.now c.certificate.result c.of_text.result c.certificate.ensures
     c.of_text.ensures.text c.of_text.ensures.status c.of_text.ensures.memory)
 
 pub returns-in-Check : goal.returns-in-Check
