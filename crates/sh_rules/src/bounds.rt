@@ -205,9 +205,9 @@ fn is_none_left(rest: &[Clause]) -> bool
     }
 }
 
-// Whether a clause leaves what the whole does: where none follows that it could go on with.
+/// Whether a clause leaves what the whole does: where none follows that it could go on with.
 #[tactic(auto, using(crate::proofs::TellLemmas::ends))]
-fn ends_case(end: ClauseEnd, rest: &[Clause]) -> bool
+pub fn ends_case(end: ClauseEnd, rest: &[Clause]) -> bool
     ensures { (b : List ℕ) → result ≡ tells.ends_case b end rest.now }
 {
     match end {
@@ -288,8 +288,8 @@ fn has_star(clause: &Clause, script: &[u8]) -> bool
         .any(|pattern| is_star(pattern.parts.as_slice(), script))
 }
 
-// Whether some clause matches whatever the word is.
-fn matches_always(clauses: &[Clause], script: &[u8]) -> bool
+/// Whether some clause matches whatever the word is.
+pub fn matches_always(clauses: &[Clause], script: &[u8]) -> bool
     ensures { result ≡ list_any (tells.has_star script.now) clauses.now }
 {
     clauses.iter().any(|clause| has_star(clause, script))

@@ -38,8 +38,9 @@ fn loop_at(count: u32, loops: &Loops<'_>) -> Option<u32>
     }
 }
 
+/// The loop of a jump over so many loops, if their number is known.
 #[tactic(auto, unfolding(sh_domain::specs::Rules::jump_loop))]
-fn jump_loop(count: Option<u32>, loops: &Loops<'_>) -> Option<u32>
+pub fn jump_loop(count: Option<u32>, loops: &Loops<'_>) -> Option<u32>
     ensures { result ≡ rules.jump_loop count (loops_of loops.now) }
 {
     match count {

@@ -25,10 +25,14 @@ pub mod walk;
 pub use around::{Around, Loops, alone, in_function};
 pub use asked::Asked;
 pub use behind::{Behind, is_settled, met, pipe_behind, without_job};
+pub use bounds::{ends_case, matches_always};
 pub use claims::Claims;
 pub use fault::Fault;
 pub use gains::{
     enter_operator, gain_action, gain_assigned, gain_redirects, gain_variable, gain_word,
 };
+pub use jumps::jump_loop;
 pub use place::Place;
 pub use rules::{Rules, check_rules, tell_command};
+pub use texts::{first_number, return_status};
+pub use utilities::behind_name;
