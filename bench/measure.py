@@ -19,6 +19,10 @@ seconds and megabytes of `shset lint` and of `shset check`, how many times the s
 script half as long. It ends with status 1 if a family takes more than 8 times as long, or grows by more than 2.3. Families can be given
 after the word.
 
+The kind `certificates` shows for a script of each kind how long its compact certificate is, how many times the script's length that is, and
+the seconds of `shset lint` and of `shset check` by it, with their ratio. It ends with status 1 if a certificate is more than twice as long as
+its script or is not printed, or if `check` takes more than 1.5 times as long as `lint`. Kinds can be given after the word.
+
 The kind `table` shows for scripts of 1 MB how many milliseconds and megabytes more their call table takes, once they are read, and the
 profile after it. Two kinds of scripts are added that have as many words as fit. It needs the program of crates/table_timer built.
 """
@@ -45,6 +49,9 @@ ROUNDS = "10000000"
 FAMILY_SIZE = 40_000
 MOST_RATIO = 8
 MOST_GROWTH = 2.3
+# How long a certificate may be, in lengths of its script, and how long its check may take, in times of `lint`.
+MOST_LENGTH = 2
+MOST_CHECK = 1.5
 # Less is not told from what a process itself takes.
 LEAST_SECONDS = 0.01
 TABLE_TIMER = os.path.join(HERE, "..", "crates", "table_timer", "out", "table_timer")
@@ -340,6 +347,31 @@ def measure_families(names, folder):
     sys.exit("too slow: " + ", ".join(slow) if slow else 0)
 
 
+def measure_certificate(kind, folder):
+    """A line for a kind, and whether its certificate is no longer, and its check no slower, than it may be."""
+    path, cert = os.path.join(folder, "script.sh"), os.path.join(folder, "cert")
+    with open(path, "w", encoding="ascii") as file:
+        file.write(KINDS[kind](SIZES[-1]))
+    with open(cert, "wb") as file:
+        is_made = subprocess.run([PROGRAM, "cert", path], stdout=file, stderr=subprocess.DEVNULL, check=False).returncode == 0
+    size, length = os.path.getsize(path), os.path.getsize(cert)
+    lint, _ = take([PROGRAM, "lint", path])
+    if not is_made:
+        print(f"{kind:<14} {size:>9} {'none':>9} {'':>6} {lint:>9.3f}", flush=True)
+        return False
+    check, _ = take([PROGRAM, "check", path, cert])
+    print(f"{kind:<14} {size:>9} {length:>9} {length / size:>6.2f} {lint:>9.3f} {check:>9.3f} {check / lint:>6.2f}", flush=True)
+    return length <= MOST_LENGTH * size and check <= MOST_CHECK * max(lint, LEAST_SECONDS)
+
+
+def measure_certificates(kinds, folder):
+    if not set(kinds) <= set(KINDS):
+        sys.exit("kinds: " + ", ".join(KINDS))
+    print(f"{'kind':<14} {'bytes':>9} {'cert':>9} {'times':>6} {'lint':>9} {'check':>9} {'ratio':>6}")
+    over = [kind for kind in kinds or KINDS if not measure_certificate(kind, folder)]
+    sys.exit("too long or too slow: " + ", ".join(over) if over else 0)
+
+
 def measure_table(folder):
     if not os.access(TABLE_TIMER, os.X_OK):
         sys.exit("build crates/table_timer first, by `rt run` there")
@@ -366,6 +398,10 @@ def main():
         with tempfile.TemporaryDirectory() as folder:
             measure_families(sys.argv[2:], folder)
         return
+    if sys.argv[1:2] == ["certificates"]:
+        with tempfile.TemporaryDirectory() as folder:
+            measure_certificates(sys.argv[2:], folder)
+        return
     if sys.argv[1:] == ["kernels"]:
         with tempfile.TemporaryDirectory() as folder:
             measure_kernels(folder)
@@ -376,7 +412,7 @@ def main():
         sys.exit("install GNU time first: Debian's package time")
     kinds = sys.argv[1:] or list(KINDS)
     if not set(kinds) <= set(KINDS):
-        sys.exit("kinds: " + ", ".join(KINDS) + "; or kernels or table alone")
+        sys.exit("kinds: " + ", ".join(KINDS) + "; or certificates, families, kernels or table")
     print(f"{'kind':<14} {'bytes':>9}  {'tool':<11} {'seconds':>9} {'MB':>8}  {'time ratio':>10} {'memory ratio':>12}  {'time growth':>11} {'memory growth':>13}")
     with tempfile.TemporaryDirectory() as folder:
         for kind in kinds:
