@@ -45,7 +45,7 @@ ROUNDS = "10000000"
 FAMILY_SIZE = 40_000
 MOST_RATIO = 8
 MOST_GROWTH = 2.3
-# Less cannot be distinguished from what a process itself takes.
+# Less is not told from what a process itself takes.
 LEAST_SECONDS = 0.01
 TABLE_TIMER = os.path.join(HERE, "..", "crates", "table_timer", "out", "table_timer")
 # Other processes disturb so short a time, so it is the least of more runs.
