@@ -1,4 +1,4 @@
-"""Scripts of which a search for the greatest certificate could take longer than in proportion: a family for each way in which it could, by the size of its scripts in bytes."""
+"""Scripts for which a search for the greatest certificate could take longer than in proportion: a family for each way in which it could, by the size of its scripts in bytes."""
 
 import random
 
@@ -23,7 +23,7 @@ def text_of(lines):
 
 
 def straight(size):
-    """Assignments and commands, of which some expand what may be unset."""
+    """Assignments and commands; some expand what may be unset."""
     lines = []
     for number in range(size):
         lines += (f'name_{number % 3000}="value of {number} and $PPID"', f'echo "$name_{number % 3000} is set" plain_word_{number}', f'log "$other_{number % 50}"')
@@ -60,7 +60,7 @@ def zigzag_order(count):
 
 
 def shift_functions(size):
-    """Functions that call each other in a circle, of which each shifts, defined in an order that zigzags."""
+    """Functions that call each other in a circle. Each shifts, and they are defined in an order that zigzags."""
     count = count_of(size, 'f1000() { shift; f1000 "$@"; }')
     doubled = ['set -- "$@" a'] + ['set -- "$@" "$@"'] * 16
     lines = [f'f{number}() {{ shift; a && f{(number + 1) % count} "$@"; }}' for number in zigzag_order(count)]
@@ -137,7 +137,7 @@ def losing_recursion(size):
 
 
 def losing_circle(size):
-    """Functions in a circle, of which each loses a name."""
+    """Functions in a circle. Each loses a name."""
     count = count_of(size, "f1000() { unset v1000; a && f1000; }; v1000=", MOST_NAMES // 2)
     lines = [f"v{n}=" for n in range(count)] + [f"f{n}() {{ unset v{n}; a && f{(n + 1) % count}; }}" for n in zigzag_order(count)]
     return text_of(lines + ["f0"])
