@@ -1,3 +1,4 @@
 pub mod FillLemmas
 pub mod CountLemmas
 pub mod ReadingLemmas
+pub mod SingleLemmas

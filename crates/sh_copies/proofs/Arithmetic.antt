@@ -23,7 +23,8 @@ use Rattle.sh_copies.proofs.Copies.{Copied, Place, Moved, Found, Turns, turned, 
 use Rattle.sh_copies.proofs.Forward.{over_forward, expression_forward, conditional_forward, level_forward, operands_forward, unary_forward, part_forward}
 use Rattle.sh_copies.proofs.Lexemes.{SameLexeme, lexeme_alike, lexeme_shifts}
 use Rattle.sh_copies.proofs.Places.{less_deep, near, as_far, moved_to, moved_deeper, moved_behind}
-use Rattle.sh_copies.proofs.Singles.{chained, of_constant, of_variable, of_expansion, of_parenthesis, of_unary, of_choice, of_assign, of_operands}
+use Rattle.sh_bodies.specs.Singles.{chained}
+use Rattle.sh_bodies.proofs.SingleLemmas.{of_constant, of_variable, of_expansion, of_parenthesis, of_unary, of_choice, of_assign, of_operands}
 
 -- Tokens
 

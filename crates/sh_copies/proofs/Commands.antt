@@ -25,7 +25,7 @@ use Rattle.sh_tree.specs.standard.language.Bytes.{is_first}
 use Rattle.sh_tree.specs.standard.language.Commands.{name_end, is_bare_name, is_redirection, is_reserved, is_word, is_esac, is_bar, begins_simple, begins_compound, begins_command, begins_pipeline, separator, link_of, clause_end_of}
 use Rattle.sh_tree.specs.standard.language.Contexts.{in_value}
 use Rattle.sh_tree.specs.standard.language.Reading as r
-use Rattle.sh_tree.specs.standard.language.Reading.{lead_of, lead_here, skip, behind_name, parted, unopened, stage_behind, redirected, is_empty, is_some, ReadsWord, ReadsRedirects, ReadsBreaks, ReadsElements, ReadsCommand, ReadsCompound, ReadsDo, ReadsBranches, ReadsElse, ReadsForWords, ReadsWords, ReadsClauses, ReadsPatterns, ReadsPipeline, ReadsCommands, ReadsAndOr, ReadsLinks, ReadsItems, ReadsList, ReadsSequence, ReadsScript}
+use Rattle.sh_tree.specs.standard.language.Reading.{lead_of, lead_here, skip, behind_name, is_empty, is_some, ReadsWord, ReadsRedirects, ReadsElements, ReadsCommand, ReadsCompound, ReadsDo, ReadsBranches, ReadsElse, ReadsForWords, ReadsWords, ReadsClauses, ReadsPatterns, ReadsPipeline, ReadsCommands, ReadsAndOr, ReadsLinks, ReadsItems, ReadsList, ReadsSequence}
 use Rattle.sh_tree.specs.standard.language.States.{State, Document, past, facing, within, begun, as_deep, closing}
 use Rattle.sh_tree.specs.standard.language.Trees as tree
 use Rattle.sh_tree.specs.standard.language.Trees.{span}

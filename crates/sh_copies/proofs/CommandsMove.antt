@@ -16,7 +16,7 @@ use Rattle.sh_tree.specs.standard.language.Contexts.{in_unsplit, in_word}
 use Rattle.sh_tree.specs.standard.language.HereDocuments.{Mark, is_static, or_none, is_dollar_quoted, is_delimiter, delimiter_of, behind_line}
 use Rattle.sh_tree.specs.standard.language.Parts.{is_quoted_word, is_quotation}
 use Rattle.sh_tree.specs.standard.language.Reading as r
-use Rattle.sh_tree.specs.standard.language.Reading.{lead_of, lead_here, is_empty, ReadsWord, ReadsRedirect, ReadsRedirects, ReadsDocuments, ReadsBreaks}
+use Rattle.sh_tree.specs.standard.language.Reading.{ReadsWord, ReadsRedirect, ReadsRedirects, ReadsDocuments, ReadsBreaks}
 use Rattle.sh_tree.specs.standard.language.States.{Spot, State, Document, document_count, facing, in_document, next, past, with_mark, on_line}
 use Rattle.sh_tree.specs.standard.language.Trees as tree
 use Rattle.sh_tree.specs.standard.language.Trees.{span}

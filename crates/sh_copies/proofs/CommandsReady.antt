@@ -24,7 +24,7 @@ use Rattle.sh_tree.specs.standard.language.Arithmetic.{is_closed}
 use Rattle.sh_tree.specs.standard.language.Bytes.{is_first}
 use Rattle.sh_tree.specs.standard.language.Commands.{is_redirection, is_newline_lead, is_word, is_open, begins_simple, begins_command, begins_compound, begins_pipeline, link_of}
 use Rattle.sh_tree.specs.standard.language.Reading as r
-use Rattle.sh_tree.specs.standard.language.Reading.{lead_of, lead_here, skip, unopened, is_some, ReadsRedirects, ReadsBreaks, ReadsElements, ReadsCommand, ReadsCompound, ReadsDo, ReadsBranches, ReadsElse, ReadsForWords, ReadsWords, ReadsClauses, ReadsPatterns, ReadsPipeline, ReadsCommands, ReadsAndOr, ReadsLinks, ReadsItems, ReadsList, ReadsSequence}
+use Rattle.sh_tree.specs.standard.language.Reading.{lead_of, unopened, is_some, ReadsRedirects, ReadsBreaks, ReadsElements, ReadsCommand, ReadsCompound, ReadsDo, ReadsBranches, ReadsElse, ReadsForWords, ReadsWords, ReadsClauses, ReadsPatterns, ReadsPipeline, ReadsCommands, ReadsAndOr, ReadsLinks, ReadsItems, ReadsList, ReadsSequence}
 use Rattle.sh_tree.specs.standard.language.States.{State, Document}
 use Rattle.sh_copies.proofs.AlikeBytes.{by_bool}
 use Rattle.sh_copies.proofs.Blanks.{is_number_sign}

@@ -14,7 +14,7 @@ use Rattle.sh_tree.specs.declared.token.word.Sign.TheVariants as sign
 use Rattle.sh_tree.specs.standard.language.Bytes.{is_in, is_newline, is_backslash, ends_token, is_first, run, joined_length}
 use Rattle.sh_tree.specs.standard.language.Commands.{is_bare}
 use Rattle.sh_tree.specs.standard.language.Reading as r
-use Rattle.sh_tree.specs.standard.language.Reading.{ReadsPart, ReadsParts, sign_at, after}
+use Rattle.sh_tree.specs.standard.language.Reading.{ReadsPart, ReadsParts}
 use Rattle.sh_tree.specs.standard.language.States.{Spot}
 use Rattle.sh_tree.specs.standard.language.Words as words
 use Rattle.sh_tree.proofs.Inversions.{stopped, nothing_at}

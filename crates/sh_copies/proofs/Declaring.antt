@@ -21,7 +21,7 @@ use Rattle.sh_tree.specs.standard.Tree.{text_of}
 use Rattle.sh_tree.specs.standard.language.Bytes.{is_name_byte, is_newline, is_tab, is_backslash, ends_token, is_first, is_last_backquote, run, joined_length}
 use Rattle.sh_tree.specs.standard.language.Commands.{bare_word, declares, is_bare}
 use Rattle.sh_tree.specs.standard.language.Reading as r
-use Rattle.sh_tree.specs.standard.language.Reading.{ReadsPart, ReadsParts, ReadsWord}
+use Rattle.sh_tree.specs.standard.language.Reading.{ReadsParts, ReadsWord}
 use Rattle.sh_tree.specs.standard.language.States.{Spot}
 use Rattle.sh_tree.specs.standard.language.Trees.{span}
 use Rattle.sh_tree.specs.standard.language.Words as words

@@ -24,12 +24,13 @@ use Rattle.sh_tree.specs.declared.token.arithmetic.Figure.{Figure}
 use Rattle.sh_tree.specs.standard.language.Arithmetic.{lexeme, is_closed}
 use Rattle.sh_tree.specs.standard.language.Parts.{singles, singles_in, expression_singles}
 use Rattle.sh_tree.specs.standard.language.Reading as r
-use Rattle.sh_tree.specs.standard.language.Reading.{over, is_expansion, ReadsParts, ReadsPart, ReadsExpression, ReadsConditional, ReadsLevel, ReadsOperands, ReadsUnary, figure_span}
+use Rattle.sh_tree.specs.standard.language.Reading.{over, ReadsParts, ReadsPart, ReadsExpression, ReadsConditional, ReadsLevel, ReadsOperands, ReadsUnary, figure_span}
 use Rattle.sh_tree.specs.standard.language.States.{Spot}
 use Rattle.sh_tree.specs.standard.language.Substitutions.{closes, commands_text, backquote_end}
 use Rattle.sh_tree.specs.standard.language.Trees as tree
 use Rattle.sh_tree.specs.standard.language.Trees.{span}
-use Rattle.sh_copies.proofs.Singles.{chained, of_plain, of_escaped, of_joined, of_single, of_tilde, of_double, of_param, of_value, of_length, of_use, of_remove, of_arith, of_command, of_constant, of_variable, of_expansion, of_parenthesis, of_unary, of_choice, of_assign, of_operands}
+use Rattle.sh_bodies.specs.Singles.{chained}
+use Rattle.sh_bodies.proofs.SingleLemmas.{of_plain, of_escaped, of_joined, of_single, of_tilde, of_double, of_param, of_value, of_length, of_use, of_remove, of_arith, of_command, of_constant, of_variable, of_expansion, of_parenthesis, of_unary, of_choice, of_assign, of_operands}
 use Rattle.sh_reads.proofs.BeginningLemmas.{first_some}
 use Rattle.sh_reads.proofs.FrontLemmas.{run_within}
 use Rattle.sh_reads.proofs.TakeLemmas.{is_part, token_takes, part_begins}

@@ -11,7 +11,6 @@ pub mod Leads
 pub mod Blanks
 pub mod Fronts
 pub mod Arithmetic
-pub mod Singles
 pub mod Places
 pub mod Tables
 pub mod Lexemes

@@ -15,7 +15,7 @@ use Rattle.sh_tree.specs.standard.language.Commands.{is_location}
 use Rattle.sh_tree.specs.standard.language.HereDocuments.{is_split_text}
 use Rattle.sh_tree.specs.standard.language.Parts.{singles, keeps_lines}
 use Rattle.sh_tree.specs.standard.language.Reading as r
-use Rattle.sh_tree.specs.standard.language.Reading.{sign_at, after, is_expansion, ReadsWord}
+use Rattle.sh_tree.specs.standard.language.Reading.{sign_at, is_expansion, ReadsWord}
 use Rattle.sh_tree.specs.standard.language.States.{Spot}
 use Rattle.sh_tree.specs.standard.language.Trees as tree
 use Rattle.sh_reads.proofs.TakeLemmas.{part_begins, token_moves}

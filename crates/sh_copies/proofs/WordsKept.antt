@@ -20,9 +20,8 @@ use Rattle.sh_tree.specs.standard.Words.{part_text, parts_text, behind_first, si
 use Rattle.sh_tree.specs.standard.language.HereDocuments.{is_dollar_quoted}
 use Rattle.sh_tree.specs.standard.language.Parts.{is_quotation, singles_in, singles}
 use Rattle.sh_tree.specs.standard.language.Trees as tree
-use Rattle.sh_tree.specs.standard.language.Trees.{span}
 use Rattle.sh_copies.proofs.Copies.{KeptPart, Kept, KeptExpression}
-use Rattle.sh_copies.proofs.Singles.{of_double, of_arith, of_use, of_remove}
+use Rattle.sh_bodies.proofs.SingleLemmas.{of_double, of_arith, of_use, of_remove}
 
 module _ (b b' : List ℕ) where
   pub kept_none : Kept b b' [] []

@@ -16,7 +16,7 @@ use Rattle.sh_tree.specs.standard.Tree.{text_of}
 use Rattle.sh_tree.specs.standard.language.Arithmetic.{is_closed}
 use Rattle.sh_tree.specs.standard.language.Bytes.{is_first}
 use Rattle.sh_tree.specs.standard.language.Reading as r
-use Rattle.sh_tree.specs.standard.language.Reading.{sign_at, after, figure_at, over, prior_of, ReadsParts, ReadsPart, ReadsScript}
+use Rattle.sh_tree.specs.standard.language.Reading.{sign_at, after, over, ReadsParts, ReadsPart}
 use Rattle.sh_tree.specs.standard.language.States.{Spot, to, behind}
 use Rattle.sh_tree.specs.standard.language.Substitutions.{commands_text, closes}
 use Rattle.sh_tree.specs.standard.language.Trees as tree

@@ -16,7 +16,7 @@ use Rattle.sh_tree.specs.declared.token.word.Sign.TheVariants as sign
 use Rattle.sh_tree.specs.standard.Tree.{text_of}
 use Rattle.sh_tree.specs.standard.language.Bytes.{is_newline, is_tab, is_first, run, behind_joined}
 use Rattle.sh_tree.specs.standard.language.Reading as r
-use Rattle.sh_tree.specs.standard.language.Reading.{sign_at, after, prior_of, ReadsParts, ReadsPart}
+use Rattle.sh_tree.specs.standard.language.Reading.{sign_at, after, prior_of, ReadsParts}
 use Rattle.sh_tree.specs.standard.language.States.{Spot}
 use Rattle.sh_tree.specs.standard.language.Trees.{span}
 use Rattle.sh_tree.specs.standard.language.Words as words

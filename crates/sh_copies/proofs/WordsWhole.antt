@@ -11,7 +11,7 @@ use Rattle.sh_tree.specs.declared.token.word.Sign.{Sign}
 use Rattle.sh_tree.specs.declared.token.word.Sign.TheVariants as sign
 use Rattle.sh_tree.specs.standard.language.Bytes.{is_newline, is_backslash, is_first, is_last_backquote, ends_token, joined_length}
 use Rattle.sh_tree.specs.standard.language.Reading as reads
-use Rattle.sh_tree.specs.standard.language.Reading.{sign_at, after, ReadsParts, ReadsPart, ReadsWord}
+use Rattle.sh_tree.specs.standard.language.Reading.{after, ReadsParts, ReadsPart}
 use Rattle.sh_tree.specs.standard.language.States.{Spot}
 use Rattle.sh_tree.specs.standard.language.Words as words
 use Rattle.sh_reads.proofs.BeginningLemmas.{dollar_goes, single_goes}

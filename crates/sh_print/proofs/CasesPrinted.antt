@@ -14,10 +14,9 @@ use Rattle.sh_tree.specs.declared.token.command.Stage.TheVariants.{First, Named}
 use Rattle.sh_tree.specs.standard.language.Bytes.{is_first}
 use Rattle.sh_tree.specs.standard.language.Commands.{lead_at, blanks, begins_pipeline, begins_command, begins_simple, begins_compound, is_redirection, redirects, is_newline_lead, is_word, is_parenthesis, is_open, is_esac, clause_end_of}
 use Rattle.sh_tree.specs.standard.language.Reading as r
-use Rattle.sh_tree.specs.standard.language.Reading.{ReadsList, ReadsDo, ReadsCompound, ReadsForWords, ReadsWords, ReadsBreaks, ReadsPatterns, ReadsClauses, ReadsSequence, lead_here, behind_token, parted, unopened}
+use Rattle.sh_tree.specs.standard.language.Reading.{ReadsBreaks, ReadsPatterns, ReadsClauses, ReadsSequence, lead_here, behind_token}
 use Rattle.sh_tree.specs.standard.language.States.{State, Document}
 use Rattle.sh_tree.specs.standard.language.Trees as tree
-use Rattle.sh_tree.specs.standard.language.Trees.{span}
 use Rattle.sh_print.specs.Bare as bare
 use Rattle.sh_print.specs.Bare.{Text}
 use Rattle.sh_print.specs.Layout.{tabs, separated, items_text, clauses_text, clause_end_text}
@@ -34,7 +33,7 @@ use Rattle.sh_print.proofs.ListsPrinted.{PrintsList, line_front, reserved_front,
 use Rattle.sh_print.proofs.LoopsPrinted.{no_waits}
 use Rattle.sh_print.proofs.CompoundsPrinted.{PrintsCompound}
 use Rattle.sh_print.proofs.Printable as p
-use Rattle.sh_print.proofs.Printable.{PrintableWord, PrintableWords, PrintableForWords, PrintablePatterns}
+use Rattle.sh_print.proofs.Printable.{PrintableWord, PrintablePatterns}
 use Rattle.sh_copies.proofs.Leads.{closing_lead}
 
 module _ (b : List ℕ) where

@@ -14,7 +14,7 @@ use Rattle.sh_tree.specs.standard.Tree.{text_of}
 use Rattle.sh_tree.specs.standard.language.Commands.{lead_at, blanks, begins_pipeline, begins_command, begins_simple, begins_compound, is_redirection, is_newline_lead, name_end, entry_of, reserved_words}
 use Rattle.sh_tree.specs.standard.language.HereDocuments.{Mark}
 use Rattle.sh_tree.specs.standard.language.Reading as r
-use Rattle.sh_tree.specs.standard.language.Reading.{ReadsCommand, ReadsCompound, ReadsBreaks, lead_here, behind_token, is_empty}
+use Rattle.sh_tree.specs.standard.language.Reading.{ReadsCommand, is_empty}
 use Rattle.sh_tree.specs.standard.language.States.{Document}
 use Rattle.sh_tree.specs.standard.language.Trees as tree
 use Rattle.sh_tree.specs.standard.language.Trees.{span}

@@ -13,10 +13,9 @@ use Rattle.sh_tree.specs.declared.token.command.Reserved.TheVariants as word
 use Rattle.sh_tree.specs.declared.token.command.Stage.TheVariants.{First}
 use Rattle.sh_tree.specs.standard.language.Commands.{lead_at, blanks, begins_pipeline, begins_command, begins_simple, begins_compound, is_redirection, redirects, is_newline_lead}
 use Rattle.sh_tree.specs.standard.language.Reading as r
-use Rattle.sh_tree.specs.standard.language.Reading.{ReadsList, ReadsDo, ReadsCompound, ReadsBranches, ReadsElse, ReadsForWords, ReadsWords, ReadsBreaks, lead_here, behind_token, parted}
+use Rattle.sh_tree.specs.standard.language.Reading.{ReadsList, ReadsDo, ReadsCompound, ReadsBranches, ReadsElse}
 use Rattle.sh_tree.specs.standard.language.States.{State, Document}
 use Rattle.sh_tree.specs.standard.language.Trees as tree
-use Rattle.sh_tree.specs.standard.language.Trees.{span}
 use Rattle.sh_print.specs.Bare as bare
 use Rattle.sh_print.specs.Layout.{tabs, block, items_text, kind_text, branches_text, otherwise_text}
 use Rattle.sh_print.specs.Lists.{branches_from}

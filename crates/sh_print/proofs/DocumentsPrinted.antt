@@ -10,7 +10,7 @@ use Rattle.sh_tree.specs.standard.language.Commands.{lead_at, blanks, blank_leng
 use Rattle.sh_tree.specs.standard.language.Bytes.{is_first}
 use Rattle.sh_tree.specs.standard.language.HereDocuments.{Mark, behind_line, keeps_document}
 use Rattle.sh_tree.specs.standard.language.Reading as r
-use Rattle.sh_tree.specs.standard.language.Reading.{ReadsDocuments, ReadsBreaks, lead_here}
+use Rattle.sh_tree.specs.standard.language.Reading.{ReadsDocuments, ReadsBreaks}
 use Rattle.sh_tree.specs.standard.language.States.{State, Document}
 use Rattle.sh_tree.specs.standard.language.Trees as tree
 use Rattle.sh_tree.specs.standard.language.Trees.{span}

@@ -20,12 +20,11 @@ use Rattle.sh_tree.specs.standard.language.Bytes.{is_newline, is_first}
 use Rattle.sh_tree.specs.standard.language.Commands.{lead_at, blanks, is_parenthesis, is_word, is_redirection, begins_simple, name_end, direction_of, strip_of}
 use Rattle.sh_tree.specs.standard.language.HereDocuments.{Mark, is_static, is_delimiter, delimiter_of}
 use Rattle.sh_tree.specs.standard.language.Reading as r
-use Rattle.sh_tree.specs.standard.language.Reading.{ReadsWord, ReadsRedirect, ReadsRedirects, ReadsElements, stage_behind, redirected}
+use Rattle.sh_tree.specs.standard.language.Reading.{ReadsWord, ReadsRedirect, ReadsRedirects, ReadsElements, stage_behind}
 use Rattle.sh_tree.specs.standard.language.States.{Document, facing, to, waits}
 use Rattle.sh_tree.specs.standard.language.Trees as tree
 use Rattle.sh_tree.specs.standard.language.Trees.{span}
 use Rattle.sh_print.specs.Bare as bare
-use Rattle.sh_print.specs.Bare.{Text}
 use Rattle.sh_print.specs.Layout.{opens_text, number_text, redirect_text, element_text, redirect_documents, element_documents}
 use Rattle.sh_print.specs.Trees.{word_of, opened_of, redirect_of, element_of}
 use Rattle.sh_print.proofs.TreeLemmas.{element_of-Assignment, element_of-Word, element_of-Redirection, opens_of-File, opens_of-Here, opened_of-File, opened_of-Here}

@@ -9,7 +9,7 @@ use Rattle.sh_tree.specs.declared.token.command.Stage.TheVariants.{First}
 use Rattle.sh_tree.specs.standard.language.Commands.{lead_at, begins_pipeline, is_newline_lead, is_bar, link_of, separator}
 use Rattle.sh_tree.specs.standard.language.HereDocuments.{Mark}
 use Rattle.sh_tree.specs.standard.language.Reading as r
-use Rattle.sh_tree.specs.standard.language.Reading.{ReadsPipeline, ReadsLinks, ReadsAndOr, ReadsItems, ReadsList, ReadsBreaks, lead_here, behind_token, parted}
+use Rattle.sh_tree.specs.standard.language.Reading.{ReadsLinks, ReadsAndOr, ReadsItems, ReadsBreaks, lead_here, parted}
 use Rattle.sh_tree.specs.standard.language.States.{State, Document}
 use Rattle.sh_tree.specs.standard.language.Trees as tree
 use Rattle.sh_print.specs.Bare as bare

@@ -12,7 +12,7 @@ use Rattle.sh_tree.specs.standard.language.Bytes.{is_first}
 use Rattle.sh_tree.specs.standard.language.Commands.{lead_at, blanks, is_parenthesis, is_redirection, begins_simple, begins_command, begins_pipeline, begins_compound, is_newline_lead, separator, redirects}
 use Rattle.sh_tree.specs.standard.language.HereDocuments.{Mark}
 use Rattle.sh_tree.specs.standard.language.Reading as r
-use Rattle.sh_tree.specs.standard.language.Reading.{ReadsBreaks, lead_here, parted, behind_token}
+use Rattle.sh_tree.specs.standard.language.Reading.{ReadsBreaks, parted, behind_token}
 use Rattle.sh_tree.specs.standard.language.States.{Document}
 use Rattle.sh_print.specs.Bare as bare
 use Rattle.sh_print.specs.Layout.{tabs, join, line_end, background_text, document_text, links_text}

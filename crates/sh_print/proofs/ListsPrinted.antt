@@ -7,7 +7,7 @@ use Rattle.sh_tree.specs.declared.token.command.Reserved.TheVariants as word
 use Rattle.sh_tree.specs.declared.token.command.Stage.TheVariants.{First}
 use Rattle.sh_tree.specs.standard.language.Commands.{lead_at, blanks, begins_pipeline, begins_command, begins_simple, begins_compound, is_redirection, is_newline_lead}
 use Rattle.sh_tree.specs.standard.language.Reading as r
-use Rattle.sh_tree.specs.standard.language.Reading.{ReadsList, ReadsDo, ReadsSequence, lead_here, behind_token}
+use Rattle.sh_tree.specs.standard.language.Reading.{ReadsList, ReadsDo}
 use Rattle.sh_tree.specs.standard.language.States.{Document}
 use Rattle.sh_print.specs.Bare as bare
 use Rattle.sh_print.specs.Layout.{tabs, block, items_text}

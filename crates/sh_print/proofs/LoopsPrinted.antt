@@ -11,7 +11,7 @@ use Rattle.sh_tree.specs.standard.Tree.{text_of}
 use Rattle.sh_tree.specs.standard.language.Commands.{lead_at, blanks, begins_compound, is_newline_lead, is_word, name_end, separator}
 use Rattle.sh_tree.specs.standard.language.Contexts.{in_stage}
 use Rattle.sh_tree.specs.standard.language.Reading as r
-use Rattle.sh_tree.specs.standard.language.Reading.{ReadsList, ReadsDo, ReadsCompound, ReadsForWords, ReadsWords, ReadsBreaks, ReadsPatterns, ReadsClauses, ReadsSequence, lead_here, behind_token, parted, unopened}
+use Rattle.sh_tree.specs.standard.language.Reading.{ReadsForWords, ReadsWords}
 use Rattle.sh_tree.specs.standard.language.States.{Document, waits}
 use Rattle.sh_tree.specs.standard.language.Trees as tree
 use Rattle.sh_tree.specs.standard.language.Trees.{span}
@@ -31,7 +31,7 @@ use Rattle.sh_print.proofs.JoinsPrinted.{end_print, line_tail}
 use Rattle.sh_print.proofs.ListsPrinted.{PrintsList, do_print, block_text, reserved_front}
 use Rattle.sh_print.proofs.CompoundsPrinted.{PrintsCompound}
 use Rattle.sh_print.proofs.Printable as p
-use Rattle.sh_print.proofs.Printable.{PrintableWord, PrintableWords, PrintableForWords, PrintablePatterns}
+use Rattle.sh_print.proofs.Printable.{PrintableWords, PrintableForWords}
 
 pub no_waits : waits [] ≡ true → false ≡ true
 unfolding waits

@@ -1,7 +1,7 @@
 -- The leads of the words and operators that the canonical text has of its own.
-use Rattle.std.proofs.Common.{◌≡◌, ℕ, suc, ◌+◌, ◌==◌, Bool, true, false, not, ◌&&◌, ◌||◌, Some, List, [], ◌∷◌, ◌++◌, length, drop, take, codes, if◌then◌else◌, refl, ap, ◌∙◌, cond}
+use Rattle.std.proofs.Common.{◌≡◌, ℕ, ◌+◌, ◌==◌, Bool, true, false, not, ◌&&◌, ◌||◌, Some, List, [], ◌∷◌, ◌++◌, length, drop, take, codes, if◌then◌else◌, refl, ap, ◌∙◌, cond}
 use Rattle.std.proofs.Math.Bool.{and-false}
-use Rattle.std.proofs.lemmas.Bool.{cond-true, cond-false, true≢false, and_parts}
+use Rattle.std.proofs.lemmas.Bool.{cond-true, cond-false, true≢false}
 use Rattle.std.specs.List.{list_all}
 use Rattle.std.proofs.lemmas.List.{drop_at, take_at}
 use Rattle.sh_copies.proofs.CopiedTokens.{run_front}
@@ -18,7 +18,7 @@ use Rattle.sh_tree.specs.declared.token.command.Stage.TheVariants.{First, Prefix
 use Rattle.sh_tree.specs.standard.language.Bytes.{is_in, is_backslash, ends_token, run, is_first, is_joined, joined_length, joined_at, behind_joined, longest, name_length, is_last_backquote}
 use Rattle.sh_tree.specs.standard.language.Words.{ends_joined}
 use Rattle.sh_tree.specs.standard.language.Commands.{is_bare, operator_of, operator_lead, whole_operator, opening, is_split, is_longer, lead_at, lead_of, other_lead, word_lead, first_lead, reserved_lead, bang, bare_word, entry_of, is_assignment, is_parenthesis, is_esac, is_newline_lead}
-use Rattle.sh_copies.proofs.AlikeBytes.{run_no, not_joined}
+use Rattle.sh_copies.proofs.AlikeBytes.{not_joined}
 
 -- a blank or a newline, which follows every word of its own
 pub data Gap : List ℕ → Type 0 where

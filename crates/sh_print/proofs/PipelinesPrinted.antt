@@ -7,7 +7,7 @@ use Rattle.sh_tree.specs.declared.token.command.Stage.TheVariants.{First}
 use Rattle.sh_tree.specs.standard.language.Commands.{lead_at, blanks, begins_pipeline, begins_command, is_newline_lead, is_bar}
 use Rattle.sh_tree.specs.standard.language.HereDocuments.{Mark}
 use Rattle.sh_tree.specs.standard.language.Reading as r
-use Rattle.sh_tree.specs.standard.language.Reading.{ReadsCommand, ReadsCommands, ReadsPipeline, ReadsLinks, ReadsBreaks, lead_here, behind_token}
+use Rattle.sh_tree.specs.standard.language.Reading.{ReadsCommands, ReadsPipeline}
 use Rattle.sh_tree.specs.standard.language.States.{Document}
 use Rattle.sh_tree.specs.standard.language.Trees as tree
 use Rattle.sh_print.specs.Bare as bare

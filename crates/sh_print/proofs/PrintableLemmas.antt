@@ -32,7 +32,7 @@ use Rattle.sh_tree.specs.standard.language.Contexts.{in_operand, in_value, in_wo
 use Rattle.sh_tree.specs.standard.language.HereDocuments.{Mark, delimiter_of, is_delimiter}
 use Rattle.sh_tree.specs.standard.language.Parts.{is_quoted_word}
 use Rattle.sh_tree.specs.standard.language.Reading as r
-use Rattle.sh_tree.specs.standard.language.Reading.{HasNoNul, ReadsTo, ReadsScript, ReadsSequence, ReadsList, ReadsItems, ReadsAndOr, ReadsLinks, ReadsPipeline, ReadsCommands, ReadsCommand, ReadsCompound, ReadsDo, ReadsBranches, ReadsElse, ReadsForWords, ReadsWords, ReadsClauses, ReadsPatterns, ReadsRedirect, ReadsRedirects, ReadsElements, ReadsWord, behind_token, behind_name, is_empty, lead_here, lead_of, skip, stage_behind, unopened, parted}
+use Rattle.sh_tree.specs.standard.language.Reading.{HasNoNul, ReadsTo, ReadsScript, ReadsSequence, ReadsList, ReadsItems, ReadsAndOr, ReadsLinks, ReadsPipeline, ReadsCommands, ReadsCommand, ReadsCompound, ReadsDo, ReadsBranches, ReadsElse, ReadsForWords, ReadsWords, ReadsClauses, ReadsPatterns, ReadsRedirect, ReadsRedirects, ReadsElements, ReadsWord, behind_token, is_empty, lead_here, lead_of, skip, stage_behind, unopened, parted}
 use Rattle.sh_tree.specs.standard.language.States.{Spot, Document, State, as_deep, document_count, facing, lower, next, nth, past, to, waits}
 use Rattle.sh_tree.specs.standard.language.Trees as tree
 use Rattle.sh_tree.specs.standard.language.Trees.{span}

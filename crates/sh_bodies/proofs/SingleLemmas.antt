@@ -16,11 +16,7 @@ use Rattle.sh_tree.specs.declared.tree.Unary.{Unary}
 use Rattle.sh_tree.specs.declared.tree.Word.{Word}
 use Rattle.sh_tree.specs.standard.language.Trees as tree
 use Rattle.sh_tree.specs.standard.language.Parts.{singles, singles_in, row_singles, operator_singles, expression_singles, row_expression_singles, chain_singles}
-
--- those of operands, in order
-unfoldable pub chained : List (Binary × Expr) → List Span
-chained [] = []
-chained (x ∷ xs) = expression_singles x.1 ++ chained xs
+use Rattle.sh_bodies.specs.Singles.{chained}
 
 -- Lists
 
