@@ -35,8 +35,9 @@ pub fn examples()
     ensures { AnswersAsExpected }
 {}
 
-/// The greatest certificate of a script leaves no place unmet that another one meets, so it is accepted wherever one is; and where findings
-/// are told of a script without a certificate, none is accepted.
+/// The greatest certificate of a script leaves no place unmet that another one meets, so it is
+/// accepted wherever one is; and where findings are reported of a script without a certificate,
+/// none is accepted.
 pub fn greatest()
     ensures { GreatestIsBest }
 {}
@@ -65,7 +66,7 @@ pub fn inside()
     ensures { RefusalsStandInside }
 {}
 
-/// Of a script that is read no place is told twice, neither of an unmet demand nor of an
+/// Of a script that is read no place is reported twice, neither of an unmet demand nor of an
 /// expansion outside quotes; so no finding of a report stands twice.
 pub fn once()
     ensures { PlacesStandOnce }

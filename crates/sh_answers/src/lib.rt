@@ -1,4 +1,4 @@
-//! What is told of a script, the text of it, and the ends that it goes between.
+//! What is reported of a script, the text of it, and the ends that it goes between.
 #![tactic(auto)]
 
 mod counted;

@@ -39,8 +39,8 @@ const BORNE: u32 = 1024;
 ///
 /// # Errors
 ///
-/// `Read` where the reader failed or was interrupted more than 1,024 times, `Memory` where a growth was refused. The bytes
-/// that were read until then are lost.
+/// `Read` if the reader failed or was interrupted more than 1,024 times, `Memory` if a growth was
+/// refused. The bytes that were read until then are lost.
 pub fn read_all<R: Feed>(alloc: Global, reader: &mut R, limit: usize) -> Result<Vec<u8>, Fault>
     requires { HasRoom (R.tally reader.old) }
 
@@ -82,8 +82,8 @@ pub fn read_all<R: Feed>(alloc: Global, reader: &mut R, limit: usize) -> Result<
 ///
 /// # Errors
 ///
-/// `Write` where the writer failed, was interrupted more than 1,024 times or took no byte of a piece. What it took is a front
-/// of the text, and not the whole.
+/// `Write` if the writer failed, was interrupted more than 1,024 times or took no byte of a piece.
+/// What it took is a front of the text, and not the whole.
 pub fn write_all<W: Outlet>(writer: &mut W, text: &[u8]) -> Result<(), Fault>
     requires { HasRoom (W.tally writer.old) }
 

@@ -17,7 +17,7 @@ use std::io::Write;
 ///
 /// # Errors
 ///
-/// `AllocError` where a growth was refused, here or in the answer itself.
+/// `AllocError` if a growth was refused, here or in the answer itself.
 pub fn answer(
     alloc: Global,
     script: &[u8],
@@ -103,7 +103,7 @@ fn push_message(out: &mut Vec<u8>, code: Code, subject: &[u8]) -> Result<(), All
     }
 }
 
-// The words before the subject, and those behind it where it is shown.
+// The words before the subject, and those after it where it is shown.
 fn message_parts(code: Code) -> (&'static str, Option<&'static str>)
     ensures { (s : List ℕ) → text.message_text code s ≡ result.0.now ++ text.subject_shown s (option_copied result.1) }
 {

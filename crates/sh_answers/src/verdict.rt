@@ -1,4 +1,4 @@
-//! Findings, and what is told of a script.
+//! Findings, and what is reported of a script.
 ghost use Rattle.std.specs.Prelude.{IfOk};
 ghost use Rattle.std.specs.List.Sorted.{IsPermutation, IsSortedByKey};
 ghost use Rattle.sh_answers.specs.Verdicts.{contents_of, contents_cmp};
@@ -7,7 +7,8 @@ use sh_domain::FlowRule;
 use sh_tree::Code;
 use std::alloc::AllocError;
 
-/// What is told at a place: a demand that is unmet or an unquoted expansion, at its line and column, each from 1, with the name that it is about, or nothing.
+/// What is reported at a place: a demand that is unmet or an unquoted expansion, at its line and
+/// column, each from 1, with the name that it is about, or nothing.
 #[derive(Debug, Drop, PartialEq, Eq, PartialOrd, Ord)]
 pub struct Finding {
     pub line: u32,
@@ -22,12 +23,12 @@ pub struct Report {
     pub findings: Vec<Finding>,
 }
 
-/// What is told of a script that is not refused.
+/// What is reported of a script that is not refused.
 #[derive(Debug, Drop)]
 pub enum Verdict {
-    /// Every demand is met, and no expansion is told as unquoted.
+    /// Every demand is met, and no expansion is reported as unquoted.
     Pass,
-    /// Some demand is unmet, or some expansion is told as unquoted.
+    /// Some demand is unmet, or some expansion is reported as unquoted.
     Fail(Report),
     /// The certificate breaks a flow rule at the command of this number.
     Forged(u32, FlowRule),
@@ -37,7 +38,7 @@ pub enum Verdict {
 ///
 /// # Errors
 ///
-/// `AllocError` where a growth was refused.
+/// `AllocError` if a growth was refused.
 pub fn in_order(mut findings: Vec<Finding>) -> Result<Vec<Finding>, AllocError>
     ensures same { IfOk result (λ v. IsPermutation findings.items v.items) }
     ensures sorted { IfOk result (λ v. IsSortedByKey contents_of contents_cmp v.items) }

@@ -336,7 +336,7 @@ fn fill_clause(
 ///
 /// # Errors
 ///
-/// `AllocError` where a growth was refused.
+/// `AllocError` if a growth was refused.
 pub fn filled(alloc: Global, script: Script, bodies: Items<Document>) -> Result<Script, AllocError>
     ensures { IfOk result (λ t. t ≡ spec.fill bodies script) }
 {

@@ -46,7 +46,7 @@ fn tell_own(
     )
 }
 
-// Whether more than one part stands there, or they share anyway.
+// Whether more than one part is there, or they share anyway.
 fn parts_share(count: usize, shares: bool) -> bool
     ensures { result ≡ walks.parts_share count shares }
 {

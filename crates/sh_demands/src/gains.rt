@@ -70,7 +70,7 @@ fn gain_operator(
     }
 }
 
-/// Whether the operand behind the operator may be left out.
+/// Whether the operand after the operator may be left out.
 #[tactic(auto, unfolding(crate::specs::Knowing::may_stop))]
 fn may_stop(operator: Binary) -> bool
     ensures { result ≡ knowing.may_stop operator }
@@ -184,7 +184,7 @@ fn gain_expanded(expression: &Expr, script: &[u8], known: &mut Known<'_>)
     }
 }
 
-/// What is known behind a word.
+/// What is known after a word.
 #[tactic(auto, using(crate::proofs::GainLemmas::parts_folded))]
 pub fn gain_word(word: &Word, script: &[u8], known: &mut Known<'_>)
     ensures { knowing known.new ≡ gained (word_gains (parts_from script.now word.now.parts)) (knowing known.old) }
@@ -200,7 +200,7 @@ fn gain_each_word(words: &[Word], script: &[u8], known: &mut Known<'_>)
     }
 }
 
-/// What is known behind words, one after the other.
+/// What is known after words, one after the other.
 #[tactic(auto, using(crate::proofs::GainLemmas::words_folded))]
 pub fn gain_words(words: &[Word], script: &[u8], known: &mut Known<'_>)
     ensures { knowing known.new ≡ gained (words_gains (words_from script.now words.now)) (knowing known.old) }
@@ -208,7 +208,7 @@ pub fn gain_words(words: &[Word], script: &[u8], known: &mut Known<'_>)
     gain_each_word(words, script, known);
 }
 
-/// What is known behind the word that a redirection opens, or the body of a here-document.
+/// What is known after the word that a redirection opens, or the body of a here-document.
 #[tactic(auto, using(crate::proofs::GainLemmas::targets))]
 pub fn gain_target(target: &Target, script: &[u8], known: &mut Known<'_>)
     ensures { knowing known.new ≡ gained (redirect_gains (target_of script.now target.now)) (knowing known.old) }
@@ -227,7 +227,7 @@ fn gain_each_redirect(redirects: &[Redirect], script: &[u8], known: &mut Known<'
     }
 }
 
-/// What is known behind redirections, one after the other.
+/// What is known after redirections, one after the other.
 #[tactic(auto, using(crate::proofs::GainLemmas::redirects_folded))]
 pub fn gain_redirects(redirects: &[Redirect], script: &[u8], known: &mut Known<'_>)
     ensures { knowing known.new ≡ gained (redirects_gains (redirects_from script.now redirects.now)) (knowing known.old) }

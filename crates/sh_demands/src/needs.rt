@@ -255,7 +255,7 @@ fn judge_operator(
     }
 }
 
-// A word behind an operator: what it would set is not counted.
+// A word after an operator: what it would set is not counted.
 #[cycle(judge)]
 fn judge_aside(word: &Word, script: &[u8], known: Known<'_>, reports: &mut Reports)
     ensures { Adds reports.old reports.new (λ ps. (fold (walks.part_step script.now) (judged (knowing known.entry) ps) word.now.parts).places) }
@@ -303,7 +303,7 @@ fn judge_expanded(expression: &Expr, script: &[u8], known: &mut Known<'_>, repor
     }
 }
 
-/// The places in a word whose parameter is not surely set, and what is known behind it.
+/// The places in a word whose parameter is not surely set, and what is known after it.
 #[tactic(auto, using(crate::proofs::JudgeLemmas::word_folded))]
 pub fn judge_word(word: &Word, script: &[u8], known: &mut Known<'_>, reports: &mut Reports)
     ensures { Judges (knowing known.old) reports.old (knowing known.new) reports.new (λ s. word_judged s (parts_from script.now word.now.parts)) }

@@ -36,8 +36,8 @@ fn gain_each_element(elements: &[Element], script: &[u8], known: &mut Known<'_>)
     }
 }
 
-/// What is known behind the command name and the operands of a simple command, where its values and its redirections are
-/// judged.
+/// What is known after the command name and the operands of a simple command, where its values and
+/// its redirections are judged.
 #[tactic(auto, using(crate::proofs::OwnLemmas::operands_gained))]
 pub fn gain_operands(elements: &[Element], script: &[u8], known: &mut Known<'_>)
     ensures { knowing known.new ≡ gained (words_gains (operands_in (elements_from script.now elements.now))) (knowing known.old) }
@@ -191,8 +191,9 @@ fn judge_kind(kind: &Kind, script: &[u8], known: &mut Known<'_>, reports: &mut R
     }
 }
 
-/// Adds the places in a command's own words whose parameter is not surely set, where this is known before the command: those in
-/// the redirections behind a compound command, then those in its words. The commands in them are commands of their own.
+/// Adds the places in a command's own words whose parameter is not surely set, where this is known
+/// before the command: those in the redirections after a compound command, then those in its words.
+/// The commands in them are commands of their own.
 #[tactic(auto, using(crate::proofs::OwnLemmas::own_walked))]
 pub fn judge_own(command: &Command, script: &[u8], known: Known<'_>, reports: &mut Reports)
     ensures { Adds reports.old reports.new (λ ps. own_places (knowing known.entry) ps (kind_of script.now (out-Command command.now).kind) (redirects_from script.now (out-Command command.now).redirects)) }

@@ -197,8 +197,8 @@ fn is_reached(source: &Source<'_, '_>, number: u32) -> bool
     source.before(number).is_reached()
 }
 
-/// The names that a command may drop, and that it moves the positional parameters, if it stands in a part of a pipeline and some run
-/// comes to it.
+/// The names that a command may drop, and that it moves the positional parameters, if it is in a
+/// part of a pipeline and some run comes to it.
 #[tactic(auto, unfolding(crate::specs::DropWalks::shared_step, crate::specs::DropWalks::reached_step, crate::specs::Places::shared))]
 pub fn tell_shared(
     shares: bool,

@@ -73,7 +73,7 @@ impl<'a, 's> Source<'a, 's> {
         }
     }
 
-    /// What is known behind the words of a simple command.
+    /// What is known after the words of a simple command.
     pub fn behind(&self, number: u32, elements: &[Element], script: &[u8]) -> Known<'a>
         ensures { knowing result ≡ known_behind self.now number (elements_from script.now elements.now) }
     {

@@ -1,4 +1,4 @@
-//! What is known at a place of a script: sets of names that stand on the stack and take no memory.
+//! What is known at a place of a script: sets of names that are on the stack and take no memory.
 ghost use Rattle.std.specs.Prelude.{◌≡◌, ◌≤◌, ◌-◌, ℕ, List, [], ◌∷◌, true, not, length, codes};
 ghost use Rattle.std.specs.List.{list_all};
 ghost use Rattle.std.specs.Str.{bytes_eq};

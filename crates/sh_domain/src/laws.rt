@@ -42,13 +42,14 @@ pub fn filled()
     ensures { FilledKeeps }
 {}
 
-/// What is seen at several places is the meet of what each view claims: a fact is within it where it is within each, and a step, unless
-/// it is a call, may be taken behind the meet.
+/// What is seen at several places is the meet of what each view claims: a fact is within it where
+/// it is within each, and a step, unless it is a call, may be taken after the meet.
 pub fn meets()
     ensures { SeenIsMeet }
 {}
 
-/// Of a list of faults the one that is told stands in it, none in it precedes that one, and no other is so.
+/// Of a list of faults the one that is reported is in it, none in it precedes that one, and no
+/// other is so.
 pub fn least()
     ensures { LeastIsTold }
 {}
@@ -59,8 +60,9 @@ pub fn inclusions()
     ensures { RulesGive }
 {}
 
-/// The program of every script that is read is formed: a name stands wherever one has to, a positional parameter has a number from 1, plain
-/// text is not empty, an operand whose text is static gives a field, and behind a simple command stand no redirections (XCU 2.10). So its words
+/// The program of every script that is read is formed: a name stands wherever one has to, a
+/// positional parameter has a number from 1, plain text is not empty, an operand whose text is
+/// static gives a field, and after a simple command stand no redirections (XCU 2.10). So its words
 /// give fields, and where it is admitted no run of it comes to a utility that no row speaks of.
 pub fn formed()
     ensures programs { ReadIsFormed }
@@ -76,22 +78,25 @@ pub fn numbered()
     ensures few { ReadHasFewCommands }
 {}
 
-/// Of a program in which no two commands start at one offset, and no two expansions, tildes or names of arithmetic stand at one, no
-/// place is told twice. The program of every script that is read is such (`sh_reads::laws::once`).
+/// Of a program in which no two commands start at one offset, and no two expansions, tildes or
+/// names of arithmetic are at one, no place is reported twice. The program of every script that is
+/// read is such (`sh_reads::laws::once`).
 pub fn once()
     ensures law { PlacesStandOnce }
     ensures scripts { ReadPlacesStandOnce }
     ensures examples { SpotsAsExpected }
 {}
 
-/// Known certificates have the texts that they should have, these texts claim what they should, and of others the first line that has not the
-/// form is told.
+/// Known certificates have the texts that they should have, these texts claim what they should, and
+/// of others the first line that has not the form is reported.
 pub fn certificate_texts()
     ensures { TextsAsExpected }
 {}
 
-/// Known compact certificates are those of known certificates with their start, state what they should at each place, and have the texts that they
-/// should have; these texts claim what they should, of others the first line that has not the form is told, and the first line tells the version.
+/// Known compact certificates are those of known certificates with their start, state what they
+/// should at each place, and have the texts that they should have; these texts claim what they
+/// should, of others the first line that has not the form is reported, and the first line tells the
+/// version.
 pub fn compact_texts()
     ensures { CompactTextsAsExpected }
 {}

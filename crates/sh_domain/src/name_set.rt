@@ -34,7 +34,7 @@ impl NameSet {
     ///
     /// # Errors
     ///
-    /// `TooMany` where there are more than `MAX_NAMES`; `Memory` where a growth was refused.
+    /// `TooMany` if there are more than `MAX_NAMES`; `Memory` if a growth was refused.
     pub fn new(
         alloc: Global,
         tree: &Script,

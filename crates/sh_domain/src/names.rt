@@ -38,7 +38,7 @@ impl Names {
     ///
     /// # Errors
     ///
-    /// `TooMany` where there are more than `MAX_NAMES`; `Memory` where a growth was refused.
+    /// `TooMany` if there are more than `MAX_NAMES`; `Memory` if a growth was refused.
     pub fn new(
         alloc: Global,
         tree: &Script,

@@ -1,4 +1,4 @@
-//! Sets of the numbers of names, which stand on the stack and take no memory.
+//! Sets of the numbers of names, which are on the stack and take no memory.
 ghost use Rattle.std.specs.Prelude.{◌≡◌, ◌<◌, ◌≤◌, ◌*◌, ◌&&◌, ◌||◌, ◌==◌, ◌↔◌, ℕ, List, true, false, not, length, map, nat_lt, IsTrue};
 ghost use Rattle.std.specs.List.{All, list_all};
 ghost use Rattle.std.specs.Str.{bytes_eq};

@@ -1,4 +1,4 @@
-//! The operands of a utility that are names: those behind its options.
+//! The operands of a utility that are names: those after its options.
 ghost use Rattle.std.specs.Prelude.{◌≡◌, false, option_map};
 ghost use Rattle.sh_domain.specs.Sights as spec;
 ghost use Rattle.sh_domain.specs.SightWalks.{seen_in};
@@ -7,7 +7,7 @@ use crate::options::option_takes;
 use crate::sights::Seen;
 use sh_table::{ends_options, is_dashed};
 
-/// The operands of `unset` behind its options.
+/// The operands of `unset` after its options.
 #[tactic(auto, unfolding(crate::specs::Sights::behind_options))]
 pub fn behind_options(mut operands: &[Seen]) -> &[Seen]
     ensures { seen_in result.now ≡ spec.behind_options (seen_in operands.entry.now) }
@@ -26,7 +26,7 @@ pub fn behind_options(mut operands: &[Seen]) -> &[Seen]
     operands
 }
 
-/// The operands of `read` behind its options, or nothing where an option is none of the standard's.
+/// The operands of `read` after its options, or nothing where an option is none of the standard's.
 #[tactic(auto, unfolding(crate::specs::Sights::read_behind))]
 pub fn read_behind(mut operands: &[Seen]) -> Option<&[Seen]>
     ensures { option_map (λ left. seen_in left.now) result ≡ spec.read_behind false (seen_in operands.entry.now) }

@@ -66,8 +66,8 @@ impl Policy {
     ///
     /// # Errors
     ///
-    /// `BadName` with the index of the first text that is no name, whatever memory there is; `Memory` where a growth was
-    /// refused.
+    /// `BadName` with the index of the first text that is no name, whatever memory there is;
+    /// `Memory` if a growth was refused.
     #[tactic(auto, using(crate::proofs::PolicyLemmas::first_bad_mapped, crate::proofs::PolicyLemmas::copies_named))]
     pub fn new(alloc: Global, names: &[&[u8]], args: u16) -> Result<Policy, PolicyFault>
         ensures { Makes (map (λ s. s.now) names.now) args result }

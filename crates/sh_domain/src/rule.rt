@@ -9,7 +9,8 @@ pub enum FlowRule {
     F1,
     /// Each further item of a list is entered with what holds after the one before it.
     F2,
-    /// The pipeline behind `&&` is entered with what holds after zero, the one behind `||` with what holds after another status.
+    /// The pipeline after `&&` is entered with what holds after zero, the one after `||` with what
+    /// holds after another status.
     F3,
     /// What is claimed after a utility is what its row of the table gives.
     F4,
@@ -27,7 +28,8 @@ pub enum FlowRule {
     F10,
     /// A subshell, a substitution and an asynchronous list are entered without `!`, and change nothing outside.
     F11,
-    /// A part of a pipeline is entered without `!`, and nothing that it sets is counted behind the pipeline.
+    /// A part of a pipeline is entered without `!`, and nothing that it sets is counted after the
+    /// pipeline.
     F12,
     /// A definition, the function's body, and what the function may drop.
     F13,
@@ -38,7 +40,8 @@ pub enum FlowRule {
 }
 
 impl FlowRule {
-    /// The place of the rule in their order, from 1: where a command breaks several rules, the one with the least is told.
+    /// The place of the rule in their order, from 1: where a command breaks several rules, the one
+    /// with the least is reported.
     #[tactic(auto, unfolding(crate::specs::Faults::rank))]
     pub fn rank(self) -> u8
         ensures { result ≡ rank self }

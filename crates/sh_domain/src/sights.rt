@@ -21,11 +21,12 @@ pub struct Seen {
     pub name: Vec<u8>,
 }
 
-/// The names in these commands, by their offsets. What stands in a command that is not of these is left out.
+/// The names in these commands, by their offsets. What is in a command that is not of these is left
+/// out.
 ///
 /// # Errors
 ///
-/// Where a growth was refused.
+/// If a growth was refused.
 pub fn names_seen(
     alloc: Global,
     commands: &[&Command],

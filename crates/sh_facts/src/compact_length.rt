@@ -33,7 +33,7 @@ fn behind_text(compact: &Compact, names: &Names, room: usize) -> Option<usize>
     behind_functions(&compact.rows, names, &compact.functions, left)
 }
 
-// Behind the first two lines.
+// After the first two lines.
 fn behind_counts(commands: u32, functions: usize, loops: usize, room: usize) -> Option<usize>
     ensures { Leaves room (length (line (text.compact_line ∷ [])) + length (line (text.compact_counts commands functions loops))) result }
 {

@@ -29,8 +29,8 @@ fn is_first(line: &[u8]) -> bool
     matches!(line, b"shset certificate 2")
 }
 
-/// Whether the lines have the form of a compact certificate's; or the number of the first that has not, from 1. A line that is
-/// missing, or that has no newline, has the number behind the last.
+/// Whether the lines have the form of a compact certificate's; or the number of the first that has
+/// not, from 1. A line that is missing, or that has no newline, has the number after the last.
 pub fn test_compact(text: &[u8]) -> Result<(), u32>
     ensures { field.outcome result ≡ field.outcome (compact.read_compact_sheet text.now) }
 {
@@ -47,7 +47,7 @@ pub fn test_compact(text: &[u8]) -> Result<(), u32>
     }
 }
 
-/// What is behind the first line.
+/// What follows the first line.
 pub fn behind_compact(text: &[u8]) -> Result<&[u8], u32>
     ensures { field.text_left result ≡ field.left_of (read_line compact.is_compact_line 1 text.now) }
 {
@@ -57,7 +57,7 @@ pub fn behind_compact(text: &[u8]) -> Result<&[u8], u32>
     if is_first(line) { Ok(left) } else { Err(1) }
 }
 
-/// The counts in the second line, and what is behind it.
+/// The counts in the second line, and what follows it.
 pub fn behind_three(text: &[u8]) -> Result<(CompactCounts, &[u8]), u32>
     ensures { fields.counts_left result ≡ read_line compact.compact_counts_in 2 text.now }
 {
@@ -70,7 +70,7 @@ pub fn behind_three(text: &[u8]) -> Result<(CompactCounts, &[u8]), u32>
     }
 }
 
-/// The facts of the start in the third line, and what is behind it.
+/// The facts of the start in the third line, and what follows it.
 pub fn behind_start(text: &[u8]) -> Result<(FactText<'_>, &[u8]), u32>
     ensures { fields.start_left result ≡ read_line compact.start_in 3 text.now }
 {
@@ -83,8 +83,8 @@ pub fn behind_start(text: &[u8]) -> Result<(FactText<'_>, &[u8]), u32>
     }
 }
 
-/// The number and the facts in the first line, if it is that of a loop whose command's number is not below the least, and what is
-/// behind it.
+/// The number and the facts in the first line, if it is that of a loop whose command's number is
+/// not below the least, and what follows it.
 pub fn turn_line(least: u32, text: &[u8]) -> Option<(TurnText<'_>, &[u8])>
     ensures { option_map fields.turn_line_of result ≡ field.line_in (compact.turn_in least) text.now }
 {
@@ -92,7 +92,7 @@ pub fn turn_line(least: u32, text: &[u8]) -> Option<(TurnText<'_>, &[u8])>
     Some((turn_in(least, line)?, left))
 }
 
-// What is behind the lines of so many loops, from the fourth line on.
+// What follows the lines of so many loops, from the fourth line on.
 fn behind_turns(count: u16, text: &[u8]) -> Result<&[u8], u32>
     ensures { field.text_left result ≡ field.left_of (compact.read_turns 4 0 count text.now) }
 {

@@ -124,7 +124,7 @@ fn loop_numbers(alloc: Global, commands: &[&Command]) -> Result<Vec<u16>, AllocE
     Ok(numbers)
 }
 
-// The facts at the heads of the loops, and what is behind their lines.
+// The facts at the heads of the loops, and what follows their lines.
 #[derive(Drop)]
 struct ReadTurns<'t> {
     heads: IndexMap<u32, Facts>,
@@ -160,7 +160,7 @@ fn read_turns<'t>(
     Ok(ReadTurns { heads, left })
 }
 
-/// Puts the facts of a loop behind the others, of which none is its own.
+/// Puts the facts of a loop after the others, of which none is its own.
 pub fn put_last(
     heads: &mut IndexMap<u32, Facts>,
     number: u32,

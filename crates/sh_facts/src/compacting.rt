@@ -106,7 +106,7 @@ fn keep_heads(
     Ok(heads)
 }
 
-// The facts at the head of a command, if it is a loop, behind the others.
+// The facts at the head of a command, if it is a loop, after the others.
 fn keep_head(
     alloc: Global,
     rows: &mut Rows,

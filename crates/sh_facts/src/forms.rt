@@ -103,7 +103,7 @@ pub fn function_in(number: u16, line: &[u8]) -> Option<FunctionTexts<'_>>
     function_facts(behind_number(b'f', number, line)?)
 }
 
-// What stands behind the letter and the number of a line, if these begin it.
+// What follows the letter and the number of a line, if these begin it.
 fn behind_number(letter: u8, number: u16, line: &[u8]) -> Option<&[u8]>
     ensures { option_map (λ t. form.pieces 32 t.now) result ≡ field.behind_number letter number (form.pieces 32 line.now) }
 {

@@ -1,5 +1,5 @@
-//! The lines of a certificate's text: each function takes the room that there is, and gives what is left of it behind what it counts, or
-//! nothing where there is not so much.
+//! The lines of a certificate's text: each function takes the room that there is, and gives what is
+//! left of it after what it counts, or nothing where there is not so much.
 ghost use Rattle.std.specs.Prelude.{◌≡◌, ◌+◌, ◌^◌, ◌≤◌, ◌<◌, ◌∷◌, [], ◌↔◌, length, map, IsTrue};
 ghost use Rattle.std.specs.Option.{option_copied};
 ghost use Rattle.std.specs.Fmt.{decimal};
@@ -30,7 +30,7 @@ fn behind_text(certificate: &Certificate, names: &Names, room: usize) -> Option<
     behind_functions(&certificate.rows, names, &certificate.functions, left)
 }
 
-// Behind the first two lines.
+// After the first two lines.
 fn behind_counts(commands: usize, functions: usize, room: usize) -> Option<usize>
     requires commands { commands < 2 ^ 32 }
     requires functions { functions < 2 ^ 32 }
@@ -88,7 +88,7 @@ fn behind_entry(
     }
 }
 
-/// Behind the lines of the functions.
+/// After the lines of the functions.
 pub fn behind_functions(
     rows: &Rows,
     names: &Names,
@@ -123,7 +123,7 @@ fn behind_function(
     behind_fact(rows, names, entry.nonzero, zero)
 }
 
-/// Behind facts, and the blank or the newline that follows them.
+/// After facts, and the blank or the newline that follows them.
 pub fn behind_fact(rows: &Rows, names: &Names, facts: Facts, room: usize) -> Option<usize>
     ensures { Leaves room (length (text.claim_text (claims.claim_of (claims.in_byte_order names.now) rows.now facts)) + 1) result }
 {
@@ -140,7 +140,7 @@ pub fn behind_fact(rows: &Rows, names: &Names, facts: Facts, room: usize) -> Opt
     }
 }
 
-// Behind the variables, the functions, and a byte after each.
+// After the variables, the functions, and a byte after each.
 fn behind_drops(rows: &Rows, names: &Names, drops: Drops, room: usize) -> Option<usize>
     ensures { Leaves room (length (text.drops_text (claims.drops_of (claims.in_byte_order names.now) rows.now drops)) + 1) result }
 {

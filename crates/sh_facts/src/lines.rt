@@ -8,8 +8,8 @@ ghost use Rattle.sh_domain.specs.Sheets.{first_line};
 use crate::forms::{CommandTexts, Counts, FunctionTexts, command_in, counts_in, function_in};
 use crate::splits::cut;
 
-/// Whether the lines have the form of a certificate's; or the number of the first that has not, from 1. A line that is missing, or that has
-/// no newline, has the number behind the last.
+/// Whether the lines have the form of a certificate's; or the number of the first that has not,
+/// from 1. A line that is missing, or that has no newline, has the number after the last.
 pub fn test_lines(text: &[u8]) -> Result<(), u32>
     ensures { field.outcome result ≡ field.outcome (form.read_sheet text.now) }
 {
@@ -25,7 +25,7 @@ pub fn test_lines(text: &[u8]) -> Result<(), u32>
     }
 }
 
-/// What is behind the first line.
+/// What follows the first line.
 pub fn behind_first(text: &[u8]) -> Result<&[u8], u32>
     ensures { field.text_left result ≡ field.left_of (form.read_line form.is_first 1 text.now) }
 {
@@ -41,7 +41,7 @@ fn is_first(line: &[u8]) -> bool
     matches!(line, b"shset certificate 1")
 }
 
-/// The counts in the second line, and what is behind it.
+/// The counts in the second line, and what follows it.
 pub fn behind_counts(text: &[u8]) -> Result<(Counts, &[u8]), u32>
     ensures { field.counts_left result ≡ form.read_line form.counts_in 2 text.now }
 {
@@ -54,7 +54,7 @@ pub fn behind_counts(text: &[u8]) -> Result<(Counts, &[u8]), u32>
     }
 }
 
-/// The facts in the first line, if it is that of the command of a number, and what is behind it.
+/// The facts in the first line, if it is that of the command of a number, and what follows it.
 pub fn command_line(number: u16, text: &[u8]) -> Option<(CommandTexts<'_>, &[u8])>
     ensures { option_map field.command_line_of result ≡ field.line_in (form.command_in number) text.now }
 {
@@ -62,7 +62,7 @@ pub fn command_line(number: u16, text: &[u8]) -> Option<(CommandTexts<'_>, &[u8]
     Some((command_in(number, line)?, left))
 }
 
-/// The facts in the first line, if it is that of the function of a number, and what is behind it.
+/// The facts in the first line, if it is that of the function of a number, and what follows it.
 pub fn function_line(number: u16, text: &[u8]) -> Option<(FunctionTexts<'_>, &[u8])>
     ensures { option_map field.function_line_of result ≡ field.line_in (form.function_in number) text.now }
 {
@@ -70,7 +70,7 @@ pub fn function_line(number: u16, text: &[u8]) -> Option<(FunctionTexts<'_>, &[u
     Some((function_in(number, line)?, left))
 }
 
-// What is behind the lines of so many commands, from the third line on.
+// What follows the lines of so many commands, from the third line on.
 fn behind_commands(count: u16, text: &[u8]) -> Result<&[u8], u32>
     ensures { field.text_left result ≡ field.left_of (form.read_lines form.command_in 3 1 count text.now) }
 {
@@ -84,7 +84,7 @@ fn behind_commands(count: u16, text: &[u8]) -> Result<&[u8], u32>
     Ok(left)
 }
 
-/// What is behind the lines of so many functions, of which the first has this number.
+/// What follows the lines of so many functions, of which the first has this number.
 pub fn behind_functions(first: u32, count: u16, text: &[u8]) -> Result<&[u8], u32>
     requires { first < 2 ^ 31 }
     ensures { field.text_left result ≡ field.left_of (form.read_lines form.function_in first 1 count text.now) }

@@ -7,10 +7,10 @@ ghost use Rattle.sh_facts.specs.Room.{Leaves, LeavesNames, bytes_from};
 
 use sh_domain::{Names, RowId, Rows};
 
-// The numbers whose bits stand in one word.
+// The numbers whose bits are in one word.
 const BITS: u32 = 64;
 
-/// The room that is left behind the names of a row and one more byte.
+/// The room that is left after the names of a row and one more byte.
 pub fn behind_row(rows: &Rows, names: &Names, row: RowId, room: usize) -> Option<usize>
     ensures { Leaves room (length (text.names_text (claims.names_at (claims.in_byte_order names.now) rows.now row)) + 1) result }
 {
@@ -22,7 +22,7 @@ pub fn behind_row(rows: &Rows, names: &Names, row: RowId, room: usize) -> Option
     }
 }
 
-// Behind the names of a row, each with a byte behind it.
+// After the names of a row, each with a byte after it.
 fn behind_names(rows: &Rows, names: &Names, row: RowId, room: usize) -> Option<usize>
     ensures { Leaves room (bytes_from rows.now row names.now 0) result }
 {
@@ -37,7 +37,7 @@ fn behind_names(rows: &Rows, names: &Names, row: RowId, room: usize) -> Option<u
     Some(left)
 }
 
-// Behind those whose bits stand in one word, of which most have none.
+// After those whose bits are in one word, of which most have none.
 fn behind_word(
     rows: &Rows,
     names: &Names,
@@ -57,7 +57,7 @@ fn behind_word(
     behind_numbers(rows, names, row, from, to, room)
 }
 
-// Whether a row has none of the numbers whose bits stand in the word of this index.
+// Whether a row has none of the numbers whose bits are in the word of this index.
 fn has_none(rows: &Rows, row: RowId, index: u32) -> bool
     ensures { result ≡ true → (k : ℕ) → k / 64 ≡ index → holds_at rows.now.rows row.index k ≡ false }
 {
@@ -70,7 +70,7 @@ fn has_none(rows: &Rows, row: RowId, index: u32) -> bool
     }
 }
 
-// Behind those from one number up to another.
+// After those from one number up to another.
 fn behind_numbers(
     rows: &Rows,
     names: &Names,
@@ -90,7 +90,7 @@ fn behind_numbers(
     Some(left)
 }
 
-// Behind the name of a number and one more byte, if the number is in the row.
+// After the name of a number and one more byte, if the number is in the row.
 fn behind_number(rows: &Rows, names: &Names, row: RowId, number: u32, room: usize) -> Option<usize>
     requires { number < length names.now }
     ensures { LeavesNames rows.now row names.now number (number + 1) room result }

@@ -5,7 +5,7 @@ ghost use Rattle.sh_domain.specs.Forms as form;
 
 use bstr::ByteSlice;
 
-/// What stands before the first such byte, and what behind it.
+/// What is before the first such byte, and what after it.
 pub fn cut(text: &[u8], byte: u8) -> Option<(&[u8], &[u8])>
     ensures at { option_map sides_of result ≡ form.cut_at byte text.now }
     ensures two { IfSome result (λ x. form.pieces byte text.now ≡ x.0.now ∷ form.pieces byte x.1.now) }
@@ -15,7 +15,7 @@ pub fn cut(text: &[u8], byte: u8) -> Option<(&[u8], &[u8])>
     text.split_once_str(&[byte])
 }
 
-/// The piece before the first such byte, and what is behind that byte, if it is there.
+/// The piece before the first such byte, and what follows that byte, if it is there.
 #[tactic(auto, unfolding(crate::specs::Fields::pieces_left))]
 pub fn first_piece(text: &[u8], byte: u8) -> (&[u8], Option<&[u8]>)
     ensures pieces { form.pieces byte text.now ≡ result.0.now ∷ pieces_left byte result.1 }

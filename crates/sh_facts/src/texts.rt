@@ -18,7 +18,7 @@ use std::io::Write;
 ///
 /// # Errors
 ///
-/// Where a growth was refused.
+/// If a growth was refused.
 pub fn write_certificate(
     alloc: Global,
     certificate: &Certificate,
@@ -217,7 +217,7 @@ fn push_numbered(
     Ok(false)
 }
 
-// The name, behind a comma unless it is the first.
+// The name, after a comma unless it is the first.
 #[tactic(auto, unfolding(sh_domain::specs::Numbered::next_name))]
 fn push_name(out: &mut Vec<u8>, is_first: bool, name: &[u8]) -> Result<(), AllocError>
     ensures { OnOk result (out.new.items ≡ out.old.items ++ next_name is_first name.now) }

@@ -33,7 +33,7 @@ use std::alloc::AllocError;
 ///
 /// # Errors
 ///
-/// Where a growth was refused or no place for a row is left.
+/// If a growth was refused or no place for a row is left.
 pub fn lower_at(
     subject: &Subject<'_>,
     draft: &mut Draft,
@@ -119,7 +119,7 @@ fn lower_entered(
 ///
 /// # Errors
 ///
-/// Where a growth was refused or no place for a row is left.
+/// If a growth was refused or no place for a row is left.
 pub fn lower_before(
     subject: &Subject<'_>,
     draft: &mut Draft,

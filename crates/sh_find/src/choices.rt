@@ -22,11 +22,11 @@ use sh_rules::{Around, met};
 use sh_tree::{Branch, Clause, Script, Word};
 use std::alloc::AllocError;
 
-/// Lowers the certificate at the branches of `if`, and at what stands behind `else`.
+/// Lowers the certificate at the branches of `if`, and at what follows `else`.
 ///
 /// # Errors
 ///
-/// Where a growth was refused or no place for a row is left.
+/// If a growth was refused or no place for a row is left.
 #[cycle(sweep)]
 pub fn sweep_cond(
     subject: &Subject<'_>,
@@ -52,7 +52,8 @@ pub fn sweep_cond(
     }
 }
 
-// Lowers the certificate at the branches; what is known behind the last condition, where it was not zero, is left for `else`.
+// Lowers the certificate at the branches; what is known after the last condition, where it was not
+// zero, is left for `else`.
 #[cycle(sweep)]
 fn sweep_branches(
     subject: &Subject<'_>,
@@ -120,7 +121,7 @@ fn sweep_branch(
 ///
 /// # Errors
 ///
-/// Where a growth was refused or no place for a row is left.
+/// If a growth was refused or no place for a row is left.
 #[cycle(sweep)]
 pub fn sweep_case(
     subject: &Subject<'_>,
@@ -185,7 +186,7 @@ fn sweep_clause(
     sweep_body(subject, draft, levels, around, behind, fallen, clause)
 }
 
-// Lowers the certificate at the list of a clause, and goes on behind it.
+// Lowers the certificate at the list of a clause, and goes on after it.
 #[cycle(sweep)]
 fn sweep_body(
     subject: &Subject<'_>,

@@ -56,7 +56,7 @@ fn no_names(alloc: Global, rows: &mut Rows, count: u32) -> Result<RowId, AllocEr
 ///
 /// # Errors
 ///
-/// Where a growth was refused.
+/// If a growth was refused.
 pub fn unreached(
     alloc: Global,
     count: u32,

@@ -1,4 +1,4 @@
-//! Whether commands stand in words, of which those without any are passed over.
+//! Whether commands are in words, of which those without any are passed over.
 ghost use Rattle.std.specs.Prelude.{◌≡◌, ℕ, List, drop};
 ghost use Rattle.std.specs.List.{list_any};
 ghost use Rattle.sh_tree.specs.Lists.{elements_from, parts_from, redirects_from};
@@ -80,7 +80,7 @@ fn chain_has(rest: &[(Binary, Expr)]) -> bool
     false
 }
 
-/// Whether a command substitution stands in a word, or in a word or an expression in it (XCU 2.6.3).
+/// Whether a command substitution is in a word, or in a word or an expression in it (XCU 2.6.3).
 #[tactic(auto, using(crate::proofs::InnerLemmas::word_listed))]
 pub fn is_in_word(word: &Word) -> bool
     ensures { (b : List ℕ) → result ≡ spec.word_substitutes (parts_from b word.now.parts) }
@@ -137,7 +137,7 @@ fn elements_have(elements: &[Element]) -> bool
     false
 }
 
-/// Whether one stands in the words of redirections, or in the bodies of here-documents (XCU 2.7).
+/// Whether one is in the words of redirections, or in the bodies of here-documents (XCU 2.7).
 #[tactic(auto, using(crate::proofs::InnerLemmas::redirects_listed))]
 pub fn is_in_redirects(redirects: &[Redirect]) -> bool
     ensures { (b : List ℕ) → result ≡ spec.redirects_substitute (redirects_from b redirects.now) }
@@ -145,7 +145,7 @@ pub fn is_in_redirects(redirects: &[Redirect]) -> bool
     redirects_have(redirects)
 }
 
-/// Whether one stands in the words of a simple command.
+/// Whether one is in the words of a simple command.
 #[tactic(auto, using(crate::proofs::InnerLemmas::elements_listed))]
 pub fn is_in_elements(elements: &[Element]) -> bool
     ensures { (b : List ℕ) → result ≡ spec.elements_substitute (elements_from b elements.now) }

@@ -118,7 +118,7 @@ fn put_function(entries: &mut Vec<FunctionEntry>, index: usize, part: Part, fact
 ///
 /// # Errors
 ///
-/// Where a growth was refused.
+/// If a growth was refused.
 pub fn put(certificate: &mut Certificate, place: Place, facts: Facts) -> Result<(), AllocError>
     requires { is_some (spec.kept_at certificate.old place) ≡ true }
     ensures { OnOk result (spec.IsPut certificate.old certificate.new place facts) }

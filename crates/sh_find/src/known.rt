@@ -54,7 +54,7 @@ pub fn nonzero_of(subject: &Subject<'_>, certificate: &Certificate, number: u32)
     claims.nonzero(number)
 }
 
-// Behind redirections.
+// After redirections.
 fn behind_redirections(
     subject: &Subject<'_>,
     certificate: &Certificate,
@@ -71,7 +71,7 @@ fn behind_redirections(
     behind
 }
 
-/// Inside a command, behind its redirections.
+/// Inside a command, after its redirections.
 pub fn inside_of(subject: &Subject<'_>, certificate: &Certificate, command: &Command) -> Knowledge
     requires { (probed : ℕ) × IsReady subject.now certificate.now probed }
     ensures { Knows subject.now (behind_redirects (out-Command command.now).number (redirects_from subject.now.script.now (out-Command command.now).redirects)) (knowledge_facts subject.now.names.now result) }
@@ -98,7 +98,7 @@ pub fn started_in(subject: &Subject<'_>, certificate: &Certificate, known: &Know
     without_job(&claims, known)
 }
 
-/// Behind a pipeline.
+/// After a pipeline.
 pub fn behind_pipe(
     subject: &Subject<'_>,
     certificate: &Certificate,
@@ -113,7 +113,7 @@ pub fn behind_pipe(
     pipe_behind(&claims, known, pipe)
 }
 
-/// Goes on behind the pipeline that follows `&&` or `||`.
+/// Goes on after the pipeline that follows `&&` or `||`.
 pub fn pass_link(
     subject: &Subject<'_>,
     certificate: &Certificate,
@@ -185,7 +185,7 @@ pub fn entry_of(subject: &Subject<'_>, certificate: &Certificate, name: Span) ->
     entry_by(subject, certificate, name.text(subject.script))
 }
 
-/// Behind a word.
+/// After a word.
 pub fn behind_word(
     subject: &Subject<'_>,
     certificate: &Certificate,
@@ -202,7 +202,7 @@ pub fn behind_word(
     behind
 }
 
-/// Behind the command name and the operands of a simple command.
+/// After the command name and the operands of a simple command.
 pub fn behind_operands(
     subject: &Subject<'_>,
     certificate: &Certificate,
@@ -221,7 +221,7 @@ pub fn behind_operands(
     behind.knowledge
 }
 
-/// In the word behind an operator, where it is expanded.
+/// In the word after an operator, where it is expanded.
 pub fn operand_of(
     subject: &Subject<'_>,
     certificate: &Certificate,
@@ -239,7 +239,7 @@ pub fn operand_of(
     inside
 }
 
-/// Behind an expansion with an operator and a word.
+/// After an expansion with an operator and a word.
 pub fn behind_action(
     subject: &Subject<'_>,
     certificate: &Certificate,
@@ -257,7 +257,7 @@ pub fn behind_action(
     behind
 }
 
-/// Behind arithmetic, by the names that it is sure to assign.
+/// After arithmetic, by the names that it is sure to assign.
 pub fn behind_assigned(
     subject: &Subject<'_>,
     certificate: &Certificate,
@@ -274,7 +274,7 @@ pub fn behind_assigned(
     behind
 }
 
-/// Goes on behind an item of a list.
+/// Goes on after an item of a list.
 pub fn pass_on(subject: &Subject<'_>, certificate: &Certificate, course: &mut Course, item: &Item)
     requires { (probed : ℕ) × IsReady subject.now certificate.now probed }
     ensures { IsPassed subject.now course.old course.new item.now }
@@ -284,7 +284,7 @@ pub fn pass_on(subject: &Subject<'_>, certificate: &Certificate, course: &mut Co
     course.by = FlowRule::F2;
 }
 
-/// Goes on behind items of a list.
+/// Goes on after items of a list.
 pub fn pass_all(
     subject: &Subject<'_>,
     certificate: &Certificate,

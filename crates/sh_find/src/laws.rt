@@ -23,8 +23,8 @@ pub fn functions()
     ensures known { RulesKnowNames }
 {}
 
-/// Where no command substitution stands in a word, in redirections or in the words of a simple command, no command of these is entered. So words without
-/// any may be passed over.
+/// Where no command substitution is in a word, in redirections or in the words of a simple command,
+/// no command of these is entered. So words without any may be passed over.
 pub fn words()
     ensures { EntersNothing }
 {}

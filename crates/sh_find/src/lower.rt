@@ -23,7 +23,7 @@ use std::alloc::AllocError;
 ///
 /// # Errors
 ///
-/// Where a growth was refused or no place for a row is left.
+/// If a growth was refused or no place for a row is left.
 pub fn lower(
     names: &Names,
     writable: &Writable,
@@ -106,7 +106,7 @@ fn keep_drops(
 ///
 /// # Errors
 ///
-/// Where a growth was refused or no place for a row is left.
+/// If a growth was refused or no place for a row is left.
 pub fn count(
     names: &Names,
     writable: &Writable,

@@ -128,11 +128,11 @@ fn lower_once(
     Ok((gather.kept, gather.next))
 }
 
-/// Lowers the certificate where a command is entered and behind it.
+/// Lowers the certificate where a command is entered and after it.
 ///
 /// # Errors
 ///
-/// Where a growth was refused or no place for a row is left.
+/// If a growth was refused or no place for a row is left.
 pub fn lower_command(
     subject: &Subject<'_>,
     draft: &mut Draft,
@@ -154,7 +154,7 @@ pub fn lower_command(
 ///
 /// # Errors
 ///
-/// Where a growth was refused or no place for a row is left.
+/// If a growth was refused or no place for a row is left.
 pub fn lower_head(
     subject: &Subject<'_>,
     draft: &mut Draft,
@@ -178,7 +178,7 @@ pub fn lower_head(
     Ok(())
 }
 
-// What the flow rules ask at a command, gathered for both places behind it.
+// What the flow rules ask at a command, gathered for both places after it.
 fn asked_behind(
     subject: &Subject<'_>,
     certificate: &Certificate,
@@ -243,7 +243,8 @@ fn lower_second(subject: &Subject<'_>, draft: &mut Draft, sides: &Sides) -> Resu
     }
 }
 
-// Lowers what is claimed at both places behind a command by one visit; says whether all of it was kept, and of what more was asked.
+// Lowers what is claimed at both places after a command by one visit; says whether all of it was
+// kept, and of what more was asked.
 fn lower_sides(
     subject: &Subject<'_>,
     draft: &mut Draft,
@@ -298,11 +299,12 @@ fn lower_others(
     Ok(())
 }
 
-/// Lowers what is claimed behind a command; and what is claimed elsewhere or a function may drop, where the command asks for more of that.
+/// Lowers what is claimed after a command; and what is claimed elsewhere or a function may drop,
+/// where the command asks for more of that.
 ///
 /// # Errors
 ///
-/// Where a growth was refused or no place for a row is left.
+/// If a growth was refused or no place for a row is left.
 pub fn lower_behind(
     subject: &Subject<'_>,
     draft: &mut Draft,

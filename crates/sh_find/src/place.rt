@@ -2,8 +2,8 @@
 ghost use Rattle.std.specs.Prelude.{◌≡◌};
 ghost use Rattle.sh_find.specs.Places as spec;
 
-/// What is claimed of: a command, where it is entered and behind it by its status; each turn of a loop; a function, where it is entered and
-/// where it returns by its status.
+/// What is claimed of: a command, where it is entered and after it by its status; each turn of a
+/// loop; a function, where it is entered and where it returns by its status.
 #[derive(Clone, Copy, Debug, PartialEq, Eq)]
 pub enum Part {
     Before,

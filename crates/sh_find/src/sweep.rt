@@ -1,4 +1,5 @@
-//! A sweep of the search over the commands of a list: each command is lowered where the sweep comes to it, before those behind it (XCU 2.9).
+//! A sweep of the search over the commands of a list: each command is lowered where the sweep comes
+//! to it, before those after it (XCU 2.9).
 ghost use Rattle.std.specs.Prelude.{◌∷◌, ◌<◌, ◌≤◌, ◌-◌, ℕ, List, true, length, take, drop, IfOk};
 ghost use Rattle.sh_tree.specs.standard.Tree.{text_of};
 ghost use Rattle.sh_tree.specs.declared.tree.Item as tree;
@@ -43,11 +44,12 @@ pub const LEVELS: u32 = 2048;
 // How many of them are gone into at most if a call is followed.
 const CALLS: u32 = 128;
 
-/// Lowers the certificate at each item of a list, and goes on behind the last. So many levels are gone into; what stands further in is left to turns.
+/// Lowers the certificate at each item of a list, and goes on after the last. So many levels are
+/// gone into; what stands further in is left to turns.
 ///
 /// # Errors
 ///
-/// Where a growth was refused or no place for a row is left.
+/// If a growth was refused or no place for a row is left.
 #[cycle(sweep)]
 pub fn sweep_items(
     subject: &Subject<'_>,
@@ -73,8 +75,8 @@ pub fn sweep_items(
     Ok(())
 }
 
-// Goes on behind the items from a place on that do not wait, if nothing is new before them. Gives the
-// place of the next one.
+// Goes on after the items from a place on that do not wait, if nothing is new before them. Gives
+// the place of the next one.
 fn pass_idle(
     subject: &Subject<'_>,
     draft: &Draft,
@@ -97,8 +99,8 @@ fn pass_idle(
     next
 }
 
-// Goes on behind an item, and lowers the certificate at its commands if what is known before them is
-// new or one of them waits. Reports whether what is known behind it is new: a hint.
+// Goes on after an item, and lowers the certificate at its commands if what is known before them is
+// new or one of them waits. Reports whether what is known after it is new: a hint.
 #[cycle(sweep)]
 fn sweep_or_pass(
     subject: &Subject<'_>,
@@ -123,7 +125,7 @@ fn sweep_or_pass(
     Ok(draft.lowered != before || (is_new && !is_settled(item)))
 }
 
-// Lowers the certificate at the commands of an item, and goes on behind it.
+// Lowers the certificate at the commands of an item, and goes on after it.
 #[cycle(sweep)]
 fn sweep_item(
     subject: &Subject<'_>,
@@ -236,7 +238,7 @@ fn sweep_links(
     Ok(())
 }
 
-// As `sweep_or_pass`, of the pipeline behind `&&` or `||`.
+// As `sweep_or_pass`, of the pipeline after `&&` or `||`.
 #[cycle(sweep)]
 fn link_or_pass(
     subject: &Subject<'_>,
@@ -263,7 +265,7 @@ fn link_or_pass(
     Ok(is_new || draft.lowered != before)
 }
 
-// Lowers the certificate at the pipeline behind `&&` or `||`, and goes on behind it.
+// Lowers the certificate at the pipeline after `&&` or `||`, and goes on after it.
 #[cycle(sweep)]
 fn sweep_link(
     subject: &Subject<'_>,
@@ -410,9 +412,9 @@ fn sweep_looked(
     }
 }
 
-// Lowers the certificate at the commands in the words of a simple command, and behind it if something
-// is new. If that enters a function for the first time, it goes on in its bodies, and then behind the
-// command again.
+// Lowers the certificate at the commands in the words of a simple command, and after it if
+// something is new. If that enters a function for the first time, it goes on in its bodies, and
+// then after the command again.
 #[cycle(sweep)]
 fn sweep_simple(
     subject: &Subject<'_>,
@@ -461,7 +463,7 @@ fn sweep_held(
     sweep_inside(subject, draft, levels, around, command)
 }
 
-// Lowers the certificate in a compound command, and behind it if something is new.
+// Lowers the certificate in a compound command, and after it if something is new.
 #[cycle(sweep)]
 fn sweep_compound(
     subject: &Subject<'_>,
@@ -550,7 +552,7 @@ fn sweep_kind(
     }
 }
 
-// Lowers the certificate at what stands in `if` or `case`, or in a loop.
+// Lowers the certificate at what is in `if` or `case`, or in a loop.
 #[cycle(sweep)]
 fn sweep_conditional(
     subject: &Subject<'_>,
@@ -581,7 +583,7 @@ fn sweep_conditional(
     }
 }
 
-// Lowers the certificate at what stands in a loop.
+// Lowers the certificate at what is in a loop.
 #[cycle(sweep)]
 fn sweep_iteration(
     subject: &Subject<'_>,
@@ -621,7 +623,7 @@ fn sweep_iteration(
 ///
 /// # Errors
 ///
-/// Where a growth was refused or no place for a row is left.
+/// If a growth was refused or no place for a row is left.
 #[cycle(sweep)]
 pub fn sweep_list(
     subject: &Subject<'_>,

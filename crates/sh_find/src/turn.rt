@@ -57,7 +57,7 @@ fn asked(subject: &Subject<'_>, certificate: &Certificate, target: Target) -> Ga
 ///
 /// # Errors
 ///
-/// Where a growth was refused or no place for a row is left.
+/// If a growth was refused or no place for a row is left.
 #[tactic(auto, unfolding(crate::specs::Kept::seen_of))]
 pub fn lower_known(
     names: &Names,
@@ -90,7 +90,7 @@ pub fn lower_known(
 ///
 /// # Errors
 ///
-/// Where a growth was refused or no place for a row is left.
+/// If a growth was refused or no place for a row is left.
 pub fn lower_gathered(
     names: &Names,
     writable: &Writable,
@@ -157,7 +157,7 @@ fn lower_next(
 ///
 /// # Errors
 ///
-/// Where a growth was refused or no place for a row is left.
+/// If a growth was refused or no place for a row is left.
 pub fn turn(
     subject: &Subject<'_>,
     certificate: &mut Certificate,

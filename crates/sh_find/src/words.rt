@@ -27,12 +27,12 @@ use sh_tree::{
 };
 use std::alloc::AllocError;
 
-/// Lowers the certificate at the commands in the words of a simple command: each word is expanded behind those before it, and values and
-/// redirections behind all of them.
+/// Lowers the certificate at the commands in the words of a simple command: each word is expanded
+/// after those before it, and values and redirections after all of them.
 ///
 /// # Errors
 ///
-/// Where a growth was refused or no place for a row is left.
+/// If a growth was refused or no place for a row is left.
 #[cycle(sweep)]
 pub fn sweep_elements(
     subject: &Subject<'_>,
@@ -79,11 +79,12 @@ fn sweep_element(
     }
 }
 
-/// Lowers the certificate at the commands in the redirections of a command: each is made behind those before it.
+/// Lowers the certificate at the commands in the redirections of a command: each is made after
+/// those before it.
 ///
 /// # Errors
 ///
-/// Where a growth was refused or no place for a row is left.
+/// If a growth was refused or no place for a row is left.
 #[cycle(sweep)]
 pub fn sweep_redirections(
     subject: &Subject<'_>,
@@ -145,7 +146,7 @@ fn pass_target(
 ///
 /// # Errors
 ///
-/// Where a growth was refused or no place for a row is left.
+/// If a growth was refused or no place for a row is left.
 #[cycle(sweep)]
 pub fn sweep_for_words(
     subject: &Subject<'_>,
@@ -187,7 +188,7 @@ fn sweep_words(
 ///
 /// # Errors
 ///
-/// Where a growth was refused or no place for a row is left.
+/// If a growth was refused or no place for a row is left.
 #[cycle(sweep)]
 pub fn sweep_patterns(
     subject: &Subject<'_>,
@@ -206,11 +207,11 @@ pub fn sweep_patterns(
     Ok(())
 }
 
-/// Lowers the certificate at the commands in a word, and goes on behind it.
+/// Lowers the certificate at the commands in a word, and goes on after it.
 ///
 /// # Errors
 ///
-/// Where a growth was refused or no place for a row is left.
+/// If a growth was refused or no place for a row is left.
 #[cycle(sweep)]
 pub fn pass_word(
     subject: &Subject<'_>,
@@ -367,7 +368,7 @@ fn pass_operator(
     }
 }
 
-// The word is judged where it is expanded; behind the expansion it is not counted.
+// The word is judged where it is expanded; after the expansion it is not counted.
 #[cycle(sweep)]
 fn pass_action(
     subject: &Subject<'_>,
@@ -389,7 +390,7 @@ fn pass_action(
     Ok(())
 }
 
-// What is assigned is known behind all expansions.
+// What is assigned is known after all expansions.
 #[cycle(sweep)]
 fn pass_arithmetic(
     subject: &Subject<'_>,

@@ -31,7 +31,7 @@ impl<F: Fn(Global, &[u8], Cursor) -> Result<(Script, Cursor), Refusal>> Grammar<
         Ok((Branch { condition, body }, behind))
     }
 
-    /// What stands behind the last branch, up to `fi`.
+    /// What follows the last branch, up to `fi`.
     #[tactic(auto, using(crate::proofs::BranchLemmas::fi_none, crate::proofs::BranchLemmas::fi_read, crate::proofs::BranchLemmas::else_refused, crate::proofs::BranchLemmas::else_read, crate::proofs::ReaderLemmas::refused_none))]
     fn otherwise(&self, script: &[u8], from: Cursor) -> Result<(Option<Script>, Cursor), Refusal>
         requires small { length script.now ≤ MAX_SCRIPT }
@@ -51,7 +51,7 @@ impl<F: Fn(Global, &[u8], Cursor) -> Result<(Script, Cursor), Refusal>> Grammar<
         Ok((None, end))
     }
 
-    /// The branches, and what stands behind them up to `fi`.
+    /// The branches, and what follows them up to `fi`.
     #[tactic(auto, using(crate::proofs::BranchLemmas::branches_none, crate::proofs::BranchLemmas::branches_refused, crate::proofs::BranchLemmas::branches_more, crate::proofs::BranchLemmas::last_refused, crate::proofs::BranchLemmas::branches_read))]
     fn branches(
         &self,

@@ -18,7 +18,7 @@ fn is_newline(lead: Lead) -> bool
     matches!(lead, Lead::Newline)
 }
 
-/// Where the newlines behind a separator begin: a newline is one of them.
+/// Where the newlines after a separator begin: a newline is one of them.
 pub fn parted(script: &[u8], lead: Lead, from: Cursor) -> Cursor
     requires small { length script.now ≤ MAX_SCRIPT }
     requires stands { Stands script.now from }
@@ -36,7 +36,7 @@ pub fn parted(script: &[u8], lead: Lead, from: Cursor) -> Cursor
 }
 
 impl<F: Fn(Global, &[u8], Cursor) -> Result<(Script, Cursor), Refusal>> Grammar<F> {
-    /// Behind a newline, and the bodies of the here-documents before it.
+    /// After a newline, and the bodies of the here-documents before it.
     #[tactic(auto, using(crate::proofs::BreakLemmas::line_across, crate::proofs::BreakLemmas::line_lies, crate::proofs::BreakLemmas::line_marks))]
     #[inline(never)]
     fn line(&self, script: &[u8], from: Cursor) -> Result<Cursor, Refusal>
@@ -56,11 +56,12 @@ impl<F: Fn(Global, &[u8], Cursor) -> Result<(Script, Cursor), Refusal>> Grammar<
         Ok(behind.settled(script))
     }
 
-    /// The first token at or behind this one that is no newline.
+    /// The first token at or after this one that is no newline.
     ///
     /// # Errors
     ///
-    /// `LeftOut` at the operator of a here-document outside that waits for its body; and what is told of a body.
+    /// `LeftOut` at the operator of a here-document outside that waits for its body; and what is
+    /// reported of a body.
     #[tactic(auto, using(crate::proofs::BreakLemmas::skips_none, crate::proofs::BreakLemmas::skips_refused))]
     pub fn breaks(&self, script: &[u8], from: Cursor) -> Result<Cursor, Refusal>
         requires small { length script.now ≤ MAX_SCRIPT }

@@ -21,7 +21,7 @@ use sh_tree::{
 use sh_words::Mode;
 use std::alloc::Global;
 
-/// Behind `in`, which is wanted where no command can begin.
+/// After `in`, which is wanted where no command can begin.
 fn expect_in(script: &[u8], from: Cursor) -> Result<Cursor, Refusal>
     requires small { length script.now ≤ MAX_SCRIPT }
     requires stands { Stands script.now from }
@@ -34,7 +34,7 @@ fn expect_in(script: &[u8], from: Cursor) -> Result<Cursor, Refusal>
     Err(from.unexpected_at(script, Stage::Named(false)))
 }
 
-/// Behind the parenthesis with which a clause may begin.
+/// After the parenthesis with which a clause may begin.
 #[tactic(auto, using(crate::proofs::CaseLemmas::unopened_with, crate::proofs::CaseLemmas::unopened_without))]
 fn unopened(script: &[u8], from: Cursor) -> Cursor
     requires small { length script.now ≤ MAX_SCRIPT }
@@ -69,7 +69,7 @@ impl<F: Fn(Global, &[u8], Cursor) -> Result<(Script, Cursor), Refusal>> Grammar<
         Ok((word, behind))
     }
 
-    /// Patterns between bars, and the `)` behind them.
+    /// Patterns between bars, and the `)` after them.
     #[tactic(auto, using(crate::proofs::CaseLemmas::patterns_none, crate::proofs::CaseLemmas::patterns_refused, crate::proofs::CaseLemmas::patterns_wrong, crate::proofs::CaseLemmas::patterns_last, crate::proofs::CaseLemmas::patterns_more, crate::proofs::ReaderLemmas::refused_none))]
     #[inline(never)]
     fn patterns(&self, script: &[u8], from: Cursor) -> Result<(Items<Word>, Cursor), Refusal>

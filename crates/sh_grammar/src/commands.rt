@@ -104,7 +104,7 @@ impl<F: Fn(Global, &[u8], Cursor) -> Result<(Script, Cursor), Refusal>> Grammar<
         self.redirected(script, count + 1, at, kind, behind)
     }
 
-    /// The command that a compound command is with the redirections behind it.
+    /// The command that a compound command is with the redirections after it.
     #[tactic(auto, using(crate::proofs::CommandLemmas::redirects_refused))]
     #[inline(never)]
     fn redirected(

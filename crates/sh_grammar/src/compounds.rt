@@ -22,7 +22,7 @@ pub fn is_same(lead: Lead, other: Lead) -> bool
     lead == other
 }
 
-/// One level inside, behind the first byte of the token that opens it.
+/// One level inside, after the first byte of the token that opens it.
 fn inside(script: &[u8], from: Cursor) -> Cursor
     requires small { length script.now ≤ MAX_SCRIPT }
     requires stands { Stands script.now from }
@@ -35,7 +35,7 @@ fn inside(script: &[u8], from: Cursor) -> Cursor
     from.next(script, 1).lower()
 }
 
-/// Behind the token of one byte that closes what began where so many levels were open.
+/// After the token of one byte that closes what began where so many levels were open.
 fn outside(script: &[u8], depth: u8, close: Cursor) -> Cursor
     requires small { length script.now ≤ MAX_SCRIPT }
     requires shallow { depth ≤ MAX_NESTING }

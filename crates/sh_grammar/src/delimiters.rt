@@ -1,4 +1,4 @@
-//! The words behind the operators of here-documents (XCU 2.7.4).
+//! The words after the operators of here-documents (XCU 2.7.4).
 ghost use Rattle.std.specs.Prelude.{◌≡◌, ◌<◌, length, IfOk, option_map};
 ghost use Rattle.std.specs.List.{list_any};
 ghost use Rattle.sh_grammar.specs.Delimiters.{Awaits, delimiter_in};

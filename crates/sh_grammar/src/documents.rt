@@ -52,8 +52,9 @@ fn keeps_tabs(mark: &Mark, from: &State) -> bool
     from.tabs && !mark.strip
 }
 
-/// A line that is read in two ways: where `<<-` strips tabs, one that begins with a tab behind a continuation; and in a body
-/// around, which is joined or stripped, one that this here-document keeps as it stands.
+/// A line that is read in two ways: where `<<-` strips tabs, one that begins with a tab after a
+/// continuation; and in a body around, which is joined or stripped, one that this here-document
+/// keeps as it stands.
 fn check_lines(script: &[u8], mark: &Mark, line: Span, from: &State) -> Result<(), Refusal>
     requires small { length script.now ≤ MAX_SCRIPT }
     requires ordered { (from.now.at ≤ line.start) × (line.start ≤ line.end) × (line.end ≤ length script.now) }
@@ -138,7 +139,7 @@ impl<F: Fn(Global, &[u8], Cursor) -> Result<(Script, Cursor), Refusal>> Grammar<
         Ok((word.parts, last.count()))
     }
 
-    /// The bodies of the here-documents, one behind the other from a line's beginning on.
+    /// The bodies of the here-documents, one after the other from a line's beginning on.
     #[tactic(auto, using(crate::proofs::DocumentLemmas::documents_first))]
     pub fn documents(&self, script: &[u8], marks: &[Mark], from: Cursor) -> Result<Cursor, Refusal>
         requires small { length script.now ≤ MAX_SCRIPT }

@@ -16,7 +16,7 @@ use sh_tree::{Element, Items, Lead, MAX_SCRIPT, Refusal, Script, Span, Stage};
 use sh_words::Mode;
 use std::alloc::Global;
 
-/// The stage behind the word at `at`.
+/// The stage after the word at `at`.
 fn stage_behind(script: &[u8], stage: Stage, at: u32) -> Stage
     requires small { length script.now ≤ MAX_SCRIPT }
     requires inside { at ≤ length script.now }
@@ -28,7 +28,7 @@ fn stage_behind(script: &[u8], stage: Stage, at: u32) -> Stage
     }
 }
 
-/// The stage behind a redirection.
+/// The stage after a redirection.
 fn redirected(stage: Stage) -> Stage
     ensures { result ≡ reading.redirected stage }
 {
@@ -39,7 +39,7 @@ fn redirected(stage: Stage) -> Stage
 }
 
 impl<F: Fn(Global, &[u8], Cursor) -> Result<(Script, Cursor), Refusal>> Grammar<F> {
-    /// The element at a token that begins one, and the stage behind it.
+    /// The element at a token that begins one, and the stage after it.
     #[tactic(auto, using(sh_reads::proofs::BeginningLemmas::name_within))]
     fn element_at(
         &self,

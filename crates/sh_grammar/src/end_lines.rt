@@ -10,7 +10,7 @@ use super::mark::Mark;
 use sh_scan::here_line;
 use sh_tree::{MAX_SCRIPT, Span};
 
-/// The line behind the one that ends at `end`.
+/// The line after the one that ends at `end`.
 pub fn behind_line(script: &[u8], end: u32) -> u32
     requires small { length script.now ≤ MAX_SCRIPT }
     requires inside { end ≤ length script.now }
@@ -25,7 +25,8 @@ pub fn behind_line(script: &[u8], end: u32) -> u32
     }
 }
 
-/// How many bytes the first piece of a line takes: a line continuation, a backslash and the byte behind it, or a byte.
+/// How many bytes the first piece of a line takes: a line continuation, a backslash and the byte
+/// after it, or a byte.
 #[tactic(auto, unfolding(crate::specs::Lines::piece_step))]
 fn piece_step(rest: &[u8], joins: bool) -> usize
     ensures value { result ≡ lines.piece_step joins rest.now }
@@ -78,7 +79,7 @@ fn is_text(line: &[u8], joins: bool, text: &[u8]) -> bool
     }
 }
 
-/// How many bytes of a tab or of a line continuation stand at the front.
+/// How many bytes of a tab or of a line continuation are at the front.
 #[tactic(auto, unfolding(crate::specs::Lines::strip_step))]
 fn strip_step(rest: &[u8], joins: bool) -> usize
     ensures value { result ≡ lines.strip_step joins rest.now }

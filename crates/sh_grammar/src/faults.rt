@@ -1,4 +1,4 @@
-//! What is told of a token that has no place (XCU 2.10).
+//! What is reported of a token that has no place (XCU 2.10).
 ghost use Rattle.std.specs.Prelude.{◌≡◌, ◌<◌, ◌≤◌, length};
 ghost use Rattle.sh_tree.specs.standard.language.Commands as commands;
 ghost use Rattle.sh_grammar.specs.Faults.{IsFault, IsPlace, TellsAt, ended, stage_at};
@@ -9,7 +9,8 @@ use super::state::{Cursor, State};
 use sh_scan::lead_at;
 use sh_tree::{Fault, Form, Lead, MAX_SCRIPT, Refusal, Stage};
 
-/// Where a form that is left out is told, which the token at `at` is: a line continuation at its backslash, the first from the token's beginning on.
+/// Where a refused form is reported, which the token at `at` is: a line continuation at its
+/// backslash, the first from the token's beginning on.
 fn place_of(script: &[u8], form: Form, at: u32) -> u32
     requires small { length script.now ≤ MAX_SCRIPT }
     requires inside { at < length script.now }
@@ -44,7 +45,7 @@ pub fn at_end(script: &[u8], here: &State, fault: Fault, at: u32) -> Refusal
     }
 }
 
-/// What is told of the token here, which has no place there.
+/// What is reported of the token here, which has no place there.
 #[tactic(auto, using(crate::proofs::FaultLemmas::misplaced_fault))]
 fn unexpected_at(script: &[u8], stage: Stage, here: &State) -> Refusal
     requires small { length script.now ≤ MAX_SCRIPT }
@@ -60,7 +61,7 @@ fn unexpected_at(script: &[u8], stage: Stage, here: &State) -> Refusal
     }
 }
 
-/// How the token is told of where nothing goes on.
+/// How the token is reported of where nothing goes on.
 #[tactic(auto, unfolding(crate::specs::Faults::stage_at))]
 fn stage_of(here: &State) -> Stage
     ensures { result ≡ stage_at here.now.fresh }
@@ -72,7 +73,7 @@ fn stage_of(here: &State) -> Stage
     }
 }
 
-/// What is told where nothing that stands there goes on.
+/// What is reported where nothing that is there goes on.
 pub fn unexpected(script: &[u8], here: &State) -> Refusal
     requires small { length script.now ≤ MAX_SCRIPT }
     requires stands { Stands script.now here.now }
@@ -83,7 +84,7 @@ pub fn unexpected(script: &[u8], here: &State) -> Refusal
 }
 
 impl Cursor {
-    /// What is told of the token here, which has no place there.
+    /// What is reported of the token here, which has no place there.
     pub fn unexpected_at(&self, script: &[u8], stage: Stage) -> Refusal
         requires small { length script.now ≤ MAX_SCRIPT }
         requires stands { Stands script.now self.now }
@@ -93,7 +94,7 @@ impl Cursor {
         unexpected_at(script, stage, self.get())
     }
 
-    /// What is told where nothing that stands here goes on.
+    /// What is reported where nothing that is here goes on.
     pub fn unexpected(&self, script: &[u8]) -> Refusal
         requires small { length script.now ≤ MAX_SCRIPT }
         requires stands { Stands script.now self.now }

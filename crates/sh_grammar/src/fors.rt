@@ -21,7 +21,7 @@ use sh_tree::{
 use sh_words::Mode;
 use std::alloc::Global;
 
-/// Whether the token ends the words behind `in`.
+/// Whether the token ends the words after `in`.
 fn ends_words(lead: Lead) -> bool
     ensures yes { result ≡ true → tokens.separator lead ≡ Some false }
     ensures no { result ≡ false → tokens.separator lead ≡ Some false → ⊥ }
@@ -49,7 +49,7 @@ impl<F: Fn(Global, &[u8], Cursor) -> Result<(Script, Cursor), Refusal>> Grammar<
         Ok((words, next))
     }
 
-    /// The words behind `in`, and what separates them from `do`.
+    /// The words after `in`, and what separates them from `do`.
     #[tactic(auto, using(crate::proofs::ForLemmas::listed_refused, crate::proofs::ForLemmas::listed_unended, crate::proofs::ForLemmas::listed_stopped, crate::proofs::ForLemmas::listed_read, crate::proofs::ReaderLemmas::refused_none))]
     fn listed(&self, script: &[u8], from: Cursor) -> Result<(Items<Word>, Cursor), Refusal>
         requires small { length script.now ≤ MAX_SCRIPT }
@@ -67,7 +67,7 @@ impl<F: Fn(Global, &[u8], Cursor) -> Result<(Script, Cursor), Refusal>> Grammar<
         Ok((words, end))
     }
 
-    /// What stands between the name and `do`.
+    /// What is between the name and `do`.
     #[tactic(auto, using(crate::proofs::ForLemmas::arguments_ended, crate::proofs::ForLemmas::arguments_stopped, crate::proofs::ForLemmas::for_words_stopped, crate::proofs::ForLemmas::arguments_read, crate::proofs::ForLemmas::for_words_none, crate::proofs::ForLemmas::for_words_refused, crate::proofs::ForLemmas::for_words_read, crate::proofs::ReaderLemmas::refused_none))]
     #[inline(never)]
     fn for_words(

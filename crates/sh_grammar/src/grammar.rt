@@ -1,4 +1,4 @@
-//! The rules of the grammar, over a reader of the sequences that stand inside commands (XCU 2.10).
+//! The rules of the grammar, over a reader of the sequences that are inside commands (XCU 2.10).
 ghost use Rattle.std.specs.Prelude.{◌-◌, ◌≡◌, ◌<◌, ◌≤◌, length};
 ghost use Rattle.sh_grammar.specs.Nests.{Nests};
 ghost use Rattle.sh_grammar.specs.States.{Stands};

@@ -31,7 +31,7 @@ fn begins_with_tab(rest: &[u8]) -> bool
     }
 }
 
-/// Whether a line continuation stands at the front, before a tab if it is to be one before a tab.
+/// Whether a line continuation is at the front, before a tab if it is to be one before a tab.
 #[tactic(auto, unfolding(crate::specs::Lines::is_joined))]
 fn is_joined(rest: &[u8], tabbed: bool) -> bool
     ensures { result ≡ lines.is_joined tabbed rest.now }

@@ -83,7 +83,7 @@ impl<F: Fn(Global, &[u8], Cursor) -> Result<(Script, Cursor), Refusal>> Grammar<
         Ok((Pipe { negated, parts }, behind))
     }
 
-    /// The pipelines behind the first one of an and-or list.
+    /// The pipelines after the first one of an and-or list.
     #[tactic(auto, using(crate::proofs::ListLemmas::links_none, crate::proofs::ListLemmas::links_refused, crate::proofs::ListLemmas::links_stopped, crate::proofs::ListLemmas::links_more, crate::proofs::ListLemmas::links_all, crate::proofs::WidthLemmas::link_inside))]
     #[inline(never)]
     fn links(&self, script: &[u8], from: Cursor) -> Result<(Items<(Link, Pipe)>, Cursor), Refusal>

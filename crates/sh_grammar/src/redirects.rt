@@ -23,7 +23,7 @@ pub fn is_word(lead: Lead) -> bool
 }
 
 impl<F: Fn(Global, &[u8], Cursor) -> Result<(Script, Cursor), Refusal>> Grammar<F> {
-    /// The word behind an operator that ends at `end`.
+    /// The word after an operator that ends at `end`.
     #[tactic(auto, using(crate::proofs::RedirectLemmas::target_none, crate::proofs::RedirectLemmas::target_refused, crate::proofs::RedirectLemmas::target_read, crate::proofs::ReaderLemmas::refused_none))]
     fn target(&self, script: &[u8], end: u32, from: Cursor) -> Result<(Word, Cursor), Refusal>
         requires small { length script.now ≤ MAX_SCRIPT }
@@ -72,7 +72,7 @@ impl<F: Fn(Global, &[u8], Cursor) -> Result<(Script, Cursor), Refusal>> Grammar<
         Ok((redirect, behind))
     }
 
-    /// A here-document, of which the operator is read. Its body comes behind the newline.
+    /// A here-document, of which the operator is read. Its body comes after the newline.
     #[tactic(auto, using(crate::proofs::RedirectLemmas::redirect_refused, crate::proofs::RedirectLemmas::document_refused))]
     fn here_document(
         &self,
@@ -125,7 +125,7 @@ impl<F: Fn(Global, &[u8], Cursor) -> Result<(Script, Cursor), Refusal>> Grammar<
         }
     }
 
-    /// The redirections behind a compound command.
+    /// The redirections after a compound command.
     #[tactic(auto, using(crate::proofs::RedirectLemmas::redirects_none, crate::proofs::RedirectLemmas::redirects_more, crate::proofs::RedirectLemmas::redirects_refused, crate::proofs::RedirectLemmas::redirects_all))]
     #[inline(never)]
     pub fn redirects_at(

@@ -33,7 +33,7 @@ fn width(reserved: Reserved) -> u32
     }
 }
 
-/// Behind the reserved word that stands here.
+/// After the reserved word that is here.
 #[tactic(auto, using(crate::proofs::ReservedLemmas::reserved_inside))]
 pub fn skip(script: &[u8], reserved: Reserved, from: Cursor) -> Cursor
     requires small { length script.now ≤ MAX_SCRIPT }
@@ -46,7 +46,7 @@ pub fn skip(script: &[u8], reserved: Reserved, from: Cursor) -> Cursor
     from.next(script, width(reserved))
 }
 
-/// One level inside, behind the reserved word that stands here.
+/// One level inside, after the reserved word that is here.
 pub fn enter(script: &[u8], reserved: Reserved, from: Cursor) -> Cursor
     requires small { length script.now ≤ MAX_SCRIPT }
     requires stands { Stands script.now from }
@@ -59,7 +59,7 @@ pub fn enter(script: &[u8], reserved: Reserved, from: Cursor) -> Cursor
     skip(script, reserved, from).lower()
 }
 
-/// Behind the reserved word, which is wanted here.
+/// After the reserved word, which is wanted here.
 pub fn expect(script: &[u8], reserved: Reserved, from: Cursor) -> Result<Cursor, Refusal>
     requires small { length script.now ≤ MAX_SCRIPT }
     requires stands { Stands script.now from }
@@ -73,7 +73,7 @@ pub fn expect(script: &[u8], reserved: Reserved, from: Cursor) -> Result<Cursor,
 }
 
 impl<F: Fn(Global, &[u8], Cursor) -> Result<(Script, Cursor), Refusal>> Grammar<F> {
-    /// A list and the reserved word behind it.
+    /// A list and the reserved word after it.
     #[tactic(auto, using(crate::proofs::LoopLemmas::before_refused, crate::proofs::LoopLemmas::before_none, crate::proofs::LoopLemmas::before_read, crate::proofs::ReaderLemmas::refused_none))]
     #[inline(always)]
     pub fn list_before(

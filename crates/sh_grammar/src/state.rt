@@ -21,9 +21,10 @@ pub struct State {
     pub count: u32,
     /// How many levels are open.
     pub depth: u8,
-    /// Whether a compound command without redirections came last, behind which a closing word is recognized (XCU 2.4).
+    /// Whether a compound command without redirections came last, after which a closing word is
+    /// recognized (XCU 2.4).
     pub closed: bool,
-    /// Whether what stands before lets a command begin here.
+    /// Whether what is before lets a command begin here.
     pub fresh: bool,
     /// The operator of the first here-document outside that waits for its body, so that no newline may come.
     pub outer: Option<u32>,
@@ -60,7 +61,8 @@ impl State {
         }
     }
 
-    /// At the first token of commands that begin at or behind `at`, where so many levels are open and what came before is as here.
+    /// At the first token of commands that begin at or after `at`, where so many levels are open
+    /// and what came before is as here.
     #[tactic(auto, using(crate::proofs::SubstitutionLemmas::substituted_stands))]
     pub fn within(&self, alloc: Global, script: &[u8], at: u32, depth: u8, ticks: Ticks) -> State
         requires small { length script.now ≤ MAX_SCRIPT }
@@ -108,7 +110,8 @@ impl State {
     }
 }
 
-/// A state behind a pointer, so that the readers that are open take little of the stack. Contracts see the state.
+/// A state after a pointer, so that the readers that are open take little of the stack. Contracts
+/// see the state.
 pub struct Cursor {
     state: Box<State>,
 }
@@ -139,7 +142,7 @@ impl Cursor {
     ///
     /// # Errors
     ///
-    /// `AllocError` where a growth was refused.
+    /// `AllocError` if a growth was refused.
     pub fn new(alloc: Global, state: State) -> Result<Cursor, AllocError>
         ensures { IfOk result (λ c. c ≡ state) }
     {
@@ -186,7 +189,7 @@ impl Cursor {
         lead_at(script, stage, self.state.at)
     }
 
-    /// At the token at or behind this place.
+    /// At the token at or after this place.
     #[tactic(auto, using(crate::proofs::BreakLemmas::settled_stands))]
     pub fn settled(self, script: &[u8]) -> Cursor
         requires small { length script.now ≤ MAX_SCRIPT }
@@ -204,7 +207,7 @@ impl Cursor {
         token
     }
 
-    /// At the token at or behind `at`.
+    /// At the token at or after `at`.
     #[tactic(auto, using(crate::proofs::StateLemmas::lies_at))]
     pub fn next_from(self, script: &[u8], at: u32) -> Cursor
         requires small { length script.now ≤ MAX_SCRIPT }
@@ -220,7 +223,7 @@ impl Cursor {
         behind.settled(script)
     }
 
-    /// At the token behind so many bytes.
+    /// At the token after so many bytes.
     pub fn next(self, script: &[u8], width: u32) -> Cursor
         requires small { length script.now ≤ MAX_SCRIPT }
         requires inside { self.at + width ≤ length script.now }
@@ -233,7 +236,7 @@ impl Cursor {
         self.next_from(script, at)
     }
 
-    /// Behind the first byte of one more command.
+    /// After the first byte of one more command.
     pub fn counted(self) -> Cursor
         requires few { self.count < MAX_COMMANDS }
         ensures { result ≡ record self { count = self.count + 1 } }
@@ -243,11 +246,11 @@ impl Cursor {
         behind
     }
 
-    /// Behind an operator of a here-document and its delimiter.
+    /// After an operator of a here-document and its delimiter.
     ///
     /// # Errors
     ///
-    /// `AllocError` where a growth was refused.
+    /// `AllocError` if a growth was refused.
     pub fn awaiting(self, mark: Mark) -> Result<Cursor, AllocError>
         ensures { IfOk result (λ v. v ≡ record self { pending = self.pending ++ mark ∷ [] }) }
     {
@@ -256,11 +259,11 @@ impl Cursor {
         Ok(behind)
     }
 
-    /// Behind a body that has as many commands before its end, and the line that ends it, at `at`.
+    /// After a body that has as many commands before its end, and the line that ends it, at `at`.
     ///
     /// # Errors
     ///
-    /// `AllocError` where a growth was refused.
+    /// `AllocError` if a growth was refused.
     pub fn with_document(
         self,
         document: Document,
@@ -277,7 +280,7 @@ impl Cursor {
         Ok(behind)
     }
 
-    /// Behind a newline, at `at`, and the here-documents whose bodies stand there.
+    /// After a newline, at `at`, and the here-documents whose bodies are there.
     pub fn on_line(self, alloc: Global, at: u32) -> (Items<Mark>, Cursor)
         ensures marks { result.0 ≡ self.pending }
         ensures line { result.1 ≡ record self { at = at; pending = [] } }
@@ -301,7 +304,7 @@ impl Cursor {
         (bodies, level)
     }
 
-    /// Behind so many commands.
+    /// After so many commands.
     pub fn counting(self, count: u32) -> Cursor
         ensures { result ≡ record self { count = count } }
     {
@@ -329,7 +332,7 @@ impl Cursor {
         outside
     }
 
-    /// Behind a command.
+    /// After a command.
     pub fn closing(self, closed: bool) -> Cursor
         ensures { result ≡ record self { closed = closed; fresh = false } }
     {

@@ -11,12 +11,12 @@ pub enum Ticks {
     Outside,
     /// In its commands.
     Here {
-        /// Whether it stands in double quotes.
+        /// Whether it is in double quotes.
         quoted: bool,
     },
     /// In a substitution in its commands.
     Deeper {
-        /// Whether it stands in double quotes.
+        /// Whether it is in double quotes.
         quoted: bool,
     },
 }
@@ -33,7 +33,7 @@ impl Ticks {
         }
     }
 
-    /// Whether the substitution stands in double quotes, if there is one.
+    /// Whether the substitution is in double quotes, if there is one.
     #[tactic(auto, unfolding(crate::specs::Ticks::quoted_of))]
     pub fn quoted(self) -> Option<bool>
         ensures { result ≡ ticks.quoted_of self }

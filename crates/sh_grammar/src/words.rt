@@ -41,7 +41,7 @@ fn is_location(script: &[u8], mode: Mode, start: u32, end: u32) -> bool
 }
 
 impl<F: Fn(Global, &[u8], Cursor) -> Result<(Script, Cursor), Refusal>> Grammar<F> {
-    /// The word of a mode at `at`, and the state behind as many commands as stand in it.
+    /// The word of a mode at `at`, and the state after as many commands as are in it.
     #[tactic(auto, using(crate::proofs::WordLemmas::driven_new, crate::proofs::WordLemmas::word_refused, crate::proofs::WordLemmas::word_done))]
     pub fn built(
         &self,
@@ -91,7 +91,7 @@ impl<F: Fn(Global, &[u8], Cursor) -> Result<(Script, Cursor), Refusal>> Grammar<
         }
     }
 
-    /// The word of a mode at `at`, and where the token behind it begins.
+    /// The word of a mode at `at`, and where the token after it begins.
     #[tactic(auto, using(crate::proofs::WordLemmas::word_unread, crate::proofs::WordLemmas::whole_seen, crate::proofs::StateLemmas::lies_of))]
     pub fn word_at(
         &self,
@@ -121,7 +121,7 @@ impl<F: Fn(Global, &[u8], Cursor) -> Result<(Script, Cursor), Refusal>> Grammar<
         Ok((word, behind))
     }
 
-    /// The word of a mode at the token here, and where the token behind it begins.
+    /// The word of a mode at the token here, and where the token after it begins.
     pub fn word(&self, script: &[u8], mode: Mode, from: Cursor) -> Result<(Word, Cursor), Refusal>
         requires small { length script.now ≤ MAX_SCRIPT }
         requires whole { IsWhole mode }

@@ -10,8 +10,8 @@ ghost use Rattle.sh_operands.specs.Fields as spec;
 use crate::looks::{Look, subject_is_all, word_has};
 use sh_tree::{Action, Element, ParameterOperator, Part, Word};
 
-/// How many fields words give at least: so many, and as many as there are positional parameters for each `"$@"` that stands alone.
-/// Up to 4,294,967,295 are counted.
+/// How many fields words give at least: so many, and as many as there are positional parameters for
+/// each `"$@"` that is alone. Up to 4,294,967,295 are counted.
 #[derive(Clone, Copy, Debug, PartialEq, Eq)]
 pub struct Total {
     pub ones: u32,
@@ -220,7 +220,7 @@ fn count_elements(elements: &[Element], script: &[u8], skipped: usize) -> Total
     total
 }
 
-/// How many fields the words of a simple command give at least, behind the first so many of them.
+/// How many fields the words of a simple command give at least, after the first so many of them.
 #[tactic(auto, using(crate::proofs::FieldLemmas::elements_counted))]
 pub fn count_behind(elements: &[Element], script: &[u8], skipped: usize) -> Total
     ensures { result ≡ fold spec.counted_word spec.no_fields (drop skipped (words_in (operands_in (elements_from script.now elements.now)))) }

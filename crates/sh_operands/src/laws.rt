@@ -1,9 +1,11 @@
-//! What is told of operands is what the definitions of runs read off them.
+//! What is reported of operands is what the definitions of runs read off them.
 ghost use Rattle.sh_operands.specs.Meaning.{FieldsCount, NumbersRead, SetReads, SetStays, UnsetKeeps, UnsetReads};
 
-/// What `unset_operands` and `positional_at` tell of the static texts of operands is what `unset` and `set` read of these (XCU 2.15): what
-/// `unset` removes, with its operands behind the options; and the positional words of `set`, where every operand is static, and where the
-/// operands in front of those that are not say where these words begin. What `unset` does not take by its letters no run removes.
+/// What `unset_operands` and `positional_at` tell of the static texts of operands is what `unset`
+/// and `set` read of these (XCU 2.15): what `unset` removes, with its operands after the options;
+/// and the positional words of `set`, where every operand is static, and where the operands in
+/// front of those that are not say where these words begin. What `unset` does not take by its
+/// letters no run removes.
 pub fn options()
     ensures unset { UnsetReads }
     ensures kept { UnsetKeeps }

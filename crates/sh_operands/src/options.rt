@@ -1,4 +1,4 @@
-//! Operands behind options, by their static texts (XBD 12.2, XCU 2.15).
+//! Operands after options, by their static texts (XBD 12.2, XCU 2.15).
 ghost use Rattle.std.specs.Prelude.{IfSome, ◌≡◌, ◌==◌, ◌≤◌, length, drop, map, false};
 ghost use Rattle.std.specs.List.{list_all};
 ghost use Rattle.sh_table.specs.WordTexts.{text_in};
@@ -74,7 +74,7 @@ impl Letters {
     }
 }
 
-// The operands behind the options, whose letters are added to those so far.
+// The operands after the options, whose letters are added to those so far.
 #[tactic(auto, unfolding(crate::specs::Texts::unset_behind))]
 fn behind_options<'a>(
     operands: &'a [WordText],
@@ -99,7 +99,7 @@ fn behind_options<'a>(
     rest
 }
 
-/// The letters of the options of `unset`, and the operands behind them.
+/// The letters of the options of `unset`, and the operands after them.
 pub fn unset_operands<'a>(operands: &'a [WordText], script: &[u8]) -> (Letters, &'a [WordText])
     ensures { spec.unset_behind spec.no_letters (map (text_in script.now) operands.entry.now) ≡ (result.0, map (text_in script.now) result.1.now) }
 {
@@ -139,7 +139,8 @@ fn find_positional(words: &[WordText], script: &[u8]) -> Option<usize>
     None
 }
 
-/// How many operands of `set` stand before its positional words, if it has some or `--` stands before them.
+/// How many operands of `set` are before its positional words, if it has some or `--` is before
+/// them.
 #[tactic(auto, using(crate::proofs::TextLemmas::from_start))]
 pub fn positional_at(words: &[WordText], script: &[u8]) -> Option<usize>
     ensures same { result ≡ spec.positional_at false (map (text_in script.now) words.now) }

@@ -19,7 +19,7 @@ fn word_of(element: &Element) -> Option<&Word>
     }
 }
 
-/// The first word, and the elements behind it.
+/// The first word, and the elements after it.
 pub fn split_word(elements: &[Element]) -> Option<(&Word, &[Element])>
     ensures { option_map (λ p. (p.0.now, words_of p.1.now)) result ≡ split (words_of elements.entry.now) }
 {

@@ -150,7 +150,7 @@ fn has_ifs(texts: &[WordText], script: &[u8]) -> bool
     texts.iter().any(|text| is_ifs_text(text, script))
 }
 
-// Whether IFS is among the operands behind the options.
+// Whether IFS is among the operands after the options.
 #[tactic(auto, using(crate::proofs::OperandLemmas::any_listed), unfolding(crate::specs::Operands::names_ifs))]
 fn reads_ifs(texts: &[WordText], script: &[u8]) -> bool
     ensures { result ≡ spec.reads_ifs (map (text_in script.now) texts.now) }
@@ -171,8 +171,8 @@ fn are_read(texts: &[WordText], script: &[u8]) -> bool
 
 // Commands
 
-/// Whether the operands of a utility of this kind do not let it set IFS to what separates numbers: by the words of the elements
-/// behind its name, with their static texts.
+/// Whether the operands of a utility of this kind do not let it set IFS to what separates numbers:
+/// by the words of the elements after its name, with their static texts.
 #[tactic(auto, unfolding(crate::specs::Operands::operands_steady))]
 pub fn operands_are_steady(
     kind: Kind,

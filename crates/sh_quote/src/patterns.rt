@@ -19,7 +19,8 @@ fn text_begins_pattern(text: &[u8]) -> bool
     text.iter().any(|byte| begins_pattern(*byte))
 }
 
-/// Whether an unquoted `*`, `?` or `[` stands in the word, or in the word of a braced expansion of it that is unquoted.
+/// Whether an unquoted `*`, `?` or `[` is in the word, or in the word of a braced expansion of it
+/// that is unquoted.
 pub fn is_pattern(word: &Word, script: &[u8]) -> bool
     ensures { result ≡ spec.parts_begin script.now word.now.parts }
 {

@@ -41,13 +41,14 @@ impl<'t, 's> Visitor for Unquoted<'t, 's> {
     }
 }
 
-/// The places of the expansions that field splitting or pathname expansion could change (XCU 2.6.5, 2.6.6): each expansion outside
-/// quotes in a word whose fields are split, but numbers, where IFS is steady and the word is no pattern, and alternatives that are
-/// quoted. They stand in the order of the commands, a command before those in it.
+/// The places of the expansions that field splitting or pathname expansion could change (XCU 2.6.5,
+/// 2.6.6): each expansion outside quotes in a word whose fields are split, but numbers, where IFS
+/// is steady and the word is no pattern, and alternatives that are quoted. They are in the order of
+/// the commands, a command before those in it.
 ///
 /// # Errors
 ///
-/// `AllocError` where a growth was refused; nothing but the places grows.
+/// `AllocError` if a growth was refused; nothing but the places grows.
 pub fn check_quotes(
     alloc: Global,
     tree: &Script,

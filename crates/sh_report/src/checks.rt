@@ -35,7 +35,7 @@ fn verdict_with(
     verdict_of(alloc, script, &places)
 }
 
-/// What is told of a certificate of a script that is admitted.
+/// What is reported of a certificate of a script that is admitted.
 ///
 /// # Errors
 ///
@@ -68,7 +68,7 @@ pub fn judged(
     }
 }
 
-// What is told of a certificate's text, of a script that is admitted.
+// What is reported of a certificate's text, of a script that is admitted.
 #[tactic(auto, using(crate::proofs::CheckLemmas::exhausted))]
 fn check_prepared(
     alloc: Global,
@@ -85,14 +85,17 @@ fn check_prepared(
     Ok(verdict)
 }
 
-/// What is told of a certificate's text: a pass exactly where it is accepted, the least flow rule that it breaks, or the findings in order. Behind a pass
-/// the script has exactly one reading, and no run of it, from any start that the policy allows, with any results of the commands, any choice and any
-/// order of the processes, expands an unset parameter without a default or gives an expansion's value to field splitting or pathname expansion that could
-/// change it (XCU 2.6.2, 2.6.5, 2.6.6).
+/// What is reported of a certificate's text: a pass exactly where it is accepted, the least flow
+/// rule that it breaks, or the findings in order. After a pass the script has exactly one reading,
+/// and no run of it, from any start that the policy allows, with any results of the commands, any
+/// choice and any order of the processes, expands an unset parameter without a default or gives an
+/// expansion's value to field splitting or pathname expansion that could change it (XCU 2.6.2,
+/// 2.6.5, 2.6.6).
 ///
 /// # Errors
 ///
-/// The refusal of the script, of its profile, of its names or of the text, in that order; `Memory` where a growth was refused.
+/// The refusal of the script, of its profile, of its names or of the text, in that order; `Memory`
+/// if a growth was refused.
 #[tactic(auto, using(crate::proofs::RefusalLemmas::widened, crate::proofs::PromiseLemmas::checked))]
 pub fn check(alloc: Global, script: &[u8], policy: &Policy, text: &[u8]) -> Result<Verdict, Refusal>
     ensures answers { Checks script.now policy.now text.now result }

@@ -31,8 +31,9 @@ const CERTIFICATE_READ: usize = MAX_CERTIFICATE + 1;
 ///
 /// # Errors
 ///
-/// `Memory` where a growth was refused and `Read` where a reader failed, each with nothing written; `Write` where the writer
-/// failed, with a front of the text written. A fault is told where that end failed, and only there; after a refused growth no reader had failed.
+/// `Memory` if a growth was refused and `Read` if a reader failed, each with nothing written;
+/// `Write` if the writer failed, with a front of the text written. A fault is reported where that
+/// end failed, and only there; after a refused growth no reader had failed.
 pub fn run<R: Feed, C: Feed, W: Outlet>(
     alloc: Global,
     task: &Task,

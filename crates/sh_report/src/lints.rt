@@ -38,7 +38,7 @@ fn greatest(
     )
 }
 
-// What is told of a script that is admitted. The greatest certificate breaks no flow rule.
+// What is reported of a script that is admitted. The greatest certificate breaks no flow rule.
 fn lint_prepared(
     alloc: Global,
     script: &[u8],
@@ -52,12 +52,13 @@ fn lint_prepared(
     judged(alloc, script, policy, prepared, &certificate)
 }
 
-/// What is told of a script: a pass exactly where some certificate of it is accepted, or the findings of the greatest one, in order. A pass promises
-/// what that of a check does.
+/// What is reported of a script: a pass exactly where some certificate of it is accepted, or the
+/// findings of the greatest one, in order. A pass promises what that of a check does.
 ///
 /// # Errors
 ///
-/// The refusal of the script, of its profile or of its names, in that order; `Memory` where a growth was refused.
+/// The refusal of the script, of its profile or of its names, in that order; `Memory` if a growth
+/// was refused.
 #[tactic(auto, using(crate::proofs::LintLemmas::exhausted, crate::proofs::PromiseLemmas::linted))]
 pub fn lint(alloc: Global, script: &[u8], policy: &Policy) -> Result<Verdict, Refusal>
     ensures answers { Lints script.now policy.now result }

@@ -28,8 +28,8 @@ pub struct Prepared<'s> {
 ///
 /// # Errors
 ///
-/// The refusal of the text, of its first command that the profile refuses, or of its names, in that order; `Memory` where a growth was
-/// refused.
+/// The refusal of the text, of its first command that the profile refuses, or of its names, in that
+/// order; `Memory` if a growth was refused.
 #[tactic(auto, using(crate::proofs::RefusalLemmas::unread))]
 pub fn prepare<'s>(
     alloc: Global,

@@ -1,4 +1,4 @@
-//! What is told of places.
+//! What is reported of places.
 ghost use Rattle.std.specs.Prelude.{◌<◌, ◌-◌, ◌^◌, length, IfOk};
 ghost use Rattle.sh_answers.specs.Findings.{AreFindings};
 ghost use Rattle.sh_report.specs.Told.{TellsPlaces};
@@ -12,7 +12,7 @@ use std::alloc::{AllocError, Global};
 ///
 /// # Errors
 ///
-/// `AllocError` where a growth was refused.
+/// `AllocError` if a growth was refused.
 pub fn findings_at(
     alloc: Global,
     script: &[u8],
@@ -39,7 +39,7 @@ pub fn findings_at(
 ///
 /// # Errors
 ///
-/// `AllocError` where a growth was refused.
+/// `AllocError` if a growth was refused.
 pub fn verdict_of(alloc: Global, script: &[u8], places: &[Place]) -> Result<Verdict, AllocError>
     requires { length script.now < 2 ^ 32 - 1 }
     ensures { IfOk result (TellsPlaces script.now places.now) }

@@ -11,7 +11,7 @@ use std::simd::prelude::*;
 ///
 /// # Errors
 ///
-/// `AllocError` where a growth was refused.
+/// `AllocError` if a growth was refused.
 pub fn zeros(alloc: Global, length: usize) -> Result<Vec<u64>, AllocError>
     ensures { IfOk result (λ words. words.items ≡ replicate length 0) }
 {

@@ -18,7 +18,7 @@ pub trait Row: Sized {
     ///
     /// # Errors
     ///
-    /// `AllocError` where a growth was refused.
+    /// `AllocError` if a growth was refused.
     fn empty(alloc: Global, count: u32) -> Result<Self, AllocError>
         ensures numbers { IfOk result (λ r. (k : ℕ) → holds r k ≡ false) }
         ensures limit { IfOk result (λ r. Self.limit r ≡ count) };
@@ -27,7 +27,7 @@ pub trait Row: Sized {
     ///
     /// # Errors
     ///
-    /// `AllocError` where a growth was refused.
+    /// `AllocError` if a growth was refused.
     fn copy(&self) -> Result<Self, AllocError>
         ensures numbers { IfOk result (λ r. (k : ℕ) → holds r k ≡ holds self.now k) }
         ensures limit { IfOk result (λ r. Self.limit r ≡ Self.limit self.now) };
@@ -36,7 +36,7 @@ pub trait Row: Sized {
     ///
     /// # Errors
     ///
-    /// `AllocError` where a growth was refused, and never for a number of the set; the set stays.
+    /// `AllocError` if a growth was refused, and never for a number of the set; the set stays.
     fn add(&mut self, n: u32) -> Result<(), AllocError>
         requires { n < Self.limit self.old }
         ensures ok { OnOk result ((k : ℕ) → holds self.new k ≡ (k == n || holds self.old k)) }

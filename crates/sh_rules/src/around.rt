@@ -1,4 +1,4 @@
-//! What stands round a command (XCU 2.9.5, 2.15).
+//! What is round a command (XCU 2.9.5, 2.15).
 ghost use Rattle.std.specs.Prelude.{◌≡◌, ℕ, List, true};
 ghost use Rattle.sh_tree.specs.standard.Tree.{text_of};
 ghost use Rattle.sh_domain.specs.Entries as entries;

@@ -1,4 +1,4 @@
-//! What is known behind lists, by their status (XCU 2.9.2, 2.9.3).
+//! What is known after lists, by their status (XCU 2.9.2, 2.9.3).
 ghost use Rattle.std.specs.Prelude.{◌≡◌, fold, [], ◌∷◌, List, Some, false, IfSome};
 ghost use Rattle.sh_tree.specs.declared.tree.AndOr.{out-AndOr};
 ghost use Rattle.sh_tree.specs.declared.tree.Item.{out-Item};
@@ -93,7 +93,7 @@ impl Behind {
         meet(&mut self.zero, &self.nonzero);
     }
 
-    /// What the pipeline behind `&&` or `||` is entered with.
+    /// What the pipeline after `&&` or `||` is entered with.
     #[tactic(auto, unfolding(crate::specs::Behind::link_known))]
     pub fn at_link(&self, link: Link) -> &Knowledge
         ensures { (x : Setting) → facts_in x result.now ≡ spec.link_known link (walks.behind_in x self.now) }
@@ -149,7 +149,7 @@ fn lone_part(parts: &[Command]) -> Option<&Command>
 }
 
 impl Behind {
-    // Goes on behind a command alone, whose status `!` turns.
+    // Goes on after a command alone, whose status `!` turns.
     #[tactic(auto, unfolding(crate::specs::Behind::swapped))]
     fn pass_command(&mut self, claims: &Claims<'_>, number: u32, is_negated: bool)
         ensures { walks.behind_in (setting claims.now) self.new ≡ spec.swapped is_negated (spec.either (known_at (setting claims.now) (AfterZero number)) (known_at (setting claims.now) (AfterNonzero number))) }
@@ -171,7 +171,7 @@ impl Behind {
         self.nonzero = *known;
     }
 
-    // Goes on behind a pipeline, before which this is known.
+    // Goes on after a pipeline, before which this is known.
     #[tactic(auto, using(crate::proofs::BehindLemmas::lone, crate::proofs::BehindLemmas::not_lone))]
     fn pass_pipe(&mut self, claims: &Claims<'_>, known: &Knowledge, pipe: &Pipe)
         ensures { walks.behind_in (setting claims.now) self.new ≡ walks.pipe_behind (setting claims.now) (facts_in (setting claims.now) known.now) pipe.now }
@@ -182,7 +182,7 @@ impl Behind {
         }
     }
 
-    // Goes on behind the pipeline that follows `&&`.
+    // Goes on after the pipeline that follows `&&`.
     #[tactic(auto, unfolding(crate::specs::Behind::linked))]
     fn pass_and(&mut self, claims: &Claims<'_>, pipe: &Pipe)
         ensures { walks.behind_in (setting claims.now) self.new ≡ spec.linked link.AndThen (walks.behind_in (setting claims.now) self.old) (walks.pipe_behind (setting claims.now) (facts_in (setting claims.now) self.old.zero) pipe.now) }
@@ -193,7 +193,7 @@ impl Behind {
         self.nonzero = before.nonzero;
     }
 
-    // Goes on behind the pipeline that follows `||`.
+    // Goes on after the pipeline that follows `||`.
     #[tactic(auto, unfolding(crate::specs::Behind::linked))]
     fn pass_or(&mut self, claims: &Claims<'_>, pipe: &Pipe)
         ensures { walks.behind_in (setting claims.now) self.new ≡ spec.linked link.OrElse (walks.behind_in (setting claims.now) self.old) (walks.pipe_behind (setting claims.now) (facts_in (setting claims.now) self.old.nonzero) pipe.now) }
@@ -204,7 +204,7 @@ impl Behind {
         self.zero = before.zero;
     }
 
-    /// Goes on behind the pipeline that follows `&&` or `||`.
+    /// Goes on after the pipeline that follows `&&` or `||`.
     #[tactic(auto, using(crate::proofs::BehindLemmas::link_out), unfolding(crate::specs::Behind::link_known))]
     pub fn pass_link(&mut self, claims: &Claims<'_>, link: Link, pipe: &Pipe)
         ensures { walks.behind_in (setting claims.now) self.new ≡ walks.link_left (setting claims.now) (walks.behind_in (setting claims.now) self.old) (link, pipe.now) }
@@ -223,7 +223,7 @@ impl Behind {
         }
     }
 
-    // Goes on behind an and-or list, before which this is known.
+    // Goes on after an and-or list, before which this is known.
     #[tactic(auto, using(crate::proofs::BehindLemmas::and_or_out))]
     fn pass_and_or(&mut self, claims: &Claims<'_>, known: &Knowledge, list: &AndOr)
         ensures { walks.behind_in (setting claims.now) self.new ≡ walks.and_or_behind (setting claims.now) (facts_in (setting claims.now) known.now) list.now }
@@ -232,7 +232,7 @@ impl Behind {
         self.pass_links(claims, list.rest.as_slice());
     }
 
-    // Goes on behind an asynchronous item, whose status is zero.
+    // Goes on after an asynchronous item, whose status is zero.
     #[tactic(auto, using(crate::proofs::BehindLemmas::nothing_known))]
     fn pass_background(&mut self, claims: &Claims<'_>, known: &Knowledge)
         ensures { walks.behind_in (setting claims.now) self.new ≡ spec.either (gained (setting claims.now) (named (job ∷ [])) (facts_in (setting claims.now) known.now)) NotReached }
@@ -242,7 +242,8 @@ impl Behind {
         self.nonzero = Knowledge::NotReached;
     }
 
-    /// Goes on behind an item before which this is known in any case: an asynchronous one has status zero, and sets `!`.
+    /// Goes on after an item before which this is known in any case: an asynchronous one has status
+    /// zero, and sets `!`.
     #[tactic(auto, using(crate::proofs::BehindLemmas::foreground, crate::proofs::BehindLemmas::background))]
     pub fn pass_known(&mut self, claims: &Claims<'_>, known: &Knowledge, item: &Item)
         ensures { walks.behind_in (setting claims.now) self.new ≡ walks.behind_item (setting claims.now) (facts_in (setting claims.now) known.now) item.now }
@@ -254,7 +255,7 @@ impl Behind {
         }
     }
 
-    // Goes on behind an and-or list that begins with a command alone.
+    // Goes on after an and-or list that begins with a command alone.
     #[tactic(auto, using(crate::proofs::BehindLemmas::lone_out))]
     fn pass_lone(&mut self, claims: &Claims<'_>, command: &Command, list: &AndOr)
         requires { lone_part (out-Pipe (out-AndOr list.now).first).parts ≡ Some command.now }
@@ -264,7 +265,7 @@ impl Behind {
         self.pass_links(claims, list.rest.as_slice());
     }
 
-    // Goes on behind an item by what is known before it.
+    // Goes on after an item by what is known before it.
     #[tactic(auto, using(crate::proofs::BehindLemmas::item_out))]
     fn pass_any(&mut self, claims: &Claims<'_>, item: &Item)
         ensures { walks.behind_in (setting claims.now) self.new ≡ walks.item_left (setting claims.now) (walks.behind_in (setting claims.now) self.old) item.now }
@@ -273,7 +274,7 @@ impl Behind {
         self.pass_known(claims, &known, item);
     }
 
-    // Goes on behind an item that is no asynchronous one.
+    // Goes on after an item that is no asynchronous one.
     #[tactic(auto, using(crate::proofs::BehindLemmas::foreground_out))]
     fn pass_foreground(&mut self, claims: &Claims<'_>, item: &Item)
         requires { (out-Item item.now).background ≡ false }
@@ -285,7 +286,7 @@ impl Behind {
         }
     }
 
-    /// Goes on behind an item, whatever the status before it.
+    /// Goes on after an item, whatever the status before it.
     pub fn pass_item(&mut self, claims: &Claims<'_>, item: &Item)
         ensures { walks.behind_in (setting claims.now) self.new ≡ walks.item_left (setting claims.now) (walks.behind_in (setting claims.now) self.old) item.now }
     {
@@ -304,7 +305,7 @@ impl Behind {
         }
     }
 
-    /// Goes on behind items, by what the last of them claims that settles what is known behind it.
+    /// Goes on after items, by what the last of them claims that settles what is known after it.
     pub fn pass_all(&mut self, claims: &Claims<'_>, items: &[Item])
         ensures { walks.behind_in (setting claims.now) self.new ≡ fold (walks.item_left (setting claims.now)) (walks.behind_in (setting claims.now) self.old) items.now }
     {
@@ -315,7 +316,7 @@ impl Behind {
     }
 }
 
-/// Behind a pipeline.
+/// After a pipeline.
 pub fn pipe_behind(claims: &Claims<'_>, known: &Knowledge, pipe: &Pipe) -> Behind
     ensures { walks.behind_in (setting claims.now) result ≡ walks.pipe_behind (setting claims.now) (facts_in (setting claims.now) known.now) pipe.now }
 {
@@ -324,7 +325,7 @@ pub fn pipe_behind(claims: &Claims<'_>, known: &Knowledge, pipe: &Pipe) -> Behin
     behind
 }
 
-/// Whether what is known behind an item depends on its own commands alone.
+/// Whether what is known after an item depends on its own commands alone.
 #[tactic(auto, unfolding(crate::specs::Walks::is_settled))]
 pub fn is_settled(item: &Item) -> bool
     ensures { result ≡ walks.is_settled item.now }
@@ -332,7 +333,7 @@ pub fn is_settled(item: &Item) -> bool
     !item.background && lone_part(item.list.first.parts.as_slice()).is_some()
 }
 
-// The items from the last one on that settles what is known behind it, if one does.
+// The items from the last one on that settles what is known after it, if one does.
 #[tactic(auto, using(crate::proofs::BehindLemmas::settled_there))]
 fn settled_from(items: &[Item]) -> Option<&[Item]>
     ensures { IfSome result (λ rest. (x : Setting) (o p : spec.Behind) → fold (walks.item_left x) o rest.now ≡ fold (walks.item_left x) p items.now) }
@@ -348,7 +349,7 @@ fn settled_from(items: &[Item]) -> Option<&[Item]>
 }
 
 impl Behind {
-    /// Goes on behind a list, of which this is known at its start; an empty one passes it on.
+    /// Goes on after a list, of which this is known at its start; an empty one passes it on.
     #[tactic(auto, using(crate::proofs::BehindLemmas::script_out))]
     pub fn pass_script(&mut self, claims: &Claims<'_>, known: &Knowledge, list: &Script)
         ensures { walks.behind_in (setting claims.now) self.new ≡ walks.script_behind (setting claims.now) (spec.both (facts_in (setting claims.now) known.now)) list.now }
@@ -364,7 +365,7 @@ impl Behind {
     }
 }
 
-/// Behind a list, of which this is known at its start; an empty one passes it on.
+/// After a list, of which this is known at its start; an empty one passes it on.
 pub fn script_behind(claims: &Claims<'_>, known: &Knowledge, list: &Script) -> Behind
     ensures { walks.behind_in (setting claims.now) result ≡ walks.script_behind (setting claims.now) (spec.both (facts_in (setting claims.now) known.now)) list.now }
 {

@@ -32,7 +32,7 @@ pub fn tell_leaves<A: Asked>(claims: &Claims<'_>, fault: Fault, behind: &Behind,
     asked.bound(claims, Place::Nonzero(fault.number), fault, &behind.nonzero);
 }
 
-/// Behind a command, whatever its status was.
+/// After a command, whatever its status was.
 #[tactic(auto, unfolding(crate::specs::Bounds::leaves_told))]
 pub fn tell_both<A: Asked>(claims: &Claims<'_>, fault: Fault, known: &Knowledge, asked: &mut A)
     ensures { A.kept asked.new ≡ bounds.leaves_told A.asked (setting claims.now) (fault_of fault) (both (facts_in (setting claims.now) known.now)) (A.kept asked.old) }
@@ -186,7 +186,7 @@ fn tell_for<A: Asked>(
     tell_both(claims, fault, &head, asked);
 }
 
-// Behind words.
+// After words.
 fn gain_words(claims: &Claims<'_>, words: &[Word], known: &mut Knowledge)
     ensures { facts_in (setting claims.now) known.new ≡ fold (tells.word_gained (setting claims.now)) (facts_in (setting claims.now) known.old) words.now }
 {
@@ -216,7 +216,7 @@ pub fn ends_case(end: ClauseEnd, rest: &[Clause]) -> bool
     }
 }
 
-// A clause, behind the word and what falls into it.
+// A clause, after the word and what falls into it.
 #[tactic(auto, unfolding(crate::specs::Bounds::clause_told))]
 fn tell_clause<A: Asked>(
     claims: &Claims<'_>,
@@ -342,7 +342,7 @@ fn tell_returns<A: Asked>(claims: &Claims<'_>, name: &[u8], body: u32, asked: &m
     );
 }
 
-// What is known behind a definition.
+// What is known after a definition.
 #[tactic(auto, using(crate::proofs::TellLemmas::defined_known))]
 fn define(claims: &Claims<'_>, name: &[u8], known: &mut Knowledge)
     ensures { facts_in (setting claims.now) known.new ≡ bounds.defined (setting claims.now) name.now (facts_in (setting claims.now) known.old) }
@@ -366,7 +366,8 @@ fn tell_define<A: Asked>(
     tell_returns(claims, name, body.number, asked);
 }
 
-/// What a compound command claims, behind whose redirections this is known; of a simple command nothing.
+/// What a compound command claims, after whose redirections this is known; of a simple command
+/// nothing.
 #[tactic(auto, using(crate::proofs::TellLemmas::told_kinds), unfolding(crate::specs::Tells::for_words_gained))]
 pub fn tell_compound<A: Asked>(
     claims: &Claims<'_>,

@@ -32,7 +32,7 @@ fn passed(claims: &Claims<'_>, function: &[u8], known: &Knowledge) -> Knowledge
     left
 }
 
-// Behind a call of a function that the certificate does not have.
+// After a call of a function that the certificate does not have.
 fn call_unknown(claims: &Claims<'_>, function: &[u8], known: &Knowledge) -> Knowledge
     ensures { (r : views.Slot) (before : List Text) → IsUnknown (setting claims.now) function.now r → facts_in (setting claims.now) result ≡ simple.called (setting claims.now) function.now r before (facts_in (setting claims.now) known.now) }
 {
@@ -43,7 +43,7 @@ fn call_unknown(claims: &Claims<'_>, function: &[u8], known: &Knowledge) -> Know
     }
 }
 
-// Behind a call of a function that has these prefix assignments.
+// After a call of a function that has these prefix assignments.
 fn call_known(
     claims: &Claims<'_>,
     function: &[u8],

@@ -1,4 +1,5 @@
-//! What a simple command drops, which the function drops that it stands in (XCU 2.9.1, 2.9.5, 2.15, unset).
+//! What a simple command drops, which the function drops that it is in (XCU 2.9.1, 2.9.5, 2.15,
+//! unset).
 ghost use Rattle.std.specs.Prelude.{◌≡◌, fold, map, codes, if◌then◌else◌};
 ghost use Rattle.std.specs.List.{list_any};
 ghost use Rattle.std.specs.Str.{bytes_eq};

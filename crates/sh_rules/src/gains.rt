@@ -1,4 +1,4 @@
-//! What is known behind words and names, of the names that are numbered (XCU 2.6).
+//! What is known after words and names, of the names that are numbered (XCU 2.6).
 ghost use Rattle.std.specs.Prelude.{◌≡◌, [], ◌∷◌};
 ghost use Rattle.sh_tree.specs.Lists.{parts_from, redirects_from};
 ghost use Rattle.sh_tree.specs.standard.program.Trees.{expression_of, parameter_of};
@@ -21,7 +21,7 @@ pub fn gain_variable(claims: &Claims<'_>, name: &[u8], known: &mut Knowledge)
     known.gain(claims.names, name);
 }
 
-/// What is known behind a word.
+/// What is known after a word.
 #[tactic(auto, using(crate::proofs::GainLemmas::word_known))]
 pub fn gain_word(claims: &Claims<'_>, word: &Word, known: &mut Knowledge)
     ensures { facts_in (setting claims.now) known.new ≡ gained (setting claims.now) (word_gains (parts_from (setting claims.now).script word.now.parts)) (facts_in (setting claims.now) known.old) }
@@ -34,7 +34,7 @@ pub fn gain_word(claims: &Claims<'_>, word: &Word, known: &mut Knowledge)
     *known = behind.knowledge;
 }
 
-// What is known behind redirections.
+// What is known after redirections.
 #[tactic(auto, using(crate::proofs::GainLemmas::redirects_known))]
 fn gain_all(claims: &Claims<'_>, redirects: &[Redirect], known: &mut Knowledge)
     ensures { facts_in (setting claims.now) known.new ≡ gained (setting claims.now) (redirects_gains (redirects_from (setting claims.now).script redirects.now)) (facts_in (setting claims.now) known.old) }
@@ -47,7 +47,7 @@ fn gain_all(claims: &Claims<'_>, redirects: &[Redirect], known: &mut Knowledge)
     *known = behind.knowledge;
 }
 
-/// What is known behind redirections.
+/// What is known after redirections.
 #[tactic(auto, using(crate::proofs::GainLemmas::no_redirects))]
 pub fn gain_redirects(claims: &Claims<'_>, redirects: &[Redirect], known: &mut Knowledge)
     ensures { facts_in (setting claims.now) known.new ≡ gained (setting claims.now) (redirects_gains (redirects_from (setting claims.now).script redirects.now)) (facts_in (setting claims.now) known.old) }

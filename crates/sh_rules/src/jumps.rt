@@ -1,4 +1,5 @@
-//! Where a simple command jumps to: behind a loop, to its next turn, or out of a function (XCU 2.15, break, continue and return).
+//! Where a simple command jumps to: after a loop, to its next turn, or out of a function (XCU 2.15,
+//! break, continue and return).
 ghost use Rattle.std.specs.Prelude.{◌≡◌, map, option_map, Some, None};
 ghost use Rattle.sh_tree.specs.standard.Tree.{text_of};
 ghost use Rattle.sh_table.specs.WordTexts.{text_in};
@@ -49,7 +50,7 @@ pub fn jump_loop(count: Option<u32>, loops: &Loops<'_>) -> Option<u32>
     }
 }
 
-// Of a `break` by the command of this number, behind this loop.
+// Of a `break` by the command of this number, after this loop.
 #[tactic(auto, unfolding(crate::specs::SimpleBounds::breaks_told))]
 fn tell_break<A: Asked>(
     claims: &Claims<'_>,
@@ -139,7 +140,7 @@ fn tell_return<A: Asked>(
     }
 }
 
-// Out of the function that it stands in, if it stands in one.
+// Out of the function that it is in, if it is in one.
 #[tactic(auto, unfolding(crate::specs::SimpleBounds::returns_told))]
 fn tell_returning<A: Asked>(
     claims: &Claims<'_>,

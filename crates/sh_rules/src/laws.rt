@@ -6,8 +6,9 @@ ghost use Rattle.sh_rules.specs.TextTells.{TextsTell};
 
 use crate::asked::Asked;
 
-/// A walk from what is known at the start meets each command as the flow rules enter it, in their order: with the rule that enters it, what
-/// stands round it, and what is seen there, of the names that are numbered.
+/// A walk from what is known at the start meets each command as the flow rules enter it, in their
+/// order: with the rule that enters it, what is round it, and what is seen there, of the names that
+/// are numbered.
 pub fn entered()
     ensures { WalkEnters }
 {}
@@ -30,8 +31,9 @@ pub fn least()
     ensures { LeastOfScripts }
 {}
 
-/// The names of a script suffice for its rules: those of prefix assignments are among them; the functions of its call table are those that
-/// its commands define; and no command stands in more loops than there are commands.
+/// The names of a script suffice for its rules: those of prefix assignments are among them; the
+/// functions of its call table are those that its commands define; and no command is in more loops
+/// than there are commands.
 pub fn names()
     ensures prefixes { PrefixesAreNumbered }
     ensures functions { TableDefines }

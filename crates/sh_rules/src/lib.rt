@@ -1,4 +1,5 @@
-//! The flow rules over a tree: what is known behind lists, and how each command of a script is entered, by what a certificate claims.
+//! The flow rules over a tree: what is known after lists, and how each command of a script is
+//! entered, by what a certificate claims.
 #![tactic(auto)]
 
 mod around;

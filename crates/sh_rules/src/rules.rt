@@ -71,7 +71,7 @@ fn elements_in(kind: &Kind) -> Option<&[Element]>
     }
 }
 
-// What a compound command claims behind it.
+// What a compound command claims after it.
 fn tell_inside<A: Asked>(
     claims: &Claims<'_>,
     number: u32,
@@ -85,7 +85,7 @@ fn tell_inside<A: Asked>(
     tell_compound(claims, number, &known, kind, asked);
 }
 
-// What the command claims behind it.
+// What the command claims after it.
 fn tell_claims<A: Asked>(
     claims: &Claims<'_>,
     around: &Around<'_>,
@@ -165,7 +165,7 @@ fn is_redirected(redirects: &[Redirect]) -> bool
     }
 }
 
-// What is known behind the redirections of a command.
+// What is known after the redirections of a command.
 fn behind_redirects(claims: &Claims<'_>, number: u32, redirects: &[Redirect]) -> Knowledge
     ensures { facts_in (setting claims.now) result ≡ commands.redirected (setting claims.now) number (redirects_from (setting claims.now).script redirects.now) }
 {
@@ -174,8 +174,9 @@ fn behind_redirects(claims: &Claims<'_>, number: u32, redirects: &[Redirect]) ->
     known
 }
 
-/// What a command asks, as it is entered by this rule with this round it and this known there: that it is entered so, what it claims behind it
-/// by its kind, where its redirections fail, and what a function drops by it.
+/// What a command asks, as it is entered by this rule with this round it and this known there: that
+/// it is entered so, what it claims after it by its kind, where its redirections fail, and what a
+/// function drops by it.
 #[tactic(auto, using(crate::proofs::VisitLemmas::command_out))]
 pub fn tell_command<A: Asked>(
     claims: &Claims<'_>,

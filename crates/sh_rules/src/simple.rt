@@ -1,4 +1,5 @@
-//! What the flow rules ask of a simple command: of what it claims behind it, and of where it jumps to (XCU 2.9.1, 2.15, 3).
+//! What the flow rules ask of a simple command: of what it claims after it, and of where it jumps
+//! to (XCU 2.9.1, 2.15, 3).
 ghost use Rattle.std.specs.Prelude.{◌≡◌, map};
 ghost use Rattle.sh_tree.specs.Lists.{elements_from};
 ghost use Rattle.sh_table.specs.WordTexts.{text_in};
@@ -22,7 +23,7 @@ use sh_domain::{FlowRule, Knowledge};
 use sh_table::{Kind, WordText, kind_of};
 use sh_tree::Element;
 
-// Whether a utility of this kind leaves what is known behind its words, and does not jump.
+// Whether a utility of this kind leaves what is known after its words, and does not jump.
 #[tactic(auto, unfolding(crate::specs::TextTells::is_neutral))]
 fn is_neutral(kind: Kind) -> bool
     ensures { result ≡ spec.is_neutral kind }
@@ -40,7 +41,7 @@ fn is_neutral(kind: Kind) -> bool
     }
 }
 
-// Of a utility of this kind behind whose words this is known.
+// Of a utility of this kind after whose words this is known.
 fn tell_kind<A: Asked>(
     claims: &Claims<'_>,
     around: &Around<'_>,
@@ -122,8 +123,9 @@ fn tell_named<A: Asked>(
     }
 }
 
-/// Of a simple command whose words have these static texts, its name first, which calls a function or is a utility: that it claims no more than is
-/// known behind it by what its name means, and no more where it jumps to.
+/// Of a simple command whose words have these static texts, its name first, which calls a function
+/// or is a utility: that it claims no more than is known after it by what its name means, and no
+/// more where it jumps to.
 #[tactic(auto, unfolding(crate::specs::TextTells::simple_by, crate::specs::Walks::setting))]
 pub fn tell_simple<A: Asked>(
     claims: &Claims<'_>,

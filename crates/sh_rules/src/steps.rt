@@ -16,7 +16,7 @@ use sh_domain::Knowledge;
 use sh_operands::count_behind;
 use sh_tree::Element;
 
-/// The positional parameters are now the words of a simple command behind the first so many.
+/// The positional parameters are now the words of a simple command after the first so many.
 pub fn count_words(claims: &Claims<'_>, elements: &[Element], skipped: usize, known: &mut Knowledge)
     ensures { facts_in (setting claims.now) known.new ≡ stepped (setting claims.now) (views.Count (total (drop skipped (operands (elements_from (setting claims.now).script elements.now))))) (facts_in (setting claims.now) known.old) }
 {

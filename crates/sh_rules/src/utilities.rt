@@ -1,4 +1,4 @@
-//! What is known behind a utility, by its kind and its operands (XCU 2.9.1, 2.15, 3).
+//! What is known after a utility, by its kind and its operands (XCU 2.9.1, 2.15, 3).
 ghost use Rattle.std.specs.Prelude.{◌≡◌, ℕ, List, drop, false, fold, map, not, option_map, if◌then◌else◌};
 ghost use Rattle.std.specs.Prelude.{Option};
 ghost use Rattle.sh_tree.specs.Lists.{elements_from};
@@ -65,7 +65,7 @@ fn gain_texts(claims: &Claims<'_>, prefixes: &NumberSet, texts: &[WordText], kno
     }
 }
 
-// The names among the operands of `read` behind its options, if these are known.
+// The names among the operands of `read` after its options, if these are known.
 fn gain_behind(
     claims: &Claims<'_>,
     elements: &[Element],
@@ -169,7 +169,7 @@ fn is_word(element: &Element) -> bool
     }
 }
 
-/// The elements behind the command name.
+/// The elements after the command name.
 #[tactic(auto, using(crate::proofs::UtilityLemmas::name_passed))]
 pub fn behind_name(elements: &[Element]) -> &[Element]
     ensures { (b : List ℕ) → table.operands (elements_from b result.now) ≡ spec.behind_name (elements_from b elements.entry.now) }
@@ -191,9 +191,9 @@ fn gain_assigned_operands(claims: &Claims<'_>, elements: &[Element], known: &mut
     gain_each_declared(claims, behind_name(elements), known);
 }
 
-// Behind each utility
+// After each utility
 
-/// Behind the assignments and redirections too, which stay at a special built-in utility.
+/// After the assignments and redirections too, which stay at a special built-in utility.
 pub fn settled(claims: &Claims<'_>, elements: &[Element], known: &Knowledge) -> Knowledge
     ensures { facts_in (setting claims.now) result ≡ gained (setting claims.now) (simple.left (elements_from (setting claims.now).script elements.now)) (facts_in (setting claims.now) known.now) }
 {
@@ -202,7 +202,8 @@ pub fn settled(claims: &Claims<'_>, elements: &[Element], known: &Knowledge) -> 
     settled
 }
 
-// With the words of `set` behind the first so many, of which it takes no more than the first ones where it fails.
+// With the words of `set` after the first so many, of which it takes no more than the first ones
+// where it fails.
 fn set_words(claims: &Claims<'_>, elements: &[Element], skipped: usize, known: &Knowledge) -> Behind
     ensures { behind_in (setting claims.now) result ≡ spec.words_set (setting claims.now) (facts_in (setting claims.now) known.now) (elements_from (setting claims.now).script elements.now) (drop skipped (spec.behind_name (elements_from (setting claims.now).script elements.now))) }
 {
@@ -315,7 +316,7 @@ fn colon_behind(settled: &Knowledge) -> Behind
     }
 }
 
-// Behind a special built-in utility.
+// After a special built-in utility.
 #[tactic(auto, unfolding(crate::specs::TextBounds::special_by))]
 fn special_behind(
     claims: &Claims<'_>,
@@ -403,7 +404,8 @@ fn getopts_behind(
     Behind { zero, nonzero }
 }
 
-/// Behind a utility of this kind, where this is known behind its words: the standard's status, and what it sets, removes or counts.
+/// After a utility of this kind, where this is known after its words: the standard's status, and
+/// what it sets, removes or counts.
 #[tactic(auto, unfolding(crate::specs::TextBounds::utility_by))]
 pub fn utility_behind(
     claims: &Claims<'_>,
@@ -434,7 +436,8 @@ fn unless_failed(is_redirected: bool, known: &Knowledge, settled: &Knowledge) ->
     if is_redirected { *known } else { *settled }
 }
 
-/// Behind a simple command without a name: where it fails, a redirection may have failed, and no assignment need be done.
+/// After a simple command without a name: where it fails, a redirection may have failed, and no
+/// assignment need be done.
 #[tactic(auto, unfolding(crate::specs::TextBounds::nameless_by))]
 pub fn nameless_behind(claims: &Claims<'_>, elements: &[Element], known: &Knowledge) -> Behind
     ensures { behind_in (setting claims.now) result ≡ spec.nameless_by (setting claims.now) (facts_in (setting claims.now) known.now) (elements_from (setting claims.now).script elements.now) }

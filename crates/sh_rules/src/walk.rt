@@ -1,5 +1,5 @@
-//! A walk over the commands of a script, those in its words included, with the rule that enters each, what stands round it and what is
-//! known there (XCU 2.9, 2.13).
+//! A walk over the commands of a script, those in its words included, with the rule that enters
+//! each, what is round it and what is known there (XCU 2.9, 2.13).
 ghost use Rattle.std.specs.Prelude.{◌≡◌, fold};
 ghost use Rattle.sh_tree.specs.standard.program.Trees.{script_of};
 ghost use Rattle.sh_rules.specs.Behind.{both, turns};
@@ -30,7 +30,7 @@ pub trait Visitor {
     // What is kept with one command more.
     ghost with_met: { Setting → Kept → Met → Kept };
 
-    /// Visits a command, with the rule that enters it, what stands round it and what is known there.
+    /// Visits a command, with the rule that enters it, what is round it and what is known there.
     fn visit(
         &mut self,
         claims: &Claims<'_>,
@@ -71,7 +71,7 @@ fn gain_operand(claims: &Claims<'_>, element: &Element, known: &mut Knowledge)
     }
 }
 
-// Behind the words of a simple command.
+// After the words of a simple command.
 fn gain_operands(claims: &Claims<'_>, elements: &[Element], known: &mut Knowledge)
     ensures { facts_in (setting claims.now) known.new ≡ fold (steps.element_gained (setting claims.now)) (facts_in (setting claims.now) known.old) elements.now }
 {
@@ -466,7 +466,7 @@ fn walk_elements<V: Visitor>(
     }
 }
 
-// An element: values and redirections are judged behind all words.
+// An element: values and redirections are judged after all words.
 #[cycle(walk)]
 #[tactic(auto, using(crate::proofs::WalkLemmas::elements))]
 fn walk_element<V: Visitor>(

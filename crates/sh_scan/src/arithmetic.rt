@@ -15,7 +15,8 @@ pub use operators::{assignment_of, binary_of, unary_of};
 use sh_tree::{Figure, Form, Lexeme, MAX_SCRIPT};
 use spaces::space_length;
 
-/// Whether line continuations behind the token of so many bytes at the front keep it from being a longer one.
+/// Whether line continuations after the token of so many bytes at the front keep it from being a
+/// longer one.
 fn is_split(rest: &[u8], count: usize) -> bool
     requires some { 0 < count }
     requires inside { count ≤ length rest.now }
@@ -57,7 +58,7 @@ fn lexeme_of(rest: &[u8], at: usize) -> Lexeme
     }
 }
 
-/// The token at or behind `at`.
+/// The token at or after `at`.
 #[tactic(auto, unfolding(sh_tree::specs::standard::language::Arithmetic::lexeme, sh_tree::specs::standard::language::Arithmetic::lexeme_start))]
 pub fn lexeme_at(script: &[u8], at: u32) -> Lexeme
     requires small { length script.now ≤ MAX_SCRIPT }
@@ -73,7 +74,7 @@ pub fn lexeme_at(script: &[u8], at: u32) -> Lexeme
     lexeme_of(&script[start..], start)
 }
 
-/// Whether a closing parenthesis stands at `at`, which behind another closes the expansion.
+/// Whether a closing parenthesis is at `at`, which after another closes the expansion.
 #[tactic(auto, unfolding(sh_tree::specs::standard::language::Arithmetic::is_closed))]
 pub fn is_closed(script: &[u8], at: u32) -> bool
     requires small { length script.now ≤ MAX_SCRIPT }

@@ -5,7 +5,7 @@ ghost use Rattle.sh_tree.specs.standard.language.Commands as commands;
 use crate::front::{begins_angle, begins_with, behind_joined, name_length};
 use sh_tree::MAX_SCRIPT;
 
-/// Whether a name and `=` stand at the front.
+/// Whether a name and `=` are at the front.
 #[tactic(auto, unfolding(sh_tree::specs::standard::language::Commands::is_assignment))]
 pub fn is_assignment(rest: &[u8]) -> bool
     ensures { result ≡ commands.is_assignment rest.now }
@@ -14,7 +14,7 @@ pub fn is_assignment(rest: &[u8]) -> bool
     length != 0 && begins_with(&rest[length..], b'=')
 }
 
-/// Whether a name and `=` stand at `at` (XCU 2.10.2, rule 7).
+/// Whether a name and `=` are at `at` (XCU 2.10.2, rule 7).
 pub fn is_assignment_at(script: &[u8], at: u32) -> bool
     requires small { length script.now ≤ MAX_SCRIPT }
     requires inside { at ≤ length script.now }

@@ -1,4 +1,4 @@
-//! What stands between tokens (XCU 2.3).
+//! What is between tokens (XCU 2.3).
 ghost use Rattle.std.specs.Prelude.{◌≡◌, ◌≤◌, ◌-◌, if◌then◌else◌, length, drop};
 ghost use Rattle.sh_tree.specs.standard.language.Bytes as bytes;
 ghost use Rattle.sh_tree.specs.standard.language.Commands as commands;
@@ -73,8 +73,8 @@ fn blank_length(body: bool, rest: &[u8]) -> usize
     gap + comment_step(body, &rest[gap..])
 }
 
-/// Where the token at or behind `at` begins: behind blanks, line continuations and a comment. In the body of a
-/// here-document a comment whose line goes on behind a continuation is none.
+/// Where the token at or after `at` begins: after blanks, line continuations and a comment. In the
+/// body of a here-document a comment whose line goes on after a continuation is none.
 #[tactic(auto, unfolding(sh_tree::specs::standard::language::Commands::blanks))]
 pub fn blanks_at(script: &[u8], at: u32, body: bool) -> u32
     requires small { length script.now ≤ MAX_SCRIPT }

@@ -96,7 +96,7 @@ pub fn joined_length(rest: &[u8]) -> usize
     }
 }
 
-/// Whether a line continuation stands at the front.
+/// Whether a line continuation is at the front.
 #[tactic(auto, using(crate::proofs::StepLemmas::is_joined_is), unfolding(crate::specs::Steps::joined_step))]
 pub fn is_joined(rest: &[u8]) -> bool
     ensures value { result ≡ bytes.is_joined rest.now }
@@ -105,7 +105,7 @@ pub fn is_joined(rest: &[u8]) -> bool
     joined_step(rest) != 0
 }
 
-/// The text behind the line continuations at its front.
+/// The text after the line continuations at its front.
 pub fn behind_joined(rest: &[u8]) -> &[u8]
     ensures { result.now ≡ bytes.behind_joined rest.now }
 {
@@ -136,7 +136,7 @@ pub fn ends_joined(rest: &[u8]) -> bool
     }
 }
 
-/// Where the name at `at` ends, or `at` where none begins there (XBD 3.216).
+/// Where the name at `at` ends, or `at` if none begins there (XBD 3.216).
 #[tactic(auto, unfolding(sh_tree::specs::standard::language::Commands::name_end))]
 pub fn name_at(script: &[u8], at: u32) -> u32
     requires small { length script.now ≤ MAX_SCRIPT }

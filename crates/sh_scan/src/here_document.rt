@@ -32,7 +32,8 @@ pub fn line_length(rest: &[u8], joins: bool) -> usize
     }
 }
 
-/// Where the line at `at` ends, before its newline. Where lines are joined, a newline behind a backslash ends none.
+/// Where the line at `at` ends, before its newline. Where lines are joined, a newline after a
+/// backslash ends none.
 #[tactic(auto, unfolding(sh_tree::specs::standard::language::HereDocuments::line_end))]
 pub fn here_line(script: &[u8], at: u32, joins: bool) -> u32
     requires small { length script.now ≤ MAX_SCRIPT }

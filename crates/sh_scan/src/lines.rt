@@ -35,7 +35,7 @@ impl Lines {
     ///
     /// # Errors
     ///
-    /// `AllocError` where a growth was refused.
+    /// `AllocError` if a growth was refused.
     pub fn new(alloc: Global, script: &[u8]) -> Result<Lines, AllocError>
         ensures { IfOk result (λ l. l ≡ lines_of script.now) }
     {

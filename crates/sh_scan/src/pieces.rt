@@ -1,4 +1,4 @@
-//! Texts in two pieces: a token, and what stands behind the line continuations that follow it.
+//! Texts in two pieces: a token, and what follows the line continuations that follow it.
 ghost use Rattle.std.specs.Prelude.{◌≡◌, ◌++◌, nat_eq};
 ghost use Rattle.std.specs.List.{starts_with};
 

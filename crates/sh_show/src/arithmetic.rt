@@ -55,7 +55,7 @@ fn push_assigned(
 ///
 /// # Errors
 ///
-/// `AllocError` where a growth was refused.
+/// `AllocError` if a growth was refused.
 #[cycle(show)]
 pub fn push_expr(alloc: Global, expr: &Expr, text: &mut String) -> Result<(), AllocError> {
     match expr {
@@ -94,7 +94,7 @@ pub fn push_expr(alloc: Global, expr: &Expr, text: &mut String) -> Result<(), Al
     }
 }
 
-/// An expression behind a sign.
+/// An expression after a sign.
 #[cycle(show)]
 fn push_behind(
     alloc: Global,

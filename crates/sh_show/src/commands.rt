@@ -53,7 +53,7 @@ fn push_words(alloc: Global, words: &[Word], text: &mut String) -> Result<(), Al
     text.push_str(")")
 }
 
-/// A list in braces, behind a sign.
+/// A list in braces, after a sign.
 #[cycle(show)]
 fn push_body(
     alloc: Global,
@@ -67,7 +67,7 @@ fn push_body(
     text.push_str("}")
 }
 
-/// The conditions of `if` and what stands behind them, in turn.
+/// The conditions of `if` and what follows them, in turn.
 #[cycle(show)]
 fn push_branches(alloc: Global, branches: &[Branch], text: &mut String) -> Result<(), AllocError> {
     text.push_str("if")?;
@@ -175,11 +175,11 @@ fn push_definition(
     text.push_str(")")
 }
 
-/// A command: its number, `@` and its offset, what it is, and the redirections behind it.
+/// A command: its number, `@` and its offset, what it is, and the redirections after it.
 ///
 /// # Errors
 ///
-/// `AllocError` where a growth was refused.
+/// `AllocError` if a growth was refused.
 #[cycle(show)]
 pub fn push_command(alloc: Global, command: &Command, text: &mut String) -> Result<(), AllocError> {
     let told = format!(in alloc; "{}@{}", command.number, command.at)?;
@@ -223,19 +223,20 @@ fn push_list(alloc: Global, list: &AndOr, text: &mut String) -> Result<(), Alloc
     Ok(())
 }
 
-/// An item, with `&` behind it where it is an asynchronous list.
+/// An item, with `&` after it where it is an asynchronous list.
 #[cycle(show)]
 fn push_item(alloc: Global, item: &Item, text: &mut String) -> Result<(), AllocError> {
     push_list(alloc, &item.list, text)?;
     text.push_str(if item.background { " &" } else { "" })
 }
 
-/// The items of a script, with blanks between them: pipelines with `&&` and `||` between them, and a `&` behind an asynchronous
-/// list; a pipeline is its commands with `|` between them, behind a `!` where it is negated.
+/// The items of a script, with blanks between them: pipelines with `&&` and `||` between them, and
+/// a `&` after an asynchronous list; a pipeline is its commands with `|` between them, after a `!`
+/// where it is negated.
 ///
 /// # Errors
 ///
-/// `AllocError` where a growth was refused.
+/// `AllocError` if a growth was refused.
 #[cycle(show)]
 pub fn push_script(alloc: Global, script: &Script, text: &mut String) -> Result<(), AllocError> {
     let mut is_first = true;

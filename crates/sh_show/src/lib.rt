@@ -1,4 +1,5 @@
-//! Trees as short text, for tests and for people who look at them. Every field of a tree is told.
+//! Trees as short text, for tests and for people who look at them. Every field of a tree is
+//! reported.
 #![tactic(auto)]
 
 mod arithmetic;

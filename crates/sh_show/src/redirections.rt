@@ -15,7 +15,7 @@ fn sign_of_direction(direction: Direction) -> &'static str {
     }
 }
 
-/// A here-document: its operator, the word behind it, the body, and the line that ends it.
+/// A here-document: its operator, the word after it, the body, and the line that ends it.
 #[cycle(show)]
 fn push_here(alloc: Global, here: &HereDoc, text: &mut String) -> Result<(), AllocError> {
     text.push_str(if here.strip { "<<-" } else { "<<" })?;
@@ -25,12 +25,12 @@ fn push_here(alloc: Global, here: &HereDoc, text: &mut String) -> Result<(), All
     push_signed(alloc, "/", here.end, text)
 }
 
-/// A redirection: `o` and the offset of its operator, behind a slash the IO number's span, if there is one, the operator, and
-/// what it opens, a word or a here-document.
+/// A redirection: `o` and the offset of its operator, after a slash the IO number's span, if there
+/// is one, the operator, and what it opens, a word or a here-document.
 ///
 /// # Errors
 ///
-/// `AllocError` where a growth was refused.
+/// `AllocError` if a growth was refused.
 #[cycle(show)]
 pub fn push_redirect(
     alloc: Global,
@@ -51,7 +51,7 @@ pub fn push_redirect(
     }
 }
 
-/// Redirections behind a compound command, each behind a blank.
+/// Redirections after a compound command, each after a blank.
 #[cycle(show)]
 pub fn push_redirects(
     alloc: Global,

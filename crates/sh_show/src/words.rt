@@ -65,7 +65,8 @@ fn letter_of(operator: &ParameterOperator) -> &'static str {
     }
 }
 
-/// An expansion: its letter and span, the parameter, and the operator in brackets with the word behind it.
+/// An expansion: its letter and span, the parameter, and the operator in brackets with the word
+/// after it.
 #[cycle(show)]
 fn push_param(alloc: Global, param: &Param, text: &mut String) -> Result<(), AllocError> {
     push_signed(alloc, letter_of(&param.operator), param.span, text)?;
@@ -88,7 +89,7 @@ fn push_param(alloc: Global, param: &Param, text: &mut String) -> Result<(), All
     }
 }
 
-/// The word behind an operator.
+/// The word after an operator.
 #[cycle(show)]
 fn push_operand(
     alloc: Global,
@@ -115,13 +116,14 @@ fn letter_of_command(style: CommandStyle) -> &'static str {
     }
 }
 
-/// A part: `p` plain bytes, `e` an escape, `s` single quotes, `$s` those behind a dollar sign, `d` double quotes, `a` arithmetic,
-/// `c` commands, `b` commands in backquotes, `t` a tilde-prefix, `j` a line continuation, or the letter of an expansion, `v` its
-/// value, `l` its length, `u` a word in its place, `r` a removal; then its span, and what is in it.
+/// A part: `p` plain bytes, `e` an escape, `s` single quotes, `$s` those after a dollar sign, `d`
+/// double quotes, `a` arithmetic, `c` commands, `b` commands in backquotes, `t` a tilde-prefix, `j`
+/// a line continuation, or the letter of an expansion, `v` its value, `l` its length, `u` a word in
+/// its place, `r` a removal; then its span, and what is in it.
 ///
 /// # Errors
 ///
-/// `AllocError` where a growth was refused.
+/// `AllocError` if a growth was refused.
 #[cycle(show)]
 pub fn push_part(alloc: Global, part: &Part, text: &mut String) -> Result<(), AllocError> {
     match part {
@@ -154,7 +156,7 @@ pub fn push_part(alloc: Global, part: &Part, text: &mut String) -> Result<(), Al
 ///
 /// # Errors
 ///
-/// `AllocError` where a growth was refused.
+/// `AllocError` if a growth was refused.
 #[cycle(show)]
 pub fn push_parts(alloc: Global, parts: &[Part], text: &mut String) -> Result<(), AllocError> {
     text.push_str("(")?;
@@ -173,7 +175,7 @@ pub fn push_parts(alloc: Global, parts: &[Part], text: &mut String) -> Result<()
 ///
 /// # Errors
 ///
-/// `AllocError` where a growth was refused.
+/// `AllocError` if a growth was refused.
 #[cycle(show)]
 pub fn push_word(alloc: Global, word: &Word, text: &mut String) -> Result<(), AllocError> {
     push_span(alloc, word.span, text)?;

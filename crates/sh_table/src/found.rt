@@ -114,7 +114,7 @@ impl Found {
     ///
     /// # Errors
     ///
-    /// `AllocError` where a growth was refused.
+    /// `AllocError` if a growth was refused.
     pub fn new(alloc: Global, tree: &Script, script: &[u8]) -> Result<Found, AllocError>
         ensures rows { IfOk result (λ found. map (calls.row_in script.now) found.rows.items ≡ map calls.row_of (sites.sites_of (script_of script.now tree.now))) }
         ensures definitions { IfOk result (λ found. map (spec.definition_in script.now) found.definitions.items ≡ filter_map spec.definition_of (sites.sites_of (script_of script.now tree.now))) }

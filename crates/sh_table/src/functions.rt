@@ -41,7 +41,7 @@ impl Functions {
     ///
     /// # Errors
     ///
-    /// `AllocError` where a growth was refused.
+    /// `AllocError` if a growth was refused.
     pub fn new(
         alloc: Global,
         definitions: &[Definition],

@@ -17,8 +17,8 @@ pub enum Kind {
     Getopts,
     Read,
     True,
-    /// A name that is refused: what it runs stands in no reading of the script, the standard gives it no meaning, or
-    /// other shells reserve it. A quoted command name of the last kind is a utility.
+    /// A name that is refused: what it runs is in no reading of the script, the standard gives it
+    /// no meaning, or other shells reserve it. A quoted command name of the last kind is a utility.
     Refused(KnownName),
     /// Any other name: a utility that changes no variable and no function, unless it is a function.
     Utility,

@@ -212,7 +212,7 @@ pub fn commands_utility(words: &[WordText], script: &[u8]) -> bool
     true
 }
 
-/// Whether an `o` stands before the last letter.
+/// Whether an `o` is before the last letter.
 #[tactic(auto, using(crate::proofs::OperandTests::inner_o))]
 fn has_inner_o(text: &[u8]) -> bool
     ensures { result ≡ profile.has_inner_o text.now }
@@ -261,7 +261,7 @@ fn has_inner_letter_o(text: &[u8]) -> bool
     }
 }
 
-/// Whether the options of `set` are known, and what stands behind them (XCU 2.15, set).
+/// Whether the options of `set` are known, and what follows them (XCU 2.15, set).
 #[tactic(auto, unfolding(crate::specs::Profile::sets_known))]
 pub fn sets_known(words: &[WordText], script: &[u8]) -> bool
     ensures { result ≡ profile.sets_known false (map (text_in script.now) words.now) }
@@ -337,7 +337,7 @@ pub fn definition_in(text: &[u8]) -> Option<(&[u8], &[u8])>
     }
 }
 
-/// Whether a name and `+=` stand at the front, which other shells read as an assignment.
+/// Whether a name and `+=` are at the front, which other shells read as an assignment.
 #[tactic(auto, unfolding(sh_tree::specs::standard::language::Bytes::is_first))]
 pub fn is_append(text: &[u8]) -> bool
     ensures { result ≡ profile.is_append text.now }

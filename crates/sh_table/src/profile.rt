@@ -35,8 +35,8 @@ fn first_refusal(sites: &[Site], rows: &[Row], script: &[u8]) -> Option<Refusal>
 ///
 /// # Errors
 ///
-/// `Profile` with the first rule that the command with the least number breaks among those that break one, and the offset at
-/// which it starts; `Memory` where a growth was refused.
+/// `Profile` with the first rule that the command with the least number breaks among those that
+/// break one, and the offset at which it starts; `Memory` if a growth was refused.
 pub fn admit(alloc: Global, tree: &Script, table: &CallTable, script: &[u8]) -> Result<(), Refusal>
     requires { table.now ≡ calls.table_of script.now tree.now }
     ensures { admits.Admits (script_of script.now tree.now) result }

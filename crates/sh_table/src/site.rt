@@ -1,9 +1,9 @@
-//! The commands of a script, each with what stands round it.
+//! The commands of a script, each with what is round it.
 
 use sh_tree::Span;
 
-/// Whether a loop, and a function, stand round a place, with no started process, part of a pipeline or other definition
-/// between (XCU 2.15, break and return).
+/// Whether a loop, and a function, are round a place, with no started process, part of a pipeline
+/// or other definition between (XCU 2.15, break and return).
 #[derive(Clone, Copy, Debug, PartialEq, Eq)]
 pub struct Around {
     pub in_loop: bool,
@@ -21,7 +21,7 @@ pub enum Form {
     Other,
 }
 
-/// A command: its number, the offset at which it starts, and what stands round it.
+/// A command: its number, the offset at which it starts, and what is round it.
 #[derive(Clone, Copy)]
 pub struct Site {
     pub number: u32,

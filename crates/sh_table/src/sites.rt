@@ -1,4 +1,5 @@
-//! The commands of a script by their numbers, those in its words included, each with what stands round it.
+//! The commands of a script by their numbers, those in its words included, each with what is round
+//! it.
 ghost use Rattle.std.specs.Prelude.{◌≡◌, ℕ, List, map, OnOk, IfOk};
 ghost use Rattle.sh_tree.specs.Lists.{elements_from};
 ghost use Rattle.sh_tree.specs.standard.program.Trees.{script_of};
@@ -94,11 +95,12 @@ fn sort_sites(found: &mut Vec<Site>) -> Result<(), AllocError>
     Ok(())
 }
 
-/// The commands of a script by their numbers, those in its words included, each with what stands round it.
+/// The commands of a script by their numbers, those in its words included, each with what is round
+/// it.
 ///
 /// # Errors
 ///
-/// `AllocError` where a growth was refused.
+/// `AllocError` if a growth was refused.
 pub fn sites(alloc: Global, tree: &Script, script: &[u8]) -> Result<Vec<Site>, AllocError>
     ensures { IfOk result (λ found. map (walks.seen script.now) found.items ≡ map walks.outline_of (sites.sites_of (script_of script.now tree.now))) }
 {

@@ -103,8 +103,9 @@ impl<'s> CallTable<'s> {
     ///
     /// # Errors
     ///
-    /// `TooMany` where there are more functions than a script may have commands, so never of a script that has no more of these
-    /// than it may, as each has that was read; `Memory` where a growth was refused.
+    /// `TooMany` if there are more functions than a script may have commands, so never of a script
+    /// that has no more of these than it may, as each has that was read; `Memory` if a growth was
+    /// refused.
     pub fn new(alloc: Global, tree: &Script, script: &'s [u8]) -> Result<CallTable<'s>, Refusal>
         ensures tables { calls.Tables script.entry.now tree.now result }
         ensures counted { length (calls.table_of script.entry.now tree.now).rows ≤ MAX_COMMANDS → IfErr result (λ refusal. refusal ≡ Refusal.Memory) }

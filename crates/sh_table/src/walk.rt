@@ -23,7 +23,7 @@ pub trait Visitor {
     /// Why a walk may end before its last command.
     type Error;
 
-    /// Visits a command, with what stands round it.
+    /// Visits a command, with what is round it.
     ///
     /// # Errors
     ///
@@ -465,8 +465,9 @@ fn walk_expression<V: Visitor>(
     }
 }
 
-/// Visits each command of a script, those in its words included: a command before those in it; those in the elements of a simple command in their
-/// order, and those in the redirections of a compound command behind all else in it. It takes no memory.
+/// Visits each command of a script, those in its words included: a command before those in it;
+/// those in the elements of a simple command in their order, and those in the redirections of a
+/// compound command after all else in it. It takes no memory.
 ///
 /// # Errors
 ///

@@ -58,7 +58,7 @@ fn plain_span(parts: &[Part]) -> Option<Span>
     }
 }
 
-/// The bytes behind a backslash.
+/// The bytes after a backslash.
 fn behind_first(span: Span) -> Option<Span>
     ensures { (b : List ℕ) → IfSome result (λ inner. text_of b inner ≡ words.behind_first (text_of b span)) }
 {
@@ -125,7 +125,7 @@ impl WordText {
     ///
     /// # Errors
     ///
-    /// `AllocError` where a growth was refused.
+    /// `AllocError` if a growth was refused.
     #[tactic(auto, unfolding(crate::specs::WordTexts::text_in))]
     fn new(alloc: Global, word: &Word, script: &[u8]) -> Result<WordText, AllocError>
         ensures { IfOk result (λ text. spec.text_in script.now text ≡ static_text script.now word.now.parts) }
@@ -195,7 +195,7 @@ fn add_text(
 ///
 /// # Errors
 ///
-/// `AllocError` where a growth was refused.
+/// `AllocError` if a growth was refused.
 pub fn texts_of(
     alloc: Global,
     elements: &[Element],

@@ -64,7 +64,7 @@ impl<T: Copy> Items<T> {
     ///
     /// # Errors
     ///
-    /// `AllocError` where a growth was refused.
+    /// `AllocError` if a growth was refused.
     pub fn from_slice(alloc: Global, items: &[T]) -> Result<Items<T>, AllocError>
         ensures { IfOk result (λ it. it ≡ items.now) }
     {
@@ -78,7 +78,7 @@ impl<T: Drop> Items<T> {
     ///
     /// # Errors
     ///
-    /// `AllocError` where a growth was refused; the items stay.
+    /// `AllocError` if a growth was refused; the items stay.
     pub fn push(&mut self, item: T) -> Result<(), AllocError>
         ensures ok { OnOk result (self.new ≡ self.old ++ item ∷ []) }
         ensures err { OnErr result (self.new ≡ self.old) }

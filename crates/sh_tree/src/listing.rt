@@ -329,12 +329,13 @@ fn in_order(mut found: Vec<&Command>) -> Result<Vec<&Command>, AllocError>
     Ok(found)
 }
 
-/// All commands of a script, those in its words included, each once, in the order of their numbers: as a script is read, a command
-/// stands before those in it, and those of a here-document behind the rest of its operator's line.
+/// All commands of a script, those in its words included, each once, in the order of their numbers:
+/// as a script is read, a command is before those in it, and those of a here-document after the
+/// rest of its operator's line.
 ///
 /// # Errors
 ///
-/// Where a growth was refused.
+/// If a growth was refused.
 pub fn commands(alloc: Global, script: &Script) -> Result<Vec<&Command>, AllocError>
     ensures same { IfOk result (λ found. IsPermutation (spec.commands_of script.now) (map (λ c. c.now) found.items)) }
     ensures ordered { IfOk result (λ found. IsNonDecreasingBy (λ c. (out-Command c.now).number) found.items) }

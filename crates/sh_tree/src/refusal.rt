@@ -27,12 +27,12 @@ pub enum Fault {
     UnexpectedToken,
     /// The script ends where the grammar goes on (XCU 2.10).
     UnexpectedEnd,
-    /// A backslash with nothing behind it ends the script (XCU 2.2.1).
+    /// A backslash with nothing after it ends the script (XCU 2.2.1).
     FinalBackslash,
 }
 
 impl Fault {
-    /// What is told of the fault.
+    /// What is reported of the fault.
     pub fn text(self) -> &'static str
         ensures { result.now ≡ fault_text self }
     {
@@ -51,7 +51,7 @@ impl Fault {
     }
 }
 
-// What is told of a thing that is left out.
+// What is reported of a thing that is left out.
 macro_rules! outside {
     ($name:literal) => {
         concat!($name, " is outside the profile")
@@ -107,12 +107,12 @@ pub enum Form {
     HereWord,
     /// A here-document of which one end lies outside a command substitution and one inside (XCU 2.7.4).
     HereAcross,
-    /// A tab behind a continuation where leading tabs are stripped (XCU 2.7.4).
+    /// A tab after a continuation where leading tabs are stripped (XCU 2.7.4).
     HereTab,
 }
 
 impl Form {
-    /// What is told of the form.
+    /// What is reported of the form.
     pub fn text(self) -> &'static str
         ensures { result.now ≡ form_text self }
     {
@@ -172,20 +172,20 @@ pub enum Rule {
     BreakOperand,
     /// The operand of `continue` is no static number from 1 (XCU 2.15, continue).
     ContinueOperand,
-    /// `break` stands outside a loop (XCU 2.15, break).
+    /// `break` is outside a loop (XCU 2.15, break).
     BreakOutside,
-    /// `continue` stands outside a loop (XCU 2.15, continue).
+    /// `continue` is outside a loop (XCU 2.15, continue).
     ContinueOutside,
-    /// `return` stands outside a function (XCU 2.15, return).
+    /// `return` is outside a function (XCU 2.15, return).
     ReturnOutside,
 }
 
 impl Rule {
-    /// Appends what is told of the rule.
+    /// Appends what is reported of the rule.
     ///
     /// # Errors
     ///
-    /// `AllocError` where a growth was refused; what was written before stays, and nothing more.
+    /// `AllocError` if a growth was refused; what was written before stays, and nothing more.
     pub fn push_text(self, out: &mut Vec<u8>) -> Result<(), AllocError>
         ensures ok { OnOk result (out.new.items ≡ out.old.items ++ rule_text self) }
         ensures err { OnErr result (out.new.items ≡ out.old.items) }
@@ -210,7 +210,7 @@ impl Rule {
         Ok(())
     }
 
-    // The words of the text, and the name behind them.
+    // The words of the text, and the name after them.
     #[tactic(auto, unfolding(crate::specs::standard::Texts::rule_name))]
     fn pieces(self) -> (&'static str, &'static str)
         ensures { rule_name self ≡ result.0.now ++ result.1.now }
@@ -246,7 +246,7 @@ pub enum Refusal {
     /// A fault of syntax and its offset, which may be the script's end.
     #[error("a syntax error at {1}")]
     Syntax(Fault, u32),
-    /// A form that is left out, and the offset of its first byte.
+    /// A refused form, and the offset of its first byte.
     #[error("a form outside the profile at {1}")]
     LeftOut(Form, u32),
     /// More than `MAX_NESTING` levels, at the offset of the first that is too many.

@@ -12,7 +12,7 @@ use std::alloc::{AllocError, Global};
 ///
 /// # Errors
 ///
-/// `AllocError` where a growth was refused.
+/// `AllocError` if a growth was refused.
 #[tactic(auto, unfolding(crate::specs::standard::Words::static_text))]
 pub fn static_text(alloc: Global, word: &Word, script: &[u8]) -> Result<Option<Vec<u8>>, AllocError>
     ensures { IfOk result (λ found. option_map (λ v. v.items) found ≡ words.static_text script.now word.now.parts) }
@@ -27,7 +27,7 @@ pub fn static_text(alloc: Global, word: &Word, script: &[u8]) -> Result<Option<V
 ///
 /// # Errors
 ///
-/// `AllocError` where a growth was refused.
+/// `AllocError` if a growth was refused.
 #[tactic(auto, using(crate::proofs::TextLemmas::both_texts_none))]
 pub fn unquoted_text(
     alloc: Global,
@@ -84,7 +84,7 @@ fn push_part(part: &Part, script: &[u8], text: &mut Vec<u8>) -> Result<bool, All
     }
 }
 
-/// Adds what stands between `$'` and `'`, with one byte for each escape.
+/// Adds what is between `$'` and `'`, with one byte for each escape.
 fn push_escaped(inner: &[u8], text: &mut Vec<u8>) -> Result<(), AllocError>
     ensures { IfOk result (λ done. text.new.items ≡ text.old.items ++ words.escaped inner.now) }
 {
@@ -104,7 +104,7 @@ fn push_escaped(inner: &[u8], text: &mut Vec<u8>) -> Result<(), AllocError>
     Ok(())
 }
 
-/// What a backslash in `$'` and the byte behind it are (XCU 2.2.4).
+/// What a backslash in `$'` and the byte after it are (XCU 2.2.4).
 #[tactic(auto, unfolding(crate::specs::standard::Words::escape_of))]
 fn escape_of(letter: u8) -> u8
     ensures { result ≡ words.escape_of letter }

@@ -55,7 +55,7 @@ pub struct AndOr {
     pub rest: Items<(Link, Pipe)>,
 }
 
-/// A pipeline, and whether `!` stands before it (XCU 2.9.2).
+/// A pipeline, and whether `!` is before it (XCU 2.9.2).
 #[cycle(tree)]
 #[derive(Drop)]
 pub struct Pipe {
@@ -63,8 +63,8 @@ pub struct Pipe {
     pub parts: Items<Command>,
 }
 
-/// A command: its number from 1 in the order of starts, the offset at which it starts, what it is, and the redirections
-/// behind a compound command.
+/// A command: its number from 1 in the order of starts, the offset at which it starts, what it is,
+/// and the redirections after a compound command.
 #[cycle(tree)]
 #[derive(Drop)]
 pub struct Command {
@@ -114,7 +114,8 @@ pub enum Kind {
         condition: Script,
         body: Script,
     },
-    /// `for`, whose words are those behind `in`; without `in` there are none, not even an empty list.
+    /// `for`, whose words are those after `in`; without `in` there are none, not even an empty
+    /// list.
     For {
         name: Span,
         words: Option<Items<Word>>,
@@ -139,7 +140,7 @@ pub enum LoopKind {
     Until,
 }
 
-/// A condition of `if` or `elif`, and the list behind its `then`.
+/// A condition of `if` or `elif`, and the list after its `then`.
 #[cycle(tree)]
 #[derive(Drop)]
 pub struct Branch {
@@ -213,8 +214,8 @@ pub enum Target {
     Here(HereDoc),
 }
 
-/// A here-document: whether its operator is `<<-`, the word behind the operator, the body, and the line that ends it,
-/// without its newline (XCU 2.7.4).
+/// A here-document: whether its operator is `<<-`, the word after the operator, the body, and the
+/// line that ends it, without its newline (XCU 2.7.4).
 #[cycle(tree)]
 #[derive(Drop)]
 pub struct HereDoc {
@@ -224,7 +225,8 @@ pub struct HereDoc {
     pub end: Span,
 }
 
-/// A word: its bytes and its parts. That behind the operator of a braced expansion, a value and a body may have none.
+/// A word: its bytes and its parts. That after the operator of a braced expansion, a value and a
+/// body may have none.
 #[cycle(tree)]
 #[derive(Drop)]
 pub struct Word {
@@ -236,7 +238,7 @@ pub struct Word {
 #[cycle(tree)]
 #[derive(Drop)]
 pub enum Part {
-    /// Bytes that stand for themselves.
+    /// Bytes that mean themselves.
     Plain(Span),
     /// A backslash and the byte that it keeps (XCU 2.2.1).
     Escaped(Span),
@@ -250,7 +252,7 @@ pub enum Part {
     Arith(Span, Boxed<Expr>),
     /// A command substitution (XCU 2.6.3).
     Command(CommandStyle, Span, Script),
-    /// A tilde-prefix: a tilde, and the login name behind it, if there is one (XCU 2.6.1).
+    /// A tilde-prefix: a tilde, and the login name after it, if there is one (XCU 2.6.1).
     Tilde(Span),
     /// A line continuation (XCU 2.2.1).
     Joined(Span),
@@ -323,7 +325,8 @@ pub enum ParameterOperator {
     Value,
     /// `#`: it gives the value's length.
     Length,
-    /// `-`, `=`, `?` or `+`, where an empty value counts as unset if a colon stands before it, and the word.
+    /// `-`, `=`, `?` or `+`, where an empty value counts as unset if a colon is before it, and the
+    /// word.
     Use {
         action: Action,
         colon: bool,
@@ -339,13 +342,13 @@ pub enum ParameterOperator {
 /// What an expansion does by whether its parameter is set.
 #[derive(Clone, Copy, Debug, PartialEq, Eq)]
 pub enum Action {
-    /// `-`: the word stands in for an unset parameter.
+    /// `-`: the word is in for an unset parameter.
     Default,
     /// `=`: the word is assigned to an unset parameter.
     Assign,
     /// `?`: an unset parameter is an error.
     Fault,
-    /// `+`: the word stands in for a set parameter.
+    /// `+`: the word is in for a set parameter.
     Alternative,
 }
 

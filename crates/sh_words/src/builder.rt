@@ -106,9 +106,10 @@ impl WordBuilder {
     ///
     /// # Errors
     ///
-    /// `Syntax` and `LeftOut` where no word of the mode stands there, whatever the commands in it are; `TooDeep` where none is
-    /// within the limit; `Memory` where a growth was refused. After a refusal it answers the same one again.
-    /// If something is open before the backquote that closes the commands around, that backquote is `LeftOut`.
+    /// `Syntax` and `LeftOut` if no word of the mode is there, whatever the commands in it are;
+    /// `TooDeep` if none is within the limit; `Memory` if a growth was refused. After a refusal it
+    /// answers the same one again. If something is open before the backquote that closes the
+    /// commands around, that backquote is `LeftOut`.
     pub fn run(&mut self, script: &[u8]) -> Result<Next, Refusal>
         requires small { length script.now ≤ MAX_SCRIPT }
         requires inside { Goes self.old → IsInside script.now self.old }
@@ -139,7 +140,7 @@ impl WordBuilder {
     ///
     /// # Errors
     ///
-    /// `Memory` where a growth was refused, and what was refused before.
+    /// `Memory` if a growth was refused, and what was refused before.
     pub fn resume(&mut self, inner: Script, end: u32) -> Result<(), Refusal>
         requires asked { Goes self.old → (start : ℕ) × (s : style.CommandStyle) × Waits self.old start s }
         ensures gives { (start : ℕ) (s : style.CommandStyle) → Waits self.old start s → Goes self.old → MatchResult result (λ _. self.new ≡ fed self.old start s inner end) (λ e. e ≡ Refusal.Memory) }

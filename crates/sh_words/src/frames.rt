@@ -6,7 +6,7 @@ use sh_tree::{
 /// What takes the next part.
 #[derive(Drop)]
 pub enum Holder {
-    /// The parts of a context, behind the plain byte `prior`, or 0.
+    /// The parts of a context, after the plain byte `prior`, or 0.
     Parts {
         context: Context,
         prior: u8,
@@ -24,7 +24,7 @@ pub enum Holder {
 pub enum Opening {
     /// Double quotes (XCU 2.2.3).
     Double,
-    /// A braced expansion with a word, and whether a colon stands before its operator (XCU 2.6.2).
+    /// A braced expansion with a word, and whether a colon is before its operator (XCU 2.6.2).
     Use(Subject, Action, bool),
     /// A braced expansion with a pattern.
     Remove(Subject, Removal),
@@ -46,7 +46,7 @@ pub enum Operation {
     First {
         level: u8,
     },
-    /// The operand behind `operator`.
+    /// The operand after `operator`.
     More {
         level: u8,
         first: Expr,
@@ -55,12 +55,12 @@ pub enum Operation {
     },
     /// What may be the condition of `?`.
     Condition,
-    /// What stands between `?` and `:`.
+    /// What is between `?` and `:`.
     Yes {
         depth: u8,
         condition: Expr,
     },
-    /// What stands behind `:`.
+    /// What follows `:`.
     No {
         depth: u8,
         condition: Expr,

@@ -1,4 +1,5 @@
-//! Words, read part by part. Where commands stand in a word, the reader stops until they are handed back.
+//! Words, read part by part. Where commands are in a word, the reader stops until they are handed
+//! back.
 #![tactic(auto)]
 
 mod builder;

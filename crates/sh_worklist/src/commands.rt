@@ -89,7 +89,7 @@ impl Commands {
         inner.or(own)
     }
 
-    /// A command that stands here is looked at, so it waits no longer.
+    /// A command that is here is looked at, so it waits no longer.
     pub fn look(&mut self, command: u32, inside: Inside) -> Look
         ensures own { result.own ≡ is_in self.old.own command }
         ensures inner { result.inner ≡ is_in self.old.inner command }
@@ -117,8 +117,8 @@ impl Commands {
         }
     }
 
-    // Notes that one waits inside of each command that this one stands in. A command that has it
-    // noted has it noted of those that it stands in.
+    // Notes that one waits inside of each command that this one is in. A command that has it noted
+    // has it noted of those that it is in.
     fn mark(&mut self, command: u32)
         ensures own { self.new.own ≡ self.old.own }
         ensures places { self.new.places ≡ self.old.places }
@@ -136,7 +136,7 @@ impl Commands {
         }
     }
 
-    /// Has a command wait. Returns the unit that it stands in, unless the command waited before.
+    /// Has a command wait. Returns the unit that it is in, unless the command waited before.
     pub fn wait(&mut self, command: u32) -> Option<Unit>
         ensures own { (k : ℕ) → is_in self.new.own k ≡ ((k == command && nat_lt command (limit_of self.old.own)) || is_in self.old.own k) }
         ensures limit { limit_of self.new.own ≡ limit_of self.old.own }

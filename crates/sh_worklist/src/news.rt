@@ -14,7 +14,7 @@ pub fn does_pipe_wait(waiting: &Waiting, pipe: &Pipe) -> bool
     parts.iter().any(|command| waiting.has(command.number))
 }
 
-/// Whether a command waits in the pipelines behind `&&` and `||`.
+/// Whether a command waits in the pipelines after `&&` and `||`.
 pub fn do_links_wait(waiting: &Waiting, links: &[(Link, Pipe)]) -> bool
     ensures { result ≡ any_in_links (waits_in waiting.now) links.now }
 {

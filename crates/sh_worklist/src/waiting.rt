@@ -105,7 +105,7 @@ impl Waiting {
         self.inside = outer;
     }
 
-    /// Has a command wait, and the unit that it stands in.
+    /// Has a command wait, and the unit that it is in.
     ///
     /// # Errors
     ///
@@ -147,7 +147,7 @@ impl Waiting {
     }
 }
 
-// Has a command wait, and the unit that it stands in.
+// Has a command wait, and the unit that it is in.
 fn wait_one(commands: &mut Commands, units: &mut Units, command: u32) -> Result<(), AllocError>
     ensures waits { (k : ℕ) → is_in commands.new.own k ≡ ((k == command && nat_lt command (limit_of commands.old.own)) || is_in commands.old.own k) }
     ensures limit { limit_of commands.new.own ≡ limit_of commands.old.own }

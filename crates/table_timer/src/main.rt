@@ -17,7 +17,8 @@ enum Step {
     Profile,
 }
 
-/// What is asked for: a file with a script, how far that is taken, and whether its time is told.
+/// What is asked for: a file with a script, how far that is taken, and whether its time is
+/// reported.
 #[derive(Clone, Copy)]
 struct Asked<'w> {
     file: &'w str,

@@ -1,4 +1,4 @@
-//! Tests of what is told of a script, of its text and of the ends.
+//! Tests of what is reported of a script, of its text and of the ends.
 #![tactic(auto)]
 
 #[cfg(test)]

@@ -46,7 +46,7 @@ fn document(alloc: Global) -> Result<Redirect, AllocError> {
     })
 }
 
-/// The tree of the script: its body stands behind the rest of its line.
+/// The tree of the script: its body is after the rest of its line.
 fn tree_of(alloc: Global) -> Result<Script, AllocError> {
     let mut elements = one(alloc, Element::Redirection(document(alloc)?))?;
     elements.push(Element::Word(parameter(alloc, 8, 9, 10)?))?;

@@ -200,14 +200,14 @@ fn compact_texts_are_read_to_the_byte(rt: HostRuntime) -> Result<(), Fail> {
     Ok(())
 }
 
-/// The text of a compact certificate with these lines behind the first one.
+/// The text of a compact certificate with these lines after the first one.
 fn with_lines(alloc: Global, lines: &[u8]) -> Result<Vec<u8>, AllocError> {
     let mut text = Vec::from_slice(alloc, b"shset certificate 2\n")?;
     text.extend_from_slice(lines)?;
     Ok(text)
 }
 
-/// Whether these lines behind the first one are refused so.
+/// Whether these lines after the first one are refused so.
 fn are_refused(
     alloc: Global,
     script: &[u8],
@@ -218,7 +218,7 @@ fn are_refused(
     Ok(is_refused(alloc, script, &text, refusal))
 }
 
-/// Lines behind the first one, and the first that has not the form.
+/// Lines after the first one, and the first that has not the form.
 const MALFORMED: &[(&[u8], u32)] = &[
     (b"", 2),
     (b"commands 3 functions 0\n", 2),
@@ -250,7 +250,7 @@ fn other_versions_are_refused(rt: HostRuntime) -> Result<(), Fail> {
     Ok(())
 }
 
-/// Lines behind the first one that are those of another script.
+/// Lines after the first one that are those of another script.
 const OTHERS: &[&[u8]] = &[
     b"commands 3 functions 0 loops 1\ns 0:IFS,OPTIND,PPID:\nh 2 0:IFS,OPTIND,PPID:\n",
     b"commands 3 functions 0 loops 1\ns -\nh 0 -\n",

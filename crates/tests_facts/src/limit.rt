@@ -13,7 +13,8 @@ const COMMANDS: usize = 64;
 /// The bytes of the name that is set before each command: with it the texts are close to 67,108,864 bytes.
 const NAME: usize = 1_048_562;
 
-/// The names of an empty script for which that one is declared, behind the five that every script has.
+/// The names of an empty script for which that one is declared, after the five that every script
+/// has.
 fn names_of(alloc: Global) -> Result<Names, Refusal> {
     let name = vec![in alloc; b'a'; NAME]?;
     let Ok(policy) = Policy::new(alloc, &[name.as_slice()], 0) else {

@@ -5,7 +5,8 @@ use std::alloc::{AllocError, Global};
 use std::process::Abort;
 use std::test::Fail;
 
-/// A script, the names that are declared for it, and its names behind those that every script has, in the order of their numbers.
+/// A script, the names that are declared for it, and its names after those that every script has,
+/// in the order of their numbers.
 struct Row {
     script: &'static [u8],
     declared: &'static [&'static [u8]],
@@ -30,7 +31,7 @@ fn is_numbered(names: &Names, number: u32, name: &[u8]) -> bool {
     found && back
 }
 
-/// Holds that the names are those that every script has, and these behind them.
+/// Holds that the names are those that every script has, and these after them.
 pub fn check_names(rt: &impl Abort, names: &Names, wanted: &[&[u8]]) {
     assert_eq!(rt; names.count() as usize, FIRST.len() + wanted.len());
     let all = FIRST.iter().chain(&*wanted);

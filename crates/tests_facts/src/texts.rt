@@ -99,7 +99,8 @@ fn of_a_function(rt: HostRuntime) -> Result<(), Fail> {
     Ok(())
 }
 
-/// `!` stands before every name, and a declared name in its place by its bytes; the head stands behind the other facts.
+/// `!` is before every name, and a declared name in its place by its bytes; the head is after the
+/// other facts.
 const LOOP: &[u8] = b"shset certificate 1
 commands 1 functions 0
 c 1 0:!,A,IFS: 0:!,A,IFS: - 0:!,A,IFS:

@@ -1,4 +1,5 @@
-//! Tests of words and of the grammar: limits, and builders that refused a text. What is told of a text stands in tests/trees.
+//! Tests of words and of the grammar: limits, and builders that refused a text. What is reported of
+//! a text is in tests/trees.
 #![tactic(auto)]
 
 #[cfg(test)]

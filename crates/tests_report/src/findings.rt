@@ -1,4 +1,4 @@
-//! What is told of places.
+//! What is reported of places.
 use sh_answers::texts;
 use sh_report::verdict_of;
 use sh_tree::{Code, Items, Place};

@@ -1,5 +1,5 @@
-//! Tests of runs: between ends that fail, over as many names as may be, and what is told of places. What is told of a script or of its
-//! certificate stands in tests/scripts.
+//! Tests of runs: between ends that fail, over as many names as may be, and what is reported of
+//! places. What is reported of a script or of its certificate is in tests/scripts.
 #![tactic(auto)]
 
 #[cfg(test)]

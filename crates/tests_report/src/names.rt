@@ -16,7 +16,7 @@ fn names(alloc: Global, count: u32) -> Result<Vec<u8>, Fail> {
     Ok(text)
 }
 
-/// Holds what is told of a script of so many names, and the status.
+/// Holds what is reported of a script of so many names, and the status.
 fn lint(rt: &(impl Abort + AllocGlobal), count: u32, text: &[u8], status: u8) -> Result<(), Fail> {
     let task = task_of(rt.alloc(), Action::Lint)?;
     let script = names(rt.alloc(), count)?;

@@ -151,7 +151,7 @@ fn unary_operators_and_assignments(rt: HostRuntime) -> Result<(), Fail> {
     Ok(())
 }
 
-/// A text, a place in it, and whether another `)` stands there.
+/// A text, a place in it, and whether another `)` is there.
 type Closed = (&'static [u8], u32, bool);
 
 fn check_closed(rt: &impl Abort, rows: &[Closed]) {

@@ -30,7 +30,7 @@ fn ends(rt: HostRuntime) -> Result<(), Fail> {
     Ok(())
 }
 
-/// A text, a place in it, and whether what stands there closes commands.
+/// A text, a place in it, and whether what is there closes commands.
 type Closing = (&'static [u8], u32, bool);
 
 fn check_closing(rt: &impl Abort, style: CommandStyle, rows: &[Closing]) {

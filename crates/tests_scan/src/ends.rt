@@ -60,7 +60,7 @@ fn blanks(rt: HostRuntime) -> Result<(), Fail> {
     Ok(())
 }
 
-/// A text, and what of it stands behind the line continuations at its front.
+/// A text, and what of it is after the line continuations at its front.
 type Joined = (&'static [u8], &'static [u8]);
 
 fn check_joined(rt: &impl Abort, rows: &[Joined]) {

@@ -13,7 +13,7 @@ use std::test::Fail;
 /// A text, a place in it, and the sign that begins there with its end.
 type Row = (&'static [u8], u32, Sign, u32);
 
-/// Holds the tokens behind the byte `prior` against those wanted.
+/// Holds the tokens after the byte `prior` against those wanted.
 fn check(rt: &impl Abort, context: Context, prior: u8, rows: &[Row]) {
     for (text, at, sign, end) in rows {
         let wanted = Token {
@@ -88,10 +88,10 @@ fn tildes(rt: HostRuntime) -> Result<(), Fail> {
     Ok(())
 }
 
-/// The byte behind a `$`.
+/// The byte after a `$`.
 const BEHIND_DOLLAR: Span = Span { start: 1, end: 2 };
 
-/// The bytes `na` or `a1` behind a `$`.
+/// The bytes `na` or `a1` after a `$`.
 const SHORT_NAME: Subject = Subject::Name(Span { start: 1, end: 3 });
 
 const DOLLARS: &[Row] = &[
@@ -150,13 +150,13 @@ fn dollars(rt: HostRuntime) -> Result<(), Fail> {
     Ok(())
 }
 
-/// The byte behind a `${`.
+/// The byte after a `${`.
 const BEHIND_BRACE: Span = Span { start: 2, end: 3 };
 
-/// The name of one byte behind a `${`.
+/// The name of one byte after a `${`.
 const NAME: Subject = Subject::Name(BEHIND_BRACE);
 
-/// The name of one byte behind a `${#`.
+/// The name of one byte after a `${#`.
 const MEASURED: Subject = Subject::Name(Span { start: 3, end: 4 });
 
 const BRACED: &[Row] = &[

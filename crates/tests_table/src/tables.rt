@@ -115,7 +115,8 @@ fn escapes(rt: HostRuntime) -> Result<(), Fail> {
     Ok(())
 }
 
-/// The commands of the body stand behind the rest of its operator's line: of `f` the one there is the first definition.
+/// The commands of the body are after the rest of its operator's line: of `f` the one there is the
+/// first definition.
 const DOCUMENT: &[u8] = b"cat <<E | f b; f() { :; }\n$(g() { d; }; f() { e 'x y'; })\nE\ng 'c'\n";
 
 const DOCUMENT_TEXTS: &[Text] = &[

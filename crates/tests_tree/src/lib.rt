@@ -1,4 +1,5 @@
-//! Tests of what is told of trees: the static text of words, the commands of a script, and names.
+//! Tests of what is reported of trees: the static text of words, the commands of a script, and
+//! names.
 #![tactic(auto)]
 
 #[cfg(test)]

@@ -33,7 +33,7 @@ fn between(alloc: Global, quotes: Span) -> Result<Items<Part>, AllocError> {
     }
 }
 
-/// The value of the parameter whose name stands behind the `$`.
+/// The value of the parameter whose name is after the `$`.
 fn parameter(span: Span) -> Param {
     let name = Span {
         start: span.start.saturating_add(1),

@@ -1,4 +1,5 @@
-//! The bytes of names and constants, in two pieces: a token, and what stands behind the line continuations that follow it.
+//! The bytes of names and constants, in two pieces: a token, and what follows the line
+//! continuations that follow it.
 ghost use Rattle.std.specs.Prelude.{◌≡◌, ◌≤◌, ◌<◌, ◌+◌, ◌++◌, length, drop, codes};
 ghost use Rattle.sh_tree.specs.standard.language.Bytes as bytes;
 ghost use Rattle.sh_scan.specs.Alphabets.{belongs};
@@ -35,7 +36,7 @@ fn run(alphabet: Alphabet, rest: &[u8]) -> usize
         .count()
 }
 
-/// How many bytes of an alphabet stand at the front of both pieces.
+/// How many bytes of an alphabet are at the front of both pieces.
 #[tactic(auto, using(crate::proofs::RunLemmas::run_ends, crate::proofs::RunLemmas::run_over))]
 pub fn run_over(alphabet: Alphabet, front: &[u8], rest: &[u8]) -> usize
     requires small { length front.now + length rest.now ≤ MAX_SCRIPT }
@@ -50,7 +51,7 @@ pub fn run_over(alphabet: Alphabet, front: &[u8], rest: &[u8]) -> usize
     }
 }
 
-/// How many bytes of an alphabet stand behind the first byte of both pieces.
+/// How many bytes of an alphabet are after the first byte of both pieces.
 pub fn run_behind_first(alphabet: Alphabet, front: &[u8], rest: &[u8]) -> usize
     requires small { length front.now + length rest.now ≤ MAX_SCRIPT }
     ensures value { result ≡ bytes.run (belongs alphabet) (drop 1 (front.now ++ rest.now)) }

@@ -1,4 +1,4 @@
-//! What stands between the tokens of arithmetic.
+//! What is between the tokens of arithmetic.
 ghost use Rattle.std.specs.Prelude.{◌≡◌, ◌≤◌, length};
 ghost use Rattle.sh_tree.specs.standard.language.Arithmetic as arithmetic;
 ghost use Rattle.sh_scan.specs.Spaces.{space_step};

@@ -78,7 +78,7 @@ pub fn begins_pipeline(lead: Lead) -> bool
     }
 }
 
-/// Of a separator, whether what stands before it is an asynchronous list (XCU 2.9.3).
+/// Of a separator, whether what is before it is an asynchronous list (XCU 2.9.3).
 #[tactic(auto, unfolding(sh_tree::specs::standard::language::Commands::separator))]
 pub fn separator(lead: Lead) -> Option<bool>
     ensures { result ≡ commands.separator lead }

@@ -108,7 +108,8 @@ fn is_longer(count: usize, found: Option<(Operator, usize)>) -> bool
     }
 }
 
-/// Whether line continuations behind the operator of so many bytes at the front keep it from being a longer one.
+/// Whether line continuations after the operator of so many bytes at the front keep it from being a
+/// longer one.
 #[tactic(auto, unfolding(sh_tree::specs::standard::language::Commands::is_split))]
 pub fn is_split(rest: &[u8], count: usize) -> bool
     requires { count ≤ length rest.now }

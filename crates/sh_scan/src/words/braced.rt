@@ -1,6 +1,6 @@
-//! Braced expansions, behind `${` (XCU 2.6.2).
+//! Braced expansions, after `${` (XCU 2.6.2).
 //!
-//! Lengths count from the `$`: `behind` bytes of an expansion stand before `rest`.
+//! Lengths count from the `$`: `behind` bytes of an expansion are before `rest`.
 ghost use Rattle.std.specs.Prelude.{◌≡◌, ◌≢◌, ◌≤◌, ◌<◌, ◌+◌, true, length};
 ghost use Rattle.sh_tree.specs.standard.language.Words as words;
 ghost use Rattle.sh_scan.specs.Moves.{reads_bytes, refuses};
@@ -75,7 +75,7 @@ fn removal_sign(subject: Subject, behind: usize, rest: &[u8]) -> (Sign, usize)
     }
 }
 
-/// `-`, `=`, `?` or `+`, behind a colon or not.
+/// `-`, `=`, `?` or `+`, after a colon or not.
 #[tactic(auto, unfolding(sh_tree::specs::standard::language::Words::parameter_action))]
 fn use_sign(colon: bool, subject: Subject, behind: usize, rest: &[u8]) -> (Sign, usize)
     requires some { 0 < behind }
@@ -101,7 +101,7 @@ fn use_sign(colon: bool, subject: Subject, behind: usize, rest: &[u8]) -> (Sign,
     }
 }
 
-/// What stands behind the parameter.
+/// What follows the parameter.
 #[tactic(auto, unfolding(sh_tree::specs::standard::language::Words::parameter_operator))]
 fn operator_sign(subject: Subject, behind: usize, rest: &[u8]) -> (Sign, usize)
     requires some { 0 < behind }
@@ -121,7 +121,7 @@ fn operator_sign(subject: Subject, behind: usize, rest: &[u8]) -> (Sign, usize)
     }
 }
 
-/// The length of a parameter, behind `${#` at `at`.
+/// The length of a parameter, after `${#` at `at`.
 #[tactic(auto, unfolding(sh_tree::specs::standard::language::Words::parameter_length))]
 fn length_sign(at: usize, rest: &[u8]) -> (Sign, usize)
     requires small { at + 3 + length rest.now ≤ MAX_SCRIPT }

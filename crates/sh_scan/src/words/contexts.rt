@@ -28,7 +28,7 @@ fn is_alternative(action: Action) -> bool
     }
 }
 
-/// In the word behind `-`, `=`, `?` or `+`, from `at` on.
+/// In the word after `-`, `=`, `?` or `+`, from `at` on.
 pub fn in_use(context: Context, action: Action, at: u32) -> Context
     ensures { result ≡ words.in_use context action at }
 {

@@ -19,7 +19,7 @@ fn opens_dollar(quoted: bool, byte: u8) -> bool
     is_name_byte(byte) || is_among(b"@*#?-$!{([", byte) || (!quoted && is_among(b"'\"", byte))
 }
 
-/// Whether the `$` before `rest` stands for itself, whether continuations follow or not.
+/// Whether the `$` before `rest` means itself, whether continuations follow or not.
 #[tactic(auto, unfolding(sh_tree::specs::standard::language::Bytes::is_first))]
 pub fn is_literal_dollar(quoted: bool, rest: &[u8]) -> bool
     ensures { result ≡ words.is_literal_dollar quoted rest.now }

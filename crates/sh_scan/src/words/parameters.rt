@@ -52,7 +52,7 @@ fn number_of(digits: &[u8]) -> Option<u16>
     Some(number)
 }
 
-/// The parameter whose digits stand at `at`.
+/// The parameter whose digits are at `at`.
 #[tactic(auto, unfolding(sh_tree::specs::standard::language::Words::numeric_parameter))]
 fn positional(at: usize, digits: &[u8]) -> Option<(Subject, usize)>
     requires small { at + length digits.now ≤ MAX_SCRIPT }

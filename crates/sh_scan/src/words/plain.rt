@@ -1,4 +1,4 @@
-//! Bytes that stand for themselves.
+//! Bytes that mean themselves.
 ghost use Rattle.std.specs.Prelude.{◌≡◌, ◌≤◌, ◌+◌, length};
 ghost use Rattle.sh_tree.specs.standard.language.Words as words;
 
@@ -35,7 +35,7 @@ fn is_literal(site: Site, byte: u8, rest: &[u8]) -> bool
     }
 }
 
-/// Whether the byte at `at` stands for itself, behind the byte `prior` and before `rest`.
+/// Whether the byte at `at` means itself, after the byte `prior` and before `rest`.
 #[tactic(auto, unfolding(sh_tree::specs::standard::language::Words::stands))]
 pub fn stands(context: Context, prior: u8, at: usize, byte: u8, rest: &[u8]) -> bool
     ensures { result ≡ words.stands context prior at byte rest.now }
@@ -46,7 +46,7 @@ pub fn stands(context: Context, prior: u8, at: usize, byte: u8, rest: &[u8]) -> 
         && (!is_special(context.site, byte) || is_literal(context.site, byte, rest))
 }
 
-/// How many bytes stand for themselves.
+/// How many bytes mean themselves.
 pub fn plain_length(context: Context, prior: u8, at: usize, rest: &[u8]) -> usize
     requires small { at + length rest.now ≤ MAX_SCRIPT }
     ensures value { result ≡ words.plain_length context prior at rest.now }

@@ -34,7 +34,7 @@ fn continuation_sign(context: Context, rest: &[u8]) -> (Sign, usize)
     }
 }
 
-/// A backslash that does not stand for itself, before `rest`.
+/// A backslash that does not mean itself, before `rest`.
 #[tactic(auto, unfolding(sh_tree::specs::standard::language::Words::backslash))]
 fn backslash_sign(context: Context, rest: &[u8]) -> (Sign, usize)
     ensures value { result ≡ words.backslash context rest.now }
@@ -108,7 +108,7 @@ fn backquoted_sign(context: Context, rest: &[u8]) -> (Sign, usize)
     }
 }
 
-/// What a byte that does not stand for itself begins, before `rest`.
+/// What a byte that does not mean itself begins, before `rest`.
 #[tactic(auto, unfolding(sh_tree::specs::standard::language::Words::meant_by))]
 fn byte_sign(context: Context, at: usize, byte: u8, rest: &[u8]) -> (Sign, usize)
     requires small { at + 1 + length rest.now ≤ MAX_SCRIPT }
@@ -134,7 +134,7 @@ fn tab_length(rest: &[u8]) -> usize
     rest.iter().take_while(|byte| **byte == b'\t').count()
 }
 
-/// What the byte at `at` begins, behind the byte `prior` and before `rest`.
+/// What the byte at `at` begins, after the byte `prior` and before `rest`.
 #[tactic(auto, using(crate::proofs::WordLemmas::plain_first, crate::proofs::WordLemmas::tilde_some), unfolding(sh_tree::specs::standard::language::Words::sign_by))]
 fn sign_by(context: Context, prior: u8, at: usize, byte: u8, rest: &[u8]) -> (Sign, usize)
     requires small { at + 1 + length rest.now ≤ MAX_SCRIPT }
@@ -181,8 +181,8 @@ fn sign_of(context: Context, prior: u8, at: usize, rest: &[u8]) -> (Sign, usize)
     }
 }
 
-/// What begins at `at` in a context, behind the plain byte `prior`, or 0 where none stands before it. A sign of a fault,
-/// or of a form that is left out, ends where that is told.
+/// What begins at `at` in a context, after the plain byte `prior`, or 0 where none is before it. A
+/// sign of a fault, or of a refused form, ends where that is reported.
 #[tactic(auto, unfolding(sh_tree::specs::standard::language::Words::token))]
 pub fn token_at(script: &[u8], context: Context, prior: u8, at: u32) -> Token
     requires small { length script.now ≤ MAX_SCRIPT }

@@ -14,7 +14,7 @@ pub fn is_among(known: &[u8], byte: u8) -> bool
     known.iter().any(|one| *one == byte)
 }
 
-/// Whether the byte stands behind the first `from` bytes.
+/// Whether the byte is after the first `from` bytes.
 pub fn begins_at(rest: &[u8], from: usize, byte: u8) -> bool
     requires { from ≤ length rest.now }
     ensures value { result ≡ bytes.is_first (λ c. c == byte) (drop from rest.now) }
@@ -79,7 +79,7 @@ fn is_kept(site: Site, byte: u8) -> bool
     }
 }
 
-/// Whether a backslash and the byte behind it are read together.
+/// Whether a backslash and the byte after it are read together.
 pub fn is_escaped(site: Site, byte: u8) -> bool
     ensures { result ≡ words.is_escaped site byte }
 {

@@ -29,7 +29,7 @@ pub enum Figure {
     Close,
     /// `$`
     Dollar,
-    /// A form that is left out.
+    /// A refused form.
     LeftOut(Form),
     /// A backslash that ends the text.
     FinalBackslash,
@@ -37,7 +37,7 @@ pub enum Figure {
     Bad,
 }
 
-/// A token of arithmetic behind blanks, newlines and line continuations.
+/// A token of arithmetic after blanks, newlines and line continuations.
 #[derive(Clone, Copy, Debug, PartialEq, Eq)]
 pub struct Lexeme {
     pub figure: Figure,

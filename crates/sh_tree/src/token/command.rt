@@ -70,9 +70,9 @@ pub enum Reserved {
 pub enum Stage {
     /// At the command's first token, where a reserved word is recognized.
     First,
-    /// Behind an assignment or a redirection, before a command name.
+    /// After an assignment or a redirection, before a command name.
     Prefixed,
-    /// Behind the command name, and whether that is `export` or `readonly`, unquoted.
+    /// After the command name, and whether that is `export` or `readonly`, unquoted.
     Named(bool),
 }
 
@@ -93,7 +93,7 @@ pub enum Lead {
     Word,
     /// The backquote that ends the text, which closes the substitution that the text is of.
     Backquote,
-    /// A form that is left out.
+    /// A refused form.
     LeftOut(Form),
 }
 

@@ -26,7 +26,7 @@ pub struct Context {
     pub site: Site,
     /// Where a tilde-prefix may begin (XCU 2.6.1).
     pub origin: u32,
-    /// Whether one may begin behind an unquoted colon too, as in the value of an assignment.
+    /// Whether one may begin after an unquoted colon too, as in the value of an assignment.
     pub colons: bool,
     /// Whether `$@` is accepted: only in words whose fields are split.
     pub fields: bool,
@@ -45,7 +45,7 @@ pub enum Sign {
     Stop,
     /// The text ends before the context does.
     Open,
-    /// Bytes that stand for themselves.
+    /// Bytes that mean themselves.
     Plain,
     /// Tabs that `<<-` strips.
     Tabs,
@@ -63,9 +63,10 @@ pub enum Sign {
     Value(Subject),
     /// One that gives its length, whole.
     Length(Subject),
-    /// A braced expansion up to the word behind `-`, `=`, `?` or `+`, and whether a colon stands before that.
+    /// A braced expansion up to the word after `-`, `=`, `?` or `+`, and whether a colon is before
+    /// that.
     Use(Subject, Action, bool),
-    /// A braced expansion up to the pattern behind `%`, `%%`, `#` or `##`.
+    /// A braced expansion up to the pattern after `%`, `%%`, `#` or `##`.
     Remove(Subject, Removal),
     /// `$(`, or a backquote.
     Substitution(CommandStyle),
@@ -73,11 +74,11 @@ pub enum Sign {
     Arith,
     /// A fault of syntax.
     Fault(Fault),
-    /// A form that is left out.
+    /// A refused form.
     LeftOut(Form),
 }
 
-/// A sign, and the offset behind its bytes, or at which a fault or a form that is left out is told.
+/// A sign, and the offset after its bytes, or at which a fault or a refused form is reported.
 #[derive(Clone, Copy, Debug, PartialEq, Eq)]
 pub struct Token {
     pub sign: Sign,

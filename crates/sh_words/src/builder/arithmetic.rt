@@ -15,7 +15,7 @@ use crate::frames::{Focus, Holder, Operation};
 use sh_scan::{token_at, unary_of};
 use sh_tree::{Fault, Figure, MAX_SCRIPT, Refusal};
 
-/// The level of unary operators and operands, behind those of binary operators.
+/// The level of unary operators and operands, after those of binary operators.
 const UNARY_LEVEL: u8 = 10;
 
 impl WordBuilder {

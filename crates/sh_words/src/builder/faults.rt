@@ -1,4 +1,4 @@
-//! What is told where a word cannot go on.
+//! What is reported where a word cannot go on.
 ghost use Rattle.std.specs.Prelude.{◌≡◌, ◌≤◌, ◌<◌, length};
 ghost use Rattle.sh_tree.specs.standard.language.Contexts as contexts;
 ghost use Rattle.sh_tree.specs.standard.language.Words as words;
@@ -74,7 +74,7 @@ impl Opening {
 }
 
 impl WordBuilder {
-    /// The text ends at `at`: the innermost opening is told.
+    /// The text ends at `at`: the innermost opening is reported.
     #[tactic(auto, unfolding(crate::specs::Faults::left_open))]
     fn left_open(&self, at: u32) -> Refusal
         ensures { result ≡ faults.left_open self.now.frames at }

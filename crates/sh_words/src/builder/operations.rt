@@ -1,4 +1,4 @@
-//! What stands behind an operand of arithmetic (XCU 2.6.4).
+//! What follows an operand of arithmetic (XCU 2.6.4).
 ghost use Rattle.std.specs.Prelude.{◌≡◌, ◌<◌, ◌≤◌, length, MatchResult};
 ghost use Rattle.sh_words.specs.Clauses.{Steps};
 ghost use Rattle.sh_words.specs.Faults as faults;
@@ -120,7 +120,8 @@ impl WordBuilder {
         }
     }
 
-    /// A token that cannot stand behind the expression. An expansion that touches another operand is no whole one.
+    /// A token that cannot are after the expression. An expansion that touches another operand is
+    /// no whole one.
     fn misplaced(&self, script: &[u8], expr: &Expr, token: Lexeme) -> Refusal
         requires small { length script.now ≤ MAX_SCRIPT }
         requires token { IsLexeme script.now self.now.at token }
@@ -144,7 +145,8 @@ impl WordBuilder {
         Refusal::LeftOut(Form::Arithmetic, place)
     }
 
-    /// What the `$` at `start` begins touches an operand. Of two expansions the first is told, at `place`.
+    /// What the `$` at `start` begins touches an operand. Of two expansions the first is reported,
+    /// at `place`.
     fn touching(&self, script: &[u8], start: u32, place: u32) -> Refusal
         requires small { length script.now ≤ MAX_SCRIPT }
         requires inside { start < length script.now }
@@ -226,7 +228,7 @@ impl WordBuilder {
         Ok(None)
     }
 
-    /// What stands in parentheses was read, before the token.
+    /// What is in parentheses was read, before the token.
     fn parenthesis_read(&mut self, depth: u8, inner: Expr, token: Lexeme) -> Result<(), Refusal>
         ensures { Reaches (lexemes.is_close token.figure) (faults.bad self.old.holder token.figure token.start) (had self.old depth (Expr.Parenthesis inner) token.end) self.new result }
     {
@@ -318,7 +320,7 @@ impl WordBuilder {
         self.enter(operation, Focus::Expression, token.end, first.start)
     }
 
-    /// What stands between `?` and `:` was read, before the token.
+    /// What is between `?` and `:` was read, before the token.
     fn yes_read(
         &mut self,
         depth: u8,
@@ -406,8 +408,8 @@ impl WordBuilder {
     }
 }
 
-/// A closing parenthesis of the expansion at `start` with no second one behind it: the text ends, a line continuation hides the
-/// second one, or something else stands there.
+/// A closing parenthesis of the expansion at `start` with no second one after it: the text ends, a
+/// line continuation hides the second one, or something else is there.
 fn unclosed(script: &[u8], start: u32, token: Lexeme) -> Refusal
     requires ordered { token.start ≤ token.end }
     requires within { token.end ≤ length script.now }
@@ -425,7 +427,7 @@ fn unclosed(script: &[u8], start: u32, token: Lexeme) -> Refusal
     }
 }
 
-/// Where the expansion begins that the expression is, or `at` where it is a number or a name.
+/// Where the expansion begins that the expression is, or `at` if it is a number or a name.
 fn operand_start(expr: &Expr, at: u32) -> Option<u32> {
     match expr {
         Expr::Constant(_) | Expr::Variable(_) => Some(at),

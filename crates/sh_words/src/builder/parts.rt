@@ -38,7 +38,7 @@ impl WordBuilder {
         self.focus = Focus::Parts;
     }
 
-    /// Reads what stands at `at` among parts.
+    /// Reads what is at `at` among parts.
     pub(crate) fn parts_step(&mut self, script: &[u8]) -> Result<Option<Next>, Refusal>
         requires small { length script.now ≤ MAX_SCRIPT }
         requires inside { self.old.at ≤ length script.now }

@@ -6,7 +6,7 @@ ghost use Rattle.sh_words.specs.Lexemes as lexemes;
 use sh_scan::{assignment_of, lexeme_at};
 use sh_tree::{Binary, Expr, Figure, Lexeme, MAX_SCRIPT, Span};
 
-/// The token at or behind `at`.
+/// The token at or after `at`.
 pub fn lexeme(script: &[u8], at: u32) -> Lexeme
     requires small { length script.now ≤ MAX_SCRIPT }
     requires inside { at ≤ length script.now }
@@ -47,7 +47,7 @@ pub fn operand_of(lexeme: Lexeme) -> Option<Expr>
     }
 }
 
-/// Whether such a token may stand behind an expression.
+/// Whether such a token may are after an expression.
 pub fn follows(figure: Figure) -> bool
     ensures { result ≡ lexemes.follows figure }
 {

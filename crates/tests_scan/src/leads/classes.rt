@@ -68,7 +68,7 @@ fn classes(rt: HostRuntime) -> Result<(), Fail> {
     Ok(())
 }
 
-/// What a token is behind a command.
+/// What a token is after a command.
 #[derive(Clone, Copy)]
 enum Behind {
     /// It parts two items, the first of which may be in the background.
