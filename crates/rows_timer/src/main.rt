@@ -1,5 +1,6 @@
-//! Applies one operation of rows to two sets of 4,096 bits, as often as its words say, and prints how many bits are left, or how
-//! often the first was within the second. `bench/measure.py kernels` takes the time of it.
+//! Applies one operation of rows to two sets of 4,096 bits, as often as its words say. Prints how
+//! many bits are left, or how often the first was within the second. `bench/measure.py kernels`
+//! measures its time.
 #![tactic(auto)]
 
 use sh_rows::{meet_words, remove_words, within_words};

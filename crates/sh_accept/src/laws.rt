@@ -10,64 +10,70 @@ ghost use Rattle.sh_accept.specs.Single.{HasOneGreatest};
 ghost use Rattle.sh_accept.specs.Theorem.{Headline};
 ghost use Rattle.sh_accept.specs.Written.{TellsOneAnswer};
 
-/// Where a certificate is accepted, so where a check or a lint passes, the script has exactly one reading, and no run of that, from any start
-/// that the policy allows, with any results of the commands, any choice and any order of the processes, expands an unset parameter
-/// without a default or gives an expansion's value to field splitting or pathname expansion that could change it (XCU 2.6.2, 2.6.5, 2.6.6).
+/// If a certificate is accepted, and so if a check or a lint passes, the script has exactly one
+/// reading. No run of that reading expands an unset parameter without a default. Nor does a run
+/// give an expansion's value to field splitting or pathname expansion that could change it (XCU
+/// 2.6.2, 2.6.5, 2.6.6). This holds of runs from any start that the policy allows, with any results
+/// of the commands, any choice and any order of the processes.
 pub fn headline()
     ensures { Headline }
 {}
 
-/// Whatever the parts of a check answer, one after the other, an answer of the check is allowed: the refusal of the first that refuses, and otherwise a
-/// pass, the least forgery or the findings.
+/// Whatever the parts of a check answer, one after the other, some answer of the check is allowed.
+/// It is the refusal of the first that refuses, and otherwise a pass, the least forgery or the
+/// findings.
 pub fn parts()
     ensures { PartsAlwaysAnswer }
 {}
 
-/// Of a script that is read, whatever a check may answer of a certificate's text, memory aside, is the
-/// computed answer, of the filled certificate if the text is compact. So there is one answer. The
-/// refusals come in the order script, profile, names, certificate.
+/// Of a script that is read, whatever a check may answer of a certificate's text is the computed
+/// answer, unless memory runs out. If the text is compact, it is the answer of the filled
+/// certificate. So there is one answer. The refusals come in the order script, profile, names,
+/// certificate.
 pub fn answers()
     ensures { HasOneAnswer }
 {}
 
-/// Known texts are answered as they should be: passes, findings in their order, each kind of forgery, and each refusal before the next.
+/// Known texts are answered as they should be: passes, findings in their order, each kind of
+/// forgery, and each refusal before the next.
 pub fn examples()
     ensures { AnswersAsExpected }
 {}
 
-/// The greatest certificate of a script leaves no place unmet that another one meets, so it is
-/// accepted wherever one is; and where findings are reported of a script without a certificate,
-/// none is accepted.
+/// The greatest certificate of a script leaves no place unmet that another one meets. So it is
+/// accepted if any one is. If findings are reported of a script without a certificate, none is
+/// accepted.
 pub fn greatest()
     ensures { GreatestIsBest }
 {}
 
-/// A script that is read has at most one greatest certificate; so there is at most one answer, memory aside, where no certificate is given, and at most one
-/// text of each version of the certificate that is shown.
+/// A script that is read has at most one greatest certificate. So there is at most one answer if no
+/// certificate is given, unless memory runs out. There is at most one text of each version of the
+/// certificate that is shown.
 pub fn single()
     ensures { HasOneGreatest }
 {}
 
-/// If a lint passes, a check of the certificate's text that is shown of the script passes, of the full
-/// text and of the compact one.
+/// If a lint passes, a check of the certificate's text that is shown of the script passes. So it is
+/// of the full text and of the compact one.
 pub fn passed()
     ensures { LintedIsChecked }
 {}
 
-/// Of a script that is read, what may be written of one action, one certificate's bytes and one
-/// policy is one text with one exit status.
+/// Take a script that is read, one action, one certificate's bytes and one policy. What may be
+/// written is one text with one exit status.
 pub fn written()
     ensures { TellsOneAnswer }
 {}
 
-/// The place that a refusal names is before the end of the script's text, or at its end for a
-/// fault of syntax and for a level too many.
+/// The place that a refusal names is before the end of the script's text. For a fault of syntax and
+/// for a level too many it may be at that end.
 pub fn inside()
     ensures { RefusalsStandInside }
 {}
 
 /// Of a script that is read no place is reported twice, neither of an unmet demand nor of an
-/// expansion outside quotes; so no finding of a report stands twice.
+/// expansion outside quotes. So no finding is in a report twice.
 pub fn once()
     ensures { PlacesStandOnce }
 {}

@@ -1,4 +1,5 @@
-//! Which certificates are accepted, and what may be answered of a script: definitions in `specs/`, and the `laws`.
+//! Which certificates are accepted, and what may be answered of a script: definitions in `specs/`,
+//! and the `laws`.
 #![tactic(auto)]
 
 pub mod laws;

@@ -53,8 +53,9 @@ fn broken_of(kind: ErrorKind) -> Broken
     }
 }
 
-/// What an end answers where its reader or writer, which had room for so many bytes, answered this: an error that may be
-/// tried again is an interruption, and each other one a failure. What went wrong is counted.
+/// What an end answers if its reader or writer, which had room for so many bytes, answered this. An
+/// error that may be tried again is an interruption, and each other one a failure. What went wrong
+/// is counted.
 pub fn end_answer(
     counts: &mut Counts,
     answer: io::Result<usize>,

@@ -27,12 +27,13 @@ pub enum Broken {
 
 /// A reader that counts what goes wrong.
 pub trait Feed {
-    // The bytes that pulls will give from here on, where they are known.
+    // The bytes that pulls will give from here on, if they are known.
     ghost remaining: { Self → Option (List ℕ) };
 
     ghost tally: { Self → Counts };
 
-    /// Puts bytes at the front of the buffer, and answers how many. No byte in a buffer with room is the end.
+    /// Puts bytes at the front of the buffer, and answers how many. No byte in a buffer with room
+    /// is the end.
     ///
     /// # Errors
     ///
@@ -50,7 +51,7 @@ pub trait Feed {
 
 /// A writer that counts what goes wrong.
 pub trait Outlet {
-    // The bytes that the writer holds, where they are known.
+    // The bytes that the writer holds, if they are known.
     ghost contents: { Self → Option (List ℕ) };
 
     ghost tally: { Self → Counts };

@@ -35,7 +35,8 @@ impl From<AllocError> for Fault {
 // How many interruptions of an end are borne in one call.
 const BORNE: u32 = 1024;
 
-/// The bytes of a reader up to its end, or the first `limit` of them. It is asked for no more than `limit` bytes in all.
+/// The bytes of a reader up to its end, or the first `limit` of them. It is asked for no more than
+/// `limit` bytes in all.
 ///
 /// # Errors
 ///
@@ -46,7 +47,7 @@ pub fn read_all<R: Feed>(alloc: Global, reader: &mut R, limit: usize) -> Result<
 
     ensures whole { IfOk result (λ v. IsReadWhole (R.tally reader.old) (R.tally reader.new) (R.remaining reader.new) limit (vec_len v)) }
     ensures bytes { IfOk result (λ v. Consumes (R.remaining reader.old) (R.remaining reader.new) v.items) }
-    // The two as one, where the reader tells its bytes.
+    // The two as one, if the bytes of the reader are known.
     ensures taken { IfOk result (λ v. (b : List ℕ) → Had (R.remaining reader.old) limit b → v.items ≡ b) }
 
     ensures failed { IsErrOf result Fault.Read → FailedBetween (R.tally reader.old) (R.tally reader.new) }

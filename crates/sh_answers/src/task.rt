@@ -6,7 +6,8 @@ use sh_domain::Policy;
 pub enum Action {
     /// Looks for findings in it.
     Lint,
-    /// Shows the certificate that says most of it: the full one, or the compact one that it is filled from.
+    /// Shows the certificate that says most of it: the full one, or the compact one that it is
+    /// filled from.
     Cert {
         /// Whether the full one is shown.
         full: bool,

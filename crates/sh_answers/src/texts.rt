@@ -35,7 +35,7 @@ pub fn answer(
     Ok(out)
 }
 
-/// The exit status for an answer: 0 clean, 1 findings or forged, 2 refused, 3 for want of memory.
+/// The exit status for an answer: 0 clean, 1 findings or forged, 2 refused, 3 out of memory.
 pub fn status(answer: &Result<Verdict, Refusal>) -> u8
     ensures { result ≡ text.status_of answer.now }
 {
@@ -103,7 +103,7 @@ fn push_message(out: &mut Vec<u8>, code: Code, subject: &[u8]) -> Result<(), All
     }
 }
 
-// The words before the subject, and those after it where it is shown.
+// The words before the subject, and those after it if the subject is shown.
 fn message_parts(code: Code) -> (&'static str, Option<&'static str>)
     ensures { (s : List ℕ) → text.message_text code s ≡ result.0.now ++ text.subject_shown s (option_copied result.1) }
 {

@@ -8,7 +8,7 @@ use sh_tree::Code;
 use std::alloc::AllocError;
 
 /// What is reported at a place: a demand that is unmet or an unquoted expansion, at its line and
-/// column, each from 1, with the name that it is about, or nothing.
+/// column, each from 1. With it comes the name that it is about, or nothing.
 #[derive(Debug, Drop, PartialEq, Eq, PartialOrd, Ord)]
 pub struct Finding {
     pub line: u32,

@@ -332,7 +332,8 @@ fn fill_clause(
     })
 }
 
-/// The script with these bodies at the operators of its here-documents, in their order (XCU 2.7.4). Those inside words are none of its own.
+/// The script with these bodies at the operators of its here-documents, in their order (XCU 2.7.4).
+/// Those inside words are none of its own.
 ///
 /// # Errors
 ///

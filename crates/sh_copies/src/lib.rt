@@ -1,4 +1,4 @@
-//! Words and here-documents are read alike wherever their bytes stand. The lemmas are on tokens and
+//! Words and here-documents are read alike wherever their bytes are. The lemmas are on tokens and
 //! readings; `specs/` holds what is exported.
 #![tactic(auto)]
 

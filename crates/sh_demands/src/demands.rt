@@ -1,4 +1,5 @@
-//! The demands of a script that a certificate leaves unmet, command by command (XCU 2.6, 2.9, 2.13).
+//! The demands of a script that a certificate leaves unmet, command by command (XCU 2.6, 2.9,
+//! 2.13).
 ghost use Rattle.std.specs.Prelude.{◌≡◌, ◌<◌, true, fold, length, IfOk, IfErr};
 ghost use Rattle.sh_tree.specs.standard.program.Trees.{command_of, script_of};
 ghost use Rattle.sh_table.specs.Calls.{table_of};
@@ -456,10 +457,11 @@ fn tell_expression(expression: &Expr, script: &[u8], source: &Source<'_, '_>, re
     }
 }
 
-/// The places of a script where a certificate leaves a demand unmet, command by command, a command before those in it: the parameters
-/// that words expand, the tildes without a login name and the names that arithmetic reads, where it does not claim that they are set (XCU
-/// 2.6.1, 2.6.2, 2.6.4); and in a part of a pipeline the names that a command may drop, each once, and that it moves the positional
-/// parameters (XCU 2.9.2, 2.13).
+/// The places of a script where a certificate leaves a demand unmet, command by command, a command
+/// before those in it. One is a parameter that a word expands, a tilde without a login name or a
+/// name that arithmetic reads. The certificate does not claim that it is set (XCU 2.6.1, 2.6.2,
+/// 2.6.4). In a part of a pipeline one is also a name that a command may drop, each once, or that
+/// it moves the positional parameters (XCU 2.9.2, 2.13).
 ///
 /// # Errors
 ///

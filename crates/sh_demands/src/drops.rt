@@ -68,7 +68,8 @@ fn tell_other_row(
     }
 }
 
-/// The variables that a function may drop, and then the functions, each in byte order. No place is read again.
+/// The variables that a function may drop, and then the functions, each in byte order. No place is
+/// read again.
 pub fn tell_dropped(
     names: &Names,
     rows: &Rows,
@@ -178,7 +179,8 @@ fn tell_removed(
     }
 }
 
-/// The variables that `unset` of these operands may remove, and then the functions, of those that the script has.
+/// The variables that `unset` of these operands may remove, and then the functions, of those that
+/// the script has.
 #[tactic(auto, using(crate::proofs::DropLemmas::unset_told))]
 pub fn tell_unset(
     operands: &[WordText],

@@ -1,4 +1,5 @@
-//! What words leave known (XCU 2.6.2, 2.6.4): an expansion that assigns, or that ends the shell where its parameter is not set.
+//! What words leave known (XCU 2.6.2, 2.6.4): an expansion that assigns, or one that ends the shell
+//! if its parameter is not set.
 ghost use Rattle.std.specs.Prelude.{◌≡◌, fold};
 ghost use Rattle.sh_tree.specs.Lists.{parts_from, words_from, redirects_from};
 ghost use Rattle.sh_tree.specs.standard.program.Trees.{parameter_of, target_of};
@@ -70,7 +71,7 @@ fn gain_operator(
     }
 }
 
-/// Whether the operand after the operator may be left out.
+/// Whether the shell may skip the operand after the operator.
 #[tactic(auto, unfolding(crate::specs::Knowing::may_stop))]
 fn may_stop(operator: Binary) -> bool
     ensures { result ≡ knowing.may_stop operator }

@@ -7,7 +7,8 @@ ghost use Rattle.sh_demands.specs.Knowing.{gained, knowing};
 
 use sh_domain::{Knowledge, Names};
 
-/// What is surely set at a place, of the names of a script. Of a name that has no number it knows nothing.
+/// What is surely set at a place, of the names of a script. Of a name that has no number it knows
+/// nothing.
 #[derive(Clone, Copy, Debug)]
 pub struct Known<'n> {
     pub names: &'n Names,

@@ -1,4 +1,5 @@
-//! The demands of a script that a certificate leaves unmet, and what words and utilities leave known.
+//! The demands of a script that a certificate leaves unmet, and what words and utilities leave
+//! known.
 #![tactic(auto)]
 
 mod demands;

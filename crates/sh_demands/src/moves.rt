@@ -18,8 +18,8 @@ fn kind_moves(kind: Kind, operands: &[WordText], script: &[u8]) -> bool
     }
 }
 
-/// Whether a simple command whose words have these static texts, its name first, changes the positional parameters: `shift`, and
-/// `set` with positional words or `--`.
+/// Whether a simple command whose words have these static texts, its name first, changes the
+/// positional parameters: `shift`, and `set` with positional words or `--`.
 #[tactic(auto, unfolding(crate::specs::Moves::moves_by))]
 pub fn moves(texts: &[WordText], script: &[u8]) -> bool
     ensures { result ≡ spec.moves_by (map (text_in script.now) texts.now) }

@@ -1,4 +1,5 @@
-//! The parameters that words expand and that are not surely set, as their places (XCU 2.6.1, 2.6.2, 2.6.4).
+//! The parameters that words expand and that are not surely set, as their places (XCU 2.6.1, 2.6.2,
+//! 2.6.4).
 ghost use Rattle.std.specs.Prelude.{◌≡◌, ◌++◌, ◌∷◌, ◌<◌, [], fold, OnOk, IfOk};
 ghost use Rattle.sh_table.specs.standard.runs.Numbers.{digits};
 ghost use Rattle.sh_domain.specs.Needs.{wanted};
@@ -166,7 +167,7 @@ fn want_reads(expression: &Expr, script: &[u8], known: &Known<'_>, reports: &mut
     }
 }
 
-// Where the word of `+` is expanded its parameter is set.
+// If the word of `+` is expanded, its parameter is set.
 #[tactic(auto, using(crate::proofs::JudgeLemmas::actions))]
 fn enter_operator(action: Action, subject: Subject, script: &[u8], known: &mut Known<'_>)
     ensures { knowing known.new ≡ walks.inner_gained script.now (knowing known.old) subject action }

@@ -191,9 +191,9 @@ fn judge_kind(kind: &Kind, script: &[u8], known: &mut Known<'_>, reports: &mut R
     }
 }
 
-/// Adds the places in a command's own words whose parameter is not surely set, where this is known
-/// before the command: those in the redirections after a compound command, then those in its words.
-/// The commands in them are commands of their own.
+/// Adds the places in a command's own words whose parameter is not surely set, if this is known
+/// before the command. Those in the redirections after a compound command come before those in its
+/// words. The commands in them are commands of their own.
 #[tactic(auto, using(crate::proofs::OwnLemmas::own_walked))]
 pub fn judge_own(command: &Command, script: &[u8], known: Known<'_>, reports: &mut Reports)
     ensures { Adds reports.old reports.new (λ ps. own_places (knowing known.entry) ps (kind_of script.now (out-Command command.now).kind) (redirects_from script.now (out-Command command.now).redirects)) }

@@ -9,7 +9,8 @@ ghost use Rattle.sh_demands.specs.Reported.{Adds, AddsSince, HasReported, place}
 use sh_tree::{Code, Items, Place};
 use std::alloc::{AllocError, Global};
 
-/// The places that were reported so far, until memory runs out; then no more than that there are some.
+/// The places that were reported so far, until memory runs out; then no more than that there are
+/// some.
 #[derive(Drop)]
 pub struct Reports {
     places: Vec<Place>,

@@ -1,4 +1,5 @@
-//! What a command in a part of a pipeline drops or moves, of what the other parts may rely on (XCU 2.9.2, 2.13).
+//! What a command in a part of a pipeline drops or moves, of what the other parts may rely on (XCU
+//! 2.9.2, 2.13).
 ghost use Rattle.std.specs.Prelude.{◌≡◌, ◌++◌, length, map};
 ghost use Rattle.sh_tree.specs.Lists.{elements_from};
 ghost use Rattle.sh_table.specs.Calls.{callee_at};
@@ -45,7 +46,7 @@ fn tell_utility(
 
 // A call
 
-// The utility `getopts` runs where no function of the name is defined.
+// The utility `getopts` runs if no function of the name is defined.
 #[tactic(auto, unfolding(crate::specs::Drops::builtin_drops))]
 fn tell_builtin(name: &[u8], at: u32, start: usize, reports: &mut Reports)
     ensures { AddsSince start reports.old reports.new (λ k ps. drops.all_told k at ps (drops.builtin_drops name.now)) }
@@ -197,8 +198,8 @@ fn is_reached(source: &Source<'_, '_>, number: u32) -> bool
     source.before(number).is_reached()
 }
 
-/// The names that a command may drop, and that it moves the positional parameters, if it is in a
-/// part of a pipeline and some run comes to it.
+/// Reports the names that a command may drop, and that it moves the positional parameters. It does
+/// so if the command is in a part of a pipeline and some run comes to it.
 #[tactic(auto, unfolding(crate::specs::DropWalks::shared_step, crate::specs::DropWalks::reached_step, crate::specs::Places::shared))]
 pub fn tell_shared(
     shares: bool,

@@ -23,7 +23,8 @@ use sh_table::{CallTable, WordText};
 use sh_tree::Element;
 use std::marker::Model;
 
-/// A certificate, the names that it has numbers for, each with a number of its own, and the call table of the script.
+/// A certificate, the names that it has numbers for, each with a number of its own, and the call
+/// table of the script.
 #[derive(Drop)]
 pub struct Source<'a, 's> {
     names: &'a Names,
@@ -62,7 +63,8 @@ impl<'a, 's> Source<'a, 's> {
         }
     }
 
-    /// What is known before the command of a number, from 1. No run comes to a command that there is not.
+    /// What is known before the command of a number, from 1. No run comes to a command that there
+    /// is not.
     pub fn before(&self, number: u32) -> Known<'a>
         ensures { knowing result ≡ known_before self.now number }
     {

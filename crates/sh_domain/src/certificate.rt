@@ -12,7 +12,8 @@ use std::alloc::Global;
 pub enum Facts {
     /// No run comes here.
     NotReached,
-    /// These variables are set, these functions are defined, and there are at least so many positional parameters.
+    /// These variables are set, these functions are defined, and there are at least so many
+    /// positional parameters.
     Known {
         vars: RowId,
         functions: RowId,
@@ -35,7 +36,8 @@ pub struct Drops {
     pub functions: RowId,
 }
 
-/// The facts round a function: where it is entered, what it may drop, and where it returns by its status.
+/// The facts round a function: where it is entered, what it may drop, and where it returns by its
+/// status.
 #[derive(Clone, Copy, Debug, PartialEq, Eq)]
 pub struct FunctionEntry {
     pub before: Facts,
@@ -44,8 +46,8 @@ pub struct FunctionEntry {
     pub nonzero: Facts,
 }
 
-/// The facts round each command and each function of a script, by their numbers from 1, and at the head of each loop, by its
-/// command's number. They name rows, of which each set is there once.
+/// The facts round each command and each function of a script, by their numbers from 1. At the head
+/// of each loop there are facts by its command's number. They name rows; each set is there once.
 #[derive(Debug, Drop)]
 pub struct Certificate {
     pub rows: Rows,

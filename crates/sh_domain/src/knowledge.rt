@@ -20,7 +20,8 @@ use crate::number_set::NumberSet;
 use crate::policy::Policy;
 use crate::rows::{RowId, Rows};
 
-/// What is surely there: variables that are set, functions that are defined, and so many positional parameters at least.
+/// What is surely there: variables that are set, functions that are defined, and so many positional
+/// parameters at least.
 #[derive(Clone, Copy, Debug, PartialEq, Eq)]
 pub struct Assured {
     vars: NumberSet,
@@ -37,7 +38,8 @@ pub enum Knowledge {
     Known(Assured),
 }
 
-/// What a certificate claims of a call: the names that it may drop, and what is known where the function returns.
+/// What a certificate claims of a call: the names that it may drop, and what is known where the
+/// function returns.
 #[derive(Clone, Copy, Debug, PartialEq, Eq)]
 pub struct Return {
     pub drops: Drops,
@@ -116,8 +118,8 @@ impl Assured {
         self.args = self.args.min(other.args);
     }
 
-    // What a function leaves that was surely called: what it does not drop, and what is claimed of its return, without the
-    // prefix names that were not set before.
+    // What a function leaves that was surely called: what it does not drop, and what is claimed of
+    // its return. It is without the prefix names that were not set before.
     fn after_return(&self, rows: &Rows, returned: &Return, prefixes: &NumberSet) -> Knowledge
         ensures { (names before : List Text) → AreNumbered names
             → ((t : Text) → is_one_of names t ≡ true → contains names prefixes.now t ≡ is_one_of before t)
@@ -146,8 +148,8 @@ impl Assured {
         }
     }
 
-    // What is left where a function or a utility of its name was called: what the function does not drop, and where it is
-    // `getopts`, not OPTARG.
+    // What is left if a function or a utility of its name was called: what the function does not
+    // drop. If the name is `getopts`, OPTARG is not left.
     fn after_either(&self, names: &Names, function: &[u8], rows: &Rows, drops: &Drops) -> Assured
         ensures { AreNumbered names.now
             → assured_facts names.now result
@@ -245,7 +247,7 @@ impl Knowledge {
         }
     }
 
-    /// Whether a variable is surely set. Where no run comes, each is.
+    /// Whether a variable is surely set. If no run comes, each is.
     #[tactic(auto, unfolding(crate::specs::Knowledge::knowledge_facts, crate::specs::Facts::claims))]
     pub fn has_variable(&self, names: &Names, name: &[u8]) -> bool
         ensures { result ≡ spec.claims (knowledge_facts names.now self.now) (spec.Variable name.now) }
@@ -335,8 +337,8 @@ impl Knowledge {
         }
     }
 
-    /// The positional parameters are now these words: so many that each give one field, and so many that give each of the
-    /// parameters so far. Up to 65,535 are counted.
+    /// The positional parameters are now these words: so many that each give one field, and so many
+    /// that give each of the parameters so far. Up to 65,535 are counted.
     #[tactic(auto, unfolding(crate::specs::Knowledge::knowledge_facts, crate::specs::Views::step, crate::specs::Views::where_known))]
     pub fn count(&mut self, ones: u32, parameters: u32)
         ensures { (c : views.Certificate) (names : List Text) → knowledge_facts names self.new
@@ -386,8 +388,9 @@ impl Knowledge {
         }
     }
 
-    /// A function was called, with prefix assignments of these names, and has returned. Where it is surely defined it leaves what
-    /// the certificate says of its return; otherwise a utility may have run.
+    /// A function was called, with prefix assignments of these names, and has returned. If it is
+    /// surely defined, it leaves what the certificate says of its return. Otherwise a utility may
+    /// have run.
     #[tactic(auto, unfolding(crate::specs::Knowledge::knowledge_facts, crate::specs::Views::step, crate::specs::Views::called, crate::specs::Views::where_known))]
     pub fn call(
         &mut self,
@@ -476,7 +479,8 @@ fn is_in_row(names: &Names, rows: &Rows, id: RowId, name: &[u8]) -> bool
     }
 }
 
-// Up to 65,535 positional parameters, from words of which so many give one and so many give each that there is.
+// Up to 65,535 positional parameters, from words: so many give one, and so many give each that
+// there is.
 fn counted(ones: u32, parameters: u32, args: u16) -> u16
     ensures { result ≡ views.counted_by (record { ones = ones; parameters = parameters }) args }
 {

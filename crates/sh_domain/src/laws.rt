@@ -19,31 +19,33 @@ ghost use Rattle.sh_domain.specs.CompactSpelling.{CompactHasOneText};
 ghost use Rattle.sh_domain.specs.examples.CompactTexts.{CompactTextsAsExpected};
 ghost use Rattle.sh_domain.specs.examples.Texts.{TextsAsExpected};
 
-/// Known certificates of known scripts are answered as they should be: the first rule that one breaks, or the places of the demands
-/// that are unmet.
+/// Known certificates of known scripts have the answers that they should have: the first rule that
+/// one breaks, or the places of the unmet demands.
 pub fn examples()
     ensures { AnswersAsExpected }
 {}
 
-/// Facts are ordered by what they claim, with a meet and a greatest, and the test of a claim is that order.
+/// Facts are ordered by what they claim, with a meet and a greatest, and the test of a claim is
+/// that order.
 pub fn order()
     ensures { Ordered }
 {}
 
-/// Where a certificate claims more and has functions drop less, each bound of a rule claims more and each command drops less. So a
-/// certificate without a fault stays below whatever a greater one is lowered to.
+/// If a certificate claims more and has functions drop less, each bound of a rule claims more and
+/// each command drops less. So a certificate without a fault stays below whatever a greater one is
+/// lowered to.
 pub fn monotone()
     ensures { Monotone }
 {}
 
-/// If a certificate keeps the flow rules, what its compact form with the start is filled to keeps them
-/// too, and claims no less. Two that are filled from the same claim the same.
+/// If a certificate keeps the flow rules, what its compact form with the start is filled to keeps
+/// them too, and claims no less. Two that are filled from the same claim the same.
 pub fn filled()
     ensures { FilledKeeps }
 {}
 
-/// What is seen at several places is the meet of what each view claims: a fact is within it where
-/// it is within each, and a step, unless it is a call, may be taken after the meet.
+/// What is seen at several places is the meet of what each view claims. A fact is within it if it
+/// is within each. A step, unless it is a call, may be taken after the meet.
 pub fn meets()
     ensures { SeenIsMeet }
 {}
@@ -54,48 +56,49 @@ pub fn least()
     ensures { LeastIsTold }
 {}
 
-/// What a certificate without a fault and without an unmet demand gives at each command of an admitted program: which claims are
-/// within what is seen there, which names it may drop, and that its words need no more than is known.
+/// What a certificate without a fault and without an unmet demand gives at each command of an
+/// admitted program. It gives which claims are within what is seen there, and which names the
+/// command may drop. It gives too that the command's words need no more than is known.
 pub fn inclusions()
     ensures { RulesGive }
 {}
 
-/// The program of every script that is read is formed: a name stands wherever one has to, a
-/// positional parameter has a number from 1, plain text is not empty, an operand whose text is
-/// static gives a field, and after a simple command stand no redirections (XCU 2.10). So its words
-/// give fields, and where it is admitted no run of it comes to a utility that no row speaks of.
+/// The program of every script that is read is formed. A name is wherever one has to be, a
+/// positional parameter has a number from 1, and plain text is not empty. An operand whose text is
+/// static gives a field, and a simple command has no redirections after it (XCU 2.10). So its words
+/// give fields. If it is admitted, no run of it comes to a utility that no row speaks of.
 pub fn formed()
     ensures programs { ReadIsFormed }
     ensures fields { ReadGivesFields }
     ensures rows { ReadHasRows }
 {}
 
-/// No two commands of a script that is read have one number, those of its here-documents included; and the table of one within the limits has no more
-/// commands than a script may have.
+/// No two commands of a script that is read have one number, those of its here-documents included.
+/// The table of one within the limits has no more commands than a script may have.
 pub fn numbered()
     ensures once { ReadNumbersDiffer }
     ensures test { ReadIsNumbered }
     ensures few { ReadHasFewCommands }
 {}
 
-/// Of a program in which no two commands start at one offset, and no two expansions, tildes or
-/// names of arithmetic are at one, no place is reported twice. The program of every script that is
-/// read is such (`sh_reads::laws::once`).
+/// Take a program in which no two commands start at one offset, and no two expansions, tildes or
+/// names of arithmetic are at one. No place of it is reported twice. The program of every script
+/// that is read is such (`sh_reads::laws::once`).
 pub fn once()
     ensures law { PlacesStandOnce }
     ensures scripts { ReadPlacesStandOnce }
     ensures examples { SpotsAsExpected }
 {}
 
-/// Known certificates have the texts that they should have, these texts claim what they should, and
-/// of others the first line that has not the form is reported.
+/// Known certificates have the texts that they should have, and these texts claim what they should.
+/// Of other texts the first line that has not the form is reported.
 pub fn certificate_texts()
     ensures { TextsAsExpected }
 {}
 
-/// Known compact certificates are those of known certificates with their start, state what they
-/// should at each place, and have the texts that they should have; these texts claim what they
-/// should, of others the first line that has not the form is reported, and the first line tells the
+/// Known compact certificates are those of known certificates with their start, and state what they
+/// should at each place. They have the texts that they should have, and these texts claim what they
+/// should. Of other texts the first line that has not the form is reported. The first line says the
 /// version.
 pub fn compact_texts()
     ensures { CompactTextsAsExpected }
@@ -111,29 +114,34 @@ pub fn compact_spelling()
     ensures { CompactHasOneText }
 {}
 
-/// A kept certificate whose rows name variables and functions, and that has no more of anything than a text may have, is written with
-/// rising names, and what is written is read as a certificate that claims the same. What is read is what is written again.
+/// Take a kept certificate whose rows name variables and functions, and that has no more of
+/// anything than a text may have. It is written with rising names, and what is written is read as a
+/// certificate that claims the same. What is read is what is written again.
 pub fn round_trips()
     ensures written { WrittenReadsBack }
     ensures read { ReadIsWritten }
 {}
 
-/// A compact certificate whose rows name variables and functions, whose loops rise, and that has no more of anything than a text may have, is written
-/// with rising names, and what is written is read as one that claims the same. What is read of a text of either version is what is written again.
+/// Take a compact certificate whose rows name variables and functions, whose loops rise, and that
+/// has no more of anything than a text may have. It is written with rising names, and what is
+/// written is read as one that claims the same. What is read of a text of either version is what is
+/// written again.
 pub fn compact_round_trips()
     ensures written { WrittenCompactReadsBack }
     ensures read { GivenIsWritten }
 {}
 
-/// The compact certificate of a certificate states, at each turn of a loop and round each function, what that claims, and of the start what is known.
-/// A kept one states what a certificate claims that has its heads and its functions, and nothing round its commands.
+/// The compact certificate of a certificate states, at each turn of a loop and round each function,
+/// what that certificate claims. Of the start it states what is known. A kept one states what a
+/// certificate claims that has its heads and its functions, and nothing round its commands.
 pub fn compact_states()
     ensures { CompactsState }
 {}
 
-/// The names that are numbered of a script are enough: each has a number of its own, those of the start have one, and what is known
-/// of them stays known of them alone where one of them is set or defined. Names that are lost together may be lost one by one. Of a script that is
-/// read each of them is a name or `!` where each declared one is a name, as those of a `Policy` are.
+/// The names that are numbered of a script are enough: each has a number of its own, and those of
+/// the start have one. What is known of them stays known of them alone if one of them is set or
+/// defined. Names that are lost together may be lost one by one. In a script that is read, each is
+/// a name or `!` if each declared one is a name, as those of a `Policy` are.
 pub fn names()
     ensures law { NamesSuffice }
     ensures losses { LostOneByOne }
@@ -141,8 +149,9 @@ pub fn names()
     ensures examples { KnowledgeAsExpected }
 {}
 
-/// The certificate that the rules are asked of claims, before and after each command, at each turn of a loop and round each
-/// function, what the kept certificate has under that number; where there is none, that no run comes there.
+/// The certificate that the rules are asked of claims what the kept certificate has under that
+/// number. So it is before and after each command, at each turn of a loop and round each function.
+/// If there is none, it claims that no run comes there.
 pub fn entries()
     ensures { EveryCertificateClaims }
 {}

@@ -1,5 +1,6 @@
-//! What is surely set before and after each command of a script: policies, the names of a script, and the rules and the demands
-//! that a checker has to test. The latter are definitions, in `specs/`; `laws` holds them against known scripts.
+//! What is surely set before and after each command of a script: policies, names, rules and
+//! demands. A checker has to test the rules and the demands. They are definitions, in `specs/`;
+//! `laws` holds them against known scripts.
 #![tactic(auto)]
 
 mod certificate;

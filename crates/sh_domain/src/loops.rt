@@ -4,7 +4,8 @@ ghost use Rattle.sh_domain.specs.Reading as fit;
 
 use sh_tree::{Command, Kind};
 
-/// Whether a certificate has a head for the command, as for each loop (XCU 2.9.4.2, 2.9.4.5, 2.9.4.6).
+/// Whether a certificate has a head for the command, as for each loop (XCU 2.9.4.2, 2.9.4.5,
+/// 2.9.4.6).
 #[tactic(auto, unfolding(crate::specs::Reading::kind_loops))]
 pub fn is_loop(command: &Command) -> bool
     ensures { result ≡ fit.is_loop command.now }

@@ -10,7 +10,8 @@ use sh_tree::{MAX_NAMES, Refusal, Script, commands};
 use std::alloc::{AllocError, Global};
 use std::marker::Model;
 
-/// The names of a script: those that every script has, those of its policy and those in its text, each once.
+/// The names of a script: those that every script has, those of its policy and those in its text,
+/// each once.
 #[derive(Debug, Drop)]
 pub(crate) struct NameSet {
     set: IndexSet<Vec<u8>>,
@@ -28,9 +29,11 @@ impl Model for NameSet {
 }
 
 impl NameSet {
-    /// The names of a script, which was read from these bytes: first IFS, OPTIND, PPID, OPTARG and `!`, then the policy's, then those in
-    /// the text, by their offsets: of parameters, assignments, the operands of `export` and `readonly` in assignment form, arithmetic, `for` and definitions, and
-    /// the operands by which `unset`, `read` and `getopts` name them.
+    /// The names of a script, which was read from these bytes. First are IFS, OPTIND, PPID, OPTARG
+    /// and `!`, then the policy's, then those in the text, by their offsets. Those in the text are
+    /// of parameters, assignments, arithmetic, `for` and definitions, and of the operands of
+    /// `export` and `readonly` in assignment form. Operands by which `unset`, `read` and `getopts`
+    /// name them count too.
     ///
     /// # Errors
     ///

@@ -12,8 +12,8 @@ use sh_tree::{MAX_NAMES, Refusal, Script};
 use std::alloc::Global;
 use std::marker::Model;
 
-/// The names of a script, numbered from 0: those that every script has, those of its policy and those in its text, in the
-/// order in which they are first seen.
+/// The names of a script: those that every script has, those of its policy and those in its text.
+/// They are numbered from 0, in the order in which they are first seen.
 #[derive(Debug, Drop)]
 pub struct Names {
     set: NameSet,
@@ -32,9 +32,11 @@ impl Model for Names {
 }
 
 impl Names {
-    /// The names of a script, which was read from these bytes: first IFS, OPTIND, PPID, OPTARG and `!`, then the policy's, then those in
-    /// the text, by their offsets: of parameters, assignments, the operands of `export` and `readonly` in assignment form, arithmetic, `for` and definitions, and
-    /// the operands by which `unset`, `read` and `getopts` name them.
+    /// The names of a script, which was read from these bytes. First are IFS, OPTIND, PPID, OPTARG
+    /// and `!`, then the policy's, then those in the text, by their offsets. Those in the text are
+    /// of parameters, assignments, arithmetic, `for` and definitions, and of the operands of
+    /// `export` and `readonly` in assignment form. Operands by which `unset`, `read` and `getopts`
+    /// name them count too.
     ///
     /// # Errors
     ///

@@ -51,7 +51,8 @@ fn in_order(alloc: Global, names: &NameSet) -> Result<Vec<Numbered<'_>>, AllocEr
     Ok(order)
 }
 
-// The index of the first name that this one precedes, or their count, where they are in rising byte order.
+// The index of the first name that this one precedes, or their count, if they are in rising byte
+// order.
 fn first_behind(order: &[Numbered<'_>], name: &[u8]) -> usize
     requires { IsPartitionedBy (λ other. not (text.precedes name.now other.name.now)) order.now }
     ensures { result ≡ position_or_len (λ other. text.precedes name.now other.name.now) order.now }

@@ -26,7 +26,7 @@ pub fn behind_options(mut operands: &[Seen]) -> &[Seen]
     operands
 }
 
-/// The operands of `read` after its options, or nothing where an option is none of the standard's.
+/// The operands of `read` after its options, or nothing if an option is none of the standard's.
 #[tactic(auto, unfolding(crate::specs::Sights::read_behind))]
 pub fn read_behind(mut operands: &[Seen]) -> Option<&[Seen]>
     ensures { option_map (λ left. seen_in left.now) result ≡ spec.read_behind false (seen_in operands.entry.now) }

@@ -60,7 +60,7 @@ impl Rows {
         self.count
     }
 
-    /// The place of a row with these numbers, which is added where there is none.
+    /// The place of a row with these numbers, which is added if there is none.
     ///
     /// # Errors
     ///
@@ -84,7 +84,7 @@ impl Rows {
         Ok(RowId { index })
     }
 
-    /// Whether a number is in the row of a place. Where there is no row, it is not.
+    /// Whether a number is in the row of a place. If there is no row, it is not.
     pub fn has(&self, id: RowId, number: u32) -> bool
         ensures { result ≡ holds_at self.now.rows id.index number }
     {

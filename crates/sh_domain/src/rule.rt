@@ -14,19 +14,22 @@ pub enum FlowRule {
     F3,
     /// What is claimed after a utility is what its row of the table gives.
     F4,
-    /// What is claimed after a command without a name is what its assignments and redirections give.
+    /// What is claimed after a command without a name is what its assignments and redirections
+    /// give.
     F5,
     /// `if`: its conditions, its branches, and what holds after them.
     F6,
-    /// `while` and `until`: the head, the condition, the body, and what holds when the condition ends the loop.
+    /// `while` and `until`: the head, the condition, the body, and what holds when the condition
+    /// ends the loop.
     F7,
     /// `for`: the words, the head, the body, and what holds after the last turn.
     F8,
     /// `case`: the word, the clauses, and what holds after them.
     F9,
-    /// A group, and what holds where a redirection of a compound command fails.
+    /// A group, and what holds if a redirection of a compound command fails.
     F10,
-    /// A subshell, a substitution and an asynchronous list are entered without `!`, and change nothing outside.
+    /// A subshell, a substitution and an asynchronous list are entered without `!`, and change
+    /// nothing outside.
     F11,
     /// A part of a pipeline is entered without `!`, and nothing that it sets is counted after the
     /// pipeline.
@@ -35,12 +38,13 @@ pub enum FlowRule {
     F13,
     /// A call: what the function is entered with, and what holds after it.
     F14,
-    /// A jump: what holds at `break`, `continue` or `return` is what the loop or the function goes on with.
+    /// A jump: what holds at `break`, `continue` or `return` is what the loop or the function goes
+    /// on with.
     F15,
 }
 
 impl FlowRule {
-    /// The place of the rule in their order, from 1: where a command breaks several rules, the one
+    /// The place of the rule in their order, from 1. If a command breaks several rules, the one
     /// with the least is reported.
     #[tactic(auto, unfolding(crate::specs::Faults::rank))]
     pub fn rank(self) -> u8

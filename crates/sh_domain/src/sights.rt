@@ -1,4 +1,4 @@
-//! The names in a script's text, each with the offset at which it stands.
+//! The names in a script's text, each with its offset.
 ghost use Rattle.std.specs.Prelude.{◌≡◌, ◌≤◌, ◌++◌, ◌∷◌, [], length, map, flat_map, false, nat_lt, if◌then◌else◌, OnOk, IfOk};
 ghost use Rattle.std.specs.List.Sorted.{IsPermutation, IsNonDecreasingBy};
 ghost use Rattle.sh_tree.specs.standard.language.Bytes as bytes;
@@ -14,15 +14,15 @@ use sh_tree::{
 };
 use std::alloc::{AllocError, Global};
 
-/// A name, and the offset at which it stands.
+/// A name, and its offset.
 #[derive(Debug, Drop)]
 pub struct Seen {
     pub at: u32,
     pub name: Vec<u8>,
 }
 
-/// The names in these commands, by their offsets. What is in a command that is not of these is left
-/// out.
+/// The names in these commands, by their offsets. What is in a command that is not one of these is
+/// omitted.
 ///
 /// # Errors
 ///

@@ -69,7 +69,8 @@ pub fn start_in(line: &[u8]) -> Option<FactText<'_>>
     }
 }
 
-/// The number and the facts in the line of a loop, if it is one whose command's number is not below the least.
+/// The number and the facts in the line of a loop, if it is one whose command's number is not below
+/// the least.
 pub fn turn_in(least: u32, line: &[u8]) -> Option<TurnText<'_>>
     ensures { option_map field.turn_of result ≡ compact.turn_in least line.now }
 {

@@ -8,8 +8,8 @@ ghost use Rattle.sh_facts.specs.Room.{Leaves};
 use crate::length::{behind_fact, behind_functions, digits_of};
 use sh_domain::{Compact, Facts, MAX_CERTIFICATE, Names, Rows};
 
-/// Whether the one text of a compact certificate, for the names of its numbers, has more than `MAX_CERTIFICATE` bytes. No byte of
-/// it is made, and no more of it is counted than that.
+/// Whether the one text of a compact certificate, for the names of its numbers, has more than
+/// `MAX_CERTIFICATE` bytes. No byte of it is made, and no more of it is counted than that.
 pub fn is_compact_too_long(compact: &Compact, names: &Names) -> bool
     requires { length compact.now.functions.items < 2 ^ 32 }
     ensures { IsTrue result ↔ (MAX_CERTIFICATE < length (text.compact_text (text.compact_claims (in_byte_order names.now) compact.now))) }

@@ -83,8 +83,8 @@ pub fn behind_start(text: &[u8]) -> Result<(FactText<'_>, &[u8]), u32>
     }
 }
 
-/// The number and the facts in the first line, if it is that of a loop whose command's number is
-/// not below the least, and what follows it.
+/// The number and the facts in the first line, and what follows it. There is nothing unless the
+/// line is that of a loop whose command's number is not below the least.
 pub fn turn_line(least: u32, text: &[u8]) -> Option<(TurnText<'_>, &[u8])>
     ensures { option_map fields.turn_line_of result ≡ field.line_in (compact.turn_in least) text.now }
 {

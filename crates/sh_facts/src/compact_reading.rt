@@ -18,13 +18,15 @@ use sh_table::CallTable;
 use sh_tree::{Command, Refusal, Script, commands};
 use std::alloc::{AllocError, Global};
 
-/// The certificate of a text of either version, for a script with these calls and these names. Its first line tells the version.
+/// The certificate of a text of either version, for a script with these calls and these names. Its
+/// first line says the version.
 ///
 /// # Errors
 ///
-/// `CertSyntax` with the number of the first line that has not the form, from 1, or with 0 if the text is longer than
-/// `MAX_CERTIFICATE`; `CertShape` if the text has the form and does not fit the script: other counts than the script's, a head at
-/// another command than a loop or none at one, or a name that is none of the names; `Memory` if a growth was refused.
+/// `CertSyntax` with the number of the first line that has not the form, from 1, or with 0 if the
+/// text is longer than `MAX_CERTIFICATE`. `CertShape` if the text has the form and does not fit the
+/// script. Then it has other counts than the script's, or a name that is none of the names. Or it
+/// has a head at another command than a loop, or none at one. `Memory` if a growth was refused.
 pub fn read_any(
     alloc: Global,
     text: &[u8],
@@ -160,7 +162,7 @@ fn read_turns<'t>(
     Ok(ReadTurns { heads, left })
 }
 
-/// Puts the facts of a loop after the others, of which none is its own.
+/// Puts the facts of a loop after the others. None of these is its own.
 pub fn put_last(
     heads: &mut IndexMap<u32, Facts>,
     number: u32,

@@ -11,9 +11,10 @@ use sh_domain::{Compact, Facts, Names, Rows};
 use std::alloc::{AllocError, Global};
 use std::io::Write;
 
-/// The one text of a compact certificate, version 2, for the names of its numbers: the start, and a line for each loop and each
-/// function, the names of each set in rising byte order. If the rows name variables and functions, the numbers of the loops rise,
-/// and there is no more of anything than a text may have, it reads as what the certificate claims.
+/// The one text of a compact certificate, version 2, for the names of its numbers. It has the
+/// start, and a line for each loop and each function, the names of each set in rising byte order.
+/// Suppose that rows name variables and functions, the numbers of loops rise, and there is no more
+/// of anything than a text may have. Then it reads as what the certificate claims.
 ///
 /// # Errors
 ///

@@ -26,8 +26,8 @@ pub fn start_of(names: &Names, policy: &Policy) -> Knowledge
     Knowledge::start(names, policy)
 }
 
-/// The compact certificate that states what a certificate claims at the heads of loops and round functions, with what is known at
-/// the start.
+/// The compact certificate that states what a certificate claims at the heads of loops and round
+/// functions, with what is known at the start.
 ///
 /// # Errors
 ///

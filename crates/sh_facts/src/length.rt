@@ -1,5 +1,5 @@
-//! The lines of a certificate's text: each function takes the room that there is, and gives what is
-//! left of it after what it counts, or nothing where there is not so much.
+//! The lines of a certificate's text. Each function takes the room that there is, and gives what is
+//! left of it after what it counts. It gives nothing if there is not so much.
 ghost use Rattle.std.specs.Prelude.{◌≡◌, ◌+◌, ◌^◌, ◌≤◌, ◌<◌, ◌∷◌, [], ◌↔◌, length, map, IsTrue};
 ghost use Rattle.std.specs.Option.{option_copied};
 ghost use Rattle.std.specs.Fmt.{decimal};
@@ -10,8 +10,8 @@ ghost use Rattle.sh_facts.specs.Room.{Leaves};
 use crate::row_length::behind_row;
 use sh_domain::{Certificate, Drops, Entry, Facts, FunctionEntry, MAX_CERTIFICATE, Names, Rows};
 
-/// Whether the one text of a certificate, for the names of its numbers, has more than `MAX_CERTIFICATE` bytes. No byte of it is made, and
-/// no more of it is counted than that.
+/// Whether the one text of a certificate, for the names of its numbers, has more than
+/// `MAX_CERTIFICATE` bytes. No byte of it is made, and no more of it is counted than that.
 pub fn is_too_long(certificate: &Certificate, names: &Names) -> bool
     requires commands { length certificate.now.entries.items < 2 ^ 32 }
     requires functions { length certificate.now.functions.items < 2 ^ 32 }

@@ -1,5 +1,5 @@
-//! Certificates as texts: how they are written, read and measured. The policies, names and facts that they speak of are
-//! those of `sh_domain`.
+//! Certificates as texts: how they are written, read and measured. The policies, names and facts
+//! that they speak of are those of `sh_domain`.
 #![tactic(auto)]
 
 mod compact_forms;

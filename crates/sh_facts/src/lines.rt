@@ -84,7 +84,7 @@ fn behind_commands(count: u16, text: &[u8]) -> Result<&[u8], u32>
     Ok(left)
 }
 
-/// What follows the lines of so many functions, of which the first has this number.
+/// What follows the lines of so many functions, whose first has this number.
 pub fn behind_functions(first: u32, count: u16, text: &[u8]) -> Result<&[u8], u32>
     requires { first < 2 ^ 31 }
     ensures { field.text_left result ≡ field.left_of (form.read_lines form.function_in first 1 count text.now) }

@@ -24,10 +24,10 @@ use std::alloc::{AllocError, Global};
 ///
 /// # Errors
 ///
-/// `CertSyntax` with the number of the first line that has not the form, from 1, or with 0 where
-/// the text is longer than `MAX_CERTIFICATE`; `CertShape` if the text has the form and does not fit
-/// the script: other counts than the script's, a head at another command than a loop or none at
-/// one, or a name that is none of the names; `Memory` if a growth was refused.
+/// `CertSyntax` with the number of the first line that has not the form, from 1, or with 0 if the
+/// text is longer than `MAX_CERTIFICATE`. `CertShape` if the text has the form and does not fit the
+/// script. Then it has other counts than the script's, or a name that is none of the names. Or it
+/// has a head at another command than a loop, or none at one. `Memory` if a growth was refused.
 pub fn read_certificate(
     alloc: Global,
     text: &[u8],
@@ -145,7 +145,7 @@ fn put_head(
     Ok(())
 }
 
-/// The facts of so many functions, of which the first is in the line of this number.
+/// The facts of so many functions, whose first is in the line of this number.
 pub fn read_functions(
     alloc: Global,
     names: &Names,

@@ -37,7 +37,7 @@ fn behind_names(rows: &Rows, names: &Names, row: RowId, room: usize) -> Option<u
     Some(left)
 }
 
-// After those whose bits are in one word, of which most have none.
+// After those whose bits are in one word. Most words have none.
 fn behind_word(
     rows: &Rows,
     names: &Names,

@@ -12,9 +12,10 @@ use sh_domain::{Certificate, Drops, Entry, Facts, FunctionEntry, Names, RowId, R
 use std::alloc::{AllocError, Global};
 use std::io::Write;
 
-/// The one text of a certificate, version 1, for the names of its numbers: a line for each command and each function, the names of each
-/// set in rising byte order. Where the rows name variables and functions, and there is no more of anything than a text may have, it reads
-/// as what the certificate claims.
+/// The one text of a certificate, version 1, for the names of its numbers. It has a line for each
+/// command and each function, the names of each set in rising byte order. If rows name variables
+/// and functions, and there is no more of anything than a text may have, it reads as what the
+/// certificate claims.
 ///
 /// # Errors
 ///

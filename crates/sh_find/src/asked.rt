@@ -1,4 +1,4 @@
-//! All that the flow rules ask of a certificate is gathered by a walk over the script.
+//! A walk over the script gathers all that the flow rules require of a certificate.
 ghost use Rattle.std.specs.Prelude.{◌≡◌, length};
 ghost use Rattle.sh_tree.specs.standard.program.Trees.{script_of};
 ghost use Rattle.sh_domain.specs.Rules.{script_bounds};
@@ -89,7 +89,7 @@ fn ask_unstated(claims: &Claims<'_>, start: &Knowledge, tree: &Script, gather: G
     asked
 }
 
-/// With all that the flow rules ask of a certificate of a script.
+/// With all that the flow rules require of a certificate of a script.
 pub fn ask(subject: &Subject<'_>, certificate: &Certificate, gather: Gather) -> Gather
     requires sized { certificate.now.rows.count ≡ length subject.now.names.now }
     requires admitted { IsAdmitted subject.now.script.now subject.now.policy.now subject.now.tree.now subject.now.names.now }

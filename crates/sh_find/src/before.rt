@@ -1,4 +1,4 @@
-//! A command is lowered where it is entered, to what is known there, without a visit.
+//! Lowers a command where it is entered, to what is known there, without a visit.
 ghost use Rattle.std.specs.Prelude.{◌≡◌, ◌-◌, true, false, length, Some, IfOk};
 ghost use Rattle.sh_domain.specs.declared.rule.FlowRule as rule;
 ghost use Rattle.sh_domain.specs.Entries as entries;
@@ -29,7 +29,8 @@ use sh_domain::{Assured, Knowledge};
 use sh_tree::Command;
 use std::alloc::AllocError;
 
-/// Lowers what is claimed at a place to what is known there, if a text of a certificate may name what is left.
+/// Lowers what is claimed at a place to what is known there, if a text of a certificate may name
+/// what is left.
 ///
 /// # Errors
 ///
@@ -98,7 +99,7 @@ pub fn lower_assured(
     lower_at(subject, draft, place, &sight)
 }
 
-// Lowers what is claimed where the command of a number is entered, where this is assured.
+// Lowers what is claimed where the command of a number is entered, if this is assured.
 fn lower_entered(
     subject: &Subject<'_>,
     draft: &mut Draft,
@@ -115,7 +116,7 @@ fn lower_entered(
     lower_assured(subject, draft, place, assured)
 }
 
-/// Lowers what is claimed where a command is entered to what is known there, where any run comes.
+/// Lowers what is claimed where a command is entered to what is known there, if any run comes.
 ///
 /// # Errors
 ///

@@ -96,7 +96,7 @@ fn sweep_function(
     draft.waiting.units.end(number)
 }
 
-// The place of which the rules speak so, if a script may have it, and nothing is stated.
+// The place that the rules speak of so, if a script may have it, and nothing is stated.
 fn place_in(subject: &Subject<'_>, certificate: &Certificate, slot: Slot<'_>) -> Option<Place>
     requires { (probed : ℕ) × IsReady subject.now certificate.now probed }
     ensures there { IfSome result (λ place. Some place ≡ place_of (functions_in subject.now.script.now subject.now.tree.now) (slot_of slot.entry)) }

@@ -52,7 +52,7 @@ pub fn sweep_cond(
     }
 }
 
-// Lowers the certificate at the branches; what is known after the last condition, where it was not
+// Lowers the certificate at the branches. What is known after the last condition, if it was not
 // zero, is left for `else`.
 #[cycle(sweep)]
 fn sweep_branches(

@@ -25,7 +25,8 @@ impl Subject<'_> {
         }
     }
 
-    /// What is known where the script starts: what is stated, if anything is, or what the policy declares.
+    /// What is known where the script starts: what is stated, if anything is, or what the policy
+    /// declares.
     pub fn start(&self) -> Knowledge
         requires admitted { IsAdmitted self.now.script.now self.now.policy.now self.now.tree.now self.now.names.now }
         ensures { knowledge_facts self.now.names.now result ≡ among self.now.names.now (start_of self.now) }

@@ -4,8 +4,8 @@ use sh_domain::Certificate;
 use sh_rows::BitRow;
 use sh_worklist::Waiting;
 
-/// A certificate that is lowered, and a row by which the rows of others are looked up. So a row that
-/// is there takes no memory.
+/// A certificate that is lowered, and a row by which the rows of others are looked up. So a row
+/// that is there takes no memory.
 #[derive(Drop)]
 pub struct Draft {
     pub certificate: Certificate,

@@ -1,4 +1,5 @@
-//! A compact certificate is filled: round commands, the greatest claims that keep the flow rules there, from the start and the claims that are stated.
+//! A compact certificate is filled: round commands, the greatest claims that keep the flow rules
+//! there, from the start and the claims that are stated.
 ghost use Rattle.std.specs.Prelude.{◌≡◌, List, Bool, true, length, map, IfOk};
 ghost use Rattle.std.specs.List.Sorted.{IsNonDecreasingBy, IsPermutation};
 ghost use Rattle.sh_tree.specs.Commands.{commands_of};
@@ -56,9 +57,10 @@ fn filled(alloc: Global, subject: &Subject<'_>) -> Result<Certificate, AllocErro
     Ok(draft.certificate)
 }
 
-/// The certificate that a compact one of a script that is admitted is filled to. It claims what is stated. Round commands it claims
-/// what any other one does that keeps the flow rules there from the stated start. The table and the names are those of the script,
-/// which is admitted with the names of the policy.
+/// The certificate that a compact one of a script that is admitted is filled to. It claims what is
+/// stated. Round commands it claims what any other one does that keeps the flow rules there from
+/// the stated start. The table and the names are those of the script, which is admitted with the
+/// names of the policy.
 ///
 /// # Errors
 ///

@@ -1,4 +1,4 @@
-//! What is gathered of all that the flow rules ask of a certificate.
+//! What is gathered of all that the flow rules require of a certificate.
 ghost use Rattle.std.specs.Prelude.{◌≡◌, length, option_and_then, option_map};
 ghost use Rattle.std.specs.Option.{option_copied};
 ghost use Rattle.sh_domain.specs.Certificates.{drops_of, in_byte_order};
@@ -27,7 +27,8 @@ pub struct Target {
     pub function: u16,
 }
 
-/// Whether a certificate keeps all that is asked; what is known at a place where any run comes, and the names that a function has to drop.
+/// Whether a certificate keeps all that is asked, and the names that a function has to drop. Of a
+/// place it has what is known there, if any run comes.
 #[derive(Clone, Copy, Debug)]
 pub struct Gather {
     pub kept: bool,
@@ -119,7 +120,8 @@ impl Gather {
         }
     }
 
-    /// Something is asked of a place, which is kept or not; says whether this is the one that is sought.
+    /// Something is asked of a place, which is kept or not; says whether this is the one that is
+    /// sought.
     #[tactic(auto, unfolding(crate::specs::Turns::gathered_of))]
     pub fn see_place(&mut self, spot: Option<Spot>, is_kept: bool) -> bool
         ensures kept { gathered_of self.new ≡ gathering.tested_at (option_map place_at spot) is_kept (gathered_of self.old) }
@@ -131,7 +133,8 @@ impl Gather {
         is_here
     }
 
-    /// Something is asked of the function of an index, which is kept or not; says whether this is the one that is sought.
+    /// Something is asked of the function of an index, which is kept or not; says whether this is
+    /// the one that is sought.
     #[tactic(auto, unfolding(crate::specs::Turns::gathered_of))]
     pub fn see_function(&mut self, index: Option<usize>, is_kept: bool) -> bool
         ensures kept { gathered_of self.new ≡ gathering.tested_by index is_kept (gathered_of self.old) }

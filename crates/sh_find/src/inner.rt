@@ -1,4 +1,4 @@
-//! Whether commands are in words, of which those without any are passed over.
+//! Whether commands are in words. The search passes over words without any.
 ghost use Rattle.std.specs.Prelude.{◌≡◌, ℕ, List, drop};
 ghost use Rattle.std.specs.List.{list_any};
 ghost use Rattle.sh_tree.specs.Lists.{elements_from, parts_from, redirects_from};

@@ -10,7 +10,7 @@ use sh_domain::{Facts, NumberSet, RowId, Rows};
 use sh_rows::BitRow;
 use std::alloc::AllocError;
 
-// The place of a row of these numbers, which is added where there is none.
+// The place of a row of these numbers, which is added if there is none.
 fn intern(rows: &mut Rows, probe: &mut BitRow, numbers: &NumberSet) -> Result<RowId, AllocError>
     requires probed { probe.old.count ≡ rows.old.count }
     requires below { (k : ℕ) → numbers_of numbers.now k ≡ true → k < rows.old.count }
@@ -24,7 +24,7 @@ fn intern(rows: &mut Rows, probe: &mut BitRow, numbers: &NumberSet) -> Result<Ro
     rows.intern(probe)
 }
 
-/// The facts that are seen, by the places of their rows, which are added where they are not there.
+/// The facts that are seen, by the places of their rows. A row that is not there is added.
 ///
 /// # Errors
 ///

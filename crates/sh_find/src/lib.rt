@@ -1,5 +1,5 @@
-//! The greatest certificate of a script: the search begins with the one that claims everything, and lowers what breaks a flow
-//! rule until nothing does.
+//! The greatest certificate of a script: the search begins with the one that claims everything, and
+//! lowers what breaks a flow rule until nothing does.
 #![tactic(auto)]
 
 mod asked;

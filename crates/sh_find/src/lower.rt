@@ -1,4 +1,5 @@
-//! What a certificate claims at a place is lowered to what is known there, and what a function may drop is added to.
+//! What a certificate claims at a place is lowered to what is known there, and what a function may
+//! drop is added to.
 ghost use Rattle.std.specs.Prelude.{◌≡◌, ◌<◌, ◌≤◌, ℕ, List, Bool, true, false, length, Some, IfOk};
 ghost use Rattle.sh_tree.specs.declared.limits.TheConstants.{MAX_NAMES};
 ghost use Rattle.sh_domain.specs.KeptRows.{Stay, holds_at};
@@ -18,8 +19,9 @@ use sh_domain::{Certificate, Drops, Facts, Names, NumberSet, RowId, Rows};
 use sh_rows::BitRow;
 use std::alloc::AllocError;
 
-/// Puts the claim of a place to what it and what is known there both claim, if it is there, claims more, and what is left names only what a text
-/// of a certificate may name; says whether it did.
+/// Puts the claim of a place to what it and what is known there both claim; says whether it did. It
+/// does so if the place is there and claims more, and what is left names only what a text of a
+/// certificate may name.
 ///
 /// # Errors
 ///
@@ -70,7 +72,7 @@ fn are_in_rows(rows: &Rows, drops: Drops, vars: &NumberSet, functions: &NumberSe
     vars.is_in_row(rows, drops.vars) && functions.is_in_row(rows, drops.functions)
 }
 
-// The places of rows of these variables and these functions, which are added where they are not there.
+// The places of rows of these variables and these functions. A row that is not there is added.
 fn keep_drops(
     rows: &mut Rows,
     probe: &mut BitRow,
@@ -101,8 +103,8 @@ fn keep_drops(
     }
 }
 
-/// Lets the function of an index drop these variables and these functions too, if it is there, may not yet, and a text of a certificate may name
-/// them; says whether it did.
+/// Lets the function of an index drop these variables and these functions too; says whether it did.
+/// It does so if the function is there and may not yet, and a text of a certificate may name them.
 ///
 /// # Errors
 ///

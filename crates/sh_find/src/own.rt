@@ -72,7 +72,7 @@ fn asked_of(
     tell(subject, certificate, by, around, known, command, gather)
 }
 
-// The index of a command, or the first where a script may not have its number: a hint.
+// The index of a command, or the first if a script may not have its number: a hint.
 fn index_of(command: &Command) -> u16 {
     u16::try_from(command.number.saturating_sub(1)).unwrap_or(0)
 }
@@ -88,7 +88,8 @@ fn is_unentered(draft: &Draft, place: Place) -> bool {
         && matches!(facts_at(&draft.certificate, place), Some(Facts::NotReached))
 }
 
-// Lowers what is claimed at a place, and what a function may drop, by what a command asks; says whether all of it was kept, and of what more was asked.
+// Lowers what is claimed at a place, and what a function may drop, by what a command asks. Says
+// whether all of it was kept, and of what more was asked.
 fn lower_once(
     subject: &Subject<'_>,
     draft: &mut Draft,
@@ -208,7 +209,8 @@ fn asked_behind(
     tell(subject, certificate, by, around, known, command, sides)
 }
 
-// Lowers what is claimed at the first of two places, and what a function may drop, by what was gathered.
+// Lowers what is claimed at the first of two places, and what a function may drop, by what was
+// gathered.
 fn lower_first(subject: &Subject<'_>, draft: &mut Draft, sides: &Sides) -> Result<(), AllocError>
     requires ready { IsReady subject.now draft.old.certificate draft.old.probe.count }
     requires numbers { AreNumbersBeside (length subject.now.names.now) (sided_of sides.now) }
@@ -229,7 +231,7 @@ fn lower_first(subject: &Subject<'_>, draft: &mut Draft, sides: &Sides) -> Resul
     Ok(())
 }
 
-// Lowers what is claimed at the second of two places, where any run comes to it.
+// Lowers what is claimed at the second of two places, if any run comes to it.
 fn lower_second(subject: &Subject<'_>, draft: &mut Draft, sides: &Sides) -> Result<(), AllocError>
     requires ready { IsReady subject.now draft.old.certificate draft.old.probe.count }
     requires numbers { AreNumbersBeside (length subject.now.names.now) (sided_of sides.now) }
@@ -243,7 +245,7 @@ fn lower_second(subject: &Subject<'_>, draft: &mut Draft, sides: &Sides) -> Resu
     }
 }
 
-// Lowers what is claimed at both places after a command by one visit; says whether all of it was
+// Lowers what is claimed at both places after a command by one visit. Says whether all of it was
 // kept, and of what more was asked.
 fn lower_sides(
     subject: &Subject<'_>,
@@ -276,7 +278,8 @@ fn lower_sides(
     Ok((false, sides.gather.next))
 }
 
-// Lowers what is claimed elsewhere, and what a function may drop, by what the command of an index asks, here and at one more place.
+// Lowers what is claimed elsewhere, and what a function may drop, by what the command of an index
+// asks, here and at one more place.
 fn lower_others(
     subject: &Subject<'_>,
     draft: &mut Draft,
@@ -299,8 +302,8 @@ fn lower_others(
     Ok(())
 }
 
-/// Lowers what is claimed after a command; and what is claimed elsewhere or a function may drop,
-/// where the command asks for more of that.
+/// Lowers what is claimed after a command. Lowers too what is claimed elsewhere or what a function
+/// may drop, if the command asks for more of that.
 ///
 /// # Errors
 ///

@@ -1,9 +1,9 @@
-//! Places of which a certificate claims something.
+//! Places that a certificate claims something of.
 ghost use Rattle.std.specs.Prelude.{◌≡◌};
 ghost use Rattle.sh_find.specs.Places as spec;
 
-/// What is claimed of: a command, where it is entered and after it by its status; each turn of a
-/// loop; a function, where it is entered and where it returns by its status.
+/// What a claim is of. A command: where it is entered, and after it by its status. A loop: each
+/// turn. A function: where it is entered, and where it returns by its status.
 #[derive(Clone, Copy, Debug, PartialEq, Eq)]
 pub enum Part {
     Before,

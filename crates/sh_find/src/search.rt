@@ -80,7 +80,8 @@ pub fn settle(subject: &Subject<'_>, draft: &mut Draft, way: Way) -> Result<(), 
     Ok(())
 }
 
-// The greatest certificate of a script that is admitted, and how often the flow rules of a command were gone through.
+// The greatest certificate of a script that is admitted, and how often the flow rules of a command
+// were gone through.
 fn settled(alloc: Global, subject: &Subject<'_>, way: Way) -> Result<(Certificate, u64), AllocError>
     requires admitted { IsAdmitted subject.now.script.now subject.now.policy.now subject.now.tree.now subject.now.names.now }
     requires commands { IsPermutation (commands_of subject.now.tree.now) (map (λ c. c.now) subject.now.commands.now) }
@@ -151,8 +152,9 @@ fn searched(
     settled(alloc, &subject, way)
 }
 
-/// The greatest certificate of a script that is admitted: it keeps all flow rules, and claims at each place what any other one
-/// does that keeps them. The table and the names are those of the script.
+/// The greatest certificate of a script that is admitted. It keeps all flow rules, and claims at
+/// each place what any other one does that keeps them. The table and the names are those of the
+/// script.
 ///
 /// # Errors
 ///
@@ -195,7 +197,8 @@ pub fn find_counted(
     searched(alloc, tree, script, calls, names, policy, Way::ByNeed)
 }
 
-/// As `find`, by rounds over the whole script: the plain way, which takes longer if functions call each other.
+/// As `find`, by rounds over the whole script: the plain way, which takes longer if functions call
+/// each other.
 ///
 /// # Errors
 ///

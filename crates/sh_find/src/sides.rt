@@ -1,4 +1,4 @@
-//! What the flow rules ask of two places in one visit.
+//! What the flow rules require of two places in one visit.
 ghost use Rattle.std.specs.Prelude.{◌≡◌};
 ghost use Rattle.sh_domain.specs.Knowledge.{AreNumbered, knowledge_facts};
 ghost use Rattle.sh_find.specs.Facts.{meet};

@@ -40,7 +40,8 @@ fn meet(known: &mut Sight, sight: &Sight)
     known.args = known.args.min(sight.args);
 }
 
-/// Leaves of what is known what is assured of these names too; where nothing was known, no run came, and all was claimed.
+/// Leaves of what is known what is assured of these names too. If nothing was known, no run came,
+/// and all was claimed.
 #[inline(never)]
 #[tactic(auto, unfolding(crate::specs::Kept::seen_of, crate::specs::Facts::meet))]
 pub fn meet_assured(known: &mut Option<Sight>, names: &Names, assured: &Assured)

@@ -1,4 +1,4 @@
-//! The places of which the flow rules speak, by the indices of commands and functions.
+//! The places that the flow rules speak of, by the indices of commands and functions.
 ghost use Rattle.std.specs.Prelude.{◌≡◌, ◌-◌, option_map, position};
 ghost use Rattle.std.specs.Str.{bytes_eq};
 ghost use Rattle.sh_domain.specs.Names.{number_of};
@@ -72,7 +72,7 @@ fn of_function(claims: &Claims<'_>, part: Part, name: &[u8]) -> Option<Spot>
     Some(Spot { part, index })
 }
 
-/// The place of which the rules speak so, if it is one of a command or of a function of the script.
+/// The place that the rules speak of so, if it is one of a command or of a function of the script.
 #[tactic(auto, unfolding(crate::specs::Places::place_of))]
 pub fn spot_of(claims: &Claims<'_>, slot: Slot<'_>) -> Option<Spot>
     ensures { option_map place_at result ≡ spec.place_of (setting claims.now).functions (slot_of slot.entry) }

@@ -1,4 +1,4 @@
-//! What the flow rules ask of places whose claims are stated is passed over.
+//! Passes over what the flow rules require of places whose claims are stated.
 ghost use Rattle.std.specs.Prelude.{◌≡◌};
 ghost use Rattle.sh_rules.specs.Places.{slot_of};
 ghost use Rattle.sh_domain.specs.Filled as spec;

@@ -1,4 +1,4 @@
-//! A script of which a certificate is sought.
+//! A script whose certificate the search seeks.
 ghost use Rattle.std.specs.Prelude.{◌≡◌, true};
 ghost use Rattle.sh_tree.specs.declared.limits.TheConstants.{MAX_NAMES};
 ghost use Rattle.sh_table.specs.Calls.{table_of};
@@ -24,8 +24,8 @@ pub struct Subject<'a> {
     pub commands: &'a [&'a Command],
     /// The names that a text of its certificates may have.
     pub writable: &'a Writable,
-    /// Whether a compact certificate states what is claimed at the start, at the turns of loops and round functions.
-    /// Then only what is claimed round commands is lowered.
+    /// Whether a compact certificate states what is claimed at the start, at the turns of loops and
+    /// round functions. Then only what is claimed round commands is lowered.
     pub stated: bool,
     /// What is stated, if anything is.
     pub compact: &'a Compact,

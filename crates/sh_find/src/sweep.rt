@@ -1,5 +1,5 @@
-//! A sweep of the search over the commands of a list: each command is lowered where the sweep comes
-//! to it, before those after it (XCU 2.9).
+//! A sweep of the search over the commands of a list. It lowers each command where it comes to it,
+//! before those after it (XCU 2.9).
 ghost use Rattle.std.specs.Prelude.{◌∷◌, ◌<◌, ◌≤◌, ◌-◌, ℕ, List, true, length, take, drop, IfOk};
 ghost use Rattle.sh_tree.specs.standard.Tree.{text_of};
 ghost use Rattle.sh_tree.specs.declared.tree.Item as tree;
@@ -37,15 +37,15 @@ use sh_tree::{AndOr, Command, Item, Kind, Link, LoopKind, Pipe, Script, Span};
 use sh_worklist::{Look, do_links_wait, does_item_wait, does_pipe_wait, next_place};
 use std::alloc::AllocError;
 
-/// How many levels are gone into: of commands, of parts of words, and of expressions in arithmetic. No script that is read has more, since of 64
-/// levels at most each is a few of these.
+/// How many levels are gone into: of commands, of parts of words, and of expressions in arithmetic.
+/// No script that is read has more, since of 64 levels at most each is a few of these.
 pub const LEVELS: u32 = 2048;
 
 // How many of them are gone into at most if a call is followed.
 const CALLS: u32 = 128;
 
 /// Lowers the certificate at each item of a list, and goes on after the last. So many levels are
-/// gone into; what stands further in is left to turns.
+/// gone into; what is further in is left to turns.
 ///
 /// # Errors
 ///

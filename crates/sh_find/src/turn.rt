@@ -53,7 +53,7 @@ fn asked(subject: &Subject<'_>, certificate: &Certificate, target: Target) -> Ga
     ask(subject, certificate, gather)
 }
 
-/// Lowers the claim of a place where any run comes to it.
+/// Lowers the claim of a place if any run comes to it.
 ///
 /// # Errors
 ///
@@ -86,7 +86,8 @@ pub fn lower_known(
     }
 }
 
-/// Lowers the certificate by what was gathered, and says whether it claimed more or had a function drop less.
+/// Lowers the certificate by what was gathered, and says whether it claimed more or had a function
+/// drop less.
 ///
 /// # Errors
 ///
@@ -130,7 +131,8 @@ pub fn lower_gathered(
     Ok(lowered || counted)
 }
 
-// Lowers a certificate at a place and a function where it breaks a flow rule, and says of which others more was asked.
+// Lowers a certificate at a place and a function where it breaks a flow rule, and says of which
+// others more was asked.
 fn lower_next(
     subject: &Subject<'_>,
     certificate: &mut Certificate,
@@ -152,8 +154,9 @@ fn lower_next(
     Ok(gather.next)
 }
 
-/// Lowers a certificate where it does not keep all flow rules, and says whether it keeps them. The target is left at a place and a function of which more was
-/// asked, where there are any: a hint where the next turn begins.
+/// Lowers a certificate where it does not keep all flow rules, and says whether it keeps them. The
+/// target is left at a place and a function that more was asked of, if there are any: a hint where
+/// the next turn begins.
 ///
 /// # Errors
 ///

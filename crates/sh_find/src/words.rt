@@ -27,7 +27,7 @@ use sh_tree::{
 };
 use std::alloc::AllocError;
 
-/// Lowers the certificate at the commands in the words of a simple command: each word is expanded
+/// Lowers the certificate at the commands in the words of a simple command. Each word is expanded
 /// after those before it, and values and redirections after all of them.
 ///
 /// # Errors

@@ -11,7 +11,8 @@ ghost use Rattle.sh_find.specs.Writable.{HasWritable, IsWritten, sets_in};
 use sh_domain::{Names, NumberSet};
 use sh_tree::{MAX_NAMES, is_name};
 
-/// The names of a script that a text may have, by their numbers: those of variables, `!` among them, and those of functions.
+/// The names of a script that a text may have, by their numbers: those of variables, `!` among
+/// them, and those of functions.
 #[derive(Clone, Copy, Debug)]
 pub struct Writable {
     pub vars: NumberSet,

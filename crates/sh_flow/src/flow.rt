@@ -58,12 +58,14 @@ fn flow_of(places: Vec<Place>) -> Flow
     }
 }
 
-/// Checks a certificate of a script that was read: whether every flow rule holds, and then which demands are unmet. The table
-/// and the names are those of the script, and the certificate is one over these names.
+/// Checks a certificate of a script that was read: whether every flow rule holds, and then which
+/// demands are unmet. The table and the names are those of the script, and the certificate is one
+/// over these names.
 ///
 /// # Errors
 ///
-/// `AllocError` if a growth was refused, which takes a certificate of which every flow rule holds and some demand is unmet.
+/// `AllocError` if a growth was refused. That takes a certificate that keeps every flow rule and
+/// leaves some demand unmet.
 #[tactic(auto, using(crate::proofs::FlowLemmas::unmet))]
 pub fn check_flow(
     alloc: Global,

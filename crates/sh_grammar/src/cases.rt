@@ -21,7 +21,7 @@ use sh_tree::{
 use sh_words::Mode;
 use std::alloc::Global;
 
-/// After `in`, which is wanted where no command can begin.
+/// After `in`, which has to come where no command can begin.
 fn expect_in(script: &[u8], from: Cursor) -> Result<Cursor, Refusal>
     requires small { length script.now ≤ MAX_SCRIPT }
     requires stands { Stands script.now from }

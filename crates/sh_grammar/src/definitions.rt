@@ -18,7 +18,7 @@ use sh_tree::{
 };
 use std::alloc::Global;
 
-/// After the two parentheses that are wanted here.
+/// After the two parentheses that have to be here.
 fn parentheses(script: &[u8], from: Cursor) -> Result<Cursor, Refusal>
     requires small { length script.now ≤ MAX_SCRIPT }
     requires stands { Stands script.now from }

@@ -29,8 +29,8 @@ fn has_dollar_quoted(word: &Word) -> bool
         .any(|part| is_dollar_quoted(part))
 }
 
-/// The delimiter that the word is: its text without its quoting, or nothing if it holds an expansion, a tilde-prefix, `$'` or
-/// a newline.
+/// The delimiter that the word is: its text without its quoting, or nothing if it holds an
+/// expansion, a tilde-prefix, `$'` or a newline.
 ///
 /// # Errors
 ///
@@ -67,11 +67,12 @@ fn is_quoted(word: &Word) -> bool
     word.parts.as_slice().iter().any(|part| is_quotation(part))
 }
 
-/// The here-document with the operator at `at`, where so many levels are open, whose body ends with the word.
+/// The here-document with the operator at `at`, with so many levels open. Its body ends with the
+/// word.
 ///
 /// # Errors
 ///
-/// `LeftOut` at the word where it is no delimiter.
+/// `LeftOut` at the word if it is no delimiter.
 #[tactic(auto, using(crate::proofs::DelimiterLemmas::not_delimiter))]
 pub fn mark_at(
     alloc: Global,

@@ -15,8 +15,8 @@ use sh_tree::{Fault, Form, Items, MAX_SCRIPT, Part, Refusal, Script, Span, Word}
 use sh_words::Mode;
 use std::alloc::Global;
 
-/// What is reported if no line ends the body: the closing backquote, if the last line holds it; in the body of another, that it
-/// goes on outside.
+/// What is reported if no line ends the body: the closing backquote, if the last line holds it. In
+/// the body of another here-document it is that this one goes on outside.
 fn unended(script: &[u8], mark: &Mark, from: &State) -> Refusal
     requires small { length script.now ≤ MAX_SCRIPT }
     requires inside { mark.now.at < length script.now }
@@ -52,9 +52,9 @@ fn keeps_tabs(mark: &Mark, from: &State) -> bool
     from.tabs && !mark.strip
 }
 
-/// A line that is read in two ways: where `<<-` strips tabs, one that begins with a tab after a
-/// continuation; and in a body around, which is joined or stripped, one that this here-document
-/// keeps as it stands.
+/// A line that is read in two ways. If `<<-` strips tabs, it is one that begins with a tab after a
+/// continuation. In a body around, which is joined or stripped, it is one that this here-document
+/// keeps as it is.
 fn check_lines(script: &[u8], mark: &Mark, line: Span, from: &State) -> Result<(), Refusal>
     requires small { length script.now ≤ MAX_SCRIPT }
     requires ordered { (from.now.at ≤ line.start) × (line.start ≤ line.end) × (line.end ≤ length script.now) }
@@ -108,7 +108,8 @@ impl<F: Fn(Global, &[u8], Cursor) -> Result<(Script, Cursor), Refusal>> Grammar<
         Ok(from.with_document(document, count, behind_line(script, line.end))?)
     }
 
-    /// The parts of the body from a line's beginning up to `end`, and how many commands began before it ends.
+    /// The parts of the body from a line's beginning up to `end`, and how many commands began
+    /// before it ends.
     fn body(
         &self,
         script: &[u8],

@@ -58,7 +58,7 @@ fn piece_kept(rest: &[u8], joins: bool) -> usize
     }
 }
 
-/// Whether the line, joined where lines are, is the text.
+/// Whether the line, joined if lines are, is the text.
 fn is_text(line: &[u8], joins: bool, text: &[u8]) -> bool
     ensures { result ≡ bytes_eq (documents.line_text joins line.now) text.now }
 {

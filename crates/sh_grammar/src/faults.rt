@@ -9,8 +9,8 @@ use super::state::{Cursor, State};
 use sh_scan::lead_at;
 use sh_tree::{Fault, Form, Lead, MAX_SCRIPT, Refusal, Stage};
 
-/// Where a refused form is reported, which the token at `at` is: a line continuation at its
-/// backslash, the first from the token's beginning on.
+/// Where a refused form is reported, which the token at `at` is. A line continuation is reported at
+/// its backslash, the first from the token's beginning on.
 fn place_of(script: &[u8], form: Form, at: u32) -> u32
     requires small { length script.now ≤ MAX_SCRIPT }
     requires inside { at < length script.now }
@@ -26,8 +26,8 @@ fn place_of(script: &[u8], form: Form, at: u32) -> u32
     }
 }
 
-/// What is reported at the end of the text: the closing backquote, if something ran over it; the first here-document that waits
-/// for its body, if one does; or else the fault at `at`.
+/// What is reported at the end of the text: the closing backquote, if something ran over it. Else
+/// it is the first here-document that waits for its body, if one does, or else the fault at `at`.
 #[tactic(auto, using(crate::proofs::FaultLemmas::end_is, crate::proofs::FaultLemmas::end_open, crate::proofs::FaultLemmas::end_overrun, crate::proofs::FaultLemmas::first_inside))]
 pub fn at_end(script: &[u8], here: &State, fault: Fault, at: u32) -> Refusal
     requires small { length script.now ≤ MAX_SCRIPT }
@@ -61,7 +61,7 @@ fn unexpected_at(script: &[u8], stage: Stage, here: &State) -> Refusal
     }
 }
 
-/// How the token is reported of where nothing goes on.
+/// The stage at which the token is reported if nothing goes on.
 #[tactic(auto, unfolding(crate::specs::Faults::stage_at))]
 fn stage_of(here: &State) -> Stage
     ensures { result ≡ stage_at here.now.fresh }
@@ -73,7 +73,7 @@ fn stage_of(here: &State) -> Stage
     }
 }
 
-/// What is reported where nothing that is there goes on.
+/// What is reported if nothing that is there goes on.
 pub fn unexpected(script: &[u8], here: &State) -> Refusal
     requires small { length script.now ≤ MAX_SCRIPT }
     requires stands { Stands script.now here.now }
@@ -94,7 +94,7 @@ impl Cursor {
         unexpected_at(script, stage, self.get())
     }
 
-    /// What is reported where nothing that is here goes on.
+    /// What is reported if nothing that is here goes on.
     pub fn unexpected(&self, script: &[u8]) -> Refusal
         requires small { length script.now ≤ MAX_SCRIPT }
         requires stands { Stands script.now self.now }

@@ -1,4 +1,5 @@
-//! Line continuations and tabs in the bodies of here-documents, where shells read a text in two ways (XCU 2.7.4).
+//! Line continuations and tabs in the bodies of here-documents, if shells read a text in two ways
+//! (XCU 2.7.4).
 ghost use Rattle.std.specs.Prelude.{◌≡◌, ◌≤◌, ◌<◌, ◌+◌, ◌||◌, ◌&&◌, ◌∷◌, [], not, true, drop, length, ℕ, IfSome};
 ghost use Rattle.sh_grammar.specs.Quotes.{Splits, SplitsIn, chained};
 ghost use Rattle.sh_grammar.specs.Lines as lines;
@@ -45,7 +46,7 @@ fn is_joined(rest: &[u8], tabbed: bool) -> bool
     }
 }
 
-/// Where the first line continuation stands, or the first one before a tab.
+/// Where the first line continuation is, or the first one before a tab.
 pub fn joined_in(text: &[u8], tabbed: bool) -> Option<u32>
     requires small { length text.now ≤ MAX_SCRIPT }
     ensures value { is_some result ≡ documents.has_joined (λ rest. not tabbed || is_first is_tab rest) text.now }
@@ -84,7 +85,7 @@ fn tabbed_line(text: &[u8]) -> Option<u32>
     None
 }
 
-/// Where the first line continuation of the span stands.
+/// Where the first line continuation of the span is.
 fn split_in_span(script: &[u8], span: Span) -> Option<u32>
     requires small { length script.now ≤ MAX_SCRIPT }
     ensures { SplitsIn script.now (span ∷ []) result }
@@ -95,7 +96,7 @@ fn split_in_span(script: &[u8], span: Span) -> Option<u32>
     }
 }
 
-/// Where the first line continuation between single quotes in the parts stands.
+/// Where the first line continuation between single quotes in the parts is.
 #[cycle(kept)]
 fn split_in_parts(script: &[u8], parts: &[Part]) -> Option<u32>
     requires small { length script.now ≤ MAX_SCRIPT }
@@ -190,7 +191,7 @@ pub fn split_at(script: &[u8], joins: bool, parts: &[Part]) -> Option<u32>
     }
 }
 
-/// Where the first line continuation stands, or the first one before a tab, if it is asked for.
+/// Where the first line continuation is, or the first one before a tab, if it is asked for.
 pub fn joined_if(asked: bool, text: &[u8], tabbed: bool) -> Option<u32>
     requires small { length text.now ≤ MAX_SCRIPT }
     ensures value { is_some result ≡ (asked && documents.has_joined (λ rest. not tabbed || is_first is_tab rest) text.now) }

@@ -36,7 +36,8 @@ fn is_reserved(lead: Lead) -> bool
     matches!(lead, Lead::Reserved(_))
 }
 
-/// Whether an item ends before a token that separates nothing: a reserved word has to be one that may close something.
+/// Whether an item ends before a token that separates nothing: a reserved word has to be one that
+/// may close something.
 fn closes(lead: Lead, closed: bool) -> bool
     ensures { result ≡ (not (tokens.is_reserved lead) || closed) }
 {
@@ -117,7 +118,7 @@ impl<F: Fn(Global, &[u8], Cursor) -> Result<(Script, Cursor), Refusal>> Grammar<
         Ok((AndOr { first, rest }, end))
     }
 
-    /// The items from a token on that is no newline. There are none where no pipeline begins.
+    /// The items from a token on that is no newline. There are none if no pipeline begins.
     #[tactic(auto, using(crate::proofs::ListLemmas::items_none, crate::proofs::ListLemmas::items_all, crate::proofs::ListLemmas::items_refused, crate::proofs::ListLemmas::items_stopped, crate::proofs::ListLemmas::items_last, crate::proofs::ListLemmas::items_wrong, crate::proofs::ListLemmas::items_more, crate::proofs::ReaderLemmas::refused_none))]
     fn items(&self, script: &[u8], from: Cursor) -> Result<(Items<Item>, Cursor), Refusal>
         requires small { length script.now ≤ MAX_SCRIPT }

@@ -3,7 +3,7 @@
 /// A here-document whose body has not come.
 #[derive(Debug, Drop)]
 pub struct Mark {
-    /// Where its operator stands.
+    /// Where its operator is.
     pub at: u32,
     /// Whether tabs are stripped, as with `<<-`.
     pub strip: bool,

@@ -44,7 +44,7 @@ impl<F: Fn(Global, &[u8], Cursor) -> Result<(Script, Cursor), Refusal>> Grammar<
         Ok((word, behind))
     }
 
-    /// The redirection of a file, of which the operator is read.
+    /// The redirection of a file, whose operator is read.
     #[tactic(auto, using(crate::proofs::RedirectLemmas::redirect_refused, crate::proofs::RedirectLemmas::redirect_read))]
     fn file(
         &self,
@@ -72,7 +72,7 @@ impl<F: Fn(Global, &[u8], Cursor) -> Result<(Script, Cursor), Refusal>> Grammar<
         Ok((redirect, behind))
     }
 
-    /// A here-document, of which the operator is read. Its body comes after the newline.
+    /// A here-document, whose operator is read. Its body comes after the newline.
     #[tactic(auto, using(crate::proofs::RedirectLemmas::redirect_refused, crate::proofs::RedirectLemmas::document_refused))]
     fn here_document(
         &self,

@@ -1,4 +1,4 @@
-//! Reserved words where one is wanted (XCU 2.4).
+//! Reserved words where one has to be (XCU 2.4).
 ghost use Rattle.std.specs.Prelude.{◌-◌, ◌≡◌, ◌<◌, ◌≤◌, length};
 ghost use Rattle.sh_grammar.specs.Nests.{Nests};
 ghost use Rattle.sh_grammar.specs.Phrases.{Expects, ListBefore, behind_reserved, entered, reserved_text};
@@ -59,7 +59,7 @@ pub fn enter(script: &[u8], reserved: Reserved, from: Cursor) -> Cursor
     skip(script, reserved, from).lower()
 }
 
-/// After the reserved word, which is wanted here.
+/// After the reserved word, which has to be here.
 pub fn expect(script: &[u8], reserved: Reserved, from: Cursor) -> Result<Cursor, Refusal>
     requires small { length script.now ≤ MAX_SCRIPT }
     requires stands { Stands script.now from }

@@ -1,4 +1,4 @@
-//! Where a reader of commands stands (XCU 2.10).
+//! Where a reader of commands is (XCU 2.10).
 ghost use Rattle.std.specs.Prelude.{◌≡◌, ◌≢◌, ◌≤◌, ◌<◌, ◌+◌, [], ◌∷◌, ◌++◌, length, false, None, IfOk};
 ghost use Rattle.std.specs.Option.{option_copied};
 ghost use Rattle.sh_grammar.specs.States.{Lies, Stands, in_body, moved, substituted, waiting};
@@ -26,13 +26,15 @@ pub struct State {
     pub closed: bool,
     /// Whether what is before lets a command begin here.
     pub fresh: bool,
-    /// The operator of the first here-document outside that waits for its body, so that no newline may come.
+    /// The operator of the first here-document outside that waits for its body, so that no newline
+    /// may come.
     pub outer: Option<u32>,
     /// Whether this is in the body of a here-document whose lines are joined.
     pub joins: bool,
     /// Whether tabs are stripped from the lines around.
     pub tabs: bool,
-    /// Whether this is in a backquoted substitution, with whose closing backquote the text then ends.
+    /// Whether this is in a backquoted substitution, with whose closing backquote the text then
+    /// ends.
     pub ticks: Ticks,
     /// The here-documents of this level that wait for their bodies.
     pub pending: Items<Mark>,
@@ -61,7 +63,7 @@ impl State {
         }
     }
 
-    /// At the first token of commands that begin at or after `at`, where so many levels are open
+    /// At the first token of commands that begin at or after `at`. So many levels are open there,
     /// and what came before is as here.
     #[tactic(auto, using(crate::proofs::SubstitutionLemmas::substituted_stands))]
     pub fn within(&self, alloc: Global, script: &[u8], at: u32, depth: u8, ticks: Ticks) -> State
@@ -110,7 +112,7 @@ impl State {
     }
 }
 
-/// A state after a pointer, so that the readers that are open take little of the stack. Contracts
+/// A state held by a pointer, so that the readers that are open take little of the stack. Contracts
 /// see the state.
 pub struct Cursor {
     state: Box<State>,

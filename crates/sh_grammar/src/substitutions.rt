@@ -59,8 +59,8 @@ fn is_told_before(refusal: Refusal, at: u32) -> bool
     }
 }
 
-/// What is reported of commands between backquotes with a backslash at `at` that goes before they are read: their refusal, if it
-/// comes first, or else the backslash.
+/// What is reported of commands between backquotes with a backslash at `at` that goes before they
+/// are read. It is their refusal, if it comes first, or else the backslash.
 #[tactic(auto, unfolding(crate::specs::Substitutions::first_told))]
 fn first_told(found: Result<(Script, Cursor), Refusal>, at: u32) -> Refusal
     ensures { result ≡ substitution.first_told found at }
@@ -101,7 +101,8 @@ impl<F: Fn(Global, &[u8], Cursor) -> Result<(Script, Cursor), Refusal>> Grammar<
         Ok((list, behind))
     }
 
-    /// The commands that begin at or after `at` in a word, where so many levels are open, up to what closes them in the text.
+    /// The commands that begin at or after `at` in a word, with so many levels open, up to what
+    /// closes them in the text.
     #[tactic(auto, using(crate::proofs::SubstitutionLemmas::answers_earlier))]
     fn level(
         &self,
@@ -163,8 +164,9 @@ impl<F: Fn(Global, &[u8], Cursor) -> Result<(Script, Cursor), Refusal>> Grammar<
         }
     }
 
-    /// The commands of a substitution of the style in a word, which begin at or after `at`, where so many levels are open.
-    /// `quoted` says whether it is in double quotes. By that, more backslashes between backquotes are refused.
+    /// The commands of a substitution of the style in a word. They begin at or after `at`, with so
+    /// many levels open. `quoted` says whether it is in double quotes. By that, more backslashes
+    /// between backquotes are refused.
     #[tactic(auto, using(crate::proofs::SubstitutionLemmas::paren_hands, crate::proofs::SubstitutionLemmas::open_hands))]
     pub fn commands_at(
         &self,

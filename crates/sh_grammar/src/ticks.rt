@@ -4,7 +4,8 @@ ghost use Rattle.sh_grammar.specs.Ticks as ticks;
 
 use sh_tree::{Fault, Form, MAX_SCRIPT, Refusal};
 
-/// Whether commands are in a backquoted substitution, with whose closing backquote their text then ends.
+/// Whether commands are in a backquoted substitution, with whose closing backquote their text then
+/// ends.
 #[derive(Clone, Copy, Debug, PartialEq, Eq)]
 pub enum Ticks {
     /// In none.

@@ -28,7 +28,8 @@ pub fn mode_of(stage: Stage) -> Mode
     }
 }
 
-/// Whether the word from `start` to `end` may be an IO location. The value of an assignment is none.
+/// Whether the word from `start` to `end` may be an IO location. The value of an assignment is
+/// none.
 fn is_location(script: &[u8], mode: Mode, start: u32, end: u32) -> bool
     requires small { length script.now ≤ MAX_SCRIPT }
     requires ordered { start ≤ end }

@@ -13,7 +13,8 @@ use sh_domain::{Policy, PolicyFault};
 use std::alloc::{AllocError, Global};
 use std::convert::AsStr;
 
-/// The version that `--version` prints, as the file VERSION has it, and the logic of the kit that proves it.
+/// The version that `--version` prints, as the file VERSION has it, and the logic of the kit that
+/// proves it.
 const VERSION: &str = "0.1.0 (Rattle kit, logic dac8208d650f15bf)";
 
 /// What the help of the program says after clap's.
@@ -67,7 +68,8 @@ pub struct Line<'a> {
 /// Why there is no line.
 #[derive(Debug, Drop)]
 pub enum Stop {
-    /// The words are no line of the program. The text is for standard error: clap's, or that two files are standard input.
+    /// The words are no line of the program. The text is for standard error: clap's, or that two
+    /// files are standard input.
     Usage(String),
     /// Help or the version was asked for. The text is clap's, for standard output.
     Help(String),
@@ -387,14 +389,16 @@ fn read_line<'a>(alloc: Global, name: &str, sub: &ArgMatches<'a>) -> Result<Line
     })
 }
 
-/// Reads the words of a command line, the program's name first: `lint [--args N] FILE [NAME..]`, `cert [--args N] [--full] FILE [NAME..]`, or
-/// `check [--args N] FILE CERT [NAME..]`. N is 0 to 65535, and 0 where it is not given; FILE or CERT `-` is standard input; each NAME is a variable that is set
-/// when the script starts.
+/// Reads the words of a command line, the program's name first. They are `lint [--args N] FILE
+/// [NAME..]`, `cert [--args N] [--full] FILE [NAME..]`, or `check [--args N] FILE CERT [NAME..]`. N
+/// is 0 to 65535, and 0 if it is not given. FILE or CERT `-` is standard input. Each NAME is a
+/// variable that is set when the script starts.
 ///
 /// # Errors
 ///
-/// `Usage` and `Help` if clap takes no line from the words: `Help` for a request of help or of the version. `Usage` too if FILE and CERT are both
-/// standard input. `BadName` if a declared text is no name, and `Memory` if a growth was refused.
+/// `Usage` and `Help` if clap takes no line from the words: `Help` for a request of help or of the
+/// version. `Usage` too if FILE and CERT are both standard input. `BadName` if a declared text is
+/// no name, and `Memory` if a growth was refused.
 pub fn command_line<'a, S: AsStr>(alloc: Global, words: &'a [S]) -> Result<Line<'a>, Stop>
     // clap's parse finds no fault in the words, and the line says what it found
     ensures taken { IfOk result (λ _. fault_of shset_app (map S.text words.entry.now) ≡ []) }

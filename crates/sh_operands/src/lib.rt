@@ -1,4 +1,5 @@
-//! What the operands of built-in utilities say: numbers, options, and how many fields they give; and what is in a word (XCU 2.5, 2.15).
+//! What the operands of built-in utilities say: numbers, options, and how many fields they give;
+//! and what is in a word (XCU 2.5, 2.15).
 #![tactic(auto)]
 
 mod counts;

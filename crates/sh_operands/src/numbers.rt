@@ -24,7 +24,7 @@ fn value_of(text: &[u8]) -> u32
     value
 }
 
-/// The number that the text writes in decimal digits, or 4,294,967,295 where that is greater.
+/// The number that the text writes in decimal digits, or 4,294,967,295 if that is greater.
 #[tactic(auto, using(crate::proofs::NumeralLemmas::written), unfolding(sh_table::specs::standard::runs::Numbers::number_in))]
 pub fn number_in(text: &[u8]) -> Option<u32>
     ensures { result ≡ option_map capped (numbers.number_in text.now) }

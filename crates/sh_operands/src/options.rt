@@ -6,7 +6,8 @@ ghost use Rattle.sh_operands.specs.Texts as spec;
 
 use sh_table::{WordText, ends_in_o, ends_options, is_dashed, is_set_option};
 
-/// The letters of the options of `unset`: whether there are some, and whether all of them are `v`, or all `f`.
+/// The letters of the options of `unset`: whether there are some, and whether all of them are `v`,
+/// or all `f`.
 #[derive(Clone, Copy, Debug, PartialEq, Eq)]
 pub struct Letters {
     any: bool,

@@ -112,8 +112,8 @@ fn push_gap(out: &mut Vec<u8>, depth: usize, before: usize) -> Result<(), AllocE
     push_tabs(out, depth)
 }
 
-/// What comes between `|` and the next command: one blank; if a here-document is pending after
-/// the command before, a newline, the bodies and the tabs of the line.
+/// What comes between `|` and the next command. It is one blank; or, if a here-document is pending
+/// after the command before, a newline, the bodies and the tabs of the line.
 ///
 /// # Errors
 ///

@@ -158,8 +158,8 @@ fn kind_sets(kind: &Kind, script: &[u8]) -> bool
     }
 }
 
-/// Whether a command, with these static texts of its words, leaves IFS to what separates no numbers; the commands in its words
-/// are commands of their own.
+/// Whether a command, with these static texts of its words, leaves IFS to what separates no
+/// numbers. The commands in its words are commands of their own.
 #[tactic(auto, using(crate::proofs::CommandLemmas::command_out))]
 pub fn command_is_steady(command: &Command, texts: &[WordText], script: &[u8]) -> bool
     ensures { result ≡ spec.command_steady script.now command.now (map (text_in script.now) texts.now) }

@@ -1,5 +1,5 @@
-//! Which expansions field splitting or pathname expansion could change, and whether IFS separates numbers. The rules are
-//! definitions in `specs/`; `laws` says what they are good for.
+//! Which expansions field splitting or pathname expansion could change, and whether IFS separates
+//! numbers. The rules are definitions in `specs/`; `laws` says what they are good for.
 #![tactic(auto)]
 
 mod commands;

@@ -58,8 +58,8 @@ fn is_declared(word: &Word, text: Option<&[u8]>, script: &[u8]) -> bool
     }
 }
 
-/// Whether no operand of `export` or `readonly` gives IFS a value that separates numbers, or could: by the words of these elements,
-/// with their static texts.
+/// Whether no operand of `export` or `readonly` gives IFS a value that separates numbers, or could.
+/// This is by the words of these elements, with their static texts.
 #[tactic(auto, using(crate::proofs::OperandLemmas::split_some, crate::proofs::OperandLemmas::split_none), unfolding(crate::specs::Operands::all_declared))]
 fn are_declared(elements: &[Element], texts: &[WordText], script: &[u8]) -> bool
     ensures { result ≡ spec.all_declared script.now (words_of elements.now) (map (text_in script.now) texts.now) }
@@ -109,7 +109,8 @@ fn is_one_field(word: &Word, text: Option<&[u8]>, script: &[u8]) -> bool
     }
 }
 
-/// Whether the operands of `getopts` do not let it set IFS: by the words of these elements, with their static texts.
+/// Whether the operands of `getopts` do not let it set IFS: by the words of these elements, with
+/// their static texts.
 #[tactic(auto, using(crate::proofs::OperandLemmas::getopts_first, crate::proofs::OperandLemmas::getopts_none), unfolding(crate::specs::Operands::all_options))]
 fn are_options(elements: &[Element], texts: &[WordText], script: &[u8]) -> bool
     ensures { result ≡ spec.all_options script.now (words_of elements.now) (map (text_in script.now) texts.now) }
@@ -171,8 +172,8 @@ fn are_read(texts: &[WordText], script: &[u8]) -> bool
 
 // Commands
 
-/// Whether the operands of a utility of this kind do not let it set IFS to what separates numbers:
-/// by the words of the elements after its name, with their static texts.
+/// Whether the operands of a utility of this kind do not let it set IFS to what separates numbers.
+/// This is by the words of the elements after its name, with their static texts.
 #[tactic(auto, unfolding(crate::specs::Operands::operands_steady))]
 pub fn operands_are_steady(
     kind: Kind,

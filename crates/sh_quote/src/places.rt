@@ -42,9 +42,9 @@ impl<'t, 's> Visitor for Unquoted<'t, 's> {
 }
 
 /// The places of the expansions that field splitting or pathname expansion could change (XCU 2.6.5,
-/// 2.6.6): each expansion outside quotes in a word whose fields are split, but numbers, where IFS
-/// is steady and the word is no pattern, and alternatives that are quoted. They are in the order of
-/// the commands, a command before those in it.
+/// 2.6.6). Each is of an expansion outside quotes in a word whose fields are split. Numbers have
+/// none if IFS is steady and the word is no pattern, and quoted alternatives have none. The places
+/// are in the order of the commands, a command before those in it.
 ///
 /// # Errors
 ///

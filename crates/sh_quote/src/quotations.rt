@@ -111,7 +111,7 @@ fn at_unless(whole: bool, at: u32) -> Option<u32>
     if whole { None } else { Some(at) }
 }
 
-/// Where an expansion outside quotes is reported, where numbers stand whole or do not.
+/// Where an expansion outside quotes is reported; `numbers` says whether numbers stay whole.
 #[tactic(auto, using(crate::proofs::QuotationLemmas::told_parts))]
 pub fn told(part: &Part, numbers: bool) -> Option<u32>
     ensures { (b : List ℕ) → spec.told result ≡ spec.part_told b numbers part.now }

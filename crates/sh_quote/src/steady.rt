@@ -46,9 +46,9 @@ impl<'t, 's> Visitor for Watch<'t, 's> {
     }
 }
 
-/// Whether IFS never has a value that separates numbers, whatever a script does, as far as its text shows: every assignment to it
-/// is static and has no digit and no `-`, and no utility, `for` or expansion could set it otherwise (XCU 2.6.5). It takes no
-/// memory.
+/// Whether IFS never has a value that separates numbers, whatever a script does, as far as its text
+/// shows. Every assignment to it is static and has no digit and no `-`. No utility, `for` or
+/// expansion could set it otherwise (XCU 2.6.5). The test takes no memory.
 pub fn steady_ifs(tree: &Script, calls: &CallTable, script: &[u8]) -> bool
     requires table { calls.now ≡ table.table_of script.now tree.now }
     requires numbered { is_numbered (script_of script.now tree.now) ≡ true }

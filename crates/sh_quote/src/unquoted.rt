@@ -49,7 +49,7 @@ fn add_parts(
     Ok(())
 }
 
-// Of a word whose fields are split: numbers stand whole where it is no pattern.
+// Of a word whose fields are split: numbers stay whole if it is no pattern.
 #[tactic(auto, using(crate::proofs::UnquotedLemmas::word_parts))]
 fn add_word(
     word: &Word,
@@ -179,12 +179,12 @@ fn add_kind(
     }
 }
 
-/// Adds the places of what is unquoted in the words of a command whose fields are split, where its name is this text, and numbers
-/// stand whole or do not.
+/// Adds the places of what is unquoted in the words of a command whose fields are split. Its name
+/// is this text, and numbers stay whole or do not.
 ///
 /// # Errors
 ///
-/// Where there is one and no memory for it.
+/// If there is one and no memory for it.
 pub fn add_command(
     command: &Command,
     name: Option<&[u8]>,

@@ -23,7 +23,7 @@ fn has_separator(text: &[u8]) -> bool
     text.iter().any(|byte| separates_numbers(*byte))
 }
 
-/// Whether no number is split where this is the value of IFS.
+/// Whether no number is split if this is the value of IFS.
 #[tactic(auto, unfolding(sh_table::specs::Quoting::is_steady))]
 pub fn is_steady(text: &[u8]) -> bool
     ensures { result ≡ quoting.is_steady (Some text.now) }
@@ -49,7 +49,8 @@ fn between_ends(text: &[u8]) -> &[u8]
     }
 }
 
-/// Whether no number is split where this quotation is the value of IFS. No escape of `$'` gives or takes a digit or a `-`.
+/// Whether no number is split if this quotation is the value of IFS. No escape of `$'` gives or
+/// takes a digit or a `-`.
 #[tactic(auto, using(crate::proofs::ValueLemmas::escaped_steady))]
 fn single_is_steady(style: SingleStyle, text: &[u8]) -> bool
     ensures { result ≡ quoting.is_steady (Some (words.single_text style text.now)) }

@@ -1,4 +1,5 @@
-//! The check of a certificate: the script first, then the text, then what the rules and the demands say of it.
+//! The check of a certificate: the script first, then the text, then what the rules and the demands
+//! say of it.
 ghost use Rattle.std.specs.Prelude.{◌≡◌, ◌++◌, IfOk, Ok, length};
 ghost use Rattle.sh_tree.specs.standard.program.Trees.{script_of};
 ghost use Rattle.sh_domain.specs.Facts.{Declared};
@@ -19,7 +20,7 @@ use sh_quote::check_quotes;
 use sh_tree::{Place, Refusal};
 use std::alloc::{AllocError, Global};
 
-// The verdict on these unmet demands and on the expansions that stand unquoted.
+// The verdict on these unmet demands and on the expansions that are unquoted.
 fn verdict_with(
     alloc: Global,
     script: &[u8],
@@ -85,12 +86,12 @@ fn check_prepared(
     Ok(verdict)
 }
 
-/// What is reported of a certificate's text: a pass exactly where it is accepted, the least flow
-/// rule that it breaks, or the findings in order. After a pass the script has exactly one reading,
-/// and no run of it, from any start that the policy allows, with any results of the commands, any
-/// choice and any order of the processes, expands an unset parameter without a default or gives an
-/// expansion's value to field splitting or pathname expansion that could change it (XCU 2.6.2,
-/// 2.6.5, 2.6.6).
+/// The verdict on a certificate's text: a pass exactly if it is accepted, the least flow rule that
+/// it breaks, or the findings in order. After a pass the script has exactly one reading. No run of
+/// it expands an unset parameter without a default. Nor does a run give an expansion's value to
+/// field splitting or pathname expansion that could change it (XCU 2.6.2, 2.6.5, 2.6.6). This holds
+/// of runs from any start that the policy allows, with any results of the commands, any choice and
+/// any order of the processes.
 ///
 /// # Errors
 ///

@@ -24,16 +24,18 @@ const SCRIPT_READ: usize = MAX_SCRIPT + 1;
 // The most bytes that are taken of the certificate's reader: one more than its text may have.
 const CERTIFICATE_READ: usize = MAX_CERTIFICATE + 1;
 
-/// Reads the script, at most 1,048,577 bytes of it, and then for a check the certificate, at most 67,108,865 bytes of it; does the task,
-/// and writes the text of the answer on the bytes read, and nothing else: the whole text is made before its first byte is written. The result is the exit
-/// status: 0 clean or a text that was asked for, 1 findings or a certificate that breaks a flow rule, 2 refused. A lint or a check that
-/// ends with 0 promises what a pass does. No other action reads `cert`.
+/// Reads the script, at most 1,048,577 bytes of it. For a check it then reads the certificate, at
+/// most 67,108,865 bytes of it. It does the task, and writes the text of the answer on the bytes
+/// read, and nothing else. The whole text is made before its first byte is written. The result is
+/// the exit status. It is 0 for clean or a text that was asked for, 1 for findings or a certificate
+/// that breaks a flow rule, and 2 for refused. A lint or a check that ends with 0 promises what a
+/// pass does. No other action reads `cert`.
 ///
 /// # Errors
 ///
-/// `Memory` if a growth was refused and `Read` if a reader failed, each with nothing written;
-/// `Write` if the writer failed, with a front of the text written. A fault is reported where that
-/// end failed, and only there; after a refused growth no reader had failed.
+/// `Memory` if a growth was refused and `Read` if a reader failed, each with nothing written.
+/// `Write` if the writer failed, with a front of the text written. A fault is reported if that end
+/// failed, and only then. After a refused growth no reader had failed.
 pub fn run<R: Feed, C: Feed, W: Outlet>(
     alloc: Global,
     task: &Task,

@@ -1,4 +1,5 @@
-//! What is answered of a script by its bytes: the engine from the bytes of a script to the text of its answer.
+//! What is answered of a script by its bytes: the engine from the bytes of a script to the text of
+//! its answer.
 #![tactic(auto)]
 
 mod checks;

@@ -52,8 +52,8 @@ fn lint_prepared(
     judged(alloc, script, policy, prepared, &certificate)
 }
 
-/// What is reported of a script: a pass exactly where some certificate of it is accepted, or the
-/// findings of the greatest one, in order. A pass promises what that of a check does.
+/// The verdict on a script: a pass exactly if some certificate of it is accepted, or the findings
+/// of the greatest one, in order. A pass promises what that of a check does.
 ///
 /// # Errors
 ///
@@ -128,8 +128,8 @@ fn compact_text(
     Ok(text)
 }
 
-/// The text of the greatest certificate of a script, whether it passes or not: the full one, or that
-/// of its compact form.
+/// The text of the greatest certificate of a script, whether it passes or not: the full one, or
+/// that of its compact form.
 ///
 /// # Errors
 ///

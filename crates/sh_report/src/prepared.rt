@@ -29,7 +29,7 @@ pub struct Prepared<'s> {
 /// # Errors
 ///
 /// The refusal of the text, of its first command that the profile refuses, or of its names, in that
-/// order; `Memory` if a growth was refused.
+/// order. `Memory` if a growth was refused.
 #[tactic(auto, using(crate::proofs::RefusalLemmas::unread))]
 pub fn prepare<'s>(
     alloc: Global,
@@ -81,8 +81,8 @@ fn names_of(
     Ok(names)
 }
 
-/// The certificate that a text of either version claims of a script that is admitted: the one that
-/// is given in full, or the one to which a compact one is filled.
+/// The certificate that a text of either version claims of a script that is admitted. It is the one
+/// that is given in full, or the one to which a compact one is filled.
 ///
 /// # Errors
 ///

@@ -35,7 +35,7 @@ pub fn findings_at(
     in_order(findings)
 }
 
-/// A pass where there is no place, and otherwise their findings.
+/// A pass if there is no place, and otherwise their findings.
 ///
 /// # Errors
 ///

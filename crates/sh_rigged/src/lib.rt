@@ -16,8 +16,8 @@ pub enum Trick {
     Refuse,
 }
 
-/// An end that moves at most so many bytes a call, is interrupted at its first calls, and then plays its trick at the
-/// call of a number from 1, or never at 0.
+/// An end that moves at most so many bytes a call, and is interrupted at its first calls. It then
+/// plays its trick at the call of a number from 1, or never at 0.
 #[derive(Drop)]
 pub struct Rigged<T> {
     pub inner: T,

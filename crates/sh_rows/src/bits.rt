@@ -9,9 +9,10 @@ use crate::kernels::{
 use crate::row::Row;
 use std::alloc::{AllocError, Global};
 
-/// A row as bits: number n is bit n modulo 64 of word n divided by 64, and the bits past the last number are zero.
+/// A row as bits. Number n is bit n modulo 64 of word n divided by 64, and the bits past the last
+/// number are zero.
 ///
-/// Adding takes no memory: the words stand from the start, one for 64 numbers.
+/// Adding takes no memory: the words are there from the start, one for 64 numbers.
 #[derive(Debug, PartialEq, Eq, Hash, Drop)]
 pub struct BitRow {
     words: Vec<u64>,

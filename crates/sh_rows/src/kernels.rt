@@ -1,5 +1,6 @@
-//! Sets of bits in words: what a row of bits does to another, mostly four words at a time. Each kernel does to each word what its
-//! first clause says, whatever the lengths: past its end a slice has words of zeros. The second clause says it of the bits.
+//! Sets of bits in words: what a row of bits does to another, mostly four words at a time. Each
+//! kernel does to each word what its first clause says, whatever the lengths: past its end a slice
+//! has words of zeros. The second clause says it of the bits.
 ghost use Rattle.std.specs.Prelude.{◌≡◌, ◌+◌, ◌-◌, ◌/◌, ◌<◌, ◌≤◌, ◌&&◌, ◌||◌, ◌==◌, ◌↔◌, ℕ, true, not, nat_lt, length, bit_and, bit_or, slice_index, IsTrue, IfSome, IfNone, IfOk, replicate};
 ghost use Rattle.sh_rows.specs.Numbers.{has_bit};
 ghost use Rattle.sh_rows.specs.Words.{without, IsMixed, AllWithin};
@@ -54,7 +55,7 @@ pub fn meet_words(words: &mut [u64], other: &[u64])
     zero_rest(words, shared);
 }
 
-// The words that whole blocks of the others stand beside, and how many.
+// The words that have whole blocks of the others beside them, and how many.
 fn meet_blocks(words: &mut [u64], other: &[u64]) -> usize
     requires { length other.now ≤ length words.old }
     ensures count { result ≤ length other.now }
@@ -110,7 +111,7 @@ pub fn remove_words(words: &mut [u64], other: &[u64])
     remove_rest(words, at, beside);
 }
 
-// The words that whole blocks of the others stand beside, and how many.
+// The words that have whole blocks of the others beside them, and how many.
 fn remove_blocks(words: &mut [u64], other: &[u64]) -> usize
     requires { length other.now ≤ length words.old }
     ensures count { result ≤ length other.now }
@@ -154,7 +155,7 @@ pub fn join_words(words: &mut [u64], other: &[u64])
     join_front(words, &other[..shared]);
 }
 
-// The words that others stand beside.
+// The words that have others beside them.
 fn join_front(words: &mut [u64], other: &[u64])
     requires { length other.now ≤ length words.old }
     ensures { IsMixed bit_or words.old words.new (λ k. slice_index other.now k) 0 (length other.now) }
@@ -186,7 +187,7 @@ pub fn within_words(words: &[u64], other: &[u64]) -> bool
     }
 }
 
-// How many words whole blocks of the others stand beside, if each of these words is within.
+// How many words have whole blocks of the others beside them, if each of these words is within.
 fn blocks_within(words: &[u64], other: &[u64]) -> Option<usize>
     requires { length other.now ≤ length words.now }
     ensures some { IfSome result (λ at. AllWithin words.now (λ k. slice_index other.now k) 0 at) }

@@ -69,7 +69,7 @@ impl Row for NameRow {
     ghost below = { λ r k there. r.below k there };
 }
 
-// Where a number stands, or would stand.
+// Where a number is, or would be.
 fn place_in(numbers: &[u32], n: u32) -> Result<usize, usize>
     requires { IsStrictlyIncreasing numbers.now }
     ensures { IsPlace numbers.now n result }

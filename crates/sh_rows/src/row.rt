@@ -1,12 +1,13 @@
-//! What a row is: a set of numbers below a count, and what each of its operations makes of that set.
+//! What a row is: a set of numbers below a count, and what each of its operations makes of that
+//! set.
 ghost use Rattle.std.specs.Prelude.{◌≡◌, ℕ, ◌<◌, ◌&&◌, ◌||◌, ◌==◌, ◌↔◌, Bool, true, false, not, IfOk, IsOk, OnOk, OnErr, IsTrue};
 
 use std::alloc::{AllocError, Global};
 
 /// A set of numbers below a count.
 ///
-/// What is proved of code over any `Row` holds at each row. The two rows of a call may have different counts: each is the set of
-/// its numbers. Only `empty`, `copy` and `add` take memory.
+/// What is proved of code over any `Row` holds at each row. The two rows of a call may have
+/// different counts: each is the set of its numbers. Only `empty`, `copy` and `add` take memory.
 pub trait Row: Sized {
     // Whether a number is in the set.
     ghost holds: { Self → ℕ → Bool };

@@ -13,8 +13,9 @@ pub enum Loops<'a> {
     Inside(u32, &'a Loops<'a>),
 }
 
-/// The loops, and the function by its name, that a command may leave; the function whose drops it counts for; whether it is in a part
-/// of a pipeline, which may share the environment of the other parts.
+/// The loops, and the function by its name, that a command may leave. Then the function whose drops
+/// it counts for. Then whether it is in a part of a pipeline, which may share the environment of
+/// the other parts.
 #[derive(Clone, Copy)]
 pub struct Around<'a> {
     pub loops: Loops<'a>,

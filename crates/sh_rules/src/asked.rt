@@ -12,8 +12,9 @@ use crate::fault::{Fault, Least};
 use crate::place::Place;
 use sh_domain::Knowledge;
 
-/// What is done with what the flow rules ask at each command: of a place that it claims no more than is known there, of a function that it
-/// drops what its commands drop. Each comes with the command and the rule that are broken where that fails.
+/// What is done with what the flow rules ask at each command. A place has to claim no more than is
+/// known there, and a function to drop what its commands drop. Each comes with the command and the
+/// rule that are broken if that fails.
 pub trait Asked {
     // What is kept.
     ghost Kept: { Type 0 };
@@ -40,7 +41,7 @@ pub trait Asked {
         ensures { kept self.new ≡ asked.drop (setting claims.now) function.now (fault_of fault) ((certificate (setting claims.now)).drops callee.now) (kept self.old) };
 }
 
-/// The least fault so far, where what is asked fails.
+/// The least fault so far, if what is asked fails.
 impl Asked for Least {
     ghost use Rattle.std.specs.Prelude.{Option};
     ghost use Rattle.sh_domain.specs.Faults as faults;

@@ -22,7 +22,7 @@ use crate::gains::gain_variable;
 use sh_domain::Knowledge;
 use sh_tree::{AndOr, ClauseEnd, Command, Item, Link, LoopKind, Pipe, Script};
 
-/// What is known where a status was zero, and where it was another one.
+/// What is known if a status was zero, and if it was another one.
 #[derive(Clone, Copy)]
 pub struct Behind {
     pub zero: Knowledge,
@@ -349,7 +349,7 @@ fn settled_from(items: &[Item]) -> Option<&[Item]>
 }
 
 impl Behind {
-    /// Goes on after a list, of which this is known at its start; an empty one passes it on.
+    /// Goes on after a list, at whose start this is known; an empty one passes it on.
     #[tactic(auto, using(crate::proofs::BehindLemmas::script_out))]
     pub fn pass_script(&mut self, claims: &Claims<'_>, known: &Knowledge, list: &Script)
         ensures { walks.behind_in (setting claims.now) self.new ≡ walks.script_behind (setting claims.now) (spec.both (facts_in (setting claims.now) known.now)) list.now }
@@ -365,7 +365,7 @@ impl Behind {
     }
 }
 
-/// After a list, of which this is known at its start; an empty one passes it on.
+/// After a list, at whose start this is known; an empty one passes it on.
 pub fn script_behind(claims: &Claims<'_>, known: &Knowledge, list: &Script) -> Behind
     ensures { walks.behind_in (setting claims.now) result ≡ walks.script_behind (setting claims.now) (spec.both (facts_in (setting claims.now) known.now)) list.now }
 {

@@ -1,4 +1,5 @@
-//! What the flow rules ask at a compound command: of each place that it claims no more than is known there (XCU 2.9.4, 2.9.5).
+//! What the flow rules ask at a compound command: of each place that it claims no more than is
+//! known there (XCU 2.9.4, 2.9.5).
 ghost use Rattle.std.specs.Prelude.{◌≡◌, List, ℕ, fold};
 ghost use Rattle.std.specs.List.{list_any};
 ghost use Rattle.sh_tree.specs.declared.tree.ClauseEnd.TheVariants as clause;
@@ -41,7 +42,7 @@ pub fn tell_both<A: Asked>(claims: &Claims<'_>, fault: Fault, known: &Knowledge,
     asked.bound(claims, Place::Nonzero(fault.number), fault, known);
 }
 
-// A condition, and its list where it is zero.
+// A condition, and its list if it is zero.
 #[tactic(auto, unfolding(crate::specs::Tells::branch_told))]
 fn tell_branch<A: Asked>(
     claims: &Claims<'_>,
@@ -205,7 +206,7 @@ fn is_none_left(rest: &[Clause]) -> bool
     }
 }
 
-/// Whether a clause leaves what the whole does: where none follows that it could go on with.
+/// Whether a clause leaves what the whole does: if none follows that it could go on with.
 #[tactic(auto, using(crate::proofs::TellLemmas::ends))]
 pub fn ends_case(end: ClauseEnd, rest: &[Clause]) -> bool
     ensures { (b : List ℕ) → result ≡ tells.ends_case b end rest.now }
@@ -409,7 +410,7 @@ pub fn tell_compound<A: Asked>(
     }
 }
 
-/// Where a redirection of a compound command fails, what was known before it is known.
+/// If a redirection of a compound command fails, what was known before it is known.
 #[tactic(auto, unfolding(crate::specs::Bounds::redirects_told))]
 pub fn tell_redirects<A: Asked>(
     claims: &Claims<'_>,

@@ -1,4 +1,5 @@
-//! What a call of a function asks: what it is entered with, and what is known where it has returned (XCU 2.9.1, 2.9.5).
+//! What a call of a function asks: what it is entered with, and what is known where it has returned
+//! (XCU 2.9.1, 2.9.5).
 ghost use Rattle.std.specs.Prelude.{◌≡◌, List};
 ghost use Rattle.sh_tree.specs.Lists.{elements_from};
 ghost use Rattle.sh_tree.specs.standard.program.Syntax.{Text};
@@ -20,7 +21,7 @@ use crate::utilities::behind_name;
 use sh_domain::{FlowRule, Knowledge, Return};
 use sh_tree::Element;
 
-// Without OPTARG, where a utility may have run that unsets it.
+// Without OPTARG, if a utility may have run that unsets it.
 #[tactic(auto, unfolding(crate::specs::Calls::passed))]
 fn passed(claims: &Claims<'_>, function: &[u8], known: &Knowledge) -> Knowledge
     ensures { facts_in (setting claims.now) result ≡ spec.passed (setting claims.now) function.now (facts_in (setting claims.now) known.now) }

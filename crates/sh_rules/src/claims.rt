@@ -5,7 +5,8 @@ ghost use Rattle.sh_domain.specs.Knowledge.{AreNumbered};
 use sh_domain::{Certificate, Names};
 use sh_table::CallTable;
 
-/// A script, its names, its call table, whose functions the certificate numbers, and a certificate of it.
+/// A script, its names, its call table, whose functions the certificate numbers, and a certificate
+/// of it.
 #[derive(Drop)]
 pub struct Claims<'a> {
     pub script: &'a [u8],

@@ -267,7 +267,7 @@ fn tell_callee<A: Asked>(
     }
 }
 
-// The built-in utility `getopts` runs where no function of the name is defined.
+// The built-in utility `getopts` runs if no function of the name is defined.
 #[tactic(auto, unfolding(crate::specs::CommandBounds::builtin_drops_told))]
 fn tell_builtin<A: Asked>(
     claims: &Claims<'_>,
@@ -393,8 +393,8 @@ fn tell_named<A: Asked>(
     }
 }
 
-/// What a simple command drops whose words have these static texts, its name first: by `unset` and `getopts`, and what a call drops and
-/// assigns. This function drops it.
+/// What a simple command drops whose words have these static texts, its name first: by `unset` and
+/// `getopts`, and what a call drops and assigns. This function drops it.
 #[tactic(auto, unfolding(crate::specs::TextTells::drops_by, crate::specs::Walks::setting))]
 pub fn tell_drops<A: Asked>(
     claims: &Claims<'_>,

@@ -47,7 +47,7 @@ pub struct Least {
 }
 
 impl Least {
-    /// The fault is reported where the test fails.
+    /// Reports the fault if the test fails.
     #[tactic(auto, unfolding(crate::specs::LeastFault::with_test))]
     pub fn tell(&mut self, holds: bool, fault: Fault)
         ensures { least_of self.new ≡ with_test holds (fault_of fault) (least_of self.old) }

@@ -97,7 +97,7 @@ pub fn gain_assigned(claims: &Claims<'_>, expression: &Expr, known: &mut Knowled
     *known = behind.knowledge;
 }
 
-/// Where the word of `+` is expanded its parameter is set.
+/// If the word of `+` is expanded, its parameter is set.
 #[tactic(auto, using(crate::proofs::GainLemmas::actions))]
 pub fn enter_operator(claims: &Claims<'_>, action: Action, subject: Subject, known: &mut Knowledge)
     ensures { facts_in (setting claims.now) known.new ≡ gained (setting claims.now) (inner_gains (parameter_of (setting claims.now).script subject) action) (facts_in (setting claims.now) known.old) }

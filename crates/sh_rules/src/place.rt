@@ -1,7 +1,7 @@
-//! The places of which a certificate claims something.
+//! The places that a certificate claims something of.
 
-/// A place: before a command, after it by its status, and each turn of a loop, by the command's number; where a function is entered, and
-/// where it returns by its status, by the function's name.
+/// A place. Of a command, by its number: before it, after it by its status, and each turn of a
+/// loop. Of a function, by its name: where it is entered, and where it returns by its status.
 #[derive(Clone, Copy)]
 pub enum Place<'a> {
     Before(u32),

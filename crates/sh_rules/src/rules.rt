@@ -1,4 +1,4 @@
-//! The flow rules of a whole script: at each command what they ask of it is done (XCU 2.9).
+//! The flow rules of a whole script: at each command what they require of it is done (XCU 2.9).
 ghost use Rattle.std.specs.Prelude.{◌≡◌, ◌≤◌, List, Some, ℕ, length, map, option_map, true};
 ghost use Rattle.sh_tree.specs.declared.limits.TheConstants.{MAX_COMMANDS};
 ghost use Rattle.sh_tree.specs.standard.Tree.{text_of};
@@ -174,9 +174,9 @@ fn behind_redirects(claims: &Claims<'_>, number: u32, redirects: &[Redirect]) ->
     known
 }
 
-/// What a command asks, as it is entered by this rule with this round it and this known there: that
-/// it is entered so, what it claims after it by its kind, where its redirections fail, and what a
-/// function drops by it.
+/// What a command asks, as it is entered by this rule with this round it and this known there.
+/// Asked are its entry, what it claims after it by its kind and where its redirections fail, and
+/// what a function drops by it.
 #[tactic(auto, using(crate::proofs::VisitLemmas::command_out))]
 pub fn tell_command<A: Asked>(
     claims: &Claims<'_>,
@@ -197,7 +197,7 @@ pub fn tell_command<A: Asked>(
     tell_counted(claims, around, number, &command.kind, asked);
 }
 
-/// A visitor that does at each command what the rules ask of it.
+/// A visitor that does at each command what the rules require of it.
 pub struct Rules<A> {
     pub asked: A,
 }
@@ -221,8 +221,8 @@ impl<A: Asked> Visitor for Rules<A> {
     }
 }
 
-/// The least command that breaks a flow rule, with the least of the rules that it breaks, by what the certificate claims of the script; none
-/// where it breaks none. It takes no memory.
+/// The least command that breaks a flow rule, with the least of the rules that it breaks, by what
+/// the certificate claims of the script. None if it breaks none. The check takes no memory.
 pub fn check_rules(claims: &Claims<'_>, policy: &Policy, tree: &Script) -> Option<Fault>
     requires table { claims.now.calls.now ≡ table_of claims.now.script.now tree.now }
     requires numbered { is_numbered (script_of claims.now.script.now tree.now) ≡ true }

@@ -1,5 +1,5 @@
-//! What the flow rules ask of a simple command: of what it claims after it, and of where it jumps
-//! to (XCU 2.9.1, 2.15, 3).
+//! What the flow rules require of a simple command: of what it claims after it, and of where it
+//! jumps to (XCU 2.9.1, 2.15, 3).
 ghost use Rattle.std.specs.Prelude.{◌≡◌, map};
 ghost use Rattle.sh_tree.specs.Lists.{elements_from};
 ghost use Rattle.sh_table.specs.WordTexts.{text_in};
@@ -123,9 +123,9 @@ fn tell_named<A: Asked>(
     }
 }
 
-/// Of a simple command whose words have these static texts, its name first, which calls a function
-/// or is a utility: that it claims no more than is known after it by what its name means, and no
-/// more where it jumps to.
+/// Of a simple command that calls a function or is a utility. Its words have these static texts,
+/// its name first. It claims no more than is known after it by what its name means, and no more
+/// where it jumps to.
 #[tactic(auto, unfolding(crate::specs::TextTells::simple_by, crate::specs::Walks::setting))]
 pub fn tell_simple<A: Asked>(
     claims: &Claims<'_>,

@@ -80,7 +80,7 @@ impl Claims<'_> {
         }
     }
 
-    // After a command, where its status is zero.
+    // After a command, if its status is zero.
     #[tactic(auto, using(crate::proofs::ClaimLemmas::zero_there, crate::proofs::ClaimLemmas::zero_away))]
     fn zero_facts(&self, number: u32) -> Facts
         ensures { claim_in (setting self.now) result ≡ claimed_at (setting self.now) (views.AfterZero number) }
@@ -91,7 +91,7 @@ impl Claims<'_> {
         }
     }
 
-    // After a command, where its status is another one.
+    // After a command, if its status is another one.
     #[tactic(auto, using(crate::proofs::ClaimLemmas::nonzero_there, crate::proofs::ClaimLemmas::nonzero_away))]
     fn nonzero_facts(&self, number: u32) -> Facts
         ensures { claim_in (setting self.now) result ≡ claimed_at (setting self.now) (views.AfterNonzero number) }
@@ -182,7 +182,7 @@ impl Claims<'_> {
         known.claim(&self.certificate.rows, &facts);
     }
 
-    /// What is claimed after a command, where its status is zero.
+    /// What is claimed after a command, if its status is zero.
     pub fn zero(&self, number: u32) -> Knowledge
         ensures { facts_in (setting self.now) result ≡ known_at (setting self.now) (views.AfterZero number) }
     {
@@ -191,7 +191,7 @@ impl Claims<'_> {
         known
     }
 
-    /// Has this be what is claimed after a command, where its status is zero.
+    /// Has this be what is claimed after a command, if its status is zero.
     #[tactic(auto, using(crate::proofs::ClaimLemmas::claim_known))]
     pub fn zero_into(&self, number: u32, known: &mut Knowledge)
         ensures { facts_in (setting self.now) known.new ≡ known_at (setting self.now) (views.AfterZero number) }
@@ -200,7 +200,7 @@ impl Claims<'_> {
         known.claim(&self.certificate.rows, &facts);
     }
 
-    /// What is claimed after a command, where its status is another one.
+    /// What is claimed after a command, if its status is another one.
     pub fn nonzero(&self, number: u32) -> Knowledge
         ensures { facts_in (setting self.now) result ≡ known_at (setting self.now) (views.AfterNonzero number) }
     {
@@ -209,7 +209,7 @@ impl Claims<'_> {
         known
     }
 
-    /// Has this be what is claimed after a command, where its status is another one.
+    /// Has this be what is claimed after a command, if its status is another one.
     #[tactic(auto, using(crate::proofs::ClaimLemmas::claim_known))]
     pub fn nonzero_into(&self, number: u32, known: &mut Knowledge)
         ensures { facts_in (setting self.now) known.new ≡ known_at (setting self.now) (views.AfterNonzero number) }
@@ -293,7 +293,8 @@ impl Claims<'_> {
 
 // What a call of a function leaves.
 impl Claims<'_> {
-    /// What a call drops, and what is claimed where it returns with status zero, if the certificate has the function.
+    /// What a call drops, and what is claimed where it returns with status zero, if the certificate
+    /// has the function.
     #[tactic(auto, using(crate::proofs::ReturnLemmas::zero))]
     pub fn return_zero(&self, name: &[u8]) -> Option<Return>
         ensures { Returns (setting self.now) name.now (views.ReturnsZero name.now) result }
@@ -307,7 +308,8 @@ impl Claims<'_> {
         }
     }
 
-    /// What a call drops, and what is claimed where it returns with another status, if the certificate has the function.
+    /// What a call drops, and what is claimed where it returns with another status, if the
+    /// certificate has the function.
     #[tactic(auto, using(crate::proofs::ReturnLemmas::nonzero))]
     pub fn return_nonzero(&self, name: &[u8]) -> Option<Return>
         ensures { Returns (setting self.now) name.now (views.ReturnsNonzero name.now) result }

@@ -1,4 +1,5 @@
-//! What the steps of a simple command do to what is known: words are counted, parameters are shifted, names are lost (XCU 2.15).
+//! What the steps of a simple command do to what is known: words are counted, parameters are
+//! shifted, names are lost (XCU 2.15).
 ghost use Rattle.std.specs.Prelude.{◌≡◌, ℕ, drop, [], ◌∷◌};
 ghost use Rattle.sh_tree.specs.Lists.{elements_from};
 ghost use Rattle.sh_domain.specs.Operands.{total};
@@ -32,7 +33,7 @@ pub fn count_none(known: &mut Knowledge)
     known.count(0, 0);
 }
 
-/// So many positional parameters are gone, or more where the count is the greatest.
+/// So many positional parameters are gone, or more if the count is the greatest.
 pub fn shift(count: u32, known: &mut Knowledge)
     ensures { (x : Setting) (n : ℕ) → count ≡ capped n → facts_in x known.new ≡ stepped x (views.Shift n) (facts_in x known.old) }
 {

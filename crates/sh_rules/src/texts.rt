@@ -31,7 +31,8 @@ fn number_at(operand: &WordText, script: &[u8]) -> Option<u32>
     }
 }
 
-/// The number that the first operand writes, or 1 where there is none; 4,294,967,295 stands for each greater one.
+/// The number that the first operand writes, or 1 if there is none; 4,294,967,295 means each
+/// greater one too.
 #[tactic(auto, unfolding(crate::specs::Texts::first_by, crate::specs::Texts::number_of))]
 pub fn first_number(texts: &[WordText], script: &[u8]) -> Option<u32>
     ensures { result ≡ option_map capped (spec.first_by (map (text_in script.now) texts.now)) }

@@ -202,8 +202,8 @@ pub fn settled(claims: &Claims<'_>, elements: &[Element], known: &Knowledge) -> 
     settled
 }
 
-// With the words of `set` after the first so many, of which it takes no more than the first ones
-// where it fails.
+// With the words of `set` after the first so many. It takes no more of these than the first ones if
+// it fails.
 fn set_words(claims: &Claims<'_>, elements: &[Element], skipped: usize, known: &Knowledge) -> Behind
     ensures { behind_in (setting claims.now) result ≡ spec.words_set (setting claims.now) (facts_in (setting claims.now) known.now) (elements_from (setting claims.now).script elements.now) (drop skipped (spec.behind_name (elements_from (setting claims.now).script elements.now))) }
 {
@@ -232,7 +232,7 @@ fn set_behind(
     }
 }
 
-// Without so many positional parameters; where their number is not known, without any.
+// Without so many positional parameters. If their number is not known, without any.
 #[tactic(auto, using(crate::proofs::UtilityLemmas::shifts))]
 fn shift_by(count: Option<u32>, known: &mut Knowledge)
     ensures { (x : Setting) (n : Option ℕ) → count ≡ option_map capped n → facts_in x known.new ≡ spec.shifted_by x n (facts_in x known.old) }
@@ -404,8 +404,8 @@ fn getopts_behind(
     Behind { zero, nonzero }
 }
 
-/// After a utility of this kind, where this is known after its words: the standard's status, and
-/// what it sets, removes or counts.
+/// After a utility of this kind, if this is known after its words: the standard's status, and what
+/// it sets, removes or counts.
 #[tactic(auto, unfolding(crate::specs::TextBounds::utility_by))]
 pub fn utility_behind(
     claims: &Claims<'_>,
@@ -436,7 +436,7 @@ fn unless_failed(is_redirected: bool, known: &Knowledge, settled: &Knowledge) ->
     if is_redirected { *known } else { *settled }
 }
 
-/// After a simple command without a name: where it fails, a redirection may have failed, and no
+/// After a simple command without a name. If it fails, a redirection may have failed, and no
 /// assignment need be done.
 #[tactic(auto, unfolding(crate::specs::TextBounds::nameless_by))]
 pub fn nameless_behind(claims: &Claims<'_>, elements: &[Element], known: &Knowledge) -> Behind

@@ -1,4 +1,4 @@
-//! A walk over the commands of a script, those in its words included, with the rule that enters
+//! A walk over the commands of a script, those in its words included. It has the rule that enters
 //! each, what is round it and what is known there (XCU 2.9, 2.13).
 ghost use Rattle.std.specs.Prelude.{◌≡◌, fold};
 ghost use Rattle.sh_tree.specs.standard.program.Trees.{script_of};
@@ -49,7 +49,7 @@ pub struct Course {
     pub behind: Behind,
 }
 
-/// At the start of a list that this rule enters, where this is known.
+/// At the start of a list that this rule enters, with this known.
 pub fn begun(by: FlowRule, known: &Knowledge) -> Course
     ensures by { result.by ≡ by }
     ensures behind { (x : Setting) → walks.behind_in x result.behind ≡ both (facts_in x known.now) }
@@ -588,7 +588,7 @@ fn walk_patterns<V: Visitor>(
     }
 }
 
-// A word of which what it sets is not counted.
+// A word: what it sets is not counted.
 #[cycle(walk)]
 fn walk_aside<V: Visitor>(claims: &Claims<'_>, known: &Knowledge, word: &Word, visitor: &mut V)
     ensures { V.kept visitor.new ≡ steps.pattern_step (setting claims.now) (V.with_met (setting claims.now)) (facts_in (setting claims.now) known.now) (V.kept visitor.old) word.now }
@@ -712,8 +712,8 @@ fn walk_expression<V: Visitor>(
     }
 }
 
-/// Visits each command of a script, those in its words included, where this is known at its start: a command before those in its
-/// redirections and those in it. It takes no memory.
+/// Visits each command of a script, those in its words included, if this is known at its start. A
+/// command comes before those in its redirections and those in it. The walk takes no memory.
 #[tactic(auto, using(crate::proofs::WalkLemmas::whole_out))]
 pub fn walk<V: Visitor>(claims: &Claims<'_>, start: &Knowledge, list: &Script, visitor: &mut V)
     ensures { V.kept visitor.new ≡ spec.script_walked (setting claims.now) (V.with_met (setting claims.now)) (facts_in (setting claims.now) start.now) (V.kept visitor.old) (script_of (setting claims.now).script list.now) }

@@ -23,8 +23,8 @@ pub fn is_assignment_at(script: &[u8], at: u32) -> bool
     is_assignment(&script[at as usize..])
 }
 
-/// Whether a shell may take the word from `start` to `end` as an IO location: three bytes or more from `{` to `}`, before
-/// `<` or `>` (XCU 2.7).
+/// Whether a shell may take the word from `start` to `end` as an IO location. That is three bytes
+/// or more from `{` to `}`, before `<` or `>` (XCU 2.7).
 #[tactic(auto, unfolding(sh_tree::specs::standard::language::Commands::is_location))]
 pub fn is_location_at(script: &[u8], start: u32, end: u32) -> bool
     requires small { length script.now ≤ MAX_SCRIPT }

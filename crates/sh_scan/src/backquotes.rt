@@ -21,7 +21,8 @@ pub fn backquote_end(script: &[u8], at: u32) -> Option<u32>
     Some((at as usize + count + 1) as u32)
 }
 
-/// Whether what closes the commands of a substitution is at `at`: a `)`, or the backquote that ends the text.
+/// Whether what closes the commands of a substitution is at `at`: a `)`, or the backquote that ends
+/// the text.
 #[tactic(auto, unfolding(sh_tree::specs::standard::language::Substitutions::closes))]
 pub fn closes_at(style: CommandStyle, script: &[u8], at: u32) -> bool
     requires small { length script.now ≤ MAX_SCRIPT }
@@ -35,7 +36,8 @@ pub fn closes_at(style: CommandStyle, script: &[u8], at: u32) -> bool
     }
 }
 
-/// Whether the first byte is a backslash that goes before the commands are read, by whether these are in double quotes.
+/// Whether the first byte is a backslash that goes before the commands are read, by whether these
+/// are in double quotes.
 #[tactic(auto, unfolding(crate::specs::Backquotes::is_kept_first, sh_tree::specs::standard::language::Bytes::is_first))]
 fn is_kept_first(quoted: bool, rest: &[u8]) -> bool
     ensures value { result ≡ kept.is_kept_first quoted rest.now }
@@ -47,8 +49,8 @@ fn is_kept_first(quoted: bool, rest: &[u8]) -> bool
     }
 }
 
-/// The place of the first backslash that goes before the commands of the text, between backquotes, are read. Whether these
-/// are in double quotes decides which do.
+/// The place of the first backslash that goes before the commands of the text, between backquotes,
+/// are read. Whether these are in double quotes decides which do.
 pub fn kept_backslash(text: &[u8], quoted: bool) -> Option<u32>
     requires small { length text.now ≤ MAX_SCRIPT }
     ensures value { is_some result ≡ substitutions.has_kept_backslash quoted text.now }

@@ -124,7 +124,7 @@ pub fn is_last_backquote(rest: &[u8]) -> bool
     }
 }
 
-/// Whether a word ends before `rest`, of which line continuations are no part.
+/// Whether a word ends before `rest`. Line continuations are no part of the word.
 #[tactic(auto, unfolding(sh_tree::specs::standard::language::Bytes::is_first))]
 pub fn ends_joined(rest: &[u8]) -> bool
     ensures { result ≡ words.ends_joined rest.now }

@@ -32,7 +32,7 @@ pub fn line_length(rest: &[u8], joins: bool) -> usize
     }
 }
 
-/// Where the line at `at` ends, before its newline. Where lines are joined, a newline after a
+/// Where the line at `at` ends, before its newline. If lines are joined, a newline after a
 /// backslash ends none.
 #[tactic(auto, unfolding(sh_tree::specs::standard::language::HereDocuments::line_end))]
 pub fn here_line(script: &[u8], at: u32, joins: bool) -> u32

@@ -44,7 +44,8 @@ impl Lines {
         Ok(Lines { newlines, end })
     }
 
-    /// The line and the column of an offset in the text, each from 1; of an offset past the end, those of the end.
+    /// The line and the column of an offset in the text, each from 1; of an offset past the end,
+    /// those of the end.
     pub fn place(&self, at: u32) -> (u32, u32)
         ensures { (text : List ℕ) → self.now ≡ lines_of text → length text < 2 ^ 32 - 1 → (result.0, result.1) ≡ place_of text at }
     {

@@ -5,7 +5,8 @@ ghost use Rattle.sh_scan.specs.Quotes as quotes;
 use crate::words::single_sign;
 use sh_tree::{MAX_SCRIPT, Sign};
 
-/// Where the single quotes that open at `at` end, over the closing one; nothing where none closes them.
+/// Where the single quotes that open at `at` end, over the closing one; nothing if none closes
+/// them.
 #[tactic(auto, unfolding(crate::specs::Quotes::single_end, sh_tree::specs::standard::language::Words::single))]
 pub fn single_end(script: &[u8], at: u32) -> Option<u32>
     requires small { length script.now ≤ MAX_SCRIPT }

@@ -50,8 +50,8 @@ fn push_assigned(
     text.push_str("= ")
 }
 
-/// An expression: `k` and a constant, `n` and a name, an expansion as the part that it is, parentheses, and in brackets what
-/// an operator makes. The name of an assignment is its span alone.
+/// An expression: `k` and a constant, `n` and a name, an expansion as the part that it is, or
+/// parentheses. What an operator makes is in brackets. The name of an assignment is its span alone.
 ///
 /// # Errors
 ///

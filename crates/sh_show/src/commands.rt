@@ -7,7 +7,8 @@ use sh_tree::{
 };
 use std::alloc::{AllocError, Global};
 
-/// An element of a simple command: `a` and an assignment's name, `=` and the value; `w` and a word; or a redirection.
+/// An element of a simple command: `a` and an assignment's name, `=` and the value; `w` and a word;
+/// or a redirection.
 #[cycle(show)]
 fn push_element(alloc: Global, element: &Element, text: &mut String) -> Result<(), AllocError> {
     match element {
@@ -104,8 +105,8 @@ fn sign_of_loop(kind: LoopKind) -> &'static str {
     }
 }
 
-/// What a command is: the elements of a simple one in brackets; of another its reserved words, its names and words, and each
-/// list in it in braces, that of a subshell in parentheses.
+/// What a command is: the elements of a simple one in brackets. Of another it is its reserved
+/// words, its names and words, and each list in it in braces, that of a subshell in parentheses.
 #[cycle(show)]
 fn push_kind(alloc: Global, kind: &Kind, text: &mut String) -> Result<(), AllocError> {
     match kind {
@@ -188,7 +189,7 @@ pub fn push_command(alloc: Global, command: &Command, text: &mut String) -> Resu
     push_redirects(alloc, command.redirects.as_slice(), text)
 }
 
-/// A pipeline: `!` before it where it is negated, and `|` between its commands.
+/// A pipeline: `!` before it if it is negated, and `|` between its commands.
 #[cycle(show)]
 fn push_pipe(alloc: Global, pipe: &Pipe, text: &mut String) -> Result<(), AllocError> {
     if pipe.negated {
@@ -223,16 +224,16 @@ fn push_list(alloc: Global, list: &AndOr, text: &mut String) -> Result<(), Alloc
     Ok(())
 }
 
-/// An item, with `&` after it where it is an asynchronous list.
+/// An item, with `&` after it if it is an asynchronous list.
 #[cycle(show)]
 fn push_item(alloc: Global, item: &Item, text: &mut String) -> Result<(), AllocError> {
     push_list(alloc, &item.list, text)?;
     text.push_str(if item.background { " &" } else { "" })
 }
 
-/// The items of a script, with blanks between them: pipelines with `&&` and `||` between them, and
-/// a `&` after an asynchronous list; a pipeline is its commands with `|` between them, after a `!`
-/// where it is negated.
+/// The items of a script, with blanks between them. They are pipelines with `&&` and `||` between
+/// them, and a `&` after an asynchronous list. A pipeline is its commands with `|` between them,
+/// after a `!` if it is negated.
 ///
 /// # Errors
 ///

@@ -26,7 +26,7 @@ fn push_here(alloc: Global, here: &HereDoc, text: &mut String) -> Result<(), All
 }
 
 /// A redirection: `o` and the offset of its operator, after a slash the IO number's span, if there
-/// is one, the operator, and what it opens, a word or a here-document.
+/// is one. Then come the operator and what it opens, a word or a here-document.
 ///
 /// # Errors
 ///

@@ -7,7 +7,8 @@ use sh_tree::{
 };
 use std::alloc::{AllocError, Global};
 
-/// The special parameter's byte. `0` has a dollar sign before it, since positional parameters are numbers.
+/// The special parameter's byte. `0` has a dollar sign before it, since positional parameters are
+/// numbers.
 fn sign_of_special(special: Special) -> &'static str {
     match special {
         Special::At => "@",
@@ -116,10 +117,11 @@ fn letter_of_command(style: CommandStyle) -> &'static str {
     }
 }
 
-/// A part: `p` plain bytes, `e` an escape, `s` single quotes, `$s` those after a dollar sign, `d`
-/// double quotes, `a` arithmetic, `c` commands, `b` commands in backquotes, `t` a tilde-prefix, `j`
-/// a line continuation, or the letter of an expansion, `v` its value, `l` its length, `u` a word in
-/// its place, `r` a removal; then its span, and what is in it.
+/// A part: a letter, then its span, and what is in it. The letter is `p` for plain bytes, `e` an
+/// escape, `s` single quotes, `$s` those after a dollar sign, or `d` double quotes. It is `a` for
+/// arithmetic, `c` commands, `b` commands in backquotes, `t` a tilde-prefix, or `j` a line
+/// continuation. Or it is the letter of an expansion: `v` its value, `l` its length, `u` a word in
+/// its place, `r` a removal.
 ///
 /// # Errors
 ///

@@ -1,4 +1,5 @@
-//! Why no run of a script whose rules and demands hold expands an unset parameter without a default before it has split a value: definitions in `specs/`, and the `laws`.
+//! Why no run of a script whose rules and demands hold expands an unset parameter without a default
+//! before it has split a value. It has definitions, in `specs/`, and the `laws`.
 #![tactic(auto)]
 
 pub mod laws;

@@ -17,7 +17,7 @@ pub enum Kind {
     Getopts,
     Read,
     True,
-    /// A name that is refused: what it runs is in no reading of the script, the standard gives it
+    /// A name that is refused. What it runs is in no reading of the script, the standard gives it
     /// no meaning, or other shells reserve it. A quoted command name of the last kind is a utility.
     Refused(KnownName),
     /// Any other name: a utility that changes no variable and no function, unless it is a function.

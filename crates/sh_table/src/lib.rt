@@ -1,4 +1,5 @@
-//! What the names of commands mean; beside it, in `specs/`, which commands are analysed, and what a shell does with a script.
+//! What the names of commands mean; beside it, in `specs/`, which commands are analysed, and what a
+//! shell does with a script.
 #![tactic(auto)]
 
 mod found;

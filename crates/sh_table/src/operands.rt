@@ -1,4 +1,4 @@
-//! Operands of commands: what the profile asks of them, and what options and names are.
+//! Operands of commands: what the profile requires of them, and what options and names are.
 ghost use Rattle.std.specs.Prelude.{◌≡◌, ◌≤◌, length, drop, map, is_some, option_map, Some, nat_lt, false};
 ghost use Rattle.std.specs.List.{list_all, list_any};
 ghost use Rattle.sh_tree.specs.standard.language.Bytes as bytes;
@@ -223,7 +223,8 @@ fn has_inner_o(text: &[u8]) -> bool
     }
 }
 
-/// Whether the text ends in `o`, as an option of `set` does that takes the next operand (XCU 2.15, set).
+/// Whether the text ends in `o`, as an option of `set` does that takes the next operand (XCU 2.15,
+/// set).
 #[tactic(auto, using(crate::proofs::OperandTests::last_o))]
 pub fn ends_in_o(text: &[u8]) -> bool
     ensures { result ≡ operands.ends_in_o text.now }
@@ -311,7 +312,7 @@ fn name_bytes(text: &[u8]) -> usize
     text.iter().take_while(|byte| is_name_byte(**byte)).count()
 }
 
-// How long the name at the front is (XBD 3.216); 0 where none is.
+// How long the name at the front is (XBD 3.216); 0 if none is.
 #[tactic(auto, unfolding(sh_tree::specs::standard::language::Bytes::name_length))]
 fn name_length(text: &[u8]) -> usize
     ensures value { result ≡ bytes.name_length text.now }
@@ -324,7 +325,8 @@ fn name_length(text: &[u8]) -> usize
     }
 }
 
-/// The name and the value, if the text is a name, `=` and a value: an assignment in form (XCU 2.10.2, rule 7).
+/// The name and the value, if the text is a name, `=` and a value: an assignment in form (XCU
+/// 2.10.2, rule 7).
 #[tactic(auto, unfolding(crate::specs::standard::runs::Operands::definition_in, sh_tree::specs::standard::language::Commands::is_assignment, sh_tree::specs::standard::language::Bytes::is_first))]
 pub fn definition_in(text: &[u8]) -> Option<(&[u8], &[u8])>
     ensures { option_map (λ d. (d.0.now, d.1.now)) result ≡ operands.definition_in text.entry.now }

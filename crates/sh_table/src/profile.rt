@@ -31,12 +31,12 @@ fn first_refusal(sites: &[Site], rows: &[Row], script: &[u8]) -> Option<Refusal>
     None
 }
 
-/// Whether the profile admits a script, of which this is the table.
+/// Whether the profile admits a script whose table this is.
 ///
 /// # Errors
 ///
 /// `Profile` with the first rule that the command with the least number breaks among those that
-/// break one, and the offset at which it starts; `Memory` if a growth was refused.
+/// break one, and the offset at which it starts. `Memory` if a growth was refused.
 pub fn admit(alloc: Global, tree: &Script, table: &CallTable, script: &[u8]) -> Result<(), Refusal>
     requires { table.now ≡ calls.table_of script.now tree.now }
     ensures { admits.Admits (script_of script.now tree.now) result }

@@ -23,7 +23,7 @@ fn unless(holds: bool, rule: Rule) -> Option<Rule>
     if holds { None } else { Some(rule) }
 }
 
-/// Whether other shells reserve the word, which is a utility where it is quoted.
+/// Whether other shells reserve the word, which is a utility if it is quoted.
 #[tactic(auto, unfolding(crate::specs::Profile::is_reserved_elsewhere))]
 fn is_reserved_elsewhere(name: KnownName) -> bool
     ensures { result ≡ profile.is_reserved_elsewhere name }

@@ -2,8 +2,8 @@
 
 use sh_tree::Span;
 
-/// Whether a loop, and a function, are round a place, with no started process, part of a pipeline
-/// or other definition between (XCU 2.15, break and return).
+/// Whether a loop, and a function, are round a place. No started process, part of a pipeline or
+/// other definition is between (XCU 2.15, break and return).
 #[derive(Clone, Copy, Debug, PartialEq, Eq)]
 pub struct Around {
     pub in_loop: bool,

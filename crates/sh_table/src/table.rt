@@ -25,7 +25,8 @@ pub struct Row {
     pub texts: Vec<WordText>,
 }
 
-/// The functions of a script with the commands that define them, and the static text of each word of each simple command.
+/// The functions of a script with the commands that define them, and the static text of each word
+/// of each simple command.
 #[derive(Drop)]
 pub struct CallTable<'s> {
     script: &'s [u8],
@@ -103,9 +104,9 @@ impl<'s> CallTable<'s> {
     ///
     /// # Errors
     ///
-    /// `TooMany` if there are more functions than a script may have commands, so never of a script
-    /// that has no more of these than it may, as each has that was read; `Memory` if a growth was
-    /// refused.
+    /// `TooMany` if there are more functions than a script may have commands. That is never so of a
+    /// script that has no more of these than it may, as each has that was read. `Memory` if a
+    /// growth was refused.
     pub fn new(alloc: Global, tree: &Script, script: &'s [u8]) -> Result<CallTable<'s>, Refusal>
         ensures tables { calls.Tables script.entry.now tree.now result }
         ensures counted { length (calls.table_of script.entry.now tree.now).rows ≤ MAX_COMMANDS → IfErr result (λ refusal. refusal ≡ Refusal.Memory) }
@@ -141,8 +142,8 @@ impl<'s> CallTable<'s> {
         first_with(&self.rows[at..], command)
     }
 
-    /// Whether the numbers of the commands rise, each above the one before it, as those of a script that was read do. Then each command of the script has a
-    /// number of its own.
+    /// Whether the numbers of the commands rise, each above the one before it, as those of a script
+    /// that was read do. Then each command of the script has a number of its own.
     pub fn is_numbered(&self) -> bool
         ensures rises { result ≡ numbering.numbers_rise (map (λ row. row.0) self.now.rows) }
         ensures numbered { (b : List ℕ) (t : Script) → self.now ≡ calls.table_of b t → result ≡ true → numbering.is_numbered (script_of b t) ≡ true }
@@ -150,7 +151,8 @@ impl<'s> CallTable<'s> {
         numbers_rise(self.rows.as_slice())
     }
 
-    /// The static texts of the words of a command, the command name's first; none where no simple command has this number.
+    /// The static texts of the words of a command, the command name's first; none if no simple
+    /// command has this number.
     #[tactic(auto, unfolding(crate::specs::Calls::found_texts))]
     pub fn texts(&self, command: u32) -> &[WordText]
         ensures { map (text_in self.now.script) result.now ≡ calls.texts_with command self.now.rows }
@@ -161,8 +163,8 @@ impl<'s> CallTable<'s> {
         }
     }
 
-    /// The static text of a word of a command, the command name being word 0 (XCU 2.2); nothing where the word has none, or no
-    /// such word or simple command is there.
+    /// The static text of a word of a command, the command name being word 0 (XCU 2.2). Nothing if
+    /// the word has none, or if no such word or simple command is there.
     pub fn text(&self, command: u32, word: u32) -> Option<&[u8]>
         ensures { option_map (λ s. s.now) result ≡ calls.text_at self.now command word }
     {
@@ -170,7 +172,8 @@ impl<'s> CallTable<'s> {
         text_in_row(row, word as usize, self.script)
     }
 
-    /// The names of the functions, in the order of their first definitions, which is that of their numbers from 1 (XCU 2.9.5).
+    /// The names of the functions, in the order of their first definitions, which is that of their
+    /// numbers from 1 (XCU 2.9.5).
     pub fn functions(&self) -> &[Vec<u8>]
         ensures names { map (λ name. name.items) result.now ≡ self.now.functions.names }
         ensures few { length result.now ≤ MAX_COMMANDS }
@@ -201,8 +204,8 @@ impl<'s> CallTable<'s> {
         self.functions.definitions(function as usize - 1)
     }
 
-    /// The function that a command calls, if it is a simple command whose name is static and a function's, and no special
-    /// built-in utility's (XCU 2.9.1.4).
+    /// The function that a command calls, if it is a simple command whose name is static and a
+    /// function's. The name is no special built-in utility's (XCU 2.9.1.4).
     pub fn callee(&self, command: u32) -> Option<u32>
         ensures { result ≡ calls.callee_at self.now command }
     {

@@ -55,14 +55,14 @@ impl Around {
         }
     }
 
-    /// Round the parts of a pipeline, of which two or more are processes of their own.
+    /// Round the parts of a pipeline: two or more are processes of their own.
     fn round_parts(self, count: usize) -> Around
         ensures { result ≡ walks.round_parts self count }
     {
         if count > 1 { OUTSIDE } else { self }
     }
 
-    /// Round an item, of which an asynchronous one is a process of its own.
+    /// Round an item: an asynchronous one is a process of its own.
     fn round_item(self, background: bool) -> Around
         ensures { result ≡ walks.round_item self background }
     {
@@ -465,9 +465,9 @@ fn walk_expression<V: Visitor>(
     }
 }
 
-/// Visits each command of a script, those in its words included: a command before those in it;
-/// those in the elements of a simple command in their order, and those in the redirections of a
-/// compound command after all else in it. It takes no memory.
+/// Visits each command of a script, those in its words included: a command before those in it.
+/// Those in the elements of a simple command come in their order. Those in the redirections of a
+/// compound command come after all else in it. The walk takes no memory.
 ///
 /// # Errors
 ///

@@ -39,7 +39,8 @@ fn is_bracket(text: &[u8]) -> bool
     matches!(text, b"[")
 }
 
-/// Whether plain bytes hold a byte of a pattern (XCU 2.14): a `*`, a `?`, or a `[` that is not all of them.
+/// Whether plain bytes hold a byte of a pattern (XCU 2.14): a `*`, a `?`, or a `[` that is not all
+/// of them.
 #[tactic(auto, unfolding(crate::specs::WordTexts::has_pattern))]
 fn has_pattern(text: &[u8]) -> bool
     ensures { result ≡ spec.has_pattern text.now }
@@ -81,7 +82,8 @@ fn between_ends(span: Span, script: &[u8]) -> Option<Span>
     Some(Span { start, end })
 }
 
-/// Where the script has the bytes of a quotation in single quotes. What `$'` quotes may hold escapes, and is no such piece.
+/// Where the script has the bytes of a quotation in single quotes. What `$'` quotes may hold
+/// escapes, and is no such piece.
 fn single_span(style: SingleStyle, span: Span, script: &[u8]) -> Option<Span>
     ensures { IfSome result (λ inner. text_of script.now inner ≡ words.single_text style (text_of script.now span)) }
 {

@@ -3,7 +3,8 @@ ghost use Rattle.std.specs.Prelude.{◌≡◌, [], ◌∷◌, ◌++◌, length, 
 use std::alloc::{AllocError, Global};
 use std::marker::Model;
 
-/// A `Vec` that contracts see as the list of its elements, so that two trees with equal contents are equal.
+/// A `Vec` that contracts see as the list of its elements, so that two trees with equal contents
+/// are equal.
 #[derive(Debug, Drop)]
 pub struct Items<T> {
     items: Vec<T>,

@@ -1,8 +1,8 @@
-//! The names that a refusal can tell.
+//! The names that a refusal can report.
 ghost use Rattle.std.specs.Prelude.{◌≡◌};
 ghost use Rattle.sh_tree.specs.standard.Texts.{declaration_text, known_text};
 
-/// A name that a refusal can tell.
+/// A name that a refusal can report.
 #[derive(Clone, Copy, Debug, PartialEq, Eq)]
 pub enum KnownName {
     // The special built-in utilities (XCU 2.15).
@@ -21,7 +21,7 @@ pub enum KnownName {
     Times,
     Trap,
     Unset,
-    // Utilities that change how commands are read, or that run commands that stand elsewhere.
+    // Utilities that change how commands are read, or that run commands that are elsewhere.
     Alias,
     Unalias,
     Fc,

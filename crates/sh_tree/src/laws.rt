@@ -7,8 +7,8 @@ ghost use Rattle.sh_tree.specs.examples.Unread.{OthersUnread};
 ghost use Rattle.sh_tree.specs.examples.Words.{WordsRead};
 ghost use Rattle.sh_tree.specs.examples.Program.{ProgramsRead};
 
-/// Texts with each kind of part, expansion, arithmetic expression and command are the trees that they are meant to be, and
-/// texts that are no scripts are none.
+/// Texts with each kind of part, expansion, arithmetic expression and command are the trees that
+/// they are meant to be. Texts that are no scripts are none.
 pub fn reads_language()
     ensures texts { LanguageRead }
     ensures words { WordsRead }
@@ -18,8 +18,8 @@ pub fn reads_language()
     ensures limits { LimitsKept }
 {}
 
-/// The trees of such texts are the programs that they are meant to be: each kind of part, expansion, arithmetic
-/// expression, redirection and command.
+/// The trees of such texts are the programs that they are meant to be: each kind of part,
+/// expansion, arithmetic expression, redirection and command.
 pub fn reads_programs()
     ensures { ProgramsRead }
 {}

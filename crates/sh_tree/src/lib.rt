@@ -1,5 +1,5 @@
-//! The syntax tree of a script, the refusals and the places of findings. In `specs/standard` stands which bytes read as which
-//! tree, and which program a tree is.
+//! The syntax tree of a script, the refusals and the places of findings. `specs/standard` says
+//! which bytes read as which tree, and which program a tree is.
 #![tactic(auto)]
 
 mod boxed;

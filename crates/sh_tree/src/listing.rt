@@ -329,8 +329,8 @@ fn in_order(mut found: Vec<&Command>) -> Result<Vec<&Command>, AllocError>
     Ok(found)
 }
 
-/// All commands of a script, those in its words included, each once, in the order of their numbers:
-/// as a script is read, a command is before those in it, and those of a here-document after the
+/// All commands of a script, those in its words included, each once, in the order of their numbers.
+/// As a script is read, a command is before those in it. Those of a here-document are after the
 /// rest of its operator's line.
 ///
 /// # Errors

@@ -19,7 +19,8 @@ pub enum Code {
     U3,
 }
 
-/// Where a demand is unmet: the offset in the script, the rule, and the name that it is about, or nothing.
+/// Where a demand is unmet: the offset in the script, the rule, and the name that it is about, or
+/// nothing.
 #[derive(Debug, Drop)]
 pub struct Place {
     pub at: u32,

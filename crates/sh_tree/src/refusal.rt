@@ -21,9 +21,9 @@ pub enum Fault {
     OpenArith,
     /// A here-document has no end line (XCU 2.7.4).
     OpenHereDoc,
-    /// A byte stands where an arithmetic expression has none such (XCU 2.6.4).
+    /// A byte is where an arithmetic expression has none such (XCU 2.6.4).
     BadArith,
-    /// A token stands where the grammar has none such (XCU 2.10).
+    /// A token is where the grammar has none such (XCU 2.10).
     UnexpectedToken,
     /// The script ends where the grammar goes on (XCU 2.10).
     UnexpectedEnd,
@@ -51,14 +51,14 @@ impl Fault {
     }
 }
 
-// What is reported of a thing that is left out.
+// What is reported of a refused thing.
 macro_rules! outside {
     ($name:literal) => {
         concat!($name, " is outside the profile")
     };
 }
 
-/// A form of the language that is left out.
+/// A refused form of the language.
 #[derive(Clone, Copy, Debug, PartialEq, Eq)]
 pub enum Form {
     /// A backslash and a newline inside a token (XCU 2.2.1).
@@ -105,7 +105,7 @@ pub enum Form {
     IoLocation,
     /// A delimiter of a here-document with an expansion or a newline in it (XCU 2.7.4).
     HereWord,
-    /// A here-document of which one end lies outside a command substitution and one inside (XCU 2.7.4).
+    /// A here-document with one end outside a command substitution and one inside (XCU 2.7.4).
     HereAcross,
     /// A tab after a continuation where leading tabs are stripped (XCU 2.7.4).
     HereTab,
@@ -160,13 +160,14 @@ pub enum Rule {
     Quoted(Declaration),
     /// `trap` is given an action (XCU 2.15, trap).
     TrapAction,
-    /// `command` is to run a built-in that changes the shell or a refused name, or has an unknown option, or what it runs is
-    /// no static text (XCU 3, command).
+    /// `command` is to run a built-in that changes the shell or a refused name, or has an unknown
+    /// option. Or what it runs is no static text (XCU 3, command).
     CommandUse,
     /// An operand of `unset` is no static text (XCU 2.15, unset).
     UnsetOperand,
-    /// Where `set` may have an option stands no static text, `-` or `+` alone, an `o` before other letters, or an `-o`
-    /// whose argument is empty or looks like an option (XCU 2.15, set).
+    /// The operand where `set` may have an option is no static text, is `-` or `+` alone, or has an
+    /// `o` before other letters. Or it is an `-o` whose argument is empty or looks like an option
+    /// (XCU 2.15, set).
     SetOperand,
     /// The operand of `break` is no static number from 1 (XCU 2.15, break).
     BreakOperand,
@@ -198,7 +199,7 @@ impl Rule {
         pushed
     }
 
-    // Appends the text, or a front of it where a growth was refused.
+    // Appends the text, or a front of it if a growth was refused.
     fn push_pieces(self, out: &mut Vec<u8>) -> Result<(), AllocError>
         ensures ok { OnOk result (out.new.items ≡ out.old.items ++ rule_text self) }
         ensures err { OnErr result (take (length out.old.items) out.new.items ≡ out.old.items) }
@@ -261,7 +262,8 @@ pub enum Refusal {
     /// A command breaks a rule of the profile; the offset of the command.
     #[error("a command outside the profile at {1}")]
     Profile(Rule, u32),
-    /// A line of a certificate, by its number from 1, is none of the format; 0 where its text is longer than it may be.
+    /// A line of a certificate, by its number from 1, is none of the format. The number is 0 if its
+    /// text is longer than it may be.
     #[error("certificate line {0} is malformed")]
     CertSyntax(u32),
     /// A certificate that is well-formed speaks of another script.

@@ -7,8 +7,9 @@ ghost use Rattle.sh_tree.specs.standard.Words.{both_texts};
 use crate::tree::{Part, SingleStyle, Word};
 use std::alloc::{AllocError, Global};
 
-/// The text of a word without its quoting (XCU 2.2), or nothing where the word holds an expansion, a tilde-prefix or a byte
-/// of a pattern outside quotes: a `*`, a `?`, or a `[` that is not the whole word.
+/// The text of a word without its quoting (XCU 2.2). Nothing if the word holds an expansion, a
+/// tilde-prefix or a byte of a pattern outside quotes. Such a byte is a `*`, a `?`, or a `[` that
+/// is not the whole word.
 ///
 /// # Errors
 ///
@@ -23,7 +24,8 @@ pub fn static_text(alloc: Global, word: &Word, script: &[u8]) -> Result<Option<V
     unquoted_text(alloc, word, script)
 }
 
-/// The text of a word without its quoting (XCU 2.2), or nothing where the word holds an expansion or a tilde-prefix.
+/// The text of a word without its quoting (XCU 2.2), or nothing if the word holds an expansion or a
+/// tilde-prefix.
 ///
 /// # Errors
 ///
@@ -41,7 +43,7 @@ pub fn unquoted_text(
     Ok(if is_static { Some(text) } else { None })
 }
 
-/// Adds the text of the parts, as far as they are static, and tells whether they all are.
+/// Adds the text of the parts, as far as they are static, and says whether they all are.
 #[cycle(text)]
 fn push_parts(parts: &[Part], script: &[u8], text: &mut Vec<u8>) -> Result<bool, AllocError>
     ensures { IfOk result (λ all. (if all then Some text.new.items else None) ≡ both_texts (Some text.old.items) (words.parts_text script.now parts.now)) }
@@ -55,7 +57,7 @@ fn push_parts(parts: &[Part], script: &[u8], text: &mut Vec<u8>) -> Result<bool,
     Ok(true)
 }
 
-/// Adds the text of a part, and tells whether it is static.
+/// Adds the text of a part, and says whether it is static.
 #[cycle(text)]
 #[tactic(auto, unfolding(crate::specs::standard::Words::part_text))]
 fn push_part(part: &Part, script: &[u8], text: &mut Vec<u8>) -> Result<bool, AllocError>
@@ -176,7 +178,7 @@ fn text_has_wildcard(text: &[u8]) -> bool
     text.iter().any(|byte| is_wildcard(*byte))
 }
 
-/// Whether the byte stands for others in a pattern (XCU 2.14).
+/// Whether the byte matches others in a pattern (XCU 2.14).
 fn is_wildcard(byte: u8) -> bool
     ensures { result ≡ words.is_wildcard byte }
 {

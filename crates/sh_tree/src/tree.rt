@@ -63,8 +63,8 @@ pub struct Pipe {
     pub parts: Items<Command>,
 }
 
-/// A command: its number from 1 in the order of starts, the offset at which it starts, what it is,
-/// and the redirections after a compound command.
+/// A command: its number from 1 in the order of starts, the offset at which it starts, and what it
+/// is. Last are the redirections after a compound command.
 #[cycle(tree)]
 #[derive(Drop)]
 pub struct Command {
@@ -325,8 +325,8 @@ pub enum ParameterOperator {
     Value,
     /// `#`: it gives the value's length.
     Length,
-    /// `-`, `=`, `?` or `+`, where an empty value counts as unset if a colon is before it, and the
-    /// word.
+    /// `-`, `=`, `?` or `+`, and the word. An empty value counts as unset if a colon is before the
+    /// sign.
     Use {
         action: Action,
         colon: bool,
@@ -365,7 +365,8 @@ pub enum Removal {
     LongPrefix,
 }
 
-/// An arithmetic expression (XCU 1.1.2.1, 2.6.4). Operators of one level that group from the left are a list.
+/// An arithmetic expression (XCU 1.1.2.1, 2.6.4). Operators of one level that group from the left
+/// are a list.
 #[cycle(tree)]
 #[derive(Drop)]
 pub enum Expr {

@@ -32,7 +32,8 @@ use std::mem;
 pub enum Next {
     /// The word.
     Done(Word),
-    /// A command substitution (XCU 2.6.3). Its commands are read from `at` on, and handed back by `resume`.
+    /// A command substitution (XCU 2.6.3). Its commands are read from `at` on, and handed back by
+    /// `resume`.
     Inner {
         /// The offset after its `$(` or its backquote.
         at: u32,
@@ -65,10 +66,11 @@ pub struct WordBuilder {
 }
 
 impl WordBuilder {
-    /// A word of the mode that begins at `at`, where so many levels are open.
+    /// A word of the mode that begins at `at`, with so many levels open.
     ///
-    /// `inside` is `Some` in a text that ends with the backquote that closes the commands around the word. It has whether
-    /// these are in double quotes. If something is open before that backquote, `run` reports the backquote.
+    /// `inside` is `Some` in a text that ends with the backquote that closes the commands around
+    /// the word. It has whether these are in double quotes. If something is open before that
+    /// backquote, `run` reports the backquote.
     ///
     /// # Errors
     ///
@@ -106,8 +108,8 @@ impl WordBuilder {
     ///
     /// # Errors
     ///
-    /// `Syntax` and `LeftOut` if no word of the mode is there, whatever the commands in it are;
-    /// `TooDeep` if none is within the limit; `Memory` if a growth was refused. After a refusal it
+    /// `Syntax` and `LeftOut` if no word of the mode is there, whatever the commands in it are.
+    /// `TooDeep` if none is within the limit. `Memory` if a growth was refused. After a refusal it
     /// answers the same one again. If something is open before the backquote that closes the
     /// commands around, that backquote is `LeftOut`.
     pub fn run(&mut self, script: &[u8]) -> Result<Next, Refusal>
@@ -136,7 +138,8 @@ impl WordBuilder {
         }
     }
 
-    /// Takes the commands that were asked for, which end before the `)` or the backquote that ends at `end`.
+    /// Takes the commands that were asked for, which end before the `)` or the backquote that ends
+    /// at `end`.
     ///
     /// # Errors
     ///

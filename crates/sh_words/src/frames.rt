@@ -1,4 +1,4 @@
-//! What stands around the place where a word is read.
+//! What is around the place where a word is read.
 use sh_tree::{
     Action, Binary, CommandStyle, Context, Expr, Items, Part, Removal, Span, Subject, Unary,
 };
@@ -12,7 +12,8 @@ pub enum Holder {
         prior: u8,
         parts: Items<Part>,
     },
-    /// An operand of the arithmetic expansion that begins at `start`; the context is that of its expansions.
+    /// An operand of the arithmetic expansion that begins at `start`; the context is that of its
+    /// expansions.
     Operand {
         context: Context,
         start: u32,
@@ -32,7 +33,7 @@ pub enum Opening {
     Arith,
 }
 
-/// An operation of arithmetic of which an operand is read. The depth is the one around it.
+/// An operation of arithmetic, one operand of which is read. The depth is the one around it.
 #[derive(Drop)]
 pub enum Operation {
     Parenthesis {
@@ -74,10 +75,11 @@ pub enum Operation {
     },
 }
 
-/// What stands around.
+/// What is around.
 #[derive(Drop)]
 pub enum Frame {
-    /// A part that begins at `start` and whose inside begins at `inside`; what takes the part, and the depth there.
+    /// A part that begins at `start` and whose inside begins at `inside`; what takes the part, and
+    /// the depth there.
     Opened {
         holder: Holder,
         depth: u8,

@@ -1,4 +1,4 @@
-//! Words, read part by part. Where commands are in a word, the reader stops until they are handed
+//! Words, read part by part. If commands are in a word, the reader stops until they are handed
 //! back.
 #![tactic(auto)]
 

@@ -14,7 +14,7 @@ pub enum Mode {
     Unsplit,
     /// The value of an assignment.
     Value,
-    /// An operand of `export` or `readonly`, where an assignment is read as one (XCU 2.9.1.1).
+    /// An operand of `export` or `readonly`. An assignment there is read as one (XCU 2.9.1.1).
     Operand,
     /// The body of a here-document, up to the offset `end` (XCU 2.7.4).
     Body {
@@ -53,7 +53,7 @@ impl Mode {
         }
     }
 
-    /// The byte before the first one: a body begins a line. 0 where there is none.
+    /// The byte before the first one: a body begins a line. 0 if there is none.
     pub fn first_prior(self) -> u8
         ensures { result ≡ modes.first_prior self }
     {

@@ -1,4 +1,4 @@
-//! Items of which the last one in stands first.
+//! Items: the last one in is first.
 ghost use Rattle.std.specs.Prelude.{◌≡◌, List, [], ◌∷◌, drop, MatchOption, OnOk, OnErr};
 
 use std::alloc::{AllocError, Global};

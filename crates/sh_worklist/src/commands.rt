@@ -1,4 +1,4 @@
-//! The commands that wait, and where each command stands.
+//! The commands that wait, and where each command is.
 ghost use Rattle.std.specs.Prelude.{◌≡◌, ◌<◌, ◌≤◌, ◌+◌, ◌==◌, ◌&&◌, ◌||◌, ℕ, true, not, nat_lt, None, Some, if◌then◌else◌, slice_set, IfOk, MatchOption};
 ghost use Rattle.std.specs.Slice.Scan.{HoldsNowhere};
 ghost use Rattle.sh_worklist.specs.Bits.{IsNext};
@@ -79,7 +79,7 @@ impl Commands {
         self.own.has(command) || self.inner.has(command)
     }
 
-    /// The least number from one up to another, both included, of a command that waits, or inside of
+    /// The least number from one up to another, both included, of a command that waits, or inside
     /// which one does.
     pub fn next(&self, from: u32, to: u32) -> Option<u32>
         ensures { MatchOption result (HoldsNowhere (λ k. is_in self.now.own k || is_in self.now.inner k) from (to + 1)) (IsNext (λ k. is_in self.now.own k || is_in self.now.inner k) from to) }
@@ -107,7 +107,7 @@ impl Commands {
         }
     }
 
-    // Where a command stands.
+    // Where a command is.
     fn place(&self, command: u32) -> Inside
         ensures { result ≡ place_in self.now.places.items command }
     {

@@ -36,8 +36,8 @@ fn number_of(item: &Item) -> u32 {
     }
 }
 
-/// The place from a place on of the first item in which a command may wait, or of the last item. The
-/// numbers of the items rise.
+/// The place from a place on of the first item in which a command may wait, or of the last item.
+/// The numbers of the items rise.
 pub fn next_place(waiting: &Waiting, items: &[Item], from: usize) -> usize
     requires { from < length items.now }
     ensures from { from ≤ result }

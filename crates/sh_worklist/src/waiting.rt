@@ -15,7 +15,7 @@ use crate::units::{Unit, Units};
 use sh_table::CallTable;
 use std::alloc::{AllocError, Global};
 
-/// The commands that wait to be looked at, each at most once, and the units in which they stand.
+/// The commands that wait to be looked at, each at most once, and the units that they are in.
 #[derive(Drop)]
 pub struct Waiting {
     commands: Commands,
@@ -56,7 +56,7 @@ impl Waiting {
         self.commands.has(command)
     }
 
-    /// The least number from one up to another, both included, of a command that waits, or inside of
+    /// The least number from one up to another, both included, of a command that waits, or inside
     /// which one does.
     pub fn next(&self, from: u32, to: u32) -> Option<u32>
         ensures { MatchOption result (HoldsNowhere (waits_in self.now) from (to + 1)) (IsNext (waits_in self.now) from to) }

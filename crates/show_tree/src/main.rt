@@ -1,6 +1,7 @@
-//! Reads texts line by line, with `\n`, `\t`, `\\` and `\xNN` for bytes, and prints a line for each: the tree of the script that it is,
-//! or its refusal. With words `MODE DEPTH AT TAIL` each text has a word at the offset instead, and the body of a here-document ends so many
-//! bytes before its end.
+//! Reads texts line by line, with `\n`, `\t`, `\\` and `\xNN` for bytes. Prints a line for each:
+//! the tree of the script that it is, or its refusal. With words `MODE DEPTH AT TAIL` each text has
+//! a word at the offset instead. The body of a here-document then ends so many bytes before the
+//! text's end.
 #![tactic(auto)]
 
 mod text;

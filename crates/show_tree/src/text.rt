@@ -38,7 +38,7 @@ fn ended(begun: Begun, byte: u8) -> u8 {
     }
 }
 
-/// The bytes that a line stands for.
+/// The bytes that a line means.
 pub fn unescaped(alloc: Global, line: &str) -> Result<Vec<u8>, AllocError> {
     let mut text = Vec::new(alloc);
     let mut begun = Begun::Nothing;

@@ -1,4 +1,5 @@
-//! One word, from its begin to its end. Commands in it are not read: each substitution goes up to its first `)` or backquote.
+//! One word, from its begin to its end. Commands in it are not read: each substitution goes up to
+//! its first `)` or backquote.
 ghost use Rattle.std.specs.Prelude.{◌≡◌, ◌≤◌, true, length, IfOk};
 ghost use Rattle.sh_words.specs.Builders.{Goes, mode_of, position};
 ghost use Rattle.sh_words.specs.Modes.{seen};
@@ -19,7 +20,8 @@ pub enum Form {
     Body { strip: bool, quoted: bool },
 }
 
-/// What a word is, how deep it is, where it begins, and how many bytes of the text it does not see if it is a body.
+/// What a word is, how deep it is, and where it begins. If it is a body, it does not see so many
+/// bytes of the text.
 #[derive(Clone, Copy)]
 pub struct Place {
     pub form: Form,
@@ -64,7 +66,7 @@ fn no_commands(alloc: Global) -> Script {
     }
 }
 
-/// Reads on, up to commands or to the end, and tells that. Whether there is more.
+/// Reads on, up to commands or to the end, and reports that. Returns whether there is more.
 fn read_on(
     alloc: Global,
     builder: &mut WordBuilder,

@@ -7,7 +7,7 @@ use sh_answers::Fault;
 use sh_line::Stop;
 use std::io::ErrorKind;
 
-/// The status of a usage fault, of an end that failed and of want of memory.
+/// The status of a usage fault, of an end that failed and of memory that ran out.
 const FAILED: u8 = 3;
 
 /// Where a text is printed.
@@ -61,7 +61,7 @@ pub fn after_fault(fault: Fault) -> Ending<'static>
     }
 }
 
-/// The end where the runtime gives no words.
+/// The end if the runtime gives no words.
 pub fn without_words(kind: ErrorKind) -> Ending<'static>
     ensures { Fails (words_line kind) result }
 {
@@ -71,7 +71,7 @@ pub fn without_words(kind: ErrorKind) -> Ending<'static>
     }
 }
 
-/// The end where the words are no line: help is no fault, and goes to standard output.
+/// The end if the words are no line: help is no fault, and goes to standard output.
 pub fn without_line(stop: &Stop) -> Ending<'_>
     ensures { StopsWith stop.entry.now result }
 {
@@ -102,7 +102,7 @@ pub fn after_run(answer: Result<u8, Fault>) -> Ending<'static>
     }
 }
 
-/// The end where the message of an end was not printed.
+/// The end if the message of an end was not printed.
 pub fn unprinted(ending: Ending<'_>) -> Ending<'static>
     ensures { EndsUnprinted (message_of ending.entry) ending.entry.status result }
 {

@@ -1,5 +1,5 @@
-//! A linter for POSIX shell scripts whose `clean` is a proof: opens the ends, does what the command line asks for, and ends
-//! with its status.
+//! A linter for POSIX shell scripts whose `clean` is a proof. It opens the ends, does what the
+//! command line asks for, and ends with its status.
 #![tactic(auto)]
 
 ghost use Rattle.std.specs.Process.{exit_status};

@@ -10,7 +10,8 @@ use std::test::Fail;
 
 const TEXT: &[u8] = b"echo \"$x\"\n";
 
-/// How an end moves bytes: at most so many a call, after so many interruptions, with a trick at the call of a number.
+/// How an end moves bytes: at most so many a call, after so many interruptions, with a trick at the
+/// call of a number.
 type Way = (usize, u32, u32, Trick);
 
 /// How many errors, interruptions and calls that moved no byte are counted.

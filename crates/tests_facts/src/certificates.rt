@@ -50,7 +50,8 @@ fn written_for(
     written_of(alloc, text, tree, &table, &names)
 }
 
-/// The text that is written of the certificate that this text is, for a script with these names declared.
+/// The text that is written of the certificate that this text is, for a script with these names
+/// declared.
 fn read_again(
     alloc: Global,
     script: &[u8],

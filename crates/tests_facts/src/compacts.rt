@@ -68,7 +68,8 @@ fn compacted_for(
     compacted(alloc, &given, &names, &policy)
 }
 
-/// The text of the compact certificate that the text of either version is, or has, for a script with this start.
+/// The text of the compact certificate that the text of either version is, or has, for a script
+/// with this start.
 fn compact_text(
     alloc: Global,
     script: &[u8],
@@ -87,7 +88,8 @@ fn has_text(alloc: Global, script: &[u8], start: Start, text: &[u8], wanted: &[u
     }
 }
 
-/// Whether the second text is that of the first's certificate, and is read and written again to the byte.
+/// Whether the second text is that of the first's certificate, and is read and written again to the
+/// byte.
 fn is_compact(alloc: Global, script: &[u8], start: Start, full: &[u8], text: &[u8]) -> bool {
     has_text(alloc, script, start, full, text) && has_text(alloc, script, start, text, text)
 }

@@ -10,7 +10,8 @@ use std::test::Fail;
 
 const COMMANDS: usize = 64;
 
-/// The bytes of the name that is set before each command: with it the texts are close to 67,108,864 bytes.
+/// The bytes of the name that is set before each command: with it the texts are close to 67,108,864
+/// bytes.
 const NAME: usize = 1_048_562;
 
 /// The names of an empty script for which that one is declared, after the five that every script
@@ -50,7 +51,8 @@ fn keep(
     certificate.rows.intern(&row)
 }
 
-/// A certificate of 64 commands, the first of them a loop, and a function, with so many parameters before the first commands.
+/// A certificate of 64 commands, the first of them a loop, and a function, with so many parameters
+/// before the first commands.
 fn certificate_of(alloc: Global, names: &Names, args: &[u16]) -> Result<Certificate, AllocError> {
     let mut certificate = Certificate::new(alloc, names.count());
     let functions = keep(alloc, &mut certificate, &[])?;

@@ -19,7 +19,7 @@ const ROWS: &[Kept] = &[
     (&[0, 64], 3),
 ];
 
-/// A row of these numbers, where they are below the count.
+/// A row of these numbers, if they are below the count.
 pub fn row_of(alloc: Global, count: u32, numbers: &[u32]) -> Result<BitRow, AllocError>
     ensures { IfOk result (λ r. r.count ≡ count) }
 {
@@ -32,7 +32,7 @@ pub fn row_of(alloc: Global, count: u32, numbers: &[u32]) -> Result<BitRow, Allo
     Ok(row)
 }
 
-/// Keeps a row of these numbers, and tells its place.
+/// Keeps a row of these numbers, and reports its place.
 fn place_of(alloc: Global, rows: &mut Rows, numbers: &[u32]) -> Result<Option<RowId>, AllocError> {
     if rows.count() != COUNT || rows.len() > 100 {
         return Ok(None);

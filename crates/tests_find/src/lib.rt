@@ -1,4 +1,5 @@
-//! Tests of the search for the greatest certificate of a script: its ways find the same, and how often it looks.
+//! Tests of the search for the greatest certificate of a script: its ways find the same, and how
+//! often it looks.
 #![tactic(auto)]
 
 #[cfg(test)]

@@ -13,7 +13,7 @@ const MOST_LOOKS: u64 = 3_606;
 /// Six for each of the 620 commands.
 const MOST_LOOKS_IN_TURN: u64 = 3_720;
 
-/// A script of so many functions that each call the next, of which the first is called.
+/// A script of so many functions that each call the next. It calls the first.
 fn calls(alloc: Global, count: u32) -> Result<String, AllocError> {
     let mut script = String::new(alloc);
     for number in 1..count {
@@ -40,7 +40,8 @@ fn looks_at_functions_that_call_each_other(rt: HostRuntime) -> Result<(), Fail> 
     Ok(())
 }
 
-/// A script of so many tens of functions, each of which calls the one before it but for the first of each ten, and of the calls of the last of each ten.
+/// A script of so many tens of functions. Each calls the one before it, except for the first of
+/// each ten. The script calls the last of each ten.
 fn calls_in_turn(alloc: Global, tens: u32) -> Result<String, AllocError> {
     let mut script = String::new(alloc);
     for number in 0..tens.saturating_mul(10) {

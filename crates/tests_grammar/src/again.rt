@@ -15,7 +15,7 @@ fn no_commands(alloc: Global) -> Script {
     }
 }
 
-/// What is refused of the word, where it is.
+/// The refusal of the word, if it is refused.
 fn refusal_of(builder: &mut WordBuilder, text: &[u8]) -> Option<Refusal>
     requires small { length text.now ≤ MAX_SCRIPT }
     requires inside { Goes builder.old → IsInside text.now builder.old }
@@ -26,7 +26,8 @@ fn refusal_of(builder: &mut WordBuilder, text: &[u8]) -> Option<Refusal>
     builder.run(text).err()
 }
 
-/// What a builder answers that refused the text: the refusal, and what is refused of whatever follows.
+/// What a builder answers that refused the text: the refusal, and what is refused of whatever
+/// follows.
 fn refused_again(
     alloc: Global,
     text: &[u8],

@@ -1,5 +1,5 @@
 //! Bodies of here-documents in one another, each after as many levels of commands as may be open
-//! there: 2,080 levels, which the stack of 8 MiB has to hold.
+//! there. These are 2,080 levels, which the stack of 8 MiB has to hold.
 use sh_grammar::parse;
 use sh_tree::MAX_NESTING;
 use std::alloc::{AllocError, Global};

@@ -18,7 +18,8 @@ type Rig = (u32, Trick, u32);
 
 const NONE: Rig = (0, Trick::Fail, 0);
 
-/// Holds what a check answers whose script and certificate come from such ends, and whether its text was written.
+/// Holds what a check answers whose script and certificate come from such ends, and whether its
+/// text was written.
 fn check(
     rt: &(impl Abort + AllocGlobal),
     input: Rig,

@@ -85,7 +85,8 @@ fn wrong_joined(alloc: Global, lengths: Lengths) -> Result<Option<usize>, AllocE
     Ok((0..lengths.0).find(|at| word(&joined, *at) != word(&old, *at) | word(&other, *at)))
 }
 
-// Whether the words are still within the others with one more bit at each place, which they are not.
+// Whether the words are still within the others with one more bit at each place, which they are
+// not.
 fn is_one_more_within(part: &mut [u64], other: &[u64], at: usize) -> bool {
     if at >= part.len() || word(other, at) == u64::MAX {
         return false;

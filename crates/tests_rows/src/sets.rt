@@ -6,8 +6,8 @@ use std::alloc::{AllocError, Global};
 use std::process::Abort;
 use std::test::Fail;
 
-/// Numbers below a count: those of one row and of another, those in both, those in the first alone, and whether the first is
-/// within the second.
+/// Numbers below a count: those of one row and of another, those in both, and those in the first
+/// alone. Then whether the first is within the second.
 struct Pair {
     count: u32,
     first: &'static [u32],
@@ -160,7 +160,7 @@ fn check_pairs<T: Row + Drop, R: Abort>(rt: &R, alloc: Global, pairs: &[Pair]) -
     Ok(())
 }
 
-// What is left below a count where all but zero is taken out, one by one.
+// What is left below a count if all but zero is taken out, one by one.
 fn remainder<T: Row + Drop>(alloc: Global, count: u32) -> Result<Vec<u32>, AllocError> {
     let mut row: T = row_of(alloc, count, &[0, 1, 63, 64, 65, 127, 128, 129])?;
     for number in 1..count {

@@ -61,7 +61,7 @@ fn closing(rt: HostRuntime) -> Result<(), Fail> {
     Ok(())
 }
 
-/// A text, and where its first backslash stands that goes before its commands are read.
+/// A text, and where its first backslash is that goes before its commands are read.
 type Kept = (&'static [u8], Option<u32>);
 
 fn check_kept(rt: &impl Abort, quoted: bool, rows: &[Kept]) {

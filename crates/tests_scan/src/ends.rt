@@ -109,7 +109,8 @@ fn quotes(rt: HostRuntime) -> Result<(), Fail> {
     Ok(())
 }
 
-/// A text, a place in it, whether continuations join lines, and where the line ends that begins there.
+/// A text, a place in it, whether continuations join lines, and where the line ends that begins
+/// there.
 type Line = (&'static [u8], u32, bool, u32);
 
 fn check_lines(rt: &impl Abort, rows: &[Line]) {

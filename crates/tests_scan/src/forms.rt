@@ -3,7 +3,7 @@ use sh_scan::{declares_at, is_assignment_at, is_bare_name_at, is_location_at};
 use std::process::Abort;
 use std::test::Fail;
 
-/// What a word is, as far as its bytes alone tell.
+/// What a word is, as far as its bytes alone show.
 #[derive(Clone, Copy, Debug, PartialEq, Eq)]
 enum Form {
     Assignment,

@@ -90,7 +90,7 @@ fn texts(rt: HostRuntime) -> Result<(), Fail> {
     Ok(())
 }
 
-/// Quotations by `$'`, of which the table has texts of its own.
+/// Quotations by `$'`. The table has texts of its own of them.
 const ESCAPED: &[u8] = b"f() { $'\\a' 'b'; }; $'f' $'' $'a\\tb' $'it\\'s'x `g $'*'`";
 
 const ESCAPED_TEXTS: &[Text] = &[

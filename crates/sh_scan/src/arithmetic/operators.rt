@@ -8,7 +8,7 @@ ghost use Rattle.sh_scan.specs.Tables.{texts_of};
 use crate::pieces::begins_so;
 use sh_tree::{Binary, Figure, Form, Unary};
 
-/// The operators, longer ones first; those that are left out among them.
+/// The operators, longer ones first; the refused ones are among them.
 const OPERATORS: [(&[u8], Figure); 42] = [
     (b"<<=", Figure::Assign(Some(Binary::ShiftLeft))),
     (b">>=", Figure::Assign(Some(Binary::ShiftRight))),

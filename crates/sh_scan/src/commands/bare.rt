@@ -1,4 +1,5 @@
-//! Words of bytes that mean nothing more than themselves, and the names that are looked for among them (XCU 2.4).
+//! Words of bytes that mean nothing more than themselves, and the names that are looked for among
+//! them (XCU 2.4).
 ghost use Rattle.std.specs.Prelude.{◌≡◌, ◌≤◌, ◌+◌, length};
 ghost use Rattle.sh_tree.specs.standard.language.Bytes as bytes;
 ghost use Rattle.sh_tree.specs.standard.language.Commands as commands;
@@ -63,7 +64,7 @@ pub fn reserved_word(word: &[u8]) -> Option<Reserved>
     }
 }
 
-/// The form of other shells that the word begins where a command name stands.
+/// The form of other shells that the word begins in the place of a command name.
 #[tactic(auto, unfolding(sh_tree::specs::standard::language::Commands::entry_of))]
 pub fn left_out_name(word: &[u8]) -> Option<Form>
     ensures { result ≡ commands.entry_of commands.left_out_names word.now }

@@ -143,7 +143,7 @@ fn is_named(stage: Stage) -> bool
     matches!(stage, Stage::Named(_))
 }
 
-/// Digits before `rest`, at whose front `<` or `>` stands.
+/// Digits before `rest`, whose front is `<` or `>`.
 #[tactic(auto, unfolding(sh_tree::specs::standard::language::Commands::number_lead))]
 fn number_lead(rest: &[u8]) -> Lead
     ensures { result ≡ commands.number_lead rest.now (commands.operator_of rest.now) }
@@ -181,7 +181,7 @@ fn other_lead(script: &[u8], stage: Stage, at: u32) -> Lead
     }
 }
 
-/// The token at `at`, where no operator begins.
+/// The token at `at`, if no operator begins there.
 #[tactic(auto, unfolding(sh_tree::specs::standard::language::Commands::lead_of))]
 fn lead_without_operator(script: &[u8], stage: Stage, at: u32) -> Lead
     requires small { length script.now ≤ MAX_SCRIPT }
@@ -204,7 +204,8 @@ fn lead_without_operator(script: &[u8], stage: Stage, at: u32) -> Lead
     }
 }
 
-/// What the token at `at` is, where no blank stands. A comment there is one that the body of a here-document must not hold.
+/// What the token at `at` is, if no blank is there. A comment there is one that the body of a
+/// here-document must not hold.
 #[tactic(auto, unfolding(sh_tree::specs::standard::language::Commands::lead_at, sh_tree::specs::standard::language::Commands::lead_of))]
 pub fn lead_at(script: &[u8], stage: Stage, at: u32) -> Lead
     requires small { length script.now ≤ MAX_SCRIPT }

@@ -137,7 +137,7 @@ pub fn operator_at(script: &[u8], at: u32) -> Option<(Operator, u32)>
     }
 }
 
-/// What a redirection by the operator opens, where that is no here-document.
+/// What a redirection by the operator opens, if that is no here-document.
 #[tactic(auto, unfolding(sh_tree::specs::standard::language::Commands::direction_of))]
 pub fn direction_of(operator: Operator) -> Option<Direction>
     ensures { result ≡ commands.direction_of operator }

@@ -40,7 +40,7 @@ fn begins_name_byte(rest: &[u8]) -> bool
     }
 }
 
-/// A `$` at `at` and the name before which it stands.
+/// A `$` at `at` and the name that follows it.
 #[tactic(auto, unfolding(sh_tree::specs::standard::language::Words::named_value))]
 fn name_sign(at: usize, rest: &[u8]) -> (Sign, usize)
     requires small { at + 1 + length rest.now ≤ MAX_SCRIPT }

@@ -8,7 +8,7 @@ ghost use Rattle.sh_scan.specs.Steps as steps;
 use super::sites::is_among;
 use sh_tree::{Fault, Form, MAX_SCRIPT, Sign, SingleStyle};
 
-/// Whether a backslash keeps the byte, or stands with it for another one.
+/// Whether a backslash keeps the byte, or means another one with it.
 fn is_dollar_escape(byte: u8) -> bool
     ensures { result ≡ words.is_dollar_escape byte }
 {

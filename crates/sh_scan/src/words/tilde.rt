@@ -33,7 +33,7 @@ fn ends_tilde(context: Context, rest: &[u8]) -> bool
     }
 }
 
-/// How long the tilde-prefix is of which the tilde is before `rest`, or 0 if none is there.
+/// How long the tilde-prefix is whose tilde is before `rest`, or 0 if none is there.
 #[tactic(auto, unfolding(sh_tree::specs::standard::language::Words::tilde_length))]
 pub fn tilde_length(context: Context, rest: &[u8]) -> usize
     ensures value { result ≡ words.tilde_length context rest.now }

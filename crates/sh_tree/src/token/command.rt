@@ -97,7 +97,8 @@ pub enum Lead {
     LeftOut(Form),
 }
 
-/// The front of a redirection: its IO number, its operator, where that begins and where it ends (XCU 2.7).
+/// The front of a redirection: its IO number, its operator, where that begins and where it ends
+/// (XCU 2.7).
 #[derive(Clone, Copy, Debug, PartialEq, Eq)]
 pub struct Redirection {
     pub number: Option<Span>,

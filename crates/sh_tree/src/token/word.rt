@@ -6,7 +6,8 @@ use crate::tree::{Action, CommandStyle, Removal, SingleStyle, Subject};
 /// Where the parts of a word are read.
 #[derive(Clone, Copy, Debug, PartialEq, Eq)]
 pub enum Site {
-    /// Outside quotes. The word ends before a blank, a newline, an operator or the end of the text (XCU 2.3).
+    /// Outside quotes. The word ends before a blank, a newline, an operator or the end of the text
+    /// (XCU 2.3).
     Word,
     /// Between double quotes (XCU 2.2.3).
     Double,

@@ -1,4 +1,4 @@
-//! What is reported where a word cannot go on.
+//! What is reported if a word cannot go on.
 ghost use Rattle.std.specs.Prelude.{◌≡◌, ◌≤◌, ◌<◌, length};
 ghost use Rattle.sh_tree.specs.standard.language.Contexts as contexts;
 ghost use Rattle.sh_tree.specs.standard.language.Words as words;
@@ -28,7 +28,8 @@ fn is_unended(script: &[u8], at: u32) -> bool
     token_at(script, in_word(at), 0, at).sign == Sign::Fault(Fault::OpenBraced)
 }
 
-/// Whether something is open before the backquote at `place`, which ends the text, or is refused there.
+/// Whether something is open before the backquote at `place`, which ends the text, or is refused
+/// there.
 #[tactic(auto, unfolding(crate::specs::Faults::is_met))]
 fn is_met(script: &[u8], place: u32, found: Refusal) -> bool
     requires small { length script.now ≤ MAX_SCRIPT }
@@ -44,7 +45,8 @@ fn is_met(script: &[u8], place: u32, found: Refusal) -> bool
     }
 }
 
-/// What is reported of a refusal: the backquote that closes the commands around the word, if something is open before it.
+/// What is reported of a refusal: the backquote that closes the commands around the word, if
+/// something is open before it.
 #[tactic(auto, unfolding(crate::specs::Faults::reported))]
 pub fn reported(inside: Option<bool>, script: &[u8], found: Refusal) -> Refusal
     requires small { length script.now ≤ MAX_SCRIPT }

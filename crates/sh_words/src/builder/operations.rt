@@ -23,7 +23,7 @@ use sh_tree::{
 };
 
 impl Operation {
-    /// Whether it is a level of which such a token is no operator.
+    /// Whether it is a level that does not have such a token as an operator.
     #[tactic(auto, unfolding(crate::specs::Operations::is_level_left))]
     fn is_left(&self, figure: Figure) -> bool
         ensures { result ≡ is_level_left figure self.now }
@@ -42,7 +42,7 @@ impl Operation {
 }
 
 impl Frame {
-    /// Whether it is a level of which such a token is no operator.
+    /// Whether it is a level that does not have such a token as an operator.
     #[tactic(auto, unfolding(crate::specs::Operations::is_left))]
     fn is_left(&self, figure: Figure) -> bool
         ensures { result ≡ is_left figure self.now }
@@ -70,7 +70,8 @@ impl WordBuilder {
         self.expression_read(script, expr, token)
     }
 
-    /// Leaves the levels of which the token is no operator: no more operands of theirs follow.
+    /// Leaves the levels that do not have the token as an operator: no more operands of theirs
+    /// follow.
     #[tactic(auto, unfolding(crate::specs::Operations::levels_left))]
     fn leave_levels(&mut self, figure: Figure)
         ensures { self.new ≡ leaving self.old figure }
@@ -120,7 +121,7 @@ impl WordBuilder {
         }
     }
 
-    /// A token that cannot are after the expression. An expansion that touches another operand is
+    /// A token that cannot come after the expression. An expansion that touches another operand is
     /// no whole one.
     fn misplaced(&self, script: &[u8], expr: &Expr, token: Lexeme) -> Refusal
         requires small { length script.now ≤ MAX_SCRIPT }
@@ -408,7 +409,7 @@ impl WordBuilder {
     }
 }
 
-/// A closing parenthesis of the expansion at `start` with no second one after it: the text ends, a
+/// A closing parenthesis of the expansion at `start` with no second one after it. The text ends, a
 /// line continuation hides the second one, or something else is there.
 fn unclosed(script: &[u8], start: u32, token: Lexeme) -> Refusal
     requires ordered { token.start ≤ token.end }

@@ -99,7 +99,8 @@ impl WordBuilder {
         Err(self.no_part(token, start))
     }
 
-    /// Reads the substitution at `start`, whose commands begin at `end`. No backquote closes those at the end of the text.
+    /// Reads the substitution at `start`, whose commands begin at `end`. No backquote closes those
+    /// at the end of the text.
     fn substitution_step(
         &mut self,
         script: &[u8],
@@ -173,7 +174,7 @@ impl WordBuilder {
         }
     }
 
-    /// The innermost part was read, up to `end`, and is given to what stands around it.
+    /// The innermost part was read, up to `end`, and is given to what is around it.
     fn close_part(
         &mut self,
         holder: Holder,

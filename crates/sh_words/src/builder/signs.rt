@@ -18,7 +18,7 @@ fn expansion(span: Span, subject: Subject, operator: ParameterOperator) -> Part
     })
 }
 
-/// The part that a sign is, where it is a whole one.
+/// The part that a sign is, if it is a whole one.
 #[tactic(auto, unfolding(crate::specs::States::whole_part))]
 pub fn whole_part(sign: Sign, span: Span) -> Option<Part>
     ensures { result ≡ states.whole_part sign span.start span.end }
@@ -54,7 +54,8 @@ pub fn opening_of(context: Context, sign: Sign, end: u32) -> Option<(Opening, Co
     }
 }
 
-/// The part that an opening at `start` makes of the parts in it, which begin at `inside`. It ends at `end`.
+/// The part that an opening at `start` makes of the parts in it, which begin at `inside`. It ends
+/// at `end`.
 #[tactic(auto, unfolding(crate::specs::States::made))]
 pub fn made(opening: Opening, start: u32, inside: u32, parts: Items<Part>, end: u32) -> Option<Part>
     ensures { result ≡ states.made opening start inside parts end }
@@ -90,7 +91,7 @@ pub fn made(opening: Opening, start: u32, inside: u32, parts: Items<Part>, end: 
     }
 }
 
-/// The last byte of what the sign is, where that is plain, else 0.
+/// The last byte of what the sign is, if that is plain, else 0.
 pub fn prior_after(script: &[u8], sign: Sign, end: u32) -> u8
     requires some { sign ≡ Sign.Plain → 0 < end }
     requires inside { end ≤ length script.now }

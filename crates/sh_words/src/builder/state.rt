@@ -86,7 +86,7 @@ impl WordBuilder {
         u32::from(self.depth) >= MAX_NESTING
     }
 
-    /// The part was read, up to `end`; `next` is its last byte where that is plain, else 0.
+    /// The part was read, up to `end`; `next` is its last byte if that is plain, else 0.
     pub(crate) fn give(&mut self, next: u8, part: Part, end: u32) -> Result<(), Refusal>
         ensures { MatchResult result (λ _. self.new ≡ given self.old next part end) (λ e. e ≡ Refusal.Memory) }
     {

@@ -1,4 +1,4 @@
-//! The tokens of arithmetic, as a builder goes by them.
+//! The tokens of arithmetic, as a builder uses them.
 ghost use Rattle.std.specs.Prelude.{◌≡◌, ◌≤◌, length};
 ghost use Rattle.sh_words.specs.Lexemes.{IsLexeme};
 ghost use Rattle.sh_words.specs.Lexemes as lexemes;
@@ -35,7 +35,7 @@ pub fn assigned(first: Figure, second: Figure) -> Option<Option<Binary>>
     }
 }
 
-/// The operand that a token is, where it is a whole one.
+/// The operand that a token is, if it is a whole one.
 #[tactic(auto, unfolding(crate::specs::Lexemes::operand_of))]
 pub fn operand_of(lexeme: Lexeme) -> Option<Expr>
     ensures { result ≡ lexemes.operand_of lexeme.figure (lexemes.span_of lexeme) }
@@ -47,7 +47,7 @@ pub fn operand_of(lexeme: Lexeme) -> Option<Expr>
     }
 }
 
-/// Whether such a token may are after an expression.
+/// Whether such a token may come after an expression.
 pub fn follows(figure: Figure) -> bool
     ensures { result ≡ lexemes.follows figure }
 {

@@ -71,7 +71,7 @@ fn classes(rt: HostRuntime) -> Result<(), Fail> {
 /// What a token is after a command.
 #[derive(Clone, Copy)]
 enum Behind {
-    /// It parts two items, the first of which may be in the background.
+    /// It parts two items; the first may be in the background.
     Separator(bool),
     Link(Link),
     End(ClauseEnd),
