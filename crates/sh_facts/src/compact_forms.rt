@@ -1,4 +1,4 @@
-//! The form of a line of a compact certificate, where it differs from that of a full one.
+//! The form of a line of a compact certificate, if it differs from that of a full one.
 ghost use Rattle.std.specs.Prelude.{◌≡◌, ◌&&◌, option_map, codes};
 ghost use Rattle.std.specs.Str.{bytes_eq};
 ghost use Rattle.sh_domain.specs.CompactForms as compact;

@@ -11,7 +11,7 @@ use sh_domain::{Certificate, Knowledge};
 use sh_rules::Claims;
 
 impl Subject<'_> {
-    /// What the flow rules go by, of a certificate whose rows are of the script's names.
+    /// What the flow rules use, of a certificate whose rows are of the script's names.
     pub fn claims<'a>(&'a self, certificate: &'a Certificate) -> Claims<'a>
         requires sized { certificate.now.rows.count ≡ length self.now.names.now }
         requires admitted { IsAdmitted self.now.script.now self.now.policy.now self.now.tree.now self.now.names.now }

@@ -155,8 +155,8 @@ fn lower_next(
 }
 
 /// Lowers a certificate where it does not keep all flow rules, and says whether it keeps them. The
-/// target is left at a place and a function that more was asked of, if there are any: a hint where
-/// the next turn begins.
+/// target is left at a place and a function that more was asked of, if there are any. This is a
+/// hint where the next turn begins.
 ///
 /// # Errors
 ///

@@ -179,7 +179,7 @@ fn split_in_chain(script: &[u8], rest: &[(Binary, Expr)]) -> Option<u32>
     None
 }
 
-/// Where single quotes in a body, whose lines are joined, hold a line continuation.
+/// Where single quotes in a body with joined lines hold a line continuation.
 pub fn split_at(script: &[u8], joins: bool, parts: &[Part]) -> Option<u32>
     requires small { length script.now ≤ MAX_SCRIPT }
     ensures { Splits script.now joins parts.now result }

@@ -73,11 +73,10 @@ fn read(alloc: Global, script: &[u8]) -> Result<Script, Refusal>
 ///
 /// # Errors
 ///
-/// The first refusal that is met, in this order: `TooLong`; `NulByte` with the offset of the first
-/// NUL byte; then one in reading from the front. That is `Syntax` at what the grammar has no place
-/// for, or `LeftOut` at the first byte of a refused form. Or it is `TooDeep` at what would be one
-/// level more than there may be, or `TooMany` at one command more. `Memory` if a growth was
-/// refused.
+/// The first refusal in this order: `TooLong`; `NulByte` with the offset of the first NUL byte;
+/// then one in reading from the front. That is `Syntax` at what the grammar has no place for, or
+/// `LeftOut` at the first byte of a refused form. Or it is `TooDeep` at what would be one level
+/// more than there may be, or `TooMany` at one command more. `Memory` if a growth was refused.
 #[tactic(auto, using(crate::proofs::Nul::no_nul, crate::proofs::Nul::nul_at, crate::proofs::ScriptLemmas::long_is_none, crate::proofs::ScriptLemmas::nul_is_none))]
 pub fn parse(alloc: Global, script: &[u8]) -> Result<Script, Refusal>
     ensures reads { Parses script.now result }

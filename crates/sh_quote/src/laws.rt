@@ -11,7 +11,7 @@ pub fn examples()
     ensures { QuotesAsExpected }
 {}
 
-/// Take a program that is admitted and no place of which is reported. In a run that expands no
+/// Take a program that is admitted, and of which no place is reported. In a run that expands no
 /// unset parameter, no step gives an expansion's value to field splitting or pathname expansion
 /// that could change it (XCU 2.6.5, 2.6.6). The run may have any start that a policy allows, any
 /// results of the commands, any choice and any order of the processes. Of the words of the program

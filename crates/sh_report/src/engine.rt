@@ -27,9 +27,9 @@ const CERTIFICATE_READ: usize = MAX_CERTIFICATE + 1;
 /// Reads the script, at most 1,048,577 bytes of it. For a check it then reads the certificate, at
 /// most 67,108,865 bytes of it. It does the task, and writes the text of the answer on the bytes
 /// read, and nothing else. The whole text is made before its first byte is written. The result is
-/// the exit status. It is 0 for clean or a text that was asked for, 1 for findings or a certificate
-/// that breaks a flow rule, and 2 for refused. A lint or a check that ends with 0 promises what a
-/// pass does. No other action reads `cert`.
+/// the exit status. 0 is for clean or a text that was asked for, 1 for findings or a certificate
+/// that breaks a flow rule, 2 for refused. A lint or a check that ends with 0 promises what a pass
+/// does. No other action reads `cert`.
 ///
 /// # Errors
 ///

@@ -22,8 +22,8 @@ use sh_demands::{Known, gain_target, own};
 use sh_domain::{Knowledge, NumberSet};
 use sh_tree::{Element, Target};
 
-/// What is known after the words of a simple command, where its redirections and its values are
-/// judged.
+/// What is known after the words of a simple command. Its redirections and its values are judged
+/// there.
 #[tactic(auto, using(crate::proofs::ElementLemmas::words_known))]
 pub fn behind(claims: &Claims<'_>, number: u32, elements: &[Element]) -> Knowledge
     ensures { facts_in (setting claims.now) result ≡ simple.behind (setting claims.now) number (elements_from (setting claims.now).script elements.now) }

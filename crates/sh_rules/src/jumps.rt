@@ -157,7 +157,7 @@ fn tell_returning<A: Asked>(
     }
 }
 
-/// Of a jump by a utility of this kind, where this is known.
+/// Of a jump by a utility of this kind, with this known.
 #[tactic(auto, unfolding(crate::specs::TextTells::jumps_by, crate::specs::Walks::setting))]
 pub fn tell_jumps<A: Asked>(
     claims: &Claims<'_>,

@@ -75,9 +75,9 @@ pub fn step_rows()
     ensures { StepsAsExpected }
 {}
 
-/// Some runs of scripts come to the events that they are meant to have. One is of a variable not
-/// set at the start, or one that a part of a pipeline removes before the other part has its value.
-/// Another is of a value that is split.
+/// Some runs of scripts come to the events that they are meant to have. One is a variable not set
+/// at the start, or one that a part of a pipeline removes before the other part has its value.
+/// Another is a value that is split.
 pub fn events()
     ensures { EventsExist }
 {}

@@ -33,7 +33,7 @@ pub enum Opening {
     Arith,
 }
 
-/// An operation of arithmetic, one operand of which is read. The depth is the one around it.
+/// An operation of arithmetic while one of its operands is read. The depth is the one around it.
 #[derive(Drop)]
 pub enum Operation {
     Parenthesis {

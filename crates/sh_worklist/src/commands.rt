@@ -35,7 +35,7 @@ impl Inside {
 #[derive(Drop)]
 pub struct Commands {
     own: Flags,
-    // Those inside of which one waits.
+    // The commands inside which one waits.
     inner: Flags,
     // By the numbers of the commands.
     places: Vec<Inside>,

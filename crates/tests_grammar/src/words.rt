@@ -34,8 +34,8 @@ fn long(
     Ok(text)
 }
 
-/// What a word begins with, a piece and how often it is there, what the word ends with, how many
-/// parts it has, and its length.
+/// What a word begins with, a piece and how often it is there, and what the word ends with. Then
+/// how many parts it has, and its length.
 type Long = (&'static str, &'static str, u32, &'static str, usize, u32);
 
 fn check_long(rt: &impl Abort, alloc: Global, rows: &[Long]) -> Result<(), Fail> {

@@ -68,7 +68,7 @@ pub enum Reserved {
 /// Where a token of a simple command is read (XCU 2.9.1).
 #[derive(Clone, Copy, Debug, PartialEq, Eq)]
 pub enum Stage {
-    /// At the command's first token, where a reserved word is recognized.
+    /// At the command's first token, at which a reserved word is recognized.
     First,
     /// After an assignment or a redirection, before a command name.
     Prefixed,
