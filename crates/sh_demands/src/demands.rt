@@ -465,7 +465,7 @@ fn tell_expression(expression: &Expr, script: &[u8], source: &Source<'_, '_>, re
 ///
 /// # Errors
 ///
-/// If memory runs out, which takes an unmet demand.
+/// If memory runs out. That requires an unmet demand.
 pub fn check_demands(
     alloc: Global,
     tree: &Script,

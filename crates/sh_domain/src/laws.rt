@@ -149,9 +149,9 @@ pub fn names()
     ensures examples { KnowledgeAsExpected }
 {}
 
-/// The certificate that the rules are asked of claims what the kept certificate has under that
-/// number. So it is before and after each command, at each turn of a loop and round each function.
-/// If there is none, it claims that no run comes there.
+/// Take the certificate that the rules are asked of. Before and after each command, at each turn of
+/// a loop and round each function, it claims what the kept certificate has under that number. If
+/// there is none, it claims that no run comes there.
 pub fn entries()
     ensures { EveryCertificateClaims }
 {}

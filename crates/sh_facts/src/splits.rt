@@ -5,7 +5,7 @@ ghost use Rattle.sh_domain.specs.Forms as form;
 
 use bstr::ByteSlice;
 
-/// What is before the first such byte, and what after it.
+/// What is before the first such byte, and what follows it.
 pub fn cut(text: &[u8], byte: u8) -> Option<(&[u8], &[u8])>
     ensures at { option_map sides_of result ≡ form.cut_at byte text.now }
     ensures two { IfSome result (λ x. form.pieces byte text.now ≡ x.0.now ∷ form.pieces byte x.1.now) }

@@ -1,5 +1,5 @@
-//! A compact certificate is filled: round commands, the greatest claims that keep the flow rules
-//! there, from the start and the claims that are stated.
+//! Fills a compact certificate: round commands, the greatest claims that keep the flow rules there,
+//! from the start and the claims that are stated.
 ghost use Rattle.std.specs.Prelude.{◌≡◌, List, Bool, true, length, map, IfOk};
 ghost use Rattle.std.specs.List.Sorted.{IsNonDecreasingBy, IsPermutation};
 ghost use Rattle.sh_tree.specs.Commands.{commands_of};

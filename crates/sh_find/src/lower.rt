@@ -1,5 +1,5 @@
-//! What a certificate claims at a place is lowered to what is known there, and what a function may
-//! drop is added to.
+//! Lowers what a certificate claims at a place to what is known there, and adds to what a function
+//! may drop.
 ghost use Rattle.std.specs.Prelude.{◌≡◌, ◌<◌, ◌≤◌, ℕ, List, Bool, true, false, length, Some, IfOk};
 ghost use Rattle.sh_tree.specs.declared.limits.TheConstants.{MAX_NAMES};
 ghost use Rattle.sh_domain.specs.KeptRows.{Stay, holds_at};

@@ -1,4 +1,4 @@
-//! A command is lowered by what it asks itself, and not by what the commands in it ask.
+//! Lowers a command by what it asks itself, and not by what the commands in it ask.
 ghost use Rattle.std.specs.Prelude.{◌≡◌, ℕ, true, length, IfOk};
 ghost use Rattle.sh_domain.specs.Knowledge.{knowledge_facts};
 ghost use Rattle.sh_domain.specs.Sheets.{Sheet};

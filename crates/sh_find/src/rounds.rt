@@ -1,4 +1,4 @@
-//! A loop is gone over until what is known at its turns no longer falls (XCU 2.9.4).
+//! Goes over a loop until what is known at its turns no longer falls (XCU 2.9.4).
 ghost use Rattle.std.specs.Prelude.{IfOk};
 ghost use Rattle.sh_domain.specs.Knowledge.{knowledge_facts};
 ghost use Rattle.sh_rules.specs.Walks as walks;

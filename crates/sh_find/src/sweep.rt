@@ -619,7 +619,7 @@ fn sweep_iteration(
     }
 }
 
-/// Lowers the certificate at a list that a rule enters where this is known.
+/// Lowers the certificate at a list that a rule enters, with this known.
 ///
 /// # Errors
 ///

@@ -64,7 +64,7 @@ fn flow_of(places: Vec<Place>) -> Flow
 ///
 /// # Errors
 ///
-/// `AllocError` if a growth was refused. That takes a certificate that keeps every flow rule and
+/// `AllocError` if a growth was refused. That requires a certificate that keeps every flow rule and
 /// leaves some demand unmet.
 #[tactic(auto, using(crate::proofs::FlowLemmas::unmet))]
 pub fn check_flow(

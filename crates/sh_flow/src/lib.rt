@@ -1,6 +1,6 @@
-//! The check of a certificate against a script: the flow rules first, then the demands. What a
-//! certificate that passes is good for in the runs of the script is in `laws`. A compact
-//! certificate is filled, and then checked as any other.
+//! The check of a certificate against a script: the flow rules first, then the demands. `laws` says
+//! what a certificate that passes is good for in the runs of the script. A compact certificate is
+//! filled, and then checked as any other.
 #![tactic(auto)]
 
 mod flow;

@@ -1,5 +1,5 @@
-//! Line continuations and tabs in the bodies of here-documents, if shells read a text in two ways
-//! (XCU 2.7.4).
+//! Line continuations and tabs in the bodies of here-documents. There shells read a text in two
+//! ways (XCU 2.7.4).
 ghost use Rattle.std.specs.Prelude.{◌≡◌, ◌≤◌, ◌<◌, ◌+◌, ◌||◌, ◌&&◌, ◌∷◌, [], not, true, drop, length, ℕ, IfSome};
 ghost use Rattle.sh_grammar.specs.Quotes.{Splits, SplitsIn, chained};
 ghost use Rattle.sh_grammar.specs.Lines as lines;

@@ -50,7 +50,7 @@ fn first_state(alloc: Global, script: &[u8]) -> State
     }
 }
 
-/// The script that a text is which is no longer than it may be and has no NUL byte.
+/// The script that a text is. The text is no longer than it may be and has no NUL byte.
 #[tactic(auto, using(crate::proofs::ScriptLemmas::text_read, crate::proofs::ScriptLemmas::text_unended, crate::proofs::ScriptLemmas::text_waits, crate::proofs::ScriptLemmas::text_refused, crate::proofs::ScriptLemmas::none_behind, crate::proofs::ScriptLemmas::told_behind, crate::proofs::ScriptLemmas::refused_behind_none))]
 fn read(alloc: Global, script: &[u8]) -> Result<Script, Refusal>
     requires { IsText script.now }

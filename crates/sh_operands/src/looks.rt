@@ -1,4 +1,4 @@
-//! What is looked for in words; what is in their substitutions are commands of their own.
+//! What is looked for in words. The commands in their substitutions are commands of their own.
 ghost use Rattle.std.specs.Prelude.{◌≡◌, ℕ, List, false};
 ghost use Rattle.std.specs.List.{list_any};
 ghost use Rattle.sh_tree.specs.standard.Tree.{text_of};

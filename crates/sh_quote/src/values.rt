@@ -172,7 +172,7 @@ fn value_is_pattern(front: &[u8], parts: &[Part], script: &[u8]) -> bool
     wildcard || bracket && !alone
 }
 
-/// Whether a value is static and separates no numbers, which is some plain bytes and these parts.
+/// Whether a value of some plain bytes and these parts is static and separates no numbers.
 #[tactic(auto, using(crate::proofs::ValueLemmas::value_whole))]
 pub fn value_is_steady(front: &[u8], parts: &[Part], script: &[u8]) -> bool
     ensures { result ≡ steady.steady_value (before_word front.now (parts_from script.now parts.now)) }

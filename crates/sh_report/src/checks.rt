@@ -102,7 +102,7 @@ pub fn check(alloc: Global, script: &[u8], policy: &Policy, text: &[u8]) -> Resu
     ensures answers { Checks script.now policy.now text.now result }
     ensures headline { result ≡ Ok verdicts.Pass → IsSafe script.now policy.now }
 {
-    // Its clause says that each is a name, which a pass rests on.
+    // Its clause says that each is a name. A pass depends on that.
     let _declared = policy.names();
     let prepared = prepare(alloc, script, policy)?;
     check_prepared(alloc, script, policy, &prepared, text)

@@ -1,4 +1,4 @@
-//! What a simple command drops, which the function drops that it is in (XCU 2.9.1, 2.9.5, 2.15,
+//! What a simple command drops; the function that it is in drops that too (XCU 2.9.1, 2.9.5, 2.15,
 //! unset).
 ghost use Rattle.std.specs.Prelude.{◌≡◌, fold, map, codes, if◌then◌else◌};
 ghost use Rattle.std.specs.List.{list_any};

@@ -1,5 +1,5 @@
-//! Trees as short text, for tests and for people who look at them. Every field of a tree is
-//! reported.
+//! Trees as short text, for tests and for people who look at them. The text shows every field of a
+//! tree.
 #![tactic(auto)]
 
 mod arithmetic;

@@ -153,7 +153,7 @@ fn function_rule(name: &[u8]) -> Option<Rule>
     }
 }
 
-/// The first rule that the command breaks, whose words have these texts.
+/// The first rule that the command whose words have these texts breaks.
 #[tactic(auto, unfolding(crate::specs::Admits::rule_of, crate::specs::Walks::seen_form))]
 pub fn site_rule(site: &Site, texts: &[WordText], script: &[u8]) -> Option<Rule>
     ensures { result ≡ admits.rule_of (walks.around site.now.around) (walks.seen_form script.now site.now.form) (map (text_in script.now) texts.now) }

@@ -21,9 +21,9 @@ pub enum Fault {
     OpenArith,
     /// A here-document has no end line (XCU 2.7.4).
     OpenHereDoc,
-    /// A byte is where an arithmetic expression has none such (XCU 2.6.4).
+    /// There is a byte where an arithmetic expression has none such (XCU 2.6.4).
     BadArith,
-    /// A token is where the grammar has none such (XCU 2.10).
+    /// There is a token where the grammar has none such (XCU 2.10).
     UnexpectedToken,
     /// The script ends where the grammar goes on (XCU 2.10).
     UnexpectedEnd,

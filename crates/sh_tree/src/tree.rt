@@ -342,13 +342,13 @@ pub enum ParameterOperator {
 /// What an expansion does by whether its parameter is set.
 #[derive(Clone, Copy, Debug, PartialEq, Eq)]
 pub enum Action {
-    /// `-`: the word is in for an unset parameter.
+    /// `-`: the word replaces an unset parameter.
     Default,
     /// `=`: the word is assigned to an unset parameter.
     Assign,
     /// `?`: an unset parameter is an error.
     Fault,
-    /// `+`: the word is in for a set parameter.
+    /// `+`: the word replaces a set parameter.
     Alternative,
 }
 

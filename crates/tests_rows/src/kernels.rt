@@ -40,7 +40,7 @@ const UNEQUAL: &[Lengths] = &[
     (64, 16),
 ];
 
-// A word with some 32 bits that are at no rule.
+// A word with some 32 bits, at places that follow no rule.
 fn scattered(seed: u64, place: u64) -> u64 {
     (seed ^ place)
         .wrapping_mul(0x9e37_79b9_7f4a_7c15)

@@ -181,7 +181,7 @@ fn sign_of(context: Context, prior: u8, at: usize, rest: &[u8]) -> (Sign, usize)
     }
 }
 
-/// What begins at `at` in a context, after the plain byte `prior`, or 0 where none is before it. A
+/// What begins at `at` in a context, after the plain byte `prior`, or 0 if none is before it. A
 /// sign of a fault, or of a refused form, ends where that is reported.
 #[tactic(auto, unfolding(sh_tree::specs::standard::language::Words::token))]
 pub fn token_at(script: &[u8], context: Context, prior: u8, at: u32) -> Token
