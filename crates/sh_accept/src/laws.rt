@@ -12,9 +12,9 @@ ghost use Rattle.sh_accept.specs.Written.{TellsOneAnswer};
 
 /// If a certificate is accepted, and so if a check or a lint passes, the script has exactly one
 /// reading. No run of that reading expands an unset parameter without a default. Nor does a run
-/// give an expansion's value to field splitting or pathname expansion that could change it (XCU
-/// 2.6.2, 2.6.5, 2.6.6). This holds of runs from any start that the policy allows, with any results
-/// of the commands, any choice and any order of the processes.
+/// give an expansion's value to field splitting or pathname expansion that could change it
+/// (XCU 2.6.2, 2.6.5, 2.6.6). This holds of runs from any start that the policy allows, with any
+/// results of the commands, any choice and any order of the processes.
 pub fn headline()
     ensures { Headline }
 {}

@@ -1,5 +1,5 @@
-//! The names that a command may drop: each is reported once, at the start of the command (XCU
-//! 2.9.1, 2.15).
+//! The names that a command may drop: each is reported once, at the start of the command
+//! (XCU 2.9.1, 2.15).
 ghost use Rattle.std.specs.Prelude.{◌≡◌, ◌++◌, ◌<◌, ◌&&◌, fold, length, map, slice_get};
 ghost use Rattle.std.specs.List.{All};
 ghost use Rattle.sh_tree.specs.standard.language.Bytes as bytes;

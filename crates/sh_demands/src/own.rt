@@ -191,7 +191,7 @@ fn judge_kind(kind: &Kind, script: &[u8], known: &mut Known<'_>, reports: &mut R
     }
 }
 
-/// Adds the places in a command's own words whose parameter is not surely set, if this is known
+/// Adds the places in a command's own words whose parameter is not surely set, with this known
 /// before the command. Those in the redirections after a compound command come before those in its
 /// words. The commands in them are commands of their own.
 #[tactic(auto, using(crate::proofs::OwnLemmas::own_walked))]

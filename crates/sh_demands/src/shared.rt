@@ -1,5 +1,5 @@
-//! What a command in a part of a pipeline drops or moves, of what the other parts may rely on (XCU
-//! 2.9.2, 2.13).
+//! What a command in a part of a pipeline drops or moves, of what the other parts may rely on
+//! (XCU 2.9.2, 2.13).
 ghost use Rattle.std.specs.Prelude.{◌≡◌, ◌++◌, length, map};
 ghost use Rattle.sh_tree.specs.Lists.{elements_from};
 ghost use Rattle.sh_table.specs.Calls.{callee_at};

@@ -109,7 +109,7 @@ impl Assured {
         self.args = args;
     }
 
-    // What is there with both.
+    // What both assure.
     fn meet(&mut self, other: &Assured)
         ensures { (names : List Text) → assured_facts names self.new ≡ spec.meet (assured_facts names self.old) (assured_facts names other.now) }
     {

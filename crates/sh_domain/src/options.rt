@@ -33,8 +33,8 @@ fn letters_take(mut letters: &[u8]) -> Option<bool>
     Some(false)
 }
 
-/// The operands of `read` after its options; nothing if an option is not one of the standard's (XCU
-/// 3, read).
+/// The operands of `read` after its options; nothing if an option is not one of the standard's
+/// (XCU 3, read).
 #[tactic(auto, unfolding(crate::specs::Sights::read_operands, crate::specs::Sights::go_on))]
 pub fn read_operands<'a>(texts: &'a [WordText], script: &[u8]) -> Option<&'a [WordText]>
     ensures { option_map (λ left. map (text_in script.now) left.now) result ≡ spec.read_operands false (map (text_in script.now) texts.entry.now) }

@@ -99,7 +99,7 @@ pub fn lower_assured(
     lower_at(subject, draft, place, &sight)
 }
 
-// Lowers what is claimed where the command of a number is entered, if this is assured.
+// Lowers what is claimed where the command of a number is entered, with this assured.
 fn lower_entered(
     subject: &Subject<'_>,
     draft: &mut Draft,

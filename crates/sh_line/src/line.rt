@@ -389,10 +389,10 @@ fn read_line<'a>(alloc: Global, name: &str, sub: &ArgMatches<'a>) -> Result<Line
     })
 }
 
-/// Reads the words of a command line, the program's name first. They are `lint [--args N] FILE
-/// [NAME..]`, `cert [--args N] [--full] FILE [NAME..]`, or `check [--args N] FILE CERT [NAME..]`. N
-/// is 0 to 65535, and 0 if it is not given. FILE or CERT `-` is standard input. Each NAME is a
-/// variable that is set when the script starts.
+/// Reads the words of a command line, the program's name first. They are
+/// `lint [--args N] FILE [NAME..]`, `cert [--args N] [--full] FILE [NAME..]`, or
+/// `check [--args N] FILE CERT [NAME..]`. N is 0 to 65535, and 0 if it is not given. FILE or CERT
+/// `-` is standard input. Each NAME is a variable that is set when the script starts.
 ///
 /// # Errors
 ///

@@ -1,5 +1,5 @@
-//! What the elements of a simple command leave known, and the names of its prefix assignments (XCU
-//! 2.9.1).
+//! What the elements of a simple command leave known, and the names of its prefix assignments
+//! (XCU 2.9.1).
 ghost use Rattle.std.specs.Prelude.{◌≡◌, ℕ, List, true, false, fold};
 ghost use Rattle.std.specs.List.{list_any};
 ghost use Rattle.sh_tree.specs.Lists.{elements_from};

@@ -404,7 +404,7 @@ fn getopts_behind(
     Behind { zero, nonzero }
 }
 
-/// After a utility of this kind, if this is known after its words: the standard's status, and what
+/// After a utility of this kind, with this known after its words: the standard's status, and what
 /// it sets, removes or counts.
 #[tactic(auto, unfolding(crate::specs::TextBounds::utility_by))]
 pub fn utility_behind(

@@ -712,7 +712,7 @@ fn walk_expression<V: Visitor>(
     }
 }
 
-/// Visits each command of a script, those in its words included, if this is known at its start. A
+/// Visits each command of a script, those in its words included, with this known at its start. A
 /// command comes before those in its redirections and those in it. The walk takes no memory.
 #[tactic(auto, using(crate::proofs::WalkLemmas::whole_out))]
 pub fn walk<V: Visitor>(claims: &Claims<'_>, start: &Knowledge, list: &Script, visitor: &mut V)

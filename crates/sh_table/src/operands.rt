@@ -325,8 +325,8 @@ fn name_length(text: &[u8]) -> usize
     }
 }
 
-/// The name and the value, if the text is a name, `=` and a value: an assignment in form (XCU
-/// 2.10.2, rule 7).
+/// The name and the value, if the text is a name, `=` and a value: an assignment in form
+/// (XCU 2.10.2, rule 7).
 #[tactic(auto, unfolding(crate::specs::standard::runs::Operands::definition_in, sh_tree::specs::standard::language::Commands::is_assignment, sh_tree::specs::standard::language::Bytes::is_first))]
 pub fn definition_in(text: &[u8]) -> Option<(&[u8], &[u8])>
     ensures { option_map (λ d. (d.0.now, d.1.now)) result ≡ operands.definition_in text.entry.now }

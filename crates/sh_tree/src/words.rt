@@ -16,8 +16,8 @@ fn word_of(element: &Element) -> Option<&Word>
     }
 }
 
-/// The command name of a simple command: its first word that is no assignment, if there is one (XCU
-/// 2.9.1).
+/// The command name of a simple command: its first word that is no assignment, if there is one
+/// (XCU 2.9.1).
 pub fn command_name(elements: &[Element]) -> Option<&Word>
     ensures { option_copied result ≡ slice_get (words_of elements.entry.now) 0 }
 {

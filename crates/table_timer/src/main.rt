@@ -1,6 +1,6 @@
 //! Reads the script of a file, makes its call table and asks the profile, as far as its words say.
-//! Prints whether that went well, or how many microseconds the last step took. `bench/measure.py
-//! table` uses it.
+//! Prints whether that went well, or how many microseconds the last step took.
+//! `bench/measure.py table` uses it.
 #![tactic(auto)]
 
 use sh_grammar::parse;
