@@ -19,9 +19,9 @@ pub fn places()
 {}
 
 /// The flow rules of a script that is admitted define no function without a name (XBD 3.216), and
-/// list none to be lost. Take a certificate that claims only names to be defined functions and to
-/// be dropped ones. Then what bounds its claims and what its commands drop has only names too: `!`
-/// is known as no function.
+/// list none to be lost. So take a certificate that claims only names to be defined functions and
+/// to be dropped ones. Then what bounds its claims and what its commands drop has only names too:
+/// `!` is known as no function.
 pub fn functions()
     ensures defined { RulesDefineNames }
     ensures known { RulesKnowNames }
