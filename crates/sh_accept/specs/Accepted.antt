@@ -23,9 +23,9 @@ MeetsDemands b d t c = demands (start_facts d) (claims_in b t c) (script_of b t)
 abbrev pub IsQuoted : List ℕ → Script → Type 0
 IsQuoted b t = unquoted (script_of b t) ≡ []
 
--- When the certificate is accepted for the text, if these names and so many positional parameters
--- are declared. The text is a script that is admitted. The certificate fits it, breaks no flow rule
--- and leaves no demand unmet, and the rules of quoting report no place.
+-- The certificate is accepted for the text, with these names and so many positional parameters
+-- declared. The text is a script that is admitted. The certificate fits it, breaks no flow rule and
+-- leaves no demand unmet, and the rules of quoting report no place.
 pub record IsAccepted (b : List ℕ) (d : Declared) (c : Sheet) : Type 0 where
   pub tree : Script
   pub names : List Text

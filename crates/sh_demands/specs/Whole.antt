@@ -33,8 +33,8 @@ pub record AreNamesOf (b : List ℕ) (t : Script) (names : List Text) : Type 0 w
   pub numbered : IsNumbering b t declared names
   pub few : length names ≤ MAX_NAMES
 
--- If no two commands have one number, and each name that a command may set is numbered, the walk
--- reports the unmet places, in their order.
+-- Let no two commands have one number, and each name that a command may set be numbered. Then the
+-- walk reports the unmet places, in their order.
 pub record DemandsAreTold : Type 0 where
   pub told : (start : Facts) (b : List ℕ) (t : Script) (names : List Text) (c : kept.Certificate)
       → is_numbered (script_of b t) ≡ true

@@ -65,8 +65,9 @@ is_redirected (p.more_redirects r rs) = true
 abbrev pub behind_words : p.Elements → Seen → Seen
 behind_words es s = gaining (words_gains (operands_in es)) s
 
--- The table. It has what is seen after the words, the operands, what assignments and redirections
--- leave set, the names of the prefix assignments, and whether there are redirections.
+-- The table. It starts from what is seen after the words, the operands, and what assignments and
+-- redirections leave set. It also takes the names of the prefix assignments, and whether there are
+-- redirections.
 
 module _ (behind : Seen) (ws : List Word) (left : Gains) (names : List Text) (redirected : Bool) where
   -- after the assignments and redirections too, which stay at a special built-in utility

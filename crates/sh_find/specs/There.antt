@@ -34,8 +34,8 @@ unfoldable pub AsksThere : List Text → Certificate → Constraint → Type 0
 AsksThere functions c (Within slot n rule v) = HasPlace functions c slot
 AsksThere functions c (Counted function n loss) = HasDrops functions c function
 
--- A certificate with as many commands and functions as the script, and with heads at its loops, has
--- each place of which a rule requires something.
+-- Let a certificate have as many commands and functions as the script, and heads at its loops. Then
+-- it has each place of which a rule requires something.
 abbrev pub RulesAskThere : Type 0
 RulesAskThere =
     (b : List ℕ) (d : Declared) (t : Script) (names : List Text) (loops : List Bool) (c : Certificate) → IsAdmitted b d t names → AreLoops t loops

@@ -31,8 +31,8 @@ IsFault b (Syntax f at) = at ≤ length b
 IsFault b (LeftOut f at) = at < length b
 IsFault b _ = ⊥
 
--- Where a form that the token at i is, is reported: at a line continuation after the token's first
--- bytes, if there is one.
+-- Where the refused form is reported that the token at i is: at a line continuation after the
+-- token's first bytes, if there is one.
 abbrev pub IsPlace : List ℕ → Form → ℕ → ℕ → Type 0
 IsPlace b form.Continuation i at = (i ≤ at) × (at < length b) × (is_split_text (drop i b) ≡ true → is_joined false (drop at b) ≡ true)
 IsPlace b _ i at = at ≡ i

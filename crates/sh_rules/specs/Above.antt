@@ -63,8 +63,8 @@ abbrev pub KeepsThere : Facts → Certificate → List Text → List Entered →
 KeepsThere start c functions es = flat_map (broken start c) (flat_map (bounds functions) es) ≡ []
 
 -- What is required at a command follows its constraints: whatever is known there, nothing else is
--- required. If a certificate below that of the setting sees no more than is known there, and breaks
--- none of its rules, it allows all that is required. It sees no more at the start of a script.
+-- required. Let a certificate below that of the setting see no more than is known there, and break
+-- none of its rules. It allows all that is required. It sees no more at the start of a script.
 pub record StaysAbove (K : Type 0) (a : Asking K) : Type 0 where
   pub start : (names : List Text) (f : Facts) (c : Certificate) → SeesWithin names f c (Both at_start) (both (among names f))
   pub asks : (x : Setting) (start : Facts) (i : ByConstraints K a x start) (functions : List Text) → AreNumbered x.names
@@ -77,8 +77,8 @@ pub record StaysAbove (K : Type 0) (a : Asking K) : Type 0 where
 abbrev pub DoesAsked : {K : Type 0} → Asking K → Setting → List Text → (K → Met → K) → Entered → Type 0
 DoesAsked {K} a x functions w e = (k : Facts) (kept : K) → w kept (met_at e k) ≡ command_told a x functions kept (met_at e k)
 
--- What a visit does by the call table of a script is what the flow rules require at each of its
--- commands, whatever is known there.
+-- By the call table of a script, a visit does what the flow rules require at each of its commands,
+-- whatever is known there.
 abbrev pub VisitsDoAsked : (K : Type 0) → Asking K → Type 0
 VisitsDoAsked K a =
     (x : Setting) (b : List ℕ) (t : Script) → x.rows ≡ (table_of b t).rows

@@ -77,8 +77,8 @@ LeastOfConstraints =
     (x : Setting) (start : Facts) → AreNumbered x.names
     → (i : ByConstraints (Option Fault) least_told x start) × ((least : Option Fault) (ks : List Constraint) → i.all least ks ≡ with_all x start least ks)
 
--- So a walk that reports of each command of a script reports the least fault of the certificate, if
--- the names of the script's prefix assignments are numbered.
+-- So let the names of a script's prefix assignments be numbered. A walk that reports of each
+-- command then reports the least fault of the certificate.
 abbrev pub LeastOfScripts : Type 0
 LeastOfScripts =
     (x : Setting) (start : Facts) (t : p.Items) → AreNumbered x.names → AreDefined x.functions t → list_all (has_numbered_prefixes x.names) (script_entered t) ≡ true

@@ -34,8 +34,9 @@ stepped x s k = step (certificate x) s k
 unfoldable pub called : Setting → Text → Slot → List Text → Facts → Facts
 called x f return names k = among x.names (step (certificate x) (views.Call f return names) k)
 
--- The table. It has what is known after the words, the operands, what assignments and redirections
--- leave set, the names of the prefix assignments, and whether there are redirections.
+-- The table. It starts from what is known after the words, the operands, and what assignments and
+-- redirections leave set. It also takes the names of the prefix assignments, and whether there are
+-- redirections.
 
 module _ (x : Setting) (k : Facts) (ws : List Word) (left : Gains) (names : List Text) (redirected : Bool) where
   -- after the assignments and redirections too, which stay at a special built-in utility

@@ -27,9 +27,9 @@ use Rattle.sh_words.specs.declared.builder.WordBuilder.{WordBuilder}
 use Rattle.sh_words.specs.Modes.{context_of, first_prior}
 use Rattle.sh_words.specs.States.{context_in, prior_in, found_in, made}
 
--- What a builder does not know of its place: how many commands began before it, whether newline
--- tokens are ruled out, whether a here-document's body is around it, and whether tabs at the
--- beginning of lines are stripped there.
+-- What a builder does not know of its place: how many commands began before it; whether newline
+-- tokens are ruled out; whether a here-document's body is around it; whether tabs at the beginning
+-- of lines are stripped there.
 pub record Around : Type 0 where
   pub count : ℕ
   pub quiet : Bool
