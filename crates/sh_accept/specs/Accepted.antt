@@ -1,5 +1,6 @@
 -- Which certificate is accepted for a script.
--- POSIX.1-2024, XCU 2.3 (a text has one reading), 2.6 (word expansions); of certificates the standard says nothing.
+-- POSIX.1-2024, XCU 2.3 (a text has one reading), 2.6 (word expansions); of certificates the
+-- standard says nothing.
 use Rattle.std.specs.Prelude.{◌≡◌, ℕ, Bool, true, List, [], length, Ok}
 use Rattle.sh_tree.specs.declared.tree.Script.{Script}
 use Rattle.sh_tree.specs.standard.program.Syntax.{Text}
@@ -18,12 +19,13 @@ use Rattle.sh_quote.specs.Places.{unquoted}
 abbrev pub MeetsDemands : List ℕ → Declared → Script → Sheet → Type 0
 MeetsDemands b d t c = demands (start_facts d) (claims_in b t c) (script_of b t) ≡ []
 
--- no expansion is told that splitting or pathname expansion could change
+-- the rules of quoting report no expansion that splitting or pathname expansion could change
 abbrev pub IsQuoted : List ℕ → Script → Type 0
 IsQuoted b t = unquoted (script_of b t) ≡ []
 
--- The certificate is accepted for the text, where these names and so many positional parameters are declared: the text is a script that is
--- admitted, the certificate fits it, breaks no flow rule and leaves no demand unmet, and the rules of quoting tell no place.
+-- The certificate is accepted for the text, with these names and so many positional parameters
+-- declared. The text is a script that is admitted. The certificate fits it, breaks no flow rule and
+-- leaves no demand unmet, and the rules of quoting report no place.
 pub record IsAccepted (b : List ℕ) (d : Declared) (c : Sheet) : Type 0 where
   pub tree : Script
   pub names : List Text

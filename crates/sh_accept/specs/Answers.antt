@@ -1,4 +1,5 @@
--- What may be answered of a script: of a certificate of it, of all its certificates, which certificate is shown, and how it is printed.
+-- What may be answered of a script: of a certificate of it, of all its certificates, which
+-- certificate is shown, and how it is printed.
 -- shset's own; the standard has none.
 use Rattle.std.specs.Prelude.{◌≡◌, ◌≤◌, ◌<◌, ◌⊎◌, ℕ, Bool, true, false, List, ◌++◌, length, None, Some, Result, Ok, Err, Vec}
 use Rattle.std.specs.declared.alloc.Global.{Global}
@@ -46,7 +47,7 @@ Refuses b d P CertShape = P CertShape
 
 -- Of one certificate
 
--- the places of the demands that it leaves unmet, and those that the rules of quoting tell
+-- the places of the demands that it leaves unmet, and those that the rules of quoting report
 abbrev pub places : List ℕ → Declared → Script → Sheet → List Place
 places b d t c = demands (start_facts d) (claims_in b t c) (script_of b t) ++ unquoted (script_of b t)
 
@@ -102,7 +103,7 @@ pub record HasLeastFindings (b : List ℕ) (d : Declared) (fs : List Finding) : 
 abbrev pub NoRefusal : Refusal → Type 0
 NoRefusal r = ⊥
 
--- what is answered of a script without a certificate: Pass exactly where some certificate is accepted
+-- what is answered of a script without a certificate: Pass exactly if some certificate is accepted
 abbrev pub Lints : List ℕ → Declared → Result Verdict Refusal → Type 0
 Lints b d (Ok Pass) = (c : Sheet) × IsAccepted b d c
 Lints b d (Ok (Fail r)) = HasLeastFindings b d r.findings.items
@@ -138,7 +139,8 @@ Certifies full b d (Err r) = Refuses b d (RefusesLong full b d) r
 
 -- Of the text alone
 
--- the canonical text of a script that is read, whether it is admitted or not, or the refusal of its text
+-- the canonical text of a script that is read, whether it is admitted or not, or the refusal of its
+-- text
 abbrev pub Prints : List ℕ → Result (Vec ℕ Global) Refusal → Type 0
 Prints b (Ok v) = (t : Script) × Parses b (Ok t) × (v.items ≡ canon b t)
 Prints b (Err r) = Parses b (Err r)

@@ -52,7 +52,8 @@ unfoldable pub in_order : List Contents → List Contents
 in_order [] = []
 in_order (x ∷ xs) = placed x (in_order xs)
 
--- The steps: the profile, the names, the form of the text, its fit, the rules, the demands and the quoting
+-- The steps: the profile, the names, the form of the text, its fit, the rules, the demands and the
+-- quoting
 
 unfoldable pub of_findings : List Contents → Answer
 of_findings [] = Passes
@@ -88,14 +89,15 @@ unfoldable pub filled_to : Sheet → GivenSheet → Sheet
 filled_to filled (Full c) = c
 filled_to filled (Compact k) = filled
 
--- of a program with these functions, names and loops, if a compact certificate is filled to this one
+-- of a program with these functions, names and loops, if a compact certificate is filled to this
+-- one
 abbrev pub computed : List ℕ → Declared → Items → (functions names : List Text) → (loops : List Bool) → (filled : Sheet) → Text → Answer
 computed b d p functions names loops filled text =
     of_profile (first_refused p)
     (of_count (nat_le (length names) MAX_NAMES)
     (of_claims (given_fits names loops (length functions)) (λ g. of_certificate b d p functions (filled_to filled g)) (read_given text)))
 
--- Where it is the answer
+-- Of which scripts it is the answer
 
 -- The tree is the one reading, these are its names, and these are its loops.
 pub record IsRead (b : List ℕ) (d : Declared) (t : Script) (names : List Text) (loops : List Bool) : Type 0 where
@@ -109,7 +111,7 @@ IsFilledBy b t names loops text filled =
     (k : CompactSheet) → read_given text ≡ Ok (Compact k) → compact_fits names loops (length (functions_in b t)) k ≡ true
     → FillsTo b t names k filled
 
--- no want of memory
+-- the refusal is not that memory ran out
 unfoldable pub is_refusal : Refusal → Bool
 is_refusal Memory = false
 is_refusal _ = true
@@ -118,7 +120,8 @@ unfoldable pub is_told : Result Verdict Refusal → Bool
 is_told (Ok v) = true
 is_told (Err e) = is_refusal e
 
--- Of a script that is read, whatever a check may answer, memory aside, is the computed answer: so there is one.
+-- Of a script that is read, a check may answer only what is computed, unless memory runs out. So
+-- there is one answer.
 pub record HasOneAnswer : Type 0 where
   pub computes : (b : List ℕ) (d : Declared) (t : Script) (names : List Text) (loops : List Bool) (filled : Sheet) (text : Text) (x : Result Verdict Refusal)
       → IsRead b d t names loops → IsFilledBy b t names loops text filled → Checks b d text x → is_told x ≡ true → shown x ≡ computed b d (script_of b t) (functions_in b t) names loops filled text

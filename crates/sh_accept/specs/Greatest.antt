@@ -1,4 +1,5 @@
--- What the greatest certificate is good for: it leaves no place unmet that another one meets, so some certificate is accepted only where it is.
+-- What the greatest certificate is good for: it leaves no place unmet that another one meets. So
+-- some certificate is accepted only if the greatest is.
 -- shset's own; the standard has none.
 use Rattle.std.specs.Prelude.{◌≡◌, ℕ, Bool, true, List, Ok}
 use Rattle.std.specs.List.{list_any}
@@ -14,7 +15,7 @@ use Rattle.sh_accept.specs.Accepted.{IsAccepted}
 use Rattle.sh_domain.specs.Admitted.{IsGreatest}
 use Rattle.sh_accept.specs.Answers.{IsBest, Lints, places}
 
--- whatever is told of the first places is told of the second
+-- any test that some first place passes, some second place passes
 abbrev pub AreAmong : List Place → List Place → Type 0
 AreAmong ps qs = (test : Place → Bool) → list_any test ps ≡ true → list_any test qs ≡ true
 

@@ -1,4 +1,4 @@
--- Where a refusal is told: inside the script's text.
+-- Where a refusal is reported: inside the script's text.
 -- POSIX.1-2024, XCU 2.3 (token recognition), 2.10 (shell grammar).
 use Rattle.std.specs.Prelude.{◌<◌, ◌≤◌, ℕ, Bool, List, length, Err}
 use Rattle.sh_tree.specs.declared.refusal.Refusal.{Refusal}
@@ -8,7 +8,7 @@ use Rattle.sh_domain.specs.Facts.{Declared}
 use Rattle.sh_accept.specs.Answers.{Checks, Lints, Certifies}
 
 -- The place of a refusal, if it has one, is before the end of the text. A fault of syntax and a
--- level too many may be told at its end.
+-- level too many may be reported at its end.
 abbrev pub IsInside : List ℕ → Refusal → Type 0
 IsInside b (NulByte at) = at < length b
 IsInside b (Syntax f at) = at ≤ length b

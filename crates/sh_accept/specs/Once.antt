@@ -1,4 +1,5 @@
--- That each place is told once, among those of a certificate and among the findings of a report.
+-- That each place is reported once, among those of a certificate and among the findings of a
+-- report.
 -- POSIX.1-2024, XCU 2.6 (word expansions), 2.9 (shell commands).
 use Rattle.std.specs.Prelude.{ℕ, List, map, Ok}
 use Rattle.sh_tree.specs.Answers.{Parses}

@@ -21,8 +21,9 @@ use Rattle.sh_domain.specs.Admitted.{IsAdmitted, KeepsRules, claims_in, function
 use Rattle.sh_accept.specs.Accepted.{Gives}
 use Rattle.sh_accept.specs.Answers.{Checks, IsCertified, places}
 
--- The refusal of each part is that of the check; what is read of the text is a certificate's; and of that, no fault and no place pass, the least fault
--- is told, and otherwise the findings are.
+-- The refusal of each part is that of the check. What is read of the text is a certificate's. Of
+-- that certificate: without a fault and a place the check passes; with a fault it reports the least
+-- one; otherwise it reports the findings.
 pub record PartsAnswer (b : List ℕ) (d : Declared) (text : Text) : Type 0 where
   pub unread : (e : Refusal) → Parses b (Err e) → Checks b d text (Err e)
   pub refused : (t : Script) (e : Refusal) → Parses b (Ok t) → Admits (script_of b t) (Err e) → Checks b d text (Err e)

@@ -11,8 +11,8 @@ use Rattle.sh_answers.specs.declared.verdict.Verdict.TheVariants.{Pass}
 use Rattle.sh_accept.specs.Accepted.{IsAccepted}
 use Rattle.sh_accept.specs.Answers.{Checks, IsBest, IsTextOf, Lints, Certifies}
 
--- If the greatest certificate is accepted, a check of its text passes, in full or in its compact form,
--- if that is within its limit. So if a lint passes, a check of the text that is shown does.
+-- If the greatest certificate is accepted, a check of its text passes, in full or in its compact
+-- form, if that is within its limit. So if a lint passes, a check of the text that is shown does.
 pub record LintedIsChecked : Type 0 where
   pub best : (full : Bool) (b : List ℕ) (d : Declared) (t : Script) (c : Sheet) (text : Text) → IsBest b d t c → IsAccepted b d c → IsTextOf full d c text → length text ≤ MAX_CERTIFICATE
       → Checks b d text (Ok Pass)

@@ -1,4 +1,5 @@
--- A script has at most one greatest certificate, and so one answer at most where no certificate is given, and one text that is shown.
+-- A script has at most one greatest certificate. So it has at most one answer if no certificate is
+-- given, and one text that is shown.
 -- shset's own; the standard has none.
 use Rattle.std.specs.Prelude.{◌≡◌, ℕ, Bool, true, List, Result, Ok, Vec}
 use Rattle.std.specs.declared.alloc.Global.{Global}

@@ -1,5 +1,7 @@
--- What an accepted certificate is good for: the script has one reading, and no run of it expands an unset parameter without a default or splits a value.
--- POSIX.1-2024, XCU 2.3 (token recognition), 2.10 (shell grammar), 2.6.2 (parameter expansion), 2.6.5 (field splitting), 2.6.6 (pathname expansion).
+-- What an accepted certificate is good for. The script has one reading, and no run of it expands an
+-- unset parameter without a default or splits a value.
+-- POSIX.1-2024, XCU 2.3 (token recognition), 2.10 (shell grammar), 2.6.2 (parameter expansion),
+-- 2.6.5 (field splitting), 2.6.6 (pathname expansion).
 use Rattle.std.specs.Prelude.{◌≡◌, ℕ, true, false, List, Some, Ok}
 use Rattle.std.specs.List.{list_all}
 use Rattle.sh_tree.specs.declared.tree.Script.{Script}
@@ -15,8 +17,8 @@ use Rattle.sh_answers.specs.declared.verdict.Verdict.TheVariants.{Pass}
 use Rattle.sh_accept.specs.Accepted.{IsAccepted}
 use Rattle.sh_accept.specs.Answers.{Checks, Lints}
 
--- In no run of the script, from any start that the policy allows, whatever the results, the choices and the order of the processes, has a step
--- an event.
+-- In no run of the script has a step an event. This holds from any start that the policy allows,
+-- whatever the results, the choices and the order of the processes.
 abbrev pub HasNoEvent : List ℕ → Declared → Script → Type 0
 HasNoEvent b d t =
     (e : Environment) (f : Frame) → IsStart d.names d.args e f
@@ -30,7 +32,8 @@ pub record IsSafe (b : List ℕ) (d : Declared) : Type 0 where
   pub only : (u : Script) → Reads b u → u ≡ tree
   pub runs : HasNoEvent b d tree
 
--- Where a certificate is accepted, of names that are declared as a policy declares them, the script is safe. So it is wherever a check or a lint passes.
+-- If a certificate is accepted, for names that a policy can declare, the script is safe. So it is
+-- if a check or a lint passes.
 pub record Headline : Type 0 where
   pub accepted : (b : List ℕ) (d : Declared) (c : Sheet) → list_all is_name d.names ≡ true → IsAccepted b d c → IsSafe b d
   pub checked : (b : List ℕ) (d : Declared) (text : Text) → list_all is_name d.names ≡ true → Checks b d text (Ok Pass) → IsSafe b d

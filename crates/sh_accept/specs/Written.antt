@@ -13,7 +13,7 @@ use Rattle.sh_answers.specs.declared.task.Action.TheVariants.{Lint, Cert, Check,
 use Rattle.sh_answers.specs.declared.verdict.Verdict.{Verdict}
 use Rattle.sh_accept.specs.Answers.{Certifies, Checks, Lints, Prints}
 
--- the text and the status are those of an answer as it should be, other than want of memory
+-- the text and the status are those of an answer as it should be, other than out of memory
 pub record TellsVerdict (Should : Result Verdict Refusal → Type 0) (b text : List ℕ) (status : ℕ) : Type 0 where
   pub answer : Result Verdict Refusal
   pub answers : Should answer
@@ -38,7 +38,8 @@ pub record TellsText (Should : Result (Vec ℕ Global) Refusal → Type 0) (b te
   pub text_is : text ≡ shown_text b answer
   pub status_is : status ≡ shown_status answer
 
--- the text and the status are those of an answer of the action on the script's bytes and the certificate's
+-- the text and the status are those of an answer of the action on the script's bytes and the
+-- certificate's
 abbrev pub Tells : Action → (b certificate : List ℕ) → Declared → List ℕ → ℕ → Type 0
 Tells Lint b certificate d = TellsVerdict (Lints b d) b
 Tells (Cert full) b certificate d = TellsText (Certifies full b d) b

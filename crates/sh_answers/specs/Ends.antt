@@ -30,8 +30,8 @@ counts_after (Ok n) room c = with_moved n room c
 counts_after (Err Interrupted) room c = record c { interruptions = c.interruptions + 1 }
 counts_after (Err Failed) room c = record c { errors = c.errors + 1 }
 
--- what an end answers for what its reader or writer answered: an interruption where the error is one that
--- may be tried again, and a failure where it is any other
+-- what an end answers for what its reader or writer answered: an interruption if the error is one
+-- that may be tried again, and a failure if it is any other
 abbrev pub Tells : Result ℕ Error → Result ℕ Broken → Type 0
 Tells (Ok n) r = r ≡ Ok n
 Tells (Err e) r = ((error_kind e ≡ kind.Interrupted) × (r ≡ Err Interrupted)) ⊎ ((error_kind e ≢ kind.Interrupted) × (r ≡ Err Failed))
@@ -44,11 +44,12 @@ Borne old new = (old.interruptions ≤ new.interruptions) × (new.interruptions 
 abbrev pub BoreOnly : Counts → Counts → Type 0
 BoreOnly old new = (new.errors ≡ old.errors) × Borne old new × (new.empty ≡ old.empty)
 
--- nothing else went wrong, but for one call that moved nothing
+-- nothing else went wrong, except for one call that moved nothing
 abbrev pub MovedNothing : Counts → Counts → Type 0
 MovedNothing old new = (new.errors ≡ old.errors) × Borne old new × (new.empty ≡ old.empty + 1)
 
--- the end failed between the two counts: it gave one error, or was interrupted once more than is borne
+-- the end failed between the two counts: it gave one error, or was interrupted once more than is
+-- borne
 abbrev pub FailedBetween : Counts → Counts → Type 0
 FailedBetween old new =
     ((new.errors ≡ old.errors + 1) × Borne old new × (new.empty ≡ old.empty))

@@ -5,11 +5,12 @@ use Rattle.std.specs.Io.KnownBytes.{Consumes, IsAtEnd}
 use Rattle.sh_answers.specs.declared.ends.Counts.{Counts}
 use Rattle.sh_answers.specs.Ends.{BoreOnly, MovedNothing}
 
--- n bytes were read, and reading stopped at the one call that gave none or at as many as are asked for at most
+-- n bytes were read, and reading stopped at the one call that gave none or at as many as are asked
+-- for at most
 abbrev pub IsReadWhole : Counts → Counts → Option (List ℕ) → ℕ → ℕ → Type 0
 IsReadWhole old new left limit n = (MovedNothing old new × (n < limit) × IsAtEnd left) ⊎ (BoreOnly old new × (n ≡ limit))
 
--- the reader told its bytes, and b are those that it is asked for at most
+-- the reader's bytes are known, and b are those that it is asked for at most
 abbrev pub Had : Option (List ℕ) → ℕ → List ℕ → Type 0
 Had None limit b = ⊥
 Had (Some xs) limit b = b ≡ take limit xs

@@ -1,4 +1,5 @@
--- The bodies of here-documents put where their operators are, in their order. Words are whole already, and have their own.
+-- The bodies of here-documents put where their operators are, in their order. Words are whole
+-- already, and have their own.
 -- POSIX.1-2024, XCU 2.7.4 (here-document).
 use Rattle.std.specs.Prelude.{List, [], ◌∷◌, Option, Some, None}
 use Rattle.sh_bodies.specs.declared.Document.{Document}

@@ -1,4 +1,5 @@
--- Clauses of private functions: the places of names that a command may drop, by the pieces that name them.
+-- Clauses of private functions: the places of names that a command may drop, by the pieces that
+-- name them.
 -- POSIX.1-2024, XCU 2.9.1 (simple commands), 2.15 (unset).
 use Rattle.std.specs.Prelude.{ℕ, Bool, true, false, not, ◌&&◌, if◌then◌else◌, List, [], ◌∷◌, ◌++◌, fold, Option, Some, None, slice_get}
 use Rattle.sh_tree.specs.declared.place.Place.{Place}
@@ -70,7 +71,7 @@ unseen_told f k at ps t = if claims f (Variable t) then ps else once_told k at p
 unfoldable pub prefix_step : List ℕ → Facts → (k at : ℕ) → List Place → Element → List Place
 prefix_step b f k at ps e = all_told k at ps (unseen f (element_from b e p.no_elements))
 
--- a simple command, where some run comes to it
+-- a simple command, if some run comes to it
 unfoldable pub elements_step : List ℕ → Source → (n at : ℕ) → List Place → List Element → List Place
 elements_step b s n at ps es = if is_reached (known_before s n).facts then sharing s n at ps (elements_from b es) else ps
 
@@ -78,6 +79,6 @@ elements_step b s n at ps es = if is_reached (known_before s n).facts then shari
 unfoldable pub reached_step : List ℕ → Source → (n at : ℕ) → List Place → Kind → List Place
 reached_step b s n at ps k = reached_sharing s n at ps (kind_of b k)
 
--- one that may stand in a part of a pipeline
+-- one that may be in a part of a pipeline
 unfoldable pub shared_step : List ℕ → Source → Bool → (n at : ℕ) → List Place → Kind → List Place
 shared_step b s shares n at ps k = shared s shares n at ps (kind_of b k)

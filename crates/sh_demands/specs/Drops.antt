@@ -1,4 +1,5 @@
--- The names that a simple command may drop, by the static texts of its words, and their places, one for each name.
+-- The names that a simple command may drop, by the static texts of its words, and their places, one
+-- for each name.
 -- POSIX.1-2024, XCU 2.9.1 (simple commands), 2.9.5 (functions), 2.15 (unset), 3 (getopts).
 use Rattle.std.specs.Prelude.{ℕ, not, if◌then◌else◌, List, [], ◌∷◌, ◌++◌, codes, drop, filter, fold}
 use Rattle.std.specs.List.{filter_map, list_any}

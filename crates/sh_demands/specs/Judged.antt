@@ -1,6 +1,8 @@
--- What a walk over words knows, and the places so far whose parameter is not surely set. Of the names that there is room for it is what
--- `sh_domain` says of a word; the walk of the code goes by it.
--- POSIX.1-2024, XCU 2.6.1 (tilde expansion), 2.6.2 (parameter expansion), 2.6.4 (arithmetic expansion).
+-- What a walk over words knows, and the places so far whose parameter is not surely set. Of the
+-- names that there is room for it is what `sh_domain` says of a word; the walk of the code follows
+-- it.
+-- POSIX.1-2024, XCU 2.6.1 (tilde expansion), 2.6.2 (parameter expansion), 2.6.4 (arithmetic
+-- expansion).
 use Rattle.std.specs.Prelude.{ℕ, List, [], ◌++◌, codes}
 use Rattle.sh_tree.specs.declared.place.Place.{Place}
 use Rattle.sh_tree.specs.declared.place.Code.TheVariants.{U2}

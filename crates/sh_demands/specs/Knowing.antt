@@ -16,7 +16,7 @@ pub record Knowing : Type 0 where
   pub names : List Text
   pub facts : Facts
 
--- what a value of the code stands for
+-- what a value of the code means
 abbrev pub knowing : Known → Knowing
 knowing k = record { names = k.names.now; facts = knowledge_facts k.names.now k.knowledge }
 
@@ -34,7 +34,7 @@ action_gains p action.Assign = sure p
 action_gains p action.Fault = sure p
 action_gains p _ = no_gains
 
--- the operand behind `&&` or `||` may be left out
+-- `&&` and `||` may skip the operand after them
 unfoldable pub may_stop : Binary → Bool
 may_stop binary.And = true
 may_stop binary.Or = true

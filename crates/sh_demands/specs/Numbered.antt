@@ -11,7 +11,8 @@ use Rattle.sh_domain.specs.Facts.{Declared}
 use Rattle.sh_domain.specs.Names.{IsNumbering}
 use Rattle.sh_demands.specs.Within.{command_within}
 
--- Each name that a command of the script may set in its words is one of those that are numbered of it.
+-- Each name that a command of the script may set in its words is one of those that are numbered of
+-- it.
 pub record NamesReach : Type 0 where
   pub within : (b : List ℕ) (t : Script) (d : Declared) (names : List Text) → IsNumbering b t d names
       → list_all (λ e. command_within (is_one_of names) e.command) (script_entered (script_of b t)) ≡ true

@@ -1,4 +1,5 @@
--- What is judged of a command's own words, behind its redirections. The commands in them are judged for themselves.
+-- What is judged of a command's own words, after its redirections. The commands in them are judged
+-- for themselves.
 -- POSIX.1-2024, XCU 2.7 (redirection), 2.9.1 (simple commands), 2.9.4 (compound commands).
 use Rattle.std.specs.Prelude.{List}
 use Rattle.sh_tree.specs.declared.place.Place.{Place}
@@ -30,7 +31,8 @@ unfoldable pub redirects_judged : Judged → p.Redirects → Judged
 redirects_judged s p.no_redirects = s
 redirects_judged s (p.more_redirects r rs) = redirects_judged (redirect_judged s r) rs
 
--- the words of a simple command one after the other, and by what is known behind them each redirection and each value
+-- the words of a simple command one after the other, and by what is known after them each
+-- redirection and each value
 unfoldable pub elements_judged : Knowing → Judged → p.Elements → Judged
 elements_judged k s p.no_elements = s
 elements_judged k s (p.assignment name value es) = elements_judged k (beside k (λ t. word_judged t value) s) es

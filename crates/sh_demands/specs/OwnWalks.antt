@@ -42,7 +42,7 @@ unfoldable pub listed_step : List ℕ → Judged → Option (List Word) → Judg
 listed_step b s None = s
 listed_step b s (Some ws) = fold (word_step b) s ws
 
--- behind the words of a simple command
+-- after the words of a simple command
 abbrev pub simple_step : List ℕ → Judged → List Element → Judged
 simple_step b s es = fold (element_step b (fold (element_gained b) s.known es)) s es
 

@@ -1,5 +1,6 @@
--- The places that are told of each command of a script, by what a certificate claims before it.
--- POSIX.1-2024, XCU 2.6 (word expansions), 2.9 (shell commands), 2.13 (shell execution environment).
+-- The places that are reported of each command of a script, by what a certificate claims before it.
+-- POSIX.1-2024, XCU 2.6 (word expansions), 2.9 (shell commands), 2.13 (shell execution
+-- environment).
 use Rattle.std.specs.Prelude.{◌≡◌, ℕ, ◌-◌, Bool, true, false, if◌then◌else◌, List, [], ◌∷◌, ◌++◌, length, map, Option, Some, None, slice_get, unwrap_or}
 use Rattle.sh_tree.specs.declared.place.Place.{Place}
 use Rattle.sh_tree.specs.standard.program.Syntax as p
@@ -20,7 +21,8 @@ use Rattle.sh_demands.specs.Knowing.{Knowing, gained}
 use Rattle.sh_demands.specs.Moves.{moves_by}
 use Rattle.sh_demands.specs.Own.{own_places}
 
--- the names of a script by their numbers, what is claimed before each command, what each function may drop, and the texts of its words
+-- the names of a script by their numbers, what is claimed before each command, what each function
+-- may drop, and the texts of its words
 pub record Source : Type 0 where
   pub names : List Text
   pub before : List Claim
@@ -48,7 +50,7 @@ known_before s n = record { names = s.names; facts = facts (unwrap_or (slice_get
 abbrev pub function_drops : Source → ℕ → Names
 function_drops s k = unwrap_or (slice_get s.drops (k - 1)) no_names
 
--- behind the words of a simple command
+-- after the words of a simple command
 abbrev pub known_behind : Source → ℕ → p.Elements → Knowing
 known_behind s n es = gained (words_gains (operands_in es)) (known_before s n)
 

@@ -27,7 +27,7 @@ HasReported r ps = AreKept r.is_short r.places.items ps
 abbrev pub HasReportedSince : Reports → (start k : ℕ) → List Place → Type 0
 HasReportedSince r start k ps = AreKeptSince r.is_short r.places.items start k ps
 
--- Whatever was reported before, this is reported behind it.
+-- Whatever was reported before, this is reported after it.
 abbrev pub Adds : (old new : Reports) → (List Place → List Place) → Type 0
 Adds old new step = (ps : List Place) → HasReported old ps → HasReported new (step ps)
 

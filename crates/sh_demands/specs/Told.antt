@@ -1,6 +1,8 @@
--- What is told of each command of a program, a command before those in it and those in its redirections before those in its words; of each
--- is asked whether it is in a part of a pipeline, which may share the environment of the other parts.
--- POSIX.1-2024, XCU 2.6.3 (command substitution), 2.9 (shell commands), 2.13 (shell execution environment).
+-- What is reported of each command of a program: of a command before those in it, of those in its
+-- redirections before those in its words. Each comes with whether it is in a part of a pipeline,
+-- which may share the environment of the other parts.
+-- POSIX.1-2024, XCU 2.6.3 (command substitution), 2.9 (shell commands), 2.13 (shell execution
+-- environment).
 use Rattle.std.specs.Prelude.{Bool, false, not, ◌&&◌, ◌||◌, List}
 use Rattle.sh_tree.specs.declared.place.Place.{Place}
 use Rattle.sh_tree.specs.standard.program.Syntax as p

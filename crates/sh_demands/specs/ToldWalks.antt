@@ -1,5 +1,6 @@
--- Clauses of private functions: what is told of a piece of a tree.
--- POSIX.1-2024, XCU 2.6.3 (command substitution), 2.9 (shell commands), 2.13 (shell execution environment).
+-- Clauses of private functions: what is reported of a piece of a tree.
+-- POSIX.1-2024, XCU 2.6.3 (command substitution), 2.9 (shell commands), 2.13 (shell execution
+-- environment).
 use Rattle.std.specs.Prelude.{ℕ, nat_lt, Bool, ◌||◌, List, fold, Option, Some, None}
 use Rattle.sh_tree.specs.declared.place.Place.{Place}
 use Rattle.sh_tree.specs.declared.tree.AndOr.{AndOr}

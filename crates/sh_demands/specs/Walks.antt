@@ -1,4 +1,4 @@
--- Clauses of private functions: what is known behind a piece of a tree.
+-- Clauses of private functions: what is known after a piece of a tree.
 -- POSIX.1-2024, XCU 2.6.2 (parameter expansion), 2.6.4 (arithmetic expansion).
 use Rattle.std.specs.Prelude.{ℕ, List, [], ◌∷◌, ◌++◌, codes, fold, Option}
 use Rattle.sh_tree.specs.declared.place.Code.{Code}
@@ -100,7 +100,7 @@ operator_step b s at subject o = operator_judged s at (parameter_of b subject) (
 unfoldable pub inner_gained : List ℕ → Knowing → Subject → Action → Knowing
 inner_gained b k s a = gained (inner_gains (parameter_of b s) a) k
 
--- the word behind an operator is judged aside
+-- the word after an operator is judged aside
 abbrev pub use_step : List ℕ → Judged → Action → Subject → Word → Judged
 use_step b s a subject w =
     judged (action_gained b s.known subject a) (fold (part_step b) (judged (inner_gained b s.known subject a) s.places) w.parts).places

@@ -1,5 +1,6 @@
--- What the walk tells of a whole script are its demands.
--- POSIX.1-2024, XCU 2.6 (word expansions), 2.9 (shell commands), 2.13 (shell execution environment).
+-- What the walk reports of a whole script are its demands.
+-- POSIX.1-2024, XCU 2.6 (word expansions), 2.9 (shell commands), 2.13 (shell execution
+-- environment).
 use Rattle.std.specs.Prelude.{◌≡◌, ◌≤◌, ℕ, true, false, List, ◌++◌, length}
 use Rattle.std.specs.List.{list_all}
 use Rattle.sh_tree.specs.declared.limits.TheConstants.{MAX_NAMES}
@@ -32,7 +33,8 @@ pub record AreNamesOf (b : List ℕ) (t : Script) (names : List Text) : Type 0 w
   pub numbered : IsNumbering b t declared names
   pub few : length names ≤ MAX_NAMES
 
--- Where no two commands have one number and each name that a command may set is numbered, the walk tells the unmet places, in their order.
+-- Let no two commands have one number, and each name that a command may set be numbered. Then the
+-- walk reports the unmet places, in their order.
 pub record DemandsAreTold : Type 0 where
   pub told : (start : Facts) (b : List ℕ) (t : Script) (names : List Text) (c : kept.Certificate)
       → is_numbered (script_of b t) ≡ true

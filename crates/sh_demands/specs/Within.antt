@@ -1,4 +1,5 @@
--- Whether each name that a piece of a program may leave set passes a test: of expansions and of arithmetic, wherever in it.
+-- Whether each name that a piece of a program may leave set passes a test: of expansions and of
+-- arithmetic, wherever in it.
 -- POSIX.1-2024, XCU 2.6.2 (parameter expansion), 2.6.4 (arithmetic expansion).
 use Rattle.std.specs.Prelude.{Bool, true, ◌&&◌}
 use Rattle.std.specs.List.{list_all}

@@ -1,5 +1,6 @@
 -- What a certificate claims: facts about names as bytes.
--- The standard has no such thing: what is surely set (XCU 2.5) round each command and each function.
+-- The standard has no such thing: what is surely set (XCU 2.5) round each command and each
+-- function.
 use Rattle.std.specs.Prelude.{ℕ, ◌+◌, nat_eq, List, [], ◌∷◌, filter, fold, map, option_map, if◌then◌else◌, Option}
 use Rattle.indexmap.specs.IndexMap.{get}
 use Rattle.sh_tree.specs.standard.program.Syntax.{Text}

@@ -1,5 +1,6 @@
 -- The form of a compact certificate's text: which lines are those of one, and what they claim.
--- The standard has no such thing: each line ends with a newline, and single blanks stand between its fields.
+-- The standard has no such thing: each line ends with a newline, and single blanks are between its
+-- fields.
 use Rattle.std.specs.Prelude.{ℕ, zero, suc, ◌+◌, nat_le, Bool, false, ◌&&◌, if◌then◌else◌, List, [], ◌∷◌, length, codes, Option, Some, None, Result, Ok, Err}
 use Rattle.std.specs.Str.{bytes_eq}
 use Rattle.sh_tree.specs.standard.program.Syntax.{Text}
@@ -59,7 +60,8 @@ read_turns k least zero t = Ok ([], t)
 read_turns k least (suc n) t =
     behind (read_line (turn_in least) k t) (λ x. behind (read_turns (k + 1) (x.0.0 + 1) n x.1) (λ y. Ok (x.0 ∷ y.0, y.1)))
 
--- what the text claims, or the number of the first line that has not the form; a line that is missing has the number behind the last
+-- what the text claims, or the number of the first line that has not the form; a missing line has
+-- the number after the last
 unfoldable pub read_compact_sheet : Text → Result CompactSheet ℕ
 read_compact_sheet t =
     behind (read_line is_compact_line 1 t) (λ a.
@@ -84,7 +86,7 @@ unfoldable pub begins_compact : Option (Text × Text) → Bool
 begins_compact None = false
 begins_compact (Some x) = bytes_eq compact_line x.0
 
--- the first line tells the version
+-- the first line gives the version
 abbrev pub is_compact : Text → Bool
 is_compact t = begins_compact (cut_at 10 t)
 

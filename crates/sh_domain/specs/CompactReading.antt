@@ -1,5 +1,6 @@
 -- Which certificate of either version a text is, for a script.
--- The standard has no such thing: a compact certificate fits a script by its counts, by the numbers of its loops and by its names.
+-- The standard has no such thing: a compact certificate fits a script by its counts, by the numbers
+-- of its loops and by its names.
 use Rattle.std.specs.Prelude.{◌≡◌, ℕ, ◌+◌, Bool, true, false, nat_eq, ◌&&◌, List, [], ◌∷◌, length, Result, Ok, Err}
 use Rattle.sh_tree.specs.declared.refusal.Refusal.{Refusal}
 use Rattle.sh_tree.specs.declared.refusal.Refusal.TheVariants.{Memory, CertSyntax, CertShape}
@@ -14,7 +15,7 @@ use Rattle.sh_domain.specs.Facts.{Claim}
 use Rattle.sh_domain.specs.KeptRows.{KeptRows}
 use Rattle.sh_domain.specs.Reading.{AreLoops, claim_fits, functions_fit, fits}
 
--- the numbers of the loops among these commands, of which the first has the number k
+-- the numbers of the loops among these commands, the first of which has the number k
 unfoldable pub loop_numbers : ℕ → (loops : List Bool) → List ℕ
 loop_numbers k [] = []
 loop_numbers k (true ∷ ls) = k ∷ loop_numbers (k + 1) ls
@@ -57,7 +58,8 @@ pub record IsOtherGiven (text : Text) (names : List Text) (loops : List Bool) (f
   pub claims : read_given text ≡ Ok sheet
   pub misfit : given_fits names loops functions sheet ≡ false
 
--- The text of a certificate of either version is read as one that claims the same, and no other text is read as one.
+-- The text of a certificate of either version is read as one that claims the same, and no other
+-- text is read as one.
 abbrev pub ReadsGiven : Text → Script → (functions : ℕ) → List Text → Result Given Refusal → Type 0
 ReadsGiven text t functions names (Ok g) = (loops : List Bool) × AreLoops t loops × IsGiven text names loops functions g
 ReadsGiven text t functions names (Err (CertSyntax n)) = read_given text ≡ Err n

@@ -1,5 +1,6 @@
 -- A compact certificate that has a text is read again, from that text, as one that claims the same.
--- The standard has no such thing: a kept certificate names rows of numbers, and its text has names in rising byte order.
+-- The standard has no such thing: a kept certificate names rows of numbers, and its text has names
+-- in rising byte order.
 use Rattle.std.specs.Prelude.{◌≡◌, ℕ, ◌+◌, ◌≤◌, Bool, true, List, [], ◌∷◌, length, Result, Ok, Err}
 use Rattle.std.specs.List.{All}
 use Rattle.sh_tree.specs.declared.refusal.Refusal.{Refusal}
@@ -27,7 +28,8 @@ unfoldable pub TurnsPass : List Text → KeptRows → ℕ → List (ℕ × value
 TurnsPass names rows least [] = Unit {0}
 TurnsPass names rows least (h ∷ hs) = (least ≤ h.0) × (h.0 ≤ 65535) × FactsPass names rows h.1 × TurnsPass names rows (h.0 + 1) hs
 
--- No name has two numbers, the rows of each fact are of variables and of functions, the loops rise, and there is no more of anything than a text may have.
+-- No name has two numbers, the rows of each fact are of variables and of functions, and the loops
+-- rise. There is no more of anything than a text may have.
 pub record CompactHasText (names : List Text) (c : Compact) : Type 0 where
   pub distinct : are_distinct names ≡ true
   pub start : FactsPass names c.rows c.start
@@ -55,8 +57,8 @@ ClaimsCompact names s (Ok g) = given_claims names g ≡ form.Compact s
 ClaimsCompact names s (Err Memory) = Unit {0}
 ClaimsCompact names s (Err _) = ⊥
 
--- What is written of a compact certificate that has a text reads as what it claims: within the limit, and for a script that it fits, nothing else is
--- read of it.
+-- What is written of a compact certificate that has a text reads as what it claims. Within the
+-- limit, and for a script that it fits, nothing else is read of it.
 pub record WrittenCompactReadsBack : Type 0 where
   pub rising : (names : List Text) (c : Compact) → CompactHasText names c → IsCompactSheet (compact_claimed names c)
   pub back : (names : List Text) (c : Compact) → CompactHasText names c → read_compact_sheet (compact_written names c) ≡ Ok (compact_claimed names c)

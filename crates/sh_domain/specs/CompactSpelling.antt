@@ -1,5 +1,6 @@
 -- A compact certificate has one text, and a text is that of one.
--- The standard has no such thing: what is read of a text and what is written of a compact certificate are each other's inverse.
+-- The standard has no such thing: what is read of a text and what is written of a compact
+-- certificate are each other's inverse.
 use Rattle.std.specs.Prelude.{◌≡◌, ℕ, ◌+◌, nat_le, Bool, true, ◌&&◌, List, [], ◌∷◌, length, Ok}
 use Rattle.std.specs.List.{list_all}
 use Rattle.sh_tree.specs.standard.program.Syntax.{Text}
@@ -22,8 +23,8 @@ pub record IsCompactSheet (s : CompactSheet) : Type 0 where
   pub few_heads : nat_le (length s.heads) 65535 ≡ true
   pub few_functions : nat_le (length s.functions) 65535 ≡ true
 
--- Whatever reads as a compact certificate is its text, to the byte, so none has two texts, and it may be written; what is written reads as what was
--- written, so no text is that of two.
+-- Whatever reads as a compact certificate is its text, to the byte, so none has two texts, and it
+-- may be written. What is written reads as what was written, so no text is that of two.
 pub record CompactHasOneText : Type 0 where
   pub spelled : (t : Text) (s : CompactSheet) → read_compact_sheet t ≡ Ok s → compact_text s ≡ t
   pub one : (t u : Text) (s : CompactSheet) → read_compact_sheet t ≡ Ok s → read_compact_sheet u ≡ Ok s → t ≡ u

@@ -1,5 +1,6 @@
 -- What the compact certificate of a certificate states.
--- The standard has no such thing: what is surely set (XCU 2.5) at the start, at each turn of a loop and round each function.
+-- The standard has no such thing: what is surely set (XCU 2.5) at the start, at each turn of a loop
+-- and round each function.
 use Rattle.std.specs.Prelude.{◌≡◌, true, ◌≤◌, ℕ, List, length, map, nat_eq}
 use Rattle.std.specs.List.{list_all}
 use Rattle.indexmap.specs.IndexMap.{get}
@@ -19,12 +20,14 @@ use Rattle.sh_domain.specs.Sheets.{Sheet, certificate_of}
 use Rattle.sh_domain.specs.Spelling.{is_writable}
 use Rattle.sh_domain.specs.Views.{Head, Entry as Entered, ReturnsZero, ReturnsNonzero}
 
--- no run comes before or behind a command
+-- no run comes before or after a command
 abbrev pub unreached_entry : Entry
 unreached_entry = record { before = NotReached; zero = NotReached; nonzero = NotReached }
 
--- At each turn of a loop and round each function it states what the certificate claims, and of the start what is known, which where a script starts are the names that are set there, and may be written. A kept one states what a
--- certificate claims that has its heads and functions, and of whose commands nothing is claimed.
+-- At each turn of a loop and round each function it states what the certificate claims, and of the
+-- start what is known. At the start of a script these are the names that are set there, and they
+-- may be written. A kept one states what a certificate claims that has its heads and functions, and
+-- claims nothing of its commands.
 pub record CompactsState : Type 0 where
   pub head : (functions : List Text) (start : Claim) (s : Sheet) (n : ℕ) → (stated_by functions (compact_of_sheet start s)).claim (Head n) ≡ (certificate_of functions s).claim (Head n)
   pub entered : (functions : List Text) (start : Claim) (s : Sheet) (f : Text) → (stated_by functions (compact_of_sheet start s)).claim (Entered f) ≡ (certificate_of functions s).claim (Entered f)

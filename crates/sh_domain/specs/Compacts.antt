@@ -1,6 +1,6 @@
 -- A compact certificate as claims about names, and its text.
--- The standard has no such thing: what is surely set (XCU 2.5) at the start, at each turn of a loop and round each function; what holds round the
--- commands follows from these.
+-- The standard has no such thing: what is surely set (XCU 2.5) at the start, at each turn of a loop
+-- and round each function. What holds round the commands follows from these.
 use Rattle.std.specs.Prelude.{ℕ, zero, suc, ◌+◌, nat_eq, ◌||◌, List, [], ◌∷◌, ◌++◌, filter, length, map, codes, Option, Some, None}
 use Rattle.std.specs.Fmt.{decimal}
 use Rattle.std.specs.Map.{lookup}
@@ -19,7 +19,8 @@ use Rattle.sh_domain.specs.NumberSets.{numbers_of}
 use Rattle.sh_domain.specs.Sheets.{Sheet, CommandClaims, FunctionClaims, certificate_of, claim_text, line, numbered_lines, function_fields}
 use Rattle.sh_domain.specs.Views.{Certificate}
 
--- so many commands, the start, each turn of the loops by the numbers of their commands, and the functions by their numbers from 1
+-- so many commands, the start, each turn of the loops by the numbers of their commands, and the
+-- functions by their numbers from 1
 pub record CompactSheet : Type 0 where
   pub commands : ℕ
   pub start : Claim
@@ -28,7 +29,7 @@ pub record CompactSheet : Type 0 where
 
 -- What it states: of a command, what is claimed at each turn if it is a loop
 
--- n commands, of which the first has the number k
+-- n commands, the first of which has the number k
 unfoldable pub stated_commands : ℕ → ℕ → List (ℕ × Claim) → List CommandClaims
 stated_commands k zero hs = []
 stated_commands k (suc n) hs = record { before = Unreached; zero = Unreached; nonzero = Unreached; head = lookup (nat_eq k) hs } ∷ stated_commands (k + 1) n hs
@@ -46,7 +47,7 @@ unfoldable pub with_turn : ℕ → Option Claim → List (ℕ × Claim) → List
 with_turn k None hs = hs
 with_turn k (Some h) hs = (k, h) ∷ hs
 
--- the turns of the loops among these commands, of which the first has the number k
+-- the turns of the loops among these commands, the first of which has the number k
 unfoldable pub turns_from : ℕ → List CommandClaims → List (ℕ × Claim)
 turns_from k [] = []
 turns_from k (c ∷ cs) = with_turn k c.head (turns_from (k + 1) cs)

@@ -1,6 +1,7 @@
 -- The demands, as the list of the places where one is unmet, each once.
--- POSIX.1-2024, XCU 2.6 (word expansions), 2.9 (shell commands), 2.13 (shell execution environment): the parts of a pipeline may share an
--- environment, so none may drop what another relies on.
+-- POSIX.1-2024, XCU 2.6 (word expansions), 2.9 (shell commands), 2.13 (shell execution
+-- environment): the parts of a pipeline may share an environment, so none may drop what another
+-- relies on.
 use Rattle.std.specs.Prelude.{ℕ, Bool, true, false, not, ◌&&◌, if◌then◌else◌, List, [], ◌∷◌, ◌++◌, map, flat_map, fold, is_some}
 use Rattle.sh_tree.specs.declared.place.Place.{Place}
 use Rattle.sh_tree.specs.declared.place.Code.TheVariants.{P1, P2}
@@ -22,7 +23,8 @@ use Rattle.sh_domain.specs.Views.{Certificate, Before, Loss, lost}
 
 -- N1 to N3: the parameters, tildes and names of arithmetic in the words of a command
 
--- the words of a simple command one after the other, and behind them each redirection and each value by itself
+-- the words of a simple command one after the other, and after them each redirection and each value
+-- by itself
 unfoldable pub elements_unmet : Facts → Facts → p.Elements → List Place
 elements_unmet f behind p.no_elements = []
 elements_unmet f behind (p.assignment name value es) = word_unmet behind value ++ elements_unmet f behind es
@@ -37,7 +39,7 @@ unfoldable pub for_words_unmet : Facts → p.ForWords → List Place
 for_words_unmet f p.every_parameter = []
 for_words_unmet f (p.listed ws) = words_unmet f ws
 
--- in a command's own words, behind its redirections; the commands in it have demands of their own
+-- in a command's own words, after its redirections; the commands in it have demands of their own
 unfoldable pub kind_unmet : Facts → p.Kind → List Place
 kind_unmet f (p.Simple es) = elements_unmet f (with_gains (words_gains (operands_in es)) f) es
 kind_unmet f (p.For name ws body) = for_words_unmet f ws
@@ -84,7 +86,7 @@ move_at at true = record { at = at; code = P2; subject = [] } ∷ []
 unfoldable pub is_reached : Facts → Bool
 is_reached f = not (claims f Nowhere)
 
--- N4 and N5 of the command n that stands there, in a part of a pipeline
+-- N4 and N5 of the command n that is there, in a part of a pipeline
 unfoldable pub shared_unmet : Facts → Certificate → List Text → Entered → ℕ → ℕ → p.Kind → List Place
 shared_unmet start c functions e n at kind =
     map (drop_at at) (dropped start c n (losses functions e)) ++ move_at at (command_moves functions kind && is_reached (facts (c.claim (Before n))))

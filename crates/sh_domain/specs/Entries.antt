@@ -1,5 +1,7 @@
--- How each command of a program is entered: by which rule, from what is seen there, and what stands round it.
--- POSIX.1-2024, XCU 2.6.3 (command substitution), 2.9 (shell commands), 2.13 (shell execution environment).
+-- How each command of a program is entered: by which rule, from what is seen there, and what is
+-- round it.
+-- POSIX.1-2024, XCU 2.6.3 (command substitution), 2.9 (shell commands), 2.13 (shell execution
+-- environment).
 use Rattle.std.specs.Prelude.{ℕ, Bool, true, false, List, [], ◌∷◌, ◌++◌, Option, Some, None}
 use Rattle.sh_tree.specs.declared.tree.Action.{Action}
 use Rattle.sh_tree.specs.declared.tree.Action.TheVariants as action
@@ -17,8 +19,9 @@ use Rattle.sh_domain.specs.Gains.{job, sure, part_gains, expanded_gains, word_ga
 use Rattle.sh_domain.specs.Table.{behind_words}
 use Rattle.sh_domain.specs.Views.{Seen, After, Both, Each, if_zero, if_nonzero, in_any_case, swapped, after_command, anything, at, at_start, Before, Head, Entry, gaining, gaining_names, without_job}
 
--- What stands round a command: the loops, the innermost first, and the function that it may leave; the function whose drops it counts
--- for; whether it is in a part of a pipeline, which may share the environment of the other parts.
+-- What is round a command: the loops, the innermost first; the function that it may leave; the
+-- function whose drops it counts for; whether it is in a part of a pipeline, which may share the
+-- environment of the other parts.
 pub record Around : Type 0 where
   pub loops : List ℕ
   pub function : Option Text
@@ -56,7 +59,7 @@ parts_after s _ = Both s
 unfoldable pub pipeline_after : Seen → p.Pipeline → After
 pipeline_after s (p.pipeline negated cs) = swapped negated (parts_after s cs)
 
--- what the pipeline behind `&&` or `||` is entered with
+-- what the pipeline after `&&` or `||` is entered with
 unfoldable pub link_seen : Link → After → Seen
 link_seen link.AndThen o = if_zero o
 link_seen link.OrElse o = if_nonzero o
@@ -73,7 +76,7 @@ links_after o (p.more_links l q rest) = links_after (linked l o (pipeline_after 
 unfoldable pub list_after : Seen → p.AndOr → After
 list_after s (p.and_or first rest) = links_after (pipeline_after s first) rest
 
--- behind an asynchronous item `!` is set, and its status is zero
+-- after an asynchronous item `!` is set, and its status is zero
 unfoldable pub item_after : Seen → Bool → p.AndOr → After
 item_after s false list = list_after s list
 item_after s true list = Each (gaining_names (job ∷ []) s) anything
@@ -85,11 +88,12 @@ items_after o (p.more_items list background rest) = items_after (item_after (in_
 
 -- Compound commands
 
--- what is known in them: behind their redirections
+-- what is known in them: after their redirections
 abbrev pub behind_redirects : ℕ → p.Redirects → Seen
 behind_redirects n rs = gaining (redirects_gains rs) (at (Before n))
 
--- what `else` is entered with: what is known after the last condition, if no condition was zero (F6)
+-- what `else` is entered with: what is known after the last condition, if no condition was zero
+-- (F6)
 unfoldable pub otherwise_seen : Seen → p.Branches → Seen
 otherwise_seen s p.no_branches = s
 otherwise_seen s (p.more_branches condition body rest) = otherwise_seen (if_nonzero (items_after (Both s) condition)) rest
@@ -103,7 +107,7 @@ unfoldable pub ends : LoopKind → After → Seen
 ends loop.While o = if_nonzero o
 ends loop.Until o = if_zero o
 
--- what is known behind the words of `for` (F8)
+-- what is known after the words of `for` (F8)
 unfoldable pub behind_list : p.ForWords → Seen → Seen
 behind_list p.every_parameter s = s
 behind_list (p.listed ws) s = gaining (words_gains ws) s
@@ -113,7 +117,7 @@ unfoldable pub falls : ClauseEnd → After → Seen
 falls clause.Break o = []
 falls clause.FallThrough o = in_any_case o
 
--- what is known in the word behind an operator: that of `+` is expanded only where the parameter is set
+-- what is known in the word after an operator: that of `+` is expanded only if the parameter is set
 unfoldable pub operand_seen : Action → p.Parameter → Seen → Seen
 operand_seen action.Alternative parameter s = gaining (sure parameter) s
 operand_seen _ parameter s = s
@@ -123,7 +127,8 @@ unfoldable pub is_long : p.Commands → Bool
 is_long (p.more_commands c (p.more_commands d cs)) = true
 is_long _ = false
 
--- the rule that enters an item and what stands round it: an asynchronous one is a process without `!` (F11)
+-- the rule that enters an item and what is round it: an asynchronous one is a process without `!`
+-- (F11)
 unfoldable pub item_rule : Bool → FlowRule → FlowRule
 item_rule true by = F11
 item_rule false by = by
@@ -175,7 +180,7 @@ unfoldable mutual
       record { command = p.command n offset kind rs; rule = by; around = x; seen = s }
       ∷ (redirects_entered (at (Before n)) rs ++ kind_entered x n (behind_redirects n rs) kind)
 
-  -- what stands in the command n, behind whose redirections this is seen
+  -- what is in the command n, after whose redirections this is seen
   pub kind_entered : Around → ℕ → Seen → p.Kind → List Entered
   kind_entered x n s (p.Simple es) = elements_entered s (behind_words es s) es
   kind_entered x n s (p.Group list) = items_entered F10 x (Both s) list
@@ -190,7 +195,7 @@ unfoldable mutual
   kind_entered x n s (p.Case w cs) = word_entered s w ++ clauses_entered x (gaining (word_gains w) s) [] cs
   kind_entered x n s (p.Define name body) = command_entered F13 (in_function name) (at (Entry name)) body
 
-  -- the words of a simple command, and behind them each redirection and each value by itself
+  -- the words of a simple command, and after them each redirection and each value by itself
   pub elements_entered : Seen → Seen → p.Elements → List Entered
   elements_entered s behind p.no_elements = []
   elements_entered s behind (p.assignment name value es) = word_entered behind value ++ elements_entered s behind es
@@ -205,7 +210,8 @@ unfoldable mutual
   redirects_entered s p.no_redirects = []
   redirects_entered s (p.more_redirects r rs) = redirect_entered s r ++ redirects_entered (gaining (redirect_gains r) s) rs
 
-  -- each condition is entered with what is known after the last one, and each branch with what is known where its condition is zero
+  -- each condition is entered with what is known after the last one, and each branch with what is
+  -- known where its condition is zero
   pub branches_entered : Around → Seen → p.Branches → List Entered
   branches_entered x s p.no_branches = []
   branches_entered x s (p.more_branches condition body rest) =
@@ -225,7 +231,8 @@ unfoldable mutual
   words_entered s p.no_words = []
   words_entered s (p.more_words w ws) = word_entered s w ++ words_entered (gaining (word_gains w) s) ws
 
-  -- each pattern is judged behind the word by itself; a list is entered behind the word, and behind the list before it if that ends with `;&`
+  -- Each pattern is judged after the word by itself. A list is entered after the word, and after
+  -- the list before it if that ends with `;&`.
   pub clauses_entered : Around → Seen → Seen → p.Clauses → List Entered
   clauses_entered x s fallen p.no_clauses = []
   clauses_entered x s fallen (p.more_clauses patterns body end rest) =

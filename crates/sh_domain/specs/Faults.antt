@@ -20,7 +20,7 @@ pub record Fault : Type 0 where
 unfoldable pub are_among : Names → Names → Bool
 are_among a b = list_all (is_one_of b.vars) a.vars && list_all (is_one_of b.functions) a.functions
 
--- a command and a rule, where the rule's test fails there
+-- a command and a rule, if the rule's test fails there
 unfoldable pub told : Bool → ℕ → FlowRule → List Fault
 told true n rule = []
 told false n rule = record { number = n; rule = rule } ∷ []

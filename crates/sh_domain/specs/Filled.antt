@@ -31,7 +31,7 @@ unfoldable pub bounds_filled : Constraint → Bool
 bounds_filled (Within slot n rule v) = not (is_stated slot)
 bounds_filled (Counted function n loss) = false
 
--- a certificate with the stated claims and drops, of which what is filled in keeps the rules
+-- a certificate with the stated claims and drops, whose filled parts keep the rules
 pub record KeepsStated (start : Facts) (t : Items) (stated c : Certificate) : Type 0 where
   pub claims : (slot : Slot) → is_stated slot ≡ true → c.claim slot ≡ stated.claim slot
   pub drops : (function : Text) → c.drops function ≡ stated.drops function
@@ -49,8 +49,8 @@ pub record IsFilled (b : List ℕ) (t : Script) (names : List Text) (start : Fac
 abbrev pub FillsTo : List ℕ → Script → List Text → CompactSheet → Sheet → Type 0
 FillsTo b t names k c = IsFilled b t names (facts k.start) (stated_by (functions_in b t) k) c
 
--- If a certificate keeps the rules, what its compact form with the start is filled to keeps them too,
--- and claims no less. Two that are filled from the same claim the same.
+-- If a certificate keeps the rules, what its compact form with the start is filled to keeps them
+-- too, and claims no less. Two that are filled from the same claim the same.
 pub record FilledKeeps : Type 0 where
   pub rules : (b : List ℕ) (d : Declared) (t : Script) (names : List Text) (start : Claim) (c f : Sheet)
       → facts start ≡ start_facts d → Fits b t names c → KeepsRules b d t c → FillsTo b t names (compact_of_sheet start c) f → KeepsRules b d t f

@@ -1,5 +1,6 @@
 -- The form of a certificate's text: which lines are those of a certificate, and what they claim.
--- The standard has no such thing: each line ends with a newline, and single blanks stand between its fields.
+-- The standard has no such thing: each line ends with a newline, and single blanks are between its
+-- fields.
 use Rattle.std.specs.Prelude.{ℕ, zero, suc, ◌+◌, ◌*◌, ◌-◌, ◌==◌, nat_le, Bool, true, false, not, ◌&&◌, ◌||◌, if◌then◌else◌, List, [], ◌∷◌, length, codes, Option, Some, None, option_map, Result, Ok, Err, fold}
 use Rattle.std.specs.List.{list_all}
 use Rattle.std.specs.Str.{bytes_eq, all_ascii_digits}
@@ -22,7 +23,7 @@ unfoldable pub pieces : ℕ → Text → List Text
 pieces c [] = [] ∷ []
 pieces c (d ∷ t) = if d == c then [] ∷ pieces c t else onto_first d (pieces c t)
 
--- what stands before the first byte c, and what behind it
+-- what is before the first byte c, and what is after it
 unfoldable pub onto_front : ℕ → Option (Text × Text) → Option (Text × Text)
 onto_front d None = None
 onto_front d (Some x) = Some (d ∷ x.0, x.1)
@@ -131,7 +132,7 @@ unfoldable pub whole_line : {A : Type 0} → (Text → Option A) → ℕ → Opt
 whole_line form k None = Err k
 whole_line form k (Some x) = formed k x.1 (form x.0)
 
--- the line of the number k, and what is behind its newline
+-- the line of the number k, and what is after its newline
 abbrev pub read_line : {A : Type 0} → (Text → Option A) → ℕ → Text → Reading A
 read_line form k t = whole_line form k (cut_at 10 t)
 
@@ -162,7 +163,8 @@ unfoldable pub ended : {A : Type 0} → ℕ → A → Text → Result A ℕ
 ended k x [] = Ok x
 ended k x (c ∷ t) = Err k
 
--- what the text claims, or the number of the first line that has not the form; a line that is missing has the number behind the last
+-- what the text claims, or the number of the first line that has not the form; a missing line has
+-- the number after the last
 unfoldable pub read_sheet : Text → Result Sheet ℕ
 read_sheet t =
     behind (read_line is_first 1 t) (λ a.

@@ -1,6 +1,6 @@
 -- What words leave surely set, part by part.
--- POSIX.1-2024, XCU 2.6.2 (parameter expansion), 2.6.4 (arithmetic expansion): an expansion that assigns, or that ends the shell where
--- its parameter is not set.
+-- POSIX.1-2024, XCU 2.6.2 (parameter expansion), 2.6.4 (arithmetic expansion): an expansion that
+-- assigns, or that ends the shell if its parameter is not set.
 use Rattle.std.specs.Prelude.{ℕ, max, ◌||◌, List, [], ◌∷◌, ◌++◌, codes}
 use Rattle.sh_tree.specs.declared.tree.Action.TheVariants as action
 use Rattle.sh_tree.specs.declared.tree.Binary.{Binary}
@@ -10,7 +10,7 @@ use Rattle.sh_tree.specs.standard.program.Syntax.{Text, Parameter, Variable, Pos
 use Rattle.sh_table.specs.standard.runs.Environment.{is_one_of}
 use Rattle.sh_domain.specs.Facts.{Facts, NotReached, Known}
 
--- variables that are set behind something, and so many positional parameters
+-- variables that are set after something, and so many positional parameters
 pub record Gains : Type 0 where
   pub names : List Text
   pub args : ℕ
@@ -39,19 +39,20 @@ sure (Positional n) = record { names = []; args = n }
 sure (Special special.Exclamation) = named (job ∷ [])
 sure (Special _) = no_gains
 
--- behind `${p=w}` and `${p?w}` p is set; what a word behind an operator would set is not counted
+-- after `${p=w}` and `${p?w}` p is set; what a word after an operator would set is not counted
 unfoldable pub operator_gains : Parameter → Operator → Gains
 operator_gains p (Use action.Assign colon w) = sure p
 operator_gains p (Use action.Fault colon w) = sure p
 operator_gains p _ = no_gains
 
--- the operand on the right of `&&` and `||` may be left out
+-- `&&` and `||` may skip their right operand
 unfoldable pub surely : Binary → List Text → List Text
 surely binary.And names = []
 surely binary.Or names = []
 surely _ names = names
 
--- the names that arithmetic is sure to assign: not on the right of `&&` and `||`, and not in a branch of `?:`
+-- the names that arithmetic is sure to assign: not on the right of `&&` and `||`, and not in a
+-- branch of `?:`
 unfoldable mutual
   pub assigned_in : Expression → List Text
   assigned_in (Parenthesis e) = assigned_in e
@@ -90,7 +91,7 @@ unfoldable mutual
   operands_gains no_operands = no_gains
   operands_gains (more_operands operator e rest) = and_gains (expanded_gains e) (operands_gains rest)
 
--- the facts behind a word
+-- the facts after a word
 abbrev pub through : Word → Facts → Facts
 through w f = with_gains (word_gains w) f
 

@@ -33,7 +33,8 @@ Each P (x ∷ xs) = P x × Each P xs
 
 -- The form of programs that are read
 
--- a name stands wherever one has to, a positional parameter has a number from 1, and plain text is not empty
+-- what a program has as a name is one, a positional parameter has a number from 1, and plain text
+-- is not empty
 unfoldable pub parameter_formed : p.Parameter → Bool
 parameter_formed (p.Variable name) = is_name name
 parameter_formed (p.Positional n) = nat_lt 0 n
@@ -104,7 +105,8 @@ unfoldable pub clauses_formed : p.Clauses → Bool
 clauses_formed p.no_clauses = true
 clauses_formed (p.more_clauses patterns body end rest) = words_formed patterns && clauses_formed rest
 
--- a simple command has its redirections among its elements; the commands in it have forms of their own
+-- a simple command has its redirections among its elements; the commands in it have forms of their
+-- own
 unfoldable pub kind_formed : p.Kind → p.Redirects → Bool
 kind_formed (p.Simple es) rs = elements_formed es && not (is_redirected rs)
 kind_formed (p.For name ws body) rs = is_name name && for_words_formed ws
@@ -135,7 +137,8 @@ module _ (start : Facts) (c : Certificate) where
     pub zero : Covers (AfterZero n) (if_zero o)
     pub nonzero : Covers (AfterNonzero n) (if_nonzero o)
 
-  -- names that may be dropped there: no other part of a pipeline loses one, and the function round the place is known to drop them
+  -- names that may be dropped there: no other part of a pipeline loses one, and the function round
+  -- the place is known to drop them
   pub record MayDrop (x : Around) (names : Names) : Type 0 where
     pub shared_vars : x.shares ≡ true → names.vars ≡ []
     pub shared_functions : x.shares ≡ true → names.functions ≡ []
@@ -193,12 +196,12 @@ module _ (start : Facts) (c : Certificate) where
   OtherwiseLeaves n s p.no_else = Covers (AfterZero n) s
   OtherwiseLeaves n s (p.else_of list) = Leaves n (items_after (Both s) list)
 
-  -- F7, but for the entry of the loop
+  -- F7, except for the entry of the loop
   pub record LoopRules (n : ℕ) (k : LoopKind) (condition body : p.Items) : Type 0 where
     pub again : Covers (Head n) (in_any_case (items_after (Both (turns k (items_after (Both (at (Head n))) condition))) body))
     pub leaves : Leaves n (Both (ends k (items_after (Both (at (Head n))) condition)))
 
-  -- F8, but for the entry
+  -- F8, except for the entry
   pub record ForRules (n : ℕ) (name : Text) (body : p.Items) : Type 0 where
     pub again : Covers (Head n) (in_any_case (items_after (Both (gaining_names (name ∷ []) (at (Head n)))) body))
     pub leaves : Leaves n (Both (at (Head n)))
@@ -213,7 +216,7 @@ module _ (start : Facts) (c : Certificate) where
   unfoldable pub BodyRules : Text → p.Command → Type 0
   BodyRules f (p.command m offset k rs) = Covers (ReturnsZero f) (at (AfterZero m)) × Covers (ReturnsNonzero f) (at (AfterNonzero m))
 
-  -- what the command n claims, behind whose redirections this is seen
+  -- what the command n claims, after whose redirections this is seen
   unfoldable pub KindRules : List Text → Around → ℕ → Seen → p.Kind → Type 0
   KindRules functions x n s (p.Simple es) = SimpleRules x n es (manner functions es)
   KindRules functions x n s (p.Group list) = Leaves n (items_after (Both s) list)
@@ -225,7 +228,8 @@ module _ (start : Facts) (c : Certificate) where
       ClausesLeave n (gaining (word_gains w) s) [] cs × (matches_always cs ≡ false → Covers (AfterZero n) (gaining (word_gains w) s))
   KindRules functions x n s (p.Define name body) = Covers (AfterZero n) (stepped (Define name) (at (Before n))) × BodyRules name body
 
-  -- all of a command that stands there: it claims no more than its rules give, its words need no more than is known, and it is admitted
+  -- all of a command that is there: it claims no more than its rules give, its words need no more
+  -- than is known, and it is admitted
   pub record CommandRules (functions : List Text) (x : Around) (s : Seen) (n : ℕ) (offset : ℕ) (k : p.Kind) (rs : p.Redirects) (ls : List views.Loss) : Type 0 where
     pub before : Covers (Before n) s
     pub kind : KindRules functions x n (behind_redirects n rs) k
@@ -243,7 +247,8 @@ module _ (start : Facts) (c : Certificate) where
       of_command : p.Command → Type 0
       of_command (p.command n offset k rs) = CommandRules functions e.around e.seen n offset k rs (losses functions e)
 
--- Where no rule fails, no demand is unmet, and the program is admitted and formed, all of that holds of each of its commands.
+-- If no rule fails, no demand is unmet, and the program is admitted and formed, all of that holds
+-- of each of its commands.
 abbrev pub RulesGive : Type 0
 RulesGive =
     (start : Facts) (c : Certificate) (t : p.Items)

@@ -1,5 +1,6 @@
 -- What is known at a place, by sets of the numbers of names.
--- The standard has no such thing: the variables that are set and the functions that are defined (XCU 2.5, 2.9.5), by their numbers.
+-- The standard has no such thing: the variables that are set and the functions that are defined
+-- (XCU 2.5, 2.9.5), by their numbers.
 use Rattle.std.specs.Prelude.{◌≡◌, ◌≤◌, ℕ, Bool, true, false, ◌&&◌, List, [], ◌∷◌, filter, length, Option, Some, None, slice_get}
 use Rattle.std.specs.List.{list_all}
 use Rattle.sh_tree.specs.declared.limits.TheConstants.{MAX_NAMES}
@@ -25,7 +26,7 @@ at_number p (Some k) = p k
 abbrev pub contains : List Text → NumberSet → Text → Bool
 contains names s t = at_number (numbers_of s) (number_of names t)
 
--- the facts that these names' numbers stand for
+-- the facts that these names' numbers mean
 abbrev pub assured_facts : List Text → Assured → Facts
 assured_facts names s = Known (contains names s.vars) (contains names s.functions) s.args
 
@@ -38,13 +39,14 @@ unfoldable pub among : List Text → Facts → Facts
 among names NotReached = NotReached
 among names (Known v f a) = Known (λ t. is_one_of names t && v t) (λ t. is_one_of names t && f t) a
 
--- Each name is found at its place, so none stands twice; and there are no more than may be.
+-- Each name is found at its place, so none occurs twice; and there are no more than may be.
 pub record AreNumbered (names : List Text) : Type 0 where
   pub own : (k : ℕ) (t : Text) → slice_get names k ≡ Some t → number_of names t ≡ Some k
   pub few : length names ≤ MAX_NAMES
 
--- The names of a script suffice: they are numbered, those of the start among them; of what is gained those of these names are known; and a step
--- over facts of such names by such names stays among them.
+-- The names of a script suffice. They are numbered, and those of the start are among them. Of what
+-- is gained, those of these names are known. A step over facts of such names by such names stays
+-- among them.
 pub record NamesSuffice : Type 0 where
   pub numbered : (b : List ℕ) (t : Script) (d : Declared) (names : List Text) → IsNumbering b t d names → length names ≤ MAX_NAMES → AreNumbered names
   pub start : (b : List ℕ) (t : Script) (d : Declared) (names : List Text) → IsNumbering b t d names → among names (start_facts d) ≡ start_facts d

@@ -1,5 +1,6 @@
 -- The names of a script, each with a number from 0.
--- POSIX.1-2024, XCU 2.5.3 (shell variables): the names that every script has, those that are declared, and those in the text.
+-- POSIX.1-2024, XCU 2.5.3 (shell variables): the names that every script has, those that are
+-- declared, and those in the text.
 use Rattle.std.specs.Prelude.{◌≡◌, ◌≤◌, ◌<◌, ℕ, Bool, true, false, not, ◌&&◌, List, [], ◌∷◌, ◌++◌, if◌then◌else◌, length, map, fold, codes, Option, Some, None, slice_get, Result, Ok, Err}
 use Rattle.std.specs.List.{flat_map, list_any, position_from}
 use Rattle.std.specs.List.Sorted.{IsPermutation, IsNonDecreasingBy}
@@ -29,7 +30,8 @@ unfoldable pub are_distinct : List Text → Bool
 are_distinct [] = true
 are_distinct (t ∷ ts) = not (is_one_of ts t) && are_distinct ts
 
--- the names in the text, those of its commands, whatever the order in which these are taken, by their offsets
+-- the names in the text, those of its commands, whatever the order in which these are taken, by
+-- their offsets
 pub record IsInTextOrder (b : List ℕ) (t : Script) (seen : List Sight) : Type 0 where
   pub commands : List Command
   pub all_commands : IsPermutation (commands_of t) commands

@@ -1,5 +1,6 @@
 -- The parameters that words expand and that are not surely set, as the list of their places.
--- POSIX.1-2024, XCU 2.6.1 (tilde expansion), 2.6.2 (parameter expansion), 2.6.4 (arithmetic expansion).
+-- POSIX.1-2024, XCU 2.6.1 (tilde expansion), 2.6.2 (parameter expansion), 2.6.4 (arithmetic
+-- expansion).
 use Rattle.std.specs.Prelude.{ℕ, Bool, true, false, List, [], ◌∷◌, ◌++◌, codes, Option, Some, None}
 use Rattle.sh_tree.specs.declared.place.Place.{Place}
 use Rattle.sh_tree.specs.declared.place.Code.{Code}
@@ -64,7 +65,7 @@ unfoldable mutual
   part_unmet f (p.Tilde at []) = name_needed f U2 at (codes "HOME")
   part_unmet f _ = []
 
-  -- each part is judged behind those before it
+  -- each part is judged after those before it
   pub word_unmet : Facts → p.Word → List Place
   word_unmet f p.no_parts = []
   word_unmet f (p.more_parts x w) = part_unmet f x ++ word_unmet (with_gains (part_gains x) f) w

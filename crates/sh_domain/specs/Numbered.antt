@@ -1,4 +1,5 @@
--- Clauses of private functions: what a name with its number stands for, and what comes next in a row of names.
+-- Clauses of private functions: what a name with its number means, and what comes next in a row of
+-- names.
 -- The standard has no such thing: names with their numbers, for the text of a certificate.
 use Rattle.std.specs.Prelude.{◌≡◌, ◌<◌, ℕ, Bool, true, false, List, [], ◌∷◌, get_or, length, map}
 use Rattle.std.specs.List.{All}
@@ -18,7 +19,7 @@ pub record IsByteOrder (names : List Text) (numbers : List ℕ) : Type 0 where
   pub ordered : map (pair_in names) numbers ≡ in_byte_order names
   pub below : All (λ k. k < length names) numbers
 
--- a name behind others, with a comma unless it is the first
+-- a name after others, with a comma unless it is the first
 unfoldable pub next_name : Bool → Text → Text
 next_name true t = t
 next_name false t = 44 ∷ t

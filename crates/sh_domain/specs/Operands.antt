@@ -1,5 +1,6 @@
 -- What built-in utilities may remove, set or count, read off their operands.
--- POSIX.1-2024, XCU 2.15 (break, continue, exec, export, readonly, return, set, shift, unset), 3 (getopts, read).
+-- POSIX.1-2024, XCU 2.15 (break, continue, exec, export, readonly, return, set, shift, unset), 3
+-- (getopts, read).
 use Rattle.std.specs.Prelude.{ℕ, nat_lt, ◌+◌, ◌==◌, Bool, true, false, not, ◌&&◌, if◌then◌else◌, List, [], ◌∷◌, map, filter, codes, Option, Some, None, is_some, unwrap_or, option_map, option_and_then}
 use Rattle.std.specs.List.{list_all, filter_map}
 use Rattle.sh_tree.specs.standard.language.Bytes.{is_first, is_name}
@@ -36,11 +37,11 @@ unset_names ws = removed (unset_operands (statics ws)).0 (filter is_name (unset_
 abbrev pub declared_names : List Word → List Text
 declared_names ws = map (λ x. x.0) (filter_map assignment_in ws)
 
--- the names that `read` sets, where every operand is static
+-- the names that `read` sets, if every operand is static
 unfoldable pub read_names : List Word → List Text
 read_names ws = if list_all (λ w. is_some (static_of w)) ws then unwrap_or (o.read_names (statics ws)) [] else []
 
--- the name that `getopts` sets: its second operand, behind a static one that is no option
+-- the name that `getopts` sets: its second operand, after a static one that is no option
 unfoldable pub getopts_names : List Word → List Text
 getopts_names [] = []
 getopts_names (w ∷ []) = []
@@ -50,7 +51,8 @@ getopts_names (w ∷ v ∷ ws) = named_by (static_of w) (static_of v)
     named_by (Some t) (Some name) = if is_name name && not (is_first (λ c. c == 45) t) then name ∷ codes "OPTIND" ∷ [] else []
     named_by _ _ = []
 
--- the positional words of `set`, if there are some or `--` stands before them; whether an option takes the next word
+-- the positional words of `set`, if there are some or `--` precedes them; whether an option takes
+-- the next word
 unfoldable pub words_from : Bool → List Word → Option (List Word)
 words_from takes [] = None
 words_from true (w ∷ ws) = words_from false ws
@@ -63,7 +65,8 @@ words_from false (w ∷ ws) = by_text (static_of w) (λ takes. words_from takes 
 abbrev pub positional_words : List Word → Option (List Word)
 positional_words ws = words_from false ws
 
--- how many fields words give at least: so many, and as many as there are parameters for each `"$@"` that stands alone
+-- how many fields words give at least: so many, and as many as there are parameters for each `"$@"`
+-- that is a word by itself
 pub record Total : Type 0 where
   pub ones : ℕ
   pub parameters : ℕ

@@ -23,7 +23,8 @@ unfoldable pub seen_facts : Facts → Certificate → Seen → Facts
 seen_facts start c [] = NotReached
 seen_facts start c (v ∷ s) = meet (view_facts start c v) (seen_facts start c s)
 
--- Facts are ordered: NotReached claims most, and a meet is the greatest of what is within both. The tests of claims and of drops are this order.
+-- Facts are ordered: NotReached claims most, and a meet is the greatest of what is within both. The
+-- tests of claims and of drops are this order.
 pub record Ordered : Type 0 where
   pub itself : (f : Facts) → IsWithin f f
   pub through : (f g h : Facts) → IsWithin f g → IsWithin g h → IsWithin f h
@@ -40,13 +41,15 @@ pub record IsBelow (c d : Certificate) : Type 0 where
   pub claimed : (s : Slot) → IsWithin (facts (c.claim s)) (facts (d.claim s))
   pub dropped : (function : Text) → AreAmong (d.drops function) (c.drops function)
 
--- what the first claims, or has a function drop, fits what a constraint asks by the claims of the second
+-- what the first claims, or has a function drop, fits what a constraint requires by the claims of
+-- the second
 unfoldable pub Fits : Facts → Certificate → Certificate → Constraint → Type 0
 Fits start c d (Within slot n rule v) = IsWithin (facts (c.claim slot)) (view_facts start d v)
 Fits start c d (Counted function n loss) = AreAmong (lost start d n loss) (c.drops function)
 
--- Where more is claimed and less dropped, each step leaves more, each view and what is seen claim more, and each command drops less. So a
--- certificate without a fault that is below another fits all that this one asks: lowering that one to what it asks leaves it above.
+-- If more is claimed and less dropped, each step leaves more, each view and what is seen claim
+-- more, and each command drops less. So a certificate without a fault that is below another fits
+-- all that this one requires. If that one is lowered to what it requires, it stays above.
 pub record Monotone : Type 0 where
   pub step : (c d : Certificate) (x : Step) (f g : Facts) → IsBelow c d → IsWithin f g → IsWithin (step c x f) (step d x g)
   pub view : (start : Facts) (c d : Certificate) (v : View) → IsBelow c d → IsWithin (view_facts start c v) (view_facts start d v)

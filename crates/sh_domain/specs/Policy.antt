@@ -11,7 +11,7 @@ use Rattle.sh_domain.specs.declared.policy.PolicyFault.TheVariants.{BadName, Mem
 abbrev pub first_bad : List Text → Option ℕ
 first_bad texts = position (λ t. not (is_name t)) texts
 
--- The policy is made where each text is a name, and otherwise the first that is none is told.
+-- The policy is made if each text is a name. Otherwise the first that is none is reported.
 abbrev pub Makes : List Text → ℕ → Result Declared PolicyFault → Type 0
 Makes names args (Ok p) = (first_bad names ≡ None) × (p ≡ record { names = names; args = args })
 Makes names args (Err (BadName i)) = first_bad names ≡ Some i

@@ -1,5 +1,6 @@
 -- Which certificate a text is, for a script.
--- The standard has no such thing: a certificate fits a script by the counts of its commands and functions, by its loops and by its names.
+-- The standard has no such thing: a certificate fits a script by the counts of its commands and
+-- functions, by its loops and by its names.
 use Rattle.std.specs.Prelude.{◌≡◌, ℕ, Bool, true, false, nat_eq, ◌&&◌, List, [], ◌∷◌, length, map, Option, Some, None, Result, Ok, Err}
 use Rattle.std.specs.Borrow.{Bor}
 use Rattle.std.specs.List.{list_all}
@@ -31,7 +32,7 @@ unfoldable pub claim_fits : List Text → Claim → Bool
 claim_fits names Unreached = true
 claim_fits names (Claimed vars functions args) = are_known names vars && are_known names functions
 
--- Heads stand at loops
+-- Heads are at loops
 
 unfoldable pub kind_loops : Kind → Bool
 kind_loops (Loop k condition body) = true
@@ -53,7 +54,7 @@ head_fits names _ _ = false
 abbrev pub command_fits : List Text → (is_loop : Bool) → CommandClaims → Bool
 command_fits names l c = claim_fits names c.before && claim_fits names c.zero && claim_fits names c.nonzero && head_fits names l c.head
 
--- a line for each command, told whether it is a loop
+-- a line for each command, with whether it is a loop
 unfoldable pub commands_fit : List Text → (loops : List Bool) → List CommandClaims → Bool
 commands_fit names [] [] = true
 commands_fit names (l ∷ ls) (c ∷ cs) = command_fits names l c && commands_fit names ls cs
@@ -70,7 +71,7 @@ fits names loops functions s = commands_fit names loops s.commands && functions_
 
 -- The answer
 
--- the commands of a script by their numbers, told whether each is a loop
+-- the commands of a script by their numbers, each with whether it is a loop
 pub record AreLoops (t : Script) (loops : List Bool) : Type 0 where
   pub commands : List (Bor Command)
   pub all : IsPermutation (commands_of t) (map (λ (c : Bor Command). c.now) commands)
@@ -95,7 +96,8 @@ Answers text names loops functions (Err CertShape) = IsOther text names loops fu
 Answers text names loops functions (Err Memory) = Unit {0}
 Answers text names loops functions (Err _) = ⊥
 
--- The text of a certificate is read as one that claims the same, and no other text is read as a certificate.
+-- The text of a certificate is read as one that claims the same, and no other text is read as a
+-- certificate.
 abbrev pub Reads : Text → Script → (functions : ℕ) → List Text → Result Certificate Refusal → Type 0
 Reads text t functions names (Ok c) = (loops : List Bool) × AreLoops t loops × IsTextOf text names loops functions c
 Reads text t functions names (Err (CertSyntax n)) = read_text text ≡ Err n

@@ -1,4 +1,5 @@
--- What every script that is read has: its program is formed, its words give fields, its runs have rows, each number of it stands once, and its names are names.
+-- What every script that is read has: its program is formed, its words give fields, its runs have
+-- rows, each number of it occurs once, and its names are names.
 -- POSIX.1-2024, XCU 2.10 (shell grammar).
 use Rattle.std.specs.Prelude.{◌≡◌, ◌≤◌, ℕ, true, List, length, Some, None, Ok, map}
 use Rattle.std.specs.List.{list_all}
@@ -30,7 +31,8 @@ ReadIsFormed = (b : List ℕ) (t : Script) → Reads b t → is_formed (script_o
 abbrev pub ReadGivesFields : Type 0
 ReadGivesFields = (b : List ℕ) (t : Script) → Reads b t → gives_fields (script_of b t) ≡ true
 
--- and where it is admitted, no run of it, from a start without functions, comes to a utility without a row
+-- and if it is admitted, no run of it, from a start without functions, comes to a utility without a
+-- row
 abbrev pub ReadHasRows : Type 0
 ReadHasRows =
     (b : List ℕ) (t : Script) → Reads b t → is_admitted (script_of b t) ≡ true
@@ -53,7 +55,7 @@ ReadIsNumbered = (b : List ℕ) (t : Script) → Reads b t → is_numbered (scri
 abbrev pub ReadHasFewCommands : Type 0
 ReadHasFewCommands = (b : List ℕ) (t : Script) → ReadsWithin b t → length (table_of b t).rows ≤ MAX_COMMANDS
 
--- Where each declared name is a name, each that is numbered is one or `!`.
+-- If each declared name is a name, each that is numbered is one or `!`.
 abbrev pub ReadNamesVariables : Type 0
 ReadNamesVariables =
     (b : List ℕ) (t : Script) (d : Declared) (names : List Text) → Reads b t → list_all is_name d.names ≡ true → Numbers b t d (Ok names)

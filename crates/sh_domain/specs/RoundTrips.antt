@@ -1,5 +1,6 @@
 -- A kept certificate that has a text is read again, from that text, as one that claims the same.
--- The standard has no such thing: a kept certificate names rows of numbers, and its text has names in rising byte order.
+-- The standard has no such thing: a kept certificate names rows of numbers, and its text has names
+-- in rising byte order.
 use Rattle.std.specs.Prelude.{◌≡◌, ℕ, ◌≤◌, nat_eq, Bool, true, List, length, Some, Result, Ok, Err, slice_get}
 use Rattle.std.specs.List.{All}
 use Rattle.indexmap.specs.IndexMap.{get}
@@ -49,7 +50,8 @@ pub record FunctionPasses (names : List Text) (rows : KeptRows) (f : FunctionEnt
   pub zero : FactsPass names rows f.zero
   pub nonzero : FactsPass names rows f.nonzero
 
--- No name has two numbers, the rows of each fact are of variables and of functions, and there is no more of anything than a text may have.
+-- No name has two numbers, and the rows of each fact are of variables and of functions. There is no
+-- more of anything than a text may have.
 pub record HasText (names : List Text) (c : Certificate) : Type 0 where
   pub distinct : are_distinct names ≡ true
   pub entries : All (EntryPasses names c.rows) c.entries.items
@@ -73,19 +75,20 @@ Claims names s (Ok c) = claimed names c ≡ s
 Claims names s (Err Memory) = Unit {0}
 Claims names s (Err _) = ⊥
 
--- whichever list tells the loops of the script, it fits
+-- it fits whichever list says what the loops of the script are
 abbrev pub FitsScript : Script → ℕ → List Text → Certificate → Type 0
 FitsScript t functions names c = (loops : List Bool) → AreLoops t loops → fits names loops functions (claimed names c) ≡ true
 
--- What is written of a certificate that has a text has rising names, and reads as what the certificate claims: within the limit, and for a script
--- that it fits, nothing else is read of it.
+-- What is written of a certificate that has a text has rising names, and reads as what the
+-- certificate claims. Within the limit, and for a script that it fits, nothing else is read of it.
 pub record WrittenReadsBack : Type 0 where
   pub rising : (names : List Text) (c : Certificate) → HasText names c → IsSheet (claimed names c)
   pub back : (names : List Text) (c : Certificate) → HasText names c → read_sheet (written names c) ≡ Ok (claimed names c)
   pub read : (names : List Text) (c : Certificate) (t : Script) (functions : ℕ) (r : Result Certificate Refusal) → HasText names c → length (written names c) ≤ MAX_CERTIFICATE
       → FitsScript t functions names c → Reads (written names c) t functions names r → Claims names (claimed names c) r
 
--- What is read as a certificate is what is written of it, and the rules are asked of what the text claims; so texts of one claim are one.
+-- What is read as a certificate is what is written of it, and the rules are tested on what the text
+-- claims. So texts of one claim are one.
 pub record ReadIsWritten : Type 0 where
   pub again : (text : Text) (t : Script) (functions : ℕ) (names : List Text) (c : Certificate) → Reads text t functions names (Ok c) → written names c ≡ text
   pub rising : (text : Text) (t : Script) (functions : ℕ) (names : List Text) (c : Certificate) → Reads text t functions names (Ok c) → IsSheet (claimed names c)

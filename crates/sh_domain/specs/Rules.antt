@@ -1,4 +1,5 @@
--- The flow rules, as the list of what each fact has to be within: each line is a rule, at the command that breaks it where the fact is not.
+-- The flow rules, as the list of what each fact has to be within. Each line is a rule, at the
+-- command that breaks it if the fact is not.
 -- POSIX.1-2024, XCU 2.9 (shell commands), 2.15 (break, continue, return).
 use Rattle.std.specs.Prelude.{ℕ, ◌-◌, ◌==◌, nat_le, Bool, true, false, ◌||◌, if◌then◌else◌, List, [], ◌∷◌, ◌++◌, map, codes, flat_map, filter, filter_map, Option, Some, None}
 use Rattle.std.specs.List.{list_any}
@@ -53,7 +54,7 @@ loop_at n [] = None
 loop_at n (l ∷ []) = Some l
 loop_at n (l ∷ m ∷ ls) = if nat_le n 1 then Some l else loop_at (n - 1) (m ∷ ls)
 
--- `break` goes on behind the loop, `continue` with its next turn
+-- `break` goes on after the loop, `continue` with its next turn
 unfoldable pub breaks : Option ℕ → ℕ → Seen → List Constraint
 breaks None n s = []
 breaks (Some l) n s = bound (AfterZero l) n F15 s ++ bound (AfterNonzero l) n F15 s
@@ -83,7 +84,8 @@ jumps x n _ ws s = []
 
 -- Drops
 
--- what a utility may drop: the names of `unset`, as functions only those that the script defines, and OPTARG
+-- what a utility may drop: the names of `unset`, as functions only those that the script defines,
+-- and OPTARG
 unfoldable pub utility_losses : List Text → Kind → List Word → List Loss
 utility_losses functions (kind.Special known.Unset) ws =
     OfNames (record { vars = (unset_names ws).vars; functions = filter (is_one_of functions) (unset_names ws).functions }) ∷ []
@@ -94,7 +96,8 @@ utility_losses functions _ ws = []
 abbrev pub builtin_losses : Text → List Loss
 builtin_losses f = if bytes_eq f (codes "getopts") then OfNames (record { vars = codes "OPTARG" ∷ []; functions = [] }) ∷ [] else []
 
--- a call may drop what its function does, and the names of its prefix assignments that are not set before
+-- a call may drop what its function does, and the names of its prefix assignments that are not set
+-- before
 unfoldable pub losses_by : List Text → p.Elements → Seen → Manner → List Loss
 losses_by functions es s Nameless = []
 losses_by functions es s (Utility kind ws) = utility_losses functions kind ws
@@ -115,7 +118,7 @@ counted (Some f) n ls = map (Counted f n) ls
 -- F4, F5, F14, F15: simple commands
 
 module _ (x : Around) (n : ℕ) (es : p.Elements) where
-  -- behind the words, where redirections and values are judged
+  -- after the words, where redirections and values are judged
   abbrev pub behind : Seen
   behind = behind_words es (at (Before n))
 
@@ -141,7 +144,8 @@ module _ (x : Around) (n : ℕ) (es : p.Elements) where
       ++ jumps x n kind ws (gaining (and_gains (assignments_gains es) (redirections_gains es)) behind)
   simple_bounds (table.Call f ws) = call_bounds f ws
 
--- F6: `if` leaves what its branches leave, and without `else` what is known where no condition is zero
+-- F6: `if` leaves what its branches leave, and without `else` what is known where no condition is
+-- zero
 
 unfoldable pub branches_bounds : ℕ → Seen → p.Branches → List Constraint
 branches_bounds n s p.no_branches = []
@@ -153,7 +157,8 @@ unfoldable pub otherwise_bounds : ℕ → Seen → p.Otherwise → List Constrai
 otherwise_bounds n s p.no_else = bound (AfterZero n) n F6 s
 otherwise_bounds n s (p.else_of list) = leaves n F6 (items_after (Both s) list)
 
--- F9: `case` leaves what each clause leaves that does not go on with the next, and what is known behind the word unless some pattern is `*`
+-- F9: `case` leaves what each clause leaves that does not go on with the next. Unless some pattern
+-- is `*`, it leaves what is known after the word too.
 
 unfoldable pub is_last : ClauseEnd → p.Clauses → Bool
 is_last clause.Break cs = true
@@ -174,7 +179,7 @@ matches_always (p.more_clauses patterns body end rest) = list_any (is_plainly (c
 unfoldable pub body_bounds : Text → p.Command → List Constraint
 body_bounds f (p.command m offset kind rs) = bound (ReturnsZero f) m F13 (at (AfterZero m)) ++ bound (ReturnsNonzero f) m F13 (at (AfterNonzero m))
 
--- what the command n claims, behind whose redirections this is seen
+-- what the command n claims, after whose redirections this is seen
 unfoldable pub kind_bounds : List Text → Around → ℕ → Seen → p.Kind → List Constraint
 kind_bounds functions x n s (p.Simple es) = simple_bounds x n es (manner functions es)
 kind_bounds functions x n s (p.Group list) = leaves n F10 (items_after (Both s) list)
@@ -199,7 +204,8 @@ kind_bounds functions x n s (p.Define name body) =
 unfoldable pub redirects_bounds : ℕ → p.Redirects → List Constraint
 redirects_bounds n rs = if is_redirected rs then bound (AfterNonzero n) n F10 (at (Before n)) else []
 
--- the constraints of a command: it is entered within what is seen there, and it claims no more than its rule gives
+-- the constraints of a command: it is entered within what is seen there, and it claims no more than
+-- its rule gives
 unfoldable pub bounds : List Text → Entered → List Constraint
 bounds functions e = of_command e.command
   where

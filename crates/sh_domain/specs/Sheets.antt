@@ -1,5 +1,6 @@
 -- A certificate as claims about names, and its text.
--- The standard has no such thing: what is surely set (XCU 2.5) round each command, as the lines of a text, of which each certificate has one.
+-- The standard has no such thing: what is surely set (XCU 2.5) round each command, as the lines of
+-- a text. Each certificate has one text.
 use Rattle.std.specs.Prelude.{ℕ, ◌+◌, ◌-◌, Bool, if◌then◌else◌, List, [], ◌∷◌, ◌++◌, length, codes, Option, Some, None, slice_get, unwrap_or}
 use Rattle.std.specs.Fmt.{decimal}
 use Rattle.std.specs.Cmp.Lexicographic.{slice_cmp}
@@ -10,7 +11,8 @@ use Rattle.sh_domain.specs.Facts.{Claim, Unreached, Claimed}
 use Rattle.sh_domain.specs.Operands.{Names, no_names}
 use Rattle.sh_domain.specs.Views.{Certificate, Slot, Before, AfterZero, AfterNonzero, Head, Entry, ReturnsZero, ReturnsNonzero}
 
--- what is claimed of a command: before it, after zero, after another status, and of a loop at each turn
+-- what is claimed of a command: before it, after zero, after another status, and of a loop at each
+-- turn
 pub record CommandClaims : Type 0 where
   pub before : Claim
   pub zero : Claim
@@ -29,7 +31,7 @@ pub record Sheet : Type 0 where
   pub commands : List CommandClaims
   pub functions : List FunctionClaims
 
--- What a sheet claims at each place that the rules speak of, where its functions have these names
+-- What a sheet claims at each place that the rules speak of, if its functions have these names
 
 abbrev pub nowhere : CommandClaims
 nowhere = record { before = Unreached; zero = Unreached; nonzero = Unreached; head = None }

@@ -1,5 +1,6 @@
--- The names in a script's text, each with the offset at which it stands.
--- POSIX.1-2024, XCU 2.5.3 (shell variables), 2.6 (word expansions), 2.9 (shell commands), 2.15 and 3 (utilities that set or unset by name).
+-- The names in a script's text, each with its offset.
+-- POSIX.1-2024, XCU 2.5.3 (shell variables), 2.6 (word expansions), 2.9 (shell commands), 2.15 and
+-- 3 (utilities that set or unset by name).
 use Rattle.std.specs.Prelude.{ℕ, nat_lt, ◌==◌, Bool, true, false, not, ◌&&◌, ◌||◌, if◌then◌else◌, List, [], ◌∷◌, ◌++◌, length, take, drop, codes, Option, Some, None}
 use Rattle.std.specs.List.{flat_map}
 use Rattle.std.specs.Str.{bytes_eq}
@@ -25,7 +26,7 @@ use Rattle.sh_tree.specs.standard.program.Syntax.{Text}
 use Rattle.sh_table.specs.Profile.{Static}
 use Rattle.sh_table.specs.standard.runs.Operands.{is_dashed, ends_options, ReadOption, Complete, TakesNext, Other, read_option}
 
--- a name, and the offset at which it stands
+-- a name, and its offset
 pub record Sight : Type 0 where
   pub at : ℕ
   pub name : Text
@@ -33,7 +34,8 @@ pub record Sight : Type 0 where
 abbrev pub sight : List ℕ → Span → Sight
 sight b s = record { at = s.start; name = text_of b s }
 
--- Words: the variables of expansions, and the names in arithmetic. What a substitution runs are commands of their own.
+-- Words: the variables of expansions, and the names in arithmetic. What a substitution runs are
+-- commands of their own.
 
 unfoldable pub subject_sights : List ℕ → Subject → List Sight
 subject_sights b (Name s) = sight b s ∷ []
@@ -98,7 +100,7 @@ if_name x = if is_name x.name then x ∷ [] else []
 abbrev pub that_are_names : List Sight → List Sight
 that_are_names xs = flat_map if_name xs
 
--- the operands of `unset` behind its options, and behind the `--` that ends these
+-- the operands of `unset` after its options, and after the `--` that ends these
 unfoldable pub behind_options : List Sight → List Sight
 behind_options [] = []
 behind_options (x ∷ xs) = if ends_options x.name then xs else (if is_dashed x.name then behind_options xs else x ∷ xs)
@@ -119,7 +121,8 @@ unfoldable pub go_on : {A : Type 0} → Option Bool → (Bool → Option A) → 
 go_on None rest = None
 go_on (Some takes) rest = rest takes
 
--- the operands of `read` behind its options, unless one is another; whether an option takes the next operand
+-- the operands of `read` after its options, if each option is one of the standard's; whether an
+-- option takes the next operand
 unfoldable pub read_behind : Bool → List Sight → Option (List Sight)
 read_behind takes [] = Some []
 read_behind true (x ∷ xs) = read_behind false xs
@@ -127,7 +130,7 @@ read_behind false (x ∷ xs) =
     if ends_options x.name then Some xs
     else (if is_dashed x.name then go_on (option_takes x.name) (λ takes. read_behind takes xs) else Some (x ∷ xs))
 
--- the same of static texts, of which one may be missing
+-- the same of static texts, one of which may be missing
 unfoldable pub read_operands : Bool → List Static → Option (List Static)
 read_operands takes [] = Some []
 read_operands true (t ∷ ts) = read_operands false ts
@@ -139,11 +142,11 @@ unfoldable pub names_behind : Option (List Sight) → List Sight
 names_behind None = []
 names_behind (Some xs) = that_are_names xs
 
--- `read` names variables where every operand is static
+-- `read` names variables if every operand is static
 abbrev pub read_sights : List ℕ → List Word → List Sight
 read_sights b ws = if nat_lt (length (static_sights b ws)) (length ws) then [] else names_behind (read_behind false (static_sights b ws))
 
--- the second operand of `getopts`, behind a static one that is no option
+-- the second operand of `getopts`, after a static one that is no option
 unfoldable pub second_sights : Text → Sight → List Sight
 second_sights t x = if is_name x.name && not (is_first (λ c. c == 45) t) then x ∷ [] else []
 
@@ -216,6 +219,6 @@ in_kind b (Branches' span shape parts shape' clauses) = in_row b parts ++ flat_m
 in_kind b (Define' name shape body) = sight b name ∷ []
 in_kind b _ = []
 
--- in a command itself, without those that stand in it
+-- in a command itself, without those of the commands in it
 abbrev pub in_command : List ℕ → Command → List Sight
 in_command b c = in_kind b (out-Command c).kind ++ flat_map (in_redirect b) (out-Command c).redirects

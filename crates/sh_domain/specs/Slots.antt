@@ -1,5 +1,6 @@
 -- What a kept certificate claims at each place that the rules speak of.
--- The standard has no such thing: what is surely set (XCU 2.5) round each command and each function, by their numbers.
+-- The standard has no such thing: what is surely set (XCU 2.5) round each command and each
+-- function, by their numbers.
 use Rattle.std.specs.Prelude.{◌≡◌, ℕ, ◌-◌, ◌<◌, ◌≤◌, nat_eq, List, length, Option, option_and_then, option_map, slice_get, unwrap_or}
 use Rattle.indexmap.specs.IndexMap.{get}
 use Rattle.sh_tree.specs.standard.program.Syntax.{Text}
@@ -22,7 +23,7 @@ entry_claim order c part n = unwrap_or (option_map (λ e. claim_of order c.rows 
 abbrev pub head_claim : (order : List (ℕ × Text)) → Certificate → ℕ → Claim
 head_claim order c n = unwrap_or (option_map (claim_of order c.rows) (get nat_eq c.heads n)) Unreached
 
--- the entry of a function, where these are the names of the functions
+-- the entry of a function, if these are the names of the functions
 abbrev pub entry_of : Certificate → List Text → Text → Option FunctionEntry
 entry_of c functions f = option_and_then (slice_get c.functions.items) (number_of functions f)
 
@@ -33,7 +34,8 @@ function_claim order c functions part f = unwrap_or (option_map (λ e. claim_of 
 abbrev pub function_drops : (order : List (ℕ × Text)) → Certificate → List Text → Text → Names
 function_drops order c functions f = unwrap_or (option_map (λ e. drops_of order c.rows e.drops) (entry_of c functions f)) no_names
 
--- The certificate that the rules are asked of claims, at each place, what the entry of that number has.
+-- The certificate on which the rules are tested claims, at each place, what the entry of that
+-- number has.
 pub record ClaimsAreEntries (order : List (ℕ × Text)) (c : Certificate) (functions : List Text) : Type 0 where
   pub before : (n : ℕ) → (certificate_of functions (sheet_of order c)).claim (Before n) ≡ entry_claim order c (λ e. e.before) n
   pub zero : (n : ℕ) → (certificate_of functions (sheet_of order c)).claim (AfterZero n) ≡ entry_claim order c (λ e. e.zero) n

@@ -1,5 +1,6 @@
 -- A certificate has one text, and a text is that of one certificate.
--- The standard has no such thing: what is read of a text and what is written of a certificate are each other's inverse.
+-- The standard has no such thing: what is read of a text and what is written of a certificate are
+-- each other's inverse.
 use Rattle.std.specs.Prelude.{◌≡◌, nat_le, Bool, true, ◌&&◌, length, Option, Some, None, Ok}
 use Rattle.std.specs.List.{list_all}
 use Rattle.sh_tree.specs.standard.language.Bytes.{is_name}
@@ -34,8 +35,9 @@ pub record IsSheet (s : Sheet) : Type 0 where
   pub few_commands : nat_le (length s.commands) 65535 ≡ true
   pub few_functions : nat_le (length s.functions) 65535 ≡ true
 
--- Whatever reads as claims is their text, to the byte, so no certificate has two texts, and they may be written; what is written reads as what was
--- written, so no text is that of two certificates.
+-- Whatever reads as claims is their text, to the byte, so no certificate has two texts, and they
+-- may be written. What is written reads as what was written, so no text is that of two
+-- certificates.
 pub record HasOneText : Type 0 where
   pub spelled : (t : Text) (s : Sheet) → read_sheet t ≡ Ok s → certificate_text s ≡ t
   pub one : (t u : Text) (s : Sheet) → read_sheet t ≡ Ok s → read_sheet u ≡ Ok s → t ≡ u

@@ -1,5 +1,6 @@
 -- What holds after a simple command, by what its name means: a row for each utility.
--- POSIX.1-2024, XCU 2.9.1 (simple commands), 2.15 (special built-in utilities), 3 (false, getopts, read, true).
+-- POSIX.1-2024, XCU 2.9.1 (simple commands), 2.15 (special built-in utilities), 3 (false, getopts,
+-- read, true).
 use Rattle.std.specs.Prelude.{ℕ, Bool, true, false, not, ◌&&◌, if◌then◌else◌, List, [], ◌∷◌, ◌++◌, map, filter, codes, Option, Some, None}
 use Rattle.sh_tree.specs.standard.program.Syntax as p
 use Rattle.sh_tree.specs.standard.program.Syntax.{Text, Word}
@@ -18,7 +19,8 @@ use Rattle.sh_domain.specs.Views.{Seen, After, Both, Each, anything, gaining, ga
 abbrev pub operands : p.Elements → List Word
 operands es = words_in (operands_in es)
 
--- how a simple command goes on: without a name, or by its name, as a utility of a kind or as a call of a function of the script
+-- how a simple command goes on: without a name, or by its name, as a utility of a kind or as a call
+-- of a function of the script
 pub data Manner : Type 0 where
   Nameless : Manner
   Utility : Kind → List Word → Manner
@@ -59,15 +61,16 @@ unfoldable pub is_redirected : p.Redirects → Bool
 is_redirected p.no_redirects = false
 is_redirected (p.more_redirects r rs) = true
 
--- behind the command name and the operands; redirections and values are judged there
+-- after the command name and the operands; redirections and values are judged there
 abbrev pub behind_words : p.Elements → Seen → Seen
 behind_words es s = gaining (words_gains (operands_in es)) s
 
--- The table, over what is seen behind the words, the operands, what assignments and redirections leave set, the names of the prefix
--- assignments, and whether there are redirections
+-- The table. It starts from what is seen after the words, the operands, and what assignments and
+-- redirections leave set. It also takes the names of the prefix assignments, and whether there are
+-- redirections.
 
 module _ (behind : Seen) (ws : List Word) (left : Gains) (names : List Text) (redirected : Bool) where
-  -- behind the assignments and redirections too, which stay at a special built-in utility
+  -- after the assignments and redirections too, which stay at a special built-in utility
   abbrev pub settled : Seen
   settled = gaining left behind
 

@@ -8,8 +8,8 @@ use Rattle.sh_domain.specs.Facts.{Facts, NotReached, Known, Claim, facts, claims
 use Rattle.sh_domain.specs.Gains.{Gains, named, with_gains, job}
 use Rattle.sh_domain.specs.Operands.{Names, no_names, Total}
 
--- The places of which a certificate claims something: before a command and behind it, by its status; each turn of a loop; where a function is
--- entered, and where it returns, by its status.
+-- The places of which a certificate claims something: before a command and after it, by its status;
+-- each turn of a loop; where a function is entered, and where it returns, by its status.
 pub data Slot : Type 0 where
   Before : (number : ℕ) → Slot
   AfterZero : (number : ℕ) → Slot
@@ -19,7 +19,8 @@ pub data Slot : Type 0 where
   ReturnsZero : (function : Text) → Slot
   ReturnsNonzero : (function : Text) → Slot
 
--- what a certificate claims: a fact for each place, and for each function the names that a call of it may drop
+-- what a certificate claims: a fact for each place, and for each function the names that a call of
+-- it may drop
 pub record Certificate : Type 0 where
   pub claim : Slot → Claim
   pub drops : Text → Names
@@ -65,7 +66,7 @@ at_start = record { source = Start; steps = [] } ∷ []
 abbrev pub extended : Step → View → View
 extended x v = record v { steps = v.steps ++ x ∷ [] }
 
--- what is known behind one more step
+-- what is known after one more step
 abbrev pub stepped : Step → Seen → Seen
 stepped x s = map (extended x) s
 
@@ -107,7 +108,7 @@ after_command n = Each (at (AfterZero n)) (at (AfterNonzero n))
 
 -- What the steps do to facts
 
--- where nothing is reached, nothing is reached behind it
+-- if no run comes to a place, none comes to what follows
 unfoldable pub where_known : ((Text → Bool) → (Text → Bool) → ℕ → Facts) → Facts → Facts
 where_known step NotReached = NotReached
 where_known step (Known v f a) = step v f a
@@ -126,8 +127,9 @@ counted_by n a = min most_fields (n.ones + n.parameters * a)
 unfoldable pub passes : Text → Text → Bool
 passes function x = not (bytes_eq function (codes "getopts") && bytes_eq x (codes "OPTARG"))
 
--- The function returns with these facts: what was known and is not dropped, and what is known where it returns; but the name of a prefix
--- assignment is known only if it was before. The positional parameters are those of the caller.
+-- The function returns with these facts: what was known and is not dropped, and what is known where
+-- it returns. But the name of a prefix assignment is known only if it was before. The positional
+-- parameters are those of the caller.
 unfoldable pub returned : Names → List Text → Facts → (Text → Bool) → (Text → Bool) → ℕ → Facts
 returned d prefixes NotReached v f a = NotReached
 returned d prefixes (Known w g b) v f a =
@@ -137,11 +139,12 @@ returned d prefixes (Known w g b) v f a =
 abbrev pub left : Names → Text → (Text → Bool) → (Text → Bool) → ℕ → Facts
 left d function v f a = Known (λ x. kept d.vars v x && passes function x) (λ x. kept d.functions f x) a
 
--- a call: where the function is surely defined it returns, and otherwise what was known and is not dropped is known
+-- a call: if the function is surely defined it returns, and otherwise what was known and is not
+-- dropped is known
 unfoldable pub called : Names → Facts → Text → List Text → Facts → Facts
 called d r function prefixes g = where_known (λ v f a. if f function then returned d prefixes r v f a else left d function v f a) g
 
--- what is known behind a step
+-- what is known after a step
 unfoldable pub step : Certificate → Step → Facts → Facts
 step c (Gain g) f = with_gains g f
 step c (Define name) f = where_known (λ v g a. Known v (λ x. bytes_eq name x || g x) a) f

@@ -1,4 +1,4 @@
--- Clauses of private functions: what the fields of a compact certificate's lines stand for.
+-- Clauses of private functions: what the fields of a compact certificate's lines mean.
 -- The standard has no such thing: fields of the text of a certificate.
 use Rattle.std.specs.Prelude.{ℕ, List, Result, Ok, Err}
 use Rattle.std.specs.Borrow.{Bor}

@@ -1,5 +1,6 @@
 -- Clauses of private functions: what is read of a compact certificate, and of its lines of loops.
--- The standard has no such thing: parts of the text of a certificate, and rows of the numbers of names.
+-- The standard has no such thing: parts of the text of a certificate, and rows of the numbers of
+-- names.
 use Rattle.std.specs.Prelude.{◌≡◌, ℕ, Bool, true, false, List, length, Result, Ok, Err}
 use Rattle.sh_tree.specs.declared.refusal.Refusal.{Refusal}
 use Rattle.sh_tree.specs.declared.refusal.Refusal.TheVariants.{Memory, CertSyntax, CertShape}
@@ -44,7 +45,7 @@ ReadsCompact text t functions names (Err _) = ⊥
 
 -- The lines of loops
 
--- those of the loops of these numbers, and what is behind them
+-- those of the loops of these numbers, and what is after them
 pub record ReadsTurns (names : List Text) (numbers : List ℕ) (t : Text) (old : KeptRows) (entries : List (ℕ × value.Facts)) (left : Text) (new : KeptRows) : Type 0 where
   pub read : List (ℕ × Claim)
   pub reading : read_turns 4 0 (length numbers) t ≡ Ok (read, left)

@@ -1,4 +1,5 @@
--- Clauses of private functions: what the fields of a line stand for, while the names of a set are still a text.
+-- Clauses of private functions: what the fields of a line mean, while the names of a set are still
+-- a text.
 -- The standard has no such thing: fields of the text of a certificate.
 use Rattle.std.specs.Prelude.{ℕ, Bool, List, [], ◌∷◌, Option, Some, None, option_map, Result, Ok, Err, if◌then◌else◌, ◌&&◌}
 use Rattle.std.specs.Borrow.{Bor}
@@ -62,7 +63,7 @@ function_of x = record { before = claim_of x.before; drops = sets_of x.drops; ze
 
 -- Lines
 
--- what is behind the letter and the number that begin a line
+-- what is after the letter and the number that begin a line
 unfoldable pub behind_number : ℕ → ℕ → List Text → Option (List Text)
 behind_number letter k (l ∷ n ∷ t ∷ ts) = if bytes_eq (letter ∷ []) l && bytes_eq (decimal k) n then Some (t ∷ ts) else None
 behind_number letter k _ = None
@@ -80,7 +81,7 @@ counts_of c = (c.commands, c.functions)
 
 -- The text
 
--- what the first line stands for, if it has the form, and what is behind it
+-- what the first line means, if it has the form, and what is after it
 unfoldable pub line_of : {A : Type 0} → (Text → Option A) → Option (Text × Text) → Option (A × Text)
 line_of form None = None
 line_of form (Some x) = option_map (λ a. (a, x.1)) (form x.0)
@@ -94,7 +95,7 @@ command_line_of x = (command_of x.0, x.1.now)
 abbrev pub function_line_of : FunctionTexts × Bor (List ℕ) → FunctionClaims × Text
 function_line_of x = (function_of x.0, x.1.now)
 
--- what is left behind a reading, whatever was read
+-- what is left after a reading, whatever was read
 unfoldable pub left_of : {A : Type 0} → Reading A → Result Text ℕ
 left_of (Ok x) = Ok x.1
 left_of (Err k) = Err k

@@ -1,5 +1,6 @@
--- Clauses of private functions: what is read of a part of a text, and which rows stand then.
--- The standard has no such thing: parts of the text of a certificate, and rows of the numbers of names.
+-- Clauses of private functions: what is read of a part of a text, and which rows there are then.
+-- The standard has no such thing: parts of the text of a certificate, and rows of the numbers of
+-- names.
 use Rattle.std.specs.Prelude.{◌≡◌, ℕ, nat_eq, Bool, true, false, List, length, map, Ok, Option, option_map}
 use Rattle.std.specs.List.{list_all}
 use Rattle.indexmap.specs.IndexMap.{get}
@@ -71,13 +72,13 @@ Misfits fits CertShape = fits ≡ false
 Misfits fits Memory = Unit {0}
 Misfits fits _ = ⊥
 
--- it does not fit, of which P is a proof
+-- it does not fit, and P is a proof of that
 abbrev pub Misses : Type 0 → Refusal → Type 0
 Misses P CertShape = P
 Misses P Memory = Unit {0}
 Misses P _ = ⊥
 
--- the lines of the commands, told whether each is a loop, and what is behind them
+-- the lines of the commands, each with whether it is a loop, and what is after them
 pub record ReadsCommands (names : List Text) (loops : List Bool) (t : Text) (entries : List Entry) (heads : ℕ → Option value.Facts) (left : Text) (rows : KeptRows) : Type 0 where
   pub claims : List CommandClaims
   pub reading : read_lines command_in 3 1 (length loops) t ≡ Ok (claims, left)

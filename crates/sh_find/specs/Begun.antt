@@ -34,12 +34,14 @@ pub record IsStateable (names : List Text) (k : Compact) : Type 0 where
   pub facts : (p : Place) (f : Facts) → states k p ≡ Some f → IsWritten names (names_of f)
   pub drops : (i : ℕ) (s : Sets) → drops_stated k i ≡ Some s → IsWritten names s
 
--- The certificate has a claim at each place of which one is stated, at no other of these parts, and drops of each function of which some are stated.
+-- The certificate has a claim at each place with a stated one, and at no other of these parts. It
+-- has drops of each function with stated ones.
 pub record HasStated (k : Compact) (c : Certificate) : Type 0 where
   pub claims : (p : Place) → is_stated_part p.part ≡ true → is_some (claims c p) ≡ is_some (states k p)
   pub drops : (i : ℕ) → is_some (dropped c i) ≡ is_some (drops_stated k i)
 
--- It claims what is stated at the places that are done, and everything elsewhere; and the first functions drop what is stated, and no others drop anything.
+-- It claims what is stated at the places that are done, and everything elsewhere; and the first
+-- functions drop what is stated, and no others drop anything.
 pub record IsBegunAt (k : Compact) (done : Place → Bool) (first : ℕ) (c : Certificate) : Type 0 where
   pub there : (p : Place) → done p ≡ true → claims c p ≡ states k p
   pub left : (p : Place) (f : Facts) → done p ≡ false → claims c p ≡ Some f → f ≡ NotReached

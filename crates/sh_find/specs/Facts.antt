@@ -1,15 +1,17 @@
 -- What is surely set, by the numbers of names.
--- POSIX.1-2024, XCU 2.5.1 (positional parameters), 2.5.3 (shell variables), 2.9.5 (functions): which of them are set at a place, in every run.
+-- POSIX.1-2024, XCU 2.5.1 (positional parameters), 2.5.3 (shell variables), 2.9.5 (functions):
+-- which of them are set at a place, in every run.
 use Rattle.std.specs.Prelude.{◌≡◌, ℕ, nat_le, min, Bool, true, false, ◌&&◌}
 
--- The variables that are set, the functions that are defined, and how many positional parameters there are at least.
+-- The variables that are set, the functions that are defined, and how many positional parameters
+-- there are at least.
 -- NotReached says that no run comes to the place, so it claims everything.
 pub data Facts : Type 0 where
   NotReached : Facts
   Known : (vars functions : ℕ → Bool) (args : ℕ) → Facts
 
--- the single things that facts claim: that no run comes here, that a variable is set, that a function is defined, that there are so many
--- positional parameters
+-- the single things that facts claim: that no run comes here, that a variable is set, that a
+-- function is defined, that there are so many positional parameters
 pub data Atom : Type 0 where
   Nowhere : Atom
   Variable : (name : ℕ) → Atom

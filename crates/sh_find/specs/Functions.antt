@@ -1,4 +1,5 @@
--- The functions that the flow rules of a script let be known, or count as lost, have names, as a certificate's text may have them.
+-- The functions that the flow rules of a script let be known, or count as lost, have names, as a
+-- certificate's text may have them.
 -- POSIX.1-2024, XBD 3.216 (name), XCU 2.9.5 (function definition command), 2.15 (unset).
 use Rattle.std.specs.Prelude.{◌≡◌, ℕ, Bool, true, List}
 use Rattle.std.specs.List.{list_all}
@@ -52,7 +53,8 @@ unfoldable pub BoundsNames : Facts → Certificate → Constraint → Type 0
 BoundsNames start c (Within slot n rule v) = KnowsNames (view_facts start c v)
 BoundsNames start c (Counted function n loss) = LosesNames (lost start c n loss)
 
--- Of a start that knows only names and a certificate that claims only names, no rule lets any other function be known, and none counts another as lost.
+-- Let a start know only names, and a certificate claim only names. Then no rule lets any other
+-- function be known, and none counts another as lost.
 abbrev pub RulesKnowNames : Type 0
 RulesKnowNames =
     (b : List ℕ) (d : Declared) (t : Script) (names : List Text) (start : Facts) (c : Certificate)

@@ -1,5 +1,6 @@
--- What is gathered of all that the flow rules ask of a certificate: whether it is kept, what is known at one place, what one function has to drop, and of
--- which other place and function more was asked than is kept.
+-- What is gathered of all that the flow rules require of a certificate: whether it is kept, what is
+-- known at one place, and what one function has to drop. Also of which other place and function
+-- they require more than is kept.
 -- The standard has no such rules: what is claimed of a place has to be known there in every run.
 use Rattle.std.specs.Prelude.{ℕ, nat_lt, ◌==◌, Bool, true, false, ◌&&◌, ◌||◌, if◌then◌else◌, List, fold, Option, Some, None, option_map, option_and_then, unwrap_or}
 use Rattle.sh_tree.specs.standard.program.Syntax.{Text}
@@ -15,8 +16,8 @@ use Rattle.sh_find.specs.Numbers.{by_number, numbers_in}
 use Rattle.sh_find.specs.Places.{at, same, place_of}
 use Rattle.sh_find.specs.Working.{Sets, joined}
 
--- all is kept so far; what is known at the place; what the function of the index has to drop; the last of the other places and functions of which something
--- is not kept
+-- all is kept so far; what is known at the place; what the function of the index has to drop; the
+-- last of the other places and functions of which something is not kept
 pub record Gathered : Type 0 where
   pub kept : Bool
   pub place : Place

@@ -1,4 +1,4 @@
--- Where nothing is left to be lowered at a place and a function.
+-- When nothing is left to be lowered at a place and a function.
 -- The standard has no such thing: what is claimed of a place has to be known there in every run.
 use Rattle.std.specs.Prelude.{◌≡◌, ℕ, Some}
 use Rattle.sh_domain.specs.declared.certificate.Certificate as kept

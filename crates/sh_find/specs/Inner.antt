@@ -1,5 +1,6 @@
--- Whether a command substitution stands in a piece of a word, or in the words of a command.
--- POSIX.1-2024, XCU 2.6.2 (parameter expansion), 2.6.3 (command substitution), 2.6.4 (arithmetic expansion), 2.7 (redirection).
+-- Whether a command substitution is in a piece of a word, or in the words of a command.
+-- POSIX.1-2024, XCU 2.6.2 (parameter expansion), 2.6.3 (command substitution), 2.6.4 (arithmetic
+-- expansion), 2.7 (redirection).
 use Rattle.std.specs.Prelude.{◌≡◌, ℕ, Bool, true, false, ◌||◌, List, []}
 use Rattle.sh_tree.specs.declared.tree.Binary.{Binary}
 use Rattle.sh_tree.specs.declared.tree.Element.{Element}
@@ -25,7 +26,7 @@ unfoldable mutual
   word_substitutes p.no_parts = false
   word_substitutes (p.more_parts x w) = part_substitutes x || word_substitutes w
 
-  -- in the word behind it
+  -- in the word after it
   pub operator_substitutes : p.Operator → Bool
   operator_substitutes (p.Use action colon w) = word_substitutes w
   operator_substitutes (p.Remove removal w) = word_substitutes w
@@ -60,7 +61,7 @@ elements_substitute (p.assignment name value es) = word_substitutes value || ele
 elements_substitute (p.operand w es) = word_substitutes w || elements_substitute es
 elements_substitute (p.redirection r es) = redirect_substitutes r || elements_substitute es
 
--- Where none stands, no command is entered.
+-- If there is none, no command is entered.
 pub record EntersNothing : Type 0 where
   pub words : (w : p.Word) → word_substitutes w ≡ false → (s : Seen) → word_entered s w ≡ []
   pub redirections : (rs : p.Redirects) → redirects_substitute rs ≡ false → (s : Seen) → redirects_entered s rs ≡ []

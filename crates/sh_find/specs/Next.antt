@@ -1,4 +1,4 @@
--- Where a constraint stands that is broken, and a certificate while it is lowered, of a script.
+-- Where a broken constraint is, and a certificate while it is lowered, of a script.
 -- The standard has no such rules: what is claimed of a place has to be known there in every run.
 use Rattle.std.specs.Prelude.{◌≡◌, ℕ, Bool, true, List, [], ◌∷◌, ◌++◌, length}
 use Rattle.sh_tree.specs.standard.program.Syntax.{Text}
@@ -40,7 +40,8 @@ pub record BrokenAt (functions : List Text) (start : Facts) (c : Certificate) (k
   pub breaks : ¬ (broken start c constraint ≡ [])
 
 module _ (s : Subject) where
-  -- a certificate that is lowered, with as many commands and functions as the script has, and heads at its loops
+  -- a certificate that is lowered, with as many commands and functions as the script has, and heads
+  -- at its loops
   pub record IsOfScript (c : kept.Certificate) : Type 0 where
     pub loops : List Bool
     pub are_loops : AreLoops s.tree.now loops

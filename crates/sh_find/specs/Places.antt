@@ -1,5 +1,6 @@
 -- The places of which a certificate claims something, by the indices of commands and functions.
--- The standard has no such thing: what is surely set (XCU 2.5) round each command and each function.
+-- The standard has no such thing: what is surely set (XCU 2.5) round each command and each
+-- function.
 use Rattle.std.specs.Prelude.{◌≡◌, ℕ, ◌+◌, ◌-◌, ◌==◌, nat_eq, Bool, true, false, ◌&&◌, if◌then◌else◌, List, length, Option, Some, None, option_map, option_and_then, slice_get, unwrap_or}
 use Rattle.indexmap.specs.IndexMap.{get}
 use Rattle.sh_tree.specs.standard.program.Syntax.{Text}
@@ -33,7 +34,7 @@ same p q = (p.index == q.index) && (rank p.part == rank q.part)
 abbrev pub at : Part → ℕ → Place
 at part i = record { part = part; index = i }
 
--- The place of a slot, where the functions have these names; a function that is none of them has none.
+-- The place of a slot, if the functions have these names; a function that is none of them has none.
 unfoldable pub place_of : List Text → Slot → Option Place
 place_of functions (views.Before n) = Some (at Before (n - 1))
 place_of functions (views.AfterZero n) = Some (at Zero (n - 1))
@@ -43,7 +44,7 @@ place_of functions (views.Entry f) = option_map (at Entered) (number_of function
 place_of functions (views.ReturnsZero f) = option_map (at ReturnZero) (number_of functions f)
 place_of functions (views.ReturnsNonzero f) = option_map (at ReturnNonzero) (number_of functions f)
 
--- the parts of which a compact certificate states what is claimed
+-- the parts for which a compact certificate states what is claimed
 unfoldable pub is_stated_part : Part → Bool
 is_stated_part Before = false
 is_stated_part Zero = false

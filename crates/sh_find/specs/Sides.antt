@@ -1,4 +1,5 @@
--- What is known at two places, and what a function has to drop, by all that the flow rules ask at a command.
+-- What is known at two places, and what a function has to drop, by all that the flow rules require
+-- at a command.
 -- The standard has no such rules: what is claimed of a place has to be known there in every run.
 use Rattle.std.specs.Prelude.{◌≡◌, ℕ, true, if◌then◌else◌, List, Option}
 use Rattle.std.proofs.Common.{ap}
@@ -51,7 +52,8 @@ pub record AreNumbersBeside (names : ℕ) (g : Sided) : Type 0 where
   pub first : AreNumbers names (first_of g)
   pub second : AreNumbers names (second_of g)
 
--- a certificate claims no more at either place than is known there, and the function drops no less than was gathered
+-- a certificate claims no more at either place than is known there, and the function drops no less
+-- than was gathered
 pub record StandsBeside (names : List Text) (other : Sheet) (g : Sided) : Type 0 where
   pub first : Stands names other (first_of g)
   pub second : Stands names other (second_of g)

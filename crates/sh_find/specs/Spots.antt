@@ -1,5 +1,6 @@
--- The places of which the flow rules speak, as the code finds them.
--- The standard has no such thing: what is surely set (XCU 2.5) round each command and each function.
+-- The places that the flow rules speak of, as the code finds them.
+-- The standard has no such thing: what is surely set (XCU 2.5) round each command and each
+-- function.
 use Rattle.sh_find.specs.declared.place.Place.{Place}
 use Rattle.sh_find.specs.declared.spot.Spot.{Spot}
 use Rattle.sh_find.specs.Places.{at}

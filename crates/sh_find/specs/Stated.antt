@@ -1,4 +1,5 @@
--- What is asked if a compact certificate states what is claimed at each turn of a loop and round a function.
+-- What is required if a compact certificate states what is claimed at each turn of a loop and round
+-- a function.
 -- The standard has no such rules: what is claimed of a place has to be known there in every run.
 use Rattle.std.specs.Prelude.{◌≡◌, ℕ, Bool, true, false, not, if◌then◌else◌, List, filter}
 use Rattle.std.proofs.Common.{refl}
@@ -48,7 +49,8 @@ pub record Claims (stated c : Certificate) : Type 0 where
   pub claims : (slot : Slot) → is_stated slot ≡ true → c.claim slot ≡ stated.claim slot
   pub drops : (function : Text) → c.drops function ≡ stated.drops function
 
--- by the compact certificate, if claims are stated, where these are the names and the functions of the script
+-- by the compact certificate, if claims are stated and these are the names and the functions of the
+-- script
 unfoldable pub ClaimsStated : (names functions : List Text) → Bool → Compact → Certificate → Type 0
 ClaimsStated names functions false k c = Unit {0}
 ClaimsStated names functions true k c = Claims (stated_by functions (compact_claims (in_byte_order names) k)) c

@@ -1,4 +1,5 @@
--- A sweep of the search over the commands of a script: each is lowered by itself, with what is known before it by the certificate as it is there.
+-- A sweep of the search over the commands of a script. Each is lowered by itself, with what is
+-- known before it by the certificate as it is there.
 -- The standard has no such thing: a certificate is lowered until it keeps all flow rules.
 use Rattle.std.specs.Prelude.{◌≡◌, ℕ, ◌≤◌, List, Bool, true, [], ◌∷◌, ◌++◌, length, map, flat_map, Option}
 use Rattle.std.specs.List.Sorted.{IsPermutation}
@@ -43,7 +44,7 @@ use Rattle.sh_find.specs.Working.{IsWorking, height}
 use Rattle.sh_find.specs.Starts.{start_of}
 
 module _ (s : Subject) where
-  -- what a walk over the script goes by
+  -- what a walk over the script uses
   abbrev pub setting_by : kept.Certificate → Setting
   setting_by c = record {
     script = s.script.now;
@@ -75,7 +76,7 @@ module _ (s : Subject) where
   abbrev pub Knows : Seen → Facts → Type 0
   Knows q k = (other : Sheet) → Keeps other → IsWithin (sees s.names.now (start_of s) (claims_in s.script.now s.tree.now other) q) k
 
-  -- nor behind a list, by its status
+  -- nor after a list, by its status
   abbrev pub KnowsBehind : After → Behind → Type 0
   KnowsBehind o b = (other : Sheet) → Keeps other → SeesWithin s.names.now (start_of s) (claims_in s.script.now s.tree.now other) o b
 
@@ -115,11 +116,11 @@ module _ (s : Subject) where
   abbrev pub IsAndOr : FlowRule → Around → Facts → AndOr → Type 0
   IsAndOr by y k l = IsIn (λ q. list_entered by y q (trees.and_or_of s.script.now l)) k
 
-  -- what is left of the pipelines behind `&&` and `||`
+  -- what is left of the pipelines after `&&` and `||`
   abbrev pub AreLinks : Around → Behind → List (Link × Pipe) → Type 0
   AreLinks y k ls = IsAt (λ o. links_entered y o (links_from s.script.now ls)) k
 
-  -- what stands in the redirections of a command, and in it
+  -- what is in the redirections of a command, and in it
   abbrev pub IsInside : Around → Command → Type 0
   IsInside y c =
       IsPart
@@ -129,7 +130,8 @@ module _ (s : Subject) where
   abbrev pub IsKind : Around → ℕ → Facts → Kind → Type 0
   IsKind y n k kind = IsIn (λ q. kind_entered y n q (trees.kind_of s.script.now kind)) k
 
-  -- what is left of the elements of a simple command: where its next word is expanded, and behind all its words
+  -- what is left of the elements of a simple command: where its next word is expanded, and after
+  -- all its words
   pub record AreElements (known behind : Facts) (es : p.Elements) : Type 0 where
     pub seen : Seen
     pub last : Seen
@@ -141,7 +143,7 @@ module _ (s : Subject) where
   abbrev pub IsWord : Facts → p.Word → Type 0
   IsWord k w = IsIn (λ q. word_entered q w) k
 
-  -- what is known behind something that leaves these set
+  -- what is known after something that leaves these set
   abbrev pub Gained : Gains → Facts → Facts → Type 0
   Gained g old new = (q : Seen) → Knows q old → Knows (gaining g q) new
 
@@ -157,7 +159,7 @@ module _ (s : Subject) where
   abbrev pub AreBranches : Around → Facts → p.Branches → p.Otherwise → Type 0
   AreBranches y k bs z = IsIn (λ q. branches_entered y q bs ++ otherwise_entered y (otherwise_seen q bs) z) k
 
-  -- what is left of a `case`: behind its word, and behind the list before it
+  -- what is left of a `case`: after its word, and after the list before it
   pub record AreClauses (y : Around) (known fallen : Facts) (cs : p.Clauses) : Type 0 where
     pub seen : Seen
     pub falls : Seen
@@ -165,13 +167,13 @@ module _ (s : Subject) where
     pub knows : Knows seen known
     pub knows_fallen : Knows falls fallen
 
-  -- The walk goes on behind an item.
+  -- The walk goes on after an item.
   pub record IsPassed (old new : Course) (i : Item) : Type 0 where
     pub by : new.by ≡ F2
     pub behind : (o : After) → KnowsBehind o (known_behind old.behind)
         → KnowsBehind (item_after (in_any_case o) (out-Item i).background (trees.and_or_of s.script.now (out-Item i).list)) (known_behind new.behind)
 
-  -- The walk goes on behind some items, or stays where there is none.
+  -- The walk goes on after some items, or stays if there is none.
   pub record ArePassed (old new : Course) (is : List Item) : Type 0 where
     pub none : is ≡ [] → new ≡ old
     pub by : (i : Item) (rest : List Item) → is ≡ i ∷ rest → new.by ≡ F2
@@ -189,7 +191,8 @@ module _ (s : Subject) where
     pub probe : probed ≡ length s.names.now
     pub commands : IsPermutation (commands_of s.tree.now) (map (λ c. c.now) s.commands.now)
 
-  -- it is lowered, or stays, claims what was stated, and stays above each certificate that keeps the rules
+  -- it is lowered, or stays, claims what was stated, and stays above each certificate that keeps
+  -- the rules
   pub record IsSwept (old new : kept.Certificate) (probed : ℕ) : Type 0 where
     pub working : (loops : List Bool) (m : ℕ) → IsWorking s.names.now loops m old → IsWorking s.names.now loops m new
     pub no_more : (loops : List Bool) (m : ℕ) → IsWorking s.names.now loops m old → height (length s.names.now) (length loops) m new ≤ height (length s.names.now) (length loops) m old
@@ -197,7 +200,8 @@ module _ (s : Subject) where
     pub stays : s.stated ≡ true → StatedStays old new
     pub probe : probed ≡ length s.names.now
 
-  -- it keeps all rules that are asked, claims what was stated, and stays above each certificate that does
+  -- it keeps all rules that are asked, claims what was stated, and stays above each certificate
+  -- that does
   pub record IsSettled (loops : List Bool) (m : ℕ) (old new : kept.Certificate) : Type 0 where
     pub working : IsWorking s.names.now loops m new
     pub rules : flat_map (broken (start_of s) (claims_in s.script.now s.tree.now (sheet_by s.names.now new))) asked_of ≡ []

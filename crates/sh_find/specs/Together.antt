@@ -1,5 +1,6 @@
--- What is gathered goes by constraints.
--- The standard has no such rules: what is claimed of a place has to be known at each place from which it is entered.
+-- What is gathered follows the constraints.
+-- The standard has no such rules: what is claimed of a place has to be known at each place from
+-- which it is entered.
 use Rattle.std.specs.Prelude.{◌≡◌, ℕ, true, List, ◌++◌}
 use Rattle.sh_tree.specs.standard.program.Syntax.{Text}
 use Rattle.sh_domain.specs.declared.rule.FlowRule.{FlowRule}
@@ -12,8 +13,9 @@ use Rattle.sh_domain.specs.Rules.{Constraint, bound}
 use Rattle.sh_domain.specs.Views.{Certificate, Slot, Seen}
 use Rattle.sh_find.specs.Gathered.{Gathered, bounded, counted, all_gathered}
 
--- No names ask nothing, and names together what they ask one after the other; several views at a place, what is known of the numbered names where
--- all are seen; and lists of constraints, one after the other.
+-- No names require nothing, and names together require what they require one after the other.
+-- Several views at a place require what is known of the numbered names where all are seen. Lists of
+-- constraints require it one after the other.
 pub record GatheredTogether : Type 0 where
   pub nothing : (names functions : List Text) (f : Text) (may : Names) (g : Gathered) → counted names functions f may no_names g ≡ g
   pub names : (names functions : List Text) (f : Text) (may a b : Names) (g : Gathered)

@@ -51,7 +51,8 @@ pub record AreNumbers (names : ℕ) (g : Gathered) : Type 0 where
   pub known : IsNamed names g.known
   pub sets : AreBelow names g.sets
 
--- a certificate claims no more at the place than is known there, and the function drops no less than was gathered
+-- a certificate claims no more at the place than is known there, and the function drops no less
+-- than was gathered
 pub record Stands (names : List Text) (other : Sheet) (g : Gathered) : Type 0 where
   pub place : IsWithin (facts (claim_there other (Some g.place))) (by_name names g.known)
   pub vars : (x : Text) → at_number g.sets.vars (number_of names x) ≡ true → is_one_of (drops_there other (Some g.function)).vars x ≡ true
@@ -72,7 +73,7 @@ pub record StatedStays (old new : Certificate) : Type 0 where
   pub claims : (p : Place) → is_stated_part p.part ≡ true → claims new p ≡ claims old p
   pub drops : (i : ℕ) → dropped new i ≡ dropped old i
 
--- A certificate is lowered by what was gathered, and stays above each one that stands.
+-- A certificate is lowered by what was gathered, and stays above each one that holds.
 pub record IsSunk (names : List Text) (loops : List Bool) (m : ℕ) (old new : Certificate) (g : Gathered) (changed : Bool) : Type 0 where
   pub stays : changed ≡ false → new ≡ old
   pub working : IsWorking names loops m new
@@ -81,7 +82,8 @@ pub record IsSunk (names : List Text) (loops : List Bool) (m : ℕ) (old new : C
   pub above : AreNumbered names → (defined : List Text) (d : Sheet) → Stands names d g → IsBelow (certificate_of defined d) (certificate_of defined (sheet_by names old))
       → IsBelow (certificate_of defined d) (certificate_of defined (sheet_by names new))
 
--- The certificate keeps all constraints, or is lowered; claims what is stated, if any is; and stays above each one that keeps them.
+-- The certificate keeps all constraints, or is lowered; claims what is stated, if any is; and stays
+-- above each one that keeps them.
 pub record IsTurn (names : List Text) (loops : List Bool) (m : ℕ) (start : Facts) (defined : List Text) (stated : Bool) (ks : List Constraint) (old new : Certificate) (kept : Bool) : Type 0 where
   pub working : IsWorking names loops m new
   pub rules : kept ≡ true → flat_map (broken start (certificate_of defined (sheet_by names new))) ks ≡ []

@@ -76,7 +76,8 @@ pub record IsWorking (names : List Text) (loops : List Bool) (functions : ℕ) (
 
 -- Lowering
 
--- The claim of a place is put to its meet with what is known there, if it is there and not within that; nothing else is claimed otherwise.
+-- The claim of a place is put to its meet with what is known there, if it is there and not within
+-- that; nothing else is claimed otherwise.
 pub record IsLowered (old new : Certificate) (p : Place) (known : Facts) (changed : Bool) : Type 0 where
   pub stays : changed ≡ false → new ≡ old
   pub there : changed ≡ true → is_some (claims old p) ≡ true

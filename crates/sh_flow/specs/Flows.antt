@@ -36,7 +36,8 @@ FindsPlaces b d t c ps = KeepsRules b d t c × (ps ≡ unmet_in b d t c)
 abbrev pub LeavesUnmet : List ℕ → Declared → Script → Sheet → Type 0
 LeavesUnmet b d t c = KeepsRules b d t c × (0 < length (unmet_in b d t c))
 
--- Holds if no rule is broken and no demand unmet; Rule with the least broken rule of the least command; Demand with the unmet demands.
+-- Holds if no rule is broken and no demand unmet; Rule with the least broken rule of the least
+-- command; Demand with the unmet demands.
 abbrev pub Flows : List ℕ → Declared → Script → Sheet → Flow → Type 0
 Flows b d t c Holds = FindsPlaces b d t c []
 Flows b d t c (Rule k f) = least (faults (start_facts d) (claims_in b t c) (script_of b t)) ≡ Some (record { number = k; rule = f })

@@ -15,10 +15,10 @@ abbrev pub BracketFrom : List ℕ → Lead → State → Reading Script
 BracketFrom b close s limit v t =
     (u : states.State) × ReadsList limit b unread (lower (skip b 1 (here s))) u t × (lead_here b u ≡ close) × (v ≡ as_deep (here s) (skip b 1 u))
 
--- one level inside, behind the first byte
+-- one level inside, after the first byte
 abbrev pub inner : List ℕ → State → State
 inner b s = record (moved b (s.at + 1) s) { depth = s.depth + 1 }
 
--- behind the byte that closes, where n levels are open
+-- after the byte that closes, where n levels are open
 abbrev pub outer : List ℕ → ℕ → State → State
 outer b n u = record (moved b (u.at + 1) u) { depth = n }

@@ -17,10 +17,10 @@ abbrev pub BranchFrom : List ℕ → State → Reading Branch
 BranchFrom b s limit v x =
     (u : states.State) × (c : Script) × (t : Script) × ListBefore b word.Then s limit u c × ReadsList limit b unread u v t × (x ≡ branch c t)
 
--- one branch or more, and what stands behind them up to `fi`
+-- one branch or more, and what follows them up to `fi`
 abbrev pub BranchesFrom : List ℕ → State → Reading (List Branch × Option Script)
 BranchesFrom b s limit v x = ReadsBranches limit b unread (here s) v x.0 x.1
 
--- what stands behind the last branch, up to `fi`
+-- what follows the last branch, up to `fi`
 abbrev pub OtherwiseFrom : List ℕ → State → Reading (Option Script)
 OtherwiseFrom b s limit v o = ReadsElse limit b unread (here s) v [] o

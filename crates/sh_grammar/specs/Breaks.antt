@@ -1,4 +1,4 @@
--- Newlines between commands, where no here-document waits for its body.
+-- Newlines between commands, while no here-document waits for its body.
 -- POSIX.1-2024, XCU 2.10 (shell grammar).
 use Rattle.std.specs.Prelude.{◌≡◌, ◌≤◌, ◌<◌, ℕ, ◌+◌, false, List, Result, Ok, Err}
 use Rattle.sh_tree.specs.declared.refusal.Refusal.{Refusal}
@@ -11,7 +11,7 @@ use Rattle.sh_grammar.specs.declared.state.State.{State}
 use Rattle.sh_grammar.specs.States.{here, Stands}
 use Rattle.sh_grammar.specs.Readers.{Reading, Refused}
 
--- any number of newlines from s on lead to v, where none begins
+-- any number of newlines from s on lead to v, and none begins there
 pub record BreaksTo (b : List ℕ) (s v : State) : Type 0 where
   pub forth : (limit : ℕ) (u : states.State) → ReadsBreaks limit b (here s) u → u ≡ here v
   pub back : ReadsBreaks 64 b (here s) (here v)
@@ -23,7 +23,7 @@ pub record BreaksTo (b : List ℕ) (s v : State) : Type 0 where
 abbrev pub BreaksFrom : List ℕ → State → Reading (Unit {0})
 BreaksFrom b s limit v x = ReadsBreaks limit b (here s) v
 
--- behind the newlines from s on, or why there is no way over them
+-- after the newlines from s on, or why there is no way over them
 abbrev pub Breaks : List ℕ → State → Result State Refusal → Type 0
 Breaks b s (Ok v) = BreaksTo b s v
 Breaks b s (Err e) = Refused b (BreaksFrom b s) e

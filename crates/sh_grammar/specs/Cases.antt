@@ -22,7 +22,7 @@ use Rattle.sh_grammar.specs.Phrases.{behind_reserved}
 use Rattle.sh_grammar.specs.States.{here, Stands}
 use Rattle.sh_grammar.specs.Readers.{Reading, WordAt, unread}
 
--- behind the `in` at s, or what is told of another token there, where no command can begin
+-- after the `in` at s, or what is reported of another token there; no command can begin there
 abbrev pub ExpectsIn : List ℕ → State → Result State Refusal → Type 0
 ExpectsIn b s (Ok v) = (lead_at b First s.at ≡ lead.Reserved word.In) × (v ≡ behind_reserved b word.In s) × (s.at < v.at) × Stands b v
 ExpectsIn b s (Err e) = IsFault b e × (lead_at b First s.at ≡ lead.Reserved word.In → ⊥) × TellsAt b (lead_at b (Named false) s.at) s e
@@ -31,7 +31,7 @@ ExpectsIn b s (Err e) = IsFault b e × (lead_at b First s.at ≡ lead.Reserved w
 abbrev pub UnsplitFrom : List ℕ → State → Reading Word
 UnsplitFrom b s limit v w = (is_word (lead_at b (Named false) s.at) ≡ true) × WordAt b (in_unsplit s.at) s.at s limit v w
 
--- patterns between bars, and the `)` behind them
+-- patterns between bars, and the `)` after them
 abbrev pub PatternsFrom : List ℕ → State → Reading (List Word)
 PatternsFrom b s limit v ws = (u : states.State) × ReadsPatterns limit b (here s) u ws × (v ≡ behind_token b (codes ")") u)
 
@@ -46,7 +46,7 @@ ClauseFrom b s limit v c = ReadsClause limit b unread (here s) v c
 abbrev pub ClausesFrom : List ℕ → State → Reading (List Clause)
 ClausesFrom b s limit v cs = ReadsClauses limit b unread (here s) v cs
 
--- what is left of the clauses behind the patterns and the list of one, which end at u
+-- what is left of the clauses after the patterns and the list of one, which end at u
 abbrev pub ReadsClauseTail : ℕ → List ℕ → (ℕ → Document) → List Word × Script → states.State → states.State → List Clause → Type 0
 ReadsClauseTail limit b body c u v cs =
     ((lead_here b u ≡ lead.Reserved word.Esac) × (v ≡ behind_token b (codes "esac") u) × (cs ≡ clause c.0 c.1 Break ∷ []))

@@ -1,4 +1,4 @@
--- What stands before the body of a function definition.
+-- What precedes the body of a function definition.
 -- POSIX.1-2024, XCU 2.9.5 (function definition command).
 use Rattle.std.specs.Prelude.{◌≡◌, ◌<◌, ℕ, ◌+◌, false, List, Result, Ok, Err}
 use Rattle.sh_tree.specs.declared.token.command.Lead.TheVariants as lead
@@ -10,20 +10,20 @@ use Rattle.sh_grammar.specs.declared.state.State.{State}
 use Rattle.sh_grammar.specs.States.{moved, Stands}
 use Rattle.sh_grammar.specs.Faults.{IsFault}
 
--- behind the name at s, with one more command
+-- after the name at s, with one more command
 abbrev pub named : List ℕ → State → State
 named b s = moved b (name_end b s.at) (record s { count = s.count + 1 })
 
--- behind a token of one byte
+-- after a token of one byte
 abbrev pub over : List ℕ → State → State
 over b s = moved b (s.at + 1) s
 
--- two parentheses stand at s
+-- two parentheses are at s
 pub record HasParentheses (b : List ℕ) (s : State) : Type 0 where
   pub begins : lead_at b (Named false) s.at ≡ lead.Operator op.LeftParenthesis
   pub ends : lead_at b (Named false) (over b s).at ≡ lead.Operator op.RightParenthesis
 
--- behind the two parentheses at s, or there are none
+-- after the two parentheses at s, or there are none
 abbrev pub Parenthesized : List ℕ → State → Result State Refusal → Type 0
 Parenthesized b s (Ok v) = HasParentheses b s × (v ≡ over b (over b s)) × (s.at < v.at) × Stands b v
 Parenthesized b s (Err e) = IsFault b e × (HasParentheses b s → ⊥)

@@ -1,4 +1,4 @@
--- The words behind the operators of here-documents.
+-- The words after the operators of here-documents.
 -- POSIX.1-2024, XCU 2.7.4 (here-document).
 use Rattle.std.specs.Prelude.{◌≡◌, ℕ, Bool, true, if◌then◌else◌, List, Option, Some, None, Result, Ok, Err}
 use Rattle.sh_tree.specs.declared.refusal.Refusal.{Refusal}
@@ -13,11 +13,12 @@ use Rattle.sh_grammar.specs.Readers.{Reading, Refused}
 abbrev pub delimiter_in : List ℕ → Word → Option (List ℕ)
 delimiter_in b w = if is_delimiter b w then Some (delimiter_of b w) else None
 
--- the word is a delimiter, whatever stands behind it
+-- the word is a delimiter, whatever follows it
 abbrev pub DelimiterIn : List ℕ → Word → Reading (Unit {0})
 DelimiterIn b w limit v x = is_delimiter b w ≡ true
 
--- the here-document with the operator at i, where n levels are open, that ends with the word; or that the word is no delimiter
+-- the here-document with the operator at i, at a depth of n open levels, that ends with the word;
+-- or that the word is no delimiter
 abbrev pub Awaits : List ℕ → ℕ → Bool → Word → ℕ → Result Mark Refusal → Type 0
 Awaits b i strip w n (Ok m) =
     (m.at ≡ i) × (is_delimiter b w ≡ true) × (mark_of m ≡ record { strip = strip; quoted = is_quoted_word w; delimiter = delimiter_of b w; depth = n })

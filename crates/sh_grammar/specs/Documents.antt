@@ -50,7 +50,8 @@ DocumentFrom b m s limit v x =
 abbrev pub DocumentsFrom : List ℕ → List Mark → State → Reading (Unit {0})
 DocumentsFrom b ms s limit v x = ReadsDocuments limit b (map mark_of ms) (here s) v
 
--- the parts of the body of m from s on up to `end`, and the commands before its end; or why there are none
+-- the parts of the body of m from s on up to `end`, and the commands before its end; or why there
+-- are none
 pub record BodyOf (b : List ℕ) (m : Mark) (end : ℕ) (s : State) (ps : List Part) (count : ℕ) : Type 0 where
   pub last : Spot
   pub reads : ReadsParts 64 (take end b) (in_document_of (mark_of m)) 10 (in_document (mark_of m) (here s)) last ps

@@ -1,4 +1,4 @@
--- What is told of a token that has no place.
+-- What is reported of a token that has no place.
 -- POSIX.1-2024, XCU 2.10 (shell grammar).
 use Rattle.std.specs.Prelude.{◌≡◌, ℕ, ◌<◌, ◌≤◌, Bool, true, false, List, [], ◌∷◌, drop, length, Option, Some, None, Result, Ok, Err}
 use Rattle.sh_tree.specs.declared.limits.TheConstants.{MAX_COMMANDS, MAX_NESTING}
@@ -25,25 +25,28 @@ use Rattle.sh_grammar.specs.States.{here, first_of}
 use Rattle.sh_grammar.specs.Ticks.{misplaced, overrun}
 use Rattle.sh_grammar.specs.declared.ticks.Ticks.{Ticks}
 
--- a fault of syntax or a form that is left out, at its place in the text
+-- a fault of syntax or a refused form, at its place in the text
 abbrev pub IsFault : List ℕ → Refusal → Type 0
 IsFault b (Syntax f at) = at ≤ length b
 IsFault b (LeftOut f at) = at < length b
 IsFault b _ = ⊥
 
--- Where a form is told that the token at i is: a line continuation behind the token's first bytes, where one stands there.
+-- Where the refused form is reported that the token at i is: at a line continuation after the
+-- token's first bytes, if there is one.
 abbrev pub IsPlace : List ℕ → Form → ℕ → ℕ → Type 0
 IsPlace b form.Continuation i at = (i ≤ at) × (at < length b) × (is_split_text (drop i b) ≡ true → is_joined false (drop at b) ≡ true)
 IsPlace b _ i at = at ≡ i
 
--- What is reported of the token at i, which has no place there. For a backquote that depends on what is around.
+-- What is reported of the token at i, which has no place there. For a backquote that depends on
+-- what is around.
 abbrev pub Tells : List ℕ → Lead → ℕ → Refusal → Type 0
 Tells b (lead.LeftOut f) i e = (at : ℕ) × (e ≡ LeftOut f at) × IsPlace b f i at
 Tells b lead.End i e = e ≡ Syntax fault.UnexpectedEnd i
 Tells b lead.Backquote i e = (t : Ticks) × (e ≡ misplaced t i)
 Tells b _ i e = e ≡ Syntax fault.UnexpectedToken i
 
--- What is reported at the end of the text: the closing backquote, over which something ran; the first here-document that waits for its body; or else the fault at i.
+-- What is reported at the end of the text: the closing backquote, over which something ran; the
+-- first here-document that waits for its body; or else the fault at i.
 abbrev pub ended_by : Option ℕ → List Mark → Fault → ℕ → Refusal
 ended_by (Some at) ms f i = LeftOut form.BackquoteInside at
 ended_by None [] f i = Syntax f i
@@ -52,22 +55,24 @@ ended_by None (m ∷ ms) f i = Syntax fault.OpenHereDoc m.at
 abbrev pub ended : List ℕ → State → Fault → ℕ → Refusal
 ended b s f i = ended_by (overrun s.ticks (length b)) s.pending f i
 
--- what is told of the token at s, which has no place there
+-- what is reported of the token at s, which has no place there
 abbrev pub TellsAt : List ℕ → Lead → State → Refusal → Type 0
 TellsAt b lead.End s e = e ≡ ended b s fault.UnexpectedEnd s.at
 TellsAt b lead.Backquote s e = e ≡ misplaced s.ticks s.at
 TellsAt b l s e = Tells b l s.at e
 
--- how the token is read where nothing goes on: as a command's first token where a command could begin
+-- how the token is read where nothing goes on: as a command's first token if a command could begin
+-- there
 unfoldable pub stage_at : Bool → Stage
 stage_at true = First
 stage_at false = Prefixed
 
--- what is told of the token at i where nothing goes on
+-- what is reported of the token at i if nothing goes on there
 abbrev pub Misplaced : List ℕ → ℕ → Refusal → Type 0
 Misplaced b i e = (fresh : Bool) × Tells b (lead_at b (stage_at fresh) i) i e
 
--- What is told where a sequence is read up to v and the text goes on there: the token at v. One command too many comes before it where there are that many.
+-- What is reported if a sequence is read up to v and the text goes on there: the token at v. One
+-- command too many is reported instead, if there are that many.
 abbrev pub TellsBehind : List ℕ → states.State → Result Script Refusal → Type 0
 TellsBehind b v (Ok t) = ⊥
 TellsBehind b v (Err Memory) = Unit {0}

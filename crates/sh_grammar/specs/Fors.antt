@@ -1,4 +1,4 @@
--- What stands between the name of `for` and its `do`.
+-- What is between the name of `for` and its `do`.
 -- POSIX.1-2024, XCU 2.9.4.2 (for loop).
 use Rattle.std.specs.Prelude.{◌≡◌, ℕ, false, List, Option, Some}
 use Rattle.sh_tree.specs.declared.token.command.Reserved.TheVariants as word
@@ -14,7 +14,7 @@ use Rattle.sh_grammar.specs.Readers.{Reading}
 abbrev pub WordsFrom : List ℕ → State → Reading (List Word)
 WordsFrom b s limit v ws = ReadsWords limit b (here s) v ws
 
--- words, and the `;` or the newlines behind them
+-- words, and the `;` or the newlines after them
 abbrev pub ListedFrom : List ℕ → State → Reading (List Word)
 ListedFrom b s limit v ws =
     (u : states.State) × ReadsWords limit b (here s) u ws × (separator (lead_here b u) ≡ Some false) × ReadsBreaks limit b (parted b u) v
@@ -22,6 +22,6 @@ ListedFrom b s limit v ws =
 abbrev pub ForWordsFrom : List ℕ → State → Reading (Option (List Word))
 ForWordsFrom b s limit v o = ReadsForWords limit b (here s) v o
 
--- one level inside, behind the name of the `for` at s
+-- one level inside, after the name of the `for` at s
 abbrev pub for_named : List ℕ → State → State
 for_named b s = moved b (name_end b (entered b word.For s).at) (entered b word.For s)

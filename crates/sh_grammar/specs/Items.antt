@@ -12,12 +12,12 @@ use Rattle.sh_grammar.specs.declared.state.State.{State}
 use Rattle.sh_grammar.specs.States.{here}
 use Rattle.sh_grammar.specs.Readers.{Reading, unread}
 
--- what is left of a sequence where no newline stands: items that begin here, or none
+-- what is left of a sequence at a place without a newline: items that begin here, or none
 abbrev pub ReadsRest : ℕ → List ℕ → (ℕ → Document) → states.State → states.State → List Item → Type 0
 ReadsRest limit b body s v is =
     ((begins_pipeline (lead_here b s) ≡ false) × (v ≡ s) × (is ≡ [])) ⊎ ((begins_pipeline (lead_here b s) ≡ true) × ReadsItems limit b body s v is)
 
--- what is left of items behind their first and-or list, which ends at u
+-- what is left of items after their first and-or list, which ends at u
 abbrev pub ReadsTail : ℕ → List ℕ → (ℕ → Document) → AndOr → states.State → states.State → List Item → Type 0
 ReadsTail limit b body l u v is =
     ((separator (lead_here b u) ≡ None) × (not (is_reserved (lead_here b u)) || u.closed ≡ true) × (v ≡ u) × (is ≡ item l false ∷ []))

@@ -5,7 +5,8 @@ use Rattle.std.specs.Str.{bytes_eq}
 use Rattle.sh_tree.specs.standard.language.Bytes.{is_newline, is_tab, is_backslash, run, is_first}
 use Rattle.sh_tree.specs.standard.language.HereDocuments.{Mark, line_text}
 
--- how many bytes the first piece of a line takes: where lines are joined, a backslash and the byte behind it are one
+-- how many bytes the first piece of a line takes: if lines are joined, a backslash and the byte
+-- after it are one
 unfoldable pub piece_step : Bool → List ℕ → ℕ
 piece_step joins [] = 0
 piece_step joins (c ∷ []) = 1
@@ -33,13 +34,14 @@ candidate m cs =
 abbrev pub ends : Mark → List ℕ → Bool
 ends m cs = bytes_eq (candidate m cs) m.delimiter
 
--- where a line continuation may begin next: behind a byte, or behind a backslash and the byte that it keeps
+-- where a line continuation may begin next: after a byte, or after a backslash and the byte that it
+-- keeps
 unfoldable pub joined_step : List ℕ → ℕ
 joined_step [] = 0
 joined_step (c ∷ []) = 0
 joined_step (c ∷ d ∷ cs) = if is_backslash c then 2 else 1
 
--- a line continuation stands at the front, before a tab if `tabbed`
+-- a line continuation is at the front, before a tab if `tabbed`
 unfoldable pub is_joined : Bool → List ℕ → Bool
 is_joined tabbed [] = false
 is_joined tabbed (c ∷ []) = false

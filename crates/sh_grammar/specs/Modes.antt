@@ -22,18 +22,19 @@ abbrev pub IsWhole : Mode → Type 0
 IsWhole (mode.Body end strip quoted) = ⊥
 IsWhole _ = Unit {0}
 
--- the context does not end at i, behind the byte
+-- the context does not end at i, after the byte
 abbrev pub BeginsBehind : ℕ → List ℕ → Context → ℕ → State → Type 0
 BeginsBehind prior b x i s = sign_at b x prior (spot_of i s) ≡ sign.Stop → ⊥
 
 abbrev pub Begins : List ℕ → Context → ℕ → State → Type 0
 Begins b x i s = BeginsBehind 0 b x i s
 
--- the parts in the context from i on, behind the byte, which belong to what is read from s on
+-- the parts in the context from i on, after the byte, which belong to what is read from s on
 abbrev pub PartsAt : List ℕ → Context → ℕ → ℕ → State → Reading (List Part)
 PartsAt b x prior i s limit v ps = (u : Spot) × ReadsParts limit b x prior (spot_of i s) u ps × (v ≡ past b u (here s))
 
--- the word w in the context from i on, behind the byte, which is the only one; with the commands that stand in it v is s
+-- the word w in the context from i on, after the byte, which is the only one; with the commands in
+-- it v is s
 pub record Whole (b : List ℕ) (x : Context) (prior i : ℕ) (s : State) (w : Word) (v : State) : Type 0 where
   pub is : w ≡ word i w.span.end w.parts
   pub reads : ReadsParts 64 b x prior (spot_of i s) (spot_of w.span.end v) w.parts

@@ -1,4 +1,4 @@
--- Reserved words and what stands before them.
+-- Reserved words and what precedes them.
 -- POSIX.1-2024, XCU 2.4 (reserved words), 2.9.4 (compound commands).
 use Rattle.std.specs.Prelude.{◌≡◌, ◌<◌, ℕ, ◌+◌, List, codes, length, Result, Ok, Err}
 use Rattle.sh_tree.specs.declared.token.command.Lead.TheVariants as lead
@@ -36,20 +36,20 @@ reserved_text word.Then = codes "then"
 reserved_text word.Until = codes "until"
 reserved_text word.While = codes "while"
 
--- behind the reserved word r at s
+-- after the reserved word r at s
 abbrev pub behind_reserved : List ℕ → Reserved → State → State
 behind_reserved b r s = moved b (s.at + length (reserved_text r)) s
 
--- one level inside, behind the reserved word r at s
+-- one level inside, after the reserved word r at s
 abbrev pub entered : List ℕ → Reserved → State → State
 entered b r s = record (behind_reserved b r s) { depth = s.depth + 1 }
 
--- behind the reserved word r, which stands at s; or what is told of the token there
+-- after the reserved word r, which is at s; or what is reported of the token there
 abbrev pub Expects : List ℕ → Reserved → State → Result State Refusal → Type 0
 Expects b r s (Ok v) = (lead_at b First s.at ≡ lead.Reserved r) × (v ≡ behind_reserved b r s) × (s.at < v.at) × Stands b v
 Expects b r s (Err e) = IsFault b e × (lead_at b First s.at ≡ lead.Reserved r → ⊥) × TellsAt b (lead_at b (stage_at s.fresh) s.at) s e
 
--- a list and the reserved word behind it
+-- a list and the reserved word after it
 abbrev pub ListBefore : List ℕ → Reserved → State → Reading Script
 ListBefore b r s limit v t =
     (u : states.State) × ReadsList limit b unread (here s) u t × (lead_here b u ≡ lead.Reserved r) × (v ≡ behind_token b (reserved_text r) u)

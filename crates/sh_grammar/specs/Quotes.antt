@@ -18,12 +18,12 @@ chained (x ∷ xs) = expression_singles x.1 ++ chained xs
 abbrev pub all_kept : List ℕ → List Span → Bool
 all_kept b ss = list_all (λ s. not (is_split_text (text_of b s))) ss
 
--- no line continuation stands in the spans, or one of them holds one, and a place is told
+-- no line continuation is in the spans, or one of them holds one, and a place is reported
 abbrev pub SplitsIn : List ℕ → List Span → Option ℕ → Type 0
 SplitsIn b ss None = all_kept b ss ≡ true
 SplitsIn b ss (Some at) = (all_kept b ss ≡ false) × (at < length b)
 
--- the lines of the parts are kept, or a place is told
+-- the lines of the parts are kept, or a place is reported
 abbrev pub Splits : List ℕ → Bool → List Part → Option ℕ → Type 0
 Splits b joins ps None = keeps_lines b joins ps ≡ true
 Splits b joins ps (Some at) = (keeps_lines b joins ps ≡ false) × (at < length b)

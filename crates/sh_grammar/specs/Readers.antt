@@ -1,4 +1,5 @@
--- What the readers of the whole language answer: the one thing that the bytes from a place on are, or why they are nothing.
+-- What the readers of the whole language answer: the one thing that the bytes from a place on are,
+-- or why they are nothing.
 -- POSIX.1-2024, XCU 2.10: a rule of the grammar holds in one way or in none.
 use Rattle.std.specs.Prelude.{◌≡◌, ℕ, ◌<◌, ◌≤◌, List, [], ◌∷◌, length, Result, Ok, Err}
 use Rattle.sh_tree.specs.declared.limits.TheConstants.{MAX_COMMANDS}
@@ -22,8 +23,9 @@ use Rattle.sh_tree.specs.standard.language.States.{Document, nth, past}
 use Rattle.sh_grammar.specs.declared.state.State.{State}
 use Rattle.sh_grammar.specs.States.{spot_of, here, Stands}
 
--- What is read of a sort of thing: at a limit, up to a state. The bodies of here-documents come behind their operators, and each reading is one without them:
--- with any others the same bytes are read, up to the same state.
+-- What is read of a sort of thing: at a limit, up to a state. The bodies of here-documents come
+-- after their operators, and each reading is one without them. With any others the same bytes are
+-- read, up to the same state.
 abbrev pub Reading : Type 0 → Type 1
 Reading A = ℕ → states.State → A → Type 0
 

@@ -1,4 +1,4 @@
--- Where a reader of commands stands, as the reading says it.
+-- Where a reader of commands is, as the reading says it.
 -- POSIX.1-2024, XCU 2.10 (shell grammar).
 use Rattle.std.specs.Prelude.{◌≡◌, ◌<◌, ℕ, ◌≤◌, Bool, true, false, not, ◌||◌, List, [], ◌∷◌, length, map, Option, Some, None}
 use Rattle.sh_tree.specs.declared.limits.TheConstants.{MAX_COMMANDS, MAX_NESTING}
@@ -28,7 +28,7 @@ waiting (Some at) ms = Some at
 waiting None [] = None
 waiting None (m ∷ ms) = Some m.at
 
--- a spot at i, where newlines may be ruled out
+-- a spot at i, at which newlines may be ruled out
 abbrev pub placed : ℕ → State → Bool → states.Spot
 placed i s quiet = record { at = i; count = s.count; depth = s.depth; quiet = quiet; joins = s.joins; tabs = s.tabs }
 
@@ -40,11 +40,11 @@ spot_of i s = placed i s (is_some s.outer || waits (pending_of s))
 abbrev pub here : State → states.State
 here s = record { spot = placed s.at s (is_some s.outer); closed = s.closed; pending = pending_of s; bodies = bodies_of s }
 
--- at the token at or behind i
+-- at the token at or after i
 abbrev pub moved : List ℕ → ℕ → State → State
 moved b i s = record s { at = blanks s.joins b i; fresh = true }
 
--- an operator stands before n, if there is one
+-- an operator is before n, if there is one
 abbrev pub IsBefore : ℕ → Option ℕ → Type 0
 IsBefore n None = Unit {0}
 IsBefore n (Some i) = i < n
@@ -75,7 +75,8 @@ pub record Stands (b : List ℕ) (s : State) : Type 0 where
 abbrev pub first_of : List ℕ → State
 first_of b = record { at = blanks false b 0; count = 0; depth = 0; closed = false; fresh = true; outer = None; joins = false; tabs = false; ticks = Outside; pending = []; bodies = [] }
 
--- at the first token of the commands of a substitution, which begin at or behind i where n levels are open, in a word behind as many commands as s
+-- At the first token of the commands of a substitution, in a word after as many commands as s. They
+-- begin at or after i, where n levels are open.
 abbrev pub substituted : List ℕ → ℕ → ℕ → Ticks → State → State
 substituted b i n ticks s = record {
   at = blanks s.joins b i;

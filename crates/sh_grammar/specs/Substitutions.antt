@@ -19,11 +19,13 @@ use Rattle.sh_grammar.specs.Readers.{One, Reading, Refused}
 abbrev pub IsLevel : State → Type 0
 IsLevel s = here s ≡ within (here s).spot
 
--- the commands of a substitution of the style from s on with all their here-documents, up to what closes it
+-- the commands of a substitution of the style from s on with all their here-documents, up to what
+-- closes it
 abbrev pub ClosedFrom : CommandStyle → List ℕ → State → Reading Script
 ClosedFrom style b s limit v t = ReadsScript limit b (here s).spot v.spot t × (closes style b v.spot.at ≡ true) × (v ≡ within v.spot)
 
--- the same for a substitution in a word at s, whose commands begin at or after i, where n levels are open, in the text that they are read in
+-- The same for a substitution in a word at s, whose commands begin at or after i, in the text that
+-- they are read in. There n levels are open.
 abbrev pub AskedFrom : List ℕ → CommandStyle → Bool → ℕ → ℕ → State → Reading Script
 AskedFrom b style quoted i n s limit v t =
     (keeps_backslashes style quoted b i ≡ true) × ClosedFrom style (commands_text style b i) (substituted (commands_text style b i) i n s.ticks s) limit v t
@@ -51,12 +53,13 @@ is_told_before (LeftOut f at) i = nat_lt at i
 is_told_before (TooDeep at) i = nat_lt at i
 is_told_before _ i = true
 
--- What is reported of commands with a backslash at i that goes before they are read: their refusal, if it comes first, or else the backslash.
+-- What is reported of commands with a backslash at i that goes before they are read: their refusal,
+-- if it comes first, or else the backslash.
 unfoldable pub first_told : Result (Script × State) Refusal → ℕ → Refusal
 first_told (Ok r) i = LeftOut form.BackslashInBackquotes i
 first_told (Err e) i = if is_told_before e i then e else LeftOut form.BackslashInBackquotes i
 
--- v is s behind the commands that stand in a word
+-- v is s after the commands in a word
 pub record Counted (b : List ℕ) (s v : State) : Type 0 where
   pub same : v ≡ record s { count = v.count }
   pub lies : Lies b v

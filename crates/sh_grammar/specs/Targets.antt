@@ -1,4 +1,4 @@
--- The words behind the operators of redirections.
+-- The words after the operators of redirections.
 -- POSIX.1-2024, XCU 2.7 (redirection).
 use Rattle.std.specs.Prelude.{◌≡◌, ℕ, true, false, List}
 use Rattle.sh_tree.specs.declared.token.command.Stage.TheVariants.{Named}
@@ -8,7 +8,7 @@ use Rattle.sh_tree.specs.standard.language.Contexts.{in_unsplit}
 use Rattle.sh_grammar.specs.declared.state.State.{State}
 use Rattle.sh_grammar.specs.Readers.{Reading, WordAt}
 
--- the word behind an operator that ends at i
+-- the word after an operator that ends at i
 abbrev pub TargetFrom : List ℕ → ℕ → State → Reading Word
 TargetFrom b i s limit v w =
     (is_word (lead_at b (Named false) (blanks s.joins b i)) ≡ true) × WordAt b (in_unsplit (blanks s.joins b i)) (blanks s.joins b i) s limit v w

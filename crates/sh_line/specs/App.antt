@@ -1,5 +1,6 @@
--- The command line that the program has, as clap reads it: `lint [--args N] FILE [NAME..]`, `cert [--args N] [--full] FILE [NAME..]`,
--- `check [--args N] FILE CERT [NAME..]`, `print FILE`, and `--version`.
+-- The command line that the program has, as clap reads it: `lint [--args N] FILE [NAME..]`,
+-- `cert [--args N] [--full] FILE [NAME..]`, `check [--args N] FILE CERT [NAME..]`, `print FILE`,
+-- and `--version`.
 -- POSIX.1-2024, XBD 12.2 (utility syntax guidelines).
 use Rattle.std.specs.Prelude.{[], ◌∷◌, Some, codes, true, pos}
 use Rattle.clap.specs.Words.{App, Rule, Text, new_app, new_rule, with_rule, with_subcommand}

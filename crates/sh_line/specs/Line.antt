@@ -1,5 +1,6 @@
 -- What a command line asks for, by what clap found in its words, and why there is none.
--- POSIX.1-2024, XBD 12.2 (utility syntax guidelines: `-` is standard input); a name is as in XBD 3.216.
+-- POSIX.1-2024, XBD 12.2 (utility syntax guidelines: `-` is standard input); a name is as in XBD
+-- 3.216.
 use Rattle.std.specs.Prelude.{◌≡◌, ◌≢◌, ◌⊎◌, ⊤, ℕ, Bool, true, false, List, [], Option, Some, None, IsSome, Ok, codes, pos, string_bytes, unwrap_or}
 use Rattle.std.specs.Str.Parse.{ParsesUnsigned}
 use Rattle.std.specs.declared.num.ParseIntError.{ParseIntError}
@@ -56,7 +57,7 @@ abbrev pub AreApart : Source → Option Source → Type 0
 AreApart Input (Some Input) = ⊥
 AreApart _ _ = ⊤
 
--- a check of which both files are standard input
+-- a check whose files are both standard input
 abbrev pub HasTwoInputs : Text → List Row → Type 0
 HasTwoInputs name rows =
     (name ≡ action_name Check) × (first_of (codes "FILE") rows ≡ Some (codes "-")) × (first_of (codes "CERT") rows ≡ Some (codes "-"))
@@ -115,7 +116,8 @@ HasNumber (Cert full) rows = GivesNumber rows
 HasNumber Check rows = GivesNumber rows
 HasNumber Print rows = ⊤
 
--- what a parse with no fault finds for a subcommand: its name is an action's, and there are a file, and the certificate and the number that the action has
+-- what a parse with no fault finds for a subcommand: its name is an action's, and there are a file,
+-- and the certificate and the number that the action has
 pub record IsWhole (name : Text) (rows : List Row) : Type 0 where
   pub action : (a : Action) × (name ≡ action_name a)
   pub file : IsSome (first_of (codes "FILE") rows)
@@ -144,7 +146,8 @@ StopsPolicy rows BadName = IsSome (first_bad (declared_texts rows))
 StopsPolicy rows Memory = ⊤
 StopsPolicy rows _ = ⊥
 
--- what may stop the reading of what clap found: two files that are both standard input, then a declared text that is no name; or memory
+-- what may stop the reading of what clap found: two files that are both standard input, then a
+-- declared text that is no name; or memory
 abbrev pub StopsRead : Text → List Row → Stop → Type 0
 StopsRead name rows (Usage text) = HasTwoInputs name rows × (string_bytes text ≡ codes "shset: two inputs from -\n")
 StopsRead name rows (Help text) = ⊥
@@ -155,8 +158,9 @@ StopsRead name rows Memory = ⊤
 abbrev pub StopsBehind : List Text → Stop → Type 0
 StopsBehind words s = (fault_of shset_app words ≡ []) × (p : Text × List Row) × (subcommand_of shset_app words ≡ Some p) × StopsRead p.0 p.1 s
 
--- Usage faults, help and the version are answered if clap's parse of the words fails so. If it finds no fault, two files that are both
--- standard input are a usage fault too, and before a bad name.
+-- Usage faults, help and the version are answered if clap's parse of the words fails so. If it
+-- finds no fault, two files that are both standard input are a usage fault too, and before a bad
+-- name.
 abbrev pub StopsAt : List Text → Stop → Type 0
 StopsAt words (Usage text) =
     ((kind : ErrorKind) × IsAmong kind (fault_of shset_app words) × (IsRequest kind → ⊥)) ⊎ StopsBehind words (Usage text)

@@ -1,5 +1,6 @@
 -- How many fields words give at least, and in clauses of private functions the pieces of a tree.
--- POSIX.1-2024, XCU 2.5.2 (special parameters), 2.6.2 (parameter expansion), 2.6.5 (field splitting).
+-- POSIX.1-2024, XCU 2.5.2 (special parameters), 2.6.2 (parameter expansion), 2.6.5 (field
+-- splitting).
 use Rattle.std.specs.Prelude.{ℕ, zero, suc, ◌+◌, Bool, true, false, not, ◌&&◌, List, [], ◌∷◌, fold, Option, Some, None}
 use Rattle.sh_tree.specs.declared.tree.Action.{Action}
 use Rattle.sh_tree.specs.declared.tree.Action.TheVariants as action
@@ -57,7 +58,7 @@ unfoldable pub expands_all : p.Part → Bool
 expands_all (p.Expansion at (p.Special special.At) p.Value) = true
 expands_all _ = false
 
--- what stands between double quotes
+-- what is between double quotes
 unfoldable pub are_all : p.Word → Bool
 are_all (p.more_parts (p.Expansion at (p.Special special.At) p.Value) p.no_parts) = true
 are_all _ = false
@@ -89,7 +90,7 @@ counted t Nothing = t
 abbrev pub counted_word : Total → p.Word → Total
 counted_word t w = counted t (count_of w)
 
--- so many words are left out, and what the others give so far
+-- so many words are skipped, and what the others give so far
 pub record Counting : Type 0 where
   pub skipped : ℕ
   pub total : Total

@@ -1,5 +1,6 @@
--- Whether something stands in a word, and in clauses of private functions in a piece of one.
--- POSIX.1-2024, XCU 2.5.2 (special parameters), 2.6.2 (parameter expansion), 2.6.4 (arithmetic expansion).
+-- Whether something is in a word, and in clauses of private functions in a piece of one.
+-- POSIX.1-2024, XCU 2.5.2 (special parameters), 2.6.2 (parameter expansion), 2.6.4 (arithmetic
+-- expansion).
 use Rattle.std.specs.Prelude.{ℕ, Bool, true, false, not, ◌&&◌, List}
 use Rattle.std.specs.List.{list_any}
 use Rattle.sh_tree.specs.declared.tree.Action.{Action}
@@ -32,7 +33,7 @@ in_part SetsIfs quoted x = part_assigns is_ifs x
 in_part At quoted x = part_mentions is_at x
 in_part Parameters quoted x = part_has_all quoted x
 
--- in the word behind an operator; patterns are read as outside quotes
+-- in the word after an operator; patterns are read as outside quotes
 unfoldable pub in_operator : Look → Bool → p.Operator → Bool
 in_operator look quoted (p.Use action colon w) = in_word look quoted w
 in_operator look quoted (p.Remove removal w) = in_word look false w

@@ -1,4 +1,4 @@
--- Numbers up to 4,294,967,295, which stands for each greater one too.
+-- Numbers up to 4,294,967,295, which means each greater one too.
 -- POSIX.1-2024, XCU 2.15 (break, continue, return, shift).
 use Rattle.std.specs.Prelude.{ℕ, ◌+◌, ◌*◌, ◌-◌, min}
 

@@ -1,4 +1,5 @@
--- Options, by the static texts of operands in their order; an operand that has none keeps its place.
+-- Options, by the static texts of operands in their order; an operand that has none keeps its
+-- place.
 -- POSIX.1-2024, XBD 12.2 (options), XCU 2.15 (set, unset).
 use Rattle.std.specs.Prelude.{ℕ, suc, ◌+◌, ◌==◌, Bool, true, false, ◌&&◌, if◌then◌else◌, List, [], ◌∷◌, drop, Option, Some, None, option_map}
 use Rattle.std.specs.List.{list_all}
@@ -32,15 +33,15 @@ unfoldable pub takes_functions : Removal → Bool
 takes_functions OfVariables = false
 takes_functions _ = true
 
--- with those of all options in front, and the operands behind these
+-- with those of all options in front, and the operands after these
 unfoldable pub unset_behind : Letters → List Static → Letters × List Static
 unset_behind l [] = (l, [])
 unset_behind l (None ∷ ts) = unset_behind l ts
 unset_behind l (Some t ∷ ts) =
     if ends_options t then (l, ts) else (if is_dashed t then unset_behind (with_option l t) ts else (l, Some t ∷ ts))
 
--- Where the positional words of `set` begin, if there are some or `--` stands before them: so many operands on from here; whether an option
--- takes the next operand
+-- Where the positional words of `set` begin, if there are some or `--` precedes them: so many
+-- operands on from here; whether an option takes the next operand
 
 unfoldable pub positional_at : Bool → List Static → Option ℕ
 positional_at takes [] = None
@@ -49,7 +50,7 @@ positional_at false (None ∷ ts) = Some 0
 positional_at false (Some t ∷ ts) =
     if ends_options t then Some 1 else (if is_set_option t then option_map suc (positional_at (ends_in_o t) ts) else Some 0)
 
--- the same, where so many stand before
+-- the same, if so many precede
 unfoldable pub positional_from : ℕ → Bool → List Static → Option ℕ
 positional_from k takes [] = None
 positional_from k true (t ∷ ts) = positional_from (k + 1) false ts

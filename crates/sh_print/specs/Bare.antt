@@ -45,7 +45,7 @@ mutual
     no_links : Links
     more_links : (link : Link) (pipeline : Pipeline) → Links → Links
 
-  -- a pipeline, and whether `!` stands before it (XCU 2.9.2)
+  -- a pipeline, and whether `!` precedes it (XCU 2.9.2)
   pub data Pipeline : Type 0 where
     pipeline : (negated : Bool) (parts : Commands) → Pipeline
 

@@ -170,7 +170,7 @@ unfoldable mutual
   kind_text depth (bare.Case word clauses) = codes "case " ++ (word ++ (codes " in" ++ 10 ∷ (clauses_text depth clauses ++ (tabs depth ++ codes "esac"))))
   kind_text depth (bare.Define name body) = name ++ (codes "()" ++ 10 ∷ (tabs depth ++ command_text depth body))
 
-  -- the branches of `if`, of which the first has this opening word
+  -- the branches of `if`, the first of which has this opening word
   pub branches_text : (depth : ℕ) → (opening : Text) → Branches → Text
   branches_text depth opening bare.no_branches = []
   branches_text depth opening (bare.more_branches condition body rest) =

@@ -1,4 +1,4 @@
--- The bare tree that a tree of a text stands for: the text's bytes in place of spans.
+-- The bare tree that a tree of a text means: the text's bytes in place of spans.
 -- POSIX.1-2024, XCU 2.7 (redirection), 2.9 (shell commands).
 use Rattle.std.specs.Prelude.{ℕ, List, [], map, Option, None, Some}
 use Rattle.std.specs.Option.{option_map}

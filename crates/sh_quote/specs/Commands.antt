@@ -1,4 +1,5 @@
--- Clauses of private functions: commands that leave IFS to what separates no numbers, by the static texts of their words.
+-- Clauses of private functions: commands that leave IFS to what separates no numbers, by the static
+-- texts of their words.
 -- POSIX.1-2024, XCU 2.6.5 (field splitting), 2.15 (export, readonly), 3 (getopts, read).
 use Rattle.std.specs.Prelude.{ℕ, Bool, true, not, ◌&&◌, if◌then◌else◌, List, [], ◌∷◌, ◌++◌, Option, Some, None}
 use Rattle.std.specs.List.{list_any, list_all}

@@ -3,7 +3,7 @@
 use Rattle.std.specs.Prelude.{List, [], ◌∷◌, Option, Some, None}
 use Rattle.sh_tree.specs.declared.tree.Word.{Word}
 
--- the first one, and those behind it
+-- the first one, and those after it
 unfoldable pub split : List Word → Option (Word × List Word)
 split [] = None
 split (w ∷ ws) = Some (w, ws)

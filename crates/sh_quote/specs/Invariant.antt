@@ -1,5 +1,5 @@
--- What stays true of every process while a script runs whose expansions are quoted: each command that is left keeps the rules, and IFS
--- separates no numbers where the rules count on it.
+-- What stays true of every process while a script runs whose expansions are quoted: each command
+-- that is left keeps the rules, and IFS separates no numbers where the rules count on it.
 -- POSIX.1-2024, XCU 2.6.5 (field splitting), 2.9 (shell commands).
 use Rattle.std.specs.Prelude.{◌≡◌, ◌==◌, Bool, true, false, not, ◌&&◌, ◌||◌, List, [], ◌∷◌, ◌++◌, length, codes, Option, Some, None, is_some, unwrap_or, flat_map}
 use Rattle.std.specs.List.{list_any, list_all}
@@ -81,7 +81,8 @@ module _ (numbers : Bool) where
   SplitWordsGood p.no_words = Unit {0}
   SplitWordsGood (p.more_words w ws) = SplitGood w × SplitWordsGood ws
 
-  -- an operand of a command of this kind: an assignment in form of a declaration utility is not split
+  -- an operand of a command of this kind: an assignment in form of a declaration utility is not
+  -- split
   pub record OperandGood (k : Kind) (w : p.Word) : Type 0 where
     pub word : WordGood w
     pub quoted : (is_declaration k && is_some (assignment_in w)) ≡ false → word_places numbers w ≡ []
@@ -109,7 +110,7 @@ module _ (numbers : Bool) where
   FieldsGood [] = Unit {0}
   FieldsGood (t ∷ ts) = numbers ≡ true → Steady (kind_of t) ts []
 
-  -- behind the name of a command
+  -- after the name of a command
   pub record BehindGood (k : Kind) (ts : List Text) (left : p.Words) : Type 0 where
     pub operands : OperandsGood k left
     pub steady : numbers ≡ true → Steady k ts (words_in left)

@@ -1,4 +1,5 @@
--- Clauses of private functions: operands by which a utility could set IFS, by their words and their static texts.
+-- Clauses of private functions: operands by which a utility could set IFS, by their words and their
+-- static texts.
 -- POSIX.1-2024, XCU 2.15 (export, readonly), 3 (getopts, read).
 use Rattle.std.specs.Prelude.{ℕ, ◌+◌, Bool, true, false, not, ◌&&◌, ◌||◌, if◌then◌else◌, List, [], ◌∷◌, take, drop, Option, Some, None, is_some}
 use Rattle.std.specs.List.{list_any, list_all}

@@ -8,7 +8,7 @@ use Rattle.sh_tree.specs.standard.program.Syntax as p
 use Rattle.sh_tree.specs.standard.program.Trees as trees
 use Rattle.sh_table.specs.Quoting.{part_begins_pattern, word_begins_pattern}
 
--- in the word behind `-`, `=`, `?` or `+`
+-- in the word after `-`, `=`, `?` or `+`
 unfoldable pub operator_begins_pattern : p.Operator → Bool
 operator_begins_pattern (p.Use action colon w) = word_begins_pattern w
 operator_begins_pattern _ = false

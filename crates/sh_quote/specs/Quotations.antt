@@ -42,7 +42,7 @@ subject_is_numeric _ = false
 unfoldable pub number_given : List ℕ → Subject → ParameterOperator → Bool
 number_given b s o = quoting.gives_number (trees.parameter_of b s) (trees.operator_of b o)
 
--- places, by the offset at which one is told
+-- places, by the offset at which one is reported
 
 abbrev pub told_at : Bool → ℕ → List Place
 told_at whole at = places.told_at whole at

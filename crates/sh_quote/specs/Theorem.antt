@@ -1,4 +1,5 @@
--- What the rules of quoting are good for: no run gives an expansion's value to splitting or pathname expansion that could change it.
+-- What the rules of quoting are good for: no run gives an expansion's value to splitting or
+-- pathname expansion that could change it.
 -- POSIX.1-2024, XCU 2.6.5 (field splitting), 2.6.6 (pathname expansion).
 use Rattle.std.specs.Prelude.{◌≡◌, ℕ, true, false, List, [], Some}
 use Rattle.sh_tree.specs.declared.tree.Script.{Script}
@@ -11,8 +12,9 @@ use Rattle.sh_table.specs.standard.runs.Environment.{Environment, Frame}
 use Rattle.sh_table.specs.standard.runs.Worlds.{World, Move, run, has_unset_event, has_split_event, start_world, IsStart}
 use Rattle.sh_quote.specs.Places.{unquoted}
 
--- Where a program is admitted, its words give fields as words that are read do, and no place is told, then in every run from a start that
--- a policy allows a step that expands no unset parameter has no Split event.
+-- Let a program be admitted, its words give fields as words that are read do, and no place be
+-- reported. Then in every run from a start that a policy allows, a step that expands no unset
+-- parameter has no Split event.
 abbrev pub QuotingSuffices : Type 0
 QuotingSuffices =
     (t : Items) → is_admitted t ≡ true → gives_fields t ≡ true → unquoted t ≡ []

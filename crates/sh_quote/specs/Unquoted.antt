@@ -1,4 +1,5 @@
--- Clauses of private functions: the places that are told of a piece of a command, where the text of its name is this one.
+-- Clauses of private functions: the places that are reported of a piece of a command, if the text
+-- of its name is this one.
 -- POSIX.1-2024, XCU 2.6.5 (field splitting), 2.9.1.1 (declaration utilities).
 use Rattle.std.specs.Prelude.{ℕ, Bool, false, not, ◌&&◌, if◌then◌else◌, List, [], ◌∷◌, ◌++◌, flat_map, filter, is_some, Option, Some, None}
 use Rattle.sh_tree.specs.declared.place.Place.{Place}

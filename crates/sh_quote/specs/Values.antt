@@ -1,4 +1,4 @@
--- Clauses of private functions: a value, by some plain bytes at its front and the parts behind them.
+-- Clauses of private functions: a value, by some plain bytes at its front and the parts after them.
 -- POSIX.1-2024, XCU 2.2 (quoting), 2.6.5 (field splitting).
 use Rattle.std.specs.Prelude.{ℕ, ◌==◌, Bool, false, not, ◌&&◌, ◌||◌, List, [], ◌∷◌, Option, Some, None}
 use Rattle.std.specs.List.{list_any}

@@ -1,4 +1,5 @@
--- Where something may be told in a program, and that each such spot of what is read stands once, inside the text.
+-- Where something may be reported in a program, and that each such spot of what is read occurs
+-- once, inside the text.
 -- POSIX.1-2024, XCU 2.6 (word expansions), 2.9 (shell commands), 2.10 (shell grammar).
 use Rattle.std.specs.Prelude.{◌≡◌, ℕ, nat_lt, true, List, [], ◌∷◌, ◌++◌, length}
 use Rattle.std.specs.List.{Contains, list_all}
@@ -7,7 +8,8 @@ use Rattle.sh_tree.specs.standard.language.Reading.{Reads}
 use Rattle.sh_tree.specs.standard.program.Syntax as p
 use Rattle.sh_tree.specs.standard.program.Trees.{script_of}
 
--- where something may be told: at the start of a command, or in a word, of an expansion, a tilde or a name in arithmetic
+-- where something may be reported: at the start of a command, or in a word, of an expansion, a
+-- tilde or a name in arithmetic
 pub data Spot : Type 0 where
   OfCommand : (at : ℕ) → Spot
   OfWord : (at : ℕ) → Spot
@@ -16,7 +18,7 @@ unfoldable pub offset_of : Spot → ℕ
 offset_of (OfCommand at) = at
 offset_of (OfWord at) = at
 
--- no element is one of those behind it
+-- no element is one of those after it
 unfoldable pub EachOnce : {A : Type 0} → List A → Type 0
 EachOnce [] = Unit {0}
 EachOnce (x ∷ xs) = (Contains xs x → ⊥) × EachOnce xs
@@ -120,7 +122,8 @@ unfoldable mutual
   operands_spots p.no_operands = []
   operands_spots (p.more_operands operator e rest) = expression_spots e ++ operands_spots rest
 
--- no two commands of what is read start at one offset, and no two expansions, tildes or names of arithmetic stand at one
+-- no two commands of what is read start at one offset, and no two expansions, tildes or names of
+-- arithmetic have one offset
 abbrev pub ReadSpotsStandOnce : Type 0
 ReadSpotsStandOnce = (b : List ℕ) (t : Script) → Reads b t → EachOnce (items_spots (script_of b t))
 

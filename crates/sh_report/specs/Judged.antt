@@ -1,4 +1,4 @@
--- What is told of a certificate that fits a script.
+-- What is reported of a certificate that fits a script.
 -- shset's own; the standard has none.
 use Rattle.std.specs.Prelude.{◌≡◌, ◌<◌, ℕ, List, [], length, Some}
 use Rattle.sh_tree.specs.declared.tree.Script.{Script}

@@ -8,14 +8,15 @@ use Rattle.sh_answers.specs.declared.task.Action.TheVariants.{Lint, Cert, Check,
 use Rattle.sh_answers.specs.declared.task.Task.{Task}
 use Rattle.sh_accept.specs.Written.{Tells}
 
--- how many bytes are asked for at most: one more than a script has, and one more than a certificate's text has
+-- how many bytes are asked for at most: one more than a script has, and one more than a
+-- certificate's text has
 abbrev pub script_read : ℕ
 script_read = 1048577
 
 abbrev pub certificate_read : ℕ
 certificate_read = 67108865
 
--- the certificate's text, of which at most so many bytes are asked for, where the action reads one
+-- the certificate's text, if the action reads one; at most so many of its bytes are asked for
 abbrev pub HadText : Action → Option (List ℕ) → ℕ → List ℕ → Type 0
 HadText Lint bytes limit text = text ≡ []
 HadText (Cert full) bytes limit text = text ≡ []

@@ -1,4 +1,4 @@
--- What is told of places.
+-- What is reported of places.
 -- shset's own; the standard has none.
 use Rattle.std.specs.Prelude.{◌≡◌, ◌<◌, ℕ, List, [], length}
 use Rattle.sh_tree.specs.declared.place.Place.{Place}
@@ -6,7 +6,7 @@ use Rattle.sh_answers.specs.Findings.{AreFindings}
 use Rattle.sh_answers.specs.declared.verdict.Verdict.{Verdict}
 use Rattle.sh_answers.specs.declared.verdict.Verdict.TheVariants.{Pass, Fail, Forged}
 
--- A pass where there is no place, and otherwise the findings, of which there are some.
+-- A pass if there is no place, and otherwise the findings, of which there are some.
 abbrev pub TellsPlaces : List ℕ → List Place → Verdict → Type 0
 TellsPlaces b ps Pass = ps ≡ []
 TellsPlaces b ps (Fail r) = (0 < length r.findings.items) × AreFindings b ps r.findings.items

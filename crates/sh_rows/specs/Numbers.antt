@@ -12,7 +12,7 @@ has_number k xs = list_any (λ x. k == x) xs
 unfoldable pub has_bit : ℕ → List ℕ → Bool
 has_bit k words = bit_at (slice_index words (k / 64)) (k % 64) == 1
 
--- the number stands at that place, or would stand there
+-- the number is at that place, or would be there
 abbrev pub IsPlace : List ℕ → ℕ → Result ℕ ℕ → Type 0
 IsPlace xs n r = MatchResult r (λ i. (i < length xs) × (slice_index xs i ≡ n))
     (λ i. (i ≤ length xs) × ((k : ℕ) → k < i → slice_index xs k < n) × ((k : ℕ) → i ≤ k → k < length xs → n < slice_index xs k))

@@ -7,7 +7,8 @@ use Rattle.std.specs.Int.{bit_not, w64}
 abbrev pub without : ℕ → ℕ → ℕ
 without a b = bit_and a (bit_not w64 b)
 
--- the words from `from` up to `to` are made by f of what they were and of the word beside, and the others are as they were
+-- f makes the words from `from` up to `to` of what they were and of the word beside. The others are
+-- as they were.
 pub record IsMixed (f : ℕ → ℕ → ℕ) (old new : List ℕ) (beside : ℕ → ℕ) (from to : ℕ) : Type 0 where
   pub inside : (k : ℕ) → from ≤ k → k < to → slice_index new k ≡ f (slice_index old k) (beside k)
   pub below : (k : ℕ) → k < from → slice_index new k ≡ slice_index old k

@@ -1,5 +1,6 @@
--- More than is seen asks no less of a certificate below: what is asked at a command, each certificate below this one allows that breaks none of its flow
--- rules. So what is known before a command may be what a greater certificate gave.
+-- More than is seen requires no less of a certificate below. Each certificate below this one that
+-- breaks none of its flow rules allows what is required at a command. So what is known before a
+-- command may be what a greater certificate gave.
 -- The standard has no such rules: what is claimed of a place has to be known there in every run.
 use Rattle.std.specs.Prelude.{◌≡◌, ◌≤◌, true, List, [], ◌∷◌, flat_map, fold, length, ℕ}
 use Rattle.sh_tree.specs.declared.limits.TheConstants.{MAX_COMMANDS}
@@ -26,7 +27,8 @@ use Rattle.sh_rules.specs.Meaning.{sees, met_at}
 use Rattle.sh_rules.specs.Visits.{command_by}
 use Rattle.sh_rules.specs.Walked.{Met}
 
--- What is asked: of a place that it claims no more than these facts, or of a function that it drops these names.
+-- What is required: of a place that it claims no more than these facts, or of a function that it
+-- drops these names.
 pub data Ask : Type 0 where
   OfPlace : Slot → Fault → Facts → Ask
   OfFunction : Text → Fault → Names → Ask
@@ -35,7 +37,8 @@ unfoldable pub ask : {K : Type 0} → Asking K → Setting → K → Ask → K
 ask a x kept (OfPlace slot f k) = a.bound x slot f k kept
 ask a x kept (OfFunction function f names) = a.drop x function f names kept
 
--- What is kept last is what was kept first, with all that was asked since; and of each thing that was asked this holds.
+-- What is kept last is what was kept first, with all that was required since; and of each
+-- requirement this holds.
 pub record Asks {K : Type 0} (a : Asking K) (x : Setting) (Q : Ask → Type 0) (first last : K) : Type 0 where
   pub asks : List Ask
   pub each : Each Q asks
@@ -50,7 +53,7 @@ unfoldable pub Allows : List Text → Certificate → Ask → Type 0
 Allows names c (OfPlace slot f k) = IsWithin (among names (facts (c.claim slot))) k
 Allows names c (OfFunction function f lost) = AreAmong lost (c.drops function)
 
--- what the certificate sees behind a list, by its status, is known there
+-- what the certificate sees after a list, by its status, is known there
 pub record SeesWithin (names : List Text) (start : Facts) (c : Certificate) (o : After) (b : Behind) : Type 0 where
   pub zero : IsWithin (sees names start c (if_zero o)) b.zero
   pub nonzero : IsWithin (sees names start c (if_nonzero o)) b.nonzero
@@ -59,8 +62,9 @@ pub record SeesWithin (names : List Text) (start : Facts) (c : Certificate) (o :
 abbrev pub KeepsThere : Facts → Certificate → List Text → List Entered → Type 0
 KeepsThere start c functions es = flat_map (broken start c) (flat_map (bounds functions) es) ≡ []
 
--- What is asked at a command goes by its constraints: whatever is known there, nothing else is asked. And where a certificate below that of the
--- setting sees no more than is known there, and breaks none of its rules, it allows all that is asked. It sees no more at the start of a script.
+-- What is required at a command follows its constraints: whatever is known there, nothing else is
+-- required. Let a certificate below that of the setting see no more than is known there, and break
+-- none of its rules. It allows all that is required. It sees no more at the start of a script.
 pub record StaysAbove (K : Type 0) (a : Asking K) : Type 0 where
   pub start : (names : List Text) (f : Facts) (c : Certificate) → SeesWithin names f c (Both at_start) (both (among names f))
   pub asks : (x : Setting) (start : Facts) (i : ByConstraints K a x start) (functions : List Text) → AreNumbered x.names
@@ -73,7 +77,8 @@ pub record StaysAbove (K : Type 0) (a : Asking K) : Type 0 where
 abbrev pub DoesAsked : {K : Type 0} → Asking K → Setting → List Text → (K → Met → K) → Entered → Type 0
 DoesAsked {K} a x functions w e = (k : Facts) (kept : K) → w kept (met_at e k) ≡ command_told a x functions kept (met_at e k)
 
--- What a visit does by the call table of a script is what the flow rules ask at each of its commands, whatever is known there.
+-- By the call table of a script, a visit does what the flow rules require at each of its commands,
+-- whatever is known there.
 abbrev pub VisitsDoAsked : (K : Type 0) → Asking K → Type 0
 VisitsDoAsked K a =
     (x : Setting) (b : List ℕ) (t : Script) → x.rows ≡ (table_of b t).rows

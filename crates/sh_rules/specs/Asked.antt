@@ -1,4 +1,5 @@
--- What the flow rules ask of views is asked of what is known there, of the names that are numbered.
+-- What the flow rules require of views they require of what is known there, of the names that are
+-- numbered.
 -- The standard has no such rules: what is claimed of a place has to be known there in every run.
 use Rattle.std.specs.Prelude.{◌≡◌, ◌≤◌, ℕ, nat_le, length, Bool, true, false, List, [], ◌∷◌, ◌++◌, flat_map, fold, Option, None}
 use Rattle.std.specs.List.{list_all}
@@ -32,8 +33,9 @@ unfoldable pub is_compound : p.Kind → Bool
 is_compound (p.Simple es) = false
 is_compound _ = true
 
--- What is done goes by constraints: what a list of them asks, one after the other. Those over views of a place ask what is known of the
--- numbered names where all of these are seen, and those of a function that it drops what is lost there.
+-- What is done follows the constraints: what a list of them requires, one after the other. Those
+-- over views of a place require what is known of the numbered names where all of these are seen.
+-- Those of a function require that it drops what is lost there.
 pub record ByConstraints (K : Type 0) (a : Asking K) (x : Setting) (start : Facts) : Type 0 where
   pub all : K → List Constraint → K
   pub none : (kept : K) → all kept [] ≡ kept
@@ -49,8 +51,9 @@ has_numbered_prefixes names e = list_all (is_one_of names) (prefixes_in e.comman
 abbrev pub AreDefined : List Text → p.Items → Type 0
 AreDefined functions t = (name : Text) → is_one_of functions name ≡ is_one_of (functions_of (script_entered t)) name
 
--- A compound command and its redirections, a simple command, and a whole command as it is entered, if the names of its prefix assignments
--- are numbered: what is done is done for their constraints. And for those of a script, by a walk that does it at each command.
+-- A compound command and its redirections, a simple command, and a whole command as it is entered:
+-- what is done is done for their constraints, if the names of their prefix assignments are
+-- numbered. For those of a script a walk does it at each command.
 pub record AskedOfFacts (K : Type 0) (a : Asking K) : Type 0 where
   pub compound : (x : Setting) (start : Facts) (i : ByConstraints K a x start) (functions : List Text) (y : Around) (n : ℕ) (s : Seen) (k : p.Kind) (kept : K)
       → AreNumbered x.names → is_compound k ≡ true → i.all kept (kind_bounds functions y n s k) ≡ compound_told a x n (knows x start s) k kept
@@ -68,13 +71,14 @@ pub record AskedOfFacts (K : Type 0) (a : Asking K) : Type 0 where
 abbrev pub with_all : Setting → Facts → Option Fault → List Constraint → Option Fault
 with_all x start least ks = fold lesser least (flat_map (broken start (certificate x)) ks)
 
--- The least fault goes by constraints.
+-- The least fault follows the constraints.
 abbrev pub LeastOfConstraints : Type 0
 LeastOfConstraints =
     (x : Setting) (start : Facts) → AreNumbered x.names
     → (i : ByConstraints (Option Fault) least_told x start) × ((least : Option Fault) (ks : List Constraint) → i.all least ks ≡ with_all x start least ks)
 
--- So a walk over a script, of which the names of prefix assignments are numbered, that tells of each command tells the least fault of the certificate.
+-- So let the names of a script's prefix assignments be numbered. A walk that reports of each
+-- command then reports the least fault of the certificate.
 abbrev pub LeastOfScripts : Type 0
 LeastOfScripts =
     (x : Setting) (start : Facts) (t : p.Items) → AreNumbered x.names → AreDefined x.functions t → list_all (has_numbered_prefixes x.names) (script_entered t) ≡ true
@@ -90,7 +94,7 @@ PrefixesAreNumbered =
 abbrev pub TableDefines : Type 0
 TableDefines = (b : List ℕ) (t : Script) → AreDefined (table_of b t).functions.names (script_of b t)
 
--- A command stands in no more loops than there are commands.
+-- A command is in no more loops than there are commands.
 abbrev pub LoopsAreFew : Type 0
 LoopsAreFew =
     (t : p.Items) (most : ℕ) → length (items_located outside t) ≤ most → list_all (λ (e : Entered). nat_le (length e.around.loops) most) (script_entered t) ≡ true

@@ -1,4 +1,5 @@
--- What is done with what the flow rules ask at a command: whatever is kept of it, by the places and the functions that it is asked of.
+-- What is done with what the flow rules require at a command: whatever is kept of it, by the places
+-- and the functions of which they require it.
 -- The standard has no such rules: what is claimed of a place has to be known there in every run.
 use Rattle.std.specs.Prelude.{◌≡◌, [], ◌∷◌, ◌++◌}
 use Rattle.sh_tree.specs.standard.program.Syntax.{Text}

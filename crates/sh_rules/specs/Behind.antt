@@ -1,4 +1,5 @@
--- What is known behind a list, by its status: what `sh_domain` says of what is seen there, as one fact for each.
+-- What is known after a list, by its status: what `sh_domain` says of what is seen there, as one
+-- fact for each.
 -- POSIX.1-2024, XCU 2.9.2 (pipelines), 2.9.3 (lists).
 use Rattle.std.specs.Prelude.{Bool, true, false, [], ◌∷◌}
 use Rattle.sh_tree.specs.declared.tree.ClauseEnd.{ClauseEnd}
@@ -33,7 +34,7 @@ unfoldable pub swapped : Bool → Behind → Behind
 swapped false o = o
 swapped true o = either o.nonzero o.zero
 
--- what the pipeline behind `&&` or `||` is entered with
+-- what the pipeline after `&&` or `||` is entered with
 unfoldable pub link_known : Link → Behind → Facts
 link_known link.AndThen o = o.zero
 link_known link.OrElse o = o.nonzero
@@ -76,7 +77,8 @@ links_behind x o (p.more_links l q rest) = links_behind x (link_behind x o l q) 
 unfoldable pub list_behind : Setting → Facts → p.AndOr → Behind
 list_behind x k (p.and_or first rest) = links_behind x (pipeline_behind x k first) rest
 
--- behind an item before which this is known in any case: behind an asynchronous one `!` is set, and its status is zero
+-- after an item before which this is known in any case: after an asynchronous one `!` is set, and
+-- its status is zero
 unfoldable pub behind_known : Setting → Facts → Bool → p.AndOr → Behind
 behind_known x k false list = list_behind x k list
 behind_known x k true list = either (gained x (named (job ∷ [])) k) NotReached

@@ -1,4 +1,5 @@
--- What is kept so far, with what one command asks: what the flow rules of `sh_domain` ask of views, asked of facts.
+-- What is kept so far, with what one command requires: what the flow rules of `sh_domain` require
+-- of views, they require of facts here.
 -- The standard has no such rules: what is claimed of a place has to be known there in every run.
 use Rattle.std.specs.Prelude.{ℕ, Bool, true, false, [], ◌∷◌}
 use Rattle.sh_tree.specs.declared.tree.LoopKind.{LoopKind}
@@ -31,7 +32,7 @@ unfoldable pub ends : LoopKind → Behind → Facts
 ends loop.While o = o.nonzero
 ends loop.Until o = o.zero
 
--- behind the words of `for`
+-- after the words of `for`
 unfoldable pub behind_list : Setting → p.ForWords → Facts → Facts
 behind_list x p.every_parameter k = k
 behind_list x (p.listed ws) k = gained x (words_gains ws) k
@@ -45,7 +46,7 @@ module _ {K : Type 0} (a : Asking K) (x : Setting) where
   unfoldable pub leaves_told : Fault → Behind → K → K
   leaves_told f o kept = a.bound x (AfterNonzero f.number) f o.nonzero (a.bound x (AfterZero f.number) f o.zero kept)
 
-  -- `if` leaves what its branches leave; what is known behind the conditions goes along
+  -- `if` leaves what its branches leave; what is known after the conditions goes along
   unfoldable pub branches_told : ℕ → Trail K → p.Branches → Trail K
   branches_told n t p.no_branches = t
   branches_told n t (p.more_branches condition body rest) =
@@ -69,7 +70,8 @@ module _ {K : Type 0} (a : Asking K) (x : Setting) where
       leaves_told (fault n F8) (both (known_at x (Head n)))
       (a.bound x (Head n) (fault n F8) (in_any_case turn) (a.bound x (Head n) (fault n F8) k kept))
 
-  -- `case` leaves what the clauses leave that do not go on with the next; what falls into the next goes along
+  -- `case` leaves what the clauses leave that do not go on with the next; what falls into the next
+  -- goes along
   unfoldable pub clause_told : ℕ → Bool → Behind → K → K
   clause_told n true o kept = leaves_told (fault n F9) o kept
   clause_told n false o kept = kept
@@ -91,7 +93,7 @@ module _ {K : Type 0} (a : Asking K) (x : Setting) where
   body_told f (p.command m offset kind rs) kept =
       a.bound x (ReturnsNonzero f) (fault m F13) (known_at x (AfterNonzero m)) (a.bound x (ReturnsZero f) (fault m F13) (known_at x (AfterZero m)) kept)
 
-  -- what a compound command claims, behind whose redirections this is known
+  -- what a compound command claims, after whose redirections this is known
   unfoldable pub compound_told : ℕ → Facts → p.Kind → K → K
   compound_told n k (p.Simple es) kept = kept
   compound_told n k (p.Group list) kept = leaves_told (fault n F10) (list_left x k list) kept

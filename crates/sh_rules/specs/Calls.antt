@@ -16,7 +16,8 @@ use Rattle.sh_rules.specs.Settings.{Setting, certificate, gained}
 use Rattle.sh_rules.specs.SimpleBounds.{stepped}
 use Rattle.sh_rules.specs.TextBounds.{behind_name}
 
--- What the certificate says of the return of a function: what a call drops, and what is claimed there; or that it does not have the function.
+-- What the certificate says of the return of a function: what a call drops, and what is claimed
+-- there; or that it does not have the function.
 
 pub record IsReturn (x : Setting) (function : Text) (slot : Slot) (r : Return) : Type 0 where
   pub drops : (certificate x).drops function ≡ drops_of (in_byte_order x.names) x.kept.rows r.drops
@@ -30,10 +31,11 @@ abbrev pub Returns : Setting → Text → Slot → Option Return → Type 0
 Returns x function slot None = IsUnknown x function slot
 Returns x function slot (Some r) = IsReturn x function slot r
 
--- without OPTARG, where a utility may have run that unsets it
+-- without OPTARG, if a utility may have run that unsets it
 unfoldable pub passed : Setting → Text → Facts → Facts
 passed x function k = if bytes_eq function (codes "getopts") then variable_lost x k (codes "OPTARG") else k
 
--- what a function is entered with: the operands are the positional parameters, and the names of the prefix assignments are set
+-- what a function is entered with: the operands are the positional parameters, and the names of the
+-- prefix assignments are set
 unfoldable pub entered : Setting → p.Elements → Facts → Facts
 entered x es k = gained x (named (prefixes es)) (stepped x (Count (total (behind_name es))) k)

@@ -1,5 +1,7 @@
--- What is kept so far, with what a command asks: what it claims by its kind, where its redirections fail, and what a function drops by it.
--- POSIX.1-2024, XCU 2.9.1 (simple commands), 2.9.5 (function definitions), 2.15 (unset), 3 (getopts).
+-- What is kept so far, with what a command requires: what it claims by its kind, and if its
+-- redirections fail, and what a function drops by it.
+-- POSIX.1-2024, XCU 2.9.1 (simple commands), 2.9.5 (function definitions), 2.15 (unset), 3
+-- (getopts).
 use Rattle.std.specs.Prelude.{ℕ, Bool, true, false, not, List, [], ◌∷◌, filter, codes, Option, Some, None}
 use Rattle.std.specs.Str.{bytes_eq}
 use Rattle.sh_tree.specs.declared.known.KnownName.TheVariants as known
@@ -53,7 +55,8 @@ module _ {K : Type 0} (a : Asking K) (x : Setting) (n : ℕ) (function : Text) w
   builtin_drops_told true kept = loses_told option_argument kept
   builtin_drops_told false kept = kept
 
-  -- a call may drop what its function does, and the names of its prefix assignments that are not set before
+  -- a call may drop what its function does, and the names of its prefix assignments that are not
+  -- set before
   unfoldable pub simple_drops_told : List Text → p.Elements → Manner → K → K
   simple_drops_told functions es Nameless kept = kept
   simple_drops_told functions es (Utility kind ws) kept = utility_drops_told functions kind ws kept
@@ -64,14 +67,14 @@ module _ {K : Type 0} (a : Asking K) (x : Setting) (n : ℕ) (function : Text) w
   kind_drops_told functions (p.Simple es) kept = simple_drops_told functions es (manner functions es) kept
   kind_drops_told functions _ kept = kept
 
--- of a command that stands in no function, or in this one
+-- of a command that is in no function, or in this one
 unfoldable pub counted_told : {K : Type 0} → Asking K → Setting → ℕ → Option Text → List Text → p.Kind → K → K
 counted_told a x n None functions kind kept = kept
 counted_told a x n (Some f) functions kind kept = kind_drops_told a x n f functions kind kept
 
 -- The whole command
 
--- behind its redirections
+-- after its redirections
 abbrev pub redirected : Setting → ℕ → p.Redirects → Facts
 redirected x n rs = gained x (redirects_gains rs) (known_at x (Before n))
 

@@ -1,4 +1,5 @@
--- Clauses of private functions: what the elements of a simple command leave known, beside its words.
+-- Clauses of private functions: what the elements of a simple command leave known, beside its
+-- words.
 -- POSIX.1-2024, XCU 2.9.1 (simple commands).
 use Rattle.std.specs.Prelude.{ℕ, Bool, true, false, ◌&&◌, ◌||◌, if◌then◌else◌, List, [], ◌∷◌, take, Option, Some, None}
 use Rattle.std.specs.Str.{bytes_eq}

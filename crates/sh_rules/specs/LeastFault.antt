@@ -1,4 +1,5 @@
--- The least fault so far: where a place claims more than is known, or a function does not drop what it has to, the command breaks the rule.
+-- The least fault so far: if a place claims more than is known, or a function does not drop what it
+-- has to, the command breaks the rule.
 -- The standard has no such rules: what is claimed of a place has to be known there in every run.
 use Rattle.std.specs.Prelude.{◌≡◌, Bool, true, false, ◌&&◌, if◌then◌else◌, Option, Some, None}
 use Rattle.std.proofs.Common.{refl, sym, ap, ◌∙◌}
@@ -12,7 +13,7 @@ use Rattle.sh_domain.specs.Views.{Slot}
 use Rattle.sh_rules.specs.Settings.{Setting, certificate, claimed_at}
 use Rattle.sh_rules.specs.Asking.{Asking, both_names}
 
--- the fault is told where the test fails
+-- the fault is reported if the test fails
 unfoldable pub with_test : Bool → Fault → Option Fault → Option Fault
 with_test true f least = least
 with_test false f least = lesser least f
@@ -21,7 +22,7 @@ with_test false f least = lesser least f
 abbrev pub is_within : Setting → Slot → Facts → Bool
 is_within x slot k = within (claimed_at x slot) k
 
--- One fault, told more than once
+-- One fault, reported more than once
 
 either_way : {A : Type 0} (b : Bool) (a : A) → (if b then a else a) ≡ a
 either_way true a = refl

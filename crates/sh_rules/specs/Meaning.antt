@@ -1,4 +1,5 @@
--- What the walk over facts means: each command is met as it is entered, with what is known of the numbered names where that is seen.
+-- What the walk over facts means: each command is met as it is entered, with what is known of the
+-- numbered names where that is seen.
 -- The standard has no such thing: what several views claim together, as one fact.
 use Rattle.std.specs.Prelude.{◌≡◌, List, [], ◌∷◌, ◌++◌, map}
 use Rattle.sh_tree.specs.standard.program.Syntax as p
@@ -19,7 +20,7 @@ sees names start c s = among names (seen_facts start c s)
 unfoldable pub knows : Setting → Facts → Seen → Facts
 knows x start s = sees x.names start (certificate x) s
 
--- a command as it is entered, where this is known
+-- a command as it is entered, if this is known
 abbrev pub met_at : Entered → Facts → Met
 met_at e k = record { command = e.command; rule = e.rule; around = e.around; known = k }
 

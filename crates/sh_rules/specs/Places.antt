@@ -1,5 +1,6 @@
 -- The places of which a certificate claims something, as the code has them.
--- The standard has no such thing: what is surely set (XCU 2.5) round each command and each function.
+-- The standard has no such thing: what is surely set (XCU 2.5) round each command and each
+-- function.
 use Rattle.sh_domain.specs.Views.{Slot}
 use Rattle.sh_domain.specs.Views as slot
 use Rattle.sh_rules.specs.declared.place.Place.{Place}

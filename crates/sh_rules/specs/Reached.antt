@@ -1,4 +1,5 @@
--- Clauses of private functions: what is kept of names that a simple command drops, if some run comes to it.
+-- Clauses of private functions: what is kept of names that a simple command drops, if some run
+-- comes to it.
 -- POSIX.1-2024, XCU 2.9.1 (simple commands), 2.9.5 (function definitions), 2.15 (unset).
 use Rattle.std.specs.Prelude.{ℕ, Bool, not, List, filter, fold}
 use Rattle.sh_tree.specs.declared.tree.Element.{Element}

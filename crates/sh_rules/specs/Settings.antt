@@ -1,5 +1,7 @@
--- What a check of a certificate goes by: the script, its names, its call table, and the certificate that is kept.
--- The standard has no such thing: what is known at a place (XCU 2.5), of the names that are numbered.
+-- What a check of a certificate uses: the script, its names, its call table, and the certificate
+-- that is kept.
+-- The standard has no such thing: what is known at a place (XCU 2.5), of the names that are
+-- numbered.
 use Rattle.std.specs.Prelude.{List, [], ◌∷◌}
 use Rattle.sh_tree.specs.standard.program.Syntax.{Text}
 use Rattle.sh_table.specs.Calls.{Row}

@@ -1,5 +1,7 @@
--- What is kept so far, with what a simple command asks: what the flow rules of `sh_domain` ask of views, asked of facts.
--- POSIX.1-2024, XCU 2.9.1 (simple commands), 2.15 (special built-in utilities), 3 (false, getopts, read, true).
+-- What is kept so far, with what a simple command requires: what the flow rules of `sh_domain`
+-- require of views, they require of facts here.
+-- POSIX.1-2024, XCU 2.9.1 (simple commands), 2.15 (special built-in utilities), 3 (false, getopts,
+-- read, true).
 use Rattle.std.specs.Prelude.{ℕ, ◌==◌, Bool, true, false, not, if◌then◌else◌, List, [], ◌∷◌, filter, codes, Option, Some, None}
 use Rattle.sh_tree.specs.declared.known.KnownName.TheVariants as known
 use Rattle.sh_tree.specs.standard.program.Syntax as p
@@ -24,7 +26,7 @@ use Rattle.sh_rules.specs.Settings.{Setting, certificate, known_at, gained}
 use Rattle.sh_rules.specs.Behind.{Behind, either, both}
 use Rattle.sh_rules.specs.Bounds.{fault, leaves_told}
 
--- behind one more step, which names nothing that is not known
+-- after one more step, which names nothing that is not known
 unfoldable pub stepped : Setting → Step → Facts → Facts
 stepped x s k = step (certificate x) s k
 
@@ -32,11 +34,12 @@ stepped x s k = step (certificate x) s k
 unfoldable pub called : Setting → Text → Slot → List Text → Facts → Facts
 called x f return names k = among x.names (step (certificate x) (views.Call f return names) k)
 
--- The table, over what is known behind the words, the operands, what assignments and redirections leave set, the names of the prefix
--- assignments, and whether there are redirections
+-- The table. It starts from what is known after the words, the operands, and what assignments and
+-- redirections leave set. It also takes the names of the prefix assignments, and whether there are
+-- redirections.
 
 module _ (x : Setting) (k : Facts) (ws : List Word) (left : Gains) (names : List Text) (redirected : Bool) where
-  -- behind the assignments and redirections too, which stay at a special built-in utility
+  -- after the assignments and redirections too, which stay at a special built-in utility
   abbrev pub settled : Facts
   settled = gained x left k
 
@@ -87,7 +90,7 @@ module _ (x : Setting) (k : Facts) (ws : List Word) (left : Gains) (names : List
 -- Jumps
 
 module _ {K : Type 0} (a : Asking K) (x : Setting) (n : ℕ) (k : Facts) where
-  -- `break` goes on behind the loop, `continue` with its next turn
+  -- `break` goes on after the loop, `continue` with its next turn
   unfoldable pub breaks_told : Option ℕ → K → K
   breaks_told None kept = kept
   breaks_told (Some l) kept = a.bound x (AfterNonzero l) (fault n F15) k (a.bound x (AfterZero l) (fault n F15) k kept)
@@ -114,7 +117,7 @@ module _ {K : Type 0} (a : Asking K) (x : Setting) (n : ℕ) (k : Facts) where
 
 -- Simple commands
 
--- behind the words, where redirections and values are judged
+-- after the words, where redirections and values are judged
 abbrev pub behind : Setting → ℕ → p.Elements → Facts
 behind x n es = gained x (words_gains (operands_in es)) (known_at x (Before n))
 

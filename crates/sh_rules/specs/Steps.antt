@@ -116,7 +116,7 @@ abbrev pub clause_step : {K : Type 0} → Setting → (K → Met → K) → entr
 clause_step x w y k t c =
     clause_left (out-Clause c).end (script_ran x w y (clause_body k t.known (fold (pattern_step x w k) t.kept (out-Clause c).patterns)) (out-Clause c).body)
 
--- a list that this rule enters, where this is known
+-- a list that this rule enters, if this is known
 abbrev pub from_kept : {K : Type 0} → Setting → (K → Met → K) → entries.Around → FlowRule → Facts → K → Script → K
 from_kept x w y by k s t = (script_ran x w y (course by (both k) s) t).kept
 

@@ -1,4 +1,4 @@
--- Clauses of private functions: what is told of a piece of a tree.
+-- Clauses of private functions: what is reported of a piece of a tree.
 -- POSIX.1-2024, XCU 2.9.4 (compound commands), 2.9.5 (function definitions).
 use Rattle.std.specs.Prelude.{ℕ, Bool, false, List, [], ◌∷◌, codes, fold, Option, Some, None, option_map}
 use Rattle.std.specs.List.{list_any}
@@ -34,7 +34,7 @@ use Rattle.sh_rules.specs.Walked.{Trail, trail}
 use Rattle.sh_rules.specs.Walks.{script_behind}
 use Rattle.sh_rules.specs.Bounds.{fault, defined, leaves_told, loop_told, for_told, clause_told, clauses_told, unmatched_told, compound_told}
 
--- what is told
+-- what is reported
 
 abbrev pub fault_of : code.Fault → Fault
 fault_of f = record { number = f.number; rule = f.rule }
@@ -84,7 +84,7 @@ clause_left a x n k t is_last c =
 abbrev pub word_gained : Setting → Facts → Word → Facts
 word_gained x k w = gained x (word_gains (parts_from x.script w.parts)) k
 
--- behind the words of `for`
+-- after the words of `for`
 unfoldable pub for_words_gained : Setting → Facts → Option (List Word) → Facts
 for_words_gained x k None = k
 for_words_gained x k (Some ws) = fold (word_gained x) k ws

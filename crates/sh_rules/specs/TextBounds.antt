@@ -1,5 +1,6 @@
--- What is known behind a utility, by the static texts of its operands.
--- POSIX.1-2024, XCU 2.9.1 (simple commands), 2.15 (special built-in utilities), 3 (false, getopts, read, true).
+-- What is known after a utility, by the static texts of its operands.
+-- POSIX.1-2024, XCU 2.9.1 (simple commands), 2.15 (special built-in utilities), 3 (false, getopts,
+-- read, true).
 use Rattle.std.specs.Prelude.{ℕ, Bool, if◌then◌else◌, List, [], drop, codes, Option, Some, None}
 use Rattle.sh_tree.specs.declared.known.KnownName.{KnownName}
 use Rattle.sh_tree.specs.declared.known.KnownName.TheVariants as known
@@ -20,7 +21,7 @@ use Rattle.sh_rules.specs.SimpleBounds.{stepped, left}
 use Rattle.sh_rules.specs.Losses.{variable_lost, free_names}
 use Rattle.sh_rules.specs.Texts.{unset_by, read_by, getopts_name, and_optind, positional_by, first_by, runs_by}
 
--- the operands behind the command name
+-- the operands after the command name
 abbrev pub behind_name : p.Elements → List Word
 behind_name es = drop 1 (operands es)
 
@@ -31,14 +32,15 @@ redirected es = is_redirected (redirects_in es)
 unfoldable pub unless_failed : Bool → Facts → Facts → Facts
 unless_failed redirected k settled = if redirected then k else settled
 
--- over what is known behind the words, and the elements
+-- over what is known after the words, and the elements
 
 module _ (x : Setting) (k : Facts) (es : p.Elements) where
-  -- behind the assignments and redirections too
+  -- after the assignments and redirections too
   abbrev pub settled : Facts
   settled = gained x (left es) k
 
-  -- the words are the positional parameters, and the assignments and redirections leave what they set
+  -- the words are the positional parameters, and the assignments and redirections leave what they
+  -- set
   abbrev pub counted : List Word → Facts
   counted ws = gained x (named (left es).names) (stepped x (Count (total ws)) k)
 

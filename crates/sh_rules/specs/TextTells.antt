@@ -1,5 +1,7 @@
--- What is kept so far, with what a simple command asks and drops, by the static texts of its words.
--- POSIX.1-2024, XCU 2.9.1 (simple commands), 2.9.5 (function definitions), 2.15 (break, continue, return, unset), 3 (getopts).
+-- What is kept so far, with what a simple command requires and drops, by the static texts of its
+-- words.
+-- POSIX.1-2024, XCU 2.9.1 (simple commands), 2.9.5 (function definitions), 2.15 (break, continue,
+-- return, unset), 3 (getopts).
 use Rattle.std.specs.Prelude.{◌≡◌, ◌≤◌, ℕ, length, Bool, true, false, not, ◌&&◌, List, [], ◌∷◌, filter, map, codes, Some, None, option_map}
 use Rattle.std.specs.Str.{bytes_eq}
 use Rattle.sh_tree.specs.declared.known.KnownName.TheVariants as known
@@ -31,7 +33,7 @@ calls_by functions [] = false
 calls_by functions (None ∷ ts) = false
 calls_by functions (Some t ∷ ts) = is_one_of functions t && not (is_special (kind_of t))
 
--- Whether a utility of this kind leaves what is known behind its words, and does not jump
+-- Whether a utility of this kind leaves what is known after its words, and does not jump
 unfoldable pub is_neutral : Kind → Bool
 is_neutral kind.Cd = true
 is_neutral kind.Command = true
@@ -95,7 +97,8 @@ module _ {K : Type 0} (a : Asking K) (x : Setting) (n : ℕ) (function : Text) (
   drops_by calls (None ∷ ts) kept = kept
   drops_by calls (Some t ∷ ts) kept = named_drops_by calls t ts kept
 
--- What is told by the texts of a command's words is what is told by the words, in at most 4,294,967,295 loops.
+-- What is reported by the texts of a command's words is what is reported by the words, in at most
+-- 4,294,967,295 loops.
 pub record TextsTell (K : Type 0) (a : Asking K) : Type 0 where
   pub simple : (x : Setting) (n : ℕ) (functions : List Text) (y : Around) (es : p.Elements) (kept : K) → length y.loops ≤ most
       → simple_by a x n y es (calls_by functions (map static_of (operands es))) (map static_of (operands es)) kept ≡ simple_told a x n y es (manner functions es) kept

@@ -1,4 +1,5 @@
--- What the operands of built-in utilities say, by their static texts in their order; an operand that has none keeps its place.
+-- What the operands of built-in utilities say, by their static texts in their order; an operand
+-- that has none keeps its place.
 -- POSIX.1-2024, XCU 2.15 (break, continue, exec, return, set, shift, unset), 3 (getopts, read).
 use Rattle.std.specs.Prelude.{ℕ, ◌==◌, Bool, false, not, ◌&&◌, if◌then◌else◌, List, [], ◌∷◌, drop, filter, length, codes, Option, Some, None, is_some, unwrap_or, option_map, option_and_then}
 use Rattle.std.specs.List.{list_all}
@@ -17,7 +18,7 @@ use Rattle.sh_operands.specs.Texts.{positional_at}
 unfoldable pub unset_by : List Static → Names
 unset_by ts = removed (unset_operands (listed ts)).0 (filter is_name (unset_operands (listed ts)).1)
 
--- those that `read` sets, where every operand is static
+-- those that `read` sets, if every operand is static
 unfoldable pub read_by : List Static → List Text
 read_by ts = if list_all is_some ts then unwrap_or (o.read_names (listed ts)) [] else []
 
@@ -26,7 +27,7 @@ unfoldable pub names_behind : Option (List Static) → List Text
 names_behind None = []
 names_behind (Some ts) = filter is_name (listed ts)
 
--- the name that `getopts` sets: its second operand, behind one that is no option
+-- the name that `getopts` sets: its second operand, after one that is no option
 unfoldable pub option_name : Static → Static → Option Text
 option_name (Some t) (Some name) = if is_name name && not (is_first (λ c. c == 45) t) then Some name else None
 option_name _ _ = None

@@ -29,7 +29,7 @@ simple_in (p.Simple es) = Some es
 simple_in _ = None
 
 module _ {K : Type 0} (a : Asking K) (x : Setting) (n : ℕ) where
-  -- what a command claims, behind whose redirections this is known
+  -- what a command claims, after whose redirections this is known
   unfoldable pub claims_as : Around → Facts → p.Kind → Option p.Elements → K → K
   claims_as y k kind None kept = compound_told a x n k kind kept
   claims_as y k kind (Some es) kept = simple_by a x n y es (calls_at x n) (texts_with n x.rows) kept

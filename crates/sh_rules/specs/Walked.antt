@@ -1,6 +1,8 @@
--- What a walk over a script keeps that visits each command with the rule that enters it, what stands round it and what is known there: the
--- commands as `sh_domain` enters them, in its order. Along words and redirections what they leave known goes with it.
--- POSIX.1-2024, XCU 2.6.3 (command substitution), 2.9 (shell commands), 2.13 (shell execution environment).
+-- What a walk over a script keeps. It visits each command with the rule that enters it, what is
+-- round it and what is known there: the commands as `sh_domain` enters them, in its order. Along
+-- words and redirections what they leave known goes with it.
+-- POSIX.1-2024, XCU 2.6.3 (command substitution), 2.9 (shell commands), 2.13 (shell execution
+-- environment).
 use Rattle.std.specs.Prelude.{ℕ, [], ◌∷◌}
 use Rattle.sh_tree.specs.declared.tree.ClauseEnd.{ClauseEnd}
 use Rattle.sh_tree.specs.declared.tree.LoopKind.{LoopKind}
@@ -17,7 +19,7 @@ use Rattle.sh_demands.specs.Knowing.{action_gains}
 use Rattle.sh_rules.specs.Settings.{Setting, known_at, gained, without_job}
 use Rattle.sh_rules.specs.Behind.{Behind, both, in_any_case, link_known, turns, falls, started, pipeline_behind, link_behind, item_behind}
 
--- a command, the rule that enters it, what stands round it, and what is known there
+-- a command, the rule that enters it, what is round it, and what is known there
 pub record Met : Type 0 where
   pub command : p.Command
   pub rule : FlowRule
@@ -44,18 +46,18 @@ pub record Course (K : Type 0) : Type 0 where
 abbrev pub course : {K : Type 0} → FlowRule → Behind → K → Course K
 course by o s = record { by = by; behind = o; kept = s }
 
--- the body of a loop, behind its condition
+-- the body of a loop, after its condition
 abbrev pub loop_body : {K : Type 0} → LoopKind → Course K → Course K
 loop_body kind c = course F7 (both (turns kind c.behind)) c.kept
 
--- the list of a branch, behind its condition; and what comes next, if the condition was not zero
+-- the list of a branch, after its condition; and what comes next, if the condition was not zero
 abbrev pub branch_body : {K : Type 0} → Course K → Course K
 branch_body c = course F6 (both c.behind.zero) c.kept
 
 abbrev pub branch_left : {K : Type 0} → Course K → Course K → Trail K
 branch_left c d = trail c.behind.nonzero d.kept
 
--- the list of a clause, behind the word and what falls into it; and what falls into the next
+-- the list of a clause, after the word and what falls into it; and what falls into the next
 abbrev pub clause_body : {K : Type 0} → Facts → Facts → K → Course K
 clause_body k fallen s = course F9 (both (meet k fallen)) s
 
@@ -91,7 +93,7 @@ module _ {K : Type 0} (x : Setting) (w : K → Met → K) where
     commands_walked by y k s p.no_commands = s
     commands_walked by y k s (p.more_commands c cs) = commands_walked by y k (command_walked by y k s c) cs
 
-    -- the command itself, then what stands in its redirections, then what stands in it
+    -- the command itself, then what is in its redirections, then what is in it
     pub command_walked : FlowRule → Around → Facts → K → p.Command → K
     command_walked by y k s (p.command n at kind rs) =
         kind_walked y n
@@ -110,7 +112,7 @@ module _ {K : Type 0} (x : Setting) (w : K → Met → K) where
     kind_walked y n t (p.Case word cs) = (clauses_walked y (word_walked t word).known (nothing_falls (word_walked t word).kept) cs).kept
     kind_walked y n t (p.Define name body) = command_walked F13 (in_function name) (known_at x (Entry name)) t.kept body
 
-    -- the words of a simple command, and behind them each redirection and each value by itself
+    -- the words of a simple command, and after them each redirection and each value by itself
     pub elements_walked : Facts → Trail K → p.Elements → Trail K
     elements_walked k t p.no_elements = t
     elements_walked k t (p.assignment name value es) = elements_walked k (trail t.known (word_walked (trail k t.kept) value).kept) es
@@ -146,7 +148,7 @@ module _ {K : Type 0} (x : Setting) (w : K → Met → K) where
     words_walked t p.no_words = t
     words_walked t (p.more_words v vs) = words_walked (word_walked t v) vs
 
-    -- behind the word of `case`; what falls into the next list goes along
+    -- after the word of `case`; what falls into the next list goes along
     pub clauses_walked : Around → Facts → Trail K → p.Clauses → Trail K
     clauses_walked y k t p.no_clauses = t
     clauses_walked y k t (p.more_clauses patterns body end rest) =
@@ -168,7 +170,7 @@ module _ {K : Type 0} (x : Setting) (w : K → Met → K) where
     part_walked t (p.Substitution at list) = trail t.known (items_walked alone (course F11 (both (without_job x t.known)) t.kept) list).kept
     part_walked t _ = t
 
-    -- what the word behind an operator would set is not counted
+    -- what the word after an operator would set is not counted
     pub operator_walked : Trail K → p.Parameter → p.Operator → Trail K
     operator_walked t parameter (p.Use action colon v) =
         trail (gained x (action_gains parameter action) t.known) (word_walked (trail_gained x (inner_gains parameter action) t) v).kept
@@ -188,6 +190,6 @@ module _ {K : Type 0} (x : Setting) (w : K → Met → K) where
     operands_walked t p.no_operands = t
     operands_walked t (p.more_operands operator e rest) = operands_walked (expression_walked t e) rest
 
-  -- of a script, where this is known at its start
+  -- of a script, if this is known at its start
   abbrev pub script_walked : Facts → K → p.Items → K
   script_walked k s t = (items_walked alone (course F1 (both k) s) t).kept

@@ -1,4 +1,4 @@
--- Clauses of private functions: what stands round a piece of a tree, and what is known behind it.
+-- Clauses of private functions: what is round a piece of a tree, and what is known after it.
 -- POSIX.1-2024, XCU 2.9.2 (pipelines), 2.9.3 (lists).
 use Rattle.std.specs.Prelude.{ℕ, Bool, not, ◌&&◌, is_some, ◌-◌, max, nat_eq, slice_get, List, [], ◌∷◌, Option, Some, None, option_map}
 use Rattle.sh_tree.specs.declared.tree.AndOr.{AndOr, out-AndOr}
@@ -26,11 +26,11 @@ use Rattle.sh_rules.specs.declared.claims.Claims.{Claims}
 use Rattle.sh_rules.specs.Settings.{Setting}
 use Rattle.sh_rules.specs.Behind.{Behind, parts_behind, pipeline_behind, link_behind, list_behind, behind_known, item_behind, items_behind}
 
--- what a check goes by
+-- what a check uses
 unfoldable pub setting : Claims → Setting
 setting c = record { script = c.script.now; names = c.names.now; functions = c.calls.now.functions.names; rows = c.calls.now.rows; kept = c.certificate.now }
 
--- what stands round a command
+-- what is round a command
 
 unfoldable pub loops_of : Loops → List ℕ
 loops_of Outside = []
@@ -47,7 +47,7 @@ head_where (Some e) f = f
 abbrev pub head_of : Certificate → ℕ → Option value.Facts
 head_of c n = head_where (slice_get c.entries.items (n - 1)) (get nat_eq c.heads (max n 1))
 
--- what is known behind each piece
+-- what is known after each piece
 
 unfoldable pub facts_in : Setting → Knowledge → Facts
 facts_in x k = knowledge_facts x.names k
@@ -73,7 +73,8 @@ behind_item x k i = behind_known x k (out-Item i).background (trees.and_or_of x.
 unfoldable pub item_left : Setting → Behind → Item → Behind
 item_left x o i = item_behind x o (out-Item i).background (trees.and_or_of x.script (out-Item i).list)
 
--- an item that is not asynchronous and begins with a command alone: what is known behind it hangs on nothing before it
+-- an item that is not asynchronous and begins with a command alone: what is known after it depends
+-- on nothing before it
 unfoldable pub is_settled : Item → Bool
 is_settled i = not (out-Item i).background && is_some (lone_part (out-Pipe (out-AndOr (out-Item i).list).first).parts)
 

@@ -7,7 +7,7 @@ use Rattle.memchr.specs.Find.{is_byte, places}
 abbrev pub next_place : ℕ × ℕ → ℕ → ℕ × ℕ
 next_place p b = if b == 10 then (p.0 + 1, 1) else (p.0, p.1 + 1)
 
--- the place behind the bytes before the offset
+-- the place after the bytes before the offset
 unfoldable pub place_of : List ℕ → ℕ → ℕ × ℕ
 place_of text at = fold next_place (1, 1) (take at text)
 

@@ -16,7 +16,8 @@ closed_by i _ = None
 unfoldable pub single_end : List ℕ → ℕ → Option ℕ
 single_end b i = closed_by i (single (drop (i + 1) b))
 
--- what stands at the front where a quotation does not go on: its quote, an escape that is not read, or no quote any more
+-- what is at the front where a quotation does not go on: its quote, an escape that is not read, or
+-- no quote any more
 unfoldable pub quotation_end : List ℕ → Sign × ℕ
 quotation_end [] = (sign.Fault OpenSingle, 0)
 quotation_end (c ∷ []) = if c == 39 then (sign.Single Dollar, 1) else (sign.Fault OpenSingle, 0)

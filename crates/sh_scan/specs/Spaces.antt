@@ -1,4 +1,4 @@
--- What may stand between the tokens of arithmetic.
+-- What may be between the tokens of arithmetic.
 -- POSIX.1-2024, XCU 2.2.1 (line continuation), 2.6.4 (arithmetic expansion).
 use Rattle.std.specs.Prelude.{ℕ, ◌||◌, if◌then◌else◌, List, [], ◌∷◌}
 use Rattle.sh_tree.specs.standard.language.Bytes.{is_blank, is_newline}

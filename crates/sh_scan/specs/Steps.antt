@@ -1,5 +1,7 @@
--- What a front of a text goes on by: the pieces of which a stretch of line continuations, of blanks, of a line or of a quotation is made.
--- POSIX.1-2024, XCU 2.2.1 (line continuation), 2.2.4 (dollar-single-quotes), 2.3 (token recognition), 2.7.4 (here-document).
+-- How a front of a text goes on: the pieces of a stretch of line continuations, of blanks, of a
+-- line or of a quotation.
+-- POSIX.1-2024, XCU 2.2.1 (line continuation), 2.2.4 (dollar-single-quotes), 2.3 (token
+-- recognition), 2.7.4 (here-document).
 use Rattle.std.specs.Prelude.{ℕ, ◌+◌, Bool, ◌&&◌, ◌==◌, if◌then◌else◌, List, [], ◌∷◌}
 use Rattle.sh_tree.specs.standard.language.Bytes.{is_blank, is_newline, is_backslash}
 use Rattle.sh_tree.specs.standard.language.Words.{is_dollar_escape}
@@ -21,7 +23,7 @@ line_step joins [] = 0
 line_step joins (c ∷ []) = if is_newline c then 0 else 1
 line_step joins (c ∷ d ∷ cs) = if is_newline c then 0 else (if joins && is_backslash c then 2 else 1)
 
--- the byte or the escape that a quotation behind `$'` goes on by
+-- how long the byte or the escape is with which a quotation after `$'` goes on
 unfoldable pub escape_step : List ℕ → ℕ
 escape_step [] = 0
 escape_step (c ∷ []) = 0

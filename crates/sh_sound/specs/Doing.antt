@@ -1,4 +1,5 @@
--- What a simple command needs while it is done, by its stages: its words, its redirections and assignments, a utility, a call.
+-- What a simple command needs while it is done, by its stages: its words, its redirections and
+-- assignments, a utility, a call.
 -- POSIX.1-2024, XCU 2.9.1 (simple commands), 2.9.5 (functions), 2.15 (special built-in utilities).
 use Rattle.std.specs.Prelude.{◌≡◌, ℕ, ◌≤◌, Bool, true, false, List, [], ◌∷◌, length, map, ◌⊎◌}
 use Rattle.sh_tree.specs.standard.language.Bytes.{is_name}
@@ -30,7 +31,7 @@ names_of xs = map (λ x. x.0) xs
 abbrev pub left_gains : Assignments → Gains
 left_gains xs = and_gains (values_gains xs) (named (names_of xs))
 
--- what is known behind the words of a command, which is claimed before it
+-- what is known after the words of a command, by what is claimed before it
 abbrev pub behind_facts : Certificate → ℕ → p.Elements → Facts
 behind_facts c n es = with_gains (words_gains (operands_in es)) (facts (c.claim (Before n)))
 
@@ -48,7 +49,7 @@ module _ (start : Facts) (c : Certificate) (defined : List Text) where
     pub rules : CommandRules start c defined x seen n offset (p.Simple es) redirects (losses_by defined es (behind start c n es) (table.manner defined es))
     pub named : (t : Text) → is_one_of defined t ≡ true → is_name t ≡ true
 
-  -- redirections and assignments are judged behind the words, each by itself
+  -- redirections and assignments are judged after the words, each by itself
 
   unfoldable pub EachOpened : Seen → p.Redirects → Type 0
   EachOpened b p.no_redirects = Unit {0}
@@ -58,7 +59,7 @@ module _ (start : Facts) (c : Certificate) (defined : List Text) where
   EachValue b [] = Unit {0}
   EachValue b (x ∷ xs) = (is_name x.0 ≡ true) × WordAt start c defined b x.1 × EachValue b xs
 
-  -- the redirections and assignments that are left of a command behind its words
+  -- the redirections and assignments that are left of a command after its words
   pub record LeftAt (n : ℕ) (es : p.Elements) (rs : p.Redirects) (xs : Assignments) (s : Seen) : Type 0 where
     pub behind_words : Entails start c s (behind start c n es)
     pub opened : EachOpened (behind start c n es) rs
@@ -67,7 +68,8 @@ module _ (start : Facts) (c : Certificate) (defined : List Text) where
 
   -- The words
 
-  -- the words that are left may be expanded one after the other, and behind them is known what the rules say
+  -- the words that are left may be expanded one after the other, and after them is known what the
+  -- rules say
   pub record WordsStage (x : Around) (k : Simple) (left : p.Words) (rs : p.Redirects) (xs : Assignments) (s : Seen) : Type 0 where
     pub rules : RulesAt x k.number k.elements
     pub words : WordsAt start c defined s left
@@ -79,16 +81,17 @@ module _ (start : Facts) (c : Certificate) (defined : List Text) where
 
   -- Redirections and assignments
 
-  -- what will be known when they are done: without a name what the assignments leave, at a special built-in utility what the redirections
-  -- leave too; a function and another utility have all assignments left
+  -- What will be known when they are done: without a name what the assignments leave; at a special
+  -- built-in utility what the redirections leave too. A function and another utility have all
+  -- assignments left.
   unfoldable pub Settles : Manner → ℕ → p.Elements → p.Redirects → Assignments → Seen → Type 0
   Settles Nameless n es rs xs s = Entails start c (gaining (left_gains xs) s) (gaining (assignments_gains es) (behind start c n es))
   Settles (Special name ts) n es rs xs s =
       Entails start c (gaining (and_gains (left_gains xs) (redirects_gains rs)) s) (gaining (and_gains (assignments_gains es) (redirections_gains es)) (behind start c n es))
   Settles (Named name ts) n es rs xs s = xs ≡ assignments_in es
 
-  -- The words are expanded, and have given these fields; what is left of the redirections and assignments may be expanded; a redirection has
-  -- failed only where there is one.
+  -- The words are expanded, and have given these fields. What is left of the redirections and
+  -- assignments may be expanded. A redirection has failed only if there is one.
   pub record PrepareStage (x : Around) (k : Simple) (fields : List Text) (rs : p.Redirects) (xs : Assignments) (failed : Bool) (s : Seen) : Type 0 where
     pub rules : RulesAt x k.number k.elements
     pub fits : FieldsFit (parameters (behind_facts c k.number k.elements)) k.elements [] fields
@@ -98,8 +101,8 @@ module _ (start : Facts) (c : Certificate) (defined : List Text) where
 
   -- A utility
 
-  -- The name is none of a special built-in utility, and no function of the script has it, or none that is known to be defined; all names of
-  -- prefix assignments are told.
+  -- The name is none of a special built-in utility. No function of the script has it, or none that
+  -- is known to be defined. All names of prefix assignments are given.
   pub record UtilityStage (x : Around) (k : Simple) (name : Text) (operands : List Text) (rs : p.Redirects) (xs : Assignments) (all : List Text) (s : Seen) : Type 0 where
     pub rules : RulesAt x k.number k.elements
     pub begun : Begun (parameters (behind_facts c k.number k.elements)) k.elements [] name operands
@@ -110,8 +113,9 @@ module _ (start : Facts) (c : Certificate) (defined : List Text) where
 
   -- A call
 
-  -- The rules take the command for a call of this function. There are as many operands as they count; when the assignments that are left are
-  -- done, all of their names are set; and those names that were not set before them nobody claims.
+  -- The rules take the command for a call of this function. There are as many operands as they
+  -- count. When the assignments that are left are done, all of their names are set; and those names
+  -- that were not set before them nobody claims.
   pub record CallStage (x : Around) (n : ℕ) (function : Text) (operands : List Text) (body : p.Command) (rs : p.Redirects) (xs : Assignments) (saved : Saved) (s : Seen) : Type 0 where
     pub elements : p.Elements
     pub words : List Word
@@ -125,7 +129,7 @@ module _ (start : Facts) (c : Certificate) (defined : List Text) where
     pub unset_among : (t : Text) → is_one_of (unset_before saved) t ≡ true → is_one_of (prefixes elements) t ≡ true
     pub unclaimed : (t : Text) → is_one_of (unset_before saved) t ≡ true → claims (behind_facts c n elements) (Variable t) ≡ false
 
-  -- what each stage needs, where this is seen
+  -- what each stage needs, if this is seen
   unfoldable pub SimpleAt : Around → Work → Seen → Type 0
   SimpleAt x (Words k left fields rs xs) s = WordsStage x k left rs xs s
   SimpleAt x (Prepare k fields rs xs failed) s = PrepareStage x k fields rs xs failed s

@@ -1,5 +1,7 @@
--- How the fields of a simple command come from its words, where there are so many positional parameters.
--- POSIX.1-2024, XCU 2.6.5 (field splitting), 2.9.1 (simple commands), 2.9.1.1 (declaration utilities).
+-- How the fields of a simple command come from its words, if there are so many positional
+-- parameters.
+-- POSIX.1-2024, XCU 2.6.5 (field splitting), 2.9.1 (simple commands), 2.9.1.1 (declaration
+-- utilities).
 use Rattle.std.specs.Prelude.{◌≡◌, ℕ, ◌≤◌, Bool, true, false, List, [], ◌∷◌, ◌++◌, length, Some}
 use Rattle.sh_tree.specs.standard.program.Syntax as p
 use Rattle.sh_tree.specs.standard.program.Syntax.{Text, Word}
@@ -32,7 +34,8 @@ unfoldable pub Fields : Bool → ℕ → List Word → List Text → Type 0
 Fields declares m [] ts = ts ≡ []
 Fields declares m (w ∷ ws) ts = (us : List Text) × (vs : List Text) × (ts ≡ us ++ vs) × Operand declares m w us × Fields declares m ws vs
 
--- the name of the command is expanded, which is static, and the operands behind it but for those that are left
+-- the name of the command is expanded, which is static, and the operands after it except for those
+-- that are left
 pub record Begun (m : ℕ) (es : p.Elements) (left : List Word) (name : Text) (operands : List Text) : Type 0 where
   pub word : Word
   pub done : List Word
@@ -40,7 +43,7 @@ pub record Begun (m : ℕ) (es : p.Elements) (left : List Word) (name : Text) (o
   pub static : static_of word ≡ Some name
   pub given : Fields (is_declaration (kind_of name)) m done operands
 
--- the fields of a command so far, where these words are left
+-- the fields of a command so far, if these words are left
 unfoldable pub FieldsFit : ℕ → p.Elements → List Word → List Text → Type 0
 FieldsFit m es left [] = words_in (operands_in es) ≡ left
 FieldsFit m es left (name ∷ operands) = Begun m es left name operands

@@ -1,6 +1,7 @@
--- When the work that a process has left meets the rules, from what is known at its front on: what each piece of it needs, and what is known
--- behind that piece.
--- POSIX.1-2024, XCU 2.9 (shell commands), 2.13 (shell execution environment), 2.15 (break, continue, return).
+-- When the work that a process has left meets the rules, from what is known at its front on: what
+-- each piece of it needs, and what is known after that piece.
+-- POSIX.1-2024, XCU 2.9 (shell commands), 2.13 (shell execution environment), 2.15 (break,
+-- continue, return).
 use Rattle.std.specs.Prelude.{◌≡◌, ℕ, Bool, true, false, ◌||◌, List, [], ◌∷◌, ◌++◌, length, codes, Option, Some, None, is_some, ◌⊎◌}
 use Rattle.std.specs.List.{list_any}
 use Rattle.sh_tree.specs.declared.tree.ClauseEnd.{ClauseEnd}
@@ -26,7 +27,8 @@ use Rattle.sh_sound.specs.Fields.{FieldsFit}
 use Rattle.sh_sound.specs.Holding.{Stands, Holds, Grows, OneHolds, AfterHolds, Entails, Leads}
 use Rattle.sh_domain.specs.Inclusions.{Each, Covers, Leaves, MayDrop, LoopRules, ForRules, BranchesLeave, OtherwiseLeaves, ClausesLeave, BodyRules, word_formed}
 
--- What stands round the front of the work, of a process that began in `base`: the marks of loops and of calls lie in the work.
+-- What is round the front of the work, of a process that began in `base`: the marks of loops and of
+-- calls lie in the work.
 unfoldable pub around : Around → List Work → Around
 around base [] = base
 around base (Return n f saved ∷ ws) = in_function f
@@ -148,7 +150,8 @@ module _ (start : Facts) (c : Certificate) (defined : List Text) where
   PatternsOf s p.no_clauses = Unit {0}
   PatternsOf s (p.more_clauses patterns body end rest) = PatternsAt s patterns × PatternsOf s rest
 
-  -- the clauses of `case` that are left; the list of the first may be entered from the list before it
+  -- the clauses of `case` that are left; the list of the first may be entered from the list before
+  -- it
   pub record ClausesAt (x : Around) (n : ℕ) (s fallen : Seen) (cs : p.Clauses) : Type 0 where
     pub entered : Each (Stands start c defined) (clauses_entered x s fallen cs)
     pub leave : ClausesLeave start c n s fallen cs
@@ -162,7 +165,7 @@ module _ (start : Facts) (c : Certificate) (defined : List Text) where
     pub behind : ClausesAt x n s (falls end (items_after (Both (s ++ fallen)) body)) rest
     pub unmatched : (list_any (is_plainly (codes "*")) (words_in left) || matches_always rest) ≡ false → Covers start c (AfterZero n) s
 
-  -- behind `;&`
+  -- after `;&`
   unfoldable pub FallAt : Around → ℕ → After → p.Clauses → Type 0
   FallAt x n q p.no_clauses = Leads start c q (after_command n)
   FallAt x n q (p.more_clauses patterns body end rest) = (s : Seen) × (fallen : Seen) × Leads start c q (Both fallen) × ClausesAt x n s fallen (p.more_clauses patterns body end rest)
@@ -178,7 +181,7 @@ module _ (start : Facts) (c : Certificate) (defined : List Text) where
   abbrev pub Bodies : (Text → Option p.Command) → Type 0
   Bodies functions = (f : Text) (body : p.Command) → functions f ≡ Some body → BodyOk f body
 
-  -- a compound command behind its redirections; K is what has to hold of the work behind it
+  -- a compound command after its redirections; K is what has to hold of the work after it
   unfoldable pub KindAt : Around → ℕ → p.Kind → Seen → (After → Type 0) → Type 0
   KindAt x n (p.Simple es) s K = ⊥
   KindAt x n (p.Group list) s K = ItemsAt x (Both s) list × K (items_after (Both s) list)
@@ -190,7 +193,7 @@ module _ (start : Facts) (c : Certificate) (defined : List Text) where
       WordAt s w × ClausesAt x n (gaining (word_gains w) s) [] cs × (matches_always cs ≡ false → Covers start c (AfterZero n) (gaining (word_gains w) s))
   KindAt x n (p.Define name body) s K = Covers start c (AfterZero n) (stepped (Define name) (at (Before n))) × BodyOk name body
 
-  -- redirections that are left, and the command behind them
+  -- redirections that are left, and the command after them
   pub record CompoundAt (x : Around) (n : ℕ) (rs : p.Redirects) (kind : p.Kind) (s : Seen) (K : After → Type 0) : Type 0 where
     pub redirects : RedirectsAt s rs
     pub failed : Entails start c s (at (AfterNonzero n)) ⊎ (rs ≡ p.no_redirects)
@@ -201,8 +204,9 @@ module _ (start : Facts) (c : Certificate) (defined : List Text) where
 
   -- Calls
 
-  -- The return mark of a call. The caller keeps these facts, none of which the function drops; with them and with what is known where the
-  -- function returns, what is claimed behind the call is true, whichever of the prefix assignments stay.
+  -- The return mark of a call. The caller keeps these facts, none of which the function drops. With
+  -- them and with what is known where the function returns, what is claimed after the call is true,
+  -- whichever of the prefix assignments stay.
   pub record ReturnAt (x : Around) (n : ℕ) (f : Text) (saved : Saved) (kept : Facts) : Type 0 where
     pub comes : (restores : ℕ → Bool) (status : ℕ) (e : Environment) (inner outer : Frame)
         → AfterHolds start c status (after_function f) e inner → Holds kept e outer → AfterHolds start c status (after_command n) (restored restores 0 e saved) outer
@@ -210,10 +214,12 @@ module _ (start : Facts) (c : Certificate) (defined : List Text) where
     pub dropped : MayDrop start c x (c.drops f)
     pub unset : MayDrop start c x (record { vars = unset_before saved; functions = [] })
 
-  -- The simple command that is done, and what it needs (`Doing` says so of each of its four stages).
+  -- The simple command that is done, and what it needs (`Doing` says so of each of its four
+  -- stages).
   module _ (SimpleAt : Around → Work → Seen → Type 0) where
-    -- What a piece of work needs where q is known, with x round it; K says what has to be known behind it. `Return` goes by its caller; while the
-    -- words of a simple command are expanded it stands behind no other work.
+    -- What a piece of work needs where q is known, with x round it; K says what has to be known
+    -- after it. `Return` follows its caller. While the words of a simple command are expanded it is
+    -- after no other work.
     unfoldable pub FrontGood : Around → Work → (After → Type 0) → After → Type 0
     FrontGood x (Items is) K q = ItemsAt x q is × K (items_after q is)
     FrontGood x (Links ls) K q = Each (Stands start c defined) (links_entered x q ls) × K (links_after q ls)
@@ -247,15 +253,16 @@ module _ (start : Facts) (c : Certificate) (defined : List Text) where
       pub leads : Leads start c o after
       pub goes : K after
 
-    -- The work meets the rules where o is known; each caller that waits for a return keeps the facts of its place in the list, the
-    -- innermost first.
+    -- The work meets the rules where o is known; each caller that waits for a return keeps the
+    -- facts of its place in the list, the innermost first.
     unfoldable pub Good : Around → List Facts → List Work → After → Type 0
     Good base callers [] o = Began base callers
     Good base callers (Return n f saved ∷ ws) o =
         OfFirst callers (λ kept others. Leads start c o (after_function f) × ReturnAt (around base ws) n f saved kept × Good base others ws (after_command n))
     Good base callers (w ∷ ws) o = Weaker (λ q. FrontGood (around base ws) w (λ r. Good base callers ws r) q) o
 
-    -- The work of a process in this frame: where the words of a simple command are expanded, the fields so far are those of this frame.
+    -- The work of a process in this frame: while the words of a simple command are expanded, the
+    -- fields so far are those of this frame.
     unfoldable pub GoodIn : Frame → Around → List Facts → List Work → After → Type 0
     GoodIn f base callers (Words k left fields rs xs ∷ ws) o =
         FieldsFit (length f) k.elements (words_in left) fields
@@ -280,7 +287,8 @@ module _ (start : Facts) (c : Certificate) (defined : List Text) where
 
     -- Steps
 
-    -- a process that is started with this frame: one that shares drops nothing, and who started it goes on
+    -- a process that is started with this frame: one that shares drops nothing, and who started it
+    -- goes on
     unfoldable pub StartOk : Environment → Frame → ℕ → Option (ℕ × List Work) → Start → Type 0
     StartOk e f status next (Shares ws) = (is_some next ≡ true) × ((base : Around) × (base.shares ≡ true) × ProcessOk base e (f ∷ []) status ws)
     StartOk e f status next (Copies e' ws) = (base : Around) × ProcessOk base e' (f ∷ []) status ws
@@ -295,8 +303,9 @@ module _ (start : Facts) (c : Certificate) (defined : List Text) where
     NextOk base e fs None = Bodies e.functions
     NextOk base e fs (Some x) = ProcessOk base e fs x.0 x.1
 
-    -- What a step keeps: it meets no parameter that is not set; unless it splits a value, the process stays well, or ends and leaves functions
-    -- that are well, and so do those that it starts; and in a part of a pipeline nothing is dropped, and the frame stays.
+    -- What a step keeps. It meets no parameter that is not set. Unless it splits a value, the
+    -- process stays well, or ends and leaves functions that are well, and so do those that it
+    -- starts. In a part of a pipeline nothing is dropped, and the frame stays.
     pub record StepOk (base : Around) (e : Environment) (fs : List Frame) (status : ℕ) (x : Effect) : Type 0 where
       pub quiet : x.unset ≡ false
       pub next : x.split ≡ false → NextOk base x.environment (frames_behind fs x.frames) x.next

@@ -8,12 +8,12 @@ unfoldable pub Among : ℕ → List ℕ → Type 0
 Among k [] = ⊥
 Among k (n ∷ ns) = (k ≡ n) ⊎ Among k ns
 
--- each number stands there once
+-- each number occurs there once
 unfoldable pub Distinct : List ℕ → Type 0
 Distinct [] = Unit {0}
 Distinct (n ∷ ns) = (Among n ns → ⊥) × Distinct ns
 
--- the innermost frame's number, which stands first, and the outermost one's
+-- the innermost frame's number, which is first, and the outermost one's
 unfoldable pub innermost_of : List ℕ → Option ℕ
 innermost_of [] = None
 innermost_of (n ∷ ns) = Some n
@@ -28,12 +28,14 @@ but_outermost [] = []
 but_outermost (n ∷ []) = []
 but_outermost (n ∷ m ∷ ns) = n ∷ but_outermost (m ∷ ns)
 
--- the frames that a process has for itself: a part of a pipeline has its outermost one from the process that waits for it
+-- the frames that a process has for itself: a part of a pipeline has its outermost one from the
+-- process that waits for it
 unfoldable pub own_frames : Option ℕ → List ℕ → List ℕ
 own_frames None ns = ns
 own_frames (Some q) ns = but_outermost ns
 
--- the process p is a part of q, which lives and is older: it has the environment of q, and its outermost frame is the innermost of q
+-- the process p is a part of q, which lives and is older: it has the environment of q, and its
+-- outermost frame is the innermost of q
 pub record IsPart (processes : ℕ → Option Process) (p : ℕ) (r : Process) (q : ℕ) : Type 0 where
   pub whole : Process
   pub lives : processes q ≡ Some whole
@@ -41,7 +43,8 @@ pub record IsPart (processes : ℕ → Option Process) (p : ℕ) (r : Process) (
   pub environment : whole.environment ≡ r.environment
   pub frame : outermost_of r.frames ≡ innermost_of whole.frames
 
--- the numbers of a live process are below the next ones, it has frames, each once, and it is a part of its parent
+-- the numbers of a live process are below the next ones, it has frames, each once, and it is a part
+-- of its parent
 pub record IsPlaced (processes : ℕ → Option Process) (next_environment next_frame next_process : ℕ) (p : ℕ) (r : Process) : Type 0 where
   pub process : p < next_process
   pub environment : r.environment < next_environment
@@ -50,7 +53,8 @@ pub record IsPlaced (processes : ℕ → Option Process) (next_environment next_
   pub distinct : Distinct r.frames
   pub part : (q : ℕ) → r.parent ≡ Some q → IsPart processes p r q
 
--- Whatever is shared is shared with a parent: an environment has one process that is no part, and a frame is one process's own.
+-- Whatever is shared is shared with a parent: an environment has one process that is no part, and a
+-- frame is one process's own.
 pub record Sharing (processes : ℕ → Option Process) (next_environment next_frame next_process : ℕ) : Type 0 where
   pub placed : (p : ℕ) (r : Process) → processes p ≡ Some r → IsPlaced processes next_environment next_frame next_process p r
   pub environment : (p q : ℕ) (r s : Process) → processes p ≡ Some r → processes q ≡ Some s → r.parent ≡ None → s.parent ≡ None → r.environment ≡ s.environment → p ≡ q

@@ -1,5 +1,7 @@
--- What rules, demands and quoting are good for: no run expands an unset parameter without a default, or splits a value.
--- POSIX.1-2024, XCU 2.6.2 (parameter expansion), 2.6.5 (field splitting), 2.6.6 (pathname expansion).
+-- What rules, demands and quoting are good for: no run expands an unset parameter without a
+-- default, or splits a value.
+-- POSIX.1-2024, XCU 2.6.2 (parameter expansion), 2.6.5 (field splitting), 2.6.6 (pathname
+-- expansion).
 use Rattle.std.specs.Prelude.{◌≡◌, ℕ, Bool, true, false, ◌||◌, List, [], ◌∷◌, Some, unwrap_or, option_map}
 use Rattle.std.specs.List.{list_all}
 use Rattle.sh_tree.specs.declared.tree.Script.{Script}
@@ -22,8 +24,9 @@ unfoldable pub splits : List Move → World → Bool
 splits [] w = false
 splits (m ∷ ms) w = has_split_event w m || unwrap_or (option_map (splits ms) (step w m)) false
 
--- Where a program is admitted and formed as those that are read, and a certificate breaks no rule and leaves no demand unmet, then in
--- every run from a start that the policy allows, a step before which nothing was split expands no unset parameter without a default.
+-- Let a program be admitted and formed as those that are read, and a certificate break no rule and
+-- leave no demand unmet. Then in every run from a start that the policy allows, a step before which
+-- nothing was split expands no unset parameter without a default.
 abbrev pub RulesSuffice : Type 0
 RulesSuffice =
     (d : Declared) (c : Certificate) (t : Items) → list_all is_name d.names ≡ true → is_admitted t ≡ true → is_formed t ≡ true
@@ -32,8 +35,9 @@ RulesSuffice =
     → (moves : List Move) (w : World) → run moves (start_world e f t) ≡ Some w → splits moves (start_world e f t) ≡ false
     → (m : Move) → has_unset_event w m ≡ false
 
--- Where moreover no place is told by the rules of quoting, no step of any run has an event: it expands no unset parameter without a default, and
--- gives no value of an expansion to splitting or pathname expansion that could change it.
+-- If moreover the rules of quoting report no place, no step of any run has an event. It expands no
+-- unset parameter without a default, and gives no value of an expansion to splitting or pathname
+-- expansion that could change it.
 abbrev pub HaveNoEvents : Type 0
 HaveNoEvents =
     (d : Declared) (c : Certificate) (t : Items) → list_all is_name d.names ≡ true → is_admitted t ≡ true → is_formed t ≡ true
@@ -42,7 +46,8 @@ HaveNoEvents =
     → (moves : List Move) (w : World) → run moves (start_world e f t) ≡ Some w
     → (m : Move) → (has_unset_event w m ≡ false) × (has_split_event w m ≡ false)
 
--- Both of every text that is read as a script: nothing is asked of its program but that it is admitted.
+-- Both of every text that is read as a script: nothing is required of its program but that it is
+-- admitted.
 
 abbrev pub ScriptsExpandNothingUnset : Type 0
 ScriptsExpandNothingUnset =

@@ -1,4 +1,5 @@
--- Which script is admitted: the answer by the first refused command, over the commands by their numbers.
+-- Which script is admitted: the answer by the first refused command, over the commands by their
+-- numbers.
 -- POSIX.1-2024, XCU 2.9.1 (simple commands), 2.9.5 (function definitions).
 use Rattle.std.specs.Prelude.{◌≡◌, ℕ, Bool, not, List, [], ◌∷◌, map, Option, Some, None, option_map, Result, Ok, Err}
 use Rattle.sh_tree.specs.declared.refusal.Refusal.{Refusal}
@@ -17,7 +18,8 @@ use Rattle.sh_table.specs.Surroundings.{Surroundings}
 use Rattle.sh_table.specs.Walks.{Shape, Called, Named, Compound, around, seen_form}
 use Rattle.sh_table.specs.WordTexts.{text_in}
 
--- `Ok` exactly where no command breaks the profile, and otherwise the refusal of the one with the least number; or want of memory
+-- `Ok` exactly if no command breaks the profile, and otherwise the refusal of the one with the
+-- least number; or out of memory
 abbrev pub Admits : p.Items → Result (Unit {0}) Refusal → Type 0
 Admits t (Ok x) = first_refused t ≡ None
 Admits t (Err (refusal.Profile r at)) = (q : Refused) × (first_refused t ≡ Some q) × (q.rule ≡ r) × (q.at ≡ at)
@@ -61,7 +63,7 @@ unfoldable pub first_of : List Site → Option Refused
 first_of [] = None
 first_of (s ∷ ss) = or_refused (refused_site s) (first_of ss)
 
--- what is told of it
+-- what is reported of it
 unfoldable pub refusal_of : Option Refused → Option Refusal
 refusal_of o = option_map (λ (q : Refused). refusal.Profile q.rule q.at) o
 

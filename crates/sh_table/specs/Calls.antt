@@ -1,5 +1,7 @@
--- The call table of a program: its functions with the commands that define them, and the static texts of the words of each command.
--- POSIX.1-2024, XCU 2.2 (quoting), 2.9.1 (simple commands), 2.9.1.4 (command search and execution), 2.9.5 (function definitions).
+-- The call table of a program: its functions with the commands that define them, and the static
+-- texts of the words of each command.
+-- POSIX.1-2024, XCU 2.2 (quoting), 2.9.1 (simple commands), 2.9.1.4 (command search and execution),
+-- 2.9.5 (function definitions).
 use Rattle.std.specs.Prelude.{◌≡◌, ◌≤◌, ◌<◌, ℕ, zero, suc, ◌==◌, Bool, false, if◌then◌else◌, List, [], ◌∷◌, ◌++◌, length, map, fold, Option, Some, None, Result, Ok, Err}
 use Rattle.std.specs.List.{filter, filter_map, position_from}
 use Rattle.std.specs.List.Sorted.{IsNonDecreasingBy}
@@ -67,7 +69,8 @@ row_of s = (s.number, statics s.form)
 unfoldable pub table_of : List ℕ → Script → Table
 table_of b t = record { script = b; functions = functions_of (sites_of (script_of b t)); rows = map row_of (sites_of (script_of b t)) }
 
--- The table, or a refusal where there are more functions than a script has commands; or want of memory.
+-- The table, or a refusal if there are more functions than a script may have commands; or out of
+-- memory.
 abbrev pub Tables : List ℕ → Script → Result Table Refusal → Type 0
 Tables b t (Ok x) = x ≡ table_of b t
 Tables b t (Err TooMany) = MAX_COMMANDS < length (table_of b t).functions.names
@@ -90,7 +93,8 @@ static_at (t ∷ ts) (suc k) = static_at ts k
 unfoldable pub text_at : Table → ℕ → ℕ → Static
 text_at x n k = static_at (texts_with n x.rows) k
 
--- The function that a name calls, by its place from 1: special built-in utilities are found before functions (XCU 2.9.1.4).
+-- The function that a name calls, by its place from 1: special built-in utilities are found before
+-- functions (XCU 2.9.1.4).
 unfoldable pub called : List Text → Static → Option ℕ
 called names None = None
 called names (Some t) = if is_special (kind_of t) then None else position_from (λ name. bytes_eq name t) 1 names

@@ -1,5 +1,6 @@
 -- How many fields an operand gives at least, by its form.
--- POSIX.1-2024, XCU 2.5.2 (special parameters), 2.6.2 (parameter expansion), 2.6.5 (field splitting).
+-- POSIX.1-2024, XCU 2.5.2 (special parameters), 2.6.2 (parameter expansion), 2.6.5 (field
+-- splitting).
 use Rattle.std.specs.Prelude.{ℕ, ◌==◌, Bool, true, false, not, ◌||◌, if◌then◌else◌, length}
 use Rattle.sh_tree.specs.declared.tree.Action.TheVariants as action
 use Rattle.sh_tree.specs.declared.tree.Special.TheVariants as special
@@ -12,7 +13,8 @@ is_all quoted (Special special.At) = true
 is_all quoted (Special special.Asterisk) = not quoted
 is_all quoted p = false
 
--- such a parameter in a word, or in a word of a braced expansion or of arithmetic in it; patterns are read as outside quotes
+-- such a parameter in a word, or in a word of a braced expansion or of arithmetic in it; patterns
+-- are read as outside quotes
 unfoldable mutual
   pub part_has_all : Bool → Part → Bool
   part_has_all quoted (Double w) = word_has_all true w
@@ -44,7 +46,8 @@ unfoldable mutual
   operands_have_all no_operands = false
   operands_have_all (more_operands operator e rest) = expression_has_all e || operands_have_all rest
 
--- whether a part gives a field of its own: an expansion with a default or an alternative may give none
+-- whether a part gives a field of its own: an expansion with a default or an alternative may give
+-- none
 unfoldable pub gives_field : Part → Bool
 gives_field (Plain t) = not (length t == 0)
 gives_field (Expansion at p (Use action.Default colon w)) = false
@@ -70,7 +73,7 @@ pub data Count : Type 0 where
 unfoldable pub count_of : Word → Count
 count_of w = if is_parameters w then Parameters else (if word_has_all false w || not (some_gives_field w) then Nothing else One)
 
--- the number, where these are the parameters
+-- the number, if these are the parameters
 unfoldable pub least_fields : Frame → Count → ℕ
 least_fields f Parameters = length f
 least_fields f One = 1

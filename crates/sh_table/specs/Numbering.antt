@@ -1,4 +1,4 @@
--- Commands are told apart by their numbers.
+-- Commands differ in their numbers.
 -- The standard has no such thing: a command's number is its place among the commands of a script.
 use Rattle.std.specs.Prelude.{ℕ, nat_lt, ◌==◌, Bool, true, not, ◌&&◌, List, [], ◌∷◌, map}
 use Rattle.std.specs.List.{list_all}

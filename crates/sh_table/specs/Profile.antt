@@ -1,5 +1,6 @@
 -- Which commands are refused before any analysis, and by which rule.
--- POSIX.1-2024, XCU 2.9.1 (simple commands), 2.9.5 (function definitions), 2.15 (special built-in utilities), 3 (command).
+-- POSIX.1-2024, XCU 2.9.1 (simple commands), 2.9.5 (function definitions), 2.15 (special built-in
+-- utilities), 3 (command).
 use Rattle.std.specs.Prelude.{ℕ, ◌+◌, ◌==◌, nat_lt, Bool, true, false, not, ◌&&◌, ◌||◌, if◌then◌else◌, List, [], ◌∷◌, length, drop, map, codes, Option, Some, None, is_some, option_map}
 use Rattle.std.specs.List.{list_any, list_all, filter_map}
 use Rattle.std.specs.Str.{bytes_eq}
@@ -28,7 +29,8 @@ Static = Option Text
 abbrev pub is_minus : Text → Bool
 is_minus t = bytes_eq t (codes "-")
 
--- `trap` without an action: no operand, or the first one, behind `--` if that stands there, is empty, `-` or a number
+-- `trap` without an action: no operand, or the first one, after `--` if that is there, is empty,
+-- `-` or a number
 unfoldable pub is_no_action : List Static → Bool
 is_no_action [] = true
 is_no_action (None ∷ xs) = false
@@ -38,7 +40,8 @@ unfoldable pub traps_nothing : List Static → Bool
 traps_nothing (Some t ∷ xs) = if ends_options t then is_no_action xs else is_no_action (Some t ∷ xs)
 traps_nothing xs = is_no_action xs
 
--- what `command` may run: no special built-in utility, none of `cd`, `read`, `getopts` and `command`, and no name that is refused
+-- what `command` may run: no special built-in utility, none of `cd`, `read`, `getopts` and
+-- `command`, and no name that is refused
 unfoldable pub may_run : Kind → Bool
 may_run kind.True = true
 may_run kind.False = true
@@ -54,7 +57,7 @@ runs_utility (Some t ∷ xs) = may_run (kind_of t)
 abbrev pub is_command_letter : ℕ → Bool
 is_command_letter c = c == 112 || c == 118 || c == 86
 
--- behind `-v` and `-V` anything may stand
+-- after `-v` and `-V` there may be anything
 abbrev pub describes : Text → Bool
 describes t = list_any (λ c. c == 118 || c == 86) t
 
@@ -68,21 +71,23 @@ commands_utility (Some t ∷ xs) =
     if ends_options t then runs_utility xs
     else (if is_dashed t then has_command_letters t && (describes t || commands_utility xs) else may_run (kind_of t))
 
--- an option of `set` with an `o` before its last letter: shells differ in which words such options take
+-- an option of `set` with an `o` before its last letter: shells differ in which words such options
+-- take
 unfoldable pub has_inner_o : Text → Bool
 has_inner_o (c ∷ d ∷ cs) = c == 111 || has_inner_o (d ∷ cs)
 has_inner_o _ = false
 
--- `-` or `+`, alone or with letters behind it
+-- `-` or `+`, alone or with letters after it
 abbrev pub is_signed : Text → Bool
 is_signed t = is_first (λ c. c == 45 || c == 43) t
 
--- what may be the argument of `-o`: shells take an empty one, and one that looks like an option, as none or as another option
+-- what may be the argument of `-o`: shells take an empty one, and one that looks like an option, as
+-- none or as another option
 abbrev pub is_argument : Text → Bool
 is_argument t = not (length t == 0) && not (is_signed t)
 
--- `set`: the options are static, none is `-` or `+` alone or has an `o` before others, what `-o` takes is its argument, and where no `--`
--- stands before it the first positional word is static too
+-- `set`: the options are static, and none is `-` or `+` alone or has an `o` before others. What
+-- `-o` takes is its argument. If no `--` precedes it, the first positional word is static too.
 unfoldable pub sets_known : Bool → List Static → Bool
 sets_known takes [] = true
 sets_known takes (None ∷ xs) = false
@@ -104,7 +109,8 @@ is_count (Some t) = is_positive (number_in t)
 abbrev pub is_append : Text → Bool
 is_append t = not (name_length t == 0) && is_first (λ c. c == 43) (drop (name_length t) t) && is_first (λ c. c == 61) (drop (name_length t + 1) t)
 
--- words that other shells reserve: the reading leaves them out as command names, and quoted they are utilities
+-- words that other shells reserve: the reading refuses them as command names, and quoted they are
+-- utilities
 unfoldable pub is_reserved_elsewhere : KnownName → Bool
 is_reserved_elsewhere known.LeftBrackets = true
 is_reserved_elsewhere known.RightBrackets = true
@@ -188,6 +194,6 @@ least_refused (r ∷ rs) = lesser (least_refused rs)
     lesser None = Some r
     lesser (Some q) = if nat_lt q.number r.number then Some q else Some r
 
--- of a program, the refused command with the least number and the rule that is told of it
+-- of a program, the refused command with the least number and the rule that is reported of it
 unfoldable pub first_refused : p.Items → Option Refused
 first_refused t = least_refused (filter_map refused_at (items_located outside t))

@@ -1,4 +1,5 @@
--- When the form of a word keeps its expansions from being changed by field splitting and pathname expansion.
+-- When the form of a word keeps its expansions from being changed by field splitting and pathname
+-- expansion.
 -- POSIX.1-2024, XCU 2.6.5 (field splitting), 2.6.6 (pathname expansion).
 use Rattle.std.specs.Prelude.{◌==◌, Bool, true, false, not, ◌&&◌, ◌||◌, codes, Option, Some, None}
 use Rattle.std.specs.List.{list_any}
@@ -40,7 +41,8 @@ unfoldable pub is_quoted_alternative : Operator → Bool
 is_quoted_alternative (Use action.Alternative colon (more_parts x w)) = are_quotations (more_parts x w)
 is_quoted_alternative _ = false
 
--- a part whose value, if it has one, is not split: it is no expansion outside quotes, gives a number, or is a quoted alternative
+-- a part whose value, if it has one, is not split: it is no expansion outside quotes, gives a
+-- number, or is a quoted alternative
 unfoldable pub is_whole : Part → Bool
 is_whole (Expansion at p operator) = gives_number p operator || is_quoted_alternative operator
 is_whole (Substitution at list) = false
@@ -94,7 +96,8 @@ unfoldable mutual
   operands_mention is_one no_operands = false
   operands_mention is_one (more_operands operator e rest) = expression_mentions is_one e || operands_mention is_one rest
 
--- A variable of a kind that the word may assign: `${name=w}`, and in arithmetic; substitutions aside
+-- A variable of a kind that the word may assign: `${name=w}`, and in arithmetic; substitutions
+-- aside
 unfoldable mutual
   pub part_assigns : (Text → Bool) → Part → Bool
   part_assigns is_one (Double w) = word_assigns is_one w
@@ -133,7 +136,7 @@ unfoldable pub is_at : Parameter → Bool
 is_at (Special special.At) = true
 is_at _ = false
 
--- IFS, or `$*`, in which the first byte of IFS stands
+-- IFS, or `$*`, which has the first byte of IFS in it
 unfoldable pub is_about_separators : Parameter → Bool
 is_about_separators (Variable name) = is_ifs name
 is_about_separators (Special special.Asterisk) = true

@@ -1,4 +1,5 @@
--- The commands of a program by their numbers: what stands round each, and the words of a simple one or the name that one defines.
+-- The commands of a program by their numbers: what is round each, and the words of a simple one or
+-- the name that one defines.
 -- POSIX.1-2024, XCU 2.9.1 (simple commands), 2.9.5 (function definitions).
 use Rattle.std.specs.Prelude.{ℕ, nat_lt, if◌then◌else◌, List, [], ◌∷◌, map}
 use Rattle.sh_tree.specs.standard.program.Syntax as p

@@ -1,9 +1,10 @@
--- The commands of a program, each with what stands round it.
+-- The commands of a program, each with what is round it.
 -- POSIX.1-2024, XCU 2.9 (shell commands), 2.15 (break, continue, return).
 use Rattle.std.specs.Prelude.{Bool, true, false, List, [], ◌∷◌, ◌++◌}
 use Rattle.sh_tree.specs.standard.program.Syntax as p
 
--- whether a loop, and a function, stand round a place, with no started process, part of a pipeline or other definition between
+-- whether a loop, and a function, are round a place, with no started process, part of a pipeline or
+-- other definition between
 pub record Surroundings : Type 0 where
   pub loop : Bool
   pub function : Bool

@@ -1,5 +1,6 @@
 -- What holds of runs and of fields, whatever the rules of a checker are.
--- POSIX.1-2024, XCU 2.6.5 (field splitting), 2.6.6 (pathname expansion), 2.9 (shell commands), 2.13 (shell execution environment).
+-- POSIX.1-2024, XCU 2.6.5 (field splitting), 2.6.6 (pathname expansion), 2.9 (shell commands), 2.13
+-- (shell execution environment).
 use Rattle.std.specs.Prelude.{◌≡◌, ℕ, ◌≤◌, true, false, List, [], length, map, codes, Some, is_some}
 use Rattle.sh_tree.specs.standard.program.Syntax.{Text, Items, Word}
 use Rattle.sh_table.specs.standard.runs.Environment.{Environment, Frame, separators}
@@ -11,7 +12,8 @@ use Rattle.sh_table.specs.standard.runs.Worlds.{World, Move, run, step, start_wo
 use Rattle.sh_table.specs.Counts.{count_of, least_fields}
 use Rattle.sh_table.specs.Quoting.{are_whole, word_begins_pattern, word_mentions, is_about_separators, is_ifs, is_steady}
 
--- Runs do not get stuck: if a process lives and arithmetic has not ended the run, some process has a step, whatever the answer is.
+-- Runs do not get stuck: if a process lives and arithmetic has not ended the run, some process has
+-- a step, whatever the answer is.
 -- The law of rows says which steps a row describes.
 abbrev pub RunsGoOn : Type 0
 RunsGoOn =
@@ -23,7 +25,8 @@ unfoldable pub as_quoted : Piece → Piece
 as_quoted (Bytes Unquoted t) = Bytes Quoted t
 as_quoted x = x
 
--- Where the pieces of a word have no Split event, its fields are those without splitting, each expansion outside quotes taken as quoted.
+-- If the pieces of a word have no Split event, its fields are those without splitting, each
+-- expansion outside quotes taken as quoted.
 abbrev pub FieldsStandWhole : Type 0
 FieldsStandWhole =
     (ifs : Text) (directory : Directory) (ps : List Piece) → splits ifs ps ≡ false → fields ifs directory ps ≡ fields [] directory (map as_quoted ps)
@@ -38,8 +41,9 @@ pub record DifferInIfs (e d : Environment) : Type 0 where
 abbrev pub fields_of : Directory → Outcome → List Text
 fields_of directory o = fields (separators o.state.environment) directory o.pieces
 
--- A word whose expansions outside quotes give numbers or are quoted alternatives, without an unquoted `*`, `?` or `[`, that names
--- neither IFS nor `$*`, has the same fields whatever IFS and the directory are, as long as IFS separates no numbers.
+-- Let the expansions of a word outside quotes give numbers or be quoted alternatives. Let it have
+-- no unquoted `*`, `?` or `[`, and name neither IFS nor `$*`. Then it has the same fields whatever
+-- IFS and the directory are, as long as IFS separates no numbers.
 abbrev pub FieldsStandSteady : Type 0
 FieldsStandSteady =
     (f : Frame) (status : ℕ) (w : Word) (e d : Environment) (given : ℕ → Given) (here there : Directory)
@@ -47,7 +51,8 @@ FieldsStandSteady =
     → DifferInIfs e d → is_steady (e.variables (codes "IFS")) ≡ true → is_steady (d.variables (codes "IFS")) ≡ true
     → fields_of here (expand f status in_fields w (fresh e given)) ≡ fields_of there (expand f status in_fields w (fresh d given))
 
--- A word that has no Split event, and whose expansion does not end the process, gives at least as many fields as its form counts.
+-- A word that has no Split event, and whose expansion does not end the process, gives at least as
+-- many fields as its form counts.
 abbrev pub OperandsCount : Type 0
 OperandsCount =
     (f : Frame) (status : ℕ) (w : Word) (s : State) (directory : Directory)

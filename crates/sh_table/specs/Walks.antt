@@ -33,9 +33,10 @@ use Rattle.sh_table.specs.Surroundings.{Surroundings, Located, items_located, li
 abbrev pub around : Around → Surroundings
 around x = record { loop = x.in_loop; function = x.in_function }
 
--- What the profile asks of a command, beside the texts of its words
+-- What the profile requires of a command, beside the texts of its words
 
--- a simple command, and whether its name is more than plain bytes; the name that a definition defines; or another command
+-- a simple command, and whether its name is more than plain bytes; the name that a definition
+-- defines; or another command
 pub data Shape : Type 0 where
   Called : Bool → Shape
   Named : Text → Shape

@@ -2,7 +2,8 @@
 
 -- runs of small programs (XCU 2.6, 2.9, 2.15)
 pub mod Runs
--- runs to their end: jumps, redirections, assignments, built-in utilities, calls, processes (XCU 2.7, 2.8.1, 2.9, 2.15)
+-- runs to their end: jumps, redirections, assignments, built-in utilities, calls, processes (XCU
+-- 2.7, 2.8.1, 2.9, 2.15)
 pub mod Steps
 -- what words expand to (XCU 2.5.2, 2.6)
 pub mod Fields

@@ -7,7 +7,7 @@ use Rattle.sh_tree.specs.declared.refusal.Refusal.{Refusal}
 use Rattle.sh_tree.specs.declared.refusal.Refusal.TheVariants.{TooLong, NulByte, Syntax, LeftOut, TooDeep, TooMany, Memory, Profile, CertSyntax, CertShape}
 use Rattle.sh_tree.specs.standard.language.Reading.{Reads, ReadsWithin}
 
--- where the first NUL stands
+-- where the first NUL is
 abbrev pub first_nul : List ℕ → Option ℕ
 first_nul b = position (λ c. c == 0) b
 
@@ -15,8 +15,9 @@ first_nul b = position (λ c. c == 0) b
 abbrev pub IsText : List ℕ → Type 0
 IsText b = (length b ≤ MAX_SCRIPT) × (first_nul b ≡ None)
 
--- An answer is the one reading, within the limits. A fault of syntax and a form that is left out are told only where there is no reading, and a level or a command
--- too many only where there is none within the limits.
+-- An answer is the one reading, within the limits. A fault of syntax and a refused form are
+-- reported only if there is no reading. A level or a command too many is reported only if there is
+-- no reading within the limits.
 abbrev pub Parses : List ℕ → Result Script Refusal → Type 0
 Parses b (Ok t) = IsText b × ReadsWithin b t × ((u : Script) → Reads b u → u ≡ t)
 Parses b (Err TooLong) = MAX_SCRIPT < length b

@@ -27,7 +27,8 @@ text_of b w = seen b w.mode
 abbrev pub refused : WordBuilder → Option Refusal
 refused w = w.failed
 
--- whether the text ends with the backquote around the word, and whether that substitution stands in double quotes
+-- whether the text ends with the backquote around the word, and whether that substitution is in
+-- double quotes
 abbrev pub inside_of : WordBuilder → Option Bool
 inside_of w = w.inside
 
@@ -39,7 +40,7 @@ Goes w = w.failed ≡ None
 abbrev pub IsNew : WordBuilder → Type 0
 IsNew w = w.focus ≡ focus.Start
 
--- it stands in its text
+-- it is in its text
 abbrev pub IsInside : List ℕ → WordBuilder → Type 0
 IsInside b w = w.at ≤ length (seen b w.mode)
 

@@ -1,4 +1,4 @@
--- What a builder promises, by what is left of the word before and behind a step.
+-- What a builder promises, by what is left of the word before and after a step.
 -- POSIX.1-2024, XCU 2.6 (word expansions): a word is read in one way or in none.
 use Rattle.std.specs.Prelude.{◌≡◌, ◌<◌, ◌≤◌, ℕ, ◌+◌, Bool, true, List, length, Option, Some, None, Result, Ok, Err}
 use Rattle.sh_tree.specs.declared.tree.CommandStyle.{CommandStyle}
@@ -18,7 +18,8 @@ use Rattle.sh_words.specs.declared.frames.Focus.TheVariants as focus
 use Rattle.sh_words.specs.Rest.{Around, spot, Leftover, Left}
 use Rattle.sh_words.specs.States.{fed}
 
--- the same words are left: what was left still is, at each limit, and nothing is new within the limit
+-- the same words are left: what was left still is, at each limit, and nothing is new within the
+-- limit
 pub record Keeps (b : List ℕ) (old : Leftover) (new : WordBuilder) : Type 0 where
   pub forth : (limit : ℕ) (g : Around) (u : Spot) (ps : List Part) → old limit g u ps → Left b new limit g u ps
   pub back : (g : Around) (u : Spot) (ps : List Part) → Left b new 64 g u ps → old 64 g u ps
@@ -28,7 +29,7 @@ pub record Ends (old : Leftover) (depth end : ℕ) (found : List Part) : Type 0 
   pub forth : (limit : ℕ) (g : Around) (u : Spot) (ps : List Part) → old limit g u ps → (u ≡ spot g depth end) × (ps ≡ found)
   pub back : (g : Around) → old 64 g (spot g depth end) found
 
--- behind commands
+-- after commands
 abbrev pub after_commands : Around → Spot → Around
 after_commands g v = record g { count = v.count }
 
@@ -36,7 +37,8 @@ after_commands g v = record g { count = v.count }
 abbrev pub commands_spot : List ℕ → Around → CommandStyle → ℕ → ℕ → Spot
 commands_spot b g style at depth = spot g depth (blanks g.body (commands_text style b at) at)
 
--- Commands come next, `at` being after their `$(` or their backquote, and the words left are those that go on behind them.
+-- Commands come next, `at` being after their `$(` or their backquote, and the words left are those
+-- that go on after them.
 pub record Asks (b : List ℕ) (old : Leftover) (new : WordBuilder) (start at depth : ℕ) (style : CommandStyle) (quoted : Bool) : Type 0 where
   pub forth : (limit : ℕ) (g : Around) (u : Spot) (ps : List Part) → old limit g u ps
       → (v : Spot) × (s : Script) × (depth ≤ limit) × ReadsScript limit (commands_text style b at) (commands_spot b g style at depth) v s
@@ -54,7 +56,8 @@ Never old = (limit : ℕ) (g : Around) (u : Spot) (ps : List Part) → old limit
 abbrev pub TooDeepFor : Leftover → Type 0
 TooDeepFor old = (g : Around) (u : Spot) (ps : List Part) → old 64 g u ps → ⊥
 
--- A refusal is answered at a place of the text, and only where no word is left, at any limit or at that of 64.
+-- A refusal is answered at a place of the text, and only if no word is left, at any limit or at
+-- that of 64.
 abbrev pub Refuses : List ℕ → Leftover → Refusal → Type 0
 Refuses b old Memory = Unit {0}
 Refuses b old (Syntax f at) = (at ≤ length b) × Never old

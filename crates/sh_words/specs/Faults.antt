@@ -1,5 +1,6 @@
--- What is told where a word cannot go on.
--- POSIX.1-2024, XCU 2.2 (quoting), 2.6 (word expansions), 2.6.3 (command substitution), 2.6.4 (arithmetic expansion).
+-- What is reported if a word cannot go on.
+-- POSIX.1-2024, XCU 2.2 (quoting), 2.6 (word expansions), 2.6.3 (command substitution), 2.6.4
+-- (arithmetic expansion).
 use Rattle.std.specs.Prelude.{◌≡◌, ℕ, ◌-◌, ◌<◌, ◌≤◌, nat_le, Bool, true, false, ◌&&◌, ◌||◌, if◌then◌else◌, List, ◌∷◌, length, take, Option, is_some}
 use Rattle.sh_tree.specs.declared.refusal.Fault.{Fault}
 use Rattle.sh_tree.specs.declared.refusal.Fault.TheVariants as fault
@@ -29,12 +30,12 @@ open_fault (opening.Use p a colon) = fault.OpenBraced
 open_fault (opening.Remove p r) = fault.OpenBraced
 open_fault opening.Arith = fault.OpenArith
 
--- the text ends at i: the innermost opening is told
+-- the text ends at i: the innermost opening is reported
 unfoldable pub left_open : List Frame → ℕ → Refusal
 left_open (frame.Opened h depth start inside o ∷ fs) i = Syntax (open_fault o) start
 left_open _ i = Syntax fault.UnexpectedEnd i
 
--- no part begins with the sign, which stands from `start` to `end`
+-- no part begins with the sign, which is from `start` to `end`
 unfoldable pub no_part : List Frame → Sign → ℕ → ℕ → Refusal
 no_part fs (sign.Fault f) start end = Syntax f end
 no_part fs (sign.LeftOut f) start end = LeftOut f end
@@ -76,7 +77,8 @@ is_met b i (Syntax f at) = is_unclosed f || nat_le i at
 is_met b i (LeftOut f at) = nat_le i at || (is_braced f && is_unended (token (take i b) (in_word at) 0 at).sign)
 is_met b i _ = false
 
--- What is reported of a refusal: the backquote that closes the commands around the word, if something is open before it.
+-- What is reported of a refusal: the backquote that closes the commands around the word, if
+-- something is open before it.
 unfoldable pub reported : Option Bool → List ℕ → Refusal → Refusal
 reported inside b e =
     if is_some inside && closes Backquote b (length b - 1) && is_met b (length b - 1) e then LeftOut form.BackquoteInside (length b - 1) else e
@@ -84,7 +86,7 @@ reported inside b e =
 abbrev pub IsReported : Option Bool → List ℕ → Refusal → Type 0
 IsReported inside b e = e ≡ reported inside b e
 
--- a fault of syntax or a form that is left out, at its place in the text
+-- a fault of syntax or a refused form, at its place in the text
 abbrev pub IsFault : List ℕ → Refusal → Type 0
 IsFault b (Syntax f at) = at ≤ length b
 IsFault b (LeftOut f at) = at < length b

@@ -1,4 +1,4 @@
--- The tokens of arithmetic, as a builder goes by them.
+-- The tokens of arithmetic, as a builder uses them.
 -- POSIX.1-2024, XCU 2.6.4 (arithmetic expansion).
 use Rattle.std.specs.Prelude.{◌≡◌, ◌≢◌, ◌<◌, ◌≤◌, ℕ, Bool, true, false, List, length, Option, Some, None}
 use Rattle.sh_tree.specs.declared.tree.Binary.{Binary}
@@ -12,7 +12,7 @@ use Rattle.sh_tree.specs.standard.language.Arithmetic.{lexeme, assignment_of}
 use Rattle.sh_tree.specs.standard.language.Trees.{span}
 use Rattle.sh_scan.specs.Moves.{reads_figure}
 
--- the token at or behind i, in the text
+-- the token at or after i, in the text
 abbrev pub IsLexeme : List ℕ → ℕ → Lexeme → Type 0
 IsLexeme b i l =
     (l ≡ lexeme b i) × (i ≤ l.start) × (l.start ≤ l.end) × (l.end ≤ length b) × (l.figure ≢ figure.End → l.start < length b)
@@ -26,7 +26,7 @@ unfoldable pub assigned : Figure → Figure → Option (Option Binary)
 assigned figure.Name g = assignment_of g
 assigned _ g = None
 
--- the operand that such a token is, where it is a whole one
+-- the operand that such a token is, if it is a whole one
 unfoldable pub operand_of : Figure → Span → Option Expr
 operand_of figure.Constant s = Some (expr.Constant s)
 operand_of figure.Name s = Some (expr.Variable s)
@@ -48,7 +48,7 @@ abbrev pub is_close : Figure → Bool
 is_close figure.Close = true
 is_close _ = false
 
--- such a token may stand behind an expression
+-- such a token may follow an expression
 abbrev pub follows : Figure → Bool
 follows (figure.Binary o) = true
 follows figure.Question = true

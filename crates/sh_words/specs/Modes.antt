@@ -1,5 +1,6 @@
 -- How a word is read, by what it is.
--- POSIX.1-2024, XCU 2.6.5 (field splitting), 2.7.4 (here-document), 2.9.1.1 (declaration utilities).
+-- POSIX.1-2024, XCU 2.6.5 (field splitting), 2.7.4 (here-document), 2.9.1.1 (declaration
+-- utilities).
 use Rattle.std.specs.Prelude.{ℕ, List, take}
 use Rattle.sh_tree.specs.declared.token.word.Context.{Context}
 use Rattle.sh_tree.specs.standard.language.Contexts.{in_word, in_unsplit, in_value, in_operand, in_body}

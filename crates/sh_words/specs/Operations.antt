@@ -1,4 +1,4 @@
--- What a builder does behind an operand of arithmetic.
+-- What a builder does after an operand of arithmetic.
 -- POSIX.1-2024, XCU 2.6.4 (arithmetic expansion).
 use Rattle.std.specs.Prelude.{◌≡◌, ◌<◌, ◌≤◌, ◌⊎◌, ℕ, ◌+◌, Bool, true, false, if◌then◌else◌, is_none, List, [], ◌∷◌, ◌++◌, length, Option, Some, None, Result, Ok, Err}
 use Rattle.sh_tree.specs.declared.refusal.Refusal.{Refusal}
@@ -24,7 +24,7 @@ use Rattle.sh_words.specs.declared.builder.WordBuilder.{WordBuilder}
 use Rattle.sh_words.specs.declared.builder.Next.{Next}
 use Rattle.sh_words.specs.States.{given, had, operating}
 
--- a level of which such a token is no operator
+-- a level that does not have such a token as an operator
 unfoldable pub is_level_left : Figure → Operation → Bool
 is_level_left f (operation.First level) = is_none (binary_of level f)
 is_level_left f _ = false
@@ -57,7 +57,7 @@ more_by w level first all l (Some o) = operating w (operation.More level first a
 abbrev pub more_read : WordBuilder → ℕ → Expr → List (Binary × Expr) → Binary → Expr → Lexeme → WordBuilder
 more_read w level first rest o e l = more_by w level first (rest ++ (o, e) ∷ []) l (binary_of level l.figure)
 
--- the token fits and the state is reached, or the token is told, or memory is short
+-- the token fits and the state is reached, or the token is reported, or memory is short
 abbrev pub Reaches : Bool → Refusal → WordBuilder → WordBuilder → Result (Unit {0}) Refusal → Type 0
 Reaches fits told state new (Ok u) = (fits ≡ true) × (new ≡ state)
 Reaches fits told state new (Err e) = (e ≡ Memory) ⊎ ((fits ≡ false) × (e ≡ told))
@@ -66,7 +66,8 @@ Reaches fits told state new (Err e) = (e ≡ Memory) ⊎ ((fits ≡ false) × (e
 abbrev pub IsClose : List ℕ → Opening → Lexeme → Type 0
 IsClose b o l = (o ≡ opening.Arith) × (l.figure ≡ figure.Close) × (is_closed b l.end ≡ true)
 
--- the arithmetic expansion at `start` ends here and is given to the holder around it, or the token does not end it
+-- the arithmetic expansion at `start` ends here and is given to the holder around it, or the token
+-- does not end it
 abbrev pub ClosesArithmetic : List ℕ → WordBuilder → Holder → ℕ → ℕ → Opening → Expr → Lexeme → WordBuilder → Result (Option Next) Refusal → Type 0
 ClosesArithmetic b old h depth start o e l new (Ok None) =
     IsClose b o l × (new ≡ given (record old { holder = h; depth = depth }) 0 (part.Arith (span start (l.end + 1)) e) (l.end + 1))

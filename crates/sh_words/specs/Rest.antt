@@ -1,4 +1,4 @@
--- What is left to read of a word of which some is read.
+-- What is left to read of a word, once some of it is read.
 -- POSIX.1-2024, XCU 2.2 (quoting), 2.6 (word expansions), 2.6.4 (arithmetic expansion).
 use Rattle.std.specs.Prelude.{◌≡◌, ◌<◌, ◌⊎◌, ℕ, ◌+◌, Bool, true, false, List, [], ◌∷◌, ◌++◌, Some}
 use Rattle.sh_tree.specs.declared.tree.Binary.{Binary}
@@ -27,8 +27,9 @@ use Rattle.sh_words.specs.declared.builder.WordBuilder.{WordBuilder}
 use Rattle.sh_words.specs.Modes.{context_of, first_prior}
 use Rattle.sh_words.specs.States.{context_in, prior_in, found_in, made}
 
--- What a builder is not told of its place: how many commands began before it, whether newline tokens are ruled out, whether a here-document's body is around
--- it, and whether tabs at the beginning of lines are stripped there.
+-- What a builder does not know of its place: how many commands began before it; whether newline
+-- tokens are ruled out; whether a here-document's body is around it; whether tabs at the beginning
+-- of lines are stripped there.
 pub record Around : Type 0 where
   pub count : ℕ
   pub quiet : Bool
@@ -38,11 +39,11 @@ pub record Around : Type 0 where
 abbrev pub spot : Around → ℕ → ℕ → Spot
 spot g depth i = record { at = i; count = g.count; depth = depth; quiet = g.quiet; joins = g.body; tabs = g.tabs }
 
--- at i, behind what was read up to u
+-- at i, after what was read up to u
 abbrev pub placed : Around → ℕ → ℕ → Spot → Spot
 placed g depth i u = record { at = i; count = u.count; depth = depth; quiet = g.quiet; joins = g.body; tabs = g.tabs }
 
--- where the builder stands
+-- where the builder is
 abbrev pub here : Around → WordBuilder → Spot
 here g w = spot g w.depth w.at
 
@@ -60,7 +61,8 @@ IsOperand (holder.Parts x prior ps) = ⊥
 IsOperand (holder.Operand x start) = Unit {0}
 
 module _ (b : List ℕ) (limit : ℕ) (g : Around) where
-  -- The part p was read, up to u, and given to the holder. K says what is wanted of what the holder makes of it.
+  -- The part p was read, up to u, and given to the holder. K says what is wanted of what the holder
+  -- makes of it.
   abbrev pub Holds : Holder → ℕ → Part → Spot → (Read → Spot → Type 0) → Type 0
   Holds (holder.Parts x prior found) next p u K = (v : Spot) × (qs : List Part) × ReadsParts limit b x next u v qs × K (parts ((found ++ p ∷ []) ++ qs)) v
   Holds (holder.Operand x start) next p u K = K (one (expr.Expansion p)) u
@@ -84,7 +86,7 @@ module _ (b : List ℕ) (limit : ℕ) (g : Around) where
   Operates x (operation.No depth c y) n j K = K (one (expr.Choice c y n)) (placed g depth j.at j)
   Operates x (operation.Assign depth name o) e j K = K (one (expr.Assign name o e)) (placed g depth j.at j)
 
-  -- what was read in the frame goes up to j, where expansions in arithmetic are read in the context
+  -- what was read in the frame goes up to j, if expansions in arithmetic are read in the context
   abbrev pub After : Context → Frame → Read → Spot → (Read → Spot → Type 0) → Type 0
   After x (frame.Opened h depth start inside o) (parts ps) j K = (p : Part) × (made o start inside ps j.at ≡ Some p) × Holds h 0 p (placed g depth j.at j) K
   After x (frame.Opened h depth start inside o) (one e) j K =
@@ -93,18 +95,19 @@ module _ (b : List ℕ) (limit : ℕ) (g : Around) where
   After x (frame.Operation f) (parts ps) j K = ⊥
   After x (frame.Operation f) (one e) j K = Operates x f e j K
 
-  -- the context in which the frame stands
+  -- the context of the frame
   abbrev pub outer : Context → Frame → Context
   outer x (frame.Opened h depth start inside o) = context_in h
   outer x (frame.Operation f) = x
 
-  -- y was read in the innermost frame, up to j. What stands from there to u closes all of them, and the word is ps.
+  -- y was read in the innermost frame, up to j. What is from there to u closes all of them, and the
+  -- word is ps.
   abbrev pub Then : Context → List Frame → Read → Spot → Spot → List Part → Type 0
   Then x [] (parts all) j u ps = (ps ≡ all) × (u ≡ j)
   Then x [] (one e) j u ps = ⊥
   Then x (f ∷ fs) y j u ps = After x f y j (λ z v. Then (outer x f) fs z v u ps)
 
-  -- what stands from s to u ends the word, of the parts ps
+  -- what is from s to u ends the word, of the parts ps
   abbrev pub Rest : Mode → Focus → Holder → List Frame → Spot → Spot → List Part → Type 0
   Rest m focus.Start h fs s u ps = ReadsParts limit b (context_of b m s.at) (first_prior m) s u ps
   Rest m focus.Parts h fs s u ps =
@@ -123,7 +126,7 @@ Leftover = ℕ → Around → Spot → List Part → Type 0
 unfoldable pub Left : List ℕ → WordBuilder → Leftover
 Left b w limit g u ps = Rest b limit g w.mode w.focus w.holder w.frames (here g w) u ps
 
--- what is left where a part with the sign stands from `start` on
+-- what is left where a part with the sign begins at `start`
 unfoldable pub LeftPart : List ℕ → WordBuilder → Sign → ℕ → ℕ → Leftover
 LeftPart b w s start end limit g u ps =
     (v : Spot) × (p : Part) × ReadsPart limit b (context_in w.holder) s (spot g w.depth start) end v p

@@ -1,4 +1,4 @@
--- Signs of words, as a builder goes by them.
+-- Signs of words, as a builder uses them.
 -- POSIX.1-2024, XCU 2.2 (quoting), 2.6 (word expansions).
 use Rattle.std.specs.Prelude.{◌≡◌, ◌<◌, ◌≤◌, ℕ, Bool, true, false, List, length}
 use Rattle.sh_tree.specs.declared.token.word.Sign.{Sign}
@@ -20,7 +20,7 @@ abbrev pub is_substitution : Sign → Bool
 is_substitution (sign.Substitution style) = true
 is_substitution _ = false
 
--- the token stands from `start` on in the text
+-- the token is in the text from `start` on
 abbrev pub IsTokenFrom : List ℕ → ℕ → Token → Type 0
 IsTokenFrom b start t =
     (start ≤ t.end) × (t.end ≤ length b) × (reads_bytes t.sign ≡ true → start < t.end) × (refuses t.sign ≡ true → t.end < length b)

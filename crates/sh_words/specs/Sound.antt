@@ -36,13 +36,14 @@ module _ (b : List ℕ) where
   Began (holder.Parts x prior ps) = Unit {0}
   Began (holder.Operand x start) = start ≤ length b
 
-  -- the frames stand at depths of at least n, and what they hold began in the text
+  -- the frames are at depths of at least n, and what they hold began in the text
   abbrev pub Deep : ℕ → List Frame → Type 0
   Deep n [] = Unit {0}
   Deep n (frame.Opened h depth start inside o ∷ fs) = (n ≤ depth) × (depth ≤ 64) × (start ≤ length b) × Began h × Deep n fs
   Deep n (frame.Operation f ∷ fs) = Operated n f × Deep n fs
 
-  -- a level is one that there is, a word that begins has nothing around it, and a substitution began in the text
+  -- a level is one that there is, a word that begins has nothing around it, and a substitution
+  -- began in the text
   abbrev pub Fits : Focus → List Frame → Type 0
   Fits (focus.Level l) fs = l ≤ unary_level
   Fits focus.Start fs = fs ≡ []
@@ -88,7 +89,7 @@ module _ (b : List ℕ) where
   Takes start new (Ok (Some (Done w))) = ⊥
   Takes start new _ = Unit {0}
 
-  -- parts that nothing stands around take bytes, up to where their context ends
+  -- parts with nothing around them take bytes, up to where their context ends
   abbrev pub TakesParts : WordBuilder → WordBuilder → Result (Option Next) Refusal → Type 0
   TakesParts old new (Ok None) = old.frames ≡ [] → old.at < new.at
   TakesParts old new (Ok (Some (Done w))) = (token b (context_in old.holder) (prior_in old.holder) old.at).sign ≡ sign.Stop

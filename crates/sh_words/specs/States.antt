@@ -52,7 +52,7 @@ holding (holder.Operand x start) p = focus.Have (expr.Expansion p)
 
 -- What signs make
 
--- the part that a sign is, from i to j, where it is a whole one
+-- the part that a sign is, from i to j, if it is a whole one
 unfoldable pub whole_part : Sign → ℕ → ℕ → Option Part
 whole_part sign.Plain i j = Some (part.Plain (span i j))
 whole_part sign.Escaped i j = Some (part.Escaped (span i j))
@@ -94,7 +94,8 @@ focus_in o = if is_arithmetic o then focus.Expression else focus.Parts
 abbrev pub depth_in : Opening → ℕ → ℕ
 depth_in o n = if nests o then n + 1 else n
 
--- the part that an opening at `start` makes of the parts in it, which begin at `inside`; it ends at `end`
+-- the part that an opening at `start` makes of the parts in it, which begin at `inside`; it ends at
+-- `end`
 unfoldable pub made : Opening → ℕ → ℕ → List Part → ℕ → Option Part
 made opening.Double start inside ps end = Some (part.Double (span start end) ps)
 made (opening.Use p a colon) start inside ps end = Some (param start end p (operator.Use a colon (word inside (end - 1) ps)))
@@ -135,7 +136,7 @@ asking w style start end = record w { focus = focus.Commands start style; at = e
 abbrev pub focused : WordBuilder → Focus → WordBuilder
 focused w x = record w { focus = x }
 
--- the frame stands around
+-- the frame is around
 abbrev pub framed : WordBuilder → Frame → Focus → WordBuilder
 framed w f x = record w { frames = f ∷ w.frames; focus = x }
 
@@ -143,7 +144,7 @@ framed w f x = record w { frames = f ∷ w.frames; focus = x }
 abbrev pub started : List ℕ → WordBuilder → WordBuilder
 started b w = record w { holder = holder.Parts (context_of b w.mode w.at) (first_prior w.mode) []; focus = focus.Parts }
 
--- behind tabs that are no part of the text
+-- after tabs that are no part of the text
 abbrev pub past_tabs : Holder → Holder
 past_tabs (holder.Parts x prior ps) = holder.Parts x 0 ps
 past_tabs (holder.Operand x start) = holder.Operand x start

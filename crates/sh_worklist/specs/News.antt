@@ -8,7 +8,7 @@ use Rattle.sh_tree.specs.declared.tree.Item.{Item, out-Item}
 use Rattle.sh_tree.specs.declared.tree.Link.{Link}
 use Rattle.sh_tree.specs.declared.tree.Pipe.{Pipe, out-Pipe}
 
--- a command of the pipeline passes the test, which goes by its number
+-- a command of the pipeline passes the test, which takes its number
 abbrev pub any_in_pipe : (ℕ → Bool) → Pipe → Bool
 any_in_pipe p pipe = list_any (λ c. p (out-Command c).number) (out-Pipe pipe).parts
 

@@ -1,4 +1,4 @@
--- Which units wait, by the numbers of definitions, and by 0 what stands outside all definitions.
+-- Which units wait, by the numbers of definitions, and by 0 what is outside all definitions.
 -- The standard has no such thing: the order in which a search goes over a script.
 use Rattle.std.specs.Prelude.{ℕ, Bool, true, false, Option, Some, Result, Ok}
 use Rattle.std.specs.declared.alloc.AllocError.{AllocError}

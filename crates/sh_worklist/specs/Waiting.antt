@@ -1,4 +1,4 @@
--- Which commands wait, and inside of which commands one does.
+-- Which commands wait, and which commands have a waiting one inside.
 -- The standard has no such thing: the order in which a search goes over a script.
 use Rattle.std.specs.Prelude.{ℕ, Bool, ◌||◌}
 use Rattle.sh_worklist.specs.Flags.{is_in, limit_of}

@@ -1,5 +1,6 @@
 -- How the program ends: what it prints beside an answer, where, and its status.
--- POSIX.1-2024, XCU 1.4 (utility description defaults): diagnostics go to standard error, and a status above zero tells a fault.
+-- POSIX.1-2024, XCU 1.4 (utility description defaults): diagnostics go to standard error, and a
+-- status above zero reports a fault.
 use Rattle.std.specs.Prelude.{◌≡◌, ◌⊎◌, ℕ, List, [], ◌∷◌, ◌++◌, codes, string_bytes, Option, Some, None, Result, Ok, Err}
 use Rattle.std.specs.Option.{option_map}
 use Rattle.std.specs.declared.io.ErrorKind.{ErrorKind}
@@ -45,12 +46,13 @@ StopsWith (Help text) e = EndsWith Output (string_bytes text) 0 e
 StopsWith BadName e = Fails (codes "shset: bad name") e
 StopsWith Memory e = Fails (fault_line fault.Memory) e
 
--- a run ends with its status, its answer written, or tells its fault
+-- a run ends with its status, its answer written, or reports its fault
 abbrev pub RunsTo : Result ℕ Fault → Ending → Type 0
 RunsTo (Ok status) e = EndsSilently status e
 RunsTo (Err f) e = Fails (fault_line f) e
 
--- where its text was not printed: a standard output that takes none is a fault, and of standard error there is nothing to tell
+-- if its text was not printed: a standard output that takes none is a fault, and of standard error
+-- there is nothing to report
 abbrev pub EndsUnprinted : Option (Stream × List ℕ) → ℕ → Ending → Type 0
 EndsUnprinted None status e = EndsSilently status e
 EndsUnprinted (Some (Output, text)) status e = Fails (fault_line fault.Write) e

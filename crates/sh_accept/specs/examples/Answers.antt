@@ -19,7 +19,8 @@ use Rattle.sh_domain.specs.declared.rule.FlowRule.TheVariants.{F1, F4, F7, F13, 
 use Rattle.sh_answers.specs.Verdicts.{Contents}
 use Rattle.sh_accept.specs.Computed.{Answer, Passes, Finds, Breaks, Tells, computed}
 
--- a script with what is declared, its program, the names numbered, and its commands told whether each is a loop
+-- a script with what is declared, its program, the names numbered, and of each of its commands
+-- whether it is a loop
 pub record Known : Type 0 where
   pub script : Text
   pub start : Declared
@@ -27,7 +28,7 @@ pub record Known : Type 0 where
   pub names : List Text
   pub loops : List Bool
 
--- what is told of it and of a certificate's text
+-- what a check reports of it and of a certificate's text
 abbrev pub told : Known → Text → Answer
 told x t = computed x.script x.start x.program (names_of (sites_of x.program)) x.names x.loops (record { commands = []; functions = [] }) t
 
@@ -72,7 +73,7 @@ evaluates = record {
   loops = lone_loops 1;
 }
 
--- the same names before and behind the command, or no run comes there
+-- the same names before and after the command, or no run comes there
 abbrev pub start_line : Text
 start_line = codes "c 1 0:IFS,OPTIND,PPID: 0:IFS,OPTIND,PPID: 0:IFS,OPTIND,PPID:"
 
@@ -136,14 +137,15 @@ pub record AnswersAsExpected : Type 0 where
   pub passes :
       told (echoes (codes "x")) (with_line sure_line) ∷ told calls function_text ∷ told reads loop_text ∷ told skips skipped_text ∷ []
       ≡ replicate 4 Passes
-  -- the parameter that may be unset, also where it is declared and not claimed; what is unquoted comes first at one place
+  -- the parameter that may be unset, also if it is declared and not claimed; what is unquoted comes
+  -- first at one place
   pub findings :
       told (echoes []) (with_line start_line) ∷ told (echoes (codes "x")) (with_line start_line) ∷ told (echoes_bare (codes "x")) (with_line sure_line)
       ∷ told (echoes_bare []) (with_line start_line) ∷ []
       ≡ Finds (finding 7 U1 (codes "x") ∷ []) ∷ Finds (finding 7 U1 (codes "x") ∷ []) ∷ Finds (finding 6 Q1 [] ∷ [])
       ∷ Finds (finding 6 Q1 [] ∷ finding 6 U1 (codes "x") ∷ []) ∷ []
-  -- a name that is not set, no run at all, one more name behind a call, a function that never comes back, a name at a loop's head, a command
-  -- that no run comes to
+  -- a name that is not set; no run at all; one more name after a call; a function that never comes
+  -- back; a name at a loop's head; a command that no run comes to
   pub forged :
       told (echoes []) (with_line sure_line) ∷ told (echoes []) (with_line (codes "c 1 - - -"))
       ∷ told calls (call_lines (codes "c 4 0:IFS,OPTIND,PPID:f 0:IFS,OPTARG,OPTIND,PPID:f -") (codes "f 1 0:IFS,OPTIND,PPID:f : 0:IFS,OPTIND,PPID:f -"))

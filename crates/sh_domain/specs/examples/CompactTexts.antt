@@ -1,5 +1,6 @@
 -- Known compact certificates and their texts, and texts that are none.
--- The standard has no such thing: the compact certificates of known scripts, and what is told of texts that have not the form.
+-- The standard has no such thing: the compact certificates of known scripts, and what is reported
+-- of texts that have not the form.
 use Rattle.std.specs.Prelude.{◌≡◌, [], ◌∷◌, codes, Ok, Err}
 use Rattle.sh_tree.specs.standard.program.Syntax.{Text}
 use Rattle.sh_domain.specs.Compacts.{CompactSheet, compact_of_sheet, compact_text, stated_by}
@@ -121,7 +122,7 @@ pub record CompactsRead : Type 0 where
 abbrev pub counted : Text → Text → Text
 counted counts t = lines (compact_header ∷ counts ∷ start_line ∷ t ∷ [])
 
--- the first line that has not the form is told
+-- the first line that has not the form is reported
 pub record CompactFaultsAsExpected : Type 0 where
   pub nothing : read_compact_sheet [] ≡ Err 1
   pub no_counts : read_compact_sheet (lines (compact_header ∷ [])) ≡ Err 2
@@ -136,7 +137,7 @@ pub record CompactFaultsAsExpected : Type 0 where
   pub no_function : read_compact_sheet (counted (codes "commands 1 functions 1 loops 0") (codes "h 1 -")) ≡ Err 4
   pub other_function : read_compact_sheet (counted (codes "commands 1 functions 1 loops 0") (codes "f 2 - : - -")) ≡ Err 4
 
--- the first line tells the version
+-- the first line gives the version
 pub record VersionsAsExpected : Type 0 where
   pub full : read_given loop_text ≡ Ok (Full loop_sheet)
   pub compact : read_given loop_compact_text ≡ Ok (Compact loop_compact)

@@ -1,5 +1,7 @@
--- Certificates that claim more than any run keeps, each as a wrong rule would allow it, and the rule that refuses it.
--- POSIX.1-2024, XCU 2.6 (word expansions), 2.9 (shell commands), 2.15 (special built-in utilities), 3 (read).
+-- Certificates that claim more than any run keeps, each as a wrong rule would allow it, and the
+-- rule that refuses it.
+-- POSIX.1-2024, XCU 2.6 (word expansions), 2.9 (shell commands), 2.15 (special built-in utilities),
+-- 3 (read).
 use Rattle.std.specs.Prelude.{◌≡◌, true, false, [], ◌∷◌, codes}
 use Rattle.sh_tree.specs.declared.tree.Action.TheVariants as action
 use Rattle.sh_tree.specs.declared.tree.ClauseEnd.TheVariants as clause
@@ -13,7 +15,7 @@ use Rattle.sh_domain.specs.Facts.{Unreached}
 use Rattle.sh_domain.specs.declared.rule.FlowRule.TheVariants.{F1, F4, F5, F7, F8, F9, F10, F11, F12, F13, F14, F15}
 use Rattle.sh_domain.specs.examples.Programs.{quoted, quoted_parameter, text, compound, known, dropping, row, function, Sheet, declared, Breaks, answers}
 
--- what the body of a loop leaves, taken as known behind the loop
+-- what the body of a loop leaves, taken as known after the loop
 -- `for y in a "$@"; do shift; NL done; `, 2 positional parameters
 abbrev pub loop_gains_program : Items
 loop_gains_program =
@@ -27,7 +29,7 @@ loop_gains_sheet =
     let c = known (codes "IFS OPTIND PPID") [] 0 in
     record { commands = row a b b ∷ row b b b ∷ []; heads = (1, c) ∷ []; functions = [] }
 
--- what the body of a loop leaves, taken as known behind the loop
+-- what the body of a loop leaves, taken as known after the loop
 -- `while read -r l; do echo "$l"; done`
 abbrev pub loop_gains_again_program : Items
 loop_gains_again_program =
@@ -64,7 +66,7 @@ failed_read_again_sheet =
     let b = known (codes "IFS OPTIND PPID g x y") [] 2 in
     record { commands = row a b b ∷ []; heads = []; functions = [] }
 
--- the name of a prefix assignment, taken as set behind a call
+-- the name of a prefix assignment, taken as set after a call
 -- `f() { echo "$x"; } NL x=1 f NL echo "$x"`
 abbrev pub prefix_kept_program : Items
 prefix_kept_program =
@@ -84,7 +86,7 @@ prefix_kept_sheet =
           (dropping [] []) c c ∷ [];
     }
 
--- the name of a prefix assignment, taken as set behind a call
+-- the name of a prefix assignment, taken as set after a call
 -- `g() if cmd NL then NL ! g a 2>"$x" && x=$1 f NL fi NL x="$#" g NL echo "$x"`
 abbrev pub prefix_kept_again_program : Items
 prefix_kept_again_program =
@@ -170,7 +172,7 @@ substitution_gains_sheet =
     let b = known (codes "IFS OPTIND PPID x") [] 0 in
     record { commands = row a b Unreached ∷ row a b b ∷ row b b b ∷ []; heads = []; functions = [] }
 
--- what is known at `break`, left out behind the loop
+-- what is known at `break`, not counted after the loop
 -- `while :; do break; done; echo "$x"`
 abbrev pub break_forgotten_program : Items
 break_forgotten_program =
@@ -187,7 +189,7 @@ break_forgotten_sheet =
       functions = [];
     }
 
--- what is known at `break`, left out behind the loop
+-- what is known at `break`, not counted after the loop
 -- `f() { while :; do break 2; done; }; for i in a; do f; done; echo "$1"`, 1 positional parameters
 abbrev pub break_forgotten_again_program : Items
 break_forgotten_again_program =
@@ -210,7 +212,7 @@ break_forgotten_again_sheet =
           Unreached Unreached ∷ [];
     }
 
--- a function, taken as defined behind `unset` of its name
+-- a function, taken as defined after `unset` of its name
 -- `f() ( NL unset -f g NL ) NL g() ( NL export x="$x" NL ) NL unset f NL { NL unset -f f NL unset -v x NL cmd NL } NL echo "${#y}"`, 1 positional parameters
 abbrev pub function_kept_program : Items
 function_kept_program =
@@ -236,7 +238,7 @@ function_kept_sheet =
           Unreached ∷ [];
     }
 
--- a function, taken as defined behind `unset` of its name
+-- a function, taken as defined after `unset` of its name
 -- `f() { NL ! f a NL } NL if cmd NL then NL unset y f && unset x NL exit 1 NL echo "$x" NL else NL echo $# "$y" NL fi NL echo "$1" "$2"`, x declared, 1 positional parameters
 abbrev pub function_kept_again_program : Items
 function_kept_again_program =
@@ -470,7 +472,7 @@ job_in_process_again_sheet =
           Unreached (dropping [] []) Unreached Unreached ∷ function (codes "h") Unreached (dropping [] []) Unreached Unreached ∷ [];
     }
 
--- a failed redirection of a compound command, left out
+-- a failed redirection of a compound command, not counted
 -- `! for x do exec a; done >"${y=f}"; `
 abbrev pub failed_redirection_program : Items
 failed_redirection_program =
@@ -504,7 +506,7 @@ failed_call_sheet =
       functions = function (codes "f") b (dropping [] []) Unreached c ∷ [];
     }
 
--- a failed redirection of a compound command, left out
+-- a failed redirection of a compound command, not counted
 -- `for x do export f; read -r g >"${y=f}"; done && if ! g "in"& then unset -f f <"$x"; NL fi >"${y=f}"; ! false;`, x declared
 abbrev pub failed_redirection_again_program : Items
 failed_redirection_again_program =
@@ -529,7 +531,7 @@ failed_redirection_again_sheet =
       functions = [];
     }
 
--- what a function drops, left out
+-- what a function drops, not counted
 -- `x=1; f() { unset x; }; f; echo "$x"`
 abbrev pub drops_forgotten_program : Items
 drops_forgotten_program =
@@ -550,7 +552,7 @@ drops_forgotten_sheet =
           (codes "f") c (dropping [] []) d d ∷ [];
     }
 
--- what a function drops, left out
+-- what a function drops, not counted
 -- `{ f() { unset x; }; f; } | cat`, x declared
 abbrev pub drops_forgotten_again_program : Items
 drops_forgotten_again_program =

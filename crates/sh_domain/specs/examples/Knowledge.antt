@@ -1,5 +1,6 @@
 -- Sets of three names, against which what they are known to be is held.
--- The standard has no such thing: the variables that are set and the functions that are defined (XCU 2.5, 2.9.5), by their numbers.
+-- The standard has no such thing: the variables that are set and the functions that are defined
+-- (XCU 2.5, 2.9.5), by their numbers.
 use Rattle.std.specs.Prelude.{◌≡◌, true, false, List, [], ◌∷◌, Some, codes}
 use Rattle.sh_rows.specs.Numbers.{has_bit}
 use Rattle.sh_tree.specs.standard.program.Syntax.{Text}

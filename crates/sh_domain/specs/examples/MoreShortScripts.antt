@@ -1,5 +1,6 @@
--- More short scripts, each with its greatest certificate and what a check tells.
--- POSIX.1-2024, XCU 2.6 (word expansions), 2.9 (shell commands), 2.15 (special built-in utilities), 3 (getopts, read).
+-- More short scripts, each with its greatest certificate and what a check reports.
+-- POSIX.1-2024, XCU 2.6 (word expansions), 2.9 (shell commands), 2.15 (special built-in utilities),
+-- 3 (getopts, read).
 use Rattle.std.specs.Prelude.{◌≡◌, true, false, [], ◌∷◌, codes}
 use Rattle.sh_tree.specs.declared.place.Code.TheVariants.{P1, U1, U2}
 use Rattle.sh_tree.specs.declared.tree.Action.TheVariants as action

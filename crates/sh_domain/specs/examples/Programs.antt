@@ -1,5 +1,6 @@
--- How known scripts, their certificates and what is told of them are written down, for the examples.
--- The standard has no such thing: `Unmet` are the places of a certificate that breaks no rule, `Breaks` is the first rule that one breaks.
+-- How the examples write known scripts, their certificates and what is reported of them.
+-- The standard has no such thing: `Unmet` are the places of a certificate that breaks no rule,
+-- `Breaks` is the first rule that one breaks.
 use Rattle.std.specs.Prelude.{ℕ, ◌-◌, ◌==◌, Bool, false, if◌then◌else◌, List, [], ◌∷◌, ◌++◌, map, Option, Some, None, unwrap_or, slice_get}
 use Rattle.std.specs.Str.{bytes_eq}
 use Rattle.sh_tree.specs.declared.place.Place.{Place}
@@ -130,7 +131,7 @@ unfoldable pub told_of : Option Fault → List Place → Answer
 told_of None places = Unmet places
 told_of (Some f) places = Breaks f.number f.rule
 
--- what a check of the certificate tells
+-- what a check of the certificate reports
 unfoldable pub answer : Declared → Items → Certificate → Answer
 answer d t c = told_of (least (faults (start_facts d) c t)) (demands (start_facts d) c t)
 

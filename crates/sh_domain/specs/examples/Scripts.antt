@@ -1,5 +1,7 @@
--- Scripts of some commands, each with its greatest certificate, that with one fact changed, and what a check tells.
--- POSIX.1-2024, XCU 2.6 (word expansions), 2.9 (shell commands), 2.15 (special built-in utilities), 3 (getopts, read).
+-- Scripts of some commands, each with its greatest certificate, that with one fact changed, and
+-- what a check reports.
+-- POSIX.1-2024, XCU 2.6 (word expansions), 2.9 (shell commands), 2.15 (special built-in utilities),
+-- 3 (getopts, read).
 use Rattle.std.specs.Prelude.{◌≡◌, true, false, [], ◌∷◌, codes}
 use Rattle.sh_tree.specs.declared.place.Code.TheVariants.{U1, U2, U3}
 use Rattle.sh_tree.specs.declared.tree.Action.TheVariants as action

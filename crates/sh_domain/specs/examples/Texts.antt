@@ -1,5 +1,6 @@
 -- Known certificates and their texts, and texts that are none.
--- The standard has no such thing: the certificates of known scripts, and what is told of texts that have not the form.
+-- The standard has no such thing: the certificates of known scripts, and what is reported of texts
+-- that have not the form.
 use Rattle.std.specs.Prelude.{◌≡◌, List, [], ◌∷◌, ◌++◌, codes, Some, None, Ok, Err}
 use Rattle.std.specs.List.{flat_map}
 use Rattle.sh_tree.specs.standard.program.Syntax.{Text}
@@ -82,7 +83,7 @@ pub record ReadAsExpected : Type 0 where
   pub function : read_sheet function_text ≡ Ok function_sheet
   pub loop : read_sheet loop_text ≡ Ok loop_sheet
 
--- the first line that has not the form is told
+-- the first line that has not the form is reported
 pub record FaultsAsExpected : Type 0 where
   pub nothing : read_sheet [] ≡ Err 1
   pub open_line : read_sheet header ≡ Err 1

@@ -1,4 +1,5 @@
--- Known scripts, and the places of what is unquoted in them, against which the rules of quoting are held.
+-- Known scripts, and the places of what is unquoted in them, against which the rules of quoting are
+-- held.
 -- POSIX.1-2024, XCU 2.6.5 (field splitting), 2.6.6 (pathname expansion).
 use Rattle.std.specs.Prelude.{◌≡◌, ℕ, true, false, List, [], ◌∷◌, replicate, map, codes, None}
 use Rattle.sh_tree.specs.declared.tree.Action.TheVariants as action
@@ -38,8 +39,8 @@ pub record QuotesAsExpected : Type 0 where
       (longer_scripts.script_42_program ∷ longer_scripts.script_48_program ∷ longer_scripts.script_51_program ∷ longer_scripts.script_52_program ∷
       longer_scripts.script_60_program ∷ longer_scripts.script_61_program ∷ longer_scripts.script_64_program ∷ longer_scripts.script_66_program ∷ [])
       ≡ [] ∷ [] ∷ (64 ∷ 67 ∷ 84 ∷ []) ∷ (15 ∷ []) ∷ [] ∷ [] ∷ [] ∷ [] ∷ []
-  -- `IFS=:`, `IFS='*'`, `unset IFS`, `read -r x`, `export x="$y"`, `export IFS=:`, `export "IFS=:"`, `getopts "$o" x`, `echo $((IFS))`,
-  -- `echo "${IFS-0}"`
+  -- `IFS=:`, `IFS='*'`, `unset IFS`, `read -r x`, `export x="$y"`, `export IFS=:`,
+  -- `export "IFS=:"`, `getopts "$o" x`, `echo $((IFS))`, `echo "${IFS-0}"`
   pub steady_scripts :
       map steady
       ((lone (simple 1 0 (assignment (codes "IFS") (plain (codes ":")) no_elements))) ∷ (lone (simple 1 0 (assignment (codes "IFS") (only (Single
@@ -51,9 +52,10 @@ pub record QuotesAsExpected : Type 0 where
       (operand (only (Arithmetic 0 (Name 0 (codes "IFS")))) no_elements)))) ∷ (lone (simple 1 0 (text (codes "echo") (operand (only (Double (only
       (Expansion 0 (Variable (codes "IFS")) (Use action.Default false (plain (codes "0"))))))) no_elements)))) ∷ [])
       ≡ replicate 10 true
-  -- `IFS=0`, `IFS=-`, `IFS=*`, `IFS=$x`, `IFS=0 read -r x`, `export IFS=0`, `readonly "IFS=0"`, `export "$x"`, `readonly $x`, `for IFS do
-  -- :; done`, `read -r IFS`, `read -r "$x"`, `getopts a IFS`, `getopts "$x" "$y"`, `getopts "$@" x`, `getopts $o x`, `: "${IFS=a}"`, `:
-  -- $((IFS=1))`, `>"${IFS=a}"`, `(IFS=0)`, `echo "$(IFS=0)"`
+  -- `IFS=0`, `IFS=-`, `IFS=*`, `IFS=$x`, `IFS=0 read -r x`, `export IFS=0`, `readonly "IFS=0"`,
+  -- `export "$x"`, `readonly $x`, `for IFS do :; done`, `read -r IFS`, `read -r "$x"`,
+  -- `getopts a IFS`, `getopts "$x" "$y"`, `getopts "$@" x`, `getopts $o x`, `: "${IFS=a}"`,
+  -- `: $((IFS=1))`, `>"${IFS=a}"`, `(IFS=0)`, `echo "$(IFS=0)"`
   pub unsteady_scripts :
       map steady
       ((lone (simple 1 0 (assignment (codes "IFS") (plain (codes "0")) no_elements))) ∷ (lone (simple 1 0 (assignment (codes "IFS") (plain

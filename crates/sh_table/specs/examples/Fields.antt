@@ -1,5 +1,6 @@
 -- What small words expand to, against which the definitions are held.
--- POSIX.1-2024, XCU 2.5.2 (special parameters), 2.6 (word expansions), 1.1.2.1 (arithmetic precision and operations).
+-- POSIX.1-2024, XCU 2.5.2 (special parameters), 2.6 (word expansions), 1.1.2.1 (arithmetic
+-- precision and operations).
 use Rattle.std.specs.Prelude.{◌≡◌, ℕ, ◌==◌, Bool, true, false, List, [], ◌∷◌, map, codes, Option, Some, None, pos, negsuc, ℤ}
 use Rattle.sh_tree.specs.declared.tree.Action.{Action}
 use Rattle.sh_tree.specs.declared.tree.Action.TheVariants as action
@@ -19,7 +20,7 @@ use Rattle.sh_table.specs.examples.Runs.{bare_x, quoted_x, every, bare_start, st
 
 -- Words
 
--- `$y`, and `$x`, `$y` behind one another
+-- `$y`, and `$x`, `$y` one after the other
 abbrev pub bare_y : Part
 bare_y = Expansion 0 (Variable (codes "y")) Value
 
@@ -47,7 +48,7 @@ w_word = plain (codes "w")
 abbrev pub between : Word
 between = more_parts (Plain (codes "a")) (more_parts (Double (only (special_parameter special.At))) (plain (codes "b")))
 
--- `$((..))`, and what stands in it
+-- `$((..))`, and what is in it
 abbrev pub computed : Expression → Word
 computed e = only (Arithmetic 0 e)
 
@@ -133,7 +134,8 @@ fields_by given e f w = fields_of empty_directory (expanded_by given e f w)
 abbrev pub names_of_word : Environment → Word → List Text
 names_of_word e w = fields_of two_names (expanded_by quiet_givens e [] w)
 
--- the state afterwards: a parameter that is not set was met, the process ends, arithmetic met another value, a variable
+-- the state afterwards: a parameter that is not set was met, the process ends, arithmetic met
+-- another value, a variable
 abbrev pub state_by : (ℕ → Given) → Environment → Word → State
 state_by given e w = (expanded_by given e [] w).state
 
@@ -155,13 +157,15 @@ x_behind e w = x_by quiet_givens e w
 -- Rows
 
 pub record SplittingAsExpected : Type 0 where
-  -- `$x` with `a b`: under the default IFS, without IFS, under an empty one, and under one of other bytes
+  -- `$x` with `a b`: under the default IFS, without IFS, under an empty one, and under one of other
+  -- bytes
   pub blank : fields_of_word (start_with (codes "a b")) [] bare_x ≡ codes "a" ∷ codes "b" ∷ []
   pub blank_without_ifs : fields_of_word (without_ifs (start_with (codes "a b"))) [] bare_x ≡ codes "a" ∷ codes "b" ∷ []
   pub blank_empty_ifs : fields_of_word (with_ifs [] (start_with (codes "a b"))) [] bare_x ≡ codes "a b" ∷ []
   pub blank_other_ifs : fields_of_word (with_ifs (codes ":") (start_with (codes "a b"))) [] bare_x ≡ codes "a b" ∷ []
   pub blanks_around : fields_of_word (start_with (codes " \ta \n b\n")) [] bare_x ≡ codes "a" ∷ codes "b" ∷ []
-  -- `$x` under IFS `:`: a field between two separators is empty; one separator at the end ends a field
+  -- `$x` under IFS `:`: a field between two separators is empty; one separator at the end ends a
+  -- field
   pub empty_between : fields_of_word (with_ifs (codes ":") (start_with (codes "a::b"))) [] bare_x ≡ codes "a" ∷ [] ∷ codes "b" ∷ []
   pub empty_first : fields_of_word (with_ifs (codes ":") (start_with (codes ":a"))) [] bare_x ≡ [] ∷ codes "a" ∷ []
   pub separator_last : fields_of_word (with_ifs (codes ":") (start_with (codes "a:"))) [] bare_x ≡ codes "a" ∷ []
@@ -192,7 +196,8 @@ pub record ParametersAsExpected : Type 0 where
   pub star_one : fields_of_word bare_start (codes "a b" ∷ []) (only (special_parameter special.Asterisk)) ≡ codes "a" ∷ codes "b" ∷ []
   pub star_three : fields_of_word bare_start three (only (special_parameter special.Asterisk)) ≡ four
   pub star_unsplit : fields_of_word (with_ifs [] bare_start) three (only (special_parameter special.Asterisk)) ≡ three
-  -- `"$*"`: joined by the first byte of IFS, by nothing where that is empty, and by a blank where it is not set
+  -- `"$*"`: joined by the first byte of IFS, by nothing if that is empty, and by a blank if it is
+  -- not set
   pub quoted_star_none : fields_of_word bare_start [] (quoted (special_parameter special.Asterisk)) ≡ [] ∷ []
   pub quoted_star_one : fields_of_word bare_start (codes "a b" ∷ []) (quoted (special_parameter special.Asterisk)) ≡ codes "a b" ∷ []
   pub quoted_star_three : fields_of_word bare_start three (quoted (special_parameter special.Asterisk)) ≡ codes "a b c d" ∷ []
@@ -233,7 +238,8 @@ pub record UsesAsExpected : Type 0 where
   pub default_colon : map (λ e. fields_of_word e [] (used_colon action.Default w_word)) three_starts ≡ (codes "w" ∷ []) ∷ (codes "w" ∷ []) ∷ (codes "v" ∷ []) ∷ []
   pub alternative : map (λ e. fields_of_word e [] (used action.Alternative w_word)) three_starts ≡ [] ∷ (codes "w" ∷ []) ∷ (codes "w" ∷ []) ∷ []
   pub alternative_colon : map (λ e. fields_of_word e [] (used_colon action.Alternative w_word)) three_starts ≡ [] ∷ [] ∷ (codes "w" ∷ []) ∷ []
-  -- none of them meets a parameter that is not set, nor changes x; but the word may, where it is needed: `${x-$y}`, `${x+$y}`
+  -- none of them meets a parameter that is not set, nor changes x; but the word may, if it is
+  -- needed: `${x-$y}`, `${x+$y}`
   pub not_met : map (λ a. is_unset bare_start (used a w_word)) (action.Default ∷ action.Alternative ∷ action.Assign ∷ []) ≡ false ∷ false ∷ false ∷ []
   pub not_assigned : map (λ a. x_behind bare_start (used a w_word)) (action.Default ∷ action.Alternative ∷ action.Fault ∷ []) ≡ None ∷ None ∷ None ∷ []
   pub word_is_met : map (λ e. is_unset e (used action.Default (only bare_y))) three_starts ≡ true ∷ false ∷ false ∷ []
@@ -245,7 +251,7 @@ pub record UsesAsExpected : Type 0 where
   pub assigned_colon_x : map (λ e. x_behind e (used_colon action.Assign w_word)) three_starts ≡ Some (codes "w") ∷ Some (codes "w") ∷ Some (codes "v") ∷ []
   -- `${x=w}$x`
   pub assigned_then_read : fields_of_word bare_start [] (more_parts (expansion 0 (Use action.Assign false w_word)) bare_x) ≡ codes "ww" ∷ []
-  -- `${1=w}` ends the process, where the parameter is not set; an assignment that fails does so too
+  -- `${1=w}` ends the process, if the parameter is not set; an assignment that fails does so too
   pub positional_ends : is_ended bare_start (only (Expansion 0 (Positional 1) (Use action.Assign false w_word))) ≡ true
   pub assignment_fails : (state_by (λ n. record quiet_given { fails = true }) bare_start (used action.Assign w_word)).ended ≡ true
   -- `${x?w}`, `${x:?w}`
@@ -279,15 +285,16 @@ pub record ComputedAsExpected : Type 0 where
   pub assigned_unmet : is_unset bare_start (computed (x_gets (Constant (codes "2")))) ≡ false
   -- `$((x += 1))` reads x
   pub added_met : is_unset bare_start (computed (Assigned 0 (codes "x") (Some binary.Add) one)) ≡ true
-  -- `$((x += (x = 1)))` reads x before it is assigned, or behind that; it has the last answer's integer
+  -- `$((x += (x = 1)))` reads x before it is assigned, or after that; it has the last answer's
+  -- integer
   pub added_to_assigned : map (λ first. (state_by (reading first) bare_start added).unset) (true ∷ false ∷ []) ≡ true ∷ false ∷ []
   pub added_value : map (λ first. x_by (reading first) bare_start added) (true ∷ false ∷ []) ≡ Some (codes "3") ∷ Some (codes "3") ∷ []
-  -- `$((0 && (x=1)))`, where the answer for `0` is zero, and where it is one; `$((1 || (x=1)))`
+  -- `$((0 && (x=1)))`, if the answer for `0` is zero, and if it is one; `$((1 || (x=1)))`
   pub and_zero : x_by (integers (pos 0)) bare_start (computed (Chain (Constant (codes "0")) (more_operands binary.And (Parenthesis (x_gets one)) no_operands))) ≡ None
   pub and_one : x_by (integers (pos 1)) bare_start (computed (Chain (Constant (codes "0")) (more_operands binary.And (Parenthesis (x_gets one)) no_operands))) ≡ Some (codes "1")
   pub or_zero : x_by (integers (pos 0)) bare_start (computed (Chain one (more_operands binary.Or (Parenthesis (x_gets one)) no_operands))) ≡ Some (codes "0")
   pub or_one : x_by (integers (pos 1)) bare_start (computed (Chain one (more_operands binary.Or (Parenthesis (x_gets one)) no_operands))) ≡ None
-  -- `$((x ? y : z))` with x and y set: y is read behind another value than zero, and z behind zero
+  -- `$((x ? y : z))` with x and y set: y is read after another value than zero, and z after zero
   pub choice_one : (state_by (integers (pos 1)) (with_y (codes "2") (start_with (codes "1"))) x_chooses).unset ≡ false
   pub choice_zero : (state_by (integers (pos 0)) (with_y (codes "2") (start_with (codes "0"))) x_chooses).unset ≡ true
   -- `$(($x + 1))`: x is an integer constant, or is not, or is not set

@@ -1,5 +1,6 @@
 -- Words, and what their form says of their fields, against which the definitions are held.
--- POSIX.1-2024, XCU 2.5.2 (special parameters), 2.6.2 (parameter expansion), 2.6.5 (field splitting).
+-- POSIX.1-2024, XCU 2.5.2 (special parameters), 2.6.2 (parameter expansion), 2.6.5 (field
+-- splitting).
 use Rattle.std.specs.Prelude.{◌≡◌, true, false, [], ◌∷◌, replicate, map, codes, Some, None}
 use Rattle.sh_tree.specs.declared.tree.Action.TheVariants as action
 use Rattle.sh_tree.specs.declared.tree.Binary.TheVariants as binary
@@ -88,7 +89,8 @@ pub record QuotingAsExpected : Type 0 where
       (only (special_parameter special.NumberSign) ∷ only (special_parameter special.QuestionMark) ∷ only (special_parameter special.Dollar) ∷ only (special_parameter special.Exclamation) ∷ only length_of
       ∷ computed one ∷ only (alternative quoted_a) ∷ only (alternative (more_parts (Escaped (codes "a")) (only (Single style.Plain (codes "a"))))) ∷ quoted value ∷ more_parts (Plain (codes "a")) (quoted value) ∷ [])
       ≡ replicate 10 true
-  -- `$x`, `$-`, `$()`, `${x+}`, `${x+a}`, `${x+~}`, `${x+${x+"a"}}`, `${x-"a"}`, `${x+"a"a}`, `a$x`, `${x%a}`, `$1`, `$0`
+  -- `$x`, `$-`, `$()`, `${x+}`, `${x+a}`, `${x+~}`, `${x+${x+"a"}}`, `${x-"a"}`, `${x+"a"a}`,
+  -- `a$x`, `${x%a}`, `$1`, `$0`
   pub perhaps_split :
       map are_whole
       (only value ∷ only (special_parameter special.Hyphen) ∷ only substituted ∷ only (alternative no_parts) ∷ only (alternative a) ∷ only (alternative (only (Tilde 0 [])))
@@ -107,7 +109,8 @@ pub record QuotingAsExpected : Type 0 where
       (only (Double (plain (codes "*"))) ∷ only (Escaped (codes "*")) ∷ only (Single style.Plain (codes "*")) ∷ only (alternative (only (Double (plain (codes "*"))))) ∷ only (removing (plain (codes "*")))
       ∷ only (Substitution 0 (lone (simple 1 0 (operand (plain (codes "*")) no_elements)))) ∷ only (special_parameter special.QuestionMark) ∷ only star ∷ plain (codes "]") ∷ [])
       ≡ replicate 9 false
-  -- `$IFS`, `"$*"`, `${x+"$IFS"}`, `${x%$*}`, `${IFS=a}`, `$((IFS+1))`, `$((1+IFS))`, `$((IFS=1))`, `$((1?1:IFS))`, `$((-(IFS)))`
+  -- `$IFS`, `"$*"`, `${x+"$IFS"}`, `${x%$*}`, `${IFS=a}`, `$((IFS+1))`, `$((1+IFS))`, `$((IFS=1))`,
+  -- `$((1?1:IFS))`, `$((-(IFS)))`
   pub separators :
       map (word_mentions is_about_separators)
       (only (Expansion 0 ifs Value) ∷ quoted star ∷ only (alternative (quoted (Expansion 0 ifs Value))) ∷ only (removing (only star)) ∷ only (Expansion 0 ifs (Use action.Assign false a))

@@ -1,5 +1,6 @@
 -- Commands that are refused, and some that are not, against which the profile is held.
--- POSIX.1-2024, XCU 2.9.1 (simple commands), 2.9.5 (function definitions), 2.15 (special built-in utilities), 3 (command).
+-- POSIX.1-2024, XCU 2.9.1 (simple commands), 2.9.5 (function definitions), 2.15 (special built-in
+-- utilities), 3 (command).
 use Rattle.std.specs.Prelude.{◌≡◌, ℕ, ◌-◌, ◌==◌, if◌then◌else◌, true, false, List, [], ◌∷◌, ◌++◌, replicate, map, length, take, drop, codes, Option, Some, None, option_map}
 use Rattle.std.specs.Str.{bytes_eq}
 use Rattle.sh_tree.specs.declared.known.Declaration.TheVariants as declaration
@@ -25,7 +26,8 @@ use Rattle.sh_table.specs.standard.Kinds.{kind_of}
 use Rattle.sh_table.specs.Profile.{Refused, first_refused}
 use Rattle.sh_table.specs.examples.Steps.{piece}
 
--- Commands as lines: words with one blank between two, each `"$x"`, a text in single quotes, or plain bytes
+-- Commands as lines: words with one blank between two, each `"$x"`, a text in single quotes, or
+-- plain bytes
 
 unfoldable pub words_from : Text → Text → List Text
 words_from t [] = t ∷ []
@@ -49,7 +51,7 @@ background c = p.more_items (p.and_or (piece c) p.no_links) true p.no_items
 abbrev pub linked : p.Command → p.Command → p.Items
 linked c d = p.more_items (p.and_or (piece c) (p.more_links link.AndThen (piece d) p.no_links)) false p.no_items
 
--- the rule that is told of a program, and of a command
+-- the rule that is reported of a program, and of a command
 abbrev pub told_in : p.Items → Option Rule
 told_in t = option_map (λ (r : Refused). r.rule) (first_refused t)
 
@@ -119,7 +121,8 @@ one = p.Constant (codes "1")
 abbrev pub arithmetic : p.Expression → p.Word
 arithmetic e = only (p.Arithmetic 0 e)
 
--- behind another part, in double quotes, in a braced word, in a pattern, and in each form of arithmetic
+-- after another part, in double quotes, in a braced word, in a pattern, and in each form of
+-- arithmetic
 abbrev pub words_running : List p.Word
 words_running =
     running ∷ p.more_parts (p.Plain (codes "a")) running ∷ only (p.Double running) ∷ expansion (p.Use action.Default false running) ∷ expansion (p.Remove removal.LongPrefix running)
@@ -127,7 +130,8 @@ words_running =
     (computing ∷ p.Parenthesis computing ∷ p.Signed unary.Minus computing ∷ p.Chain computing p.no_operands ∷ p.Chain one (p.more_operands binary.Add one (p.more_operands binary.Add computing p.no_operands))
     ∷ p.Choice computing one one ∷ p.Choice one computing one ∷ p.Choice one one computing ∷ p.Assigned 0 (codes "x") None computing ∷ [])
 
--- in an operand, a value, targets and here-documents of a simple command and of a compound one, the word and a pattern of `case`, a word of `for`
+-- in an operand, a value, targets and here-documents of a simple command and of a compound one; in
+-- the word and a pattern of `case`; in a word of `for`
 abbrev pub opens : p.Redirect → p.Command
 opens r = p.command 1 0 (p.Simple (p.redirection r p.no_elements)) p.no_redirects
 
@@ -189,7 +193,7 @@ pub record RulesAsExpected : Type 0 where
   pub command_runs :
       map told (codes "command" ∷ codes "command -v \"$x\"" ∷ codes "command -pV eval" ∷ codes "command -p ls" ∷ codes "command -- true \"$x\"" ∷ codes "command false" ∷ []) ≡ replicate 6 None
   pub unsets : map told (codes "unset \"$x\"" ∷ codes "unset -v x \"$x\"" ∷ codes "unset -v x" ∷ codes "unset" ∷ []) ≡ Some rule.UnsetOperand ∷ Some rule.UnsetOperand ∷ None ∷ None ∷ []
-  -- operands of `set` that are computed where an option may stand, or of which shells differ in what they take
+  -- operands of `set` that are computed where an option may be, or that shells take differently
   pub sets :
       map told
       (codes "set \"$x\"" ∷ codes "set -" ∷ codes "set +" ∷ codes "set -e \"$x\"" ∷ codes "set -o \"$x\"" ∷ codes "set -o -e" ∷ codes "set -o --" ∷ codes "set -o '' a" ∷ codes "set -oe noglob a"
@@ -199,7 +203,7 @@ pub record RulesAsExpected : Type 0 where
       map told
       (codes "set" ∷ codes "set -- \"$x\"" ∷ codes "set a \"$x\"" ∷ codes "set -e a \"$x\"" ∷ codes "set -eo pipefail" ∷ codes "set -o noglob a" ∷ codes "set -o" ∷ codes "set +e -- -" ∷ [])
       ≡ replicate 8 None
-  -- outside loops, `break` and `continue` are told so where their operands are numbers from 1
+  -- outside loops, `break` and `continue` are refused for that if their operands are numbers from 1
   pub break_operands : map told (codes "break 0" ∷ codes "break \"$x\"" ∷ codes "break 1 a" ∷ codes "break -1" ∷ []) ≡ replicate 4 (Some rule.BreakOperand)
   pub break_outside : map told (codes "break" ∷ codes "break 2" ∷ codes "break 01" ∷ []) ≡ replicate 3 (Some rule.BreakOutside)
   pub continue_operands : map told (codes "continue 0" ∷ codes "continue \"$x\"" ∷ codes "continue 2" ∷ codes "continue" ∷ []) ≡ Some rule.ContinueOperand ∷ Some rule.ContinueOperand ∷ Some rule.ContinueOutside ∷ Some rule.ContinueOutside ∷ []
@@ -216,7 +220,8 @@ pub record PlacesAsExpected : Type 0 where
       (turning loop.While (says (codes "break 2")) ∷ turning loop.Until (says (codes "continue")) ∷ over a (says (codes "break")) ∷ p.Loop loop.While (says (codes "break")) colon
       ∷ turning loop.While (lone (compound (conditional colon (says (codes "break")) colon colon (says (codes "continue"))))) ∷ turning loop.While (lone (compound (choosing a a (says (codes "break"))))) ∷ [])
       ≡ replicate 6 None
-  -- in what a loop starts: a subshell, an asynchronous list, a part of a pipeline, a substitution; in a function in it, and behind it
+  -- in what a loop starts: a subshell, an asynchronous list, a part of a pipeline, a substitution;
+  -- in a function in it, and after it
   pub out_of_loop :
       map looping
       (lone (compound (p.Subshell (says (codes "break")))) ∷ background (written 3 (codes "break")) ∷ both (written 3 (codes "break")) (written 4 (codes ":"))
@@ -224,7 +229,8 @@ pub record PlacesAsExpected : Type 0 where
       ≡ replicate 4 (Some rule.BreakOutside)
   pub in_function_in_loop : looping (lone (compound (function (says (codes "break"))))) ≡ Some rule.BreakOutside
   pub behind_loop : told_in (list (compound (turning loop.While colon) ∷ written 5 (codes "break") ∷ [])) ≡ Some rule.BreakOutside
-  -- `return` in a function, and in a loop, an inner group and a redirected command in it; not in what it starts
+  -- `return` in a function, and in a loop, an inner group and a redirected command in it; not in
+  -- what it starts
   pub in_function :
       map (λ t. told_of (function t)) (says (codes "return") ∷ lone (compound (over a (says (codes "return \"$x\"")))) ∷ lone (group (says (codes "return")))
       ∷ lone (p.command 2 0 (p.Group (says (codes "return"))) (p.more_redirects (p.File a) p.no_redirects)) ∷ []) ≡ replicate 4 None
@@ -234,7 +240,7 @@ pub record PlacesAsExpected : Type 0 where
       ∷ lone (p.command 2 0 (p.Simple (p.assignment (codes "x") (only (p.Substitution 0 (says (codes "return")))) p.no_elements)) p.no_redirects) ∷ [])
       ≡ replicate 4 (Some rule.ReturnOutside)
   pub outside : told_of (p.Group (says (codes "return"))) ≡ Some rule.ReturnOutside
-  -- the least number is told, wherever its command stands, and its place
+  -- the least number is reported, wherever its command is, and its place
   pub least :
       first_refused (list (written 7 (codes "eval") ∷ p.command 3 9 (p.Simple (elements_of (quoted_x ∷ []))) p.no_redirects ∷ written 5 (codes "local") ∷ []))
       ≡ Some (record { number = 3; at = 9; rule = rule.ComputedName })

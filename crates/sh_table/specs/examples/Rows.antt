@@ -1,5 +1,7 @@
--- Programs whose runs come to a utility without a row, each refused, and admitted ones that come to none.
--- POSIX.1-2024, XCU 2.9.1.4 (command search and execution), 2.15 (special built-in utilities), 3 (command).
+-- Programs whose runs come to a utility without a row, each refused, and admitted ones that come to
+-- none.
+-- POSIX.1-2024, XCU 2.9.1.4 (command search and execution), 2.15 (special built-in utilities), 3
+-- (command).
 use Rattle.std.specs.Prelude.{◌≡◌, Bool, true, false, not, List, [], ◌∷◌, replicate, map, length, codes, unwrap_or, option_map}
 use Rattle.sh_tree.specs.declared.tree.LoopKind.TheVariants as loop
 use Rattle.sh_tree.specs.standard.program.Syntax.{Text, Substitution, no_parts, Items, more_items, and_or, no_links, pipeline, Command, no_commands, more_commands, Group, operand, no_elements}
@@ -15,7 +17,8 @@ use Rattle.sh_table.specs.examples.Steps.{f, x, function, over, turning, subshel
 unfoldable pub lacks_row : World → Move → Bool
 lacks_row w m = unwrap_or (option_map (λ r. not (has_row r.work)) (w.processes m.process)) false
 
--- whether it is admitted, and whether a run of the first process, or of the first one that it starts, comes to such a utility
+-- whether it is admitted, and whether a run of the first process, or of the first one that it
+-- starts, comes to such a utility
 abbrev pub in_shell : List Command → Bool × Bool
 in_shell cs = (is_admitted (list cs), comes_to lacks_row 100 0 quiet (start_world bare_start [] (list cs)))
 
@@ -52,19 +55,23 @@ abbrev pub admitted_and_with : List (Bool × Bool) → Type 0
 admitted_and_with xs = xs ≡ replicate (length xs) (true, false)
 
 pub record RowsAsExpected : Type 0 where
-  -- `break`, `continue`, `return`; behind a loop, and in a function that is called in a loop; `f() { :; }; return`
+  -- `break`, `continue`, `return`; after a loop, and in a function that is called in a loop;
+  -- `f() { :; }; return`
   pub without_mark :
       refused_and_without
       (map in_shell ((line (codes "break") ∷ []) ∷ (line (codes "continue") ∷ []) ∷ (line (codes "return") ∷ [])
       ∷ (over x a_and_b (line (codes ":") ∷ []) ∷ line (codes "break") ∷ []) ∷ (function f (line (codes "break") ∷ []) ∷ in_for (says_one f ∷ []))
       ∷ in_for (function f (line (codes "continue") ∷ []) ∷ says_one f ∷ []) ∷ (function f (line (codes ":") ∷ []) ∷ says_one f ∷ line (codes "return") ∷ []) ∷ []))
-  -- in a loop, `( break )`, `: $(break)`, `{ break & }`, `{ break | :; }`; in a function, `( return )`, `{ return | :; }`
+  -- in a loop, `( break )`, `: $(break)`, `{ break & }`, `{ break
+  -- :; }`; in a function, `( return )`, `{ return
+  -- :; }`
   pub in_another_process :
       refused_and_without
       (map in_started (in_for (subshell (line (codes "break") ∷ []) ∷ []) ∷ in_for (substituted (line (codes "break") ∷ []) ∷ [])
       ∷ in_for (asynchronous (line (codes "break")) ∷ []) ∷ in_for (piped (line (codes "break")) (line (codes ":")) ∷ []) ∷ (function f (subshell (line (codes "return") ∷ []) ∷ []) ∷ says_one f ∷ [])
       ∷ (function f (piped (line (codes "return")) (line (codes ":")) ∷ []) ∷ says_one f ∷ []) ∷ []))
-  -- operands that are no numbers from 1; what stands in no reading of the script; a name that other shells have
+  -- operands that are no numbers from 1; utilities that run what is in no reading of the script; a
+  -- name that other shells have
   pub without_meaning :
       refused_and_without
       (map in_shell (in_for (line (codes "break 0") ∷ []) ∷ in_for (line (codes "continue x") ∷ []) ∷ (line (codes ". x") ∷ []) ∷ (line (codes "eval x") ∷ [])
@@ -72,7 +79,8 @@ pub record RowsAsExpected : Type 0 where
       ∷ (line (codes "alias x") ∷ []) ∷ []))
   -- `"$x"` where x is `eval`
   pub computed : comes_to lacks_row 100 0 quiet (start_world (start_with (codes "eval")) [] (list (utility (quoted_x ∷ []) ∷ []))) ≡ true
-  -- jumps in loops, of one and of more; a loop in a function, a function in a loop; a jump in a condition; `return` in a loop of a function
+  -- jumps in loops, of one and of more; a loop in a function, a function in a loop; a jump in a
+  -- condition; `return` in a loop of a function
   pub with_mark :
       admitted_and_with
       (map in_shell (two_loops (codes "break" ∷ []) ∷ two_loops (codes "break" ∷ codes "2" ∷ []) ∷ two_loops (codes "continue" ∷ codes "5" ∷ [])
@@ -88,7 +96,7 @@ pub record RowsAsExpected : Type 0 where
       admitted_and_with
       (map in_shell ((line (codes "trap - INT") ∷ []) ∷ (line (codes "trap -- 2") ∷ []) ∷ (line (codes "command ls") ∷ []) ∷ (line (codes "command -v eval") ∷ [])
       ∷ (line (codes "set -e") ∷ []) ∷ (line (codes "ls") ∷ []) ∷ []))
-  -- a word that gives no field hides the name behind it: no text is read as such a word
+  -- a word that gives no field hides the name after it: no text is read as such a word
   pub hidden :
       is_admitted behind_nothing ∷ gives_fields behind_nothing ∷ comes_to lacks_row 100 0 quiet (start_world bare_start [] behind_nothing) ∷ []
       ≡ true ∷ false ∷ true ∷ []

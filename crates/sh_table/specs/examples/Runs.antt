@@ -16,7 +16,7 @@ use Rattle.sh_table.specs.standard.runs.Environment.{Environment, Frame, with_va
 use Rattle.sh_table.specs.standard.runs.Answers.{Given, Answer}
 use Rattle.sh_table.specs.standard.runs.Worlds.{World, Move, innermost, step, run, has_unset_event, has_split_event, start_world}
 
--- Programs: their commands all have the number 1 and stand at 0, which no run looks at
+-- Programs: their commands all have the number 1 and are at 0, which no run looks at
 
 unfoldable pub elements_of : List Word → Elements
 elements_of [] = no_elements
@@ -219,7 +219,8 @@ dollar_quotes = to_x (only (Single single.Dollar (codes "a")))
 abbrev pub dollar_moves : List Move
 dollar_moves = steps 0 4 ++ by 0 (record quiet { given = λ n. record quiet_given { text = codes "b" } }) ∷ []
 
--- `x=$(case a in a) echo b;; esac)`; the answer to the substitution; in its process the pattern matches
+-- `x=$(case a in a) echo b;; esac)`; the answer to the substitution; in its process the pattern
+-- matches
 abbrev pub substituted : Items
 substituted =
     let inner = case_a (clause_of (codes "a") (lone (says (codes "echo" ∷ codes "b" ∷ []))) clause.Break no_clauses) in
@@ -231,8 +232,8 @@ substituted_moves = steps 0 4 ++ by 0 (record quiet { given = λ n. record quiet
 abbrev pub inner_moves : List Move
 inner_moves = steps 1 5 ++ by 1 (record quiet { matches = true }) ∷ steps 1 13
 
--- `f() { if a; then f; fi; return 3; }; f`; 26 steps to the end of the first `a`, whose status is zero, and 23 up to the second `a`, whose
--- status is not; the return from the second call
+-- `f() { if a; then f; fi; return 3; }; f`; 26 steps to the end of the first `a`, whose status is
+-- zero, and 23 up to the second `a`, whose status is not; the return from the second call
 abbrev pub recursive : Items
 recursive =
     let test = compound (Conditional (more_branches (lone (says_one (codes "a"))) (lone (says_one (codes "f"))) no_branches) no_else) in
@@ -426,13 +427,15 @@ abbrev pub negated : Items
 negated = more_items (and_or (pipeline true (more_commands (says_one (codes "false")) no_commands)) no_links) false no_items
 
 pub record RunsAsExpected : Type 0 where
-  -- `x="$*"`, `x=$#`, `x=$1`, with the parameters a and b: the first byte of IFS stands between them; `x=$3` has an Unset event
+  -- `x="$*"`, `x=$#`, `x=$1`, with the parameters a and b: the first byte of IFS is between them;
+  -- `x=$3` has an Unset event
   pub star_joins : x_is (ran bare_start a_and_b (to_x (only (Double (parameter (Special special.Asterisk))))) to_x_moves) ≡ Some (Some (codes "a b"))
   pub star_joins_by_colons : x_is (ran (colon_start []) a_and_b (to_x (only (Double (parameter (Special special.Asterisk))))) to_x_moves) ≡ Some (Some (codes "a:b"))
   pub parameters_count : x_is (ran bare_start a_and_b (to_x (parameter (Special special.NumberSign))) to_x_moves) ≡ Some (Some (codes "2"))
   pub first_parameter : x_is (ran bare_start a_and_b (to_x (parameter (Positional 1))) to_x_moves) ≡ Some (Some (codes "a"))
   pub third_parameter : unset_next (ran bare_start a_and_b (to_x (parameter (Positional 3))) (steps 0 4)) ≡ Some true
-  -- `x=${x-w}`: w where x is not set, which is no event, and `x=${x:-w}` where it is empty too; `x=${x+w}`: w where x is set
+  -- `x=${x-w}`: w if x is not set, which is no event, and `x=${x:-w}` if it is empty too;
+  -- `x=${x+w}`: w if x is set
   pub default_is_given : x_is (ran bare_start [] (to_x (x_used action.Default false)) to_x_moves) ≡ Some (Some (codes "w"))
   pub default_is_no_event : unset_next (ran bare_start [] (to_x (x_used action.Default false)) (steps 0 4)) ≡ Some false
   pub empty_is_set : x_is (ran (start_with []) [] (to_x (x_used action.Default false)) to_x_moves) ≡ Some (Some [])
@@ -446,20 +449,22 @@ pub record RunsAsExpected : Type 0 where
   pub dollar_quotes_hold_theirs : x_is (ran bare_start [] dollar_quotes dollar_moves) ≡ Some (Some (codes "a"))
   pub home_is_given : x_is (ran (with_variable bare_start (codes "HOME") (Some (codes "/h"))) [] (to_x (only (Tilde 0 []))) to_x_moves) ≡ Some (Some (codes "/h"))
   pub home_is_unset : unset_next (ran bare_start [] (to_x (only (Tilde 0 []))) (steps 0 4)) ≡ Some true
-  -- `x=$(case a in a) echo b;; esac)`: x has what the answer gives, a process is started, and both end, in any order
+  -- `x=$(case a in a) echo b;; esac)`: x has what the answer gives, a process is started, and both
+  -- end, in any order
   pub substitution_gives : x_is (ran bare_start [] substituted substituted_moves) ≡ Some (Some (codes "b"))
   pub substitution_starts : lives 1 (ran bare_start [] substituted substituted_moves) ≡ Some true
   pub substitution_ends : map (λ p. lives p (ran bare_start [] substituted (substituted_moves ++ inner_moves ++ steps 0 4))) (0 ∷ 1 ∷ []) ≡ Some false ∷ Some false ∷ []
   pub substitution_outlives : map (λ p. lives p (ran bare_start [] substituted (substituted_moves ++ steps 0 4))) (0 ∷ 1 ∷ []) ≡ Some false ∷ Some true ∷ []
-  -- `f() { if a; then f; fi; return 3; }; f`: `a` is met again in the second call, which has no parameters; each return gives 3, and the
-  -- parameters are back
+  -- `f() { if a; then f; fi; return 3; }; f`: `a` is met again in the second call, which has no
+  -- parameters; each return gives 3, and the parameters are back
   pub function_calls_itself : frame (ran bare_start a_and_b recursive to_inner_test) ≡ Some []
   pub inner_call_returns : status (ran bare_start a_and_b recursive (to_inner_test ++ from_inner_test)) ≡ Some 3
   pub outer_call_returns : frame (ran bare_start a_and_b recursive (to_inner_test ++ from_inner_test ++ steps 0 10)) ≡ Some a_and_b
   pub function_ends : lives 0 (ran bare_start a_and_b recursive (to_inner_test ++ from_inner_test ++ steps 0 13)) ≡ Some false
   -- `f() { x=$1; }; f a`: the operand is the function's parameter
   pub operand_is_parameter : x_is (ran bare_start [] with_operand (steps 0 20)) ≡ Some (Some (codes "a"))
-  -- `f() { :; }; unset f`: without a variable of the name the function goes, or stays; `unset -f f` removes it
+  -- `f() { :; }; unset f`: without a variable of the name the function goes, or stays; `unset -f f`
+  -- removes it
   pub function_is_defined : defines_f (ran bare_start [] (undefined (codes "f" ∷ [])) (steps 0 5)) ≡ Some true
   pub unset_leaves_function : defines_f (ran bare_start [] (undefined (codes "f" ∷ [])) (steps 0 12)) ≡ Some true
   pub unset_takes_function : defines_f (ran bare_start [] (undefined (codes "f" ∷ [])) (steps 0 11 ++ by 0 (record quiet { takes_function = true }) ∷ [])) ≡ Some false
@@ -469,7 +474,8 @@ pub record RunsAsExpected : Type 0 where
   pub prefix_outlives : x_is (ran bare_start [] passed (passed_moves ++ steps 0 1)) ≡ Some (Some (codes "1"))
   pub prefix_is_put_back : x_is (ran (start_with (codes "o")) [] passed (passed_moves ++ by 0 put_back ∷ [])) ≡ Some (Some (codes "o"))
   pub prefix_is_removed : x_is (ran bare_start [] passed (passed_moves ++ by 0 put_back ∷ [])) ≡ Some None
-  -- `x=1 :` and `x=1 true`: a special built-in utility has the assignment in the shell's own environment, another utility has not
+  -- `x=1 :` and `x=1 true`: a special built-in utility has the assignment in the shell's own
+  -- environment, another utility has not
   pub prefix_stays : x_is (ran bare_start [] (passed_to (codes ":")) (steps 0 7)) ≡ Some (Some (codes "1"))
   pub prefix_is_passed : x_is (ran bare_start [] (passed_to (codes "true")) (steps 0 8)) ≡ Some None
   -- `false && a || x=1`: the first operator skips `a`, and the second goes on
@@ -480,7 +486,8 @@ pub record RunsAsExpected : Type 0 where
   pub loop_is_over : lives 0 (ran bare_start [] broken_loop (steps 0 10 ++ by 0 (with_status 1) ∷ steps 0 6)) ≡ Some false
   -- `while a; do while a; do break 2; done; done`: both loops end
   pub break_leaves_two : lives 0 (ran bare_start [] broken_loops (steps 0 38)) ≡ Some false
-  -- `until a; do b; done`: a turn behind another status than zero; the status is that of the last turn
+  -- `until a; do b; done`: a turn after another status than zero; the status is that of the last
+  -- turn
   pub until_has_last_status : status (ran bare_start [] until_loop until_moves) ≡ Some 7
   -- `for x in a b; do c; done`
   pub for_first : x_is (ran bare_start [] for_two (steps 0 8)) ≡ Some (Some (codes "a"))
@@ -498,12 +505,14 @@ pub record RunsAsExpected : Type 0 where
   pub case_falls_through : y_is (ran bare_start [] falling (steps 0 5 ++ by 0 (matching 0) ∷ steps 0 14)) ≡ Some (Some (codes "1"))
   -- `case a in *) x=1;; esac`: `*` matches, whatever the answer is
   pub case_any : x_is (ran bare_start [] any_pattern (steps 0 11)) ≡ Some (Some (codes "1"))
-  -- `false; case a in b) c;; esac`: `false` has another status than zero; behind no match it is zero
+  -- `false; case a in b) c;; esac`: `false` has another status than zero; after no match it is zero
   pub case_before : status (ran bare_start [] unmatched (steps 0 8)) ≡ Some 1
   pub case_without_match : status (ran bare_start [] unmatched (steps 0 16)) ≡ Some 0
   -- `case a in a) ;; esac`: the status is the answer's
   pub case_empty_list : status (ran bare_start [] empty_clause (steps 0 5 ++ by 0 (matching 5) ∷ [])) ≡ Some 5
-  -- `x=1 | y=2`: the shell waits for parts that share; both variables are set then, in either order; parts that copy set neither in the shell
+  -- `x=1
+  -- y=2`: the shell waits for parts that share; both variables are set then, in either order; parts
+  -- that copy set neither in the shell
   pub pipeline_waits : steps_next (ran bare_start [] piped (shared ++ steps 1 5)) ≡ Some false
   pub pipeline_goes_on : steps_next (ran bare_start [] piped (shared ++ steps 1 5 ++ steps 2 5)) ≡ Some true
   pub shared_left_first : x_is (ran bare_start [] piped (shared ++ steps 1 5 ++ steps 2 5)) ≡ Some (Some (codes "1"))
@@ -518,7 +527,8 @@ pub record RunsAsExpected : Type 0 where
   -- `(x=1)`: x is set in the copy alone
   pub subshell_own : variable (codes "x") 1 (ran bare_start [] subshell subshell_moves) ≡ Some (Some (codes "1"))
   pub subshell_sets_nothing : x_is (ran bare_start [] subshell subshell_moves) ≡ Some None
-  -- `: >f` and `echo >f`, where the redirection fails: a special built-in utility ends the process, another has a status that is not zero
+  -- `: >f` and `echo >f`, if the redirection fails: a special built-in utility ends the process,
+  -- another has a status that is not zero
   pub special_redirection_ends : lives 0 (ran bare_start [] (redirected (codes ":")) redirect_fails) ≡ Some false
   pub other_redirection_goes_on : status (ran bare_start [] (redirected (codes "echo")) redirect_fails) ≡ Some 1
   -- `>${x=w}`: without a command name the word is expanded in the shell, or in a copy
@@ -532,12 +542,14 @@ pub record RunsAsExpected : Type 0 where
   -- `set -- "$@"`: as many parameters as before, with or without some
   pub every_stands : frame (ran bare_start a_and_b (set_to every) set_moves) ≡ Some a_and_b
   pub every_of_none : frame (ran bare_start [] (set_to every) set_moves) ≡ Some []
-  -- `set -- $x`: white space splits, and none is left at the ends; each other separator ends a field; a value that is empty gives none
+  -- `set -- $x`: white space splits, and none is left at the ends; each other separator ends a
+  -- field; a value that is empty gives none
   pub blanks_split : frame (ran (start_with (codes " a  b ")) [] (set_to bare_x) set_moves) ≡ Some a_and_b
   pub colons_split : frame (ran (colon_start (codes "a::b:")) [] (set_to bare_x) set_moves) ≡ Some (codes "a" ∷ [] ∷ codes "b" ∷ [])
   pub empty_gives_none : frame (ran (start_with []) a_and_b (set_to bare_x) set_moves) ≡ Some []
   pub quoted_gives_one : frame (ran (start_with []) a_and_b (set_to quoted_x) set_moves) ≡ Some ([] ∷ [])
-  -- `read -r x y`: on zero both get values, empty ones where the answer has none; otherwise they may stay as before
+  -- `read -r x y`: on zero both get values, empty ones if the answer has none; otherwise they may
+  -- stay as before
   pub read_first : x_is (ran bare_start [] read_two (reads 0 (Some (codes "a")) None)) ≡ Some (Some (codes "a"))
   pub read_second : y_is (ran bare_start [] read_two (reads 0 (Some (codes "a")) None)) ≡ Some (Some [])
   pub read_fails_first : x_is (ran (start_with (codes "o")) [] read_two (reads 1 None (Some (codes "b")))) ≡ Some (Some (codes "o"))
@@ -546,7 +558,7 @@ pub record RunsAsExpected : Type 0 where
   pub getopts_gives :
       map (in_first (ran bare_start [] next_option option_moves)) (codes "x" ∷ codes "OPTIND" ∷ codes "OPTARG" ∷ []) ≡ map is_set_to (codes "a" ∷ codes "3" ∷ codes "v" ∷ [])
   pub cd_gives : map (in_first (ran bare_start [] change change_moves)) (codes "PWD" ∷ codes "OLDPWD" ∷ []) ≡ map is_set_to (codes "/d" ∷ codes "/" ∷ [])
-  -- `: ${x=w}` sets x; `: ${x?w}` ends the process, where x is not set
+  -- `: ${x=w}` sets x; `: ${x?w}` ends the process, if x is not set
   pub default_is_assigned : x_is (ran bare_start [] (colon (x_used action.Assign false)) (steps 0 5)) ≡ Some (Some (codes "w"))
   pub default_is_not_needed : x_is (ran (start_with (codes "v")) [] (colon (x_used action.Assign false)) (steps 0 5)) ≡ Some (Some (codes "v"))
   pub fault_ends : lives 0 (ran bare_start [] (colon (x_used action.Fault false)) (steps 0 5)) ≡ Some false
@@ -561,7 +573,8 @@ pub record RunsAsExpected : Type 0 where
   pub assignment_word_splits : split_next (ran (start_with (codes "a b")) [] (echo y_of_x) (steps 0 4)) ≡ Some true
   pub declaration_stays_whole : split_next (ran (start_with (codes "a b")) [] exported (steps 0 4)) ≡ Some false
   pub declaration_sets : y_is (ran (start_with (codes "a b")) [] exported (steps 0 7)) ≡ Some (Some (codes "a b"))
-  -- `echo $((x + 1))`: an Unset event where x is not set; behind a value that is no integer constant no step comes
+  -- `echo $((x + 1))`: an Unset event if x is not set; after a value that is no integer constant no
+  -- step comes
   pub sum_is_unset : unset_next (ran bare_start [] (echo sum) (steps 0 4)) ≡ Some true
   pub sum_is_set : unset_next (ran (start_with (codes "1")) [] (echo sum) (steps 0 4)) ≡ Some false
   pub sum_goes_on : steps_next (ran (start_with (codes "1")) [] (echo sum) (steps 0 5)) ≡ Some true
@@ -575,7 +588,8 @@ pub record RunsAsExpected : Type 0 where
   pub exec_fails : lives 0 (ran bare_start [] (lone (says_one (codes "exec"))) (steps 0 5 ++ by 0 (record quiet { special_ends = true }) ∷ [])) ≡ Some false
   -- `exit`
   pub exit_ends : lives 0 (ran bare_start [] (lone (says_one (codes "exit"))) (steps 0 6)) ≡ Some false
-  -- `sleep 1 & echo "$!"`: a process is started, and `!` is set; `echo "$!"` alone has an Unset event
+  -- `sleep 1 & echo "$!"`: a process is started, and `!` is set; `echo "$!"` alone has an Unset
+  -- event
   pub asynchronous_starts : lives 1 (ran bare_start [] asynchronous (steps 0 1)) ≡ Some true
   pub job_is_set : unset_next (ran bare_start [] asynchronous (steps 0 5)) ≡ Some false
   pub job_is_unset : unset_next (ran bare_start [] (echo job_word) (steps 0 4)) ≡ Some true

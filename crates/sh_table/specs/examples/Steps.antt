@@ -1,5 +1,6 @@
 -- Runs of small programs to their end, against which the steps of commands are held.
--- POSIX.1-2024, XCU 2.7 (redirection), 2.8.1 (consequences of shell errors), 2.9 (shell commands), 2.15 (special built-in utilities).
+-- POSIX.1-2024, XCU 2.7 (redirection), 2.8.1 (consequences of shell errors), 2.9 (shell commands),
+-- 2.15 (special built-in utilities).
 use Rattle.std.specs.Prelude.{◌≡◌, ℕ, zero, suc, ◌==◌, ◌||◌, Bool, true, false, List, [], ◌∷◌, replicate, map, codes, Option, Some, None, is_some, unwrap_or, option_map, slice_get}
 use Rattle.std.specs.List.{flat_map}
 use Rattle.sh_tree.specs.declared.tree.Action.TheVariants as action
@@ -204,11 +205,12 @@ pub record JumpsAsExpected : Type 0 where
       ≡ None ∷ just (codes "1") ∷ just (codes "1") ∷ []
   -- `for x in a b; do continue; z=1; done; y=1`
   pub continue_in_for : gives_x_y_z (over x a_and_b (says_one (codes "continue") ∷ one z ∷ []) ∷ one y ∷ []) ≡ just (codes "b") ∷ just (codes "1") ∷ None ∷ []
-  -- `until false; do x=1; break; done`, `until true; do x=1; done`, `while false; do x=1; done`, each before `s="$?"`
+  -- `until false; do x=1; break; done`, `until true; do x=1; done`, `while false; do x=1; done`,
+  -- each before `s="$?"`
   pub until_false : x_and_status quiet (turning loop.Until false_command (one x ∷ says_one (codes "break") ∷ []) ∷ notes ∷ []) ≡ just (codes "1") ∷ just (codes "0") ∷ []
   pub until_true : x_and_status quiet (turning loop.Until true_command (one x ∷ []) ∷ notes ∷ []) ≡ None ∷ just (codes "0") ∷ []
   pub while_false : x_and_status quiet (turning loop.While false_command (one x ∷ []) ∷ notes ∷ []) ≡ None ∷ just (codes "0") ∷ []
-  -- `for x in a b; do false; done; s="$?"`, `for x in; do false; done; s="$?"` behind `false`
+  -- `for x in a b; do false; done; s="$?"`, `for x in; do false; done; s="$?"` after `false`
   pub for_status : x_and_status quiet (over x a_and_b (false_command ∷ []) ∷ notes ∷ []) ≡ just (codes "b") ∷ just (codes "1") ∷ []
   pub for_nothing : x_and_status quiet (false_command ∷ over x [] (false_command ∷ []) ∷ notes ∷ []) ≡ None ∷ just (codes "0") ∷ []
   -- `false && x=1`, `true && x=1`, `false || x=1`, `true || x=1`
@@ -279,7 +281,7 @@ pub record RedirectsAsExpected : Type 0 where
   pub subshell_sees_own : comes_to has_unset_event 100 1 quiet (far 100 0 copying (start_world bare_start [] opens_twice)) ≡ false
   pub subshell_sets : value x (far 100 0 quiet (start_world bare_start [] opens_twice)) ≡ just (codes "t")
   pub subshell_sets_own : ((far 100 1 quiet (far 100 0 copying (start_world bare_start [] opens_twice))).environments 1).variables x ≡ just (codes "t")
-  -- `( :; ) >"$x" >"${x=t}"`: and not what those behind it set
+  -- `( :; ) >"$x" >"${x=t}"`: and not what those after it set
   pub subshell_meets : meets_unset quiet bare_start opens_twice_before ≡ true
   pub subshell_meets_own : comes_to has_unset_event 100 1 quiet (far 100 0 copying (start_world bare_start [] opens_twice_before)) ≡ true
   -- `: >"${x=t}"` and `{ :; } >"${x=t}"`: in the shell
@@ -301,20 +303,23 @@ pub record RedirectsAsExpected : Type 0 where
   pub group_ends : x_and_status failing_ends (opened (Group (list (one x ∷ []))) target ∷ notes ∷ []) ≡ None ∷ None ∷ []
   pub function_fails : x_and_status failing (function f (one x ∷ []) ∷ opens (plain f ∷ []) target ∷ notes ∷ []) ≡ None ∷ just (codes "1") ∷ []
   pub function_ends : x_and_status failing_ends (function f (one x ∷ []) ∷ opens (plain f ∷ []) target ∷ notes ∷ []) ≡ None ∷ None ∷ []
-  -- `x="$y" >"${y=t}"`: the redirection first, or the assignment, which then meets y; `x="$y" : >"${y=t}"` too; before `ls` too
+  -- `x="$y" >"${y=t}"`: the redirection first, or the assignment, which then meets y;
+  -- `x="$y" : >"${y=t}"` too; before `ls` too
   pub redirection_first : seen quiet (x ∷ y ∷ []) (crossing [] ∷ []) ≡ just (codes "t") ∷ just (codes "t") ∷ []
   pub assignment_first : seen assigning_first (x ∷ y ∷ []) (crossing [] ∷ []) ≡ just [] ∷ just (codes "t") ∷ []
   pub assignment_first_meets : map (λ a. meets_unset a bare_start (list (crossing [] ∷ []))) (quiet ∷ assigning_first ∷ []) ≡ false ∷ true ∷ []
   pub special_meets : map (λ a. meets_unset a bare_start (list (crossing (plain (codes ":") ∷ []) ∷ []))) (quiet ∷ assigning_first ∷ []) ≡ false ∷ true ∷ []
   pub utility_meets : map (λ a. meets_unset a bare_start (list (crossing (plain (codes "ls") ∷ []) ∷ []))) (quiet ∷ assigning_first ∷ []) ≡ false ∷ true ∷ []
-  -- `x="${y=t}" ls >"$y"`, and before the function f: the redirection first meets y, and the assignment first sets it
+  -- `x="${y=t}" ls >"$y"`, and before the function f: the redirection first meets y, and the
+  -- assignment first sets it
   pub value_before_meets : map (λ a. meets_unset a bare_start (list (valued_before ls))) (quiet ∷ assigning_first ∷ []) ≡ true ∷ false ∷ []
   pub value_before_call_meets : map (λ a. meets_unset a bare_start (list (function f (one z ∷ []) ∷ valued_before f))) (quiet ∷ assigning_first ∷ []) ≡ true ∷ false ∷ []
   -- `x=1 ls >"$x"`, and before f: the redirection does not see the assignment, in either order
   pub redirection_sees_no_value :
       map (λ name. map (λ a. meets_unset a bare_start (list (function f (one z ∷ []) ∷ prefixed_to name (value_of x) ∷ []))) (quiet ∷ assigning_first ∷ [])) (ls ∷ f ∷ [])
       ≡ (true ∷ true ∷ []) ∷ (true ∷ true ∷ []) ∷ []
-  -- `f() { z="$x"; }; x=1 f >"${y=t}"`, with the assignment first: it is called, and x stays, or is put back; where the redirection fails it is not
+  -- `f() { z="$x"; }; x=1 f >"${y=t}"`, with the assignment first: it is called, and x stays, or is
+  -- put back; if the redirection fails it is not
   pub call_behind_values :
       map (λ a. seen a (x ∷ y ∷ z ∷ []) (function f (gives z (value_of x) ∷ []) ∷ prefixed_to f (assigning y (codes "t")) ∷ [])) (assigning_first ∷ restoring_first ∷ [])
       ≡ (just (codes "1") ∷ just (codes "t") ∷ just (codes "1") ∷ []) ∷ (None ∷ just (codes "t") ∷ just (codes "1") ∷ []) ∷ []
@@ -358,7 +363,8 @@ pub record AssignmentsAsExpected : Type 0 where
   pub before_function : gives_x_y_z (function f (gives z (value_of x) ∷ []) ∷ before x (plain (codes "1")) (plain f ∷ []) ∷ []) ≡ just (codes "1") ∷ None ∷ just (codes "1") ∷ []
   pub before_function_restored :
       seen put_back (x ∷ z ∷ []) (function f (gives z (value_of x) ∷ []) ∷ before x (plain (codes "1")) (plain f ∷ []) ∷ []) ≡ None ∷ just (codes "1") ∷ []
-  -- `f() { :; }; y="${x=t}" x=1 f`, with both put back: x was set by the value of y; `x=1 x=2 f`, with x set before
+  -- `f() { :; }; y="${x=t}" x=1 f`, with both put back: x was set by the value of y; `x=1 x=2 f`,
+  -- with x set before
   pub before_function_seen :
       seen put_back (x ∷ y ∷ [])
       (function f (says_one (codes ":") ∷ []) ∷ simple 1 0 (assignment y (assigning x (codes "t")) (assignment x (plain (codes "1")) (elements_of (plain f ∷ [])))) ∷ [])
@@ -370,11 +376,13 @@ pub record AssignmentsAsExpected : Type 0 where
   -- `x="$y" ls`: y is met where it is not set
   pub value_meets : meets_unset quiet bare_start (list (before x (value_of y) (plain (codes "ls") ∷ []) ∷ [])) ≡ true
   pub value_meets_nothing : meets_unset quiet (with_variable bare_start y (Some [])) (list (before x (value_of y) (plain (codes "ls") ∷ []) ∷ [])) ≡ false
-  -- `x="${y=t}" ls`: y is set, unless the value is expanded in a copy; `x="${y?}" ls` ends the process, in a copy too
+  -- `x="${y=t}" ls`: y is set, unless the value is expanded in a copy; `x="${y?}" ls` ends the
+  -- process, in a copy too
   pub value_sets : seen quiet (x ∷ y ∷ []) (before x (assigning y (codes "t")) (plain (codes "ls") ∷ []) ∷ []) ≡ None ∷ just (codes "t") ∷ []
   pub value_copied : seen copying (x ∷ y ∷ []) (before x (assigning y (codes "t")) (plain (codes "ls") ∷ []) ∷ []) ≡ None ∷ None ∷ []
   pub value_ends : map (λ a. x_and_status a (before x (demanded y) (plain (codes "ls") ∷ []) ∷ notes ∷ [])) (quiet ∷ copying ∷ []) ≡ (None ∷ None ∷ []) ∷ (None ∷ None ∷ []) ∷ []
-  -- `x=1 y="${x?}" ls`, `x=1 y="${x=t}" ls` and `x=1 y="${x+$z}" ls`: the value behind sees x, or does not; the shell has no x afterwards
+  -- `x=1 y="${x?}" ls`, `x=1 y="${x=t}" ls` and `x=1 y="${x+$z}" ls`: the value after it sees x, or
+  -- does not; the shell has no x afterwards
   pub seen_goes_on : map (λ a. x_and_status a (shown_to (demanded x) ∷ notes ∷ [])) (quiet ∷ seeing ∷ []) ≡ (None ∷ None ∷ []) ∷ (None ∷ just (codes "0") ∷ []) ∷ []
   pub seen_sets_nothing : map (λ a. seen a (x ∷ []) (shown_to (assigning x (codes "t")) ∷ [])) (quiet ∷ seeing ∷ []) ≡ (just (codes "t") ∷ []) ∷ (None ∷ []) ∷ []
   pub seen_is_set : map (λ a. meets_unset a bare_start (list (shown_to z_if_x ∷ []))) (quiet ∷ seeing ∷ []) ≡ false ∷ true ∷ []
@@ -420,7 +428,7 @@ taking = record quiet { takes_function = true }
 abbrev pub with_f : List Command → List Command
 with_f cs = function f (says_one (codes ":") ∷ []) ∷ cs
 
--- the variable f, and whether the function is defined, behind `f() { :; }; f=1; unset letters f`
+-- the variable f, and whether the function is defined, after `f() { :; }; f=1; unset letters f`
 abbrev pub unset_by : Text → Answer → Option Text × Bool
 unset_by letters a =
     let w = ends_by a bare_start [] (list (with_f (one f ∷ unsets (letters ∷ f ∷ []) ∷ []))) in
@@ -437,23 +445,27 @@ abbrev pub getopts_command : List Text → List Command
 getopts_command ts = assign (codes "OPTARG") (codes "q") ∷ says (codes "getopts" ∷ ts) ∷ []
 
 pub record BuiltinsAsExpected : Type 0 where
-  -- `unset x y`: on zero both go; on another status those that are removed; `unset -v x`, `unset -- x`
+  -- `unset x y`: on zero both go; on another status those that are removed; `unset -v x`,
+  -- `unset -- x`
   pub unset_both : seen quiet (x ∷ y ∷ []) (one x ∷ one y ∷ unsets (x ∷ y ∷ []) ∷ []) ≡ None ∷ None ∷ []
   pub unset_second : seen removing (x ∷ y ∷ []) (one x ∷ one y ∷ unsets (x ∷ y ∷ []) ∷ []) ≡ just (codes "1") ∷ None ∷ []
   pub unset_variable : seen taking (x ∷ []) (one x ∷ unsets (codes "-v" ∷ x ∷ []) ∷ []) ≡ None ∷ []
   pub unset_behind_dashes : seen quiet (x ∷ []) (one x ∷ unsets (codes "--" ∷ x ∷ []) ∷ []) ≡ None ∷ []
-  -- `unset -f f`, `unset -v f`, `unset f` without a variable f, where the function goes or stays, and with one; `f=1; unset -f f`
+  -- `unset -f f`, `unset -v f`, `unset f` without a variable f, after which the function has gone
+  -- or stays, and with one; `f=1; unset -f f`
   pub unset_function : is_defined quiet (with_f (unsets (codes "-f" ∷ f ∷ []) ∷ [])) ≡ false
   pub unset_no_function : is_defined taking (with_f (unsets (codes "-v" ∷ f ∷ []) ∷ [])) ≡ true
   pub unset_either : map (λ a. is_defined a (with_f (unsets (f ∷ []) ∷ []))) (taking ∷ quiet ∷ []) ≡ false ∷ true ∷ []
   pub unset_variable_first : is_defined taking (with_f (one f ∷ unsets (f ∷ []) ∷ [])) ≡ true
   pub unset_function_alone : seen quiet (f ∷ []) (with_f (one f ∷ unsets (codes "-f" ∷ f ∷ []) ∷ [])) ≡ just (codes "1") ∷ []
-  -- `f=1; unset -vf f`, and `-n`, which the standard does not have: the variable goes or stays, and the function does, on zero too
+  -- `f=1; unset -vf f`, and `-n`, which the standard does not have: the variable goes or stays, and
+  -- the function does, on zero too
   pub unset_letters :
       map (λ a. map (λ letters. unset_by letters a) (codes "-vf" ∷ codes "-n" ∷ [])) (removing_either false false ∷ removing_either true false ∷ removing_either false true ∷ removing_either true true ∷ [])
       ≡ replicate 2 (just (codes "1"), true) ∷ replicate 2 (None, true) ∷ replicate 2 (just (codes "1"), false) ∷ replicate 2 (None, false) ∷ []
   pub unset_ends : seen ending (x ∷ []) (unsets (x ∷ []) ∷ one x ∷ []) ≡ None ∷ []
-  -- `set c`, on zero and on another status, where the parameters may change; `set -o errexit`, `set -e`, `set -eo errexit c`, `set -e -- -c`, `set --`, `set +e c`
+  -- `set c`, on zero and on another status, when the parameters may change; `set -o errexit`,
+  -- `set -e`, `set -eo errexit c`, `set -e -- -c`, `set --`, `set +e c`
   pub set_one : parameters quiet (sets (codes "c" ∷ []) ∷ []) ≡ codes "c" ∷ []
   pub set_fails : parameters (with_status 1) (sets (codes "c" ∷ []) ∷ []) ≡ a_and_b
   pub set_fails_behind : parameters (record quiet { status = 1; sets_parameters = true }) (sets (codes "c" ∷ []) ∷ []) ≡ codes "c" ∷ []
@@ -464,7 +476,8 @@ pub record BuiltinsAsExpected : Type 0 where
   pub set_behind_dashes : parameters quiet (sets (codes "-e" ∷ codes "--" ∷ codes "-c" ∷ []) ∷ []) ≡ codes "-c" ∷ []
   pub set_nothing : parameters quiet (sets (codes "--" ∷ []) ∷ []) ≡ []
   pub set_plus : parameters quiet (sets (codes "+e" ∷ codes "c" ∷ []) ∷ []) ≡ codes "c" ∷ []
-  -- with the parameters a and b: `shift`, `shift 2`, `shift 0`, `shift 3` (nothing changes, and it may end), `shift w`
+  -- with the parameters a and b: `shift`, `shift 2`, `shift 0`, `shift 3` (nothing changes, and it
+  -- may end), `shift w`
   pub shift_one : parameters quiet (shifts [] ∷ []) ≡ codes "b" ∷ []
   pub shift_two : parameters quiet (shifts (codes "2" ∷ []) ∷ []) ≡ []
   pub shift_none : parameters quiet (shifts (codes "0" ∷ []) ∷ []) ≡ a_and_b
@@ -473,7 +486,8 @@ pub record BuiltinsAsExpected : Type 0 where
       map (λ t. value (codes "s") (ends_by quiet bare_start a_and_b (list (shifts (t ∷ []) ∷ notes ∷ [])))) (codes "2" ∷ codes "3" ∷ []) ≡ just (codes "0") ∷ just (codes "1") ∷ []
   pub shift_ends : seen ending (x ∷ []) (shifts [] ∷ one x ∷ []) ≡ None ∷ []
   pub shift_word : map (λ n. parameters (record quiet { count = n }) (shifts (codes "w" ∷ []) ∷ [])) (0 ∷ 1 ∷ 2 ∷ []) ≡ a_and_b ∷ (codes "b" ∷ []) ∷ [] ∷ []
-  -- `getopts ab: x`: x, OPTIND and OPTARG, on zero, and on another status, with OPTARG set before; `getopts -- ab x`, `getopts ab 1x`
+  -- `getopts ab: x`: x, OPTIND and OPTARG, on zero, and on another status, with OPTARG set before;
+  -- `getopts -- ab x`, `getopts ab 1x`
   pub getopts_option : seen (of_values 0 (just (codes "a") ∷ just (codes "2") ∷ [])) opt_names (getopts_command (codes "ab:" ∷ x ∷ [])) ≡ just (codes "a") ∷ just (codes "2") ∷ None ∷ []
   pub getopts_argument :
       seen (of_values 0 (just (codes "b") ∷ just (codes "3") ∷ just (codes "v") ∷ [])) opt_names (getopts_command (codes "ab:" ∷ x ∷ []))
@@ -493,17 +507,19 @@ pub record BuiltinsAsExpected : Type 0 where
       x_and_status (of_values 0 (just (codes "v") ∷ [])) (before x (plain (codes "1")) (map plain (codes "read" ∷ codes "-r" ∷ x ∷ [])) ∷ notes ∷ [])
       ≡ just (codes "v") ∷ just (codes "0") ∷ []
   pub read_other : seen quiet (x ∷ y ∷ []) (before x (plain (codes "1")) (map plain (codes "read" ∷ codes "-r" ∷ y ∷ [])) ∷ []) ≡ None ∷ just [] ∷ []
-  -- `read -d y x`, `read -rd: x`, `read -- x`: x alone is a name; `read -t 1 x`: no option of the standard
+  -- `read -d y x`, `read -rd: x`, `read -- x`: x alone is a name; `read -t 1 x`: no option of the
+  -- standard
   pub read_delimited : seen quiet (x ∷ y ∷ []) (utility (plain (codes "read") ∷ plain (codes "-d") ∷ plain y ∷ plain x ∷ []) ∷ []) ≡ just [] ∷ None ∷ []
   pub read_delimiter_behind : seen quiet (x ∷ y ∷ []) (says (codes "read" ∷ codes "-rd:" ∷ x ∷ []) ∷ []) ≡ just [] ∷ None ∷ []
   pub read_behind_dashes : seen quiet (x ∷ y ∷ []) (says (codes "read" ∷ codes "--" ∷ x ∷ []) ∷ []) ≡ just [] ∷ None ∷ []
   pub read_timed : x_and_status (of_values 0 (just (codes "v") ∷ [])) (says (codes "read" ∷ codes "-t" ∷ codes "1" ∷ x ∷ []) ∷ notes ∷ []) ≡ None ∷ just (codes "1") ∷ []
-  -- `cd /`, where PWD and OLDPWD get values and where they do not
+  -- `cd /`, if PWD and OLDPWD get values and if they do not
   pub cd_sets :
       seen (of_values 0 (just (codes "/") ∷ just (codes "/o") ∷ [])) (codes "PWD" ∷ codes "OLDPWD" ∷ []) (says (codes "cd" ∷ codes "/" ∷ []) ∷ [])
       ≡ just (codes "/") ∷ just (codes "/o") ∷ []
   pub cd_stays : seen quiet (codes "PWD" ∷ codes "OLDPWD" ∷ []) (says (codes "cd" ∷ codes "/" ∷ []) ∷ []) ≡ None ∷ None ∷ []
-  -- `exec ls` goes on with another status than zero alone, or ends; `exit 3` ends; `true` is zero, and `false` another status
+  -- `exec ls` goes on with another status than zero alone, or ends; `exit 3` ends; `true` is zero,
+  -- and `false` another status
   pub exec_fails : x_and_status quiet (says (codes "exec" ∷ codes "ls" ∷ []) ∷ notes ∷ []) ≡ None ∷ just (codes "1") ∷ []
   pub exec_ends : x_and_status ending (says (codes "exec" ∷ codes "ls" ∷ []) ∷ notes ∷ []) ≡ None ∷ None ∷ []
   pub exec_alone : x_and_status quiet (says (codes "exec" ∷ []) ∷ notes ∷ []) ≡ None ∷ just (codes "0") ∷ []
@@ -543,7 +559,8 @@ abbrev pub two_patterns : List Command
 two_patterns =
     compound (Case (plain (codes "a")) (more_clauses (words_of (assigning x (codes "t") ∷ assigning y (codes "t") ∷ [])) (list (one z ∷ [])) clause.Break no_clauses)) ∷ []
 
--- the two parts of a pipeline started, sharing the environment of their shell or not, with the parameters a and b
+-- the two parts of a pipeline started, sharing the environment of their shell or not, with the
+-- parameters a and b
 abbrev pub parted : Bool → Command → Command → World
 parted share c d = far 2 0 (record quiet { shares = λ n. share }) (start_world bare_start a_and_b (both c d))
 
@@ -579,28 +596,31 @@ numbered_calls =
     alone defines (lone (program.utility 6 0 f))
 
 pub record CallsAsExpected : Type 0 where
-  -- `f() { return 3; x=1; }; f`; `f() { return; x=1; }; f` and `f() { return 256; }; f`, which have any status; `return 3` outside
+  -- `f() { return 3; x=1; }; f`; `f() { return; x=1; }; f` and `f() { return 256; }; f`, which have
+  -- any status; `return 3` outside
   pub return_in_function : x_and_status quiet (function f (returns ∷ one x ∷ []) ∷ says_one f ∷ notes ∷ []) ≡ None ∷ just (codes "3") ∷ []
   pub return_alone : x_and_status (with_status 7) (function f (says_one (codes "return") ∷ one x ∷ []) ∷ says_one f ∷ notes ∷ []) ≡ None ∷ just (codes "7") ∷ []
   pub return_beyond : x_and_status (with_status 7) (function f (says (codes "return" ∷ codes "256" ∷ []) ∷ []) ∷ says_one f ∷ notes ∷ []) ≡ None ∷ just (codes "7") ∷ []
   -- `f() { return "$x"; }; x=3; f`: an operand that is computed may give any status
   pub return_computed :
       x_and_status (with_status 7) (function f (utility (plain (codes "return") ∷ value_of x ∷ []) ∷ []) ∷ assign x (codes "3") ∷ says_one f ∷ notes ∷ []) ≡ just (codes "3") ∷ just (codes "7") ∷ []
-  -- `f() { while :; do break; done; }; f`: at `break` the work knows its commands by their numbers, and the function that it returns from
+  -- `f() { while :; do break; done; }; f`: at `break` the work knows its commands by their numbers,
+  -- and the function that it returns from
   pub work_is_numbered :
       option_map (λ r. flat_map numbered r.work) ((far 30 0 quiet (start_world bare_start [] numbered_calls)).processes 0) ≡ Some ((5, []) ∷ (3, []) ∷ (6, f) ∷ [])
   pub return_outside : x_and_status quiet (returns ∷ notes ∷ []) ≡ None ∷ just (codes "3") ∷ []
   pub return_ends : x_and_status ending (returns ∷ notes ∷ []) ≡ None ∷ None ∷ []
   -- `f() { for x in a b; do return 3; done; }; f`: the loop is left
   pub return_in_loop : x_and_status quiet (function f (over x a_and_b (returns ∷ []) ∷ []) ∷ says_one f ∷ notes ∷ []) ≡ just (codes "a") ∷ just (codes "3") ∷ []
-  -- `f() { g() { x=1; }; }; f; g`, and without `f`, where g is a utility; `f() { f() { x=1; }; }; f; f`
+  -- `f() { g() { x=1; }; }; f; g`, and without `f`, so that g is a utility;
+  -- `f() { f() { x=1; }; }; f; f`
   pub inner_definition : seen quiet (x ∷ []) (function f (function (codes "g") (one x ∷ []) ∷ []) ∷ says_one f ∷ says_one (codes "g") ∷ []) ≡ just (codes "1") ∷ []
   pub no_inner_definition : seen quiet (x ∷ []) (function f (function (codes "g") (one x ∷ []) ∷ []) ∷ says_one (codes "g") ∷ []) ≡ None ∷ []
   pub definition_again : seen quiet (x ∷ []) (function f (function f (one x ∷ []) ∷ []) ∷ says_one f ∷ says_one f ∷ []) ≡ just (codes "1") ∷ []
   -- `f() { :; } >"${x=$1}"`, and then `f a`: the redirection is the body's
   pub definition_opens_nothing : seen quiet (x ∷ []) (opening_function ∷ []) ≡ None ∷ []
   pub call_opens : seen quiet (x ∷ []) (opening_function ∷ says (f ∷ codes "a" ∷ []) ∷ []) ≡ just (codes "a") ∷ []
-  -- the operands of each call are its parameters, and those of its caller are back behind it
+  -- the operands of each call are its parameters, and those of its caller are back after it
   pub calls_have_parameters : seen quiet (x ∷ y ∷ z ∷ codes "s" ∷ []) nested_calls ≡ just (codes "a") ∷ just (codes "1") ∷ just (codes "2") ∷ just (codes "0") ∷ []
   -- `f() { shift; set c d e; y="$#"; }; f q; x="$#"`, with the parameters a and b
   pub own_parameters :
@@ -614,7 +634,8 @@ pub record CallsAsExpected : Type 0 where
   -- `sleep 1 & ( x="$!" )`: `!` is in the copy, or is lost
   pub job_is_carried : job_met true ≡ false
   pub job_is_lost : job_met false ≡ true
-  -- `case a in "${x=t}"|"${y=t}") z=1;; esac`: the first pattern matches; the second one, tried first, does; none does
+  -- `case a in "${x=t}"
+  -- "${y=t}") z=1;; esac`: the first pattern matches; the second one, tried first, does; none does
   pub pattern_first : seen (record quiet { matches = true }) (x ∷ y ∷ z ∷ []) two_patterns ≡ just (codes "t") ∷ None ∷ just (codes "1") ∷ []
   pub pattern_second : seen (record quiet { matches = true; pattern = 1 }) (x ∷ y ∷ z ∷ []) two_patterns ≡ None ∷ just (codes "t") ∷ just (codes "1") ∷ []
   pub pattern_none :
@@ -623,7 +644,8 @@ pub record CallsAsExpected : Type 0 where
   -- `shift | ls`: a part that shares removes a parameter of the shell, and another part does not
   pub shift_shared : (behind (1 ∷ 2 ∷ 0 ∷ []) (parted true (shifts []) (says_one (codes "ls")))).frames 0 ≡ codes "b" ∷ []
   pub shift_copied : (behind (1 ∷ 2 ∷ 0 ∷ []) (parted false (shifts []) (says_one (codes "ls")))).frames 0 ≡ a_and_b
-  -- `{ x=1; x=2; } | y="$x"`, with parts that share: y is read before, between and behind
+  -- `{ x=1; x=2; }
+  -- y="$x"`, with parts that share: y is read before, between and after
   pub interleaved :
       map (λ n. value y (behind (1 ∷ 0 ∷ []) (behind (2 ∷ []) (far n 1 quiet (parted true twice (gives y (value_of x))))))) (0 ∷ 9 ∷ 100 ∷ [])
       ≡ just [] ∷ just (codes "1") ∷ just (codes "2") ∷ []
@@ -639,7 +661,8 @@ pub record CallsAsExpected : Type 0 where
   pub asynchronous_apart : value x (behind (0 ∷ 1 ∷ []) (start_world bare_start [] (in_background (one x)))) ≡ None
   pub asynchronous_own : ((behind (0 ∷ 1 ∷ []) (start_world bare_start [] (in_background (one x)))).environments 1).variables x ≡ just (codes "1")
   pub asynchronous_status : value (codes "s") (ends_by (with_status 7) bare_start [] (in_background false_command)) ≡ just (codes "0")
-  -- a subshell, a pipeline, an assignment, `break` and `continue` have any status; `f() { false; }; f` has that of its body
+  -- a subshell, a pipeline, an assignment, `break` and `continue` have any status;
+  -- `f() { false; }; f` has that of its body
   pub any_status :
       map (λ t. value (codes "s") (ends_by (with_status 7) bare_start [] t))
       (list (subshell (says_one (codes ":") ∷ []) ∷ notes ∷ []) ∷ before_notes true_command true_command ∷ list (one x ∷ notes ∷ [])

@@ -1,6 +1,6 @@
 -- What the name of a command means.
--- POSIX.1-2024, XCU 2.9.1.4 (command search and execution), 2.15 (special built-in utilities): a name that no table here has is a
--- utility that changes no variable and no function.
+-- POSIX.1-2024, XCU 2.9.1.4 (command search and execution), 2.15 (special built-in utilities). A
+-- name that no table here has is a utility that changes no variable and no function.
 use Rattle.std.specs.Prelude.{ℕ, ◌==◌, Bool, true, false, length, List, [], ◌∷◌, ◌++◌, map, codes, if◌then◌else◌}
 use Rattle.std.specs.List.{filter}
 use Rattle.std.specs.Str.{bytes_eq}
@@ -38,7 +38,8 @@ known_names =
 abbrev pub refused : KnownName → Text × Kind
 refused n = (known_text n, kind.Refused n)
 
--- what these run stands in no reading of a script; names to which the standard gives no meaning; words that other shells reserve
+-- utilities that run what is in no reading of a script; names to which the standard gives no
+-- meaning; words that other shells reserve
 abbrev pub refused_names : Table
 refused_names =
     map refused

@@ -26,7 +26,7 @@ for_ended_text = codes "for x; do a; done"
 abbrev pub for_ended_script : Script
 for_ended_script = lone (command 1 0 (kind.For (span 4 5) None (lone (utility 2 10 11))) [])
 
--- no words behind `in`, over lines
+-- no words after `in`, over lines
 abbrev pub for_none_text : List ℕ
 for_none_text = codes "for x\nin\ndo\na\ndone"
 
@@ -82,7 +82,7 @@ abbrev pub numbered_script : Script
 numbered_script = lone (simple 1 0 (element.Word (bare 0 1) ∷ element.Redirection (redirect 3 (Some (span 2 3)) (File direction.Write (bare 4 5)))
     ∷ []))
 
--- a reserved word behind an assignment is a command name
+-- a reserved word after an assignment is a command name
 abbrev pub behind_assignment_text : List ℕ
 behind_assignment_text = codes "x=1 if"
 

@@ -15,7 +15,7 @@ use Rattle.sh_tree.specs.examples.Language.{plain, bare, simple, utility, lone}
 use Rattle.sh_tree.specs.standard.language.Reading.{Reads}
 use Rattle.sh_tree.specs.standard.language.Trees.{param, redirect, command, and_or, item, here_doc, item_of, span, word, pipe, script}
 
--- nothing in a body is special behind a quoted delimiter
+-- nothing in a body is special after a quoted delimiter
 abbrev pub verbatim_text : List ℕ
 verbatim_text = codes "<<'E'\n$x\\\nE\n"
 
@@ -31,7 +31,7 @@ abbrev pub two_documents_script : Script
 two_documents_script = lone (simple 1 0 (element.Redirection (redirect 0 None (Here (here_doc false (bare 2 3) (bare 8 10) (span 10 11))))
     ∷ element.Redirection (redirect 4 None (Here (here_doc false (bare 6 7) (bare 12 14) (span 14 15)))) ∷ []))
 
--- the body stands in the group
+-- the body is in the group
 abbrev pub group_document_text : List ℕ
 group_document_text = codes "{ <<E\na\nE\n}"
 
@@ -39,7 +39,7 @@ abbrev pub group_document_script : Script
 group_document_script = lone (command 1 0 (kind.Group (lone (simple 2 2 (element.Redirection (redirect 2 None
     (Here (here_doc false (bare 4 5) (bare 6 8) (span 8 9)))) ∷ [])))) [])
 
--- the body stands in the substitution
+-- the body is in the substitution
 abbrev pub inner_document_text : List ℕ
 inner_document_text = codes "$(<<E\na\nE\n)"
 
@@ -48,7 +48,7 @@ inner_document_script = lone (simple 1 0 (element.Word (word 0 11
     (part.Command Paren (span 0 11) (lone (simple 2 2 (element.Redirection (redirect 2 None
     (Here (here_doc false (bare 4 5) (bare 6 8) (span 8 9)))) ∷ []))) ∷ [])) ∷ []))
 
--- the body stands behind the pipeline
+-- the body is after the pipeline
 abbrev pub piped_document_text : List ℕ
 piped_document_text = codes "<<E | a\nb\nE\n"
 
@@ -112,7 +112,7 @@ paired_document_script = lone (simple 1 0 (element.Redirection (redirect 0 None 
     (part.Command Paren (span 4 18) (lone (simple 2 6 (element.Redirection (redirect 6 None (Here (here_doc false (word 8 11
     (part.Single single.Plain (span 8 11) ∷ [])) (bare 12 15) (span 15 16)))) ∷ []))) ∷ plain 18 19 ∷ [])) (span 19 20)))) ∷ []))
 
--- a tab behind a line continuation in an end line
+-- a tab after a line continuation in an end line
 abbrev pub tabbed_end_text : List ℕ
 tabbed_end_text = codes "<<-E\nx\n\\\n\tE\n"
 

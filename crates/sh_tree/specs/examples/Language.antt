@@ -1,5 +1,6 @@
 -- Texts and their trees, and texts that nothing reads, against which the definitions are held.
--- POSIX.1-2024, XCU 2.2 (quoting), 2.6 (word expansions), 2.7 (redirection), 2.9 (commands), 2.10 (shell grammar).
+-- POSIX.1-2024, XCU 2.2 (quoting), 2.6 (word expansions), 2.7 (redirection), 2.9 (commands), 2.10
+-- (shell grammar).
 use Rattle.std.specs.Prelude.{ℕ, true, false, List, [], ◌∷◌, ◌+◌, codes, Some, None}
 use Rattle.sh_tree.specs.declared.tree.Action.TheVariants as action
 use Rattle.sh_tree.specs.declared.tree.AndOr.{AndOr}
@@ -36,7 +37,7 @@ use Rattle.sh_tree.specs.standard.language.Reading.{Reads}
 abbrev pub plain : ℕ → ℕ → Part
 plain i j = part.Plain (span i j)
 
--- the name behind the `$` at i
+-- the name after the `$` at i
 abbrev pub value : ℕ → ℕ → Part
 value i j = param i j (Name (span (i + 1) j)) operator.Value
 
@@ -122,7 +123,7 @@ passed_text = codes "x=1 echo \"$x\""
 abbrev pub passed_script : Script
 passed_script = lone (simple 1 0 (element.Assignment (span 0 1) (bare 2 3) ∷ assigned_words))
 
--- tilde-prefixes in a value, and a command behind it
+-- tilde-prefixes in a value, and a command after it
 abbrev pub home_text : List ℕ
 home_text = codes "a=~/b:~ c"
 
@@ -232,7 +233,7 @@ ticked_part = part.Double (span 5 15) (part.Command Backquote (span 6 14) ticked
 abbrev pub ticked_script : Script
 ticked_script = lone (simple 1 0 (element.Word (bare 0 4) ∷ element.Word (word 5 15 (ticked_part ∷ [])) ∷ []))
 
--- a here-document, whose body stands at its operator
+-- a here-document, whose body is at its operator
 abbrev pub document_text : List ℕ
 document_text = codes "cat <<E; b\nx$y\nE\n"
 
@@ -320,7 +321,7 @@ through_clauses = clause (bare 10 11 ∷ []) (lone (utility 2 13 14)) FallThroug
 abbrev pub through_script : Script
 through_script = lone (command 1 0 (kind.Branches (bare 5 6) through_clauses) [])
 
--- a definition, whose body has the redirection; a pipeline behind `!`; an asynchronous list
+-- a definition, whose body has the redirection; a pipeline after `!`; an asynchronous list
 abbrev pub defined_text : List ℕ
 defined_text = codes "f() { a; } >b && ! c | d &"
 
@@ -335,7 +336,8 @@ defined_list =
 abbrev pub defined_script : Script
 defined_script = script (item defined_list true ∷ [])
 
--- pipelines of two utilities, one that removes a variable and one that has its value, in both orders
+-- pipelines of two utilities, one that removes a variable and one that has its value, in both
+-- orders
 abbrev pub pipe_script : Command → Command → Script
 pipe_script c d = script (item (and_or (pipe false (c ∷ d ∷ [])) []) false ∷ [])
 
@@ -360,14 +362,14 @@ unset_last_words = element.Word (bare 12 17) ∷ element.Word (bare 18 19) ∷ [
 abbrev pub unset_last_script : Script
 unset_last_script = pipe_script (simple 1 0 double_words) (simple 2 12 unset_last_words)
 
--- a closing word directly behind a compound command
+-- a closing word directly after a compound command
 abbrev pub closed_text : List ℕ
 closed_text = codes "{ { a; } }"
 
 abbrev pub closed_script : Script
 closed_script = lone (command 1 0 (kind.Group (lone (command 2 2 (kind.Group (lone (utility 3 4 5))) []))) [])
 
--- a separator behind a compound command
+-- a separator after a compound command
 abbrev pub separated_text : List ℕ
 separated_text = codes "{ a; };"
 
@@ -399,7 +401,7 @@ split_name_text = codes "\"$a\\\nb\""
 abbrev pub no_expression_text : List ℕ
 no_expression_text = codes "$(())"
 
--- a line continuation in an operator, behind an IO number
+-- a line continuation in an operator, after an IO number
 abbrev pub split_operator_text : List ℕ
 split_operator_text = codes "2<<\\\n-E"
 
@@ -415,15 +417,17 @@ clause_end_text = codes "a;;"
 abbrev pub open_document_text : List ℕ
 open_document_text = codes "<<E\n"
 
--- a line continuation in a body that is quoted, inside one that is not: its lines are joined, or are not
+-- a line continuation in a body that is quoted, inside one that is not: its lines are joined, or
+-- are not
 abbrev pub split_document_text : List ℕ
 split_document_text = codes "<<E\n$(<<'F'\n\\\nF\n)\nE\n"
 
--- a line that begins with a tab in a body, inside one that is stripped of tabs: they are stripped from its lines too, or are not
+-- a line that begins with a tab in a body, inside one that is stripped of tabs: they are stripped
+-- from its lines too, or are not
 abbrev pub tabbed_document_text : List ℕ
 tabbed_document_text = codes "<<-E\n$(<<F\n\tx\nF\n)\nE\n"
 
--- no closing word behind a compound command with a redirection
+-- no closing word after a compound command with a redirection
 abbrev pub unclosed_text : List ℕ
 unclosed_text = codes "{ { a; } >f }"
 

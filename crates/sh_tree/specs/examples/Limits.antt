@@ -1,5 +1,6 @@
 -- How deep texts may nest, and how deep the body of a here-document lies: as deep as its operator.
--- The standard has no such limit; POSIX.1-2024, XCU 2.6.2 (parameter expansion), 2.6.4 (arithmetic expansion), 2.7.4 (here-document).
+-- The standard has no such limit; POSIX.1-2024, XCU 2.6.2 (parameter expansion), 2.6.4 (arithmetic
+-- expansion), 2.7.4 (here-document).
 use Rattle.std.specs.Prelude.{ℕ, zero, suc, false, List, [], ◌∷◌, ◌++◌, codes, None}
 use Rattle.sh_tree.specs.declared.tree.CommandStyle.TheVariants.{Paren}
 use Rattle.sh_tree.specs.declared.tree.Element.TheVariants as element

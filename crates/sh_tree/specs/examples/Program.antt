@@ -1,5 +1,6 @@
 -- Texts and the programs of their trees, against which the definitions are held.
--- POSIX.1-2024, XCU 2.6 (word expansions), 2.7 (redirection), 2.9 (shell commands), 2.10 (shell grammar).
+-- POSIX.1-2024, XCU 2.6 (word expansions), 2.7 (redirection), 2.9 (shell commands), 2.10 (shell
+-- grammar).
 use Rattle.std.specs.Prelude.{◌≡◌, ℕ, true, false, [], ◌∷◌, codes, None}
 use Rattle.sh_tree.specs.declared.tree.Action.TheVariants as action
 use Rattle.sh_tree.specs.declared.tree.Binary.TheVariants as binary
@@ -21,7 +22,7 @@ only x = more_parts x no_parts
 abbrev pub plain : Text → Word
 plain t = only (Plain t)
 
--- an expansion of `x`, whose `$` stands there
+-- an expansion of `x`, whose `$` is there
 abbrev pub expansion : ℕ → Operator → Part
 expansion at operator = Expansion at (Variable (codes "x")) operator
 

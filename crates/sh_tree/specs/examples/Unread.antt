@@ -1,4 +1,4 @@
--- More texts that nothing reads: forms that are left out by name, and what is asked of bodies.
+-- More texts that nothing reads: forms that are refused by name, and what is required of bodies.
 -- POSIX.1-2024, XCU 2.2 (quoting), 2.6 (word expansions), 2.7 (redirection), 2.7.4 (here-document).
 use Rattle.std.specs.Prelude.{ℕ, List, codes}
 use Rattle.sh_tree.specs.examples.Language.{IsUnread}
@@ -17,18 +17,19 @@ double_bracket_text = codes "[[ a ]]"
 abbrev pub location_text : List ℕ
 location_text = codes "{a}>f"
 
--- quotes and expansions that are left out
+-- refused quotes and expansions
 abbrev pub dollar_single_text : List ℕ
 dollar_single_text = codes "$'\\x'"
 
--- commands between backquotes: a comment that runs over the closing one, and a backslash that goes before they are read
+-- commands between backquotes: a comment that runs over the closing one, and a backslash that goes
+-- before they are read
 abbrev pub backquoted_text : List ℕ
 backquoted_text = codes "`# a`"
 
 abbrev pub backslash_text : List ℕ
 backslash_text = codes "`a \\$x`"
 
--- one that stands before any other byte goes in double quotes
+-- one that is before any other byte goes in double quotes
 abbrev pub quoted_backslash_text : List ℕ
 quoted_backslash_text = codes "\"`a \\b`\""
 
@@ -57,11 +58,12 @@ dollar_delimiter_text = codes "<<$'a'\na\n"
 abbrev pub across_text : List ℕ
 across_text = codes "<<E $(\n)\nE\n"
 
--- a tab behind a line continuation in a body that is stripped of tabs
+-- a tab after a line continuation in a body that is stripped of tabs
 abbrev pub joined_tab_text : List ℕ
 joined_tab_text = codes "<<-E\n\\\n\ta\nE\n"
 
--- in a substitution in a body, whose lines are joined before it is read, or are not: a line continuation in a comment
+-- in a substitution in a body, whose lines are joined before it is read, or are not: a line
+-- continuation in a comment
 abbrev pub split_comment_text : List ℕ
 split_comment_text = codes "<<E\n$(: # c\\\n)\nE\n"
 

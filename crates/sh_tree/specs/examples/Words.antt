@@ -44,7 +44,7 @@ abbrev pub quoted_default_script : Script
 quoted_default_script = lone (simple 1 0 (element.Word (word 0 10
     (part.Double (span 0 10) (param 1 9 (Name (span 3 4)) (operator.Use action.Default false (bare 5 8)) ∷ []) ∷ [])) ∷ []))
 
--- all positional parameters, where fields are split
+-- all positional parameters, if fields are split
 abbrev pub all_fields_text : List ℕ
 all_fields_text = codes "\"$@\" ${x+$@}"
 
@@ -60,7 +60,7 @@ exported_text = codes "export x=~"
 abbrev pub exported_script : Script
 exported_script = lone (simple 1 0 (element.Word (bare 0 6) ∷ element.Word (word 7 10 (plain 7 9 ∷ part.Tilde (span 9 10) ∷ [])) ∷ []))
 
--- no tilde-prefix behind a colon in a pattern in double quotes
+-- no tilde-prefix after a colon in a pattern in double quotes
 abbrev pub colon_in_double_text : List ℕ
 colon_in_double_text = codes "x=\"${y%:~}\""
 
@@ -76,7 +76,7 @@ abbrev pub colon_in_arithmetic_script : Script
 colon_in_arithmetic_script = lone (simple 1 0 (element.Assignment (span 0 1) (word 2 15
     (part.Arith (span 2 15) (expr.Expansion (param 5 13 (Name (span 7 8)) (operator.Remove removal.ShortSuffix (bare 9 12)))) ∷ [])) ∷ []))
 
--- one behind an unquoted colon
+-- one after an unquoted colon
 abbrev pub colon_in_pattern_text : List ℕ
 colon_in_pattern_text = codes "x=${y%:~}"
 

@@ -1,4 +1,4 @@
--- What is told of each fault, form and rule.
+-- What shset reports of each fault, form and rule.
 -- The words of shset's refusals; the standard has none.
 use Rattle.std.specs.Prelude.{ℕ, List, ◌++◌, codes}
 use Rattle.sh_tree.specs.declared.known.Declaration.{Declaration}
@@ -24,7 +24,7 @@ fault_text fault.UnexpectedToken = codes "unexpected token"
 fault_text fault.UnexpectedEnd = codes "unexpected end"
 fault_text fault.FinalBackslash = codes "a backslash ends the script"
 
--- what is told of a thing that is left out
+-- what shset reports of a refused thing
 abbrev pub outside : List ℕ → List ℕ
 outside name = name ++ codes " is outside the profile"
 

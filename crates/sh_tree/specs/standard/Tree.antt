@@ -1,4 +1,4 @@
--- The bytes of a script that a span of its tree stands for.
+-- The bytes of a script that a span of its tree covers.
 -- POSIX.1-2024, XCU 2.10 (shell grammar).
 use Rattle.std.specs.Prelude.{ℕ, List, slice_range}
 use Rattle.sh_tree.specs.declared.tree.Span.{Span}

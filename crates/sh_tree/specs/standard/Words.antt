@@ -1,4 +1,5 @@
--- What definitions read off a tree: the lone command of a pipeline, the elements of a command and the static text of a word.
+-- What definitions read off a tree: the lone command of a pipeline, the elements of a command and
+-- the static text of a word.
 -- POSIX.1-2024, XCU 2.2 (quoting), 2.6 (word expansions), 2.9.1 (simple commands).
 use Rattle.std.specs.Prelude.{◌≡◌, ℕ, Bool, false, not, ◌&&◌, ◌||◌, ◌==◌, ◌-◌, length, take, drop, if◌then◌else◌, List, [], ◌∷◌, ◌++◌, Option, Some, None, refl}
 use Rattle.std.proofs.Common.{◌∙◌, ap}
@@ -83,7 +84,8 @@ behind_first t = drop 1 t
 abbrev pub between_ends : List ℕ → List ℕ
 between_ends t = take (length t - 2) (drop 1 t)
 
--- What a backslash in `$'` and the byte c are (XCU 2.2.4): the control character that the letter names, or c itself.
+-- What a backslash in `$'` and the byte c are (XCU 2.2.4): the control character that the letter
+-- names, or c itself.
 unfoldable pub escape_of : ℕ → ℕ
 escape_of c =
     if c == byte.small_a then byte.alert
@@ -96,7 +98,7 @@ escape_of c =
     else (if c == byte.small_v then byte.vertical_tab
     else c)))))))
 
--- what stands between `$'` and `'`, with one byte for each backslash and the byte behind it
+-- what is between `$'` and `'`, with one byte for each backslash and the byte after it
 unfoldable pub escaped : List ℕ → List ℕ
 escaped [] = []
 escaped (c ∷ []) = c ∷ []

@@ -1,11 +1,14 @@
--- What a step leaves open: the results of commands and of expansions, and the choices that the standard leaves to a shell.
--- POSIX.1-2024, XCU 2.6 (word expansions), 2.8.1 (consequences of shell errors), 2.9.1 (simple commands), 2.9.2 (pipelines).
+-- What a step leaves open: the results of commands and of expansions, and the choices that the
+-- standard leaves to a shell.
+-- POSIX.1-2024, XCU 2.6 (word expansions), 2.8.1 (consequences of shell errors), 2.9.1 (simple
+-- commands), 2.9.2 (pipelines).
 use Rattle.std.specs.Prelude.{ℕ, Bool, List, Option, ℤ}
 use Rattle.sh_tree.specs.standard.program.Syntax.{Text}
 
 -- what one expansion, or one operation of arithmetic, takes
 pub record Given : Type 0 where
-  -- bytes: those of `$0` and `$-`, of `$'`, the output of a substitution, what a removal leaves, a user's home
+  -- bytes: those of `$0` and `$-`, of `$'`, the output of a substitution, what a removal leaves, a
+  -- user's home
   pub text : Text
   -- the process number in `$$` or `$!`
   pub number : ℕ
@@ -13,7 +16,7 @@ pub record Given : Type 0 where
   pub integer : ℤ
   -- an assignment or an operation fails, which ends the process
   pub fails : Bool
-  -- `x += e` reads x before e, and not behind it
+  -- `x += e` reads x before e, and not after it
   pub reads_first : Bool
   -- `!` goes into the copy for a substitution
   pub carries : Bool
@@ -43,15 +46,17 @@ pub record Answer : Type 0 where
   pub redirection_leaves_out : Bool
   -- the assignment fails, which ends the process
   pub assignment_fails : Bool
-  -- an error in a special built-in utility ends the process, or the command of `exec` is run in its place
+  -- an error in a special built-in utility ends the process, or the command of `exec` is run in its
+  -- place
   pub special_ends : Bool
   -- the pattern matches
   pub matches : Bool
-  -- the values that `read`, `getopts` and `cd` give to their names, where they give one
+  -- the values that `read`, `getopts` and `cd` give to their names, if they give one
   pub values : ℕ → Option Text
   -- by place, the operands that `unset` removes though it fails
   pub removes : ℕ → Bool
-  -- by place, the variables and the functions that `unset` removes by options that the standard does not have
+  -- by place, the variables and the functions that `unset` removes by options that the standard
+  -- does not have
   pub removes_variable : ℕ → Bool
   pub removes_function : ℕ → Bool
   -- `set` gives its parameters though it fails
@@ -64,7 +69,8 @@ pub record Answer : Type 0 where
   pub shares : ℕ → Bool
   -- the prefix assignments that do not outlive a function
   pub restores : ℕ → Bool
-  -- an assignment comes before the redirections that are left; before a function or another utility all assignments do
+  -- an assignment comes before the redirections that are left; before a function or another utility
+  -- all assignments do
   pub assignment_first : Bool
   -- the redirection without a command name, of a function or of a utility is expanded in a copy
   pub redirection_in_copy : Bool

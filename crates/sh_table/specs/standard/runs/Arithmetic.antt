@@ -1,5 +1,6 @@
--- What an arithmetic expression does, once the expansions in it are done: the names that it reads and assigns. Each constant, name and
--- operation takes its integer from the answers, so that nothing here hangs on the width of integers.
+-- What an arithmetic expression does, once the expansions in it are done: the names that it reads
+-- and assigns. Each constant, name and operation takes its integer from the answers, so that
+-- nothing here depends on the width of integers.
 -- POSIX.1-2024, XCU 1.1.2.1 (arithmetic precision and operations), 2.6.4 (arithmetic expansion).
 use Rattle.std.specs.Prelude.{Bool, false, not, if◌then◌else◌, Option, Some, None, ℤ}
 use Rattle.sh_tree.specs.declared.tree.Binary.{Binary}
@@ -36,7 +37,7 @@ read_name (Some t) s = if is_computed t then s else stray s
 abbrev pub named : Text → State → State
 named name s = read_name (s.environment.variables name) s
 
--- the right side of `&&` behind zero, and that of `||` behind another, are not computed
+-- the right side of `&&` is not computed after zero, nor that of `||` after another value
 unfoldable pub skips : Binary → Bool → Bool
 skips binary.And zero = zero
 skips binary.Or zero = not zero
@@ -51,7 +52,7 @@ read_where reads (Some operator) name s = if reads then named name s else s
 abbrev pub stored : Text → Computed → Computed
 stored name r = computes r.value (with_environment r.state (with_variable r.state.environment name (Some (integer_text r.value))))
 
--- a value is assigned to the name, which is read before it is computed, or behind that
+-- a value is assigned to the name, which is read before the value is computed, or after that
 unfoldable pub operated_assignment : Bool → Text → Option Binary → (State → Computed) → State → Computed
 operated_assignment first name operator value s =
     then_computed (value (read_where first operator name s))
@@ -68,7 +69,7 @@ unfoldable mutual
   evaluate (Choice e then_one else_one) s = then_computed (evaluate e s) (λ n t. if is_zero n then evaluate else_one t else evaluate then_one t)
   evaluate (Assigned at name operator e) s = operated_assignment (s.given 0).reads_first name operator (evaluate e) (taken s)
 
-  -- the operands behind the first one, whose value is this
+  -- the operands after the first one, whose value is this
   pub evaluate_rest : Operands → ℤ → State → Computed
   evaluate_rest no_operands n s = computes n s
   evaluate_rest (more_operands operator e rest) n s =

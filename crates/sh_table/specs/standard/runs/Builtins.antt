@@ -1,5 +1,6 @@
 -- What built-in utilities do.
--- POSIX.1-2024, XCU 2.8.1 (consequences of shell errors), 2.15 (special built-in utilities), 3 (cd, getopts, read).
+-- POSIX.1-2024, XCU 2.8.1 (consequences of shell errors), 2.15 (special built-in utilities), 3 (cd,
+-- getopts, read).
 use Rattle.std.specs.Prelude.{ℕ, zero, suc, ◌+◌, ◌==◌, nat_le, Bool, true, false, not, ◌||◌, if◌then◌else◌, List, [], ◌∷◌, length, drop, codes, Option, Some, None, is_some, unwrap_or}
 use Rattle.sh_tree.specs.standard.program.Syntax as p
 use Rattle.sh_tree.specs.standard.program.Syntax.{Text}
@@ -50,7 +51,7 @@ unset_names e a x = removed_all x.0 a 0 e x.1
 
 -- Set and shift
 
--- positional words: on zero they are the parameters; otherwise the answer tells whether
+-- positional words: on zero they are the parameters; otherwise the answer says whether they are
 unfoldable pub set_frame : Frame → Answer → Option (List Text) → Frame
 set_frame f a None = f
 set_frame f a (Some ts) = if a.status == 0 || a.sets_parameters then ts else f
@@ -72,8 +73,8 @@ unfoldable pub returned : Environment → Frame → ℕ → List Work → Answer
 returned e f status ws a None = goes e f status ws
 returned e f status ws a (Some x) = record (goes (restored a.restores 0 e x.0) f status x.1) { frames = Pops }
 
--- A special built-in utility, with the words of its command and its operands. What `.`, `eval` and an action of `trap` run is not stated: no script with them is
--- analysed.
+-- A special built-in utility, with the words of its command and its operands. What `.`, `eval` and
+-- an action of `trap` run is not stated: no script with them is analysed.
 unfoldable pub special : Environment → Frame → ℕ → List Work → Answer → p.Words → KnownName → List Text → Effect
 special e f status ws a vs known.Colon ts = goes e f 0 ws
 special e f status ws a vs known.Break ts = goes e f a.status (broken_off (loop_mark (unwrap_or (count_operand ts) 1) ws) ws)
@@ -102,7 +103,8 @@ given_to may_stay e name (Some t) = with_variable e name (Some t)
 given_to true e name None = e
 given_to false e name None = with_variable e name (Some [])
 
--- the names in their order: on zero each gets a value, but for those of prefix assignments; otherwise each may
+-- the names in their order: on zero each gets a value, except for those of prefix assignments;
+-- otherwise each may
 unfoldable pub read_into : List Text → Answer → ℕ → Environment → List Text → Environment
 read_into prefixes a n e [] = e
 read_into prefixes a n e (name ∷ names) =
@@ -113,7 +115,8 @@ unfoldable pub reads : List Text → Environment → Frame → List Work → Ans
 reads prefixes e f ws a None = goes e f (nonzero a.status) ws
 reads prefixes e f ws a (Some names) = goes (read_into prefixes a 0 e names) f a.status ws
 
--- its name and OPTIND get values as those of `read` do; OPTARG is set or not; without a valid name an error may leave these as they are
+-- its name and OPTIND get values as those of `read` do; OPTARG is set or not; without a valid name
+-- an error may leave these as they are
 unfoldable pub gets_option : List Text → Environment → Answer → Option Text → Environment
 gets_option prefixes e a None = with_variable (given_to true e (codes "OPTIND") (a.values 1)) (codes "OPTARG") (a.values 2)
 gets_option prefixes e a (Some name) = with_variable (read_into prefixes a 0 e (name ∷ codes "OPTIND" ∷ [])) (codes "OPTARG") (a.values 2)
@@ -122,8 +125,8 @@ gets_option prefixes e a (Some name) = with_variable (read_into prefixes a 0 e (
 unfoldable pub changes_directory : Environment → Answer → Environment
 changes_directory e a = given_to true (given_to true e (codes "PWD") (a.values 0)) (codes "OLDPWD") (a.values 1)
 
--- A utility with these operands: one that no row names changes nothing. What `command` runs is such a utility in every script that is
--- analysed.
+-- A utility with these operands: one that no row names changes nothing. What `command` runs is such
+-- a utility in every script that is analysed.
 unfoldable pub utility : List Text → Environment → Frame → List Work → Answer → Kind → List Text → Effect
 utility prefixes e f ws a kind.True ts = goes e f 0 ws
 utility prefixes e f ws a kind.False ts = goes e f (nonzero a.status) ws

@@ -1,11 +1,13 @@
 -- What a shell keeps for the commands that it runs.
--- POSIX.1-2024, XCU 2.5 (parameters and variables), 2.9.5 (functions), 2.13 (shell execution environment).
+-- POSIX.1-2024, XCU 2.5 (parameters and variables), 2.9.5 (functions), 2.13 (shell execution
+-- environment).
 use Rattle.std.specs.Prelude.{Bool, ◌&&◌, List, [], ◌∷◌, codes, Option, Some, if◌then◌else◌, unwrap_or}
 use Rattle.std.specs.List.{list_any}
 use Rattle.std.specs.Str.{bytes_eq}
 use Rattle.sh_tree.specs.standard.program.Syntax.{Text, Command}
 
--- the variables that are set, each with its value; the functions that are defined, each with its body; whether `!` is set
+-- the variables that are set, each with its value; the functions that are defined, each with its
+-- body; whether `!` is set
 pub record Environment : Type 0 where
   pub variables : Text → Option Text
   pub functions : Text → Option Command
@@ -49,6 +51,7 @@ copied carries e = record e { job = e.job && carries }
 abbrev pub blanks : Text
 blanks = 32 ∷ 9 ∷ 10 ∷ []
 
--- the separators of fields: the bytes of IFS, or space, tab and newline where it is not set (XCU 2.6.5)
+-- the separators of fields: the bytes of IFS, or space, tab and newline if it is not set (XCU
+-- 2.6.5)
 abbrev pub separators : Environment → Text
 separators e = unwrap_or (e.variables (codes "IFS")) blanks

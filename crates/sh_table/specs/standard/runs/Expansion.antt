@@ -1,6 +1,7 @@
--- What a word expands to, and what its expansion does: the variables that it sets, the processes that it starts, whether it meets a
--- parameter that is not set, and whether it ends the process.
--- POSIX.1-2024, XCU 2.5 (parameters), 2.6.1 (tilde), 2.6.2 (parameters), 2.6.3 (substitution), 2.6.4 (arithmetic), 2.6.7 (quotes).
+-- What a word expands to, and what its expansion does. It may set variables, start processes, meet
+-- a parameter that is not set, and end the process.
+-- POSIX.1-2024, XCU 2.5 (parameters), 2.6.1 (tilde), 2.6.2 (parameters), 2.6.3 (substitution),
+-- 2.6.4 (arithmetic), 2.6.7 (quotes).
 use Rattle.std.specs.Prelude.{ℕ, ◌-◌, ◌==◌, Bool, true, false, not, ◌&&◌, ◌||◌, if◌then◌else◌, List, [], ◌∷◌, ◌++◌, length, take, codes, Option, Some, None, is_some, slice_get}
 use Rattle.std.specs.List.{flat_map}
 use Rattle.sh_tree.specs.declared.tree.Action.{Action}
@@ -34,7 +35,8 @@ pub record Context : Type 0 where
 abbrev pub in_fields : Context
 in_fields = record { split = true; plain = Literal }
 
--- a word that is one field whatever it holds: a value, the target of a redirection, a word or a pattern of `case`
+-- a word that is one field whatever it holds: a value, the target of a redirection, a word or a
+-- pattern of `case`
 abbrev pub in_one : Context
 in_one = record { split = false; plain = Literal }
 
@@ -46,7 +48,7 @@ unfoldable pub value_origin : Origin → Origin
 value_origin Quoted = Quoted
 value_origin _ = Unquoted
 
--- the word behind `-` and `+`, whose own bytes are split too
+-- the word after `-` and `+`, whose own bytes are split too
 abbrev pub in_default : Context → Context
 in_default c = record c { plain = value_origin c.plain }
 
@@ -82,15 +84,16 @@ broken origin [] = []
 broken origin (t ∷ []) = Bytes origin t ∷ []
 broken origin (t ∷ u ∷ ts) = Bytes origin t ∷ Break ∷ broken origin (u ∷ ts)
 
--- all positional parameters as one text: in `$*` the first separator stands between two of them (XCU 2.5.2), in `$@`, for which the
--- standard leaves it open, a blank
+-- All positional parameters as one text. Between two of them, `$*` has the first separator (XCU
+-- 2.5.2), and `$@`, for which the standard leaves it open, a space.
 abbrev pub star_text : Environment → Frame → Text
 star_text e f = joined_by (take 1 (separators e)) f
 
 abbrev pub at_text : Frame → Text
 at_text f = joined_by (32 ∷ []) f
 
--- `$*`: in quotes, and where fields are not split, it is one text, and otherwise each parameter is a field of its own
+-- `$*`: in quotes, and if fields are not split, it is one text, and otherwise each parameter is a
+-- field of its own
 unfoldable pub star_pieces : Context → Environment → Frame → List Piece
 star_pieces c e f = if c.split then star_split (value_origin c.plain) else Bytes (value_origin c.plain) (star_text e f) ∷ []
   where
@@ -152,7 +155,8 @@ module _ (f : Frame) (status : ℕ) where
   default_assigned c (Variable name) t false s = gives (Bytes (value_origin c.plain) t ∷ []) (with_environment s (with_variable s.environment name (Some t)))
   default_assigned c _ t _ s = gives [] (ending s)
 
-  -- `-`, `=`, `?` and `+`, with what the word behind them expands to: in the same context, and as one field
+  -- `-`, `=`, `?` and `+`, with what the word after them expands to: in the same context, and as
+  -- one field
   unfoldable pub used : Context → Parameter → Given → Action → Option Text → Bool → (State → Outcome) → (State → Outcome) → State → Outcome
   used c p g action.Default v true word text s = needed c v s
   used c p g action.Default v false word text s = word s

@@ -10,7 +10,8 @@ use Rattle.sh_table.specs.standard.runs.Expansion.{Literal, Quoted, Unquoted, Pi
 
 -- Field splitting
 
--- what a scan for fields meets: a byte that stands, a separator of white space or another one, a quoted piece, a break
+-- what a scan for fields meets: a byte of a field, a separator of white space or another one, a
+-- quoted piece, a break
 pub data Sign : Type 0 where
   Stands : Marked → Sign
   Blank : Sign
@@ -31,7 +32,8 @@ piece_signs separators (Bytes Quoted t) = Quote ∷ map (stands true) t
 piece_signs separators (Bytes Unquoted t) = map (unquoted_sign separators) t
 piece_signs separators Break = Breaks ∷ []
 
--- where a scan is: no field has begun; a field ended with white space, which another separator may follow; a field so far
+-- where a scan is: no field has begun; a field ended with white space, which another separator may
+-- follow; a field so far
 pub data Scan : Type 0 where
   Before : Scan
   Behind : Scan
@@ -110,6 +112,6 @@ holds_pattern (Bytes Literal t) = list_any begins_pattern t
 holds_pattern (Bytes Unquoted t) = list_any begins_pattern t
 holds_pattern Break = false
 
--- an unquoted expansion of the word is changed by splitting, or stands in what may be a pattern
+-- an unquoted expansion of the word is changed by splitting, or is in what may be a pattern
 unfoldable pub splits : Text → List Piece → Bool
 splits separators ps = list_any (is_split separators) ps || (list_any is_expanded ps && list_any holds_pattern ps)

@@ -1,6 +1,7 @@
 -- Numbers as texts.
--- POSIX.1-2024, XCU 2.5.2 (special parameters), 2.6.4 (arithmetic expansion): decimal numerals, and which texts are integer constants; blanks may
--- stand round a value that is computed with, and one of blanks alone is zero.
+-- POSIX.1-2024, XCU 2.5.2 (special parameters), 2.6.4 (arithmetic expansion). Decimal numerals, and
+-- which texts are integer constants. Blanks may be round a value that is computed with, and one of
+-- blanks alone is zero.
 use Rattle.std.specs.Prelude.{ℕ, zero, suc, ◌+◌, ◌/◌, ◌%◌, ◌==◌, nat_lt, Bool, true, false, not, ◌&&◌, ◌||◌, if◌then◌else◌, [], ◌∷◌, ◌++◌, length, ℤ, pos, negsuc, Option, Some, None}
 use Rattle.std.specs.List.{list_all}
 use Rattle.sh_tree.specs.standard.language.Bytes.{is_digit, is_octal, is_hexadecimal, is_in, decimal}
@@ -34,7 +35,7 @@ is_number (c ∷ cs) = list_all is_digit (c ∷ cs)
 unfoldable pub number_in : Text → Option ℕ
 number_in t = if is_number t then Some (decimal 0 t) else None
 
--- behind a leading zero: octal digits, or `x` and hexadecimal ones
+-- after a leading zero: octal digits, or `x` and hexadecimal ones
 unfoldable pub is_behind_zero : Text → Bool
 is_behind_zero [] = true
 is_behind_zero (c ∷ cs) = list_all is_octal (c ∷ cs) || ((c == 120 || c == 88) && not (length cs == 0) && list_all is_hexadecimal cs)

@@ -1,5 +1,6 @@
 -- What built-in utilities read off their operands.
--- POSIX.1-2024, XCU 2.15 (export, readonly, set, shift, return, break, unset, exec), 3 (read, getopts).
+-- POSIX.1-2024, XCU 2.15 (export, readonly, set, shift, return, break, unset, exec), 3 (read,
+-- getopts).
 use Rattle.std.specs.Prelude.{ℕ, ◌+◌, ◌==◌, nat_lt, Bool, true, false, not, ◌&&◌, ◌||◌, if◌then◌else◌, List, [], ◌∷◌, ◌++◌, length, take, drop, filter, codes, Option, Some, None, option_and_then}
 use Rattle.std.specs.List.{list_all, filter_map}
 use Rattle.std.specs.Str.{bytes_eq}
@@ -27,8 +28,9 @@ is_dashed _ = false
 abbrev pub ends_options : Text → Bool
 ends_options t = bytes_eq t (codes "--")
 
--- what `unset` removes: by `-v` variables, by `-f` functions, without options a variable or else a function; by both together, or by
--- options that the standard does not have, either, both or none
+-- What `unset` removes: by `-v` variables, by `-f` functions, without options a variable or else a
+-- function. By both together, or by options that the standard does not have, it removes either,
+-- both or none.
 pub data Removal : Type 0 where
   OfVariables : Removal
   OfFunctions : Removal
@@ -61,7 +63,7 @@ ends_in_o [] = false
 ends_in_o (c ∷ []) = c == 111
 ends_in_o (c ∷ d ∷ cs) = ends_in_o (d ∷ cs)
 
--- the positional words of `set`, if there are some or `--` stands before them
+-- the positional words of `set`, if there are some or `--` precedes them
 unfoldable pub set_from : Bool → List Text → Option (List Text)
 set_from takes [] = None
 set_from true (t ∷ ts) = set_from false ts
@@ -90,7 +92,8 @@ unfoldable pub has_command : List Text → Bool
 has_command [] = false
 has_command (t ∷ ts) = not (length t == 0) && not (is_first (λ c. c == 45) t)
 
--- The options of `read`: `-r`, and `-d` with its argument, the rest of the word or the next word. Another one is none of the standard's.
+-- The options of `read`: `-r`, and `-d` with its argument, the rest of the word or the next word.
+-- Another one is none of the standard's.
 pub data ReadOption : Type 0 where
   Complete : ReadOption
   TakesNext : ReadOption
@@ -119,7 +122,7 @@ read_names ts = names_of (read_from false ts)
     names_of None = None
     names_of (Some operands) = Some (filter is_name operands)
 
--- the name of `getopts`: its second operand, behind `--` if that stands first
+-- the name of `getopts`: its second operand, after `--` if that is first
 unfoldable pub second_name : List Text → Option Text
 second_name (t ∷ name ∷ ts) = if is_name name then Some name else None
 second_name _ = None

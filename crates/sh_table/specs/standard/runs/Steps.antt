@@ -27,7 +27,8 @@ unfoldable pub opened : p.Redirect → p.Word
 opened (p.File w) = w
 opened (p.Here w) = w
 
--- how a simple command goes on, by its fields: without a name, as a special built-in utility, or otherwise as a function or a utility
+-- how a simple command goes on, by its fields: without a name, as a special built-in utility, or
+-- otherwise as a function or a utility
 pub data Manner : Type 0 where
   Nameless : Manner
   Special : (name : KnownName) (operands : List Text) → Manner
@@ -57,7 +58,7 @@ word_fields c a o = if c.split then fields (separators o.state.environment) a.di
 unfoldable pub word_splits : Context → Outcome → Bool
 word_splits c o = c.split && not o.state.ended && splits (separators o.state.environment) o.pieces
 
--- the status behind substitutions is theirs
+-- the status after substitutions is theirs
 unfoldable pub status_behind : State → ℕ → Answer → ℕ
 status_behind s status a = substituted s.copies
   where
@@ -65,8 +66,9 @@ status_behind s status a = substituted s.copies
     substituted [] = status
     substituted (c ∷ cs) = a.status
 
--- which of what is left of a simple command comes next: without a name and before a special built-in utility in any order, otherwise
--- the redirections, unless all assignments come before those that are left
+-- Which of what is left of a simple command comes next. Without a name and before a special
+-- built-in utility, any order is possible. Otherwise the redirections come first, unless all
+-- assignments come before those that are left.
 pub data Preparation : Type 0 where
   ready : Preparation
   next_redirect : p.Redirect → p.Redirects → Preparation
@@ -99,12 +101,12 @@ picked n w p.no_words = (w, p.no_words)
 picked zero w (p.more_words v vs) = (w, p.more_words v vs)
 picked (suc n) w (p.more_words v vs) = ((picked n v vs).0, p.more_words w (picked n v vs).1)
 
--- `&&` goes on behind zero, `||` behind another status
+-- `&&` goes on after zero, `||` after another status
 unfoldable pub takes_link : Link → ℕ → Bool
 takes_link link.AndThen status = status == 0
 takes_link link.OrElse status = not (status == 0)
 
--- `while` takes a turn behind zero, `until` behind another status
+-- `while` takes a turn after zero, `until` after another status
 unfoldable pub takes_turn : LoopKind → ℕ → Bool
 takes_turn loop.While status = status == 0
 takes_turn loop.Until status = not (status == 0)
@@ -165,14 +167,16 @@ module _ (e : Environment) (f : Frame) (status : ℕ) (ws : List Work) (a : Answ
       after_expansion o.state (word_splits c o)
       (unless_ended o.state (goes o.state.environment f (status_behind o.state status a) (Words k left (ts ++ word_fields c a o) rs xs ∷ ws)))
 
-  -- a redirection failed: a special built-in utility ends the process, and a function may; what is behind it is not done; without a name
-  -- the redirections and assignments that are left may be done all the same
+  -- A redirection failed: a special built-in utility ends the process, and a function may. What
+  -- follows the redirection is not done. Without a name the redirections and assignments that are
+  -- left may be done all the same.
   unfoldable pub failed_in : Manner → Environment → List Work → Effect
   failed_in Nameless d next = if a.redirection_leaves_out then goes d f (nonzero a.status) ws else goes d f status next
   failed_in (Special t ts) d next = ends d f
   failed_in (Named t ts) d next = if a.redirection_ends && is_some (d.functions t) then ends d f else goes d f (nonzero a.status) ws
 
-  -- a redirection, and what comes where it failed: in a copy its early end is a failure, and nothing else stays of it
+  -- A redirection, and what comes if it failed. If a copy expands it, its early end is a failure,
+  -- and nothing else stays of it.
   unfoldable pub redirected : Bool → State → List Work → (Environment → Effect) → Effect
   redirected copied s next failed =
       if copied then (if s.ended || a.redirection_fails then failed e else goes e f (status_behind s status a) next)
@@ -189,7 +193,8 @@ module _ (e : Environment) (f : Frame) (status : ℕ) (ws : List Work) (a : Answ
   invoked k t ts rs xs None = Utility k t ts rs xs (map (λ x. x.0) xs) []
   invoked k t ts rs xs (Some body) = Call k.number t ts body rs xs []
 
-  -- the redirections and assignments are done, but for those that a function or a utility has left
+  -- the redirections and assignments are done, except for those that a function or a utility has
+  -- left
   unfoldable pub prepared : Simple → Manner → p.Redirects → Assignments → Bool → Effect
   prepared k Nameless rs xs failed = goes e f (if failed then nonzero a.status else a.status) ws
   prepared k (Special name ts) rs xs failed = special_or_end e f status ws a (operands_in k.elements) name ts
@@ -204,7 +209,7 @@ module _ (e : Environment) (f : Frame) (status : ℕ) (ws : List Work) (a : Answ
       let o = expanded in_one value in
       after_expansion o.state false (unless_ended o.state (assignment name o (Prepare k ts rs rest failed ∷ ws)))
 
-  -- the value of a prefix assignment: it may be expanded in a copy, of which nothing stays
+  -- the value of a prefix assignment: a copy may expand it, and nothing of the copy stays
   abbrev pub kept : State → State
   kept s = record s { environment = if a.value_in_copy then e else s.environment }
 
@@ -212,7 +217,8 @@ module _ (e : Environment) (f : Frame) (status : ℕ) (ws : List Work) (a : Answ
   abbrev pub seen : List (Text × Text) → List (Text × Text)
   seen values = if a.sees then values else []
 
-  -- a utility's environment gets the values, and the shell's own does not; redirections behind the values do not see them
+  -- A utility's environment gets the values, and the shell's own does not. Redirections after the
+  -- values do not see them.
   unfoldable pub utility_step : Simple → Text → List Text → p.Redirects → Assignments → List Text → List (Text × Text) → Effect
   utility_step k t ts p.no_redirects [] prefixes values = utility prefixes e f ws a (kind_of t) ts
   utility_step k t ts (p.more_redirects r rest) [] prefixes values =
@@ -224,7 +230,7 @@ module _ (e : Environment) (f : Frame) (status : ℕ) (ws : List Work) (a : Answ
       let left = Utility k t ts rs xs prefixes (values ++ (x.0, pieces_text o.pieces) ∷ []) in
       after_expansion s false (unless_ended s (if a.assignment_fails then ends s.environment f else goes s.environment f (status_behind s status a) (left ∷ ws)))
 
-  -- what a redirection behind the prefix assignments of a function does: it does not see them
+  -- what a redirection after the prefix assignments of a function does: it does not see them
   abbrev pub unseen : Saved → p.Redirect → State
   unseen saved r =
       let s = (expand f status in_one (opened r) (fresh (restored (λ n. true) 0 e saved) a.given)).state in
@@ -310,7 +316,7 @@ module _ (e : Environment) (f : Frame) (status : ℕ) (ws : List Work) (a : Answ
   for_fields n name [] body = goes e f status ws
   for_fields n name (t ∷ ts) body = if a.assignment_fails then ends e f else goes (with_variable e name (Some t)) f status (Items body ∷ ForFields n name ts body ∷ ws)
 
-  -- the list of a clause, and behind `;&` that of the next one; a list that is empty has any status
+  -- the list of a clause, and after `;&` that of the next one; a list that is empty has any status
   unfoldable pub fall : ℕ → ClauseEnd → p.Clauses → List Work
   fall n clause.Break rest = ws
   fall n clause.FallThrough rest = Fall n rest ∷ ws
@@ -340,7 +346,7 @@ module _ (e : Environment) (f : Frame) (status : ℕ) (ws : List Work) (a : Answ
   patterns n p.no_words body end rest = goes e f status (Clauses n rest ∷ ws)
   patterns n (p.more_words w vs) body end rest = matched n (picked a.pattern w vs).0 (picked a.pattern w vs).1 body end rest
 
-  -- what the front of the work asks for, with `ws` behind it
+  -- what the front of the work does, with `ws` after it
   unfoldable pub act_on : Work → Effect
   act_on (Items is) = items is
   act_on (Links ls) = links ls
@@ -363,7 +369,8 @@ module _ (e : Environment) (f : Frame) (status : ℕ) (ws : List Work) (a : Answ
   act_on (Patterns n left body end rest) = patterns n left body end rest
   act_on (Fall n cs) = falls n cs
 
--- what a process with this environment, innermost frame, last status and work does; without work it ends
+-- what a process with this environment, innermost frame, last status and work does; without work it
+-- ends
 unfoldable pub act : Environment → Frame → ℕ → List Work → Answer → Effect
 act e f status [] a = ends e f
 act e f status (w ∷ ws) a = act_on e f status ws a w

@@ -13,13 +13,13 @@ use Rattle.sh_table.specs.standard.runs.States.{State, Copy}
 abbrev pub Saved : Type 0
 Saved = List (Text × Option Text)
 
--- a simple command that is being done: its number, and what stands in it
+-- a simple command that is being done: its number, and what is in it
 pub record Simple : Type 0 where
   pub number : ℕ
   pub elements : p.Elements
 
--- What is left to do, a piece for each place at which a command of the syntax can stand still. A piece that belongs to one command has its
--- number, that of a simple command the command itself.
+-- What is left to do: a piece for each place at which a command of the syntax can pause. A piece
+-- that belongs to one command has its number, that of a simple command the command itself.
 pub data Work : Type 0 where
   -- the items of a list that are left
   Items : p.Items → Work
@@ -33,10 +33,11 @@ pub data Work : Type 0 where
   Words : (command : Simple) (left : p.Words) (fields : List Text) (redirects : p.Redirects) (assignments : Assignments) → Work
   -- its redirections and assignments that are left; whether a redirection failed
   Prepare : (command : Simple) (fields : List Text) (redirects : p.Redirects) (assignments : Assignments) (failed : Bool) → Work
-  -- a utility, its redirections and prefix assignments that are left, the names of all assignments, and the values so far
+  -- a utility, its redirections and prefix assignments that are left, the names of all assignments,
+  -- and the values so far
   Utility : (command : Simple) (name : Text) (operands : List Text) (redirects : p.Redirects) (assignments : Assignments) (prefixes : List Text) (values : List (Text × Text)) → Work
-  -- a function by its name, the redirections and prefix assignments that are left, and what the names of the other assignments had before,
-  -- the last one first
+  -- a function by its name, the redirections and prefix assignments that are left, and what the
+  -- names of the other assignments had before, the last one first
   Call : (number : ℕ) (function : Text) (operands : List Text) (body : p.Command) (redirects : p.Redirects) (assignments : Assignments) (saved : Saved) → Work
   -- the return mark of a call: the function, and what the names of prefix assignments had before
   Return : (number : ℕ) (function : Text) (saved : Saved) → Work
@@ -44,7 +45,8 @@ pub data Work : Type 0 where
   Compound : (number : ℕ) (redirects : p.Redirects) (kind : p.Kind) → Work
   If : (number : ℕ) (branches : p.Branches) (otherwise : p.Otherwise) → Work
   Then : (number : ℕ) (body : p.Items) (branches : p.Branches) (otherwise : p.Otherwise) → Work
-  -- the mark of a loop under its condition, with the status that the loop has if no other turn comes, and under its body
+  -- the mark of a loop under its condition, with the status that the loop has if no other turn
+  -- comes, and under its body
   Test : (number : ℕ) (kind : LoopKind) (condition body : p.Items) (last : ℕ) → Work
   Again : (number : ℕ) (kind : LoopKind) (condition body : p.Items) → Work
   -- the words of `for` that are left, and the fields so far
@@ -53,7 +55,7 @@ pub data Work : Type 0 where
   ForFields : (number : ℕ) (name : Text) (fields : List Text) (body : p.Items) → Work
   -- the clauses of `case` that are left
   Clauses : (number : ℕ) (clauses : p.Clauses) → Work
-  -- the patterns of a clause that are left, its list and its end, and the clauses behind it
+  -- the patterns of a clause that are left, its list and its end, and the clauses after it
   Patterns : (number : ℕ) (left : p.Words) (body : p.Items) (end : ClauseEnd) (rest : p.Clauses) → Work
   -- `;&`: the list of the next clause
   Fall : (number : ℕ) (clauses : p.Clauses) → Work
@@ -102,7 +104,8 @@ after_expansion s split x = record x { starts = of_copies s.copies ++ x.starts; 
 
 -- Jumps
 
--- what comes up to the mark of the n-th loop round a place, or of the outermost of its function and process: the mark, and the work behind
+-- What comes up to the mark of the n-th loop round a place, or of the outermost loop of its
+-- function and process: the mark, and the work after it.
 pub data Mark : Type 0 where
   no_loop : Mark
   marked : (turn : Work) (behind : List Work) → Mark
@@ -123,7 +126,7 @@ loop_mark n (Again number kind condition body ∷ ws) = nth_mark n (loop_mark (n
 loop_mark n (ForFields number name fields body ∷ ws) = nth_mark n (loop_mark (n - 1) ws) (ForFields number name fields body) ws
 loop_mark n (w ∷ ws) = loop_mark n ws
 
--- `break` goes on behind the loop, `continue` with its next turn; outside loops both change nothing
+-- `break` goes on after the loop, `continue` with its next turn; outside loops both change nothing
 unfoldable pub broken_off : Mark → List Work → List Work
 broken_off no_loop ws = ws
 broken_off (marked turn behind) ws = behind
@@ -132,7 +135,7 @@ unfoldable pub continued : Mark → List Work → List Work
 continued no_loop ws = ws
 continued (marked turn behind) ws = turn ∷ behind
 
--- the innermost return mark, and the work behind it
+-- the innermost return mark, and the work after it
 unfoldable pub return_mark : List Work → Option (Saved × List Work)
 return_mark [] = None
 return_mark (Return number function saved ∷ ws) = Some (saved, ws)

@@ -1,5 +1,6 @@
 -- Processes, what they share, and runs.
--- POSIX.1-2024, XCU 2.9.2 (pipelines), 2.9.3.1 (asynchronous lists), 2.13 (shell execution environment).
+-- POSIX.1-2024, XCU 2.9.2 (pipelines), 2.9.3.1 (asynchronous lists), 2.13 (shell execution
+-- environment).
 use Rattle.std.specs.Prelude.{◌≡◌, ℕ, zero, suc, ◌≤◌, Bool, true, false, ◌||◌, ◌==◌, if◌then◌else◌, List, [], ◌∷◌, length, codes, Option, Some, None, is_some, unwrap_or, option_map, option_and_then}
 use Rattle.sh_tree.specs.standard.program.Syntax.{Text}
 use Rattle.sh_tree.specs.standard.program.Syntax as p
@@ -12,8 +13,8 @@ use Rattle.sh_table.specs.standard.runs.Steps.{act}
 unfoldable pub put : {A : Type 0} → (ℕ → A) → ℕ → A → ℕ → A
 put f n v k = if k == n then v else f k
 
--- a process: the numbers of its environment and of its frames, the innermost first; the process whose environment it shares and that
--- waits for it; its last status; its work
+-- A process: the numbers of its environment and of its frames, the innermost first; the process
+-- whose environment it shares and that waits for it; its last status; its work.
 pub record Process : Type 0 where
   pub environment : ℕ
   pub frames : List ℕ
@@ -30,7 +31,8 @@ pub record World : Type 0 where
   pub next_environment : ℕ
   pub next_frame : ℕ
   pub next_process : ℕ
-  -- arithmetic met a value that is neither nothing nor an integer constant: nothing is said of what comes then
+  -- arithmetic met a value that is neither nothing nor an integer constant: nothing is said of what
+  -- comes then
   pub over : Bool
 
 -- the innermost frame
@@ -167,8 +169,8 @@ start_world e f t =
 abbrev pub start_names : List Text
 start_names = codes "IFS" ∷ codes "OPTIND" ∷ codes "PPID" ∷ []
 
--- What is allowed at the start: the declared names and those of every start are set, IFS to space, tab and newline; no function is
--- defined; there are at least so many positional parameters.
+-- What is allowed at the start: the declared names and those of every start are set, IFS to space,
+-- tab and newline; no function is defined; there are at least so many positional parameters.
 pub record IsStart (names : List Text) (args : ℕ) (e : Environment) (f : Frame) : Type 0 where
   pub always : (t : Text) → is_one_of start_names t ≡ true → is_some (e.variables t) ≡ true
   pub declared : (t : Text) → is_one_of names t ≡ true → is_some (e.variables t) ≡ true

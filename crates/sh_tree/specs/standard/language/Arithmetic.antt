@@ -15,7 +15,7 @@ use Rattle.sh_tree.specs.standard.language.Bytes.{is_in, is_blank, is_newline, i
 
 -- Blanks
 
--- how many bytes of blanks, newlines and line continuations stand at the front
+-- how many bytes of blanks, newlines and line continuations are at the front
 unfoldable pub space_length : List ℕ → ℕ
 space_length [] = 0
 space_length (c ∷ []) = if is_blank c || is_newline c then 1 else 0
@@ -25,7 +25,7 @@ space_length (c ∷ d ∷ cs) =
 
 -- Tokens
 
--- the operators, longer ones first; those that are left out among them
+-- the operators, longer ones first; refused ones are among them
 abbrev pub operator_table : List (List ℕ × Figure)
 operator_table =
     (codes "<<=", figure.Assign (Some op.ShiftLeft)) ∷ (codes ">>=", figure.Assign (Some op.ShiftRight))
@@ -46,14 +46,15 @@ operator_table =
     ∷ (codes ",", figure.LeftOut form.Arithmetic) ∷ (codes "'", figure.LeftOut form.Arithmetic) ∷ (codes "\"", figure.LeftOut form.Arithmetic)
     ∷ (codes "`", figure.LeftOut form.Backquoted) ∷ []
 
--- how long the constant at the front is: hexadecimal behind `0x` or `0X`, octal behind `0`, else decimal
+-- how long the constant at the front is: hexadecimal after `0x` or `0X`, octal after `0`, else
+-- decimal
 unfoldable pub constant_length : List ℕ → ℕ
 constant_length cs =
     if not (is_first (λ c. c == byte.digit_zero) cs) then run is_digit cs
     else (if is_first (is_in (codes "xX")) (drop 1 cs) && is_first is_hexadecimal (drop 2 cs) then run is_hexadecimal (drop 2 cs) + 2
     else run is_octal (drop 1 cs) + 1)
 
--- a name; `sizeof` is left out
+-- a name; `sizeof` is refused
 unfoldable pub name_figure : List ℕ → Figure × ℕ
 name_figure cs = if name_length cs == 6 && starts_with nat_eq cs (codes "sizeof") then (figure.LeftOut form.Arithmetic, 6) else (figure.Name, name_length cs)
 
@@ -73,7 +74,7 @@ figure_of cs =
     else (if is_first is_digit cs then (figure.Constant, constant_length cs)
     else figure_by cs (longest operator_table cs)))
 
--- line continuations behind the first n bytes keep them from being a longer token
+-- line continuations after the first n bytes keep them from being a longer token
 abbrev pub is_split : List ℕ → ℕ → Bool
 is_split cs n = is_joined (drop n cs) && nat_lt n (figure_of (joined_at n cs)).1
 
@@ -82,11 +83,11 @@ lexeme_from cs i found =
     if is_split cs found.1 then record { figure = figure.LeftOut form.Continuation; start = i + found.1; end = i + found.1 }
     else record { figure = found.0; start = i; end = i + found.1 }
 
--- where the token at or behind i begins
+-- where the token at or after i begins
 unfoldable pub lexeme_start : List ℕ → ℕ → ℕ
 lexeme_start b i = i + space_length (drop i b)
 
--- the token at or behind i; where a form is left out, it begins where that is told
+-- the token at or after i; a refused form begins where the refusal is reported
 unfoldable pub lexeme : List ℕ → ℕ → Lexeme
 lexeme b i = lexeme_from (drop (lexeme_start b i) b) (lexeme_start b i) (figure_of (drop (lexeme_start b i) b))
 
@@ -133,6 +134,6 @@ unfoldable pub assignment_of : Figure → Option (Option Binary)
 assignment_of (figure.Assign o) = Some o
 assignment_of _ = None
 
--- the byte behind a closing parenthesis closes the expansion too
+-- the byte after a closing parenthesis closes the expansion too
 unfoldable pub is_closed : List ℕ → ℕ → Bool
 is_closed b i = is_first (λ c. c == byte.right_parenthesis) (drop i b)

@@ -52,7 +52,7 @@ is_last_backquote [] = false
 is_last_backquote (c ∷ []) = c == byte.backquote
 is_last_backquote (c ∷ d ∷ cs) = false
 
--- how many bytes of a class stand at the front
+-- how many bytes of a class are at the front
 abbrev pub run : (ℕ → Bool) → List ℕ → ℕ
 run p cs = length (take_while p cs)
 
@@ -74,25 +74,26 @@ unfoldable pub decimal : ℕ → List ℕ → ℕ
 decimal n [] = n
 decimal n (c ∷ cs) = decimal (n * 10 + (c - byte.digit_zero)) cs
 
--- The first text of a table that stands at the front, what the table says of it, and its length. Longer texts stand before shorter ones.
+-- The first text of a table that is at the front: what the table says of it, and its length. Longer
+-- texts precede shorter ones.
 unfoldable pub longest : {A : Type 0} → List (List ℕ × A) → List ℕ → Option (A × ℕ)
 longest [] cs = None
 longest (x ∷ xs) cs = if starts_with nat_eq cs x.0 then Some (x.1, length x.0) else longest xs cs
 
--- how many bytes of line continuations stand at the front: each a backslash and a newline (XCU 2.2.1)
+-- how many bytes of line continuations are at the front: each a backslash and a newline (XCU 2.2.1)
 unfoldable pub joined_length : List ℕ → ℕ
 joined_length [] = 0
 joined_length (c ∷ []) = 0
 joined_length (c ∷ d ∷ cs) = if is_backslash c && is_newline d then 2 + joined_length cs else 0
 
--- the text behind the line continuations at its front
+-- the text after the line continuations at its front
 abbrev pub behind_joined : List ℕ → List ℕ
 behind_joined cs = drop (joined_length cs) cs
 
--- whether a line continuation stands at the front
+-- whether a line continuation is at the front
 abbrev pub is_joined : List ℕ → Bool
 is_joined cs = not (joined_length cs == 0)
 
--- the text without the line continuations behind its first n bytes
+-- the text without the line continuations after its first n bytes
 abbrev pub joined_at : ℕ → List ℕ → List ℕ
 joined_at n cs = take n cs ++ behind_joined (drop n cs)

@@ -1,5 +1,6 @@
--- The tokens of commands, each the longest, and what stands between them.
--- POSIX.1-2024, XCU 2.3 (token recognition), 2.4 (reserved words), 2.7 (redirection), 2.9.1 (simple commands), 2.10 (shell grammar).
+-- The tokens of commands, each the longest, and what is between them.
+-- POSIX.1-2024, XCU 2.3 (token recognition), 2.4 (reserved words), 2.7 (redirection), 2.9.1 (simple
+-- commands), 2.10 (shell grammar).
 use Rattle.std.specs.Prelude.{ℕ, ◌+◌, ◌-◌, Bool, true, false, not, ◌&&◌, ◌||◌, if◌then◌else◌, ◌==◌, List, [], ◌∷◌, ◌++◌, length, drop, take, codes, nat_lt, nat_le, Option, Some, None}
 use Rattle.std.specs.Str.{bytes_eq}
 use Rattle.sh_tree.specs.standard.language.Characters as byte
@@ -32,11 +33,12 @@ use Rattle.sh_tree.specs.standard.language.Trees.{span}
 abbrev pub comment_length : List ℕ → ℕ
 comment_length cs = run (λ c. not (is_newline c)) cs
 
--- A comment in a here-document's body ends where its line does once lines are joined, which is before its commands are read (XCU 2.7.4).
+-- A comment in a here-document's body ends where its line ends. Lines are joined before the body's
+-- commands are read (XCU 2.7.4), so the joined line has to end there too.
 abbrev pub is_comment : Bool → List ℕ → Bool
 is_comment joins cs = is_first (λ c. c == byte.number_sign) cs && (not joins || line_length true cs == comment_length cs)
 
--- how many bytes of blanks and line continuations stand at the front
+-- how many bytes of blanks and line continuations are at the front
 unfoldable pub gap_length : List ℕ → ℕ
 gap_length [] = 0
 gap_length (c ∷ []) = if is_blank c then 1 else 0
@@ -44,13 +46,14 @@ gap_length (c ∷ d ∷ cs) =
     if is_blank c then 1 + gap_length (d ∷ cs)
     else (if is_backslash c && is_newline d then 2 + gap_length cs else 0)
 
--- how many bytes of blanks, line continuations and a comment stand at the front
+-- how many bytes of blanks, line continuations and a comment are at the front
 unfoldable pub blank_length : Bool → List ℕ → ℕ
 blank_length joins cs =
     let rest = drop (gap_length cs) cs in
     if is_comment joins rest then gap_length cs + comment_length rest else gap_length cs
 
--- where the token at or behind i begins; `joins` says whether this is in a here-document's body whose lines are joined
+-- where the token at or after i begins; `joins` says whether this is in a here-document's body
+-- whose lines are joined
 unfoldable pub blanks : Bool → List ℕ → ℕ → ℕ
 blanks joins b i = i + blank_length joins (drop i b)
 
@@ -86,7 +89,7 @@ abbrev pub is_longer : ℕ → Option (Operator × ℕ) → Bool
 is_longer n (Some found) = nat_lt n found.1
 is_longer n None = false
 
--- line continuations behind the first n bytes keep them from being a longer operator
+-- line continuations after the first n bytes keep them from being a longer operator
 unfoldable pub is_split : List ℕ → ℕ → Bool
 is_split cs n = is_joined (drop n cs) && is_longer n (operator_of (joined_at n cs))
 
@@ -125,7 +128,8 @@ redirects _ = true
 abbrev pub is_bare : ℕ → Bool
 is_bare c = not (ends_token c) && not (is_in (codes "$`\"'\\") c)
 
--- The token at i, if all of its bytes are such, or no bytes. No name that is looked for has a `$` that stands for itself.
+-- The token at i, if all of its bytes are such, or no bytes. No name that is looked for has a `$`
+-- that is literal.
 unfoldable pub bare_word : List ℕ → ℕ → List ℕ
 bare_word b i =
     let n = run is_bare (drop i b) in
@@ -138,7 +142,7 @@ reserved_words =
     ∷ (codes "elif", word.Elif) ∷ (codes "else", word.Else) ∷ (codes "esac", word.Esac) ∷ (codes "fi", word.Fi) ∷ (codes "for", word.For) ∷ (codes "if", word.If)
     ∷ (codes "in", word.In) ∷ (codes "then", word.Then) ∷ (codes "until", word.Until) ∷ (codes "while", word.While) ∷ []
 
--- words by which other shells begin forms of their own where a command name stands
+-- words by which other shells begin forms of their own at the place of a command name
 abbrev pub left_out_names : List (List ℕ × Form)
 left_out_names =
     (codes "[[", form.LeftBrackets) ∷ (codes "]]", form.RightBrackets) ∷ (codes "function", form.Function) ∷ (codes "select", form.Select)
@@ -161,11 +165,12 @@ name_end b i = i + name_length (drop i b)
 unfoldable pub declares : List ℕ → ℕ → Bool
 declares b i = bytes_eq (codes "export") (bare_word b i) || bytes_eq (codes "readonly") (bare_word b i)
 
--- `<` or `>` stands at the front
+-- `<` or `>` is at the front
 abbrev pub is_angle : List ℕ → Bool
 is_angle cs = is_first (λ c. c == byte.less_than_sign || c == byte.greater_than_sign) cs
 
--- A word of three bytes or more that begins with `{` and ends with `}`, from i to j, before `<` or `>`: a shell may take it as an IO location (XCU 2.7).
+-- A word of three bytes or more, from i to j, that begins with `{` and ends with `}`, before `<` or
+-- `>`. A shell may take it as an IO location (XCU 2.7).
 unfoldable pub is_location : List ℕ → ℕ → ℕ → Bool
 is_location b i j =
     nat_le (i + 3) j && is_first (λ c. c == byte.left_brace) (drop i b) && is_first (λ c. c == byte.right_brace) (drop (j - 1) b)
@@ -342,7 +347,7 @@ abbrev pub is_reserved : Lead → Bool
 is_reserved (lead.Reserved r) = true
 is_reserved _ = false
 
--- whether what stands before the separator is an asynchronous list (XCU 2.9.3)
+-- whether the separator makes what precedes it an asynchronous list (XCU 2.9.3)
 unfoldable pub separator : Lead → Option Bool
 separator lead.Newline = Some false
 separator (lead.Operator op.Semicolon) = Some false

@@ -1,5 +1,6 @@
 -- The contexts in which whole words are read.
--- POSIX.1-2024, XCU 2.6.1 (tilde expansion), 2.6.5 (field splitting), 2.7 (redirection), 2.9.1 (simple commands), 2.15 (export, readonly).
+-- POSIX.1-2024, XCU 2.6.1 (tilde expansion), 2.6.5 (field splitting), 2.7 (redirection), 2.9.1
+-- (simple commands), 2.15 (export, readonly).
 use Rattle.std.specs.Prelude.{ℕ, ◌+◌, Bool, true, false, if◌then◌else◌, List, drop}
 use Rattle.sh_tree.specs.declared.token.word.Site.TheVariants as site
 use Rattle.sh_tree.specs.declared.token.word.Context.{Context}
@@ -12,7 +13,8 @@ use Rattle.sh_tree.specs.standard.language.Commands.{is_assignment, name_end}
 abbrev pub in_word : ℕ → Context
 in_word i = record { site = site.Word; origin = i; colons = false; fields = true; strip = false; body = false; backquotes = true }
 
--- a word at i whose fields are not split: the target of a redirection, the word of `case` and its patterns
+-- a word at i whose fields are not split: the target of a redirection, the word of `case` and its
+-- patterns
 abbrev pub in_unsplit : ℕ → Context
 in_unsplit i = record { site = site.Word; origin = i; colons = false; fields = false; strip = false; body = false; backquotes = true }
 
@@ -20,11 +22,13 @@ in_unsplit i = record { site = site.Word; origin = i; colons = false; fields = f
 abbrev pub in_value : ℕ → Context
 in_value i = record { site = site.Word; origin = i; colons = true; fields = false; strip = false; body = false; backquotes = true }
 
--- an operand of `export` or `readonly` at i: where it is an assignment in form, what stands behind `=` is read as a value
+-- an operand of `export` or `readonly` at i: if it is an assignment in form, what follows `=` is
+-- read as a value
 unfoldable pub in_operand : List ℕ → ℕ → Context
 in_operand b i = if is_assignment (drop i b) then in_value (name_end b i + 1) else in_word i
 
--- the body of a here-document, whether its delimiter is quoted, when nothing in it is special, and whether it is stripped of tabs
+-- the body of a here-document: `quoted` says whether its delimiter is quoted, so that nothing in it
+-- is special; `strip` whether `<<-` strips its tabs
 abbrev pub in_body : Bool → Bool → Context
 in_body quoted strip = record { site = if quoted then site.Verbatim else site.Body; origin = 0; colons = false; fields = false; strip = strip; body = true; backquotes = false }
 

@@ -12,7 +12,8 @@ use Rattle.sh_tree.specs.standard.language.Trees.{span}
 use Rattle.sh_tree.specs.standard.Tree.{text_of}
 use Rattle.sh_tree.specs.standard.Words.{parts_text}
 
--- a here-document whose body has not come: whether it strips tabs, whether its delimiter is quoted, the delimiter, and how deep the operator stands
+-- a here-document whose body has not come: whether it strips tabs, whether its delimiter is quoted,
+-- the delimiter, and how deep the operator is
 pub record Mark : Type 0 where
   pub strip : Bool
   pub quoted : Bool
@@ -44,7 +45,8 @@ delimiter_of b w = or_none (parts_text b w.parts)
 
 -- Lines
 
--- How long the line at the front is, without its newline. Where lines are joined, a backslash keeps the byte behind it from ending the line.
+-- How long the line at the front is, without its newline. If lines are joined, a backslash keeps
+-- the byte after it from ending the line.
 unfoldable pub line_length : Bool → List ℕ → ℕ
 line_length joins [] = 0
 line_length joins (c ∷ []) = if is_newline c then 0 else 1
@@ -64,17 +66,19 @@ line_text joins (c ∷ d ∷ cs) =
     if joins && is_backslash c then (if is_newline d then line_text joins cs else c ∷ d ∷ line_text joins cs)
     else c ∷ line_text joins (d ∷ cs)
 
--- what is compared with the delimiter: the line at i, joined where the delimiter is unquoted, without the tabs that `<<-` strips
+-- what is compared with the delimiter: the line at i, joined if the delimiter is unquoted, without
+-- the tabs that `<<-` strips
 unfoldable pub end_candidate : Mark → List ℕ → ℕ → List ℕ
 end_candidate m b i =
     let text = line_text (not m.quoted) (slice_range b i (line_end (not m.quoted) b i)) in
     if m.strip then drop (run is_tab text) text else text
 
--- the line behind the one that ends at e
+-- the line after the one that ends at e
 abbrev pub behind_line : List ℕ → ℕ → ℕ
 behind_line b e = if nat_lt e (length b) then e + 1 else e
 
--- the line that ends the body, from its first byte to before its newline, looked for from i on in at most n lines
+-- the line that ends the body, from its first byte to before its newline; the search takes at most
+-- n lines from i on
 unfoldable pub end_line_within : ℕ → Mark → List ℕ → ℕ → Option Span
 end_line_within zero m b i = None
 end_line_within (suc n) m b i =
@@ -93,22 +97,26 @@ unfoldable pub has_tabbed_line : Bool → List ℕ → Bool
 has_tabbed_line begins [] = false
 has_tabbed_line begins (c ∷ cs) = (begins && is_tab c) || has_tabbed_line (is_newline c) cs
 
--- A line continuation stands in the text, and behind it what this is true of. The second of two backslashes begins none.
+-- The text has a line continuation, and p is true of what follows it. The second of two backslashes
+-- begins none.
 unfoldable pub has_joined : (List ℕ → Bool) → List ℕ → Bool
 has_joined p [] = false
 has_joined p (c ∷ []) = false
 has_joined p (c ∷ d ∷ cs) = if is_backslash c then (is_newline d && p cs) || has_joined p cs else has_joined p (d ∷ cs)
 
--- a line continuation stands in the text
+-- the text has a line continuation
 abbrev pub is_split_text : List ℕ → Bool
 is_split_text t = has_joined (λ rest. true) t
 
--- a tab stands behind a line continuation in the body from i to e: whether `<<-` strips it is read in two ways
+-- a tab follows a line continuation in the body from i to e: shells differ in whether `<<-` strips
+-- it
 abbrev pub is_ambiguous : Mark → List ℕ → ℕ → ℕ → Bool
 is_ambiguous m b i e = m.strip && not m.quoted && has_joined (is_first is_tab) (slice_range b i e)
 
--- So are those of a here-document in such a body, but a quoted delimiter keeps its lines: they hold no continuation there. And where tabs are stripped around
--- it they are stripped from its lines too, but only `<<-` says so: no other's lines begin with one. The lines are those from the body's first to the end line, whose newline counts too.
+-- The lines of a here-document in the body of another are read in one way. In a joined body, a
+-- quoted delimiter keeps its lines: they hold no continuation. Where tabs are stripped around it,
+-- its lines lose them too, but only `<<-` says so: without it no line begins with a tab. The lines
+-- are those from the body's first to the end line, with its newline.
 unfoldable pub keeps_document : List ℕ → Bool → Bool → Mark → Span → Bool
 keeps_document b joins tabs m s =
     (not (joins && m.quoted) || not (is_split_text (text_of b s))) && (not tabs || m.strip || not (has_tabbed_line true (text_of b s)))

@@ -1,4 +1,5 @@
--- What the reading asks of a word's parts: whether one is quoted, and whether single quotes hold a line continuation.
+-- What the reading requires of a word's parts: whether one is quoted, and whether single quotes
+-- hold a line continuation.
 -- POSIX.1-2024, XCU 2.2.1 (line continuation), 2.2.2 (single quotes), 2.7.4 (here-document).
 use Rattle.std.specs.Prelude.{ℕ, Bool, true, false, not, ◌||◌, List, [], ◌∷◌, ◌++◌}
 use Rattle.std.specs.List.{list_any, list_all}
@@ -61,6 +62,7 @@ unfoldable pub singles : List Part → List Span
 singles [] = []
 singles (p ∷ ps) = singles_in p ++ singles ps
 
--- A here-document's lines are joined before its commands are read, but a reader of quotes keeps them: no single quotes in a body hold a continuation.
+-- A here-document's lines are joined before its commands are read, but a reader of quotes keeps
+-- them. So no single quotes in such a body hold a continuation.
 unfoldable pub keeps_lines : List ℕ → Bool → List Part → Bool
 keeps_lines b joins ps = not joins || list_all (λ s. not (is_split_text (text_of b s))) (singles ps)

@@ -1,5 +1,6 @@
--- Which bytes are which tree: a case for each production. What is left out by name has none.
--- POSIX.1-2024, XCU 2.2 (quoting), 2.6 (word expansions), 2.7 (redirection), 2.9 (commands), 2.10 (shell grammar).
+-- Which bytes are which tree: a case for each production. A refused form has none.
+-- POSIX.1-2024, XCU 2.2 (quoting), 2.6 (word expansions), 2.7 (redirection), 2.9 (commands), 2.10
+-- (shell grammar).
 use Rattle.std.specs.Prelude.{◌≡◌, ◌<◌, ◌≤◌, ℕ, ◌+◌, ◌-◌, Bool, true, false, not, ◌||◌, ◌&&◌, if◌then◌else◌, ◌==◌, List, [], ◌∷◌, length, take, codes, slice_index, Option, Some, None}
 use Rattle.std.specs.List.{list_any}
 use Rattle.sh_tree.specs.declared.limits.TheConstants.{MAX_COMMANDS, MAX_NESTING}
@@ -78,38 +79,38 @@ module _ (b : List ℕ) where
   abbrev pub figure_span : Spot → Span
   figure_span s = span (lexeme b s.at).start (lexeme b s.at).end
 
-  -- behind the token of arithmetic
+  -- after the token of arithmetic
   abbrev pub over : Spot → Spot
   over s = to (lexeme b s.at).end s
 
   abbrev pub lead_of : Stage → State → Lead
   lead_of g s = lead_at b g s.spot.at
 
-  -- the token, where a command may begin
+  -- the token at a place where a command may begin
   abbrev pub lead_here : State → Lead
   lead_here s = lead_of First s
 
-  -- at the token behind a token of n bytes
+  -- at the token after a token of n bytes
   abbrev pub skip : ℕ → State → State
   skip n s = next b (s.spot.at + n) s
 
-  -- at the token behind a token with this text
+  -- at the token after a token with this text
   abbrev pub behind_token : List ℕ → State → State
   behind_token t s = skip (length t) s
 
-  -- at the token behind a name
+  -- at the token after a name
   abbrev pub behind_name : State → State
   behind_name s = next b (name_end b s.spot.at) s
 
-  -- where the newlines behind a separator begin: a newline is one of them
+  -- where the newlines after a separator begin: a newline is one of them
   abbrev pub parted : State → State
   parted s = if is_newline_lead (lead_here s) then s else behind_token (codes ";") s
 
-  -- behind the parenthesis with which a clause may begin
+  -- after the parenthesis with which a clause may begin
   abbrev pub unopened : State → State
   unopened s = if is_open (lead_of (Named false) s) then behind_token (codes "(") s else s
 
-  -- the stage behind a word at i, and behind a redirection
+  -- the stage after a word at i, and after a redirection
   abbrev pub stage_behind : Stage → ℕ → Stage
   stage_behind (Named d) i = Named d
   stage_behind g i = Named (declares b i)
@@ -148,20 +149,20 @@ is_some None = false
 abbrev pub assigns : List ℕ → Spot → Bool
 assigns b s = is_figure_name (figure_at b s) && is_some (assignment_of (figure_at b (over b s)))
 
--- Above each constructor stands its production: WORD, NAME, NEWLINE and the like are tokens, LB is any number of newlines, [x] stands for x or nothing and
--- {x} for any number of x.
+-- The comment of each constructor is its production. WORD, NAME, NEWLINE and the like are tokens.
+-- LB is any number of newlines. [x] is x or nothing, and {x} is any number of x.
 -- limit: how deep things may nest
 module _ (limit : ℕ) where
   mutual
     -- Words (XCU 2.2, 2.6)
 
-    -- the parts from s on, behind the plain byte `prior`, up to the end of their context and over it
+    -- the parts from s on, after the plain byte `prior`, up to the end of their context and over it
     pub data ReadsParts : List ℕ → Context → ℕ → Spot → Spot → List Part → Type 0 where
       -- the end of the context
       stop : {b : List ℕ} {x : Context} {prior : ℕ} {s : Spot}
           → sign_at b x prior s ≡ sign.Stop
           → ReadsParts b x prior s (to (after b x prior s) s) []
-      -- TABS {part}, where `<<-` strips them
+      -- TABS {part}, if `<<-` strips them
       tabs : {b : List ℕ} {x : Context} {prior : ℕ} {s u : Spot} {ps : List Part}
           → sign_at b x prior s ≡ sign.Tabs → ReadsParts b x 0 (to (after b x prior s) s) u ps
           → ReadsParts b x prior s u ps
@@ -172,7 +173,7 @@ module _ (limit : ℕ) where
 
     -- the part from s to u, whose sign ends at e
     pub data ReadsPart : List ℕ → Context → Sign → Spot → ℕ → Spot → Part → Type 0 where
-      -- bytes that stand for themselves
+      -- literal bytes
       plain : {b : List ℕ} {x : Context} {s : Spot} {e : ℕ}
           → ReadsPart b x sign.Plain s e (to e s) (part.Plain (span s.at e))
       -- a backslash and a byte
@@ -246,7 +247,7 @@ module _ (limit : ℕ) where
       chain : {b : List ℕ} {x : Context} {l : ℕ} {s u v : Spot} {e : Expr} {es : List (Binary × Expr)}
           → l < unary_level → ReadsLevel b x (l + 1) s u e → ReadsOperands b x l u v es
           → ReadsLevel b x l s v (tree.chain_of e es)
-      -- unary, behind the tightest level
+      -- unary, after the tightest level
       operand : {b : List ℕ} {x : Context} {l : ℕ} {s u : Spot} {g : Figure} {e : Expr}
           → l ≡ unary_level → figure_at b s ≡ g → ReadsUnary b x g s u e
           → ReadsLevel b x l s u e
@@ -291,7 +292,8 @@ module _ (limit : ℕ) where
           → ReadsParts b x 0 s u ps → not x.colons && is_location b s.at u.at ≡ false → keeps_lines b s.joins ps ≡ true
           → ReadsWord b x s u (tree.word s.at u.at ps)
 
-    -- Redirections and here-documents (XCU 2.7); `body n` is the body of the n-th here-document of this level
+    -- Redirections and here-documents (XCU 2.7); `body n` is the body of the n-th here-document of
+    -- this level
 
     pub data ReadsRedirect : List ℕ → (ℕ → Document) → State → State → Redirect → Type 0 where
       -- [IO_NUMBER] (< | > | >| | >> | <> | <& | >&) WORD
@@ -318,7 +320,7 @@ module _ (limit : ℕ) where
           → is_redirection (lead_of b (Named false) s) ≡ true → ReadsRedirect b body s u r → ReadsRedirects b body u v rs
           → ReadsRedirects b body s v (r ∷ rs)
 
-    -- the bodies of the here-documents, one behind the other
+    -- the bodies of the here-documents, one after the other
     pub data ReadsDocuments : List ℕ → List Mark → State → State → Type 0 where
       -- nothing
       no_body : {b : List ℕ} {s : State} → ReadsDocuments b [] s s
@@ -452,7 +454,7 @@ module _ (limit : ℕ) where
           → lead_here b s ≡ lead.Reserved word.Elif → ReadsBranches b body (behind_token b (codes "elif") s) u bs o
           → ReadsElse b body s u bs o
 
-    -- what stands between the name of `for` and its `do`
+    -- what is between the name of `for` and its `do`
     pub data ReadsForWords : List ℕ → State → State → Option (List Word) → Type 0 where
       -- ; LB
       arguments_ended : {b : List ℕ} {s u : State}
@@ -549,7 +551,8 @@ module _ (limit : ℕ) where
           → ReadsLinks b body v w ps
           → ReadsLinks b body s w ((l, p) ∷ ps)
 
-    -- one item or more; a reserved word can follow the last one without a separator only where it may close something
+    -- one item or more; a reserved word can follow the last one without a separator only where it
+    -- may close something
     pub data ReadsItems : List ℕ → (ℕ → Document) → State → State → List Item → Type 0 where
       -- and_or
       last_item : {b : List ℕ} {body : ℕ → Document} {s u : State} {l : AndOr}

@@ -1,11 +1,16 @@
--- Where a reader of commands stands: the place, what came before it, and what is open around it.
+-- Where a reader of commands is: the place, what came before it, and what is open around it.
 -- POSIX.1-2024, XCU 2.3 (token recognition), 2.7.4 (here-documents), 2.10 (shell grammar).
 --
--- The words of movement. Among the bytes of a word, from spot to spot: `to i` is the same spot at the offset i, `deeper i` is there one level deeper, `behind i u`
--- is at i again as deep as before, with the commands counted that were read up to u. Among the tokens of commands, from state to state: `next i` is at the token
--- at or behind i, `past u` at the token behind a word that was read up to u, and `skip n` (in Reading) at the one behind a token of n bytes; `facing` is the spot
--- from which a word is read, `within` the state from which the commands of a substitution are; `begun` has one command more, `lower` is one level deeper and
--- `as_deep` as deep as another state; `over` (in Reading) is behind a token of arithmetic.
+-- The words of movement. Among the bytes of a word they lead from spot to spot. `to i` is the same
+-- spot at the offset i. `deeper i` is there one level deeper. `behind i u` is at i as deep as
+-- before, with the commands counted that were read up to u.
+--
+-- Among the tokens of commands they lead from state to state. `next i` is at the token at or after
+-- i. `past u` is at the token after a word that was read up to u. `skip n` (in Reading) is at the
+-- token after one of n bytes. `facing` is the spot from which a word is read. `within` is the state
+-- from which the commands of a substitution are read. `begun` has one command more, `lower` is one
+-- level deeper, and `as_deep` is as deep as another state. `over` (in Reading) is after a token of
+-- arithmetic.
 use Rattle.std.specs.Prelude.{ℕ, zero, suc, ◌+◌, Bool, true, false, not, ◌||◌, List, [], ◌∷◌, ◌++◌, length}
 use Rattle.sh_tree.specs.declared.tree.Span.{Span}
 use Rattle.sh_tree.specs.declared.tree.Word.{Word}
@@ -13,8 +18,10 @@ use Rattle.sh_tree.specs.standard.language.HereDocuments.{Mark}
 use Rattle.sh_tree.specs.standard.language.Commands.{blanks}
 use Rattle.sh_tree.specs.standard.language.Trees.{word, span}
 
--- Inside a word: the offset, how many commands began before it, how many levels are open, whether a here-document outside waits for its body, so that no
--- newline token may come, whether this is in the body of one, and whether `<<-` strips the tabs at the beginning of lines around it.
+-- Inside a word: the offset, how many commands began before it, and how many levels are open.
+-- `quiet`: a here-document outside waits for its body, so that no newline token may come. `joins`:
+-- this is in the body of a here-document whose lines are joined. `tabs`: `<<-` strips the tabs at
+-- the beginning of lines around it.
 pub record Spot : Type 0 where
   pub at : ℕ
   pub count : ℕ
@@ -31,7 +38,7 @@ to i s = record s { at = i }
 abbrev pub deeper : ℕ → Spot → Spot
 deeper i s = record s { at = i; depth = s.depth + 1 }
 
--- at i, behind what was read inside, up to u
+-- at i, after what was read inside, up to u
 abbrev pub behind : ℕ → Spot → Spot → Spot
 behind i u s = record s { at = i; count = u.count }
 
@@ -40,8 +47,9 @@ pub record Document : Type 0 where
   pub text : Word
   pub end : Span
 
--- Among commands: the spot, at a token's first byte; whether a compound command without redirections stands before it, behind which a closing word is
--- recognized (XCU 2.4); and of this level the here-documents whose bodies have not come and those whose bodies have.
+-- Among commands: the spot, at a token's first byte. `closed`: a compound command without
+-- redirections precedes it, so that a closing word is recognized (XCU 2.4). Of this level, the
+-- here-documents whose bodies have not come, and those whose bodies have.
 pub record State : Type 0 where
   pub spot : Spot
   pub closed : Bool
@@ -74,15 +82,15 @@ abbrev pub within : Spot → State
 within s = record { spot = s; closed = false; pending = []; bodies = [] }
 
 module _ (b : List ℕ) where
-  -- at the token at or behind i
+  -- at the token at or after i
   abbrev pub next : ℕ → State → State
   next i s = record s { spot = to (blanks s.spot.joins b i) s.spot }
 
-  -- at the token behind what was read inside, up to u
+  -- at the token after what was read inside, up to u
   abbrev pub past : Spot → State → State
   past u s = record s { spot = behind (blanks s.spot.joins b u.at) u s.spot }
 
--- behind the first byte of one more command
+-- after the first byte of one more command
 abbrev pub begun : State → State
 begun s = record s { spot = record s.spot { count = s.spot.count + 1 } }
 
@@ -93,15 +101,15 @@ lower s = record s { spot = record s.spot { depth = s.spot.depth + 1 } }
 abbrev pub as_deep : State → State → State
 as_deep r s = record s { spot = record s.spot { depth = r.spot.depth } }
 
--- behind a command
+-- after a command
 abbrev pub closing : Bool → State → State
 closing closed s = record s { closed = closed }
 
--- behind a here-document's operator and delimiter
+-- after a here-document's operator and delimiter
 abbrev pub with_mark : Mark → State → State
 with_mark m s = record s { pending = s.pending ++ m ∷ [] }
 
--- behind a newline, at i
+-- after a newline, at i
 abbrev pub on_line : ℕ → State → State
 on_line i s = record s { spot = to i s.spot; pending = [] }
 
@@ -109,6 +117,6 @@ on_line i s = record s { spot = to i s.spot; pending = [] }
 abbrev pub in_document : Mark → State → Spot
 in_document m s = record s.spot { depth = m.depth; quiet = false; joins = not m.quoted; tabs = s.spot.tabs || m.strip }
 
--- behind a body that was read up to u, and its end line, which ends before i
+-- after a body that was read up to u, and its end line, which ends before i
 abbrev pub with_document : ℕ → Document → Spot → State → State
 with_document i d u s = record s { spot = behind i u s.spot; bodies = s.bodies ++ d ∷ [] }

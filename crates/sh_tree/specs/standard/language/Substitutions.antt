@@ -10,21 +10,23 @@ use Rattle.sh_tree.specs.standard.language.Bytes.{is_in, is_backslash, is_first,
 abbrev pub no_backquote : ℕ → Bool
 no_backquote c = not (c == byte.backquote)
 
--- where the first backquote at or behind e ends
+-- where the first backquote at or after e ends
 abbrev pub backquote_end : List ℕ → ℕ → ℕ
 backquote_end b e = e + run no_backquote (drop e b) + 1
 
--- Commands between backquotes are read in the text up to the first backquote behind the opening one, and with it.
+-- Commands between backquotes are read in the text up to the closing backquote, and with it: the
+-- first one after the opening one.
 unfoldable pub commands_text : CommandStyle → List ℕ → ℕ → List ℕ
 commands_text Paren b e = b
 commands_text Backquote b e = take (backquote_end b e) b
 
--- what closes them stands at i
+-- what closes them is at i
 unfoldable pub closes : CommandStyle → List ℕ → ℕ → Bool
 closes Paren b i = is_closed b i
 closes Backquote b i = is_last_backquote (drop i b)
 
--- a backslash that goes before the commands are read: before `$` or a backslash, and in double quotes before any byte
+-- a backslash that goes before the commands are read: before `$` or a backslash, and in double
+-- quotes before any byte
 unfoldable pub has_kept_backslash : Bool → List ℕ → Bool
 has_kept_backslash quoted [] = false
 has_kept_backslash quoted (c ∷ cs) = (is_backslash c && (quoted || is_first (is_in (codes "$`\\")) cs)) || has_kept_backslash quoted cs

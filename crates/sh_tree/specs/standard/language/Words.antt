@@ -1,5 +1,6 @@
 -- What begins at each place of a word, each thing the longest.
--- POSIX.1-2024, XCU 2.2 (quoting), 2.6.1 (tilde expansion), 2.6.2 (parameters), 2.6.3, 2.6.4 (`$(` and `$((`), 2.7.4 (here-documents).
+-- POSIX.1-2024, XCU 2.2 (quoting), 2.6.1 (tilde expansion), 2.6.2 (parameters), 2.6.3, 2.6.4 (`$(`
+-- and `$((`), 2.7.4 (here-documents).
 use Rattle.std.specs.Prelude.{ℕ, ◌+◌, ◌-◌, Bool, true, false, not, ◌&&◌, ◌||◌, if◌then◌else◌, ◌==◌, List, [], ◌∷◌, length, drop, take, codes, nat_lt, nat_le, Option, Some, None}
 use Rattle.sh_tree.specs.standard.language.Characters as byte
 use Rattle.sh_tree.specs.declared.tree.Subject.{Subject}
@@ -57,14 +58,14 @@ is_special QuotedBraced c = is_in (codes "$`\"\\") c
 is_special Body c = is_in (codes "$`\\") c
 is_special Verbatim c = false
 
--- a backslash in quotes keeps the byte; before others it stands for itself (XCU 2.2.3, 2.7.4)
+-- a backslash in quotes keeps the byte; before other bytes it is literal (XCU 2.2.3, 2.7.4)
 abbrev pub is_kept : Site → ℕ → Bool
 is_kept Double c = is_in (codes "$`\"\\") c
 is_kept QuotedBraced c = is_in (codes "$`\"\\") c
 is_kept Body c = is_in (codes "$`\\") c
 is_kept _ c = false
 
--- a backslash and the byte behind it are read together
+-- a backslash and the byte after it are read together
 abbrev pub is_escaped : Site → ℕ → Bool
 is_escaped Word c = true
 is_escaped Braced c = true
@@ -78,13 +79,14 @@ is_escaped s c = is_kept s c || is_newline c
 abbrev pub is_login_byte : ℕ → Bool
 is_login_byte c = is_name_byte c || is_in (codes ".+-") c
 
--- how long the tilde-prefix is of which the tilde stands before cs, if one is there: a login name, or none, up to a slash or the end
+-- how long the tilde-prefix is whose tilde is before cs, or 0 if there is none: a login name, or
+-- none, up to a slash or the end
 unfoldable pub tilde_length : Context → List ℕ → ℕ
 tilde_length x cs =
     let rest = drop (run is_login_byte cs) cs in
     if length rest == 0 || is_first (λ c. c == byte.slash || (x.colons && c == byte.colon) || stops x.site c) rest || is_joined rest || is_last_backquote rest then run is_login_byte cs + 1 else 0
 
--- a tilde-prefix is looked for at i, behind the plain byte `prior`
+-- a tilde-prefix is looked for at i, after the plain byte `prior`
 abbrev pub may_be_tilde : Context → ℕ → ℕ → Bool
 may_be_tilde x prior i = not (is_quoted x.site) && (i == x.origin || (x.colons && prior == byte.colon))
 
@@ -93,11 +95,11 @@ is_tilde x prior i c cs = c == byte.tilde && may_be_tilde x prior i && not (tild
 
 -- What a `$` begins
 
--- the byte behind a `$` makes it more than a literal one
+-- the byte after a `$` makes it more than a literal one
 abbrev pub opens_dollar : Bool → ℕ → Bool
 opens_dollar quoted c = is_name_byte c || is_in (codes "@*#?-$!{([") c || (not quoted && is_in (codes "'\"") c)
 
--- the `$` before cs stands for itself, whether continuations follow or not
+-- the `$` before cs is literal, whether continuations follow or not
 abbrev pub is_literal_dollar : Bool → List ℕ → Bool
 is_literal_dollar quoted cs = not (is_first (opens_dollar quoted) (behind_joined cs))
 
@@ -135,7 +137,7 @@ parenthesis rest =
     else (if is_first (λ c. c == byte.left_parenthesis) (behind_joined rest) then (sign.LeftOut form.Continuation, 2)
     else (sign.Substitution Paren, 2))
 
--- Braced expansions, behind `${`
+-- Braced expansions, after `${`
 
 -- the digits of a parameter at i: `0`, or a number from 1 to 65535 without a leading zero
 unfoldable pub numeric_parameter : ℕ → List ℕ → Option (Subject × ℕ)
@@ -151,7 +153,7 @@ parameter i cs =
     if name_length cs == 0 then numeric_parameter i (take (run is_digit cs) cs)
     else Some (Name (span i (i + name_length cs)), name_length cs)
 
--- no braced expansion goes on with rest, k bytes behind the `$`
+-- no braced expansion goes on with rest, k bytes after the `$`
 unfoldable pub misfit : ℕ → List ℕ → Sign × ℕ
 misfit k rest =
     if length rest == 0 then (sign.Fault fault.OpenBraced, 0)
@@ -182,12 +184,12 @@ abbrev pub action_by : Bool → Subject → ℕ → List ℕ → Option Action �
 action_by colon p k rest (Some a) = (sign.Use p a colon, k + 1)
 action_by colon p k rest None = if colon then misfit k rest else pattern_removal p k rest
 
--- `-`, `=`, `?` or `+`, behind a colon or not
+-- `-`, `=`, `?` or `+`, after a colon or not
 unfoldable pub parameter_action : Bool → Subject → ℕ → List ℕ → Sign × ℕ
 parameter_action colon p k [] = misfit k []
 parameter_action colon p k (c ∷ rest) = action_by colon p k (c ∷ rest) (action_of c)
 
--- what stands behind the parameter, k bytes behind the `$`
+-- what follows the parameter, k bytes after the `$`
 unfoldable pub parameter_operator : Subject → ℕ → List ℕ → Sign × ℕ
 parameter_operator p k rest =
     if closes rest then (sign.Value p, k + 1)
@@ -219,11 +221,11 @@ braced_expansion_by i cs None = special_or_length i cs
 unfoldable pub braced_expansion : ℕ → List ℕ → Sign × ℕ
 braced_expansion i cs = braced_expansion_by i cs (parameter (i + 2) cs)
 
--- a byte that a backslash in `$'` keeps, or stands with it for another (XCU 2.2.4)
+-- a byte that a backslash in `$'` keeps, or makes another byte (XCU 2.2.4)
 abbrev pub is_dollar_escape : ℕ → Bool
 is_dollar_escape c = is_in (codes "\"'\\abefnrtv") c
 
--- n bytes further on, unless a fault is told
+-- n bytes further on, unless a fault is reported
 abbrev pub told_or : ℕ → Sign × ℕ → Sign × ℕ
 told_or n (sign.Single s, m) = (sign.Single s, n + m)
 told_or n (sign.LeftOut f, m) = (sign.LeftOut f, n + m)
@@ -275,20 +277,20 @@ is_literal_backslash s cs = not (length cs == 0) && not (is_first (is_escaped s)
 abbrev pub is_literal : Site → ℕ → List ℕ → Bool
 is_literal s c cs = if c == byte.dollar_sign then is_literal_dollar (is_quoted s) cs else c == byte.backslash && is_literal_backslash s cs
 
--- the byte c at i stands for itself, behind the byte `prior` and before cs
+-- the byte c at i is literal, after the byte `prior` and before cs
 unfoldable pub stands : Context → ℕ → ℕ → ℕ → List ℕ → Bool
 stands x prior i c cs =
     not (stops x.site c) && not (is_stripped x prior c) && not (is_tilde x prior i c cs)
     && (not (is_special x.site c) || is_literal x.site c cs)
 
--- how many bytes stand for themselves
+-- how many bytes are literal
 unfoldable pub plain_length : Context → ℕ → ℕ → List ℕ → ℕ
 plain_length x prior i [] = 0
 plain_length x prior i (c ∷ cs) = if stands x prior i c cs then 1 + plain_length x c (i + 1) cs else 0
 
 -- Signs
 
--- a word ends before continuations behind which no token goes on
+-- a word ends before continuations after which no token goes on
 abbrev pub ends_joined : List ℕ → Bool
 ends_joined cs = length (behind_joined cs) == 0 || is_first ends_token (behind_joined cs) || is_last_backquote (behind_joined cs)
 
@@ -306,7 +308,7 @@ continuation x rest =
     if is_quoted x.site then (if x.strip && is_first is_tab rest then (sign.LeftOut form.HereTab, 2) else (sign.Joined, 2))
     else (if is_word_site x.site && ends_joined rest then (sign.Stop, 0) else (sign.LeftOut form.Continuation, 0))
 
--- a backslash that does not stand for itself
+-- a backslash that is not literal
 unfoldable pub backslash : Context → List ℕ → Sign × ℕ
 backslash x [] = (sign.Fault fault.FinalBackslash, 0)
 backslash x (c ∷ rest) =
@@ -329,7 +331,7 @@ backquoted x cs =
     if is_word_site x.site && length cs == 0 then (sign.Stop, 0)
     else (if x.backquotes then (sign.Substitution Backquote, 1) else (sign.LeftOut form.Backquoted, 0))
 
--- what the byte c at i begins, which does not stand for itself
+-- what the byte c at i begins, which is not literal
 unfoldable pub meant_by : Context → ℕ → ℕ → List ℕ → Sign × ℕ
 meant_by x i c cs =
     if c == byte.backslash then backslash x cs
@@ -359,13 +361,13 @@ unfoldable pub sign_of : Context → ℕ → ℕ → List ℕ → Sign × ℕ
 sign_of x prior i [] = (sign_at_end x.site, 0)
 sign_of x prior i (c ∷ cs) = sign_by x prior i c cs
 
--- what begins at i, behind the plain byte `prior`, or 0 where none stands before it
+-- what begins at i, after the plain byte `prior`, or 0 if none precedes it
 unfoldable pub token : List ℕ → Context → ℕ → ℕ → Token
 token b x prior i = let found = sign_of x prior i (drop i b) in record { sign = found.0; end = i + found.1 }
 
 -- Contexts
 
--- inside the double quotes that open here, where a colon is quoted
+-- inside the double quotes that open here: a colon in them is quoted
 abbrev pub in_double : Context → Context
 in_double x = record x { site = Double; colons = false }
 
@@ -373,7 +375,7 @@ abbrev pub is_alternative : Action → Bool
 is_alternative action.Alternative = true
 is_alternative _ = false
 
--- in the word behind `-`, `=`, `?` or `+`, from i on
+-- in the word after `-`, `=`, `?` or `+`, from i on
 abbrev pub in_use : Context → Action → ℕ → Context
 in_use x a i = record x { site = if is_quoted x.site then QuotedBraced else Braced; origin = i; fields = x.fields && not (is_quoted x.site) && is_alternative a; backquotes = x.backquotes && not (is_quoted x.site) }
 

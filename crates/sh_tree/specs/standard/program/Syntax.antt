@@ -1,4 +1,5 @@
--- The program that a script is: its commands and words, with an offset where something may be told of one.
+-- The program that a script is: its commands and words, with an offset where something may be
+-- reported of one.
 -- POSIX.1-2024, XCU 2.6 (word expansions), 2.7 (redirection), 2.9 (shell commands).
 use Rattle.std.specs.Prelude.{ℕ, Bool, List, Option}
 use Rattle.sh_tree.specs.declared.tree.Action.{Action}
@@ -15,18 +16,19 @@ use Rattle.sh_tree.specs.declared.tree.Unary.{Unary}
 abbrev pub Text : Type 0
 Text = List ℕ
 
--- a parameter (XCU 2.5): a variable, a positional parameter by its number from 1, or a special parameter
+-- a parameter (XCU 2.5): a variable, a positional parameter by its number from 1, or a special
+-- parameter
 pub data Parameter : Type 0 where
   Variable : (name : Text) → Parameter
   Positional : (number : ℕ) → Parameter
   Special : (special : tree.Special) → Parameter
 
--- `at` is an offset in the script: of a command, of the `$` of an expansion, of a tilde, of a name in arithmetic. A word, a list and
--- whatever else stands in a row is empty, or has a first one and others behind it.
+-- `at` is an offset in the script: of a command, of the `$` of an expansion, of a tilde, of a name
+-- in arithmetic. A word, a list and any other row is empty, or has a first one and others after it.
 mutual
   -- a part of a word (XCU 2.2, 2.6)
   pub data Part : Type 0 where
-    -- bytes that stand for themselves
+    -- literal bytes
     Plain : (text : Text) → Part
     -- the byte that a backslash keeps
     Escaped : (text : Text) → Part
@@ -36,7 +38,7 @@ mutual
     Expansion : (at : ℕ) (parameter : Parameter) (operator : Operator) → Part
     Arithmetic : (at : ℕ) (expression : Expression) → Part
     Substitution : (at : ℕ) (list : Items) → Part
-    -- a tilde, and the login name behind it
+    -- a tilde, and the login name after it
     Tilde : (at : ℕ) (login : Text) → Part
     -- a line continuation
     Joined : Part
@@ -64,7 +66,7 @@ mutual
     Choice : (condition then_one else_one : Expression) → Expression
     Assigned : (at : ℕ) (name : Text) (operator : Option Binary) (value : Expression) → Expression
 
-  -- operators of one level, each with the operand behind it
+  -- operators of one level, each with the operand after it
   pub data Operands : Type 0 where
     no_operands : Operands
     more_operands : (operator : Binary) (operand : Expression) → Operands → Operands
@@ -83,7 +85,7 @@ mutual
     no_links : Links
     more_links : (link : Link) (pipeline : Pipeline) → Links → Links
 
-  -- a pipeline, and whether `!` stands before it (XCU 2.9.2)
+  -- a pipeline, and whether `!` precedes it (XCU 2.9.2)
   pub data Pipeline : Type 0 where
     pipeline : (negated : Bool) (parts : Commands) → Pipeline
 
@@ -91,7 +93,8 @@ mutual
     no_commands : Commands
     more_commands : Command → Commands → Commands
 
-  -- a command, its number from 1 in the order of starts, and the redirections behind a compound command
+  -- a command, its number from 1 in the order of starts, and the redirections after a compound
+  -- command
   pub data Command : Type 0 where
     command : (number at : ℕ) (kind : Kind) (redirects : Redirects) → Command
 

@@ -1,4 +1,4 @@
--- The program that a tree stands for: the script's bytes in place of spans.
+-- The program that a tree means: the script's bytes in place of spans.
 -- POSIX.1-2024, XCU 2.2 (quoting), 2.6 (word expansions), 2.10 (shell grammar).
 use Rattle.std.specs.Prelude.{ℕ, List}
 use Rattle.sh_tree.specs.declared.tree.AndOr.{AndOr, AndOr', Row_of-AndOr-rest-2, end_of-AndOr-rest-2, more_of-AndOr-rest-2}

@@ -1,5 +1,7 @@
--- What is read off the words of a program: what stands in a simple command, static text, and which words are assignments in form.
--- POSIX.1-2024, XCU 2.2 (quoting), 2.9.1 (simple commands), 2.9.1.1 (declaration utilities), 2.14 (patterns); a name is as in XBD 3.216.
+-- What is read off the words of a program: what is in a simple command, static text, and which
+-- words are assignments in form.
+-- POSIX.1-2024, XCU 2.2 (quoting), 2.9.1 (simple commands), 2.9.1.1 (declaration utilities), 2.14
+-- (patterns); a name is as in XBD 3.216.
 use Rattle.std.specs.Prelude.{ℕ, ◌+◌, ◌==◌, Bool, false, not, ◌&&◌, ◌||◌, if◌then◌else◌, List, [], ◌∷◌, take, drop, Option, Some, None}
 use Rattle.std.specs.List.{list_any}
 use Rattle.std.specs.Str.{bytes_eq}
@@ -49,7 +51,7 @@ unfoldable pub words_in : Words → List Word
 words_in no_words = []
 words_in (more_words w ws) = w ∷ words_in ws
 
--- What stands in a simple command: its name and operands, its redirections, its assignments
+-- What is in a simple command: its name and operands, its redirections, its assignments
 
 unfoldable pub operands_in : Elements → Words
 operands_in no_elements = no_words
