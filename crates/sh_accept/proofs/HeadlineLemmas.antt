@@ -1,4 +1,4 @@
--- A script of which a certificate is accepted is safe.
+-- A script with an accepted certificate is safe.
 use Rattle.std.proofs.Common.{◌≡◌, ℕ, true, not, None, List, is_some, ap, ◌∙◌}
 use Rattle.std.specs.List.{list_all}
 use Rattle.sh_tree.specs.declared.limits.TheConstants.{MAX_NESTING}

@@ -1,4 +1,5 @@
--- The commands of a script that is read have one order by their numbers, so which of them are loops is told in one way.
+-- The commands of a script that is read have one order by their numbers, so which of them are loops
+-- is known in one way.
 use Rattle.std.proofs.Common.{◌≡◌, ℕ, suc, ◌+◌, ◌<◌, ◌≤◌, ◌==◌, Bool, true, false, ◌&&◌, cond, nat_le, List, [], ◌∷◌, map, length, get_or, refl, sym, ap, ap₂, ◌∙◌, arith, inl, inr, eq-eqb}
 use Rattle.std.specs.Borrow.{Bor}
 use Rattle.std.specs.List.{sum, sum_by}

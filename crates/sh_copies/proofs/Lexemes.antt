@@ -1,5 +1,5 @@
--- A token of arithmetic before a byte that closes its context is the same wherever it stands,
--- whatever follows that byte.
+-- A token of arithmetic before a byte that closes its context is the same wherever it is, whatever
+-- follows that byte.
 -- POSIX.1-2024, XCU 2.6.4 (arithmetic expansion).
 use Rattle.std.proofs.Common.{◌≡◌, ℕ, zero, suc, ◌+◌, ◌≤◌, ◌==◌, Bool, true, false, ◌&&◌, ◌||◌, List, [], ◌∷◌, ◌++◌, length, drop, codes, nat_eq, nat_lt, if◌then◌else◌, inl, inr, refl, sym, ap, ◌∙◌, subst, arith, eqb-true, ⊎_elim}
 use Rattle.std.specs.Prelude.{Option, Some, None}

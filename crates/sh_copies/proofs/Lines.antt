@@ -111,7 +111,7 @@ module _ (m : Mark) where
           go true = omega arith
           go false = omega arith
 
-  -- texts that stand there are inside
+  -- texts that are there are inside
   text_inside : (b : List ℕ) (j : ℕ) (cs : List ℕ) (n : ℕ) → drop j b ≡ cs → n < length cs → j + n < length b
   text_inside b j cs n e h =
       let long : length (drop j b) ≡ length cs = ap length e in

@@ -1,4 +1,4 @@
--- A here-document and the line that ends it are read wherever their bytes stand before a newline.
+-- A here-document and the line that ends it are read wherever their bytes are before a newline.
 -- POSIX.1-2024, XCU 2.7.4 (here-document), 2.2.1 (line continuation).
 use Rattle.std.proofs.Common.{◌≡◌, ℕ, suc, ◌+◌, ◌-◌, ◌<◌, ◌≤◌, Bool, true, false, not, ◌&&◌, ◌||◌, if◌then◌else◌, List, [], ◌∷◌, ◌++◌, length, drop, take, Some, refl, sym, ap, ◌∙◌, arith, eqb-true, length-drop, length-append}
 use Rattle.std.specs.List.{list_any}

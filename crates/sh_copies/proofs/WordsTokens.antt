@@ -82,7 +82,7 @@ remove_sign p q g e = cc
 
 -- Ends
 
--- it ends no context but a word, before which it stands, and is no tabs
+-- it ends no context but a word, before which it is, and is no tabs
 record Ends (x : Context) (f : Sign × ℕ) : Type 0 where
   stop : is_stop f.0 ≡ true → (words.is_word_site x.site ≡ true) × (f.1 ≡ 0)
   tabs : is_tabs f.0 ≡ false

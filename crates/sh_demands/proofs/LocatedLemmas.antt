@@ -29,7 +29,7 @@ module _ (test : p.Command → Bool) where
   both : (ls ms : List Located) (xs ys : List Entered) → Same ls xs → Same ms ys → Same (ls ++ ms) (xs ++ ys)
   both ls ms xs ys h k = list_all-append of_located ls ms ∙ ap₂ (λ a b. a && b) h k ∙ sym (list_all-append of_entered xs ys)
 
-  -- where the second stands first
+  -- if the second is first
   turned : (ls ms : List Located) (xs ys : List Entered) → Same ls xs → Same ms ys → Same (ms ++ ls) (xs ++ ys)
   turned ls ms xs ys h k =
       list_all-append of_located ms ls

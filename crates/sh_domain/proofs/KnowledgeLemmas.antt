@@ -33,7 +33,7 @@ same_tests false false h k = refl
 
 -- Numbers of names
 
--- a name that has a number stands there
+-- a name that has a number is there
 pub place_of : (names : List Text) (i k : ℕ) (t : Text) → position_from (λ n. bytes_eq n t) i names ≡ Some k → (j : ℕ) × (k ≡ i + j) × (slice_get names j ≡ Some t)
 place_of [] i k t e = cc
 place_of (n ∷ names) i k t e = elim (cases_Bool (bytes_eq n t)) [

@@ -1,4 +1,5 @@
--- What is gathered of what the flow rules ask, one thing after the other, and by a walk over a script.
+-- What is gathered of what the flow rules require, one thing after the other, and by a walk over a
+-- script.
 use Rattle.std.proofs.Common.{◌≡◌, ℕ, ◌<◌, ◌≤◌, nat_lt, eqb, Bool, true, false, ◌&&◌, ◌||◌, if◌then◌else◌, Option, Some, None, option_map, List, [], ◌∷◌, length, slice_get, unwrap_or, is_some, refl, sym, ap, ap₂, ◌∙◌, subst, arith, inl, inr, true≢false}
 use Rattle.std.specs.Prelude.{option_and_then}
 use Rattle.std.proofs.Math.Path.{fun_ext}
@@ -230,7 +231,7 @@ module _ (x : Setting) where
   pub none_drops : (name : Text) → entry_of x.kept x.functions name ≡ None → (certificate x).drops name ≡ no_names
   none_drops name is = (entries x).drops name ∙ ap (λ o. unwrap_or (option_map (λ (d : FunctionEntry). drops_of (in_byte_order x.names) x.kept.rows d.drops) o) no_names) is
 
--- What is gathered goes by constraints
+-- What is gathered follows the constraints
 
 module _ (x : Setting) (h : AreNumbered x.names) where
   claimed_fits : {E : Type 0} (f : E → value.Facts) (o : Option E) (c : Claim) → c ≡ unwrap_or (option_map (λ e. claim_of (in_byte_order x.names) x.kept.rows (f e)) o) Unreached → claim_fits x.names c ≡ true

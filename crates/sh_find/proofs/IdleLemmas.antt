@@ -1,4 +1,5 @@
--- Where nothing is lowered at a place and a function, each constraint is kept that asks something there.
+-- If nothing is lowered at a place and a function, each constraint is kept that requires something
+-- there.
 use Rattle.std.proofs.Common.{◌≡◌, ℕ, ◌≤◌, Bool, true, false, if◌then◌else◌, Option, Some, None, option_map, List, [], ◌∷◌, length, slice_get, unwrap_or, is_some, refl, sym, ap, ◌∙◌, subst, arith, inl, inr, true≢false}
 use Rattle.std.specs.List.{list_all}
 use Rattle.std.specs.Prelude.{filter, not}

@@ -1,4 +1,5 @@
--- Where not all is kept, a constraint is broken at the place or the function that is sought, or at those that are next.
+-- If not all is kept, a constraint is broken at the place or the function that is sought, or at
+-- those that are next.
 use Rattle.std.proofs.Common.{◌≡◌, ℕ, ◌<◌, ◌≤◌, Bool, true, false, ◌&&◌, ◌||◌, Option, Some, None, option_map, is_some, unwrap_or, List, [], ◌∷◌, length, slice_get, refl, sym, ap, ◌∙◌, subst, arith, inl, inr, ◌⊎◌, true≢false, eq-eqb}
 use Rattle.std.specs.Prelude.{option_and_then}
 use Rattle.std.proofs.lemmas.Bool.{cases_Bool, lt-ltb}

@@ -85,12 +85,12 @@ all_of slot n rule [] e = refl
 all_of slot n rule (v ∷ s) e =
     ap (λ b. cond (not b) (Within slot n rule v ∷ asked_bounds true (bound slot n rule s)) (asked_bounds true (bound slot n rule s))) e ∙ ap (λ ls. Within slot n rule v ∷ ls) (all_of slot n rule s e)
 
--- something that is asked, of which this holds
+-- something that is required, for which this holds
 abbrev pub Left : Bool → (Ask → Type 0) → Ask → Type 0
 Left stated Q q = (is_asked_of stated q ≡ true) × Q q
 
 module _ {K : Type 0} (a : Asking K) (x : Setting) where
-  -- what is done with what is asked goes by the constraints that are asked
+  -- what is done with what is required follows the constraints that are required
   pub by_asked : (stated : Bool) (d : Facts) → ByConstraints K a x d → ByConstraints K (asking_by stated a) x d
   unfolding asking_by is_asked
   by_asked false d i = record {

@@ -1,4 +1,5 @@
--- What is gathered goes by constraints: several views at a place ask what is known there, and names together what they ask one after the other.
+-- What is gathered follows the constraints: several views at a place require what is known there,
+-- and names together what they require one after the other.
 use Rattle.std.proofs.Common.{◌≡◌, ℕ, Bool, true, false, ◌&&◌, ◌||◌, if◌then◌else◌, min, List, [], ◌∷◌, ◌++◌, refl, sym, ap, ap₂, ◌∙◌, arith}
 use Rattle.std.specs.Prelude.{option_and_then}
 use Rattle.std.proofs.Math.Path.{fun_ext}

@@ -68,7 +68,7 @@ all-from_within (x ∷ xs) ys h =
     or_true true = refl
     or_true false = refl
 
--- in a rising list the number at i stands nowhere else
+-- in a rising list the number at i occurs nowhere else
 rising_lt : (xs : List ℕ) → IsStrictlyIncreasing xs → (i j : ℕ) → i < j → j < length xs → get_or xs i 0 < get_or xs j 0
 rising_lt xs r i zero lt len = absurd (omega arith)
 rising_lt xs r i (suc j) lt len =

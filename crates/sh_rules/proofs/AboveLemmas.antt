@@ -119,7 +119,8 @@ module _ {K : Type 0} (a : Asking K) (x : Setting) (Q : Ask → Type 0) where
   unfolding Each ask
   function_asked function f names kept q = record { asks = OfFunction function f names ∷ []; each = (q, tt); reached = refl }
 
--- what holds of all that is asked, where this holds of each constraint and of what is known where something is seen
+-- what holds of all that is required, if this holds of each constraint and of what is known where
+-- something is seen
 pub record Judges (x : Setting) (d : Facts) (R : Seen → Facts → Type 0) (E : Constraint → Type 0) (Q : Ask → Type 0) : Type 0 where
   pub place : (slot : Slot) (n : ℕ) (rule : FlowRule) (s : Seen) (k : Facts) → R s k → Each E (bound slot n rule s) → Q (OfPlace slot (fault n rule) k)
   pub view : (slot : Slot) (n : ℕ) (rule : FlowRule) (v : View) → E (Within slot n rule v) → Q (OfPlace slot (fault n rule) (knows x d (v ∷ [])))

@@ -1,4 +1,5 @@
--- A walk that does at each command what the rules ask of it does what they ask of the script.
+-- A walk that does at each command what the rules require of it does what they require of the
+-- script.
 use Rattle.std.proofs.Common.{◌≡◌, ℕ, true, not, ◌&&◌, if◌then◌else◌, Option, Some, None, List, [], ◌∷◌, ◌++◌, filter, fold, flat_map, map, refl, sym, ap, ap₂, ◌∙◌}
 use Rattle.std.specs.List.{list_all}
 use Rattle.std.proofs.lemmas.Bool.{and_parts}

@@ -422,7 +422,7 @@ module _ (d : Facts) (c : Certificate) (defined : List Text) (SimpleAt : Around 
       go (Pushes f) same h = none h
       go Pops same h = none h
 
-  -- Runs, where every step of a process keeps what `StepOk` says
+  -- Runs, if every step of a process keeps what `StepOk` says
 
   abbrev pub Kept : Type 0
   Kept = (base : Around) (e : Environment) (fs : List Frame) (status : ℕ) (ws : List Work) (a : Answer) → Well base e fs status ws → Ok base e fs status (act e (front fs) status ws a)

@@ -16,7 +16,7 @@ use Rattle.sh_table.specs.Surroundings.{outside, items_located}
 abbrev texts_of : ℕ → List Site → List Static
 texts_of n ss = texts_with n (map row_of ss)
 
--- the order of the commands does not tell
+-- the order of the commands does not matter
 
 placed_texts : (n : ℕ) (s : Site) (ss : List Site) → texts_of n (placed s ss) ≡ texts_of n (s ∷ ss)
 unfolding placed texts_with row_of
@@ -174,7 +174,7 @@ unfolding row_of
 site_numbers [] = refl
 site_numbers (s ∷ ss) = ap (λ l. s.number ∷ l) (site_numbers ss)
 
--- whether the rows of a table rise is told by the numbers that are kept
+-- the numbers that are kept say whether the rows of a table rise
 pub rises_kept : (x : Table) (c : List ℕ) (rs : List declared.Row) → map (row_in c) rs ≡ x.rows
     → numbers_rise (map (λ q. q.number) rs) ≡ numbers_rise (map (λ q. q.0) x.rows)
 rises_kept x c rs k = ap numbers_rise (sym (kept_numbers c rs) ∙ ap (map (λ q. q.0)) k)

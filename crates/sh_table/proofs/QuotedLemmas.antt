@@ -34,7 +34,7 @@ pub neither_part : (c a b : Bool) → (c && (a || b)) ≡ false → ((c && a) �
 neither_part true a b h = or_parts a b h
 neither_part false a b h = (refl, refl)
 
--- breaks count, or no `$@` stands there
+-- breaks count, or no `$@` is there
 module _ (f : Frame) (status : ℕ) (breaks : Bool) where
   abbrev NoBreak : Bool → Type 0
   NoBreak mentions = (not breaks && mentions) ≡ false

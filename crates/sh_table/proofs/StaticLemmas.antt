@@ -93,7 +93,8 @@ none_any (c ∷ cs) = none_any cs
 
 -- Outcomes that spell a text
 
--- all pieces stand, their text is t, their unquoted bytes have the classes that has tells, and they begin a field where field says so
+-- all pieces stand, their text is t, their unquoted bytes have the classes that has gives, and they
+-- begin a field where field says so
 record Spells (field : Bool) (t : List ℕ) (has : (ℕ → Bool) → Bool) (o : Outcome) : Type 0 where
   ended : o.state.ended ≡ false
   standing : list_all is_standing o.pieces ≡ true

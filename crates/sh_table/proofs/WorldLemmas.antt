@@ -35,7 +35,8 @@ put_each Q f n v own k other = go (k == n) refl
 
 -- Steps and runs
 
--- a step that was made: its process lives and waits for nobody, the run was not over, and the effect was applied
+-- a step that was made: its process lives and waits for nobody, the run was not over, and the
+-- effect was applied
 pub record Made (w : World) (m : Move) (w' : World) : Type 0 where
   pub process : Process
   pub lives : w.processes m.process ≡ Some process

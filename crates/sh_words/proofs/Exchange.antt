@@ -59,7 +59,7 @@ steps_alike b old other new (Err e) a s = refuses_alike b old other e a s
 pub steps_equal : (b : List ℕ) (old other new : WordBuilder) (res : Result (Option Next) Refusal) → other ≡ old → Steps b (Left b other) new res → Steps b (Left b old) new res
 steps_equal b old other new res e s = subst (λ v. Steps b (Left b v) new res) e s
 
--- the focus stands in its place where it was taken out
+-- the focus is in its place where it was taken out
 pub unfocused : (w : WordBuilder) (x : Focus) → w.focus ≡ x → focused w x ≡ w
 unfocused w x e = ap (λ v. focused w v) (sym e)
 
