@@ -1,4 +1,4 @@
--- What is read alike wherever its bytes stand: a whole word, and a here-document with its end line.
+-- What is read alike wherever its bytes are: a whole word, and a here-document with its end line.
 -- POSIX.1-2024, XCU 2.2 (quoting), 2.3 (token recognition), 2.6 (word expansions), 2.7.4
 -- (here-documents).
 use Rattle.std.specs.Prelude.{◌≡◌, ℕ, ◌+◌, ◌==◌, Bool, true, false, not, ◌&&◌, ◌||◌, List, ◌∷◌, ◌++◌, length, take, drop, codes, Option, Some}

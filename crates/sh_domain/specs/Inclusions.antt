@@ -71,7 +71,7 @@ unfoldable mutual
   operands_formed p.no_operands = true
   operands_formed (p.more_operands operator e rest) = expression_formed e && operands_formed rest
 
--- a word that is split: where its text is static it gives a field
+-- a word that is split: if its text is static it gives a field
 abbrev pub field_formed : p.Word → Bool
 field_formed w = word_formed w && (not (is_some (word_text w)) || some_gives_field w)
 

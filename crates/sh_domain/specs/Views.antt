@@ -49,7 +49,7 @@ pub record View : Type 0 where
   pub source : Source
   pub steps : List Step
 
--- What is known is what all of these views claim; where there is none, anything may be claimed.
+-- What is known is what all of these views claim; if there is none, anything may be claimed.
 abbrev pub Seen : Type 0
 Seen = List View
 

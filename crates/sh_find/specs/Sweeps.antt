@@ -85,7 +85,7 @@ module _ (s : Subject) where
 
   -- Where a sweep is
 
-  -- commands that stand together in the script, as they are entered
+  -- commands that are together in the script, as they are entered
   pub record IsPart (es : List Entered) : Type 0 where
     pub front : List Entered
     pub back : List Entered

@@ -27,7 +27,7 @@ fault n rule = record { number = n; rule = rule }
 unfoldable pub defined : Setting → Text → Facts → Facts
 defined x name k = among x.names (step (certificate x) (views.Define name) k)
 
--- a loop ends where its condition does not have it go on
+-- a loop ends if its condition does not have it go on
 unfoldable pub ends : LoopKind → Behind → Facts
 ends loop.While o = o.nonzero
 ends loop.Until o = o.zero
@@ -37,7 +37,7 @@ unfoldable pub behind_list : Setting → p.ForWords → Facts → Facts
 behind_list x p.every_parameter k = k
 behind_list x (p.listed ws) k = gained x (words_gains ws) k
 
--- a list that is entered where this is known
+-- a list that is entered, if this is known
 abbrev pub list_left : Setting → Facts → p.Items → Behind
 list_left x k list = items_behind x (both k) list
 

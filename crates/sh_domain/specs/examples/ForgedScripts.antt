@@ -42,7 +42,7 @@ loop_gains_again_sheet =
     let b = known (codes "IFS OPTIND PPID l") [] 0 in
     record { commands = row a b b ∷ row a b a ∷ row b b b ∷ []; heads = (1, a) ∷ []; functions = [] }
 
--- the names of `read`, taken as set where it fails
+-- the names of `read`, taken as set if it fails
 -- `x=1 read g g;`, x declared, y declared
 abbrev pub failed_read_program : Items
 failed_read_program =
@@ -54,7 +54,7 @@ failed_read_sheet =
     let b = known (codes "IFS OPTIND PPID g x y") [] 0 in
     record { commands = row a b b ∷ []; heads = []; functions = [] }
 
--- the names of `read`, taken as set where it fails
+-- the names of `read`, taken as set if it fails
 -- `x=1 read g y; `, x declared, 2 positional parameters
 abbrev pub failed_read_again_program : Items
 failed_read_again_program =
@@ -109,7 +109,7 @@ prefix_kept_again_sheet =
           function (codes "g") c (dropping [] []) c c ∷ [];
     }
 
--- what a function sets, taken as set where the function may be undefined
+-- what a function sets, taken as set though the function may be undefined
 -- `if cd /; then f() { x=1; }; fi; f; echo "$x"`
 abbrev pub maybe_defined_program : Items
 maybe_defined_program =
@@ -130,7 +130,7 @@ maybe_defined_sheet =
           = function (codes "f") a (dropping [] []) c c ∷ [];
     }
 
--- what a function sets, taken as set where the function may be undefined
+-- what a function sets, taken as set though the function may be undefined
 -- `f() { NL ! x="${x-$x}" NL } NL ( NL x=1 read -r x || x=1 NL read() { NL f() { NL export x NL
 -- } NL } NL x="$x" NL ) NL echo "$x"`, x declared
 abbrev pub maybe_defined_again_program : Items
@@ -191,7 +191,7 @@ break_forgotten_sheet =
     }
 
 -- what is known at `break`, not counted after the loop
--- `f() { while :; do break 2; done; }; for i in a; do f; done; echo "$1"`, 1 positional parameters
+-- `f() { while :; do break 2; done; }; for i in a; do f; done; echo "$1"`, 1 positional parameter
 abbrev pub break_forgotten_again_program : Items
 break_forgotten_again_program =
     alone (compound 1 0 (Define (codes "f") (compound 2 4 (Group (lone (compound 3 6 (Loop loop.While (lone (simple 4 12 (text (codes ":")
@@ -215,7 +215,7 @@ break_forgotten_again_sheet =
 
 -- a function, taken as defined after `unset` of its name
 -- `f() ( NL unset -f g NL ) NL g() ( NL export x="$x" NL ) NL unset f NL { NL unset -f f NL
--- unset -v x NL cmd NL } NL echo "${#y}"`, 1 positional parameters
+-- unset -v x NL cmd NL } NL echo "${#y}"`, 1 positional parameter
 abbrev pub function_kept_program : Items
 function_kept_program =
     alone (compound 1 0 (Define (codes "f") (compound 2 4 (Subshell (lone (simple 3 6 (text (codes "unset") (text (codes "-f") (text (codes "g")
@@ -242,7 +242,7 @@ function_kept_sheet =
 
 -- a function, taken as defined after `unset` of its name
 -- `f() { NL ! f a NL } NL if cmd NL then NL unset y f && unset x NL exit 1 NL echo "$x" NL else NL
--- echo $# "$y" NL fi NL echo "$1" "$2"`, x declared, 1 positional parameters
+-- echo $# "$y" NL fi NL echo "$1" "$2"`, x declared, 1 positional parameter
 abbrev pub function_kept_again_program : Items
 function_kept_again_program =
     alone (compound 1 0 (Define (codes "f") (compound 2 4 (Group (more_items (and_or (pipeline true (more_commands (simple 3 8 (text (codes "f")
@@ -408,7 +408,7 @@ empty_clause_sheet =
 
 -- a clause without a list, taken as zero
 -- `f() ( NL cat <<E >"$x" NL $x NL E NL ) NL g() { NL unset -v x NL } NL ! case "$x" in NL
--- (* | "$x") NL ;; NL esac && unset y NL echo "$x"`, x declared, 1 positional parameters
+-- (* | "$x") NL ;; NL esac && unset y NL echo "$x"`, x declared, 1 positional parameter
 abbrev pub empty_clause_again_program : Items
 empty_clause_again_program =
     alone (compound 1 0 (Define (codes "f") (compound 2 4 (Subshell (lone (simple 3 6 (text (codes "cat") (redirection (Here (more_parts (Expansion
@@ -496,7 +496,7 @@ failed_redirection_sheet =
     let c = known (codes "IFS OPTIND PPID x y") [] 0 in
     record { commands = row a b b ∷ row c Unreached c ∷ []; heads = (1, b) ∷ []; functions = [] }
 
--- what is known where a function returns, taken as known where a redirection of its call failed
+-- what is known where a function returns, taken as known if a redirection of its call failed
 -- `f() { x=1; false; }; f >a`
 abbrev pub failed_call_program : Items
 failed_call_program =
