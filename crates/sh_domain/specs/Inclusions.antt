@@ -121,7 +121,7 @@ command_formed (p.command n offset kind rs) = kind_formed kind rs && redirects_f
 abbrev pub is_formed : p.Items → Bool
 is_formed t = list_all (λ (l : Located). command_formed l.command) (items_located outside t)
 
--- what may be left from within: as the profile asks it
+-- what may be left from within: as the profile requires it
 abbrev pub surroundings_of : Around → Surroundings
 surroundings_of x = record { loop = not (length x.loops == 0); function = is_some x.function }
 

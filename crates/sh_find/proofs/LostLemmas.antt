@@ -435,7 +435,7 @@ optarg_numbered b d t names n =
     ∙ ap (λ ns. is_one_of ns (codes "OPTARG")) (fold-append with_text [] first_names others)
     ∙ all_stay (fold with_text [] first_names) others (codes "OPTARG") first_optarg
 
--- each name that a rule of a script asks a function to drop is numbered
+-- each name that a rule of a script requires a function to drop is numbered
 pub all_lost : (b : List ℕ) (d : Declared) (t : Script) (names : List Text) → IsNumbering b t d names → list_all (asked_passes (is_one_of names)) (script_bounds (trees.script_of b t)) ≡ true
 unfolding script_bounds has_numbered_prefixes
 all_lost b d t names n =

@@ -71,7 +71,7 @@ module _ (names functions : List Text) where
   unfolding counted counted_of
   side_counted f may lost g mid p h is = ap (λ (m : Gathered). with_beside m p h) is
 
--- Nothing was asked
+-- Nothing was required
 
 module _ (target : Target) (g : Gather) (new : IsNew target g) (p : Place) where
   abbrev begun : Sides
@@ -137,7 +137,7 @@ sides_by x d h = record {
   counted = λ f n l g. refl;
 }
 
--- All that is asked
+-- All that is required
 
 module _ (s : Subject) (c : kept.Certificate) where
   abbrev functions : List Text

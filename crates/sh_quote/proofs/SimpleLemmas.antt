@@ -398,7 +398,7 @@ module _ (numbers : Bool) (e : Environment) (f : Frame) (status : ℕ) (ws : Lis
   abbrev Operands : Kind → List Text → Type 0
   Operands k ts = numbers ≡ true → Steady numbers k ts []
 
-  -- where no numbers are counted on, nothing is watched
+  -- if no numbers are counted on, nothing is watched
   unshown : numbers ≡ false → (xs : List (Text × Text)) → ShownGood numbers xs
   unfolding ShownGood
   unshown q [] = tt
@@ -454,7 +454,7 @@ module _ (numbers : Bool) (e : Environment) (f : Frame) (status : ℕ) (ws : Lis
       go true k = third_good ts name h.0 k
       go false k = second_good t ts name h.0 k
 
-  -- where no numbers are counted on, any environment of good functions is good
+  -- if no numbers are counted on, any environment of good functions is good
   uncounted : numbers ≡ false → (d : Environment) → ((t : Text) (c : p.Command) → d.functions t ≡ Some c → CommandGood numbers c) → EnvironmentGood numbers d
   uncounted q d h = record { ifs = λ n. absurd (false≢true (sym q ∙ n)); functions = h }
 

@@ -136,7 +136,7 @@ unfolding words.backslash is_first
 backslash_ends x [] h = absurd (true≢false (sym h))
 backslash_ends x (c ∷ rest) h = grind (arith, nat_tests)
 
--- a backquote ends a word only where it ends the text
+-- a backquote ends a word only if it ends the text
 backquoted_ends : (x : Context) (c : ℕ) (cs : List ℕ) → (c == 96) ≡ true → ends (words.backquoted x cs) ≡ true → is_last_backquote (c ∷ cs) ≡ true
 unfolding words.backquoted is_last_backquote
 backquoted_ends x c [] is h = is

@@ -8,7 +8,7 @@ use Rattle.sh_tree.specs.declared.place.Code.TheVariants.{P1, P2, U1}
 use Rattle.sh_tree.specs.declared.place.Place.{Place}
 use Rattle.sh_reads.specs.Spots.{Spot, OfCommand, OfWord, EachOnce, offset_of}
 
--- one where it is so
+-- one if it is so
 abbrev pub one : Bool → ℕ
 one b = cond b 1 0
 

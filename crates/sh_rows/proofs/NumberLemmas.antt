@@ -105,7 +105,7 @@ add_changes-nothing k n xs there =
     (λ (e : eqb k n ≡ false). sym (ap (λ b. b || has_number k xs) e))
     (cases_Bool (eqb k n))
 
--- where a number would stand it does not
+-- where a number would be, it is not
 pub has_number-would : (n : ℕ) (xs : List ℕ) (i : ℕ) → ((k : ℕ) → k < i → get_or xs k 0 < n) → ((k : ℕ) → i ≤ k → k < length xs → n < get_or xs k 0) → has_number n xs ≡ false
 has_number-would n xs i low high =
     has_number-none n xs (λ k lt e. ⊎_elim

@@ -1,4 +1,4 @@
--- More than is seen asks no less of a certificate below.
+-- More than is seen requires no less of a certificate below.
 use Rattle.std.proofs.Common.{◌≡◌, ℕ, true, List, [], ◌∷◌, ◌++◌, append-nil, fold, refl, sym, ap, ◌∙◌, subst}
 use Rattle.std.specs.List.{list_all}
 use Rattle.std.proofs.lemmas.Bool.{and_parts, and_from}
@@ -97,7 +97,7 @@ module _ (x : Setting) (h : AreNumbered x.names) (d : Facts) (c : Certificate) (
     nothing = within_nowhere _;
   }
 
--- What is asked, one after the other
+-- What is required, one thing after the other
 
 module _ {K : Type 0} (a : Asking K) (x : Setting) (Q : Ask → Type 0) where
   nothing_asked : (kept : K) → Asks a x Q kept kept

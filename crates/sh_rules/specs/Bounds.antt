@@ -109,7 +109,7 @@ module _ {K : Type 0} (a : Asking K) (x : Setting) where
   compound_told n k (p.Define name body) kept =
       body_told name body (a.bound x (AfterZero n) (fault n F13) (defined x name (known_at x (Before n))) kept)
 
-  -- where a redirection of a compound command fails, what was known before it is known
+  -- if a redirection of a compound command fails, what was known before it is known
   unfoldable pub redirects_told : ℕ → Bool → K → K
   redirects_told n true kept = a.bound x (AfterNonzero n) (fault n F10) (known_at x (Before n)) kept
   redirects_told n false kept = kept

@@ -121,7 +121,7 @@ module _ (d : Facts) (c : Certificate) (defined : List Text) (SimpleAt : Around 
   abbrev Ok : Around → Environment → List Frame → ℕ → Effect → Type 0
   Ok base e fs status x = StepOk d c defined SimpleAt base e fs status x
 
-  -- a live process is well, and drops nothing where it is a part
+  -- a live process is well, and drops nothing if it is a part
   pub record LivesWell (environments : ℕ → Environment) (frames : ℕ → Frame) (r : Process) : Type 0 where
     pub base : Around
     pub shares : is_some r.parent ≡ true → base.shares ≡ true

@@ -179,7 +179,7 @@ pub rises_kept : (x : Table) (c : List ℕ) (rs : List declared.Row) → map (ro
     → numbers_rise (map (λ q. q.number) rs) ≡ numbers_rise (map (λ q. q.0) x.rows)
 rises_kept x c rs k = ap numbers_rise (sym (kept_numbers c rs) ∙ ap (map (λ q. q.0)) k)
 
--- the rows of a script's table rise only where no two of its commands have one number
+-- the rows of a script's table rise only if no two of its commands have one number
 pub rises_numbered : (x : Table) → numbers_rise (map (λ q. q.0) x.rows) ≡ true → (b : List ℕ) (t : Script) → x ≡ table_of b t → is_numbered (script_of b t) ≡ true
 unfolding table_of
 rises_numbered x h b t e =

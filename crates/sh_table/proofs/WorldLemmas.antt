@@ -182,7 +182,7 @@ greatest_awake w n h above = none_below w.next_process _ (λ k. no_part (w.proce
     let b : k < suc n = above k (parent_lives (w.processes k) q e) in
     omega arith))
 
--- where a process lives, one lives that waits for nobody
+-- if a process lives, one lives that waits for nobody
 pub some_awake : (w : World) (n : ℕ) → Ordered w → ((p : ℕ) → is_some (w.processes p) ≡ true → p < n) → (p : ℕ) → is_some (w.processes p) ≡ true
     → (q : ℕ) × (is_some (w.processes q) ≡ true) × (waits w q ≡ false)
 some_awake w zero h above p lives = let a : p < 0 = above p lives in absurd (omega arith)

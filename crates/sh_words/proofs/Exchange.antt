@@ -67,7 +67,7 @@ unfocused w x e = ap (λ v. focused w v) (sym e)
 pub reframed : (w : WordBuilder) (f : Frame) (fs : List Frame) (x : Focus) → w.frames ≡ f ∷ fs → framed (record w { frames = fs }) f x ≡ focused w x
 reframed w f fs x e = ap (λ v. record w { frames = v; focus = x }) (sym e)
 
--- a fault at its place refuses where no word is left
+-- a fault at its place refuses if no word is left
 pub fault_refuses : (b : List ℕ) (old : Leftover) (e : Refusal) → IsFault b e → Never old → Refuses b old e
 fault_refuses b old (Syntax f at) is none = (is, none)
 fault_refuses b old (LeftOut f at) is none = (is, none)

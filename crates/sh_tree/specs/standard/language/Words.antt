@@ -331,7 +331,7 @@ backquoted x cs =
     if is_word_site x.site && length cs == 0 then (sign.Stop, 0)
     else (if x.backquotes then (sign.Substitution Backquote, 1) else (sign.LeftOut form.Backquoted, 0))
 
--- what the byte c at i begins, which is not literal
+-- what the byte c at i begins, if it is not literal
 unfoldable pub meant_by : Context → ℕ → ℕ → List ℕ → Sign × ℕ
 meant_by x i c cs =
     if c == byte.backslash then backslash x cs
