@@ -1,6 +1,6 @@
--- What an expansion keeps of a state, whatever its answers are: what stays if an answer is taken, a
--- variable of those that the word may assign is set, and a process is started for a list in the
--- word.
+-- What an expansion keeps of a state, whatever its answers are. It stays if an answer is taken, if
+-- a variable of those that the word may assign is set, and if a process is started for a list in
+-- the word.
 use Rattle.std.proofs.Common.{◌≡◌, ℕ, Bool, true, false, not, ◌&&◌, ◌||◌, Option, Some, None, is_some, codes, List, [], ◌∷◌, ◌++◌, ℤ, refl, sym, ◌∙◌}
 use Rattle.std.specs.List.{list_all}
 use Rattle.std.proofs.lemmas.Bool.{or_parts, or_from, cond_both, and_parts}
