@@ -1,4 +1,4 @@
--- An expression is read wherever its bytes stand.
+-- An expression is read wherever its bytes are.
 -- POSIX.1-2024, XCU 2.6.4 (arithmetic expansion).
 use Rattle.std.proofs.Common.{◌≡◌, ℕ, ◌+◌, ◌<◌, ◌≤◌, true, ◌&&◌, List, [], ◌∷◌, ◌++◌, map, refl, sym, ap, ◌∙◌, le_refl, le_trans, arith, ⊎_elim}
 use Rattle.std.proofs.lemmas.Bool.{true≢false}

@@ -172,7 +172,7 @@ split_moves zero [] c r r' h (inl l) = split_inside zero [] c r r' h (omega arit
 split_moves (suc zero) [] c r r' h (inl l) = closer_alone c r' h ∙ sym (closer_alone c r h)
 split_moves (suc (suc n)) [] c r r' h (inl l) = absurd (omega arith)
 
--- Wherever they stand
+-- Wherever they are
 
 -- the same token, as far from i as from j
 pub record SameLexeme (i j : ℕ) (l l' : Lexeme) : Type 0 where

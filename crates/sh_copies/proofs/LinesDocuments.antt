@@ -117,7 +117,7 @@ end_hangs_not m e mark is joins = by_bool (hangs e)
 
 -- Documents
 
--- where the end line and the text before it stand
+-- where the end line and the text before it are
 record Cut (m : Mark) (b : List ℕ) (i : ℕ) (l : Span) : Type 0 where
   text_long : l.start ≡ i + length (text_of b (span i l.start))
   end_long : l.end ≡ l.start + length (text_of b l)

@@ -1,4 +1,4 @@
--- The commands of a substitution are read wherever its bytes stand.
+-- The commands of a substitution are read wherever its bytes are.
 -- POSIX.1-2024, XCU 2.6.3 (command substitution).
 use Rattle.std.proofs.Common.{◌≡◌, ℕ, zero, suc, ◌+◌, ◌-◌, ◌≤◌, ◌<◌, ◌==◌, Bool, true, false, not, List, [], ◌∷◌, ◌++◌, length, drop, take, inl, inr, refl, sym, ap, ◌∙◌, arith, length-drop, length-take, length-append}
 use Rattle.std.proofs.lemmas.Bool.{true≢false}

@@ -177,7 +177,7 @@ module _ (b : List ℕ) (x : Context) (prior : ℕ) (s : Spot) where
   unfolding words.token
   stop_closes h = ((sign_says x prior s.at (drop s.at b)).stop (ap is_stop h)).1
 
-  -- tabs stand only where they are stripped
+  -- tabs are only where they are stripped
   pub tabs_strip : sign_at b x prior s ≡ sign.Tabs → x.strip ≡ true
   unfolding words.token
   tabs_strip h = (sign_says x prior s.at (drop s.at b)).tabs (ap is_tabs h)

@@ -85,7 +85,7 @@ drops_known rows vars functions f b is same =
     is_none NotReached = true
     is_none (Known v g a) = false
 
--- Names that may stand
+-- Names that may be there
 
 -- with the name of one more number, if it may be there
 pub written_more : (names : List Text) (old new : Sets) (n : ℕ) (t : Text) (v f : Bool) → slice_get names n ≡ Some t → v ≡ is_variable t → f ≡ is_name t
@@ -103,7 +103,7 @@ written_more names old new n t v f at is_v is_f vars functions w = record {
     one k u is passes true false same was e = sym (same (same_text k u is (eqb-true k n (sym (or-false (k == n)) ∙ e))))
     one k u is passes false false same was e = absurd (true≢false (sym e))
 
--- all names that may stand
+-- all names that may be there
 
 pub has_more : (names : List Text) (old new : Sets) (n : ℕ) (t : Text) (v f : Bool) → slice_get names n ≡ Some t → v ≡ is_variable t → f ≡ is_name t
     → ((k : ℕ) → new.vars k ≡ ((v && (k == n)) || old.vars k)) → ((k : ℕ) → new.functions k ≡ ((f && (k == n)) || old.functions k)) → HasWritable names n old → HasWritable names (n + 1) new

@@ -74,7 +74,7 @@ module _ (s : Subject) where
   pub names_numbered : (c : kept.Certificate) (n : ℕ) → IsReady s c n → AreNumbered s.names.now
   names_numbered c n r = numbered s.script.now s.policy.now s.tree.now s.names.now r.admitted
 
-  -- Commands that stand together
+  -- Commands that are together
 
   pub first_part : (es fs : List Entered) → IsPart s (es ++ fs) → IsPart s es
   first_part es fs q = record { front = q.front; back = fs ++ q.back; whole = q.whole ∙ ap (λ gs. q.front ++ gs) (append_assoc es fs q.back) }

@@ -25,7 +25,7 @@ use Rattle.sh_grammar.specs.declared.mark.Mark.{Mark}
 use Rattle.sh_grammar.proofs.ReaderLemmas.{refused_by}
 use Rattle.sh_grammar.proofs.StateLemmas.{are_later, before_later}
 
--- Behind blanks stand none
+-- After blanks there are none
 
 no_blanks : (joins : Bool) (cs : List ℕ) → gap_length cs ≡ 0 → is_comment joins cs ≡ false → blank_length joins cs ≡ 0
 unfolding blank_length

@@ -47,7 +47,7 @@ few_below xs at (suc n) up le parted =
     record { few = omega arith; last = λ p. subst (λ m. get_or xs m 0 < at) (sym same) under }
 
 module _ (text : List ℕ) where
-  -- where the newlines before an offset stand
+  -- where the newlines before an offset are
   pub before : ℕ → List ℕ
   before at = places_between (is_byte 10) text 0 at
 

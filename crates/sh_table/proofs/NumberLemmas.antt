@@ -40,7 +40,7 @@ unfolding by_number texts_with row_of
 sorted_texts n [] = refl
 sorted_texts n (s ∷ ss) = placed_texts n s (by_number ss) ∙ ap (λ ts. cond (s.number == n) (statics s.form) ts) (sorted_texts n ss)
 
--- each command's texts stand under its number
+-- each command's texts are under its number
 abbrev pub Tells : (ℕ → List Static) → List Site → Type 0
 Tells told [] = Unit {0}
 Tells told (s ∷ ss) = (told s.number ≡ statics s.form) × Tells told ss

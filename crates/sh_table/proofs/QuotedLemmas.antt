@@ -1,4 +1,4 @@
--- What quotes hold: pieces that stand as they are, and breaks where `$@` makes them.
+-- What quotes hold: pieces that stay as they are, and breaks where `$@` makes them.
 use Rattle.std.proofs.Common.{◌≡◌, ℕ, Bool, true, false, not, ◌&&◌, ◌||◌, Option, Some, None, codes, List, [], ◌∷◌, ◌++◌, refl, sym, ◌∙◌}
 use Rattle.std.specs.List.{list_all}
 use Rattle.std.proofs.lemmas.Bool.{and_parts, and_from, or_parts, cond_both, false≢true}

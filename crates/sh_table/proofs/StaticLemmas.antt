@@ -15,7 +15,7 @@ use Rattle.sh_table.specs.standard.runs.States.{State}
 use Rattle.sh_table.specs.standard.runs.Expansion.{Piece, Bytes, Break, Literal, Quoted, Unquoted, piece_text, pieces_text, Context, in_fields, in_quotes, Outcome, gives, followed, is_every, has_every, quote_pieces, expand_part, expand}
 use Rattle.sh_table.specs.standard.runs.Fields.{Sign, stands, piece_signs, Before, Inside, scan, is_unquoted, is_bracket, is_pattern, field_text, field_names, fields}
 
--- Pieces that stand as they are
+-- Pieces that stay as they are
 
 unfoldable pub is_standing : Piece → Bool
 is_standing (Bytes Literal t) = true

@@ -600,7 +600,7 @@ names_kept directory (x ∷ xs) h =
     let p = and_parts (list_all is_kept x) (list_all (list_all is_kept) xs) h in
     ap₂ (λ b ts. (if b then names_or (field_text x) (directory x) else field_text x ∷ []) ++ ts) (kept_no_pattern x p.0) (names_kept directory xs p.1)
 
--- the fields of firm pieces are those without separators, as they stand
+-- the fields of firm pieces are those without separators, as they are
 firm_fields : (ifs : Text) (directory : Directory) (ps : List Piece) → list_any is_numeral ifs ≡ false → Firm ps → fields ifs directory ps ≡ map field_text (split_fields [] ps)
 unfolding is_kept_scan
 firm_fields ifs directory ps h k =
