@@ -47,7 +47,7 @@ module _ (x : Setting) (knows : Seen → Facts) (i : Interprets x knows) where
     nothing = sym i.nothing;
   }
 
-  -- Behind lists
+  -- After lists
 
   unfoldable pub behind_of : After → Behind
   behind_of (Both s) = both (knows s)

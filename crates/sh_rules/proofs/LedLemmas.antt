@@ -60,7 +60,7 @@ pub record Ran {K : Type 0} (R : Seen → Facts → Type 0) (L : List Entered �
   pub kept : L es s c.kept
 
 module _ (x : Setting) (R : Seen → Facts → Type 0) (f : Follows x R) where
-  -- Behind lists
+  -- After lists
 
   pub both_stand : (s : Seen) (k : Facts) → R s k → Stands R (Both s) (both k)
   unfolding if_zero if_nonzero

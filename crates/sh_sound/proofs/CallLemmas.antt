@@ -73,7 +73,7 @@ unfolding Apart claims
 unclaimed_apart NotReached saved h = tt
 unclaimed_apart (Known v g n) saved h = (h, λ t k. cc)
 
--- Behind the call
+-- After the call
 
 not_both : (a : Bool) → a ≡ true → a ≡ false → ⊥
 not_both a h k = true≢false (sym h ∙ k)
